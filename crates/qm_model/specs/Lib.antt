@@ -1,0 +1,17 @@
+pub mod Causes
+pub mod Operations
+pub mod Live
+pub mod Keys
+pub mod Writes
+pub mod Walk
+pub mod Ordered
+pub mod Step
+pub mod Policies
+pub mod Trees
+pub mod Mmr
+pub mod Mmb
+pub mod Batches
+pub mod Lines
+pub mod Machine
+pub mod Grammar
+pub mod Text

@@ -1,0 +1,39 @@
+-- Commands and replies over byte strings, with policies of a type P.
+use Rattle.std.specs.Prelude.{ℕ, Bool, List, Option}
+use Rattle.qm_model.specs.Operations.{Bytes, Operation}
+
+-- what a line asks for; a batch goes by its number
+pub data Line (P : Type 0) : Type 0 where
+  Open : Line P
+  Batch : Line P
+  Put : ℕ → Bytes → Bytes → Line P
+  Merkleize : ℕ → P → Option Bytes → Line P
+  Apply : ℕ → Line P
+  Ops : ℕ → Line P
+  Get : Bytes → Line P
+  Info : Line P
+
+-- why a command was refused
+pub data Refused : Type 0 where
+  NotOffered : Refused
+  NoDatabase : Refused
+  NoSuchHandle : ℕ → Refused
+  StaleBatch : Refused
+
+-- what a command answers
+pub data Answer : Type 0 where
+  -- the opening's number, start and size
+  Opened : ℕ → ℕ → ℕ → Answer
+  -- the batch's number
+  Started : ℕ → Answer
+  Done : Answer
+  -- the batch's number, the sizes of its base and of its tip, and its floor
+  Merkleized : ℕ → ℕ → ℕ → ℕ → Answer
+  -- the size
+  Applied : ℕ → Answer
+  -- the size of the base, and a batch's own operations
+  Listed : ℕ → List Operation → Answer
+  Read : Option Bytes → Answer
+  -- start, size, floor and boundary, and whether a key is live
+  Told : ℕ → ℕ → ℕ → ℕ → Bool → Answer
+  Refuses : Refused → Answer

@@ -1,0 +1,137 @@
+-- The machine: databases and batches are operation lists, and each command is a function of the state.
+use Rattle.std.specs.Prelude.{ℕ, ◌+◌, nat_lt, if◌then◌else◌, List, [], ◌∷◌, ◌++◌, length, map, drop, slice_index_or, slice_set, Option, Some, None}
+use Rattle.qm_model.specs.Operations.{Bytes, Operation, spelling, fresh}
+use Rattle.qm_model.specs.Live.{live, floor, value_of}
+use Rattle.qm_model.specs.Writes.{Write}
+use Rattle.qm_model.specs.Walk.{Rules}
+use Rattle.qm_model.specs.Step.{Kind}
+use Rattle.qm_model.specs.Step as steps
+use Rattle.qm_model.specs.Batches.{Chain, commitment, fits}
+use Rattle.qm_model.specs.Lines.{Line, Open, Batch, Put, Merkleize, Apply, Ops, Get, Info, Refused, NotOffered, NoDatabase, NoSuchHandle, StaleBatch, Answer, Opened, Started, Done, Merkleized, Applied, Listed, Read, Told, Refuses}
+
+-- what a machine stands on: the kind of database, its policies, and a list's operations root and boundary
+pub record Scheme (P : Type 0) : Type 0 where
+  pub kind : Kind
+  pub rules : Rules P
+  pub root : List Operation → Bytes
+  pub boundary : List Operation → ℕ
+
+-- a batch number: used up; a batch with its writes; a merkleized batch with its tip list
+pub data Slot : Type 0 where
+  gone : Slot
+  writing : Chain → List Write → Slot
+  merkleized : Chain → List Operation → Slot
+
+pub record State : Type 0 where
+  -- the open database's list
+  pub database : Option (List Operation)
+  -- the items of the store, whose start is 0
+  pub items : List Bytes
+  -- by number; no batch has the number 0
+  pub table : List Slot
+  -- how many openings were accepted
+  pub opened : ℕ
+  -- each list that a database or a batch of this run has had
+  pub had : List (List Operation)
+
+-- no database, over a store with these items
+abbrev pub initial : List Bytes → State
+initial items = record { database = None; items = items; table = gone ∷ []; opened = 0; had = [] }
+
+abbrev pub slot_at : List Slot → ℕ → Slot
+slot_at table h = slice_index_or table h gone
+
+abbrev pub refuse : State → Refused → Answer × State
+refuse s r = (Refuses r, s)
+
+abbrev pub with_slot : State → ℕ → Slot → State
+with_slot s h slot = record s { table = slice_set s.table h slot }
+
+-- what a command that needs a database does without one
+abbrev pub with_database : State → Option (List Operation) → (List Operation → Answer × State) → Answer × State
+with_database s None f = refuse s NoDatabase
+with_database s (Some list) f = f list
+
+-- a fresh database, over a store without items
+abbrev pub open_over : State → List Bytes → Answer × State
+open_over s [] = (Opened (s.opened + 1) 0 1, record s { database = Some fresh; items = map spelling fresh; opened = s.opened + 1; had = fresh ∷ s.had })
+open_over s (item ∷ items) = refuse s NotOffered
+
+abbrev pub open_store : State → Answer × State
+open_store s = open_over s s.items
+
+abbrev pub start_batch : State → Answer × State
+start_batch s = with_database s s.database (λ list.
+    (Started (length s.table), record s { table = s.table ++ writing (record { base = list; kept = [] }) [] ∷ [] }))
+
+abbrev pub put_in : State → ℕ → Write → Slot → Answer × State
+put_in s h w (writing chain ws) = (Done, with_slot s h (writing chain (ws ++ w ∷ [])))
+put_in s h w gone = refuse s (NoSuchHandle h)
+put_in s h w (merkleized chain tip) = refuse s (NoSuchHandle h)
+
+abbrev pub put : State → ℕ → Bytes → Bytes → Answer × State
+put s h key value = put_in s h (record { key = key; value = Some value }) (slot_at s.table h)
+
+-- a batch's own operations
+abbrev pub own_operations : Chain → List Operation → List Operation
+own_operations chain tip = drop (length chain.base) tip
+
+abbrev pub list_operations : State → ℕ → Slot → Answer × State
+list_operations s h (merkleized chain tip) = (Listed (length chain.base) (own_operations chain tip), s)
+list_operations s h gone = refuse s (NoSuchHandle h)
+list_operations s h (writing chain ws) = refuse s (NoSuchHandle h)
+
+abbrev pub ops : State → ℕ → Answer × State
+ops s h = list_operations s h (slot_at s.table h)
+
+abbrev pub get : State → Bytes → Answer × State
+get s key = with_database s s.database (λ list. (Read (value_of list key), s))
+
+module _ {P : Type 0} (m : Scheme P) where
+  -- the batch gets its tip list, or is used up where the database has moved on
+  abbrev pub merkleize_in : State → ℕ → P → Option Bytes → List Operation → Slot → Answer × State
+  merkleize_in s h policy meta list (writing chain ws) =
+      let tip = steps.step m.kind m.rules chain.base ws policy meta in
+      if fits m.root (commitment m.root list) chain
+      then (Merkleized h (length chain.base) (length tip) (floor tip), record (with_slot s h (merkleized chain tip)) { had = tip ∷ s.had })
+      else refuse (with_slot s h gone) StaleBatch
+  merkleize_in s h policy meta list gone = refuse s (NoSuchHandle h)
+  merkleize_in s h policy meta list (merkleized chain tip) = refuse s (NoSuchHandle h)
+
+  abbrev pub merkleize : State → ℕ → P → Option Bytes → Answer × State
+  merkleize s h policy meta = with_database s s.database (λ list. merkleize_in s h policy meta list (slot_at s.table h))
+
+  -- the database takes the tip list, and the store what it lacks of it
+  abbrev pub apply_in : State → ℕ → List Operation → Slot → Answer × State
+  apply_in s h list (merkleized chain tip) =
+      if fits m.root (commitment m.root list) chain
+      then (Applied (length tip), record s { database = Some tip; items = s.items ++ map spelling (drop (length list) tip) })
+      else refuse s StaleBatch
+  apply_in s h list gone = refuse s (NoSuchHandle h)
+  apply_in s h list (writing chain ws) = refuse s (NoSuchHandle h)
+
+  abbrev pub apply : State → ℕ → Answer × State
+  apply s h = with_database s s.database (λ list. apply_in s h list (slot_at s.table h))
+
+  abbrev pub info : State → Answer × State
+  info s = with_database s s.database (λ list. (Told 0 (length list) (floor list) (m.boundary list) (nat_lt 0 (length (live list))), s))
+
+  -- one command: the answer, and the state after it
+  abbrev pub turn : State → Line P → Answer × State
+  turn s Open = open_store s
+  turn s Batch = start_batch s
+  turn s (Put h key value) = put s h key value
+  turn s (Merkleize h policy meta) = merkleize s h policy meta
+  turn s (Apply h) = apply s h
+  turn s (Ops h) = ops s h
+  turn s (Get key) = get s key
+  turn s Info = info s
+
+  -- the answers to commands in order, and the state after them
+  abbrev pub answers : State → List (Line P) → List Answer
+  answers s [] = []
+  answers s (line ∷ lines) = (turn s line).0 ∷ answers (turn s line).1 lines
+
+  abbrev pub state_after : State → List (Line P) → State
+  state_after s [] = s
+  state_after s (line ∷ lines) = state_after (turn s line).1 lines

@@ -1,0 +1,51 @@
+-- The text of replies.
+use Rattle.std.specs.Prelude.{Bool, true, false, List, [], ◌∷◌, ◌++◌, codes, Option, None, Some, flat_map, decimal}
+use Rattle.hex.specs.Hex.{encode_lower}
+use Rattle.qm_model.specs.Operations.{Bytes, Operation, update, delete, commit}
+use Rattle.qm_model.specs.Lines.{Refused, NotOffered, NoDatabase, NoSuchHandle, StaleBatch, Answer, Opened, Started, Done, Merkleized, Applied, Listed, Read, Told, Refuses}
+
+-- bytes in hexadecimal, and the empty ones as a dash
+abbrev pub hex_text : Bytes → Bytes
+hex_text [] = codes "-"
+hex_text (b ∷ bs) = encode_lower (b ∷ bs)
+
+abbrev pub optional_text : Option Bytes → Bytes
+optional_text None = codes "none"
+optional_text (Some v) = hex_text v
+
+abbrev pub next_text : Option Bytes → Bytes
+next_text None = []
+next_text (Some k) = codes ">" ++ hex_text k
+
+abbrev pub operation_text : Operation → Bytes
+operation_text (update k v n) = codes "U:" ++ (hex_text k ++ (codes "=" ++ (hex_text v ++ next_text n)))
+operation_text (delete k) = codes "D:" ++ hex_text k
+operation_text (commit m f) = codes "C:" ++ (optional_text m ++ (codes "@" ++ decimal f))
+
+abbrev pub refused_text : Refused → Bytes
+refused_text NotOffered = codes "NotOffered"
+refused_text NoDatabase = codes "NoDatabase"
+refused_text (NoSuchHandle h) = codes "NoSuchHandle " ++ decimal h
+refused_text StaleBatch = codes "StaleBatch"
+
+abbrev pub live_text : Bool → Bytes
+live_text true = codes "live"
+live_text false = codes "empty"
+
+-- a reply without its line feed
+abbrev pub reply_line : Answer → Bytes
+reply_line (Opened i start size) = codes "open " ++ (decimal i ++ (codes " " ++ (decimal start ++ (codes " " ++ decimal size))))
+reply_line (Started h) = codes "batch " ++ decimal h
+reply_line Done = codes "ok"
+reply_line (Merkleized h base size floor) =
+    codes "merkleized " ++ (decimal h ++ (codes " " ++ (decimal base ++ (codes " " ++ (decimal size ++ (codes " " ++ decimal floor))))))
+reply_line (Applied size) = codes "applied " ++ decimal size
+reply_line (Listed base ops) = codes "ops " ++ (decimal base ++ flat_map (λ op. codes " " ++ operation_text op) ops)
+reply_line (Read v) = codes "read " ++ optional_text v
+reply_line (Told start size floor boundary is_live) =
+    codes "info " ++ (decimal start ++ (codes " " ++ (decimal size ++ (codes " " ++ (decimal floor ++ (codes " " ++ (decimal boundary ++ (codes " " ++ live_text is_live))))))))
+reply_line (Refuses r) = codes "refused " ++ refused_text r
+
+-- the replies, one line each
+abbrev pub text_of : List Answer → Bytes
+text_of rs = flat_map (λ r. reply_line r ++ 10 ∷ []) rs

@@ -1,0 +1,2 @@
+//! The definitions that contracts cite, and the laws that hold of them.
+#![tactic(auto)]
