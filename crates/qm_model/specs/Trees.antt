@@ -52,7 +52,7 @@ module _ (hash : Bytes → Bytes) where
   digest shape leaves zero index = slice_index_or leaves index []
   digest shape leaves (suc h) index =
       node_digest (shape.position (record { height = suc h; index = index }))
-          (digest shape leaves h (2 * index)) (digest shape leaves h (2 * index + 1))
+      (digest shape leaves h (2 * index)) (digest shape leaves h (2 * index + 1))
 
   abbrev pub digest_of : Shape → List Bytes → Node → Bytes
   digest_of shape leaves node = digest shape leaves node.height node.index

@@ -1,0 +1,51 @@
+-- Commands and replies over byte strings.
+use Rattle.std.specs.Prelude.{List, map, Option, option_map}
+use Rattle.qm_model.specs.Operations.{Bytes, Operation, update, delete, commit}
+use Rattle.qm_model.specs.Policies.{Policy, proportional}
+use Rattle.qm_model.specs.Lines as lines
+use Rattle.qm_lines.specs.declared.policy.AnyPolicy.{AnyPolicy}
+use Rattle.qm_lines.specs.declared.policy.AnyPolicy.TheVariants.{Proportional}
+use Rattle.qm_lines.specs.declared.command.Command.{Command}
+use Rattle.qm_lines.specs.declared.command.Command.TheVariants as commands
+use Rattle.qm_lines.specs.declared.reply.Listed.{Listed}
+use Rattle.qm_lines.specs.declared.reply.Listed.TheVariants as listed
+use Rattle.qm_lines.specs.declared.reply.Refused.{Refused}
+use Rattle.qm_lines.specs.declared.reply.Refused.TheVariants as refused
+use Rattle.qm_lines.specs.declared.reply.Reply.{Reply}
+use Rattle.qm_lines.specs.declared.reply.Reply.TheVariants as replies
+
+abbrev pub policy_view : AnyPolicy → Policy
+policy_view Proportional = proportional
+
+abbrev pub refused_view : Refused → lines.Refused
+refused_view refused.NotOffered = lines.NotOffered
+refused_view refused.NoDatabase = lines.NoDatabase
+refused_view (refused.NoSuchHandle h) = lines.NoSuchHandle h
+refused_view refused.StaleBatch = lines.StaleBatch
+
+module _ {K V : Type 0} (key : K → Bytes) (value : V → Bytes) where
+  abbrev pub line_view : {P Q : Type 0} → (P → Q) → Command K V P → lines.Line Q
+  line_view policy commands.Open = lines.Open
+  line_view policy commands.Batch = lines.Batch
+  line_view policy (commands.Put h k v) = lines.Put h (key k) (value v)
+  line_view policy (commands.Merkleize h p m) = lines.Merkleize h (policy p) (option_map value m)
+  line_view policy (commands.Apply h) = lines.Apply h
+  line_view policy (commands.Ops h) = lines.Ops h
+  line_view policy (commands.Get k) = lines.Get (key k)
+  line_view policy commands.Info = lines.Info
+
+  abbrev pub listed_view : Listed K V → Operation
+  listed_view (listed.Update k v n) = update (key k) (value v) (option_map key n)
+  listed_view (listed.Delete k) = delete (key k)
+  listed_view (listed.Commit m f) = commit (option_map value m) f
+
+  abbrev pub answer_view : Reply K V → lines.Answer
+  answer_view (replies.Opened i start size) = lines.Opened i start size
+  answer_view (replies.Batch h) = lines.Started h
+  answer_view replies.Done = lines.Done
+  answer_view (replies.Merkleized h base size floor) = lines.Merkleized h base size floor
+  answer_view (replies.Applied size) = lines.Applied size
+  answer_view (replies.Ops base ops) = lines.Listed base (map listed_view ops.items)
+  answer_view (replies.Read v) = lines.Read (option_map value v)
+  answer_view (replies.Info start size floor boundary is_live) = lines.Told start size floor boundary is_live
+  answer_view (replies.Refused r) = lines.Refuses (refused_view r)

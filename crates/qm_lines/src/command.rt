@@ -1,0 +1,22 @@
+//! What a line asks for.
+
+/// A command with keys, values and policies of these types. A batch goes by the number that the run gave it.
+#[derive(Drop)]
+pub enum Command<K, V, P> {
+    /// Opens the store.
+    Open,
+    /// Begins a batch.
+    Batch,
+    /// Writes a value for a key, in the batch of this number.
+    Put(u64, K, V),
+    /// Merkleizes the batch of this number under a policy, with this metadata.
+    Merkleize(u64, P, Option<V>),
+    /// Applies the merkleized batch of this number.
+    Apply(u64),
+    /// Lists the own operations of the merkleized batch of this number.
+    Ops(u64),
+    /// Reads the value of a key.
+    Get(K),
+    /// Tells the database's numbers.
+    Info,
+}

@@ -1,0 +1,41 @@
+//! What a command answers.
+
+/// An operation as a reply lists it.
+#[derive(Drop)]
+pub enum Listed<K, V> {
+    /// Key, value and, in an ordered database, the next key.
+    Update(K, V, Option<K>),
+    Delete(K),
+    /// Metadata and floor.
+    Commit(Option<V>, u64),
+}
+
+/// Why a command was refused.
+#[derive(Clone, Copy, Debug, PartialEq, Eq)]
+pub enum Refused {
+    NotOffered,
+    NoDatabase,
+    NoSuchHandle(u64),
+    StaleBatch,
+}
+
+/// The reply to a command, with keys and values of these types.
+#[derive(Drop)]
+pub enum Reply<K, V> {
+    /// The opening's number, and the database's start and size.
+    Opened(u64, u64, u64),
+    /// The batch's number.
+    Batch(u64),
+    Done,
+    /// The batch's number, the sizes of its base and its tip, and its floor.
+    Merkleized(u64, u64, u64, u64),
+    /// The database's size.
+    Applied(u64),
+    /// The size of a batch's base, and its own operations.
+    Ops(u64, Vec<Listed<K, V>>),
+    /// A key's value.
+    Read(Option<V>),
+    /// Start, size, floor and boundary, and whether any key is live.
+    Info(u64, u64, u64, u64, bool),
+    Refused(Refused),
+}
