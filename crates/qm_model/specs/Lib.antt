@@ -15,3 +15,7 @@ pub mod Lines
 pub mod Machine
 pub mod Grammar
 pub mod Text
+pub mod Rows
+pub mod TreeRows
+pub mod LineRows
+pub mod RandomSteps
