@@ -1,0 +1,69 @@
+-- Runs of the machine: one command more, and lists that a run has had stay so.
+use Rattle.std.proofs.Common.{◌≡◌, ℕ, Bool, true, false, cond, List, [], ◌∷◌, ◌++◌, Option, Some, None, refl, ap}
+use Rattle.std.specs.Prelude.{Contains}
+use Rattle.qm_model.specs.Operations.{Bytes, Operation, fresh}
+use Rattle.qm_model.specs.Writes.{Write}
+use Rattle.qm_model.specs.Batches.{Apart, commitment, fits}
+use Rattle.qm_model.specs.Lines.{Line, Open, Batch, Put, Merkleize, Apply, Ops, Get, Info, Answer}
+use Rattle.qm_model.specs.Machine.{Scheme, State, Slot, gone, writing, merkleized, turn, answers, state_after, slot_at, put_in, list_operations, with_database, open_over, merkleize_in, apply_in}
+use Rattle.qm_model.proofs.Chains.{Contains-more}
+
+pub state_after-push : {P : Type 0} (m : Scheme P) (s : State) (lines : List (Line P)) (line : Line P) → state_after m s (lines ++ line ∷ []) ≡ (turn m (state_after m s lines) line).1
+state_after-push m s [] line = refl
+state_after-push m s (l ∷ lines) line = state_after-push m (turn m s l).1 lines line
+
+pub answers-push : {P : Type 0} (m : Scheme P) (s : State) (lines : List (Line P)) (line : Line P) → answers m s (lines ++ line ∷ []) ≡ answers m s lines ++ (turn m (state_after m s lines) line).0 ∷ []
+answers-push m s [] line = refl
+answers-push m s (l ∷ lines) line = ap (λ r. (turn m s l).0 ∷ r) (answers-push m (turn m s l).1 lines line)
+
+-- what an answer leaves keeps each list that was had
+abbrev Keeps : State → Answer × State → Type 0
+Keeps s next = (x : List Operation) → Contains s.had x → Contains (next.1).had x
+
+either : (s : State) (t : Bool) (p q : Answer × State) → Keeps s p → Keeps s q → Keeps s (cond t p q)
+either s true p q a b = a
+either s false p q a b = b
+
+with_list : (s : State) (d : Option (List Operation)) (f : List Operation → Answer × State) → ((list : List Operation) → Keeps s (f list)) → Keeps s (with_database s d f)
+with_list s None f h = λ x a. a
+with_list s (Some list) f h = h list
+
+opened : (s : State) (items : List Bytes) → Keeps s (open_over s items)
+opened s [] = λ x a. Contains-more s.had fresh x a
+opened s (i ∷ items) = λ x a. a
+
+put_keeps : (s : State) (h : ℕ) (w : Write) (slot : Slot) → Keeps s (put_in s h w slot)
+put_keeps s h w gone = λ x a. a
+put_keeps s h w (writing chain ws) = λ x a. a
+put_keeps s h w (merkleized chain tip) = λ x a. a
+
+listed_keeps : (s : State) (h : ℕ) (slot : Slot) → Keeps s (list_operations s h slot)
+listed_keeps s h gone = λ x a. a
+listed_keeps s h (writing chain ws) = λ x a. a
+listed_keeps s h (merkleized chain tip) = λ x a. a
+
+module _ {P : Type 0} (m : Scheme P) where
+  merkleize_keeps : (s : State) (h : ℕ) (policy : P) (meta : Option Bytes) (list : List Operation) (slot : Slot) → Keeps s (merkleize_in m s h policy meta list slot)
+  merkleize_keeps s h policy meta list gone = λ x a. a
+  merkleize_keeps s h policy meta list (merkleized chain tip) = λ x a. a
+  merkleize_keeps s h policy meta list (writing chain ws) =
+      either s (fits m.root (commitment m.root list) chain) _ _ (λ x a. Contains-more s.had _ x a) (λ x a. a)
+
+  apply_keeps : (s : State) (h : ℕ) (list : List Operation) (slot : Slot) → Keeps s (apply_in m s h list slot)
+  apply_keeps s h list gone = λ x a. a
+  apply_keeps s h list (writing chain ws) = λ x a. a
+  apply_keeps s h list (merkleized chain tip) = either s (fits m.root (commitment m.root list) chain) _ _ (λ x a. a) (λ x a. a)
+
+  turn_keeps : (s : State) (line : Line P) → Keeps s (turn m s line)
+  turn_keeps s Open = opened s s.items
+  turn_keeps s Batch = with_list s s.database _ (λ list x a. a)
+  turn_keeps s (Put h key value) = put_keeps s h _ (slot_at s.table h)
+  turn_keeps s (Merkleize h policy meta) = with_list s s.database _ (λ list. merkleize_keeps s h policy meta list (slot_at s.table h))
+  turn_keeps s (Apply h) = with_list s s.database _ (λ list. apply_keeps s h list (slot_at s.table h))
+  turn_keeps s (Ops h) = listed_keeps s h (slot_at s.table h)
+  turn_keeps s (Get key) = with_list s s.database _ (λ list x a. a)
+  turn_keeps s Info = with_list s s.database _ (λ list x a. a)
+
+  -- what a longer run keeps apart, a shorter one does
+  pub Apart-before : (s : State) (line : Line P) → Apart m.root ((turn m s line).1).had → Apart m.root s.had
+  Apart-before s line apart = λ a b in_a in_b e. apart a b (turn_keeps s line a in_a) (turn_keeps s line b in_b) e
