@@ -1,0 +1,26 @@
+-- What a store in memory tells of itself.
+use Rattle.std.specs.Prelude.{ℕ, ◌+◌, ◌-◌, ◌^◌, min, List, ◌++◌}
+
+-- where its items start, the items, the numbers of the calls that fail, and how many calls and faults there were
+pub record Mem : Type 0 where
+  pub start : ℕ
+  pub items : List (List ℕ)
+  pub fail : List ℕ
+  pub calls : ℕ
+  pub faults : ℕ
+
+-- one more, up to the greatest number of 64 bits
+abbrev pub one_more : ℕ → ℕ
+one_more n = min (n + 1) (2 ^ 64 - 1)
+
+-- the store after a call
+abbrev pub called : Mem → Mem
+called s = record s { calls = one_more s.calls }
+
+-- the store after a call that failed
+abbrev pub failed : Mem → Mem
+failed s = record s { calls = one_more s.calls; faults = one_more s.faults }
+
+-- the store after a call that put these behind its items
+abbrev pub grown : Mem → List (List ℕ) → Mem
+grown s more = record s { calls = one_more s.calls; items = s.items ++ more }

@@ -1,0 +1,99 @@
+//! Where a database's operations are kept: what a store promises, and a store in memory.
+#![tactic(auto)]
+
+ghost use Rattle.std.specs.Prelude.{◌≡◌, ℕ, ◌+◌, ◌-◌, ◌^◌, ◌<◌, ◌≤◌, List, length, map, slice_get};
+ghost use Rattle.std.specs.Prelude.{Option, Some, IfSome, IfOk, OnOk, OnErr, IsErrOf};
+ghost use Rattle.qm_model.specs.Causes.{IsCause, Grows, GrowsPart};
+
+mod mem_store;
+#[cfg(test)]
+mod tests;
+
+pub use mem_store::MemStore;
+use std::alloc::{AllocError, AllocFailed};
+use thiserror::Error;
+
+/// Why a store's call failed.
+#[derive(Clone, Copy, Debug, PartialEq, Eq, Error)]
+pub enum StoreError {
+    /// There was no memory for the answer, or for the items.
+    #[error("out of memory")]
+    Memory,
+    /// The store itself failed, and its count of faults rose.
+    #[error("store fault")]
+    Failed,
+}
+
+impl From<AllocError> for StoreError {
+    ghost use Rattle.qm_store.specs.declared.StoreError.TheVariants.{Memory};
+
+    ghost from_gives = { λ _ e. e ≡ Memory };
+
+    fn from(_: AllocError) -> Self {
+        StoreError::Memory
+    }
+}
+
+impl<T: Drop> From<AllocFailed<T>> for StoreError {
+    ghost use Rattle.qm_store.specs.declared.StoreError.TheVariants.{Memory};
+
+    ghost from_gives = { λ _ e. e ≡ Memory };
+
+    fn from(_: AllocFailed<T>) -> Self {
+        StoreError::Memory
+    }
+}
+
+/// A list of items, each a string of bytes, that grows only at its end.
+/// An item goes by its location, which may begin above 0, where the items before are gone.
+pub trait Store: Drop {
+    /// The location of the first item that is kept.
+    ghost start: { Self → ℕ };
+
+    /// The location after the last item.
+    ghost end: { Self → ℕ };
+
+    /// The items from the start on, where the store tells them: one in memory does, one over files does not.
+    ghost items: { Self → Option (List (List ℕ)) };
+
+    /// How often it has failed. The count never falls, and stands still at its greatest value.
+    ghost faults: { Self → ℕ };
+
+    /// Where the items start, and where they end.
+    fn bounds(&self) -> (u64, u64)
+        ensures starts { result.0 ≡ start self.now }
+        ensures ends { result.1 ≡ end self.now }
+        ensures order { result.0 ≤ result.1 }
+        ensures limit { result.1 ≤ 2 ^ 62 };
+
+    /// How often it has failed.
+    fn faults(&self) -> u64
+        ensures { result ≡ faults self.now };
+
+    /// The item at a location.
+    fn read(&mut self, at: u64) -> Result<Vec<u8>, StoreError>
+        requires from { start self.old ≤ at }
+        requires before { at < end self.old }
+        ensures item { IfOk result (λ v. IfSome (items self.old) (λ xs. slice_get xs (at - start self.old) ≡ Some v.items)) }
+        ensures same_start { start self.new ≡ start self.old }
+        ensures same_end { end self.new ≡ end self.old }
+        ensures same_items { items self.new ≡ items self.old }
+        ensures cause { IsCause (faults self.old) (faults self.new) (IsErrOf result StoreError.Failed) };
+
+    /// Puts these behind the last item. After an error a first part of them may be there.
+    fn append(&mut self, added: &[Vec<u8>]) -> Result<(), StoreError>
+        requires room { end self.old + length added.now ≤ 2 ^ 62 }
+        ensures ok { OnOk result (Grows (items self.old) (items self.new) (map (λ v. v.items) added.now)) }
+        ensures ok_end { OnOk result (end self.new ≡ end self.old + length added.now) }
+        ensures err { OnErr result (GrowsPart (items self.old) (items self.new) (map (λ v. v.items) added.now)) }
+        ensures err_low { OnErr result (end self.old ≤ end self.new) }
+        ensures err_high { OnErr result (end self.new ≤ end self.old + length added.now) }
+        ensures same_start { start self.new ≡ start self.old }
+        ensures cause { IsCause (faults self.old) (faults self.new) (IsErrOf result StoreError.Failed) };
+
+    /// The start is not behind the end.
+    ghost ordered: { (s : Self) → start s ≤ end s };
+
+    /// Where the items are told, they reach from the start to the end.
+    ghost told_end: { (s : Self) → IfSome (items s) (λ xs. start s + length xs ≡ end s) };
+}
