@@ -1,0 +1,4 @@
+pub mod Given
+pub mod Table
+pub mod Turn
+pub mod Session

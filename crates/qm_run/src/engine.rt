@@ -1,0 +1,189 @@
+//! What a database offers to a run, over any store.
+
+ghost use Rattle.std.specs.Prelude.{◌≡◌, ◌≢◌, ◌≤◌, ◌++◌, ◌∷◌, [], ℕ, List, Some, true, map, drop, length, nat_lt, option_map, if◌then◌else◌, IfOk, IfErr};
+ghost use Rattle.qm_model.specs.Causes.{Rose};
+ghost use Rattle.qm_model.specs.Operations.{Bytes, Operation, spelling, fresh};
+ghost use Rattle.qm_model.specs.Live.{live, floor, value_of};
+ghost use Rattle.qm_model.specs.Writes.{Write};
+ghost use Rattle.qm_model.specs.Step.{Kind, step};
+ghost use Rattle.qm_model.specs.Policies.{policies};
+ghost use Rattle.qm_model.specs.Batches.{Chain, IsOnChain, commitment, fits};
+ghost use Rattle.qm_model.specs.Machine.{own_operations};
+ghost use Rattle.qm_lines.specs.Views.{policy_view, listed_view};
+ghost use Rattle.qm_run.specs.Given.{store_given, store_after, Appended, AppendedPart, IsUnchanged};
+
+use qm_base::{Error, JournalError, Key, VariableValue};
+use qm_lines::{AnyPolicy, Listed};
+use qm_store::Store;
+use std::alloc::{AllocError, Global};
+
+/// What a call that takes the database by value gives back where it refuses: the database as it was, or its store,
+/// which can be opened again.
+#[derive(Drop)]
+pub enum Given<X, C> {
+    Database(X),
+    Store(C),
+}
+
+/// A refusal of a call that takes the database by value.
+#[derive(Drop)]
+pub struct Refusal<X, C> {
+    pub given: Given<X, C>,
+    pub error: Error,
+}
+
+/// The numbers of a database.
+#[derive(Clone, Copy, Debug, PartialEq, Eq)]
+pub struct Numbers {
+    /// The location of the first operation that the store keeps.
+    pub start: u64,
+    /// How many operations the list has.
+    pub size: u64,
+    /// The floor: no live update stands below it.
+    pub floor: u64,
+    /// Up to where the list may be pruned.
+    pub boundary: u64,
+    /// Whether any key is live.
+    pub is_live: bool,
+}
+
+/// The numbers of a merkleized batch.
+#[derive(Clone, Copy, Debug, PartialEq, Eq)]
+pub struct BatchSizes {
+    /// How many operations the list has that the batch was made from.
+    pub base: u64,
+    /// How many operations the list has that the batch makes.
+    pub tip: u64,
+    /// The floor of that list.
+    pub floor: u64,
+}
+
+/// A kind of database: one call for each command of a run.
+pub trait Engine<C: Store>: Drop + Sized {
+    type Key: Key;
+
+    type Value: VariableValue;
+
+    type Config: Drop;
+
+    type Batch: Drop;
+
+    type Merkleized: Drop;
+
+    /// The store that it holds.
+    ghost inside: { Self → C };
+
+    /// It stands for this operation list.
+    ghost stands: { Self → List Operation → Type 0 };
+
+    /// A batch of this chain with these writes.
+    ghost is_batch: { Self.Batch → Chain → List Write → Type 0 };
+
+    /// A merkleized batch of this chain with this tip list.
+    ghost is_merkleized: { Self.Merkleized → Chain → List Operation → Type 0 };
+
+    /// What writes and decisions append.
+    ghost kind: { Kind };
+
+    /// The root of a list, which tells a batch whether it fits.
+    ghost root: { List Operation → Bytes };
+
+    /// Up to where a list may be pruned.
+    ghost boundary: { List Operation → ℕ };
+
+    /// Opens a database over an empty store: a fresh list.
+    fn open(alloc: Global, store: C, config: &Self::Config) -> Result<Self, Refusal<Self, C>>
+        requires start { C.start store ≡ 0 }
+        requires empty { C.end store ≡ 0 }
+        ensures opened { IfOk result (λ x. stands x fresh) }
+        ensures grown { IfOk result (λ x. Appended C.Store store (inside x) (map spelling fresh)) }
+        ensures kept { IfErr result (λ r. AppendedPart C.Store store (store_given inside r.given) (map spelling fresh)) }
+        ensures cause { IfErr result (λ r. r.error ≡ Error.Journal JournalError.Store → Rose (C.faults store) (C.faults (store_given inside r.given))) }
+        ensures later { C.faults store ≤ C.faults (store_after inside result) }
+        ensures never { IfErr result (λ r. r.error ≢ Error.StaleBatch) };
+
+    /// Lends the store.
+    fn store(&self) -> &C
+        ensures { result.now ≡ inside self.now };
+
+    /// Gives the store back, as it is.
+    fn close(self) -> C
+        ensures { result ≡ inside self };
+
+    /// The numbers of the database.
+    fn info(&self) -> Numbers
+        ensures start { result.start ≡ C.start (inside self.now) }
+        ensures list { (list : List Operation) → stands self.now list → (result.size ≡ length list) × (result.floor ≡ floor list)
+            × (result.boundary ≡ boundary list) × (result.is_live ≡ nat_lt 0 (length (live list))) };
+
+    /// Begins a batch.
+    fn batch(&self, alloc: Global) -> Result<Self::Batch, AllocError>
+        ensures { IfOk result (λ b. (list : List Operation) → stands self.now list → is_batch b (record { base = list; kept = [] }) []) };
+
+    /// Writes a value for a key.
+    fn put(
+        alloc: Global,
+        batch: Self::Batch,
+        key: Self::Key,
+        value: Self::Value,
+    ) -> Result<Self::Batch, AllocError>
+        ensures { IfOk result (λ b. (chain : Chain) (ws : List Write) → is_batch batch chain ws
+            → is_batch b chain (ws ++ record { key = Self.Key.bytes key; value = Some (Self.Value.bytes value) } ∷ [])) };
+
+    /// Makes the batch's tip list: a step of its base list, under the policy. The batch is consumed also where
+    /// this is refused, and the policy may have moved on.
+    fn merkleize(
+        &mut self,
+        alloc: Global,
+        batch: Self::Batch,
+        policy: &mut AnyPolicy,
+        metadata: Option<Self::Value>,
+    ) -> Result<Self::Merkleized, Error>
+        ensures fits { IfOk result (λ b. (list : List Operation) (chain : Chain) (ws : List Write) → stands self.old list → is_batch batch chain ws
+            → fits root (commitment root list) chain ≡ true) }
+        ensures made { IfOk result (λ b. (list : List Operation) (chain : Chain) (ws : List Write) → stands self.old list → is_batch batch chain ws → IsOnChain list chain
+            → is_merkleized b chain (step kind policies chain.base ws (policy_view policy.old) (option_map Self.Value.bytes metadata))) }
+        ensures stale { IfErr result (λ e. e ≡ Error.StaleBatch → (list : List Operation) (chain : Chain) (ws : List Write) → stands self.old list → is_batch batch chain ws
+            → ¬ IsOnChain list chain) }
+        ensures same { (list : List Operation) → stands self.old list → stands self.new list }
+        ensures store { IsUnchanged C.Store (inside self.old) (inside self.new) }
+        ensures cause { IfErr result (λ e. e ≡ Error.Journal JournalError.Store → Rose (C.faults (inside self.old)) (C.faults (inside self.new))) }
+        ensures later { C.faults (inside self.old) ≤ C.faults (inside self.new) };
+
+    /// The sizes of a merkleized batch.
+    fn sizes(batch: &Self::Merkleized) -> BatchSizes
+        ensures { (chain : Chain) (tip : List Operation) → is_merkleized batch.now chain tip
+            → (result.base ≡ length chain.base) × (result.tip ≡ length tip) × (result.floor ≡ floor tip) };
+
+    /// The size of a merkleized batch's base, and its own operations.
+    fn ops(
+        alloc: Global,
+        batch: &Self::Merkleized,
+    ) -> Result<(u64, Vec<Listed<Self::Key, Self::Value>>), AllocError>
+        ensures { IfOk result (λ r. (chain : Chain) (tip : List Operation) → is_merkleized batch.now chain tip
+            → (r.0 ≡ length chain.base) × (map (listed_view Self.Key.bytes Self.Value.bytes) r.1.items ≡ own_operations chain tip)) };
+
+    /// Takes the batch's tip list, and appends to the store what it lacks of it.
+    fn apply(self, alloc: Global, batch: &Self::Merkleized) -> Result<Self, Refusal<Self, C>>
+        ensures fits { IfOk result (λ next. (list : List Operation) (chain : Chain) (tip : List Operation) → stands self list → is_merkleized batch.now chain tip
+            → fits root (commitment root list) chain ≡ true) }
+        ensures applied { IfOk result (λ next. (list : List Operation) (chain : Chain) (tip : List Operation) → stands self list → is_merkleized batch.now chain tip → IsOnChain list chain
+            → stands next tip) }
+        ensures grown { IfOk result (λ next. (list : List Operation) (chain : Chain) (tip : List Operation) → stands self list → is_merkleized batch.now chain tip → IsOnChain list chain
+            → Appended C.Store (inside self) (inside next) (map spelling (drop (length list) tip))) }
+        ensures stale { IfErr result (λ r. r.error ≡ Error.StaleBatch → (r.given ≡ Given.Database self)
+            × ((list : List Operation) (chain : Chain) (tip : List Operation) → stands self list → is_merkleized batch.now chain tip → ¬ IsOnChain list chain)) }
+        ensures kept { IfErr result (λ r. (list : List Operation) (chain : Chain) (tip : List Operation) → stands self list → is_merkleized batch.now chain tip
+            → AppendedPart C.Store (inside self) (store_given inside r.given) (if fits root (commitment root list) chain then map spelling (drop (length list) tip) else [])) }
+        ensures cause { IfErr result (λ r. r.error ≡ Error.Journal JournalError.Store → Rose (C.faults (inside self)) (C.faults (store_given inside r.given))) }
+        ensures later { C.faults (inside self) ≤ C.faults (store_after inside result) };
+
+    /// Reads the value of a key.
+    fn get(&mut self, alloc: Global, key: &Self::Key) -> Result<Option<Self::Value>, Error>
+        ensures value { IfOk result (λ v. (list : List Operation) → stands self.old list → option_map Self.Value.bytes v ≡ value_of list (Self.Key.bytes key.now)) }
+        ensures same { (list : List Operation) → stands self.old list → stands self.new list }
+        ensures store { IsUnchanged C.Store (inside self.old) (inside self.new) }
+        ensures cause { IfErr result (λ e. e ≡ Error.Journal JournalError.Store → Rose (C.faults (inside self.old)) (C.faults (inside self.new))) }
+        ensures later { C.faults (inside self.old) ≤ C.faults (inside self.new) }
+        ensures never { IfErr result (λ e. e ≢ Error.StaleBatch) };
+}
