@@ -86,9 +86,9 @@ pub trait Store: Drop {
         ensures ok { OnOk result (Grows (items self.old) (items self.new) (map (λ v. v.items) added.now)) }
         ensures ok_end { OnOk result (end self.new ≡ end self.old + length added.now) }
         ensures err { OnErr result (GrowsPart (items self.old) (items self.new) (map (λ v. v.items) added.now)) }
-        ensures err_low { OnErr result (end self.old ≤ end self.new) }
-        ensures err_high { OnErr result (end self.new ≤ end self.old + length added.now) }
         ensures same_start { start self.new ≡ start self.old }
+        ensures grows { end self.old ≤ end self.new }
+        ensures within { end self.new ≤ end self.old + length added.now }
         ensures cause { IsCause (faults self.old) (faults self.new) (IsErrOf result StoreError.Failed) };
 
     /// The start is not behind the end.

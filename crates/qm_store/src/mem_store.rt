@@ -1,7 +1,8 @@
 // A store in memory, which fails exactly at the listed calls.
 ghost use Rattle.std.specs.Prelude.{◌≡◌, ◌≢◌, ℕ, ◌+◌, ◌-◌, ◌^◌, ◌<◌, ◌≤◌, ◌↔◌, List, [], ◌++◌, length, map, take, slice_get, Contains};
 ghost use Rattle.std.specs.Prelude.{Some, IfSome, IfOk, OnOk, OnErr, IsErrOf};
-ghost use Rattle.std.proofs.Common.{arith, refl};
+ghost use Rattle.std.proofs.Common.{refl};
+ghost use Rattle.std.proofs.Math.Nat.{le-add_right};
 ghost use Rattle.qm_model.specs.Causes.{IsCause, Grows, GrowsPart};
 ghost use Rattle.qm_store.specs.Mem.{Mem, called, failed, grown};
 
@@ -100,7 +101,7 @@ impl Store for MemStore {
 
     ghost faults = { λ s. s.faults };
 
-    ghost ordered = { λ s. Prim.omega arith };
+    ghost ordered = { λ s. le-add_right s.start (length s.items) };
 
     ghost told_end = { λ s. refl };
 
