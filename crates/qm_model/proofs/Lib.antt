@@ -1,1 +1,4 @@
 pub mod LastWrites
+pub mod Pushes
+pub mod Walks
+pub mod Steps
