@@ -1,4 +1,5 @@
 pub mod LastWrites
 pub mod Pushes
 pub mod Walks
+pub mod Floors
 pub mod Steps

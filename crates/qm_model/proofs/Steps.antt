@@ -7,7 +7,7 @@ use Rattle.qm_model.specs.Writes.{Write, unordered_writes, made_inactive, operat
 use Rattle.qm_model.specs.Walk.{Rules, Walked, walk}
 use Rattle.qm_model.specs.Step.{unordered, committed, step}
 use Rattle.qm_model.proofs.Walks.{Walks, walks, walks_within}
-use Rattle.qm_model.proofs.Pushes as P
+use Rattle.qm_model.proofs.Floors as F
 
 floor_after-commit : (f : ℕ) (ops : List Operation) (m : Option Bytes) (g : ℕ) → floor_after f (ops ++ commit m g ∷ []) ≡ g
 floor_after-commit f [] m g = refl
