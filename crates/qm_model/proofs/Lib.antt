@@ -3,3 +3,5 @@ pub mod Pushes
 pub mod Walks
 pub mod Floors
 pub mod Steps
+pub mod Maps
+pub mod Overwrites

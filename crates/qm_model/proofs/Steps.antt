@@ -92,14 +92,14 @@ walked-inside rules ops made f g ds w low =
 
 module _ {P : Type 0} (rules : Rules P) (ops : List Operation) (ws : List Write) (policy : P) (meta : Option Bytes) where
   -- the walk of a step, over the list with the writes
-  abbrev walked : Walked P
+  abbrev pub walked : Walked P
   walked = walk rules (ops ++ unordered_writes ops ws) (floor ops) (rules.limits policy (made_inactive ops (unordered_writes ops ws))) policy
 
   -- the list with the writes and the moves
-  abbrev moved : List Operation
+  abbrev pub moved : List Operation
   moved = (ops ++ unordered_writes ops ws) ++ map operation_of walked.decisions
 
-  walked-walks : Walks rules (drop (floor ops) (ops ++ unordered_writes ops ws)) (floor ops) walked.floor walked.decisions
+  pub walked-walks : Walks rules (drop (floor ops) (ops ++ unordered_writes ops ws)) (floor ops) walked.floor walked.decisions
   walked-walks =
       let limits = rules.limits policy (made_inactive ops (unordered_writes ops ws)) in
       walks rules (drop (floor ops) (ops ++ unordered_writes ops ws)) (floor ops) limits.entries limits.skips policy
