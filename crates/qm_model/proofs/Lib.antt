@@ -5,3 +5,4 @@ pub mod Floors
 pub mod Steps
 pub mod Maps
 pub mod Overwrites
+pub mod Keeping

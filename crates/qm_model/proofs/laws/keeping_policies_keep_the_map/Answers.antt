@@ -1,8 +1,8 @@
-use Rattle.qm_model.proofs.Overwrites as M
+use Rattle.qm_model.proofs.Keeping.{step-keeps, step-holds}
 use Rattle.qm_model.proofs.laws.keeping_policies_keep_the_map.Goals as goal
 
 pub returns-clause-keeps : goal.returns-clause-keeps
-returns-clause-keeps g c = ?
+returns-clause-keeps g c ops ws policy meta key only = step-keeps g.P.Ruled.rules ops ws policy meta key only
 
 pub returns-clause-holds : goal.returns-clause-holds
-returns-clause-holds g c = ?
+returns-clause-holds g c ops ws policy meta key never = step-holds g.P.Ruled.rules ops ws policy meta key never
