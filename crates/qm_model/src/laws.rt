@@ -22,22 +22,21 @@ pub fn last_write_wins()
 /// The floor after a step is a location of its list.
 pub fn floor_is_inside<P: Ruled>()
     ensures { (ops : List Operation) (ws : List Write) (policy : P) (meta : Option Bytes) → floor ops ≤ length ops
-        → floor (step unordered P.rules ops ws policy meta) < length (step unordered P.rules ops ws policy meta) }
+        → let after = step unordered P.rules ops ws policy meta in floor after < length after }
 {}
 
 /// Where nothing is live after a step, and nowhere else, its floor is its commit.
 pub fn an_empty_list_has_its_floor_at_the_commit<P: Ruled>()
     ensures { (ops : List Operation) (ws : List Write) (policy : P) (meta : Option Bytes) → IsGood ops
-        → (live (step unordered P.rules ops ws policy meta) ≡ [])
-        ↔ (suc (floor (step unordered P.rules ops ws policy meta)) ≡ length (step unordered P.rules ops ws policy meta)) }
+        → let after = step unordered P.rules ops ws policy meta in (live after ≡ []) ↔ (suc (floor after) ≡ length after) }
 {}
 
 /// A step does not lower the floor, and no live update stands below it.
 pub fn floors_never_fall<P: Ruled>()
-    ensures rises { (ops : List Operation) (ws : List Write) (policy : P) (meta : Option Bytes) → IsGood ops
+    ensures rises { (ops : List Operation) (ws : List Write) (policy : P) (meta : Option Bytes) → floor ops ≤ length ops
         → floor ops ≤ floor (step unordered P.rules ops ws policy meta) }
     ensures below { (ops : List Operation) (ws : List Write) (policy : P) (meta : Option Bytes) → IsGood ops
-        → All (λ e. floor (step unordered P.rules ops ws policy meta) ≤ e.location) (live (step unordered P.rules ops ws policy meta)) }
+        → let after = step unordered P.rules ops ws policy meta in All (λ e. floor after ≤ e.location) (live after) }
 {}
 
 /// Each list that steps make keeps what an unordered database relies on.
@@ -45,10 +44,10 @@ pub fn made_lists_are_good<P: Ruled>()
     ensures { (ops : List Operation) → Made unordered P.rules ops → IsGood ops }
 {}
 
-/// Under a policy that keeps each value, or decides nothing, a step changes the map as its writes say.
+/// Under a policy that writes each value as it is, or decides nothing, a step changes the map as its writes say.
 pub fn keeping_policies_keep_the_map<P: Ruled>()
-    ensures keeps { (ops : List Operation) (ws : List Write) (policy : P) (meta : Option Bytes) (key : Bytes) → OnlyKeeps P.rules
+    ensures only_keeps { (ops : List Operation) (ws : List Write) (policy : P) (meta : Option Bytes) (key : Bytes) → OnlyKeeps P.rules
         → value_of (step unordered P.rules ops ws policy meta) key ≡ overwritten (write_of (last_writes ws) key) (value_of ops key) }
-    ensures holds { (ops : List Operation) (ws : List Write) (policy : P) (meta : Option Bytes) (key : Bytes) → NeverMoves P.rules
+    ensures never_moves { (ops : List Operation) (ws : List Write) (policy : P) (meta : Option Bytes) (key : Bytes) → NeverMoves P.rules
         → value_of (step unordered P.rules ops ws policy meta) key ≡ overwritten (write_of (last_writes ws) key) (value_of ops key) }
 {}
