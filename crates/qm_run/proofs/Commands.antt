@@ -2,7 +2,7 @@
 use Rattle.std.proofs.Common.{◌≡◌, ◌≤◌, ℕ, zero, suc, ◌+◌, ◌<◌, Bool, true, false, cond, List, [], ◌∷◌, ◌++◌, length, get_or, set, map, take, drop, Option, Some, None, arith, refl, sym, ◌∙◌, ap, subst, length-append, IfSome, append-nil, ◌⊎◌, inl, inr}
 use Rattle.std.specs.Prelude.{Contains}
 use Rattle.std.proofs.lemmas.List.{length-set}
-use Rattle.std.proofs.Math.Seq.{drop-append_seam}
+use Rattle.std.proofs.Math.Seq.{drop-append_seam, take-length}
 use Rattle.qm_model.specs.Causes.{Grows, GrowsPart}
 use Rattle.qm_model.specs.Operations.{Bytes, Operation, spelling, fresh}
 use Rattle.qm_model.specs.Live.{floor}
@@ -35,6 +35,10 @@ use Rattle.qm_run.proofs.Tables.{push_at, set_at, set_set}
 choice : {A : Type 0} (t : Bool) (p q : A) (Q : A → Type 0) → (t ≡ true → Q p) → (t ≡ false → Q q) → Q (cond t p q)
 choice true p q Q a b = a refl
 choice false p q Q a b = b refl
+
+-- all of what is due is a first part of it
+pub Grows-whole : {A : Type 0} (old new : Option (List A)) (more : List A) → Grows old new more → GrowsPart old new more
+Grows-whole old new more grows = (length more, subst (Grows old new) (sym (take-length more)) grows)
 
 -- a first part of what is due, and nothing of it
 pub left_part : (before more : List Bytes) (items : Option (List Bytes)) → GrowsPart (Some before) items more → IsLeft items before (before ++ more)

@@ -1,0 +1,43 @@
+use Rattle.std.proofs.Common.{◌≡◌, ◌≤◌, ◌<◌, ℕ, ◌+◌, ◌⊎◌, List, [], ◌∷◌, ◌++◌, length, get_or, set, true, cond, arith, refl, sym, ◌∙◌, ap, subst, Some, None, IfSome, option_map, inl, inr, map}
+use Rattle.qm_model.specs.Operations.{spelling, fresh}
+use Rattle.qm_model.specs.Policies.{Policy, policies}
+use Rattle.qm_model.specs.Machine.{Scheme, slot_at}
+use Rattle.qm_run.specs.declared.table.Slot.TheVariants.{Gone, Writing, Merkleized}
+use Rattle.qm_run.specs.Session.{Meaning, meaning}
+use Rattle.qm_run.specs.Given.{store_given}
+use Rattle.qm_run.proofs.Commands.{Grows-whole, open_refused, open_ok, open_left}
+use Rattle.qm_run.proofs.turns.open.Goals as goal
+use Rattle.qm_run.proofs.turns.open.Goals.{then-start-gt0-via-then-start-gt0, then-start-gt0-via-else-start-gt0+then-end-gt0}
+
+either : (start end : ℕ) → (0 < start) ⊎ ((start ≤ 0) × (0 < end)) → (0 < start) ⊎ (0 < end)
+either start end (inl h) = inl h
+either start end (inr h) = inr h.1
+
+pub returns-then-start-gt0-clause-machine : goal.returns-then-start-gt0-clause-machine
+returns-then-start-gt0-clause-machine g c = λ s k.
+    let m : Meaning g.row.X.Denot g.row.C.Denot g.row.X-Batch.Denot g.row.X-Merkleized.Denot = meaning g.X.Engine g.C.Store in
+    let scheme : Scheme Policy = record { kind = g.X.Engine.kind; rules = policies; root = g.X.Engine.root; boundary = g.X.Engine.boundary } in
+    let law : IfSome (m.items (store_given m.inside c.args.session.held)) (λ xs. m.start (store_given m.inside c.args.session.held) + length xs ≡ c.bounds-start.result.1) =
+        rw c.bounds-start.ensures.end (g.met.C.Store.told_end (store_given m.inside c.args.session.held)) in
+    open_refused m g.X.Key.ByteString.bytes g.X.Value.ByteString.bytes scheme c.args.session.held c.args.session.table.items c.args.session.opened c.bounds-start.result.0 c.bounds-start.result.1 s k c.bounds-start.ensures.start law
+      (either c.bounds-start.result.0 c.bounds-start.result.1 c.then-start-gt0.either)
+
+pub returns-in-Ok-clause-machine : goal.returns-in-Ok-clause-machine
+returns-in-Ok-clause-machine g c = λ s k.
+    let m : Meaning g.row.X.Denot g.row.C.Denot g.row.X-Batch.Denot g.row.X-Merkleized.Denot = meaning g.X.Engine g.C.Store in
+    let scheme : Scheme Policy = record { kind = g.X.Engine.kind; rules = policies; root = g.X.Engine.root; boundary = g.X.Engine.boundary } in
+    let law : IfSome (m.items (store_given m.inside c.args.session.held)) (λ xs. m.start (store_given m.inside c.args.session.held) + length xs ≡ c.bounds-start.result.1) =
+        rw c.bounds-start.ensures.end (g.met.C.Store.told_end (store_given m.inside c.args.session.held)) in
+    let grown = rw c.close-store.ensures at c.in-Ok.ensures.grown in
+    open_ok m g.X.Key.ByteString.bytes g.X.Value.ByteString.bytes scheme c.args.session.held c.in-Ok.x c.args.session.table.items c.args.session.opened c.info-numbers.result.start c.info-numbers.result.size c.bounds-start.result.1 s k law
+      (omega arith) c.in-Ok.ensures.opened grown.start grown.items c.info-numbers.ensures.start (λ list stands. (c.info-numbers.ensures.list list stands).0)
+
+pub returns-in-Ok-clause-left : goal.returns-in-Ok-clause-left
+returns-in-Ok-clause-left g c = λ s k apart.
+    let m : Meaning g.row.X.Denot g.row.C.Denot g.row.X-Batch.Denot g.row.X-Merkleized.Denot = meaning g.X.Engine g.C.Store in
+    let scheme : Scheme Policy = record { kind = g.X.Engine.kind; rules = policies; root = g.X.Engine.root; boundary = g.X.Engine.boundary } in
+    let law : IfSome (m.items (store_given m.inside c.args.session.held)) (λ xs. m.start (store_given m.inside c.args.session.held) + length xs ≡ c.bounds-start.result.1) =
+        rw c.bounds-start.ensures.end (g.met.C.Store.told_end (store_given m.inside c.args.session.held)) in
+    let grown = rw c.close-store.ensures at c.in-Ok.ensures.grown in
+    open_left m g.X.Key.ByteString.bytes g.X.Value.ByteString.bytes scheme c.args.session.held (m.items (m.inside c.in-Ok.x)) c.bounds-start.result.1 c.args.session.table.items c.args.session.opened s k law
+      (omega arith) (Grows-whole (m.items (store_given m.inside c.args.session.held)) (m.items (m.inside c.in-Ok.x)) (map spelling fresh) grown.items)
