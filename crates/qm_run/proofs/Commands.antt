@@ -11,7 +11,7 @@ use Rattle.qm_model.specs.Batches.{Chain, IsAmong, IsOnChain, Apart, commitment,
 use Rattle.qm_model.specs.Step.{step}
 use Rattle.qm_model.specs.Lines.{Answer}
 use Rattle.qm_model.specs.Lines as lines
-use Rattle.qm_model.specs.Machine.{Scheme, State, slot_at, with_slot, with_database, refuse, start_batch, put_in, merkleize_in, apply_in, open_over}
+use Rattle.qm_model.specs.Machine.{Scheme, State, slot_at, with_slot, with_database, refuse, start_batch, put_in, list_operations, merkleize_in, apply_in, open_over}
 use Rattle.qm_model.specs.Machine as machine
 use Rattle.qm_model.proofs.Chains.{Contains-more, Contains-first, IsAmong-more, on_chain-fits}
 use Rattle.qm_base.specs.declared.error.Error.{Error}
@@ -213,8 +213,8 @@ module _ {X C B M K V P : Type 0} (m : Meaning X C B M) (key : K → Bytes) (val
       let same : w ≡ batch = cc in
       let batch_is : m.is_batch batch chain ws = subst (λ v. m.is_batch v chain ws) same is.0 in
       choice (fits root (commitment root list) chain) accepted (refuse (with_slot s h machine.gone) lines.StaleBatch) (Turns (Reply (replies.Refused refused.StaleBatch)) (Database after) (set table h Gone) opened)
-        (λ fit apart. absurd (off chain ws batch_is (on_chain-fits root (tip ∷ s.had) list chain apart (Contains-more s.had tip list in_had) (IsAmong-more s.had tip chain is.1) fit)))
-        (λ fit apart. (
+      (λ fit apart. absurd (off chain ws batch_is (on_chain-fits root (tip ∷ s.had) list chain apart (Contains-more s.had tip list in_had) (IsAmong-more s.had tip chain is.1) fit)))
+      (λ fit apart. (
         refl,
         record {
           database = HeldIs-kept x after s.had s.database keeps k.database;
@@ -240,8 +240,8 @@ module _ {X C B M K V P : Type 0} (m : Meaning X C B M) (key : K → Bytes) (val
       → Turns (Reply (replies.Merkleized h low high bottom)) (Database after) (set (set table h Gone) h (Merkleized made)) opened (machine.merkleize scheme s h policy meta)
   merkleize_ok x after table opened h policy meta batch made low high bottom s k keeps start items fit did sized e =
       with_list x s.had s.database s (λ list. merkleize_in scheme s h policy meta list (slot_at s.table h)) (Turns (Reply (replies.Merkleized h low high bottom)) (Database after) (set (set table h Gone) h (Merkleized made)) opened) k.database
-        (λ list stands in_had. merkleized_in x after table opened h policy meta batch made low high bottom s list k in_had keeps start items (λ chain ws. fit list chain ws stands) (λ chain ws. did list chain ws stands) sized
-        (get_or table h Gone) (slot_at s.table h) (k.slots h) e)
+      (λ list stands in_had. merkleized_in x after table opened h policy meta batch made low high bottom s list k in_had keeps start items (λ chain ws. fit list chain ws stands) (λ chain ws. did list chain ws stands) sized
+      (get_or table h Gone) (slot_at s.table h) (k.slots h) e)
 
   pub merkleize_err : (x after : X) (table : List (Slot B M)) (opened : ℕ) (h : ℕ) (policy : P) (meta : Option Bytes) (batch : B) (error : Error) (s : State)
       → Holds m (Database x) table opened s → ((l : List Operation) → m.stands x l → m.stands after l)
@@ -253,8 +253,8 @@ module _ {X C B M K V P : Type 0} (m : Meaning X C B M) (key : K → Bytes) (val
   merkleize_err x after table opened h policy meta batch (errors.Journal j) s k keeps start items stale e = tt
   merkleize_err x after table opened h policy meta batch errors.StaleBatch s k keeps start items stale e =
       with_list x s.had s.database s (λ list. merkleize_in scheme s h policy meta list (slot_at s.table h)) (Turns (Reply (replies.Refused refused.StaleBatch)) (Database after) (set table h Gone) opened) k.database
-        (λ list stands in_had. stale_in x after table opened h policy meta batch s list k in_had keeps start items (λ chain ws. stale refl list chain ws stands)
-        (get_or table h Gone) (slot_at s.table h) (k.slots h) e)
+      (λ list stands in_had. stale_in x after table opened h policy meta batch s list k in_had keeps start items (λ chain ws. stale refl list chain ws stands)
+      (get_or table h Gone) (slot_at s.table h) (k.slots h) e)
 
   -- an apply that was accepted
   applied_in : (x after : X) (table : List (Slot B M)) (opened : ℕ) (h : ℕ) (batch : M) (size : ℕ) (s : State) (list : List Operation)
@@ -269,21 +269,21 @@ module _ {X C B M K V P : Type 0} (m : Meaning X C B M) (key : K → Bytes) (val
       let same : w ≡ batch = cc in
       let batch_is : m.is_merkleized batch chain tip = subst (λ v. m.is_merkleized v chain tip) same is.0 in
       choice (fits root (commitment root list) chain) (lines.Applied (length tip), record s { database = Some tip; items = s.items ++ map spelling (drop (length list) tip) }) (refuse s lines.StaleBatch) (Turns (Reply (replies.Applied size)) (Database after) table opened)
-        (λ fit apart.
-        let on_chain = on_chain-fits root s.had list chain apart in_had is.1 fit in
-        let stood : m.stands after tip = did chain tip batch_is on_chain in
-        let more = grown chain tip batch_is on_chain in (
-          ap lines.Applied (sized tip stood),
-          record {
-            database = (stood, is.2);
-            start = more.0 ∙ k.start;
-            items = subst (λ o. Grows o (m.items (m.inside after)) (map spelling (drop (length list) tip))) k.items more.1;
-            count = k.count;
-            lengths = k.lengths;
-            slots = k.slots;
-          },
-        ))
-        (λ unfit. absurd (let fit = fit_of chain tip batch_is in cc))
+      (λ fit apart.
+      let on_chain = on_chain-fits root s.had list chain apart in_had is.1 fit in
+      let stood : m.stands after tip = did chain tip batch_is on_chain in
+      let more = grown chain tip batch_is on_chain in (
+        ap lines.Applied (sized tip stood),
+        record {
+          database = (stood, is.2);
+          start = more.0 ∙ k.start;
+          items = subst (λ o. Grows o (m.items (m.inside after)) (map spelling (drop (length list) tip))) k.items more.1;
+          count = k.count;
+          lengths = k.lengths;
+          slots = k.slots;
+        },
+      ))
+      (λ unfit. absurd (let fit = fit_of chain tip batch_is in cc))
   applied_in x after table opened h batch size s list k in_had fit_of did grown sized (Merkleized w) machine.gone is e = absurd is
   applied_in x after table opened h batch size s list k in_had fit_of did grown sized (Merkleized w) (machine.writing chain ws) is e = absurd is
   applied_in x after table opened h batch size s list k in_had fit_of did grown sized Gone b is e = absurd (cc)
@@ -299,8 +299,8 @@ module _ {X C B M K V P : Type 0} (m : Meaning X C B M) (key : K → Bytes) (val
       let same : w ≡ batch = cc in
       let batch_is : m.is_merkleized batch chain tip = subst (λ v. m.is_merkleized v chain tip) same is.0 in
       choice (fits root (commitment root list) chain) (lines.Applied (length tip), record s { database = Some tip; items = s.items ++ map spelling (drop (length list) tip) }) (refuse s lines.StaleBatch) (Turns (Reply (replies.Refused refused.StaleBatch)) (Database x) table opened)
-        (λ fit apart. absurd (off chain tip batch_is (on_chain-fits root s.had list chain apart in_had is.1 fit)))
-        (λ unfit apart. (refl, k))
+      (λ fit apart. absurd (off chain tip batch_is (on_chain-fits root s.had list chain apart in_had is.1 fit)))
+      (λ unfit apart. (refl, k))
   unapplied_in x table opened h batch s list k in_had off (Merkleized w) machine.gone is e = absurd is
   unapplied_in x table opened h batch s list k in_had off (Merkleized w) (machine.writing chain ws) is e = absurd is
   unapplied_in x table opened h batch s list k in_had off Gone b is e = absurd (cc)
@@ -316,8 +316,8 @@ module _ {X C B M K V P : Type 0} (m : Meaning X C B M) (key : K → Bytes) (val
       → Turns (Reply (replies.Applied size)) (Database after) table opened (machine.apply scheme s h)
   apply_ok x after table opened h batch size s k fit did grown sized e =
       with_list x s.had s.database s (λ list. apply_in scheme s h list (slot_at s.table h)) (Turns (Reply (replies.Applied size)) (Database after) table opened) k.database
-        (λ list stands in_had. applied_in x after table opened h batch size s list k in_had (λ chain tip. fit list chain tip stands) (λ chain tip. did list chain tip stands) (λ chain tip. grown list chain tip stands) sized
-        (get_or table h Gone) (slot_at s.table h) (k.slots h) e)
+      (λ list stands in_had. applied_in x after table opened h batch size s list k in_had (λ chain tip. fit list chain tip stands) (λ chain tip. did list chain tip stands) (λ chain tip. grown list chain tip stands) sized
+      (get_or table h Gone) (slot_at s.table h) (k.slots h) e)
 
   pub apply_err : (x : X) (given : Given X C) (table : List (Slot B M)) (opened : ℕ) (h : ℕ) (batch : M) (error : Error) (s : State)
       → Holds m (Database x) table opened s
@@ -329,9 +329,9 @@ module _ {X C B M K V P : Type 0} (m : Meaning X C B M) (key : K → Bytes) (val
   apply_err x given table opened h batch errors.StaleBatch s k stale e =
       let facts = stale refl in
       subst (λ g. Turns (Reply (replies.Refused refused.StaleBatch)) g table opened (machine.apply scheme s h)) (sym facts.0)
-        (with_list x s.had s.database s (λ list. apply_in scheme s h list (slot_at s.table h)) (Turns (Reply (replies.Refused refused.StaleBatch)) (Database x) table opened) k.database
-        (λ list stands in_had. unapplied_in x table opened h batch s list k in_had (λ chain tip. facts.1 list chain tip stands)
-        (get_or table h Gone) (slot_at s.table h) (k.slots h) e))
+      (with_list x s.had s.database s (λ list. apply_in scheme s h list (slot_at s.table h)) (Turns (Reply (replies.Refused refused.StaleBatch)) (Database x) table opened) k.database
+      (λ list stands in_had. unapplied_in x table opened h batch s list k in_had (λ chain tip. facts.1 list chain tip stands)
+      (get_or table h Gone) (slot_at s.table h) (k.slots h) e))
 
   -- what an apply leaves in the store
   left_in : (x : X) (items : Option (List Bytes)) (table : List (Slot B M)) (opened : ℕ) (h : ℕ) (batch : M) (s : State) (list : List Operation)
@@ -365,7 +365,7 @@ module _ {X C B M K V P : Type 0} (m : Meaning X C B M) (key : K → Bytes) (val
       → IsLeft items s.items ((machine.apply scheme s h).1).items
   apply_left x items table opened h batch s k apart grown e =
       with_list x s.had s.database s (λ list. apply_in scheme s h list (slot_at s.table h)) (λ next. IsLeft items s.items (next.1).items) k.database
-        (λ list stands in_had. left_in x items table opened h batch s list k in_had apart (λ chain tip. grown list chain tip stands) (get_or table h Gone) (slot_at s.table h) (k.slots h) e)
+      (λ list stands in_had. left_in x items table opened h batch s list k in_had apart (λ chain tip. grown list chain tip stands) (get_or table h Gone) (slot_at s.table h) (k.slots h) e)
 
   -- an opening over a store that is not empty, and over one that is
   pub open_refused : (held : Given X C) (table : List (Slot B M)) (opened start end : ℕ) (s : State) → Holds m held table opened s
@@ -390,16 +390,16 @@ module _ {X C B M K V P : Type 0} (m : Meaning X C B M) (key : K → Bytes) (val
       let empty : s.items ≡ [] = no_items (store_given m.inside held) end s.items k.items k.start law none in
       let there : Grows (Some s.items) (m.items (m.inside x)) (map spelling fresh) = subst (λ o. Grows o (m.items (m.inside x)) (map spelling fresh)) k.items grows in
       subst (λ items. Turns (Reply (replies.Opened (opened + 1) start size)) (Database x) table (opened + 1) (open_over s items)) (sym empty) (λ apart. (
-      rw (k.count, is_start ∙ same_start ∙ k.start, sized fresh stands) refl,
-      record {
-        database = (stands, Contains-first fresh s.had);
-        start = same_start ∙ k.start;
-        items = rw empty at there;
-        count = ap (λ n. n + 1) k.count;
-        lengths = k.lengths;
-        slots = λ h. SlotIs-more s.had fresh (get_or table h Gone) (slot_at s.table h) (k.slots h);
-      },
-    ))
+        rw (k.count, is_start ∙ same_start ∙ k.start, sized fresh stands) refl,
+        record {
+          database = (stands, Contains-first fresh s.had);
+          start = same_start ∙ k.start;
+          items = rw empty at there;
+          count = ap (λ n. n + 1) k.count;
+          lengths = k.lengths;
+          slots = λ h. SlotIs-more s.had fresh (get_or table h Gone) (slot_at s.table h) (k.slots h);
+        },
+      ))
 
   pub open_left : (held : Given X C) (items : Option (List Bytes)) (end : ℕ) (table : List (Slot B M)) (opened : ℕ) (s : State) → Holds m held table opened s
       → IfSome (m.items (store_given m.inside held)) (λ xs. m.start (store_given m.inside held) + length xs ≡ end) → end ≡ 0
@@ -410,3 +410,36 @@ module _ {X C B M K V P : Type 0} (m : Meaning X C B M) (key : K → Bytes) (val
       let there : GrowsPart (Some s.items) items (map spelling fresh) = subst (λ o. GrowsPart o items (map spelling fresh)) k.items grows in
       let Goal : List Bytes → Type 0 = λ xs. IsLeft items xs ((open_over s xs).1).items in
       subst Goal (sym empty) (left_part [] (map spelling fresh) items (rw empty at there))
+
+-- commands that leave the store as it is
+with_items : (s : State) (d : Option (List Operation)) (f : List Operation → Answer × State) → ((list : List Operation) → ((f list).1).items ≡ s.items) → ((with_database s d f).1).items ≡ s.items
+with_items s None f h = refl
+with_items s (Some list) f h = h list
+
+pub batch_items : (s : State) → ((start_batch s).1).items ≡ s.items
+batch_items s = with_items s s.database (λ list. (lines.Started (length s.table), record s { table = s.table ++ machine.writing (record { base = list; kept = [] }) [] ∷ [] })) (λ list. refl)
+
+pub put_items : (s : State) (h : ℕ) (w : Write) (slot : machine.Slot) → ((put_in s h w slot).1).items ≡ s.items
+put_items s h w machine.gone = refl
+put_items s h w (machine.writing chain ws) = refl
+put_items s h w (machine.merkleized chain tip) = refl
+
+pub ops_items : (s : State) (h : ℕ) (slot : machine.Slot) → ((list_operations s h slot).1).items ≡ s.items
+ops_items s h machine.gone = refl
+ops_items s h (machine.writing chain ws) = refl
+ops_items s h (machine.merkleized chain tip) = refl
+
+merkleize_items-in : {P : Type 0} (scheme : Scheme P) (s : State) (h : ℕ) (policy : P) (meta : Option Bytes) (list : List Operation) (slot : machine.Slot) → ((merkleize_in scheme s h policy meta list slot).1).items ≡ s.items
+merkleize_items-in scheme s h policy meta list machine.gone = refl
+merkleize_items-in scheme s h policy meta list (machine.merkleized chain tip) = refl
+merkleize_items-in scheme s h policy meta list (machine.writing chain ws) =
+    let tip : List Operation = step scheme.kind scheme.rules chain.base ws policy meta in
+    choice (fits scheme.root (commitment scheme.root list) chain) (lines.Merkleized h (length chain.base) (length tip) (floor tip), record (with_slot s h (machine.merkleized chain tip)) { had = tip ∷ s.had }) (refuse (with_slot s h machine.gone) lines.StaleBatch)
+      (λ next. (next.1).items ≡ s.items) (λ e. refl) (λ e. refl)
+
+pub merkleize_items : {P : Type 0} (scheme : Scheme P) (s : State) (h : ℕ) (policy : P) (meta : Option Bytes) → ((machine.merkleize scheme s h policy meta).1).items ≡ s.items
+merkleize_items scheme s h policy meta =
+    with_items s s.database (λ list. merkleize_in scheme s h policy meta list (slot_at s.table h)) (λ list. merkleize_items-in scheme s h policy meta list (slot_at s.table h))
+
+pub unchanged_left : (old new : Option (List Bytes)) (before after : List Bytes) → old ≡ Some before → new ≡ old → after ≡ before → IsLeft new before after
+unchanged_left old new before after is same e = left_none before after new (same ∙ is)

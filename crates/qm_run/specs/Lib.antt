@@ -2,3 +2,4 @@ pub mod Given
 pub mod Table
 pub mod Turn
 pub mod Session
+pub mod Runs

@@ -2,8 +2,10 @@
 #![tactic(auto)]
 
 pub mod engine;
+pub mod runs;
 mod session;
 mod table;
 mod turns;
 
 pub use engine::{BatchSizes, Engine, Given, Numbers, Refusal};
+pub use runs::{End, Outcome, run};

@@ -489,3 +489,32 @@ fn info<X: Engine<C>, C: Store>(session: Of<X, C>) -> (Of<X, C>, Turn<X::Key, X:
         }
     }
 }
+
+/// One command: the machine's turn.
+pub fn turn<X: Engine<C>, C: Store>(
+    alloc: Global,
+    config: &X::Config,
+    session: Of<X, C>,
+    command: &Command<X::Key, X::Value, AnyPolicy>,
+) -> (Of<X, C>, Turn<X::Key, X::Value>)
+    requires { session.opened + 1 < 2 ^ 64 }
+    ensures machine { Obeys (meaning X.Engine C.Store) X.Key.bytes X.Value.bytes X.root session result.0 result.1
+        (λ s. machine.turn (record { kind = X.kind; rules = policies; root = X.root; boundary = X.boundary }) s (line_view X.Key.bytes X.Value.bytes policy_view command.now)) }
+    ensures left { Leaves (meaning X.Engine C.Store) X.root session result.0
+        (λ s. machine.turn (record { kind = X.kind; rules = policies; root = X.root; boundary = X.boundary }) s (line_view X.Key.bytes X.Value.bytes policy_view command.now)) }
+    ensures causes { Causes (C.faults (store_given X.inside session.held)) (C.faults (store_given X.inside result.0.held)) result.1 }
+    ensures opened { result.0.opened ≤ session.opened + 1 }
+{
+    match command {
+        Command::Open => open::<X, C>(alloc, config, session),
+        Command::Batch => batch::<X, C>(alloc, session),
+        Command::Put(number, key, value) => put::<X, C>(alloc, session, *number, key, value),
+        Command::Merkleize(number, policy, metadata) => {
+            merkleize::<X, C>(alloc, session, *number, policy, metadata)
+        }
+        Command::Apply(number) => apply::<X, C>(alloc, session, *number),
+        Command::Ops(number) => ops::<X, C>(alloc, session, *number),
+        Command::Get(key) => get::<X, C>(alloc, session, key),
+        Command::Info => info::<X, C>(session),
+    }
+}

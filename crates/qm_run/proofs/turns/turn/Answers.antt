@@ -1,0 +1,43 @@
+use Rattle.std.proofs.Common.{◌≡◌, List, Some, option_map}
+use Rattle.qm_model.specs.Policies.{Policy, policies}
+use Rattle.qm_model.specs.Machine.{Scheme, slot_at}
+use Rattle.qm_lines.specs.Views.{policy_view}
+use Rattle.qm_run.specs.Given.{store_given}
+use Rattle.qm_run.proofs.Commands.{unchanged_left, put_items, ops_items, merkleize_items}
+use Rattle.qm_run.proofs.turns.turn.Goals as goal
+
+pub returns-in-Open-clause-machine : goal.returns-in-Open-clause-machine
+returns-in-Open-clause-machine g c = λ s k. rw c.in-Open.is (c.open.ensures.machine s k)
+
+pub returns-in-Batch-clause-machine : goal.returns-in-Batch-clause-machine
+returns-in-Batch-clause-machine g c = λ s k. rw c.in-Batch.is (c.batch.ensures.machine s k)
+
+pub returns-in-Put-clause-machine : goal.returns-in-Put-clause-machine
+returns-in-Put-clause-machine g c = λ s k. rw c.in-Put.is (c.put.ensures.machine s k)
+
+pub returns-in-Put-clause-left : goal.returns-in-Put-clause-left
+returns-in-Put-clause-left g c = λ s k apart. rw c.in-Put.is (unchanged_left (g.C.Store.items (store_given g.X.Engine.inside c.args.session.held)) (g.C.Store.items (store_given g.X.Engine.inside c.put.result.0.held)) s.items _ k.items c.put.ensures.store.items (put_items s _ _ (slot_at s.table _)))
+
+pub returns-in-Merkleize-clause-machine : goal.returns-in-Merkleize-clause-machine
+returns-in-Merkleize-clause-machine g c = λ s k. rw c.in-Merkleize.is (c.merkleize.ensures.machine s k)
+
+pub returns-in-Merkleize-clause-left : goal.returns-in-Merkleize-clause-left
+returns-in-Merkleize-clause-left g c = λ s k apart.
+    let scheme : Scheme Policy = record { kind = g.X.Engine.kind; rules = policies; root = g.X.Engine.root; boundary = g.X.Engine.boundary } in
+    rw c.in-Merkleize.is (unchanged_left (g.C.Store.items (store_given g.X.Engine.inside c.args.session.held)) (g.C.Store.items (store_given g.X.Engine.inside c.merkleize.result.0.held)) s.items _ k.items c.merkleize.ensures.store.items
+      (merkleize_items scheme s c.in-Merkleize.number (policy_view c.in-Merkleize.policy) (option_map g.X.Value.ByteString.bytes c.in-Merkleize.metadata)))
+
+pub returns-in-Apply-clause-machine : goal.returns-in-Apply-clause-machine
+returns-in-Apply-clause-machine g c = λ s k. rw c.in-Apply.is (c.apply.ensures.machine s k)
+
+pub returns-in-Ops-clause-machine : goal.returns-in-Ops-clause-machine
+returns-in-Ops-clause-machine g c = λ s k. rw c.in-Ops.is (c.ops.ensures.machine s k)
+
+pub returns-in-Ops-clause-left : goal.returns-in-Ops-clause-left
+returns-in-Ops-clause-left g c = λ s k apart. rw c.in-Ops.is (unchanged_left (g.C.Store.items (store_given g.X.Engine.inside c.args.session.held)) (g.C.Store.items (store_given g.X.Engine.inside c.ops.result.0.held)) s.items _ k.items c.ops.ensures.store.items (ops_items s _ (slot_at s.table _)))
+
+pub returns-in-Get-clause-machine : goal.returns-in-Get-clause-machine
+returns-in-Get-clause-machine g c = λ s k. rw c.in-Get.is (c.get.ensures.machine s k)
+
+pub returns-in-Info-clause-machine : goal.returns-in-Info-clause-machine
+returns-in-Info-clause-machine g c = λ s k. rw c.in-Info.is (c.info.ensures.machine s k)
