@@ -1,10 +1,16 @@
 //! Lines and replies: their types, their text, and the ports that bytes come from and go to.
 #![tactic(auto)]
 
+pub mod adapters;
 pub mod command;
+pub mod memory;
 pub mod policy;
+pub mod ports;
 pub mod reply;
 
+pub use adapters::{StdSink, StdSource};
 pub use command::Command;
+pub use memory::{MemSink, MemSource};
 pub use policy::AnyPolicy;
+pub use ports::{Failed, Sink, SinkError, Source};
 pub use reply::{Listed, Refused, Reply};
