@@ -7,6 +7,7 @@ pub mod memory;
 pub mod policy;
 pub mod ports;
 pub mod reply;
+pub mod whole;
 
 pub use adapters::{StdSink, StdSource};
 pub use command::Command;
@@ -14,3 +15,4 @@ pub use memory::{MemSink, MemSource};
 pub use policy::AnyPolicy;
 pub use ports::{Failed, Sink, SinkError, Source};
 pub use reply::{Listed, Refused, Reply};
+pub use whole::{InputError, LIMIT, read_all, write_all};
