@@ -4,6 +4,7 @@
 pub mod adapters;
 pub mod command;
 pub mod memory;
+pub mod parse;
 pub mod policy;
 pub mod ports;
 pub mod reply;
@@ -12,6 +13,7 @@ pub mod whole;
 pub use adapters::{StdSink, StdSource};
 pub use command::Command;
 pub use memory::{MemSink, MemSource};
+pub use parse::{ByteCommand, parse_all, parse_line};
 pub use policy::AnyPolicy;
 pub use ports::{Failed, Sink, SinkError, Source};
 pub use reply::{Listed, Refused, Reply};
