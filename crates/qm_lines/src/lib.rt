@@ -8,6 +8,7 @@ pub mod parse;
 pub mod policy;
 pub mod ports;
 pub mod reply;
+pub mod text;
 pub mod whole;
 
 pub use adapters::{StdSink, StdSource};
@@ -17,4 +18,5 @@ pub use parse::{ByteCommand, parse_all, parse_line};
 pub use policy::AnyPolicy;
 pub use ports::{Failed, Sink, SinkError, Source};
 pub use reply::{Listed, Refused, Reply};
+pub use text::{replies_text, reply_text};
 pub use whole::{InputError, LIMIT, read_all, write_all};
