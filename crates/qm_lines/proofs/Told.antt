@@ -1,5 +1,5 @@
 -- What is told grows piece by piece.
-use Rattle.std.proofs.Common.{◌≡◌, ◌+◌, ℕ, List, [], ◌++◌, take, drop, Option, Some, None, Err, sym, ◌∙◌, ap, subst, append_assoc, append-nil}
+use Rattle.std.proofs.Common.{◌+◌, ℕ, List, [], ◌++◌, take, drop, Option, Some, None, Err, sym, ◌∙◌, ap, subst, append_assoc, append-nil}
 use Rattle.std.proofs.Math.Seq.{take-add}
 use Rattle.qm_model.specs.Causes.{Grows, GrowsPart}
 use Rattle.qm_lines.specs.Ports.{Takes}

@@ -1,4 +1,4 @@
--- What a sink takes of a piece, and what the ports in memory are known by.
+-- What a sink takes of a piece, and what ports are known by.
 use Rattle.std.specs.Prelude.{ℕ, ◌+◌, ◌-◌, ◌^◌, min, List, [], take, Option, Result, Ok, Err}
 use Rattle.qm_model.specs.Operations.{Bytes}
 use Rattle.qm_model.specs.Causes.{Grows, GrowsPart}
@@ -27,4 +27,9 @@ pub record SinkState : Type 0 where
   pub text : Bytes
   pub fail : List ℕ
   pub calls : ℕ
+  pub faults : ℕ
+
+-- a reader or a writer, and how often it failed
+pub record Counted (T : Type 0) : Type 0 where
+  pub inner : T
   pub faults : ℕ

@@ -1,12 +1,13 @@
 //! Ports over the readers and writers of std.
 
-ghost use Rattle.std.specs.Prelude.{◌≡◌, ℕ, None};
+ghost use Rattle.std.specs.Prelude.{◌≡◌};
+ghost use Rattle.qm_lines.specs.Ports.{Counted};
 
 use crate::ports::{Failed, Sink, SinkError, Source};
 use std::io::{Read, Write};
 use std::marker::Model;
 
-/// A reader of std as a source, which tells nothing of its bytes.
+/// A reader of std as a source. It tells of its bytes what the reader tells: a file or a terminal tells nothing.
 #[derive(Drop)]
 pub struct StdSource<R> {
     inner: R,
@@ -14,24 +15,24 @@ pub struct StdSource<R> {
 }
 
 impl<R> Model for StdSource<R> {
-    ghost Value = { ℕ };
+    ghost Value = { Counted R };
 
-    ghost view = { λ s. s.faults };
+    ghost view = { λ s. record { inner = s.inner; faults = s.faults } };
 }
 
 impl<R> StdSource<R> {
-    /// A source that has not failed yet. Contracts see a source as its count of faults.
+    /// A source that has not failed yet.
     pub fn new(inner: R) -> StdSource<R>
-        ensures { result ≡ 0 }
+        ensures { result ≡ record { inner = inner; faults = 0 } }
     {
         StdSource { inner, faults: 0 }
     }
 }
 
 impl<R: Read> Source for StdSource<R> {
-    ghost left = { λ s. None };
+    ghost left = { λ s. R.remaining s.inner };
 
-    ghost faults = { λ s. s };
+    ghost faults = { λ s. s.faults };
 
     fn read(&mut self, out: &mut [u8]) -> Result<usize, Failed> {
         match self.inner.read(out) {
@@ -48,7 +49,8 @@ impl<R: Read> Source for StdSource<R> {
     }
 }
 
-/// A writer of std as a sink, which tells nothing of its bytes. A writer that takes none of a piece has failed.
+/// A writer of std as a sink. It tells of its bytes what the writer tells: a file or a terminal tells nothing.
+/// A writer that takes none of a piece has failed.
 #[derive(Drop)]
 pub struct StdSink<W> {
     inner: W,
@@ -56,24 +58,24 @@ pub struct StdSink<W> {
 }
 
 impl<W> Model for StdSink<W> {
-    ghost Value = { ℕ };
+    ghost Value = { Counted W };
 
-    ghost view = { λ s. s.faults };
+    ghost view = { λ s. record { inner = s.inner; faults = s.faults } };
 }
 
 impl<W> StdSink<W> {
-    /// A sink that has not failed yet. Contracts see a sink as its count of faults.
+    /// A sink that has not failed yet.
     pub fn new(inner: W) -> StdSink<W>
-        ensures { result ≡ 0 }
+        ensures { result ≡ record { inner = inner; faults = 0 } }
     {
         StdSink { inner, faults: 0 }
     }
 }
 
 impl<W: Write> Sink for StdSink<W> {
-    ghost text = { λ s. None };
+    ghost text = { λ s. W.contents s.inner };
 
-    ghost faults = { λ s. s };
+    ghost faults = { λ s. s.faults };
 
     fn write(&mut self, piece: &[u8]) -> Result<usize, SinkError> {
         match self.inner.write(piece) {
