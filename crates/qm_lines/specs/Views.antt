@@ -1,5 +1,5 @@
 -- Commands and replies over byte strings.
-use Rattle.std.specs.Prelude.{List, map, Option, option_map}
+use Rattle.std.specs.Prelude.{map, option_map}
 use Rattle.qm_model.specs.Operations.{Bytes, Operation, update, delete, commit}
 use Rattle.qm_model.specs.Policies.{Policy, proportional}
 use Rattle.qm_model.specs.Lines as lines

@@ -1,10 +1,24 @@
 //! Lines and replies: their types, their text, and the ports that bytes come from and go to.
 #![tactic(auto)]
 
+pub mod adapters;
 pub mod command;
+pub mod memory;
+pub mod parse;
 pub mod policy;
+pub mod ports;
 pub mod reply;
+#[cfg(test)]
+mod tests;
+pub mod text;
+pub mod whole;
 
+pub use adapters::{StdSink, StdSource};
 pub use command::Command;
+pub use memory::{MemSink, MemSource};
+pub use parse::{ByteCommand, parse_all, parse_line};
 pub use policy::AnyPolicy;
+pub use ports::{Failed, Sink, SinkError, Source};
 pub use reply::{Listed, Refused, Reply};
+pub use text::{replies_text, reply_text};
+pub use whole::{InputError, LIMIT, read_all, write_all};

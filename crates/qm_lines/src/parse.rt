@@ -1,0 +1,254 @@
+//! Lines to commands.
+
+ghost use Rattle.std.specs.Prelude.{◌≡◌, ◌==◌, ◌<◌, length, map, IfOk, option_map};
+ghost use Rattle.std.specs.List.{slice_split};
+ghost use Rattle.hex.specs.Hex.{decode_of};
+ghost use Rattle.qm_model.specs.Grammar as grammar;
+ghost use Rattle.qm_lines.specs.Parsed.{byte_line};
+ghost use Rattle.qm_lines.specs.Views.{policy_view};
+
+use crate::command::Command;
+use crate::policy::AnyPolicy;
+use hex::FromHexError;
+use qm_base::{ByteKey, ByteValue};
+use std::alloc::{AllocError, Global};
+
+/// A command that a line can ask for.
+pub type ByteCommand = Command<ByteKey, ByteValue, AnyPolicy>;
+
+// The number with one decimal digit more.
+fn next_digit(number: u64, digit: u8) -> Option<u64>
+    ensures { result ≡ grammar.next_digit number digit }
+{
+    if !digit.is_ascii_digit() {
+        return None;
+    }
+    number.checked_mul(10)?.checked_add(u64::from(digit - b'0'))
+}
+
+fn digits(word: &[u8]) -> Option<u64>
+    ensures { result ≡ grammar.digits_from 0 word.now }
+{
+    let mut number = 0;
+    for digit in word {
+        number = next_digit(number, *digit)?;
+    }
+    Some(number)
+}
+
+// A number without leading zeros.
+fn number(word: &[u8]) -> Option<u64>
+    ensures { result ≡ grammar.number_of word.now }
+{
+    if word.is_empty() || (word.len() > 1 && word[0] == b'0') {
+        return None;
+    }
+    digits(word)
+}
+
+// Between `low` and `high` bytes in hexadecimal.
+fn bytes_within(
+    alloc: Global,
+    word: &[u8],
+    low: usize,
+    high: usize,
+) -> Result<Option<Vec<u8>>, AllocError>
+    ensures { IfOk result (λ found. option_map (λ bytes. bytes.items) found ≡ grammar.within low high (decode_of word.now)) }
+{
+    match hex::decode(alloc, word) {
+        Ok(bytes) if low <= bytes.len() && bytes.len() <= high => Ok(Some(bytes)),
+        Ok(_) => Ok(None),
+        Err(FromHexError::OutOfMemory) => Err(AllocError),
+        Err(_) => Ok(None),
+    }
+}
+
+fn key(alloc: Global, word: &[u8]) -> Result<Option<ByteKey>, AllocError>
+    ensures { IfOk result (λ found. found ≡ grammar.key_of word.now) }
+{
+    match bytes_within(alloc, word, 1, 32)? {
+        None => Ok(None),
+        Some(bytes) => Ok(Some(ByteKey::new(bytes))),
+    }
+}
+
+fn value(alloc: Global, word: &[u8]) -> Result<Option<ByteValue>, AllocError>
+    ensures { IfOk result (λ found. found ≡ grammar.value_of word.now) }
+{
+    if word == b"-".as_slice() {
+        return Ok(Some(ByteValue::new(Vec::new(alloc))));
+    }
+    match bytes_within(alloc, word, 1, 64)? {
+        None => Ok(None),
+        Some(bytes) => Ok(Some(ByteValue::new(bytes))),
+    }
+}
+
+fn policy(word: &[u8]) -> Option<AnyPolicy>
+    ensures { option_map policy_view result ≡ grammar.policy_of word.now }
+{
+    if word == b"prop".as_slice() {
+        Some(AnyPolicy::Proportional)
+    } else {
+        None
+    }
+}
+
+fn metadata(word: &[u8]) -> Option<Option<ByteValue>>
+    ensures { result ≡ grammar.metadata_of word.now }
+{
+    if word == b"none".as_slice() {
+        Some(None)
+    } else {
+        None
+    }
+}
+
+fn of_one(word: &[u8]) -> Option<ByteCommand>
+    ensures { option_map byte_line result ≡ grammar.of_one word.now }
+{
+    if word == b"open".as_slice() {
+        Some(Command::Open)
+    } else if word == b"batch".as_slice() {
+        Some(Command::Batch)
+    } else if word == b"info".as_slice() {
+        Some(Command::Info)
+    } else {
+        None
+    }
+}
+
+fn of_two(alloc: Global, word: &[u8], first: &[u8]) -> Result<Option<ByteCommand>, AllocError>
+    ensures { IfOk result (λ command. option_map byte_line command ≡ grammar.of_two word.now first.now) }
+{
+    if word == b"apply".as_slice() {
+        Ok(number(first).map(Command::Apply))
+    } else if word == b"ops".as_slice() {
+        Ok(number(first).map(Command::Ops))
+    } else if word == b"get".as_slice() {
+        Ok(key(alloc, first)?.map(Command::Get))
+    } else {
+        Ok(None)
+    }
+}
+
+fn put(
+    alloc: Global,
+    first: &[u8],
+    second: &[u8],
+    third: &[u8],
+) -> Result<Option<ByteCommand>, AllocError>
+    ensures { IfOk result (λ command. option_map byte_line command ≡ grammar.put_of first.now second.now third.now) }
+{
+    let Some(handle) = number(first) else {
+        return Ok(None);
+    };
+    let Some(key) = key(alloc, second)? else {
+        return Ok(None);
+    };
+    let Some(value) = value(alloc, third)? else {
+        return Ok(None);
+    };
+    Ok(Some(Command::Put(handle, key, value)))
+}
+
+fn merkleize(first: &[u8], second: &[u8], third: &[u8]) -> Option<ByteCommand>
+    ensures { option_map byte_line result ≡ grammar.merkleize_of first.now second.now third.now }
+{
+    let handle = number(first)?;
+    let policy = policy(second)?;
+    let metadata = metadata(third)?;
+    Some(Command::Merkleize(handle, policy, metadata))
+}
+
+fn of_four(
+    alloc: Global,
+    word: &[u8],
+    first: &[u8],
+    second: &[u8],
+    third: &[u8],
+) -> Result<Option<ByteCommand>, AllocError>
+    ensures { IfOk result (λ command. option_map byte_line command ≡ grammar.of_four word.now first.now second.now third.now) }
+{
+    if word == b"put".as_slice() {
+        put(alloc, first, second, third)
+    } else if word == b"merkleize".as_slice() {
+        Ok(merkleize(first, second, third))
+    } else {
+        Ok(None)
+    }
+}
+
+fn of_words(alloc: Global, words: &[&[u8]]) -> Result<Option<ByteCommand>, AllocError>
+    ensures { IfOk result (λ command. option_map byte_line command ≡ grammar.of_words (map (λ word. word.now) words.now)) }
+{
+    match words {
+        [] => Ok(None),
+        [word] => Ok(of_one(word)),
+        [word, first] => of_two(alloc, word, first),
+        [_, _, _] => Ok(None),
+        [word, first, second, third] => of_four(alloc, word, first, second, third),
+        _ => Ok(None),
+    }
+}
+
+fn words(alloc: Global, line: &[u8]) -> Result<Vec<&[u8]>, AllocError>
+    ensures { IfOk result (λ words. map (λ word. word.now) words.items ≡ slice_split (λ c. c == 32) line.now) }
+{
+    line.split(|c| *c == b' ').collect(alloc)
+}
+
+/// The command that a line is, if it is one. Want of memory is the only error.
+pub fn parse_line(alloc: Global, line: &[u8]) -> Result<Option<ByteCommand>, AllocError>
+    ensures { IfOk result (λ command. option_map byte_line command ≡ grammar.line_of line.now) }
+{
+    let words = words(alloc, line)?;
+    of_words(alloc, &words)
+}
+
+fn without_feed(input: &[u8]) -> &[u8]
+    requires { 0 < length input.now }
+    ensures { result.now ≡ grammar.without_feed input.now }
+{
+    let last = input.len() - 1;
+    if input[last] == b'\n' {
+        &input[..last]
+    } else {
+        input
+    }
+}
+
+fn split_lines(alloc: Global, input: &[u8]) -> Result<Vec<&[u8]>, AllocError>
+    ensures { IfOk result (λ lines. map (λ line. line.now) lines.items ≡ slice_split (λ c. c == 10) input.now) }
+{
+    input.split(|c| *c == b'\n').collect(alloc)
+}
+
+// The lines of an input, each without its line feed.
+fn lines(alloc: Global, input: &[u8]) -> Result<Vec<&[u8]>, AllocError>
+    ensures { IfOk result (λ lines. map (λ line. line.now) lines.items ≡ grammar.lines_of input.now) }
+{
+    if input.is_empty() {
+        return Ok(Vec::new(alloc));
+    }
+    split_lines(alloc, without_feed(input))
+}
+
+/// The commands of an input up to the first line that is none, and that line's number, counted from 1.
+/// Want of memory is the only error.
+pub fn parse_all(alloc: Global, input: &[u8]) -> Result<(Vec<ByteCommand>, Option<u64>), AllocError>
+    ensures commands { IfOk result (λ parsed. map byte_line parsed.0.items ≡ grammar.commands_in input.now) }
+    ensures bad { IfOk result (λ parsed. parsed.1 ≡ grammar.bad_in input.now) }
+{
+    let lines = lines(alloc, input)?;
+    let mut commands = Vec::new(alloc);
+    let mut number = 1;
+    for line in &lines {
+        let Some(command) = parse_line(alloc, line)? else {
+            return Ok((commands, Some(number)));
+        };
+        commands.push(command)?;
+        number += 1;
+    }
+    Ok((commands, None))
+}

@@ -1,0 +1,298 @@
+use super::*;
+use qm_base::{ByteKey, ByteString, ByteValue};
+use std::alloc::{AllocError, Global};
+use std::process::Abort;
+use std::test::Fail;
+
+fn key(alloc: Global, byte: u8) -> Result<ByteKey, AllocError> {
+    let mut bytes = Vec::new(alloc);
+    bytes.push(byte)?;
+    Ok(ByteKey::new(bytes))
+}
+
+fn value(alloc: Global, byte: u8) -> Result<ByteValue, AllocError> {
+    let mut bytes = Vec::new(alloc);
+    bytes.push(byte)?;
+    Ok(ByteValue::new(bytes))
+}
+
+// A command with its keys and values as lists of numbers, or `bad`.
+fn words(alloc: Global, command: &Option<ByteCommand>) -> Result<String, AllocError> {
+    match command {
+        None => String::from_str(alloc, "bad"),
+        Some(Command::Open) => String::from_str(alloc, "open"),
+        Some(Command::Batch) => String::from_str(alloc, "batch"),
+        Some(Command::Put(handle, key, value)) => {
+            let key = key.as_bytes();
+            let value = value.as_bytes();
+            format!(in alloc; "put {handle} {key:?} {value:?}")
+        }
+        Some(Command::Merkleize(handle, policy, metadata)) => {
+            let is_given = metadata.is_some();
+            format!(in alloc; "merkleize {handle} {policy:?} {is_given}")
+        }
+        Some(Command::Apply(handle)) => format!(in alloc; "apply {handle}"),
+        Some(Command::Ops(handle)) => format!(in alloc; "ops {handle}"),
+        Some(Command::Get(key)) => {
+            let key = key.as_bytes();
+            format!(in alloc; "get {key:?}")
+        }
+        Some(Command::Info) => String::from_str(alloc, "info"),
+    }
+}
+
+#[test]
+fn lines_are_commands(rt: HostRuntime) -> Result<(), Fail> {
+    let alloc = rt.alloc();
+    let lines = [
+        ("open", "open"),
+        ("batch", "batch"),
+        ("info", "info"),
+        ("put 1 6b 76", "put 1 [107] [118]"),
+        ("put 0 00fF -", "put 0 [0, 255] []"),
+        ("merkleize 1 prop none", "merkleize 1 Proportional false"),
+        ("apply 10", "apply 10"),
+        ("ops 18446744073709551615", "ops 18446744073709551615"),
+        ("get 4a4A", "get [74, 74]"),
+        ("", "bad"),
+        (" ", "bad"),
+        ("Open", "bad"),
+        ("open ", "bad"),
+        (" open", "bad"),
+        ("open x", "bad"),
+        ("open\r", "bad"),
+        ("apply", "bad"),
+        ("apply ", "bad"),
+        ("apply 01", "bad"),
+        ("apply +1", "bad"),
+        ("apply 18446744073709551616", "bad"),
+        ("ops 1 2", "bad"),
+        ("get -", "bad"),
+        ("get 6", "bad"),
+        ("get 6g", "bad"),
+        ("put  1 6b 76", "bad"),
+        ("put 1 6b", "bad"),
+        ("put 1 - 76", "bad"),
+        ("put 1 6b 767", "bad"),
+        ("merkleize 1 prop", "bad"),
+        ("merkleize 1 hold none", "bad"),
+        ("merkleize 1 prop -", "bad"),
+        ("merkleize 1 prop none ", "bad"),
+    ];
+    for (line, want) in lines {
+        let command = parse_line(alloc, line.as_bytes())?;
+        let found = words(alloc, &command)?;
+        assert_eq!(rt; found.as_str(), want, "at {line}");
+    }
+    Ok(())
+}
+
+#[test]
+fn keys_and_values_have_bounds(rt: HostRuntime) -> Result<(), Fail> {
+    let alloc = rt.alloc();
+    for (count, is_key, is_value) in [
+        (1, true, true),
+        (32, true, true),
+        (33, false, true),
+        (64, false, true),
+        (65, false, false),
+    ] {
+        let digits = "61".repeat(alloc, count)?;
+        let get = format!(in alloc; "get {digits}")?;
+        let put = format!(in alloc; "put 1 6b {digits}")?;
+        assert_eq!(rt;
+            parse_line(alloc, get.as_bytes())?.is_some(),
+            is_key,
+            "at {count}"
+        );
+        assert_eq!(rt;
+            parse_line(alloc, put.as_bytes())?.is_some(),
+            is_value,
+            "at {count}"
+        );
+    }
+    Ok(())
+}
+
+#[test]
+fn inputs_are_lines(rt: HostRuntime) -> Result<(), Fail> {
+    let alloc = rt.alloc();
+    let inputs = [
+        ("", 0, None),
+        ("\n", 0, Some(1)),
+        ("open", 1, None),
+        ("open\n", 1, None),
+        ("open\n\n", 1, Some(2)),
+        ("batch\nput 1 6b 76\nput 1 6b\nopen\n", 2, Some(3)),
+    ];
+    for (input, count, bad) in inputs {
+        let (commands, found) = parse_all(alloc, input.as_bytes())?;
+        assert_eq!(rt; commands.len(), count, "at {input}");
+        assert_eq!(rt; found, bad, "at {input}");
+    }
+    Ok(())
+}
+
+fn expect_text(
+    rt: &impl Abort,
+    alloc: Global,
+    reply: Reply<ByteKey, ByteValue>,
+    want: &str,
+) -> Result<(), AllocError> {
+    let text = reply_text(alloc, &reply)?;
+    assert_eq!(rt; text.as_slice(), want.as_bytes());
+    Ok(())
+}
+
+#[test]
+fn replies_have_text(rt: HostRuntime) -> Result<(), Fail> {
+    let alloc = rt.alloc();
+    let mut ops = Vec::new(alloc);
+    ops.push(Listed::Update(key(alloc, 0x6b)?, value(alloc, 0x76)?, None))?;
+    ops.push(Listed::Update(
+        key(alloc, 0x6b)?,
+        ByteValue::new(Vec::new(alloc)),
+        Some(key(alloc, 0x6c)?),
+    ))?;
+    ops.push(Listed::Delete(key(alloc, 0x0f)?))?;
+    ops.push(Listed::Commit(None, 2))?;
+    ops.push(Listed::Commit(Some(value(alloc, 0xff)?), 3))?;
+    expect_text(
+        &rt,
+        alloc,
+        Reply::Ops(1, ops),
+        "ops 1 U:6b=76 U:6b=->6c D:0f C:none@2 C:ff@3",
+    )?;
+    expect_text(&rt, alloc, Reply::Opened(1, 0, 12), "open 1 0 12")?;
+    expect_text(&rt, alloc, Reply::Batch(3), "batch 3")?;
+    expect_text(&rt, alloc, Reply::Done, "ok")?;
+    expect_text(
+        &rt,
+        alloc,
+        Reply::Merkleized(1, 1, 4, 2),
+        "merkleized 1 1 4 2",
+    )?;
+    expect_text(&rt, alloc, Reply::Applied(4), "applied 4")?;
+    expect_text(&rt, alloc, Reply::Read(None), "read none")?;
+    expect_text(
+        &rt,
+        alloc,
+        Reply::Read(Some(ByteValue::new(Vec::new(alloc)))),
+        "read -",
+    )?;
+    expect_text(
+        &rt,
+        alloc,
+        Reply::Read(Some(value(alloc, 0x76)?)),
+        "read 76",
+    )?;
+    expect_text(
+        &rt,
+        alloc,
+        Reply::Info(0, 4, 2, 2, true),
+        "info 0 4 2 2 live",
+    )?;
+    expect_text(
+        &rt,
+        alloc,
+        Reply::Info(0, 1, 0, 0, false),
+        "info 0 1 0 0 empty",
+    )?;
+    expect_text(
+        &rt,
+        alloc,
+        Reply::Refused(Refused::NotOffered),
+        "refused NotOffered",
+    )?;
+    expect_text(
+        &rt,
+        alloc,
+        Reply::Refused(Refused::NoDatabase),
+        "refused NoDatabase",
+    )?;
+    expect_text(
+        &rt,
+        alloc,
+        Reply::Refused(Refused::NoSuchHandle(7)),
+        "refused NoSuchHandle 7",
+    )?;
+    expect_text(
+        &rt,
+        alloc,
+        Reply::Refused(Refused::StaleBatch),
+        "refused StaleBatch",
+    )?;
+    let mut replies: Vec<Reply<ByteKey, ByteValue>> = Vec::new(alloc);
+    replies.push(Reply::Batch(1))?;
+    replies.push(Reply::Done)?;
+    let text = replies_text(alloc, &replies)?;
+    assert_eq!(rt; text.as_slice(), b"batch 1\nok\n".as_slice());
+    Ok(())
+}
+
+#[test]
+fn memory_ports_fail_where_told(rt: HostRuntime) -> Result<(), Fail> {
+    let alloc = rt.alloc();
+    let mut source = MemSource::new(
+        Vec::from_slice(alloc, b"open\n")?,
+        Vec::from_slice(alloc, &[1])?,
+    );
+    let mut out = [0; 2];
+    assert_eq!(rt; source.read(&mut out), Ok(2));
+    assert_eq!(rt; out.as_slice(), b"op".as_slice());
+    assert_eq!(rt; source.read(&mut out), Err(Failed));
+    assert_eq!(rt; source.faults(), 1);
+    let rest = read_all(alloc, &mut source).ok().ok_or("no input")?;
+    assert_eq!(rt; rest.as_slice(), b"en\n".as_slice());
+
+    let mut sink = MemSink::new(alloc, Vec::from_slice(alloc, &[1])?);
+    assert_eq!(rt; write_all(&mut sink, b"ok\n"), Ok(()));
+    assert_eq!(rt; write_all(&mut sink, b"read"), Err(SinkError::Failed));
+    assert_eq!(rt; sink.faults(), 1);
+    assert_eq!(rt; write_all(&mut sink, b"batch 1\n"), Ok(()));
+    assert_eq!(rt; sink.bytes(), b"ok\nbatch 1\n".as_slice());
+    Ok(())
+}
+
+#[test]
+fn whole_inputs_are_read(rt: HostRuntime) -> Result<(), Fail> {
+    let alloc = rt.alloc();
+    let mut failing = MemSource::new(
+        Vec::from_slice(alloc, b"open\n")?,
+        Vec::from_slice(alloc, &[1])?,
+    );
+    assert_eq!(rt;
+        read_all(alloc, &mut failing).err(),
+        Some(InputError::Failed)
+    );
+    let longest = vec![in alloc; b'\n'; LIMIT]?;
+    let mut source = MemSource::new(longest.to_vec(alloc)?, Vec::new(alloc));
+    assert_eq!(rt;
+        read_all(alloc, &mut source).ok().ok_or("no input")?.len(),
+        LIMIT
+    );
+    let mut longer = longest;
+    longer.push(b'\n')?;
+    let mut source = MemSource::new(longer, Vec::new(alloc));
+    assert_eq!(rt;
+        read_all(alloc, &mut source).err(),
+        Some(InputError::TooLong)
+    );
+    Ok(())
+}
+
+#[test]
+fn readers_and_writers_are_ports(rt: HostRuntime) -> Result<(), Fail> {
+    let alloc = rt.alloc();
+    let mut source = StdSource::new(b"info\n".as_slice());
+    let input = read_all(alloc, &mut source).ok().ok_or("no input")?;
+    assert_eq!(rt; input.as_slice(), b"info\n".as_slice());
+    assert_eq!(rt; source.faults(), 0);
+
+    let mut room = [0; 4];
+    let mut sink = StdSink::new(room.as_mut_slice());
+    assert_eq!(rt; write_all(&mut sink, b"ok"), Ok(()));
+    assert_eq!(rt; write_all(&mut sink, b"ok\n"), Err(SinkError::Failed));
+    assert_eq!(rt; sink.faults(), 1);
+    Ok(())
+}

@@ -1,0 +1,156 @@
+//! Replies as text.
+
+ghost use Rattle.std.specs.Prelude.{◌≡◌, ◌++◌, codes, flat_map, map, IfOk, option_map};
+ghost use Rattle.std.specs.String.{string_bytes};
+ghost use Rattle.qm_model.specs.Text as texts;
+ghost use Rattle.qm_lines.specs.Views.{refused_view, listed_view, answer_view};
+
+use crate::reply::{Listed, Refused, Reply};
+use qm_base::{ByteString, Key, VariableValue};
+use std::alloc::{AllocError, Global};
+
+fn hex_text(alloc: Global, bytes: &[u8]) -> Result<String, AllocError>
+    ensures { IfOk result (λ text. string_bytes text ≡ texts.hex_text bytes.now) }
+{
+    if bytes.is_empty() {
+        return String::from_str(alloc, "-");
+    }
+    hex::encode(alloc, bytes)
+}
+
+fn optional_text<B: ByteString>(alloc: Global, value: &Option<B>) -> Result<String, AllocError>
+    ensures { IfOk result (λ text. string_bytes text ≡ texts.optional_text (option_map B.bytes value.now)) }
+{
+    match value {
+        None => String::from_str(alloc, "none"),
+        Some(value) => hex_text(alloc, value.as_bytes()),
+    }
+}
+
+fn next_text<B: ByteString>(alloc: Global, next: &Option<B>) -> Result<String, AllocError>
+    ensures { IfOk result (λ text. string_bytes text ≡ texts.next_text (option_map B.bytes next.now)) }
+{
+    match next {
+        None => Ok(String::new(alloc)),
+        Some(key) => {
+            let key = hex_text(alloc, key.as_bytes())?;
+            format!(in alloc; ">{key}")
+        }
+    }
+}
+
+fn operation_text<K: Key, V: VariableValue>(
+    alloc: Global,
+    op: &Listed<K, V>,
+) -> Result<String, AllocError>
+    ensures { IfOk result (λ text. string_bytes text ≡ texts.operation_text (listed_view K.bytes V.bytes op.now)) }
+{
+    match op {
+        Listed::Update(key, value, next) => {
+            let key = hex_text(alloc, key.as_bytes())?;
+            let value = hex_text(alloc, value.as_bytes())?;
+            let next = next_text(alloc, next)?;
+            format!(in alloc; "U:{key}={value}{next}")
+        }
+        Listed::Delete(key) => {
+            let key = hex_text(alloc, key.as_bytes())?;
+            format!(in alloc; "D:{key}")
+        }
+        Listed::Commit(metadata, floor) => {
+            let metadata = optional_text(alloc, metadata)?;
+            format!(in alloc; "C:{metadata}@{floor}")
+        }
+    }
+}
+
+// The operations, each after a space.
+fn operations_text<K: Key, V: VariableValue>(
+    alloc: Global,
+    ops: &[Listed<K, V>],
+) -> Result<String, AllocError>
+    ensures { IfOk result (λ text. string_bytes text ≡ flat_map (λ op. codes " " ++ texts.operation_text op) (map (listed_view K.bytes V.bytes) ops.now)) }
+{
+    let mut out = String::new(alloc);
+    for op in ops {
+        let text = operation_text(alloc, op)?;
+        out.push_str(" ")?;
+        out.push_str(&text)?;
+    }
+    Ok(out)
+}
+
+fn refused_text(alloc: Global, refused: Refused) -> Result<String, AllocError>
+    ensures { IfOk result (λ text. string_bytes text ≡ texts.refused_text (refused_view refused)) }
+{
+    match refused {
+        Refused::NotOffered => String::from_str(alloc, "NotOffered"),
+        Refused::NoDatabase => String::from_str(alloc, "NoDatabase"),
+        Refused::NoSuchHandle(handle) => format!(in alloc; "NoSuchHandle {handle}"),
+        Refused::StaleBatch => String::from_str(alloc, "StaleBatch"),
+    }
+}
+
+fn live_text(is_live: bool) -> &'static str
+    ensures { result.now ≡ texts.live_text is_live }
+{
+    if is_live { "live" } else { "empty" }
+}
+
+fn line_text<K: Key, V: VariableValue>(
+    alloc: Global,
+    reply: &Reply<K, V>,
+) -> Result<String, AllocError>
+    ensures { IfOk result (λ text. string_bytes text ≡ texts.reply_line (answer_view K.bytes V.bytes reply.now)) }
+{
+    match reply {
+        Reply::Opened(opening, start, size) => format!(in alloc; "open {opening} {start} {size}"),
+        Reply::Batch(handle) => format!(in alloc; "batch {handle}"),
+        Reply::Done => String::from_str(alloc, "ok"),
+        Reply::Merkleized(handle, base, size, floor) => {
+            format!(in alloc; "merkleized {handle} {base} {size} {floor}")
+        }
+        Reply::Applied(size) => format!(in alloc; "applied {size}"),
+        Reply::Ops(base, ops) => {
+            let ops = operations_text(alloc, ops)?;
+            format!(in alloc; "ops {base}{ops}")
+        }
+        Reply::Read(value) => {
+            let value = optional_text(alloc, value)?;
+            format!(in alloc; "read {value}")
+        }
+        Reply::Info(start, size, floor, boundary, is_live) => {
+            let live = live_text(*is_live);
+            format!(in alloc; "info {start} {size} {floor} {boundary} {live}")
+        }
+        Reply::Refused(refused) => {
+            let refused = refused_text(alloc, *refused)?;
+            format!(in alloc; "refused {refused}")
+        }
+    }
+}
+
+/// The text of a reply, without a line feed. Want of memory is the only error.
+pub fn reply_text<K: Key, V: VariableValue>(
+    alloc: Global,
+    reply: &Reply<K, V>,
+) -> Result<Vec<u8>, AllocError>
+    ensures { IfOk result (λ text. text.items ≡ texts.reply_line (answer_view K.bytes V.bytes reply.now)) }
+{
+    Ok(line_text(alloc, reply)?.into_bytes())
+}
+
+/// The text of replies, one line each. Want of memory is the only error.
+pub fn replies_text<K: Key, V: VariableValue>(
+    alloc: Global,
+    replies: &[Reply<K, V>],
+) -> Result<Vec<u8>, AllocError>
+    ensures { IfOk result (λ text. text.items ≡ texts.text_of (map (answer_view K.bytes V.bytes) replies.now)) }
+{
+    let mut out = Vec::new(alloc);
+    for reply in replies {
+        let text = line_text(alloc, reply)?;
+        out.extend_from_slice(text.as_bytes())?;
+        out.push(b'\n')?;
+    }
+    Ok(out)
+}
