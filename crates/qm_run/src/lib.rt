@@ -1,0 +1,4 @@
+//! Runs of commands over a database.
+#![tactic(auto)]
+
+mod lists;
