@@ -1,2 +1,4 @@
 pub mod ListSteps
 pub mod ListWrites
+pub mod ListWalks
+pub mod ListFloors

@@ -3,11 +3,14 @@
 mod copies;
 mod live;
 mod same;
+mod step;
+mod walk;
 mod writes;
 
 pub(crate) use copies::{fresh_list, listed, spell_all, twin_list};
 pub(crate) use live::{floor, live_count, value_of};
 pub(crate) use same::same_list;
+pub(crate) use step::step;
 pub(crate) use writes::Write;
 
 use qm_base::Operation;
