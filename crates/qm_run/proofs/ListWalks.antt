@@ -1,5 +1,5 @@
 -- Steps of a loop that walks.
-use Rattle.std.proofs.Common.{◌≡◌, ℕ, suc, ◌<◌, ◌+◌, ◌-◌, Bool, true, false, List, [], ◌∷◌, ◌++◌, Option, refl, ap, sym, ◌∙◌, length, take, drop, map, get_or, add-one, append-nil}
+use Rattle.std.proofs.Common.{◌≡◌, ℕ, suc, ◌<◌, ◌+◌, ◌-◌, Bool, true, false, List, Option, ap, sym, ◌∙◌, length, take, drop, map, get_or, add-one, append-nil}
 use Rattle.std.specs.Prelude.{if◌then◌else◌}
 use Rattle.std.proofs.lemmas.List.{drop_more, take_rest}
 use Rattle.qm_model.specs.Operations.{Operation}
@@ -39,7 +39,7 @@ module _ {A P : Type 0} (rules : Rules P) (f : A → Operation) (xs : List A) (p
   onward-left i d e s e' s' before after o goes_on all goes l here at visit so_far =
       ap (λ n. resumed after (left (i + 1) n e' s' p)) (add-one i)
       ∙ visit-left i d e s before o (resumed after (left (i + 1) (suc i) e' s' p)) all l here at
-          (visit ∙ ap (λ b. resumed after (if b then left (i + 1) (suc i) e' s' p else ended i p)) goes) so_far
+      (visit ∙ ap (λ b. resumed after (if b then left (i + 1) (suc i) e' s' p else ended i p)) goes) so_far
 
   -- it ends the walk
   pub ended-left : (i : ℕ) (d : A) (e s e' s' : ℕ) (before after : List Write) (o : Option Live) (goes_on : Bool) (all : Walked P) → goes_on ≡ false → i < length xs → d ≡ get_or xs i d →
@@ -49,4 +49,4 @@ module _ {A P : Type 0} (rules : Rules P) (f : A → Operation) (xs : List A) (p
   ended-left i d e s e' s' before after o goes_on all ends l here at visit so_far =
       ap (λ ds. record { floor = i; decisions = ds; policy = p }) (sym (append-nil after))
       ∙ visit-left i d e s before o (resumed after (ended i p)) all l here at
-          (visit ∙ ap (λ b. resumed after (if b then left (i + 1) (suc i) e' s' p else ended i p)) ends) so_far
+      (visit ∙ ap (λ b. resumed after (if b then left (i + 1) (suc i) e' s' p else ended i p)) ends) so_far

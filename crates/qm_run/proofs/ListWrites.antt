@@ -34,7 +34,7 @@ pub collects-more : {A B X Y : Type 0} (h : B → Option Y) (f : A → B) (view 
     map view made ++ filter_map h (map f (drop i xs)) ≡ all → map view made' ++ filter_map h (map f (drop (i + 1) xs)) ≡ all
 collects-more h f view xs i d made made' r all l here pushed is_r so_far =
     collects h view (Some (f d)) (map f (drop (i + 1) xs)) (map f (drop i xs)) made made' r all
-      (ap (map f) (drop_more xs i d l) ∙ ap (λ z. f z ∷ map f (drop (i + 1) xs)) (sym here)) pushed is_r so_far
+    (ap (map f) (drop_more xs i d l) ∙ ap (λ z. f z ∷ map f (drop (i + 1) xs)) (sym here)) pushed is_r so_far
 
 -- over the live updates
 pub collects-live : {A X Y : Type 0} (h : Live → Option Y) (f : A → Operation) (view : X → Y) (xs : List A) (i : ℕ) (d : A) (made made' : List X) (r : Option X) (all : List Y) →
@@ -43,7 +43,7 @@ pub collects-live : {A X Y : Type 0} (h : Live → Option Y) (f : A → Operatio
     map view made ++ filter_map h (live_from i (map f (drop i xs))) ≡ all → map view made' ++ filter_map h (live_from (i + 1) (map f (drop (i + 1) xs))) ≡ all
 collects-live h f view xs i d made made' r all l here pushed is_r so_far =
     collects h view (live_at i (f d) (map f (take (length xs - (i + 1)) (drop (i + 1) xs)))) (live_from (i + 1) (map f (drop (i + 1) xs))) (live_from i (map f (drop i xs))) made made' r all
-      (live_from-more f xs i d l here) pushed is_r so_far
+    (live_from-more f xs i d l here) pushed is_r so_far
 
 -- an element put over the one at its place
 pub map-set_split : {X Y : Type 0} (f : X → Y) (l : List X) (i : ℕ) (a : X) → i < length l → map f (set l i a) ≡ map f (take i l) ++ f a ∷ map f (drop (i + 1) l)

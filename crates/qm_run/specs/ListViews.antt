@@ -1,5 +1,5 @@
 -- The program's operations and writes of an unordered database, over byte strings.
-use Rattle.std.specs.Prelude.{ℕ, List, [], ◌∷◌, ◌++◌, map, Option, Some, None, option_map}
+use Rattle.std.specs.Prelude.{ℕ, List, ◌++◌, map, Option, Some, None, option_map}
 use Rattle.qm_model.specs.Operations.{Bytes, Operation, update}
 use Rattle.qm_model.specs.Live.{Live}
 use Rattle.qm_model.specs.Writes.{Write}

@@ -9,12 +9,11 @@ mod writes;
 
 pub(crate) use copies::{fresh_list, listed, spell_all, twin_list};
 pub(crate) use live::{floor, live_count, value_of};
+use qm_base::Operation;
+use qm_base::update::Unordered;
 pub(crate) use same::same_list;
 pub(crate) use step::step;
 pub(crate) use writes::Write;
-
-use qm_base::Operation;
-use qm_base::update::Unordered;
 
 /// An operation of an unordered database.
 pub(crate) type Entry<F, K, V> = Operation<F, Unordered<K, V>>;

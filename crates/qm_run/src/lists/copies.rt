@@ -12,7 +12,9 @@ use qm_lines::Listed;
 use std::alloc::{AllocError, Global};
 
 /// The list of a fresh database.
-pub(crate) fn fresh_list<F, K: Key, V: VariableValue>(alloc: Global) -> Result<Vec<Entry<F, K, V>>, AllocError>
+pub(crate) fn fresh_list<F, K: Key, V: VariableValue>(
+    alloc: Global,
+) -> Result<Vec<Entry<F, K, V>>, AllocError>
     ensures { IfOk result (λ list. entry_views K.bytes V.bytes list.items ≡ model.fresh) }
 {
     let mut list = Vec::new(alloc);
@@ -21,7 +23,10 @@ pub(crate) fn fresh_list<F, K: Key, V: VariableValue>(alloc: Global) -> Result<V
 }
 
 // A copy of metadata.
-fn twin_metadata<B: ByteString>(alloc: Global, metadata: &Option<B>) -> Result<Option<B>, AllocError>
+fn twin_metadata<B: ByteString>(
+    alloc: Global,
+    metadata: &Option<B>,
+) -> Result<Option<B>, AllocError>
     ensures { IfOk result (λ copy. copy ≡ metadata.now) }
 {
     match metadata {
@@ -34,7 +39,10 @@ fn twin_metadata<B: ByteString>(alloc: Global, metadata: &Option<B>) -> Result<O
 }
 
 /// A copy of the operation.
-pub(crate) fn twin_entry<F, K: Key, V: VariableValue>(alloc: Global, operation: &Entry<F, K, V>) -> Result<Entry<F, K, V>, AllocError>
+pub(crate) fn twin_entry<F, K: Key, V: VariableValue>(
+    alloc: Global,
+    operation: &Entry<F, K, V>,
+) -> Result<Entry<F, K, V>, AllocError>
     ensures { IfOk result (λ copy. entry_view K.bytes V.bytes copy ≡ entry_view K.bytes V.bytes operation.now) }
 {
     match operation {
@@ -55,7 +63,10 @@ pub(crate) fn twin_entry<F, K: Key, V: VariableValue>(alloc: Global, operation: 
 }
 
 /// A copy of the list.
-pub(crate) fn twin_list<F, K: Key, V: VariableValue>(alloc: Global, operations: &[Entry<F, K, V>]) -> Result<Vec<Entry<F, K, V>>, AllocError>
+pub(crate) fn twin_list<F, K: Key, V: VariableValue>(
+    alloc: Global,
+    operations: &[Entry<F, K, V>],
+) -> Result<Vec<Entry<F, K, V>>, AllocError>
     ensures { IfOk result (λ copy. entry_views K.bytes V.bytes copy.items ≡ entry_views K.bytes V.bytes operations.now) }
 {
     let mut copy = Vec::new(alloc);
@@ -67,7 +78,10 @@ pub(crate) fn twin_list<F, K: Key, V: VariableValue>(alloc: Global, operations: 
 }
 
 /// The spelling of each operation.
-pub(crate) fn spell_all<F, K: Key, V: VariableValue>(alloc: Global, operations: &[Entry<F, K, V>]) -> Result<Vec<Vec<u8>>, AllocError>
+pub(crate) fn spell_all<F, K: Key, V: VariableValue>(
+    alloc: Global,
+    operations: &[Entry<F, K, V>],
+) -> Result<Vec<Vec<u8>>, AllocError>
     ensures { IfOk result (λ spelt. map (λ bytes. bytes.items) spelt.items ≡ map model.spelling (entry_views K.bytes V.bytes operations.now)) }
 {
     let mut spelt = Vec::new(alloc);
@@ -79,7 +93,10 @@ pub(crate) fn spell_all<F, K: Key, V: VariableValue>(alloc: Global, operations: 
 }
 
 // The operation as a reply lists it.
-fn listed_entry<F, K: Key, V: VariableValue>(alloc: Global, operation: &Entry<F, K, V>) -> Result<Listed<K, V>, AllocError>
+fn listed_entry<F, K: Key, V: VariableValue>(
+    alloc: Global,
+    operation: &Entry<F, K, V>,
+) -> Result<Listed<K, V>, AllocError>
     ensures { IfOk result (λ listed. listed_view K.bytes V.bytes listed ≡ entry_view K.bytes V.bytes operation.now) }
 {
     match operation {
@@ -100,7 +117,10 @@ fn listed_entry<F, K: Key, V: VariableValue>(alloc: Global, operation: &Entry<F,
 }
 
 /// The operations as a reply lists them.
-pub(crate) fn listed<F, K: Key, V: VariableValue>(alloc: Global, operations: &[Entry<F, K, V>]) -> Result<Vec<Listed<K, V>>, AllocError>
+pub(crate) fn listed<F, K: Key, V: VariableValue>(
+    alloc: Global,
+    operations: &[Entry<F, K, V>],
+) -> Result<Vec<Listed<K, V>>, AllocError>
     ensures { IfOk result (λ list. map (listed_view K.bytes V.bytes) list.items ≡ entry_views K.bytes V.bytes operations.now) }
 {
     let mut list = Vec::new(alloc);

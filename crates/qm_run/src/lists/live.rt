@@ -31,11 +31,12 @@ fn is_touched<F, K: Key, V: VariableValue>(operations: &[Entry<F, K, V>], key: &
 }
 
 /// Key and value of an operation that is a live update before the rest of the list.
-pub(crate) fn live_at<'a, F, K: Key, V: VariableValue>(operation: &'a Entry<F, K, V>, rest: &[Entry<F, K, V>]) -> Option<(&'a K, &'a V)>
-    ensures {
-        (at : ℕ) → option_map (λ p. live_view K.bytes V.bytes at p.0.now p.1.now) result
-            ≡ model.live_at at (entry_view K.bytes V.bytes operation.now) (entry_views K.bytes V.bytes rest.now)
-    }
+pub(crate) fn live_at<'a, F, K: Key, V: VariableValue>(
+    operation: &'a Entry<F, K, V>,
+    rest: &[Entry<F, K, V>],
+) -> Option<(&'a K, &'a V)>
+    ensures { (at : ℕ) → option_map (λ p. live_view K.bytes V.bytes at p.0.now p.1.now) result
+        ≡ model.live_at at (entry_view K.bytes V.bytes operation.now) (entry_views K.bytes V.bytes rest.now) }
 {
     match operation {
         Operation::Update(update) => {
@@ -77,7 +78,10 @@ pub(crate) fn floor<F, K: Key, V: VariableValue>(operations: &[Entry<F, K, V>]) 
 }
 
 // The value of the key, where it is live.
-fn value_at<'a, F, K: Key, V: VariableValue>(operations: &'a [Entry<F, K, V>], key: &[u8]) -> Option<&'a V>
+fn value_at<'a, F, K: Key, V: VariableValue>(
+    operations: &'a [Entry<F, K, V>],
+    key: &[u8],
+) -> Option<&'a V>
     ensures { option_map (λ v. V.bytes v.now) result ≡ model.value_of (entry_views K.bytes V.bytes operations.now) key.now }
 {
     for (at, operation) in operations.iter().enumerate() {
@@ -91,7 +95,10 @@ fn value_at<'a, F, K: Key, V: VariableValue>(operations: &'a [Entry<F, K, V>], k
 }
 
 /// The value of the key, where it is live.
-pub(crate) fn value_of<'a, F, K: Key, V: VariableValue>(operations: &'a [Entry<F, K, V>], key: &K) -> Option<&'a V>
+pub(crate) fn value_of<'a, F, K: Key, V: VariableValue>(
+    operations: &'a [Entry<F, K, V>],
+    key: &K,
+) -> Option<&'a V>
     ensures { option_map (λ v. V.bytes v.now) result ≡ model.value_of (entry_views K.bytes V.bytes operations.now) (K.bytes key.now) }
 {
     value_at(operations, key.as_bytes())

@@ -29,15 +29,20 @@ fn same_entry<F, K: Key, V: VariableValue>(a: &Entry<F, K, V>, b: &Entry<F, K, V
     ensures { IsTrue result ↔ (entry_view K.bytes V.bytes a.now ≡ entry_view K.bytes V.bytes b.now) }
 {
     match (a, b) {
-        (Operation::Update(a), Operation::Update(b)) => same_bytes(&a.0, &b.0) && same_bytes(&a.1, &b.1),
+        (Operation::Update(a), Operation::Update(b)) => same_bytes(&a.0, &b.0)
+            && same_bytes(&a.1, &b.1),
         (Operation::Delete(a), Operation::Delete(b)) => same_bytes(a, b),
-        (Operation::CommitFloor(a, f), Operation::CommitFloor(b, g)) => same_metadata(a, b) && f.get() == g.get(),
+        (Operation::CommitFloor(a, f), Operation::CommitFloor(b, g)) => same_metadata(a, b)
+            && f.get() == g.get(),
         _ => false,
     }
 }
 
 /// Whether the lists are the same.
-pub(crate) fn same_list<F, K: Key, V: VariableValue>(a: &[Entry<F, K, V>], b: &[Entry<F, K, V>]) -> bool
+pub(crate) fn same_list<F, K: Key, V: VariableValue>(
+    a: &[Entry<F, K, V>],
+    b: &[Entry<F, K, V>],
+) -> bool
     ensures { IsTrue result ↔ (entry_views K.bytes V.bytes a.now ≡ entry_views K.bytes V.bytes b.now) }
 {
     if a.len() != b.len() {

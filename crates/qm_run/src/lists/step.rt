@@ -19,7 +19,11 @@ use std::alloc::{AllocError, Global};
 const MAX_OPERATIONS: u64 = 1 << 62;
 
 // How many operations the ones just written, which end the list, made inactive.
-fn made_inactive<F, K: Key, V: VariableValue>(made: usize, live_before: usize, operations: &[Entry<F, K, V>]) -> u64
+fn made_inactive<F, K: Key, V: VariableValue>(
+    made: usize,
+    live_before: usize,
+    operations: &[Entry<F, K, V>],
+) -> u64
     requires { made + live_before ≤ length operations.now }
     ensures { result ≡ made + live_before - length (lives.live (entry_views K.bytes V.bytes operations.now)) }
 {
@@ -27,11 +31,13 @@ fn made_inactive<F, K: Key, V: VariableValue>(made: usize, live_before: usize, o
 }
 
 // Adds a commit: its floor is the one given, or its own location where nothing is live.
-fn commit<F, K: Key, V: VariableValue>(operations: &mut Vec<Entry<F, K, V>>, floor: u64, metadata: Option<V>) -> Result<(), AllocError>
-    ensures value {
-        OnOk result (entry_views K.bytes V.bytes operations.new.items
-            ≡ steps.committed (entry_views K.bytes V.bytes operations.old.items) floor (option_map V.bytes metadata))
-    }
+fn commit<F, K: Key, V: VariableValue>(
+    operations: &mut Vec<Entry<F, K, V>>,
+    floor: u64,
+    metadata: Option<V>,
+) -> Result<(), AllocError>
+    ensures value { OnOk result (entry_views K.bytes V.bytes operations.new.items
+        ≡ steps.committed (entry_views K.bytes V.bytes operations.old.items) floor (option_map V.bytes metadata)) }
     ensures few { OnOk result (length operations.new.items ≤ 2 ^ 62) }
     ensures within { OnOk result (floor ≤ length operations.old.items → lives.floor (entry_views K.bytes V.bytes operations.new.items) < length operations.new.items) }
 {
@@ -39,19 +45,27 @@ fn commit<F, K: Key, V: VariableValue>(operations: &mut Vec<Entry<F, K, V>>, flo
     if end >= MAX_OPERATIONS {
         return Err(AllocError);
     }
-    let floor = if live_count(operations) == 0 { end } else { floor };
+    let floor = if live_count(operations) == 0 {
+        end
+    } else {
+        floor
+    };
     operations.push(Operation::CommitFloor(metadata, Location::new(floor)))?;
     Ok(())
 }
 
 /// The list after a step: the writes, the moves that the policy decides from the floor on, and a commit.
 /// Want of memory is the only error; a list of more than 2^62 operations counts as that.
-pub(crate) fn step<F, K: Key, V: VariableValue>(alloc: Global, operations: Vec<Entry<F, K, V>>, writes: Vec<Write<K, V>>, policy: &AnyPolicy, metadata: Option<V>) -> Result<Vec<Entry<F, K, V>>, AllocError>
+pub(crate) fn step<F, K: Key, V: VariableValue>(
+    alloc: Global,
+    operations: Vec<Entry<F, K, V>>,
+    writes: Vec<Write<K, V>>,
+    policy: &AnyPolicy,
+    metadata: Option<V>,
+) -> Result<Vec<Entry<F, K, V>>, AllocError>
     requires { lives.floor (entry_views K.bytes V.bytes operations.items) ≤ length operations.items }
-    ensures value {
-        IfOk result (λ tip. entry_views K.bytes V.bytes tip.items
-            ≡ steps.step steps.unordered policies (entry_views K.bytes V.bytes operations.items) (write_views K.bytes V.bytes writes.items) (policy_view policy.now) (option_map V.bytes metadata))
-    }
+    ensures value { IfOk result (λ tip. entry_views K.bytes V.bytes tip.items
+        ≡ steps.step steps.unordered policies (entry_views K.bytes V.bytes operations.items) (write_views K.bytes V.bytes writes.items) (policy_view policy.now) (option_map V.bytes metadata)) }
     ensures few { IfOk result (λ tip. length tip.items ≤ 2 ^ 62) }
     ensures within { IfOk result (λ tip. lives.floor (entry_views K.bytes V.bytes tip.items) < length tip.items) }
 {

@@ -50,7 +50,11 @@ pub(crate) fn limits_of(policy: &AnyPolicy, made_inactive: u64) -> Limits
 }
 
 // What the policy says of a live update with this value.
-fn decide<V: VariableValue>(alloc: Global, policy: &AnyPolicy, value: &V) -> Result<Action<V>, AllocError>
+fn decide<V: VariableValue>(
+    alloc: Global,
+    policy: &AnyPolicy,
+    value: &V,
+) -> Result<Action<V>, AllocError>
     ensures { IfOk result (λ action. action_view V.bytes action ≡ rules.action_of (policy_view policy.now) (V.bytes value.now)) }
 {
     match policy {
@@ -62,11 +66,14 @@ fn decide<V: VariableValue>(alloc: Global, policy: &AnyPolicy, value: &V) -> Res
 }
 
 // What the policy decides for a live update, or none where it stops before it.
-fn decision<K: Key, V: VariableValue>(alloc: Global, policy: &AnyPolicy, key: &K, value: &V) -> Result<Option<Write<K, V>>, AllocError>
-    ensures {
-        IfOk result (λ decided. option_map (write_view K.bytes V.bytes) decided
-            ≡ decision_of (K.bytes key.now) (rules.action_of (policy_view policy.now) (V.bytes value.now)))
-    }
+fn decision<K: Key, V: VariableValue>(
+    alloc: Global,
+    policy: &AnyPolicy,
+    key: &K,
+    value: &V,
+) -> Result<Option<Write<K, V>>, AllocError>
+    ensures { IfOk result (λ decided. option_map (write_view K.bytes V.bytes) decided
+        ≡ decision_of (K.bytes key.now) (rules.action_of (policy_view policy.now) (V.bytes value.now))) }
 {
     match decide(alloc, policy, value)? {
         Action::Write(value) => {
@@ -94,15 +101,18 @@ struct Walking<K, V> {
 
 impl<K: Key, V: VariableValue> Walking<K, V> {
     // Visits a location, which is a live update or not, and tells whether the walk goes on past it.
-    fn visit(&mut self, alloc: Global, policy: &AnyPolicy, live: Option<(&K, &V)>) -> Result<bool, AllocError>
-        ensures {
-            IfOk result (λ goes_on. (at : ℕ) (onward : ℕ → ℕ → ℕ → Policy → walks.Walked Policy) →
-                resumed (write_views K.bytes V.bytes self.old.decisions.items)
-                    (walks.visited policies onward at self.old.entries self.old.skips (policy_view policy.now)
-                        (option_map (λ p. live_view K.bytes V.bytes at p.0.now p.1.now) live.entry))
-                ≡ resumed (write_views K.bytes V.bytes self.new.decisions.items)
-                    (if goes_on then onward (suc at) self.new.entries self.new.skips (policy_view policy.now) else walks.ended at (policy_view policy.now)))
-        }
+    fn visit(
+        &mut self,
+        alloc: Global,
+        policy: &AnyPolicy,
+        live: Option<(&K, &V)>,
+    ) -> Result<bool, AllocError>
+        ensures { IfOk result (λ goes_on. (at : ℕ) (onward : ℕ → ℕ → ℕ → Policy → walks.Walked Policy) →
+            resumed (write_views K.bytes V.bytes self.old.decisions.items)
+            (walks.visited policies onward at self.old.entries self.old.skips (policy_view policy.now)
+            (option_map (λ p. live_view K.bytes V.bytes at p.0.now p.1.now) live.entry))
+            ≡ resumed (write_views K.bytes V.bytes self.new.decisions.items)
+            (if goes_on then onward (suc at) self.new.entries self.new.skips (policy_view policy.now) else walks.ended at (policy_view policy.now))) }
     {
         if self.entries == 0 {
             return Ok(false);
@@ -124,12 +134,16 @@ impl<K: Key, V: VariableValue> Walking<K, V> {
 }
 
 /// Walks from the floor on, at most to the end of the list.
-pub(crate) fn walk<F, K: Key, V: VariableValue>(alloc: Global, operations: &[Entry<F, K, V>], floor: u64, limits: Limits, policy: &AnyPolicy) -> Result<Walked<K, V>, AllocError>
+pub(crate) fn walk<F, K: Key, V: VariableValue>(
+    alloc: Global,
+    operations: &[Entry<F, K, V>],
+    floor: u64,
+    limits: Limits,
+    policy: &AnyPolicy,
+) -> Result<Walked<K, V>, AllocError>
     requires { floor ≤ length operations.now }
-    ensures value {
-        IfOk result (λ walked. walked_view K.bytes V.bytes (policy_view policy.now) walked
-            ≡ walks.walk policies (entry_views K.bytes V.bytes operations.now) floor (limits_view limits) (policy_view policy.now))
-    }
+    ensures value { IfOk result (λ walked. walked_view K.bytes V.bytes (policy_view policy.now) walked
+        ≡ walks.walk policies (entry_views K.bytes V.bytes operations.now) floor (limits_view limits) (policy_view policy.now)) }
     ensures within { IfOk result (λ walked. walked.floor ≤ length operations.now) }
 {
     let mut walking = Walking {
@@ -153,7 +167,10 @@ pub(crate) fn walk<F, K: Key, V: VariableValue>(alloc: Global, operations: &[Ent
 }
 
 /// The operations of what a walk decided.
-pub(crate) fn moves<F, K: Key, V: VariableValue>(alloc: Global, decisions: &[Write<K, V>]) -> Result<Vec<Entry<F, K, V>>, AllocError>
+pub(crate) fn moves<F, K: Key, V: VariableValue>(
+    alloc: Global,
+    decisions: &[Write<K, V>],
+) -> Result<Vec<Entry<F, K, V>>, AllocError>
     ensures { IfOk result (λ made. entry_views K.bytes V.bytes made.items ≡ map model.operation_of (write_views K.bytes V.bytes decisions.now)) }
 {
     let mut made = Vec::new(alloc);

@@ -20,7 +20,10 @@ pub(crate) struct Write<K, V> {
 }
 
 // The write to the key.
-fn write_of<'a, K: Key, V: VariableValue>(writes: &'a [Write<K, V>], key: &[u8]) -> Option<&'a Write<K, V>>
+fn write_of<'a, K: Key, V: VariableValue>(
+    writes: &'a [Write<K, V>],
+    key: &[u8],
+) -> Option<&'a Write<K, V>>
     ensures { option_map (λ w. write_view K.bytes V.bytes w.now) result ≡ model.write_of (write_views K.bytes V.bytes writes.now) key.now }
 {
     for write in writes {
@@ -32,7 +35,10 @@ fn write_of<'a, K: Key, V: VariableValue>(writes: &'a [Write<K, V>], key: &[u8])
 }
 
 /// The operation that a write appends.
-pub(crate) fn operation_of<F, K: Key, V: VariableValue>(alloc: Global, write: &Write<K, V>) -> Result<Entry<F, K, V>, AllocError>
+pub(crate) fn operation_of<F, K: Key, V: VariableValue>(
+    alloc: Global,
+    write: &Write<K, V>,
+) -> Result<Entry<F, K, V>, AllocError>
     ensures { IfOk result (λ operation. entry_view K.bytes V.bytes operation ≡ model.operation_of (write_view K.bytes V.bytes write.now)) }
 {
     let key = write.key.twin(alloc)?;
@@ -46,12 +52,15 @@ pub(crate) fn operation_of<F, K: Key, V: VariableValue>(alloc: Global, write: &W
 }
 
 // What the writes do to an operation, where it is a live update before the rest of the list.
-fn rewrite_of<F, K: Key, V: VariableValue>(alloc: Global, operation: &Entry<F, K, V>, rest: &[Entry<F, K, V>], writes: &[Write<K, V>]) -> Result<Option<Entry<F, K, V>>, AllocError>
-    ensures {
-        IfOk result (λ made. (at : ℕ) → option_map (entry_view K.bytes V.bytes) made
-            ≡ option_and_then (model.rewrite_of (write_views K.bytes V.bytes writes.now))
-                (live_at at (entry_view K.bytes V.bytes operation.now) (entry_views K.bytes V.bytes rest.now)))
-    }
+fn rewrite_of<F, K: Key, V: VariableValue>(
+    alloc: Global,
+    operation: &Entry<F, K, V>,
+    rest: &[Entry<F, K, V>],
+    writes: &[Write<K, V>],
+) -> Result<Option<Entry<F, K, V>>, AllocError>
+    ensures { IfOk result (λ made. (at : ℕ) → option_map (entry_view K.bytes V.bytes) made
+        ≡ option_and_then (model.rewrite_of (write_views K.bytes V.bytes writes.now))
+        (live_at at (entry_view K.bytes V.bytes operation.now) (entry_views K.bytes V.bytes rest.now))) }
 {
     match live_at(operation, rest) {
         Some((key, _)) => match write_of(writes, key.as_bytes()) {
@@ -73,11 +82,13 @@ fn is_live<F, K: Key, V: VariableValue>(operations: &[Entry<F, K, V>], key: &K) 
 }
 
 // What a write creates.
-fn create_of<F, K: Key, V: VariableValue>(alloc: Global, operations: &[Entry<F, K, V>], write: &Write<K, V>) -> Result<Option<Entry<F, K, V>>, AllocError>
-    ensures {
-        IfOk result (λ made. option_map (entry_view K.bytes V.bytes) made
-            ≡ model.create_of (live (entry_views K.bytes V.bytes operations.now)) (write_view K.bytes V.bytes write.now))
-    }
+fn create_of<F, K: Key, V: VariableValue>(
+    alloc: Global,
+    operations: &[Entry<F, K, V>],
+    write: &Write<K, V>,
+) -> Result<Option<Entry<F, K, V>>, AllocError>
+    ensures { IfOk result (λ made. option_map (entry_view K.bytes V.bytes) made
+        ≡ model.create_of (live (entry_views K.bytes V.bytes operations.now)) (write_view K.bytes V.bytes write.now)) }
 {
     if is_live(operations, &write.key) {
         return Ok(None);
@@ -93,11 +104,12 @@ fn create_of<F, K: Key, V: VariableValue>(alloc: Global, operations: &[Entry<F, 
 }
 
 // Adds the operation, where there is one.
-fn push_some<F, K: Key, V: VariableValue>(operations: &mut Vec<Entry<F, K, V>>, operation: Option<Entry<F, K, V>>) -> Result<(), AllocError>
-    ensures {
-        OnOk result (entry_views K.bytes V.bytes operations.new.items
-            ≡ entry_views K.bytes V.bytes operations.old.items ++ option_to_list (option_map (entry_view K.bytes V.bytes) operation))
-    }
+fn push_some<F, K: Key, V: VariableValue>(
+    operations: &mut Vec<Entry<F, K, V>>,
+    operation: Option<Entry<F, K, V>>,
+) -> Result<(), AllocError>
+    ensures { OnOk result (entry_views K.bytes V.bytes operations.new.items
+        ≡ entry_views K.bytes V.bytes operations.old.items ++ option_to_list (option_map (entry_view K.bytes V.bytes) operation)) }
 {
     if let Some(operation) = operation {
         operations.push(operation)?;
@@ -106,11 +118,13 @@ fn push_some<F, K: Key, V: VariableValue>(operations: &mut Vec<Entry<F, K, V>>, 
 }
 
 // What the writes do to live keys, by the location of the live update.
-fn rewrites<F, K: Key, V: VariableValue>(alloc: Global, operations: &[Entry<F, K, V>], writes: &[Write<K, V>]) -> Result<Vec<Entry<F, K, V>>, AllocError>
-    ensures {
-        IfOk result (λ made. entry_views K.bytes V.bytes made.items
-            ≡ filter_map (model.rewrite_of (write_views K.bytes V.bytes writes.now)) (live (entry_views K.bytes V.bytes operations.now)))
-    }
+fn rewrites<F, K: Key, V: VariableValue>(
+    alloc: Global,
+    operations: &[Entry<F, K, V>],
+    writes: &[Write<K, V>],
+) -> Result<Vec<Entry<F, K, V>>, AllocError>
+    ensures { IfOk result (λ made. entry_views K.bytes V.bytes made.items
+        ≡ filter_map (model.rewrite_of (write_views K.bytes V.bytes writes.now)) (live (entry_views K.bytes V.bytes operations.now))) }
 {
     let mut made = Vec::new(alloc);
     for (at, operation) in operations.iter().enumerate() {
@@ -121,11 +135,13 @@ fn rewrites<F, K: Key, V: VariableValue>(alloc: Global, operations: &[Entry<F, K
 }
 
 // What the writes create, in their order.
-fn creates<F, K: Key, V: VariableValue>(alloc: Global, operations: &[Entry<F, K, V>], writes: &[Write<K, V>]) -> Result<Vec<Entry<F, K, V>>, AllocError>
-    ensures {
-        IfOk result (λ made. entry_views K.bytes V.bytes made.items
-            ≡ filter_map (model.create_of (live (entry_views K.bytes V.bytes operations.now))) (write_views K.bytes V.bytes writes.now))
-    }
+fn creates<F, K: Key, V: VariableValue>(
+    alloc: Global,
+    operations: &[Entry<F, K, V>],
+    writes: &[Write<K, V>],
+) -> Result<Vec<Entry<F, K, V>>, AllocError>
+    ensures { IfOk result (λ made. entry_views K.bytes V.bytes made.items
+        ≡ filter_map (model.create_of (live (entry_views K.bytes V.bytes operations.now))) (write_views K.bytes V.bytes writes.now)) }
 {
     let mut made = Vec::new(alloc);
     for write in writes {
@@ -136,7 +152,10 @@ fn creates<F, K: Key, V: VariableValue>(alloc: Global, operations: &[Entry<F, K,
 }
 
 // Puts a write in its place by key, over the one that stood there.
-fn put_write<K: Key, V: VariableValue>(writes: &mut Vec<Write<K, V>>, write: Write<K, V>) -> Result<(), AllocError>
+fn put_write<K: Key, V: VariableValue>(
+    writes: &mut Vec<Write<K, V>>,
+    write: Write<K, V>,
+) -> Result<(), AllocError>
     ensures { OnOk result (write_views K.bytes V.bytes writes.new.items ≡ model.put_write (write_views K.bytes V.bytes writes.old.items) (write_view K.bytes V.bytes write)) }
 {
     for at in 0..writes.len() {
@@ -157,7 +176,10 @@ fn put_write<K: Key, V: VariableValue>(writes: &mut Vec<Write<K, V>>, write: Wri
 }
 
 // The last write of each key, in key order.
-fn last_writes<K: Key, V: VariableValue>(alloc: Global, writes: Vec<Write<K, V>>) -> Result<Vec<Write<K, V>>, AllocError>
+fn last_writes<K: Key, V: VariableValue>(
+    alloc: Global,
+    writes: Vec<Write<K, V>>,
+) -> Result<Vec<Write<K, V>>, AllocError>
     ensures { IfOk result (λ last. write_views K.bytes V.bytes last.items ≡ model.last_writes (write_views K.bytes V.bytes writes.items)) }
 {
     let mut last = Vec::new(alloc);
@@ -168,7 +190,10 @@ fn last_writes<K: Key, V: VariableValue>(alloc: Global, writes: Vec<Write<K, V>>
 }
 
 /// Moves the second list to the end of the first.
-pub(crate) fn append<F, K: Key, V: VariableValue>(operations: &mut Vec<Entry<F, K, V>>, more: Vec<Entry<F, K, V>>) -> Result<(), AllocError>
+pub(crate) fn append<F, K: Key, V: VariableValue>(
+    operations: &mut Vec<Entry<F, K, V>>,
+    more: Vec<Entry<F, K, V>>,
+) -> Result<(), AllocError>
     ensures items { OnOk result (operations.new.items ≡ operations.old.items ++ more.items) }
     ensures views { OnOk result (entry_views K.bytes V.bytes operations.new.items ≡ entry_views K.bytes V.bytes operations.old.items ++ entry_views K.bytes V.bytes more.items) }
 {
@@ -179,11 +204,13 @@ pub(crate) fn append<F, K: Key, V: VariableValue>(operations: &mut Vec<Entry<F, 
 }
 
 /// The operations that the writes append.
-pub(crate) fn written<F, K: Key, V: VariableValue>(alloc: Global, operations: &[Entry<F, K, V>], writes: Vec<Write<K, V>>) -> Result<Vec<Entry<F, K, V>>, AllocError>
-    ensures {
-        IfOk result (λ made. entry_views K.bytes V.bytes made.items
-            ≡ model.unordered_writes (entry_views K.bytes V.bytes operations.now) (write_views K.bytes V.bytes writes.items))
-    }
+pub(crate) fn written<F, K: Key, V: VariableValue>(
+    alloc: Global,
+    operations: &[Entry<F, K, V>],
+    writes: Vec<Write<K, V>>,
+) -> Result<Vec<Entry<F, K, V>>, AllocError>
+    ensures { IfOk result (λ made. entry_views K.bytes V.bytes made.items
+        ≡ model.unordered_writes (entry_views K.bytes V.bytes operations.now) (write_views K.bytes V.bytes writes.items)) }
 {
     let last = last_writes(alloc, writes)?;
     let mut made = rewrites(alloc, operations, &last)?;

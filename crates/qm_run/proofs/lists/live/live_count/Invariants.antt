@@ -8,4 +8,5 @@ invariant-loop-at g l =
     let views = entry_views g.K.ByteString.bytes g.V.ByteString.bytes in
     record {
       rest : l.count + length (live_from l.at (views (drop l.at l.operations))) ≡ length (live (views l.operations));
-      bound : l.count ≤ l.at }
+      bound : l.count ≤ l.at;
+    }

@@ -1,4 +1,4 @@
-use Rattle.std.proofs.Common.{◌≡◌, ap, sym, ◌∙◌, ◌+◌, List, drop}
+use Rattle.std.proofs.Common.{ap, sym, ◌∙◌, ◌+◌, List, drop}
 use Rattle.std.proofs.lemmas.List.{drop-map}
 use Rattle.qm_model.specs.Operations.{Operation}
 use Rattle.qm_model.specs.Walk.{walk_from, walk}
@@ -24,10 +24,10 @@ returns-then-not-branch-clause-value g c =
     let xs = c.args.operations.now in
     let p = policy_view c.args.policy.now in
     ended-left policies (entry_view key value) xs p c.loop-at.at c.index-operations-at.result c.loop-at.walking.entries c.loop-at.walking.skips
-        c.visit.new.self.entries c.visit.new.self.skips (write_views key value c.loop-at.walking.decisions.items) (write_views key value c.visit.new.self.decisions.items) _
-        c.in_ok-visit.field-0 (walk policies (entry_views key value xs) c.args.floor (limits_view c.args.limits) p)
-        c.if-not-branch.true c.loop-at-test.true c.index-operations-at.is (c.live_at-live.ensures c.loop-at.at)
-        (c.in_ok-visit.ensures c.loop-at.at (walk_from policies (entry_views key value (drop (c.loop-at.at + 1) xs)))) c.loop-at.invariant
+    c.visit.new.self.entries c.visit.new.self.skips (write_views key value c.loop-at.walking.decisions.items) (write_views key value c.visit.new.self.decisions.items) _
+    c.in_ok-visit.field-0 (walk policies (entry_views key value xs) c.args.floor (limits_view c.args.limits) p)
+    c.if-not-branch.true c.loop-at-test.true c.index-operations-at.is (c.live_at-live.ensures c.loop-at.at)
+    (c.in_ok-visit.ensures c.loop-at.at (walk_from policies (entry_views key value (drop (c.loop-at.at + 1) xs)))) c.loop-at.invariant
 
 pub loop-at-preserved : goal.loop-at-preserved
 loop-at-preserved g c =
@@ -36,7 +36,7 @@ loop-at-preserved g c =
     let xs = c.args.operations.now in
     let p = policy_view c.args.policy.now in
     onward-left policies (entry_view key value) xs p c.loop-at.at c.index-operations-at.result c.loop-at.walking.entries c.loop-at.walking.skips
-        c.visit.new.self.entries c.visit.new.self.skips (write_views key value c.loop-at.walking.decisions.items) (write_views key value c.visit.new.self.decisions.items) _
-        c.in_ok-visit.field-0 (walk policies (entry_views key value xs) c.args.floor (limits_view c.args.limits) p)
-        c.if-not-branch.false c.loop-at-test.true c.index-operations-at.is (c.live_at-live.ensures c.loop-at.at)
-        (c.in_ok-visit.ensures c.loop-at.at (walk_from policies (entry_views key value (drop (c.loop-at.at + 1) xs)))) c.loop-at.invariant
+    c.visit.new.self.entries c.visit.new.self.skips (write_views key value c.loop-at.walking.decisions.items) (write_views key value c.visit.new.self.decisions.items) _
+    c.in_ok-visit.field-0 (walk policies (entry_views key value xs) c.args.floor (limits_view c.args.limits) p)
+    c.if-not-branch.false c.loop-at-test.true c.index-operations-at.is (c.live_at-live.ensures c.loop-at.at)
+    (c.in_ok-visit.ensures c.loop-at.at (walk_from policies (entry_views key value (drop (c.loop-at.at + 1) xs)))) c.loop-at.invariant

@@ -10,5 +10,5 @@ invariant-loop-at g l =
     let views = entry_views g.K.ByteString.bytes g.V.ByteString.bytes in
     let policy = policy_view l.policy in
     resumed (write_views g.K.ByteString.bytes g.V.ByteString.bytes l.walking.decisions.items)
-      (walk_from policies (views (drop l.at l.operations)) l.at l.walking.entries l.walking.skips policy)
+    (walk_from policies (views (drop l.at l.operations)) l.at l.walking.entries l.walking.skips policy)
     ≡ walk policies (views l.operations) l.fn.floor (limits_view l.fn.limits) policy

@@ -12,5 +12,5 @@ loop-write-preserved g c =
     let create = create_of (live (entry_views key value c.args.operations.now)) in
     let writes = write_views key value c.args.writes.now in
     collects-more create (write_view key value) (entry_view key value) c.args.writes.now c.loop-write.write-index c.write-item.result
-        c.loop-write.made.items c.push_some.new.operations.items c.in_ok-create.create (filter_map create writes) c.loop-write-test.true c.write-item.is c.in_ok-push_some.ensures
-        c.in_ok-create.ensures c.loop-write.invariant
+    c.loop-write.made.items c.push_some.new.operations.items c.in_ok-create.create (filter_map create writes) c.loop-write-test.true c.write-item.is c.in_ok-push_some.ensures
+    c.in_ok-create.ensures c.loop-write.invariant

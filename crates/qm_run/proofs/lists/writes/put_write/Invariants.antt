@@ -9,4 +9,5 @@ invariant-loop-at g l =
     let put = write_view g.K.ByteString.bytes g.V.ByteString.bytes l.write in
     record {
       same : l.writes.items ≡ l.initial.writes.items;
-      place : put_write (views l.writes.items) put ≡ views (take l.at l.writes.items) ++ put_write (views (drop l.at l.writes.items)) put }
+      place : put_write (views l.writes.items) put ≡ views (take l.at l.writes.items) ++ put_write (views (drop l.at l.writes.items)) put;
+    }

@@ -11,5 +11,5 @@ loop-at-preserved g c =
     let rewrite = rewrite_of (write_views g.K.ByteString.bytes g.V.ByteString.bytes c.args.writes.now) in
     let entries = live (entry_views g.K.ByteString.bytes g.V.ByteString.bytes c.args.operations.now) in
     collects-live rewrite view view c.args.operations.now c.loop-at.at c.index-operations-at.result
-        c.loop-at.made.items c.push_some.new.operations.items c.in_ok-rewrite.rewrite (filter_map rewrite entries) c.loop-at-test.true c.index-operations-at.is c.in_ok-push_some.ensures
-        (c.in_ok-rewrite.ensures c.loop-at.at) c.loop-at.invariant
+    c.loop-at.made.items c.push_some.new.operations.items c.in_ok-rewrite.rewrite (filter_map rewrite entries) c.loop-at-test.true c.index-operations-at.is c.in_ok-push_some.ensures
+    (c.in_ok-rewrite.ensures c.loop-at.at) c.loop-at.invariant

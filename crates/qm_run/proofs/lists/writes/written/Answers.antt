@@ -13,5 +13,5 @@ returns g c =
     c.in_ok-append.ensures.views
     ∙ ap₂ (λ a b. a ++ b) c.in_ok-made.ensures c.in_ok-more.ensures
     ∙ ap₂ (λ a b. filter_map (rewrite_of a) entries ++ filter_map (create_of entries) b)
-        (ap (write_views key value) c.deref.ensures.value ∙ c.in_ok-last.ensures)
-        (ap (write_views key value) c.deref-2.ensures.value ∙ c.in_ok-last.ensures)
+    (ap (write_views key value) c.deref.ensures.value ∙ c.in_ok-last.ensures)
+    (ap (write_views key value) c.deref-2.ensures.value ∙ c.in_ok-last.ensures)
