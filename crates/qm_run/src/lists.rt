@@ -17,3 +17,6 @@ pub(crate) use writes::Write;
 
 /// An operation of an unordered database.
 pub(crate) type Entry<F, K, V> = Operation<F, Unordered<K, V>>;
+
+#[cfg(test)]
+mod tests;

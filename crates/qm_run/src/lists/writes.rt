@@ -90,17 +90,11 @@ fn create_of<F, K: Key, V: VariableValue>(
     ensures { IfOk result (λ made. option_map (entry_view K.bytes V.bytes) made
         ≡ model.create_of (live (entry_views K.bytes V.bytes operations.now)) (write_view K.bytes V.bytes write.now)) }
 {
-    if is_live(operations, &write.key) {
+    if write.value.is_none() || is_live(operations, &write.key) {
         return Ok(None);
     }
-    match &write.value {
-        Some(value) => {
-            let key = write.key.twin(alloc)?;
-            let value = value.twin(alloc)?;
-            Ok(Some(Operation::Update(Unordered(key, value))))
-        }
-        None => Ok(None),
-    }
+    let create = operation_of(alloc, write)?;
+    Ok(Some(create))
 }
 
 // Adds the operation, where there is one.
