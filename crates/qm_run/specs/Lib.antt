@@ -3,3 +3,4 @@ pub mod Table
 pub mod Turn
 pub mod Session
 pub mod Runs
+pub mod ListViews

@@ -2,6 +2,7 @@
 #![tactic(auto)]
 
 pub mod engine;
+mod lists;
 pub mod runs;
 mod session;
 mod table;

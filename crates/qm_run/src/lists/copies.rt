@@ -1,0 +1,132 @@
+//! Lists made of others: copies, spellings and what replies list.
+
+ghost use Rattle.std.specs.Prelude.{◌≡◌, IfOk, map, option_map};
+ghost use Rattle.qm_model.specs.Operations as model;
+ghost use Rattle.qm_lines.specs.Views.{listed_view};
+ghost use Rattle.qm_run.specs.ListViews.{entry_view, entry_views};
+
+use super::Entry;
+use qm_base::update::Unordered;
+use qm_base::{ByteString, Key, Location, Operation, VariableValue};
+use qm_lines::Listed;
+use std::alloc::{AllocError, Global};
+
+/// The list of a fresh database.
+pub(crate) fn fresh_list<F, K: Key, V: VariableValue>(
+    alloc: Global,
+) -> Result<Vec<Entry<F, K, V>>, AllocError>
+    ensures { IfOk result (λ list. entry_views K.bytes V.bytes list.items ≡ model.fresh) }
+{
+    let mut list = Vec::new(alloc);
+    list.push(Operation::CommitFloor(None, Location::new(0)))?;
+    Ok(list)
+}
+
+// A copy of metadata.
+fn twin_metadata<B: ByteString>(
+    alloc: Global,
+    metadata: &Option<B>,
+) -> Result<Option<B>, AllocError>
+    ensures { IfOk result (λ copy. copy ≡ metadata.now) }
+{
+    match metadata {
+        None => Ok(None),
+        Some(value) => {
+            let copy = value.twin(alloc)?;
+            Ok(Some(copy))
+        }
+    }
+}
+
+/// A copy of the operation.
+pub(crate) fn twin_entry<F, K: Key, V: VariableValue>(
+    alloc: Global,
+    operation: &Entry<F, K, V>,
+) -> Result<Entry<F, K, V>, AllocError>
+    ensures { IfOk result (λ copy. entry_view K.bytes V.bytes copy ≡ entry_view K.bytes V.bytes operation.now) }
+{
+    match operation {
+        Operation::Update(update) => {
+            let key = update.0.twin(alloc)?;
+            let value = update.1.twin(alloc)?;
+            Ok(Operation::Update(Unordered(key, value)))
+        }
+        Operation::Delete(key) => {
+            let key = key.twin(alloc)?;
+            Ok(Operation::Delete(key))
+        }
+        Operation::CommitFloor(metadata, floor) => {
+            let metadata = twin_metadata(alloc, metadata)?;
+            Ok(Operation::CommitFloor(metadata, Location::new(floor.get())))
+        }
+    }
+}
+
+/// A copy of the list.
+pub(crate) fn twin_list<F, K: Key, V: VariableValue>(
+    alloc: Global,
+    operations: &[Entry<F, K, V>],
+) -> Result<Vec<Entry<F, K, V>>, AllocError>
+    ensures { IfOk result (λ copy. entry_views K.bytes V.bytes copy.items ≡ entry_views K.bytes V.bytes operations.now) }
+{
+    let mut copy = Vec::new(alloc);
+    for operation in operations {
+        let twin = twin_entry(alloc, operation)?;
+        copy.push(twin)?;
+    }
+    Ok(copy)
+}
+
+/// The spelling of each operation.
+pub(crate) fn spell_all<F, K: Key, V: VariableValue>(
+    alloc: Global,
+    operations: &[Entry<F, K, V>],
+) -> Result<Vec<Vec<u8>>, AllocError>
+    ensures { IfOk result (λ spelt. map (λ bytes. bytes.items) spelt.items ≡ map model.spelling (entry_views K.bytes V.bytes operations.now)) }
+{
+    let mut spelt = Vec::new(alloc);
+    for operation in operations {
+        let bytes = operation.encode(alloc)?;
+        spelt.push(bytes)?;
+    }
+    Ok(spelt)
+}
+
+// The operation as a reply lists it.
+fn listed_entry<F, K: Key, V: VariableValue>(
+    alloc: Global,
+    operation: &Entry<F, K, V>,
+) -> Result<Listed<K, V>, AllocError>
+    ensures { IfOk result (λ listed. listed_view K.bytes V.bytes listed ≡ entry_view K.bytes V.bytes operation.now) }
+{
+    match operation {
+        Operation::Update(update) => {
+            let key = update.0.twin(alloc)?;
+            let value = update.1.twin(alloc)?;
+            Ok(Listed::Update(key, value, None))
+        }
+        Operation::Delete(key) => {
+            let key = key.twin(alloc)?;
+            Ok(Listed::Delete(key))
+        }
+        Operation::CommitFloor(metadata, floor) => {
+            let metadata = twin_metadata(alloc, metadata)?;
+            Ok(Listed::Commit(metadata, floor.get()))
+        }
+    }
+}
+
+/// The operations as a reply lists them.
+pub(crate) fn listed<F, K: Key, V: VariableValue>(
+    alloc: Global,
+    operations: &[Entry<F, K, V>],
+) -> Result<Vec<Listed<K, V>>, AllocError>
+    ensures { IfOk result (λ list. map (listed_view K.bytes V.bytes) list.items ≡ entry_views K.bytes V.bytes operations.now) }
+{
+    let mut list = Vec::new(alloc);
+    for operation in operations {
+        let listed = listed_entry(alloc, operation)?;
+        list.push(listed)?;
+    }
+    Ok(list)
+}
