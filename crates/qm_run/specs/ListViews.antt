@@ -13,6 +13,7 @@ use Rattle.qm_run.specs.declared.lists.walk.Action.TheVariants as actions
 use Rattle.qm_run.specs.declared.lists.walk.Limits as declared_limits
 use Rattle.qm_run.specs.declared.lists.walk.Walked as declared_walked
 
+-- what a walk may do
 abbrev pub limits_view : declared_limits.Limits → Limits
 limits_view limits = record { entries = limits.entries; skips = limits.skips }
 
@@ -37,7 +38,7 @@ module _ {K V : Type 0} (key : K → Bytes) (value : V → Bytes) where
   abbrev pub entry_view : {F : Type 0} → declared.Operation F (Unordered K V) K V → Operation
   entry_view entry = operation_view (λ u. update (key u.0) (value u.1) None) key value entry
 
-  -- a list of them
+  -- a list of operations
   abbrev pub entry_views : {F : Type 0} → List (declared.Operation F (Unordered K V) K V) → List Operation
   entry_views entries = map entry_view entries
 
@@ -49,7 +50,7 @@ module _ {K V : Type 0} (key : K → Bytes) (value : V → Bytes) where
   abbrev pub write_view : declared_write.Write K V → Write
   write_view w = record { key = key w.key; value = option_map value w.value }
 
-  -- a list of them
+  -- a list of writes
   abbrev pub write_views : List (declared_write.Write K V) → List Write
   write_views ws = map write_view ws
 
