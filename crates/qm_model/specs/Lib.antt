@@ -10,6 +10,7 @@ pub mod Policies
 pub mod Trees
 pub mod Mmr
 pub mod Mmb
+pub mod Roots
 pub mod Batches
 pub mod Lines
 pub mod Machine

@@ -435,7 +435,7 @@ merkleize_items-in scheme s h policy meta list (machine.merkleized chain tip) = 
 merkleize_items-in scheme s h policy meta list (machine.writing chain ws) =
     let tip : List Operation = step scheme.kind scheme.rules chain.base ws policy meta in
     choice (fits scheme.root (commitment scheme.root list) chain) (lines.Merkleized h (length chain.base) (length tip) (floor tip), record (with_slot s h (machine.merkleized chain tip)) { had = tip ∷ s.had }) (refuse (with_slot s h machine.gone) lines.StaleBatch)
-      (λ next. (next.1).items ≡ s.items) (λ e. refl) (λ e. refl)
+    (λ next. (next.1).items ≡ s.items) (λ e. refl) (λ e. refl)
 
 pub merkleize_items : {P : Type 0} (scheme : Scheme P) (s : State) (h : ℕ) (policy : P) (meta : Option Bytes) → ((machine.merkleize scheme s h policy meta).1).items ≡ s.items
 merkleize_items scheme s h policy meta =

@@ -1,7 +1,6 @@
 pub mod Tables
 pub mod Commands
 pub mod Loops
-pub mod ListFloors
 pub mod ListSteps
 pub mod ListWalks
 pub mod ListWrites

@@ -42,7 +42,7 @@ module _ {P : Type 0} (m : Scheme P) (items : List Bytes) (lines : List (Line P)
   ended_in i line given left Before h here e so_far leaves =
       let s : State = after m items lines i in
       let next : (after m items lines (suc i)).items ≡ ((turn m s line).1).items =
-          ap (λ n. (after m items lines n).items) (sym (add-one i)) ∙ ap (λ t. (state_after m (initial items) t).items) (after_more i line h here) ∙ ap (λ (x : State). x.items) (state_after-push m (initial items) (take i lines) line) in
+      ap (λ n. (after m items lines n).items) (sym (add-one i)) ∙ ap (λ t. (state_after m (initial items) t).items) (after_more i line h here) ∙ ap (λ (x : State). x.items) (state_after-push m (initial items) (take i lines) line) in
       record {
         few = omega (arith, e);
         same = subst (λ n. Apart m.root (after m items lines n).had → given ≡ answers m (initial items) (take n lines)) (sym e) (λ apart. (so_far apart).0);

@@ -137,12 +137,12 @@ pub trait Engine<C: Store>: Drop + Sized {
         alloc: Global,
         batch: Self::Batch,
         policy: &mut AnyPolicy,
-        metadata: Option<Self::Value>,
+        metadata: &Option<Self::Value>,
     ) -> Result<Self::Merkleized, Error>
         ensures fits { IfOk result (λ b. (list : List Operation) (chain : Chain) (ws : List Write) → stands self.old list → is_batch batch chain ws
             → fits root (commitment root list) chain ≡ true) }
         ensures made { IfOk result (λ b. (list : List Operation) (chain : Chain) (ws : List Write) → stands self.old list → is_batch batch chain ws → IsOnChain list chain
-            → is_merkleized b chain (step kind policies chain.base ws (policy_view policy.old) (option_map Self.Value.bytes metadata))) }
+            → is_merkleized b chain (step kind policies chain.base ws (policy_view policy.old) (option_map Self.Value.bytes metadata.now))) }
         ensures stale { IfErr result (λ e. e ≡ Error.StaleBatch → (list : List Operation) (chain : Chain) (ws : List Write) → stands self.old list → is_batch batch chain ws
             → ¬ IsOnChain list chain) }
         ensures same { (list : List Operation) → stands self.old list → stands self.new list }
@@ -175,6 +175,7 @@ pub trait Engine<C: Store>: Drop + Sized {
             × ((list : List Operation) (chain : Chain) (tip : List Operation) → stands self list → is_merkleized batch.now chain tip → ¬ IsOnChain list chain)) }
         ensures kept { IfErr result (λ r. (list : List Operation) (chain : Chain) (tip : List Operation) → stands self list → is_merkleized batch.now chain tip
             → AppendedPart C.Store (inside self) (store_given inside r.given) (if fits root (commitment root list) chain then map spelling (drop (length list) tip) else [])) }
+        ensures back { IfErr result (λ r. (x : Self) → r.given ≡ Given.Database x → x ≡ self) }
         ensures cause { IfErr result (λ r. r.error ≡ Error.Journal JournalError.Store → Rose (C.faults (inside self)) (C.faults (store_given inside r.given))) }
         ensures later { C.faults (inside self) ≤ C.faults (store_after inside result) };
 

@@ -2,6 +2,7 @@
 #![tactic(auto)]
 
 pub mod engine;
+mod list_db;
 mod lists;
 pub mod runs;
 mod session;

@@ -7,7 +7,7 @@ mod step;
 mod walk;
 mod writes;
 
-pub(crate) use copies::{fresh_list, listed, spell_all, twin_list};
+pub(crate) use copies::{fresh_list, listed, spell_all, twin_list, twin_metadata};
 pub(crate) use live::{floor, live_count, value_of};
 use qm_base::Operation;
 use qm_base::update::Unordered;

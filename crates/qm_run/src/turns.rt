@@ -208,7 +208,7 @@ fn put<X: Engine<C>, C: Store>(
     }
 }
 
-// Merkleizes under a twin of the policy, with a copy of the metadata.
+// Merkleizes under a twin of the policy.
 fn merkleize_batch<X: Engine<C>, C: Store>(
     alloc: Global,
     database: &mut X,
@@ -228,10 +228,6 @@ fn merkleize_batch<X: Engine<C>, C: Store>(
     ensures later { C.faults (X.inside database.old) ≤ C.faults (X.inside database.new) }
 {
     let mut policy = policy.twin(alloc)?;
-    let metadata = match metadata {
-        None => None,
-        Some(value) => Some(value.twin(alloc)?),
-    };
     database.merkleize(alloc, batch, &mut policy, metadata)
 }
 

@@ -22,8 +22,8 @@ pub(crate) fn fresh_list<F, K: Key, V: VariableValue>(
     Ok(list)
 }
 
-// A copy of metadata.
-fn twin_metadata<B: ByteString>(
+/// A copy of metadata.
+pub(crate) fn twin_metadata<B: ByteString>(
     alloc: Global,
     metadata: &Option<B>,
 ) -> Result<Option<B>, AllocError>

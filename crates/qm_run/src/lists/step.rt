@@ -39,7 +39,6 @@ fn commit<F, K: Key, V: VariableValue>(
     ensures value { OnOk result (entry_views K.bytes V.bytes operations.new.items
         ≡ steps.committed (entry_views K.bytes V.bytes operations.old.items) floor (option_map V.bytes metadata)) }
     ensures few { OnOk result (length operations.new.items ≤ 2 ^ 62) }
-    ensures within { OnOk result (floor ≤ length operations.old.items → lives.floor (entry_views K.bytes V.bytes operations.new.items) < length operations.new.items) }
 {
     let end = operations.len() as u64;
     if end >= MAX_OPERATIONS {
@@ -63,11 +62,9 @@ pub(crate) fn step<F, K: Key, V: VariableValue>(
     policy: &AnyPolicy,
     metadata: Option<V>,
 ) -> Result<Vec<Entry<F, K, V>>, AllocError>
-    requires { lives.floor (entry_views K.bytes V.bytes operations.items) ≤ length operations.items }
     ensures value { IfOk result (λ tip. entry_views K.bytes V.bytes tip.items
         ≡ steps.step steps.unordered policies (entry_views K.bytes V.bytes operations.items) (write_views K.bytes V.bytes writes.items) (policy_view policy.now) (option_map V.bytes metadata)) }
     ensures few { IfOk result (λ tip. length tip.items ≤ 2 ^ 62) }
-    ensures within { IfOk result (λ tip. lives.floor (entry_views K.bytes V.bytes tip.items) < length tip.items) }
 {
     let mut tip = operations;
     let from = floor(&tip);

@@ -133,7 +133,7 @@ impl<K: Key, V: VariableValue> Walking<K, V> {
     }
 }
 
-/// Walks from the floor on, at most to the end of the list.
+/// Walks from the floor on, at most to the end of the list. It stays where it is past that end.
 pub(crate) fn walk<F, K: Key, V: VariableValue>(
     alloc: Global,
     operations: &[Entry<F, K, V>],
@@ -141,10 +141,8 @@ pub(crate) fn walk<F, K: Key, V: VariableValue>(
     limits: Limits,
     policy: &AnyPolicy,
 ) -> Result<Walked<K, V>, AllocError>
-    requires { floor ≤ length operations.now }
-    ensures value { IfOk result (λ walked. walked_view K.bytes V.bytes (policy_view policy.now) walked
+    ensures { IfOk result (λ walked. walked_view K.bytes V.bytes (policy_view policy.now) walked
         ≡ walks.walk policies (entry_views K.bytes V.bytes operations.now) floor (limits_view limits) (policy_view policy.now)) }
-    ensures within { IfOk result (λ walked. walked.floor ≤ length operations.now) }
 {
     let mut walking = Walking {
         entries: limits.entries,
@@ -161,7 +159,7 @@ pub(crate) fn walk<F, K: Key, V: VariableValue>(
         }
     }
     Ok(Walked {
-        floor: operations.len() as u64,
+        floor: floor.max(operations.len() as u64),
         decisions: walking.decisions,
     })
 }

@@ -19,12 +19,12 @@ returns-in-Some-clause-machine g c = λ start.
     let kept : c.step-next.new.replies.items ≡ c.loop-command.replies.items = rw c.in-Some.is at c.step-next.ensures.kept in
     each (g.C.Store.items c.args.store) (λ items is.
     rw (kept, c.close.ensures) (ended_in scheme items (map f c.args.commands.now) i (f c.command-item.result) (map a c.loop-command.replies.items) _
-      (λ s. Holds m c.loop-command.session.held c.loop-command.session.table.items c.loop-command.session.opened s)
-      (rw (length-map c.args.commands.now f) c.loop-command-test.true)
-      (line_here f c.args.commands.now i c.command-item.result c.loop-command-test.true c.command-item.is)
-      (length-map c.loop-command.replies.items a ∙ c.loop-command.invariant.count)
-      (c.loop-command.invariant.machine items is start)
-      c.step-next.ensures.left))
+    (λ s. Holds m c.loop-command.session.held c.loop-command.session.table.items c.loop-command.session.opened s)
+    (rw (length-map c.args.commands.now f) c.loop-command-test.true)
+    (line_here f c.args.commands.now i c.command-item.result c.loop-command-test.true c.command-item.is)
+    (length-map c.loop-command.replies.items a ∙ c.loop-command.invariant.count)
+    (c.loop-command.invariant.machine items is start)
+    c.step-next.ensures.left))
 
 pub returns-in-Some-clause-fault : goal.returns-in-Some-clause-fault
 returns-in-Some-clause-fault g c = λ e.
@@ -61,6 +61,6 @@ returns-clause-machine g c = λ start.
     let i = c.loop-command.command-index in
     each (g.C.Store.items c.args.store) (λ items is.
     rw c.close-2.ensures (ended_at scheme items (map f c.args.commands.now) i (map a c.loop-command.replies.items) _
-      (omega (arith, length-map c.args.commands.now f, c.loop-command.auto.command-index-end))
-      (length-map c.loop-command.replies.items a ∙ c.loop-command.invariant.count)
-      (λ apart. let at_end = c.loop-command.invariant.machine items is start apart in (at_end.0, (at_end.1).items))))
+    (omega (arith, length-map c.args.commands.now f, c.loop-command.auto.command-index-end))
+    (length-map c.loop-command.replies.items a ∙ c.loop-command.invariant.count)
+    (λ apart. let at_end = c.loop-command.invariant.machine items is start apart in (at_end.0, (at_end.1).items))))

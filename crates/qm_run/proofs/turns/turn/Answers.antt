@@ -25,7 +25,7 @@ pub returns-in-Merkleize-clause-left : goal.returns-in-Merkleize-clause-left
 returns-in-Merkleize-clause-left g c = λ s k apart.
     let scheme : Scheme Policy = record { kind = g.X.Engine.kind; rules = policies; root = g.X.Engine.root; boundary = g.X.Engine.boundary } in
     rw c.in-Merkleize.is (unchanged_left (g.C.Store.items (store_given g.X.Engine.inside c.args.session.held)) (g.C.Store.items (store_given g.X.Engine.inside c.merkleize.result.0.held)) s.items _ k.items c.merkleize.ensures.store.items
-      (merkleize_items scheme s c.in-Merkleize.number (policy_view c.in-Merkleize.policy) (option_map g.X.Value.ByteString.bytes c.in-Merkleize.metadata)))
+    (merkleize_items scheme s c.in-Merkleize.number (policy_view c.in-Merkleize.policy) (option_map g.X.Value.ByteString.bytes c.in-Merkleize.metadata)))
 
 pub returns-in-Apply-clause-machine : goal.returns-in-Apply-clause-machine
 returns-in-Apply-clause-machine g c = λ s k. rw c.in-Apply.is (c.apply.ensures.machine s k)

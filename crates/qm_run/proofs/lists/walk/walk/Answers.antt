@@ -17,8 +17,8 @@ loop-at-init g c =
     ap (λ ds. resumed (write_views key value ds) (from (entry_views key value (drop c.args.floor c.args.operations.now)))) c.new.ensures.items
     ∙ ap from (sym (drop-map (entry_view key value) c.args.floor c.args.operations.now))
 
-pub returns-then-not-branch-clause-value : goal.returns-then-not-branch-clause-value
-returns-then-not-branch-clause-value g c =
+pub returns-then-not-branch : goal.returns-then-not-branch
+returns-then-not-branch g c =
     let key = g.K.ByteString.bytes in
     let value = g.V.ByteString.bytes in
     let xs = c.args.operations.now in
