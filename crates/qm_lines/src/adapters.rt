@@ -7,7 +7,8 @@ use crate::ports::{Failed, Sink, SinkError, Source};
 use std::io::{Read, Write};
 use std::marker::Model;
 
-/// A reader of std as a source. It tells of its bytes what the reader tells: a file or a terminal tells nothing.
+/// A reader of std as a source. It tells of its bytes what the reader tells: a file or a terminal
+/// tells nothing.
 #[derive(Drop)]
 pub struct StdSource<R> {
     inner: R,
@@ -49,8 +50,8 @@ impl<R: Read> Source for StdSource<R> {
     }
 }
 
-/// A writer of std as a sink. It tells of its bytes what the writer tells: a file or a terminal tells nothing.
-/// A writer that takes none of a piece has failed.
+/// A writer of std as a sink. It tells of its bytes what the writer tells: a file or a terminal
+/// tells nothing. A writer that takes none of a piece has failed.
 #[derive(Drop)]
 pub struct StdSink<W> {
     inner: W,

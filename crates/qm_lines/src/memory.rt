@@ -24,7 +24,12 @@ pub struct MemSource {
 impl Model for MemSource {
     ghost Value = { SourceState };
 
-    ghost view = { λ s. record { left = drop s.at s.bytes.items; fail = s.fail.items; calls = s.calls; faults = s.faults } };
+    ghost view = { λ s. record {
+      left = drop s.at s.bytes.items;
+      fail = s.fail.items;
+      calls = s.calls;
+      faults = s.faults;
+    } };
 
     ghost invariant = { λ s. s.at ≤ length s.bytes.items };
 }
@@ -100,7 +105,12 @@ pub struct MemSink {
 impl Model for MemSink {
     ghost Value = { SinkState };
 
-    ghost view = { λ s. record { text = s.bytes.items; fail = s.fail.items; calls = s.calls; faults = s.faults } };
+    ghost view = { λ s. record {
+      text = s.bytes.items;
+      fail = s.fail.items;
+      calls = s.calls;
+      faults = s.faults;
+    } };
 }
 
 impl MemSink {
@@ -137,7 +147,8 @@ impl Sink for MemSink {
         ensures cause { IsCause self.old.faults self.new.faults (IsErrOf result SinkError.Failed) }
 
         ensures fails { IsErrOf result SinkError.Failed ↔ Contains self.old.fail self.old.calls }
-        ensures all { IfOk result (λ n. (n ≡ length piece.now) × (self.new.text ≡ self.old.text ++ piece.now)) }
+        ensures all { IfOk result (λ n. n ≡ length piece.now) }
+        ensures grown { OnOk result (self.new.text ≡ self.old.text ++ piece.now) }
         ensures nothing { OnErr result (self.new.text ≡ self.old.text) }
         ensures kept { self.new.fail ≡ self.old.fail }
         ensures counted { self.new.calls ≡ one_more self.old.calls }

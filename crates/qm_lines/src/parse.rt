@@ -53,7 +53,8 @@ fn bytes_within(
     low: usize,
     high: usize,
 ) -> Result<Option<Vec<u8>>, AllocError>
-    ensures { IfOk result (λ found. option_map (λ bytes. bytes.items) found ≡ grammar.within low high (decode_of word.now)) }
+    ensures { IfOk result (λ found.
+        option_map (λ bytes. bytes.items) found ≡ grammar.within low high (decode_of word.now)) }
 {
     match hex::decode(alloc, word) {
         Ok(bytes) if low <= bytes.len() && bytes.len() <= high => Ok(Some(bytes)),
@@ -138,7 +139,8 @@ fn put(
     second: &[u8],
     third: &[u8],
 ) -> Result<Option<ByteCommand>, AllocError>
-    ensures { IfOk result (λ command. option_map byte_line command ≡ grammar.put_of first.now second.now third.now) }
+    ensures { IfOk result (λ command.
+        option_map byte_line command ≡ grammar.put_of first.now second.now third.now) }
 {
     let Some(handle) = number(first) else {
         return Ok(None);
@@ -168,7 +170,8 @@ fn of_four(
     second: &[u8],
     third: &[u8],
 ) -> Result<Option<ByteCommand>, AllocError>
-    ensures { IfOk result (λ command. option_map byte_line command ≡ grammar.of_four word.now first.now second.now third.now) }
+    ensures { IfOk result (λ command.
+        option_map byte_line command ≡ grammar.of_four word.now first.now second.now third.now) }
 {
     if word == b"put".as_slice() {
         put(alloc, first, second, third)
@@ -180,7 +183,8 @@ fn of_four(
 }
 
 fn of_words(alloc: Global, words: &[&[u8]]) -> Result<Option<ByteCommand>, AllocError>
-    ensures { IfOk result (λ command. option_map byte_line command ≡ grammar.of_words (map (λ word. word.now) words.now)) }
+    ensures { IfOk result (λ command.
+        option_map byte_line command ≡ grammar.of_words (map (λ word. word.now) words.now)) }
 {
     match words {
         [] => Ok(None),
@@ -193,7 +197,8 @@ fn of_words(alloc: Global, words: &[&[u8]]) -> Result<Option<ByteCommand>, Alloc
 }
 
 fn words(alloc: Global, line: &[u8]) -> Result<Vec<&[u8]>, AllocError>
-    ensures { IfOk result (λ words. map (λ word. word.now) words.items ≡ slice_split (λ c. c == 32) line.now) }
+    ensures { IfOk result (λ words.
+        map (λ word. word.now) words.items ≡ slice_split (λ c. c == 32) line.now) }
 {
     line.split(|c| *c == b' ').collect(alloc)
 }
@@ -219,7 +224,8 @@ fn without_feed(input: &[u8]) -> &[u8]
 }
 
 fn split_lines(alloc: Global, input: &[u8]) -> Result<Vec<&[u8]>, AllocError>
-    ensures { IfOk result (λ lines. map (λ line. line.now) lines.items ≡ slice_split (λ c. c == 10) input.now) }
+    ensures { IfOk result (λ lines.
+        map (λ line. line.now) lines.items ≡ slice_split (λ c. c == 10) input.now) }
 {
     input.split(|c| *c == b'\n').collect(alloc)
 }
@@ -237,7 +243,8 @@ fn lines(alloc: Global, input: &[u8]) -> Result<Vec<&[u8]>, AllocError>
 /// The commands of an input up to the first line that is none, and that line's number, counted from 1.
 /// Want of memory is the only error.
 pub fn parse_all(alloc: Global, input: &[u8]) -> Result<(Vec<ByteCommand>, Option<u64>), AllocError>
-    ensures commands { IfOk result (λ parsed. map byte_line parsed.0.items ≡ grammar.commands_in input.now) }
+    ensures commands { IfOk result (λ parsed.
+        map byte_line parsed.0.items ≡ grammar.commands_in input.now) }
     ensures bad { IfOk result (λ parsed. parsed.1 ≡ grammar.bad_in input.now) }
 {
     let lines = lines(alloc, input)?;

@@ -19,7 +19,8 @@ fn hex_text(alloc: Global, bytes: &[u8]) -> Result<String, AllocError>
 }
 
 fn optional_text<B: ByteString>(alloc: Global, value: &Option<B>) -> Result<String, AllocError>
-    ensures { IfOk result (λ text. string_bytes text ≡ texts.optional_text (option_map B.bytes value.now)) }
+    ensures { IfOk result (λ text.
+        string_bytes text ≡ texts.optional_text (option_map B.bytes value.now)) }
 {
     match value {
         None => String::from_str(alloc, "none"),
@@ -43,7 +44,8 @@ fn operation_text<K: Key, V: VariableValue>(
     alloc: Global,
     op: &Listed<K, V>,
 ) -> Result<String, AllocError>
-    ensures { IfOk result (λ text. string_bytes text ≡ texts.operation_text (listed_view K.bytes V.bytes op.now)) }
+    ensures { IfOk result (λ text.
+        string_bytes text ≡ texts.operation_text (listed_view K.bytes V.bytes op.now)) }
 {
     match op {
         Listed::Update(key, value, next) => {
@@ -68,7 +70,9 @@ fn operations_text<K: Key, V: VariableValue>(
     alloc: Global,
     ops: &[Listed<K, V>],
 ) -> Result<String, AllocError>
-    ensures { IfOk result (λ text. string_bytes text ≡ flat_map (λ op. codes " " ++ texts.operation_text op) (map (listed_view K.bytes V.bytes) ops.now)) }
+    ensures { IfOk result (λ text.
+        string_bytes text ≡ flat_map (λ op. codes " " ++ texts.operation_text op)
+        (map (listed_view K.bytes V.bytes) ops.now)) }
 {
     let mut out = String::new(alloc);
     for op in ops {
@@ -100,7 +104,8 @@ fn line_text<K: Key, V: VariableValue>(
     alloc: Global,
     reply: &Reply<K, V>,
 ) -> Result<String, AllocError>
-    ensures { IfOk result (λ text. string_bytes text ≡ texts.reply_line (answer_view K.bytes V.bytes reply.now)) }
+    ensures { IfOk result (λ text.
+        string_bytes text ≡ texts.reply_line (answer_view K.bytes V.bytes reply.now)) }
 {
     match reply {
         Reply::Opened(opening, start, size) => format!(in alloc; "open {opening} {start} {size}"),
@@ -134,7 +139,8 @@ pub fn reply_text<K: Key, V: VariableValue>(
     alloc: Global,
     reply: &Reply<K, V>,
 ) -> Result<Vec<u8>, AllocError>
-    ensures { IfOk result (λ text. text.items ≡ texts.reply_line (answer_view K.bytes V.bytes reply.now)) }
+    ensures { IfOk result (λ text.
+        text.items ≡ texts.reply_line (answer_view K.bytes V.bytes reply.now)) }
 {
     Ok(line_text(alloc, reply)?.into_bytes())
 }
@@ -144,7 +150,8 @@ pub fn replies_text<K: Key, V: VariableValue>(
     alloc: Global,
     replies: &[Reply<K, V>],
 ) -> Result<Vec<u8>, AllocError>
-    ensures { IfOk result (λ text. text.items ≡ texts.text_of (map (answer_view K.bytes V.bytes) replies.now)) }
+    ensures { IfOk result (λ text.
+        text.items ≡ texts.text_of (map (answer_view K.bytes V.bytes) replies.now)) }
 {
     let mut out = Vec::new(alloc);
     for reply in replies {

@@ -25,7 +25,8 @@ pub fn read_all<S: Source>(alloc: Global, source: &mut S) -> Result<Vec<u8>, Inp
     ensures all { IfOk result (λ bytes. IfSome (S.left source.old) (λ input. bytes.items ≡ input)) }
     ensures short { IfOk result (λ bytes. length bytes.items ≤ LIMIT) }
     ensures end { OnOk result (IsAtEnd (S.left source.new)) }
-    ensures long { IsErrOf result InputError.TooLong → IfSome (S.left source.old) (λ input. LIMIT < length input) }
+    ensures long { IsErrOf result InputError.TooLong →
+        IfSome (S.left source.old) (λ input. LIMIT < length input) }
     ensures cause { IsCause (S.faults source.old) (S.faults source.new) (IsErrOf result InputError.Failed) }
 {
     let mut all = Vec::new(alloc);
