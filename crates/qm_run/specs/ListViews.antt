@@ -57,3 +57,10 @@ module _ {K V : Type 0} (key : K → Bytes) (value : V → Bytes) where
   -- where a walk ended, and what it decided, under a policy that stays as it is
   abbrev pub walked_view : {P : Type 0} → P → declared_walked.Walked K V → Walked P
   walked_view policy walked = record { floor = walked.floor; decisions = write_views walked.decisions.items; policy = policy }
+
+-- the same where keys and values are seen as their bytes
+abbrev pub byte_entries : {F : Type 0} → List (declared.Operation F (Unordered Bytes Bytes) Bytes Bytes) → List Operation
+byte_entries entries = entry_views (λ k. k) (λ v. v) entries
+
+abbrev pub byte_writes : List (declared_write.Write Bytes Bytes) → List Write
+byte_writes ws = write_views (λ k. k) (λ v. v) ws

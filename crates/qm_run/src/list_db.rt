@@ -7,7 +7,7 @@ ghost use Rattle.qm_model.specs.Policies.{policies};
 ghost use Rattle.qm_model.specs.Step as steps;
 ghost use Rattle.qm_lines.specs.Views.{policy_view};
 ghost use Rattle.qm_run.specs.Given.{Appended, AppendedPart};
-ghost use Rattle.qm_run.specs.ListViews.{entry_views, write_views};
+ghost use Rattle.qm_run.specs.ListViews.{byte_entries, byte_writes};
 ghost use Rattle.qm_model.specs.Mmr.{mmr};
 ghost use Rattle.qm_model.specs.Roots.{sha256_root};
 
@@ -16,38 +16,40 @@ use crate::lists::{
     Entry, Write, floor, fresh_list, listed, live_count, same_list, spell_all, step, twin_list,
     twin_metadata, value_of,
 };
-use qm_base::{Error, JournalError, Key, Twin, VariableValue};
+use qm_base::{ByteKey, ByteValue, Error, JournalError, Twin};
 use qm_lines::{AnyPolicy, Listed};
 use qm_store::{Store, StoreError};
 use std::alloc::{AllocError, Global};
-use std::marker::PhantomData;
 use std::rc::Rc;
 
 /// The family of this database's locations. No tree is kept yet.
 pub struct Ranges;
 
+/// An operation of this database.
+pub type ByteEntry = Entry<Ranges, ByteKey, ByteValue>;
+
 /// A shared operation list.
-pub type OperationList<K, V> = Rc<Vec<Entry<Ranges, K, V>>>;
+pub type OperationList = Rc<Vec<ByteEntry>>;
 
 /// A database: its list, which its batches share, and its store.
 #[derive(Drop)]
-pub struct ListDb<C, K: Key, V: VariableValue> {
-    list: OperationList<K, V>,
+pub struct ListDb<C> {
+    list: OperationList,
     store: C,
 }
 
 /// A batch: the list that it was made from, and its writes.
 #[derive(Drop)]
-pub struct ListBatch<K: Key, V: VariableValue> {
-    base: OperationList<K, V>,
-    writes: Vec<Write<K, V>>,
+pub struct ListBatch {
+    base: OperationList,
+    writes: Vec<Write<ByteKey, ByteValue>>,
 }
 
 /// A merkleized batch: its tip list, which begins with the base of this size.
 #[derive(Drop)]
-pub struct ListTip<K: Key, V: VariableValue> {
+pub struct ListTip {
     base: usize,
-    tip: OperationList<K, V>,
+    tip: OperationList,
     ghost begins: { base ≤ length tip.value.items },
 }
 
@@ -73,10 +75,8 @@ fn append_items<C: Store>(store: &mut C, items: &[Vec<u8>]) -> Result<(), Error>
 }
 
 // The fresh list, and its spellings.
-fn fresh_parts<K: Key, V: VariableValue>(
-    alloc: Global,
-) -> Result<(OperationList<K, V>, Vec<Vec<u8>>), AllocError>
-    ensures list { IfOk result (λ parts. entry_views K.bytes V.bytes parts.0.value.items ≡ fresh) }
+fn fresh_parts(alloc: Global) -> Result<(OperationList, Vec<Vec<u8>>), AllocError>
+    ensures list { IfOk result (λ parts. byte_entries parts.0.value.items ≡ fresh) }
     ensures items { IfOk result (λ parts. map (λ v. v.items) parts.1.items ≡ map spelling fresh) }
 {
     let list = fresh_list(alloc)?;
@@ -86,15 +86,15 @@ fn fresh_parts<K: Key, V: VariableValue>(
 }
 
 // The list after a step of the base.
-fn tip_of<K: Key, V: VariableValue>(
+fn tip_of(
     alloc: Global,
-    base: &[Entry<Ranges, K, V>],
-    writes: Vec<Write<K, V>>,
+    base: &[ByteEntry],
+    writes: Vec<Write<ByteKey, ByteValue>>,
     policy: &AnyPolicy,
-    metadata: &Option<V>,
-) -> Result<OperationList<K, V>, AllocError>
-    ensures { IfOk result (λ tip. entry_views K.bytes V.bytes tip.value.items
-        ≡ steps.step steps.unordered policies (entry_views K.bytes V.bytes base.now) (write_views K.bytes V.bytes writes.items) (policy_view policy.now) (option_map V.bytes metadata.now)) }
+    metadata: &Option<ByteValue>,
+) -> Result<OperationList, AllocError>
+    ensures { IfOk result (λ tip. byte_entries tip.value.items
+        ≡ steps.step steps.unordered policies (byte_entries base.now) (byte_writes writes.items) (policy_view policy.now) (metadata.now)) }
 {
     let list = twin_list(alloc, base)?;
     let metadata = twin_metadata(alloc, metadata)?;
@@ -103,40 +103,40 @@ fn tip_of<K: Key, V: VariableValue>(
     Ok(tip)
 }
 
-impl<K: Key, V: VariableValue> ListTip<K, V> {
+impl ListTip {
     // The base list.
-    fn base(&self) -> &[Entry<Ranges, K, V>]
-        ensures { entry_views K.bytes V.bytes result.now ≡ take self.now.base (entry_views K.bytes V.bytes self.now.tip.value.items) }
+    fn base(&self) -> &[ByteEntry]
+        ensures { byte_entries result.now ≡ take self.now.base (byte_entries self.now.tip.value.items) }
     {
         &self.tip[..self.base]
     }
 
     // The operations behind it.
-    fn own(&self) -> &[Entry<Ranges, K, V>]
-        ensures { entry_views K.bytes V.bytes result.now ≡ drop self.now.base (entry_views K.bytes V.bytes self.now.tip.value.items) }
+    fn own(&self) -> &[ByteEntry]
+        ensures { byte_entries result.now ≡ drop self.now.base (byte_entries self.now.tip.value.items) }
     {
         &self.tip[self.base..]
     }
 }
 
-impl<C: Store, K: Key, V: VariableValue> Engine<C> for ListDb<C, K, V> {
-    type Key = K;
+impl<C: Store> Engine<C> for ListDb<C> {
+    type Key = ByteKey;
 
-    type Value = V;
+    type Value = ByteValue;
 
     type Config = ();
 
-    type Batch = ListBatch<K, V>;
+    type Batch = ListBatch;
 
-    type Merkleized = ListTip<K, V>;
+    type Merkleized = ListTip;
 
     ghost inside = { λ db. db.store };
 
-    ghost stands = { λ db list. entry_views K.bytes V.bytes db.list.value.items ≡ list };
+    ghost stands = { λ db list. byte_entries db.list.value.items ≡ list };
 
-    ghost is_batch = { λ b chain ws. (entry_views K.bytes V.bytes b.base.value.items ≡ chain.base) × (chain.kept ≡ []) × (write_views K.bytes V.bytes b.writes.items ≡ ws) };
+    ghost is_batch = { λ b chain ws. (byte_entries b.base.value.items ≡ chain.base) × (chain.kept ≡ []) × (byte_writes b.writes.items ≡ ws) };
 
-    ghost is_merkleized = { λ b chain tip. (entry_views K.bytes V.bytes b.tip.value.items ≡ tip) × (chain.kept ≡ []) × (b.base ≡ length chain.base) × (take (length chain.base) tip ≡ chain.base) };
+    ghost is_merkleized = { λ b chain tip. (byte_entries b.tip.value.items ≡ tip) × (chain.kept ≡ []) × (b.base ≡ length chain.base) × (take (length chain.base) tip ≡ chain.base) };
 
     ghost kind = { steps.unordered };
 
@@ -183,7 +183,7 @@ impl<C: Store, K: Key, V: VariableValue> Engine<C> for ListDb<C, K, V> {
         }
     }
 
-    fn batch(&self, alloc: Global) -> Result<ListBatch<K, V>, AllocError> {
+    fn batch(&self, alloc: Global) -> Result<ListBatch, AllocError> {
         let base = self.list.clone()?;
         Ok(ListBatch {
             base,
@@ -193,10 +193,10 @@ impl<C: Store, K: Key, V: VariableValue> Engine<C> for ListDb<C, K, V> {
 
     fn put(
         _alloc: Global,
-        batch: ListBatch<K, V>,
-        key: K,
-        value: V,
-    ) -> Result<ListBatch<K, V>, AllocError> {
+        batch: ListBatch,
+        key: ByteKey,
+        value: ByteValue,
+    ) -> Result<ListBatch, AllocError> {
         let ListBatch { base, mut writes } = batch;
         writes.push(Write {
             key,
@@ -208,10 +208,10 @@ impl<C: Store, K: Key, V: VariableValue> Engine<C> for ListDb<C, K, V> {
     fn merkleize(
         &mut self,
         alloc: Global,
-        batch: ListBatch<K, V>,
+        batch: ListBatch,
         policy: &mut AnyPolicy,
-        metadata: &Option<V>,
-    ) -> Result<ListTip<K, V>, Error> {
+        metadata: &Option<ByteValue>,
+    ) -> Result<ListTip, Error> {
         let ListBatch { base, writes } = batch;
         if !same_list(&self.list, &base) {
             return Err(Error::StaleBatch);
@@ -221,7 +221,7 @@ impl<C: Store, K: Key, V: VariableValue> Engine<C> for ListDb<C, K, V> {
         Ok(ListTip { base: size, tip })
     }
 
-    fn sizes(batch: &ListTip<K, V>) -> BatchSizes {
+    fn sizes(batch: &ListTip) -> BatchSizes {
         BatchSizes {
             base: batch.base as u64,
             tip: batch.tip.len() as u64,
@@ -229,12 +229,15 @@ impl<C: Store, K: Key, V: VariableValue> Engine<C> for ListDb<C, K, V> {
         }
     }
 
-    fn ops(alloc: Global, batch: &ListTip<K, V>) -> Result<(u64, Vec<Listed<K, V>>), AllocError> {
+    fn ops(
+        alloc: Global,
+        batch: &ListTip,
+    ) -> Result<(u64, Vec<Listed<ByteKey, ByteValue>>), AllocError> {
         let own = listed(alloc, batch.own())?;
         Ok((batch.base as u64, own))
     }
 
-    fn apply(self, alloc: Global, batch: &ListTip<K, V>) -> Result<Self, Refusal<Self, C>> {
+    fn apply(self, alloc: Global, batch: &ListTip) -> Result<Self, Refusal<Self, C>> {
         if !same_list(&self.list, batch.base()) {
             return Err(Refusal {
                 given: Given::Database(self),
@@ -259,7 +262,7 @@ impl<C: Store, K: Key, V: VariableValue> Engine<C> for ListDb<C, K, V> {
         }
     }
 
-    fn get(&mut self, alloc: Global, key: &K) -> Result<Option<V>, Error> {
+    fn get(&mut self, alloc: Global, key: &ByteKey) -> Result<Option<ByteValue>, Error> {
         match value_of(&self.list, key) {
             None => Ok(None),
             Some(value) => {
@@ -271,12 +274,9 @@ impl<C: Store, K: Key, V: VariableValue> Engine<C> for ListDb<C, K, V> {
 }
 
 // A merkleized batch's tip list, and the spellings of what it has behind its base.
-fn own_parts<K: Key, V: VariableValue>(
-    alloc: Global,
-    batch: &ListTip<K, V>,
-) -> Result<(OperationList<K, V>, Vec<Vec<u8>>), AllocError>
+fn own_parts(alloc: Global, batch: &ListTip) -> Result<(OperationList, Vec<Vec<u8>>), AllocError>
     ensures list { IfOk result (λ parts. parts.0.value ≡ batch.now.tip.value) }
-    ensures items { IfOk result (λ parts. map (λ v. v.items) parts.1.items ≡ map spelling (drop batch.now.base (entry_views K.bytes V.bytes batch.now.tip.value.items))) }
+    ensures items { IfOk result (λ parts. map (λ v. v.items) parts.1.items ≡ map spelling (drop batch.now.base (byte_entries batch.now.tip.value.items))) }
 {
     let items = spell_all(alloc, batch.own())?;
     let list = batch.tip.clone()?;
