@@ -4,3 +4,4 @@ pub mod Loops
 pub mod ListSteps
 pub mod ListWalks
 pub mod ListWrites
+pub mod Sayings

@@ -4,3 +4,5 @@ pub mod Turn
 pub mod Session
 pub mod Runs
 pub mod ListViews
+pub mod Program
+pub mod Endings

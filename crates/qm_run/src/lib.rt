@@ -4,10 +4,12 @@
 pub mod engine;
 mod list_db;
 mod lists;
+mod program;
 pub mod runs;
 mod session;
 mod table;
 mod turns;
 
 pub use engine::{BatchSizes, Engine, Given, Numbers, Refusal};
+pub use program::qmdb_main;
 pub use runs::{End, Outcome, run};

@@ -1,0 +1,81 @@
+-- What the program may answer, write and leave.
+use Rattle.std.specs.Prelude.{◌≡◌, ◌≤◌, ◌⊎◌, ℕ, suc, Bool, true, false, ◌&&◌, List, [], ◌∷◌, ◌++◌, length, take, codes, Option, None, Some, bytes_eq, decimal}
+use Rattle.qm_model.specs.Operations.{Bytes}
+use Rattle.qm_model.specs.Live.{floor}
+use Rattle.qm_model.specs.Policies.{Policy, policies}
+use Rattle.qm_model.specs.Step.{unordered}
+use Rattle.qm_model.specs.Mmr.{mmr}
+use Rattle.qm_model.specs.Roots.{sha256_root}
+use Rattle.qm_model.specs.Batches.{Apart}
+use Rattle.qm_model.specs.Machine.{Scheme, State, initial, answers}
+use Rattle.qm_model.specs.Grammar.{commands_in, bad_in}
+use Rattle.qm_model.specs.Text.{text_of}
+use Rattle.qm_run.specs.Session.{IsLeft}
+use Rattle.qm_run.specs.Runs.{after}
+
+-- the words of the command line: run any unordered mmr
+abbrev pub are_words : List Bytes → Bool
+are_words [] = false
+are_words (a ∷ []) = false
+are_words (a ∷ b ∷ []) = false
+are_words (a ∷ b ∷ c ∷ []) = false
+are_words (a ∷ b ∷ c ∷ d ∷ []) = bytes_eq a (codes "run") && (bytes_eq b (codes "any") && (bytes_eq c (codes "unordered") && bytes_eq d (codes "mmr")))
+are_words (a ∷ b ∷ c ∷ d ∷ e ∷ ws) = false
+
+-- the machine of these words
+abbrev pub scheme : Scheme Policy
+scheme = record { kind = unordered; rules = policies; root = sha256_root mmr; boundary = floor }
+
+abbrev pub bad_text : ℕ → Bytes
+bad_text n = codes "bad line " ++ (decimal n ++ 10 ∷ [])
+
+abbrev pub fault_text : Bytes
+fault_text = codes "store fault" ++ 10 ∷ []
+
+-- the part is a first part of the whole
+abbrev pub IsPartOf : Bytes → Bytes → Type 0
+IsPartOf part whole = (n : ℕ) × (part ≡ take n whole)
+
+-- over a store with these items, for an input
+module _ (items : List Bytes) (input : Bytes) where
+  -- how many commands there are before the first bad line
+  abbrev pub count : ℕ
+  count = length (commands_in input)
+
+  -- the machine's state after the first k commands
+  abbrev pub state : ℕ → State
+  state k = after scheme items (commands_in input) k
+
+  -- the text of the machine's answers to the first k commands
+  abbrev pub model_text : ℕ → Bytes
+  model_text k = text_of (answers scheme (initial items) (take k (commands_in input)))
+
+  -- the lists of the machine's run over the first k commands are apart
+  abbrev pub IsApart : ℕ → Type 0
+  IsApart k = Apart scheme.root (state k).had
+
+  -- the machine's items after the first k commands, with a first part of what the next one appends
+  abbrev pub IsLeftAt : Option (List Bytes) → ℕ → Type 0
+  IsLeftAt left k = IsLeft left (state k).items (state (suc k)).items
+
+  -- k commands answered: a first part of their replies; of these and the fault, where the store's count rose; of
+  -- these and the bad line, where there is one behind them
+  pub record IsPartial (rose : Type 0) (written : Bytes) (left : Option (List Bytes)) (k : ℕ) : Type 0 where
+    pub few : k ≤ count
+    pub part : IsApart k → IsPartOf written (model_text k)
+        ⊎ (rose × IsPartOf written (model_text k ++ fault_text)
+        ⊎ ((n : ℕ) × (bad_in input ≡ Some n) × (k ≡ count) × IsPartOf written (model_text k ++ bad_text n)))
+    pub items_left : IsApart k → IsLeftAt left k
+
+  -- What a status says of the bytes written and of the store's items; `rose` says that the store's count rose.
+  pub record Says (status : ℕ) (rose : Type 0) (written : Bytes) (left : Option (List Bytes)) : Type 0 where
+    -- every line answered
+    pub all : status ≡ 0 → (bad_in input ≡ None) × (IsApart count → (written ≡ model_text count) × (left ≡ Some (state count).items))
+    -- a bad line
+    pub bad : status ≡ 2 → (n : ℕ) × (bad_in input ≡ Some n) × (IsApart count → (written ≡ model_text count ++ bad_text n) × (left ≡ Some (state count).items))
+    -- the store failed
+    pub fault : status ≡ 6 → (k : ℕ) × (k ≤ count) × (IsApart k → (written ≡ model_text k ++ fault_text) × IsLeftAt left k)
+    -- the sink failed, or memory did
+    pub part : (status ≡ 4) ⊎ (status ≡ 5) → (k : ℕ) × IsPartial rose written left k
+    -- nothing was done
+    pub nothing : (status ≡ 1) ⊎ ((status ≡ 3) ⊎ (status ≡ 7)) → written ≡ []

@@ -1,0 +1,180 @@
+//! The program's top call.
+
+ghost use Rattle.std.specs.Prelude.{◌≡◌, ◌↔◌, ◌≤◌, ◌<◌, ◌++◌, ◌⊎◌, ℕ, List, [], false, true, Option, Some, None, IfOk, IfSome, IsSome, IsErrOf, ◌&&◌, codes, length, map, bytes_eq};
+ghost use Rattle.std.specs.String.{string_bytes};
+ghost use Rattle.qm_model.specs.Causes.{Rose};
+ghost use Rattle.qm_model.specs.Operations.{Bytes};
+ghost use Rattle.qm_model.specs.Grammar.{bad_in};
+ghost use Rattle.qm_model.specs.Text.{text_of};
+ghost use Rattle.qm_lines.specs.Views.{answer_view};
+ghost use Rattle.qm_run.specs.Program.{are_words, Says, bad_text};
+ghost use Rattle.qm_run.specs.Endings.{tail_text, tail_status};
+
+use crate::list_db::ListDb;
+use crate::runs::{End, Outcome, run};
+use qm_base::{Gate, Key, VariableValue};
+use qm_lines::{
+    InputError, LIMIT, Reply, Sink, SinkError, Source, parse_all, read_all, replies_text, write_all,
+};
+use qm_store::Store;
+use std::alloc::{AllocError, Global};
+
+fn are_four(a: &str, b: &str, c: &str, d: &str) -> bool
+    ensures { result ≡ (bytes_eq a.now (codes "run") && (bytes_eq b.now (codes "any") && (bytes_eq c.now (codes "unordered") && bytes_eq d.now (codes "mmr")))) }
+{
+    a == "run" && b == "any" && c == "unordered" && d == "mmr"
+}
+
+// Whether the words are those of the command line.
+fn words_ok(words: &[String]) -> bool
+    ensures { result ≡ are_words (map string_bytes words.now) }
+{
+    if words.len() == 4 {
+        are_four(
+            words[0].as_str(),
+            words[1].as_str(),
+            words[2].as_str(),
+            words[3].as_str(),
+        )
+    } else {
+        false
+    }
+}
+
+fn bad_line_text(alloc: Global, number: u64) -> Result<String, AllocError>
+    ensures { IfOk result (λ text. string_bytes text ≡ bad_text number) }
+{
+    format!(in alloc; "bad line {number}\n")
+}
+
+// What follows the replies.
+fn tail(alloc: Global, end: End, bad: Option<u64>) -> Result<String, AllocError>
+    ensures { IfOk result (λ text. string_bytes text ≡ tail_text end bad) }
+{
+    match end {
+        End::Done => match bad {
+            None => Ok(String::new(alloc)),
+            Some(number) => bad_line_text(alloc, number),
+        },
+        End::Memory => Ok(String::new(alloc)),
+        End::StoreFault => String::from_str(alloc, "store fault\n"),
+    }
+}
+
+fn status_of(end: End, bad: Option<u64>) -> u8
+    ensures { result ≡ tail_status end bad }
+{
+    match end {
+        End::Done => match bad {
+            None => 0,
+            Some(_) => 2,
+        },
+        End::Memory => 5,
+        End::StoreFault => 6,
+    }
+}
+
+// The replies and what follows them.
+fn whole_text<K: Key, V: VariableValue>(
+    alloc: Global,
+    replies: &[Reply<K, V>],
+    end: End,
+    bad: Option<u64>,
+) -> Result<Vec<u8>, AllocError>
+    ensures { IfOk result (λ text. text.items ≡ text_of (map (answer_view K.bytes V.bytes) replies.now) ++ tail_text end bad) }
+{
+    let mut text = replies_text(alloc, replies)?;
+    let tail = tail(alloc, end, bad)?;
+    text.extend_from_slice(tail.as_bytes())?;
+    Ok(text)
+}
+
+// Runs the commands of an input, and writes the text.
+fn serve<C: Store, K: Sink, G: Gate>(
+    alloc: Global,
+    input: &[u8],
+    store: C,
+    sink: &mut K,
+    gate: &G,
+) -> (u8, C)
+    ensures headline { C.start store ≡ 0 → IfSome (C.items store) (λ items. IfSome (K.text sink.old) (λ before.
+        (written : Bytes) × (K.text sink.new ≡ Some (before ++ written))
+        × Says items input.now result.0 (Rose (C.faults store) (C.faults result.1)) written (C.items result.1))) }
+    ensures write { result.0 ≡ 4 → Rose (K.faults sink.old) (K.faults sink.new) }
+    ensures store { result.0 ≡ 6 → Rose (C.faults store) (C.faults result.1) }
+    ensures codes { (result.0 ≡ 0) ⊎ ((result.0 ≡ 2) ⊎ ((result.0 ≡ 4) ⊎ ((result.0 ≡ 5) ⊎ (result.0 ≡ 6)))) }
+    ensures bad { result.0 ≡ 2 → IsSome (bad_in input.now) }
+    ensures good { result.0 ≡ 0 → bad_in input.now ≡ None }
+    ensures later { (K.faults sink.old ≤ K.faults sink.new) × (C.faults store ≤ C.faults result.1) }
+{
+    let (commands, bad) = match parse_all(alloc, input) {
+        Ok(parsed) => parsed,
+        Err(_) => return (5, store),
+    };
+    let Outcome {
+        replies,
+        end,
+        store,
+    } = run::<ListDb<C>, C, G>(alloc, store, (), &commands, gate);
+    let text = match whole_text(alloc, &replies, end, bad) {
+        Ok(text) => text,
+        Err(_) => return (5, store),
+    };
+    match write_all(sink, &text) {
+        Ok(()) => (status_of(end, bad), store),
+        Err(SinkError::Failed) => (4, store),
+        Err(SinkError::Memory) => (5, store),
+    }
+}
+
+/// The program. The words are those after its name: `run any unordered mmr`. It reads the source to its end, runs
+/// the commands of its lines over the store, up to the first line that is none, and writes the replies, one line
+/// each. It answers a status and the store.
+///
+/// The statuses: 0, every line has its reply; 1, other words; 2, a line that is none, after whose replies
+/// `bad line` and its number were written; 3, the source failed; 4, the sink failed; 5, want of memory; 6, the
+/// store failed, and after the replies so far `store fault` was written; 7, more than 16,777,216 bytes of input.
+pub fn qmdb_main<C: Store, S: Source, K: Sink, G: Gate>(
+    alloc: Global,
+    words: &[String],
+    store: C,
+    source: &mut S,
+    sink: &mut K,
+    gate: &G,
+) -> (u8, C)
+    // From a store that starts at 0 and tells its items, the source and the sink telling their bytes.
+    ensures headline { C.start store ≡ 0 → IfSome (C.items store) (λ items. IfSome (S.left source.old) (λ input. IfSome (K.text sink.old) (λ before.
+        (written : Bytes) × (K.text sink.new ≡ Some (before ++ written))
+        × Says items input result.0 (Rose (C.faults store) (C.faults result.1)) written (C.items result.1)))) }
+
+    // What stays as it was.
+    ensures untouched { (result.0 ≡ 1) ⊎ ((result.0 ≡ 3) ⊎ (result.0 ≡ 7)) → (result.1 ≡ store) × (sink.new ≡ sink.old) }
+    ensures unread { result.0 ≡ 1 → source.new ≡ source.old }
+
+    // When each status comes.
+    ensures usage { (result.0 ≡ 1) ↔ (are_words (map string_bytes words.now) ≡ false) }
+    ensures read { result.0 ≡ 3 → Rose (S.faults source.old) (S.faults source.new) }
+    ensures write { result.0 ≡ 4 → Rose (K.faults sink.old) (K.faults sink.new) }
+    ensures store { result.0 ≡ 6 → Rose (C.faults store) (C.faults result.1) }
+    ensures long { result.0 ≡ 7 → IfSome (S.left source.old) (λ input. LIMIT < length input) }
+    ensures long_only { IfSome (S.left source.old) (λ input. LIMIT < length input → (result.0 ≡ 1) ⊎ ((result.0 ≡ 3) ⊎ ((result.0 ≡ 5) ⊎ (result.0 ≡ 7)))) }
+    ensures codes { result.0 ≤ 7 }
+
+    // Where nothing failed, an input has all its replies, unless memory ran out.
+    ensures complete { are_words (map string_bytes words.now) ≡ true → IfSome (S.left source.old) (λ input. length input ≤ LIMIT → bad_in input ≡ None
+        → ¬ Rose (S.faults source.old) (S.faults source.new) → ¬ Rose (K.faults sink.old) (K.faults sink.new) → ¬ Rose (C.faults store) (C.faults result.1)
+        → (result.0 ≡ 0) ⊎ (result.0 ≡ 5)) }
+    ensures complete_bad { are_words (map string_bytes words.now) ≡ true → IfSome (S.left source.old) (λ input. length input ≤ LIMIT → (n : ℕ) → bad_in input ≡ Some n
+        → ¬ Rose (S.faults source.old) (S.faults source.new) → ¬ Rose (K.faults sink.old) (K.faults sink.new) → ¬ Rose (C.faults store) (C.faults result.1)
+        → (result.0 ≡ 2) ⊎ (result.0 ≡ 5)) }
+{
+    if !words_ok(words) {
+        return (1, store);
+    }
+    match read_all(alloc, source) {
+        Err(InputError::Memory) => (5, store),
+        Err(InputError::Failed) => (3, store),
+        Err(InputError::TooLong) => (7, store),
+        Ok(input) => serve(alloc, &input, store, sink, gate),
+    }
+}
