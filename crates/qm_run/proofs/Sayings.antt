@@ -98,7 +98,7 @@ module _ (items : List Bytes) (input : Bytes) (rose : Type 0) where
 
 -- What a sink tells, and what a status says of it.
 module _ (items : List Bytes) (input : Bytes) (status : ℕ) (rose : Type 0) (left : Option (List Bytes)) where
-  abbrev Told : Option Bytes → Option Bytes → Type 0
+  abbrev pub Told : Option Bytes → Option Bytes → Type 0
   Told old new = IfSome old (λ before. (written : Bytes) × (new ≡ Some (before ++ written)) × Says items input status rose written left)
 
   pub unchanged : (text : Option Bytes) → Says items input status rose [] left → Told text text
@@ -112,3 +112,22 @@ module _ (items : List Bytes) (input : Bytes) (status : ℕ) (rose : Type 0) (le
   pub grown_part : (old new : Option Bytes) (text : Bytes) → GrowsPart old new text → ((n : ℕ) → Says items input status rose (take n text) left) → Told old new
   grown_part None new text g says = tt
   grown_part (Some before) new text g says = (take g.0 text, g.1, says g.0)
+
+pub each_input : (o : Option Bytes) {Q : Bytes → Type 0} → ((x : Bytes) → Q x) → IfSome o Q
+each_input None h = tt
+each_input (Some x) h = h x
+
+pub each_more : (o : Option (List Bytes)) {P Q : List Bytes → Type 0} → IfSome o P → ((x : List Bytes) → P x → Q x) → IfSome o Q
+each_more None p h = tt
+each_more (Some x) p h = h x p
+
+pub each_input_more : (o : Option Bytes) {P Q : Bytes → Type 0} → IfSome o P → ((x : Bytes) → P x → Q x) → IfSome o Q
+each_input_more None p h = tt
+each_input_more (Some x) p h = h x p
+
+-- each of two
+pub both : (o : Option (List Bytes)) (i : Option Bytes) {P : List Bytes → Type 0} {R : Bytes → Type 0} {Q : List Bytes → Bytes → Type 0} → IfSome o P → IfSome i R → ((x : List Bytes) (y : Bytes) → P x → R y → Q x y)
+    → IfSome o (λ x. IfSome i (Q x))
+both None i p r h = tt
+both (Some x) None p r h = tt
+both (Some x) (Some y) p r h = h x y p r
