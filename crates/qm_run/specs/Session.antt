@@ -5,7 +5,8 @@ use Rattle.qm_model.specs.Operations.{Bytes, Operation}
 use Rattle.qm_model.specs.Writes.{Write}
 use Rattle.qm_model.specs.Batches.{Chain, IsAmong, Apart}
 use Rattle.qm_model.specs.Lines.{Answer}
-use Rattle.qm_model.specs.Machine.{State, slot_at}
+use Rattle.qm_model.specs.Policies.{Policy, policies}
+use Rattle.qm_model.specs.Machine.{Scheme, State, slot_at}
 use Rattle.qm_model.specs.Machine as machine
 use Rattle.qm_lines.specs.Views.{answer_view}
 use Rattle.qm_lines.specs.declared.reply.Reply as reply
@@ -32,6 +33,10 @@ pub record Meaning (X C B M : Type 0) : Type 1 where
 -- that of a bound on an engine and on its store
 abbrev pub meaning : {X C K V F B M : Type 0} → engine.Ghosts X C K V F B M → store.Ghosts C → Meaning X C B M
 meaning x c = record { inside = x.inside; start = c.start; items = c.items; stands = x.stands; is_batch = x.is_batch; is_merkleized = x.is_merkleized }
+
+-- the machine of an engine: its kind, root and boundary, under the policies
+abbrev pub scheme_of : {X C K V F B M : Type 0} → engine.Ghosts X C K V F B M → Scheme Policy
+scheme_of x = record { kind = x.kind; rules = policies; root = x.root; boundary = x.boundary }
 
 module _ {X C B M : Type 0} (m : Meaning X C B M) where
   -- the database stands for the machine's list, one of those that the run has had; without one there is a store alone

@@ -4,11 +4,10 @@ ghost use Rattle.std.specs.Prelude.{◌≡◌, ◌≢◌, ◌+◌, ◌++◌, ◌
 ghost use Rattle.qm_model.specs.Causes.{Rose};
 ghost use Rattle.qm_model.specs.Operations.{Bytes};
 ghost use Rattle.qm_model.specs.Batches.{Apart};
-ghost use Rattle.qm_model.specs.Policies.{policies};
 ghost use Rattle.qm_model.specs.Machine as machine;
 ghost use Rattle.qm_lines.specs.Views.{policy_view, line_view, answer_view};
 ghost use Rattle.qm_run.specs.Given.{store_given};
-ghost use Rattle.qm_run.specs.Session.{meaning, Stands, Leaves};
+ghost use Rattle.qm_run.specs.Session.{meaning, scheme_of, Stands, Leaves};
 ghost use Rattle.qm_run.specs.Runs.{IsRun};
 
 use crate::engine::{Engine, Given};
@@ -60,11 +59,11 @@ fn step<X: Engine<C>, C: Store>(
 ) -> (Of<X, C>, Option<End>)
     requires { session.opened + 1 < 2 ^ 64 }
     ensures machine { (s : machine.State) → Stands (meaning X.Engine C.Store) session s → IfNone result.1
-        (let next = machine.turn (record { kind = X.kind; rules = policies; root = X.root; boundary = X.boundary }) s (line_view X.Key.bytes X.Value.bytes policy_view command.now) in
+        (let next = machine.turn (scheme_of X.Engine) s (line_view X.Key.bytes X.Value.bytes policy_view command.now) in
         Apart X.root next.1.had → (map (answer_view X.Key.bytes X.Value.bytes) replies.new.items ≡ map (answer_view X.Key.bytes X.Value.bytes) replies.old.items ++ next.0 ∷ [])
         × Stands (meaning X.Engine C.Store) result.0 next.1) }
     ensures left { Leaves (meaning X.Engine C.Store) X.root session result.0
-        (λ s. machine.turn (record { kind = X.kind; rules = policies; root = X.root; boundary = X.boundary }) s (line_view X.Key.bytes X.Value.bytes policy_view command.now)) }
+        (λ s. machine.turn (scheme_of X.Engine) s (line_view X.Key.bytes X.Value.bytes policy_view command.now)) }
     ensures grown { IfNone result.1 (length replies.new.items ≡ length replies.old.items + 1) }
     ensures kept { OnSome result.1 (replies.new.items ≡ replies.old.items) }
     ensures not_done { IfSome result.1 (λ e. e ≢ End.Done) }
@@ -110,7 +109,7 @@ pub fn run<X: Engine<C>, C: Store, G: Gate>(
     commands: &[Command<X::Key, X::Value, AnyPolicy>],
     _gate: &G,
 ) -> Outcome<X, C>
-    ensures machine { C.start store ≡ 0 → IfSome (C.items store) (λ items. IsRun (record { kind = X.kind; rules = policies; root = X.root; boundary = X.boundary }) items
+    ensures machine { C.start store ≡ 0 → IfSome (C.items store) (λ items. IsRun (scheme_of X.Engine) items
         (map (line_view X.Key.bytes X.Value.bytes policy_view) commands.now) (map (answer_view X.Key.bytes X.Value.bytes) result.replies.items) (C.items result.store)) }
     ensures done { result.end ≡ End.Done → length result.replies.items ≡ length commands.now }
     ensures later { C.faults store ≤ C.faults result.store }

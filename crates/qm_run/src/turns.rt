@@ -9,7 +9,7 @@ ghost use Rattle.qm_model.specs.Policies.{policies};
 ghost use Rattle.qm_model.specs.Machine as machine;
 ghost use Rattle.qm_lines.specs.Views.{policy_view, line_view};
 ghost use Rattle.qm_run.specs.Given.{store_given, IsUnchanged};
-ghost use Rattle.qm_run.specs.Session.{meaning, Obeys, Leaves, Causes};
+ghost use Rattle.qm_run.specs.Session.{meaning, scheme_of, Obeys, Leaves, Causes};
 
 use crate::engine::{Engine, Given, Numbers};
 use crate::session::{Of, Session, Turn, close, turn_of};
@@ -239,7 +239,7 @@ fn merkleize<X: Engine<C>, C: Store>(
     metadata: &Option<X::Value>,
 ) -> (Of<X, C>, Turn<X::Key, X::Value>)
     ensures machine { Obeys (meaning X.Engine C.Store) X.Key.bytes X.Value.bytes X.root session result.0 result.1
-        (λ s. machine.merkleize (record { kind = X.kind; rules = policies; root = X.root; boundary = X.boundary }) s number (policy_view policy.now) (option_map X.Value.bytes metadata.now)) }
+        (λ s. machine.merkleize (scheme_of X.Engine) s number (policy_view policy.now) (option_map X.Value.bytes metadata.now)) }
     ensures store { IsUnchanged C.Store (store_given X.inside session.held) (store_given X.inside result.0.held) }
     ensures causes { Causes (C.faults (store_given X.inside session.held)) (C.faults (store_given X.inside result.0.held)) result.1 }
     ensures opened { result.0.opened ≡ session.opened }
@@ -299,9 +299,9 @@ fn apply<X: Engine<C>, C: Store>(
     number: u64,
 ) -> (Of<X, C>, Turn<X::Key, X::Value>)
     ensures machine { Obeys (meaning X.Engine C.Store) X.Key.bytes X.Value.bytes X.root session result.0 result.1
-        (λ s. machine.apply (record { kind = X.kind; rules = policies; root = X.root; boundary = X.boundary }) s number) }
+        (λ s. machine.apply (scheme_of X.Engine) s number) }
     ensures left { Leaves (meaning X.Engine C.Store) X.root session result.0
-        (λ s. machine.apply (record { kind = X.kind; rules = policies; root = X.root; boundary = X.boundary }) s number) }
+        (λ s. machine.apply (scheme_of X.Engine) s number) }
     ensures causes { Causes (C.faults (store_given X.inside session.held)) (C.faults (store_given X.inside result.0.held)) result.1 }
     ensures opened { result.0.opened ≡ session.opened }
 {
@@ -447,7 +447,7 @@ fn get<X: Engine<C>, C: Store>(
 
 fn info<X: Engine<C>, C: Store>(session: Of<X, C>) -> (Of<X, C>, Turn<X::Key, X::Value>)
     ensures machine { Obeys (meaning X.Engine C.Store) X.Key.bytes X.Value.bytes X.root session result.0 result.1
-        (machine.info (record { kind = X.kind; rules = policies; root = X.root; boundary = X.boundary })) }
+        (machine.info (scheme_of X.Engine)) }
     ensures store { IsUnchanged C.Store (store_given X.inside session.held) (store_given X.inside result.0.held) }
     ensures causes { Causes (C.faults (store_given X.inside session.held)) (C.faults (store_given X.inside result.0.held)) result.1 }
     ensures opened { result.0.opened ≡ session.opened }
@@ -495,9 +495,9 @@ pub fn turn<X: Engine<C>, C: Store>(
 ) -> (Of<X, C>, Turn<X::Key, X::Value>)
     requires { session.opened + 1 < 2 ^ 64 }
     ensures machine { Obeys (meaning X.Engine C.Store) X.Key.bytes X.Value.bytes X.root session result.0 result.1
-        (λ s. machine.turn (record { kind = X.kind; rules = policies; root = X.root; boundary = X.boundary }) s (line_view X.Key.bytes X.Value.bytes policy_view command.now)) }
+        (λ s. machine.turn (scheme_of X.Engine) s (line_view X.Key.bytes X.Value.bytes policy_view command.now)) }
     ensures left { Leaves (meaning X.Engine C.Store) X.root session result.0
-        (λ s. machine.turn (record { kind = X.kind; rules = policies; root = X.root; boundary = X.boundary }) s (line_view X.Key.bytes X.Value.bytes policy_view command.now)) }
+        (λ s. machine.turn (scheme_of X.Engine) s (line_view X.Key.bytes X.Value.bytes policy_view command.now)) }
     ensures causes { Causes (C.faults (store_given X.inside session.held)) (C.faults (store_given X.inside result.0.held)) result.1 }
     ensures opened { result.0.opened ≤ session.opened + 1 }
 {

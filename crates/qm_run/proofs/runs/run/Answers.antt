@@ -4,7 +4,7 @@ use Rattle.qm_model.specs.Operations.{Bytes}
 use Rattle.qm_model.specs.Policies.{Policy, policies}
 use Rattle.qm_model.specs.Machine.{Scheme, State}
 use Rattle.qm_lines.specs.Views.{policy_view, line_view, answer_view}
-use Rattle.qm_run.specs.Session.{Meaning, meaning, Holds}
+use Rattle.qm_run.specs.Session.{Meaning, meaning, scheme_of, Holds}
 use Rattle.qm_run.specs.Runs.{IsRun}
 use Rattle.qm_run.proofs.Loops.{each, loop_step, ended_in, ended_at, line_here, Rose-wider}
 use Rattle.qm_run.proofs.runs.run.Goals as goal
@@ -12,7 +12,7 @@ use Rattle.qm_run.proofs.runs.run.Goals as goal
 pub returns-in-Some-clause-machine : goal.returns-in-Some-clause-machine
 returns-in-Some-clause-machine g c = λ start.
     let m : Meaning g.row.X.Denot g.row.C.Denot g.row.X-Batch.Denot g.row.X-Merkleized.Denot = meaning g.X.Engine g.C.Store in
-    let scheme : Scheme Policy = record { kind = g.X.Engine.kind; rules = policies; root = g.X.Engine.root; boundary = g.X.Engine.boundary } in
+    let scheme : Scheme Policy = scheme_of g.X.Engine in
     let f = line_view g.X.Key.ByteString.bytes g.X.Value.ByteString.bytes policy_view in
     let a = answer_view g.X.Key.ByteString.bytes g.X.Value.ByteString.bytes in
     let i = c.loop-command.command-index in
@@ -34,7 +34,7 @@ returns-in-Some-clause-fault g c = λ e.
 pub loop-command-preserved : goal.loop-command-preserved
 loop-command-preserved g c =
     let m : Meaning g.row.X.Denot g.row.C.Denot g.row.X-Batch.Denot g.row.X-Merkleized.Denot = meaning g.X.Engine g.C.Store in
-    let scheme : Scheme Policy = record { kind = g.X.Engine.kind; rules = policies; root = g.X.Engine.root; boundary = g.X.Engine.boundary } in
+    let scheme : Scheme Policy = scheme_of g.X.Engine in
     let f = line_view g.X.Key.ByteString.bytes g.X.Value.ByteString.bytes policy_view in
     let a = answer_view g.X.Key.ByteString.bytes g.X.Value.ByteString.bytes in
     let i = c.loop-command.command-index in
@@ -55,7 +55,7 @@ loop-command-preserved g c =
 pub returns-clause-machine : goal.returns-clause-machine
 returns-clause-machine g c = λ start.
     let m : Meaning g.row.X.Denot g.row.C.Denot g.row.X-Batch.Denot g.row.X-Merkleized.Denot = meaning g.X.Engine g.C.Store in
-    let scheme : Scheme Policy = record { kind = g.X.Engine.kind; rules = policies; root = g.X.Engine.root; boundary = g.X.Engine.boundary } in
+    let scheme : Scheme Policy = scheme_of g.X.Engine in
     let f = line_view g.X.Key.ByteString.bytes g.X.Value.ByteString.bytes policy_view in
     let a = answer_view g.X.Key.ByteString.bytes g.X.Value.ByteString.bytes in
     let i = c.loop-command.command-index in

@@ -5,14 +5,14 @@ use Rattle.qm_model.specs.Policies.{Policy, policies}
 use Rattle.qm_model.specs.Machine.{Scheme, initial, answers}
 use Rattle.qm_lines.specs.Views.{policy_view, line_view, answer_view}
 use Rattle.qm_run.specs.Given.{store_given}
-use Rattle.qm_run.specs.Session.{Meaning, meaning, Holds}
+use Rattle.qm_run.specs.Session.{Meaning, meaning, scheme_of, Holds}
 use Rattle.qm_run.specs.Runs.{after}
 use Rattle.qm_run.proofs.runs.run.Given as goal
 
 abbrev pub invariant-loop-command : goal.invariant-loop-command
 invariant-loop-command g l =
     let m : Meaning g.row.X.Denot g.row.C.Denot g.row.X-Batch.Denot g.row.X-Merkleized.Denot = meaning g.X.Engine g.C.Store in
-    let scheme : Scheme Policy = record { kind = g.X.Engine.kind; rules = policies; root = g.X.Engine.root; boundary = g.X.Engine.boundary } in
+    let scheme : Scheme Policy = scheme_of g.X.Engine in
     record {
       count : length l.replies.items ≡ l.command-index;
       opened : l.session.opened ≤ l.command-index;

@@ -3,7 +3,7 @@ use Rattle.qm_model.specs.Operations.{spelling, fresh}
 use Rattle.qm_model.specs.Policies.{Policy, policies}
 use Rattle.qm_model.specs.Machine.{Scheme, slot_at}
 use Rattle.qm_run.specs.declared.table.Slot.TheVariants.{Gone, Writing, Merkleized}
-use Rattle.qm_run.specs.Session.{Meaning, meaning}
+use Rattle.qm_run.specs.Session.{Meaning, meaning, scheme_of}
 use Rattle.qm_run.specs.Given.{store_given}
 use Rattle.qm_run.proofs.Commands.{Grows-whole, open_refused, open_ok, open_left}
 use Rattle.qm_run.proofs.turns.open.Goals as goal
@@ -16,7 +16,7 @@ either start end (inr h) = inr h.1
 pub returns-then-start-gt0-clause-machine : goal.returns-then-start-gt0-clause-machine
 returns-then-start-gt0-clause-machine g c = λ s k.
     let m : Meaning g.row.X.Denot g.row.C.Denot g.row.X-Batch.Denot g.row.X-Merkleized.Denot = meaning g.X.Engine g.C.Store in
-    let scheme : Scheme Policy = record { kind = g.X.Engine.kind; rules = policies; root = g.X.Engine.root; boundary = g.X.Engine.boundary } in
+    let scheme : Scheme Policy = scheme_of g.X.Engine in
     let law : IfSome (m.items (store_given m.inside c.args.session.held)) (λ xs. m.start (store_given m.inside c.args.session.held) + length xs ≡ c.bounds-start.result.1) =
     rw c.bounds-start.ensures.end (g.met.C.Store.told_end (store_given m.inside c.args.session.held)) in
     open_refused m g.X.Key.ByteString.bytes g.X.Value.ByteString.bytes scheme c.args.session.held c.args.session.table.items c.args.session.opened c.bounds-start.result.0 c.bounds-start.result.1 s k c.bounds-start.ensures.start law
@@ -25,7 +25,7 @@ returns-then-start-gt0-clause-machine g c = λ s k.
 pub returns-in-Ok-clause-machine : goal.returns-in-Ok-clause-machine
 returns-in-Ok-clause-machine g c = λ s k.
     let m : Meaning g.row.X.Denot g.row.C.Denot g.row.X-Batch.Denot g.row.X-Merkleized.Denot = meaning g.X.Engine g.C.Store in
-    let scheme : Scheme Policy = record { kind = g.X.Engine.kind; rules = policies; root = g.X.Engine.root; boundary = g.X.Engine.boundary } in
+    let scheme : Scheme Policy = scheme_of g.X.Engine in
     let law : IfSome (m.items (store_given m.inside c.args.session.held)) (λ xs. m.start (store_given m.inside c.args.session.held) + length xs ≡ c.bounds-start.result.1) =
     rw c.bounds-start.ensures.end (g.met.C.Store.told_end (store_given m.inside c.args.session.held)) in
     let grown = rw c.close-store.ensures at c.in-Ok.ensures.grown in
@@ -35,7 +35,7 @@ returns-in-Ok-clause-machine g c = λ s k.
 pub returns-in-Ok-clause-left : goal.returns-in-Ok-clause-left
 returns-in-Ok-clause-left g c = λ s k apart.
     let m : Meaning g.row.X.Denot g.row.C.Denot g.row.X-Batch.Denot g.row.X-Merkleized.Denot = meaning g.X.Engine g.C.Store in
-    let scheme : Scheme Policy = record { kind = g.X.Engine.kind; rules = policies; root = g.X.Engine.root; boundary = g.X.Engine.boundary } in
+    let scheme : Scheme Policy = scheme_of g.X.Engine in
     let law : IfSome (m.items (store_given m.inside c.args.session.held)) (λ xs. m.start (store_given m.inside c.args.session.held) + length xs ≡ c.bounds-start.result.1) =
     rw c.bounds-start.ensures.end (g.met.C.Store.told_end (store_given m.inside c.args.session.held)) in
     let grown = rw c.close-store.ensures at c.in-Ok.ensures.grown in

@@ -2,6 +2,7 @@ use Rattle.std.proofs.Common.{◌≡◌, List, Some, option_map}
 use Rattle.qm_model.specs.Policies.{Policy, policies}
 use Rattle.qm_model.specs.Machine.{Scheme, slot_at}
 use Rattle.qm_lines.specs.Views.{policy_view}
+use Rattle.qm_run.specs.Session.{scheme_of}
 use Rattle.qm_run.specs.Given.{store_given}
 use Rattle.qm_run.proofs.Commands.{unchanged_left, put_items, ops_items, merkleize_items}
 use Rattle.qm_run.proofs.turns.turn.Goals as goal
@@ -23,7 +24,7 @@ returns-in-Merkleize-clause-machine g c = λ s k. rw c.in-Merkleize.is (c.merkle
 
 pub returns-in-Merkleize-clause-left : goal.returns-in-Merkleize-clause-left
 returns-in-Merkleize-clause-left g c = λ s k apart.
-    let scheme : Scheme Policy = record { kind = g.X.Engine.kind; rules = policies; root = g.X.Engine.root; boundary = g.X.Engine.boundary } in
+    let scheme : Scheme Policy = scheme_of g.X.Engine in
     rw c.in-Merkleize.is (unchanged_left (g.C.Store.items (store_given g.X.Engine.inside c.args.session.held)) (g.C.Store.items (store_given g.X.Engine.inside c.merkleize.result.0.held)) s.items _ k.items c.merkleize.ensures.store.items
     (merkleize_items scheme s c.in-Merkleize.number (policy_view c.in-Merkleize.policy) (option_map g.X.Value.ByteString.bytes c.in-Merkleize.metadata)))
 
