@@ -6,6 +6,8 @@ pub mod error;
 pub mod gate;
 pub mod location;
 pub mod operation;
+#[cfg(test)]
+mod tests;
 pub mod update;
 
 pub use byte_strings::{ByteKey, ByteString, ByteValue, Key, Twin, VariableValue};
