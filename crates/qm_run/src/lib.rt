@@ -8,6 +8,8 @@ mod program;
 pub mod runs;
 mod session;
 mod table;
+#[cfg(test)]
+mod tests;
 mod turns;
 
 pub use engine::{BatchSizes, Engine, Given, Numbers, Refusal};

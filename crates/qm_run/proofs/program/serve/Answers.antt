@@ -34,7 +34,7 @@ returns-in-Err-whole_text-clause-headline g c = λ start.
     each_more (g.C.Store.items c.args.store) (c.run-replies.ensures.machine start) (λ items ran.
     let run : IsRun scheme items (commands_in input) given left = subst (λ l. IsRun scheme items l given left) lines ran in
     unchanged items input 5 rose left (g.K.Sink.text c.args.sink.now)
-      (says_part items input rose 5 [] left (length given) (inr refl) (partial items input rose given left run end bad c.in-Ok.ensures.bad done c.run-replies.ensures.fault 0)))
+    (says_part items input rose 5 [] left (length given) (inr refl) (partial items input rose given left run end bad c.in-Ok.ensures.bad done c.run-replies.ensures.fault 0)))
 
 pub returns-in-Ok-write_all-clause-headline : goal.returns-in-Ok-write_all-clause-headline
 returns-in-Ok-write_all-clause-headline g c = λ start.
@@ -51,9 +51,9 @@ returns-in-Ok-write_all-clause-headline g c = λ start.
     each_more (g.C.Store.items c.args.store) (c.run-replies.ensures.machine start) (λ items ran.
     let run : IsRun scheme items (commands_in input) given left = subst (λ l. IsRun scheme items l given left) lines ran in
     subst (λ s. Told items input s rose left (g.K.Sink.text c.args.sink.now) (g.K.Sink.text c.write_all.new.sink)) (sym c.status_of.ensures)
-      (grown items input (tail_status end bad) rose left (g.K.Sink.text c.args.sink.now) (g.K.Sink.text c.write_all.new.sink) (text_of given ++ tail_text end bad)
-      (subst (Grows (g.K.Sink.text c.args.sink.now) (g.K.Sink.text c.write_all.new.sink)) text c.in-Ok-write_all.ensures.ok)
-      (whole items input rose given left run end bad c.in-Ok.ensures.bad done c.run-replies.ensures.fault)))
+    (grown items input (tail_status end bad) rose left (g.K.Sink.text c.args.sink.now) (g.K.Sink.text c.write_all.new.sink) (text_of given ++ tail_text end bad)
+    (subst (Grows (g.K.Sink.text c.args.sink.now) (g.K.Sink.text c.write_all.new.sink)) text c.in-Ok-write_all.ensures.ok)
+    (whole items input rose given left run end bad c.in-Ok.ensures.bad done c.run-replies.ensures.fault)))
 
 pub returns-in-Err-Failed-clause-headline : goal.returns-in-Err-Failed-clause-headline
 returns-in-Err-Failed-clause-headline g c = λ start.
@@ -70,8 +70,8 @@ returns-in-Err-Failed-clause-headline g c = λ start.
     each_more (g.C.Store.items c.args.store) (c.run-replies.ensures.machine start) (λ items ran.
     let run : IsRun scheme items (commands_in input) given left = subst (λ l. IsRun scheme items l given left) lines ran in
     grown_part items input 4 rose left (g.K.Sink.text c.args.sink.now) (g.K.Sink.text c.write_all.new.sink) (text_of given ++ tail_text end bad)
-      (subst (GrowsPart (g.K.Sink.text c.args.sink.now) (g.K.Sink.text c.write_all.new.sink)) text c.in-Err-Failed.ensures.err)
-      (λ n. says_part items input rose 4 (take n (text_of given ++ tail_text end bad)) left (length given) (inl refl) (partial items input rose given left run end bad c.in-Ok.ensures.bad done c.run-replies.ensures.fault n)))
+    (subst (GrowsPart (g.K.Sink.text c.args.sink.now) (g.K.Sink.text c.write_all.new.sink)) text c.in-Err-Failed.ensures.err)
+    (λ n. says_part items input rose 4 (take n (text_of given ++ tail_text end bad)) left (length given) (inl refl) (partial items input rose given left run end bad c.in-Ok.ensures.bad done c.run-replies.ensures.fault n)))
 
 pub returns-clause-headline : goal.returns-clause-headline
 returns-clause-headline g c = λ start.
@@ -88,5 +88,5 @@ returns-clause-headline g c = λ start.
     each_more (g.C.Store.items c.args.store) (c.run-replies.ensures.machine start) (λ items ran.
     let run : IsRun scheme items (commands_in input) given left = subst (λ l. IsRun scheme items l given left) lines ran in
     grown_part items input 5 rose left (g.K.Sink.text c.args.sink.now) (g.K.Sink.text c.write_all.new.sink) (text_of given ++ tail_text end bad)
-      (subst (GrowsPart (g.K.Sink.text c.args.sink.now) (g.K.Sink.text c.write_all.new.sink)) text c.in-Err-Memory.ensures.err)
-      (λ n. says_part items input rose 5 (take n (text_of given ++ tail_text end bad)) left (length given) (inr refl) (partial items input rose given left run end bad c.in-Ok.ensures.bad done c.run-replies.ensures.fault n)))
+    (subst (GrowsPart (g.K.Sink.text c.args.sink.now) (g.K.Sink.text c.write_all.new.sink)) text c.in-Err-Memory.ensures.err)
+    (λ n. says_part items input rose 5 (take n (text_of given ++ tail_text end bad)) left (length given) (inr refl) (partial items input rose given left run end bad c.in-Ok.ensures.bad done c.run-replies.ensures.fault n)))

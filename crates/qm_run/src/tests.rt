@@ -1,0 +1,199 @@
+//! Runs of the program over ports in memory.
+
+use super::*;
+use qm_base::OpenGate;
+use qm_lines::{MemSink, MemSource, Source};
+use qm_store::{MemStore, Store};
+use std::alloc::{AllocError, Global};
+use std::test::Fail;
+
+const WORDS: [&str; 4] = ["run", "any", "unordered", "mmr"];
+
+const ONE_PUT: &str =
+    "open\nbatch\nput 1 6b 76\nmerkleize 1 prop none\napply 1\nops 1\nget 6b\ninfo\n";
+
+const REPLIES: &str =
+    "open 1 0 1\nbatch 1\nok\nmerkleized 1 1 4 2\napplied 4\nops 1 U:6b=76 U:6b=76 C:none@2\nread 76\ninfo 0 4 2 2 live\n";
+
+// The calls that fail, by their numbers.
+#[derive(Drop)]
+struct Fails {
+    source: Vec<u64>,
+    sink: Vec<u64>,
+    store: Vec<u64>,
+}
+
+fn no_fails(alloc: Global) -> Fails {
+    Fails {
+        source: Vec::new(alloc),
+        sink: Vec::new(alloc),
+        store: Vec::new(alloc),
+    }
+}
+
+#[derive(Clone, Copy)]
+enum Port {
+    Source,
+    Sink,
+    Store,
+}
+
+fn fails_at(alloc: Global, port: Port, call: u64) -> Result<Fails, AllocError> {
+    let mut fails = no_fails(alloc);
+    match port {
+        Port::Source => fails.source.push(call)?,
+        Port::Sink => fails.sink.push(call)?,
+        Port::Store => fails.store.push(call)?,
+    }
+    Ok(fails)
+}
+
+#[derive(Drop)]
+struct Ran {
+    status: u8,
+    source: MemSource,
+    sink: MemSink,
+    store: MemStore,
+}
+
+// The program over an empty store.
+fn program(alloc: Global, words: &[&str], input: Vec<u8>, fails: Fails) -> Result<Ran, AllocError> {
+    let mut all = Vec::new(alloc);
+    for word in words {
+        all.push(String::from_str(alloc, word)?)?;
+    }
+    let mut source = MemSource::new(input, fails.source);
+    let mut sink = MemSink::new(alloc, fails.sink);
+    let store = MemStore::new(alloc, fails.store);
+    let (status, store) = qmdb_main(alloc, &all, store, &mut source, &mut sink, &OpenGate);
+    Ok(Ran {
+        status,
+        source,
+        sink,
+        store,
+    })
+}
+
+#[test]
+fn one_put(rt: HostRuntime) -> Result<(), Fail> {
+    let alloc = rt.alloc();
+    let input = ONE_PUT.as_bytes().to_vec(alloc)?;
+    let ran = program(alloc, &WORDS, input, no_fails(alloc))?;
+    assert_eq!(rt; ran.status, 0);
+    assert_eq!(rt; ran.sink.bytes(), REPLIES.as_bytes());
+    let wanted: [&[u8]; 4] = [
+        &[3, 0, 0, 0, 0, 0, 0, 0, 0, 0],
+        &[1, 0, 0, 0, 1, 0x6b, 0, 0, 0, 1, 0x76],
+        &[1, 0, 0, 0, 1, 0x6b, 0, 0, 0, 1, 0x76],
+        &[3, 0, 0, 0, 0, 0, 0, 0, 0, 2],
+    ];
+    assert_eq!(rt; ran.store.items().len(), wanted.len());
+    for (item, want) in ran.store.items().iter().zip(wanted) {
+        assert_eq!(rt; item.as_slice(), want);
+    }
+    Ok(())
+}
+
+#[test]
+fn inputs_have_replies(rt: HostRuntime) -> Result<(), Fail> {
+    let alloc = rt.alloc();
+    let table = [
+        ("", 0, ""),
+        ("open\nput 1 6", 2, "open 1 0 1\nbad line 2\n"),
+        (
+            "get 61\ninfo\nops 1\nbatch\napply 1\nput 1 61 01\nmerkleize 1 prop none",
+            0,
+            "refused NoDatabase\nrefused NoDatabase\nrefused NoSuchHandle 1\nrefused NoDatabase\nrefused NoDatabase\nrefused NoSuchHandle 1\nrefused NoDatabase\n",
+        ),
+        // A batch whose base is gone can not be merkleized, and is used up.
+        (
+            "open\nbatch\nbatch\nput 1 61 01\nmerkleize 1 prop none\napply 1\nmerkleize 2 prop none\napply 2\nopen\n",
+            0,
+            "open 1 0 1\nbatch 1\nbatch 2\nok\nmerkleized 1 1 4 2\napplied 4\nrefused StaleBatch\nrefused NoSuchHandle 2\nrefused NotOffered\n",
+        ),
+        // Nor can it be applied.
+        (
+            "open\nbatch\nbatch\nput 1 61 01\nput 2 61 02\nmerkleize 1 prop none\nmerkleize 2 prop none\napply 1\napply 2\nget 61\n",
+            0,
+            "open 1 0 1\nbatch 1\nbatch 2\nok\nok\nmerkleized 1 1 4 2\nmerkleized 2 1 4 2\napplied 4\nrefused StaleBatch\nread 01\n",
+        ),
+    ];
+    for (input, status, replies) in table {
+        let bytes = input.as_bytes().to_vec(alloc)?;
+        let ran = program(alloc, &WORDS, bytes, no_fails(alloc))?;
+        assert_eq!(rt; ran.status, status, "at {input}");
+        assert_eq!(rt; ran.sink.bytes(), replies.as_bytes(), "at {input}");
+    }
+    Ok(())
+}
+
+#[test]
+fn inputs_have_a_limit(rt: HostRuntime) -> Result<(), Fail> {
+    let alloc = rt.alloc();
+    for (count, status, replies) in [(16_777_216, 2, "bad line 1\n"), (16_777_217, 7, "")] {
+        let input = vec![in alloc; b'x'; count]?;
+        let ran = program(alloc, &WORDS, input, no_fails(alloc))?;
+        assert_eq!(rt; ran.status, status);
+        assert_eq!(rt; ran.sink.bytes(), replies.as_bytes());
+    }
+    Ok(())
+}
+
+#[test]
+fn other_words_do_nothing(rt: HostRuntime) -> Result<(), Fail> {
+    let alloc = rt.alloc();
+    let table: [&[&str]; 9] = [
+        &[],
+        &["run"],
+        &["run", "any", "unordered"],
+        &["run", "any", "unordered", "mmr", "mmr"],
+        &["run", "any", "unordered", "mmb"],
+        &["run", "any", "ordered", "mmr"],
+        &["run", "current", "unordered", "mmr"],
+        &["walk", "any", "unordered", "mmr"],
+        &["run", "any", "unordered", "MMR"],
+    ];
+    for words in table {
+        let input = ONE_PUT.as_bytes().to_vec(alloc)?;
+        let mut ran = program(alloc, words, input, no_fails(alloc))?;
+        assert_eq!(rt; ran.status, 1);
+        assert_eq!(rt; ran.sink.bytes(), b"".as_slice());
+        assert_eq!(rt; ran.store.bounds(), (0, 0));
+        let mut left = [0; ONE_PUT.len()];
+        assert_eq!(rt; ran.source.read(&mut left), Ok(ONE_PUT.len()));
+        assert_eq!(rt; left.as_slice(), ONE_PUT.as_bytes());
+    }
+    Ok(())
+}
+
+#[test]
+fn each_failing_call_is_told(rt: HostRuntime) -> Result<(), Fail> {
+    let alloc = rt.alloc();
+    // The text where each call in turn fails, the last of which is the last one made.
+    let table: [(Port, u8, &[&str]); 3] = [
+        (Port::Source, 3, &["", ""]),
+        (Port::Sink, 4, &[""]),
+        (
+            Port::Store,
+            6,
+            &[
+                "store fault\n",
+                "open 1 0 1\nbatch 1\nok\nmerkleized 1 1 4 2\nstore fault\n",
+            ],
+        ),
+    ];
+    for (port, status, texts) in table {
+        for call in 0..=texts.len() {
+            let input = ONE_PUT.as_bytes().to_vec(alloc)?;
+            let fails = fails_at(alloc, port, call as u64)?;
+            let ran = program(alloc, &WORDS, input, fails)?;
+            let (status, text) = match texts.get(call) {
+                Some(text) => (status, *text),
+                None => (0, REPLIES),
+            };
+            assert_eq!(rt; ran.status, status, "at {call}");
+            assert_eq!(rt; ran.sink.bytes(), text.as_bytes(), "at {call}");
+        }
+    }
+    Ok(())
+}
