@@ -2,6 +2,7 @@
 #![tactic(auto)]
 
 pub mod byte_strings;
+pub mod commitment;
 pub mod error;
 pub mod gate;
 pub mod location;
@@ -9,6 +10,7 @@ pub mod operation;
 pub mod update;
 
 pub use byte_strings::{ByteKey, ByteString, ByteValue, Key, Twin, VariableValue};
+pub use commitment::Commitment;
 pub use error::{Error, JournalError};
 pub use gate::{Gate, OpenGate};
 pub use location::Location;
