@@ -3,6 +3,7 @@
 
 pub mod byte_strings;
 pub mod commitment;
+pub mod decode;
 pub mod error;
 pub mod gate;
 pub mod location;
