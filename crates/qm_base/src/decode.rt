@@ -2,6 +2,7 @@
 
 ghost use Rattle.std.specs.Prelude.{◌≡◌, ◌<◌, ◌^◌, length, IfOk, IfSome, option_map};
 ghost use Rattle.qm_base.specs.Decode as model;
+ghost use Rattle.qm_base.specs.Views.{unordered_view};
 
 use crate::byte_strings::{ByteString, Key, VariableValue};
 use crate::location::Location;
@@ -41,4 +42,105 @@ fn field(bytes: &[u8]) -> Option<&[u8]>
 {
     let (field, rest) = read_field(bytes)?;
     if rest.is_empty() { Some(field) } else { None }
+}
+
+// The metadata behind its mark, and what is behind it.
+fn read_metadata(bytes: &[u8]) -> Option<(Option<&[u8]>, &[u8])>
+    ensures value { option_map (λ p. (option_map (λ value. value.now) p.0, p.1.now)) result ≡ model.read_metadata bytes.now }
+    ensures short { IfSome result (λ p. IfSome p.0 (λ value. length value.now < 2 ^ 32)) }
+{
+    match bytes.split_first()? {
+        (0, rest) => Some((None, rest)),
+        (1, rest) => {
+            let (value, rest) = read_field(rest)?;
+            Some((Some(value), rest))
+        }
+        _ => None,
+    }
+}
+
+// A floor of at most 2^62, and nothing behind it.
+fn floor(bytes: &[u8]) -> Option<u64>
+    ensures { result ≡ model.decoded_floor bytes.now }
+{
+    let (number, rest) = bytes.split_first_chunk::<8>()?;
+    let number = number_of_eight(*number);
+    if rest.is_empty() && number <= 1 << 62 {
+        Some(number)
+    } else {
+        None
+    }
+}
+
+fn update<F, K: Key, V: VariableValue>(
+    alloc: Global,
+    bytes: &[u8],
+) -> Result<Option<Operation<F, Unordered<K, V>>>, AllocError>
+    ensures { IfOk result (λ found. option_map (unordered_view K.bytes V.bytes) found ≡ model.decoded_update bytes.now) }
+{
+    let Some((key, rest)) = read_field(bytes) else {
+        return Ok(None);
+    };
+    let Some(value) = field(rest) else {
+        return Ok(None);
+    };
+    let key = K::from_bytes(alloc, key)?;
+    let value = V::from_bytes(alloc, value)?;
+    Ok(Some(Operation::Update(Unordered(key, value))))
+}
+
+fn delete<F, K: Key, V: VariableValue>(
+    alloc: Global,
+    bytes: &[u8],
+) -> Result<Option<Operation<F, Unordered<K, V>>>, AllocError>
+    ensures { IfOk result (λ found. option_map (unordered_view K.bytes V.bytes) found ≡ model.decoded_delete bytes.now) }
+{
+    let Some(key) = field(bytes) else {
+        return Ok(None);
+    };
+    let key = K::from_bytes(alloc, key)?;
+    Ok(Some(Operation::Delete(key)))
+}
+
+fn metadata<V: VariableValue>(
+    alloc: Global,
+    bytes: Option<&[u8]>,
+) -> Result<Option<V>, AllocError>
+    requires { IfSome bytes (λ value. length value.now < 2 ^ 32) }
+    ensures { IfOk result (λ made. option_map V.bytes made ≡ option_map (λ value. value.now) bytes.entry) }
+{
+    match bytes {
+        None => Ok(None),
+        Some(value) => Ok(Some(V::from_bytes(alloc, value)?)),
+    }
+}
+
+fn commit<F, K: Key, V: VariableValue>(
+    alloc: Global,
+    bytes: &[u8],
+) -> Result<Option<Operation<F, Unordered<K, V>>>, AllocError>
+    ensures { IfOk result (λ found. option_map (unordered_view K.bytes V.bytes) found ≡ model.decoded_commit bytes.now) }
+{
+    let Some((value, rest)) = read_metadata(bytes) else {
+        return Ok(None);
+    };
+    let Some(floor) = floor(rest) else {
+        return Ok(None);
+    };
+    let metadata = metadata(alloc, value)?;
+    Ok(Some(Operation::CommitFloor(metadata, Location::new(floor))))
+}
+
+fn by_tag<F, K: Key, V: VariableValue>(
+    alloc: Global,
+    bytes: &[u8],
+) -> Result<Option<Operation<F, Unordered<K, V>>>, AllocError>
+    ensures { IfOk result (λ found. option_map (unordered_view K.bytes V.bytes) found ≡ model.decoded bytes.now) }
+{
+    match bytes.split_first() {
+        Some((1, rest)) => update(alloc, rest),
+        Some((2, rest)) => delete(alloc, rest),
+        Some((3, rest)) => commit(alloc, rest),
+        _ => Ok(None),
+    }
 }
