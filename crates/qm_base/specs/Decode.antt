@@ -1,7 +1,18 @@
 -- The operation of an unordered database that bytes spell.
-use Rattle.std.specs.Prelude.{ℕ, ◌^◌, ◌&&◌, ◌==◌, nat_le, List, [], ◌∷◌, length, take, drop, if◌then◌else◌, Option, Some, None, option_map, option_and_then}
+use Rattle.std.specs.Prelude.{◌≡◌, ℕ, ◌<◌, ◌≤◌, ◌^◌, ◌&&◌, ◌==◌, nat_le, List, [], ◌∷◌, length, take, drop, if◌then◌else◌, Option, Some, None, option_map, option_and_then, IfSome}
 use Rattle.std.specs.Int.{w32, w64, from_be_bytes}
-use Rattle.qm_model.specs.Operations.{Bytes, Operation, update, delete, commit}
+use Rattle.qm_model.specs.Operations.{Bytes, Operation, update, delete, commit, spelling}
+
+-- an operation of an unordered database: no next key, keys and values of fewer than 2 ^ 32 bytes, a floor of at most 2 ^ 62
+abbrev pub IsUnordered : Operation → Type 0
+IsUnordered (update key value next) = (length key < 2 ^ 32) × (length value < 2 ^ 32) × (next ≡ None)
+IsUnordered (delete key) = length key < 2 ^ 32
+IsUnordered (commit meta floor) = IfSome meta (λ value. length value < 2 ^ 32) × (floor ≤ 2 ^ 62)
+
+-- the bytes spell the operation of an unordered database
+pub record IsSpelling (bytes : Bytes) (op : Operation) : Type 0 where
+  pub unordered : IsUnordered op
+  pub spelled : spelling op ≡ bytes
 
 -- the number of 4 bytes, the highest first
 unfoldable pub number_of_four : Bytes → ℕ
