@@ -1,7 +1,8 @@
 //! Operations from their spelling.
 
-ghost use Rattle.std.specs.Prelude.{◌≡◌, ◌<◌, ◌^◌, length, IfOk, IfSome, option_map};
+ghost use Rattle.std.specs.Prelude.{◌≡◌, ◌<◌, ◌^◌, length, IfOk, IfNone, IfSome, option_map};
 ghost use Rattle.qm_base.specs.Decode as model;
+ghost use Rattle.qm_base.specs.Decode.{IsSpelling};
 ghost use Rattle.qm_base.specs.Views.{unordered_view};
 
 use crate::byte_strings::{ByteString, Key, VariableValue};
@@ -9,6 +10,17 @@ use crate::location::Location;
 use crate::operation::Operation;
 use crate::update::Unordered;
 use std::alloc::{AllocError, Global};
+
+impl<F, K: Key, V: VariableValue> Operation<F, Unordered<K, V>> {
+    /// The operation of which these bytes are the spelling, if there is one: `encode` turned round.
+    /// Want of memory is the only error.
+    pub fn decode(alloc: Global, bytes: &[u8]) -> Result<Option<Self>, AllocError>
+        ensures some { IfOk result (λ found. IfSome found (λ op. IsSpelling bytes.now (unordered_view K.bytes V.bytes op))) }
+        ensures none { IfOk result (λ found. IfNone found ((op : _) → ¬ IsSpelling bytes.now op)) }
+    {
+        by_tag(alloc, bytes)
+    }
+}
 
 // The number of these bytes, the highest first.
 #[tactic(auto, unfolding(crate::specs::Decode::number_of_four))]
