@@ -25,8 +25,9 @@ fn four_bytes(number: u32) -> [u8; 4]
     number.to_be_bytes()
 }
 
+/// The number as 8 bytes, the highest first.
 #[tactic(auto, unfolding(qm_model::specs::Operations::eight_bytes))]
-fn eight_bytes(number: u64) -> [u8; 8]
+pub fn eight_bytes(number: u64) -> [u8; 8]
     ensures { result ≡ model.eight_bytes number }
 {
     number.to_be_bytes()

@@ -1,6 +1,6 @@
 -- What a family of trees promises of its numbering.
-use Rattle.std.specs.Prelude.{◌≡◌, ◌⊎◌, ◌≤◌, ◌<◌, ℕ, suc, ◌+◌, ◌*◌}
-use Rattle.qm_model.specs.Trees.{Node, Shape, end_of, leaf}
+use Rattle.std.specs.Prelude.{◌≡◌, ◌⊎◌, ◌≤◌, ◌<◌, ℕ, suc, ◌+◌, ◌*◌, ◌^◌, All}
+use Rattle.qm_model.specs.Trees.{Node, Shape, end_of, leaf, peaks}
 
 -- the nodes born by the append that makes n + 1 leaves: how many, and each in the order of its position
 pub record Births : Type 0 where
@@ -30,3 +30,13 @@ pub record IsFamily (shape : Shape) (births : Births) : Type 0 where
   -- a node is born when its leaves are there, over two halves that are there
   pub inside : (x : Node) → end_of x ≤ shape.birth x
   pub halves : (n k : ℕ) → 0 < k → k < births.count n → HasHalves shape births n k
+
+-- the peaks over n leaves are there: n leaves suffice for each to be born
+pub record HasPeaks (shape : Shape) : Type 0 where
+  pub born : (n : ℕ) → n ≤ 2 ^ 62 → All (λ p. shape.birth p ≤ n) (peaks shape n)
+
+-- a node of this height stands there, and ends within 2 ^ 62 leaves
+pub record StandsAt (shape : Shape) (height position : ℕ) : Type 0 where
+  pub index : ℕ
+  pub at : shape.position (record { height = height; index = index }) ≡ position
+  pub within : end_of (record { height = height; index = index }) ≤ 2 ^ 62
