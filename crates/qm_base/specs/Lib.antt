@@ -1,4 +1,4 @@
 pub mod Decode
 pub mod Parts
-pub mod Views
 pub mod Sizes
+pub mod Views

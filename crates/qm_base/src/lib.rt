@@ -6,6 +6,7 @@ pub mod commitment;
 pub mod decode;
 pub mod digest;
 pub mod error;
+pub mod feed;
 pub mod gate;
 pub mod location;
 pub mod operation;

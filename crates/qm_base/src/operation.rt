@@ -19,7 +19,7 @@ pub enum Operation<F, U: Update> {
 }
 
 #[tactic(auto, unfolding(qm_model::specs::Operations::four_bytes))]
-fn four_bytes(number: u32) -> [u8; 4]
+pub(crate) fn four_bytes(number: u32) -> [u8; 4]
     ensures { result ≡ model.four_bytes number }
 {
     number.to_be_bytes()
