@@ -2,7 +2,7 @@
 use Rattle.std.proofs.Common.{◌≡◌, ℕ, zero, suc, lit<, ◌+◌, ◌<◌, ◌≤◌, ◌^◌, length, get_or, take, drop, refl, ap, sym, ◌∙◌, arith, List, [], ◌∷◌, ◌++◌, Option, Some, None, Result, Ok, Err, option_map, subst, append_assoc, cond, true, false}
 use Rattle.std.specs.Prelude.{IfOk, IfSome, IfNone, nat_le, ◌==◌, ◌&&◌}
 use Rattle.std.proofs.lemmas.Bool.{le-leb, leb-true, eqb-true, and_parts}
-use Rattle.std.proofs.lemmas.Option.{IfSome_then, none-some}
+use Rattle.std.proofs.lemmas.Option.{IfSome_then, none-some, same_Some}
 use Rattle.std.proofs.lemmas.List.{take_at, drop_at, append-nil, length-append, take-append-drop, length-take-le, get_or-take, get_or-drop, get_or_past}
 use Rattle.qm_model.specs.Operations.{Bytes, Operation, update, delete, commit, spelling, field, four_bytes, eight_bytes, metadata_field}
 use Rattle.qm_base.specs.Decode.{IsUnordered, IsSpelling, number_of_four, number_of_eight, first_bytes, read_field, decoded_field, read_metadata, decoded_floor, decoded_update, decoded_delete, decoded_commit, at_end, decoded}
@@ -60,10 +60,10 @@ first_bytes-cut : (n : ℕ) (bs : Bytes) → AreBytes bs → IfSome (first_bytes
 first_bytes-cut n bs below =
     IfSome-if (IsCut n bs) (nat_le n (length bs)) _ _
     (λ h. record {
-        whole = take-append-drop n bs;
-        count = length-take-le n bs (leb-true _ _ h);
-        front = AreBytes-take n bs below;
-        back = λ i. rw (get_or-drop n bs i 0) (below (n + i));
+      whole = take-append-drop n bs;
+      count = length-take-le n bs (leb-true _ _ h);
+      front = AreBytes-take n bs below;
+      back = λ i. rw (get_or-drop n bs i 0) (below (n + i));
     })
     (λ _. tt)
 
@@ -78,10 +78,10 @@ IsShort bs = length bs < 2 ^ 32
 
 field_of_cuts : (bs : Bytes) (p q : Bytes × Bytes) → IsCut 4 bs p → IsCut (number_of_four p.0) p.1 q → IsRead field IsShort bs q
 field_of_cuts bs p q first second = record {
-    whole =
-        rw (second.count, four_bytes-number_of_four p.0 first.count first.front, append_assoc p.0 q.0 q.1, second.whole) first.whole;
-    fit = rw second.count (number_of_four_below p.0 first.front);
-    back = second.back;
+  whole =
+      rw (second.count, four_bytes-number_of_four p.0 first.count first.front, append_assoc p.0 q.0 q.1, second.whole) first.whole;
+  fit = rw second.count (number_of_four_below p.0 first.front);
+  back = second.back;
 }
 
 read_field-read : (bs : Bytes) → AreBytes bs → IfSome (read_field bs) (IsRead field IsShort bs)
@@ -110,9 +110,9 @@ read_metadata-read (mark ∷ bs) below =
     IfSome-if (IsRead metadata_field IsMetadata (mark ∷ bs)) (mark == 0) _ _
     (λ h. record { whole = ap (λ m. m ∷ bs) (sym (eqb-true mark 0 h)); fit = tt; back = below_rest })
     (λ _. IfSome-if (IsRead metadata_field IsMetadata (mark ∷ bs)) (mark == 1) _ _
-        (λ h. IfSome-map (IsRead field IsShort bs) (IsRead metadata_field IsMetadata (mark ∷ bs)) (read_field bs) (λ p. (Some p.0, p.1)) (read_field-read bs below_rest)
-            (λ p read. record { whole = rw (eqb-true mark 1 h) (ap (λ r. 1 ∷ r) read.whole); fit = read.fit; back = read.back }))
-        (λ _. tt))
+    (λ h. IfSome-map (IsRead field IsShort bs) (IsRead metadata_field IsMetadata (mark ∷ bs)) (read_field bs) (λ p. (Some p.0, p.1)) (read_field-read bs below_rest)
+    (λ p read. record { whole = rw (eqb-true mark 1 h) (ap (λ r. 1 ∷ r) read.whole); fit = read.fit; back = read.back }))
+    (λ _. tt))
 
 abbrev IsFloor : Bytes → ℕ → Type 0
 IsFloor bs n = (eight_bytes n ≡ bs) × (n ≤ 2 ^ 62)
@@ -127,10 +127,10 @@ decoded_update-is : (bs : Bytes) → AreBytes bs → IfSome (decoded_update bs) 
 decoded_update-is bs below =
     IfSome-and_then (IsRead field IsShort bs) (IsSpelling (1 ∷ bs)) (read_field bs) _ (read_field-read bs below)
     (λ p key. IfSome-map (IsField p.1) (IsSpelling (1 ∷ bs)) (decoded_field p.1) _ (decoded_field-is p.1 key.back)
-        (λ value is. record {
-            unordered = (key.fit, is.1, refl);
-            spelled = rw (append-nil (field value), is.0, key.whole);
-        }))
+    (λ value is. record {
+      unordered = (key.fit, is.1, refl);
+      spelled = rw (append-nil (field value), is.0, key.whole);
+    }))
 
 decoded_delete-is : (bs : Bytes) → AreBytes bs → IfSome (decoded_delete bs) (IsSpelling (2 ∷ bs))
 decoded_delete-is bs below =
@@ -141,7 +141,7 @@ decoded_commit-is : (bs : Bytes) → AreBytes bs → IfSome (decoded_commit bs) 
 decoded_commit-is bs below =
     IfSome-and_then (IsRead metadata_field IsMetadata bs) (IsSpelling (3 ∷ bs)) (read_metadata bs) _ (read_metadata-read bs below)
     (λ p meta. IfSome-map (IsFloor p.1) (IsSpelling (3 ∷ bs)) (decoded_floor p.1) (commit p.0) (decoded_floor-is p.1 meta.back)
-        (λ floor is. record { unordered = (meta.fit, is.1); spelled = rw (is.0, meta.whole) }))
+    (λ floor is. record { unordered = (meta.fit, is.1); spelled = rw (is.0, meta.whole) }))
 
 pub spelling-decoded : (bs : Bytes) → AreBytes bs → IfSome (decoded bs) (IsSpelling bs)
 spelling-decoded [] below = tt
@@ -164,3 +164,8 @@ module _ {D E : Type 0} (view : D → Operation) (bs : Bytes) where
   found_none (Err e) is = tt
   found_none (Ok None) is = λ op h. none-some op (is ∙ (ap decoded (sym h.spelled) ∙ decoded-spelling op h.unordered))
   found_none (Ok (Some op)) is = tt
+
+-- bytes spell one operation at most
+pub IsSpelling-once : (bs : Bytes) (a b : Operation) → IsSpelling bs a → IsSpelling bs b → a ≡ b
+IsSpelling-once bs a b spells_a spells_b =
+    same_Some a b (sym (decoded-spelling a spells_a.unordered) ∙ (ap decoded (spells_a.spelled ∙ sym spells_b.spelled) ∙ decoded-spelling b spells_b.unordered))

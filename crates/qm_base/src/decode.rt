@@ -11,6 +11,9 @@ use crate::operation::Operation;
 use crate::update::Unordered;
 use std::alloc::{AllocError, Global};
 
+#[cfg(test)]
+mod tests;
+
 impl<F, K: Key, V: VariableValue> Operation<F, Unordered<K, V>> {
     /// The operation of which these bytes are the spelling, if there is one: `encode` turned round.
     /// Want of memory is the only error.
@@ -84,6 +87,7 @@ fn floor(bytes: &[u8]) -> Option<u64>
     }
 }
 
+// An update from the bytes behind its tag.
 fn update<F, K: Key, V: VariableValue>(
     alloc: Global,
     bytes: &[u8],
@@ -101,6 +105,7 @@ fn update<F, K: Key, V: VariableValue>(
     Ok(Some(Operation::Update(Unordered(key, value))))
 }
 
+// A delete from the bytes behind its tag.
 fn delete<F, K: Key, V: VariableValue>(
     alloc: Global,
     bytes: &[u8],
@@ -114,10 +119,8 @@ fn delete<F, K: Key, V: VariableValue>(
     Ok(Some(Operation::Delete(key)))
 }
 
-fn metadata<V: VariableValue>(
-    alloc: Global,
-    bytes: Option<&[u8]>,
-) -> Result<Option<V>, AllocError>
+// The value of metadata.
+fn metadata<V: VariableValue>(alloc: Global, bytes: Option<&[u8]>) -> Result<Option<V>, AllocError>
     requires { IfSome bytes (λ value. length value.now < 2 ^ 32) }
     ensures { IfOk result (λ made. option_map V.bytes made ≡ option_map (λ value. value.now) bytes.entry) }
 {
@@ -127,6 +130,7 @@ fn metadata<V: VariableValue>(
     }
 }
 
+// A commit from the bytes behind its tag.
 fn commit<F, K: Key, V: VariableValue>(
     alloc: Global,
     bytes: &[u8],
@@ -143,6 +147,7 @@ fn commit<F, K: Key, V: VariableValue>(
     Ok(Some(Operation::CommitFloor(metadata, Location::new(floor))))
 }
 
+// An operation as the model decodes it.
 fn by_tag<F, K: Key, V: VariableValue>(
     alloc: Global,
     bytes: &[u8],
