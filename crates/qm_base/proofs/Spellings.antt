@@ -1,9 +1,9 @@
 -- The decoder and the spelling.
-use Rattle.std.proofs.Common.{◌≡◌, ℕ, zero, suc, lit<, ◌+◌, ◌<◌, ◌≤◌, ◌^◌, length, get_or, take, drop, refl, ap, sym, ◌∙◌, arith, List, [], ◌∷◌, ◌++◌, Option, Some, None, Result, Ok, Err, option_map, subst, append_assoc, cond, true, false}
+use Rattle.std.proofs.Common.{◌≡◌, ℕ, zero, suc, lit<, ◌+◌, ◌<◌, ◌≤◌, ◌^◌, length, take, refl, ap, sym, ◌∙◌, arith, [], ◌∷◌, ◌++◌, Option, Some, None, Result, Ok, Err, option_map, subst, append_assoc, true}
 use Rattle.std.specs.Prelude.{IfOk, IfSome, IfNone, nat_le, ◌==◌, ◌&&◌}
 use Rattle.std.proofs.lemmas.Bool.{le-leb, leb-true, eqb-true, and_parts}
 use Rattle.std.proofs.lemmas.Option.{IfSome_then, none-some, same_Some}
-use Rattle.std.proofs.lemmas.List.{take_at, drop_at, append-nil, length-append, take-append-drop, length-take-le, get_or-take, get_or-drop, get_or_past}
+use Rattle.std.proofs.lemmas.List.{take_at, drop_at, append-nil, length-append, take-append-drop, length-take-le, get_or-drop}
 use Rattle.qm_model.specs.Operations.{Bytes, Operation, update, delete, commit, spelling, field, four_bytes, eight_bytes, metadata_field}
 use Rattle.qm_base.specs.Decode.{IsUnordered, IsSpelling, number_of_four, number_of_eight, first_bytes, read_field, decoded_field, read_metadata, decoded_floor, decoded_update, decoded_delete, decoded_commit, at_end, decoded}
 use Rattle.qm_base.proofs.Numbers.{AreBytes, length-four_bytes, length-eight_bytes, number_of_four-four_bytes, number_of_eight-eight_bytes, four_bytes-number_of_four, eight_bytes-number_of_eight, number_of_four_below}

@@ -1,5 +1,5 @@
 -- The operation of an unordered database that bytes spell.
-use Rattle.std.specs.Prelude.{◌≡◌, ℕ, ◌<◌, ◌≤◌, ◌^◌, ◌&&◌, ◌==◌, nat_le, List, [], ◌∷◌, length, take, drop, if◌then◌else◌, Option, Some, None, option_map, option_and_then, IfSome}
+use Rattle.std.specs.Prelude.{◌≡◌, ℕ, ◌<◌, ◌≤◌, ◌^◌, ◌&&◌, ◌==◌, nat_le, [], ◌∷◌, length, take, drop, if◌then◌else◌, Option, Some, None, option_map, option_and_then, IfSome}
 use Rattle.std.specs.Int.{w32, w64, from_be_bytes}
 use Rattle.qm_model.specs.Operations.{Bytes, Operation, update, delete, commit, spelling}
 
