@@ -1,1 +1,4 @@
+pub mod Decode
+pub mod Parts
+pub mod Sizes
 pub mod Views

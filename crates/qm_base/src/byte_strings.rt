@@ -20,6 +20,11 @@ pub trait ByteString: Twin + Drop {
     fn as_bytes(&self) -> &[u8]
         ensures value { result.now ≡ bytes self.now }
         ensures short { length result.now < 2 ^ 32 };
+
+    /// The value of these bytes. Want of memory is the only error.
+    fn from_bytes(alloc: Global, from: &[u8]) -> Result<Self, AllocError>
+        requires { length from.now < 2 ^ 32 }
+        ensures { IfOk result (λ made. bytes made ≡ from.now) };
 }
 
 /// A key of a database. Keys are equal where their bytes are.
@@ -65,6 +70,10 @@ impl ByteString for ByteKey {
     fn as_bytes(&self) -> &[u8] {
         &self.bytes
     }
+
+    fn from_bytes(alloc: Global, from: &[u8]) -> Result<ByteKey, AllocError> {
+        Ok(ByteKey::new(from.to_vec(alloc)?))
+    }
 }
 
 impl Key for ByteKey {}
@@ -105,6 +114,10 @@ impl ByteString for ByteValue {
 
     fn as_bytes(&self) -> &[u8] {
         &self.bytes
+    }
+
+    fn from_bytes(alloc: Global, from: &[u8]) -> Result<ByteValue, AllocError> {
+        Ok(ByteValue::new(from.to_vec(alloc)?))
     }
 }
 

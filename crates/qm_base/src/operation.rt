@@ -1,6 +1,8 @@
 //! Operations and their spelling.
 
 ghost use Rattle.std.specs.Prelude.{◌≡◌, ◌++◌, ◌<◌, ◌^◌, length, IfOk, OnOk, Option, option_map};
+ghost use Rattle.qm_base.specs.Parts as parts;
+ghost use Rattle.qm_base.specs.Parts.{key_of, floor_of};
 ghost use Rattle.qm_model.specs.Operations as model;
 
 use crate::byte_strings::ByteString;
@@ -17,14 +19,15 @@ pub enum Operation<F, U: Update> {
 }
 
 #[tactic(auto, unfolding(qm_model::specs::Operations::four_bytes))]
-fn four_bytes(number: u32) -> [u8; 4]
+pub(crate) fn four_bytes(number: u32) -> [u8; 4]
     ensures { result ≡ model.four_bytes number }
 {
     number.to_be_bytes()
 }
 
+/// The number as 8 bytes, the highest first.
 #[tactic(auto, unfolding(qm_model::specs::Operations::eight_bytes))]
-fn eight_bytes(number: u64) -> [u8; 8]
+pub fn eight_bytes(number: u64) -> [u8; 8]
     ensures { result ≡ model.eight_bytes number }
 {
     number.to_be_bytes()
@@ -93,5 +96,58 @@ impl<F, U: Update> Operation<F, U> {
             }
         }
         Ok(out)
+    }
+
+    /// The key of an update or a delete.
+    pub fn key(&self) -> Option<&U::Key>
+        ensures { option_map (λ key. U.Key.bytes key.now) result
+            ≡ key_of (operation_view U.view U.Key.bytes U.Value.bytes self.now) }
+    {
+        match self {
+            Operation::Update(update) => Some(update.key()),
+            Operation::Delete(key) => Some(key),
+            Operation::CommitFloor(_, _) => None,
+        }
+    }
+
+    /// The key of an update or a delete, by value.
+    pub fn into_key(self) -> Option<U::Key>
+        ensures { option_map U.Key.bytes result
+            ≡ key_of (operation_view U.view U.Key.bytes U.Value.bytes self) }
+    {
+        match self {
+            Operation::Update(update) => Some(update.into_key()),
+            Operation::Delete(key) => Some(key),
+            Operation::CommitFloor(_, _) => None,
+        }
+    }
+
+    /// Whether it is an update.
+    pub fn is_update(&self) -> bool
+        ensures { result ≡ parts.is_update (operation_view U.view U.Key.bytes U.Value.bytes self.now) }
+    {
+        matches!(self, Operation::Update(_))
+    }
+
+    /// Whether it is a delete.
+    #[tactic(auto, using(crate::proofs::Parts::is_delete_update))]
+    pub fn is_delete(&self) -> bool
+        ensures { result ≡ parts.is_delete (operation_view U.view U.Key.bytes U.Value.bytes self.now) }
+    {
+        match self {
+            Operation::Delete(_) => true,
+            Operation::Update(_) | Operation::CommitFloor(_, _) => false,
+        }
+    }
+
+    /// The floor of a commit.
+    #[tactic(auto, using(crate::proofs::Parts::floor_of_update))]
+    pub fn has_floor(&self) -> Option<Location<F>>
+        ensures { result ≡ floor_of (operation_view U.view U.Key.bytes U.Value.bytes self.now) }
+    {
+        match self {
+            Operation::CommitFloor(_, floor) => Some(Location::new(floor.get())),
+            Operation::Update(_) | Operation::Delete(_) => None,
+        }
     }
 }

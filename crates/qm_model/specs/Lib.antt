@@ -8,6 +8,7 @@ pub mod Ordered
 pub mod Step
 pub mod Policies
 pub mod Trees
+pub mod Families
 pub mod Mmr
 pub mod Mmb
 pub mod Roots

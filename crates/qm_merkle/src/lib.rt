@@ -1,0 +1,11 @@
+//! Families of trees, the hashing of their nodes, and trees.
+#![tactic(auto)]
+
+pub mod family;
+pub mod hasher;
+pub mod mmr;
+pub mod position;
+
+pub use family::{Family, Node};
+pub use hasher::StandardHasher;
+pub use position::Position;
