@@ -58,8 +58,8 @@ pub counted-none : (t : Bool) (f h n : ℕ) → 0 < h → IsTrue t ↔ ((n / 2 ^
 counted-none t f h n pos decides is = ⊎_elim
     (λ (low : n / 2 ^ (h - 1) % 2 < 1). ap (count_by (λ p. nat_le (end_of p) f)) (peaks-none h n pos (omega arith)))
     (λ (one : 1 ≤ n / 2 ^ (h - 1) % 2).
-      let digit : n / 2 ^ (h - 1) % 2 ≡ 1 = omega arith in
-      ⊎_elim (λ (above : f < n / 2 ^ (h - 1) * 2 ^ (h - 1)). counted-taken f h n false pos digit (test_not (n / 2 ^ (h - 1) * 2 ^ (h - 1)) f above) ∙ zero-add (counted f (h - 1) n))
-        (λ (within : n / 2 ^ (h - 1) * 2 ^ (h - 1) ≤ f). absurd (false≢true (sym is ∙ decides.1 (digit, within))))
-        (cases_lt f (n / 2 ^ (h - 1) * 2 ^ (h - 1))))
+    let digit : n / 2 ^ (h - 1) % 2 ≡ 1 = omega arith in
+    ⊎_elim (λ (above : f < n / 2 ^ (h - 1) * 2 ^ (h - 1)). counted-taken f h n false pos digit (test_not (n / 2 ^ (h - 1) * 2 ^ (h - 1)) f above) ∙ zero-add (counted f (h - 1) n))
+    (λ (within : n / 2 ^ (h - 1) * 2 ^ (h - 1) ≤ f). absurd (false≢true (sym is ∙ decides.1 (digit, within))))
+    (cases_lt f (n / 2 ^ (h - 1) * 2 ^ (h - 1))))
     (cases_lt (n / 2 ^ (h - 1) % 2) 1)

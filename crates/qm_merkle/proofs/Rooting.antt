@@ -18,5 +18,5 @@ folded_mid bytes hash (q ∷ qs) (suc i) p pos lt is =
     let before : i ≡ suc i - 1 = omega arith in
     fold_right-cons hash (fold_left hash (bytes q) (take i (map bytes qs))) (drop i (map bytes qs)) within
     ∙ ap₂ (λ a b. hash (a ++ fold_right hash b))
-        (ap (fold_left hash (bytes q)) (take-map bytes i qs ∙ ap (λ k. map bytes (take k qs)) before) ∙ ap (λ d. fold_left hash (bytes d) (map bytes (take (suc i - 1) qs))) (sym is))
-        (drop-map bytes i qs ∙ ap (map bytes) (sym (take_rest (q ∷ qs) (suc i))))
+    (ap (fold_left hash (bytes q)) (take-map bytes i qs ∙ ap (λ k. map bytes (take k qs)) before) ∙ ap (λ d. fold_left hash (bytes d) (map bytes (take (suc i - 1) qs))) (sym is))
+    (drop-map bytes i qs ∙ ap (map bytes) (sym (take_rest (q ∷ qs) (suc i))))

@@ -102,19 +102,22 @@ impl crate::family::Family for Family {
         requires { leaves ≤ 2 ^ 62 }
         ensures { IfOk result (λ v. v.items ≡ trees.peaks mmr leaves) }
     {
-        let leaves = leaves.get();
+        let count = leaves.get();
         let mut found = Vec::new(alloc);
         let mut height = 63;
         'places: while height > 0 {
             height -= 1;
-            if has_peak(leaves, height) {
-                found.push(Node::new(height, (leaves >> height) - 1))?;
+            if has_peak(count, height) {
+                found.push(Node::new(height, (count >> height) - 1))?;
             }
         }
         Ok(found)
     }
 
-    fn nodes_to_pin(alloc: Global, leaves: Location<Self>) -> Result<Vec<Position<Self>>, AllocError>
+    fn nodes_to_pin(
+        alloc: Global,
+        leaves: Location<Self>,
+    ) -> Result<Vec<Position<Self>>, AllocError>
         requires { leaves ≤ 2 ^ 62 }
         ensures { IfOk result (λ v. v.items ≡ trees.peak_positions mmr leaves) }
     {

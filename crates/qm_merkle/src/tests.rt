@@ -7,9 +7,22 @@ use std::test::Fail;
 
 #[test]
 fn leaves_stand(rt: HostRuntime) -> Result<(), Fail> {
-    for (leaf, place) in [(0, 0), (1, 1), (2, 3), (3, 4), (4, 7), (5, 8), (6, 10), (7, 11)] {
+    for (leaf, place) in [
+        (0, 0),
+        (1, 1),
+        (2, 3),
+        (3, 4),
+        (4, 7),
+        (5, 8),
+        (6, 10),
+        (7, 11),
+    ] {
         assert!(rt; leaf <= 7);
-        assert_eq!(rt; Family::location_to_position(Location::new(leaf)).get(), place, "at {leaf}");
+        assert_eq!(rt;
+            Family::location_to_position(Location::new(leaf)).get(),
+            place,
+            "at {leaf}"
+        );
     }
     Ok(())
 }
@@ -17,11 +30,21 @@ fn leaves_stand(rt: HostRuntime) -> Result<(), Fail> {
 #[test]
 fn eleven_leaves(rt: HostRuntime) -> Result<(), Fail> {
     let peaks = Family::peaks(rt.alloc(), Location::new(11))?;
-    assert_eq!(rt; peaks.as_slice(), [Node::new(3, 0), Node::new(1, 4), Node::new(0, 10)].as_slice());
+    assert_eq!(rt;
+        peaks.as_slice(),
+        [Node::new(3, 0), Node::new(1, 4), Node::new(0, 10)].as_slice()
+    );
     let pins = Family::nodes_to_pin(rt.alloc(), Location::new(11))?;
-    assert_eq!(rt; pins.as_slice(), [Position::new(14), Position::new(17), Position::new(18)].as_slice());
+    assert_eq!(rt;
+        pins.as_slice(),
+        [Position::new(14), Position::new(17), Position::new(18)].as_slice()
+    );
     for (floor, count) in [(7, 0), (8, 1), (9, 1), (10, 2), (11, 3)] {
-        assert_eq!(rt; Family::inactive_peaks(Location::new(11), Location::new(floor)), count, "at {floor}");
+        assert_eq!(rt;
+            Family::inactive_peaks(Location::new(11), Location::new(floor)),
+            count,
+            "at {floor}"
+        );
     }
     Ok(())
 }
@@ -30,7 +53,11 @@ fn eleven_leaves(rt: HostRuntime) -> Result<(), Fail> {
 fn nodes_are_born(rt: HostRuntime) -> Result<(), Fail> {
     for (leaf, count) in [(0, 1), (1, 2), (2, 1), (3, 3), (7, 4)] {
         assert!(rt; leaf <= 7);
-        assert_eq!(rt; Family::birth_count(Location::new(leaf)), count, "at {leaf}");
+        assert_eq!(rt;
+            Family::birth_count(Location::new(leaf)),
+            count,
+            "at {leaf}"
+        );
     }
     let last = Location::new(7);
     assert!(rt; 2 < Family::birth_count(last));

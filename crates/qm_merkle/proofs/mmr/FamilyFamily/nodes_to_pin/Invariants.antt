@@ -7,7 +7,8 @@ use Rattle.qm_merkle.proofs.mmr.FamilyFamily.nodes_to_pin.Given as goal
 abbrev pub invariant-places : goal.invariant-places
 invariant-places l = record {
   low : l.height ≤ 63;
-  row : l.found.items ++ map mmr.position (peaks_below l.height l.leaves) ≡ trees.peak_positions mmr l.leaves }
+  row : l.found.items ++ map mmr.position (peaks_below l.height l.leaves) ≡ trees.peak_positions mmr l.leaves;
+}
 
 abbrev pub decreases-places : goal.decreases-places
 decreases-places l = l.height
