@@ -5,6 +5,8 @@ pub mod family;
 pub mod hasher;
 pub mod mmr;
 pub mod position;
+#[cfg(test)]
+mod tests;
 
 pub use family::{Family, Node};
 pub use hasher::StandardHasher;
