@@ -1,15 +1,13 @@
 -- What the calls of the mountain ranges' family compute.
-use Rattle.std.proofs.Common.{◌≡◌, ℕ, zero, suc, ◌+◌, ◌-◌, ◌*◌, ◌/◌, ◌%◌, ◌^◌, ◌<◌, ◌≤◌, List, [], ◌∷◌, ◌++◌, Bool, true, false, arith, ap, sym, ◌∙◌, ⊎_elim, append_assoc, zero-add, cond}
+use Rattle.std.proofs.Common.{◌≡◌, ℕ, suc, ◌+◌, ◌-◌, ◌*◌, ◌/◌, ◌%◌, ◌^◌, ◌<◌, ◌≤◌, List, [], ◌∷◌, ◌++◌, Bool, true, false, arith, ap, sym, ◌∙◌, ⊎_elim, append_assoc, zero-add, cond}
 use Rattle.std.specs.Prelude.{◌↔◌, IsTrue, count_by, nat_le}
-use Rattle.std.proofs.Math.Nat.{pow-le-pow_right}
 use Rattle.std.proofs.lemmas.Bool.{cases_lt, false≢true}
-use Rattle.std.proofs.lemmas.Bool.Decides.{nat_tests}
 use Rattle.std.proofs.lemmas.List.Sums.{sum_by-append}
-use Rattle.std.proofs.lemmas.Nat.{pow_pos, pow_below, shl-shr}
-use Rattle.qm_model.specs.Trees.{end_of, peaks, inactive_peaks}
-use Rattle.qm_model.specs.Mmr.{mmr, size, v2}
+use Rattle.std.proofs.lemmas.Nat.{pow_below, shl-shr}
+use Rattle.qm_model.specs.Trees.{end_of}
+use Rattle.qm_model.specs.Mmr.{size, v2}
 use Rattle.qm_model.proofs.MmrFamily.{size_below, multiple}
-use Rattle.qm_model.proofs.MmrPeaks.{peaks_below, peak_at, peaks-one, peaks-none, peak_at-end}
+use Rattle.qm_model.proofs.MmrPeaks.{peaks_below, peak_at, peaks-one, peaks-none, peak_at-end, test_true, test_false}
 
 -- a power that is at most 2 ^ 62
 pub within_place : (h : ℕ) → 2 ^ h ≤ 2 ^ 62 → h ≤ 62
@@ -35,12 +33,6 @@ born_within n k lt low =
     let wide : 2 ^ k ≤ 2 ^ 62 = omega (arith, r.1) in
     (omega (arith, within_place k wide), omega arith)
 
-test_of : (m n : ℕ) → m ≤ n → nat_le m n ≡ true
-test_of m n h = grind (arith, nat_tests)
-
-test_not : (m n : ℕ) → n < m → nat_le m n ≡ false
-test_not m n h = grind (arith, nat_tests)
-
 -- how many of the peaks over n leaves, of heights below h, end at or below f
 abbrev pub counted : ℕ → ℕ → ℕ → ℕ
 counted f h n = count_by (λ p. nat_le (end_of p) f) (peaks_below h n)
@@ -52,14 +44,14 @@ counted-taken f h n t pos is test =
     ∙ ap (λ k. k + counted f (h - 1) n) (zero-add _ ∙ ap (λ b. cond b 1 0) (ap (λ e. nat_le e f) (peak_at-end (h - 1) n is) ∙ test))
 
 pub counted-one : (f h n : ℕ) → 0 < h → (n / 2 ^ (h - 1) % 2 ≡ 1) × (n / 2 ^ (h - 1) * 2 ^ (h - 1) ≤ f) → counted f h n ≡ 1 + counted f (h - 1) n
-counted-one f h n pos both = counted-taken f h n true pos both.0 (test_of (n / 2 ^ (h - 1) * 2 ^ (h - 1)) f both.1)
+counted-one f h n pos both = counted-taken f h n true pos both.0 (test_true (n / 2 ^ (h - 1) * 2 ^ (h - 1)) f both.1)
 
 pub counted-none : (t : Bool) (f h n : ℕ) → 0 < h → IsTrue t ↔ ((n / 2 ^ (h - 1) % 2 ≡ 1) × (n / 2 ^ (h - 1) * 2 ^ (h - 1) ≤ f)) → t ≡ false → counted f h n ≡ counted f (h - 1) n
 counted-none t f h n pos decides is = ⊎_elim
     (λ (low : n / 2 ^ (h - 1) % 2 < 1). ap (count_by (λ p. nat_le (end_of p) f)) (peaks-none h n pos (omega arith)))
     (λ (one : 1 ≤ n / 2 ^ (h - 1) % 2).
     let digit : n / 2 ^ (h - 1) % 2 ≡ 1 = omega arith in
-    ⊎_elim (λ (above : f < n / 2 ^ (h - 1) * 2 ^ (h - 1)). counted-taken f h n false pos digit (test_not (n / 2 ^ (h - 1) * 2 ^ (h - 1)) f above) ∙ zero-add (counted f (h - 1) n))
+    ⊎_elim (λ (above : f < n / 2 ^ (h - 1) * 2 ^ (h - 1)). counted-taken f h n false pos digit (test_false (n / 2 ^ (h - 1) * 2 ^ (h - 1)) f above) ∙ zero-add (counted f (h - 1) n))
     (λ (within : n / 2 ^ (h - 1) * 2 ^ (h - 1) ≤ f). absurd (false≢true (sym is ∙ decides.1 (digit, within))))
     (cases_lt f (n / 2 ^ (h - 1) * 2 ^ (h - 1))))
     (cases_lt (n / 2 ^ (h - 1) % 2) 1)

@@ -1,5 +1,5 @@
 -- The fold of a row of peaks, of which the first are inactive.
-use Rattle.std.proofs.Common.{◌≡◌, ℕ, zero, suc, ◌+◌, ◌-◌, ◌<◌, ◌≤◌, List, [], ◌∷◌, ◌++◌, length, map, take, drop, get_or, arith, ap, ap₂, sym, ◌∙◌, refl}
+use Rattle.std.proofs.Common.{◌≡◌, ℕ, zero, suc, ◌-◌, ◌<◌, List, [], ◌∷◌, ◌++◌, length, map, take, drop, get_or, arith, ap, ap₂, sym, ◌∙◌, refl}
 use Rattle.qm_model.specs.Operations.{Bytes}
 use Rattle.qm_model.specs.Trees.{fold_left, fold_inactive, fold_right}
 use Rattle.std.proofs.lemmas.List.{take_rest, drop-map, take-map, length-map, length-drop}

@@ -1,11 +1,10 @@
 -- The peaks of a Merkle mountain range, by their heights.
-use Rattle.std.proofs.Common.{◌≡◌, ℕ, zero, suc, ◌+◌, ◌-◌, ◌*◌, ◌/◌, ◌%◌, ◌^◌, ◌<◌, ◌≤◌, List, [], ◌∷◌, arith, ap, ap₂, sym, ◌∙◌, refl, true, false, subst, ⊎_elim}
+use Rattle.std.proofs.Common.{◌≡◌, ℕ, zero, suc, ◌+◌, ◌-◌, ◌*◌, ◌/◌, ◌%◌, ◌^◌, ◌<◌, ◌≤◌, List, [], ◌∷◌, arith, ap, ap₂, sym, ◌∙◌, refl, true, false, ⊎_elim}
 use Rattle.std.specs.Prelude.{nat_le, if◌then◌else◌, All}
-use Rattle.std.proofs.Math.Nat.{pow-suc, pow-le-pow_right}
 use Rattle.std.proofs.lemmas.Nat.{pow_pos, shr_split, shl-shr, mod-pow-add, mod_below}
 use Rattle.std.proofs.lemmas.Bool.Decides.{nat_tests}
 use Rattle.std.proofs.lemmas.Bool.{cases_lt}
-use Rattle.std.proofs.lemmas.List.Elements.{All-nil, All-cons, All-same, All-weaker}
+use Rattle.std.proofs.lemmas.List.Elements.{All-nil, All-cons, All-same}
 use Rattle.qm_model.specs.Trees.{Node, end_of, row_from, peaks}
 use Rattle.qm_model.specs.Families.{HasPeaks}
 use Rattle.qm_model.specs.Mmr.{mmr, digits_below}
@@ -18,10 +17,10 @@ peaks_below b n = row_from (n / 2 ^ b * 2 ^ b) (digits_below b (n % 2 ^ b))
 abbrev pub peak_at : ℕ → ℕ → Node
 peak_at b n = record { height = b; index = n / 2 ^ b - 1 }
 
-test_true : (m n : ℕ) → m ≤ n → nat_le m n ≡ true
+pub test_true : (m n : ℕ) → m ≤ n → nat_le m n ≡ true
 test_true m n h = grind (arith, nat_tests)
 
-test_false : (m n : ℕ) → n < m → nat_le m n ≡ false
+pub test_false : (m n : ℕ) → n < m → nat_le m n ≡ false
 test_false m n h = grind (arith, nat_tests)
 
 digits-zero : (n : ℕ) → digits_below 0 n ≡ []
@@ -84,15 +83,16 @@ ends_within : (b n : ℕ) → All (λ p. end_of p ≤ n) (peaks_below b n)
 ends_within zero n = All-same (λ p. end_of p ≤ n) (peaks_below 0 n) [] (peaks_below-zero n) (All-nil (λ p. end_of p ≤ n))
 ends_within (suc b) n = ⊎_elim
     (λ (none : n / 2 ^ b % 2 < 1).
-      let is : n / 2 ^ b % 2 ≡ 0 = omega arith in
-      All-same (λ p. end_of p ≤ n) (peaks_below (suc b) n) (peaks_below b n) (peaks_below-none b n is) (ends_within b n))
+    let is : n / 2 ^ b % 2 ≡ 0 = omega arith in
+    All-same (λ p. end_of p ≤ n) (peaks_below (suc b) n) (peaks_below b n) (peaks_below-none b n is) (ends_within b n))
     (λ (one : 1 ≤ n / 2 ^ b % 2).
-      let is : n / 2 ^ b % 2 ≡ 1 = omega arith in
-      let end : end_of (peak_at b n) ≤ n = omega (arith, peak_at-end b n is, shr_split n b) in
-      All-same (λ p. end_of p ≤ n) (peaks_below (suc b) n) (peak_at b n ∷ peaks_below b n) (peaks_below-one b n is)
-        (All-cons (λ p. end_of p ≤ n) (peak_at b n) (peaks_below b n) end (ends_within b n)))
+    let is : n / 2 ^ b % 2 ≡ 1 = omega arith in
+    let end : end_of (peak_at b n) ≤ n = omega (arith, peak_at-end b n is, shr_split n b) in
+    All-same (λ p. end_of p ≤ n) (peaks_below (suc b) n) (peak_at b n ∷ peaks_below b n) (peaks_below-one b n is)
+    (All-cons (λ p. end_of p ≤ n) (peak_at b n) (peaks_below b n) end (ends_within b n)))
     (cases_lt (n / 2 ^ b % 2) 1)
 
 pub mmr_has_peaks : HasPeaks mmr
 mmr_has_peaks = record {
-  born = λ n le. All-same (λ p. end_of p ≤ n) (peaks mmr n) (peaks_below 63 n) (sym (peaks_below-all n le)) (ends_within 63 n) }
+  born = λ n le. All-same (λ p. end_of p ≤ n) (peaks mmr n) (peaks_below 63 n) (sym (peaks_below-all n le)) (ends_within 63 n);
+}

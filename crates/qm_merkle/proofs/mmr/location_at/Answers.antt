@@ -1,5 +1,4 @@
-use Rattle.std.proofs.Common.{◌≡◌, ◌≤◌, ◌<◌, arith}
-use Rattle.qm_model.specs.Mmr.{size}
+use Rattle.std.proofs.Common.{◌≤◌, arith}
 use Rattle.qm_merkle.proofs.MmrCalls.{size_within}
 use Rattle.qm_merkle.proofs.mmr.location_at.Goals as goal
 

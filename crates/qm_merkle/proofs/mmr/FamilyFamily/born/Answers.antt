@@ -1,5 +1,4 @@
 use Rattle.std.proofs.Common.{◌≡◌, suc, ◌+◌, ◌-◌, ◌/◌, ◌^◌, ap, ◌∙◌, arith}
-use Rattle.qm_model.specs.Trees.{Node}
 use Rattle.qm_merkle.proofs.MmrCalls.{born_within}
 use Rattle.qm_merkle.proofs.mmr.FamilyFamily.born.Goals as goal
 

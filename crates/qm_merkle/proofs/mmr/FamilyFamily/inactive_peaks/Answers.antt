@@ -1,8 +1,8 @@
-use Rattle.std.proofs.Common.{◌≡◌, ◌+◌, ◌-◌, ap, sym, ◌∙◌, arith, ap₂, add-zero, ℕ, suc}
+use Rattle.std.proofs.Common.{◌≡◌, ◌+◌, ap, sym, ◌∙◌, arith, ap₂, add-zero, ℕ}
 use Rattle.std.specs.Prelude.{count_by, nat_le}
 use Rattle.qm_model.specs.Trees.{inactive_peaks, end_of}
 use Rattle.qm_model.specs.Mmr.{mmr}
-use Rattle.qm_model.proofs.MmrPeaks.{peaks_below, peaks_below-zero}
+use Rattle.qm_model.proofs.MmrPeaks.{peaks_below-zero}
 use Rattle.qm_merkle.proofs.MmrCalls.{counted, counted-one, counted-none}
 use Rattle.qm_merkle.proofs.mmr.FamilyFamily.inactive_peaks.Goals as goal
 

@@ -1,4 +1,4 @@
-use Rattle.std.proofs.Common.{◌≡◌, arith}
+use Rattle.std.proofs.Common.{arith}
 use Rattle.qm_merkle.proofs.MmrCalls.{within_place}
 use Rattle.qm_merkle.proofs.mmr.FamilyFamily.subtree_root_position.Goals as goal
 
