@@ -1,2 +1,4 @@
 pub mod Numbering
 pub mod Lookups
+pub mod Standing
+pub mod Rooting

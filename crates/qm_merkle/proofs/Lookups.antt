@@ -7,7 +7,7 @@ use Rattle.std.proofs.lemmas.Option.{slice_get_read, slice_get_past}
 use Rattle.std.proofs.lemmas.List.{length-map, get_or-map}
 use Rattle.qm_model.specs.Trees.{Shape, Node, peaks, peak_positions}
 use Rattle.qm_model.specs.Families.{Births, IsFamily, HasPeaks}
-use Rattle.qm_merkle.specs.Mems.{Kept, IsWhole, IsHeld, node_at, pin_at}
+use Rattle.qm_merkle.specs.Mems.{Kept, IsWhole, Holds, node_at, pin_at}
 use Rattle.qm_merkle.proofs.Numbering.{stands_below}
 
 pub is_some_at : {X : Type 0} (o : Option X) (x : X) → o ≡ Some x → IsSome o
@@ -96,13 +96,13 @@ module _ {D : Type 0} where
         omega arith
 
     -- the tree has a digest exactly at what it holds
-    pub held : (p : ℕ) (found : Option D) → found ≡ node_at shape kept p → IsSome found ↔ IsHeld shape kept p
+    pub held : (p : ℕ) (found : Option D) → found ≡ node_at shape kept p → IsSome found ↔ Holds shape kept p
     held p found is = (to, from)
       where
         long : length kept.pins ≡ length (peak_positions shape kept.start)
         long = whole.pinned ∙ sym (length-map (peaks shape kept.start) shape.position)
 
-        to : IsSome found → IsHeld shape kept p
+        to : IsSome found → Holds shape kept p
         to some = ⊎_elim
             (λ (low : p < shape.size kept.start). inl (contains-pin_at (peak_positions shape kept.start) kept.pins p (ap is_some (sym (node_at-pin shape kept p low) ∙ sym is) ∙ some)))
             (λ (high : shape.size kept.start ≤ p).
@@ -116,7 +116,7 @@ module _ {D : Type 0} where
             no : true ≡ false → ⊥
             no e = cc
 
-        from : IsHeld shape kept p → IsSome found
+        from : Holds shape kept p → IsSome found
         from = ⊎_elim
             (λ (pin : Contains (peak_positions shape kept.start) p).
               ap is_some (is ∙ node_at-pin shape kept p (pins_below p pin)) ∙ pin_at-contains (peak_positions shape kept.start) kept.pins p long pin)

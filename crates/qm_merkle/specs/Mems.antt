@@ -28,8 +28,8 @@ pub record IsWhole {D : Type 0} (shape : Shape) (kept : Kept D) : Type 0 where
   pub full : shape.size kept.start + length kept.nodes ≡ shape.size kept.leaves
 
 -- the tree holds the node at a position: a pin's, or one past the size at the kept start
-abbrev pub IsHeld : {D : Type 0} → Shape → Kept D → ℕ → Type 0
-IsHeld shape kept p = Contains (peak_positions shape kept.start) p ⊎ ((shape.size kept.start ≤ p) × (p < shape.size kept.leaves))
+abbrev pub Holds : {D : Type 0} → Shape → Kept D → ℕ → Type 0
+Holds shape kept p = Contains (peak_positions shape kept.start) p ⊎ ((shape.size kept.start ≤ p) × (p < shape.size kept.leaves))
 
 -- there is this digest
 abbrev pub Gives : {D : Type 0} → (D → Bytes) → Option D → Bytes → Type 0
