@@ -1,4 +1,5 @@
 pub mod Numbering
 pub mod Lookups
 pub mod Standing
+pub mod Growth
 pub mod Rooting

@@ -44,6 +44,13 @@ module _ (shape : Shape) (births : Births) (family : IsFamily shape births) (pea
       nodes = λ x new born. absurd (omega arith) }
 
   module _ {D : Type 0} (kept : Kept D) (whole : IsWhole shape kept) where
+    -- a node that is there is held, where the node over it was not there at the kept start
+    pub node_held : (x : Node) → shape.birth x ≤ kept.leaves → kept.start < shape.birth (over x) → Holds shape kept (shape.position x)
+    node_held x born bare = ⊎_elim
+        (λ (new : kept.start < shape.birth x). inr (stands_past shape births family x kept.start new, stands_below shape births family x kept.leaves born))
+        (λ (old : shape.birth x ≤ kept.start). inl (Contains-mapped shape.position (peaks shape kept.start) x (peaked.all kept.start x (omega (arith, whole.order, whole.few)) old bare)))
+        (cases_lt kept.start (shape.birth x))
+
     -- the peaks of every tree between the kept start and the leaves are held
     pub peaks_held : (n : ℕ) → kept.start ≤ n → n ≤ kept.leaves → All (Holds shape kept) (peak_positions shape n)
     peaks_held n from to k d lt =
@@ -51,14 +58,9 @@ module _ (shape : Shape) (births : Births) (family : IsFamily shape births) (pea
         let few : n ≤ 2 ^ 62 = omega (arith, whole.few) in
         let low : k < length xs = omega (arith, length-map xs shape.position) in
         let e : Node = record { height = 0; index = 0 } in
-        let x = get_or xs k e in
-        let born : shape.birth x ≤ n = peaked.born n few k e low in
-        let bare : n < shape.birth (over x) = peaked.bare n few k e low in
-        subst (Holds shape kept) (sym (get_or-map shape.position xs k e d low))
-          (⊎_elim
-            (λ (new : kept.start < shape.birth x). inr (stands_past shape births family x kept.start new, stands_below shape births family x kept.leaves (omega arith)))
-            (λ (old : shape.birth x ≤ kept.start). inl (Contains-mapped shape.position (peaks shape kept.start) x (peaked.all kept.start x (omega arith) old (omega arith))))
-            (cases_lt kept.start (shape.birth x)))
+        let born : shape.birth (get_or xs k e) ≤ n = peaked.born n few k e low in
+        let bare : n < shape.birth (over (get_or xs k e)) = peaked.bare n few k e low in
+        subst (Holds shape kept) (sym (get_or-map shape.position xs k e d low)) (node_held (get_or xs k e) (omega arith) (omega arith))
 
   module _ {D : Type 0} (bytes : D → Bytes) (hash : Bytes → Bytes) (kept : Kept D) (leaves : List Bytes) (stands : Stands shape bytes hash kept leaves) where
     -- a pin is the digest of its peak

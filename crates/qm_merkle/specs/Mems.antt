@@ -1,7 +1,8 @@
 -- What a tree in memory holds, and the leaves that it stands for.
-use Rattle.std.specs.Prelude.{◌≡◌, ◌⊎◌, ◌≤◌, ◌<◌, ℕ, ◌+◌, ◌-◌, ◌^◌, ◌==◌, List, [], ◌∷◌, ◌++◌, length, map, Option, Some, None, option_map, slice_get, Contains, nat_le, if◌then◌else◌}
+use Rattle.std.specs.Prelude.{◌≡◌, ◌⊎◌, ◌≤◌, ◌<◌, ℕ, suc, ◌+◌, ◌-◌, ◌*◌, ◌^◌, ◌==◌, List, [], ◌∷◌, ◌++◌, length, map, Option, Some, None, option_map, slice_get, Contains, nat_le, if◌then◌else◌}
 use Rattle.qm_model.specs.Operations.{Bytes}
 use Rattle.qm_model.specs.Trees.{Shape, Node, peaks, peak_positions, digest_of}
+use Rattle.qm_model.specs.Families.{Births}
 
 -- a tree that forgot its first leaves: how many, how many it has with them, the digests of the peaks over the forgotten ones, and the nodes after these
 pub record Kept (D : Type 0) : Type 0 where
@@ -40,3 +41,18 @@ pub record Stands {D : Type 0} (shape : Shape) (bytes : D → Bytes) (hash : Byt
   pub count : kept.leaves ≡ length leaves
   pub pins : map bytes kept.pins ≡ map (digest_of hash shape leaves) (peaks shape kept.start)
   pub nodes : (x : Node) → kept.start < shape.birth x → shape.birth x ≤ kept.leaves → Gives bytes (node_at shape kept (shape.position x)) (digest_of hash shape leaves x)
+
+-- the tree with the nodes that one more leaf brings
+abbrev pub grown : {D : Type 0} → Kept D → List D → Kept D
+grown kept made = record kept { leaves = suc kept.leaves; nodes = kept.nodes ++ made }
+
+-- these are the digests of nodes that one more leaf brings to n leaves
+abbrev pub AreBorn : {D : Type 0} → Shape → Births → (D → Bytes) → (Bytes → Bytes) → ℕ → List Bytes → List D → Type 0
+AreBorn shape births bytes hash n leaves made = (k : ℕ) → k < length made → Gives bytes (slice_get made k) (digest_of hash shape leaves (births.born n k))
+
+-- the two nodes under a node
+abbrev pub left_of : Node → Node
+left_of node = record { height = node.height - 1; index = 2 * node.index }
+
+abbrev pub right_of : Node → Node
+right_of node = record { height = node.height - 1; index = 2 * node.index + 1 }

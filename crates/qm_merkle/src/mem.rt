@@ -1,8 +1,9 @@
 //! Trees in memory.
 
-ghost use Rattle.std.specs.Prelude.{◌≡◌, ℕ, suc, List, [], ◌∷◌, ◌++◌, All, IsSome, ◌↔◌, Some, IfOk, OnOk, OnErr, ◌<◌, ◌≤◌, ◌^◌, ◌+◌, length, map};
+ghost use Rattle.std.specs.Prelude.{◌≡◌, ℕ, suc, List, [], ◌∷◌, ◌++◌, All, IsSome, ◌↔◌, Some, IfOk, OnOk, OnErr, ◌<◌, ◌≤◌, ◌^◌, ◌+◌, ◌-◌, length, slice_get, map};
 ghost use Rattle.qm_model.specs.Trees as trees;
-ghost use Rattle.qm_merkle.specs.Mems.{Stands, Holds, node_at, pin_at};
+ghost use Rattle.qm_merkle.specs.Mems.{Stands, Holds, AreBorn, left_of, right_of, node_at, pin_at};
+ghost use Rattle.qm_model.specs.Families.{Births, IsHeld, over};
 
 use crate::family::{Family, Node};
 use crate::hasher::StandardHasher;
@@ -116,6 +117,88 @@ impl<F: Family, D: Digest> Mem<F, D> {
         }
         Ok(found)
     }
+
+    // Adds a leaf, with the nodes that are born with it.
+    fn add<H: Hasher<Digest = D>>(&mut self, alloc: Global, hasher: &mut StandardHasher<H>, leaf: D) -> Result<(), AllocError>
+        requires { self.old.leaves < 2 ^ 62 }
+        ensures bounds { OnOk result ((self.new.start ≡ self.old.start) × (self.new.leaves ≡ self.old.leaves + 1)) }
+        ensures stands { (leaves : List (List ℕ)) → Stands F.shape D.bytes H.hash self.old leaves → OnOk result (Stands F.shape D.bytes H.hash self.new (leaves ++ D.bytes leaf ∷ [])) }
+        ensures err { OnErr result (self.new ≡ self.old) }
+    {
+        let made = self.births(alloc, hasher, leaf)?;
+        self.nodes.extend_from_slice(&made)?;
+        self.leaves = Location::new(self.leaves.get() + 1);
+        Ok(())
+    }
+
+    // The nodes that are born with a leaf.
+    fn births<H: Hasher<Digest = D>>(&self, alloc: Global, hasher: &mut StandardHasher<H>, leaf: D) -> Result<Vec<D>, AllocError>
+        requires { self.now.leaves < 2 ^ 62 }
+        ensures count { IfOk result (λ v. length v.items ≡ Births.count F.births self.now.leaves) }
+        ensures born { (leaves : List (List ℕ)) → Stands F.shape D.bytes H.hash self.now leaves → IfOk result (λ v. AreBorn F.shape F.births D.bytes H.hash self.now.leaves (leaves ++ D.bytes leaf ∷ []) v.items) }
+    {
+        let count = F::birth_count(self.leaves);
+        let mut made = Vec::with_capacity(alloc, count as usize)?;
+        made.push(leaf)?;
+        for number in 1..count {
+            made.push(self.parent(hasher, &made, number))?;
+        }
+        Ok(made)
+    }
+
+    // The digest of the next node that is born with a leaf, over two halves that are there.
+    fn parent<H: Hasher<Digest = D>>(&self, hasher: &mut StandardHasher<H>, made: &[D], number: u32) -> D
+        requires few { self.now.leaves < 2 ^ 62 }
+        requires number { length made.now ≡ number }
+        requires some { 0 < number }
+        requires room { number < Births.count F.births self.now.leaves }
+        ensures { (leaves : List (List ℕ)) (leaf : D) → Stands F.shape D.bytes H.hash self.now leaves → AreBorn F.shape F.births D.bytes H.hash self.now.leaves (leaves ++ D.bytes leaf ∷ []) made.now
+            → D.bytes result ≡ trees.digest_of H.hash F.shape (leaves ++ D.bytes leaf ∷ []) (Births.born F.births self.now.leaves number) }
+    {
+        let node = F::born(self.leaves, number);
+        let (left, right) = halves(node);
+        let left = self.half(made, left);
+        let right = self.half(made, right);
+        hasher.node_digest(place::<F>(node), &left, &right)
+    }
+
+    // The digest of a node that is there when these of a leaf's nodes are made, where the node over it is not.
+    fn half(&self, made: &[D], node: Node) -> D
+        requires room { length made.now ≤ Births.count F.births self.now.leaves }
+        requires held { IsHeld F.shape F.births self.now.leaves (length made.now) node }
+        requires bare { self.now.start < trees.Shape.birth F.shape (over node) }
+        requires within { trees.end_of node ≤ 2 ^ 62 }
+        ensures old { trees.Shape.birth F.shape node ≤ self.now.leaves → node_at F.shape self.now (trees.Shape.position F.shape node) ≡ Some result }
+        ensures new { self.now.leaves < trees.Shape.birth F.shape node → slice_get made.now (trees.Shape.position F.shape node - trees.Shape.size F.shape self.now.leaves) ≡ Some result }
+    {
+        let position = place(node);
+        let size = F::location_to_position(self.leaves);
+        if position.get() < size.get() {
+            self.node(position)
+        } else {
+            made[(position.get() - size.get()) as usize]
+        }
+    }
+}
+
+// The two nodes under a node.
+fn halves(node: Node) -> (Node, Node)
+    requires high { 0 < node.height }
+    requires within { trees.end_of node ≤ 2 ^ 62 }
+    ensures left { result.0 ≡ left_of node }
+    ensures right { result.1 ≡ right_of node }
+{
+    let height = node.height() - 1;
+    let index = 2 * node.index();
+    (Node::new(height, index), Node::new(height, index + 1))
+}
+
+// Where a node stands.
+fn place<F: Family>(node: Node) -> Position<F>
+    requires { trees.end_of node ≤ 2 ^ 62 }
+    ensures { result ≡ trees.Shape.position F.shape node }
+{
+    F::subtree_root_position(Location::new(node.index() << node.height()), node.height())
 }
 
 // The digest that goes with a position.
