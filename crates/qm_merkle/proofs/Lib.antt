@@ -2,4 +2,5 @@ pub mod Numbering
 pub mod Lookups
 pub mod Standing
 pub mod Growth
+pub mod Pruning
 pub mod Rooting

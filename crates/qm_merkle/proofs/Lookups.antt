@@ -48,6 +48,22 @@ module _ {D : Type 0} where
           (λ (other : (q == p ≡ false) × (q ≢ p)). ap is_some (pin_at-other q qs d ds p other.1) ∙ go qs ds (omega arith) k (omega arith) is)
           (eqb_tells q p)
 
+  -- digests that were read at the positions
+  pub pin_at-read : (qs : List ℕ) (ds : List D) (at : ℕ → Option D) (p : ℕ) → map Some ds ≡ map at qs → Contains qs p → pin_at qs ds p ≡ at p
+  pin_at-read qs ds at p same found = go qs ds same found.0 found.1 found.2
+    where
+      go : (qs : List ℕ) (ds : List D) → map Some ds ≡ map at qs → (k : ℕ) → k < length qs → get_or qs k p ≡ p → pin_at qs ds p ≡ at p
+      go [] ds same k lt is = absurd (omega arith)
+      go (q ∷ qs) [] same k lt is = cc
+      go (q ∷ qs) (d ∷ ds) same zero lt is = let head : Some d ≡ at q = cc in pin_at-first q qs d ds p is ∙ head ∙ ap at is
+      go (q ∷ qs) (d ∷ ds) same (suc k) lt is =
+          let head : Some d ≡ at q = cc in
+          let tail : map Some ds ≡ map at qs = cc in
+          ⊎_elim
+            (λ (here : (q == p ≡ true) × (q ≡ p)). pin_at-first q qs d ds p here.1 ∙ head ∙ ap at here.1)
+            (λ (other : (q == p ≡ false) × (q ≢ p)). pin_at-other q qs d ds p other.1 ∙ go qs ds tail k (omega arith) is)
+            (eqb_tells q p)
+
   pub contains-pin_at : (qs : List ℕ) (ds : List D) (p : ℕ) → IsSome (pin_at qs ds p) → Contains qs p
   contains-pin_at [] ds p some = cc
   contains-pin_at (q ∷ qs) [] p some = cc
@@ -85,7 +101,7 @@ module _ {D : Type 0} where
 
   module _ (shape : Shape) (births : Births) (family : IsFamily shape births) (peaked : HasPeaks shape) (kept : Kept D) (whole : IsWhole shape kept) where
     -- the pins stand below the size at the kept start
-    pins_below : (p : ℕ) → Contains (peak_positions shape kept.start) p → p < shape.size kept.start
+    pub pins_below : (p : ℕ) → Contains (peak_positions shape kept.start) p → p < shape.size kept.start
     pins_below p found =
         let xs = peaks shape kept.start in
         let few : kept.start ≤ 2 ^ 62 = omega (arith, whole.order, whole.few) in

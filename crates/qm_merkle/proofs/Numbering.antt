@@ -17,6 +17,12 @@ module _ (shape : Shape) (births : Births) (family : IsFamily shape births) wher
   pub sizes-lt : (n m : ℕ) → n < m → shape.size n < shape.size m
   sizes-lt n m lt = let le : suc n ≤ m = omega arith in omega (arith, sizes (suc n) m le, family.sized n, family.some n)
 
+  pub sizes_tell : (n m : ℕ) → shape.size n ≤ shape.size m → n ≤ m
+  sizes_tell n m le = ⊎_elim (λ (lt : m < n). absurd (omega (arith, sizes-lt m n lt))) (λ (at_most : n ≤ m). at_most) (cases_lt m n)
+
+  pub same_size : (n m : ℕ) → shape.size n ≡ shape.size m → n ≡ m
+  same_size n m e = omega (arith, sizes_tell n m (omega arith), sizes_tell m n (omega arith))
+
   pub born_once : (x : Node) → 0 < shape.birth x
   born_once x =
       let pos = pow_pos x.height in

@@ -1,6 +1,6 @@
 //! Trees in memory.
 
-ghost use Rattle.std.specs.Prelude.{◌≡◌, ℕ, suc, List, [], ◌∷◌, ◌++◌, All, IsSome, ◌↔◌, Some, IfOk, OnOk, OnErr, ◌<◌, ◌≤◌, ◌^◌, ◌+◌, ◌-◌, length, slice_get, map};
+ghost use Rattle.std.specs.Prelude.{◌≡◌, ℕ, suc, List, [], ◌∷◌, ◌++◌, All, IsSome, ◌↔◌, Some, IfOk, IfErr, OnOk, OnErr, ◌⊎◌, slice_index, ◌<◌, ◌≤◌, ◌^◌, ◌+◌, ◌-◌, length, slice_get, map};
 ghost use Rattle.qm_model.specs.Trees as trees;
 ghost use Rattle.qm_merkle.specs.Mems.{Stands, Holds, AreBorn, left_of, right_of, node_at, pin_at};
 ghost use Rattle.qm_model.specs.Families.{Births, IsHeld, over};
@@ -8,7 +8,7 @@ ghost use Rattle.qm_model.specs.Families.{Births, IsHeld, over};
 use crate::family::{Family, Node};
 use crate::hasher::StandardHasher;
 use crate::position::Position;
-use qm_base::{Digest, Hasher, Location};
+use qm_base::{Digest, Hasher, Location, MerkleError};
 use std::alloc::{AllocError, Global};
 use std::marker::Model;
 
@@ -17,7 +17,7 @@ use std::marker::Model;
 pub struct Mem<F: Family, D> {
     start: Location<F>,
     leaves: Location<F>,
-    pinned: Vec<Position<F>>,
+    positions: Vec<Position<F>>,
     pins: Vec<D>,
     nodes: Vec<D>,
 }
@@ -31,7 +31,7 @@ impl<F: Family, D> Model for Mem<F, D> {
 
     ghost view = { λ m. record { start = m.start; leaves = m.leaves; pins = m.pins.items; nodes = m.nodes.items } };
 
-    ghost invariant = { λ m. (m.pinned.items ≡ peak_positions F.shape m.start) × IsWhole F.shape (record { start = m.start; leaves = m.leaves; pins = m.pins.items; nodes = m.nodes.items }) };
+    ghost invariant = { λ m. (m.positions.items ≡ peak_positions F.shape m.start) × IsWhole F.shape (record { start = m.start; leaves = m.leaves; pins = m.pins.items; nodes = m.nodes.items }) };
 }
 
 impl<F: Family, D: Digest> Mem<F, D> {
@@ -43,9 +43,51 @@ impl<F: Family, D: Digest> Mem<F, D> {
         Mem {
             start: Location::new(0),
             leaves: Location::new(0),
-            pinned: Vec::new(alloc),
+            positions: Vec::new(alloc),
             pins: Vec::new(alloc),
             nodes: Vec::new(alloc),
+        }
+    }
+
+    /// The tree that was pruned to there, of the nodes from there on and the digests of the peaks there.
+    pub fn from_components(alloc: Global, nodes: Vec<D>, pruned_to: Location<F>, pinned: Vec<D>) -> Result<Self, MerkleError>
+        requires pins { length pinned.items ≤ length (trees.peaks F.shape pruned_to) }
+        requires size { (n : ℕ) × (n ≤ 2 ^ 62) × (trees.Shape.size F.shape n ≡ trees.Shape.size F.shape pruned_to + length nodes.items) }
+        ensures ok { (n : ℕ) → trees.Shape.size F.shape n ≡ trees.Shape.size F.shape pruned_to + length nodes.items → IfOk result (λ mem. mem ≡ record { start = pruned_to; leaves = n; pins = pinned.items; nodes = nodes.items }) }
+        ensures enough { OnOk result (length pinned.items ≡ length (trees.peaks F.shape pruned_to)) }
+        ensures missing { IfErr result (λ e. (e ≡ MerkleError.Memory) ⊎ ((length pinned.items < length (trees.peaks F.shape pruned_to)) × (e ≡ MerkleError.MissingNode (slice_index (trees.peak_positions F.shape pruned_to) (length pinned.items))))) }
+    {
+        let positions = F::nodes_to_pin(alloc, pruned_to)?;
+        if pinned.len() < positions.len() {
+            return Err(MerkleError::MissingNode(positions[pinned.len()].get()));
+        }
+        Ok(Mem::of_parts(positions, nodes, pruned_to, pinned))
+    }
+
+    /// The tree that was pruned to there, of the nodes from there on and all the digests of the peaks there.
+    pub fn from_pruned_with_retained(alloc: Global, nodes: Vec<D>, pruned_to: Location<F>, pinned: Vec<D>) -> Result<Self, AllocError>
+        requires pins { length pinned.items ≡ length (trees.peaks F.shape pruned_to) }
+        requires size { (n : ℕ) × (n ≤ 2 ^ 62) × (trees.Shape.size F.shape n ≡ trees.Shape.size F.shape pruned_to + length nodes.items) }
+        ensures { (n : ℕ) → trees.Shape.size F.shape n ≡ trees.Shape.size F.shape pruned_to + length nodes.items → IfOk result (λ mem. mem ≡ record { start = pruned_to; leaves = n; pins = pinned.items; nodes = nodes.items }) }
+    {
+        let positions = F::nodes_to_pin(alloc, pruned_to)?;
+        Ok(Mem::of_parts(positions, nodes, pruned_to, pinned))
+    }
+
+    // The tree of these nodes, positions of pins and pins.
+    fn of_parts(positions: Vec<Position<F>>, nodes: Vec<D>, start: Location<F>, pins: Vec<D>) -> Self
+        requires positions { positions.items ≡ trees.peak_positions F.shape start }
+        requires pins { length pins.items ≡ length (trees.peaks F.shape start) }
+        requires size { (n : ℕ) × (n ≤ 2 ^ 62) × (trees.Shape.size F.shape n ≡ trees.Shape.size F.shape start + length nodes.items) }
+        ensures { (n : ℕ) → trees.Shape.size F.shape n ≡ trees.Shape.size F.shape start + length nodes.items → result ≡ record { start = start; leaves = n; pins = pins.items; nodes = nodes.items } }
+    {
+        let leaves = leaves_past(start, nodes.len() as u64);
+        Mem {
+            start,
+            leaves,
+            positions,
+            pins,
+            nodes,
         }
     }
 
@@ -78,7 +120,7 @@ impl<F: Family, D: Digest> Mem<F, D> {
     {
         let size = F::location_to_position(self.start).get();
         if position.get() < size {
-            return pin(&self.pinned, &self.pins, position.get());
+            return pin(&self.positions, &self.pins, position.get());
         }
         let index = (position.get() - size) as usize;
         if index < self.nodes.len() {
@@ -96,6 +138,28 @@ impl<F: Family, D: Digest> Mem<F, D> {
         let positions = F::nodes_to_pin(alloc, self.leaves)?;
         let peaks = self.digests(alloc, &positions)?;
         Ok(hasher.root(self.leaves, inactive, &peaks))
+    }
+
+    /// Forgets the leaves below a location, but for the digests of the peaks there.
+    pub fn prune(&mut self, alloc: Global, to: Location<F>) -> Result<(), AllocError>
+        requires start { self.old.start ≤ to }
+        requires leaves { to ≤ self.old.leaves }
+        ensures bounds { OnOk result ((self.new.start ≡ to) × (self.new.leaves ≡ self.old.leaves)) }
+        ensures same { OnOk result ((p : ℕ) → Holds F.shape self.new p → node_at F.shape self.new p ≡ node_at F.shape self.old p) }
+        ensures stands { (hash : List ℕ → List ℕ) (leaves : List (List ℕ)) → Stands F.shape D.bytes hash self.old leaves → OnOk result (Stands F.shape D.bytes hash self.new leaves) }
+        ensures err { OnErr result (self.new ≡ self.old) }
+    {
+        let start = self.start;
+        let positions = F::nodes_to_pin(alloc, to)?;
+        let pins = self.digests(alloc, &positions)?;
+        let forgotten = F::location_to_position(to).get() - F::location_to_position(start).get();
+        let (_, rest) = self.nodes.split_at(forgotten as usize);
+        let nodes = Vec::from_slice(alloc, rest)?;
+        self.start = to;
+        self.positions = positions;
+        self.pins = pins;
+        self.nodes = nodes;
+        Ok(())
     }
 
     // The digest of a node that the tree holds.
@@ -179,6 +243,25 @@ impl<F: Family, D: Digest> Mem<F, D> {
             made[(position.get() - size.get()) as usize]
         }
     }
+}
+
+// How many leaves a tree has with so many nodes past the size at a start.
+fn leaves_past<F: Family>(start: Location<F>, nodes: u64) -> Location<F>
+    requires { (n : ℕ) × (n ≤ 2 ^ 62) × (trees.Shape.size F.shape n ≡ trees.Shape.size F.shape start + nodes) }
+    ensures { (n : ℕ) → trees.Shape.size F.shape n ≡ trees.Shape.size F.shape start + nodes → result ≡ n }
+{
+    let before = F::location_to_position(start).get();
+    let mut low = start.get();
+    let mut high = 1 << 62;
+    'leaves: while low < high {
+        let middle = low + (high - low) / 2;
+        if F::location_to_position(Location::new(middle)).get() - before < nodes {
+            low = middle + 1;
+        } else {
+            high = middle;
+        }
+    }
+    Location::new(low)
 }
 
 // The two nodes under a node.
