@@ -3,4 +3,3 @@ pub mod Lookups
 pub mod Standing
 pub mod Growth
 pub mod Pruning
-pub mod Rooting
