@@ -1,5 +1,5 @@
 -- The program's operations over byte strings.
-use Rattle.std.specs.Prelude.{List, map, Option, option_map}
+use Rattle.std.specs.Prelude.{List, map, option_map}
 use Rattle.qm_model.specs.Operations.{Bytes, Operation, delete, commit}
 use Rattle.qm_base.specs.declared.operation.Operation as declared
 use Rattle.qm_base.specs.declared.operation.Operation.TheVariants.{Update, Delete, CommitFloor}

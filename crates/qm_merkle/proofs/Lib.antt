@@ -1,3 +1,5 @@
+pub mod Rooting
+pub mod MmrCalls
 pub mod Numbering
 pub mod Lookups
 pub mod Standing

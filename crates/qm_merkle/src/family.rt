@@ -78,7 +78,10 @@ pub trait Family: Copy {
         ensures { IfOk result (λ v. v.items ≡ trees.peaks shape leaves) };
 
     /// Where the peaks over so many leaves stand: the nodes that a tree pruned to there has to keep.
-    fn nodes_to_pin(alloc: Global, leaves: Location<Self>) -> Result<Vec<Position<Self>>, AllocError>
+    fn nodes_to_pin(
+        alloc: Global,
+        leaves: Location<Self>,
+    ) -> Result<Vec<Position<Self>>, AllocError>
         requires { leaves ≤ 2 ^ 62 }
         ensures { IfOk result (λ v. v.items ≡ trees.peak_positions shape leaves) };
 

@@ -31,18 +31,29 @@ impl<H: Hasher> StandardHasher<H> {
     }
 
     /// The digest of the inner node at this position over its two halves.
-    pub fn node_digest<F>(&mut self, position: Position<F>, left: &H::Digest, right: &H::Digest) -> H::Digest
+    pub fn node_digest<F>(
+        &mut self,
+        position: Position<F>,
+        left: &H::Digest,
+        right: &H::Digest,
+    ) -> H::Digest
         ensures { H.Digest.bytes result ≡ trees.node_digest H.hash position (H.Digest.bytes left.now) (H.Digest.bytes right.now) }
     {
+        let place = position.get();
         self.hasher.start();
-        self.hasher.update(&eight_bytes(position.get()));
+        self.hasher.update(&eight_bytes(place));
         self.hasher.update(left.bytes());
         self.hasher.update(right.bytes());
         self.hasher.finish()
     }
 
     /// The root over so many leaves, of whose peaks the first ones are inactive.
-    pub fn root<F>(&mut self, leaves: Location<F>, inactive: usize, peaks: &[H::Digest]) -> H::Digest
+    pub fn root<F>(
+        &mut self,
+        leaves: Location<F>,
+        inactive: usize,
+        peaks: &[H::Digest],
+    ) -> H::Digest
         requires { inactive ≤ length peaks.now }
         ensures { H.Digest.bytes result ≡ trees.root_of H.hash leaves inactive (map H.Digest.bytes peaks.now) }
     {

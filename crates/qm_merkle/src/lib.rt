@@ -6,6 +6,8 @@ pub mod hasher;
 pub mod mem;
 pub mod mmr;
 pub mod position;
+#[cfg(test)]
+mod tests;
 
 pub use family::{Family, Node};
 pub use hasher::StandardHasher;

@@ -8,3 +8,6 @@ pub mod Overwrites
 pub mod Keeping
 pub mod Chains
 pub mod Runs
+pub mod MmrPositions
+pub mod MmrFamily
+pub mod MmrPeaks
