@@ -47,8 +47,8 @@ digest-append hash shape leaves more zero a within = get_or_append_left leaves m
 digest-append hash shape leaves more (suc h) a within =
     let halves : suc a * 2 ^ suc h ≡ suc a * (2 ^ h * 2) = ap (λ z. suc a * z) (pow-suc 2 h) in
     ap₂ (node_digest hash (shape.position (record { height = suc h; index = a })))
-        (digest-append hash shape leaves more h (2 * a) (omega arith))
-        (digest-append hash shape leaves more h (2 * a + 1) (omega arith))
+    (digest-append hash shape leaves more h (2 * a) (omega arith))
+    (digest-append hash shape leaves more h (2 * a + 1) (omega arith))
 
 -- a tree with a leaf's nodes, field by field
 pub grown-fields : {D : Type 0} (kept : Kept D) (made : List D) (next : Kept D) → kept.start ≡ next.start → suc kept.leaves ≡ next.leaves → kept.pins ≡ next.pins → kept.nodes ++ made ≡ next.nodes → grown kept made ≡ next
@@ -60,8 +60,8 @@ module _ (shape : Shape) (births : Births) (family : IsFamily shape births) wher
   made_place n k x room held high = ⊎_elim
       (λ (old : shape.birth x ≤ n). absurd (omega (arith, stands_below shape births family x n old)))
       (λ (new : (j : ℕ) × (j < k) × (x ≡ births.born n j)).
-        let within : new.0 < births.count n = omega (arith, new.1) in
-        (new.0, new.1, new.2, ap shape.position new.2 ∙ family.placed n new.0 within))
+      let within : new.0 < births.count n = omega (arith, new.1) in
+      (new.0, new.1, new.2, ap shape.position new.2 ∙ family.placed n new.0 within))
       held
 
   pub made_index : (n k : ℕ) (x : Node) (i : ℕ) → k ≤ births.count n → IsHeld shape births n k x → shape.size n ≤ shape.position x → i ≡ shape.position x - shape.size n → i < k
@@ -72,8 +72,8 @@ module _ (shape : Shape) (births : Births) (family : IsFamily shape births) wher
   held_birth n k x room held = ⊎_elim
       (λ (old : shape.birth x ≤ n). omega arith)
       (λ (new : (j : ℕ) × (j < k) × (x ≡ births.born n j)).
-        let within : new.0 < births.count n = omega (arith, new.1) in
-        omega (arith, ap shape.birth new.2, birth-born shape births family n new.0 within))
+      let within : new.0 < births.count n = omega (arith, new.1) in
+      omega (arith, ap shape.birth new.2, birth-born shape births family n new.0 within))
       held
 
   -- the halves of a node that an append brings
@@ -85,7 +85,7 @@ module _ (shape : Shape) (births : Births) (family : IsFamily shape births) wher
     pub left_within : end_of left ≤ suc n
     pub right_within : end_of right ≤ suc n
     pub parent : (hash : Bytes → Bytes) (leaves : List Bytes) → digest_of hash shape leaves (births.born n k) ≡
-      node_digest hash (shape.position (births.born n k)) (digest_of hash shape leaves left) (digest_of hash shape leaves right)
+        node_digest hash (shape.position (births.born n k)) (digest_of hash shape leaves left) (digest_of hash shape leaves right)
 
   pub born_high : (n k : ℕ) → 0 < k → k < births.count n → 0 < (births.born n k).height
   born_high n k some lt = let halves = family.halves n k some lt in omega (arith, ap (λ (x : Node). x.height) halves.is)
@@ -114,9 +114,10 @@ module _ (shape : Shape) (births : Births) (family : IsFamily shape births) wher
         left_within = omega (arith, family.inside left, held_birth n k left (omega arith) left_held);
         right_within = omega (arith, family.inside right, held_birth n k right (omega arith) right_held);
         parent = λ hash leaves.
-          ap (digest_of hash shape leaves) halves.is
-          ∙ ap (λ x. node_digest hash (shape.position x) (digest hash shape leaves h (2 * i)) (digest hash shape leaves h (2 * i + 1))) (sym halves.is)
-          ∙ ap₂ (λ x y. node_digest hash (shape.position (births.born n k)) (digest_of hash shape leaves x) (digest_of hash shape leaves y)) l r }
+            ap (digest_of hash shape leaves) halves.is
+            ∙ ap (λ x. node_digest hash (shape.position x) (digest hash shape leaves h (2 * i)) (digest hash shape leaves h (2 * i + 1))) (sym halves.is)
+            ∙ ap₂ (λ x y. node_digest hash (shape.position (births.born n k)) (digest_of hash shape leaves x) (digest_of hash shape leaves y)) l r;
+      }
     where
       node_path : (h a k b : ℕ) → h ≡ k → a ≡ b → ◌≡◌ {A = Node} (record { height = h; index = a }) (record { height = k; index = b })
       node_path h a k b eh ea = λ t. record { height = eh t; index = ea t }
@@ -136,7 +137,7 @@ module _ (shape : Shape) (births : Births) (family : IsFamily shape births) wher
         let first : births.born kept.leaves 0 ≡ record { height = 0; index = length leaves } = family.first kept.leaves ∙ ap (λ (i : ℕ). record { height = 0; index = i }) stands.count in
         let is : digest_of hash shape now (births.born kept.leaves 0) ≡ bytes leaf = ap (digest_of hash shape now) first ∙ get_or-append_seam leaves (bytes leaf) [] [] in
         subst (λ j. Gives bytes (slice_get made j) (digest_of hash shape now (births.born kept.leaves j))) none
-          (ap (λ xs. option_map bytes (slice_get xs 0)) one ∙ ap Some (sym is))
+        (ap (λ xs. option_map bytes (slice_get xs 0)) one ∙ ap Some (sym is))
 
     -- the digest of a half
     pub half_is : (made : List D) (x : Node) (d : D) → length made ≤ births.count kept.leaves → IsHeld shape births kept.leaves (length made) x → kept.start < shape.birth (over x) →
@@ -145,18 +146,18 @@ module _ (shape : Shape) (births : Births) (family : IsFamily shape births) wher
         bytes d ≡ digest_of hash shape now x
     half_is made x d room held bare born old new = ⊎_elim
         (λ (late : kept.leaves < shape.birth x).
-          let at = made_place kept.leaves (length made) x room held (stands_past shape births family x kept.leaves late) in
-          let place : shape.position x - shape.size kept.leaves ≡ at.0 = omega (arith, at.3) in
-          let is : ◌≡◌ {A = Option Bytes} (Some (bytes d)) (Some (digest_of hash shape now x)) =
-              ap (option_map bytes) (sym (new late) ∙ ap (slice_get made) place) ∙ born at.0 at.1 ∙ ap (λ y. Some (digest_of hash shape now y)) (sym at.2) in
-          same is)
+        let at = made_place kept.leaves (length made) x room held (stands_past shape births family x kept.leaves late) in
+        let place : shape.position x - shape.size kept.leaves ≡ at.0 = omega (arith, at.3) in
+        let is : ◌≡◌ {A = Option Bytes} (Some (bytes d)) (Some (digest_of hash shape now x)) =
+        ap (option_map bytes) (sym (new late) ∙ ap (slice_get made) place) ∙ born at.0 at.1 ∙ ap (λ y. Some (digest_of hash shape now y)) (sym at.2) in
+        same is)
         (λ (early : shape.birth x ≤ kept.leaves).
-          let within : end_of x ≤ length leaves = omega (arith, family.inside x, stands.count) in
-          let few : kept.start ≤ 2 ^ 62 = omega (arith, whole.order, whole.few) in
-          let is : ◌≡◌ {A = Option Bytes} (Some (bytes d)) (Some (digest_of hash shape now x)) =
-              ap (option_map bytes) (sym (old early)) ∙ gives shape births family peaked bytes hash kept leaves stands x few early bare
-              ∙ ap Some (sym (digest-append hash shape leaves (bytes leaf ∷ []) x.height x.index within)) in
-          same is)
+        let within : end_of x ≤ length leaves = omega (arith, family.inside x, stands.count) in
+        let few : kept.start ≤ 2 ^ 62 = omega (arith, whole.order, whole.few) in
+        let is : ◌≡◌ {A = Option Bytes} (Some (bytes d)) (Some (digest_of hash shape now x)) =
+        ap (option_map bytes) (sym (old early)) ∙ gives shape births family peaked bytes hash kept leaves stands x few early bare
+        ∙ ap Some (sym (digest-append hash shape leaves (bytes leaf ∷ []) x.height x.index within)) in
+        same is)
         (cases_lt kept.leaves (shape.birth x))
       where
         same : {a b : Bytes} → ◌≡◌ {A = Option Bytes} (Some a) (Some b) → a ≡ b
@@ -169,35 +170,36 @@ module _ (shape : Shape) (births : Births) (family : IsFamily shape births) wher
         let long : k < suc (length made) = omega (arith, ap length longer, length-append made (d ∷ [])) in
         ap (λ xs. option_map bytes (slice_get xs k)) longer
         ∙ ⊎_elim
-            (λ (below : k < length made). ap (option_map bytes) (slice_get-left made (d ∷ []) k below) ∙ born k below)
-            (λ (top : length made ≤ k).
-              let here : length made + 0 ≡ k = omega arith in
-              subst (λ j. option_map bytes (slice_get (made ++ d ∷ []) j) ≡ Some (digest_of hash shape now (births.born kept.leaves j))) here
-                (ap (option_map bytes) (slice_get-right made (d ∷ []) 0) ∙ ap Some (is ∙ ap (λ j. digest_of hash shape now (births.born kept.leaves j)) (omega arith))))
-            (cases_lt k (length made))
+        (λ (below : k < length made). ap (option_map bytes) (slice_get-left made (d ∷ []) k below) ∙ born k below)
+        (λ (top : length made ≤ k).
+        let here : length made + 0 ≡ k = omega arith in
+        subst (λ j. option_map bytes (slice_get (made ++ d ∷ []) j) ≡ Some (digest_of hash shape now (births.born kept.leaves j))) here
+        (ap (option_map bytes) (slice_get-right made (d ∷ []) 0) ∙ ap Some (is ∙ ap (λ j. digest_of hash shape now (births.born kept.leaves j)) (omega arith))))
+        (cases_lt k (length made))
 
     -- all nodes are there
     pub stands-grown : (made : List D) → length made ≡ births.count kept.leaves → AreBorn shape births bytes hash kept.leaves now made → Stands shape bytes hash (grown kept made) now
     stands-grown made all born = record {
-        count = omega (arith, stands.count, length-append leaves (bytes leaf ∷ []));
-        pins = stands.pins ∙ map_same (digest_of hash shape leaves) (digest_of hash shape now) (peaks shape kept.start) (λ k d lt.
+      count = omega (arith, stands.count, length-append leaves (bytes leaf ∷ []));
+      pins = stands.pins ∙ map_same (digest_of hash shape leaves) (digest_of hash shape now) (peaks shape kept.start) (λ k d lt.
           let x = get_or (peaks shape kept.start) k d in
           let early : shape.birth x ≤ kept.start = peaked.born kept.start (omega (arith, whole.order, whole.few)) k d lt in
           sym (digest-append hash shape leaves (bytes leaf ∷ []) x.height x.index (omega (arith, family.inside x, early, whole.order, stands.count))));
-        nodes = λ x new there.
+      nodes = λ x new there.
           let past : shape.size kept.start ≤ shape.position x = stands_past shape births family x kept.start new in
           let p = shape.position x - shape.size kept.start in
           ap (option_map bytes) (node_at-past shape (grown kept made) (shape.position x) past)
           ∙ ⊎_elim
-              (λ (last : kept.leaves < shape.birth x).
-                let at = family.all kept.leaves x (omega arith) in
-                let place : shape.position x ≡ shape.size kept.leaves + at.0 = ap shape.position at.2 ∙ family.placed kept.leaves at.0 at.1 in
-                let p_is : p ≡ length kept.nodes + at.0 = omega (arith, whole.full) in
-                ap (option_map bytes) (ap (slice_get (kept.nodes ++ made)) p_is ∙ slice_get-right kept.nodes made at.0)
-                ∙ born at.0 (omega (arith, at.1)) ∙ ap (λ y. Some (digest_of hash shape now y)) (sym at.2))
-              (λ (old : shape.birth x ≤ kept.leaves).
-                let low : p < length kept.nodes = omega (arith, whole.full, stands_below shape births family x kept.leaves old, past) in
-                let within : end_of x ≤ length leaves = omega (arith, family.inside x, stands.count) in
-                ap (option_map bytes) (slice_get-left kept.nodes made p low ∙ sym (node_at-past shape kept (shape.position x) past)) ∙ stands.nodes x new old
-                ∙ ap Some (sym (digest-append hash shape leaves (bytes leaf ∷ []) x.height x.index within)))
-              (cases_lt kept.leaves (shape.birth x)) }
+          (λ (last : kept.leaves < shape.birth x).
+          let at = family.all kept.leaves x (omega arith) in
+          let place : shape.position x ≡ shape.size kept.leaves + at.0 = ap shape.position at.2 ∙ family.placed kept.leaves at.0 at.1 in
+          let p_is : p ≡ length kept.nodes + at.0 = omega (arith, whole.full) in
+          ap (option_map bytes) (ap (slice_get (kept.nodes ++ made)) p_is ∙ slice_get-right kept.nodes made at.0)
+          ∙ born at.0 (omega (arith, at.1)) ∙ ap (λ y. Some (digest_of hash shape now y)) (sym at.2))
+          (λ (old : shape.birth x ≤ kept.leaves).
+          let low : p < length kept.nodes = omega (arith, whole.full, stands_below shape births family x kept.leaves old, past) in
+          let within : end_of x ≤ length leaves = omega (arith, family.inside x, stands.count) in
+          ap (option_map bytes) (slice_get-left kept.nodes made p low ∙ sym (node_at-past shape kept (shape.position x) past)) ∙ stands.nodes x new old
+          ∙ ap Some (sym (digest-append hash shape leaves (bytes leaf ∷ []) x.height x.index within)))
+          (cases_lt kept.leaves (shape.birth x));
+    }

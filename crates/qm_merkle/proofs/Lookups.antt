@@ -60,9 +60,9 @@ module _ {D : Type 0} where
           let head : Some d ≡ at q = cc in
           let tail : map Some ds ≡ map at qs = cc in
           ⊎_elim
-            (λ (here : (q == p ≡ true) × (q ≡ p)). pin_at-first q qs d ds p here.1 ∙ head ∙ ap at here.1)
-            (λ (other : (q == p ≡ false) × (q ≢ p)). pin_at-other q qs d ds p other.1 ∙ go qs ds tail k (omega arith) is)
-            (eqb_tells q p)
+          (λ (here : (q == p ≡ true) × (q ≡ p)). pin_at-first q qs d ds p here.1 ∙ head ∙ ap at here.1)
+          (λ (other : (q == p ≡ false) × (q ≢ p)). pin_at-other q qs d ds p other.1 ∙ go qs ds tail k (omega arith) is)
+          (eqb_tells q p)
 
   pub contains-pin_at : (qs : List ℕ) (ds : List D) (p : ℕ) → IsSome (pin_at qs ds p) → Contains qs p
   contains-pin_at [] ds p some = cc
@@ -70,8 +70,8 @@ module _ {D : Type 0} where
   contains-pin_at (q ∷ qs) (d ∷ ds) p some = ⊎_elim
       (λ (same : (q == p ≡ true) × (q ≡ p)). (0, omega arith, same.1))
       (λ (other : (q == p ≡ false) × (q ≢ p)).
-        let rest = contains-pin_at qs ds p (sym (ap is_some (pin_at-other q qs d ds p other.1)) ∙ some) in
-        (suc rest.0, omega (arith, rest.1), rest.2))
+      let rest = contains-pin_at qs ds p (sym (ap is_some (pin_at-other q qs d ds p other.1)) ∙ some) in
+      (suc rest.0, omega (arith, rest.1), rest.2))
       (eqb_tells q p)
 
   pub node_at-past : (shape : Shape) (kept : Kept D) (p : ℕ) → shape.size kept.start ≤ p → node_at shape kept p ≡ slice_get kept.nodes (p - shape.size kept.start)
@@ -122,11 +122,11 @@ module _ {D : Type 0} where
         to some = ⊎_elim
             (λ (low : p < shape.size kept.start). inl (contains-pin_at (peak_positions shape kept.start) kept.pins p (ap is_some (sym (node_at-pin shape kept p low) ∙ sym is) ∙ some)))
             (λ (high : shape.size kept.start ≤ p).
-              ⊎_elim (λ (lt : p - shape.size kept.start < length kept.nodes). inr (high, omega (arith, whole.full)))
-                (λ (past : length kept.nodes ≤ p - shape.size kept.start).
-                  let none : found ≡ None = is ∙ sym (missing_past shape kept p (shape.size kept.start) kept.nodes refl refl high past) in
-                  absurd (no (sym some ∙ ap is_some none)))
-                (cases_lt (p - shape.size kept.start) (length kept.nodes)))
+            ⊎_elim (λ (lt : p - shape.size kept.start < length kept.nodes). inr (high, omega (arith, whole.full)))
+            (λ (past : length kept.nodes ≤ p - shape.size kept.start).
+            let none : found ≡ None = is ∙ sym (missing_past shape kept p (shape.size kept.start) kept.nodes refl refl high past) in
+            absurd (no (sym some ∙ ap is_some none)))
+            (cases_lt (p - shape.size kept.start) (length kept.nodes)))
             (cases_lt p (shape.size kept.start))
           where
             no : true ≡ false → ⊥
@@ -135,8 +135,8 @@ module _ {D : Type 0} where
         from : Holds shape kept p → IsSome found
         from = ⊎_elim
             (λ (pin : Contains (peak_positions shape kept.start) p).
-              ap is_some (is ∙ node_at-pin shape kept p (pins_below p pin)) ∙ pin_at-contains (peak_positions shape kept.start) kept.pins p long pin)
+            ap is_some (is ∙ node_at-pin shape kept p (pins_below p pin)) ∙ pin_at-contains (peak_positions shape kept.start) kept.pins p long pin)
             (λ (past : (shape.size kept.start ≤ p) × (p < shape.size kept.leaves)).
-              let le = past.0 in
-              let lt : p - shape.size kept.start < length kept.nodes = omega (arith, past.0, past.1, whole.full) in
-              ap is_some (is ∙ node_at-past shape kept p le) ∙ is_some-slice_get kept.nodes (p - shape.size kept.start) lt)
+            let le = past.0 in
+            let lt : p - shape.size kept.start < length kept.nodes = omega (arith, past.0, past.1, whole.full) in
+            ap is_some (is ∙ node_at-past shape kept p le) ∙ is_some-slice_get kept.nodes (p - shape.size kept.start) lt)

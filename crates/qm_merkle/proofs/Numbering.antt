@@ -88,26 +88,26 @@ module _ (shape : Shape) (births : Births) (family : IsFamily shape births) wher
   over_later x =
       let p = place (over x) in
       let pos : 0 < p.number = ⊎_elim (λ (some : 0 < p.number). some)
-            (λ (none : p.number ≤ 0).
-              let zero_is : p.number ≡ 0 = omega arith in
-              let flat : suc x.height ≡ 0 = ap (λ (y : Node). y.height) (p.is ∙ ap (births.born p.before) zero_is ∙ family.first p.before) in
-              absurd (omega arith))
-            (cases_lt 0 p.number) in
+      (λ (none : p.number ≤ 0).
+      let zero_is : p.number ≡ 0 = omega arith in
+      let flat : suc x.height ≡ 0 = ap (λ (y : Node). y.height) (p.is ∙ ap (births.born p.before) zero_is ∙ family.first p.before) in
+      absurd (omega arith))
+      (cases_lt 0 p.number) in
       let halves = family.halves p.before p.number pos p.low in
       let is : over x ≡ record { height = suc halves.height; index = halves.index } = p.is ∙ halves.is in
       let height : suc x.height ≡ suc halves.height = ap (λ (y : Node). y.height) is in
       let index : x.index / 2 ≡ halves.index = ap (λ (y : Node). y.index) is in
       let level : halves.height ≡ x.height = omega arith in
       let here : (y : Node) → IsHeld shape births p.before p.number y → y ≡ x → shape.birth x ≤ shape.birth (over x) = λ y held same.
-            let birth : shape.birth y ≡ shape.birth x = ap shape.birth same in
-            ⊎_elim (λ (old : shape.birth y ≤ p.before). omega (arith, p.birth))
-              (λ (new : (j : ℕ) × (j < p.number) × (y ≡ births.born p.before j)).
-                let within : new.0 < births.count p.before = omega (arith, new.1, p.low) in
-                omega (arith, p.birth, ap shape.birth new.2, birth-born p.before new.0 within)) held in
+      let birth : shape.birth y ≡ shape.birth x = ap shape.birth same in
+      ⊎_elim (λ (old : shape.birth y ≤ p.before). omega (arith, p.birth))
+      (λ (new : (j : ℕ) × (j < p.number) × (y ≡ births.born p.before j)).
+      let within : new.0 < births.count p.before = omega (arith, new.1, p.low) in
+      omega (arith, p.birth, ap shape.birth new.2, birth-born p.before new.0 within)) held in
       ⊎_elim
-        (λ (even : x.index % 2 < 1). here _ halves.left (node_path level (omega arith)))
-        (λ (odd : 1 ≤ x.index % 2). here _ halves.right (node_path level (omega arith)))
-        (cases_lt (x.index % 2) 1)
+      (λ (even : x.index % 2 < 1). here _ halves.left (node_path level (omega arith)))
+      (λ (odd : 1 ≤ x.index % 2). here _ halves.right (node_path level (omega arith)))
+      (cases_lt (x.index % 2) 1)
     where
       node_path : {h a : ℕ} → h ≡ x.height → a ≡ x.index → record { height = h; index = a } ≡ x
       node_path eh ea = λ i. record { height = eh i; index = ea i }

@@ -32,20 +32,21 @@ module _ (shape : Shape) (births : Births) (family : IsFamily shape births) (pea
         order = omega (arith, pruned.leaves, pruned.upto);
         few = omega (arith, pruned.leaves, whole.few);
         pinned = sym (length-map next.pins Some) ∙ ap length pruned.pins ∙ length-map (peak_positions shape next.start) (node_at shape kept) ∙ length-map (peaks shape next.start) shape.position;
-        full = omega (arith, ap length pruned.nodes, length-drop (shape.size next.start - shape.size kept.start) kept.nodes, whole.full, ap shape.size pruned.leaves) }
+        full = omega (arith, ap length pruned.nodes, length-drop (shape.size next.start - shape.size kept.start) kept.nodes, whole.full, ap shape.size pruned.leaves);
+      }
 
   -- what it still holds is as before
   pub same-pruned : (p : ℕ) → Holds shape next p → node_at shape next p ≡ node_at shape kept p
   same-pruned p = ⊎_elim
       (λ (pin : Contains (peak_positions shape next.start) p).
-        node_at-pin shape next p (pins_below shape births family peaked next whole-pruned p pin) ∙ pin_at-read (peak_positions shape next.start) next.pins (node_at shape kept) p pruned.pins pin)
+      node_at-pin shape next p (pins_below shape births family peaked next whole-pruned p pin) ∙ pin_at-read (peak_positions shape next.start) next.pins (node_at shape kept) p pruned.pins pin)
       (λ (past : (shape.size next.start ≤ p) × (p < shape.size next.leaves)).
-        let low = sizes shape births family kept.start next.start pruned.from in
-        let from : shape.size kept.start ≤ p = omega (arith, past.0) in
-        let n = shape.size next.start - shape.size kept.start in
-        let place : n + (p - shape.size next.start) ≡ p - shape.size kept.start = omega (arith, past.0) in
-        node_at-past shape next p past.0 ∙ ap (λ xs. slice_get xs (p - shape.size next.start)) pruned.nodes ∙ slice_get-drop n kept.nodes (p - shape.size next.start)
-        ∙ ap (slice_get kept.nodes) place ∙ sym (node_at-past shape kept p from))
+      let low = sizes shape births family kept.start next.start pruned.from in
+      let from : shape.size kept.start ≤ p = omega (arith, past.0) in
+      let n = shape.size next.start - shape.size kept.start in
+      let place : n + (p - shape.size next.start) ≡ p - shape.size kept.start = omega (arith, past.0) in
+      node_at-past shape next p past.0 ∙ ap (λ xs. slice_get xs (p - shape.size next.start)) pruned.nodes ∙ slice_get-drop n kept.nodes (p - shape.size next.start)
+      ∙ ap (slice_get kept.nodes) place ∙ sym (node_at-past shape kept p from))
 
   pub stands-pruned : (bytes : D → Bytes) (hash : Bytes → Bytes) (leaves : List Bytes) → Stands shape bytes hash kept leaves → Stands shape bytes hash next leaves
   stands-pruned bytes hash leaves stands =
@@ -54,7 +55,8 @@ module _ (shape : Shape) (births : Births) (family : IsFamily shape births) (pea
       record {
         count = pruned.leaves ∙ stands.count;
         pins = read shape births family peaked bytes hash kept leaves stands (peaks shape next.start) next.pins pruned.pins few
-          (λ k d lt. omega (arith, peaked.born next.start low k d lt, pruned.upto)) (λ k d lt. omega (arith, peaked.bare next.start low k d lt, pruned.from));
+            (λ k d lt. omega (arith, peaked.born next.start low k d lt, pruned.upto)) (λ k d lt. omega (arith, peaked.bare next.start low k d lt, pruned.from));
         nodes = λ x new born.
-          ap (option_map bytes) (same-pruned (shape.position x) (inr (stands_past shape births family x next.start new, stands_below shape births family x next.leaves born)))
-          ∙ stands.nodes x (omega (arith, pruned.from)) (omega (arith, pruned.leaves)) }
+            ap (option_map bytes) (same-pruned (shape.position x) (inr (stands_past shape births family x next.start new, stands_below shape births family x next.leaves born)))
+            ∙ stands.nodes x (omega (arith, pruned.from)) (omega (arith, pruned.leaves));
+      }

@@ -29,19 +29,22 @@ module _ (shape : Shape) (births : Births) (family : IsFamily shape births) (pea
   pub whole-new : {D : Type 0} (kept : Kept D) (positions : List ℕ) → kept.start ≡ 0 → kept.leaves ≡ 0 → kept.pins ≡ [] → kept.nodes ≡ [] → positions ≡ [] →
       (positions ≡ peak_positions shape kept.start) × IsWhole shape kept
   whole-new kept positions start leaves pins nodes none =
-      let no_peaks : peaks shape kept.start ≡ [] = ap (peaks shape) start ∙ peaks-none in
-      (none ∙ sym (ap (map shape.position) no_peaks),
-      record {
-        order = omega arith;
-        few = omega arith;
-        pinned = ap length pins ∙ sym (ap length no_peaks);
-        full = omega (arith, ap length nodes, ap shape.size (start ∙ sym leaves)) })
+      let no_peaks : peaks shape kept.start ≡ [] = ap (peaks shape) start ∙ peaks-none in (
+        none ∙ sym (ap (map shape.position) no_peaks),
+        record {
+          order = omega arith;
+          few = omega arith;
+          pinned = ap length pins ∙ sym (ap length no_peaks);
+          full = omega (arith, ap length nodes, ap shape.size (start ∙ sym leaves));
+        },
+      )
 
   pub stands-new : {D : Type 0} (bytes : D → Bytes) (hash : Bytes → Bytes) (kept : Kept D) → kept.start ≡ 0 → kept.leaves ≡ 0 → kept.pins ≡ [] → Stands shape bytes hash kept []
   stands-new bytes hash kept start leaves pins = record {
-      count = leaves;
-      pins = ap (map bytes) pins ∙ sym (ap (λ n. map (digest_of hash shape []) (peaks shape n)) start ∙ ap (map (digest_of hash shape [])) peaks-none);
-      nodes = λ x new born. absurd (omega arith) }
+    count = leaves;
+    pins = ap (map bytes) pins ∙ sym (ap (λ n. map (digest_of hash shape []) (peaks shape n)) start ∙ ap (map (digest_of hash shape [])) peaks-none);
+    nodes = λ x new born. absurd (omega arith);
+  }
 
   module _ {D : Type 0} (kept : Kept D) (whole : IsWhole shape kept) where
     -- a node that is there is held, where the node over it was not there at the kept start
@@ -78,19 +81,19 @@ module _ (shape : Shape) (births : Births) (family : IsFamily shape births) (pea
             let head : bytes d ≡ digest_of hash shape leaves y = cc in
             let tail : map bytes ds ≡ map (digest_of hash shape leaves) ys = cc in
             ⊎_elim
-              (λ (here : (shape.position y == shape.position x ≡ true) × (shape.position y ≡ shape.position x)).
-                ap (option_map bytes) (pin_at-first (shape.position y) (map shape.position ys) d ds (shape.position x) here.1) ∙ ap Some (head ∙ ap (digest_of hash shape leaves) (same_place shape births family y x here.1)))
-              (λ (other : (shape.position y == shape.position x ≡ false) × (shape.position y ≢ shape.position x)).
-                ap (option_map bytes) (pin_at-other (shape.position y) (map shape.position ys) d ds (shape.position x) other.1) ∙ go ys ds tail k (omega arith) is)
-              (eqb_tells (shape.position y) (shape.position x))
+            (λ (here : (shape.position y == shape.position x ≡ true) × (shape.position y ≡ shape.position x)).
+            ap (option_map bytes) (pin_at-first (shape.position y) (map shape.position ys) d ds (shape.position x) here.1) ∙ ap Some (head ∙ ap (digest_of hash shape leaves) (same_place shape births family y x here.1)))
+            (λ (other : (shape.position y == shape.position x ≡ false) × (shape.position y ≢ shape.position x)).
+            ap (option_map bytes) (pin_at-other (shape.position y) (map shape.position ys) d ds (shape.position x) other.1) ∙ go ys ds tail k (omega arith) is)
+            (eqb_tells (shape.position y) (shape.position x))
 
     -- each node that is there, where the node over it was not at the kept start, is held
     pub gives : (x : Node) → kept.start ≤ 2 ^ 62 → shape.birth x ≤ kept.leaves → kept.start < shape.birth (over x) → Gives bytes (node_at shape kept (shape.position x)) (digest_of hash shape leaves x)
     gives x few born bare = ⊎_elim
         (λ (new : kept.start < shape.birth x). stands.nodes x new born)
         (λ (old : shape.birth x ≤ kept.start).
-          ap (option_map bytes) (node_at-pin shape kept (shape.position x) (stands_below shape births family x kept.start old))
-          ∙ pinned x (peaks shape kept.start) kept.pins stands.pins (peaked.all kept.start x few old bare))
+        ap (option_map bytes) (node_at-pin shape kept (shape.position x) (stands_below shape births family x kept.start old))
+        ∙ pinned x (peaks shape kept.start) kept.pins stands.pins (peaked.all kept.start x few old bare))
         (cases_lt kept.start (shape.birth x))
 
     -- the digests that are read at these nodes' places
@@ -112,5 +115,5 @@ module _ (shape : Shape) (births : Births) (family : IsFamily shape births) (pea
     rooted whole ds n inactive is same =
         let few : kept.start ≤ 2 ^ 62 = omega (arith, whole.order, whole.few) in
         let digests : map bytes ds ≡ map (digest_of hash shape leaves) (peaks shape kept.leaves) =
-            read (peaks shape kept.leaves) ds same few (peaked.born kept.leaves whole.few) (λ k d lt. omega (arith, peaked.bare kept.leaves whole.few k d lt, whole.order)) in
+        read (peaks shape kept.leaves) ds same few (peaked.born kept.leaves whole.few) (λ k d lt. omega (arith, peaked.bare kept.leaves whole.few k d lt, whole.order)) in
         ap₂ (λ m xs. root_of hash m inactive xs) (is ∙ stands.count) (digests ∙ ap (λ m. map (digest_of hash shape leaves) (peaks shape m)) stands.count)

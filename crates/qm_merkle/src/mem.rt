@@ -12,6 +12,9 @@ use qm_base::{Digest, Hasher, Location, MerkleError};
 use std::alloc::{AllocError, Global};
 use std::marker::Model;
 
+#[cfg(test)]
+mod tests;
+
 /// A tree over leaves' digests that may have forgotten its first leaves.
 #[derive(Drop)]
 pub struct Mem<F: Family, D> {
@@ -50,7 +53,12 @@ impl<F: Family, D: Digest> Mem<F, D> {
     }
 
     /// The tree that was pruned to there, of the nodes from there on and the digests of the peaks there.
-    pub fn from_components(alloc: Global, nodes: Vec<D>, pruned_to: Location<F>, pinned: Vec<D>) -> Result<Self, MerkleError>
+    pub fn from_components(
+        alloc: Global,
+        nodes: Vec<D>,
+        pruned_to: Location<F>,
+        pinned: Vec<D>,
+    ) -> Result<Self, MerkleError>
         requires pins { length pinned.items ≤ length (trees.peaks F.shape pruned_to) }
         requires size { (n : ℕ) × (n ≤ 2 ^ 62) × (trees.Shape.size F.shape n ≡ trees.Shape.size F.shape pruned_to + length nodes.items) }
         ensures ok { (n : ℕ) → trees.Shape.size F.shape n ≡ trees.Shape.size F.shape pruned_to + length nodes.items → IfOk result (λ mem. mem ≡ record { start = pruned_to; leaves = n; pins = pinned.items; nodes = nodes.items }) }
@@ -65,7 +73,12 @@ impl<F: Family, D: Digest> Mem<F, D> {
     }
 
     /// The tree that was pruned to there, of the nodes from there on and all the digests of the peaks there.
-    pub fn from_pruned_with_retained(alloc: Global, nodes: Vec<D>, pruned_to: Location<F>, pinned: Vec<D>) -> Result<Self, AllocError>
+    pub fn from_pruned_with_retained(
+        alloc: Global,
+        nodes: Vec<D>,
+        pruned_to: Location<F>,
+        pinned: Vec<D>,
+    ) -> Result<Self, AllocError>
         requires pins { length pinned.items ≡ length (trees.peaks F.shape pruned_to) }
         requires size { (n : ℕ) × (n ≤ 2 ^ 62) × (trees.Shape.size F.shape n ≡ trees.Shape.size F.shape pruned_to + length nodes.items) }
         ensures { (n : ℕ) → trees.Shape.size F.shape n ≡ trees.Shape.size F.shape pruned_to + length nodes.items → IfOk result (λ mem. mem ≡ record { start = pruned_to; leaves = n; pins = pinned.items; nodes = nodes.items }) }
@@ -75,7 +88,12 @@ impl<F: Family, D: Digest> Mem<F, D> {
     }
 
     // The tree of these nodes, positions of pins and pins.
-    fn of_parts(positions: Vec<Position<F>>, nodes: Vec<D>, start: Location<F>, pins: Vec<D>) -> Self
+    fn of_parts(
+        positions: Vec<Position<F>>,
+        nodes: Vec<D>,
+        start: Location<F>,
+        pins: Vec<D>,
+    ) -> Self
         requires positions { positions.items ≡ trees.peak_positions F.shape start }
         requires pins { length pins.items ≡ length (trees.peaks F.shape start) }
         requires size { (n : ℕ) × (n ≤ 2 ^ 62) × (trees.Shape.size F.shape n ≡ trees.Shape.size F.shape start + length nodes.items) }
@@ -131,7 +149,12 @@ impl<F: Family, D: Digest> Mem<F, D> {
     }
 
     /// The root over all leaves, the first of whose peaks are inactive.
-    pub fn root<H: Hasher<Digest = D>>(&self, alloc: Global, hasher: &mut StandardHasher<H>, inactive: usize) -> Result<D, AllocError>
+    pub fn root<H: Hasher<Digest = D>>(
+        &self,
+        alloc: Global,
+        hasher: &mut StandardHasher<H>,
+        inactive: usize,
+    ) -> Result<D, AllocError>
         requires { inactive ≤ length (trees.peaks F.shape self.now.leaves) }
         ensures { (leaves : List (List ℕ)) → Stands F.shape D.bytes H.hash self.now leaves → IfOk result (λ d. D.bytes d ≡ trees.root H.hash F.shape leaves inactive) }
     {
@@ -183,7 +206,12 @@ impl<F: Family, D: Digest> Mem<F, D> {
     }
 
     // Adds a leaf, with the nodes that are born with it.
-    fn add<H: Hasher<Digest = D>>(&mut self, alloc: Global, hasher: &mut StandardHasher<H>, leaf: D) -> Result<(), AllocError>
+    fn add<H: Hasher<Digest = D>>(
+        &mut self,
+        alloc: Global,
+        hasher: &mut StandardHasher<H>,
+        leaf: D,
+    ) -> Result<(), AllocError>
         requires { self.old.leaves < 2 ^ 62 }
         ensures bounds { OnOk result ((self.new.start ≡ self.old.start) × (self.new.leaves ≡ self.old.leaves + 1)) }
         ensures stands { (leaves : List (List ℕ)) → Stands F.shape D.bytes H.hash self.old leaves → OnOk result (Stands F.shape D.bytes H.hash self.new (leaves ++ D.bytes leaf ∷ [])) }
@@ -196,7 +224,12 @@ impl<F: Family, D: Digest> Mem<F, D> {
     }
 
     // The nodes that are born with a leaf.
-    fn births<H: Hasher<Digest = D>>(&self, alloc: Global, hasher: &mut StandardHasher<H>, leaf: D) -> Result<Vec<D>, AllocError>
+    fn births<H: Hasher<Digest = D>>(
+        &self,
+        alloc: Global,
+        hasher: &mut StandardHasher<H>,
+        leaf: D,
+    ) -> Result<Vec<D>, AllocError>
         requires { self.now.leaves < 2 ^ 62 }
         ensures count { IfOk result (λ v. length v.items ≡ Births.count F.births self.now.leaves) }
         ensures born { (leaves : List (List ℕ)) → Stands F.shape D.bytes H.hash self.now leaves → IfOk result (λ v. AreBorn F.shape F.births D.bytes H.hash self.now.leaves (leaves ++ D.bytes leaf ∷ []) v.items) }
@@ -211,7 +244,12 @@ impl<F: Family, D: Digest> Mem<F, D> {
     }
 
     // The digest of the next node that is born with a leaf, over two halves that are there.
-    fn parent<H: Hasher<Digest = D>>(&self, hasher: &mut StandardHasher<H>, made: &[D], number: u32) -> D
+    fn parent<H: Hasher<Digest = D>>(
+        &self,
+        hasher: &mut StandardHasher<H>,
+        made: &[D],
+        number: u32,
+    ) -> D
         requires few { self.now.leaves < 2 ^ 62 }
         requires number { length made.now ≡ number }
         requires some { 0 < number }

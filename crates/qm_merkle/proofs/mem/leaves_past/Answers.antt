@@ -10,9 +10,10 @@ location_to_position-requires g c =
 
 pub leaves-init : goal.leaves-init
 leaves-init g c = record {
-    from = omega arith;
-    few = le_refl (2 ^ 62);
-    between = λ n is few. (omega (arith, sizes_tell g.F.Family.shape g.F.Family.births g.met.F.Family.numbered c.args.start n (omega arith)), few) }
+  from = omega arith;
+  few = le_refl (2 ^ 62);
+  between = λ n is few. (omega (arith, sizes_tell g.F.Family.shape g.F.Family.births g.met.F.Family.numbered c.args.start n (omega arith)), few);
+}
 
 pub location_to_position-requires-in-leaves : goal.location_to_position-requires-in-leaves
 location_to_position-requires-in-leaves g c = omega (arith, c.new.ensures, c.leaves.invariant.few)
@@ -24,26 +25,28 @@ overflow_sub-get g c =
 
 pub leaves-preserved-then-get-before : goal.leaves-preserved-then-get-before
 leaves-preserved-then-get-before g c = record {
-    from = omega (arith, c.leaves.invariant.from);
-    few = c.leaves.invariant.few;
-    between = λ n is few.
+  from = omega (arith, c.leaves.invariant.from);
+  few = c.leaves.invariant.few;
+  between = λ n is few.
       let up : c.args.start ≤ c.new.result = omega (arith, c.new.ensures, c.leaves.invariant.from) in
       let before = sizes g.F.Family.shape g.F.Family.births g.met.F.Family.numbered c.args.start c.new.result up in
       let above : c.new.result < n = ⊎_elim (λ (lt : c.new.result < n). lt)
-            (λ (le : n ≤ c.new.result). absurd (omega (arith, sizes g.F.Family.shape g.F.Family.births g.met.F.Family.numbered n c.new.result le, c.location_to_position.ensures.size, c.location_to_position-in-leaves.ensures.size)))
-            (cases_lt c.new.result n) in
+      (λ (le : n ≤ c.new.result). absurd (omega (arith, sizes g.F.Family.shape g.F.Family.births g.met.F.Family.numbered n c.new.result le, c.location_to_position.ensures.size, c.location_to_position-in-leaves.ensures.size)))
+      (cases_lt c.new.result n) in
       let old = c.leaves.invariant.between n is few in
-      (omega (arith, c.new.ensures), old.1) }
+      (omega (arith, c.new.ensures), old.1);
+}
 
 pub leaves-preserved : goal.leaves-preserved
 leaves-preserved g c = record {
-    from = c.leaves.invariant.from;
-    few = omega (arith, c.leaves.invariant.few);
-    between = λ n is few.
+  from = c.leaves.invariant.from;
+  few = omega (arith, c.leaves.invariant.few);
+  between = λ n is few.
       let up : c.args.start ≤ c.new.result = omega (arith, c.new.ensures, c.leaves.invariant.from) in
       let before = sizes g.F.Family.shape g.F.Family.births g.met.F.Family.numbered c.args.start c.new.result up in
       let old = c.leaves.invariant.between n is few in
-      (old.0, omega (arith, c.new.ensures, sizes_tell g.F.Family.shape g.F.Family.births g.met.F.Family.numbered n c.new.result (omega (arith, c.location_to_position.ensures.size, c.location_to_position-in-leaves.ensures.size)))) }
+      (old.0, omega (arith, c.new.ensures, sizes_tell g.F.Family.shape g.F.Family.births g.met.F.Family.numbered n c.new.result (omega (arith, c.location_to_position.ensures.size, c.location_to_position-in-leaves.ensures.size))));
+}
 
 pub returns : goal.returns
 returns g c = λ n is.

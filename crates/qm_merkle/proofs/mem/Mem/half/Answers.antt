@@ -14,13 +14,13 @@ node-requires g c =
     let leaves : c.self.inside.leaves ≡ kept.leaves = ap (λ k. k.leaves) c.self.view_is in
     let low = birth_below shape g.F.Family.births g.met.F.Family.numbered c.args.node kept.leaves (omega (arith, c.place-position.ensures, c.location_to_position-size.ensures.size, ap shape.size leaves)) in
     subst (Holds shape kept) (sym c.place-position.ensures)
-      (node_held shape g.F.Family.births g.met.F.Family.numbered g.met.F.Family.peaked kept (subst (IsWhole shape) c.self.view_is c.self.invariant.1) c.args.node low c.requires.bare)
+    (node_held shape g.F.Family.births g.met.F.Family.numbered g.met.F.Family.peaked kept (subst (IsWhole shape) c.self.view_is c.self.invariant.1) c.args.node low c.requires.bare)
 
 pub bounds-made-get : goal.bounds-made-get
 bounds-made-get g c =
     let size : c.location_to_position-size.result ≡ g.F.Family.shape.size c.args.self.now.leaves = c.location_to_position-size.ensures.size ∙ ap (λ k. g.F.Family.shape.size k.leaves) c.self.view_is in
     made_index g.F.Family.shape g.F.Family.births g.met.F.Family.numbered c.args.self.now.leaves (length c.args.made.now) c.args.node (c.get-else-get.result - c.get-else-get-2.result)
-      c.requires.room c.requires.held (omega (arith, c.place-position.ensures)) (omega (arith, c.place-position.ensures))
+    c.requires.room c.requires.held (omega (arith, c.place-position.ensures)) (omega (arith, c.place-position.ensures))
 
 pub offset_bounds-made-get : goal.offset_bounds-made-get
 offset_bounds-made-get g c = omega (arith, bounds-made-get g c)
@@ -36,5 +36,5 @@ returns-else-get-clause-new g c = λ new.
     let index = c.get-else-get.result - c.get-else-get-2.result in
     let is : index ≡ g.F.Family.shape.position c.args.node - g.F.Family.shape.size c.args.self.now.leaves = omega (arith, c.place-position.ensures) in
     let lt = made_index g.F.Family.shape g.F.Family.births g.met.F.Family.numbered c.args.self.now.leaves (length c.args.made.now) c.args.node index
-          c.requires.room c.requires.held (omega (arith, c.place-position.ensures)) is in
+    c.requires.room c.requires.held (omega (arith, c.place-position.ensures)) is in
     ap (slice_get c.args.made.now) (sym is) ∙ slice_get_read c.args.made.now (length c.args.made.now) index c.index-made-get.result refl lt c.index-made-get.is

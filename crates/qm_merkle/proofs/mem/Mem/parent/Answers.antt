@@ -28,7 +28,7 @@ halves-left-requires-clause-within g c =
 pub half-left-requires-clause-held : goal.half-left-requires-clause-held
 half-left-requires-clause-held g c =
     subst (λ k. IsHeld g.F.Family.shape g.F.Family.births c.args.self.now.leaves k c.halves-left.result.0) (sym c.requires.number)
-      (halves_are g c.self.inside.leaves c.args.self.now.leaves c.args.number c.born-node.result c.halves-left.result.0 c.halves-left.result.1 (ap (λ k. k.leaves) c.self.view_is) c.requires.some c.requires.room c.born-node.ensures c.halves-left.ensures.left c.halves-left.ensures.right).left_held
+    (halves_are g c.self.inside.leaves c.args.self.now.leaves c.args.number c.born-node.result c.halves-left.result.0 c.halves-left.result.1 (ap (λ k. k.leaves) c.self.view_is) c.requires.some c.requires.room c.born-node.ensures c.halves-left.ensures.left c.halves-left.ensures.right).left_held
 
 pub half-left-requires-clause-bare : goal.half-left-requires-clause-bare
 half-left-requires-clause-bare g c =
@@ -44,7 +44,7 @@ half-left-requires-clause-within g c =
 pub half-right-requires-clause-held : goal.half-right-requires-clause-held
 half-right-requires-clause-held g c =
     subst (λ k. IsHeld g.F.Family.shape g.F.Family.births c.args.self.now.leaves k c.halves-left.result.1) (sym c.requires.number)
-      (halves_are g c.self.inside.leaves c.args.self.now.leaves c.args.number c.born-node.result c.halves-left.result.0 c.halves-left.result.1 (ap (λ k. k.leaves) c.self.view_is) c.requires.some c.requires.room c.born-node.ensures c.halves-left.ensures.left c.halves-left.ensures.right).right_held
+    (halves_are g c.self.inside.leaves c.args.self.now.leaves c.args.number c.born-node.result c.halves-left.result.0 c.halves-left.result.1 (ap (λ k. k.leaves) c.self.view_is) c.requires.some c.requires.room c.born-node.ensures c.halves-left.ensures.left c.halves-left.ensures.right).right_held
 
 pub half-right-requires-clause-bare : goal.half-right-requires-clause-bare
 half-right-requires-clause-bare g c =
@@ -75,11 +75,11 @@ returns g c = λ leaves leaf stands born.
     let left_bare : kept.start < shape.birth (over c.halves-left.result.0) = omega (arith, whole.order, halves.left_bare) in
     let right_bare : kept.start < shape.birth (over c.halves-left.result.1) = omega (arith, whole.order, halves.right_bare) in
     let left : bytes c.half-left.result ≡ digest_of hash shape now c.halves-left.result.0 =
-        half_is shape births g.met.F.Family.numbered g.met.F.Family.peaked bytes hash kept whole leaves stands leaf c.args.made.now c.halves-left.result.0 c.half-left.result room
-          (subst (λ k. IsHeld shape births kept.leaves k c.halves-left.result.0) (sym c.requires.number) halves.left_held) left_bare born c.half-left.ensures.old c.half-left.ensures.new in
+    half_is shape births g.met.F.Family.numbered g.met.F.Family.peaked bytes hash kept whole leaves stands leaf c.args.made.now c.halves-left.result.0 c.half-left.result room
+    (subst (λ k. IsHeld shape births kept.leaves k c.halves-left.result.0) (sym c.requires.number) halves.left_held) left_bare born c.half-left.ensures.old c.half-left.ensures.new in
     let right : bytes c.half-right.result ≡ digest_of hash shape now c.halves-left.result.1 =
-        half_is shape births g.met.F.Family.numbered g.met.F.Family.peaked bytes hash kept whole leaves stands leaf c.args.made.now c.halves-left.result.1 c.half-right.result room
-          (subst (λ k. IsHeld shape births kept.leaves k c.halves-left.result.1) (sym c.requires.number) halves.right_held) right_bare born c.half-right.ensures.old c.half-right.ensures.new in
+    half_is shape births g.met.F.Family.numbered g.met.F.Family.peaked bytes hash kept whole leaves stands leaf c.args.made.now c.halves-left.result.1 c.half-right.result room
+    (subst (λ k. IsHeld shape births kept.leaves k c.halves-left.result.1) (sym c.requires.number) halves.right_held) right_bare born c.half-right.ensures.old c.half-right.ensures.new in
     c.node_digest.ensures
     ∙ ap (λ p. node_digest hash p (bytes c.half-left.result) (bytes c.half-right.result)) (c.place.ensures ∙ ap shape.position (c.born-node.ensures ∙ ap (λ k. births.born k.leaves c.args.number) c.self.view_is))
     ∙ ap₂ (node_digest hash (shape.position (births.born kept.leaves c.args.number))) left right ∙ sym (halves.parent hash now)

@@ -17,7 +17,7 @@ digests-requires g c =
     let shape = g.F.Family.shape in
     let whole = subst (IsWhole shape) c.self.view_is c.self.invariant.1 in
     subst (All (Holds shape c.args.self.now)) (sym (c.deref.ensures.value ∙ c.in_ok-positions.ensures))
-      (peaks_held shape g.F.Family.births g.met.F.Family.numbered g.met.F.Family.peaked c.args.self.now whole c.args.to c.requires.start c.requires.leaves)
+    (peaks_held shape g.F.Family.births g.met.F.Family.numbered g.met.F.Family.peaked c.args.self.now whole c.args.to c.requires.start c.requires.leaves)
 
 pub overflow_sub-forgotten : goal.overflow_sub-forgotten
 overflow_sub-forgotten g c =
@@ -40,19 +40,21 @@ pruned g c =
     let shape = g.F.Family.shape in
     let kept = c.args.self.now in
     let count : c.get.result - c.get-2.result ≡ shape.size c.args.to - shape.size kept.start =
-        omega (arith, c.location_to_position.ensures.size, c.location_to_position-2.ensures.size, ap (λ k. shape.size k.start) c.self.view_is) in
+    omega (arith, c.location_to_position.ensures.size, c.location_to_position-2.ensures.size, ap (λ k. shape.size k.start) c.self.view_is) in
     record {
       from = c.requires.start;
       upto = c.requires.leaves;
       leaves = ap (λ k. k.leaves) c.self.view_is;
       nodes = c.in_ok-nodes.ensures.items ∙ c.split_at.ensures.back ∙ ap₂ drop count (c.deref-2.ensures.value ∙ ap (λ k. k.nodes) c.self.view_is);
-      pins = c.in_ok-pins.ensures ∙ ap (map (node_at shape kept)) (c.deref.ensures.value ∙ c.in_ok-positions.ensures) }
+      pins = c.in_ok-pins.ensures ∙ ap (map (node_at shape kept)) (c.deref.ensures.value ∙ c.in_ok-positions.ensures);
+    }
 
 pub invariant_of-self : goal.invariant_of-self
 unfolding next
-invariant_of-self g c =
-    (c.in_ok-positions.ensures,
-    whole-pruned g.F.Family.shape g.F.Family.births g.met.F.Family.numbered g.met.F.Family.peaked c.args.self.now (next g c) (subst (IsWhole g.F.Family.shape) c.self.view_is c.self.invariant.1) (pruned g c))
+invariant_of-self g c = (
+  c.in_ok-positions.ensures,
+  whole-pruned g.F.Family.shape g.F.Family.births g.met.F.Family.numbered g.met.F.Family.peaked c.args.self.now (next g c) (subst (IsWhole g.F.Family.shape) c.self.view_is c.self.invariant.1) (pruned g c),
+)
 
 pub returns-clause-same : goal.returns-clause-same
 unfolding next
