@@ -6,14 +6,13 @@ use Rattle.std.proofs.Math.Nat.{pow-suc, mul-le-mul_left}
 use Rattle.std.proofs.lemmas.Bool.{cases_lt}
 use Rattle.std.proofs.lemmas.Nat.{pow_pos}
 use Rattle.std.proofs.lemmas.List.{length-append, get_or_append_left}
-use Rattle.std.proofs.lemmas.Option.{slice_get_within}
 use Rattle.qm_model.specs.Operations.{Bytes}
 use Rattle.qm_model.specs.Trees.{Shape, Node, peaks, digest, node_digest, digest_of, end_of}
-use Rattle.qm_model.specs.Families.{Births, IsFamily, HasHalves, HasPeaks, IsHeld, over}
-use Rattle.qm_merkle.specs.Mems.{Kept, IsWhole, Holds, Gives, Stands, AreBorn, node_at, grown, left_of, right_of}
-use Rattle.qm_merkle.proofs.Numbering.{stands_below, stands_past, birth_below, birth-born}
-use Rattle.qm_merkle.proofs.Lookups.{node_at-past, node_at-pin}
-use Rattle.qm_merkle.proofs.Standing.{node_held, gives}
+use Rattle.qm_model.specs.Families.{Births, IsFamily, HasPeaks, IsHeld, over}
+use Rattle.qm_merkle.specs.Mems.{Kept, IsWhole, Gives, Stands, AreBorn, node_at, grown, left_of, right_of}
+use Rattle.qm_merkle.proofs.Numbering.{stands_below, stands_past, birth-born}
+use Rattle.qm_merkle.proofs.Lookups.{node_at-past}
+use Rattle.qm_merkle.proofs.Standing.{gives}
 
 -- a node within 2 ^ 62 leaves is low
 pub height_within : (x : Node) → end_of x ≤ 2 ^ 62 → x.height < 63

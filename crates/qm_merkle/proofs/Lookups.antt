@@ -1,5 +1,5 @@
 -- What a tree in memory holds at a position.
-use Rattle.std.proofs.Common.{◌≡◌, ◌≢◌, ◌⊎◌, ℕ, zero, suc, ◌+◌, ◌-◌, ◌^◌, ◌<◌, ◌≤◌, ◌↔◌, Bool, true, false, List, [], ◌∷◌, ◌++◌, length, map, get_or, drop, arith, ap, ap₂, sym, ◌∙◌, refl, Option, Some, None, IsSome, Contains, ⊎_elim, inl, inr, subst}
+use Rattle.std.proofs.Common.{◌≡◌, ◌≢◌, ℕ, zero, suc, ◌-◌, ◌^◌, ◌<◌, ◌≤◌, ◌↔◌, true, false, List, [], ◌∷◌, length, map, get_or, drop, arith, ap, ap₂, sym, ◌∙◌, refl, Option, Some, None, IsSome, Contains, ⊎_elim, inl, inr}
 use Rattle.std.specs.Prelude.{slice_get, is_some, if◌then◌else◌, ◌==◌, nat_le}
 use Rattle.std.proofs.lemmas.Bool.{cases_lt, le-leb, eq-eqb}
 use Rattle.std.proofs.lemmas.Bool.Decides.{leb_tells, eqb_tells}

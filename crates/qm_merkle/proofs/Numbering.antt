@@ -1,9 +1,9 @@
 -- What follows from the laws of a family: places and births tell the nodes apart.
-use Rattle.std.proofs.Common.{◌≡◌, ℕ, zero, suc, ◌+◌, ◌*◌, ◌/◌, ◌%◌, ◌-◌, ◌^◌, ◌<◌, ◌≤◌, arith, ap, sym, ◌∙◌, refl, ⊎_elim, subst, le_refl}
+use Rattle.std.proofs.Common.{◌≡◌, ℕ, zero, suc, ◌+◌, ◌/◌, ◌%◌, ◌-◌, ◌<◌, ◌≤◌, arith, ap, sym, ◌∙◌, ⊎_elim, subst, le_refl}
 use Rattle.std.proofs.lemmas.Bool.{cases_lt}
 use Rattle.std.proofs.lemmas.Nat.{pow_pos}
-use Rattle.qm_model.specs.Trees.{Shape, Node, end_of}
-use Rattle.qm_model.specs.Families.{Births, IsFamily, HasHalves, IsHeld, over}
+use Rattle.qm_model.specs.Trees.{Shape, Node}
+use Rattle.qm_model.specs.Families.{Births, IsFamily, IsHeld, over}
 
 module _ (shape : Shape) (births : Births) (family : IsFamily shape births) where
   -- a tree of more leaves has no fewer nodes

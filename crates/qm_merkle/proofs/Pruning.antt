@@ -1,11 +1,11 @@
 -- A tree in memory forgets leaves.
-use Rattle.std.proofs.Common.{◌≡◌, ◌⊎◌, ℕ, zero, suc, ◌+◌, ◌-◌, ◌^◌, ◌<◌, ◌≤◌, List, [], ◌∷◌, length, map, drop, arith, ap, sym, ◌∙◌, refl, Some, Contains, ⊎_elim, inl, inr}
+use Rattle.std.proofs.Common.{◌≡◌, ℕ, zero, suc, ◌+◌, ◌-◌, ◌^◌, ◌<◌, ◌≤◌, List, [], ◌∷◌, length, map, drop, arith, ap, sym, ◌∙◌, refl, Some, Contains, ⊎_elim, inr}
 use Rattle.std.specs.Prelude.{slice_get, option_map}
 use Rattle.std.proofs.lemmas.List.{length-drop, length-map}
 use Rattle.qm_model.specs.Operations.{Bytes}
-use Rattle.qm_model.specs.Trees.{Shape, Node, peaks, peak_positions, digest_of}
-use Rattle.qm_model.specs.Families.{Births, IsFamily, HasPeaks, over}
-use Rattle.qm_merkle.specs.Mems.{Kept, IsWhole, Holds, Stands, node_at, pin_at}
+use Rattle.qm_model.specs.Trees.{Shape, peaks, peak_positions}
+use Rattle.qm_model.specs.Families.{Births, IsFamily, HasPeaks}
+use Rattle.qm_merkle.specs.Mems.{Kept, IsWhole, Holds, Stands, node_at}
 use Rattle.qm_merkle.proofs.Numbering.{sizes, stands_below, stands_past}
 use Rattle.qm_merkle.proofs.Lookups.{node_at-past, node_at-pin, pin_at-read, pins_below}
 use Rattle.qm_merkle.proofs.Standing.{read}

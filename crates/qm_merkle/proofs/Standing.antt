@@ -1,16 +1,15 @@
 -- The nodes that a tree in memory holds are those of its leaves.
-use Rattle.std.proofs.Common.{◌≡◌, ◌≢◌, ◌⊎◌, ℕ, zero, suc, ◌+◌, ◌-◌, ◌*◌, ◌/◌, ◌%◌, ◌^◌, ◌<◌, ◌≤◌, Bool, true, false, List, [], ◌∷◌, ◌++◌, length, map, get_or, drop, arith, ap, ap₂, sym, ◌∙◌, refl, Option, Some, None, IsSome, Contains, All, ⊎_elim, inl, inr, subst}
-use Rattle.std.specs.Prelude.{slice_get, option_map, is_some, ◌==◌}
+use Rattle.std.proofs.Common.{◌≡◌, ◌≢◌, ℕ, zero, suc, ◌^◌, ◌<◌, ◌≤◌, true, false, List, [], ◌∷◌, length, map, get_or, arith, ap, ap₂, sym, ◌∙◌, refl, Option, Some, Contains, All, ⊎_elim, inl, inr, subst}
+use Rattle.std.specs.Prelude.{option_map, ◌==◌}
 use Rattle.std.proofs.lemmas.Bool.{cases_lt}
 use Rattle.std.proofs.lemmas.Bool.Decides.{eqb_tells}
 use Rattle.std.proofs.lemmas.List.{length-map, get_or-map}
-use Rattle.std.proofs.lemmas.Option.{slice_get-map}
 use Rattle.qm_model.specs.Operations.{Bytes}
 use Rattle.qm_model.specs.Trees.{Shape, Node, peaks, peak_positions, digest_of, root_of, root}
 use Rattle.qm_model.specs.Families.{Births, IsFamily, HasPeaks, over}
 use Rattle.qm_merkle.specs.Mems.{Kept, IsWhole, Holds, Gives, Stands, node_at, pin_at}
-use Rattle.qm_merkle.proofs.Numbering.{stands_below, stands_past, born_once, over_later, same_place}
-use Rattle.qm_merkle.proofs.Lookups.{pin_at-first, pin_at-other, node_at-past, node_at-pin}
+use Rattle.qm_merkle.proofs.Numbering.{stands_below, stands_past, born_once, same_place}
+use Rattle.qm_merkle.proofs.Lookups.{pin_at-first, pin_at-other, node_at-pin}
 
 -- an element of a list, seen through a map
 Contains-mapped : {X Y : Type 0} (f : X → Y) (xs : List X) (x : X) → Contains xs x → Contains (map f xs) (f x)

@@ -1,4 +1,4 @@
-use Rattle.std.proofs.Common.{◌≡◌, ◌≤◌, ◌<◌, ◌+◌, ◌-◌, ◌/◌, ◌^◌, ℕ, arith, sym, ◌∙◌, le_refl, ⊎_elim}
+use Rattle.std.proofs.Common.{◌≡◌, ◌≤◌, ◌<◌, ◌^◌, arith, sym, ◌∙◌, le_refl, ⊎_elim}
 use Rattle.std.proofs.lemmas.Bool.{cases_lt}
 use Rattle.qm_merkle.proofs.Numbering.{sizes, sizes_tell, same_size}
 use Rattle.qm_merkle.proofs.mem.leaves_past.Goals as goal

@@ -1,5 +1,4 @@
 use Rattle.std.proofs.Common.{◌≡◌, ◌≤◌, ◌+◌, ◌-◌, ◌^◌, ℕ}
-use Rattle.qm_model.specs.Trees.{Shape}
 use Rattle.qm_merkle.proofs.mem.leaves_past.Given as goal
 
 abbrev pub invariant-leaves : goal.invariant-leaves

@@ -1,4 +1,4 @@
-use Rattle.std.proofs.Common.{◌≡◌, ◌∙◌, add-one}
+use Rattle.std.proofs.Common.{◌∙◌, add-one}
 use Rattle.qm_merkle.proofs.Lookups.{pin_at-next}
 use Rattle.qm_merkle.proofs.mem.pin.Goals as goal
 

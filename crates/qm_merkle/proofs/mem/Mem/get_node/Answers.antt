@@ -1,4 +1,4 @@
-use Rattle.std.proofs.Common.{◌≡◌, ◌∙◌, ap, ap₂, arith, subst, None, get_or}
+use Rattle.std.proofs.Common.{◌≡◌, ◌∙◌, ap, arith, subst, None}
 use Rattle.qm_merkle.specs.Mems.{IsWhole, node_at, pin_at}
 use Rattle.qm_merkle.proofs.Lookups.{held, found_pin, found_past, missing_past}
 use Rattle.qm_model.specs.Trees.{peak_positions}

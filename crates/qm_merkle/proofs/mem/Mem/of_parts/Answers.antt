@@ -1,4 +1,4 @@
-use Rattle.std.proofs.Common.{◌≡◌, ◌≤◌, ◌∙◌, ap, arith}
+use Rattle.std.proofs.Common.{◌≡◌, ◌≤◌, ap, arith}
 use Rattle.qm_merkle.proofs.Numbering.{sizes_tell}
 use Rattle.qm_merkle.proofs.mem.Mem.of_parts.Goals as goal
 

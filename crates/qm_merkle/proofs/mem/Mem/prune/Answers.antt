@@ -1,5 +1,4 @@
 use Rattle.std.proofs.Common.{◌≡◌, ◌≤◌, ◌∙◌, ◌-◌, ap, ap₂, sym, subst, arith, length, map, drop, All}
-use Rattle.qm_model.specs.Trees.{peak_positions}
 use Rattle.qm_merkle.specs.Mems.{Kept, IsWhole, Holds, node_at}
 use Rattle.qm_merkle.proofs.Numbering.{sizes}
 use Rattle.qm_merkle.proofs.Standing.{peaks_held}

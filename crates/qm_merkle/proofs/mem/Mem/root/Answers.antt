@@ -1,4 +1,4 @@
-use Rattle.std.proofs.Common.{◌≡◌, ◌∙◌, ap, sym, subst, All, le_refl, map}
+use Rattle.std.proofs.Common.{◌∙◌, ap, sym, subst, All, le_refl, map}
 use Rattle.qm_model.specs.Trees.{peak_positions, root_of}
 use Rattle.qm_merkle.specs.Mems.{IsWhole, Holds, node_at}
 use Rattle.qm_merkle.proofs.Standing.{peaks_held, rooted}
