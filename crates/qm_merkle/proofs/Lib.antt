@@ -1,2 +1,7 @@
 pub mod Rooting
 pub mod MmrCalls
+pub mod Numbering
+pub mod Lookups
+pub mod Standing
+pub mod Growth
+pub mod Pruning

@@ -3,6 +3,7 @@
 
 pub mod family;
 pub mod hasher;
+pub mod mem;
 pub mod mmr;
 pub mod position;
 #[cfg(test)]

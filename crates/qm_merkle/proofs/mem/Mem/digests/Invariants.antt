@@ -1,0 +1,6 @@
+use Rattle.std.proofs.Common.{◌≡◌, Some, map, take}
+use Rattle.qm_merkle.specs.Mems.{node_at}
+use Rattle.qm_merkle.proofs.mem.Mem.digests.Given as goal
+
+abbrev pub invariant-loop-position : goal.invariant-loop-position
+invariant-loop-position g l = map Some l.found.items ≡ map (node_at g.F.Family.shape l.self) (take l.position-index l.positions)
