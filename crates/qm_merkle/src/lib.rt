@@ -1,6 +1,7 @@
 //! Families of trees, the hashing of their nodes, and trees.
 #![tactic(auto)]
 
+pub mod batch;
 pub mod family;
 pub mod hasher;
 pub mod mem;
@@ -9,6 +10,7 @@ pub mod position;
 #[cfg(test)]
 mod tests;
 
+pub use batch::{MerkleizedBatch, UnmerkleizedBatch};
 pub use family::{Family, Node};
 pub use hasher::StandardHasher;
 pub use position::Position;

@@ -1,10 +1,12 @@
 //! Trees in memory.
 
-ghost use Rattle.std.specs.Prelude.{◌≡◌, ℕ, suc, List, [], ◌∷◌, ◌++◌, All, IsSome, ◌↔◌, Some, IfOk, IfErr, OnOk, OnErr, ◌⊎◌, slice_index, ◌<◌, ◌≤◌, ◌^◌, ◌+◌, ◌-◌, length, slice_get, map};
+ghost use Rattle.std.specs.Prelude.{◌≡◌, ℕ, suc, List, [], ◌∷◌, ◌++◌, All, Contains, IsSome, ◌↔◌, Some, IfOk, IfErr, OnOk, OnErr, ◌⊎◌, slice_index, ◌<◌, ◌≤◌, ◌^◌, ◌+◌, ◌-◌, length, slice_get, map};
 ghost use Rattle.qm_model.specs.Trees as trees;
 ghost use Rattle.qm_merkle.specs.Mems.{Stands, Holds, AreBorn, left_of, right_of, node_at, pin_at};
+ghost use Rattle.qm_merkle.specs.Batches.{all_layers, stops, IsHistory};
 ghost use Rattle.qm_model.specs.Families.{Births, IsHeld, over};
 
+use crate::batch::{MerkleizedBatch, UnmerkleizedBatch};
 use crate::family::{Family, Node};
 use crate::hasher::StandardHasher;
 use crate::position::Position;
@@ -88,7 +90,7 @@ impl<F: Family, D: Digest> Mem<F, D> {
     }
 
     // The tree of these nodes, positions of pins and pins.
-    fn of_parts(
+    pub(crate) fn of_parts(
         positions: Vec<Position<F>>,
         nodes: Vec<D>,
         start: Location<F>,
@@ -163,6 +165,35 @@ impl<F: Family, D: Digest> Mem<F, D> {
         Ok(hasher.root(self.leaves, inactive, &peaks))
     }
 
+    /// A batch that stands on the tree as it is.
+    pub fn new_batch(&self, alloc: Global) -> UnmerkleizedBatch<F, D>
+        ensures { result ≡ record { start = self.now.start; base = self.now.leaves; layers = []; replaced = []; added = [] } }
+    {
+        UnmerkleizedBatch::of_tree(alloc, self.start, self.leaves)
+    }
+
+    /// Takes over the nodes that a batch adds and replaces, and those of the batches that it stands on and that the tree does not have yet.
+    pub fn apply_batch(&mut self, batch: &MerkleizedBatch<F, D>) -> Result<(), AllocError>
+        requires reach { Contains (stops batch.now.newest.tree.leaves (all_layers batch.now)) self.old.leaves }
+        ensures bounds { OnOk result ((self.new.start ≡ self.old.start) × (self.new.leaves ≡ batch.now.newest.tree.leaves)) }
+        ensures stands { (hash : List ℕ → List ℕ) (list new : List (List ℕ)) (lists : List (List (List ℕ))) → IsHistory F.shape D.bytes hash (all_layers batch.now) (new ∷ lists) → Contains (new ∷ lists) list → Stands F.shape D.bytes hash self.old list
+            → OnOk result (Stands F.shape D.bytes hash self.new new) }
+        ensures err { OnErr result (self.new ≡ self.old) }
+    {
+        let size = F::location_to_position(self.start).get();
+        let room = F::location_to_position(batch.leaves()).get() - size - self.nodes.len() as u64;
+        self.nodes.reserve(room as usize)?;
+        batch.put(
+            self.leaves,
+            &self.positions,
+            &mut self.pins,
+            size,
+            &mut self.nodes,
+        );
+        self.leaves = batch.leaves();
+        Ok(())
+    }
+
     /// Forgets the leaves below a location, but for the digests of the peaks there.
     pub fn prune(&mut self, alloc: Global, to: Location<F>) -> Result<(), AllocError>
         requires start { self.old.start ≤ to }
@@ -183,6 +214,13 @@ impl<F: Family, D: Digest> Mem<F, D> {
         self.pins = pins;
         self.nodes = nodes;
         Ok(())
+    }
+
+    // Adds the nodes from the kept start on, where there is room.
+    pub(crate) fn append_to(&self, nodes: &mut Vec<D>) {
+        for node in &self.nodes {
+            nodes.push_reserved(*node);
+        }
     }
 
     // The digest of a node that the tree holds.
@@ -206,7 +244,7 @@ impl<F: Family, D: Digest> Mem<F, D> {
     }
 
     // Adds a leaf, with the nodes that are born with it.
-    fn add<H: Hasher<Digest = D>>(
+    pub(crate) fn add<H: Hasher<Digest = D>>(
         &mut self,
         alloc: Global,
         hasher: &mut StandardHasher<H>,
@@ -303,7 +341,7 @@ fn leaves_past<F: Family>(start: Location<F>, nodes: u64) -> Location<F>
 }
 
 // The two nodes under a node.
-fn halves(node: Node) -> (Node, Node)
+pub(crate) fn halves(node: Node) -> (Node, Node)
     requires high { 0 < node.height }
     requires within { trees.end_of node ≤ 2 ^ 62 }
     ensures left { result.0 ≡ left_of node }
@@ -315,7 +353,7 @@ fn halves(node: Node) -> (Node, Node)
 }
 
 // Where a node stands.
-fn place<F: Family>(node: Node) -> Position<F>
+pub(crate) fn place<F: Family>(node: Node) -> Position<F>
     requires { trees.end_of node ≤ 2 ^ 62 }
     ensures { result ≡ trees.Shape.position F.shape node }
 {
