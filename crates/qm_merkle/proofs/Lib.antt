@@ -5,3 +5,4 @@ pub mod Lookups
 pub mod Standing
 pub mod Growth
 pub mod Pruning
+pub mod Histories
