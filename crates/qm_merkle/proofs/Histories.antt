@@ -1,6 +1,7 @@
 -- What layers have of nodes, over the lists that they lead through.
-use Rattle.std.proofs.Common.{◌≡◌, ℕ, zero, suc, ◌-◌, ◌<◌, ◌≤◌, List, [], ◌∷◌, length, map, drop, get_or, arith, ap, sym, ◌∙◌, refl, Option, Some, None}
+use Rattle.std.proofs.Common.{◌≡◌, ℕ, zero, suc, ◌-◌, ◌<◌, ◌≤◌, List, [], ◌∷◌, length, map, drop, get_or, arith, ap, ap₂, sym, ◌∙◌, refl, Option, Some, None}
 use Rattle.std.specs.Option.{option_or}
+use Rattle.std.specs.List.{AllZip}
 use Rattle.qm_model.specs.Trees.{Shape}
 use Rattle.qm_merkle.specs.Batches.{Layer, layer_at, layers_at}
 
@@ -11,3 +12,10 @@ module _ (shape : Shape) {D : Type 0} where
   layers_at-next value [] i x p lt is = absurd (omega arith)
   layers_at-next value (y ∷ xs) zero x p lt is = ap (λ z. option_or (layer_at shape (value z) p) (layers_at shape (map value xs) p)) (sym is)
   layers_at-next value (y ∷ xs) (suc i) x p lt is = layers_at-next value xs i x p (omega arith) is
+
+-- lists whose elements have the same values, one by one
+pub values-same : {R X : Type 0} (value : R → X) (xs ys : List R) → AllZip (λ x y. value y ≡ value x) xs ys → map value ys ≡ map value xs
+values-same value [] [] same = refl
+values-same value [] (y ∷ ys) same = absurd same
+values-same value (x ∷ xs) [] same = absurd same
+values-same value (x ∷ xs) (y ∷ ys) same = ap₂ (λ a b. a ∷ b) same.0 (values-same value xs ys same.1)

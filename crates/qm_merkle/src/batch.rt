@@ -225,18 +225,22 @@ impl<F: Family, D: Digest> MerkleizedBatch<F, D> {
     pub fn new_batch(&self, alloc: Global) -> Result<UnmerkleizedBatch<F, D>, AllocError>
         ensures { IfOk result (λ b. b ≡ record { start = self.now.start; base = self.now.newest.tree.leaves; layers = all_layers self.now; replaced = []; added = [] }) }
     {
-        let mut layers = Vec::with_capacity(alloc, 1 + self.older.len())?;
-        layers.push(self.newest.clone()?)?;
-        for layer in &self.older {
-            layers.push(layer.clone()?)?;
-        }
         Ok(UnmerkleizedBatch {
             start: self.start,
             base: self.leaves(),
-            layers,
+            layers: self.layers()?,
             replaced: BTreeMap::new(alloc),
             added: Vec::new(alloc),
         })
+    }
+
+    // The layers of the batch, the newest first.
+    fn layers(&self) -> Result<Vec<Rc<Layer<F, D>>>, AllocError>
+        ensures { IfOk result (λ v. map (λ r. r.value) v.items ≡ all_layers self.now) }
+    {
+        let mut layers = self.older.clone()?;
+        layers.insert(0, self.newest.clone()?)?;
+        Ok(layers)
     }
 
     /// How many leaves the batch's list has.
