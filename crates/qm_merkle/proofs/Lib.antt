@@ -6,3 +6,4 @@ pub mod Standing
 pub mod Growth
 pub mod Pruning
 pub mod Histories
+pub mod Drafting
