@@ -6,9 +6,13 @@ use Rattle.qm_merkle.proofs.batch.UnmerkleizedBatch.update_leaf_digest.Goals as 
 
 pub invariant_of-self : goal.invariant_of-self
 invariant_of-self g c =
-    let inv = c.self.invariant in
-    (inv.0, inv.1, subst (All (λ e. e.0 < c.self.inside.base)) (sym c.in_ok-replace.ensures.entries)
-    (All-inserted (λ n. n < c.self.inside.base) c.self.inside.replaced.entries c.get-then-get-3.result c.args.digest inv.2 (omega (arith, c.get-then-get-3.ensures, c.if-get-3.true))), inv.3)
+    let inv = c.self.invariant in (
+      inv.0,
+      inv.1,
+      subst (All (λ e. e.0 < c.self.inside.base)) (sym c.in_ok-replace.ensures.entries)
+          (All-inserted (λ n. n < c.self.inside.base) c.self.inside.replaced.entries c.get-then-get-3.result c.args.digest inv.2 (omega (arith, c.get-then-get-3.ensures, c.if-get-3.true))),
+      inv.3,
+    )
 
 pub returns-in_ok-replace-clause-leaf : goal.returns-in_ok-replace-clause-leaf
 returns-in_ok-replace-clause-leaf g c leaves count =
