@@ -99,6 +99,10 @@ all_layers batch = batch.newest ∷ batch.older
 abbrev pub seen_at : {D : Type 0} → Shape → List (Layer D) → Kept D → Node → Option D
 seen_at shape layers mem x = option_or (layers_at shape layers (shape.position x)) (node_at shape mem (shape.position x))
 
+-- what these entries by position have there, else the layers, else the tree
+abbrev pub made_at : {D : Type 0} → Shape → List (ℕ × D) → List (Layer D) → Kept D → ℕ → Option D
+made_at shape entries layers mem p = option_or (found_at entries p) (option_or (layers_at shape layers p) (node_at shape mem p))
+
 -- layers over a tree have each node of so many leaves, where the node over it was not there at the kept start
 abbrev pub AreThere : {D : Type 0} → Shape → List (Layer D) → Kept D → ℕ → Type 0
 AreThere shape layers mem base = (x : Node) → shape.birth x ≤ base → mem.start < shape.birth (over x) → IsSome (seen_at shape layers mem x)
@@ -115,6 +119,10 @@ AreRight shape bytes hash entries list = (x : Node) → shape.birth x ≤ length
 abbrev pub AreOver : {D : Type 0} → Shape → List (ℕ × D) → ℕ → ℕ → List (ℕ × D) → Type 0
 AreOver shape replaced base h entries = (x : Node) → shape.birth x ≤ base →
     (x.height ≤ h → IsSome (found_at entries (shape.position x)) ↔ IsOver replaced x.height x.index) × (h < x.height → found_at entries (shape.position x) ≡ None)
+
+-- entries by position have, of the nodes of so many leaves, those that are over a replaced leaf
+abbrev pub HaveOver : {D : Type 0} → Shape → List (ℕ × D) → ℕ → List (ℕ × D) → Type 0
+HaveOver shape replaced base entries = (x : Node) → shape.birth x ≤ base → IsSome (found_at entries (shape.position x)) ↔ IsOver replaced x.height x.index
 
 -- the row has the indices of the nodes of this height, of so many leaves, that entries by position have
 abbrev pub IsRow : {D : Type 0} → Shape → ℕ → ℕ → List (ℕ × D) → List ℕ → Type 0

@@ -6,7 +6,7 @@ ghost use Rattle.std.specs.Ordering.{nat_cmp};
 ghost use Rattle.std.specs.BTreeMap.{insert_entry};
 ghost use Rattle.qm_model.specs.Trees as trees;
 ghost use Rattle.qm_merkle.specs.Mems.{Kept, Stands, node_at};
-ghost use Rattle.qm_merkle.specs.Batches.{Layer as Part, Draft, Batch, found_at, layer_at, layers_at, all_layers, stops, Leads, IsHistory, leaves_of, replaced_from, drafted, updated, IsOver, AreThere, AreRead, AreRight, AreOver, IsRow};
+ghost use Rattle.qm_merkle.specs.Batches.{Layer as Part, Draft, Batch, found_at, layer_at, layers_at, all_layers, stops, Leads, IsHistory, leaves_of, replaced_from, drafted, updated, IsOver, made_at, AreThere, AreRead, AreRight, HaveOver};
 
 use crate::family::Family;
 use crate::hasher::StandardHasher;
@@ -179,8 +179,8 @@ impl<F: Family, D: Digest> UnmerkleizedBatch<F, D> {
 impl<F: Family, D: Digest> UnmerkleizedBatch<F, D> {
     // The digest of a node that is there before the batch's own leaves come, after these nodes were replaced.
     fn digest(&self, mem: &Mem<F, D>, nodes: &BTreeMap<u64, D>, position: Position<F>) -> D
-        requires { IsSome (option_or (found_at nodes.now.entries position) (option_or (layers_at F.shape self.now.layers position) (node_at F.shape mem.now position))) }
-        ensures { option_or (found_at nodes.now.entries position) (option_or (layers_at F.shape self.now.layers position) (node_at F.shape mem.now position)) ≡ Some result }
+        requires { IsSome (made_at F.shape nodes.now.entries self.now.layers mem.now position) }
+        ensures { made_at F.shape nodes.now.entries self.now.layers mem.now position ≡ Some result }
     {
         if let Some(digest) = nodes.get(&position.get()) {
             return *digest;
@@ -201,22 +201,35 @@ impl<F: Family, D: Digest> UnmerkleizedBatch<F, D> {
     ) -> Result<Mem<F, D>, AllocError>
         requires there { AreThere F.shape self.now.layers mem.now self.now.base }
         requires start { mem.now.start ≤ self.now.base }
-        requires own { (x : trees.Node) → trees.Shape.birth F.shape x ≤ self.now.base → (IsSome (found_at nodes.now.entries (trees.Shape.position F.shape x)) ↔ IsOver self.now.replaced x.height x.index) }
+        requires own { HaveOver F.shape self.now.replaced self.now.base nodes.now.entries }
         ensures start { IfOk result (λ m. m.start ≡ self.now.base) }
         ensures leaves { IfOk result (λ m. m.leaves ≡ leaves_of self.now) }
         ensures stands { (list : List (List ℕ)) → length list ≡ self.now.base → AreRead F.shape D.bytes H.hash self.now.layers mem.now list → AreRight F.shape D.bytes H.hash nodes.now.entries (replaced_from D.bytes self.now.replaced 0 list)
             → IfOk result (λ m. Stands F.shape D.bytes H.hash m (drafted D.bytes self.now list)) }
     {
         let positions = F::nodes_to_pin(alloc, self.base)?;
-        let mut pins = Vec::with_capacity(alloc, positions.len())?;
-        for position in &positions {
-            pins.push(self.digest(mem, nodes, *position))?;
-        }
+        let pins = self.digests(alloc, mem, nodes, &positions)?;
         let mut tree = Mem::of_parts(positions, Vec::new(alloc), self.base, pins);
-        for digest in &self.added {
-            tree.add(alloc, hasher, *digest)?;
-        }
+        tree.add_all(alloc, hasher, &self.added)?;
         Ok(tree)
+    }
+
+    // The digests of nodes that are there before the batch's own leaves come, after these nodes were replaced.
+    fn digests(
+        &self,
+        alloc: Global,
+        mem: &Mem<F, D>,
+        nodes: &BTreeMap<u64, D>,
+        positions: &[Position<F>],
+    ) -> Result<Vec<D>, AllocError>
+        requires { All (λ p. IsSome (made_at F.shape nodes.now.entries self.now.layers mem.now p)) positions.now }
+        ensures { IfOk result (λ v. map Some v.items ≡ map (made_at F.shape nodes.now.entries self.now.layers mem.now) positions.now) }
+    {
+        let mut found = Vec::with_capacity(alloc, positions.len())?;
+        for position in positions {
+            found.push(self.digest(mem, nodes, *position))?;
+        }
+        Ok(found)
     }
 }
 

@@ -246,7 +246,7 @@ impl<F: Family, D: Digest> Mem<F, D> {
     }
 
     // Adds a leaf, with the nodes that are born with it.
-    pub(crate) fn add<H: Hasher<Digest = D>>(
+    fn add<H: Hasher<Digest = D>>(
         &mut self,
         alloc: Global,
         hasher: &mut StandardHasher<H>,
@@ -260,6 +260,23 @@ impl<F: Family, D: Digest> Mem<F, D> {
         let made = self.births(alloc, hasher, leaf)?;
         self.nodes.extend_from_slice(&made)?;
         self.leaves = Location::new(self.leaves.get() + 1);
+        Ok(())
+    }
+
+    // Adds leaves, with the nodes that are born with them.
+    pub(crate) fn add_all<H: Hasher<Digest = D>>(
+        &mut self,
+        alloc: Global,
+        hasher: &mut StandardHasher<H>,
+        leaves: &[D],
+    ) -> Result<(), AllocError>
+        requires { self.old.leaves + length leaves.now ≤ 2 ^ 62 }
+        ensures bounds { OnOk result ((self.new.start ≡ self.old.start) × (self.new.leaves ≡ self.old.leaves + length leaves.now)) }
+        ensures stands { (list : List (List ℕ)) → Stands F.shape D.bytes H.hash self.old list → OnOk result (Stands F.shape D.bytes H.hash self.new (list ++ map D.bytes leaves.now)) }
+    {
+        for leaf in leaves {
+            self.add(alloc, hasher, *leaf)?;
+        }
         Ok(())
     }
 

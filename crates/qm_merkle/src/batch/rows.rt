@@ -4,7 +4,7 @@ ghost use Rattle.std.specs.Prelude.{◌≡◌, ◌≢◌, ◌↔◌, ℕ, Some, 
 ghost use Rattle.std.specs.Ordering.{nat_cmp};
 ghost use Rattle.std.specs.BTreeMap.{insert_entry};
 ghost use Rattle.qm_model.specs.Trees as trees;
-ghost use Rattle.qm_merkle.specs.Batches.{found_at, replaced_from, IsOver, AreThere, AreRead, AreRight, AreOver, IsRow};
+ghost use Rattle.qm_merkle.specs.Batches.{found_at, replaced_from, IsOver, AreThere, AreRead, AreRight, AreOver, HaveOver, IsRow};
 
 use super::UnmerkleizedBatch;
 use crate::family::{Family, Node};
@@ -24,7 +24,7 @@ impl<F: Family, D: Digest> UnmerkleizedBatch<F, D> {
     ) -> Result<BTreeMap<u64, D>, AllocError>
         requires there { AreThere F.shape self.now.layers mem.now self.now.base }
         requires start { All (λ e. mem.now.start ≤ e.0) self.now.replaced }
-        ensures own { IfOk result (λ m. (x : trees.Node) → trees.Shape.birth F.shape x ≤ self.now.base → (IsSome (found_at m.entries (trees.Shape.position F.shape x)) ↔ IsOver self.now.replaced x.height x.index)) }
+        ensures own { IfOk result (λ m. HaveOver F.shape self.now.replaced self.now.base m.entries) }
         ensures digests { (list : List (List ℕ)) → length list ≡ self.now.base → AreRead F.shape D.bytes H.hash self.now.layers mem.now list → IfOk result (λ m. AreRight F.shape D.bytes H.hash m.entries (replaced_from D.bytes self.now.replaced 0 list)) }
     {
         let mut nodes = BTreeMap::new(alloc);
