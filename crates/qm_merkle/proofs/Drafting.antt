@@ -1,14 +1,18 @@
--- What a draft makes of a list, when one of its leaves gets another digest.
-use Rattle.std.proofs.Common.{◌≡◌, ◌≢◌, ℕ, zero, suc, ◌+◌, ◌-◌, ◌<◌, ◌≤◌, List, [], ◌∷◌, ◌++◌, length, map, arith, ap, ap₂, sym, ◌∙◌, refl, Option, Some, All, subst}
+-- What a draft makes of a list and of its nodes.
+use Rattle.std.proofs.Common.{◌≡◌, ◌≢◌, ℕ, zero, suc, ◌+◌, ◌-◌, ◌*◌, ◌^◌, ◌<◌, ◌≤◌, true, false, List, [], ◌∷◌, ◌++◌, length, map, get_or, arith, ap, ap₂, sym, ◌∙◌, refl, Option, Some, None, IsSome, IfSome, All, inl, inr, subst}
 use Rattle.std.specs.Prelude.{slice_set}
-use Rattle.std.specs.Option.{unwrap_or, option_map}
+use Rattle.std.specs.Option.{unwrap_or, option_map, option_or}
 use Rattle.std.specs.Ordering.{nat_cmp}
 use Rattle.std.specs.BTreeMap.{insert_entry}
 use Rattle.std.proofs.lemmas.List.Elements.{All-map}
 use Rattle.std.proofs.lemmas.Map.Views.{All-keys-insert_entry}
 use Rattle.std.proofs.lemmas.List.{set-append_left, set-append_right, map-set, get_or-map, length-map}
 use Rattle.qm_model.specs.Operations.{Bytes}
-use Rattle.qm_merkle.specs.Batches.{Draft, found_at, replaced_from, drafted}
+use Rattle.qm_model.specs.Trees.{Shape, Node, peaks, peak_positions, node_digest, digest, digest_of}
+use Rattle.qm_model.specs.Families.{HasPeaks, over}
+use Rattle.qm_merkle.specs.Mems.{Kept, Gives, Stands}
+use Rattle.qm_merkle.specs.Batches.{Layer, Draft, found_at, replaced_from, drafted, IsOver, seen_at, made_at, AreThere, AreRead, AreRight, HaveOver}
+use Rattle.qm_merkle.proofs.Histories.{is_some-other}
 
 -- what holds of the numbers of entries, when one more comes
 pub All-inserted : {D : Type 0} (P : ℕ → Type 0) (entries : List (ℕ × D)) (n : ℕ) (d : D) → All (λ e. P e.0) entries → P n → All (λ e. P e.0) (insert_entry nat_cmp entries n d)
@@ -49,3 +53,71 @@ module _ {D : Type 0} (bytes : D → Bytes) where
       ap₂ (λ a b. replaced_from bytes a 0 leaves ++ map bytes b) replaced added
       ∙ ap (λ b. replaced_from bytes old.replaced 0 leaves ++ b) (map-set bytes old.added (n - length leaves) d)
       ∙ sym (set-append_right (replaced_from bytes old.replaced 0 leaves) (map bytes old.added) (length leaves) n (bytes d) (length-replaced_from old.replaced 0 leaves) le)
+
+-- a leaf that is replaced has the other digest, and each other leaf its own
+pub replaced_from-at : {D : Type 0} (bytes : D → Bytes) (replaced : List (ℕ × D)) (i k : ℕ) (leaves : List Bytes) → found_at replaced (i + k) ≡ None → get_or (replaced_from bytes replaced i leaves) k [] ≡ get_or leaves k []
+replaced_from-at bytes replaced i k [] none = refl
+replaced_from-at bytes replaced i zero (leaf ∷ leaves) none = ap (λ o. unwrap_or (option_map bytes o) leaf) (ap (found_at replaced) (omega arith) ∙ none)
+replaced_from-at bytes replaced i (suc k) (leaf ∷ leaves) none = replaced_from-at bytes replaced (suc i) k leaves (ap (found_at replaced) (omega arith) ∙ none)
+
+missing : {D : Type 0} (found : Option D) → (IsSome found → ⊥) → found ≡ None
+missing None not = refl
+missing (Some d) not = absurd (not refl)
+
+-- a node that is over no replaced leaf keeps its digest
+pub untouched : {D : Type 0} (bytes : D → Bytes) (hash : Bytes → Bytes) (shape : Shape) (replaced : List (ℕ × D)) (leaves : List Bytes) (h a : ℕ) → (IsOver replaced h a → ⊥) →
+    digest hash shape (replaced_from bytes replaced 0 leaves) h a ≡ digest hash shape leaves h a
+untouched bytes hash shape replaced leaves zero a not = replaced_from-at bytes replaced 0 a leaves (ap (found_at replaced) (omega arith) ∙ missing (found_at replaced a) not)
+untouched bytes hash shape replaced leaves (suc h) a not =
+    ap₂ (node_digest hash (shape.position (record { height = suc h; index = a })))
+    (untouched bytes hash shape replaced leaves h (2 * a) (λ left. not (inl left)))
+    (untouched bytes hash shape replaced leaves h (2 * a + 1) (λ right. not (inr right)))
+
+module _ (shape : Shape) (peaked : HasPeaks shape) {D : Type 0} (mem : Kept D) (layers : List (Layer D)) (entries : List (ℕ × D)) where
+  -- the peaks before the draft's own leaves are there
+  pub peaks_there : (base : ℕ) → base ≤ 2 ^ 62 → mem.start ≤ base → AreThere shape layers mem base → All (λ p. IsSome (made_at shape entries layers mem p)) (peak_positions shape base)
+  peaks_there base few low there k d lt =
+      let xs = peaks shape base in
+      let within : k < length xs = omega (arith, length-map xs shape.position) in
+      let e : Node = record { height = 0; index = 0 } in
+      let x = get_or xs k e in
+      let born : shape.birth x ≤ base = peaked.born base few k e within in
+      let bare : base < shape.birth (over x) = peaked.bare base few k e within in
+      subst (λ p. IsSome (made_at shape entries layers mem p)) (sym (get_or-map shape.position xs k e d within)) (is_some-other (found_at entries (shape.position x)) (seen_at shape layers mem x) (there x born (omega arith)))
+
+  module _ (bytes : D → Bytes) (hash : Bytes → Bytes) (replaced : List (ℕ × D)) (base : ℕ) (leaves : List Bytes) (count : length leaves ≡ base)
+      (own : HaveOver shape replaced base entries) (read : AreRead shape bytes hash layers mem leaves) (right : AreRight shape bytes hash entries (replaced_from bytes replaced 0 leaves)) where
+    -- a node has its digest over the list with these leaves replaced
+    pub made_gives : (x : Node) → shape.birth x ≤ base → mem.start < shape.birth (over x) → Gives bytes (made_at shape entries layers mem (shape.position x)) (digest_of hash shape (replaced_from bytes replaced 0 leaves) x)
+    made_gives x born bare =
+        chosen_gives (found_at entries (shape.position x)) (seen_at shape layers mem x) (digest_of hash shape (replaced_from bytes replaced 0 leaves) x) (digest_of hash shape leaves x) (IsOver replaced x.height x.index)
+        (own x born).1 (right x (omega (arith, count, length-replaced_from bytes replaced 0 leaves))) (read x (omega (arith, count)) bare) (untouched bytes hash shape replaced leaves x.height x.index)
+      where
+        chosen_gives : (found other : Option D) (new old : Bytes) (touched : Type 0) → (touched → IsSome found) → IfSome found (λ d. bytes d ≡ new) → Gives bytes other old → ((touched → ⊥) → new ≡ old) → Gives bytes (option_or found other) new
+        chosen_gives None other new old touched to is at same = at ∙ ap Some (sym (same (λ t. no (to t))))
+          where
+            no : false ≡ true → ⊥
+            no e = cc
+        chosen_gives (Some d) other new old touched to is at same = ap Some is
+
+    -- the tree of the peaks before the draft's own leaves
+    pub stands-fresh : (tree : Kept D) → tree.start ≡ base → tree.leaves ≡ base → base ≤ 2 ^ 62 → mem.start ≤ base → map Some tree.pins ≡ map (made_at shape entries layers mem) (peak_positions shape base) →
+        Stands shape bytes hash tree (replaced_from bytes replaced 0 leaves)
+    stands-fresh tree start full few low same = record {
+      count = full ∙ sym (length-replaced_from bytes replaced 0 leaves ∙ count);
+      pins = given (peaks shape base) tree.pins same (λ k e lt. made_gives (get_or (peaks shape base) k e) (peaked.born base few k e lt) (omega (arith, peaked.bare base few k e lt)))
+          ∙ ap (λ n. map (digest_of hash shape (replaced_from bytes replaced 0 leaves)) (peaks shape n)) (sym start);
+      nodes = λ x new born. absurd (omega arith);
+    }
+      where
+        given : (xs : List Node) (ds : List D) → map Some ds ≡ map (made_at shape entries layers mem) (map shape.position xs) →
+            All (λ x. Gives bytes (made_at shape entries layers mem (shape.position x)) (digest_of hash shape (replaced_from bytes replaced 0 leaves) x)) xs → map bytes ds ≡ map (digest_of hash shape (replaced_from bytes replaced 0 leaves)) xs
+        given [] [] same gives = refl
+        given [] (d ∷ ds) same gives = cc
+        given (x ∷ xs) [] same gives = cc
+        given (x ∷ xs) (d ∷ ds) same gives =
+            let head : Some d ≡ made_at shape entries layers mem (shape.position x) = cc in
+            let tail : map Some ds ≡ map (made_at shape entries layers mem) (map shape.position xs) = cc in
+            let is : ◌≡◌ {A = Option Bytes} (Some (bytes d)) (Some (digest_of hash shape (replaced_from bytes replaced 0 leaves) x)) = ap (option_map bytes) head ∙ gives 0 x (omega arith) in
+            let digest : bytes d ≡ digest_of hash shape (replaced_from bytes replaced 0 leaves) x = cc in
+            ap₂ (λ a b. a ∷ b) digest (given xs ds tail (λ k e lt. gives (suc k) e (omega arith)))

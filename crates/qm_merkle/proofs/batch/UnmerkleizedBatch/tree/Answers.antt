@@ -1,0 +1,36 @@
+use Rattle.std.proofs.Common.{◌≡◌, ◌∙◌, ◌+◌, ◌^◌, ◌≤◌, ◌++◌, ℕ, List, [], Some, IsSome, All, ap, sym, subst, refl, arith, map, length}
+use Rattle.qm_model.specs.Trees.{peak_positions}
+use Rattle.qm_merkle.specs.Mems.{Kept, Stands}
+use Rattle.qm_merkle.specs.Batches.{made_at, replaced_from}
+use Rattle.qm_merkle.proofs.Drafting.{peaks_there, stands-fresh}
+use Rattle.qm_merkle.proofs.batch.UnmerkleizedBatch.tree.Given
+use Rattle.qm_merkle.proofs.batch.UnmerkleizedBatch.tree.Goals as goal
+
+pub digests-requires : goal.digests-requires
+digests-requires g c =
+    let shape = g.F.Family.shape in
+    let base = c.args.self.now.base in
+    let is : c.self.inside.base ≡ base = ap (λ b. b.base) c.self.view_is in
+    subst (All (λ p. IsSome (made_at shape c.args.nodes.now.entries c.args.self.now.layers c.args.mem.now p)))
+    (sym (c.deref.ensures.value ∙ c.in_ok-positions.ensures ∙ ap (peak_positions shape) is))
+    (peaks_there shape g.met.F.Family.peaked c.args.mem.now c.args.self.now.layers c.args.nodes.now.entries base (omega (arith, c.self.invariant.1, is)) c.requires.start c.requires.there)
+
+pub of_parts-tree-requires-clause-size : goal.of_parts-tree-requires-clause-size
+of_parts-tree-requires-clause-size g c = (c.self.inside.base, omega (arith, c.self.invariant.1), omega (arith, ap length c.new.ensures.items))
+
+pub returns-clause-stands : goal.returns-clause-stands
+returns-clause-stands g c list count read right =
+    let shape = g.F.Family.shape in
+    let bytes = g.D.Digest.bytes in
+    let hash = g.H.Hasher.hash in
+    let base = c.args.self.now.base in
+    let is : c.self.inside.base ≡ base = ap (λ b. b.base) c.self.view_is in
+    let few : base ≤ 2 ^ 62 = omega (arith, c.self.invariant.1, is) in
+    let tree = c.of_parts-tree.ensures c.self.inside.base (omega (arith, ap length c.new.ensures.items)) in
+    let made = made_at shape c.args.nodes.now.entries c.args.self.now.layers c.args.mem.now in
+    let pins : map Some c.of_parts-tree.result.pins ≡ map made (peak_positions shape base) =
+    ap (λ t. map Some t.pins) tree ∙ c.in_ok-pins.ensures ∙ ap (map made) (c.deref.ensures.value ∙ c.in_ok-positions.ensures ∙ ap (peak_positions shape) is) in
+    let fresh = stands-fresh shape g.met.F.Family.peaked c.args.mem.now c.args.self.now.layers c.args.nodes.now.entries bytes hash c.args.self.now.replaced base list count c.requires.own read right
+    c.of_parts-tree.result (ap (λ t. t.start) tree ∙ is) (ap (λ t. t.leaves) tree ∙ is) few c.requires.start pins in
+    subst (λ added. Stands shape bytes hash c.add_all.new.self (replaced_from bytes c.args.self.now.replaced 0 list ++ map bytes added)) (c.deref-2.ensures.value ∙ ap (λ b. b.added) c.self.view_is)
+    (c.in_ok-add_all.ensures.stands (replaced_from bytes c.args.self.now.replaced 0 list) fresh)
