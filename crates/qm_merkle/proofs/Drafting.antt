@@ -1,6 +1,7 @@
 -- What a draft makes of a list and of its nodes.
-use Rattle.std.proofs.Common.{◌≡◌, ◌≢◌, ℕ, zero, suc, ◌+◌, ◌-◌, ◌*◌, ◌^◌, ◌<◌, ◌≤◌, true, false, List, [], ◌∷◌, ◌++◌, length, map, get_or, arith, ap, ap₂, sym, ◌∙◌, refl, Option, Some, None, IsSome, IfSome, All, inl, inr, subst}
-use Rattle.std.specs.Prelude.{slice_set}
+use Rattle.std.proofs.Common.{◌≡◌, ◌≢◌, ◌⊎◌, ◌↔◌, ℕ, zero, suc, ◌+◌, ◌-◌, ◌*◌, ◌^◌, ◌<◌, ◌≤◌, true, false, List, [], ◌∷◌, ◌++◌, length, map, get_or, arith, ap, ap₂, sym, ◌∙◌, refl, Option, Some, None, IsSome, IfSome, MatchOption, All, ⊎_elim, inl, inr, subst}
+use Rattle.std.specs.Prelude.{slice_set, is_some}
+use Rattle.std.proofs.lemmas.Bool.{cases_lt}
 use Rattle.std.specs.Option.{unwrap_or, option_map, option_or}
 use Rattle.std.specs.Ordering.{nat_cmp}
 use Rattle.std.specs.BTreeMap.{insert_entry}
@@ -9,10 +10,12 @@ use Rattle.std.proofs.lemmas.Map.Views.{All-keys-insert_entry}
 use Rattle.std.proofs.lemmas.List.{set-append_left, set-append_right, map-set, get_or-map, length-map}
 use Rattle.qm_model.specs.Operations.{Bytes}
 use Rattle.qm_model.specs.Trees.{Shape, Node, peaks, peak_positions, node_digest, digest, digest_of}
-use Rattle.qm_model.specs.Families.{HasPeaks, over}
-use Rattle.qm_merkle.specs.Mems.{Kept, Gives, Stands}
-use Rattle.qm_merkle.specs.Batches.{Layer, Draft, found_at, replaced_from, drafted, IsOver, seen_at, made_at, AreThere, AreRead, AreRight, HaveOver}
-use Rattle.qm_merkle.proofs.Histories.{is_some-other}
+use Rattle.qm_model.specs.Families.{Births, IsFamily, HasPeaks, over}
+use Rattle.qm_merkle.specs.Mems.{Kept, IsWhole, Gives, Stands}
+use Rattle.qm_merkle.specs.Batches.{Layer, layer_at, Leads, Draft, found_at, replaced_from, drafted, IsOver, seen_at, made_at, AreThere, AreRead, AreRight, HaveOver}
+use Rattle.qm_merkle.proofs.Numbering.{stands_below}
+use Rattle.qm_merkle.proofs.Growth.{digest-append}
+use Rattle.qm_merkle.proofs.Histories.{is_some-other, layer_at-before, layer_added}
 
 -- what holds of the numbers of entries, when one more comes
 pub All-inserted : {D : Type 0} (P : ℕ → Type 0) (entries : List (ℕ × D)) (n : ℕ) (d : D) → All (λ e. P e.0) entries → P n → All (λ e. P e.0) (insert_entry nat_cmp entries n d)
@@ -121,3 +124,37 @@ module _ (shape : Shape) (peaked : HasPeaks shape) {D : Type 0} (mem : Kept D) (
             let is : ◌≡◌ {A = Option Bytes} (Some (bytes d)) (Some (digest_of hash shape (replaced_from bytes replaced 0 leaves) x)) = ap (option_map bytes) head ∙ gives 0 x (omega arith) in
             let digest : bytes d ≡ digest_of hash shape (replaced_from bytes replaced 0 leaves) x = cc in
             ap₂ (λ a b. a ∷ b) digest (given xs ds tail (λ k e lt. gives (suc k) e (omega arith)))
+
+module _ (shape : Shape) (births : Births) (family : IsFamily shape births) {D : Type 0} (layer : Layer D) (replaced : List (ℕ × D)) (base : ℕ) (start : layer.tree.start ≡ base) (own : HaveOver shape replaced base layer.replaced) where
+  -- a layer has the nodes that it adds, the leaves that it replaces, and the nodes above these
+  pub own_nodes : IsWhole shape layer.tree → (x : Node) → shape.birth x ≤ layer.tree.leaves → IsSome (layer_at shape layer (shape.position x)) ↔ ((base < shape.birth x) ⊎ IsOver replaced x.height x.index)
+  own_nodes whole x born = ⊎_elim
+      (λ (late : base < shape.birth x). ((λ some. inl late), (λ either. layer_added shape births family layer whole x (omega arith) born)))
+      (λ (early : shape.birth x ≤ base).
+      let before = layer_at-before shape layer (shape.position x) (stands_below shape births family x layer.tree.start (omega arith)) in
+      let is = own x early in (
+        (λ some. inr (is.0 (sym (ap is_some before) ∙ some))),
+        ⊎_elim (λ (late : base < shape.birth x). absurd (omega arith)) (λ above. ap is_some before ∙ is.1 above),
+      ))
+      (cases_lt base (shape.birth x))
+
+  -- it leads from the list that the draft stands on to the draft's
+  pub drafted_leads : (bytes : D → Bytes) (hash : Bytes → Bytes) (leaves added : List Bytes) → length leaves ≡ base → Stands shape bytes hash layer.tree (replaced_from bytes replaced 0 leaves ++ added) →
+      AreRight shape bytes hash layer.replaced (replaced_from bytes replaced 0 leaves) → Leads shape bytes hash layer leaves (replaced_from bytes replaced 0 leaves ++ added)
+  drafted_leads bytes hash leaves added count stands right = record {
+    start = start ∙ sym count;
+    stands = stands;
+    replaced = λ x born.
+        let changed = replaced_from bytes replaced 0 leaves in
+        let long = length-replaced_from bytes replaced 0 leaves in
+        let same : digest_of hash shape (changed ++ added) x ≡ digest_of hash shape changed x = digest-append hash shape changed added x.height x.index (omega (arith, family.inside x, born, long)) in
+        told (found_at layer.replaced (shape.position x)) (digest_of hash shape leaves x) (digest_of hash shape changed x) (digest_of hash shape (changed ++ added) x) (IsOver replaced x.height x.index)
+        (own x (omega arith)).1 (right x (omega (arith, born, long))) (untouched bytes hash shape replaced leaves x.height x.index) same;
+  }
+    where
+      told : (found : Option D) (old changed new : Bytes) (touched : Type 0) → (touched → IsSome found) → IfSome found (λ d. bytes d ≡ changed) → ((touched → ⊥) → changed ≡ old) → new ≡ changed → MatchOption found (old ≡ new) (λ d. bytes d ≡ new)
+      told None old changed new touched to is kept same = sym (kept (λ t. no (to t))) ∙ sym same
+        where
+          no : false ≡ true → ⊥
+          no e = cc
+      told (Some d) old changed new touched to is kept same = is ∙ sym same

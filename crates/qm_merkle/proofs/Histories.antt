@@ -110,7 +110,24 @@ module _ (shape : Shape) {D : Type 0} where
           (first_or_other base (stops layer.tree.start older) mem.leaves stop))
           (cases_lt layer.tree.start (shape.birth x))
 
+      -- the tree's leaves are no more than those of the newest list
+      pub reached : (layers : List (Layer D)) (base : ℕ) → AreLinked shape base layers → Contains (stops base layers) mem.leaves → mem.leaves ≤ base
+      reached [] base linked stop = ⊎_elim (λ (here : base ≡ mem.leaves). omega arith) (λ none. absurd (omega (arith, none.1))) (first_or_other base [] mem.leaves stop)
+      reached (layer ∷ older) base linked stop = ⊎_elim (λ (here : base ≡ mem.leaves). omega arith)
+          (λ lower. omega (arith, reached older layer.tree.start linked.2 lower, linked.1.order, linked.0))
+          (first_or_other base (stops layer.tree.start older) mem.leaves stop)
+
     module _ (bytes : D → Bytes) (hash : Bytes → Bytes) where
+      -- the newest list has as many leaves as the layers say
+      pub tip_count : (mem : Kept D) (layers : List (Layer D)) (base : ℕ) (list new : List Bytes) (lists : List (List Bytes)) → AreLinked shape base layers → Contains (stops base layers) mem.leaves →
+          IsHistory shape bytes hash layers (new ∷ lists) → Contains (new ∷ lists) list → Stands shape bytes hash mem list → length new ≡ base
+      tip_count mem [] base list new [] linked stop history found stands = ⊎_elim
+          (λ (here : base ≡ mem.leaves). ⊎_elim (λ (same : new ≡ list). omega (arith, ap length same, stands.count)) (λ none. absurd (omega (arith, none.1))) (first_or_other new [] list found))
+          (λ none. absurd (omega (arith, none.1))) (first_or_other base [] mem.leaves stop)
+      tip_count mem [] base list new (more ∷ lists) linked stop history found stands = absurd history
+      tip_count mem (layer ∷ older) base list new [] linked stop history found stands = absurd history
+      tip_count mem (layer ∷ older) base list new (old ∷ lists) linked stop history found stands = sym history.0.stands.count ∙ linked.0
+
       -- what a layer has of a node leads from the old list to the new one
       pub leads_at : (layer : Layer D) (old new : List Bytes) → Leads shape bytes hash layer old new → (x : Node) → shape.birth x ≤ length new →
           MatchOption (layer_at shape layer (shape.position x)) ((shape.birth x ≤ length old) × (digest_of hash shape old x ≡ digest_of hash shape new x)) (λ d. bytes d ≡ digest_of hash shape new x)

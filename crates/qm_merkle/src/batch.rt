@@ -5,7 +5,7 @@ ghost use Rattle.std.specs.Option.{option_or};
 ghost use Rattle.std.specs.Ordering.{nat_cmp};
 ghost use Rattle.std.specs.BTreeMap.{insert_entry};
 ghost use Rattle.qm_model.specs.Trees as trees;
-ghost use Rattle.qm_merkle.specs.Mems.{Kept, Stands, node_at};
+ghost use Rattle.qm_merkle.specs.Mems.{Kept, IsWhole, Stands, node_at};
 ghost use Rattle.qm_merkle.specs.Batches.{Layer as Part, Draft, Batch, found_at, layer_at, layers_at, all_layers, stops, Leads, IsHistory, leaves_of, replaced_from, drafted, updated, IsOver, made_at, AreThere, AreRead, AreRight, HaveOver};
 
 use crate::family::Family;
@@ -165,6 +165,8 @@ impl<F: Family, D: Digest> UnmerkleizedBatch<F, D> {
         ensures history { (list base : List (List ℕ)) (lists : List (List (List ℕ))) → IsHistory F.shape D.bytes H.hash self.layers (base ∷ lists) → Contains (base ∷ lists) list → Stands F.shape D.bytes H.hash mem.now list
             → IfOk result (λ b. IsHistory F.shape D.bytes H.hash (all_layers b) (drafted D.bytes self base ∷ base ∷ lists)) }
     {
+        let (start, _) = mem.bounds();
+        prove!(start.get() <= self.base.get());
         let replaced = self.replaced_nodes(alloc, mem, hasher)?;
         let tree = self.tree(alloc, mem, hasher, &replaced)?;
         let newest = Rc::new(alloc, Layer { tree, replaced })?;
@@ -204,6 +206,7 @@ impl<F: Family, D: Digest> UnmerkleizedBatch<F, D> {
         requires own { HaveOver F.shape self.now.replaced self.now.base nodes.now.entries }
         ensures start { IfOk result (λ m. m.start ≡ self.now.base) }
         ensures leaves { IfOk result (λ m. m.leaves ≡ leaves_of self.now) }
+        ensures whole { IfOk result (IsWhole F.shape) }
         ensures stands { (list : List (List ℕ)) → length list ≡ self.now.base → AreRead F.shape D.bytes H.hash self.now.layers mem.now list → AreRight F.shape D.bytes H.hash nodes.now.entries (replaced_from D.bytes self.now.replaced 0 list)
             → IfOk result (λ m. Stands F.shape D.bytes H.hash m (drafted D.bytes self.now list)) }
     {

@@ -2,7 +2,7 @@
 
 ghost use Rattle.std.specs.Prelude.{◌≡◌, ℕ, suc, List, [], ◌∷◌, ◌++◌, All, Contains, IsSome, ◌↔◌, Some, IfOk, IfErr, OnOk, OnErr, ◌⊎◌, slice_index, ◌<◌, ◌≤◌, ◌^◌, ◌+◌, ◌-◌, length, slice_get, map};
 ghost use Rattle.qm_model.specs.Trees as trees;
-ghost use Rattle.qm_merkle.specs.Mems.{Stands, Holds, AreBorn, left_of, right_of, node_at, pin_at};
+ghost use Rattle.qm_merkle.specs.Mems.{IsWhole, Stands, Holds, AreBorn, left_of, right_of, node_at, pin_at};
 ghost use Rattle.qm_merkle.specs.Batches.{all_layers, stops, IsHistory};
 ghost use Rattle.qm_model.specs.Families.{Births, IsHeld, over};
 
@@ -129,8 +129,7 @@ impl<F: Family, D: Digest> Mem<F, D> {
     pub fn bounds(&self) -> (Location<F>, Location<F>)
         ensures start { result.0 ≡ self.now.start }
         ensures leaves { result.1 ≡ self.now.leaves }
-        ensures order { result.0 ≤ result.1 }
-        ensures few { result.1 ≤ 2 ^ 62 }
+        ensures whole { IsWhole F.shape self.now }
     {
         (self.start, self.leaves)
     }

@@ -1,0 +1,47 @@
+use Rattle.std.proofs.Common.{◌≡◌, ◌∙◌, ◌≤◌, ◌↔◌, ◌⊎◌, ◌<◌, ◌∷◌, length, ap, sym, subst, refl, arith, map, IsSome}
+use Rattle.qm_model.specs.Families.{over}
+use Rattle.qm_model.specs.Trees.{Shape}
+use Rattle.qm_merkle.specs.Batches.{Layer, AreLinked, IsOver, Leads, IsHistory, layer_at, drafted, replaced_from}
+use Rattle.qm_merkle.proofs.Histories.{there, reached, tip_count, seen}
+use Rattle.qm_merkle.proofs.Drafting.{own_nodes, drafted_leads}
+use Rattle.qm_merkle.proofs.batch.UnmerkleizedBatch.merkleize.Goals as goal
+
+pub prove-unreachable-requires : goal.prove-unreachable-requires
+prove-unreachable-requires g c =
+    let linked = subst (λ b. AreLinked g.F.Family.shape b.base b.layers) c.self.view_is c.self.invariant.3 in
+    let low = reached g.F.Family.shape g.F.Family.births g.met.F.Family.numbered g.met.F.Family.peaked c.args.mem.now c.bounds-start.ensures.whole c.args.self.layers c.args.self.base linked c.requires.reach in
+    omega (arith, low, c.bounds-start.ensures.whole.order, c.if-prove.true, c.get.ensures, c.get-2.ensures, c.bounds-start.ensures.start, ap (λ b. b.base) c.self.view_is)
+
+pub replaced_nodes-requires-clause-there : goal.replaced_nodes-requires-clause-there
+replaced_nodes-requires-clause-there g c =
+    let linked = subst (λ b. AreLinked g.F.Family.shape b.base b.layers) c.self.view_is c.self.invariant.3 in
+    there g.F.Family.shape g.F.Family.births g.met.F.Family.numbered g.met.F.Family.peaked c.args.mem.now c.bounds-start.ensures.whole c.args.self.layers c.args.self.base linked c.requires.reach
+
+pub tree-requires-clause-there : goal.tree-requires-clause-there
+tree-requires-clause-there g c =
+    let linked = subst (λ b. AreLinked g.F.Family.shape b.base b.layers) c.self.view_is c.self.invariant.3 in
+    there g.F.Family.shape g.F.Family.births g.met.F.Family.numbered g.met.F.Family.peaked c.args.mem.now c.bounds-start.ensures.whole c.args.self.layers c.args.self.base linked c.requires.reach
+
+pub returns-clause-own : goal.returns-clause-own
+returns-clause-own g c x born =
+    let layer : Layer g.row.D.Denot = record { tree = c.in_ok-tree.tree; replaced = c.in_ok-replaced.replaced.entries } in
+    let is : c.in_ok-newest.newest.value ≡ layer = c.in_ok-newest.ensures.ok in
+    subst (λ l. IsSome (layer_at g.F.Family.shape l (Shape.position g.F.Family.shape x)) ↔ ((c.args.self.base < Shape.birth g.F.Family.shape x) ⊎ IsOver c.args.self.replaced x.height x.index)) (sym is)
+    (own_nodes g.F.Family.shape g.F.Family.births g.met.F.Family.numbered layer c.args.self.replaced c.args.self.base c.in_ok-tree.ensures.start c.in_ok-replaced.ensures.own c.in_ok-tree.ensures.whole x (omega (arith, born, c.in_ok-tree.ensures.leaves)))
+
+pub returns-clause-history : goal.returns-clause-history
+returns-clause-history g c list base lists history found stands =
+    let shape = g.F.Family.shape in
+    let bytes = g.D.Digest.bytes in
+    let hash = g.H.Hasher.hash in
+    let births = g.F.Family.births in
+    let family = g.met.F.Family.numbered in
+    let draft = c.args.self in
+    let layer : Layer g.row.D.Denot = record { tree = c.in_ok-tree.tree; replaced = c.in_ok-replaced.replaced.entries } in
+    let is : c.in_ok-newest.newest.value ≡ layer = c.in_ok-newest.ensures.ok in
+    let linked = subst (λ b. AreLinked shape b.base b.layers) c.self.view_is c.self.invariant.3 in
+    let count : length base ≡ draft.base = tip_count shape births family bytes hash c.args.mem.now draft.layers draft.base list base lists linked c.requires.reach history found stands in
+    let read = seen shape births family bytes hash g.met.F.Family.peaked c.args.mem.now draft.layers list base lists c.bounds-start.ensures.whole history found stands in
+    let right = c.in_ok-replaced.ensures.digests base count read in
+    let leads = drafted_leads shape births family layer draft.replaced draft.base c.in_ok-tree.ensures.start c.in_ok-replaced.ensures.own bytes hash base (map bytes draft.added) count (c.in_ok-tree.ensures.stands base count read right) right in
+    (subst (λ l. Leads shape bytes hash l base (drafted bytes draft base)) (sym is) leads, subst (λ b. IsHistory shape bytes hash b.layers (base ∷ lists)) (sym c.self.view_is) history)
