@@ -129,6 +129,8 @@ impl<F: Family, D: Digest> Mem<F, D> {
     pub fn bounds(&self) -> (Location<F>, Location<F>)
         ensures start { result.0 ≡ self.now.start }
         ensures leaves { result.1 ≡ self.now.leaves }
+        ensures order { result.0 ≤ result.1 }
+        ensures few { result.1 ≤ 2 ^ 62 }
     {
         (self.start, self.leaves)
     }
