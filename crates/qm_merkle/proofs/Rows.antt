@@ -1,11 +1,13 @@
 -- The nodes above replaced leaves, row by row.
-use Rattle.std.proofs.Common.{◌≡◌, ◌≢◌, ℕ, zero, suc, ◌+◌, ◌-◌, ◌*◌, ◌/◌, ◌%◌, ◌^◌, ◌<◌, ◌≤◌, ◌↔◌, ◌⊎◌, true, false, List, [], ◌∷◌, ◌++◌, length, get_or, arith, ap, ap₂, sym, ◌∙◌, refl, Option, Some, None, IsSome, IfSome, Contains, All, ⊎_elim, inl, inr, subst, Less, Equal, Greater}
+use Rattle.std.proofs.Common.{◌≡◌, ◌≢◌, ℕ, zero, suc, ◌+◌, ◌-◌, ◌*◌, ◌/◌, ◌%◌, ◌^◌, ◌<◌, ◌≤◌, ◌↔◌, ◌⊎◌, true, false, List, [], ◌∷◌, ◌++◌, length, get_or, arith, ap, ap₂, sym, ◌∙◌, refl, Option, Some, None, IsSome, IfSome, Contains, All, ⊎_elim, inl, inr, subst, Less, Equal, Greater, le_refl}
 use Rattle.std.specs.Prelude.{is_some, ◌==◌}
 use Rattle.std.specs.Cmp.{ranks}
 use Rattle.std.proofs.lemmas.Cmp.{by_ranked}
 use Rattle.std.specs.Option.{option_or, option_map, unwrap_or}
 use Rattle.std.specs.Ordering.{nat_cmp, is_eq}
 use Rattle.std.proofs.Math.Nat.{pow-suc}
+use Rattle.std.proofs.lemmas.Nat.{pow_pos, pow-add, mul-le}
+use Rattle.std.proofs.lemmas.List.{get_or_default}
 use Rattle.std.proofs.lemmas.Bool.{cases_lt}
 use Rattle.std.proofs.lemmas.Bool.Decides.{eqb_tells}
 use Rattle.std.proofs.lemmas.List.Elements.{Contains-append_left, Contains-append_right, Contains-append_cases}
@@ -20,7 +22,11 @@ use Rattle.qm_merkle.proofs.Numbering.{over_later, same_place, birth-born}
 node_path : (h a k b : ℕ) → h ≡ k → a ≡ b → ◌≡◌ {A = Node} (record { height = h; index = a }) (record { height = k; index = b })
 node_path h a k b eh ea = λ t. record { height = eh t; index = ea t }
 
-not_some : false ≡ true → ⊥
+-- the node of a height and an index
+abbrev pub node_of : ℕ → ℕ → Node
+node_of h a = record { height = h; index = a }
+
+pub not_some : false ≡ true → ⊥
 not_some e = cc
 
 equal_or : (a b : ℕ) → (a ≡ b) ⊎ (a ≢ b)
@@ -32,6 +38,10 @@ only a b found = go found.0 found.1 found.2
     go : (k : ℕ) → k < 1 → get_or (a ∷ []) k b ≡ b → b ≡ a
     go zero lt is = sym is
     go (suc k) lt is = absurd (omega arith)
+
+-- a list with an element, by the other names
+pub listed : (xs ys : List ℕ) (a b : ℕ) → xs ≡ ys → a ≡ b → Contains xs a → Contains ys b
+listed xs ys a b lists e found = subst (Contains ys) e (subst (λ zs. Contains zs a) lists found)
 
 module _ {D : Type 0} where
   -- the first entry, and the others
@@ -258,3 +268,155 @@ module _ (shape : Shape) {D : Type 0} (replaced : List (ℕ × D)) where
               let early : i < base = found-all (λ n. n < base) replaced i below (ap is_some found) in
               let at : 0 + i ≡ i = omega arith in
               replaced_leaf bytes replaced 0 i list d (omega arith) (ap (found_at replaced) at ∙ found)
+
+-- the node over a node within 2 ^ 62 leaves is within them too
+up_within : (h index : ℕ) → suc index * 2 ^ h ≤ 2 ^ 62 → suc h < 63 → suc (index / 2) * 2 ^ suc h ≤ 2 ^ 62
+up_within h index within low =
+    let r = 61 - h in
+    let split : suc h + r ≡ 62 = omega arith in
+    let all : 2 ^ suc h * 2 ^ r ≡ 2 ^ 62 = sym (pow-add 2 (suc h) r) ∙ ap (λ k. 2 ^ k) split in
+    let double : 2 ^ suc h * 2 ^ r ≡ 2 ^ h * 2 * 2 ^ r = ap (λ k. k * 2 ^ r) (pow-suc 2 h) in
+    let few : suc index ≤ 2 * 2 ^ r = ⊎_elim
+    (λ (lt : 2 * 2 ^ r < suc index). absurd (omega (arith, mul-le (suc (2 * 2 ^ r)) (2 ^ h) (suc index) (2 ^ h) (omega arith) (le_refl (2 ^ h)), pow_pos h)))
+    (λ (le : suc index ≤ 2 * 2 ^ r). le)
+    (cases_lt (2 * 2 ^ r) (suc index)) in
+    let half : suc (index / 2) ≤ 2 ^ r = omega arith in
+    omega (arith, mul-le (suc (index / 2)) (2 ^ suc h) (2 ^ r) (2 ^ suc h) half (le_refl (2 ^ suc h)))
+
+-- the nodes of a height over the first i nodes of the row below: which were put, and their row
+pub record Raised (shape : Shape) {D : Type 0} (replaced : List (ℕ × D)) (base height : ℕ) (old : List (ℕ × D)) (row : List ℕ) (i : ℕ) (nodes : List (ℕ × D)) (above : List ℕ) : Type 0 where
+  pub others : (x : Node) → x.height ≢ height → found_at nodes (shape.position x) ≡ found_at old (shape.position x)
+  pub here : (a : ℕ) → shape.birth (node_of height a) ≤ base → IsSome (found_at nodes (shape.position (node_of height a))) ↔ Contains above a
+  pub came : (a : ℕ) → Contains above a → (shape.birth (node_of height a) ≤ base) × IsOver replaced height a
+  pub gone : (j : ℕ) → j < i → shape.birth (node_of height (get_or row j 0 / 2)) ≤ base → Contains above (get_or row j 0 / 2)
+
+module _ (shape : Shape) (births : Births) (family : IsFamily shape births) {D : Type 0} (replaced : List (ℕ × D)) (base height : ℕ) (high : 0 < height) (old : List (ℕ × D)) (own : AreOver shape replaced base (height - 1) old) (row : List ℕ) where
+  up : suc (height - 1) ≡ height
+  up = omega arith
+
+  pub raised-start : (nodes : List (ℕ × D)) (above : List ℕ) → nodes ≡ old → above ≡ [] → Raised shape replaced base height old row 0 nodes above
+  raised-start nodes above same none = record {
+    others = λ x apart. ap (λ es. found_at es (shape.position x)) same;
+    here = λ a born. (
+      λ some. absurd (not_some (sym (ap (λ es. is_some (found_at es (shape.position (node_of height a)))) same ∙ ap is_some ((own (node_of height a) born).1 (omega arith))) ∙ some)),
+      λ found. absurd (omega (arith, found.1, ap length none)),
+    );
+    came = λ a found. absurd (omega (arith, found.1, ap length none));
+    gone = λ j lt born. absurd (omega arith);
+  }
+
+  module _ (i : ℕ) (nodes : List (ℕ × D)) (above : List ℕ) (raised : Raised shape replaced base height old row i nodes above) where
+    skipped : (shape.birth (node_of height (get_or row i 0 / 2)) ≤ base → Contains above (get_or row i 0 / 2)) → Raised shape replaced base height old row (i + 1) nodes above
+    skipped there = record {
+      others = raised.others;
+      here = raised.here;
+      came = raised.came;
+      gone = λ j lt born. ⊎_elim
+          (λ (before : j < i). raised.gone j before born)
+          (λ (last : i ≤ j). let at : i ≡ j = omega arith in subst (λ k. Contains above (get_or row k 0 / 2)) at (there (subst (λ k. shape.birth (node_of height (get_or row k 0 / 2)) ≤ base) (sym at) born)))
+          (cases_lt j i);
+    }
+
+    -- the node is there already, or is not there before the batch's own leaves come
+    pub raised-skip : (more : List (ℕ × D)) (next : List ℕ) (x : Node) → more ≡ nodes → next ≡ above → x ≡ node_of height (get_or row i 0 / 2) → (shape.birth x ≤ base → Contains above x.index) → Raised shape replaced base height old row (i + 1) more next
+    raised-skip more next x same longer is there =
+        subst (λ es. Raised shape replaced base height old row (i + 1) es next) (sym same)
+        (subst (λ xs. Raised shape replaced base height old row (i + 1) nodes xs) (sym longer)
+        (skipped (subst (λ (y : Node). shape.birth y ≤ base → Contains above y.index) is there)))
+
+    put_at : (more : List (ℕ × D)) (next : List ℕ) (k p : ℕ) (d : D) → k ≡ get_or row i 0 / 2 → shape.birth (node_of height k) ≤ base → IsOver replaced height k → p ≡ shape.position (node_of height k) →
+        found_at more p ≡ Some d → ((n : ℕ) → n ≢ p → found_at more n ≡ found_at nodes n) → next ≡ above ++ k ∷ [] → Raised shape replaced base height old row (i + 1) more next
+    put_at more next k p d is born over at put same longer = record {
+      others = λ x apart. same (shape.position x) (λ e. apart (ap (λ (y : Node). y.height) (same_place shape births family x (node_of height k) (e ∙ at)))) ∙ raised.others x apart;
+      here = λ a early. ⊎_elim
+          (λ (equal : a ≡ k). (
+            λ some. subst (Contains next) (sym equal) last,
+            λ found. ap (λ b. is_some (found_at more (shape.position (node_of height b)))) equal ∙ ap is_some (ap (found_at more) (sym at) ∙ put),
+          ))
+          (λ (apart : a ≢ k). (
+            λ some. subst (λ xs. Contains xs a) (sym longer) (Contains-append_left above (k ∷ []) a ((raised.here a early).0 (sym (ap is_some (keeps a apart)) ∙ some))),
+            λ found. ap is_some (keeps a apart) ∙ (raised.here a early).1 (⊎_elim (λ (before : Contains above a). before) (λ (new : Contains (k ∷ []) a). absurd (apart (only k a new))) (Contains-append_cases above (k ∷ []) a (subst (λ xs. Contains xs a) longer found))),
+          ))
+          (equal_or a k);
+      came = λ a found. ⊎_elim
+          (raised.came a)
+          (λ (new : Contains (k ∷ []) a). subst (λ b. (shape.birth (node_of height b) ≤ base) × IsOver replaced height b) (sym (only k a new)) (born, over))
+          (Contains-append_cases above (k ∷ []) a (subst (λ xs. Contains xs a) longer found));
+      gone = λ j lt early. ⊎_elim
+          (λ (before : j < i). subst (λ xs. Contains xs (get_or row j 0 / 2)) (sym longer) (Contains-append_left above (k ∷ []) (get_or row j 0 / 2) (raised.gone j before early)))
+          (λ (at_last : i ≤ j). let equal : i ≡ j = omega arith in subst (Contains next) (is ∙ ap (λ m. get_or row m 0 / 2) equal) last)
+          (cases_lt j i);
+    }
+      where
+        last : Contains next k
+        last = subst (λ xs. Contains xs k) (sym longer) (Contains-append_right above (k ∷ []) k (0, omega arith, refl))
+
+        keeps : (a : ℕ) → a ≢ k → found_at more (shape.position (node_of height a)) ≡ found_at nodes (shape.position (node_of height a))
+        keeps a apart = same (shape.position (node_of height a)) (λ e. apart (ap (λ (y : Node). y.index) (same_place shape births family (node_of height a) (node_of height k) (e ∙ at))))
+
+    pub raised-put : (more : List (ℕ × D)) (next : List ℕ) (x : Node) (k p : ℕ) (d : D) → x ≡ node_of height (get_or row i 0 / 2) → k ≡ x.index → shape.birth x ≤ base → IsOver replaced x.height x.index → p ≡ shape.position x →
+        found_at more p ≡ Some d → ((n : ℕ) → n ≢ p → found_at more n ≡ found_at nodes n) → next ≡ above ++ k ∷ [] → Raised shape replaced base height old row (i + 1) more next
+    raised-put more next x k p d is index born over_it at put_it same longer =
+        let which : k ≡ get_or row i 0 / 2 = index ∙ ap (λ (y : Node). y.index) is in
+        let whole : x ≡ node_of height k = is ∙ ap (node_of height) (sym which) in
+        put_at more next k p d which (subst (λ (y : Node). shape.birth y ≤ base) whole born) (subst (λ (y : Node). IsOver replaced y.height y.index) whole over_it) (at ∙ ap shape.position whole) put_it same longer
+
+    pub raised-row : IsRow shape base height nodes above
+    raised-row a = (λ found. let r = raised.came a found in (r.0, (raised.here a r.0).1 found), λ r. (raised.here a r.0).0 r.1)
+
+    -- the nodes below are as they were
+    pub raised-below : (x : Node) → shape.birth x ≤ base → x.height < height → IsSome (found_at nodes (shape.position x)) ↔ IsOver replaced x.height x.index
+    raised-below x born low =
+        let e = raised.others x (λ (same : x.height ≡ height). absurd (omega arith)) in
+        let was = (own x born).0 (omega arith) in
+        (λ some. was.0 (sym (ap is_some e) ∙ some), λ over. ap is_some e ∙ was.1 over)
+
+    module _ (is_row : IsRow shape base (height - 1) old row) where
+      pub raised-over : length row ≤ i → AreOver shape replaced base height nodes
+      raised-over all x born = (
+        λ low. ⊎_elim
+        (λ (less : x.height < height). raised-below x born less)
+        (λ (level : height ≤ x.height).
+        let is : node_of height x.index ≡ x = node_path height x.index x.height x.index (omega arith) refl in
+        subst (λ y. IsSome (found_at nodes (shape.position y)) ↔ IsOver replaced y.height y.index) is (level_is x.index (subst (λ y. shape.birth y ≤ base) (sym is) born)))
+        (cases_lt x.height height),
+        λ above_it. raised.others x (λ (same : x.height ≡ height). absurd (omega arith)) ∙ (own x born).1 (omega arith),
+      )
+        where
+          level_is : (a : ℕ) → shape.birth (node_of height a) ≤ base → IsSome (found_at nodes (shape.position (node_of height a))) ↔ IsOver replaced height a
+          level_is a early = (
+            λ some. (raised.came a ((raised.here a early).0 some)).1,
+            λ over_it.
+            let half = over_down replaced (height - 1) a (subst (λ h. IsOver replaced h a) (sym up) over_it) in
+            let y : Node = node_of (height - 1) half.0 in
+            let y_over : over y ≡ node_of height a = node_path (suc (height - 1)) (half.0 / 2) height a up half.1 in
+            let y_born : shape.birth y ≤ base = omega (arith, over_later shape births family y, ap shape.birth y_over) in
+            let found = (is_row half.0).1 (y_born, ((own y y_born).0 (le_refl (height - 1))).1 half.2) in
+            let at : get_or row found.0 0 ≡ half.0 = get_or_default row found.0 0 half.0 found.1 ∙ found.2 in
+            let index : get_or row found.0 0 / 2 ≡ a = ap (λ n. n / 2) at ∙ half.1 in
+            (raised.here a early).1 (subst (Contains above) index (raised.gone found.0 (omega (arith, found.1)) (subst (λ b. shape.birth (node_of height b) ≤ base) (sym index) early))),
+          )
+
+  -- the node over a node of the row
+  pub row_over : IsRow shape base (height - 1) old row → (i : ℕ) → i < length row → IsOver replaced height (get_or row i 0 / 2)
+  row_over is_row i lt =
+      let index = get_or row i 0 in
+      let found = (is_row index).0 (i, lt, get_or_default row i index 0 lt) in
+      subst (λ h. IsOver replaced h (index / 2)) up (over_up replaced (height - 1) index (((own (node_of (height - 1) index) found.0).0 (le_refl (height - 1))).0 found.1))
+
+  pub row_within : IsRow shape base (height - 1) old row → base ≤ 2 ^ 62 → height < 63 → (i : ℕ) → i < length row → end_of (node_of height (get_or row i 0 / 2)) ≤ 2 ^ 62
+  row_within is_row few low i lt =
+      let index = get_or row i 0 in
+      let found = (is_row index).0 (i, lt, get_or_default row i index 0 lt) in
+      let inside : suc index * 2 ^ (height - 1) ≤ shape.birth (node_of (height - 1) index) = family.inside (node_of (height - 1) index) in
+      subst (λ h. suc (index / 2) * 2 ^ h ≤ 2 ^ 62) up (up_within (height - 1) index (omega (arith, found.0)) (omega arith))
+
+module _ (shape : Shape) (births : Births) (family : IsFamily shape births) {D : Type 0} (bytes : D → Bytes) (hash : Bytes → Bytes) where
+  pub right-put : (nodes more : List (ℕ × D)) (list : List Bytes) (x : Node) (p : ℕ) (d : D) → AreRight shape bytes hash nodes list → p ≡ shape.position x → found_at more p ≡ Some d → ((n : ℕ) → n ≢ p → found_at more n ≡ found_at nodes n) →
+      bytes d ≡ digest_of hash shape list x → AreRight shape bytes hash more list
+  right-put nodes more list x p d right at put same is y born = ⊎_elim
+      (λ (equal : shape.position y ≡ p).
+      let whole : y ≡ x = same_place shape births family y x (equal ∙ at) in
+      subst (λ o. IfSome o (λ e. bytes e ≡ digest_of hash shape list y)) (sym (ap (found_at more) equal ∙ put)) (is ∙ ap (digest_of hash shape list) (sym whole)))
+      (λ (apart : shape.position y ≢ p). subst (λ o. IfSome o (λ e. bytes e ≡ digest_of hash shape list y)) (sym (same (shape.position y) apart)) (right y born))
+      (equal_or (shape.position y) p)

@@ -65,6 +65,7 @@ impl<F: Family, D: Digest> UnmerkleizedBatch<F, D> {
         height: u32,
         row: &[u64],
     ) -> Result<Vec<u64>, AllocError>
+        requires few { self.now.base ≤ 2 ^ 62 }
         requires there { AreThere F.shape self.now.layers mem.now self.now.base }
         requires start { All (λ e. mem.now.start ≤ e.0) self.now.replaced }
         requires height { (0 < height) × (height < 63) }
