@@ -42,6 +42,7 @@ impl<F: Family, D: Digest> UnmerkleizedBatch<F, D> {
         nodes: &mut BTreeMap<u64, D>,
     ) -> Result<Vec<u64>, AllocError>
         requires { nodes.old.entries ≡ [] }
+        ensures few { self.now.base ≤ 2 ^ 62 }
         ensures own { OnOk result (AreOver F.shape self.now.replaced self.now.base 0 nodes.new.entries) }
         ensures row { IfOk result (λ v. IsRow F.shape self.now.base 0 nodes.new.entries v.items) }
         ensures digests { (hash : List ℕ → List ℕ) (list : List (List ℕ)) → length list ≡ self.now.base → OnOk result (AreRight F.shape D.bytes hash nodes.new.entries (replaced_from D.bytes self.now.replaced 0 list)) }
