@@ -1,4 +1,4 @@
-use Rattle.std.proofs.Common.{◌≡◌, ◌∙◌, ◌≤◌, ◌<◌, ◌^◌, ◌-◌, ℕ, List, All, ap, ap₂, sym, subst, arith, IsSome, Some, refl}
+use Rattle.std.proofs.Common.{◌≡◌, ◌∙◌, ◌≤◌, ◌<◌, ◌^◌, ℕ, All, ap, ap₂, sym, subst, arith, IsSome, Some, refl}
 use Rattle.std.specs.Option.{option_or}
 use Rattle.qm_model.specs.Trees.{Node, node_digest, digest_of}
 use Rattle.qm_model.specs.Families.{over}

@@ -1,4 +1,4 @@
-use Rattle.std.proofs.Common.{◌≡◌, ◌∙◌, ◌<◌, ℕ, List, All, Some, ap, sym, subst}
+use Rattle.std.proofs.Common.{◌≡◌, ◌∙◌, ◌<◌, All, Some, ap, subst}
 use Rattle.qm_model.specs.Trees.{leaf}
 use Rattle.qm_merkle.specs.Batches.{found_at}
 use Rattle.qm_merkle.proofs.Rows.{taken-start, taken-more, taken-over, taken-row, taken-right}

@@ -1,4 +1,4 @@
-use Rattle.std.proofs.Common.{◌≡◌, ◌≤◌, ◌+◌, ◌-◌, ℕ, sym, subst, arith}
+use Rattle.std.proofs.Common.{◌≡◌, ◌+◌, ◌-◌, sym, subst, arith}
 use Rattle.qm_merkle.specs.Batches.{AreOver, IsRow}
 use Rattle.qm_merkle.proofs.Growth.{height_within}
 use Rattle.qm_merkle.proofs.batch.UnmerkleizedBatch.replaced_nodes.Goals as goal
