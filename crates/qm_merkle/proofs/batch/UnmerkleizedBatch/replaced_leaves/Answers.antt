@@ -7,32 +7,24 @@ use Rattle.qm_merkle.proofs.batch.UnmerkleizedBatch.replaced_leaves.Goals as goa
 
 pub loop-location-init : goal.loop-location-init
 loop-location-init g c =
-    let replaced = c.args.self.now.replaced in
-    let is : c.self.inside.replaced.entries ≡ replaced = ap (λ d. d.replaced) c.self.view_is in
+    let is : c.self.inside.replaced.entries ≡ c.args.self.now.replaced = ap (λ d. d.replaced) c.self.view_is in
     let gives = c.into_iter-location-iterator.ensures.into_iter_gives in
-    taken-start g.F.Family.shape replaced c.into_iter-location-iterator.result c.args.nodes.now.entries c.new-row.result.items (gives.0 ∙ is)
-    (subst (λ es. All (λ e. found_at es e.0 ≡ Some e.1) es) is gives.6) c.requires c.new-row.ensures.items
+    taken-start (gives.0 ∙ is) (subst (λ es. All (λ e. found_at es e.0 ≡ Some e.1) es) is gives.6) c.requires c.new-row.ensures.items
 
 pub loop-location-preserved : goal.loop-location-preserved
 loop-location-preserved g c =
-    let shape = g.F.Family.shape in
-    taken-more shape c.args.self.now.replaced g.F.Family.births g.met.F.Family.numbered c.loop-location.location-iterator c.next.new.self c.loop-location.nodes.entries c.replace.new.entries.entries
-    c.loop-location.row.items c.push.new.self.items c.in-Some.location.now c.get.result c.in-Some.digest.now c.loop-location.invariant c.in-Some.ensures.steps
-    (c.get.ensures ∙ c.location_to_position-position.ensures.place ∙ ap (λ n. shape.position (leaf n)) c.new.ensures)
+    taken-more g.met.F.Family.numbered c.loop-location.invariant c.in-Some.ensures.steps
+    (c.get.ensures ∙ c.location_to_position-position.ensures.place ∙ ap (λ n. g.F.Family.shape.position (leaf n)) c.new.ensures)
     c.in_ok-replace.ensures.here c.in_ok-replace.ensures.other c.in_ok-push.ensures.items
 
 below : (g : Given.Over) (c : goal.In-None g) → All (λ e. e.0 < c.args.self.now.base) c.args.self.now.replaced
 below g c = subst (λ d. All (λ e. e.0 < d.base) d.replaced) c.self.view_is c.self.invariant.2
 
 pub returns-clause-own : goal.returns-clause-own
-returns-clause-own g c =
-    taken-over g.F.Family.shape c.args.self.now.replaced g.F.Family.births g.met.F.Family.numbered c.args.self.now.base (below g c) c.loop-location.nodes.entries c.loop-location.row.items c.loop-location.location-iterator c.loop-location.invariant c.in-None.ensures.steps.0
+returns-clause-own g c = taken-over g.met.F.Family.numbered c.loop-location.invariant c.in-None.ensures.steps.0 c.args.self.now.base (below g c)
 
 pub returns-clause-row : goal.returns-clause-row
-returns-clause-row g c =
-    taken-row g.F.Family.shape c.args.self.now.replaced g.F.Family.births g.met.F.Family.numbered c.args.self.now.base (below g c) c.loop-location.nodes.entries c.loop-location.row.items c.loop-location.location-iterator c.loop-location.invariant c.in-None.ensures.steps.0
+returns-clause-row g c = taken-row g.met.F.Family.numbered c.loop-location.invariant c.in-None.ensures.steps.0 c.args.self.now.base (below g c)
 
 pub returns-clause-digests : goal.returns-clause-digests
-returns-clause-digests g c = λ hash list long.
-    taken-right g.F.Family.shape c.args.self.now.replaced g.F.Family.births g.met.F.Family.numbered c.args.self.now.base (below g c) c.loop-location.nodes.entries c.loop-location.row.items c.loop-location.location-iterator c.loop-location.invariant c.in-None.ensures.steps.0
-    g.D.Digest.bytes hash list long
+returns-clause-digests g c = taken-right g.met.F.Family.numbered c.loop-location.invariant c.in-None.ensures.steps.0 c.args.self.now.base (below g c) g.D.Digest.bytes
