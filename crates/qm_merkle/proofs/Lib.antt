@@ -7,3 +7,4 @@ pub mod Growth
 pub mod Pruning
 pub mod Histories
 pub mod Drafting
+pub mod Rows

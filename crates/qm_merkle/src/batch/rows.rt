@@ -42,6 +42,7 @@ impl<F: Family, D: Digest> UnmerkleizedBatch<F, D> {
         nodes: &mut BTreeMap<u64, D>,
     ) -> Result<Vec<u64>, AllocError>
         requires { nodes.old.entries ≡ [] }
+        ensures few { self.now.base ≤ 2 ^ 62 }
         ensures own { OnOk result (AreOver F.shape self.now.replaced self.now.base 0 nodes.new.entries) }
         ensures row { IfOk result (λ v. IsRow F.shape self.now.base 0 nodes.new.entries v.items) }
         ensures digests { (hash : List ℕ → List ℕ) (list : List (List ℕ)) → length list ≡ self.now.base → OnOk result (AreRight F.shape D.bytes hash nodes.new.entries (replaced_from D.bytes self.now.replaced 0 list)) }
@@ -65,6 +66,7 @@ impl<F: Family, D: Digest> UnmerkleizedBatch<F, D> {
         height: u32,
         row: &[u64],
     ) -> Result<Vec<u64>, AllocError>
+        requires few { self.now.base ≤ 2 ^ 62 }
         requires there { AreThere F.shape self.now.layers mem.now self.now.base }
         requires start { All (λ e. mem.now.start ≤ e.0) self.now.replaced }
         requires height { (0 < height) × (height < 63) }
@@ -103,12 +105,13 @@ impl<F: Family, D: Digest> UnmerkleizedBatch<F, D> {
         nodes: &BTreeMap<u64, D>,
         node: Node,
     ) -> D
+        requires few { self.now.base ≤ 2 ^ 62 }
         requires there { AreThere F.shape self.now.layers mem.now self.now.base }
         requires start { All (λ e. mem.now.start ≤ e.0) self.now.replaced }
         requires high { 0 < node.height }
         requires below { trees.Shape.birth F.shape node ≤ self.now.base }
         requires above { IsOver self.now.replaced node.height node.index }
-        requires own { AreOver F.shape self.now.replaced self.now.base (node.height - 1) nodes.now.entries }
+        requires own { (x : trees.Node) → trees.Shape.birth F.shape x ≤ self.now.base → x.height < node.height → (IsSome (found_at nodes.now.entries (trees.Shape.position F.shape x)) ↔ IsOver self.now.replaced x.height x.index) }
         ensures { (list : List (List ℕ)) → length list ≡ self.now.base → AreRead F.shape D.bytes H.hash self.now.layers mem.now list → AreRight F.shape D.bytes H.hash nodes.now.entries (replaced_from D.bytes self.now.replaced 0 list)
             → D.bytes result ≡ trees.digest_of H.hash F.shape (replaced_from D.bytes self.now.replaced 0 list) node }
     {

@@ -1,7 +1,6 @@
-use Rattle.std.proofs.Common.{◌≡◌, ◌∙◌, ◌≤◌, ◌↔◌, ◌⊎◌, ◌<◌, ◌∷◌, length, ap, sym, subst, refl, arith, map, IsSome}
-use Rattle.qm_model.specs.Families.{over}
+use Rattle.std.proofs.Common.{◌≡◌, ◌↔◌, ◌⊎◌, ◌<◌, ◌∷◌, length, ap, sym, subst, arith, map, IsSome}
 use Rattle.qm_model.specs.Trees.{Shape}
-use Rattle.qm_merkle.specs.Batches.{Layer, AreLinked, IsOver, Leads, IsHistory, layer_at, drafted, replaced_from}
+use Rattle.qm_merkle.specs.Batches.{Layer, AreLinked, IsOver, Leads, IsHistory, layer_at, drafted}
 use Rattle.qm_merkle.proofs.Histories.{there, reached, tip_count, seen}
 use Rattle.qm_merkle.proofs.Drafting.{own_nodes, drafted_leads}
 use Rattle.qm_merkle.proofs.batch.UnmerkleizedBatch.merkleize.Goals as goal

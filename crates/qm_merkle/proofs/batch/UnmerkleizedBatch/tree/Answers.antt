@@ -1,9 +1,8 @@
-use Rattle.std.proofs.Common.{◌≡◌, ◌∙◌, ◌+◌, ◌^◌, ◌≤◌, ◌++◌, ℕ, List, [], Some, IsSome, All, ap, sym, subst, refl, arith, map, length}
+use Rattle.std.proofs.Common.{◌≡◌, ◌∙◌, ◌^◌, ◌≤◌, ◌++◌, Some, IsSome, All, ap, sym, subst, arith, map, length}
 use Rattle.qm_model.specs.Trees.{peak_positions}
-use Rattle.qm_merkle.specs.Mems.{Kept, Stands}
+use Rattle.qm_merkle.specs.Mems.{Stands}
 use Rattle.qm_merkle.specs.Batches.{made_at, replaced_from}
 use Rattle.qm_merkle.proofs.Drafting.{peaks_there, stands-fresh}
-use Rattle.qm_merkle.proofs.batch.UnmerkleizedBatch.tree.Given
 use Rattle.qm_merkle.proofs.batch.UnmerkleizedBatch.tree.Goals as goal
 
 pub digests-requires : goal.digests-requires
