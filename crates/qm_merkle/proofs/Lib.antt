@@ -5,3 +5,5 @@ pub mod Lookups
 pub mod Standing
 pub mod Growth
 pub mod Pruning
+pub mod Histories
+pub mod Putting

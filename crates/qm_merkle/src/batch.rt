@@ -280,7 +280,8 @@ impl<F: Family, D: Digest> Layer<F, D> {
 
     // How many leaves stand before those that the layer adds.
     fn base(&self) -> Location<F>
-        ensures { result ≡ self.now.tree.start }
+        ensures start { result ≡ self.now.tree.start }
+        ensures few { result ≤ 2 ^ 62 }
     {
         let (start, _) = self.tree.bounds();
         start

@@ -1,6 +1,7 @@
 //! Trees in memory.
 
 ghost use Rattle.std.specs.Prelude.{◌≡◌, ℕ, suc, List, [], ◌∷◌, ◌++◌, All, Contains, IsSome, ◌↔◌, Some, IfOk, IfErr, OnOk, OnErr, ◌⊎◌, slice_index, ◌<◌, ◌≤◌, ◌^◌, ◌+◌, ◌-◌, length, slice_get, map};
+ghost use Rattle.std.specs.Vec.{vec_capacity};
 ghost use Rattle.qm_model.specs.Trees as trees;
 ghost use Rattle.qm_merkle.specs.Mems.{Stands, Holds, AreBorn, left_of, right_of, node_at, pin_at};
 ghost use Rattle.qm_merkle.specs.Batches.{all_layers, stops, IsHistory};
@@ -129,6 +130,8 @@ impl<F: Family, D: Digest> Mem<F, D> {
     pub fn bounds(&self) -> (Location<F>, Location<F>)
         ensures start { result.0 ≡ self.now.start }
         ensures leaves { result.1 ≡ self.now.leaves }
+        ensures order { result.0 ≤ result.1 }
+        ensures few { result.1 ≤ 2 ^ 62 }
     {
         (self.start, self.leaves)
     }
@@ -217,7 +220,11 @@ impl<F: Family, D: Digest> Mem<F, D> {
     }
 
     // Adds the nodes from the kept start on, where there is room.
-    pub(crate) fn append_to(&self, nodes: &mut Vec<D>) {
+    pub(crate) fn append_to(&self, nodes: &mut Vec<D>)
+        requires { length nodes.old.items + length self.now.nodes ≤ vec_capacity nodes.old }
+        ensures items { nodes.new.items ≡ nodes.old.items ++ self.now.nodes }
+        ensures capacity { vec_capacity nodes.new ≡ vec_capacity nodes.old }
+    {
         for node in &self.nodes {
             nodes.push_reserved(*node);
         }
