@@ -1,5 +1,5 @@
 -- Layers are put into a tree.
-use Rattle.std.proofs.Common.{◌≡◌, ◌≢◌, ℕ, zero, suc, ◌+◌, ◌-◌, ◌^◌, ◌<◌, ◌≤◌, true, false, List, [], ◌∷◌, ◌++◌, length, map, take, drop, get_or, arith, ap, ap₂, sym, ◌∙◌, refl, subst, Option, Some, None, ⊎_elim}
+use Rattle.std.proofs.Common.{◌≡◌, ◌≢◌, ℕ, zero, suc, ◌+◌, ◌-◌, ◌^◌, ◌<◌, ◌≤◌, true, false, List, [], ◌∷◌, ◌++◌, length, map, take, drop, get_or, arith, ap, ap₂, sym, ◌∙◌, refl, subst, Option, Some, None, All, Contains, ◌⊎◌, ⊎_elim, inl, inr, ⊤, tt, le_refl}
 use Rattle.std.specs.Prelude.{slice_get, if◌then◌else◌, nat_eq, nat_le}
 use Rattle.std.specs.Option.{option_or}
 use Rattle.std.specs.Ordering.{nat_cmp, is_eq, eq_by_cmp}
@@ -8,14 +8,18 @@ use Rattle.std.specs.Map.{keys_of, lookup}
 use Rattle.std.specs.BTreeMap.{is_at}
 use Rattle.std.specs.List.Sorted.{IsStrictlySortedBy}
 use Rattle.std.proofs.Math.ListN.{set}
-use Rattle.std.proofs.lemmas.Bool.{cases_eq, le-leb}
+use Rattle.std.proofs.lemmas.Bool.{cases_eq, cases_lt, le-leb}
 use Rattle.std.proofs.lemmas.Bool.Decides.{leb_tells}
 use Rattle.std.proofs.lemmas.Cmp.{nat_cmp_total, eq_by_cmp_equiv}
+use Rattle.std.proofs.lemmas.Option.{slice_get_past, slice_get_within, get_or_from_slice_get}
 use Rattle.std.proofs.lemmas.Map.{lookup-none}
 use Rattle.std.proofs.lemmas.Map.Entries.{lookup_head, lookup_tail, none_past_head}
 use Rattle.std.proofs.lemmas.Map.Keys.{IsDistinct-from_sorted, sorted_tail}
-use Rattle.qm_merkle.specs.Batches.{Layer, found_at}
+use Rattle.qm_model.specs.Trees.{Shape}
+use Rattle.qm_merkle.specs.Mems.{IsWhole}
+use Rattle.qm_merkle.specs.Batches.{Layer, AreLinked, stops, found_at, layer_at, layers_at}
 use Rattle.qm_merkle.specs.Putting.{lacked}
+use Rattle.qm_merkle.proofs.Growth.{slice_get-left, slice_get-right}
 
 -- an element that was replaced, and the others
 pub slice_get-set : {X : Type 0} (xs : List X) (i : ℕ) (x : X) → i < length xs → slice_get (set xs i x) i ≡ Some x
@@ -90,3 +94,156 @@ module _ {D : Type 0} where
         let late : leaves ≤ (value y).tree.start = subst (λ z. leaves ≤ (value z).tree.start) is from in
         sym (ap (λ b. if b then value y ∷ lacked leaves (map value xs) else []) (le-leb _ _ late))
     lacked-next (y ∷ xs) (suc i) x lt is from = ap (λ zs. value y ∷ zs) (lacked-next xs i x (omega arith) is from)
+
+-- all the elements, written anew
+pub written : {X : Type 0} (xs ys : List X) (n : ℕ) → length xs ≡ length ys → n ≡ length ys → take n (xs ++ drop (length xs) ys) ≡ xs
+written [] [] n same all = ap (λ k. take k []) all
+written [] (y ∷ ys) n same all = absurd (omega arith)
+written (x ∷ xs) [] n same all = absurd (omega arith)
+written (x ∷ xs) (y ∷ ys) n same all = ap (λ k. take k (x ∷ (xs ++ drop (length xs) ys))) all ∙ ap (λ zs. x ∷ zs) (written xs ys (length ys) (omega arith) refl)
+
+pub all_at : {X : Type 0} (P : X → Type 0) (xs : List X) (i : ℕ) (x : X) → All P xs → slice_get xs i ≡ Some x → P x
+all_at P xs i x all at = subst P (get_or_from_slice_get xs i x x at) (all i x (slice_get_within xs i x at))
+
+option_or-none : {X : Type 0} (o : Option X) → option_or o None ≡ o
+option_or-none None = refl
+option_or-none (Some x) = refl
+
+module _ (shape : Shape) {D : Type 0} (layer : Layer D) where
+  pub layer_at-before : (p : ℕ) → p < shape.size layer.tree.start → layer_at shape layer p ≡ found_at layer.replaced p
+  layer_at-before p lt = ⊎_elim
+      (λ (high : (nat_le (shape.size layer.tree.start) p ≡ true) × (shape.size layer.tree.start ≤ p)). absurd (omega arith))
+      (λ (low : (nat_le (shape.size layer.tree.start) p ≡ false) × (p < shape.size layer.tree.start)).
+      ap (λ b. if b then slice_get layer.tree.nodes (p - shape.size layer.tree.start) else found_at layer.replaced p) low.0)
+      (leb_tells (shape.size layer.tree.start) p)
+
+  pub layer_at-past : (p : ℕ) → shape.size layer.tree.start ≤ p → layer_at shape layer p ≡ slice_get layer.tree.nodes (p - shape.size layer.tree.start)
+  layer_at-past p le = ap (λ b. if b then slice_get layer.tree.nodes (p - shape.size layer.tree.start) else found_at layer.replaced p) (le-leb _ _ le)
+
+  -- the nodes of a tree that ends where the layer begins, after the layer is put in
+  pub put-nodes : (size : ℕ) (old replaced new : List D) → size + length old ≡ shape.size layer.tree.start → length replaced ≡ length old →
+      ((i : ℕ) → i < length old → slice_get replaced i ≡ option_or (found_at layer.replaced (size + i)) (slice_get old i)) → new ≡ replaced ++ layer.tree.nodes →
+      (i : ℕ) → slice_get new i ≡ option_or (layer_at shape layer (size + i)) (slice_get old i)
+  put-nodes size old replaced new end same each is i =
+      ap (λ xs. slice_get xs i) is
+      ∙ ⊎_elim
+      (λ (low : i < length old).
+      slice_get-left replaced layer.tree.nodes i (omega arith) ∙ each i low ∙ ap (λ o. option_or o (slice_get old i)) (sym (layer_at-before (size + i) (omega arith))))
+      (λ (high : length old ≤ i).
+      let k = size + i - shape.size layer.tree.start in
+      let at : i ≡ length replaced + k = omega arith in
+      ap (slice_get (replaced ++ layer.tree.nodes)) at ∙ slice_get-right replaced layer.tree.nodes k ∙ sym (layer_at-past (size + i) (omega arith))
+      ∙ sym (ap (option_or (layer_at shape layer (size + i))) (slice_get_past old i high) ∙ option_or-none (layer_at shape layer (size + i))))
+      (cases_lt i (length old))
+
+option_or-assoc : {X : Type 0} (a b c : Option X) → option_or a (option_or b c) ≡ option_or (option_or a b) c
+option_or-assoc None b c = refl
+option_or-assoc (Some x) b c = refl
+
+contains_cons : {X : Type 0} (y : X) (ys : List X) (x : X) → Contains (y ∷ ys) x → (y ≡ x) ⊎ Contains ys x
+contains_cons y ys x found = go found.0 found.1 found.2
+  where
+    go : (k : ℕ) → k < suc (length ys) → get_or (y ∷ ys) k x ≡ x → (y ≡ x) ⊎ Contains ys x
+    go zero lt is = inl is
+    go (suc k) lt is = inr (k, omega arith, is)
+
+module _ (shape : Shape) {D : Type 0} where
+  stops-first : (n : ℕ) (layers : List (Layer D)) → Contains (stops n layers) n
+  stops-first n [] = (0, omega arith, refl)
+  stops-first n (layer ∷ older) = (0, omega arith, refl)
+
+  stops-below : (n : ℕ) (layers : List (Layer D)) (leaves : ℕ) → AreLinked shape n layers → Contains (stops n layers) leaves → leaves ≤ n
+  stops-below n [] leaves linked found = ⊎_elim (λ (here : n ≡ leaves). omega arith) (λ (no : Contains [] leaves). absurd (omega (arith, no.1))) (contains_cons n [] leaves found)
+  stops-below n (layer ∷ older) leaves linked found = ⊎_elim
+      (λ (here : n ≡ leaves). omega arith)
+      (λ (more : Contains (stops layer.tree.start older) leaves). omega (arith, linked.0, linked.1.order, stops-below layer.tree.start older leaves linked.2 more))
+      (contains_cons n (stops layer.tree.start older) leaves found)
+
+  -- where layers over a tree of so many leaves end
+  abbrev pub top_of : ℕ → List (Layer D) → ℕ
+  top_of leaves [] = leaves
+  top_of leaves (layer ∷ older) = layer.tree.leaves
+
+  -- each layer begins where the older one ends, and the oldest at the leaves
+  abbrev pub AreChained : ℕ → List (Layer D) → Type 0
+  AreChained leaves [] = ⊤
+  AreChained leaves (layer ∷ older) = IsWhole shape layer.tree × (layer.tree.start ≡ top_of leaves older) × AreChained leaves older
+
+  pub lacked-here : (leaves : ℕ) (layer : Layer D) (older : List (Layer D)) → leaves ≤ layer.tree.start → lacked leaves (layer ∷ older) ≡ layer ∷ lacked leaves older
+  lacked-here leaves layer older from = ap (λ b. if b then layer ∷ lacked leaves older else []) (le-leb _ _ from)
+
+  pub lacked-past : (leaves : ℕ) (layer : Layer D) (older : List (Layer D)) → layer.tree.start < leaves → lacked leaves (layer ∷ older) ≡ []
+  lacked-past leaves layer older before = ⊎_elim
+      (λ (high : (nat_le leaves layer.tree.start ≡ true) × (leaves ≤ layer.tree.start)). absurd (omega arith))
+      (λ (low : (nat_le leaves layer.tree.start ≡ false) × (layer.tree.start < leaves)). ap (λ b. if b then layer ∷ lacked leaves older else []) low.0)
+      (leb_tells leaves layer.tree.start)
+
+  pub chained : (leaves n : ℕ) (layers : List (Layer D)) → AreLinked shape n layers → Contains (stops n layers) leaves → AreChained leaves (lacked leaves layers) × (top_of leaves (lacked leaves layers) ≡ n)
+  chained leaves n [] linked found = (tt, ⊎_elim (λ (here : n ≡ leaves). sym here) (λ (no : Contains [] leaves). absurd (omega (arith, no.1))) (contains_cons n [] leaves found))
+  chained leaves n (layer ∷ older) linked found = ⊎_elim
+      (λ (before : layer.tree.start < leaves).
+      let none = lacked-past leaves layer older before in
+      let top : leaves ≡ n = ⊎_elim
+      (λ (here : n ≡ leaves). sym here)
+      (λ (more : Contains (stops layer.tree.start older) leaves). absurd (omega (arith, stops-below layer.tree.start older leaves linked.2 more)))
+      (contains_cons n (stops layer.tree.start older) leaves found) in
+      (subst (AreChained leaves) (sym none) tt, ap (top_of leaves) none ∙ top))
+      (λ (from : leaves ≤ layer.tree.start).
+      let is = lacked-here leaves layer older from in
+      let reach : Contains (stops layer.tree.start older) leaves = ⊎_elim
+      (λ (here : n ≡ leaves).
+      let same : layer.tree.start ≡ leaves = omega (arith, linked.0, linked.1.order) in
+      subst (Contains (stops layer.tree.start older)) same (stops-first layer.tree.start older))
+      (λ (more : Contains (stops layer.tree.start older) leaves). more)
+      (contains_cons n (stops layer.tree.start older) leaves found) in
+      let rest = chained leaves layer.tree.start older linked.2 reach in
+      (subst (AreChained leaves) (sym is) (linked.1, sym rest.1, rest.0), ap (top_of leaves) is ∙ linked.0))
+      (cases_lt layer.tree.start leaves)
+
+  chained-drop : (leaves : ℕ) (layers : List (Layer D)) (k : ℕ) → AreChained leaves layers → AreChained leaves (drop k layers)
+  chained-drop leaves layers zero chain = chain
+  chained-drop leaves [] (suc k) chain = tt
+  chained-drop leaves (layer ∷ older) (suc k) chain = chained-drop leaves older k chain.2
+
+  top-drop : (leaves : ℕ) (layers : List (Layer D)) (k : ℕ) → AreChained leaves layers → top_of leaves (drop k layers) ≤ top_of leaves layers
+  top-drop leaves layers zero chain = le_refl (top_of leaves layers)
+  top-drop leaves [] (suc k) chain = le_refl leaves
+  top-drop leaves (layer ∷ older) (suc k) chain = omega (arith, top-drop leaves older k chain.2, chain.1, chain.0.order)
+
+  top-above : (leaves : ℕ) (layers : List (Layer D)) → AreChained leaves layers → leaves ≤ top_of leaves layers
+  top-above leaves [] chain = le_refl leaves
+  top-above leaves (layer ∷ older) chain = omega (arith, top-above leaves older chain.2, chain.1, chain.0.order)
+
+  -- a layer that is next to be put in
+  pub record IsNext (leaves : ℕ) (layers : List (Layer D)) (k : ℕ) (layer : Layer D) : Type 0 where
+    pub is : drop k layers ≡ layer ∷ drop (suc k) layers
+    pub whole : IsWhole shape layer.tree
+    pub start : layer.tree.start ≡ top_of leaves (drop (suc k) layers)
+    pub low : leaves ≤ layer.tree.start
+    pub high : layer.tree.leaves ≤ top_of leaves layers
+
+  pub is_next : (leaves : ℕ) (layers : List (Layer D)) (k : ℕ) (layer : Layer D) → AreChained leaves layers → drop k layers ≡ layer ∷ drop (suc k) layers → IsNext leaves layers k layer
+  is_next leaves layers k layer chain is =
+      let here : AreChained leaves (layer ∷ drop (suc k) layers) = subst (AreChained leaves) is (chained-drop leaves layers k chain) in
+      record {
+        is = is;
+        whole = here.0;
+        start = here.1;
+        low = omega (arith, top-above leaves (drop (suc k) layers) here.2, here.1);
+        high = omega (arith, top-drop leaves layers k chain, ap (top_of leaves) is);
+      }
+
+  pub lacked-at : {R : Type 0} (value : R → Layer D) (leaves : ℕ) (xs : List R) (k : ℕ) (x : R) → k < length (lacked leaves (map value xs)) → x ≡ get_or xs k x →
+      drop k (lacked leaves (map value xs)) ≡ value x ∷ drop (suc k) (lacked leaves (map value xs))
+  lacked-at value leaves [] k x lt at = absurd (omega arith)
+  lacked-at value leaves (y ∷ xs) k x lt at = ⊎_elim
+      (λ (before : (value y).tree.start < leaves). absurd (omega (arith, ap length (lacked-past leaves (value y) (map value xs) before))))
+      (λ (from : leaves ≤ (value y).tree.start).
+      let is = lacked-here leaves (value y) (map value xs) from in
+      ap (drop k) is ∙ go k (omega (arith, ap length is)) at ∙ sym (ap (λ zs. value x ∷ drop (suc k) zs) is))
+      (cases_lt (value y).tree.start leaves)
+    where
+      go : (k : ℕ) → k < suc (length (lacked leaves (map value xs))) → x ≡ get_or (y ∷ xs) k x →
+          drop k (value y ∷ lacked leaves (map value xs)) ≡ value x ∷ drop (suc k) (value y ∷ lacked leaves (map value xs))
+      go zero lt at = ap (λ z. value z ∷ lacked leaves (map value xs)) (sym at)
+      go (suc k) lt at = lacked-at value leaves xs k x (omega arith) at

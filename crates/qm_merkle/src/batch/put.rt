@@ -4,6 +4,7 @@ ghost use Rattle.std.specs.Prelude.{◌≡◌, ℕ, Some, All, Contains, ◌<◌
 ghost use Rattle.std.specs.Option.{option_or};
 ghost use Rattle.std.specs.Vec.{vec_capacity};
 ghost use Rattle.qm_model.specs.Trees as trees;
+ghost use Rattle.qm_merkle.specs.Mems.{IsWhole};
 ghost use Rattle.qm_merkle.specs.Batches.{found_at, layer_at, layers_at, all_layers, stops};
 ghost use Rattle.qm_merkle.specs.Putting.{lacked};
 
@@ -64,6 +65,7 @@ fn lacking<F: Family, D: Digest>(layers: &[Rc<Layer<F, D>>], leaves: Location<F>
 impl<F: Family, D: Digest> Layer<F, D> {
     // Puts the layer's nodes into those of a tree that ends where the layer begins.
     fn put(&self, positions: &[Position<F>], pins: &mut [D], size: u64, nodes: &mut Vec<D>)
+        requires whole { IsWhole F.shape self.now.tree }
         requires pins { length pins.old ≡ length positions.now }
         requires low { All (λ p. p < trees.Shape.size F.shape self.now.tree.start) positions.now }
         requires size { size + length nodes.old.items ≡ trees.Shape.size F.shape self.now.tree.start }
