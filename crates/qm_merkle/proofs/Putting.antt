@@ -1,6 +1,6 @@
 -- Layers are put into a tree.
-use Rattle.std.proofs.Common.{◌≡◌, ◌≢◌, ℕ, zero, suc, ◌+◌, ◌-◌, ◌^◌, ◌<◌, ◌≤◌, true, false, List, [], ◌∷◌, ◌++◌, length, map, take, drop, get_or, arith, ap, ap₂, sym, ◌∙◌, refl, subst, Option, Some, None, All, Contains, ◌⊎◌, ⊎_elim, inl, inr, ⊤, tt, le_refl}
-use Rattle.std.specs.Prelude.{slice_get, if◌then◌else◌, nat_eq, nat_le}
+use Rattle.std.proofs.Common.{◌≡◌, ◌≢◌, ℕ, zero, suc, ◌+◌, ◌-◌, ◌^◌, ◌<◌, ◌≤◌, true, false, List, [], ◌∷◌, ◌++◌, length, map, take, drop, get_or, arith, ap, ap₂, sym, ◌∙◌, refl, subst, Option, Some, None, All, Contains, ◌⊎◌, ⊎_elim, inl, inr, le_refl}
+use Rattle.std.specs.Prelude.{slice_get, if◌then◌else◌, nat_le, ⊤}
 use Rattle.std.specs.Option.{option_or}
 use Rattle.std.specs.Ordering.{nat_cmp, is_eq, eq_by_cmp}
 use Rattle.std.specs.Cmp.{nat_cmp_is}
@@ -214,36 +214,83 @@ module _ (shape : Shape) {D : Type 0} where
   top-above leaves [] chain = le_refl leaves
   top-above leaves (layer ∷ older) chain = omega (arith, top-above leaves older chain.2, chain.1, chain.0.order)
 
-  -- a layer that is next to be put in
-  pub record IsNext (leaves : ℕ) (layers : List (Layer D)) (k : ℕ) (layer : Layer D) : Type 0 where
-    pub is : drop k layers ≡ layer ∷ drop (suc k) layers
+  -- a layer that is next to be put in, after the older ones
+  pub record IsNext (leaves : ℕ) (layers older : List (Layer D)) (layer : Layer D) : Type 0 where
+    pub is : layers ≡ layer ∷ older
     pub whole : IsWhole shape layer.tree
-    pub start : layer.tree.start ≡ top_of leaves (drop (suc k) layers)
+    pub start : layer.tree.start ≡ top_of leaves older
     pub low : leaves ≤ layer.tree.start
     pub high : layer.tree.leaves ≤ top_of leaves layers
+    pub chain : AreChained leaves older
 
-  pub is_next : (leaves : ℕ) (layers : List (Layer D)) (k : ℕ) (layer : Layer D) → AreChained leaves layers → drop k layers ≡ layer ∷ drop (suc k) layers → IsNext leaves layers k layer
-  is_next leaves layers k layer chain is =
-      let here : AreChained leaves (layer ∷ drop (suc k) layers) = subst (AreChained leaves) is (chained-drop leaves layers k chain) in
+  pub is_next : (leaves : ℕ) (layers older : List (Layer D)) (layer : Layer D) → AreChained leaves layers → layers ≡ layer ∷ older → IsNext leaves layers older layer
+  is_next leaves layers older layer chain is =
+      let here : AreChained leaves (layer ∷ older) = subst (AreChained leaves) is chain in
       record {
         is = is;
         whole = here.0;
         start = here.1;
-        low = omega (arith, top-above leaves (drop (suc k) layers) here.2, here.1);
-        high = omega (arith, top-drop leaves layers k chain, ap (top_of leaves) is);
+        low = omega (arith, top-above leaves older here.2, here.1);
+        high = omega (arith, ap (top_of leaves) is);
+        chain = here.2;
       }
 
   pub lacked-at : {R : Type 0} (value : R → Layer D) (leaves : ℕ) (xs : List R) (k : ℕ) (x : R) → k < length (lacked leaves (map value xs)) → x ≡ get_or xs k x →
       drop k (lacked leaves (map value xs)) ≡ value x ∷ drop (suc k) (lacked leaves (map value xs))
   lacked-at value leaves [] k x lt at = absurd (omega arith)
-  lacked-at value leaves (y ∷ xs) k x lt at = ⊎_elim
+  lacked-at value leaves (y ∷ xs) zero x lt at = ⊎_elim
       (λ (before : (value y).tree.start < leaves). absurd (omega (arith, ap length (lacked-past leaves (value y) (map value xs) before))))
       (λ (from : leaves ≤ (value y).tree.start).
       let is = lacked-here leaves (value y) (map value xs) from in
-      ap (drop k) is ∙ go k (omega (arith, ap length is)) at ∙ sym (ap (λ zs. value x ∷ drop (suc k) zs) is))
+      is ∙ ap (λ z. value z ∷ lacked leaves (map value xs)) (sym at) ∙ sym (ap (λ zs. value x ∷ drop 1 zs) is))
       (cases_lt (value y).tree.start leaves)
-    where
-      go : (k : ℕ) → k < suc (length (lacked leaves (map value xs))) → x ≡ get_or (y ∷ xs) k x →
-          drop k (value y ∷ lacked leaves (map value xs)) ≡ value x ∷ drop (suc k) (value y ∷ lacked leaves (map value xs))
-      go zero lt at = ap (λ z. value z ∷ lacked leaves (map value xs)) (sym at)
-      go (suc k) lt at = lacked-at value leaves xs k x (omega arith) at
+  lacked-at value leaves (y ∷ xs) (suc k) x lt at = ⊎_elim
+      (λ (before : (value y).tree.start < leaves). absurd (omega (arith, ap length (lacked-past leaves (value y) (map value xs) before))))
+      (λ (from : leaves ≤ (value y).tree.start).
+      let is = lacked-here leaves (value y) (map value xs) from in
+      ap (drop (suc k)) is ∙ lacked-at value leaves xs k x (omega (arith, ap length is)) at ∙ sym (ap (λ zs. value x ∷ drop (suc (suc k)) zs) is))
+      (cases_lt (value y).tree.start leaves)
+
+  -- pins and nodes of a tree of so many leaves, before and after layers are put in
+  pub record ArePut (leaves : ℕ) (positions : List ℕ) (size : ℕ) (old_pins old_nodes : List D) (layers : List (Layer D)) (pins nodes : List D) : Type 0 where
+    pub pinned : length pins ≡ length old_pins
+    pub full : size + length nodes ≡ shape.size (top_of leaves layers)
+    pub pins_at : (i p : ℕ) → slice_get positions i ≡ Some p → slice_get pins i ≡ option_or (layers_at shape layers p) (slice_get old_pins i)
+    pub nodes_at : (i : ℕ) → slice_get nodes i ≡ option_or (layers_at shape layers (size + i)) (slice_get old_nodes i)
+
+  pub none_put : (leaves : ℕ) (positions : List ℕ) (size : ℕ) (pins nodes : List D) (layers : List (Layer D)) → layers ≡ [] → size + length nodes ≡ shape.size leaves → ArePut leaves positions size pins nodes layers pins nodes
+  none_put leaves positions size pins nodes layers none full =
+      subst (λ ls. ArePut leaves positions size pins nodes ls pins nodes) (sym none) (record { pinned = refl; full = full; pins_at = λ i p at. refl; nodes_at = λ i. refl })
+
+  pub one_put : (leaves : ℕ) (positions : List ℕ) (size : ℕ) (old_pins old_nodes : List D) (layers older : List (Layer D)) (layer : Layer D) (pins nodes new_pins new_nodes : List D) → layers ≡ layer ∷ older →
+      ArePut leaves positions size old_pins old_nodes older pins nodes → length new_pins ≡ length pins → size + length new_nodes ≡ shape.size layer.tree.leaves →
+      ((i p : ℕ) → slice_get positions i ≡ Some p → slice_get new_pins i ≡ option_or (layer_at shape layer p) (slice_get pins i)) →
+      ((i : ℕ) → slice_get new_nodes i ≡ option_or (layer_at shape layer (size + i)) (slice_get nodes i)) →
+      ArePut leaves positions size old_pins old_nodes layers new_pins new_nodes
+  one_put leaves positions size old_pins old_nodes layers older layer pins nodes new_pins new_nodes is put pinned full pins_at nodes_at =
+      subst (λ ls. ArePut leaves positions size old_pins old_nodes ls new_pins new_nodes) (sym is) (record {
+        pinned = pinned ∙ put.pinned;
+        full = full;
+        pins_at = λ i p at.
+            pins_at i p at ∙ ap (option_or (layer_at shape layer p)) (put.pins_at i p at) ∙ option_or-assoc (layer_at shape layer p) (layers_at shape older p) (slice_get old_pins i);
+        nodes_at = λ i.
+            nodes_at i ∙ ap (option_or (layer_at shape layer (size + i))) (put.nodes_at i) ∙ option_or-assoc (layer_at shape layer (size + i)) (layers_at shape older (size + i)) (slice_get old_nodes i);
+      })
+
+  module _ {R : Type 0} (value : R → Layer D) (newest : Layer D) (xs : List R) (leaves : ℕ) (linked : AreLinked shape newest.tree.leaves (newest ∷ map value xs)) (reach : Contains (stops newest.tree.leaves (newest ∷ map value xs)) leaves) where
+    -- the newest layer is the last to be put in
+    pub newest_next : (layer : Layer D) → layer ≡ newest → leaves ≤ layer.tree.start → IsNext leaves (lacked leaves (newest ∷ map value xs)) (lacked leaves (map value xs)) layer
+    newest_next layer same from =
+        let from_here : leaves ≤ newest.tree.start = omega (arith, ap (λ l. l.tree.start) same) in
+        is_next leaves (lacked leaves (newest ∷ map value xs)) (lacked leaves (map value xs)) layer (chained leaves newest.tree.leaves (newest ∷ map value xs) linked reach).0
+        (lacked-here leaves newest (map value xs) from_here ∙ ap (λ l. l ∷ lacked leaves (map value xs)) (sym same))
+
+    -- and the one at k comes before
+    pub older_next : (k : ℕ) (x : R) (layer : Layer D) → leaves ≤ newest.tree.start → k < length (lacked leaves (map value xs)) → x ≡ get_or xs k x → layer ≡ value x →
+        IsNext leaves (drop k (lacked leaves (map value xs))) (drop (suc k) (lacked leaves (map value xs))) layer × (layer.tree.leaves ≤ newest.tree.leaves)
+    older_next k x layer from lt at same =
+        let newest_is = newest_next newest refl from in
+        let layers = lacked leaves (map value xs) in
+        let next = is_next leaves (drop k layers) (drop (suc k) layers) layer (chained-drop leaves layers k newest_is.chain)
+        (lacked-at value leaves xs k x lt at ∙ ap (λ l. l ∷ drop (suc k) layers) (sym same)) in
+        (next, omega (arith, next.high, top-drop leaves layers k newest_is.chain, newest_is.start, newest_is.whole.order))
