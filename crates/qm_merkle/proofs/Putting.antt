@@ -1,6 +1,6 @@
 -- Layers are put into a tree.
 use Rattle.std.proofs.Common.{◌≡◌, ◌≢◌, ℕ, zero, suc, ◌+◌, ◌-◌, ◌^◌, ◌<◌, ◌≤◌, true, false, List, [], ◌∷◌, ◌++◌, length, map, take, drop, get_or, arith, ap, ap₂, sym, ◌∙◌, refl, subst, Option, Some, None, All, Contains, ◌⊎◌, ⊎_elim, inl, inr, le_refl}
-use Rattle.std.specs.Prelude.{slice_get, if◌then◌else◌, nat_le, ⊤}
+use Rattle.std.specs.Prelude.{slice_get, option_map, if◌then◌else◌, nat_le, ⊤}
 use Rattle.std.specs.Option.{option_or}
 use Rattle.std.specs.Ordering.{nat_cmp, is_eq, eq_by_cmp}
 use Rattle.std.specs.Cmp.{nat_cmp_is}
@@ -11,14 +11,18 @@ use Rattle.std.proofs.Math.ListN.{set}
 use Rattle.std.proofs.lemmas.Bool.{cases_eq, cases_lt, le-leb}
 use Rattle.std.proofs.lemmas.Bool.Decides.{leb_tells}
 use Rattle.std.proofs.lemmas.Cmp.{nat_cmp_total, eq_by_cmp_equiv}
-use Rattle.std.proofs.lemmas.Option.{slice_get_past, slice_get_within, get_or_from_slice_get}
+use Rattle.std.proofs.lemmas.Option.{MatchOption-at_some, MatchOption-at_none, none-some, same_Some, slice_get_past, slice_get_within, get_or_from_slice_get}
 use Rattle.std.proofs.lemmas.Map.{lookup-none}
 use Rattle.std.proofs.lemmas.Map.Entries.{lookup_head, lookup_tail, none_past_head}
 use Rattle.std.proofs.lemmas.Map.Keys.{IsDistinct-from_sorted, sorted_tail}
-use Rattle.qm_model.specs.Trees.{Shape}
-use Rattle.qm_merkle.specs.Mems.{IsWhole}
-use Rattle.qm_merkle.specs.Batches.{Layer, AreLinked, stops, found_at, layer_at, layers_at}
+use Rattle.qm_model.specs.Operations.{Bytes}
+use Rattle.qm_model.specs.Trees.{Shape, Node, peaks, peak_positions, digest_of}
+use Rattle.qm_model.specs.Families.{Births, IsFamily, HasPeaks}
+use Rattle.qm_merkle.specs.Mems.{Kept, IsWhole, Stands, Gives, node_at}
+use Rattle.qm_merkle.specs.Batches.{Layer, AreLinked, Leads, IsHistory, stops, found_at, layer_at, layers_at}
 use Rattle.qm_merkle.specs.Putting.{lacked}
+use Rattle.qm_merkle.proofs.Numbering.{stands_below, stands_past}
+use Rattle.qm_merkle.proofs.Lookups.{node_at-past}
 use Rattle.qm_merkle.proofs.Growth.{slice_get-left, slice_get-right}
 
 -- an element that was replaced, and the others
@@ -152,7 +156,7 @@ module _ (shape : Shape) {D : Type 0} where
   stops-first n [] = (0, omega arith, refl)
   stops-first n (layer ∷ older) = (0, omega arith, refl)
 
-  stops-below : (n : ℕ) (layers : List (Layer D)) (leaves : ℕ) → AreLinked shape n layers → Contains (stops n layers) leaves → leaves ≤ n
+  pub stops-below : (n : ℕ) (layers : List (Layer D)) (leaves : ℕ) → AreLinked shape n layers → Contains (stops n layers) leaves → leaves ≤ n
   stops-below n [] leaves linked found = ⊎_elim (λ (here : n ≡ leaves). omega arith) (λ (no : Contains [] leaves). absurd (omega (arith, no.1))) (contains_cons n [] leaves found)
   stops-below n (layer ∷ older) leaves linked found = ⊎_elim
       (λ (here : n ≡ leaves). omega arith)
@@ -298,3 +302,132 @@ module _ (shape : Shape) {D : Type 0} where
     -- where none is to be put in, the leaves are the newest's
     pub none_next : newest.tree.start < leaves → leaves ≡ newest.tree.leaves
     none_next before = sym (ap (top_of leaves) (lacked-past leaves newest (map value xs) before)) ∙ (chained leaves newest.tree.leaves (newest ∷ map value xs) linked reach).1
+
+option_cases : {X : Type 0} (o : Option X) → (o ≡ None) ⊎ ((x : X) × (o ≡ Some x))
+option_cases None = inl refl
+option_cases (Some x) = inr (x, refl)
+
+-- a layer, and layers, have of a node its digest over the list that they lead to
+module _ (shape : Shape) (births : Births) (family : IsFamily shape births) (peaked : HasPeaks shape) {D : Type 0} (bytes : D → Bytes) (hash : Bytes → Bytes) where
+  module _ (layer : Layer D) (old new : List Bytes) (leads : Leads shape bytes hash layer old new) (x : Node) (born : shape.birth x ≤ length new) where
+    late_at : layer.tree.start < shape.birth x → option_map bytes (layer_at shape layer (shape.position x)) ≡ Some (digest_of hash shape new x)
+    late_at late =
+        let past = stands_past shape births family x layer.tree.start late in
+        ap (option_map bytes) (layer_at-past shape layer (shape.position x) past ∙ sym (node_at-past shape layer.tree (shape.position x) past))
+        ∙ leads.stands.nodes x late (omega (arith, leads.stands.count))
+
+    early_at : shape.birth x ≤ layer.tree.start → layer_at shape layer (shape.position x) ≡ found_at layer.replaced (shape.position x)
+    early_at early = layer_at-before shape layer (shape.position x) (stands_below shape births family x layer.tree.start early)
+
+    layer-some : (d : D) → layer_at shape layer (shape.position x) ≡ Some d → bytes d ≡ digest_of hash shape new x
+    layer-some d at = ⊎_elim
+        (λ (late : layer.tree.start < shape.birth x). same_Some (bytes d) (digest_of hash shape new x) (sym (ap (option_map bytes) at) ∙ late_at late))
+        (λ (early : shape.birth x ≤ layer.tree.start).
+        MatchOption-at_some (digest_of hash shape old x ≡ digest_of hash shape new x) (λ d. bytes d ≡ digest_of hash shape new x) d (sym (early_at early) ∙ at) (leads.replaced x (omega (arith, leads.start))))
+        (cases_lt layer.tree.start (shape.birth x))
+
+    layer-none : layer_at shape layer (shape.position x) ≡ None → (shape.birth x ≤ length old) × (digest_of hash shape old x ≡ digest_of hash shape new x)
+    layer-none at = ⊎_elim
+        (λ (late : layer.tree.start < shape.birth x). absurd (none-some (digest_of hash shape new x) (sym (ap (option_map bytes) at) ∙ late_at late)))
+        (λ (early : shape.birth x ≤ layer.tree.start).
+        let below : shape.birth x ≤ length old = omega (arith, leads.start) in
+        (below, MatchOption-at_none (digest_of hash shape old x ≡ digest_of hash shape new x) (λ d. bytes d ≡ digest_of hash shape new x) (sym (early_at early) ∙ at) (leads.replaced x below)))
+        (cases_lt layer.tree.start (shape.birth x))
+
+  layers-some : (leaves : ℕ) (layers : List (Layer D)) (new : List Bytes) (lists : List (List Bytes)) → IsHistory shape bytes hash layers (new ∷ lists) → (x : Node) → shape.birth x ≤ length new →
+      (d : D) → layers_at shape (lacked leaves layers) (shape.position x) ≡ Some d → bytes d ≡ digest_of hash shape new x
+  layers-some leaves [] new lists history x born d at = absurd (none-some d at)
+  layers-some leaves (layer ∷ older) new [] history x born d at = absurd history
+  layers-some leaves (layer ∷ older) new (old ∷ lists) history x born d at = ⊎_elim
+      (λ (before : layer.tree.start < leaves). absurd (none-some d (sym (ap (λ ls. layers_at shape ls (shape.position x)) (lacked-past shape leaves layer older before)) ∙ at)))
+      (λ (from : leaves ≤ layer.tree.start).
+      let rest = layers_at shape (lacked leaves older) (shape.position x) in
+      let both : option_or (layer_at shape layer (shape.position x)) rest ≡ Some d = sym (ap (λ ls. layers_at shape ls (shape.position x)) (lacked-here shape leaves layer older from)) ∙ at in
+      ⊎_elim
+      (λ (none : layer_at shape layer (shape.position x) ≡ None).
+      let low = layer-none layer old new history.0 x born none in
+      layers-some leaves older old lists history.1 x low.0 d (sym (ap (λ o. option_or o rest) none) ∙ both) ∙ low.1)
+      (λ (some : (e : D) × (layer_at shape layer (shape.position x) ≡ Some e)).
+      layer-some layer old new history.0 x born d (some.1 ∙ sym (ap (λ o. option_or o rest) some.1) ∙ both))
+      (option_cases (layer_at shape layer (shape.position x))))
+      (cases_lt layer.tree.start leaves)
+
+  lists-below : (n : ℕ) (layers : List (Layer D)) (new : List Bytes) (lists : List (List Bytes)) (list : List Bytes) → AreLinked shape n layers → IsHistory shape bytes hash layers (new ∷ lists) → Contains (new ∷ lists) list → length list ≤ length new
+  lists-below n [] new [] list linked history found =
+      ⊎_elim (λ (here : new ≡ list). omega (arith, ap length here)) (λ (no : Contains [] list). absurd (omega (arith, no.1))) (contains_cons new [] list found)
+  lists-below n [] new (more ∷ lists) list linked history found = absurd history
+  lists-below n (layer ∷ older) new [] list linked history found = absurd history
+  lists-below n (layer ∷ older) new (old ∷ lists) list linked history found = ⊎_elim
+      (λ (here : new ≡ list). omega (arith, ap length here))
+      (λ (more : Contains (old ∷ lists) list).
+      omega (arith, lists-below layer.tree.start older old lists list linked.2 history.1 more, history.0.start, history.0.stands.count, linked.1.order))
+      (contains_cons new (old ∷ lists) list found)
+
+  -- a node that no layer has was there, and has the digest that it had
+  layers-none : (n : ℕ) (layers : List (Layer D)) (new : List Bytes) (lists : List (List Bytes)) (list : List Bytes) → AreLinked shape n layers → IsHistory shape bytes hash layers (new ∷ lists) → Contains (new ∷ lists) list →
+      (x : Node) → shape.birth x ≤ length new → layers_at shape (lacked (length list) layers) (shape.position x) ≡ None → (shape.birth x ≤ length list) × (digest_of hash shape list x ≡ digest_of hash shape new x)
+  layers-none n [] new [] list linked history found x born at = ⊎_elim
+      (λ (here : new ≡ list). (omega (arith, ap length here), ap (λ l. digest_of hash shape l x) (sym here)))
+      (λ (no : Contains [] list). absurd (omega (arith, no.1)))
+      (contains_cons new [] list found)
+  layers-none n [] new (more ∷ lists) list linked history found x born at = absurd history
+  layers-none n (layer ∷ older) new [] list linked history found x born at = absurd history
+  layers-none n (layer ∷ older) new (old ∷ lists) list linked history found x born at = ⊎_elim
+      (λ (here : new ≡ list). (omega (arith, ap length here), ap (λ l. digest_of hash shape l x) (sym here)))
+      (λ (more : Contains (old ∷ lists) list).
+      let from : length list ≤ layer.tree.start = omega (arith, lists-below layer.tree.start older old lists list linked.2 history.1 more, history.0.start) in
+      let rest = layers_at shape (lacked (length list) older) (shape.position x) in
+      let both : option_or (layer_at shape layer (shape.position x)) rest ≡ None = sym (ap (λ ls. layers_at shape ls (shape.position x)) (lacked-here shape (length list) layer older from)) ∙ at in
+      ⊎_elim
+      (λ (none : layer_at shape layer (shape.position x) ≡ None).
+      let low = layer-none layer old new history.0 x born none in
+      let last = layers-none layer.tree.start older old lists list linked.2 history.1 more x low.0 (sym (ap (λ o. option_or o rest) none) ∙ both) in
+      (last.0, last.1 ∙ low.1))
+      (λ (some : (e : D) × (layer_at shape layer (shape.position x) ≡ Some e)). absurd (none-some some.0 (sym both ∙ ap (λ o. option_or o rest) some.1)))
+      (option_cases (layer_at shape layer (shape.position x))))
+      (contains_cons new (old ∷ lists) list found)
+
+  module _ (kept : Kept D) (whole : IsWhole shape kept) (n : ℕ) (layers : List (Layer D)) (linked : AreLinked shape n layers) (new : List Bytes) (lists : List (List Bytes)) (list : List Bytes)
+      (history : IsHistory shape bytes hash layers (new ∷ lists)) (found : Contains (new ∷ lists) list) (stands : Stands shape bytes hash kept list) where
+    -- with the layers that the tree lacks, a node has its new digest
+    now_at : (x : Node) (o : Option D) → shape.birth x ≤ length new → (shape.birth x ≤ kept.leaves → Gives bytes o (digest_of hash shape list x)) →
+        Gives bytes (option_or (layers_at shape (lacked kept.leaves layers) (shape.position x)) o) (digest_of hash shape new x)
+    now_at x o born old = ⊎_elim
+        (λ (none : layers_at shape (lacked kept.leaves layers) (shape.position x) ≡ None).
+        let low = layers-none n layers new lists list linked history found x born (ap (λ k. layers_at shape (lacked k layers) (shape.position x)) (sym stands.count) ∙ none) in
+        ap (λ e. option_map bytes (option_or e o)) none ∙ old (omega (arith, low.0, stands.count)) ∙ ap Some low.1)
+        (λ (some : (d : D) × (layers_at shape (lacked kept.leaves layers) (shape.position x) ≡ Some d)).
+        ap (λ e. option_map bytes (option_or e o)) some.1 ∙ ap Some (layers-some kept.leaves layers new lists history x born some.0 some.1))
+        (option_cases (layers_at shape (lacked kept.leaves layers) (shape.position x)))
+
+    pins_now : (xs : List Node) (ds es : List D) → map bytes ds ≡ map (digest_of hash shape list) xs → length es ≡ length ds → All (λ x. shape.birth x ≤ length new) xs →
+        ((i p : ℕ) → slice_get (map shape.position xs) i ≡ Some p → slice_get es i ≡ option_or (layers_at shape (lacked kept.leaves layers) p) (slice_get ds i)) → map bytes es ≡ map (digest_of hash shape new) xs
+    pins_now [] [] [] same long born at = refl
+    pins_now [] [] (e ∷ es) same long born at = absurd (omega arith)
+    pins_now [] (d ∷ ds) es same long born at = cc
+    pins_now (x ∷ xs) [] es same long born at = cc
+    pins_now (x ∷ xs) (d ∷ ds) [] same long born at = absurd (omega arith)
+    pins_now (x ∷ xs) (d ∷ ds) (e ∷ es) same long born at =
+        let head : bytes d ≡ digest_of hash shape list x = cc in
+        let tail : map bytes ds ≡ map (digest_of hash shape list) xs = cc in
+        let is : ◌≡◌ {A = Option Bytes} (Some (bytes e)) (Some (digest_of hash shape new x)) =
+        ap (option_map bytes) (at 0 (shape.position x) refl) ∙ now_at x (Some d) (born 0 x (omega arith)) (λ early. ap Some head) in
+        ap₂ (λ a b. a ∷ b) (same_Some (bytes e) (digest_of hash shape new x) is) (pins_now xs ds es tail (omega arith) (λ k y lt. born (suc k) y (omega arith)) (λ i p here. at (suc i) p here))
+
+    pub stands-put : (next : Kept D) → next.start ≡ kept.start → next.leaves ≡ length new → kept.leaves ≤ next.leaves →
+        ArePut shape kept.leaves (peak_positions shape kept.start) (shape.size kept.start) kept.pins kept.nodes (lacked kept.leaves layers) next.pins next.nodes → Stands shape bytes hash next new
+    stands-put next start leaves more put = record {
+      count = leaves;
+      pins = pins_now (peaks shape kept.start) kept.pins next.pins stands.pins put.pinned
+          (λ k d lt. omega (arith, peaked.born kept.start (omega (arith, whole.order, whole.few)) k d lt, whole.order))
+          put.pins_at ∙ ap (λ m. map (digest_of hash shape new) (peaks shape m)) (sym start);
+      nodes = λ x late born.
+          let new_late : kept.start < shape.birth x = omega arith in
+          let past = stands_past shape births family x kept.start new_late in
+          let past_next = stands_past shape births family x next.start late in
+          let i = shape.position x - shape.size kept.start in
+          let at : shape.size kept.start + i ≡ shape.position x = omega arith in
+          ap (option_map bytes) (node_at-past shape next (shape.position x) past_next ∙ ap (λ m. slice_get next.nodes (shape.position x - shape.size m)) start
+          ∙ put.nodes_at i ∙ ap₂ (λ p o. option_or (layers_at shape (lacked kept.leaves layers) p) o) at (sym (node_at-past shape kept (shape.position x) past)))
+          ∙ now_at x (node_at shape kept (shape.position x)) (omega arith) (λ early. stands.nodes x new_late early);
+    }

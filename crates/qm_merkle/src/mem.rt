@@ -184,8 +184,7 @@ impl<F: Family, D: Digest> Mem<F, D> {
         ensures err { OnErr result (self.new ≡ self.old) }
     {
         let size = F::location_to_position(self.start).get();
-        let room = F::location_to_position(batch.leaves()).get() - size - self.nodes.len() as u64;
-        self.nodes.reserve(room as usize)?;
+        self.nodes.reserve(batch.room(self.leaves) as usize)?;
         batch.put(
             self.leaves,
             &self.positions,

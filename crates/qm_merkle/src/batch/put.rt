@@ -5,7 +5,7 @@ ghost use Rattle.std.specs.Option.{option_or};
 ghost use Rattle.std.specs.Vec.{vec_capacity};
 ghost use Rattle.qm_model.specs.Trees as trees;
 ghost use Rattle.qm_merkle.specs.Mems.{IsWhole};
-ghost use Rattle.qm_merkle.specs.Batches.{found_at, layer_at, layers_at, all_layers, stops};
+ghost use Rattle.qm_merkle.specs.Batches.{found_at, layer_at, layers_at, all_layers, stops, AreLinked};
 ghost use Rattle.qm_merkle.specs.Putting.{lacked};
 
 use super::{Layer, MerkleizedBatch};
@@ -16,6 +16,16 @@ use std::collections::BTreeMap;
 use std::rc::Rc;
 
 impl<F: Family, D: Digest> MerkleizedBatch<F, D> {
+    // How many nodes the batch's tree has past those of a tree of so many leaves.
+    pub(crate) fn room(&self, leaves: Location<F>) -> u64
+        requires { Contains (stops self.now.newest.tree.leaves (all_layers self.now)) leaves }
+        ensures linked { AreLinked F.shape self.now.newest.tree.leaves (all_layers self.now) }
+        ensures nodes { trees.Shape.size F.shape leaves + result ≡ trees.Shape.size F.shape self.now.newest.tree.leaves }
+    {
+        F::location_to_position(self.newest.tree.leaves()).get()
+            - F::location_to_position(leaves).get()
+    }
+
     // Puts the batch's nodes, and those of the batches that it stands on, into a tree of so many leaves: `size` nodes were forgotten, but for the pins at these positions.
     pub(crate) fn put(
         &self,

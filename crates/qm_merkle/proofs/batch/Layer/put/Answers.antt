@@ -10,8 +10,14 @@ use Rattle.qm_merkle.proofs.batch.Layer.put.Goals as goal
 pub append_to-requires : goal.append_to-requires
 append_to-requires g c =
     let same : length c.replace_nodes.new.nodes ≡ length c.args.nodes.now.items = c.replace_nodes.ensures.length ∙ ap length c.deref_mut.ensures.value in
-    omega (arith, ap length (written c.replace_nodes.new.nodes c.args.nodes.now.items c.args.nodes.now.len same (omega (arith, c.args.nodes.now.ok.0))),
-    c.requires.room, c.requires.size, c.requires.whole.full, ap (λ l. length l.tree.nodes) c.self.view_is)
+    omega (
+      arith,
+      ap length (written c.replace_nodes.new.nodes c.args.nodes.now.items c.args.nodes.now.len same (omega (arith, c.args.nodes.now.ok.0))),
+      c.requires.room,
+      c.requires.size,
+      c.requires.whole.full,
+      ap (λ l. length l.tree.nodes) c.self.view_is,
+    )
 
 pub returns-clause-pins : goal.returns-clause-pins
 returns-clause-pins g c = λ i p at.

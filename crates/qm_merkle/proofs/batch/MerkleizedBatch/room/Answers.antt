@@ -1,0 +1,22 @@
+use Rattle.std.proofs.Common.{◌≡◌, ◌≤◌, ◌∙◌, Contains, ap, subst, arith}
+use Rattle.qm_merkle.specs.Batches.{AreLinked, all_layers, stops}
+use Rattle.qm_merkle.proofs.Numbering.{sizes}
+use Rattle.qm_merkle.proofs.Putting.{stops-below}
+use Rattle.qm_merkle.proofs.batch.MerkleizedBatch.room.Goals as goal
+
+pub location_to_position-requires-2 : goal.location_to_position-requires-2
+location_to_position-requires-2 g c =
+    let batch = c.args.self.now in
+    let linked = subst (λ b. AreLinked g.F.Family.shape b.newest.tree.leaves (all_layers b)) c.self.view_is c.self.invariant.1 in
+    omega (arith, stops-below g.F.Family.shape batch.newest.tree.leaves (all_layers batch) c.args.leaves linked c.requires, linked.1.few)
+
+pub overflow_sub-result : goal.overflow_sub-result
+overflow_sub-result g c =
+    let shape = g.F.Family.shape in
+    let batch = c.args.self.now in
+    let linked = subst (λ b. AreLinked shape b.newest.tree.leaves (all_layers b)) c.self.view_is c.self.invariant.1 in
+    let below = stops-below shape batch.newest.tree.leaves (all_layers batch) c.args.leaves linked c.requires in
+    ?
+
+pub returns-clause-nodes : goal.returns-clause-nodes
+returns-clause-nodes g c = ?
