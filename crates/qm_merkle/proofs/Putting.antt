@@ -303,6 +303,15 @@ module _ (shape : Shape) {D : Type 0} where
     pub none_next : newest.tree.start < leaves → leaves ≡ newest.tree.leaves
     none_next before = sym (ap (top_of leaves) (lacked-past leaves newest (map value xs) before)) ∙ (chained leaves newest.tree.leaves (newest ∷ map value xs) linked reach).1
 
+  pub same_put : (leaves : ℕ) (layers : List (Layer D)) (nodes : List D) (qs ps : List ℕ) (s t : ℕ) (ds es xs ys us vs : List D) → qs ≡ ps → s ≡ t → ds ≡ es → xs ≡ ys → us ≡ vs →
+      ArePut leaves qs s ds xs layers us nodes → ArePut leaves ps t es ys layers vs nodes
+  same_put leaves layers nodes qs ps s t ds es xs ys us vs positions size pins old new put =
+      subst (λ z. ArePut leaves z t es ys layers vs nodes) positions
+      (subst (λ z. ArePut leaves qs z es ys layers vs nodes) size
+      (subst (λ z. ArePut leaves qs s z ys layers vs nodes) pins
+      (subst (λ z. ArePut leaves qs s ds z layers vs nodes) old
+      (subst (λ z. ArePut leaves qs s ds xs layers z nodes) new put))))
+
 option_cases : {X : Type 0} (o : Option X) → (o ≡ None) ⊎ ((x : X) × (o ≡ Some x))
 option_cases None = inl refl
 option_cases (Some x) = inr (x, refl)
@@ -386,6 +395,10 @@ module _ (shape : Shape) (births : Births) (family : IsFamily shape births) (pea
       (λ (some : (e : D) × (layer_at shape layer (shape.position x) ≡ Some e)). absurd (none-some some.0 (sym both ∙ ap (λ o. option_or o rest) some.1)))
       (option_cases (layer_at shape layer (shape.position x))))
       (contains_cons new (old ∷ lists) list found)
+
+  pub history-count : (layer : Layer D) (older : List (Layer D)) (new : List Bytes) (lists : List (List Bytes)) → IsHistory shape bytes hash (layer ∷ older) (new ∷ lists) → layer.tree.leaves ≡ length new
+  history-count layer older new [] history = absurd history
+  history-count layer older new (old ∷ lists) history = history.0.stands.count
 
   module _ (kept : Kept D) (whole : IsWhole shape kept) (n : ℕ) (layers : List (Layer D)) (linked : AreLinked shape n layers) (new : List Bytes) (lists : List (List Bytes)) (list : List Bytes)
       (history : IsHistory shape bytes hash layers (new ∷ lists)) (found : Contains (new ∷ lists) list) (stands : Stands shape bytes hash kept list) where
