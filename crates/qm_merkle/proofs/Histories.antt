@@ -7,9 +7,9 @@ use Rattle.std.proofs.lemmas.Bool.{cases_lt}
 use Rattle.std.proofs.lemmas.Bool.Decides.{leb_tells}
 use Rattle.qm_model.specs.Operations.{Bytes}
 use Rattle.qm_model.specs.Trees.{Shape, Node, digest_of}
-use Rattle.qm_model.specs.Families.{Births, IsFamily, HasPeaks, over}
+use Rattle.qm_model.specs.Families.{Births, IsFamily, HasPeaks}
 use Rattle.qm_merkle.specs.Mems.{Kept, IsWhole, Gives, Stands, node_at}
-use Rattle.qm_merkle.specs.Batches.{Layer, found_at, layer_at, layers_at, stops, AreLinked, Leads, IsHistory, seen_at, AreThere, AreRead}
+use Rattle.qm_merkle.specs.Batches.{Layer, found_at, layer_at, layers_at, stops, AreLinked, Leads, IsHistory, AreThere, AreRead}
 use Rattle.qm_merkle.proofs.Numbering.{stands_below, stands_past}
 use Rattle.qm_merkle.proofs.Lookups.{is_some-slice_get, node_at-past, held}
 use Rattle.qm_merkle.proofs.Standing.{node_held, gives}

@@ -8,3 +8,4 @@ pub mod Pruning
 pub mod Histories
 pub mod Drafting
 pub mod Rows
+pub mod Putting

@@ -1,5 +1,5 @@
 -- The nodes above replaced leaves, row by row.
-use Rattle.std.proofs.Common.{◌≡◌, ◌≢◌, ℕ, zero, suc, ◌+◌, ◌-◌, ◌*◌, ◌/◌, ◌%◌, ◌^◌, ◌<◌, ◌≤◌, ◌↔◌, ◌⊎◌, true, false, List, [], ◌∷◌, ◌++◌, length, get_or, arith, ap, ap₂, sym, ◌∙◌, refl, Option, Some, None, IsSome, IfSome, Contains, All, ⊎_elim, inl, inr, subst, Less, Equal, Greater, le_refl}
+use Rattle.std.proofs.Common.{◌≡◌, ◌≢◌, ℕ, zero, suc, ◌+◌, ◌-◌, ◌*◌, ◌/◌, ◌%◌, ◌^◌, ◌<◌, ◌≤◌, ◌↔◌, ◌⊎◌, true, false, List, [], ◌∷◌, ◌++◌, length, get_or, arith, ap, sym, ◌∙◌, refl, Option, Some, None, IsSome, IfSome, Contains, All, ⊎_elim, inl, inr, subst, Less, Equal, Greater, le_refl}
 use Rattle.std.specs.Prelude.{is_some, ◌==◌}
 use Rattle.std.specs.Cmp.{ranks}
 use Rattle.std.proofs.lemmas.Cmp.{by_ranked}

@@ -1,5 +1,5 @@
 -- Batches over a tree in memory: what a layer adds and replaces, the lists that layers lead through, and what a draft makes of a list.
-use Rattle.std.specs.Prelude.{◌≡◌, ◌⊎◌, ◌↔◌, ◌≤◌, ◌<◌, ℕ, zero, suc, ◌+◌, ◌-◌, ◌*◌, List, [], ◌∷◌, ◌++◌, length, map, Option, Some, None, IsSome, IfSome, Contains, MatchOption, slice_get, slice_set, nat_le, nat_lt, if◌then◌else◌, ⊤}
+use Rattle.std.specs.Prelude.{◌≡◌, ◌⊎◌, ◌↔◌, ◌≤◌, ◌<◌, ℕ, zero, suc, ◌+◌, ◌-◌, ◌*◌, List, [], ◌∷◌, ◌++◌, length, map, Option, None, IsSome, IfSome, Contains, MatchOption, slice_get, slice_set, nat_le, nat_lt, if◌then◌else◌, ⊤}
 use Rattle.std.specs.Option.{option_or, unwrap_or, option_map}
 use Rattle.std.specs.Ordering.{nat_cmp}
 use Rattle.std.specs.Map.{lookup}

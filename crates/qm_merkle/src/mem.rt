@@ -1,6 +1,7 @@
 //! Trees in memory.
 
 ghost use Rattle.std.specs.Prelude.{◌≡◌, ℕ, suc, List, [], ◌∷◌, ◌++◌, All, Contains, IsSome, ◌↔◌, Some, IfOk, IfErr, OnOk, OnErr, ◌⊎◌, slice_index, ◌<◌, ◌≤◌, ◌^◌, ◌+◌, ◌-◌, length, slice_get, map};
+ghost use Rattle.std.specs.Vec.{vec_capacity};
 ghost use Rattle.qm_model.specs.Trees as trees;
 ghost use Rattle.qm_merkle.specs.Mems.{IsWhole, Stands, Holds, AreBorn, left_of, right_of, node_at, pin_at};
 ghost use Rattle.qm_merkle.specs.Batches.{all_layers, stops, IsHistory};
@@ -182,8 +183,7 @@ impl<F: Family, D: Digest> Mem<F, D> {
         ensures err { OnErr result (self.new ≡ self.old) }
     {
         let size = F::location_to_position(self.start).get();
-        let room = F::location_to_position(batch.leaves()).get() - size - self.nodes.len() as u64;
-        self.nodes.reserve(room as usize)?;
+        self.nodes.reserve(batch.room(self.leaves) as usize)?;
         batch.put(
             self.leaves,
             &self.positions,
@@ -218,7 +218,11 @@ impl<F: Family, D: Digest> Mem<F, D> {
     }
 
     // Adds the nodes from the kept start on, where there is room.
-    pub(crate) fn append_to(&self, nodes: &mut Vec<D>) {
+    pub(crate) fn append_to(&self, nodes: &mut Vec<D>)
+        requires { length nodes.old.items + length self.now.nodes ≤ vec_capacity nodes.old }
+        ensures items { nodes.new.items ≡ nodes.old.items ++ self.now.nodes }
+        ensures capacity { vec_capacity nodes.new ≡ vec_capacity nodes.old }
+    {
         for node in &self.nodes {
             nodes.push_reserved(*node);
         }

@@ -1,0 +1,85 @@
+use Rattle.std.proofs.Common.{◌≡◌, ◌≤◌, ◌<◌, ◌∙◌, ◌-◌, ◌∷◌, suc, Contains, map, drop, ap, sym, subst, arith}
+use Rattle.std.specs.Prelude.{slice_get}
+use Rattle.std.specs.Option.{option_or}
+use Rattle.qm_merkle.specs.Batches.{all_layers, stops, layers_at}
+use Rattle.qm_merkle.specs.Putting.{lacked}
+use Rattle.qm_merkle.proofs.Numbering.{sizes}
+use Rattle.qm_merkle.proofs.Putting.{ArePut, top_of, one_put, none_next, newest_next, older_next}
+use Rattle.qm_merkle.proofs.batch.MerkleizedBatch.put.Goals as goal
+
+pub put-requires : goal.put-requires
+put-requires g c =
+    let shape = g.F.Family.shape in
+    let reach = subst (λ b. Contains (stops b.newest.tree.leaves (all_layers b)) c.args.leaves) (sym c.self.view_is) c.requires.reach in
+    let from : c.args.leaves ≤ c.self.inside.newest.value.tree.start = omega (arith, c.if-get.false, c.get.ensures, c.base.ensures.start, c.get-2.ensures, ap (λ l. l.tree.start) c.deref.ensures) in
+    let layer = c.deref-in-loop-count.result.now in
+    let turn = older_next shape (λ r. r.value) c.self.inside.newest.value c.self.inside.older.items c.args.leaves c.self.invariant.1 reach (c.loop-count.count - 1) c.index.result.now layer
+    from (omega (arith, c.loop-count.invariant.within)) c.index.ensures c.deref-in-loop-count.ensures in
+    let last : suc (c.loop-count.count - 1) ≡ c.loop-count.count = omega arith in
+    let put = c.loop-count.invariant.put in
+    let start : layer.tree.start ≡ top_of shape c.args.leaves (drop c.loop-count.count (lacked c.args.leaves (map (λ r. r.value) c.self.inside.older.items))) =
+    turn.0.start ∙ ap (λ k. top_of shape c.args.leaves (drop k (lacked c.args.leaves (map (λ r. r.value) c.self.inside.older.items)))) last in
+    record {
+      whole = turn.0.whole;
+      pins = put.pinned ∙ c.requires.pins;
+      low = λ k d lt. omega (arith, c.requires.low k d lt, c.requires.size, sizes shape g.F.Family.births g.met.F.Family.numbered c.args.leaves layer.tree.start turn.0.low);
+      size = put.full ∙ ap shape.size (sym start);
+      room = omega (arith, sizes shape g.F.Family.births g.met.F.Family.numbered layer.tree.leaves c.self.inside.newest.value.tree.leaves turn.1, c.requires.room, c.loop-count.invariant.capacity, ap (λ b. shape.size b.newest.tree.leaves) c.self.view_is);
+    }
+
+pub loop-count-preserved : goal.loop-count-preserved
+loop-count-preserved g c =
+    let shape = g.F.Family.shape in
+    let reach = subst (λ b. Contains (stops b.newest.tree.leaves (all_layers b)) c.args.leaves) (sym c.self.view_is) c.requires.reach in
+    let from : c.args.leaves ≤ c.self.inside.newest.value.tree.start = omega (arith, c.if-get.false, c.get.ensures, c.base.ensures.start, c.get-2.ensures, ap (λ l. l.tree.start) c.deref.ensures) in
+    let layer = c.deref-in-loop-count.result.now in
+    let turn = older_next shape (λ r. r.value) c.self.inside.newest.value c.self.inside.older.items c.args.leaves c.self.invariant.1 reach (c.loop-count.count - 1) c.index.result.now layer
+    from (omega (arith, c.loop-count.invariant.within)) c.index.ensures c.deref-in-loop-count.ensures in
+    let last : suc (c.loop-count.count - 1) ≡ c.loop-count.count = omega arith in
+    let layers = lacked c.args.leaves (map (λ r. r.value) c.self.inside.older.items) in
+    record {
+      within = omega (arith, c.loop-count.invariant.within);
+      put = one_put shape c.args.leaves c.args.positions.now c.args.size c.args.pins.now c.args.nodes.now.items (drop (c.loop-count.count - 1) layers) (drop c.loop-count.count layers) layer
+          c.loop-count.pins c.loop-count.nodes.items c.put.new.pins c.put.new.nodes.items (turn.0.is ∙ ap (λ k. layer ∷ drop k layers) last)
+          c.loop-count.invariant.put c.put.ensures.length c.put.ensures.size c.put.ensures.pins c.put.ensures.nodes;
+      capacity = c.put.ensures.capacity ∙ c.loop-count.invariant.capacity;
+    }
+
+pub put-requires-2 : goal.put-requires-2
+put-requires-2 g c =
+    let shape = g.F.Family.shape in
+    let reach = subst (λ b. Contains (stops b.newest.tree.leaves (all_layers b)) c.args.leaves) (sym c.self.view_is) c.requires.reach in
+    let layer = c.deref-3.result.now in
+    let from : c.args.leaves ≤ layer.tree.start = omega (arith, c.if-get.false, c.get.ensures, c.base.ensures.start, c.get-2.ensures, ap (λ l. l.tree.start) c.deref.ensures, ap (λ l. l.tree.start) c.deref-3.ensures) in
+    let turn = newest_next shape (λ r. r.value) c.self.inside.newest.value c.self.inside.older.items c.args.leaves c.self.invariant.1 reach layer c.deref-3.ensures from in
+    let none : c.loop-count.count ≡ 0 = omega arith in
+    let layers = lacked c.args.leaves (map (λ r. r.value) c.self.inside.older.items) in
+    let put = subst (λ k. ArePut shape c.args.leaves c.args.positions.now c.args.size c.args.pins.now c.args.nodes.now.items (drop k layers) c.loop-count.pins c.loop-count.nodes.items) none c.loop-count.invariant.put in
+    record {
+      whole = turn.whole;
+      pins = put.pinned ∙ c.requires.pins;
+      low = λ k d lt. omega (arith, c.requires.low k d lt, c.requires.size, sizes shape g.F.Family.births g.met.F.Family.numbered c.args.leaves layer.tree.start turn.low);
+      size = put.full ∙ ap shape.size (sym turn.start);
+      room = omega (arith, ap (λ l. shape.size l.tree.leaves) c.deref-3.ensures, c.requires.room, c.loop-count.invariant.capacity, ap (λ b. shape.size b.newest.tree.leaves) c.self.view_is);
+    }
+
+pub returns-then-get-clause-size : goal.returns-then-get-clause-size
+returns-then-get-clause-size g c =
+    let shape = g.F.Family.shape in
+    let reach = subst (λ b. Contains (stops b.newest.tree.leaves (all_layers b)) c.args.leaves) (sym c.self.view_is) c.requires.reach in
+    let before : c.self.inside.newest.value.tree.start < c.args.leaves = omega (arith, c.if-get.true, c.get.ensures, c.base.ensures.start, c.get-2.ensures, ap (λ l. l.tree.start) c.deref.ensures) in
+    c.requires.size ∙ ap shape.size (none_next shape (λ r. r.value) c.self.inside.newest.value c.self.inside.older.items c.args.leaves c.self.invariant.1 reach before) ∙ ap (λ b. shape.size b.newest.tree.leaves) c.self.view_is
+
+pub returns-clause-pins : goal.returns-clause-pins
+returns-clause-pins g c = λ i p at.
+    let shape = g.F.Family.shape in
+    let reach = subst (λ b. Contains (stops b.newest.tree.leaves (all_layers b)) c.args.leaves) (sym c.self.view_is) c.requires.reach in
+    let layer = c.deref-3.result.now in
+    let from : c.args.leaves ≤ layer.tree.start = omega (arith, c.if-get.false, c.get.ensures, c.base.ensures.start, c.get-2.ensures, ap (λ l. l.tree.start) c.deref.ensures, ap (λ l. l.tree.start) c.deref-3.ensures) in
+    let turn = newest_next shape (λ r. r.value) c.self.inside.newest.value c.self.inside.older.items c.args.leaves c.self.invariant.1 reach layer c.deref-3.ensures from in
+    let none : c.loop-count.count ≡ 0 = omega arith in
+    let layers = lacked c.args.leaves (map (λ r. r.value) c.self.inside.older.items) in
+    let put = subst (λ k. ArePut shape c.args.leaves c.args.positions.now c.args.size c.args.pins.now c.args.nodes.now.items (drop k layers) c.loop-count.pins c.loop-count.nodes.items) none c.loop-count.invariant.put in
+    (one_put shape c.args.leaves c.args.positions.now c.args.size c.args.pins.now c.args.nodes.now.items (lacked c.args.leaves (c.self.inside.newest.value ∷ map (λ r. r.value) c.self.inside.older.items)) layers layer
+    c.loop-count.pins c.loop-count.nodes.items c.put-2.new.pins c.put-2.new.nodes.items turn.is put c.put-2.ensures.length c.put-2.ensures.size c.put-2.ensures.pins c.put-2.ensures.nodes).pins_at i p at
+    ∙ ap (λ b. option_or (layers_at shape (lacked c.args.leaves (all_layers b)) p) (slice_get c.args.pins.now i)) c.self.view_is
