@@ -1,10 +1,9 @@
 -- Layers are put into a tree.
-use Rattle.std.proofs.Common.{◌≡◌, ◌≢◌, ℕ, zero, suc, ◌+◌, ◌-◌, ◌^◌, ◌<◌, ◌≤◌, true, false, List, [], ◌∷◌, ◌++◌, length, map, take, drop, get_or, arith, ap, ap₂, sym, ◌∙◌, refl, subst, Option, Some, None, All, Contains, MatchOption, ◌⊎◌, ⊎_elim, inl, inr, le_refl}
+use Rattle.std.proofs.Common.{◌≡◌, ◌≢◌, ℕ, zero, suc, ◌+◌, ◌-◌, ◌<◌, ◌≤◌, true, false, List, [], ◌∷◌, ◌++◌, length, map, take, drop, get_or, arith, ap, ap₂, sym, ◌∙◌, refl, subst, Option, Some, None, All, Contains, MatchOption, ⊎_elim, le_refl}
 use Rattle.std.specs.Prelude.{slice_get, option_map, if◌then◌else◌, nat_le, ⊤}
 use Rattle.std.specs.Option.{option_or}
-use Rattle.std.specs.Ordering.{nat_cmp, is_eq, eq_by_cmp}
-use Rattle.std.specs.Cmp.{nat_cmp_is}
-use Rattle.std.specs.Map.{keys_of, lookup}
+use Rattle.std.specs.Ordering.{nat_cmp, is_eq}
+use Rattle.std.specs.Map.{keys_of}
 use Rattle.std.specs.BTreeMap.{is_at}
 use Rattle.std.specs.List.Sorted.{IsStrictlySortedBy}
 use Rattle.std.proofs.Math.ListN.{set}
@@ -19,20 +18,20 @@ use Rattle.qm_model.specs.Operations.{Bytes}
 use Rattle.qm_model.specs.Trees.{Shape, Node, peaks, peak_positions, digest_of}
 use Rattle.qm_model.specs.Families.{Births, IsFamily, HasPeaks}
 use Rattle.qm_merkle.specs.Mems.{Kept, IsWhole, Stands, Gives, node_at}
-use Rattle.qm_merkle.specs.Batches.{Layer, AreLinked, Leads, IsHistory, stops, found_at, layer_at, layers_at}
+use Rattle.qm_merkle.specs.Batches.{Layer, Batch, all_layers, AreLinked, IsHistory, stops, found_at, layer_at, layers_at}
 use Rattle.qm_merkle.specs.Putting.{lacked}
-use Rattle.qm_merkle.proofs.Numbering.{stands_below, stands_past}
+use Rattle.qm_merkle.proofs.Numbering.{stands_past}
 use Rattle.qm_merkle.proofs.Lookups.{node_at-past}
 use Rattle.qm_merkle.proofs.Growth.{slice_get-left, slice_get-right}
 use Rattle.qm_merkle.proofs.Histories.{first_or_other, option_or-assoc, layer_at-past, layer_at-before, layers_lead}
 
 -- an element that was replaced, and the others
-pub slice_get-set : {X : Type 0} (xs : List X) (i : ℕ) (x : X) → i < length xs → slice_get (set xs i x) i ≡ Some x
+slice_get-set : {X : Type 0} (xs : List X) (i : ℕ) (x : X) → i < length xs → slice_get (set xs i x) i ≡ Some x
 slice_get-set [] i x lt = absurd (omega arith)
 slice_get-set (y ∷ xs) zero x lt = refl
 slice_get-set (y ∷ xs) (suc i) x lt = slice_get-set xs i x (omega arith)
 
-pub slice_get-set_other : {X : Type 0} (xs : List X) (i j : ℕ) (x : X) → j ≢ i → slice_get (set xs i x) j ≡ slice_get xs j
+slice_get-set_other : {X : Type 0} (xs : List X) (i j : ℕ) (x : X) → j ≢ i → slice_get (set xs i x) j ≡ slice_get xs j
 slice_get-set_other [] i j x ne = refl
 slice_get-set_other (y ∷ xs) zero zero x ne = absurd (ne refl)
 slice_get-set_other (y ∷ xs) zero (suc j) x ne = refl
@@ -93,26 +92,28 @@ module _ {D : Type 0} where
       each = λ i lt. ap (λ o. option_or o (slice_get nodes i)) (sym (found_at-other p (size + i) d next (apart i lt))) ∙ each_here i lt;
     }
 
+  -- the newest layer begins at the leaves or later, or before
+  lacked-here : (leaves : ℕ) (layer : Layer D) (older : List (Layer D)) → leaves ≤ layer.tree.start → lacked leaves (layer ∷ older) ≡ layer ∷ lacked leaves older
+  lacked-here leaves layer older from = ap (λ b. if b then layer ∷ lacked leaves older else []) (le-leb _ _ from)
+
+  lacked-past : (leaves : ℕ) (layer : Layer D) (older : List (Layer D)) → layer.tree.start < leaves → lacked leaves (layer ∷ older) ≡ []
+  lacked-past leaves layer older before = ⊎_elim
+      (λ (high : (nat_le leaves layer.tree.start ≡ true) × (leaves ≤ layer.tree.start)). absurd (omega arith))
+      (λ (low : (nat_le leaves layer.tree.start ≡ false) × (layer.tree.start < leaves)). ap (λ b. if b then layer ∷ lacked leaves older else []) low.0)
+      (leb_tells leaves layer.tree.start)
+
   module _ {R : Type 0} (value : R → Layer D) (leaves : ℕ) where
     -- of these layers, the first that begins before the leaves, and one that does not
     pub lacked-none : (xs : List R) (i : ℕ) (x : R) → i < length xs → x ≡ get_or xs i x → (value x).tree.start < leaves →
         take i (map value xs) ≡ take i (map value xs) ++ lacked leaves (drop i (map value xs))
     lacked-none [] i x lt is before = absurd (omega arith)
-    lacked-none (y ∷ xs) zero x lt is before =
-        let early : (value y).tree.start < leaves = subst (λ z. (value z).tree.start < leaves) is before in
-        ⊎_elim
-        (λ (high : (nat_le leaves (value y).tree.start ≡ true) × (leaves ≤ (value y).tree.start)). absurd (omega arith))
-        (λ (low : (nat_le leaves (value y).tree.start ≡ false) × ((value y).tree.start < leaves)).
-        sym (ap (λ b. if b then value y ∷ lacked leaves (map value xs) else []) low.0))
-        (leb_tells leaves (value y).tree.start)
+    lacked-none (y ∷ xs) zero x lt is before = sym (lacked-past leaves (value y) (map value xs) (subst (λ z. (value z).tree.start < leaves) is before))
     lacked-none (y ∷ xs) (suc i) x lt is before = ap (λ zs. value y ∷ zs) (lacked-none xs i x (omega arith) is before)
 
     pub lacked-next : (xs : List R) (i : ℕ) (x : R) → i < length xs → x ≡ get_or xs i x → leaves ≤ (value x).tree.start →
         take (suc i) (map value xs) ++ lacked leaves (drop (suc i) (map value xs)) ≡ take i (map value xs) ++ lacked leaves (drop i (map value xs))
     lacked-next [] i x lt is from = absurd (omega arith)
-    lacked-next (y ∷ xs) zero x lt is from =
-        let late : leaves ≤ (value y).tree.start = subst (λ z. leaves ≤ (value z).tree.start) is from in
-        sym (ap (λ b. if b then value y ∷ lacked leaves (map value xs) else []) (le-leb _ _ late))
+    lacked-next (y ∷ xs) zero x lt is from = sym (lacked-here leaves (value y) (map value xs) (subst (λ z. leaves ≤ (value z).tree.start) is from))
     lacked-next (y ∷ xs) (suc i) x lt is from = ap (λ zs. value y ∷ zs) (lacked-next xs i x (omega arith) is from)
 
 -- all the elements, written anew
@@ -168,15 +169,6 @@ module _ (shape : Shape) {D : Type 0} where
   abbrev pub AreChained : ℕ → List (Layer D) → Type 0
   AreChained leaves [] = ⊤
   AreChained leaves (layer ∷ older) = IsWhole shape layer.tree × (layer.tree.start ≡ top_of leaves older) × AreChained leaves older
-
-  pub lacked-here : (leaves : ℕ) (layer : Layer D) (older : List (Layer D)) → leaves ≤ layer.tree.start → lacked leaves (layer ∷ older) ≡ layer ∷ lacked leaves older
-  lacked-here leaves layer older from = ap (λ b. if b then layer ∷ lacked leaves older else []) (le-leb _ _ from)
-
-  pub lacked-past : (leaves : ℕ) (layer : Layer D) (older : List (Layer D)) → layer.tree.start < leaves → lacked leaves (layer ∷ older) ≡ []
-  lacked-past leaves layer older before = ⊎_elim
-      (λ (high : (nat_le leaves layer.tree.start ≡ true) × (leaves ≤ layer.tree.start)). absurd (omega arith))
-      (λ (low : (nat_le leaves layer.tree.start ≡ false) × (layer.tree.start < leaves)). ap (λ b. if b then layer ∷ lacked leaves older else []) low.0)
-      (leb_tells leaves layer.tree.start)
 
   pub chained : (leaves n : ℕ) (layers : List (Layer D)) → AreLinked shape n layers → Contains (stops n layers) leaves → AreChained leaves (lacked leaves layers) × (top_of leaves (lacked leaves layers) ≡ n)
   chained leaves n [] linked found = (tt, ⊎_elim (λ (here : n ≡ leaves). sym here) (λ (no : Contains [] leaves). absurd (omega (arith, no.1))) (first_or_other n [] leaves found))
@@ -258,10 +250,6 @@ module _ (shape : Shape) {D : Type 0} where
     pub pins_at : (i p : ℕ) → slice_get positions i ≡ Some p → slice_get pins i ≡ option_or (layers_at shape layers p) (slice_get old_pins i)
     pub nodes_at : (i : ℕ) → slice_get nodes i ≡ option_or (layers_at shape layers (size + i)) (slice_get old_nodes i)
 
-  pub none_put : (leaves : ℕ) (positions : List ℕ) (size : ℕ) (pins nodes : List D) (layers : List (Layer D)) → layers ≡ [] → size + length nodes ≡ shape.size leaves → ArePut leaves positions size pins nodes layers pins nodes
-  none_put leaves positions size pins nodes layers none full =
-      subst (λ ls. ArePut leaves positions size pins nodes ls pins nodes) (sym none) (record { pinned = refl; full = full; pins_at = λ i p at. refl; nodes_at = λ i. refl })
-
   pub one_put : (leaves : ℕ) (positions : List ℕ) (size : ℕ) (old_pins old_nodes : List D) (layers older : List (Layer D)) (layer : Layer D) (pins nodes new_pins new_nodes : List D) → layers ≡ layer ∷ older →
       ArePut leaves positions size old_pins old_nodes older pins nodes → length new_pins ≡ length pins → size + length new_nodes ≡ shape.size layer.tree.leaves →
       ((i p : ℕ) → slice_get positions i ≡ Some p → slice_get new_pins i ≡ option_or (layer_at shape layer p) (slice_get pins i)) →
@@ -277,7 +265,11 @@ module _ (shape : Shape) {D : Type 0} where
             nodes_at i ∙ ap (option_or (layer_at shape layer (size + i))) (put.nodes_at i) ∙ sym (option_or-assoc (layer_at shape layer (size + i)) (layers_at shape older (size + i)) (slice_get old_nodes i));
       })
 
-  module _ {R : Type 0} (value : R → Layer D) (newest : Layer D) (xs : List R) (leaves : ℕ) (linked : AreLinked shape newest.tree.leaves (newest ∷ map value xs)) (reach : Contains (stops newest.tree.leaves (newest ∷ map value xs)) leaves) where
+  module _ {R : Type 0} (value : R → Layer D) (start : ℕ) (newest : Layer D) (xs : List R) (batch : Batch D) (view : ◌≡◌ {A = Batch D} (record { start = start; newest = newest; older = map value xs }) batch) (leaves : ℕ)
+      (linked : AreLinked shape newest.tree.leaves (newest ∷ map value xs)) (stop : Contains (stops batch.newest.tree.leaves (all_layers batch)) leaves) where
+    reach : Contains (stops newest.tree.leaves (newest ∷ map value xs)) leaves
+    reach = subst (λ b. Contains (stops b.newest.tree.leaves (all_layers b)) leaves) (sym view) stop
+
     -- the newest layer is the last to be put in
     pub newest_next : (layer : Layer D) → layer ≡ newest → leaves ≤ layer.tree.start → IsNext leaves (lacked leaves (newest ∷ map value xs)) (lacked leaves (map value xs)) layer
     newest_next layer same from =
@@ -334,7 +326,7 @@ module _ (shape : Shape) (births : Births) (family : IsFamily shape births) (pea
   has_past leaves (layer ∷ older) new (old ∷ lists) history = ⊎_elim
       (λ (before : layer.tree.start < leaves). record {
         past = [];
-        history = subst (λ ls. IsHistory shape bytes hash ls (new ∷ [])) (sym (lacked-past shape leaves layer older before)) tt;
+        history = subst (λ ls. IsHistory shape bytes hash ls (new ∷ [])) (sym (lacked-past leaves layer older before)) tt;
         has = λ n list linked is found. ⊎_elim
             (λ (here : new ≡ list). (0, omega arith, here))
             (λ (more : Contains (old ∷ lists) list). absurd (omega (arith, lists-below layer.tree.start older old lists list linked.2 history.1 more, history.0.start)))
@@ -344,7 +336,7 @@ module _ (shape : Shape) (births : Births) (family : IsFamily shape births) (pea
       let rest = has_past leaves older old lists history.1 in
       record {
         past = old ∷ rest.past;
-        history = subst (λ ls. IsHistory shape bytes hash ls (new ∷ old ∷ rest.past)) (sym (lacked-here shape leaves layer older from)) (history.0, rest.history);
+        history = subst (λ ls. IsHistory shape bytes hash ls (new ∷ old ∷ rest.past)) (sym (lacked-here leaves layer older from)) (history.0, rest.history);
         has = λ n list linked is found. ⊎_elim
             (λ (here : new ≡ list). (0, omega arith, here))
             (λ (more : Contains (old ∷ lists) list).

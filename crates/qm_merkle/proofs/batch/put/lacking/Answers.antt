@@ -1,4 +1,4 @@
-use Rattle.std.proofs.Common.{◌≡◌, ◌<◌, ◌≤◌, ◌∙◌, ap, map, take, subst, add-one, arith}
+use Rattle.std.proofs.Common.{◌<◌, ◌≤◌, ◌∙◌, ap, map, take, add-one, arith}
 use Rattle.qm_merkle.proofs.Putting.{lacked-none, lacked-next}
 use Rattle.qm_merkle.proofs.batch.put.lacking.Goals as goal
 

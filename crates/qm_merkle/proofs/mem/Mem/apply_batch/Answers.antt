@@ -1,7 +1,7 @@
-use Rattle.std.proofs.Common.{◌≡◌, ◌≤◌, ◌<◌, ◌∙◌, ◌++◌, Contains, length, take, drop, get_or, ap, sym, subst, refl, arith}
+use Rattle.std.proofs.Common.{◌≡◌, ◌∙◌, ◌++◌, Contains, length, take, drop, get_or, ap, sym, subst, refl, arith}
 use Rattle.std.proofs.lemmas.List.Elements.{Contains-get_or}
 use Rattle.qm_model.specs.Trees.{peak_positions}
-use Rattle.qm_merkle.specs.Mems.{Kept, IsWhole, Stands}
+use Rattle.qm_merkle.specs.Mems.{Kept, Stands}
 use Rattle.qm_merkle.specs.Batches.{all_layers, stops}
 use Rattle.qm_merkle.specs.Putting.{lacked}
 use Rattle.qm_merkle.proofs.Lookups.{pins_below}
