@@ -1,5 +1,5 @@
 -- Layers are put into a tree.
-use Rattle.std.proofs.Common.{◌≡◌, ◌≢◌, ℕ, zero, suc, ◌+◌, ◌-◌, ◌<◌, ◌≤◌, true, false, List, [], ◌∷◌, ◌++◌, length, map, take, drop, get_or, arith, ap, ap₂, sym, ◌∙◌, refl, subst, Option, Some, None, All, Contains, ◌⊎◌, ⊎_elim, inl, inr, le_refl}
+use Rattle.std.proofs.Common.{◌≡◌, ◌≢◌, ℕ, zero, suc, ◌+◌, ◌-◌, ◌<◌, ◌≤◌, true, false, List, [], ◌∷◌, ◌++◌, length, map, take, drop, get_or, arith, ap, ap₂, sym, ◌∙◌, refl, subst, Option, Some, None, All, Contains, MatchOption, ⊎_elim, le_refl}
 use Rattle.std.specs.Prelude.{slice_get, option_map, if◌then◌else◌, nat_le, ⊤}
 use Rattle.std.specs.Option.{option_or}
 use Rattle.std.specs.Ordering.{nat_cmp, is_eq}
@@ -10,7 +10,7 @@ use Rattle.std.proofs.Math.ListN.{set}
 use Rattle.std.proofs.lemmas.Bool.{cases_eq, cases_lt, le-leb}
 use Rattle.std.proofs.lemmas.Bool.Decides.{leb_tells}
 use Rattle.std.proofs.lemmas.Cmp.{nat_cmp_total, eq_by_cmp_equiv}
-use Rattle.std.proofs.lemmas.Option.{MatchOption-at_some, MatchOption-at_none, none-some, same_Some, slice_get_past, slice_get_within, get_or_from_slice_get}
+use Rattle.std.proofs.lemmas.Option.{same_Some, slice_get_past, slice_get_within, get_or_from_slice_get}
 use Rattle.std.proofs.lemmas.Map.{lookup-none}
 use Rattle.std.proofs.lemmas.Map.Entries.{lookup_head, lookup_tail, none_past_head}
 use Rattle.std.proofs.lemmas.Map.Keys.{IsDistinct-from_sorted, sorted_tail}
@@ -18,19 +18,20 @@ use Rattle.qm_model.specs.Operations.{Bytes}
 use Rattle.qm_model.specs.Trees.{Shape, Node, peaks, peak_positions, digest_of}
 use Rattle.qm_model.specs.Families.{Births, IsFamily, HasPeaks}
 use Rattle.qm_merkle.specs.Mems.{Kept, IsWhole, Stands, Gives, node_at}
-use Rattle.qm_merkle.specs.Batches.{Layer, AreLinked, Leads, IsHistory, stops, found_at, layer_at, layers_at}
+use Rattle.qm_merkle.specs.Batches.{Layer, Batch, all_layers, AreLinked, IsHistory, stops, found_at, layer_at, layers_at}
 use Rattle.qm_merkle.specs.Putting.{lacked}
-use Rattle.qm_merkle.proofs.Numbering.{stands_below, stands_past}
+use Rattle.qm_merkle.proofs.Numbering.{stands_past}
 use Rattle.qm_merkle.proofs.Lookups.{node_at-past}
 use Rattle.qm_merkle.proofs.Growth.{slice_get-left, slice_get-right}
+use Rattle.qm_merkle.proofs.Histories.{first_or_other, option_or-assoc, layer_at-past, layer_at-before, layers_lead}
 
 -- an element that was replaced, and the others
-pub slice_get-set : {X : Type 0} (xs : List X) (i : ℕ) (x : X) → i < length xs → slice_get (set xs i x) i ≡ Some x
+slice_get-set : {X : Type 0} (xs : List X) (i : ℕ) (x : X) → i < length xs → slice_get (set xs i x) i ≡ Some x
 slice_get-set [] i x lt = absurd (omega arith)
 slice_get-set (y ∷ xs) zero x lt = refl
 slice_get-set (y ∷ xs) (suc i) x lt = slice_get-set xs i x (omega arith)
 
-pub slice_get-set_other : {X : Type 0} (xs : List X) (i j : ℕ) (x : X) → j ≢ i → slice_get (set xs i x) j ≡ slice_get xs j
+slice_get-set_other : {X : Type 0} (xs : List X) (i j : ℕ) (x : X) → j ≢ i → slice_get (set xs i x) j ≡ slice_get xs j
 slice_get-set_other [] i j x ne = refl
 slice_get-set_other (y ∷ xs) zero zero x ne = absurd (ne refl)
 slice_get-set_other (y ∷ xs) zero (suc j) x ne = refl
@@ -58,44 +59,61 @@ module _ {D : Type 0} where
       lookup-none (is_at (nat_cmp p)) rest
       (none_past_head (eq_by_cmp_equiv nat_cmp_total) p (p, d) rest (IsDistinct-from_sorted nat_cmp (p ∷ keys_of rest) sorted) (same_number p))
 
-  -- nodes from a position on, of which one is replaced by the first of the entries
-  pub first_entry : (p size : ℕ) (d : D) (rest : List (ℕ × D)) (nodes : List D) → AreSorted ((p, d) ∷ rest) → size ≤ p → p - size < length nodes → (i : ℕ) →
-      option_or (found_at rest (size + i)) (slice_get (set nodes (p - size) d) i) ≡ option_or (found_at ((p, d) ∷ rest) (size + i)) (slice_get nodes i)
-  first_entry p size d rest nodes sorted from lt i = ⊎_elim
-      (λ (here : size + i ≡ p).
-      let at : i ≡ p - size = omega arith in
-      ap₂ option_or (ap (found_at rest) here ∙ found_at-later p d rest sorted) (ap (slice_get (set nodes (p - size) d)) at ∙ slice_get-set nodes (p - size) d lt)
-      ∙ sym (ap (λ o. option_or o (slice_get nodes i)) (ap (found_at ((p, d) ∷ rest)) here ∙ found_at-here p d rest)))
-      (λ (other : size + i ≢ p).
-      ap₂ option_or (sym (found_at-other p (size + i) d rest other)) (slice_get-set_other nodes (p - size) i d (λ e. other (omega arith))))
-      (cases_eq (size + i) p)
+  -- nodes that stand from a position on, when the entries up to the rest have replaced theirs
+  pub record AreReplaced (size : ℕ) (entries : List (ℕ × D)) (old : List D) (rest : List (ℕ × D)) (nodes : List D) : Type 0 where
+    pub sorted : AreSorted rest
+    pub each : (i : ℕ) → i < length old → option_or (found_at rest (size + i)) (slice_get nodes i) ≡ option_or (found_at entries (size + i)) (slice_get old i)
 
-  pub no_entry : (p n : ℕ) (d : D) (rest : List (ℕ × D)) (o : Option D) → n ≢ p → option_or (found_at rest n) o ≡ option_or (found_at ((p, d) ∷ rest) n) o
-  no_entry p n d rest o ne = ap (λ e. option_or e o) (sym (found_at-other p n d rest ne))
+  module _ (size p : ℕ) (d : D) (entries rest next : List (ℕ × D)) (old nodes : List D) (replaced : AreReplaced size entries old rest nodes) (is : rest ≡ (p, d) ∷ next) where
+    sorted_here : AreSorted ((p, d) ∷ next)
+    sorted_here = subst AreSorted is replaced.sorted
 
-  pub rest_sorted : (p : ℕ) (d : D) (rest entries : List (ℕ × D)) → entries ≡ (p, d) ∷ rest → AreSorted entries → AreSorted rest
-  rest_sorted p d rest entries is sorted = sorted_tail nat_cmp p (keys_of rest) (subst AreSorted is sorted)
+    each_here : (i : ℕ) → i < length old → option_or (found_at ((p, d) ∷ next) (size + i)) (slice_get nodes i) ≡ option_or (found_at entries (size + i)) (slice_get old i)
+    each_here i lt = ap (λ es. option_or (found_at es (size + i)) (slice_get nodes i)) (sym is) ∙ replaced.each i lt
+
+    -- the first of the rest replaces a node
+    pub one_replaced : size ≤ p → p - size < length nodes → AreReplaced size entries old next (set nodes (p - size) d)
+    one_replaced from lt = record {
+      sorted = sorted_tail nat_cmp p (keys_of next) sorted_here;
+      each = λ i within. ⊎_elim
+          (λ (here : size + i ≡ p).
+          let at : i ≡ p - size = omega arith in
+          ap₂ option_or (ap (found_at next) here ∙ found_at-later p d next sorted_here) (ap (slice_get (set nodes (p - size) d)) at ∙ slice_get-set nodes (p - size) d lt)
+          ∙ sym (ap (λ o. option_or o (slice_get nodes i)) (ap (found_at ((p, d) ∷ next)) here ∙ found_at-here p d next)) ∙ each_here i within)
+          (λ (other : size + i ≢ p).
+          ap₂ option_or (sym (found_at-other p (size + i) d next other)) (slice_get-set_other nodes (p - size) i d (λ e. other (omega arith))) ∙ each_here i within)
+          (cases_eq (size + i) p);
+    }
+
+    -- it stands elsewhere
+    pub none_replaced : ((i : ℕ) → i < length old → size + i ≢ p) → AreReplaced size entries old next nodes
+    none_replaced apart = record {
+      sorted = sorted_tail nat_cmp p (keys_of next) sorted_here;
+      each = λ i lt. ap (λ o. option_or o (slice_get nodes i)) (sym (found_at-other p (size + i) d next (apart i lt))) ∙ each_here i lt;
+    }
+
+  -- the newest layer begins at the leaves or later, or before
+  lacked-here : (leaves : ℕ) (layer : Layer D) (older : List (Layer D)) → leaves ≤ layer.tree.start → lacked leaves (layer ∷ older) ≡ layer ∷ lacked leaves older
+  lacked-here leaves layer older from = ap (λ b. if b then layer ∷ lacked leaves older else []) (le-leb _ _ from)
+
+  lacked-past : (leaves : ℕ) (layer : Layer D) (older : List (Layer D)) → layer.tree.start < leaves → lacked leaves (layer ∷ older) ≡ []
+  lacked-past leaves layer older before = ⊎_elim
+      (λ (high : (nat_le leaves layer.tree.start ≡ true) × (leaves ≤ layer.tree.start)). absurd (omega arith))
+      (λ (low : (nat_le leaves layer.tree.start ≡ false) × (layer.tree.start < leaves)). ap (λ b. if b then layer ∷ lacked leaves older else []) low.0)
+      (leb_tells leaves layer.tree.start)
 
   module _ {R : Type 0} (value : R → Layer D) (leaves : ℕ) where
     -- of these layers, the first that begins before the leaves, and one that does not
     pub lacked-none : (xs : List R) (i : ℕ) (x : R) → i < length xs → x ≡ get_or xs i x → (value x).tree.start < leaves →
         take i (map value xs) ≡ take i (map value xs) ++ lacked leaves (drop i (map value xs))
     lacked-none [] i x lt is before = absurd (omega arith)
-    lacked-none (y ∷ xs) zero x lt is before =
-        let early : (value y).tree.start < leaves = subst (λ z. (value z).tree.start < leaves) is before in
-        ⊎_elim
-        (λ (high : (nat_le leaves (value y).tree.start ≡ true) × (leaves ≤ (value y).tree.start)). absurd (omega arith))
-        (λ (low : (nat_le leaves (value y).tree.start ≡ false) × ((value y).tree.start < leaves)).
-        sym (ap (λ b. if b then value y ∷ lacked leaves (map value xs) else []) low.0))
-        (leb_tells leaves (value y).tree.start)
+    lacked-none (y ∷ xs) zero x lt is before = sym (lacked-past leaves (value y) (map value xs) (subst (λ z. (value z).tree.start < leaves) is before))
     lacked-none (y ∷ xs) (suc i) x lt is before = ap (λ zs. value y ∷ zs) (lacked-none xs i x (omega arith) is before)
 
     pub lacked-next : (xs : List R) (i : ℕ) (x : R) → i < length xs → x ≡ get_or xs i x → leaves ≤ (value x).tree.start →
         take (suc i) (map value xs) ++ lacked leaves (drop (suc i) (map value xs)) ≡ take i (map value xs) ++ lacked leaves (drop i (map value xs))
     lacked-next [] i x lt is from = absurd (omega arith)
-    lacked-next (y ∷ xs) zero x lt is from =
-        let late : leaves ≤ (value y).tree.start = subst (λ z. leaves ≤ (value z).tree.start) is from in
-        sym (ap (λ b. if b then value y ∷ lacked leaves (map value xs) else []) (le-leb _ _ late))
+    lacked-next (y ∷ xs) zero x lt is from = sym (lacked-here leaves (value y) (map value xs) (subst (λ z. leaves ≤ (value z).tree.start) is from))
     lacked-next (y ∷ xs) (suc i) x lt is from = ap (λ zs. value y ∷ zs) (lacked-next xs i x (omega arith) is from)
 
 -- all the elements, written anew
@@ -113,16 +131,6 @@ option_or-none None = refl
 option_or-none (Some x) = refl
 
 module _ (shape : Shape) {D : Type 0} (layer : Layer D) where
-  pub layer_at-before : (p : ℕ) → p < shape.size layer.tree.start → layer_at shape layer p ≡ found_at layer.replaced p
-  layer_at-before p lt = ⊎_elim
-      (λ (high : (nat_le (shape.size layer.tree.start) p ≡ true) × (shape.size layer.tree.start ≤ p)). absurd (omega arith))
-      (λ (low : (nat_le (shape.size layer.tree.start) p ≡ false) × (p < shape.size layer.tree.start)).
-      ap (λ b. if b then slice_get layer.tree.nodes (p - shape.size layer.tree.start) else found_at layer.replaced p) low.0)
-      (leb_tells (shape.size layer.tree.start) p)
-
-  pub layer_at-past : (p : ℕ) → shape.size layer.tree.start ≤ p → layer_at shape layer p ≡ slice_get layer.tree.nodes (p - shape.size layer.tree.start)
-  layer_at-past p le = ap (λ b. if b then slice_get layer.tree.nodes (p - shape.size layer.tree.start) else found_at layer.replaced p) (le-leb _ _ le)
-
   -- the nodes of a tree that ends where the layer begins, after the layer is put in
   pub put-nodes : (size : ℕ) (old replaced new : List D) → size + length old ≡ shape.size layer.tree.start → length replaced ≡ length old →
       ((i : ℕ) → i < length old → slice_get replaced i ≡ option_or (found_at layer.replaced (size + i)) (slice_get old i)) → new ≡ replaced ++ layer.tree.nodes →
@@ -131,24 +139,14 @@ module _ (shape : Shape) {D : Type 0} (layer : Layer D) where
       ap (λ xs. slice_get xs i) is
       ∙ ⊎_elim
       (λ (low : i < length old).
-      slice_get-left replaced layer.tree.nodes i (omega arith) ∙ each i low ∙ ap (λ o. option_or o (slice_get old i)) (sym (layer_at-before (size + i) (omega arith))))
+      slice_get-left replaced layer.tree.nodes i (omega arith) ∙ each i low ∙ ap (λ o. option_or o (slice_get old i)) (sym (layer_at-before shape layer (size + i) (omega arith))))
       (λ (high : length old ≤ i).
       let k = size + i - shape.size layer.tree.start in
+      let past : shape.size layer.tree.start ≤ size + i = omega arith in
       let at : i ≡ length replaced + k = omega arith in
-      ap (slice_get (replaced ++ layer.tree.nodes)) at ∙ slice_get-right replaced layer.tree.nodes k ∙ sym (layer_at-past (size + i) (omega arith))
+      ap (slice_get (replaced ++ layer.tree.nodes)) at ∙ slice_get-right replaced layer.tree.nodes k ∙ sym (layer_at-past shape layer (size + i) past ∙ node_at-past shape layer.tree (size + i) past)
       ∙ sym (ap (option_or (layer_at shape layer (size + i))) (slice_get_past old i high) ∙ option_or-none (layer_at shape layer (size + i))))
       (cases_lt i (length old))
-
-option_or-assoc : {X : Type 0} (a b c : Option X) → option_or a (option_or b c) ≡ option_or (option_or a b) c
-option_or-assoc None b c = refl
-option_or-assoc (Some x) b c = refl
-
-contains_cons : {X : Type 0} (y : X) (ys : List X) (x : X) → Contains (y ∷ ys) x → (y ≡ x) ⊎ Contains ys x
-contains_cons y ys x found = go found.0 found.1 found.2
-  where
-    go : (k : ℕ) → k < suc (length ys) → get_or (y ∷ ys) k x ≡ x → (y ≡ x) ⊎ Contains ys x
-    go zero lt is = inl is
-    go (suc k) lt is = inr (k, omega arith, is)
 
 module _ (shape : Shape) {D : Type 0} where
   stops-first : (n : ℕ) (layers : List (Layer D)) → Contains (stops n layers) n
@@ -156,11 +154,11 @@ module _ (shape : Shape) {D : Type 0} where
   stops-first n (layer ∷ older) = (0, omega arith, refl)
 
   pub stops-below : (n : ℕ) (layers : List (Layer D)) (leaves : ℕ) → AreLinked shape n layers → Contains (stops n layers) leaves → leaves ≤ n
-  stops-below n [] leaves linked found = ⊎_elim (λ (here : n ≡ leaves). omega arith) (λ (no : Contains [] leaves). absurd (omega (arith, no.1))) (contains_cons n [] leaves found)
+  stops-below n [] leaves linked found = ⊎_elim (λ (here : n ≡ leaves). omega arith) (λ (no : Contains [] leaves). absurd (omega (arith, no.1))) (first_or_other n [] leaves found)
   stops-below n (layer ∷ older) leaves linked found = ⊎_elim
       (λ (here : n ≡ leaves). omega arith)
       (λ (more : Contains (stops layer.tree.start older) leaves). omega (arith, linked.0, linked.1.order, stops-below layer.tree.start older leaves linked.2 more))
-      (contains_cons n (stops layer.tree.start older) leaves found)
+      (first_or_other n (stops layer.tree.start older) leaves found)
 
   -- where layers over a tree of so many leaves end
   abbrev pub top_of : ℕ → List (Layer D) → ℕ
@@ -172,24 +170,15 @@ module _ (shape : Shape) {D : Type 0} where
   AreChained leaves [] = ⊤
   AreChained leaves (layer ∷ older) = IsWhole shape layer.tree × (layer.tree.start ≡ top_of leaves older) × AreChained leaves older
 
-  pub lacked-here : (leaves : ℕ) (layer : Layer D) (older : List (Layer D)) → leaves ≤ layer.tree.start → lacked leaves (layer ∷ older) ≡ layer ∷ lacked leaves older
-  lacked-here leaves layer older from = ap (λ b. if b then layer ∷ lacked leaves older else []) (le-leb _ _ from)
-
-  pub lacked-past : (leaves : ℕ) (layer : Layer D) (older : List (Layer D)) → layer.tree.start < leaves → lacked leaves (layer ∷ older) ≡ []
-  lacked-past leaves layer older before = ⊎_elim
-      (λ (high : (nat_le leaves layer.tree.start ≡ true) × (leaves ≤ layer.tree.start)). absurd (omega arith))
-      (λ (low : (nat_le leaves layer.tree.start ≡ false) × (layer.tree.start < leaves)). ap (λ b. if b then layer ∷ lacked leaves older else []) low.0)
-      (leb_tells leaves layer.tree.start)
-
   pub chained : (leaves n : ℕ) (layers : List (Layer D)) → AreLinked shape n layers → Contains (stops n layers) leaves → AreChained leaves (lacked leaves layers) × (top_of leaves (lacked leaves layers) ≡ n)
-  chained leaves n [] linked found = (tt, ⊎_elim (λ (here : n ≡ leaves). sym here) (λ (no : Contains [] leaves). absurd (omega (arith, no.1))) (contains_cons n [] leaves found))
+  chained leaves n [] linked found = (tt, ⊎_elim (λ (here : n ≡ leaves). sym here) (λ (no : Contains [] leaves). absurd (omega (arith, no.1))) (first_or_other n [] leaves found))
   chained leaves n (layer ∷ older) linked found = ⊎_elim
       (λ (before : layer.tree.start < leaves).
       let none = lacked-past leaves layer older before in
       let top : leaves ≡ n = ⊎_elim
       (λ (here : n ≡ leaves). sym here)
       (λ (more : Contains (stops layer.tree.start older) leaves). absurd (omega (arith, stops-below layer.tree.start older leaves linked.2 more)))
-      (contains_cons n (stops layer.tree.start older) leaves found) in
+      (first_or_other n (stops layer.tree.start older) leaves found) in
       (subst (AreChained leaves) (sym none) tt, ap (top_of leaves) none ∙ top))
       (λ (from : leaves ≤ layer.tree.start).
       let is = lacked-here leaves layer older from in
@@ -198,7 +187,7 @@ module _ (shape : Shape) {D : Type 0} where
       let same : layer.tree.start ≡ leaves = omega (arith, linked.0, linked.1.order) in
       subst (Contains (stops layer.tree.start older)) same (stops-first layer.tree.start older))
       (λ (more : Contains (stops layer.tree.start older) leaves). more)
-      (contains_cons n (stops layer.tree.start older) leaves found) in
+      (first_or_other n (stops layer.tree.start older) leaves found) in
       let rest = chained leaves layer.tree.start older linked.2 reach in
       (subst (AreChained leaves) (sym is) (linked.1, sym rest.1, rest.0), ap (top_of leaves) is ∙ linked.0))
       (cases_lt layer.tree.start leaves)
@@ -261,10 +250,6 @@ module _ (shape : Shape) {D : Type 0} where
     pub pins_at : (i p : ℕ) → slice_get positions i ≡ Some p → slice_get pins i ≡ option_or (layers_at shape layers p) (slice_get old_pins i)
     pub nodes_at : (i : ℕ) → slice_get nodes i ≡ option_or (layers_at shape layers (size + i)) (slice_get old_nodes i)
 
-  pub none_put : (leaves : ℕ) (positions : List ℕ) (size : ℕ) (pins nodes : List D) (layers : List (Layer D)) → layers ≡ [] → size + length nodes ≡ shape.size leaves → ArePut leaves positions size pins nodes layers pins nodes
-  none_put leaves positions size pins nodes layers none full =
-      subst (λ ls. ArePut leaves positions size pins nodes ls pins nodes) (sym none) (record { pinned = refl; full = full; pins_at = λ i p at. refl; nodes_at = λ i. refl })
-
   pub one_put : (leaves : ℕ) (positions : List ℕ) (size : ℕ) (old_pins old_nodes : List D) (layers older : List (Layer D)) (layer : Layer D) (pins nodes new_pins new_nodes : List D) → layers ≡ layer ∷ older →
       ArePut leaves positions size old_pins old_nodes older pins nodes → length new_pins ≡ length pins → size + length new_nodes ≡ shape.size layer.tree.leaves →
       ((i p : ℕ) → slice_get positions i ≡ Some p → slice_get new_pins i ≡ option_or (layer_at shape layer p) (slice_get pins i)) →
@@ -275,12 +260,16 @@ module _ (shape : Shape) {D : Type 0} where
         pinned = pinned ∙ put.pinned;
         full = full;
         pins_at = λ i p at.
-            pins_at i p at ∙ ap (option_or (layer_at shape layer p)) (put.pins_at i p at) ∙ option_or-assoc (layer_at shape layer p) (layers_at shape older p) (slice_get old_pins i);
+            pins_at i p at ∙ ap (option_or (layer_at shape layer p)) (put.pins_at i p at) ∙ sym (option_or-assoc (layer_at shape layer p) (layers_at shape older p) (slice_get old_pins i));
         nodes_at = λ i.
-            nodes_at i ∙ ap (option_or (layer_at shape layer (size + i))) (put.nodes_at i) ∙ option_or-assoc (layer_at shape layer (size + i)) (layers_at shape older (size + i)) (slice_get old_nodes i);
+            nodes_at i ∙ ap (option_or (layer_at shape layer (size + i))) (put.nodes_at i) ∙ sym (option_or-assoc (layer_at shape layer (size + i)) (layers_at shape older (size + i)) (slice_get old_nodes i));
       })
 
-  module _ {R : Type 0} (value : R → Layer D) (newest : Layer D) (xs : List R) (leaves : ℕ) (linked : AreLinked shape newest.tree.leaves (newest ∷ map value xs)) (reach : Contains (stops newest.tree.leaves (newest ∷ map value xs)) leaves) where
+  module _ {R : Type 0} (value : R → Layer D) (start : ℕ) (newest : Layer D) (xs : List R) (batch : Batch D) (view : ◌≡◌ {A = Batch D} (record { start = start; newest = newest; older = map value xs }) batch) (leaves : ℕ)
+      (linked : AreLinked shape newest.tree.leaves (newest ∷ map value xs)) (stop : Contains (stops batch.newest.tree.leaves (all_layers batch)) leaves) where
+    reach : Contains (stops newest.tree.leaves (newest ∷ map value xs)) leaves
+    reach = subst (λ b. Contains (stops b.newest.tree.leaves (all_layers b)) leaves) (sym view) stop
+
     -- the newest layer is the last to be put in
     pub newest_next : (layer : Layer D) → layer ≡ newest → leaves ≤ layer.tree.start → IsNext leaves (lacked leaves (newest ∷ map value xs)) (lacked leaves (map value xs)) layer
     newest_next layer same from =
@@ -311,89 +300,51 @@ module _ (shape : Shape) {D : Type 0} where
       (subst (λ z. ArePut leaves qs s ds z layers vs nodes) old
       (subst (λ z. ArePut leaves qs s ds xs layers z nodes) new put))))
 
-option_cases : {X : Type 0} (o : Option X) → (o ≡ None) ⊎ ((x : X) × (o ≡ Some x))
-option_cases None = inl refl
-option_cases (Some x) = inr (x, refl)
-
--- a layer, and layers, have of a node its digest over the list that they lead to
+-- with the layers that a tree lacks, its nodes have their new digests
 module _ (shape : Shape) (births : Births) (family : IsFamily shape births) (peaked : HasPeaks shape) {D : Type 0} (bytes : D → Bytes) (hash : Bytes → Bytes) where
-  module _ (layer : Layer D) (old new : List Bytes) (leads : Leads shape bytes hash layer old new) (x : Node) (born : shape.birth x ≤ length new) where
-    late_at : layer.tree.start < shape.birth x → option_map bytes (layer_at shape layer (shape.position x)) ≡ Some (digest_of hash shape new x)
-    late_at late =
-        let past = stands_past shape births family x layer.tree.start late in
-        ap (option_map bytes) (layer_at-past shape layer (shape.position x) past ∙ sym (node_at-past shape layer.tree (shape.position x) past))
-        ∙ leads.stands.nodes x late (omega (arith, leads.stands.count))
-
-    early_at : shape.birth x ≤ layer.tree.start → layer_at shape layer (shape.position x) ≡ found_at layer.replaced (shape.position x)
-    early_at early = layer_at-before shape layer (shape.position x) (stands_below shape births family x layer.tree.start early)
-
-    layer-some : (d : D) → layer_at shape layer (shape.position x) ≡ Some d → bytes d ≡ digest_of hash shape new x
-    layer-some d at = ⊎_elim
-        (λ (late : layer.tree.start < shape.birth x). same_Some (bytes d) (digest_of hash shape new x) (sym (ap (option_map bytes) at) ∙ late_at late))
-        (λ (early : shape.birth x ≤ layer.tree.start).
-        MatchOption-at_some (digest_of hash shape old x ≡ digest_of hash shape new x) (λ d. bytes d ≡ digest_of hash shape new x) d (sym (early_at early) ∙ at) (leads.replaced x (omega (arith, leads.start))))
-        (cases_lt layer.tree.start (shape.birth x))
-
-    layer-none : layer_at shape layer (shape.position x) ≡ None → (shape.birth x ≤ length old) × (digest_of hash shape old x ≡ digest_of hash shape new x)
-    layer-none at = ⊎_elim
-        (λ (late : layer.tree.start < shape.birth x). absurd (none-some (digest_of hash shape new x) (sym (ap (option_map bytes) at) ∙ late_at late)))
-        (λ (early : shape.birth x ≤ layer.tree.start).
-        let below : shape.birth x ≤ length old = omega (arith, leads.start) in
-        (below, MatchOption-at_none (digest_of hash shape old x ≡ digest_of hash shape new x) (λ d. bytes d ≡ digest_of hash shape new x) (sym (early_at early) ∙ at) (leads.replaced x below)))
-        (cases_lt layer.tree.start (shape.birth x))
-
-  layers-some : (leaves : ℕ) (layers : List (Layer D)) (new : List Bytes) (lists : List (List Bytes)) → IsHistory shape bytes hash layers (new ∷ lists) → (x : Node) → shape.birth x ≤ length new →
-      (d : D) → layers_at shape (lacked leaves layers) (shape.position x) ≡ Some d → bytes d ≡ digest_of hash shape new x
-  layers-some leaves [] new lists history x born d at = absurd (none-some d at)
-  layers-some leaves (layer ∷ older) new [] history x born d at = absurd history
-  layers-some leaves (layer ∷ older) new (old ∷ lists) history x born d at = ⊎_elim
-      (λ (before : layer.tree.start < leaves). absurd (none-some d (sym (ap (λ ls. layers_at shape ls (shape.position x)) (lacked-past shape leaves layer older before)) ∙ at)))
-      (λ (from : leaves ≤ layer.tree.start).
-      let rest = layers_at shape (lacked leaves older) (shape.position x) in
-      let both : option_or (layer_at shape layer (shape.position x)) rest ≡ Some d = sym (ap (λ ls. layers_at shape ls (shape.position x)) (lacked-here shape leaves layer older from)) ∙ at in
-      ⊎_elim
-      (λ (none : layer_at shape layer (shape.position x) ≡ None).
-      let low = layer-none layer old new history.0 x born none in
-      layers-some leaves older old lists history.1 x low.0 d (sym (ap (λ o. option_or o rest) none) ∙ both) ∙ low.1)
-      (λ (some : (e : D) × (layer_at shape layer (shape.position x) ≡ Some e)).
-      layer-some layer old new history.0 x born d (some.1 ∙ sym (ap (λ o. option_or o rest) some.1) ∙ both))
-      (option_cases (layer_at shape layer (shape.position x))))
-      (cases_lt layer.tree.start leaves)
-
   lists-below : (n : ℕ) (layers : List (Layer D)) (new : List Bytes) (lists : List (List Bytes)) (list : List Bytes) → AreLinked shape n layers → IsHistory shape bytes hash layers (new ∷ lists) → Contains (new ∷ lists) list → length list ≤ length new
   lists-below n [] new [] list linked history found =
-      ⊎_elim (λ (here : new ≡ list). omega (arith, ap length here)) (λ (no : Contains [] list). absurd (omega (arith, no.1))) (contains_cons new [] list found)
+      ⊎_elim (λ (here : new ≡ list). omega (arith, ap length here)) (λ (no : Contains [] list). absurd (omega (arith, no.1))) (first_or_other new [] list found)
   lists-below n [] new (more ∷ lists) list linked history found = absurd history
   lists-below n (layer ∷ older) new [] list linked history found = absurd history
   lists-below n (layer ∷ older) new (old ∷ lists) list linked history found = ⊎_elim
       (λ (here : new ≡ list). omega (arith, ap length here))
       (λ (more : Contains (old ∷ lists) list).
       omega (arith, lists-below layer.tree.start older old lists list linked.2 history.1 more, history.0.start, history.0.stands.count, linked.1.order))
-      (contains_cons new (old ∷ lists) list found)
+      (first_or_other new (old ∷ lists) list found)
 
-  -- a node that no layer has was there, and has the digest that it had
-  layers-none : (n : ℕ) (layers : List (Layer D)) (new : List Bytes) (lists : List (List Bytes)) (list : List Bytes) → AreLinked shape n layers → IsHistory shape bytes hash layers (new ∷ lists) → Contains (new ∷ lists) list →
-      (x : Node) → shape.birth x ≤ length new → layers_at shape (lacked (length list) layers) (shape.position x) ≡ None → (shape.birth x ≤ length list) × (digest_of hash shape list x ≡ digest_of hash shape new x)
-  layers-none n [] new [] list linked history found x born at = ⊎_elim
-      (λ (here : new ≡ list). (omega (arith, ap length here), ap (λ l. digest_of hash shape l x) (sym here)))
-      (λ (no : Contains [] list). absurd (omega (arith, no.1)))
-      (contains_cons new [] list found)
-  layers-none n [] new (more ∷ lists) list linked history found x born at = absurd history
-  layers-none n (layer ∷ older) new [] list linked history found x born at = absurd history
-  layers-none n (layer ∷ older) new (old ∷ lists) list linked history found x born at = ⊎_elim
-      (λ (here : new ≡ list). (omega (arith, ap length here), ap (λ l. digest_of hash shape l x) (sym here)))
-      (λ (more : Contains (old ∷ lists) list).
-      let from : length list ≤ layer.tree.start = omega (arith, lists-below layer.tree.start older old lists list linked.2 history.1 more, history.0.start) in
-      let rest = layers_at shape (lacked (length list) older) (shape.position x) in
-      let both : option_or (layer_at shape layer (shape.position x)) rest ≡ None = sym (ap (λ ls. layers_at shape ls (shape.position x)) (lacked-here shape (length list) layer older from)) ∙ at in
-      ⊎_elim
-      (λ (none : layer_at shape layer (shape.position x) ≡ None).
-      let low = layer-none layer old new history.0 x born none in
-      let last = layers-none layer.tree.start older old lists list linked.2 history.1 more x low.0 (sym (ap (λ o. option_or o rest) none) ∙ both) in
-      (last.0, last.1 ∙ low.1))
-      (λ (some : (e : D) × (layer_at shape layer (shape.position x) ≡ Some e)). absurd (none-some some.0 (sym both ∙ ap (λ o. option_or o rest) some.1)))
-      (option_cases (layer_at shape layer (shape.position x))))
-      (contains_cons new (old ∷ lists) list found)
+  -- those layers lead from lists of which the tree's is one
+  pub record HasPast (leaves : ℕ) (layers : List (Layer D)) (new : List Bytes) (lists : List (List Bytes)) : Type 0 where
+    pub past : List (List Bytes)
+    pub history : IsHistory shape bytes hash (lacked leaves layers) (new ∷ past)
+    pub has : (n : ℕ) (list : List Bytes) → AreLinked shape n layers → leaves ≡ length list → Contains (new ∷ lists) list → Contains (new ∷ past) list
+
+  has_past : (leaves : ℕ) (layers : List (Layer D)) (new : List Bytes) (lists : List (List Bytes)) → IsHistory shape bytes hash layers (new ∷ lists) → HasPast leaves layers new lists
+  has_past leaves [] new [] history = record { past = []; history = tt; has = λ n list linked is found. found }
+  has_past leaves [] new (more ∷ lists) history = absurd history
+  has_past leaves (layer ∷ older) new [] history = absurd history
+  has_past leaves (layer ∷ older) new (old ∷ lists) history = ⊎_elim
+      (λ (before : layer.tree.start < leaves). record {
+        past = [];
+        history = subst (λ ls. IsHistory shape bytes hash ls (new ∷ [])) (sym (lacked-past leaves layer older before)) tt;
+        has = λ n list linked is found. ⊎_elim
+            (λ (here : new ≡ list). (0, omega arith, here))
+            (λ (more : Contains (old ∷ lists) list). absurd (omega (arith, lists-below layer.tree.start older old lists list linked.2 history.1 more, history.0.start)))
+            (first_or_other new (old ∷ lists) list found);
+      })
+      (λ (from : leaves ≤ layer.tree.start).
+      let rest = has_past leaves older old lists history.1 in
+      record {
+        past = old ∷ rest.past;
+        history = subst (λ ls. IsHistory shape bytes hash ls (new ∷ old ∷ rest.past)) (sym (lacked-here leaves layer older from)) (history.0, rest.history);
+        has = λ n list linked is found. ⊎_elim
+            (λ (here : new ≡ list). (0, omega arith, here))
+            (λ (more : Contains (old ∷ lists) list).
+            let at = rest.has layer.tree.start list linked.2 is more in
+            (suc at.0, omega (arith, at.1), at.2))
+            (first_or_other new (old ∷ lists) list found);
+      })
+      (cases_lt layer.tree.start leaves)
 
   pub history-count : (layer : Layer D) (older : List (Layer D)) (new : List Bytes) (lists : List (List Bytes)) → IsHistory shape bytes hash (layer ∷ older) (new ∷ lists) → layer.tree.leaves ≡ length new
   history-count layer older new [] history = absurd history
@@ -401,16 +352,17 @@ module _ (shape : Shape) (births : Births) (family : IsFamily shape births) (pea
 
   module _ (kept : Kept D) (whole : IsWhole shape kept) (n : ℕ) (layers : List (Layer D)) (linked : AreLinked shape n layers) (new : List Bytes) (lists : List (List Bytes)) (list : List Bytes)
       (history : IsHistory shape bytes hash layers (new ∷ lists)) (found : Contains (new ∷ lists) list) (stands : Stands shape bytes hash kept list) where
-    -- with the layers that the tree lacks, a node has its new digest
     now_at : (x : Node) (o : Option D) → shape.birth x ≤ length new → (shape.birth x ≤ kept.leaves → Gives bytes o (digest_of hash shape list x)) →
         Gives bytes (option_or (layers_at shape (lacked kept.leaves layers) (shape.position x)) o) (digest_of hash shape new x)
-    now_at x o born old = ⊎_elim
-        (λ (none : layers_at shape (lacked kept.leaves layers) (shape.position x) ≡ None).
-        let low = layers-none n layers new lists list linked history found x born (ap (λ k. layers_at shape (lacked k layers) (shape.position x)) (sym stands.count) ∙ none) in
-        ap (λ e. option_map bytes (option_or e o)) none ∙ old (omega (arith, low.0, stands.count)) ∙ ap Some low.1)
-        (λ (some : (d : D) × (layers_at shape (lacked kept.leaves layers) (shape.position x) ≡ Some d)).
-        ap (λ e. option_map bytes (option_or e o)) some.1 ∙ ap Some (layers-some kept.leaves layers new lists history x born some.0 some.1))
-        (option_cases (layers_at shape (lacked kept.leaves layers) (shape.position x)))
+    now_at x o born old =
+        let past = has_past kept.leaves layers new lists history in
+        read (layers_at shape (lacked kept.leaves layers) (shape.position x))
+        (layers_lead shape births family bytes hash (lacked kept.leaves layers) list new past.past past.history (past.has n list linked stands.count found) x born)
+      where
+        read : (put : Option D) → MatchOption put ((shape.birth x ≤ length list) × (digest_of hash shape list x ≡ digest_of hash shape new x)) (λ d. bytes d ≡ digest_of hash shape new x) →
+            Gives bytes (option_or put o) (digest_of hash shape new x)
+        read None match = old (omega (arith, match.0, stands.count)) ∙ ap Some match.1
+        read (Some d) match = ap Some match
 
     pins_now : (xs : List Node) (ds es : List D) → map bytes ds ≡ map (digest_of hash shape list) xs → length es ≡ length ds → All (λ x. shape.birth x ≤ length new) xs →
         ((i p : ℕ) → slice_get (map shape.position xs) i ≡ Some p → slice_get es i ≡ option_or (layers_at shape (lacked kept.leaves layers) p) (slice_get ds i)) → map bytes es ≡ map (digest_of hash shape new) xs

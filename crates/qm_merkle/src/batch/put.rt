@@ -57,7 +57,7 @@ impl<F: Family, D: Digest> MerkleizedBatch<F, D> {
     }
 }
 
-// How many layers begin at so many leaves or later.
+// How many layers, from the newest on, begin at so many leaves or later.
 fn lacking<F: Family, D: Digest>(layers: &[Rc<Layer<F, D>>], leaves: Location<F>) -> usize
     ensures within { result ≤ length layers.now }
     ensures lacked { take result (map (λ r. r.value) layers.now) ≡ lacked leaves (map (λ r. r.value) layers.now) }

@@ -3,7 +3,8 @@ use Rattle.std.specs.Prelude.{slice_get}
 use Rattle.std.specs.Option.{option_or}
 use Rattle.std.proofs.lemmas.List.{length-append}
 use Rattle.qm_merkle.specs.Batches.{found_at}
-use Rattle.qm_merkle.proofs.Putting.{written, all_at, layer_at-before, put-nodes}
+use Rattle.qm_merkle.proofs.Histories.{layer_at-before}
+use Rattle.qm_merkle.proofs.Putting.{written, all_at, put-nodes}
 use Rattle.qm_merkle.proofs.batch.Layer.put.Given
 use Rattle.qm_merkle.proofs.batch.Layer.put.Goals as goal
 

@@ -1,7 +1,7 @@
-use Rattle.std.proofs.Common.{◌≡◌, ◌≤◌, ◌<◌, ◌∙◌, ◌-◌, ◌∷◌, suc, Contains, map, drop, ap, sym, subst, arith}
+use Rattle.std.proofs.Common.{◌≡◌, ◌≤◌, ◌<◌, ◌∙◌, ◌-◌, ◌∷◌, suc, map, drop, ap, sym, subst, arith}
 use Rattle.std.specs.Prelude.{slice_get}
 use Rattle.std.specs.Option.{option_or}
-use Rattle.qm_merkle.specs.Batches.{all_layers, stops, layers_at}
+use Rattle.qm_merkle.specs.Batches.{all_layers, layers_at}
 use Rattle.qm_merkle.specs.Putting.{lacked}
 use Rattle.qm_merkle.proofs.Numbering.{sizes}
 use Rattle.qm_merkle.proofs.Putting.{ArePut, top_of, one_put, none_next, newest_next, older_next}
@@ -10,10 +10,9 @@ use Rattle.qm_merkle.proofs.batch.MerkleizedBatch.put.Goals as goal
 pub put-requires : goal.put-requires
 put-requires g c =
     let shape = g.F.Family.shape in
-    let reach = subst (λ b. Contains (stops b.newest.tree.leaves (all_layers b)) c.args.leaves) (sym c.self.view_is) c.requires.reach in
     let from : c.args.leaves ≤ c.self.inside.newest.value.tree.start = omega (arith, c.if-get.false, c.get.ensures, c.base.ensures.start, c.get-2.ensures, ap (λ l. l.tree.start) c.deref.ensures) in
     let layer = c.deref-in-loop-count.result.now in
-    let turn = older_next shape (λ r. r.value) c.self.inside.newest.value c.self.inside.older.items c.args.leaves c.self.invariant.1 reach (c.loop-count.count - 1) c.index.result.now layer
+    let turn = older_next shape (λ r. r.value) c.self.inside.start c.self.inside.newest.value c.self.inside.older.items c.args.self.now c.self.view_is c.args.leaves c.self.invariant.1 c.requires.reach (c.loop-count.count - 1) c.index.result.now layer
     from (omega (arith, c.loop-count.invariant.within)) c.index.ensures c.deref-in-loop-count.ensures in
     let last : suc (c.loop-count.count - 1) ≡ c.loop-count.count = omega arith in
     let put = c.loop-count.invariant.put in
@@ -30,10 +29,9 @@ put-requires g c =
 pub loop-count-preserved : goal.loop-count-preserved
 loop-count-preserved g c =
     let shape = g.F.Family.shape in
-    let reach = subst (λ b. Contains (stops b.newest.tree.leaves (all_layers b)) c.args.leaves) (sym c.self.view_is) c.requires.reach in
     let from : c.args.leaves ≤ c.self.inside.newest.value.tree.start = omega (arith, c.if-get.false, c.get.ensures, c.base.ensures.start, c.get-2.ensures, ap (λ l. l.tree.start) c.deref.ensures) in
     let layer = c.deref-in-loop-count.result.now in
-    let turn = older_next shape (λ r. r.value) c.self.inside.newest.value c.self.inside.older.items c.args.leaves c.self.invariant.1 reach (c.loop-count.count - 1) c.index.result.now layer
+    let turn = older_next shape (λ r. r.value) c.self.inside.start c.self.inside.newest.value c.self.inside.older.items c.args.self.now c.self.view_is c.args.leaves c.self.invariant.1 c.requires.reach (c.loop-count.count - 1) c.index.result.now layer
     from (omega (arith, c.loop-count.invariant.within)) c.index.ensures c.deref-in-loop-count.ensures in
     let last : suc (c.loop-count.count - 1) ≡ c.loop-count.count = omega arith in
     let layers = lacked c.args.leaves (map (λ r. r.value) c.self.inside.older.items) in
@@ -48,10 +46,9 @@ loop-count-preserved g c =
 pub put-requires-2 : goal.put-requires-2
 put-requires-2 g c =
     let shape = g.F.Family.shape in
-    let reach = subst (λ b. Contains (stops b.newest.tree.leaves (all_layers b)) c.args.leaves) (sym c.self.view_is) c.requires.reach in
     let layer = c.deref-3.result.now in
     let from : c.args.leaves ≤ layer.tree.start = omega (arith, c.if-get.false, c.get.ensures, c.base.ensures.start, c.get-2.ensures, ap (λ l. l.tree.start) c.deref.ensures, ap (λ l. l.tree.start) c.deref-3.ensures) in
-    let turn = newest_next shape (λ r. r.value) c.self.inside.newest.value c.self.inside.older.items c.args.leaves c.self.invariant.1 reach layer c.deref-3.ensures from in
+    let turn = newest_next shape (λ r. r.value) c.self.inside.start c.self.inside.newest.value c.self.inside.older.items c.args.self.now c.self.view_is c.args.leaves c.self.invariant.1 c.requires.reach layer c.deref-3.ensures from in
     let none : c.loop-count.count ≡ 0 = omega arith in
     let layers = lacked c.args.leaves (map (λ r. r.value) c.self.inside.older.items) in
     let put = subst (λ k. ArePut shape c.args.leaves c.args.positions.now c.args.size c.args.pins.now c.args.nodes.now.items (drop k layers) c.loop-count.pins c.loop-count.nodes.items) none c.loop-count.invariant.put in
@@ -66,17 +63,15 @@ put-requires-2 g c =
 pub returns-then-get-clause-size : goal.returns-then-get-clause-size
 returns-then-get-clause-size g c =
     let shape = g.F.Family.shape in
-    let reach = subst (λ b. Contains (stops b.newest.tree.leaves (all_layers b)) c.args.leaves) (sym c.self.view_is) c.requires.reach in
     let before : c.self.inside.newest.value.tree.start < c.args.leaves = omega (arith, c.if-get.true, c.get.ensures, c.base.ensures.start, c.get-2.ensures, ap (λ l. l.tree.start) c.deref.ensures) in
-    c.requires.size ∙ ap shape.size (none_next shape (λ r. r.value) c.self.inside.newest.value c.self.inside.older.items c.args.leaves c.self.invariant.1 reach before) ∙ ap (λ b. shape.size b.newest.tree.leaves) c.self.view_is
+    c.requires.size ∙ ap shape.size (none_next shape (λ r. r.value) c.self.inside.start c.self.inside.newest.value c.self.inside.older.items c.args.self.now c.self.view_is c.args.leaves c.self.invariant.1 c.requires.reach before) ∙ ap (λ b. shape.size b.newest.tree.leaves) c.self.view_is
 
 pub returns-clause-pins : goal.returns-clause-pins
 returns-clause-pins g c = λ i p at.
     let shape = g.F.Family.shape in
-    let reach = subst (λ b. Contains (stops b.newest.tree.leaves (all_layers b)) c.args.leaves) (sym c.self.view_is) c.requires.reach in
     let layer = c.deref-3.result.now in
     let from : c.args.leaves ≤ layer.tree.start = omega (arith, c.if-get.false, c.get.ensures, c.base.ensures.start, c.get-2.ensures, ap (λ l. l.tree.start) c.deref.ensures, ap (λ l. l.tree.start) c.deref-3.ensures) in
-    let turn = newest_next shape (λ r. r.value) c.self.inside.newest.value c.self.inside.older.items c.args.leaves c.self.invariant.1 reach layer c.deref-3.ensures from in
+    let turn = newest_next shape (λ r. r.value) c.self.inside.start c.self.inside.newest.value c.self.inside.older.items c.args.self.now c.self.view_is c.args.leaves c.self.invariant.1 c.requires.reach layer c.deref-3.ensures from in
     let none : c.loop-count.count ≡ 0 = omega arith in
     let layers = lacked c.args.leaves (map (λ r. r.value) c.self.inside.older.items) in
     let put = subst (λ k. ArePut shape c.args.leaves c.args.positions.now c.args.size c.args.pins.now c.args.nodes.now.items (drop k layers) c.loop-count.pins c.loop-count.nodes.items) none c.loop-count.invariant.put in
