@@ -51,6 +51,66 @@ fn operations_are_spelled(rt: HostRuntime) -> Result<(), Fail> {
     Ok(())
 }
 
+// The bytes of a key or a value, or none.
+fn bytes_of<B: ByteString>(alloc: Global, field: Option<&B>) -> Result<Vec<u8>, AllocError> {
+    match field {
+        Some(field) => field.as_bytes().to_vec(alloc),
+        None => Ok(Vec::new(alloc)),
+    }
+}
+
+#[test]
+fn operations_tell_their_parts(rt: HostRuntime) -> Result<(), Fail> {
+    let alloc = rt.alloc();
+    let key = ByteKey::new(vec![in alloc; 0x6bu8]?);
+    let value = ByteValue::new(vec![in alloc; 0x76u8]?);
+    let update = Unordered(key.twin(alloc)?, value.twin(alloc)?);
+    let table: [(ByteOperation, &[u8], bool, bool); 3] = [
+        (Operation::Update(update), &[0x6b], true, false),
+        (Operation::Delete(key.twin(alloc)?), &[0x6b], false, true),
+        (
+            Operation::CommitFloor(None, Location::new(2)),
+            &[],
+            false,
+            false,
+        ),
+    ];
+    for (operation, want, updates, deletes) in table {
+        assert_eq!(rt; operation.is_update(), updates);
+        assert_eq!(rt; operation.is_delete(), deletes);
+        assert_eq!(rt; operation.has_floor().is_some(), !updates && !deletes);
+        assert_eq!(rt; bytes_of(alloc, operation.key())?.as_slice(), want);
+        let given = operation.into_key();
+        assert_eq!(rt; bytes_of(alloc, given.as_ref())?.as_slice(), want);
+    }
+    Ok(())
+}
+
+// Whether updates of this key and value tell them and give them up, through the bound.
+fn tells_its_parts<U: Update>(
+    alloc: Global,
+    first: U,
+    second: U,
+    key: &[u8],
+    value: &[u8],
+) -> Result<bool, AllocError> {
+    let told = first.key().as_bytes() == key && second.value().as_bytes() == value;
+    let first = bytes_of(alloc, Some(&first.into_key()))?;
+    let second = bytes_of(alloc, Some(&second.into_value()))?;
+    Ok(told && first.as_slice() == key && second.as_slice() == value)
+}
+
+#[test]
+fn updates_tell_their_parts(rt: HostRuntime) -> Result<(), Fail> {
+    let alloc = rt.alloc();
+    let key = ByteKey::new(vec![in alloc; 0x6bu8]?);
+    let value = ByteValue::new(vec![in alloc; 0x76u8]?);
+    let first = Unordered(key.twin(alloc)?, value.twin(alloc)?);
+    let second = Unordered(key, value);
+    assert!(rt; tells_its_parts(alloc, first, second, &[0x6b], &[0x76])?);
+    Ok(())
+}
+
 // A copy's bytes, through the bound.
 fn twin_bytes<B: ByteString>(alloc: Global, field: &B) -> Result<Vec<u8>, AllocError> {
     let copy = field.twin(alloc)?;
