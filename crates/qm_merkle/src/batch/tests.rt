@@ -66,15 +66,19 @@ fn defined(
     Ok((nodes, hasher.root(count, 0, &peaks)))
 }
 
-// A digest is not that of the definition.
+// A digest is not that of the definition, or there are more leaves than a test makes.
 #[derive(Debug, Drop)]
-struct Differs;
+struct Wrong;
 
 // Looks whether there is no digest, or this one.
-fn fits(found: Option<Sha256Digest>, digest: &Sha256Digest) -> Result<(), Differs> {
-    match found {
-        Some(found) if found.bytes() != digest.bytes() => Err(Differs),
-        _ => Ok(()),
+fn fits(found: Option<Sha256Digest>, digest: &Sha256Digest) -> Result<(), Wrong> {
+    let Some(found) = found else {
+        return Ok(());
+    };
+    if found.bytes() == digest.bytes() {
+        Ok(())
+    } else {
+        Err(Wrong)
     }
 }
 
@@ -120,12 +124,17 @@ fn next(state: &mut u64, bound: u64) -> u64
 }
 
 // Prunes the tree to a leaf that it keeps.
-fn prune_somewhere(alloc: Global, state: &mut u64, tree: &mut Tree) -> Result<(), AllocError>
+fn prune_somewhere(alloc: Global, state: &mut u64, tree: &mut Tree) -> Result<(), Fail>
     ensures { OnOk result (tree.new.leaves ≡ tree.old.leaves) }
 {
     let (kept, leaves) = tree.bounds();
-    let to = kept.get() + next(state, leaves.get() - kept.get() + 1);
-    tree.prune(alloc, Location::new(to))
+    let (kept, leaves) = (kept.get(), leaves.get());
+    if leaves < kept || 1000 < leaves {
+        return Err(Wrong.into());
+    }
+    let to = kept + next(state, leaves - kept + 1);
+    tree.prune(alloc, Location::new(to))?;
+    Ok(())
 }
 
 // The batch made of a draft by up to nine new leaves, and by another digest for a leaf that the tree keeps; and the list of its leaves.
@@ -141,16 +150,17 @@ fn made(
     requires reach { Contains (stops draft.base draft.layers) tree.now.leaves }
     ensures { (n : ℕ) → Contains (stops draft.base draft.layers) n → IfOk result (λ r. Contains (stops r.0.newest.tree.leaves (all_layers r.0)) n) }
 {
+    let (kept, _) = tree.bounds();
+    let least = (leaves.len() as u64 <= kept.get()) as u64;
     let mut added = Vec::new(alloc);
-    for _ in 0..next(state, 10) {
+    for _ in 0..least + next(state, 9) {
         added.push(leaf(hasher, *state))?;
     }
     let mut list = Vec::from_slice(alloc, leaves)?;
     list.extend_from_slice(&added)?;
-    let (kept, _) = tree.bounds();
     let before = draft.leaves().get();
     if 1000 < before || 1000 < added.len() || list.len() <= kept.get() as usize {
-        return Err(Differs.into());
+        return Err(Wrong.into());
     }
     draft.add_leaf_digests(&added)?;
     let place = kept.get() + next(state, list.len() as u64 - kept.get());
@@ -164,34 +174,33 @@ fn made(
     Ok((batch, list))
 }
 
-// A tree of one to twenty leaves, pruned somewhere, and the list of its leaves.
+// A tree of so many leaves that came one by one, and the list of its leaves.
 fn grown(
     alloc: Global,
     hasher: &mut TreeHasher,
-    state: &mut u64,
+    count: u64,
 ) -> Result<(Tree, Vec<Sha256Digest>), Fail> {
     let mut tree = Mem::new(alloc);
     let mut list = Vec::new(alloc);
-    for _ in 0..1 + next(state, 20) {
-        let digest = leaf(hasher, *state);
+    for number in 0..count {
+        let digest = leaf(hasher, number);
         let mut draft = tree.new_batch(alloc);
         if 1000 < draft.leaves().get() {
-            return Err(Differs.into());
+            return Err(Wrong.into());
         }
         draft.add_leaf_digest(digest)?;
         list.push(digest)?;
         let batch = draft.merkleize(alloc, &tree, hasher)?;
         tree.apply_batch(&batch)?;
-        next(state, 1);
     }
-    prune_somewhere(alloc, state, &mut tree)?;
-    tree_fits(alloc, hasher, &tree, &list)?;
     Ok((tree, list))
 }
 
 // Three batches that stand on one another, of which the third is applied at once.
 fn at_once(alloc: Global, hasher: &mut TreeHasher, state: &mut u64) -> Result<(), Fail> {
-    let (mut tree, list) = grown(alloc, hasher, state)?;
+    let (mut tree, list) = grown(alloc, hasher, 1 + next(state, 20))?;
+    prune_somewhere(alloc, state, &mut tree)?;
+    tree_fits(alloc, hasher, &tree, &list)?;
     let draft = tree.new_batch(alloc);
     let (first, list) = made(alloc, hasher, state, &tree, draft, &list)?;
     let draft = first.new_batch(alloc)?;
@@ -205,7 +214,9 @@ fn at_once(alloc: Global, hasher: &mut TreeHasher, state: &mut u64) -> Result<()
 
 // Three batches that stand on one another, applied one by one.
 fn one_by_one(alloc: Global, hasher: &mut TreeHasher, state: &mut u64) -> Result<(), Fail> {
-    let (mut tree, list) = grown(alloc, hasher, state)?;
+    let (mut tree, list) = grown(alloc, hasher, 1 + next(state, 20))?;
+    prune_somewhere(alloc, state, &mut tree)?;
+    tree_fits(alloc, hasher, &tree, &list)?;
     let draft = tree.new_batch(alloc);
     let (first, one) = made(alloc, hasher, state, &tree, draft, &list)?;
     let draft = first.new_batch(alloc)?;
@@ -238,39 +249,35 @@ fn refused_leaves(rt: HostRuntime) -> Result<(), Fail> {
     let alloc = rt.alloc();
     let mut hasher = StandardHasher::new(Sha256::new());
     let digest = leaf(&mut hasher, 0);
-    let mut tree: Tree = Mem::new(alloc);
+    let (mut tree, _) = grown(alloc, &mut hasher, 5)?;
     let mut draft = tree.new_batch(alloc);
-    draft.add_leaf_digests(&[digest; 5])?;
     let past = draft.update_leaf_digest(Location::new(5), digest).err();
     assert_eq!(rt; past, Some(MerkleError::RangeOutOfBounds(5)));
-    let five = draft.merkleize(alloc, &tree, &mut hasher)?;
-    tree.apply_batch(&five)?;
-    tree.prune(alloc, Location::new(4))?;
+    let four = Location::new(4);
+    let (kept, leaves) = tree.bounds();
+    assert!(rt; kept <= four && four <= leaves);
+    tree.prune(alloc, four)?;
     let mut draft = tree.new_batch(alloc);
     let forgotten = draft.update_leaf_digest(Location::new(1), digest).err();
     assert_eq!(rt; forgotten, Some(MerkleError::ElementPruned(1)));
-    let past = draft.update_leaf_digest(Location::new(5), digest).err();
-    assert_eq!(rt; past, Some(MerkleError::RangeOutOfBounds(5)));
     Ok(())
 }
 
-// Over the five leaves at 0, 1, 3, 4 and 7, a sixth at 8 with the node at 9, and another digest for the leaf at 3, under the nodes at 5 and 6.
+// To the five leaves at 0, 1, 3, 4 and 7 comes a sixth at 8 with the node at 9; and the leaf at 3, under the nodes at 5 and 6, gets another digest.
 #[test]
 fn a_batch_has_its_own_nodes(rt: HostRuntime) -> Result<(), Fail> {
     let alloc = rt.alloc();
     let mut hasher = StandardHasher::new(Sha256::new());
     let digest = leaf(&mut hasher, 0);
-    let tree: Tree = Mem::new(alloc);
+    let (tree, _) = grown(alloc, &mut hasher, 5)?;
     let mut draft = tree.new_batch(alloc);
-    draft.add_leaf_digests(&[digest; 5])?;
-    let five = draft.merkleize(alloc, &tree, &mut hasher)?;
-    let mut draft = five.new_batch(alloc)?;
+    assert!(rt; draft.leaves().get() == 5);
     draft.add_leaf_digest(digest)?;
     draft.update_leaf_digest(Location::new(2), digest)?;
-    let six = draft.merkleize(alloc, &tree, &mut hasher)?;
+    let batch = draft.merkleize(alloc, &tree, &mut hasher)?;
     for place in 0..12 {
         let own = [3, 5, 6, 8, 9].contains(&place);
-        let found = six.get_node(Position::new(place)).is_some();
+        let found = batch.get_node(Position::new(place)).is_some();
         assert_eq!(rt; found, own, "at {place}");
     }
     Ok(())
