@@ -174,6 +174,52 @@ fn made(
     Ok((batch, list))
 }
 
+// The same of a draft on the tree.
+fn made_on_tree(
+    alloc: Global,
+    hasher: &mut TreeHasher,
+    state: &mut u64,
+    tree: &Tree,
+    leaves: &[Sha256Digest],
+) -> Result<(Batch, Vec<Sha256Digest>), Fail>
+    ensures { IfOk result (λ r. Contains (stops r.0.newest.tree.leaves (all_layers r.0)) tree.now.leaves) }
+{
+    made(alloc, hasher, state, tree, tree.new_batch(alloc), leaves)
+}
+
+// The same of a draft on a batch.
+fn made_on_batch(
+    alloc: Global,
+    hasher: &mut TreeHasher,
+    state: &mut u64,
+    tree: &Tree,
+    batch: &Batch,
+    leaves: &[Sha256Digest],
+) -> Result<(Batch, Vec<Sha256Digest>), Fail>
+    requires { Contains (stops batch.now.newest.tree.leaves (all_layers batch.now)) tree.now.leaves }
+    ensures tree { IfOk result (λ r. Contains (stops r.0.newest.tree.leaves (all_layers r.0)) tree.now.leaves) }
+    ensures batch { IfOk result (λ r. Contains (stops r.0.newest.tree.leaves (all_layers r.0)) batch.now.newest.tree.leaves) }
+{
+    made(alloc, hasher, state, tree, batch.new_batch(alloc)?, leaves)
+}
+
+// Applies the batch of these leaves, and prunes the tree somewhere.
+fn apply(
+    alloc: Global,
+    hasher: &mut TreeHasher,
+    state: &mut u64,
+    tree: &mut Tree,
+    batch: &Batch,
+    leaves: &[Sha256Digest],
+) -> Result<(), Fail>
+    requires { Contains (stops batch.now.newest.tree.leaves (all_layers batch.now)) tree.old.leaves }
+    ensures { OnOk result (tree.new.leaves ≡ batch.now.newest.tree.leaves) }
+{
+    tree.apply_batch(batch)?;
+    tree_fits(alloc, hasher, tree, leaves)?;
+    prune_somewhere(alloc, state, tree)
+}
+
 // A tree of so many leaves that came one by one, and the list of its leaves.
 fn grown(
     alloc: Global,
@@ -200,37 +246,23 @@ fn grown(
 fn at_once(alloc: Global, hasher: &mut TreeHasher, state: &mut u64) -> Result<(), Fail> {
     let (mut tree, list) = grown(alloc, hasher, 1 + next(state, 20))?;
     prune_somewhere(alloc, state, &mut tree)?;
-    tree_fits(alloc, hasher, &tree, &list)?;
-    let draft = tree.new_batch(alloc);
-    let (first, list) = made(alloc, hasher, state, &tree, draft, &list)?;
-    let draft = first.new_batch(alloc)?;
-    let (second, list) = made(alloc, hasher, state, &tree, draft, &list)?;
-    let draft = second.new_batch(alloc)?;
-    let (third, list) = made(alloc, hasher, state, &tree, draft, &list)?;
+    let (first, list) = made_on_tree(alloc, hasher, state, &tree, &list)?;
+    let (second, list) = made_on_batch(alloc, hasher, state, &tree, &first, &list)?;
+    let (third, list) = made_on_batch(alloc, hasher, state, &tree, &second, &list)?;
     prune_somewhere(alloc, state, &mut tree)?;
-    tree.apply_batch(&third)?;
-    tree_fits(alloc, hasher, &tree, &list)
+    apply(alloc, hasher, state, &mut tree, &third, &list)
 }
 
 // Three batches that stand on one another, applied one by one.
 fn one_by_one(alloc: Global, hasher: &mut TreeHasher, state: &mut u64) -> Result<(), Fail> {
     let (mut tree, list) = grown(alloc, hasher, 1 + next(state, 20))?;
     prune_somewhere(alloc, state, &mut tree)?;
-    tree_fits(alloc, hasher, &tree, &list)?;
-    let draft = tree.new_batch(alloc);
-    let (first, one) = made(alloc, hasher, state, &tree, draft, &list)?;
-    let draft = first.new_batch(alloc)?;
-    let (second, two) = made(alloc, hasher, state, &tree, draft, &one)?;
-    tree.apply_batch(&first)?;
-    tree_fits(alloc, hasher, &tree, &one)?;
-    prune_somewhere(alloc, state, &mut tree)?;
-    let draft = second.new_batch(alloc)?;
-    let (third, three) = made(alloc, hasher, state, &tree, draft, &two)?;
-    tree.apply_batch(&second)?;
-    tree_fits(alloc, hasher, &tree, &two)?;
-    prune_somewhere(alloc, state, &mut tree)?;
-    tree.apply_batch(&third)?;
-    tree_fits(alloc, hasher, &tree, &three)
+    let (first, one) = made_on_tree(alloc, hasher, state, &tree, &list)?;
+    let (second, two) = made_on_batch(alloc, hasher, state, &tree, &first, &one)?;
+    apply(alloc, hasher, state, &mut tree, &first, &one)?;
+    let (third, three) = made_on_batch(alloc, hasher, state, &tree, &second, &two)?;
+    apply(alloc, hasher, state, &mut tree, &second, &two)?;
+    apply(alloc, hasher, state, &mut tree, &third, &three)
 }
 
 #[test]
