@@ -19,7 +19,8 @@ cat > "$copy/crates/qm_bench/src/main.rt" <<'PROGRAM'
 //! Leaves that join a tree in batches, and as many bare hashes.
 #![tactic(auto)]
 
-ghost use Rattle.std.specs.Prelude.{◌≤◌};
+ghost use Rattle.std.specs.Prelude.{Contains};
+ghost use Rattle.qm_merkle.specs.Batches.{all_layers, stops};
 
 use qm_base::{Digest as _, Hasher as _, Location, MerkleError, Sha256, Sha256Digest};
 use qm_merkle::mem::Mem;
@@ -47,15 +48,20 @@ fn grow(
     hasher: &mut StandardHasher<Sha256>,
     tree: &mut Tree,
 ) -> Result<(), MerkleError> {
-    let mut draft = tree.new_batch(alloc);
-    for _ in 0..PER_BATCH {
-        let leaves = draft.leaves();
-        if 1 << 40 < leaves.get() {
-            return Err(MerkleError::LocationOverflow(leaves.get()));
-        }
-        let digest = hasher.leaf_digest(Family::location_to_position(leaves), &LEAF);
-        draft.add_leaf_digest(digest)?;
+    let before = tree.leaves().get();
+    if 1 << 40 < before {
+        return Err(MerkleError::LocationOverflow(before));
     }
+    let mut digests = Vec::new(alloc);
+    for i in 0..PER_BATCH {
+        let place = Family::location_to_position(Location::new(before + i));
+        digests.push(hasher.leaf_digest(place, &LEAF)).map_err(|_| MerkleError::Memory)?;
+    }
+    let mut draft = tree.new_batch(alloc);
+    if 1 << 40 < digests.len() {
+        return Err(MerkleError::LocationOverflow(before));
+    }
+    draft.add_leaf_digests(&digests)?;
     let batch = draft.merkleize(alloc, tree, hasher)?;
     tree.apply_batch(&batch)?;
     Ok(())
