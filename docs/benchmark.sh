@@ -105,6 +105,25 @@ fn main(rt: HostRuntime) -> Result<(), Fail> {
     Ok(())
 }
 PROGRAM
+mkdir -p "$copy/crates/qm_bench/proofs/grow"
+cat > "$copy/crates/qm_bench/proofs/grow/Answers.antt" <<'ANSWERS'
+use Rattle.std.proofs.Common.{◌≡◌, ◌∙◌, refl, sym, ap, ap₂, arith, subst, ℕ, List, [], ◌∷◌, Contains}
+use Rattle.qm_merkle.specs.Batches.{stops}
+use Rattle.qm_bench.proofs.grow.Goals as goal
+
+-- a batch on a tree leads there from the tree's leaves
+Contains-base : (m n : ℕ) → Contains (m ∷ n ∷ []) n
+Contains-base m n = (1, omega arith, refl)
+
+pub apply_batch-requires : goal.apply_batch-requires
+apply_batch-requires c = record {
+    reach = subst (λ (ns : List ℕ). Contains (c.in_ok-batch.batch.newest.tree.leaves ∷ ns) c.args.tree.now.leaves)
+        (sym (ap₂ stops
+          (c.in_ok-batch.ensures.base ∙ ap (λ d. d.base) c.in_ok-add_leaf_digests.ensures.ok ∙ ap (λ d. d.base) c.new_batch-draft.ensures)
+          (c.in_ok-batch.ensures.older ∙ ap (λ d. d.layers) c.in_ok-add_leaf_digests.ensures.ok ∙ ap (λ d. d.layers) c.new_batch-draft.ensures)))
+        (Contains-base c.in_ok-batch.batch.newest.tree.leaves c.args.tree.now.leaves)
+  }
+ANSWERS
 cd "$copy/crates/qm_bench"
 sed -i "s/BATCHES: u64 = 1000/BATCHES: u64 = $batches/" src/main.rt
 if [ "$1" = try ]; then
