@@ -33,3 +33,6 @@ returns-clause-stands g c list count read right =
     c.of_parts-tree.result (ap (λ t. t.start) tree ∙ is) (ap (λ t. t.leaves) tree ∙ is) few c.requires.start pins in
     subst (λ added. Stands shape bytes hash c.add_all.new.self (replaced_from bytes c.args.self.now.replaced 0 list ++ map bytes added)) (c.deref-2.ensures.value ∙ ap (λ b. b.added) c.self.view_is)
     (c.in_ok-add_all.ensures.stands (replaced_from bytes c.args.self.now.replaced 0 list) fresh)
+
+pub returns-clause-made : goal.returns-clause-made
+returns-clause-made g c = ?
