@@ -1,6 +1,7 @@
-use Rattle.std.proofs.Common.{◌≡◌, ◌↔◌, ◌⊎◌, ◌<◌, ◌∷◌, length, ap, sym, subst, arith, map, IsSome}
+use Rattle.std.proofs.Common.{◌≡◌, ◌↔◌, ◌⊎◌, ◌<◌, ◌+◌, ◌-◌, ◌∷◌, length, ap, sym, subst, arith, map, IsSome}
 use Rattle.qm_model.specs.Trees.{Shape}
 use Rattle.qm_merkle.specs.Batches.{Layer, AreLinked, IsOver, Leads, IsHistory, layer_at, drafted}
+use Rattle.qm_merkle.proofs.Counting.{more-more}
 use Rattle.qm_merkle.proofs.Histories.{there, reached, tip_count, seen}
 use Rattle.qm_merkle.proofs.Drafting.{own_nodes, drafted_leads}
 use Rattle.qm_merkle.proofs.batch.UnmerkleizedBatch.merkleize.Goals as goal
@@ -44,3 +45,12 @@ returns-clause-history g c list base lists history found stands =
     let right = c.in_ok-replaced.ensures.digests base count read in
     let leads = drafted_leads shape births family layer draft.replaced draft.base c.in_ok-tree.ensures.start c.in_ok-replaced.ensures.own bytes hash base (map bytes draft.added) count (c.in_ok-tree.ensures.stands base count read right) right in
     (subst (λ l. Leads shape bytes hash l base (drafted bytes draft base)) (sym is) leads, subst (λ b. IsHistory shape bytes hash b.layers (base ∷ lists)) (sym c.self.view_is) history)
+
+pub returns-clause-made : goal.returns-clause-made
+returns-clause-made g c =
+    let layer : Layer g.row.D.Denot = record { tree = c.in_ok-tree.tree; replaced = c.in_ok-replaced.replaced.entries } in
+    let is : c.in_ok-newest.newest.value ≡ layer = c.in_ok-newest.ensures.ok in
+    let draft = c.args.self in
+    let newest = c.in_ok-newest.newest.value in
+    more-more c.args.hasher.now c.replaced_nodes.new.hasher c.tree.new.hasher (length layer.replaced - length draft.replaced) (length layer.tree.nodes - length draft.added) ((length newest.tree.nodes - length draft.added) + (length newest.replaced - length draft.replaced))
+    c.in_ok-replaced.ensures.made c.in_ok-tree.ensures.made (omega (arith, ap (λ (l : Layer g.row.D.Denot). length l.tree.nodes) is, ap (λ (l : Layer g.row.D.Denot). length l.replaced) is))

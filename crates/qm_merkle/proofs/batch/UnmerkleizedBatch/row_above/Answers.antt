@@ -59,10 +59,10 @@ loop-index-preserved g c = elim c.if-not-contains_key.branch [
       let nodes : c.if-not-contains_key.nodes.entries ≡ c.loop-index.nodes.entries = ap (λ m. m.entries) w.nodes-is in record {
         raised = raised-skip c.loop-index.invariant.raised nodes (ap (λ xs. xs.items) w.above-is) c.new-node.ensures
             (elim w.else-not-contains_key.branch [
-          | else-not-contains_key-via-then-not-contains_key+else-is_below v ↦ λ born. absurd (not_some (v.if-is_below.ensures.1 born))
-          | else-not-contains_key-via-else-not-contains_key v ↦ λ born.
-              raised-there c.loop-index.invariant.raised c.new-node.ensures born (v.if-not-contains_key.ensures ∙ ap (λ n. is_some (found_at c.loop-index.nodes.entries n)) (c.get-number.ensures ∙ c.place.ensures))
-        ]);
+              | else-not-contains_key-via-then-not-contains_key+else-is_below v ↦ λ born. absurd (not_some (v.if-is_below.ensures.1 born))
+              | else-not-contains_key-via-else-not-contains_key v ↦ λ born.
+                  raised-there c.loop-index.invariant.raised c.new-node.ensures born (v.if-not-contains_key.ensures ∙ ap (λ n. is_some (found_at c.loop-index.nodes.entries n)) (c.get-number.ensures ∙ c.place.ensures))
+            ]);
         right = λ list long read right. subst (λ es. AreRight g.F.Family.shape g.D.Digest.bytes g.H.Hasher.hash es (replaced_from g.D.Digest.bytes c.args.self.now.replaced 0 list)) (sym nodes) (c.loop-index.invariant.right list long read right);
         count = omega (arith, ap length nodes, c.loop-index.invariant.count);
         made = w.hasher-is ∙ c.loop-index.invariant.made ∙ ap (λ es. more c.args.hasher.now (length es - length c.args.nodes.now.entries)) (sym nodes);

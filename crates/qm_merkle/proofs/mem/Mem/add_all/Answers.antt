@@ -1,4 +1,4 @@
-use Rattle.std.proofs.Common.{rules, ◌≡◌, ◌∙◌, ◌++◌, ◌∷◌, [], map, take, ap, sym, subst, append_assoc, arith}
+use Rattle.std.proofs.Common.{◌∙◌, ◌++◌, map, take, subst, arith}
 use Rattle.qm_merkle.specs.Mems.{Stands}
 use Rattle.qm_merkle.proofs.Counting.{made-next, next-leaves}
 use Rattle.qm_merkle.proofs.mem.Mem.add_all.Goals as goal
