@@ -1,4 +1,4 @@
--- Counts of digests, which stand still at their last value.
+-- How many digests are made as leaves are added.
 use Rattle.std.proofs.Common.{◌≡◌, ℕ, zero, suc, ◌+◌, ◌-◌, ◌<◌, ◌≤◌, ◌∙◌, List, [], ◌∷◌, ◌++◌, length, map, take, get_or, ap, sym, append_assoc, arith}
 use Rattle.std.proofs.lemmas.List.{take_more, map-append}
 use Rattle.qm_model.specs.Operations.{Bytes}
@@ -13,14 +13,6 @@ next-leaves f list xs i d lt is =
     append_assoc list (map f (take i xs)) (f d ∷ [])
     ∙ ap (λ e. list ++ (map f (take i xs) ++ f e ∷ [])) is
     ∙ ap (λ ys. list ++ ys) (sym (map-append f (take i xs) (get_or xs i d ∷ [])) ∙ ap (map f) (sym (take_more xs i d lt)))
-
--- a count that rose by the same
-pub more-same : (a b m k : ℕ) → b ≡ more a m → m ≡ k → b ≡ more a k
-more-same a b m k first same = first ∙ ap (more a) same
-
--- a count that rose twice
-pub more-more : (a b c m n k : ℕ) → b ≡ more a m → c ≡ more b n → m + n ≡ k → c ≡ more a k
-more-more a b c m n k first second sum = omega arith
 
 module _ (shape : Shape) (births : Births) (family : IsFamily shape births) where
   -- each leaf is a node
@@ -37,4 +29,4 @@ module _ (shape : Shape) (births : Births) (family : IsFamily shape births) wher
       let next : at + 1 ≡ n + (i + 1) = omega arith in
       let lt : n + i < n + (i + 1) = omega arith in
       let rise : shape.size (n + i) < shape.size (n + (i + 1)) = sizes-lt shape births family (n + i) (n + (i + 1)) lt in
-      more-more a b c (shape.size (n + i) - shape.size n - i) (shape.size (at + 1) - shape.size at - 1) (shape.size (n + (i + 1)) - shape.size n - (i + 1)) first second (omega (arith, leaves_fit n i, rise, ap shape.size next, ap shape.size is))
+      omega (arith, first, second, leaves_fit n i, rise, ap shape.size next, ap shape.size is)

@@ -1,7 +1,6 @@
-use Rattle.std.proofs.Common.{◌≡◌, ◌↔◌, ◌⊎◌, ◌<◌, ◌+◌, ◌-◌, ◌∷◌, length, ap, sym, subst, arith, map, IsSome}
+use Rattle.std.proofs.Common.{◌≡◌, ◌↔◌, ◌⊎◌, ◌<◌, ◌∷◌, length, ap, sym, subst, arith, map, IsSome}
 use Rattle.qm_model.specs.Trees.{Shape}
 use Rattle.qm_merkle.specs.Batches.{Layer, AreLinked, IsOver, Leads, IsHistory, layer_at, drafted}
-use Rattle.qm_merkle.proofs.Counting.{more-more}
 use Rattle.qm_merkle.proofs.Histories.{there, reached, tip_count, seen}
 use Rattle.qm_merkle.proofs.Drafting.{own_nodes, drafted_leads}
 use Rattle.qm_merkle.proofs.batch.UnmerkleizedBatch.merkleize.Goals as goal
@@ -48,9 +47,5 @@ returns-clause-history g c list base lists history found stands =
 
 pub returns-clause-made : goal.returns-clause-made
 returns-clause-made g c =
-    let layer : Layer g.row.D.Denot = record { tree = c.in_ok-tree.tree; replaced = c.in_ok-replaced.replaced.entries } in
-    let is : c.in_ok-newest.newest.value ≡ layer = c.in_ok-newest.ensures.ok in
-    let draft = c.args.self in
-    let newest = c.in_ok-newest.newest.value in
-    more-more c.args.hasher.now c.replaced_nodes.new.hasher c.tree.new.hasher (length layer.replaced - length draft.replaced) (length layer.tree.nodes - length draft.added) ((length newest.tree.nodes - length draft.added) + (length newest.replaced - length draft.replaced))
-    c.in_ok-replaced.ensures.made c.in_ok-tree.ensures.made (omega (arith, ap (λ (l : Layer g.row.D.Denot). length l.tree.nodes) is, ap (λ (l : Layer g.row.D.Denot). length l.replaced) is))
+    let is = c.in_ok-newest.ensures.ok in
+    omega (arith, c.in_ok-replaced.ensures.made, c.in_ok-tree.ensures.made, ap (λ (l : Layer g.row.D.Denot). length l.tree.nodes) is, ap (λ (l : Layer g.row.D.Denot). length l.replaced) is)

@@ -1,6 +1,5 @@
-use Rattle.std.proofs.Common.{◌≡◌, ◌+◌, ◌-◌, sym, subst, arith, length}
+use Rattle.std.proofs.Common.{◌≡◌, ◌+◌, ◌-◌, sym, subst, arith}
 use Rattle.qm_merkle.specs.Batches.{AreOver, IsRow}
-use Rattle.qm_merkle.proofs.Counting.{more-more}
 use Rattle.qm_merkle.proofs.Growth.{height_within}
 use Rattle.qm_merkle.proofs.batch.UnmerkleizedBatch.replaced_nodes.Goals as goal
 
@@ -28,8 +27,7 @@ loop-height-preserved g c =
       row = subst (λ h. IsRow g.F.Family.shape c.args.self.now.base h c.row_above.new.nodes.entries c.in_ok-row-2.row.items) next c.in_ok-row-2.ensures.row;
       right = λ list long read. c.in_ok-row-2.ensures.digests list long read (c.loop-height.invariant.right list long read);
       count = omega (arith, c.in_ok-row-2.ensures.count, c.loop-height.invariant.count);
-      made = more-more c.args.hasher.now c.loop-height.hasher c.row_above.new.hasher (length c.loop-height.nodes.entries - length c.args.self.now.replaced) (length c.row_above.new.nodes.entries - length c.loop-height.nodes.entries) (length c.row_above.new.nodes.entries - length c.args.self.now.replaced)
-          c.loop-height.invariant.made c.in_ok-row-2.ensures.made (omega (arith, c.in_ok-row-2.ensures.count, c.loop-height.invariant.count));
+      made = omega (arith, c.loop-height.invariant.made, c.in_ok-row-2.ensures.made, c.in_ok-row-2.ensures.count, c.loop-height.invariant.count);
     }
 
 pub returns-clause-own : goal.returns-clause-own

@@ -3,7 +3,6 @@ use Rattle.qm_model.specs.Trees.{Node, end_of}
 use Rattle.qm_merkle.specs.Batches.{found_at, replaced_from, IsOver, AreRight}
 use Rattle.std.specs.Prelude.{is_some}
 use Rattle.qm_merkle.specs.Mems.{more}
-use Rattle.qm_merkle.proofs.Counting.{more-more}
 use Rattle.qm_merkle.proofs.Rows.{raised-start, raised-skip, raised-put, raised-row, raised-below, raised-over, row_over, row_within, right-put, raised-there, not_some, is_none}
 use Rattle.qm_merkle.proofs.batch.UnmerkleizedBatch.row_above.Goals.{then-not-contains_key+then-is_below+in_ok-replace+in_ok-push, else-not-contains_key, else-not-contains_key-via-then-not-contains_key+else-is_below, else-not-contains_key-via-else-not-contains_key}
 use Rattle.qm_merkle.proofs.batch.UnmerkleizedBatch.row_above.Goals as goal
@@ -52,8 +51,7 @@ loop-index-preserved g c = elim c.if-not-contains_key.branch [
             right-put g.met.F.Family.numbered g.D.Digest.bytes g.H.Hasher.hash (replaced_from g.D.Digest.bytes c.args.self.now.replaced 0 list)
             c.loop-index.nodes.entries c.if-not-contains_key.nodes.entries before at here others (w.parent-digest.ensures.digest list long read before);
         count = omega (arith, one, c.loop-index.invariant.count);
-        made = more-more c.args.hasher.now c.loop-index.hasher c.if-not-contains_key.hasher (length c.loop-index.nodes.entries - length c.args.nodes.now.entries) 1 (length c.if-not-contains_key.nodes.entries - length c.args.nodes.now.entries)
-            c.loop-index.invariant.made (w.hasher-is ∙ w.parent-digest.ensures.made) (omega (arith, one, c.loop-index.invariant.count));
+        made = omega (arith, c.loop-index.invariant.made, w.hasher-is ∙ w.parent-digest.ensures.made, one, c.loop-index.invariant.count);
       }
   | else-not-contains_key w ↦
       let nodes : c.if-not-contains_key.nodes.entries ≡ c.loop-index.nodes.entries = ap (λ m. m.entries) w.nodes-is in record {

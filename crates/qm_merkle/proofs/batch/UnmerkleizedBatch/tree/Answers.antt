@@ -1,8 +1,7 @@
-use Rattle.std.proofs.Common.{◌≡◌, ◌∙◌, ◌^◌, ◌≤◌, ◌++◌, ◌-◌, Some, IsSome, All, ap, sym, subst, arith, map, length}
+use Rattle.std.proofs.Common.{◌≡◌, ◌∙◌, ◌^◌, ◌≤◌, ◌++◌, Some, IsSome, All, ap, sym, subst, arith, map, length}
 use Rattle.qm_model.specs.Trees.{peak_positions}
 use Rattle.qm_merkle.specs.Mems.{IsWhole, Stands}
 use Rattle.qm_merkle.specs.Batches.{made_at, replaced_from}
-use Rattle.qm_merkle.proofs.Counting.{more-same}
 use Rattle.qm_merkle.proofs.Drafting.{peaks_there, stands-fresh}
 use Rattle.qm_merkle.proofs.batch.UnmerkleizedBatch.tree.Goals as goal
 
@@ -44,5 +43,4 @@ returns-clause-made g c =
     let bounds = c.in_ok-add_all.ensures.bounds in
     let start : new.start ≡ c.of_parts-tree.result.leaves = bounds.0 ∙ ap (λ t. t.start) tree ∙ sym (ap (λ t. t.leaves) tree) in
     let added = c.deref-2.ensures.value ∙ ap (λ b. b.added) c.self.view_is in
-    more-same c.args.hasher.now c.add_all.new.hasher (shape.size new.leaves - shape.size c.of_parts-tree.result.leaves - length c.deref-2.result.now) (length new.nodes - length c.args.self.now.added)
-    c.in_ok-add_all.ensures.made (omega (arith, whole.full, ap shape.size start, ap length added))
+    omega (arith, c.in_ok-add_all.ensures.made, whole.full, ap shape.size start, ap length added)
