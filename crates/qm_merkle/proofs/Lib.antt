@@ -1,3 +1,4 @@
+pub mod Counting
 pub mod Rooting
 pub mod MmrCalls
 pub mod Numbering

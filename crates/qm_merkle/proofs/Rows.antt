@@ -10,7 +10,11 @@ use Rattle.std.proofs.lemmas.Nat.{pow_pos, pow-add, mul-le}
 use Rattle.std.proofs.lemmas.List.{get_or_default}
 use Rattle.std.proofs.lemmas.Bool.{cases_lt}
 use Rattle.std.proofs.lemmas.Bool.Decides.{eqb_tells}
-use Rattle.std.proofs.lemmas.List.Elements.{Contains-append_left, Contains-append_right, Contains-append_cases}
+use Rattle.std.specs.List.{AllByRecursion}
+use Rattle.std.specs.List.Sorted.{IsStrictlySortedBy}
+use Rattle.std.specs.Map.{keys_of}
+use Rattle.std.proofs.lemmas.Map.Keys.{sorted_head, sorted_tail}
+use Rattle.std.proofs.lemmas.List.Elements.{All-nil, All-cons, Contains-append_left, Contains-append_right, Contains-append_cases}
 use Rattle.std.proofs.lemmas.Map.Entries.{lookup_tail}
 use Rattle.qm_model.specs.Operations.{Bytes}
 use Rattle.qm_model.specs.Trees.{Shape, Node, digest, node_digest, digest_of, end_of, leaf}
@@ -40,9 +44,9 @@ only a b found = go found.0 found.1 found.2
     go zero lt is = sym is
     go (suc k) lt is = absurd (omega arith)
 
--- a list with an element, by the other names
-pub listed : (xs ys : List ℕ) (a b : ℕ) → xs ≡ ys → a ≡ b → Contains xs a → Contains ys b
-listed xs ys a b lists e found = subst (Contains ys) e (subst (λ zs. Contains zs a) lists found)
+pub is_none : {D : Type 0} (o : Option D) → false ≡ is_some o → o ≡ None
+is_none None none = refl
+is_none (Some d) none = absurd (not_some none)
 
 module _ {D : Type 0} where
   -- the first entry, and the others
@@ -51,6 +55,16 @@ module _ {D : Type 0} where
       (λ (is : nat_cmp n e.0 ≡ Less) (lt : n < e.0). inr (ap is_eq is, λ (same : n ≡ e.0). absurd (omega arith)))
       (λ (is : nat_cmp n e.0 ≡ Equal) (same : n ≡ e.0). inl (ap is_eq is, same))
       (λ (is : nat_cmp n e.0 ≡ Greater) (gt : e.0 < n). inr (ap is_eq is, λ (same : n ≡ e.0). absurd (omega arith)))
+
+  -- a key is none of those above it
+  rising : (k : ℕ) (es : List (ℕ × D)) → AllByRecursion (λ n. nat_cmp k n ≡ Less) (keys_of es) → All (λ e. k ≢ e.0) es
+  rising k [] less = All-nil (λ (e : ℕ × D). k ≢ e.0)
+  rising k (e ∷ es) less = All-cons (λ (e : ℕ × D). k ≢ e.0) e es
+      (⊎_elim
+      (λ (equal : (is_eq (nat_cmp k e.0) ≡ true) × (k ≡ e.0)). absurd (not_some (sym (ap is_eq less.0) ∙ equal.0)))
+      (λ (other : (is_eq (nat_cmp k e.0) ≡ false) × (k ≢ e.0)). other.1)
+      (at_key k e))
+      (rising k es less.1)
 
   -- what holds of each number among the entries holds of one that is found
   pub found-all : (P : ℕ → Type 0) (entries : List (ℕ × D)) (n : ℕ) → All (λ e. P e.0) entries → IsSome (found_at entries n) → P n
@@ -142,10 +156,13 @@ pub record Taken (shape : Shape) {D : Type 0} (replaced left nodes : List (ℕ �
   pub all : (i : ℕ) → IsSome (found_at replaced i) → IsSome (found_at left i) ⊎ IsSome (found_at nodes (shape.position (leaf i)))
   pub low : (x : Node) → 0 < x.height → found_at nodes (shape.position x) ≡ None
   pub among : (i : ℕ) → Contains row i ↔ IsSome (found_at nodes (shape.position (leaf i)))
+  pub fresh : All (λ e. found_at nodes (shape.position (leaf e.0)) ≡ None) left
+  pub ordered : IsStrictlySortedBy nat_cmp (keys_of left)
+  pub count : length nodes + length left ≡ length replaced
 
 module _ {shape : Shape} {D : Type 0} {replaced : List (ℕ × D)} where
-  pub taken-start : {left nodes : List (ℕ × D)} {row : List ℕ} → left ≡ replaced → All (λ e. found_at replaced e.0 ≡ Some e.1) replaced → nodes ≡ [] → row ≡ [] → Taken shape replaced left nodes row
-  taken-start is rest fresh none = record {
+  pub taken-start : {left nodes : List (ℕ × D)} {row : List ℕ} → left ≡ replaced → All (λ e. found_at replaced e.0 ≡ Some e.1) replaced → IsStrictlySortedBy nat_cmp (keys_of replaced) → nodes ≡ [] → row ≡ [] → Taken shape replaced left nodes row
+  taken-start {left = left} is rest ordered fresh none = record {
     rest = subst (All (λ e. found_at replaced e.0 ≡ Some e.1)) (sym is) rest;
     same = λ i some. absurd (not_some (sym (ap (λ es. is_some (found_at es (shape.position (leaf i)))) fresh) ∙ some));
     all = λ i some. inl (subst (λ es. IsSome (found_at es i)) (sym is) some);
@@ -154,12 +171,19 @@ module _ {shape : Shape} {D : Type 0} {replaced : List (ℕ × D)} where
       λ found. absurd (omega (arith, found.1, ap length none)),
       λ some. absurd (not_some (sym (ap (λ es. is_some (found_at es (shape.position (leaf i)))) fresh) ∙ some)),
     );
+    fresh = λ j e lt. ap (λ es. found_at es (shape.position (leaf (get_or left j e).0))) fresh;
+    ordered = subst (λ es. IsStrictlySortedBy nat_cmp (keys_of es)) (sym is) ordered;
+    count = omega (arith, ap length fresh, ap length is);
   }
 
   module _ {births : Births} (family : IsFamily shape births) where
+    -- the next leaf is not put yet
+    pub taken-absent : {left rest nodes : List (ℕ × D)} {row : List ℕ} {k p : ℕ} {d : D} → Taken shape replaced left nodes row → left ≡ (k, d) ∷ rest → p ≡ shape.position (leaf k) → found_at nodes p ≡ None
+    taken-absent {nodes = nodes} {k = k} {d = d} taken is at = ap (found_at nodes) at ∙ subst (All (λ e. found_at nodes (shape.position (leaf e.0)) ≡ None)) is taken.fresh 0 (k, d) (omega arith)
+
     pub taken-more : {left rest nodes more : List (ℕ × D)} {row next : List ℕ} {k p : ℕ} {d : D} → Taken shape replaced left nodes row → left ≡ (k, d) ∷ rest → p ≡ shape.position (leaf k) →
-        found_at more p ≡ Some d → ((n : ℕ) → n ≢ p → found_at more n ≡ found_at nodes n) → next ≡ row ++ k ∷ [] → Taken shape replaced rest more next
-    taken-more {left} {rest} {nodes} {more} {row} {next} {k} {p} {d} taken is at here others longer =
+        found_at more p ≡ Some d → ((n : ℕ) → n ≢ p → found_at more n ≡ found_at nodes n) → next ≡ row ++ k ∷ [] → length more ≡ length nodes + 1 → Taken shape replaced rest more next
+    taken-more {left} {rest} {nodes} {more} {row} {next} {k} {p} {d} taken is at here others longer one =
         let all : All (λ e. found_at replaced e.0 ≡ Some e.1) ((k, d) ∷ rest) = subst (All (λ e. found_at replaced e.0 ≡ Some e.1)) is taken.rest in
         let first : found_at replaced k ≡ Some d = all 0 (k, d) (omega arith) in
         let put : found_at more (shape.position (leaf k)) ≡ Some d = ap (found_at more) (sym at) ∙ here in
@@ -190,8 +214,17 @@ module _ {shape : Shape} {D : Type 0} {replaced : List (ℕ × D)} where
                 (λ (apart : i ≢ k). Contains-append_left row (k ∷ []) i ((taken.among i).1 (sym (ap is_some (keeps i apart)) ∙ some)))
                 (equal_or i k)),
           );
+          fresh = λ j e lt. keeps (get_or rest j e).0 (λ same. differs j e lt (sym same)) ∙ subst (All (λ e. found_at nodes (shape.position (leaf e.0)) ≡ None)) is taken.fresh (suc j) e (omega arith);
+          ordered = sorted_tail nat_cmp k (keys_of rest) ordered;
+          count = omega (arith, one, ap length is, taken.count);
         }
       where
+        ordered : IsStrictlySortedBy nat_cmp (k ∷ keys_of rest)
+        ordered = subst (λ es. IsStrictlySortedBy nat_cmp (keys_of es)) is taken.ordered
+
+        differs : All (λ e. k ≢ e.0) rest
+        differs = rising k rest (sorted_head nat_cmp k (keys_of rest) ordered)
+
         keeps : (i : ℕ) → i ≢ k → found_at more (shape.position (leaf i)) ≡ found_at nodes (shape.position (leaf i))
         keeps i apart = others (shape.position (leaf i)) (λ e. apart (ap (λ (y : Node). y.index) (same_place shape births family (leaf i) (leaf k) (e ∙ at))))
 
@@ -297,6 +330,11 @@ module _ {shape : Shape} {D : Type 0} {replaced : List (ℕ × D)} {base height 
         subst (λ es. Raised shape replaced base height old row (i + 1) es next) (sym same)
         (subst (λ xs. Raised shape replaced base height old row (i + 1) nodes xs) (sym kept)
         (skipped (subst (λ (y : Node). shape.birth y ≤ base → Contains above y.index) is there)))
+
+    -- a node of this height that is there is in the row
+    pub raised-there : {x : Node} → x ≡ node_of height (get_or row i 0 / 2) → shape.birth x ≤ base → true ≡ is_some (found_at nodes (shape.position x)) → Contains above x.index
+    raised-there {x} is = subst (λ (y : Node). shape.birth y ≤ base → true ≡ is_some (found_at nodes (shape.position y)) → Contains above y.index) (sym is)
+        (λ born some. (raised.here (get_or row i 0 / 2) born).0 (sym some))
 
     pub raised-row : IsRow shape base height nodes above
     raised-row a = (λ found. let r = raised.came a found in (r.0, (raised.here a r.0).1 found), λ r. (raised.here a r.0).0 r.1)

@@ -1,5 +1,5 @@
 -- What a tree in memory holds, and the leaves that it stands for.
-use Rattle.std.specs.Prelude.{◌≡◌, ◌⊎◌, ◌≤◌, ◌<◌, ℕ, suc, ◌+◌, ◌-◌, ◌*◌, ◌^◌, ◌==◌, List, [], ◌∷◌, ◌++◌, length, map, Option, Some, None, option_map, slice_get, Contains, nat_le, if◌then◌else◌}
+use Rattle.std.specs.Prelude.{◌≡◌, ◌⊎◌, ◌≤◌, ◌<◌, ℕ, suc, ◌+◌, ◌-◌, ◌*◌, ◌^◌, ◌==◌, List, [], ◌∷◌, ◌++◌, length, map, Option, Some, None, option_map, slice_get, Contains, min, nat_le, if◌then◌else◌}
 use Rattle.qm_model.specs.Operations.{Bytes}
 use Rattle.qm_model.specs.Trees.{Shape, Node, peaks, peak_positions, digest_of}
 use Rattle.qm_model.specs.Families.{Births}
@@ -56,3 +56,7 @@ left_of node = record { height = node.height - 1; index = 2 * node.index }
 
 abbrev pub right_of : Node → Node
 right_of node = record { height = node.height - 1; index = 2 * node.index + 1 }
+
+-- a count that rose by n, or as far as its last value
+abbrev pub more : ℕ → ℕ → ℕ
+more count n = count + min n (2 ^ 64 - 1 - count)

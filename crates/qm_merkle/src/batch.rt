@@ -1,11 +1,11 @@
 //! Batches of leaves over a tree in memory, which stand on one another.
 
-ghost use Rattle.std.specs.Prelude.{◌≡◌, ◌≢◌, ◌⊎◌, ◌↔◌, Some, ℕ, List, [], ◌∷◌, ◌++◌, All, Contains, IsSome, IfOk, IfErr, OnOk, OnErr, Ok, Err, ◌<◌, ◌≤◌, ◌^◌, ◌+◌, ◌-◌, ◌*◌, ◌/◌, IsTrue, length, map, get_or, slice_set};
+ghost use Rattle.std.specs.Prelude.{◌≡◌, ◌≢◌, ◌⊎◌, ◌↔◌, Some, ℕ, List, [], ◌∷◌, ◌++◌, All, Contains, IsSome, IfOk, IfErr, OnOk, OnErr, Ok, Err, ◌<◌, ◌≤◌, ◌^◌, ◌+◌, ◌-◌, ◌*◌, ◌/◌, IsTrue, length, map, max, get_or, slice_set};
 ghost use Rattle.std.specs.Option.{option_or};
 ghost use Rattle.std.specs.Ordering.{nat_cmp};
 ghost use Rattle.std.specs.BTreeMap.{insert_entry};
 ghost use Rattle.qm_model.specs.Trees as trees;
-ghost use Rattle.qm_merkle.specs.Mems.{Kept, IsWhole, Stands, node_at};
+ghost use Rattle.qm_merkle.specs.Mems.{Kept, IsWhole, Stands, node_at, more};
 ghost use Rattle.qm_merkle.specs.Batches.{Layer as Part, Draft, Batch, found_at, layer_at, layers_at, all_layers, stops, Leads, IsHistory, leaves_of, replaced_from, drafted, updated, IsOver, made_at, AreThere, AreRead, AreRight, HaveOver};
 
 use crate::family::Family;
@@ -150,7 +150,7 @@ impl<F: Family, D: Digest> UnmerkleizedBatch<F, D> {
         Ok(())
     }
 
-    /// Hashes the nodes above the leaves that the batch adds or replaces.
+    /// Hashes the nodes above the leaves that the batch adds or replaces: each inner node that the batch has of its own once, and no other.
     pub fn merkleize<H: Hasher<Digest = D>>(
         self,
         alloc: Global,
@@ -166,6 +166,7 @@ impl<F: Family, D: Digest> UnmerkleizedBatch<F, D> {
         ensures own { IfOk result (λ b. (x : trees.Node) → trees.Shape.birth F.shape x ≤ leaves_of self → (IsSome (layer_at F.shape b.newest (trees.Shape.position F.shape x)) ↔ ((self.base < trees.Shape.birth F.shape x) ⊎ IsOver self.replaced x.height x.index))) }
         ensures history { (list base : List (List ℕ)) (lists : List (List (List ℕ))) → IsHistory F.shape D.bytes H.hash self.layers (base ∷ lists) → Contains (base ∷ lists) list → Stands F.shape D.bytes H.hash mem.now list
             → IfOk result (λ b. IsHistory F.shape D.bytes H.hash (all_layers b) (drafted D.bytes self base ∷ base ∷ lists)) }
+        ensures made { IfOk result (λ b. hasher.new ≡ more hasher.old ((length b.newest.tree.nodes - length self.added) + (length b.newest.replaced - length self.replaced))) }
     {
         let (start, _) = mem.bounds();
         prove!(start.get() <= self.base.get());
@@ -211,6 +212,7 @@ impl<F: Family, D: Digest> UnmerkleizedBatch<F, D> {
         ensures whole { IfOk result (IsWhole F.shape) }
         ensures stands { (list : List (List ℕ)) → length list ≡ self.now.base → AreRead F.shape D.bytes H.hash self.now.layers mem.now list → AreRight F.shape D.bytes H.hash nodes.now.entries (replaced_from D.bytes self.now.replaced 0 list)
             → IfOk result (λ m. Stands F.shape D.bytes H.hash m (drafted D.bytes self.now list)) }
+        ensures made { IfOk result (λ m. hasher.new ≡ more hasher.old (length m.nodes - length self.now.added)) }
     {
         let positions = F::nodes_to_pin(alloc, self.base)?;
         let pins = self.digests(alloc, mem, nodes, &positions)?;
@@ -283,7 +285,8 @@ impl<F: Family, D: Digest> MerkleizedBatch<F, D> {
         inactive: usize,
     ) -> Result<D, AllocError>
         requires { inactive ≤ length (trees.peaks F.shape self.now.newest.tree.leaves) }
-        ensures { (list : List (List ℕ)) (lists : List (List (List ℕ))) → IsHistory F.shape D.bytes H.hash (all_layers self.now) (list ∷ lists) → IfOk result (λ d. D.bytes d ≡ trees.root H.hash F.shape list inactive) }
+        ensures root { (list : List (List ℕ)) (lists : List (List (List ℕ))) → IsHistory F.shape D.bytes H.hash (all_layers self.now) (list ∷ lists) → IfOk result (λ d. D.bytes d ≡ trees.root H.hash F.shape list inactive) }
+        ensures made { OnOk result (hasher.new ≡ more hasher.old (max 1 (length (trees.peaks F.shape self.now.newest.tree.leaves)))) }
     {
         self.newest.tree.root(alloc, hasher, inactive)
     }

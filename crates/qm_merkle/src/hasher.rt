@@ -1,33 +1,54 @@
 //! The digests of leaves and nodes, and the root of a row of peaks.
 
-ghost use Rattle.std.specs.Prelude.{◌≡◌, ◌<◌, ◌≤◌, ◌++◌, length, map};
+ghost use Rattle.std.specs.Prelude.{◌≡◌, ℕ, List, ◌<◌, ◌≤◌, ◌-◌, ◌++◌, length, map, max};
 ghost use Rattle.qm_model.specs.Operations as operations;
 ghost use Rattle.qm_model.specs.Trees as trees;
+ghost use Rattle.qm_merkle.specs.Mems.{more};
 
 use crate::position::Position;
 use qm_base::operation::eight_bytes;
 use qm_base::{Digest, Hasher, Location};
+use std::marker::Model;
 
-/// A hasher of trees over a hasher of messages. It takes no memory.
+/// A hasher of trees over a hasher of messages, which counts the digests that it makes. It takes no memory.
 #[derive(Drop)]
 pub struct StandardHasher<H> {
     hasher: H,
+    made: u64,
+}
+
+impl<H> Model for StandardHasher<H> {
+    ghost use Rattle.std.specs.Prelude.{ℕ};
+
+    ghost Value = { ℕ };
+
+    ghost view = { λ h. h.made };
 }
 
 impl<H: Hasher> StandardHasher<H> {
     /// The hasher of trees over this one.
-    pub fn new(hasher: H) -> Self {
-        StandardHasher { hasher }
+    pub fn new(hasher: H) -> Self
+        ensures { result ≡ 0 }
+    {
+        StandardHasher { hasher, made: 0 }
+    }
+
+    /// How many digests it has made; it stands still at 2^64 - 1.
+    pub fn made(&self) -> u64
+        ensures { result ≡ self.now }
+    {
+        self.made
     }
 
     /// The digest of the leaf at this position with these bytes.
     pub fn leaf_digest<F>(&mut self, position: Position<F>, bytes: &[u8]) -> H::Digest
-        ensures { H.Digest.bytes result ≡ trees.leaf_digest H.hash position bytes.now }
+        ensures digest { H.Digest.bytes result ≡ trees.leaf_digest H.hash position bytes.now }
+        ensures made { self.new ≡ more self.old 1 }
     {
         self.hasher.start();
         self.hasher.update(&eight_bytes(position.get()));
         self.hasher.update(bytes);
-        self.hasher.finish()
+        finish(&mut self.hasher, &mut self.made)
     }
 
     /// The digest of the inner node at this position over its two halves.
@@ -37,14 +58,15 @@ impl<H: Hasher> StandardHasher<H> {
         left: &H::Digest,
         right: &H::Digest,
     ) -> H::Digest
-        ensures { H.Digest.bytes result ≡ trees.node_digest H.hash position (H.Digest.bytes left.now) (H.Digest.bytes right.now) }
+        ensures digest { H.Digest.bytes result ≡ trees.node_digest H.hash position (H.Digest.bytes left.now) (H.Digest.bytes right.now) }
+        ensures made { self.new ≡ more self.old 1 }
     {
         let place = position.get();
         self.hasher.start();
         self.hasher.update(&eight_bytes(place));
         self.hasher.update(left.bytes());
         self.hasher.update(right.bytes());
-        self.hasher.finish()
+        finish(&mut self.hasher, &mut self.made)
     }
 
     /// The root over so many leaves, of whose peaks the first ones are inactive.
@@ -55,7 +77,8 @@ impl<H: Hasher> StandardHasher<H> {
         peaks: &[H::Digest],
     ) -> H::Digest
         requires { inactive ≤ length peaks.now }
-        ensures { H.Digest.bytes result ≡ trees.root_of H.hash leaves inactive (map H.Digest.bytes peaks.now) }
+        ensures digest { H.Digest.bytes result ≡ trees.root_of H.hash leaves inactive (map H.Digest.bytes peaks.now) }
+        ensures made { self.new ≡ more self.old (max 1 (length peaks.now)) }
     {
         if peaks.is_empty() {
             return self.sealed(leaves, inactive, &[]);
@@ -75,17 +98,19 @@ impl<H: Hasher> StandardHasher<H> {
 
     // The digest of two digests in a row.
     fn pair_digest(&mut self, left: &H::Digest, right: &H::Digest) -> H::Digest
-        ensures { H.Digest.bytes result ≡ H.hash (H.Digest.bytes left.now ++ H.Digest.bytes right.now) }
+        ensures digest { H.Digest.bytes result ≡ H.hash (H.Digest.bytes left.now ++ H.Digest.bytes right.now) }
+        ensures made { self.new ≡ more self.old 1 }
     {
         self.hasher.start();
         self.hasher.update(left.bytes());
         self.hasher.update(right.bytes());
-        self.hasher.finish()
+        finish(&mut self.hasher, &mut self.made)
     }
 
     // Digests folded from the left, onto a first one.
     fn fold_left(&mut self, first: H::Digest, rest: &[H::Digest]) -> H::Digest
-        ensures { H.Digest.bytes result ≡ trees.fold_left H.hash (H.Digest.bytes first) (map H.Digest.bytes rest.now) }
+        ensures digest { H.Digest.bytes result ≡ trees.fold_left H.hash (H.Digest.bytes first) (map H.Digest.bytes rest.now) }
+        ensures made { self.new ≡ more self.old (length rest.now) }
     {
         let mut folded = first;
         for digest in rest {
@@ -97,7 +122,8 @@ impl<H: Hasher> StandardHasher<H> {
     // Digests folded from the right.
     fn fold_right(&mut self, digests: &[H::Digest]) -> H::Digest
         requires { 0 < length digests.now }
-        ensures { H.Digest.bytes result ≡ trees.fold_right H.hash (map H.Digest.bytes digests.now) }
+        ensures digest { H.Digest.bytes result ≡ trees.fold_right H.hash (map H.Digest.bytes digests.now) }
+        ensures made { self.new ≡ more self.old (length digests.now - 1) }
     {
         let mut at = digests.len() - 1;
         let mut folded = digests[at];
@@ -110,12 +136,22 @@ impl<H: Hasher> StandardHasher<H> {
 
     // The digest of the two numbers and the folded peaks.
     fn sealed<F>(&mut self, leaves: Location<F>, inactive: usize, folded: &[u8]) -> H::Digest
-        ensures { H.Digest.bytes result ≡ H.hash (operations.eight_bytes leaves ++ operations.eight_bytes inactive ++ folded.now) }
+        ensures digest { H.Digest.bytes result ≡ H.hash (operations.eight_bytes leaves ++ operations.eight_bytes inactive ++ folded.now) }
+        ensures made { self.new ≡ more self.old 1 }
     {
         self.hasher.start();
         self.hasher.update(&eight_bytes(leaves.get()));
         self.hasher.update(&eight_bytes(inactive as u64));
         self.hasher.update(folded);
-        self.hasher.finish()
+        finish(&mut self.hasher, &mut self.made)
     }
+}
+
+// The digest of the message that the hasher holds, counted.
+fn finish<H: Hasher>(hasher: &mut H, made: &mut u64) -> H::Digest
+    ensures digest { (m : List ℕ) → H.holds hasher.old m → H.Digest.bytes result ≡ H.hash m }
+    ensures made { made.new ≡ more made.old 1 }
+{
+    *made = made.saturating_add(1);
+    hasher.finish()
 }

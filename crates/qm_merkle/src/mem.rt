@@ -1,9 +1,9 @@
 //! Trees in memory.
 
-ghost use Rattle.std.specs.Prelude.{◌≡◌, ℕ, suc, List, [], ◌∷◌, ◌++◌, All, Contains, IsSome, ◌↔◌, Some, IfOk, IfErr, OnOk, OnErr, ◌⊎◌, slice_index, ◌<◌, ◌≤◌, ◌^◌, ◌+◌, ◌-◌, length, slice_get, map};
+ghost use Rattle.std.specs.Prelude.{◌≡◌, ℕ, suc, List, [], ◌∷◌, ◌++◌, All, Contains, IsSome, ◌↔◌, Some, IfOk, IfErr, OnOk, OnErr, ◌⊎◌, slice_index, ◌<◌, ◌≤◌, ◌^◌, ◌+◌, ◌-◌, length, slice_get, map, max};
 ghost use Rattle.std.specs.Vec.{vec_capacity};
 ghost use Rattle.qm_model.specs.Trees as trees;
-ghost use Rattle.qm_merkle.specs.Mems.{IsWhole, Stands, Holds, AreBorn, left_of, right_of, node_at, pin_at};
+ghost use Rattle.qm_merkle.specs.Mems.{IsWhole, Stands, Holds, AreBorn, left_of, right_of, node_at, pin_at, more};
 ghost use Rattle.qm_merkle.specs.Batches.{all_layers, stops, IsHistory};
 ghost use Rattle.qm_model.specs.Families.{Births, IsHeld, over};
 
@@ -160,7 +160,8 @@ impl<F: Family, D: Digest> Mem<F, D> {
         inactive: usize,
     ) -> Result<D, AllocError>
         requires { inactive ≤ length (trees.peaks F.shape self.now.leaves) }
-        ensures { (leaves : List (List ℕ)) → Stands F.shape D.bytes H.hash self.now leaves → IfOk result (λ d. D.bytes d ≡ trees.root H.hash F.shape leaves inactive) }
+        ensures root { (leaves : List (List ℕ)) → Stands F.shape D.bytes H.hash self.now leaves → IfOk result (λ d. D.bytes d ≡ trees.root H.hash F.shape leaves inactive) }
+        ensures made { OnOk result (hasher.new ≡ more hasher.old (max 1 (length (trees.peaks F.shape self.now.leaves)))) }
     {
         let positions = F::nodes_to_pin(alloc, self.leaves)?;
         let peaks = self.digests(alloc, &positions)?;
@@ -258,6 +259,7 @@ impl<F: Family, D: Digest> Mem<F, D> {
         requires { self.old.leaves < 2 ^ 62 }
         ensures bounds { OnOk result ((self.new.start ≡ self.old.start) × (self.new.leaves ≡ self.old.leaves + 1)) }
         ensures stands { (leaves : List (List ℕ)) → Stands F.shape D.bytes H.hash self.old leaves → OnOk result (Stands F.shape D.bytes H.hash self.new (leaves ++ D.bytes leaf ∷ [])) }
+        ensures made { OnOk result (hasher.new ≡ more hasher.old (trees.Shape.size F.shape (self.old.leaves + 1) - trees.Shape.size F.shape self.old.leaves - 1)) }
         ensures err { OnErr result (self.new ≡ self.old) }
     {
         let made = self.births(alloc, hasher, leaf)?;
@@ -276,6 +278,7 @@ impl<F: Family, D: Digest> Mem<F, D> {
         requires { self.old.leaves + length leaves.now ≤ 2 ^ 62 }
         ensures bounds { OnOk result ((self.new.start ≡ self.old.start) × (self.new.leaves ≡ self.old.leaves + length leaves.now)) }
         ensures stands { (list : List (List ℕ)) → Stands F.shape D.bytes H.hash self.old list → OnOk result (Stands F.shape D.bytes H.hash self.new (list ++ map D.bytes leaves.now)) }
+        ensures made { OnOk result (hasher.new ≡ more hasher.old (trees.Shape.size F.shape self.new.leaves - trees.Shape.size F.shape self.old.leaves - length leaves.now)) }
     {
         for leaf in leaves {
             self.add(alloc, hasher, *leaf)?;
@@ -293,6 +296,7 @@ impl<F: Family, D: Digest> Mem<F, D> {
         requires { self.now.leaves < 2 ^ 62 }
         ensures count { IfOk result (λ v. length v.items ≡ Births.count F.births self.now.leaves) }
         ensures born { (leaves : List (List ℕ)) → Stands F.shape D.bytes H.hash self.now leaves → IfOk result (λ v. AreBorn F.shape F.births D.bytes H.hash self.now.leaves (leaves ++ D.bytes leaf ∷ []) v.items) }
+        ensures made { IfOk result (λ v. hasher.new ≡ more hasher.old (length v.items - 1)) }
     {
         let count = F::birth_count(self.leaves);
         let mut made = Vec::with_capacity(alloc, count as usize)?;
@@ -314,8 +318,9 @@ impl<F: Family, D: Digest> Mem<F, D> {
         requires number { length made.now ≡ number }
         requires some { 0 < number }
         requires room { number < Births.count F.births self.now.leaves }
-        ensures { (leaves : List (List ℕ)) (leaf : D) → Stands F.shape D.bytes H.hash self.now leaves → AreBorn F.shape F.births D.bytes H.hash self.now.leaves (leaves ++ D.bytes leaf ∷ []) made.now
+        ensures digest { (leaves : List (List ℕ)) (leaf : D) → Stands F.shape D.bytes H.hash self.now leaves → AreBorn F.shape F.births D.bytes H.hash self.now.leaves (leaves ++ D.bytes leaf ∷ []) made.now
             → D.bytes result ≡ trees.digest_of H.hash F.shape (leaves ++ D.bytes leaf ∷ []) (Births.born F.births self.now.leaves number) }
+        ensures made { hasher.new ≡ more hasher.old 1 }
     {
         let node = F::born(self.leaves, number);
         let (left, right) = halves(node);

@@ -94,5 +94,6 @@ fn digests(rt: HostRuntime) -> Result<(), Fail> {
         let root = hasher.root(Location::<Family>::new(15), inactive, &[node, c, a, b]);
         assert!(rt; root.bytes().starts_with(&start), "at {inactive}");
     }
+    assert_eq!(rt; hasher.made(), 25);
     Ok(())
 }

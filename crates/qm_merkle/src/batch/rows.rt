@@ -1,10 +1,11 @@
 //! The nodes above replaced leaves, row by row.
 
-ghost use Rattle.std.specs.Prelude.{◌≡◌, ◌≢◌, ◌↔◌, ℕ, Some, List, [], All, Contains, IsSome, IfOk, OnOk, OnErr, ◌<◌, ◌≤◌, ◌^◌, ◌-◌, ◌/◌, IsTrue, length};
+ghost use Rattle.std.specs.Prelude.{◌≡◌, ◌≢◌, ◌↔◌, ℕ, Some, List, [], All, IsSome, IfOk, OnOk, OnErr, ◌<◌, ◌≤◌, ◌^◌, ◌+◌, ◌-◌, ◌/◌, IsTrue, None, length};
 ghost use Rattle.std.specs.Ordering.{nat_cmp};
 ghost use Rattle.std.specs.BTreeMap.{insert_entry};
 ghost use Rattle.qm_model.specs.Trees as trees;
 ghost use Rattle.qm_merkle.specs.Batches.{found_at, replaced_from, IsOver, AreThere, AreRead, AreRight, AreOver, HaveOver, IsRow};
+ghost use Rattle.qm_merkle.specs.Mems.{more};
 
 use super::UnmerkleizedBatch;
 use crate::family::{Family, Node};
@@ -26,6 +27,8 @@ impl<F: Family, D: Digest> UnmerkleizedBatch<F, D> {
         requires start { All (λ e. mem.now.start ≤ e.0) self.now.replaced }
         ensures own { IfOk result (λ m. HaveOver F.shape self.now.replaced self.now.base m.entries) }
         ensures digests { (list : List (List ℕ)) → length list ≡ self.now.base → AreRead F.shape D.bytes H.hash self.now.layers mem.now list → IfOk result (λ m. AreRight F.shape D.bytes H.hash m.entries (replaced_from D.bytes self.now.replaced 0 list)) }
+        ensures count { IfOk result (λ m. length self.now.replaced ≤ length m.entries) }
+        ensures made { IfOk result (λ m. hasher.new ≡ more hasher.old (length m.entries - length self.now.replaced)) }
     {
         let mut nodes = BTreeMap::new(alloc);
         let mut row = self.replaced_leaves(alloc, &mut nodes)?;
@@ -46,6 +49,7 @@ impl<F: Family, D: Digest> UnmerkleizedBatch<F, D> {
         ensures own { OnOk result (AreOver F.shape self.now.replaced self.now.base 0 nodes.new.entries) }
         ensures row { IfOk result (λ v. IsRow F.shape self.now.base 0 nodes.new.entries v.items) }
         ensures digests { (hash : List ℕ → List ℕ) (list : List (List ℕ)) → length list ≡ self.now.base → OnOk result (AreRight F.shape D.bytes hash nodes.new.entries (replaced_from D.bytes self.now.replaced 0 list)) }
+        ensures count { OnOk result (length nodes.new.entries ≡ length self.now.replaced) }
     {
         let mut row = Vec::new(alloc);
         for (location, digest) in &self.replaced {
@@ -76,13 +80,16 @@ impl<F: Family, D: Digest> UnmerkleizedBatch<F, D> {
         ensures row { IfOk result (λ v. IsRow F.shape self.now.base height nodes.new.entries v.items) }
         ensures digests { (list : List (List ℕ)) → length list ≡ self.now.base → AreRead F.shape D.bytes H.hash self.now.layers mem.now list → AreRight F.shape D.bytes H.hash nodes.old.entries (replaced_from D.bytes self.now.replaced 0 list)
             → OnOk result (AreRight F.shape D.bytes H.hash nodes.new.entries (replaced_from D.bytes self.now.replaced 0 list)) }
+        ensures count { OnOk result (length nodes.old.entries ≤ length nodes.new.entries) }
+        ensures made { OnOk result (hasher.new ≡ more hasher.old (length nodes.new.entries - length nodes.old.entries)) }
     {
         let mut above = Vec::new(alloc);
         for index in row {
             let node = Node::new(height, *index / 2);
-            if !is_last(&above, node.index()) && self.is_below(node) {
+            let number = place::<F>(node).get();
+            if !nodes.contains_key(&number) && self.is_below(node) {
                 let digest = self.parent(mem, hasher, nodes, node);
-                replace(nodes, place::<F>(node).get(), digest)?;
+                replace(nodes, number, digest)?;
                 above.push(node.index())?;
             }
         }
@@ -112,8 +119,9 @@ impl<F: Family, D: Digest> UnmerkleizedBatch<F, D> {
         requires below { trees.Shape.birth F.shape node ≤ self.now.base }
         requires above { IsOver self.now.replaced node.height node.index }
         requires own { (x : trees.Node) → trees.Shape.birth F.shape x ≤ self.now.base → x.height < node.height → (IsSome (found_at nodes.now.entries (trees.Shape.position F.shape x)) ↔ IsOver self.now.replaced x.height x.index) }
-        ensures { (list : List (List ℕ)) → length list ≡ self.now.base → AreRead F.shape D.bytes H.hash self.now.layers mem.now list → AreRight F.shape D.bytes H.hash nodes.now.entries (replaced_from D.bytes self.now.replaced 0 list)
+        ensures digest { (list : List (List ℕ)) → length list ≡ self.now.base → AreRead F.shape D.bytes H.hash self.now.layers mem.now list → AreRight F.shape D.bytes H.hash nodes.now.entries (replaced_from D.bytes self.now.replaced 0 list)
             → D.bytes result ≡ trees.digest_of H.hash F.shape (replaced_from D.bytes self.now.replaced 0 list) node }
+        ensures made { hasher.new ≡ more hasher.old 1 }
     {
         let (left, right) = halves(node);
         let left = self.digest(mem, nodes, place(left));
@@ -131,18 +139,9 @@ pub(crate) fn replace<D: Copy>(
     ensures entries { OnOk result (entries.new.entries ≡ insert_entry nat_cmp entries.old.entries number digest) }
     ensures here { OnOk result (found_at entries.new.entries number ≡ Some digest) }
     ensures other { OnOk result ((n : ℕ) → n ≢ number → found_at entries.new.entries n ≡ found_at entries.old.entries n) }
+    ensures count { found_at entries.old.entries number ≡ None → OnOk result (length entries.new.entries ≡ length entries.old.entries + 1) }
     ensures err { OnErr result (entries.new.entries ≡ entries.old.entries) }
 {
     entries.insert(number, digest)?;
     Ok(())
-}
-
-// Whether the number is the last of these.
-fn is_last(numbers: &[u64], number: u64) -> bool
-    ensures { IsTrue result → Contains numbers.now number }
-{
-    match numbers.last() {
-        Some(last) => *last == number,
-        None => false,
-    }
 }

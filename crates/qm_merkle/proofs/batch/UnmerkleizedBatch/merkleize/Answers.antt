@@ -44,3 +44,8 @@ returns-clause-history g c list base lists history found stands =
     let right = c.in_ok-replaced.ensures.digests base count read in
     let leads = drafted_leads shape births family layer draft.replaced draft.base c.in_ok-tree.ensures.start c.in_ok-replaced.ensures.own bytes hash base (map bytes draft.added) count (c.in_ok-tree.ensures.stands base count read right) right in
     (subst (λ l. Leads shape bytes hash l base (drafted bytes draft base)) (sym is) leads, subst (λ b. IsHistory shape bytes hash b.layers (base ∷ lists)) (sym c.self.view_is) history)
+
+pub returns-clause-made : goal.returns-clause-made
+returns-clause-made g c =
+    let is = c.in_ok-newest.ensures.ok in
+    omega (arith, c.in_ok-replaced.ensures.made, c.in_ok-tree.ensures.made, ap (λ (l : Layer g.row.D.Denot). length l.tree.nodes) is, ap (λ (l : Layer g.row.D.Denot). length l.replaced) is)

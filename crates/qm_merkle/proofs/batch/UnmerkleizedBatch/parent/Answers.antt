@@ -43,8 +43,8 @@ digest-right-requires g c =
 pub place-requires-3 : goal.place-requires-3
 place-requires-3 g c = omega (arith, g.met.F.Family.numbered.inside c.args.node, c.requires.below, c.requires.few)
 
-pub returns : goal.returns
-returns g c = λ list long read right.
+pub returns-clause-digest : goal.returns-clause-digest
+returns-clause-digest g c = λ list long read right.
     let shape = g.F.Family.shape in
     let bytes = g.D.Digest.bytes in
     let hash = g.H.Hasher.hash in
@@ -65,7 +65,7 @@ returns g c = λ list long read right.
     let right_is : bytes c.digest-right.result ≡ digest_of hash shape new y =
     digest_is shape draft.replaced draft.layers mem draft.base bytes hash entries list y (found_at entries (shape.position y)) c.digest-right.result long r.born r.bare refl (c.requires.own y r.born y_low) read right
     (subst (λ p. option_or (found_at entries p) (option_or (layers_at shape draft.layers p) (node_at shape mem p)) ≡ Some c.digest-right.result) c.place-2.ensures c.digest-right.ensures) in
-    c.node_digest.ensures
+    c.node_digest.ensures.digest
     ∙ ap (λ p. node_digest hash p (bytes c.digest-left.result) (bytes c.digest-right.result)) c.place-3.ensures
     ∙ ap₂ (node_digest hash (shape.position node)) (left ∙ ap (digest_of hash shape new) c.halves-left.ensures.left) (right_is ∙ ap (digest_of hash shape new) c.halves-left.ensures.right)
     ∙ sym (digest-halves hash shape new node.height node.index c.requires.high)

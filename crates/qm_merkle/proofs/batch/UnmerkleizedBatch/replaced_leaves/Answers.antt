@@ -1,7 +1,10 @@
-use Rattle.std.proofs.Common.{◌≡◌, ◌∙◌, ◌<◌, All, Some, ap, subst}
+use Rattle.std.proofs.Common.{◌≡◌, ◌∙◌, ◌<◌, All, Some, ap, arith, length, subst}
+use Rattle.std.specs.Ordering.{nat_cmp}
+use Rattle.std.specs.List.Sorted.{IsStrictlySortedBy}
+use Rattle.std.specs.Map.{keys_of}
 use Rattle.qm_model.specs.Trees.{leaf}
 use Rattle.qm_merkle.specs.Batches.{found_at}
-use Rattle.qm_merkle.proofs.Rows.{taken-start, taken-more, taken-over, taken-row, taken-right}
+use Rattle.qm_merkle.proofs.Rows.{taken-start, taken-more, taken-absent, taken-over, taken-row, taken-right}
 use Rattle.qm_merkle.proofs.batch.UnmerkleizedBatch.replaced_leaves.Given
 use Rattle.qm_merkle.proofs.batch.UnmerkleizedBatch.replaced_leaves.Goals as goal
 
@@ -9,13 +12,14 @@ pub loop-location-init : goal.loop-location-init
 loop-location-init g c =
     let is : c.self.inside.replaced.entries ≡ c.args.self.now.replaced = ap (λ d. d.replaced) c.self.view_is in
     let gives = c.into_iter-location-iterator.ensures.into_iter_gives in
-    taken-start (gives.0 ∙ is) (subst (λ es. All (λ e. found_at es e.0 ≡ Some e.1) es) is gives.6) c.requires c.new-row.ensures.items
+    taken-start (gives.0 ∙ is) (subst (λ es. All (λ e. found_at es e.0 ≡ Some e.1) es) is gives.6) (subst (λ es. IsStrictlySortedBy nat_cmp (keys_of es)) is gives.5) c.requires c.new-row.ensures.items
 
 pub loop-location-preserved : goal.loop-location-preserved
 loop-location-preserved g c =
-    taken-more g.met.F.Family.numbered c.loop-location.invariant c.in-Some.ensures.steps
-    (c.get.ensures ∙ c.location_to_position-position.ensures.place ∙ ap (λ n. g.F.Family.shape.position (leaf n)) c.new.ensures)
+    let at : c.get.result ≡ g.F.Family.shape.position (leaf c.in-Some.location.now) = c.get.ensures ∙ c.location_to_position-position.ensures.place ∙ ap (λ n. g.F.Family.shape.position (leaf n)) c.new.ensures in
+    taken-more g.met.F.Family.numbered c.loop-location.invariant c.in-Some.ensures.steps at
     c.in_ok-replace.ensures.here c.in_ok-replace.ensures.other c.in_ok-push.ensures.items
+    (c.in_ok-replace.ensures.count (taken-absent g.met.F.Family.numbered c.loop-location.invariant c.in-Some.ensures.steps at))
 
 below : (g : Given.Over) (c : goal.In-None g) → All (λ e. e.0 < c.args.self.now.base) c.args.self.now.replaced
 below g c = subst (λ d. All (λ e. e.0 < d.base) d.replaced) c.self.view_is c.self.invariant.2
@@ -28,3 +32,6 @@ returns-clause-row g c = taken-row g.met.F.Family.numbered c.loop-location.invar
 
 pub returns-clause-digests : goal.returns-clause-digests
 returns-clause-digests g c = taken-right g.met.F.Family.numbered c.loop-location.invariant c.in-None.ensures.steps.0 c.args.self.now.base (below g c) g.D.Digest.bytes
+
+pub returns-clause-count : goal.returns-clause-count
+returns-clause-count g c = omega (arith, c.loop-location.invariant.count, ap length c.in-None.ensures.steps.0)

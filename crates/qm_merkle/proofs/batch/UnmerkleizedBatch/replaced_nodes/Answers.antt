@@ -9,6 +9,8 @@ loop-height-init g c =
       own = subst (λ h. AreOver g.F.Family.shape c.args.self.now.replaced c.args.self.now.base h c.replaced_leaves.new.nodes.entries) first c.in_ok-row.ensures.own;
       row = subst (λ h. IsRow g.F.Family.shape c.args.self.now.base h c.replaced_leaves.new.nodes.entries c.in_ok-row.row.items) first c.in_ok-row.ensures.row;
       right = λ list long read. c.in_ok-row.ensures.digests g.H.Hasher.hash list long;
+      count = omega (arith, c.in_ok-row.ensures.count);
+      made = omega (arith, c.in_ok-row.ensures.count);
     }
 
 pub row_above-requires-clause-own : goal.row_above-requires-clause-own
@@ -24,6 +26,8 @@ loop-height-preserved g c =
       own = subst (λ h. AreOver g.F.Family.shape c.args.self.now.replaced c.args.self.now.base h c.row_above.new.nodes.entries) next c.in_ok-row-2.ensures.own;
       row = subst (λ h. IsRow g.F.Family.shape c.args.self.now.base h c.row_above.new.nodes.entries c.in_ok-row-2.row.items) next c.in_ok-row-2.ensures.row;
       right = λ list long read. c.in_ok-row-2.ensures.digests list long read (c.loop-height.invariant.right list long read);
+      count = omega (arith, c.in_ok-row-2.ensures.count, c.loop-height.invariant.count);
+      made = omega (arith, c.loop-height.invariant.made, c.in_ok-row-2.ensures.made, c.in_ok-row-2.ensures.count, c.loop-height.invariant.count);
     }
 
 pub returns-clause-own : goal.returns-clause-own
@@ -33,3 +37,9 @@ returns-clause-own g c = λ x born.
 
 pub returns-clause-digests : goal.returns-clause-digests
 returns-clause-digests g c = c.loop-height.invariant.right
+
+pub returns-clause-count : goal.returns-clause-count
+returns-clause-count g c = c.loop-height.invariant.count
+
+pub returns-clause-made : goal.returns-clause-made
+returns-clause-made g c = c.loop-height.invariant.made

@@ -1,6 +1,7 @@
-use Rattle.std.proofs.Common.{◌≡◌, ◌-◌, List, length}
+use Rattle.std.proofs.Common.{◌≡◌, ◌-◌, ◌≤◌, List, length}
 use Rattle.qm_model.specs.Operations.{Bytes}
 use Rattle.qm_merkle.specs.Batches.{replaced_from, AreRead, AreRight, AreOver, IsRow}
+use Rattle.qm_merkle.specs.Mems.{more}
 use Rattle.qm_merkle.proofs.batch.UnmerkleizedBatch.replaced_nodes.Given as goal
 
 abbrev pub invariant-loop-height : goal.invariant-loop-height
@@ -9,4 +10,6 @@ invariant-loop-height g l = record {
   row : IsRow g.F.Family.shape l.self.base (l.height - 1) l.nodes.entries l.row.items;
   right : (list : List Bytes) → length list ≡ l.self.base → AreRead g.F.Family.shape g.D.Digest.bytes g.H.Hasher.hash l.self.layers l.mem list →
       AreRight g.F.Family.shape g.D.Digest.bytes g.H.Hasher.hash l.nodes.entries (replaced_from g.D.Digest.bytes l.self.replaced 0 list);
+  count : length l.self.replaced ≤ length l.nodes.entries;
+  made : l.hasher ≡ more l.fn.hasher (length l.nodes.entries - length l.self.replaced);
 }

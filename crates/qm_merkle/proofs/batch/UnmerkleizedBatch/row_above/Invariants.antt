@@ -1,6 +1,7 @@
-use Rattle.std.proofs.Common.{◌≡◌, List, length}
+use Rattle.std.proofs.Common.{◌≡◌, ◌≤◌, ◌-◌, List, length}
 use Rattle.qm_model.specs.Operations.{Bytes}
 use Rattle.qm_merkle.specs.Batches.{replaced_from, AreRead, AreRight}
+use Rattle.qm_merkle.specs.Mems.{more}
 use Rattle.qm_merkle.proofs.Rows.{Raised}
 use Rattle.qm_merkle.proofs.batch.UnmerkleizedBatch.row_above.Given as goal
 
@@ -10,4 +11,6 @@ invariant-loop-index g l = record {
   right : (list : List Bytes) → length list ≡ l.self.base → AreRead g.F.Family.shape g.D.Digest.bytes g.H.Hasher.hash l.self.layers l.mem list →
       AreRight g.F.Family.shape g.D.Digest.bytes g.H.Hasher.hash l.fn.nodes.entries (replaced_from g.D.Digest.bytes l.self.replaced 0 list) →
       AreRight g.F.Family.shape g.D.Digest.bytes g.H.Hasher.hash l.nodes.entries (replaced_from g.D.Digest.bytes l.self.replaced 0 list);
+  count : length l.fn.nodes.entries ≤ length l.nodes.entries;
+  made : l.hasher ≡ more l.fn.hasher (length l.nodes.entries - length l.fn.nodes.entries);
 }

@@ -1,6 +1,6 @@
 use Rattle.std.proofs.Common.{◌≡◌, ◌∙◌, ◌^◌, ◌≤◌, ◌++◌, Some, IsSome, All, ap, sym, subst, arith, map, length}
 use Rattle.qm_model.specs.Trees.{peak_positions}
-use Rattle.qm_merkle.specs.Mems.{Stands}
+use Rattle.qm_merkle.specs.Mems.{IsWhole, Stands}
 use Rattle.qm_merkle.specs.Batches.{made_at, replaced_from}
 use Rattle.qm_merkle.proofs.Drafting.{peaks_there, stands-fresh}
 use Rattle.qm_merkle.proofs.batch.UnmerkleizedBatch.tree.Goals as goal
@@ -33,3 +33,14 @@ returns-clause-stands g c list count read right =
     c.of_parts-tree.result (ap (λ t. t.start) tree ∙ is) (ap (λ t. t.leaves) tree ∙ is) few c.requires.start pins in
     subst (λ added. Stands shape bytes hash c.add_all.new.self (replaced_from bytes c.args.self.now.replaced 0 list ++ map bytes added)) (c.deref-2.ensures.value ∙ ap (λ b. b.added) c.self.view_is)
     (c.in_ok-add_all.ensures.stands (replaced_from bytes c.args.self.now.replaced 0 list) fresh)
+
+pub returns-clause-made : goal.returns-clause-made
+returns-clause-made g c =
+    let shape = g.F.Family.shape in
+    let whole = subst (IsWhole shape) c.tree.view_is c.tree.invariant.1 in
+    let tree = c.of_parts-tree.ensures c.self.inside.base (omega (arith, ap length c.new.ensures.items)) in
+    let new = c.add_all.new.self in
+    let bounds = c.in_ok-add_all.ensures.bounds in
+    let start : new.start ≡ c.of_parts-tree.result.leaves = bounds.0 ∙ ap (λ t. t.start) tree ∙ sym (ap (λ t. t.leaves) tree) in
+    let added = c.deref-2.ensures.value ∙ ap (λ b. b.added) c.self.view_is in
+    omega (arith, c.in_ok-add_all.ensures.made, whole.full, ap shape.size start, ap length added)

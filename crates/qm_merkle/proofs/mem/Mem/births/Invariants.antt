@@ -1,6 +1,6 @@
-use Rattle.std.proofs.Common.{◌≡◌, ◌++◌, [], ◌∷◌, List, length}
+use Rattle.std.proofs.Common.{◌≡◌, ◌++◌, ◌-◌, [], ◌∷◌, List, length}
 use Rattle.qm_model.specs.Operations.{Bytes}
-use Rattle.qm_merkle.specs.Mems.{Stands, AreBorn}
+use Rattle.qm_merkle.specs.Mems.{Stands, AreBorn, more}
 use Rattle.qm_merkle.proofs.mem.Mem.births.Given as goal
 
 abbrev pub invariant-loop-number : goal.invariant-loop-number
@@ -8,4 +8,5 @@ invariant-loop-number g l = record {
   count : length l.made.items ≡ l.number;
   born : (leaves : List Bytes) → Stands g.F.Family.shape g.D.Digest.bytes g.H.Hasher.hash l.self leaves →
       AreBorn g.F.Family.shape g.F.Family.births g.D.Digest.bytes g.H.Hasher.hash l.self.leaves (leaves ++ g.D.Digest.bytes l.fn.leaf ∷ []) l.made.items;
+  made : l.hasher ≡ more l.fn.hasher (l.number - 1);
 }

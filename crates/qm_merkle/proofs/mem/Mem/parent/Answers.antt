@@ -61,8 +61,8 @@ pub place-requires : goal.place-requires
 place-requires g c =
     within g c.self.inside.leaves c.args.self.now.leaves c.args.number c.born-node.result (ap (λ k. k.leaves) c.self.view_is) c.requires.few c.requires.room c.born-node.ensures
 
-pub returns : goal.returns
-returns g c = λ leaves leaf stands born.
+pub returns-clause-digest : goal.returns-clause-digest
+returns-clause-digest g c = λ leaves leaf stands born.
     let shape = g.F.Family.shape in
     let births = g.F.Family.births in
     let bytes = g.D.Digest.bytes in
@@ -80,6 +80,6 @@ returns g c = λ leaves leaf stands born.
     let right : bytes c.half-right.result ≡ digest_of hash shape now c.halves-left.result.1 =
     half_is shape births g.met.F.Family.numbered g.met.F.Family.peaked bytes hash kept whole leaves stands leaf c.args.made.now c.halves-left.result.1 c.half-right.result room
     (subst (λ k. IsHeld shape births kept.leaves k c.halves-left.result.1) (sym c.requires.number) halves.right_held) right_bare born c.half-right.ensures.old c.half-right.ensures.new in
-    c.node_digest.ensures
+    c.node_digest.ensures.digest
     ∙ ap (λ p. node_digest hash p (bytes c.half-left.result) (bytes c.half-right.result)) (c.place.ensures ∙ ap shape.position (c.born-node.ensures ∙ ap (λ k. births.born k.leaves c.args.number) c.self.view_is))
     ∙ ap₂ (node_digest hash (shape.position (births.born kept.leaves c.args.number))) left right ∙ sym (halves.parent hash now)

@@ -12,12 +12,12 @@ digests-requires g c =
     subst (All (Holds shape kept)) (sym (c.deref.ensures.value ∙ c.in_ok-positions.ensures ∙ ap (λ k. peak_positions shape k.leaves) c.self.view_is))
     (peaks_held shape g.F.Family.births g.met.F.Family.numbered g.met.F.Family.peaked kept whole kept.leaves whole.order (le_refl kept.leaves))
 
-pub returns : goal.returns
-returns g c = λ leaves stands.
+pub returns-clause-root : goal.returns-clause-root
+returns-clause-root g c = λ leaves stands.
     let shape = g.F.Family.shape in
     let kept = c.args.self.now in
     let bytes = g.D.Digest.bytes in
-    c.root.ensures ∙ ap (λ ds. root_of g.H.Hasher.hash c.self.inside.leaves c.args.inactive (map bytes ds)) c.deref-2.ensures.value
+    c.root.ensures.digest ∙ ap (λ ds. root_of g.H.Hasher.hash c.self.inside.leaves c.args.inactive (map bytes ds)) c.deref-2.ensures.value
     ∙ rooted shape g.F.Family.births g.met.F.Family.numbered g.met.F.Family.peaked bytes g.H.Hasher.hash kept leaves stands (subst (IsWhole shape) c.self.view_is c.self.invariant.1)
     c.in_ok-peaks.peaks.items c.self.inside.leaves c.args.inactive (ap (λ k. k.leaves) c.self.view_is)
     (c.in_ok-peaks.ensures ∙ ap (map (node_at shape kept)) (c.deref.ensures.value ∙ c.in_ok-positions.ensures ∙ ap (λ k. peak_positions shape k.leaves) c.self.view_is))
