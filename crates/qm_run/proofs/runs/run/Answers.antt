@@ -14,7 +14,7 @@ returns-in-Some-clause-machine g c = λ start.
     let m : Meaning g.row.X.Denot g.row.C.Denot g.row.X-Batch.Denot g.row.X-Merkleized.Denot = meaning g.X.Engine g.C.Store in
     let scheme : Scheme Policy = scheme_of g.X.Engine in
     let f = line_view g.X.Key.ByteString.bytes g.X.Value.ByteString.bytes policy_view in
-    let a = answer_view g.X.Key.ByteString.bytes g.X.Value.ByteString.bytes in
+    let a = answer_view g.X.Key.ByteString.bytes g.X.Value.ByteString.bytes g.X.Digest.Digest.bytes in
     let i = c.loop-command.command-index in
     let kept : c.step-next.new.replies.items ≡ c.loop-command.replies.items = rw c.in-Some.is at c.step-next.ensures.kept in
     each (g.C.Store.items c.args.store) (λ items is.
@@ -36,7 +36,7 @@ loop-command-preserved g c =
     let m : Meaning g.row.X.Denot g.row.C.Denot g.row.X-Batch.Denot g.row.X-Merkleized.Denot = meaning g.X.Engine g.C.Store in
     let scheme : Scheme Policy = scheme_of g.X.Engine in
     let f = line_view g.X.Key.ByteString.bytes g.X.Value.ByteString.bytes policy_view in
-    let a = answer_view g.X.Key.ByteString.bytes g.X.Value.ByteString.bytes in
+    let a = answer_view g.X.Key.ByteString.bytes g.X.Value.ByteString.bytes g.X.Digest.Digest.bytes in
     let i = c.loop-command.command-index in
     let grown = rw c.in_default.is at c.step-next.ensures.grown in
     record {
@@ -57,7 +57,7 @@ returns-clause-machine g c = λ start.
     let m : Meaning g.row.X.Denot g.row.C.Denot g.row.X-Batch.Denot g.row.X-Merkleized.Denot = meaning g.X.Engine g.C.Store in
     let scheme : Scheme Policy = scheme_of g.X.Engine in
     let f = line_view g.X.Key.ByteString.bytes g.X.Value.ByteString.bytes policy_view in
-    let a = answer_view g.X.Key.ByteString.bytes g.X.Value.ByteString.bytes in
+    let a = answer_view g.X.Key.ByteString.bytes g.X.Value.ByteString.bytes g.X.Digest.Digest.bytes in
     let i = c.loop-command.command-index in
     each (g.C.Store.items c.args.store) (λ items is.
     rw c.close-2.ensures (ended_at scheme items (map f c.args.commands.now) i (map a c.loop-command.replies.items) _
