@@ -1,6 +1,6 @@
 -- The digests of a list's leaves, and the root over them.
 use Rattle.std.proofs.Common.{◌≡◌, ℕ, ◌<◌, ◌+◌, List, [], ◌∷◌, ◌++◌, ap, ap₂, sym, subst, ◌∙◌, length, drop, map, get_or, suc, add-one, append_assoc, arith, refl}
-use Rattle.std.specs.Prelude.{Contains}
+use Rattle.std.specs.Prelude.{Contains, Result, Ok, Err, IfOk}
 use Rattle.std.proofs.lemmas.List.{drop_more, map-append, length-map}
 use Rattle.qm_model.specs.Operations.{Bytes, Operation, spelling}
 use Rattle.qm_model.specs.Live.{floor}
@@ -48,3 +48,9 @@ module _ {D : Type 0} (draft : Draft D) (start base : ℕ) (added : List D) (is 
         let filled = ap leaves_of is in
         let sized : leaves ≡ length (map f xs) = omega (arith, counted, filled, none, leaf_count hash shape bytes f added xs are, length-map xs f) in
         ap₂ (root hash shape) (ap (λ (d : Draft D). drafted bytes d []) is ∙ are) (is_inactive ∙ ap₂ (inactive_peaks shape) sized at_floor)
+
+-- the root of a list, and of the one that it is
+pub same_root : {R E : Type 0} (r : Result R E) (bytes : R → Bytes) (root : List Operation → Bytes) (lent list : List Operation) → lent ≡ list → IfOk r (λ d. bytes d ≡ root lent)
+    → IfOk r (λ d. (l : List Operation) → list ≡ l → bytes d ≡ root l)
+same_root (Ok d) bytes root lent list same is = λ l e. is ∙ ap root (same ∙ e)
+same_root (Err e) bytes root lent list same is = tt

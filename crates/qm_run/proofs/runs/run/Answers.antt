@@ -9,6 +9,16 @@ use Rattle.qm_run.specs.Runs.{IsRun}
 use Rattle.qm_run.proofs.Loops.{each, loop_step, ended_in, ended_at, line_here, Rose-wider}
 use Rattle.qm_run.proofs.runs.run.Goals as goal
 
+pub loop-command-init : goal.loop-command-init
+loop-command-init g c =
+    let a = answer_view g.X.Key.ByteString.bytes g.X.Value.ByteString.bytes g.X.Digest.Digest.bytes in
+    record {
+      count = ap length c.new-replies.ensures.items;
+      opened = omega (arith, c.in-Ok.ensures.opened);
+      later = omega (arith, ap g.C.Store.faults c.in-Ok.ensures.store);
+      machine = λ items is start apart. (ap (map a) c.new-replies.ensures.items, c.in-Ok.ensures.session items is start);
+    }
+
 pub returns-in-Some-clause-machine : goal.returns-in-Some-clause-machine
 returns-in-Some-clause-machine g c = λ start.
     let m : Meaning g.row.X.Denot g.row.C.Denot g.row.X-Batch.Denot g.row.X-Merkleized.Denot = meaning g.X.Engine g.C.Store in
