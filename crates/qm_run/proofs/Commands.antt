@@ -1,5 +1,5 @@
 -- Each command over what a run holds, as lemmas over plain values.
-use Rattle.std.proofs.Common.{◌≡◌, ◌≤◌, ℕ, zero, suc, ◌+◌, ◌<◌, Bool, true, false, cond, List, [], ◌∷◌, ◌++◌, length, get_or, set, map, take, drop, Option, Some, None, arith, refl, sym, ◌∙◌, ap, ap₂, subst, length-append, IfSome, append-nil, ◌⊎◌, inl, inr}
+use Rattle.std.proofs.Common.{◌≡◌, ℕ, ◌+◌, ◌<◌, Bool, true, false, cond, List, [], ◌∷◌, ◌++◌, length, get_or, set, map, drop, Option, Some, None, arith, refl, sym, ◌∙◌, ap, ap₂, subst, length-append, IfSome, append-nil, ◌⊎◌}
 use Rattle.std.specs.Prelude.{Contains}
 use Rattle.std.proofs.lemmas.List.{length-set}
 use Rattle.std.proofs.Math.Seq.{drop-append_seam, take-length}
@@ -24,7 +24,7 @@ use Rattle.qm_run.specs.declared.engine.Given.TheVariants.{Database, Store}
 use Rattle.qm_run.specs.declared.table.Slot.{Slot}
 use Rattle.qm_run.specs.declared.table.Slot.TheVariants.{Gone, Writing, Merkleized}
 use Rattle.qm_run.specs.declared.session.Turn.{Turn}
-use Rattle.qm_run.specs.declared.session.Turn.TheVariants.{Reply, Memory, StoreFault}
+use Rattle.qm_run.specs.declared.session.Turn.TheVariants.{Reply}
 use Rattle.qm_run.specs.Table.{writing_of, merkleized_of}
 use Rattle.qm_run.specs.Turn.{turn_of_error}
 use Rattle.qm_run.specs.Given.{store_given}

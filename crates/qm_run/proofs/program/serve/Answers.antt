@@ -1,15 +1,15 @@
-use Rattle.std.proofs.Common.{◌≡◌, ℕ, ◌++◌, List, [], Option, Some, take, map, length, refl, sym, ◌∙◌, ap, subst, inl, inr, IfSome}
+use Rattle.std.proofs.Common.{◌≡◌, ℕ, ◌++◌, List, [], Option, take, map, length, refl, sym, ◌∙◌, ap, subst, inl, inr}
 use Rattle.std.proofs.lemmas.List.{length-map}
 use Rattle.qm_model.specs.Causes.{Rose, Grows, GrowsPart}
 use Rattle.qm_model.specs.Operations.{Bytes}
 use Rattle.qm_model.specs.Lines.{Answer}
-use Rattle.qm_model.specs.Grammar.{commands_in, bad_in}
+use Rattle.qm_model.specs.Grammar.{commands_in}
 use Rattle.qm_model.specs.Text.{text_of}
 use Rattle.qm_base.specs.declared.sha256.Sha256Digest.{Sha256Digest}
 use Rattle.qm_lines.specs.Views.{answer_view}
 use Rattle.qm_lines.specs.Parsed.{byte_line}
 use Rattle.qm_run.specs.Runs.{IsRun}
-use Rattle.qm_run.specs.Program.{scheme, Says}
+use Rattle.qm_run.specs.Program.{scheme}
 use Rattle.qm_run.specs.Endings.{tail_text, tail_status}
 use Rattle.qm_run.specs.declared.runs.End.TheVariants.{Done}
 use Rattle.qm_run.proofs.Loops.{each}

@@ -1,11 +1,9 @@
-use Rattle.std.proofs.Common.{◌≡◌, ◌≤◌, ◌<◌, ℕ, ◌+◌, List, [], ◌∷◌, ◌++◌, length, get_or, take, map, arith, refl, sym, ◌∙◌, ap, subst, Some, Option, IfSome}
-use Rattle.std.proofs.lemmas.List.{length-map, take_all}
-use Rattle.qm_model.specs.Operations.{Bytes}
-use Rattle.qm_model.specs.Policies.{Policy, policies}
-use Rattle.qm_model.specs.Machine.{Scheme, State}
+use Rattle.std.proofs.Common.{◌≡◌, ◌+◌, length, map, arith, ◌∙◌, ap, Some}
+use Rattle.std.proofs.lemmas.List.{length-map}
+use Rattle.qm_model.specs.Policies.{Policy}
+use Rattle.qm_model.specs.Machine.{Scheme}
 use Rattle.qm_lines.specs.Views.{policy_view, line_view, answer_view}
 use Rattle.qm_run.specs.Session.{Meaning, meaning, scheme_of, Holds}
-use Rattle.qm_run.specs.Runs.{IsRun}
 use Rattle.qm_run.proofs.Loops.{each, loop_step, ended_in, ended_at, line_here, Rose-wider}
 use Rattle.qm_run.proofs.runs.run.Goals as goal
 

@@ -1,7 +1,7 @@
-use Rattle.std.proofs.Common.{◌≡◌, ◌≤◌, ℕ, List, [], Option, Some, map, take, length}
+use Rattle.std.proofs.Common.{◌≡◌, ◌≤◌, List, Some, map, take, length}
 use Rattle.qm_model.specs.Operations.{Bytes}
 use Rattle.qm_model.specs.Batches.{Apart}
-use Rattle.qm_model.specs.Policies.{Policy, policies}
+use Rattle.qm_model.specs.Policies.{Policy}
 use Rattle.qm_model.specs.Machine.{Scheme, initial, answers}
 use Rattle.qm_lines.specs.Views.{policy_view, line_view, answer_view}
 use Rattle.qm_run.specs.Given.{store_given}

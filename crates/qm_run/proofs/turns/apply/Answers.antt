@@ -1,8 +1,7 @@
-use Rattle.std.proofs.Common.{◌≡◌, ◌≤◌, ◌<◌, ℕ, ◌+◌, ◌⊎◌, List, [], ◌∷◌, ◌++◌, length, get_or, set, true, cond, arith, refl, sym, ◌∙◌, ap, subst, Some, None, IfSome, option_map, inl, inr, map, drop}
+use Rattle.std.proofs.Common.{length, sym, map, drop}
 use Rattle.qm_model.specs.Operations.{spelling}
-use Rattle.qm_model.specs.Policies.{Policy, policies}
-use Rattle.qm_model.specs.Machine.{Scheme, slot_at}
-use Rattle.qm_run.specs.declared.table.Slot.TheVariants.{Gone, Writing, Merkleized}
+use Rattle.qm_model.specs.Policies.{Policy}
+use Rattle.qm_model.specs.Machine.{Scheme}
 use Rattle.qm_run.specs.Session.{Meaning, meaning, scheme_of}
 use Rattle.qm_run.specs.Given.{store_given}
 use Rattle.qm_run.proofs.Commands.{Grows-whole, not_merkleized, apply_ok, apply_err, apply_left}

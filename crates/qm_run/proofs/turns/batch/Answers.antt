@@ -1,7 +1,6 @@
-use Rattle.std.proofs.Common.{◌≡◌, ◌≤◌, ◌<◌, ℕ, ◌+◌, ◌⊎◌, List, [], ◌∷◌, ◌++◌, length, get_or, set, true, cond, arith, refl, sym, ◌∙◌, ap, subst, Some, None, IfSome, option_map, inl, inr}
-use Rattle.qm_model.specs.Policies.{Policy, policies}
-use Rattle.qm_model.specs.Machine.{Scheme, slot_at}
-use Rattle.qm_run.specs.declared.table.Slot.TheVariants.{Gone, Writing, Merkleized}
+use Rattle.std.proofs.Common.{◌∙◌}
+use Rattle.qm_model.specs.Policies.{Policy}
+use Rattle.qm_model.specs.Machine.{Scheme}
 use Rattle.qm_run.specs.Session.{Meaning, meaning, scheme_of}
 use Rattle.qm_run.proofs.Commands.{batch_ok}
 use Rattle.qm_run.proofs.turns.batch.Goals as goal

@@ -1,7 +1,7 @@
-use Rattle.std.proofs.Common.{◌≡◌, ◌≤◌, ◌<◌, ℕ, ◌+◌, ◌⊎◌, List, [], ◌∷◌, ◌++◌, length, get_or, set, true, cond, arith, refl, sym, ◌∙◌, ap, subst, Some, None, IfSome, option_map, inl, inr}
-use Rattle.qm_model.specs.Policies.{Policy, policies}
+use Rattle.std.proofs.Common.{get_or, sym, None}
+use Rattle.qm_model.specs.Policies.{Policy}
 use Rattle.qm_model.specs.Machine.{Scheme, slot_at}
-use Rattle.qm_run.specs.declared.table.Slot.TheVariants.{Gone, Writing, Merkleized}
+use Rattle.qm_run.specs.declared.table.Slot.TheVariants.{Gone}
 use Rattle.qm_run.specs.Session.{Meaning, meaning, scheme_of}
 use Rattle.qm_run.proofs.Commands.{put_ok}
 use Rattle.qm_run.proofs.turns.del.Goals as goal

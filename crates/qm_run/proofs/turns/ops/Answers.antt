@@ -1,4 +1,4 @@
-use Rattle.std.proofs.Common.{List, map, get_or, sym}
+use Rattle.std.proofs.Common.{map, get_or, sym}
 use Rattle.qm_model.specs.Policies.{Policy}
 use Rattle.qm_model.specs.Machine.{Scheme, slot_at}
 use Rattle.qm_lines.specs.Views.{listed_view}

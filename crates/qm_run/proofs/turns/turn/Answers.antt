@@ -1,5 +1,5 @@
-use Rattle.std.proofs.Common.{◌≡◌, List, Some, option_map}
-use Rattle.qm_model.specs.Policies.{Policy, policies}
+use Rattle.std.proofs.Common.{option_map}
+use Rattle.qm_model.specs.Policies.{Policy}
 use Rattle.qm_model.specs.Machine.{Scheme, slot_at}
 use Rattle.qm_lines.specs.Views.{policy_view}
 use Rattle.qm_run.specs.Session.{scheme_of}

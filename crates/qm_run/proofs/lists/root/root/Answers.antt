@@ -1,9 +1,8 @@
-use Rattle.std.proofs.Common.{◌≡◌, [], ◌∷◌, ◌++◌, IfOk, ap, sym, ◌∙◌, subst, map, length, arith}
-use Rattle.qm_model.specs.Trees as trees
+use Rattle.std.proofs.Common.{◌≡◌, [], ◌∷◌, ◌++◌, IfOk, ap, ◌∙◌, subst, map, length, arith}
 use Rattle.qm_model.proofs.Chains.{Contains-first}
 use Rattle.qm_merkle.specs.Batches.{Draft, leaves_of, drafted}
 use Rattle.qm_merkle.specs.Mems.{Kept}
-use Rattle.qm_run.specs.ListViews.{entry_view, entry_views}
+use Rattle.qm_run.specs.ListViews.{entry_view}
 use Rattle.qm_run.proofs.ListRoots.{leaf_count, new_reach, new_history, new_root}
 use Rattle.qm_run.proofs.lists.root.root.Goals as goal
 
