@@ -1,7 +1,7 @@
-use Rattle.std.proofs.Common.{◌≡◌, ◌≤◌, ℕ, List, [], Option, Some, map, take, length}
+use Rattle.std.proofs.Common.{◌≡◌, ◌≤◌, List, Some, map, take, length}
 use Rattle.qm_model.specs.Operations.{Bytes}
 use Rattle.qm_model.specs.Batches.{Apart}
-use Rattle.qm_model.specs.Policies.{Policy, policies}
+use Rattle.qm_model.specs.Policies.{Policy}
 use Rattle.qm_model.specs.Machine.{Scheme, initial, answers}
 use Rattle.qm_lines.specs.Views.{policy_view, line_view, answer_view}
 use Rattle.qm_run.specs.Given.{store_given}
@@ -19,6 +19,6 @@ invariant-loop-command g l =
       later : g.C.Store.faults l.fn.store ≤ g.C.Store.faults (store_given g.X.Engine.inside l.session.held);
       machine : (items : List Bytes) → g.C.Store.items l.fn.store ≡ Some items → g.C.Store.start l.fn.store ≡ 0
           → Apart g.X.Engine.root (after scheme items (map (line_view g.X.Key.ByteString.bytes g.X.Value.ByteString.bytes policy_view) l.commands) l.command-index).had
-          → (map (answer_view g.X.Key.ByteString.bytes g.X.Value.ByteString.bytes) l.replies.items ≡ answers scheme (initial items) (take l.command-index (map (line_view g.X.Key.ByteString.bytes g.X.Value.ByteString.bytes policy_view) l.commands)))
+          → (map (answer_view g.X.Key.ByteString.bytes g.X.Value.ByteString.bytes g.X.Digest.Digest.bytes) l.replies.items ≡ answers scheme (initial items) (take l.command-index (map (line_view g.X.Key.ByteString.bytes g.X.Value.ByteString.bytes policy_view) l.commands)))
           × Holds m l.session.held l.session.table.items l.session.opened (after scheme items (map (line_view g.X.Key.ByteString.bytes g.X.Value.ByteString.bytes policy_view) l.commands) l.command-index);
     }
