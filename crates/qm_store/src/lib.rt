@@ -5,10 +5,12 @@ ghost use Rattle.std.specs.Prelude.{◌≡◌, ℕ, ◌+◌, ◌-◌, ◌^◌, �
 ghost use Rattle.std.specs.Prelude.{Option, Some, IfSome, IfOk, OnOk, OnErr, IsErrOf};
 ghost use Rattle.qm_model.specs.Causes.{IsCause, Grows, GrowsPart};
 
+mod log;
 mod mem_store;
 #[cfg(test)]
 mod tests;
 
+pub use log::{AuthLog, LogError, LogGiven, LogRefusal};
 pub use mem_store::MemStore;
 use std::alloc::{AllocError, AllocFailed};
 use thiserror::Error;
