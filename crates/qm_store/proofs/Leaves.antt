@@ -1,9 +1,9 @@
 -- The leaves' digests of items.
-use Rattle.std.proofs.Common.{◌≡◌, ℕ, zero, suc, ◌+◌, ◌-◌, ◌<◌, ◌≤◌, List, [], ◌∷◌, ◌++◌, length, map, take, drop, arith, ap, ap₂, sym, ◌∙◌, refl, Some, append-nil, append_assoc}
+use Rattle.std.proofs.Common.{◌≡◌, ℕ, zero, suc, ◌+◌, ◌-◌, ◌<◌, ◌≤◌, List, [], ◌∷◌, ◌++◌, length, map, take, drop, get_or, arith, ap, ap₂, sym, ◌∙◌, refl, Some, append-nil, append_assoc}
 use Rattle.std.specs.Prelude.{slice_get}
 use Rattle.std.specs.List.{concat}
 use Rattle.std.proofs.Math.Seq.{take-append_seam, drop-append_seam}
-use Rattle.std.proofs.lemmas.List.{map-append, take-append-drop, length-take-le}
+use Rattle.std.proofs.lemmas.List.{map-append, take-append-drop, length-take-le, length-map, take-map}
 use Rattle.std.proofs.lemmas.List.Folds.{concat-append}
 use Rattle.qm_model.specs.Operations.{Bytes, Operation, spelling}
 use Rattle.qm_model.specs.Trees.{Shape, leaf, leaf_digest, leaves_from}
@@ -28,6 +28,11 @@ pub pieces-next : {D : Type 0} (bytes : D → Bytes) (made : List D) (d : D) (si
 pieces-next bytes made d size rest whole first so_far =
     ap (λ l. l ++ drop size rest) (ap concat (map-append bytes made (d ∷ [])) ∙ concat-append (map bytes made) (bytes d ∷ []) ∙ ap (λ l. concat (map bytes made) ++ l) (append-nil (bytes d) ∙ first))
     ∙ append_assoc (concat (map bytes made)) (take size rest) (drop size rest) ∙ ap (λ l. concat (map bytes made) ++ l) (take-append-drop size rest) ∙ so_far
+
+pub slice_get-mapped : {V X : Type 0} (value : V → X) (xs : List V) (k : ℕ) (x : V) → k < length xs → x ≡ get_or xs k x → slice_get (map value xs) k ≡ Some (value x)
+slice_get-mapped value [] k x lt is = absurd (omega arith)
+slice_get-mapped value (y ∷ xs) zero x lt is = ap (λ z. Some (value z)) (sym is)
+slice_get-mapped value (y ∷ xs) (suc k) x lt is = slice_get-mapped value xs k x (omega arith) is
 
 module _ (hash : Bytes → Bytes) (shape : Shape) where
   -- a list of operations has the leaves of its spellings
@@ -63,6 +68,20 @@ module _ (hash : Bytes → Bytes) (shape : Shape) where
       let next : suc i + k ≡ i + suc k = omega arith in
       ap (λ ds. leaf_digest hash (shape.position (leaf i)) x ∷ ds)
       (digests_from-next (suc i) k items item is ∙ ap (λ j. digests_from hash shape (suc i) (take k items) ++ leaf_digest hash (shape.position (leaf j)) item ∷ []) next)
+
+  -- the digest of the next item of a list
+  pub listed-next : {D V : Type 0} (bytes : D → Bytes) (value : V → Bytes) (i k : ℕ) (made : List D) (d : D) (items : List V) (item : V) → k < length items → item ≡ get_or items k item →
+      map bytes made ≡ digests_from hash shape i (map value (take k items)) → bytes d ≡ leaf_digest hash (shape.position (leaf (i + k))) (value item) →
+      map bytes (made ++ d ∷ []) ≡ digests_from hash shape i (map value (take (suc k) items))
+  listed-next bytes value i k made d items item lt is so_far digest =
+      map-append bytes made (d ∷ [])
+      ∙ ap₂ (λ a b. a ++ b ∷ []) (so_far ∙ ap (digests_from hash shape i) (sym (take-map value k items))) digest
+      ∙ sym (digests_from-next i k (map value items) (value item) (slice_get-mapped value items k item lt is)) ∙ ap (digests_from hash shape i) (take-map value (suc k) items)
+
+  -- there are as many as items
+  pub digests-count : {D V : Type 0} (bytes : D → Bytes) (value : V → Bytes) (i : ℕ) (made : List D) (items : List V) → map bytes made ≡ digests_from hash shape i (map value items) → length made ≡ length items
+  digests-count bytes value i made items is =
+      sym (length-map made bytes) ∙ ap length is ∙ length-digests_from i (map value items) ∙ length-map items value
 
   -- the digest of the next item that is read
   pub read-next : {D : Type 0} (bytes : D → Bytes) (start at : ℕ) (made : List D) (d : D) (items : List Bytes) (item : Bytes) → start ≤ at →

@@ -1,5 +1,5 @@
 -- Logs: the leaves of items, the head of a store, and what a log stands for.
-use Rattle.std.specs.Prelude.{◌≡◌, ℕ, suc, ◌+◌, ◌-◌, List, [], ◌∷◌, length, take, drop, map, IfSome}
+use Rattle.std.specs.Prelude.{◌≡◌, ◌≤◌, ℕ, suc, ◌+◌, ◌-◌, List, [], ◌∷◌, length, take, drop, map, IfSome}
 use Rattle.std.specs.List.{concat}
 use Rattle.qm_model.specs.Causes.{Grows, GrowsPart}
 use Rattle.qm_model.specs.Operations.{Bytes}
@@ -41,6 +41,21 @@ pub record IsKept {C : Type 0} (members : store.Ghosts C) (old new : C) : Type 0
   pub start : members.start new ≡ members.start old
   pub end : members.«end» new ≡ members.«end» old
   pub items : members.items new ≡ members.items old
+  pub head : members.head new ≡ members.head old
+
+-- a store's items grew by these, and else it has what it had
+pub record HasGrown {C : Type 0} (members : store.Ghosts C) (old new : C) (more : List Bytes) : Type 0 where
+  pub start : members.start new ≡ members.start old
+  pub end : members.«end» new ≡ members.«end» old + length more
+  pub items : Grows (members.items old) (members.items new) more
+  pub head : members.head new ≡ members.head old
+
+-- they grew by a first part of these
+pub record HasGrownPart {C : Type 0} (members : store.Ghosts C) (old new : C) (more : List Bytes) : Type 0 where
+  pub start : members.start new ≡ members.start old
+  pub from : members.«end» old ≤ members.«end» new
+  pub within : members.«end» new ≤ members.«end» old + length more
+  pub items : GrowsPart (members.items old) (members.items new) more
   pub head : members.head new ≡ members.head old
 
 -- why a log's call failed, where its store's did

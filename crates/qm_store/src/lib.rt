@@ -2,7 +2,7 @@
 #![tactic(auto)]
 
 ghost use Rattle.std.specs.Prelude.{◌≡◌, ℕ, ◌+◌, ◌-◌, ◌^◌, ◌<◌, ◌≤◌, List, length, map, slice_get};
-ghost use Rattle.std.specs.Prelude.{Option, Some, IfSome, IfOk, OnOk, OnErr, IsErrOf};
+ghost use Rattle.std.specs.Prelude.{Option, Some, None, IfSome, IfOk, OnOk, OnErr, IsErrOf};
 ghost use Rattle.qm_model.specs.Causes.{IsCause, Grows, GrowsPart};
 
 mod log;
@@ -103,6 +103,7 @@ pub trait Store: Drop {
         ensures err { OnErr result (GrowsPart (items self.old) (items self.new) (map (λ v. v.items) added.now)) }
         ensures same_start { start self.new ≡ start self.old }
         ensures same_head { head self.new ≡ head self.old }
+        ensures untold { items self.old ≡ None → items self.new ≡ None }
         ensures grows { end self.old ≤ end self.new }
         ensures within { end self.new ≤ end self.old + length added.now }
         ensures cause { IsCause (faults self.old) (faults self.new) (IsErrOf result StoreError.Failed) };

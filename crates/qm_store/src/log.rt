@@ -6,7 +6,7 @@ ghost use Rattle.std.specs.List.{concat};
 ghost use Rattle.qm_model.specs.Causes.{IsCause, Rose, Grows, GrowsPart};
 ghost use Rattle.qm_model.specs.Trees as trees;
 ghost use Rattle.qm_merkle.specs.Mems.{Stands};
-ghost use Rattle.qm_store.specs.Log.{digests_from, IsHead, IsLog, IsKept};
+ghost use Rattle.qm_store.specs.Log.{Log, digests_from, IsHead, IsLog, IsKept, HasGrown, HasGrownPart, store_given};
 
 use crate::{Store, StoreError};
 use qm_base::{Digest, Hasher, Location};
@@ -108,6 +108,7 @@ impl<F: Family, C: Store, D: Digest, H: Hasher<Digest = D> + Drop> AuthLog<F, C,
         ensures stands { (list : List (List ℕ)) → length list ≡ size → IfSome (C.items store) (λ xs. IfSome (C.head store) (λ h.
             take (size - C.start store) xs ≡ drop (C.start store) list → IsHead F.shape D.bytes H.hash (C.start store) (digests_from H.hash F.shape 0 list) h
             → IfOk result (λ log. IsLog C.Store F.shape D.bytes H.hash log list))) }
+        ensures start { IfOk result (λ log. log.tree.start ≡ C.start store) }
         ensures size { IfOk result (λ log. log.tree.leaves ≡ size) }
         ensures kept { IfOk result (λ log. IsKept C.Store store log.store) }
         ensures back { IfErr result (λ r. (s : C) × (r.given ≡ LogGiven.Store s) × IsKept C.Store store s × IsCause (C.faults store) (C.faults s) (r.error ≡ LogError.Store)) }
@@ -129,6 +130,117 @@ impl<F: Family, C: Store, D: Digest, H: Hasher<Digest = D> + Drop> AuthLog<F, C,
                 error,
             }),
         }
+    }
+
+    /// Puts these behind the last item, and their leaves behind the last leaf. Where memory lacks
+    /// before the store is called, the log is given back as it was, and else the store.
+    pub fn append_batch(self, alloc: Global, items: &[Vec<u8>]) -> Result<Self, LogRefusal<Self, C>>
+        requires room { self.tree.leaves + length items.now ≤ 2 ^ 62 }
+        requires last { C.end self.store ≡ self.tree.leaves }
+        ensures stands { (list : List (List ℕ)) → IsLog C.Store F.shape D.bytes H.hash self list → IfOk result (λ log. IsLog C.Store F.shape D.bytes H.hash log (list ++ map (λ v. v.items) items.now)) }
+        ensures start { IfOk result (λ log. log.tree.start ≡ self.tree.start) }
+        ensures size { IfOk result (λ log. log.tree.leaves ≡ self.tree.leaves + length items.now) }
+        ensures grown { IfOk result (λ log. HasGrown C.Store self.store log.store (map (λ v. v.items) items.now)) }
+        ensures part { IfErr result (λ r. HasGrownPart C.Store self.store (store_given r.given) (map (λ v. v.items) items.now)) }
+        ensures back { IfErr result (λ r. (log : Log C D) → r.given ≡ LogGiven.Log log → (log ≡ self) × (r.error ≡ LogError.Memory)) }
+        ensures never { IfErr result (λ r. (r.error ≡ LogError.Memory) ⊎ (r.error ≡ LogError.Store)) }
+        ensures cause { IfErr result (λ r. IsCause (C.faults self.store) (C.faults (store_given r.given)) (r.error ≡ LogError.Store)) }
+        ensures later { IfOk result (λ log. C.faults self.store ≤ C.faults log.store) }
+    {
+        let AuthLog {
+            mut store,
+            mut tree,
+            mut hasher,
+        } = self;
+        match add_items(alloc, &mut tree, &mut hasher, items) {
+            Ok(()) => match store.append(items) {
+                Ok(()) => Ok(AuthLog {
+                    store,
+                    tree,
+                    hasher,
+                }),
+                Err(error) => Err(LogRefusal {
+                    given: LogGiven::Store(store),
+                    error: LogError::from(error),
+                }),
+            },
+            Err(_) => Err(LogRefusal {
+                given: LogGiven::Log(AuthLog {
+                    store,
+                    tree,
+                    hasher,
+                }),
+                error: LogError::Memory,
+            }),
+        }
+    }
+
+    /// Reads the item at a location.
+    pub fn read(&mut self, at: u64) -> Result<Vec<u8>, LogError>
+        requires { at < self.old.tree.leaves }
+        ensures item { (list : List (List ℕ)) → IsLog C.Store F.shape D.bytes H.hash self.old list → IfOk result (λ v. IfSome (C.items self.old.store) (λ _. slice_get list at ≡ Some v.items)) }
+        ensures stands { (list : List (List ℕ)) → IsLog C.Store F.shape D.bytes H.hash self.old list → IsLog C.Store F.shape D.bytes H.hash self.new list }
+        ensures pruned { (result ≡ Err (LogError.ItemPruned at)) ↔ (at < self.old.tree.start) }
+        ensures never { IfErr result (λ e. (e ≡ LogError.Memory) ⊎ ((e ≡ LogError.Store) ⊎ (e ≡ LogError.ItemPruned at))) }
+        ensures tree { self.new.tree ≡ self.old.tree }
+        ensures kept { IsKept C.Store self.old.store self.new.store }
+        ensures cause { IsCause (C.faults self.old.store) (C.faults self.new.store) (IsErrOf result LogError.Store) }
+    {
+        let (start, _) = self.tree.bounds();
+        if at < start.get() {
+            return Err(LogError::ItemPruned(at));
+        }
+        Ok(self.store.read(at)?)
+    }
+
+    /// The root of the tree, the first of whose peaks are inactive.
+    pub fn root(&mut self, alloc: Global, inactive: usize) -> Result<D, AllocError>
+        requires { inactive ≤ length (trees.peaks F.shape self.old.tree.leaves) }
+        ensures value { (list : List (List ℕ)) → IsLog C.Store F.shape D.bytes H.hash self.old list → IfOk result (λ d. D.bytes d ≡ trees.root H.hash F.shape (digests_from H.hash F.shape 0 list) inactive) }
+        ensures same { self.new ≡ self.old }
+    {
+        self.tree.root(alloc, &mut self.hasher, inactive)
+    }
+
+    /// How many items the log has, with those before the start.
+    pub fn size(&self) -> u64
+        ensures { result ≡ self.now.tree.leaves }
+    {
+        self.tree.leaves().get()
+    }
+
+    /// The location of the first item that is kept, and how many items the log has.
+    pub fn bounds(&self) -> (u64, u64)
+        ensures start { result.0 ≡ self.now.tree.start }
+        ensures size { result.1 ≡ self.now.tree.leaves }
+        ensures order { result.0 ≤ result.1 }
+        ensures limit { result.1 ≤ 2 ^ 62 }
+        ensures first { C.start self.now.store ≡ self.now.tree.start }
+        ensures past { self.now.tree.leaves ≤ C.end self.now.store }
+    {
+        let (start, leaves) = self.tree.bounds();
+        (start.get(), leaves.get())
+    }
+
+    /// The tree over the items' leaves.
+    pub fn tree(&self) -> &Mem<F, D>
+        ensures { result.now ≡ self.now.tree }
+    {
+        &self.tree
+    }
+
+    /// The store.
+    pub fn store(&self) -> &C
+        ensures { result.now ≡ self.now.store }
+    {
+        &self.store
+    }
+
+    /// Gives the store back.
+    pub fn close(self) -> C
+        ensures { result ≡ self.store }
+    {
+        self.store
     }
 }
 
@@ -234,6 +346,41 @@ fn read_digests<F: Family, C: Store, D: Digest, H: Hasher<Digest = D>>(
     for at in start..size {
         let item = store.read(at)?;
         made.push(leaf_digest::<F, H>(hasher, at, &item))?;
+    }
+    Ok(made)
+}
+
+// Adds the leaves of items to a tree.
+fn add_items<F: Family, D: Digest, H: Hasher<Digest = D>>(
+    alloc: Global,
+    tree: &mut Mem<F, D>,
+    hasher: &mut StandardHasher<H>,
+    items: &[Vec<u8>],
+) -> Result<(), AllocError>
+    requires { tree.old.leaves + length items.now ≤ 2 ^ 62 }
+    ensures start { OnOk result (tree.new.start ≡ tree.old.start) }
+    ensures leaves { OnOk result (tree.new.leaves ≡ tree.old.leaves + length items.now) }
+    ensures stands { (list : List (List ℕ)) → Stands F.shape D.bytes H.hash tree.old (digests_from H.hash F.shape 0 list) → OnOk result (Stands F.shape D.bytes H.hash tree.new (digests_from H.hash F.shape 0 (list ++ map (λ v. v.items) items.now))) }
+    ensures err { OnErr result (tree.new ≡ tree.old) }
+{
+    let size = tree.leaves().get();
+    let digests = item_digests::<F, D, H>(alloc, hasher, size, items)?;
+    add_leaves(alloc, tree, hasher, &digests)
+}
+
+// The leaves' digests of items from a location on.
+fn item_digests<F: Family, D: Digest, H: Hasher<Digest = D>>(
+    alloc: Global,
+    hasher: &mut StandardHasher<H>,
+    from: u64,
+    items: &[Vec<u8>],
+) -> Result<Vec<D>, AllocError>
+    requires { from + length items.now ≤ 2 ^ 62 }
+    ensures { IfOk result (λ v. map D.bytes v.items ≡ digests_from H.hash F.shape from (map (λ v. v.items) items.now)) }
+{
+    let mut made = Vec::with_capacity(alloc, items.len())?;
+    for (index, item) in items.iter().enumerate() {
+        made.push(leaf_digest::<F, H>(hasher, from + index as u64, item))?;
     }
     Ok(made)
 }
