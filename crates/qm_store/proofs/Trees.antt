@@ -1,12 +1,12 @@
 -- Trees that begin at a store's start, and grow by a batch of leaves.
-use Rattle.std.proofs.Common.{◌≡◌, ℕ, suc, ◌+◌, ◌*◌, ◌^◌, ◌<◌, ◌≤◌, List, [], ◌∷◌, ◌++◌, length, map, take, drop, get_or, arith, ap, ap₂, sym, ◌∙◌, refl, subst, Contains}
+use Rattle.std.proofs.Common.{◌≡◌, ℕ, suc, ◌^◌, ◌≤◌, List, [], ◌∷◌, ◌++◌, length, map, take, drop, get_or, arith, ap, ap₂, sym, ◌∙◌, refl, subst, Contains}
 use Rattle.std.specs.List.{concat}
 use Rattle.std.proofs.lemmas.List.{length-take-le, length-map}
 use Rattle.qm_model.specs.Operations.{Bytes}
-use Rattle.qm_model.specs.Trees.{Shape, Node, peaks, digest_of}
+use Rattle.qm_model.specs.Trees.{Shape, peaks, digest_of}
 use Rattle.qm_model.specs.Families.{Births, IsFamily, HasPeaks}
 use Rattle.qm_merkle.specs.Mems.{Kept, Stands}
-use Rattle.qm_merkle.specs.Batches.{Draft, Batch, Layer, stops, all_layers, replaced_from, drafted, IsHistory}
+use Rattle.qm_merkle.specs.Batches.{Draft, Batch, stops, all_layers, replaced_from, drafted}
 use Rattle.qm_merkle.proofs.Growth.{digest-append, map_same}
 use Rattle.qm_store.specs.Log.{digests_from, IsHead}
 use Rattle.qm_store.proofs.Leaves.{pieces-same, length-digests_from, digests_from-split}

@@ -1,4 +1,4 @@
-use Rattle.std.proofs.Common.{◌≡◌, ◌∙◌, ◌++◌, ◌∷◌, [], OnOk, ap, sym, subst, refl, arith}
+use Rattle.std.proofs.Common.{◌∙◌, ◌++◌, ◌∷◌, [], OnOk, ap, sym, subst, refl, arith}
 use Rattle.qm_merkle.specs.Mems.{Stands}
 use Rattle.qm_merkle.specs.Batches.{IsHistory}
 use Rattle.qm_store.proofs.Trees.{begins, drafted-added}

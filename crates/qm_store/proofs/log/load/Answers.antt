@@ -1,4 +1,4 @@
-use Rattle.std.proofs.Common.{◌≡◌, ◌∙◌, ◌-◌, ◌≤◌, ◌++◌, length, map, take, drop, ap, sym, subst, arith, IfSome}
+use Rattle.std.proofs.Common.{◌≡◌, ◌∙◌, ◌-◌, ◌≤◌, ◌++◌, length, map, take, ap, subst, arith, IfSome}
 use Rattle.std.proofs.lemmas.Option.{IfSome_then}
 use Rattle.qm_merkle.specs.Mems.{Stands}
 use Rattle.qm_store.specs.Log.{digests_from}
