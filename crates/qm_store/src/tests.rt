@@ -1,9 +1,13 @@
-// That calls succeed, and that the faults come where they are listed.
+// That calls succeed, and that the faults come where they are listed; and roots that were computed by another program.
 ghost use Rattle.std.specs.Prelude.{◌≡◌, IfOk, length};
 
 use super::*;
+use qm_base::{Digest, Sha256, Sha256Digest};
+use qm_merkle::mmr::Family;
 use std::alloc::Global;
 use std::test::Fail;
+
+type Log = AuthLog<Family, MemStore, Sha256Digest, Sha256>;
 
 fn two_items(alloc: Global) -> Result<Vec<Vec<u8>>, AllocError>
     ensures { IfOk result (λ v. length v.items ≡ 2) }
@@ -27,6 +31,7 @@ fn reads_what_was_appended(rt: HostRuntime) -> Result<(), Fail> {
     assert_eq!(rt; store.bounds(), (5, 5));
     store.append(&two_items(rt.alloc())?)?;
     assert_eq!(rt; store.bounds(), (5, 7));
+    assert_eq!(rt; store.head()?.len(), 0);
     assert_eq!(rt; store.read(5)?.as_slice(), [1, 2].as_slice());
     assert_eq!(rt; store.read(6)?.as_slice(), [3].as_slice());
     assert_eq!(rt; last(&mut store)?, Some(vec![in rt.alloc(); 3u8]?));
@@ -57,5 +62,110 @@ fn fails_at_the_listed_calls(rt: HostRuntime) -> Result<(), Fail> {
 fn tells_its_errors(rt: HostRuntime) -> Result<(), Fail> {
     let text = format!(in rt.alloc(); "{}, {}", StoreError::Memory, StoreError::Failed)?;
     assert_eq!(rt; text.as_str(), "out of memory, store fault");
+    Ok(())
+}
+
+fn first_items(alloc: Global) -> Result<Vec<Vec<u8>>, AllocError>
+    ensures { IfOk result (λ v. length v.items ≡ 5) }
+{
+    Ok(vec![in alloc;
+        vec![in alloc; 1u8]?,
+        vec![in alloc; 2u8]?,
+        vec![in alloc; 3u8]?,
+        vec![in alloc; 4u8]?,
+        vec![in alloc; 5u8]?,
+    ]?)
+}
+
+fn last_items(alloc: Global) -> Result<Vec<Vec<u8>>, AllocError>
+    ensures { IfOk result (λ v. length v.items ≡ 3) }
+{
+    Ok(vec![in alloc;
+        vec![in alloc; 6u8]?,
+        vec![in alloc; 7u8]?,
+        vec![in alloc; 8u8]?,
+    ]?)
+}
+
+// A store of five items, which fails at the call of this number.
+fn five(alloc: Global, fail: u64) -> Result<MemStore, StoreError>
+    ensures { IfOk result (λ s. (s.start ≡ 0) × (length s.items ≡ 5)) }
+{
+    let mut store = MemStore::new(alloc, vec![in alloc; fail]?);
+    store.append(&first_items(alloc)?)?;
+    Ok(store)
+}
+
+// The log of such a store, with three items more.
+fn eight(alloc: Global, store: MemStore, more: &[Vec<u8>]) -> Result<Log, LogRefusal<Log, MemStore>>
+    requires first { store.start ≡ 0 }
+    requires five { length store.items ≡ 5 }
+    requires three { length more.now ≡ 3 }
+    ensures { IfOk result (λ log. log.tree.leaves ≡ 8) }
+{
+    match Log::open(alloc, store, Sha256::new(), 5) {
+        Ok(log) => log.append_batch(alloc, more),
+        Err(refusal) => Err(refusal),
+    }
+}
+
+// The error, and the bounds of the store that is given back.
+fn refused(refusal: LogRefusal<Log, MemStore>) -> (LogError, Option<(u64, u64)>) {
+    let LogRefusal { given, error } = refusal;
+    match given {
+        LogGiven::Log(_) => (error, None),
+        LogGiven::Store(store) => (error, Some(store.bounds())),
+    }
+}
+
+#[test]
+fn a_log_grows(rt: HostRuntime) -> Result<(), Fail> {
+    let store = five(rt.alloc(), 100)?;
+    let more = last_items(rt.alloc())?;
+    match eight(rt.alloc(), store, &more) {
+        Ok(mut log) => {
+            assert_eq!(rt; log.size(), 8);
+            assert_eq!(rt; log.read(6)?.as_slice(), [7].as_slice());
+            let root = log.root(rt.alloc(), 0)?;
+            assert!(rt; root.bytes().starts_with(&[0x75, 0x49, 0x31, 0xb5]));
+            assert_eq!(rt; log.tree().leaves().get(), 8);
+            assert_eq!(rt; log.store().faults(), 0);
+            assert_eq!(rt; log.close().bounds(), (0, 8));
+        }
+        Err(refusal) => assert_eq!(rt; refused(refusal), (LogError::Memory, None)),
+    }
+    Ok(())
+}
+
+#[test]
+fn each_failing_call_gives_back_the_store(rt: HostRuntime) -> Result<(), Fail> {
+    for call in 1..9 {
+        let store = five(rt.alloc(), call)?;
+        let more = last_items(rt.alloc())?;
+        match eight(rt.alloc(), store, &more) {
+            Ok(_) => assert_eq!(rt; call, 8),
+            Err(refusal) => assert_eq!(rt;
+                refused(refusal),
+                (LogError::Store, Some((0, 5))),
+                "at {call}"
+            ),
+        }
+    }
+    Ok(())
+}
+
+#[test]
+fn tells_why_a_log_failed(rt: HostRuntime) -> Result<(), Fail> {
+    let text = format!(in rt.alloc();
+        "{}, {}, {}, {}",
+        LogError::Memory,
+        LogError::Store,
+        LogError::Head,
+        LogError::ItemPruned(3)
+    )?;
+    assert_eq!(rt;
+        text.as_str(),
+        "out of memory, store fault, head does not match the start, item pruned: 3"
+    );
     Ok(())
 }
