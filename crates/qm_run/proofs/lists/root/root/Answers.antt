@@ -36,4 +36,4 @@ returns g c =
     (new_root draft start base added is hash shape bytes view c.args.operations.now c.leaves.result c.new.result c.inactive_peaks-inactive.result
     (ap (λ (m : Kept _). m.leaves) c.new-tree.ensures.empty) (ap (map bytes) c.deref.ensures.value ∙ c.in_ok-leaves.ensures)
     (c.leaves.ensures ∙ c.in_ok-batch.ensures.leaves) (c.new.ensures ∙ c.floor.ensures) c.inactive_peaks-inactive.ensures)
-    (c.root.ensures (drafted bytes draft []) ([] ∷ []) history)
+    (c.root.ensures.root (drafted bytes draft []) ([] ∷ []) history)
