@@ -7,14 +7,14 @@ use Rattle.qm_model.specs.Policies.{Policy}
 use Rattle.qm_model.specs.Lines.{Line}
 use Rattle.qm_model.specs.Grammar.{of_words, line_of, commands_of, bad_from, onto, bad_here}
 
--- only one, two or four words can be a line
-pub no_line : (refs : List (Bor Bytes)) → length refs ≢ 1 → length refs ≢ 2 → length refs ≢ 4 → None ≡ of_words (map (λ (x : Bor Bytes). x.now) refs)
-no_line [] one two four = refl
-no_line (w ∷ []) one two four = absurd (one refl)
-no_line (w ∷ a ∷ []) one two four = absurd (two refl)
-no_line (w ∷ a ∷ b ∷ []) one two four = refl
-no_line (w ∷ a ∷ b ∷ c ∷ []) one two four = absurd (four refl)
-no_line (w ∷ a ∷ b ∷ c ∷ d ∷ ws) one two four = refl
+-- only one to four words can be a line
+pub no_line : (refs : List (Bor Bytes)) → length refs ≢ 1 → length refs ≢ 2 → length refs ≢ 3 → length refs ≢ 4 → None ≡ of_words (map (λ (x : Bor Bytes). x.now) refs)
+no_line [] one two three four = refl
+no_line (w ∷ []) one two three four = absurd (one refl)
+no_line (w ∷ a ∷ []) one two three four = absurd (two refl)
+no_line (w ∷ a ∷ b ∷ []) one two three four = absurd (three refl)
+no_line (w ∷ a ∷ b ∷ c ∷ []) one two three four = absurd (four refl)
+no_line (w ∷ a ∷ b ∷ c ∷ d ∷ ws) one two three four = refl
 
 -- the i-th line of those that are lent, and what it is
 module _ (refs : List (Bor Bytes)) (i : ℕ) (d : Bor Bytes) (h : i < length refs) (o : Option (Line Policy)) (parsed : o ≡ line_of (get_or refs i d).now) where

@@ -28,24 +28,29 @@ module _ {K V : Type 0} (key : K → Bytes) (value : V → Bytes) where
   line_view policy commands.Open = lines.Open
   line_view policy commands.Batch = lines.Batch
   line_view policy (commands.Put h k v) = lines.Put h (key k) (value v)
+  line_view policy (commands.Del h k) = lines.Del h (key k)
   line_view policy (commands.Merkleize h p m) = lines.Merkleize h (policy p) (option_map value m)
   line_view policy (commands.Apply h) = lines.Apply h
   line_view policy (commands.Ops h) = lines.Ops h
   line_view policy (commands.Get k) = lines.Get (key k)
   line_view policy commands.Info = lines.Info
+  line_view policy commands.Root = lines.Root
+  line_view policy commands.Meta = lines.Meta
 
   abbrev pub listed_view : Listed K V → Operation
   listed_view (listed.Update k v n) = update (key k) (value v) (option_map key n)
   listed_view (listed.Delete k) = delete (key k)
   listed_view (listed.Commit m f) = commit (option_map value m) f
 
-  abbrev pub answer_view : Reply K V → lines.Answer
-  answer_view (replies.Opened i start size) = lines.Opened i start size
-  answer_view (replies.Batch h) = lines.Started h
-  answer_view replies.Done = lines.Done
-  answer_view (replies.Merkleized h base size floor) = lines.Merkleized h base size floor
-  answer_view (replies.Applied size) = lines.Applied size
-  answer_view (replies.Ops base ops) = lines.Listed base (map listed_view ops.items)
-  answer_view (replies.Read v) = lines.Read (option_map value v)
-  answer_view (replies.Info start size floor boundary is_live) = lines.Told start size floor boundary is_live
-  answer_view (replies.Refused r) = lines.Refuses (refused_view r)
+  abbrev pub answer_view : {D : Type 0} → (D → Bytes) → Reply K V D → lines.Answer
+  answer_view digest (replies.Opened i start size) = lines.Opened i start size
+  answer_view digest (replies.Batch h) = lines.Started h
+  answer_view digest replies.Done = lines.Done
+  answer_view digest (replies.Merkleized h base size floor) = lines.Merkleized h base size floor
+  answer_view digest (replies.Applied size) = lines.Applied size
+  answer_view digest (replies.Ops base ops) = lines.Listed base (map listed_view ops.items)
+  answer_view digest (replies.Read v) = lines.Read (option_map value v)
+  answer_view digest (replies.Info start size floor boundary is_live) = lines.Told start size floor boundary is_live
+  answer_view digest (replies.Root r o) = lines.Rooted (digest r) (digest o)
+  answer_view digest (replies.Meta v) = lines.Metadata (option_map value v)
+  answer_view digest (replies.Refused r) = lines.Refuses (refused_view r)

@@ -9,6 +9,8 @@ pub enum Command<K, V, P> {
     Batch,
     /// Writes a value for a key, in the batch of this number.
     Put(u64, K, V),
+    /// Deletes a key, in the batch of this number.
+    Del(u64, K),
     /// Merkleizes the batch of this number under a policy, with this metadata.
     Merkleize(u64, P, Option<V>),
     /// Applies the merkleized batch of this number.
@@ -19,4 +21,8 @@ pub enum Command<K, V, P> {
     Get(K),
     /// Tells the database's numbers.
     Info,
+    /// Tells the database's roots.
+    Root,
+    /// Tells the metadata of the last commit.
+    Meta,
 }

@@ -95,13 +95,15 @@ fn policy(word: &[u8]) -> Option<AnyPolicy>
     }
 }
 
-fn metadata(word: &[u8]) -> Option<Option<ByteValue>>
-    ensures { result ≡ grammar.metadata_of word.now }
+fn metadata(alloc: Global, word: &[u8]) -> Result<Option<Option<ByteValue>>, AllocError>
+    ensures { IfOk result (λ found. found ≡ grammar.metadata_of word.now) }
 {
     if word == b"none".as_slice() {
-        Some(None)
-    } else {
-        None
+        return Ok(Some(None));
+    }
+    match value(alloc, word)? {
+        None => Ok(None),
+        Some(value) => Ok(Some(Some(value))),
     }
 }
 
@@ -114,6 +116,10 @@ fn of_one(word: &[u8]) -> Option<ByteCommand>
         Some(Command::Batch)
     } else if word == b"info".as_slice() {
         Some(Command::Info)
+    } else if word == b"root".as_slice() {
+        Some(Command::Root)
+    } else if word == b"meta".as_slice() {
+        Some(Command::Meta)
     } else {
         None
     }
@@ -128,6 +134,34 @@ fn of_two(alloc: Global, word: &[u8], first: &[u8]) -> Result<Option<ByteCommand
         Ok(number(first).map(Command::Ops))
     } else if word == b"get".as_slice() {
         Ok(key(alloc, first)?.map(Command::Get))
+    } else {
+        Ok(None)
+    }
+}
+
+fn del(alloc: Global, first: &[u8], second: &[u8]) -> Result<Option<ByteCommand>, AllocError>
+    ensures { IfOk result (λ command. option_map byte_line command ≡ grammar.del_of first.now second.now) }
+{
+    let Some(handle) = number(first) else {
+        return Ok(None);
+    };
+    let Some(key) = key(alloc, second)? else {
+        return Ok(None);
+    };
+    Ok(Some(Command::Del(handle, key)))
+}
+
+fn of_three(
+    alloc: Global,
+    word: &[u8],
+    first: &[u8],
+    second: &[u8],
+) -> Result<Option<ByteCommand>, AllocError>
+    ensures { IfOk result (λ command.
+        option_map byte_line command ≡ grammar.of_three word.now first.now second.now) }
+{
+    if word == b"del".as_slice() {
+        del(alloc, first, second)
     } else {
         Ok(None)
     }
@@ -154,13 +188,25 @@ fn put(
     Ok(Some(Command::Put(handle, key, value)))
 }
 
-fn merkleize(first: &[u8], second: &[u8], third: &[u8]) -> Option<ByteCommand>
-    ensures { option_map byte_line result ≡ grammar.merkleize_of first.now second.now third.now }
+fn merkleize(
+    alloc: Global,
+    first: &[u8],
+    second: &[u8],
+    third: &[u8],
+) -> Result<Option<ByteCommand>, AllocError>
+    ensures { IfOk result (λ command.
+        option_map byte_line command ≡ grammar.merkleize_of first.now second.now third.now) }
 {
-    let handle = number(first)?;
-    let policy = policy(second)?;
-    let metadata = metadata(third)?;
-    Some(Command::Merkleize(handle, policy, metadata))
+    let Some(handle) = number(first) else {
+        return Ok(None);
+    };
+    let Some(policy) = policy(second) else {
+        return Ok(None);
+    };
+    let Some(metadata) = metadata(alloc, third)? else {
+        return Ok(None);
+    };
+    Ok(Some(Command::Merkleize(handle, policy, metadata)))
 }
 
 fn of_four(
@@ -176,7 +222,7 @@ fn of_four(
     if word == b"put".as_slice() {
         put(alloc, first, second, third)
     } else if word == b"merkleize".as_slice() {
-        Ok(merkleize(first, second, third))
+        merkleize(alloc, first, second, third)
     } else {
         Ok(None)
     }
@@ -190,7 +236,7 @@ fn of_words(alloc: Global, words: &[&[u8]]) -> Result<Option<ByteCommand>, Alloc
         [] => Ok(None),
         [word] => Ok(of_one(word)),
         [word, first] => of_two(alloc, word, first),
-        [_, _, _] => Ok(None),
+        [word, first, second] => of_three(alloc, word, first, second),
         [word, first, second, third] => of_four(alloc, word, first, second, third),
         _ => Ok(None),
     }

@@ -19,9 +19,9 @@ pub enum Refused {
     StaleBatch,
 }
 
-/// The reply to a command, with keys and values of these types.
+/// The reply to a command, with keys, values and digests of these types.
 #[derive(Drop)]
-pub enum Reply<K, V> {
+pub enum Reply<K, V, D> {
     /// The opening's number, and the database's start and size.
     Opened(u64, u64, u64),
     /// The batch's number.
@@ -37,5 +37,9 @@ pub enum Reply<K, V> {
     Read(Option<V>),
     /// Start, size, floor and boundary, and whether any key is live.
     Info(u64, u64, u64, u64, bool),
+    /// The root and the operations root.
+    Root(D, D),
+    /// The metadata of the last commit.
+    Meta(Option<V>),
     Refused(Refused),
 }

@@ -1,5 +1,5 @@
 use super::*;
-use qm_base::{ByteKey, ByteString, ByteValue};
+use qm_base::{ByteKey, ByteString, ByteValue, Digest, Sha256Digest};
 use std::alloc::{AllocError, Global};
 use std::process::Abort;
 use std::test::Fail;
@@ -27,9 +27,13 @@ fn words(alloc: Global, command: &Option<ByteCommand>) -> Result<String, AllocEr
             let value = value.as_bytes();
             format!(in alloc; "put {handle} {key:?} {value:?}")
         }
+        Some(Command::Del(handle, key)) => {
+            let key = key.as_bytes();
+            format!(in alloc; "del {handle} {key:?}")
+        }
         Some(Command::Merkleize(handle, policy, metadata)) => {
-            let is_given = metadata.is_some();
-            format!(in alloc; "merkleize {handle} {policy:?} {is_given}")
+            let metadata = metadata.as_ref().map(ByteValue::as_bytes);
+            format!(in alloc; "merkleize {handle} {policy:?} {metadata:?}")
         }
         Some(Command::Apply(handle)) => format!(in alloc; "apply {handle}"),
         Some(Command::Ops(handle)) => format!(in alloc; "ops {handle}"),
@@ -38,6 +42,8 @@ fn words(alloc: Global, command: &Option<ByteCommand>) -> Result<String, AllocEr
             format!(in alloc; "get {key:?}")
         }
         Some(Command::Info) => String::from_str(alloc, "info"),
+        Some(Command::Root) => String::from_str(alloc, "root"),
+        Some(Command::Meta) => String::from_str(alloc, "meta"),
     }
 }
 
@@ -48,9 +54,14 @@ fn lines_are_commands(rt: HostRuntime) -> Result<(), Fail> {
         ("open", "open"),
         ("batch", "batch"),
         ("info", "info"),
+        ("root", "root"),
+        ("meta", "meta"),
         ("put 1 6b 76", "put 1 [107] [118]"),
         ("put 0 00fF -", "put 0 [0, 255] []"),
-        ("merkleize 1 prop none", "merkleize 1 Proportional false"),
+        ("del 7 6B", "del 7 [107]"),
+        ("merkleize 1 prop none", "merkleize 1 Proportional None"),
+        ("merkleize 1 prop -", "merkleize 1 Proportional Some([])"),
+        ("merkleize 1 prop 0f", "merkleize 1 Proportional Some([15])"),
         ("apply 10", "apply 10"),
         ("ops 18446744073709551615", "ops 18446744073709551615"),
         ("get 4a4A", "get [74, 74]"),
@@ -76,7 +87,11 @@ fn lines_are_commands(rt: HostRuntime) -> Result<(), Fail> {
         ("put 1 6b 767", "bad"),
         ("merkleize 1 prop", "bad"),
         ("merkleize 1 hold none", "bad"),
-        ("merkleize 1 prop -", "bad"),
+        ("merkleize 1 prop non", "bad"),
+        ("del 1", "bad"),
+        ("del 1 -", "bad"),
+        ("del 1 6b 76", "bad"),
+        ("root 1", "bad"),
         ("merkleize 1 prop none ", "bad"),
     ];
     for (line, want) in lines {
@@ -136,7 +151,7 @@ fn inputs_are_lines(rt: HostRuntime) -> Result<(), Fail> {
 fn expect_text(
     rt: &impl Abort,
     alloc: Global,
-    reply: Reply<ByteKey, ByteValue>,
+    reply: Reply<ByteKey, ByteValue, Sha256Digest>,
     want: &str,
 ) -> Result<(), AllocError> {
     let text = reply_text(alloc, &reply)?;
@@ -198,6 +213,21 @@ fn replies_have_text(rt: HostRuntime) -> Result<(), Fail> {
         Reply::Info(0, 1, 0, 0, false),
         "info 0 1 0 0 empty",
     )?;
+    let zeros = Sha256Digest::from_bytes(&[0; 32]).ok_or("no digest")?;
+    let elevens = Sha256Digest::from_bytes(&[11; 32]).ok_or("no digest")?;
+    expect_text(
+        &rt,
+        alloc,
+        Reply::Root(zeros, elevens),
+        "root 0000000000000000000000000000000000000000000000000000000000000000 0b0b0b0b0b0b0b0b0b0b0b0b0b0b0b0b0b0b0b0b0b0b0b0b0b0b0b0b0b0b0b0b",
+    )?;
+    expect_text(&rt, alloc, Reply::Meta(None), "meta none")?;
+    expect_text(
+        &rt,
+        alloc,
+        Reply::Meta(Some(value(alloc, 0x0a)?)),
+        "meta 0a",
+    )?;
     expect_text(
         &rt,
         alloc,
@@ -222,7 +252,7 @@ fn replies_have_text(rt: HostRuntime) -> Result<(), Fail> {
         Reply::Refused(Refused::StaleBatch),
         "refused StaleBatch",
     )?;
-    let mut replies: Vec<Reply<ByteKey, ByteValue>> = Vec::new(alloc);
+    let mut replies: Vec<Reply<ByteKey, ByteValue, Sha256Digest>> = Vec::new(alloc);
     replies.push(Reply::Batch(1))?;
     replies.push(Reply::Done)?;
     let text = replies_text(alloc, &replies)?;

@@ -6,7 +6,7 @@ ghost use Rattle.qm_model.specs.Text as texts;
 ghost use Rattle.qm_lines.specs.Views.{refused_view, listed_view, answer_view};
 
 use crate::reply::{Listed, Refused, Reply};
-use qm_base::{ByteString, Key, VariableValue};
+use qm_base::{ByteString, Digest, Key, VariableValue};
 use std::alloc::{AllocError, Global};
 
 fn hex_text(alloc: Global, bytes: &[u8]) -> Result<String, AllocError>
@@ -100,12 +100,12 @@ fn live_text(is_live: bool) -> &'static str
     if is_live { "live" } else { "empty" }
 }
 
-fn line_text<K: Key, V: VariableValue>(
+fn line_text<K: Key, V: VariableValue, D: Digest>(
     alloc: Global,
-    reply: &Reply<K, V>,
+    reply: &Reply<K, V, D>,
 ) -> Result<String, AllocError>
     ensures { IfOk result (λ text.
-        string_bytes text ≡ texts.reply_line (answer_view K.bytes V.bytes reply.now)) }
+        string_bytes text ≡ texts.reply_line (answer_view K.bytes V.bytes D.bytes reply.now)) }
 {
     match reply {
         Reply::Opened(opening, start, size) => format!(in alloc; "open {opening} {start} {size}"),
@@ -127,6 +127,15 @@ fn line_text<K: Key, V: VariableValue>(
             let live = live_text(*is_live);
             format!(in alloc; "info {start} {size} {floor} {boundary} {live}")
         }
+        Reply::Root(root, operations) => {
+            let root = hex::encode(alloc, root.bytes())?;
+            let operations = hex::encode(alloc, operations.bytes())?;
+            format!(in alloc; "root {root} {operations}")
+        }
+        Reply::Meta(metadata) => {
+            let metadata = optional_text(alloc, metadata)?;
+            format!(in alloc; "meta {metadata}")
+        }
         Reply::Refused(refused) => {
             let refused = refused_text(alloc, *refused)?;
             format!(in alloc; "refused {refused}")
@@ -135,23 +144,23 @@ fn line_text<K: Key, V: VariableValue>(
 }
 
 /// The text of a reply, without a line feed. Want of memory is the only error.
-pub fn reply_text<K: Key, V: VariableValue>(
+pub fn reply_text<K: Key, V: VariableValue, D: Digest>(
     alloc: Global,
-    reply: &Reply<K, V>,
+    reply: &Reply<K, V, D>,
 ) -> Result<Vec<u8>, AllocError>
     ensures { IfOk result (λ text.
-        text.items ≡ texts.reply_line (answer_view K.bytes V.bytes reply.now)) }
+        text.items ≡ texts.reply_line (answer_view K.bytes V.bytes D.bytes reply.now)) }
 {
     Ok(line_text(alloc, reply)?.into_bytes())
 }
 
 /// The text of replies, one line each. Want of memory is the only error.
-pub fn replies_text<K: Key, V: VariableValue>(
+pub fn replies_text<K: Key, V: VariableValue, D: Digest>(
     alloc: Global,
-    replies: &[Reply<K, V>],
+    replies: &[Reply<K, V, D>],
 ) -> Result<Vec<u8>, AllocError>
     ensures { IfOk result (λ text.
-        text.items ≡ texts.text_of (map (answer_view K.bytes V.bytes) replies.now)) }
+        text.items ≡ texts.text_of (map (answer_view K.bytes V.bytes D.bytes) replies.now)) }
 {
     let mut out = Vec::new(alloc);
     for reply in replies {

@@ -4,7 +4,7 @@ use Rattle.std.specs.Prelude.{Contains}
 use Rattle.qm_model.specs.Operations.{Bytes, Operation, fresh}
 use Rattle.qm_model.specs.Writes.{Write}
 use Rattle.qm_model.specs.Batches.{Apart, commitment, fits}
-use Rattle.qm_model.specs.Lines.{Line, Open, Batch, Put, Merkleize, Apply, Ops, Get, Info, Answer}
+use Rattle.qm_model.specs.Lines.{Line, Open, Batch, Put, Del, Merkleize, Apply, Ops, Get, Info, Root, Meta, Answer}
 use Rattle.qm_model.specs.Machine.{Scheme, State, Slot, gone, writing, merkleized, turn, answers, state_after, slot_at, put_in, list_operations, with_database, open_over, merkleize_in, apply_in}
 use Rattle.qm_model.proofs.Chains.{Contains-more}
 
@@ -58,11 +58,14 @@ module _ {P : Type 0} (m : Scheme P) where
   turn_keeps s Open = opened s s.items
   turn_keeps s Batch = with_list s s.database _ (λ list x a. a)
   turn_keeps s (Put h key value) = put_keeps s h _ (slot_at s.table h)
+  turn_keeps s (Del h key) = put_keeps s h _ (slot_at s.table h)
   turn_keeps s (Merkleize h policy meta) = with_list s s.database _ (λ list. merkleize_keeps s h policy meta list (slot_at s.table h))
   turn_keeps s (Apply h) = with_list s s.database _ (λ list. apply_keeps s h list (slot_at s.table h))
   turn_keeps s (Ops h) = listed_keeps s h (slot_at s.table h)
   turn_keeps s (Get key) = with_list s s.database _ (λ list x a. a)
   turn_keeps s Info = with_list s s.database _ (λ list x a. a)
+  turn_keeps s Root = with_list s s.database _ (λ list x a. a)
+  turn_keeps s Meta = with_list s s.database _ (λ list x a. a)
 
   -- what a longer run keeps apart, a shorter one does
   pub Apart-before : (s : State) (line : Line P) → Apart m.root ((turn m s line).1).had → Apart m.root s.had

@@ -6,7 +6,7 @@ use Rattle.hex.specs.Hex.{decode_of}
 use Rattle.hex.specs.declared.error.FromHexError.{FromHexError}
 use Rattle.qm_model.specs.Operations.{Bytes}
 use Rattle.qm_model.specs.Policies.{Policy, proportional}
-use Rattle.qm_model.specs.Lines.{Line, Open, Batch, Put, Merkleize, Apply, Ops, Get, Info}
+use Rattle.qm_model.specs.Lines.{Line, Open, Batch, Put, Del, Merkleize, Apply, Ops, Get, Info, Root, Meta}
 
 -- the number with one decimal digit more, below 2 ^ 64
 abbrev pub next_digit : ℕ → ℕ → Option ℕ
@@ -43,20 +43,28 @@ abbrev pub policy_of : Bytes → Option Policy
 policy_of word = if bytes_eq word (codes "prop") then Some proportional else None
 
 abbrev pub metadata_of : Bytes → Option (Option Bytes)
-metadata_of word = if bytes_eq word (codes "none") then Some None else None
+metadata_of word = if bytes_eq word (codes "none") then Some None else option_map (λ v. Some v) (value_of word)
 
--- the commands of one, two and four words
+-- the commands of one to four words
 abbrev pub of_one : Bytes → Option (Line Policy)
 of_one w =
     if bytes_eq w (codes "open") then Some Open
     else (if bytes_eq w (codes "batch") then Some Batch
-    else (if bytes_eq w (codes "info") then Some Info else None))
+    else (if bytes_eq w (codes "info") then Some Info
+    else (if bytes_eq w (codes "root") then Some Root
+    else (if bytes_eq w (codes "meta") then Some Meta else None))))
 
 abbrev pub of_two : Bytes → Bytes → Option (Line Policy)
 of_two w a =
     if bytes_eq w (codes "apply") then option_map (λ h. Apply h) (number_of a)
     else (if bytes_eq w (codes "ops") then option_map (λ h. Ops h) (number_of a)
     else (if bytes_eq w (codes "get") then option_map (λ k. Get k) (key_of a) else None))
+
+abbrev pub del_of : Bytes → Bytes → Option (Line Policy)
+del_of a b = option_and_then (λ h. option_map (λ k. Del h k) (key_of b)) (number_of a)
+
+abbrev pub of_three : Bytes → Bytes → Bytes → Option (Line Policy)
+of_three w a b = if bytes_eq w (codes "del") then del_of a b else None
 
 abbrev pub put_of : Bytes → Bytes → Bytes → Option (Line Policy)
 put_of a b c = option_and_then (λ h. option_and_then (λ k. option_map (λ v. Put h k v) (value_of c)) (key_of b)) (number_of a)
@@ -73,7 +81,7 @@ abbrev pub of_words : List Bytes → Option (Line Policy)
 of_words [] = None
 of_words (w ∷ []) = of_one w
 of_words (w ∷ a ∷ []) = of_two w a
-of_words (w ∷ a ∷ b ∷ []) = None
+of_words (w ∷ a ∷ b ∷ []) = of_three w a b
 of_words (w ∷ a ∷ b ∷ c ∷ []) = of_four w a b c
 of_words (w ∷ a ∷ b ∷ c ∷ d ∷ ws) = None
 

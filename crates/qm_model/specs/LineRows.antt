@@ -7,14 +7,14 @@ use Rattle.qm_model.specs.Operations.{Bytes}
 use Rattle.qm_model.specs.Live.{floor}
 use Rattle.qm_model.specs.Policies.{Policy, policies, proportional}
 use Rattle.qm_model.specs.Step.{unordered}
-use Rattle.qm_model.specs.Lines.{Put, Merkleize}
+use Rattle.qm_model.specs.Lines.{Put, Del, Merkleize}
 use Rattle.qm_model.specs.Machine.{Scheme, initial, answers}
 use Rattle.qm_model.specs.Grammar.{line_of, commands_in, bad_in}
 use Rattle.qm_model.specs.Text.{text_of}
 
 -- a root under which lists of one length collide, which these rows do not tell from a real one
 abbrev toy : Scheme Policy
-toy = record { kind = unordered; rules = policies; root = λ ops. []; boundary = floor }
+toy = record { kind = unordered; rules = policies; root = λ ops. 0x00 ∷ 0x2a ∷ []; boundary = floor }
 
 abbrev lines : List Bytes → Bytes
 lines ls = join_with_byte 10 ls ++ 10 ∷ []
@@ -28,15 +28,39 @@ one_put_text : text (lines (codes "open" ∷ codes "batch" ∷ codes "put 1 6b 7
 unfolding decode_pairs encode_with digits
 one_put_text = refl
 
+-- the root and the operations root, in lower case
+root_text : text (lines (codes "open" ∷ codes "root" ∷ [])) ≡ lines (codes "open 1 0 1" ∷ codes "root 002a 002a" ∷ [])
+unfolding encode_with digits
+root_text = refl
+
 -- a batch that the database has left behind, its number used up, and a second opening
 stale_text : text (lines (codes "open" ∷ codes "batch" ∷ codes "batch" ∷ codes "put 1 61 01" ∷ codes "merkleize 1 prop none" ∷ codes "apply 1" ∷ codes "merkleize 2 prop none" ∷ codes "apply 2" ∷ codes "open" ∷ []))
     ≡ lines (codes "open 1 0 1" ∷ codes "batch 1" ∷ codes "batch 2" ∷ codes "ok" ∷ codes "merkleized 1 1 4 2" ∷ codes "applied 4" ∷ codes "refused StaleBatch" ∷ codes "refused NoSuchHandle 2" ∷ codes "refused NotOffered" ∷ [])
 unfolding decode_pairs encode_with digits
 stale_text = refl
 
+-- one put, then its key deleted
+put_and_delete_text : text (lines (codes "open" ∷ codes "batch" ∷ codes "put 1 6b 76" ∷ codes "merkleize 1 prop none" ∷ codes "apply 1" ∷ codes "batch" ∷ codes "del 2 6b" ∷ codes "merkleize 2 prop none" ∷ codes "ops 2" ∷ codes "apply 2" ∷ codes "get 6b" ∷ []))
+    ≡ lines (codes "open 1 0 1" ∷ codes "batch 1" ∷ codes "ok" ∷ codes "merkleized 1 1 4 2" ∷ codes "applied 4" ∷ codes "batch 2" ∷ codes "ok" ∷ codes "merkleized 2 4 6 5" ∷ codes "ops 4 D:6b C:none@5" ∷ codes "applied 6" ∷ codes "read none" ∷ [])
+unfolding decode_pairs encode_with digits
+put_and_delete_text = refl
+
+-- a delete of an absent key, metadata with and without bytes, and writes to a batch that is merkleized or none
+metadata_text : text (lines (codes "open" ∷ codes "meta" ∷ codes "batch" ∷ codes "del 1 6b" ∷ codes "merkleize 1 prop aAbb" ∷ codes "ops 1" ∷ codes "apply 1" ∷ codes "meta" ∷ codes "batch" ∷ codes "merkleize 2 prop -" ∷ codes "meta" ∷ codes "apply 2" ∷ codes "meta" ∷ codes "del 2 6b" ∷ codes "del 9 6b" ∷ []))
+    ≡ lines (codes "open 1 0 1" ∷ codes "meta none" ∷ codes "batch 1" ∷ codes "ok" ∷ codes "merkleized 1 1 2 1" ∷ codes "ops 1 C:aabb@1" ∷ codes "applied 2" ∷ codes "meta aabb" ∷ codes "batch 2" ∷ codes "merkleized 2 2 3 2" ∷ codes "meta aabb" ∷ codes "applied 3" ∷ codes "meta -" ∷ codes "refused NoSuchHandle 2" ∷ codes "refused NoSuchHandle 9" ∷ [])
+unfolding decode_pairs encode_with digits
+metadata_text = refl
+
+-- a delete of an absent key alone
+absent_text : text (lines (codes "open" ∷ codes "batch" ∷ codes "del 1 6b" ∷ codes "merkleize 1 prop none" ∷ codes "ops 1" ∷ codes "apply 1" ∷ []))
+    ≡ lines (codes "open 1 0 1" ∷ codes "batch 1" ∷ codes "ok" ∷ codes "merkleized 1 1 2 1" ∷ codes "ops 1 C:none@1" ∷ codes "applied 2" ∷ [])
+unfolding decode_pairs encode_with digits
+absent_text = refl
+
 -- no database, and no line
-closed_text : text (lines (codes "info" ∷ codes "ops 1" ∷ codes "merkleize 1 prop none" ∷ [])) ≡ lines (codes "refused NoDatabase" ∷ codes "refused NoSuchHandle 1" ∷ codes "refused NoDatabase" ∷ [])
-unfolding digits
+closed_text : text (lines (codes "info" ∷ codes "ops 1" ∷ codes "merkleize 1 prop none" ∷ codes "del 1 6b" ∷ codes "root" ∷ codes "meta" ∷ []))
+    ≡ lines (codes "refused NoDatabase" ∷ codes "refused NoSuchHandle 1" ∷ codes "refused NoDatabase" ∷ codes "refused NoSuchHandle 1" ∷ codes "refused NoDatabase" ∷ codes "refused NoDatabase" ∷ [])
+unfolding decode_pairs digits
 closed_text = refl
 
 bad_second : bad_in (codes "open" ++ 10 ∷ codes "put 1 6") ≡ Some 2
@@ -51,6 +75,17 @@ no_lines = refl
 upper_case : line_of (codes "put 12 6B -") ≡ Some (Put 12 (0x6b ∷ []) [])
 unfolding decode_pairs
 upper_case = refl
+
+empty_metadata : line_of (codes "merkleize 1 prop -") ≡ Some (Merkleize 1 proportional (Some []))
+unfolding decode_pairs
+empty_metadata = refl
+
+deleted : line_of (codes "del 0 6B00") ≡ Some (Del 0 (0x6b ∷ 0 ∷ []))
+unfolding decode_pairs
+deleted = refl
+
+deleted_value : line_of (codes "del 1 6b 76") ≡ None
+deleted_value = refl
 
 largest_number : line_of (codes "merkleize 18446744073709551615 prop none") ≡ Some (Merkleize 18446744073709551615 proportional None)
 largest_number = refl

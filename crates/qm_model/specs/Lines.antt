@@ -7,11 +7,14 @@ pub data Line (P : Type 0) : Type 0 where
   Open : Line P
   Batch : Line P
   Put : ℕ → Bytes → Bytes → Line P
+  Del : ℕ → Bytes → Line P
   Merkleize : ℕ → P → Option Bytes → Line P
   Apply : ℕ → Line P
   Ops : ℕ → Line P
   Get : Bytes → Line P
   Info : Line P
+  Root : Line P
+  Meta : Line P
 
 -- why a command was refused
 pub data Refused : Type 0 where
@@ -36,4 +39,7 @@ pub data Answer : Type 0 where
   Read : Option Bytes → Answer
   -- start, size, floor and boundary, and whether a key is live
   Told : ℕ → ℕ → ℕ → ℕ → Bool → Answer
+  -- the root and the operations root
+  Rooted : Bytes → Bytes → Answer
+  Metadata : Option Bytes → Answer
   Refuses : Refused → Answer

@@ -1,13 +1,13 @@
 -- The machine: databases and batches are operation lists, and each command is a function of the state.
 use Rattle.std.specs.Prelude.{ℕ, ◌+◌, nat_lt, if◌then◌else◌, List, [], ◌∷◌, ◌++◌, length, map, drop, slice_index_or, slice_set, Option, Some, None}
 use Rattle.qm_model.specs.Operations.{Bytes, Operation, spelling, fresh}
-use Rattle.qm_model.specs.Live.{live, floor, value_of}
+use Rattle.qm_model.specs.Live.{live, floor, value_of, last_metadata}
 use Rattle.qm_model.specs.Writes.{Write}
 use Rattle.qm_model.specs.Walk.{Rules}
 use Rattle.qm_model.specs.Step.{Kind}
 use Rattle.qm_model.specs.Step as steps
 use Rattle.qm_model.specs.Batches.{Chain, commitment, fits}
-use Rattle.qm_model.specs.Lines.{Line, Open, Batch, Put, Merkleize, Apply, Ops, Get, Info, Refused, NotOffered, NoDatabase, NoSuchHandle, StaleBatch, Answer, Opened, Started, Done, Merkleized, Applied, Listed, Read, Told, Refuses}
+use Rattle.qm_model.specs.Lines.{Line, Open, Batch, Put, Del, Merkleize, Apply, Ops, Get, Info, Root, Meta, Refused, NotOffered, NoDatabase, NoSuchHandle, StaleBatch, Answer, Opened, Started, Done, Merkleized, Applied, Listed, Read, Told, Rooted, Metadata, Refuses}
 
 -- what a machine stands on: the kind of database, its policies, and a list's operations root and boundary
 pub record Scheme (P : Type 0) : Type 0 where
@@ -72,6 +72,9 @@ put_in s h w (merkleized chain tip) = refuse s (NoSuchHandle h)
 abbrev pub put : State → ℕ → Bytes → Bytes → Answer × State
 put s h key value = put_in s h (record { key = key; value = Some value }) (slot_at s.table h)
 
+abbrev pub del : State → ℕ → Bytes → Answer × State
+del s h key = put_in s h (record { key = key; value = None }) (slot_at s.table h)
+
 -- a batch's own operations
 abbrev pub own_operations : Chain → List Operation → List Operation
 own_operations chain tip = drop (length chain.base) tip
@@ -86,6 +89,10 @@ ops s h = list_operations s h (slot_at s.table h)
 
 abbrev pub get : State → Bytes → Answer × State
 get s key = with_database s s.database (λ list. (Read (value_of list key), s))
+
+-- the metadata of the list's last commit
+abbrev pub meta : State → Answer × State
+meta s = with_database s s.database (λ list. (Metadata (last_metadata list), s))
 
 module _ {P : Type 0} (m : Scheme P) where
   -- the batch gets its tip list, or is used up where the database has moved on
@@ -116,16 +123,23 @@ module _ {P : Type 0} (m : Scheme P) where
   abbrev pub info : State → Answer × State
   info s = with_database s s.database (λ list. (Told 0 (length list) (floor list) (m.boundary list) (nat_lt 0 (length (live list))), s))
 
+  -- the root, which is the operations root in this kind of database
+  abbrev pub root : State → Answer × State
+  root s = with_database s s.database (λ list. (Rooted (m.root list) (m.root list), s))
+
   -- one command: the answer, and the state after it
   abbrev pub turn : State → Line P → Answer × State
   turn s Open = open_store s
   turn s Batch = start_batch s
   turn s (Put h key value) = put s h key value
+  turn s (Del h key) = del s h key
   turn s (Merkleize h policy meta) = merkleize s h policy meta
   turn s (Apply h) = apply s h
   turn s (Ops h) = ops s h
   turn s (Get key) = get s key
   turn s Info = info s
+  turn s Root = root s
+  turn s Meta = meta s
 
   -- the answers to commands in order, and the state after them
   abbrev pub answers : State → List (Line P) → List Answer

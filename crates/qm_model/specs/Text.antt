@@ -2,7 +2,7 @@
 use Rattle.std.specs.Prelude.{Bool, true, false, List, [], ◌∷◌, ◌++◌, codes, Option, None, Some, flat_map, decimal}
 use Rattle.hex.specs.Hex.{encode_lower}
 use Rattle.qm_model.specs.Operations.{Bytes, Operation, update, delete, commit}
-use Rattle.qm_model.specs.Lines.{Refused, NotOffered, NoDatabase, NoSuchHandle, StaleBatch, Answer, Opened, Started, Done, Merkleized, Applied, Listed, Read, Told, Refuses}
+use Rattle.qm_model.specs.Lines.{Refused, NotOffered, NoDatabase, NoSuchHandle, StaleBatch, Answer, Opened, Started, Done, Merkleized, Applied, Listed, Read, Told, Rooted, Metadata, Refuses}
 
 -- bytes in hexadecimal, and the empty ones as a dash
 abbrev pub hex_text : Bytes → Bytes
@@ -44,6 +44,8 @@ reply_line (Listed base ops) = codes "ops " ++ (decimal base ++ flat_map (λ op.
 reply_line (Read v) = codes "read " ++ optional_text v
 reply_line (Told start size floor boundary is_live) =
     codes "info " ++ (decimal start ++ (codes " " ++ (decimal size ++ (codes " " ++ (decimal floor ++ (codes " " ++ (decimal boundary ++ (codes " " ++ live_text is_live))))))))
+reply_line (Rooted r o) = codes "root " ++ (encode_lower r ++ (codes " " ++ encode_lower o))
+reply_line (Metadata v) = codes "meta " ++ optional_text v
 reply_line (Refuses r) = codes "refused " ++ refused_text r
 
 -- the replies, one line each

@@ -1,5 +1,5 @@
 -- Each command over what a run holds, as lemmas over plain values.
-use Rattle.std.proofs.Common.{◌≡◌, ◌≤◌, ℕ, zero, suc, ◌+◌, ◌<◌, Bool, true, false, cond, List, [], ◌∷◌, ◌++◌, length, get_or, set, map, take, drop, Option, Some, None, arith, refl, sym, ◌∙◌, ap, subst, length-append, IfSome, append-nil, ◌⊎◌, inl, inr}
+use Rattle.std.proofs.Common.{◌≡◌, ◌≤◌, ℕ, zero, suc, ◌+◌, ◌<◌, Bool, true, false, cond, List, [], ◌∷◌, ◌++◌, length, get_or, set, map, take, drop, Option, Some, None, arith, refl, sym, ◌∙◌, ap, ap₂, subst, length-append, IfSome, append-nil, ◌⊎◌, inl, inr}
 use Rattle.std.specs.Prelude.{Contains}
 use Rattle.std.proofs.lemmas.List.{length-set}
 use Rattle.std.proofs.Math.Seq.{drop-append_seam, take-length}
@@ -11,7 +11,7 @@ use Rattle.qm_model.specs.Batches.{Chain, IsAmong, IsOnChain, Apart, commitment,
 use Rattle.qm_model.specs.Step.{step}
 use Rattle.qm_model.specs.Lines.{Answer}
 use Rattle.qm_model.specs.Lines as lines
-use Rattle.qm_model.specs.Machine.{Scheme, State, slot_at, with_slot, with_database, refuse, start_batch, put_in, list_operations, merkleize_in, apply_in, open_over}
+use Rattle.qm_model.specs.Machine.{Scheme, State, slot_at, with_slot, with_database, refuse, start_batch, put_in, own_operations, list_operations, merkleize_in, apply_in, open_over}
 use Rattle.qm_model.specs.Machine as machine
 use Rattle.qm_model.proofs.Chains.{Contains-more, Contains-first, IsAmong-more, on_chain-fits}
 use Rattle.qm_base.specs.declared.error.Error.{Error}
@@ -51,12 +51,12 @@ left_none before after items is = record { count = 0; same = rw append-nil is }
 sole : (had : List (List Operation)) (list : List Operation) → Contains had list → IsAmong had (record { base = list; kept = [] })
 sole had list h = record { base = h; boundary = h; tips = λ k d none. absurd (omega arith) }
 
-module _ {X C B M K V P : Type 0} (m : Meaning X C B M) (key : K → Bytes) (value : V → Bytes) (scheme : Scheme P) where
+module _ {X C B M K V D P : Type 0} (m : Meaning X C B M) (key : K → Bytes) (value : V → Bytes) (digest : D → Bytes) (scheme : Scheme P) where
   abbrev root : List Operation → Bytes
   root = scheme.root
 
-  abbrev Turns : Turn K V → Given X C → List (Slot B M) → ℕ → Answer × State → Type 0
-  Turns turn held table opened next = IfReply turn (λ r. Apart root (next.1).had → (answer_view key value r ≡ next.0) × Holds m held table opened next.1)
+  abbrev Turns : Turn K V D → Given X C → List (Slot B M) → ℕ → Answer × State → Type 0
+  Turns turn held table opened next = IfReply turn (λ r. Apart root (next.1).had → (answer_view key value digest r ≡ next.0) × Holds m held table opened next.1)
 
   HeldIs-more : (had : List (List Operation)) (new : List Operation) (held : Given X C) (d : Option (List Operation)) → HeldIs m had held d → HeldIs m (new ∷ had) held d
   HeldIs-more had new (Database x) (Some list) h = (h.0, Contains-more had new list h.1)
@@ -130,6 +130,19 @@ module _ {X C B M K V P : Type 0} (m : Meaning X C B M) (key : K → Bytes) (val
   put_ok held table opened h w batch after s k wrote (Writing x) (machine.merkleized chain tip) is e = absurd is
   put_ok held table opened h w batch after s k wrote Gone b is e = absurd (cc)
   put_ok held table opened h w batch after s k wrote (Merkleized x) b is e = absurd (cc)
+
+  pub ops_ok : (held : Given X C) (table : List (Slot B M)) (opened : ℕ) (h base : ℕ) (own : List Operation) (batch : M) (s : State) → Holds m held table opened s
+      → ((chain : Chain) (tip : List Operation) → m.is_merkleized batch chain tip → (base ≡ length chain.base) × (own ≡ own_operations chain tip))
+      → (a : Slot B M) (b : machine.Slot) → SlotIs m s.had a b → merkleized_of a ≡ Some batch
+      → (lines.Listed base own ≡ (list_operations s h b).0) × Holds m held table opened (list_operations s h b).1
+  ops_ok held table opened h base own batch s k listed (Merkleized w) (machine.merkleized chain tip) is e =
+      let same : w ≡ batch = cc in
+      let facts = listed chain tip (subst (λ v. m.is_merkleized v chain tip) same is.0) in
+      (ap₂ lines.Listed facts.0 facts.1, k)
+  ops_ok held table opened h base own batch s k listed (Merkleized w) machine.gone is e = absurd is
+  ops_ok held table opened h base own batch s k listed (Merkleized w) (machine.writing chain ws) is e = absurd is
+  ops_ok held table opened h base own batch s k listed Gone b is e = absurd (cc)
+  ops_ok held table opened h base own batch s k listed (Writing w) b is e = absurd (cc)
 
   -- a batch number that names none: the two commands that look for one over a database
   merkleize_none : (held : Given X C) (table : List (Slot B M)) (opened : ℕ) (h : ℕ) (policy : P) (meta : Option Bytes) (list : List Operation) (s : State) → Holds m held table opened s

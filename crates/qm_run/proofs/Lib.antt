@@ -4,4 +4,5 @@ pub mod Loops
 pub mod ListSteps
 pub mod ListWalks
 pub mod ListWrites
+pub mod ListRoots
 pub mod Sayings

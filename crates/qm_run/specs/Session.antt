@@ -31,11 +31,11 @@ pub record Meaning (X C B M : Type 0) : Type 1 where
   pub is_merkleized : M → Chain → List Operation → Type 0
 
 -- that of a bound on an engine and on its store
-abbrev pub meaning : {X C K V F B M : Type 0} → engine.Ghosts X C K V F B M → store.Ghosts C → Meaning X C B M
+abbrev pub meaning : {X C K V D F B M : Type 0} → engine.Ghosts X C K V D F B M → store.Ghosts C → Meaning X C B M
 meaning x c = record { inside = x.inside; start = c.start; items = c.items; stands = x.stands; is_batch = x.is_batch; is_merkleized = x.is_merkleized }
 
 -- the machine of an engine: its kind, root and boundary, under the policies
-abbrev pub scheme_of : {X C K V F B M : Type 0} → engine.Ghosts X C K V F B M → Scheme Policy
+abbrev pub scheme_of : {X C K V D F B M : Type 0} → engine.Ghosts X C K V D F B M → Scheme Policy
 scheme_of x = record { kind = x.kind; rules = policies; root = x.root; boundary = x.boundary }
 
 module _ {X C B M : Type 0} (m : Meaning X C B M) where
@@ -72,16 +72,16 @@ module _ {X C B M : Type 0} (m : Meaning X C B M) where
   Stands session s = Holds session.held session.table.items session.opened s
 
 -- P of the reply, where the turn gave one
-abbrev pub IfReply : {K V : Type 0} → Turn K V → (reply.Reply K V → Type 0) → Type 0
+abbrev pub IfReply : {K V D : Type 0} → Turn K V D → (reply.Reply K V D → Type 0) → Type 0
 IfReply (Reply r) P = P r
 IfReply Memory P = Unit {0}
 IfReply StoreFault P = Unit {0}
 
 -- A command does what the machine does: from each state that the session stood for, a reply is the machine's
 -- and the session stands for its next state, where that run's lists are apart.
-abbrev pub Obeys : {X C B M K V : Type 0} → Meaning X C B M → (K → Bytes) → (V → Bytes) → (List Operation → Bytes) → Session X C B M → Session X C B M → Turn K V → (State → Answer × State) → Type 0
-Obeys m key value root old new turn next =
-    (s : State) → Stands m old s → IfReply turn (λ r. Apart root ((next s).1).had → (answer_view key value r ≡ (next s).0) × Stands m new (next s).1)
+abbrev pub Obeys : {X C B M K V D : Type 0} → Meaning X C B M → (K → Bytes) → (V → Bytes) → (D → Bytes) → (List Operation → Bytes) → Session X C B M → Session X C B M → Turn K V D → (State → Answer × State) → Type 0
+Obeys m key value digest root old new turn next =
+    (s : State) → Stands m old s → IfReply turn (λ r. Apart root ((next s).1).had → (answer_view key value digest r ≡ (next s).0) × Stands m new (next s).1)
 
 -- The items are those before a command, or with a first part of what it appends.
 pub record IsLeft (items : Option (List Bytes)) (before after : List Bytes) : Type 0 where
@@ -94,6 +94,6 @@ Leaves m root old new next =
     (s : State) → Stands m old s → Apart root s.had → IsLeft (m.items (store_given m.inside new.held)) s.items ((next s).1).items
 
 -- the store's count has not fallen, and it rose where a fault is told
-pub record Causes {K V : Type 0} (before now : ℕ) (turn : Turn K V) : Type 0 where
+pub record Causes {K V D : Type 0} (before now : ℕ) (turn : Turn K V D) : Type 0 where
   pub later : before ≤ now
   pub fault : turn ≡ StoreFault → Rose before now

@@ -1,9 +1,9 @@
 //! What a database offers to a run, over any store.
 
-ghost use Rattle.std.specs.Prelude.{◌≡◌, ◌≢◌, ◌≤◌, ◌++◌, ◌∷◌, [], ℕ, List, Some, true, map, drop, length, nat_lt, option_map, if◌then◌else◌, IfOk, IfErr};
+ghost use Rattle.std.specs.Prelude.{◌≡◌, ◌≢◌, ◌≤◌, ◌++◌, ◌∷◌, [], ℕ, List, Some, None, true, map, drop, length, nat_lt, option_map, if◌then◌else◌, IfOk, IfErr};
 ghost use Rattle.qm_model.specs.Causes.{Rose};
 ghost use Rattle.qm_model.specs.Operations.{Bytes, Operation, spelling, fresh};
-ghost use Rattle.qm_model.specs.Live.{live, floor, value_of};
+ghost use Rattle.qm_model.specs.Live.{live, floor, value_of, last_metadata};
 ghost use Rattle.qm_model.specs.Writes.{Write};
 ghost use Rattle.qm_model.specs.Step.{Kind, step};
 ghost use Rattle.qm_model.specs.Policies.{policies};
@@ -12,7 +12,7 @@ ghost use Rattle.qm_model.specs.Machine.{own_operations};
 ghost use Rattle.qm_lines.specs.Views.{policy_view, listed_view};
 ghost use Rattle.qm_run.specs.Given.{store_given, store_after, Appended, AppendedPart, IsUnchanged};
 
-use qm_base::{Error, JournalError, Key, VariableValue};
+use qm_base::{Digest, Error, JournalError, Key, VariableValue};
 use qm_lines::{AnyPolicy, Listed};
 use qm_store::Store;
 use std::alloc::{AllocError, Global};
@@ -63,6 +63,8 @@ pub trait Engine<C: Store>: Drop + Sized {
     type Key: Key;
 
     type Value: VariableValue;
+
+    type Digest: Digest;
 
     type Config: Drop;
 
@@ -130,6 +132,11 @@ pub trait Engine<C: Store>: Drop + Sized {
         ensures { IfOk result (λ b. (chain : Chain) (ws : List Write) → is_batch batch chain ws
             → is_batch b chain (ws ++ record { key = Self.Key.bytes key; value = Some (Self.Value.bytes value) } ∷ [])) };
 
+    /// Deletes a key.
+    fn del(alloc: Global, batch: Self::Batch, key: Self::Key) -> Result<Self::Batch, AllocError>
+        ensures { IfOk result (λ b. (chain : Chain) (ws : List Write) → is_batch batch chain ws
+            → is_batch b chain (ws ++ record { key = Self.Key.bytes key; value = None } ∷ [])) };
+
     /// Makes the batch's tip list: a step of its base list, under the policy. The batch is consumed also where
     /// this is refused, and the policy may have moved on.
     fn merkleize(
@@ -187,4 +194,12 @@ pub trait Engine<C: Store>: Drop + Sized {
         ensures cause { IfErr result (λ e. e ≡ Error.Journal JournalError.Store → Rose (C.faults (inside self.old)) (C.faults (inside self.new))) }
         ensures later { C.faults (inside self.old) ≤ C.faults (inside self.new) }
         ensures never { IfErr result (λ e. e ≢ Error.StaleBatch) };
+
+    /// The operations root of the database's list.
+    fn root(&self, alloc: Global) -> Result<Self::Digest, AllocError>
+        ensures { IfOk result (λ d. (list : List Operation) → stands self.now list → Self.Digest.bytes d ≡ root list) };
+
+    /// The metadata of the list's last commit.
+    fn metadata(&self, alloc: Global) -> Result<Option<Self::Value>, AllocError>
+        ensures { IfOk result (λ v. (list : List Operation) → stands self.now list → option_map Self.Value.bytes v ≡ last_metadata list) };
 }

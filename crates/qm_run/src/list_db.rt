@@ -13,20 +13,18 @@ ghost use Rattle.qm_model.specs.Roots.{sha256_root};
 
 use crate::engine::{BatchSizes, Engine, Given, Numbers, Refusal};
 use crate::lists::{
-    Entry, Write, floor, fresh_list, listed, live_count, same_list, spell_all, step, twin_list,
-    twin_metadata, value_of,
+    Entry, Write, floor, fresh_list, last_metadata, listed, live_count, root, same_list, spell_all,
+    step, twin_list, twin_metadata, value_of,
 };
-use qm_base::{ByteKey, ByteValue, Error, JournalError, Twin};
+use qm_base::{ByteKey, ByteValue, Error, JournalError, Sha256, Sha256Digest, Twin};
 use qm_lines::{AnyPolicy, Listed};
+use qm_merkle::{StandardHasher, mmr};
 use qm_store::{Store, StoreError};
 use std::alloc::{AllocError, Global};
 use std::rc::Rc;
 
-/// The family of this database's locations. No tree is kept yet.
-pub struct Ranges;
-
 /// An operation of this database.
-pub type ByteEntry = Entry<Ranges, ByteKey, ByteValue>;
+pub type ByteEntry = Entry<mmr::Family, ByteKey, ByteValue>;
 
 /// A shared operation list.
 pub type OperationList = Rc<Vec<ByteEntry>>;
@@ -124,6 +122,8 @@ impl<C: Store> Engine<C> for ListDb<C> {
 
     type Value = ByteValue;
 
+    type Digest = Sha256Digest;
+
     type Config = ();
 
     type Batch = ListBatch;
@@ -205,6 +205,12 @@ impl<C: Store> Engine<C> for ListDb<C> {
         Ok(ListBatch { base, writes })
     }
 
+    fn del(_alloc: Global, batch: ListBatch, key: ByteKey) -> Result<ListBatch, AllocError> {
+        let ListBatch { base, mut writes } = batch;
+        writes.push(Write { key, value: None })?;
+        Ok(ListBatch { base, writes })
+    }
+
     fn merkleize(
         &mut self,
         alloc: Global,
@@ -270,6 +276,15 @@ impl<C: Store> Engine<C> for ListDb<C> {
                 Ok(Some(value))
             }
         }
+    }
+
+    fn root(&self, alloc: Global) -> Result<Sha256Digest, AllocError> {
+        let mut hasher = StandardHasher::new(Sha256::new());
+        root(alloc, &mut hasher, &self.list)
+    }
+
+    fn metadata(&self, alloc: Global) -> Result<Option<ByteValue>, AllocError> {
+        last_metadata(alloc, &self.list)
     }
 }
 

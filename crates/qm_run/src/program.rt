@@ -12,7 +12,7 @@ ghost use Rattle.qm_run.specs.Endings.{tail_text, tail_status};
 
 use crate::list_db::ListDb;
 use crate::runs::{End, Outcome, run};
-use qm_base::{Gate, Key, VariableValue};
+use qm_base::{Digest, Gate, Key, VariableValue};
 use qm_lines::{
     InputError, LIMIT, Reply, Sink, SinkError, Source, parse_all, read_all, replies_text, write_all,
 };
@@ -75,13 +75,13 @@ fn status_of(end: End, bad: Option<u64>) -> u8
 }
 
 // The replies and what follows them.
-fn whole_text<K: Key, V: VariableValue>(
+fn whole_text<K: Key, V: VariableValue, D: Digest>(
     alloc: Global,
-    replies: &[Reply<K, V>],
+    replies: &[Reply<K, V, D>],
     end: End,
     bad: Option<u64>,
 ) -> Result<Vec<u8>, AllocError>
-    ensures { IfOk result (λ text. text.items ≡ text_of (map (answer_view K.bytes V.bytes) replies.now) ++ tail_text end bad) }
+    ensures { IfOk result (λ text. text.items ≡ text_of (map (answer_view K.bytes V.bytes D.bytes) replies.now) ++ tail_text end bad) }
 {
     let mut text = replies_text(alloc, replies)?;
     let tail = tail(alloc, end, bad)?;

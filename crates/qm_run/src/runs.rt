@@ -33,14 +33,14 @@ pub enum End {
 /// What a run gives: a reply to each command before the end, why it ended, and the store.
 #[derive(Drop)]
 pub struct Outcome<X: Engine<C>, C: Store> {
-    pub replies: Vec<Reply<X::Key, X::Value>>,
+    pub replies: Vec<Reply<X::Key, X::Value, X::Digest>>,
     pub end: End,
     pub store: C,
 }
 
-fn push_reply<K: Drop, V: Drop>(
-    replies: &mut Vec<Reply<K, V>>,
-    reply: Reply<K, V>,
+fn push_reply<K: Drop, V: Drop, D: Drop>(
+    replies: &mut Vec<Reply<K, V, D>>,
+    reply: Reply<K, V, D>,
 ) -> Result<(), AllocError>
     ensures ok { OnOk result (replies.new.items ≡ replies.old.items ++ reply ∷ []) }
     ensures err { OnErr result (replies.new.items ≡ replies.old.items) }
@@ -54,13 +54,13 @@ fn step<X: Engine<C>, C: Store>(
     alloc: Global,
     config: &X::Config,
     session: Of<X, C>,
-    replies: &mut Vec<Reply<X::Key, X::Value>>,
+    replies: &mut Vec<Reply<X::Key, X::Value, X::Digest>>,
     command: &Command<X::Key, X::Value, AnyPolicy>,
 ) -> (Of<X, C>, Option<End>)
     requires { session.opened + 1 < 2 ^ 64 }
     ensures machine { (s : machine.State) → Stands (meaning X.Engine C.Store) session s → IfNone result.1
         (let next = machine.turn (scheme_of X.Engine) s (line_view X.Key.bytes X.Value.bytes policy_view command.now) in
-        Apart X.root next.1.had → (map (answer_view X.Key.bytes X.Value.bytes) replies.new.items ≡ map (answer_view X.Key.bytes X.Value.bytes) replies.old.items ++ next.0 ∷ [])
+        Apart X.root next.1.had → (map (answer_view X.Key.bytes X.Value.bytes X.Digest.bytes) replies.new.items ≡ map (answer_view X.Key.bytes X.Value.bytes X.Digest.bytes) replies.old.items ++ next.0 ∷ [])
         × Stands (meaning X.Engine C.Store) result.0 next.1) }
     ensures left { Leaves (meaning X.Engine C.Store) X.root session result.0
         (λ s. machine.turn (scheme_of X.Engine) s (line_view X.Key.bytes X.Value.bytes policy_view command.now)) }
@@ -110,7 +110,7 @@ pub fn run<X: Engine<C>, C: Store, G: Gate>(
     _gate: &G,
 ) -> Outcome<X, C>
     ensures machine { C.start store ≡ 0 → IfSome (C.items store) (λ items. IsRun (scheme_of X.Engine) items
-        (map (line_view X.Key.bytes X.Value.bytes policy_view) commands.now) (map (answer_view X.Key.bytes X.Value.bytes) result.replies.items) (C.items result.store)) }
+        (map (line_view X.Key.bytes X.Value.bytes policy_view) commands.now) (map (answer_view X.Key.bytes X.Value.bytes X.Digest.bytes) result.replies.items) (C.items result.store)) }
     ensures done { result.end ≡ End.Done → length result.replies.items ≡ length commands.now }
     ensures later { C.faults store ≤ C.faults result.store }
     ensures fault { result.end ≡ End.StoreFault → Rose (C.faults store) (C.faults result.store) }

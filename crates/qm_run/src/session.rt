@@ -21,14 +21,14 @@ pub type Of<X, C> = Session<X, C, <X as Engine<C>>::Batch, <X as Engine<C>>::Mer
 
 /// What a command comes to: a reply, or why the run ends.
 #[derive(Drop)]
-pub enum Turn<K, V> {
-    Reply(Reply<K, V>),
+pub enum Turn<K, V, D> {
+    Reply(Reply<K, V, D>),
     Memory,
     StoreFault,
 }
 
 /// What an error of a call comes to.
-pub fn turn_of<K: Drop, V: Drop>(error: Error) -> Turn<K, V>
+pub fn turn_of<K: Drop, V: Drop, D: Drop>(error: Error) -> Turn<K, V, D>
     ensures { result ≡ turn_of_error error }
 {
     match error {

@@ -105,6 +105,24 @@ fn inputs_have_replies(rt: HostRuntime) -> Result<(), Fail> {
             0,
             "refused NoDatabase\nrefused NoDatabase\nrefused NoSuchHandle 1\nrefused NoDatabase\nrefused NoDatabase\nrefused NoSuchHandle 1\nrefused NoDatabase\n",
         ),
+        // Without a database.
+        (
+            "root\nmeta\ndel 1 61\n",
+            0,
+            "refused NoDatabase\nrefused NoDatabase\nrefused NoSuchHandle 1\n",
+        ),
+        // One key, and then none.
+        (
+            "open\nbatch\nput 1 6b 76\nmerkleize 1 prop none\napply 1\nbatch\ndel 2 6b\nmerkleize 2 prop none\nops 2\napply 2\nget 6b\n",
+            0,
+            "open 1 0 1\nbatch 1\nok\nmerkleized 1 1 4 2\napplied 4\nbatch 2\nok\nmerkleized 2 4 6 5\nops 4 D:6b C:none@5\napplied 6\nread none\n",
+        ),
+        // Metadata, and the root after each list.
+        (
+            "open\nmeta\nroot\nbatch\ndel 1 6b\nmerkleize 1 prop AAbb\nops 1\nmeta\napply 1\nmeta\nbatch\nmerkleize 2 prop -\napply 2\nmeta\nroot\ndel 2 6b\n",
+            0,
+            "open 1 0 1\nmeta none\nroot 8ed63975392a90390c0a9fc1e4a522d28a7e99c0b62ef9e3bb2c3da3964a77f5 8ed63975392a90390c0a9fc1e4a522d28a7e99c0b62ef9e3bb2c3da3964a77f5\nbatch 1\nok\nmerkleized 1 1 2 1\nops 1 C:aabb@1\nmeta none\napplied 2\nmeta aabb\nbatch 2\nmerkleized 2 2 3 2\napplied 3\nmeta -\nroot 31074da561e7e89f41b13c5bad13d7ae7f60ad8d966a3487e8d1dcbafe2c6ea0 31074da561e7e89f41b13c5bad13d7ae7f60ad8d966a3487e8d1dcbafe2c6ea0\nrefused NoSuchHandle 2\n",
+        ),
         // A batch whose base is gone can not be merkleized, and is used up.
         (
             "open\nbatch\nbatch\nput 1 61 01\nmerkleize 1 prop none\napply 1\nmerkleize 2 prop none\napply 2\nopen\n",

@@ -1,5 +1,5 @@
 // One command over what a run holds.
-ghost use Rattle.std.specs.Prelude.{◌≡◌, ◌+◌, ◌++◌, ◌∷◌, [], ◌^◌, ◌<◌, ◌≤◌, ℕ, List, Some, true, option_map, IfOk, IfErr};
+ghost use Rattle.std.specs.Prelude.{◌≡◌, ◌+◌, ◌++◌, ◌∷◌, [], ◌^◌, ◌<◌, ◌≤◌, ℕ, List, Some, None, true, option_map, IfOk, IfErr};
 ghost use Rattle.qm_model.specs.Causes.{Rose};
 ghost use Rattle.qm_model.specs.Operations.{Operation};
 ghost use Rattle.qm_model.specs.Writes.{Write};
@@ -34,9 +34,9 @@ fn open<X: Engine<C>, C: Store>(
     alloc: Global,
     config: &X::Config,
     session: Of<X, C>,
-) -> (Of<X, C>, Turn<X::Key, X::Value>)
+) -> (Of<X, C>, Turn<X::Key, X::Value, X::Digest>)
     requires { session.opened + 1 < 2 ^ 64 }
-    ensures machine { Obeys (meaning X.Engine C.Store) X.Key.bytes X.Value.bytes X.root session result.0 result.1
+    ensures machine { Obeys (meaning X.Engine C.Store) X.Key.bytes X.Value.bytes X.Digest.bytes X.root session result.0 result.1
         (machine.open_store) }
     ensures left { Leaves (meaning X.Engine C.Store) X.root session result.0
         (machine.open_store) }
@@ -87,8 +87,8 @@ fn open<X: Engine<C>, C: Store>(
 fn batch<X: Engine<C>, C: Store>(
     alloc: Global,
     session: Of<X, C>,
-) -> (Of<X, C>, Turn<X::Key, X::Value>)
-    ensures machine { Obeys (meaning X.Engine C.Store) X.Key.bytes X.Value.bytes X.root session result.0 result.1
+) -> (Of<X, C>, Turn<X::Key, X::Value, X::Digest>)
+    ensures machine { Obeys (meaning X.Engine C.Store) X.Key.bytes X.Value.bytes X.Digest.bytes X.root session result.0 result.1
         (machine.start_batch) }
     ensures store { IsUnchanged C.Store (store_given X.inside session.held) (store_given X.inside result.0.held) }
     ensures causes { Causes (C.faults (store_given X.inside session.held)) (C.faults (store_given X.inside result.0.held)) result.1 }
@@ -163,8 +163,8 @@ fn put<X: Engine<C>, C: Store>(
     number: u64,
     key: &X::Key,
     value: &X::Value,
-) -> (Of<X, C>, Turn<X::Key, X::Value>)
-    ensures machine { Obeys (meaning X.Engine C.Store) X.Key.bytes X.Value.bytes X.root session result.0 result.1
+) -> (Of<X, C>, Turn<X::Key, X::Value, X::Digest>)
+    ensures machine { Obeys (meaning X.Engine C.Store) X.Key.bytes X.Value.bytes X.Digest.bytes X.root session result.0 result.1
         (λ s. machine.put s number (X.Key.bytes key.now) (X.Value.bytes value.now)) }
     ensures store { IsUnchanged C.Store (store_given X.inside session.held) (store_given X.inside result.0.held) }
     ensures causes { Causes (C.faults (store_given X.inside session.held)) (C.faults (store_given X.inside result.0.held)) result.1 }
@@ -185,6 +185,69 @@ fn put<X: Engine<C>, C: Store>(
             Turn::Reply(Reply::Refused(Refused::NoSuchHandle(number))),
         ),
         Some(batch) => match write::<X, C>(alloc, batch, key, value) {
+            Err(_) => (
+                Session {
+                    held,
+                    table,
+                    opened,
+                },
+                Turn::Memory,
+            ),
+            Ok(batch) => {
+                put_slot(&mut table, number, Slot::Writing(batch));
+                (
+                    Session {
+                        held,
+                        table,
+                        opened,
+                    },
+                    Turn::Reply(Reply::Done),
+                )
+            }
+        },
+    }
+}
+
+// Deletes a copy of the key.
+fn erase<X: Engine<C>, C: Store>(
+    alloc: Global,
+    batch: X::Batch,
+    key: &X::Key,
+) -> Result<X::Batch, AllocError>
+    ensures { IfOk result (λ b. (chain : Chain) (ws : List Write) → X.is_batch batch chain ws
+        → X.is_batch b chain (ws ++ record { key = X.Key.bytes key.now; value = None } ∷ [])) }
+{
+    let key = key.twin(alloc)?;
+    X::del(alloc, batch, key)
+}
+
+fn del<X: Engine<C>, C: Store>(
+    alloc: Global,
+    session: Of<X, C>,
+    number: u64,
+    key: &X::Key,
+) -> (Of<X, C>, Turn<X::Key, X::Value, X::Digest>)
+    ensures machine { Obeys (meaning X.Engine C.Store) X.Key.bytes X.Value.bytes X.Digest.bytes X.root session result.0 result.1
+        (λ s. machine.del s number (X.Key.bytes key.now)) }
+    ensures store { IsUnchanged C.Store (store_given X.inside session.held) (store_given X.inside result.0.held) }
+    ensures causes { Causes (C.faults (store_given X.inside session.held)) (C.faults (store_given X.inside result.0.held)) result.1 }
+    ensures opened { result.0.opened ≡ session.opened }
+{
+    let Session {
+        held,
+        mut table,
+        opened,
+    } = session;
+    match take_writing(&mut table, number) {
+        None => (
+            Session {
+                held,
+                table,
+                opened,
+            },
+            Turn::Reply(Reply::Refused(Refused::NoSuchHandle(number))),
+        ),
+        Some(batch) => match erase::<X, C>(alloc, batch, key) {
             Err(_) => (
                 Session {
                     held,
@@ -237,8 +300,8 @@ fn merkleize<X: Engine<C>, C: Store>(
     number: u64,
     policy: &AnyPolicy,
     metadata: &Option<X::Value>,
-) -> (Of<X, C>, Turn<X::Key, X::Value>)
-    ensures machine { Obeys (meaning X.Engine C.Store) X.Key.bytes X.Value.bytes X.root session result.0 result.1
+) -> (Of<X, C>, Turn<X::Key, X::Value, X::Digest>)
+    ensures machine { Obeys (meaning X.Engine C.Store) X.Key.bytes X.Value.bytes X.Digest.bytes X.root session result.0 result.1
         (λ s. machine.merkleize (scheme_of X.Engine) s number (policy_view policy.now) (option_map X.Value.bytes metadata.now)) }
     ensures store { IsUnchanged C.Store (store_given X.inside session.held) (store_given X.inside result.0.held) }
     ensures causes { Causes (C.faults (store_given X.inside session.held)) (C.faults (store_given X.inside result.0.held)) result.1 }
@@ -297,8 +360,8 @@ fn apply<X: Engine<C>, C: Store>(
     alloc: Global,
     session: Of<X, C>,
     number: u64,
-) -> (Of<X, C>, Turn<X::Key, X::Value>)
-    ensures machine { Obeys (meaning X.Engine C.Store) X.Key.bytes X.Value.bytes X.root session result.0 result.1
+) -> (Of<X, C>, Turn<X::Key, X::Value, X::Digest>)
+    ensures machine { Obeys (meaning X.Engine C.Store) X.Key.bytes X.Value.bytes X.Digest.bytes X.root session result.0 result.1
         (λ s. machine.apply (scheme_of X.Engine) s number) }
     ensures left { Leaves (meaning X.Engine C.Store) X.root session result.0
         (λ s. machine.apply (scheme_of X.Engine) s number) }
@@ -357,8 +420,8 @@ fn ops<X: Engine<C>, C: Store>(
     alloc: Global,
     session: Of<X, C>,
     number: u64,
-) -> (Of<X, C>, Turn<X::Key, X::Value>)
-    ensures machine { Obeys (meaning X.Engine C.Store) X.Key.bytes X.Value.bytes X.root session result.0 result.1
+) -> (Of<X, C>, Turn<X::Key, X::Value, X::Digest>)
+    ensures machine { Obeys (meaning X.Engine C.Store) X.Key.bytes X.Value.bytes X.Digest.bytes X.root session result.0 result.1
         (λ s. machine.ops s number) }
     ensures store { IsUnchanged C.Store (store_given X.inside session.held) (store_given X.inside result.0.held) }
     ensures causes { Causes (C.faults (store_given X.inside session.held)) (C.faults (store_given X.inside result.0.held)) result.1 }
@@ -403,8 +466,8 @@ fn get<X: Engine<C>, C: Store>(
     alloc: Global,
     session: Of<X, C>,
     key: &X::Key,
-) -> (Of<X, C>, Turn<X::Key, X::Value>)
-    ensures machine { Obeys (meaning X.Engine C.Store) X.Key.bytes X.Value.bytes X.root session result.0 result.1
+) -> (Of<X, C>, Turn<X::Key, X::Value, X::Digest>)
+    ensures machine { Obeys (meaning X.Engine C.Store) X.Key.bytes X.Value.bytes X.Digest.bytes X.root session result.0 result.1
         (λ s. machine.get s (X.Key.bytes key.now)) }
     ensures store { IsUnchanged C.Store (store_given X.inside session.held) (store_given X.inside result.0.held) }
     ensures causes { Causes (C.faults (store_given X.inside session.held)) (C.faults (store_given X.inside result.0.held)) result.1 }
@@ -445,8 +508,8 @@ fn get<X: Engine<C>, C: Store>(
     }
 }
 
-fn info<X: Engine<C>, C: Store>(session: Of<X, C>) -> (Of<X, C>, Turn<X::Key, X::Value>)
-    ensures machine { Obeys (meaning X.Engine C.Store) X.Key.bytes X.Value.bytes X.root session result.0 result.1
+fn info<X: Engine<C>, C: Store>(session: Of<X, C>) -> (Of<X, C>, Turn<X::Key, X::Value, X::Digest>)
+    ensures machine { Obeys (meaning X.Engine C.Store) X.Key.bytes X.Value.bytes X.Digest.bytes X.root session result.0 result.1
         (machine.info (scheme_of X.Engine)) }
     ensures store { IsUnchanged C.Store (store_given X.inside session.held) (store_given X.inside result.0.held) }
     ensures causes { Causes (C.faults (store_given X.inside session.held)) (C.faults (store_given X.inside result.0.held)) result.1 }
@@ -486,15 +549,105 @@ fn info<X: Engine<C>, C: Store>(session: Of<X, C>) -> (Of<X, C>, Turn<X::Key, X:
     }
 }
 
+fn root<X: Engine<C>, C: Store>(
+    alloc: Global,
+    session: Of<X, C>,
+) -> (Of<X, C>, Turn<X::Key, X::Value, X::Digest>)
+    ensures machine { Obeys (meaning X.Engine C.Store) X.Key.bytes X.Value.bytes X.Digest.bytes X.root session result.0 result.1
+        (machine.root (scheme_of X.Engine)) }
+    ensures store { IsUnchanged C.Store (store_given X.inside session.held) (store_given X.inside result.0.held) }
+    ensures causes { Causes (C.faults (store_given X.inside session.held)) (C.faults (store_given X.inside result.0.held)) result.1 }
+    ensures opened { result.0.opened ≡ session.opened }
+{
+    let Session {
+        held,
+        table,
+        opened,
+    } = session;
+    match held {
+        Given::Store(store) => (
+            Session {
+                held: Given::Store(store),
+                table,
+                opened,
+            },
+            Turn::Reply(Reply::Refused(Refused::NoDatabase)),
+        ),
+        Given::Database(x) => match x.root(alloc) {
+            Err(_) => (
+                Session {
+                    held: Given::Database(x),
+                    table,
+                    opened,
+                },
+                Turn::Memory,
+            ),
+            Ok(root) => (
+                Session {
+                    held: Given::Database(x),
+                    table,
+                    opened,
+                },
+                Turn::Reply(Reply::Root(root, root)),
+            ),
+        },
+    }
+}
+
+fn meta<X: Engine<C>, C: Store>(
+    alloc: Global,
+    session: Of<X, C>,
+) -> (Of<X, C>, Turn<X::Key, X::Value, X::Digest>)
+    ensures machine { Obeys (meaning X.Engine C.Store) X.Key.bytes X.Value.bytes X.Digest.bytes X.root session result.0 result.1
+        (machine.meta) }
+    ensures store { IsUnchanged C.Store (store_given X.inside session.held) (store_given X.inside result.0.held) }
+    ensures causes { Causes (C.faults (store_given X.inside session.held)) (C.faults (store_given X.inside result.0.held)) result.1 }
+    ensures opened { result.0.opened ≡ session.opened }
+{
+    let Session {
+        held,
+        table,
+        opened,
+    } = session;
+    match held {
+        Given::Store(store) => (
+            Session {
+                held: Given::Store(store),
+                table,
+                opened,
+            },
+            Turn::Reply(Reply::Refused(Refused::NoDatabase)),
+        ),
+        Given::Database(x) => match x.metadata(alloc) {
+            Err(_) => (
+                Session {
+                    held: Given::Database(x),
+                    table,
+                    opened,
+                },
+                Turn::Memory,
+            ),
+            Ok(metadata) => (
+                Session {
+                    held: Given::Database(x),
+                    table,
+                    opened,
+                },
+                Turn::Reply(Reply::Meta(metadata)),
+            ),
+        },
+    }
+}
+
 /// One command: the machine's turn.
 pub fn turn<X: Engine<C>, C: Store>(
     alloc: Global,
     config: &X::Config,
     session: Of<X, C>,
     command: &Command<X::Key, X::Value, AnyPolicy>,
-) -> (Of<X, C>, Turn<X::Key, X::Value>)
+) -> (Of<X, C>, Turn<X::Key, X::Value, X::Digest>)
     requires { session.opened + 1 < 2 ^ 64 }
-    ensures machine { Obeys (meaning X.Engine C.Store) X.Key.bytes X.Value.bytes X.root session result.0 result.1
+    ensures machine { Obeys (meaning X.Engine C.Store) X.Key.bytes X.Value.bytes X.Digest.bytes X.root session result.0 result.1
         (λ s. machine.turn (scheme_of X.Engine) s (line_view X.Key.bytes X.Value.bytes policy_view command.now)) }
     ensures left { Leaves (meaning X.Engine C.Store) X.root session result.0
         (λ s. machine.turn (scheme_of X.Engine) s (line_view X.Key.bytes X.Value.bytes policy_view command.now)) }
@@ -505,6 +658,7 @@ pub fn turn<X: Engine<C>, C: Store>(
         Command::Open => open::<X, C>(alloc, config, session),
         Command::Batch => batch::<X, C>(alloc, session),
         Command::Put(number, key, value) => put::<X, C>(alloc, session, *number, key, value),
+        Command::Del(number, key) => del::<X, C>(alloc, session, *number, key),
         Command::Merkleize(number, policy, metadata) => {
             merkleize::<X, C>(alloc, session, *number, policy, metadata)
         }
@@ -512,5 +666,7 @@ pub fn turn<X: Engine<C>, C: Store>(
         Command::Ops(number) => ops::<X, C>(alloc, session, *number),
         Command::Get(key) => get::<X, C>(alloc, session, key),
         Command::Info => info::<X, C>(session),
+        Command::Root => root::<X, C>(alloc, session),
+        Command::Meta => meta::<X, C>(alloc, session),
     }
 }

@@ -1,6 +1,7 @@
 //! Lists made of others: copies, spellings and what replies list.
 
 ghost use Rattle.std.specs.Prelude.{◌≡◌, IfOk, map, option_map};
+ghost use Rattle.qm_model.specs.Live as lives;
 ghost use Rattle.qm_model.specs.Operations as model;
 ghost use Rattle.qm_lines.specs.Views.{listed_view};
 ghost use Rattle.qm_run.specs.ListViews.{entry_view, entry_views};
@@ -90,6 +91,35 @@ pub(crate) fn spell_all<F, K: Key, V: VariableValue>(
         spelt.push(bytes)?;
     }
     Ok(spelt)
+}
+
+// The metadata of the last commit.
+fn metadata_of<F, K: Key, V: VariableValue>(operations: &[Entry<F, K, V>]) -> Option<&V>
+    ensures { option_map (λ v. V.bytes v.now) result ≡ lives.last_metadata (entry_views K.bytes V.bytes operations.now) }
+{
+    let mut last = None;
+    for operation in operations {
+        if let Operation::CommitFloor(metadata, _) = operation {
+            last = metadata.as_ref();
+        }
+    }
+    last
+}
+
+/// A copy of the last commit's metadata.
+pub(crate) fn last_metadata<F, K: Key, V: VariableValue>(
+    alloc: Global,
+    operations: &[Entry<F, K, V>],
+) -> Result<Option<V>, AllocError>
+    ensures { IfOk result (λ metadata. option_map V.bytes metadata ≡ lives.last_metadata (entry_views K.bytes V.bytes operations.now)) }
+{
+    match metadata_of(operations) {
+        None => Ok(None),
+        Some(value) => {
+            let copy = value.twin(alloc)?;
+            Ok(Some(copy))
+        }
+    }
 }
 
 // The operation as a reply lists it.

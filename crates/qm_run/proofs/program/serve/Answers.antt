@@ -5,6 +5,7 @@ use Rattle.qm_model.specs.Operations.{Bytes}
 use Rattle.qm_model.specs.Lines.{Answer}
 use Rattle.qm_model.specs.Grammar.{commands_in, bad_in}
 use Rattle.qm_model.specs.Text.{text_of}
+use Rattle.qm_base.specs.declared.sha256.Sha256Digest.{Sha256Digest}
 use Rattle.qm_lines.specs.Views.{answer_view}
 use Rattle.qm_lines.specs.Parsed.{byte_line}
 use Rattle.qm_run.specs.Runs.{IsRun}
@@ -23,7 +24,7 @@ returns-in-Err-clause-headline g c = λ start. each (g.C.Store.items c.args.stor
 pub returns-in-Err-whole_text-clause-headline : goal.returns-in-Err-whole_text-clause-headline
 returns-in-Err-whole_text-clause-headline g c = λ start.
     let input : Bytes = c.args.input.now in
-    let view = answer_view (λ (k : Bytes). k) (λ (v : Bytes). v) in
+    let view = answer_view (λ (k : Bytes). k) (λ (v : Bytes). v) (λ (d : Sha256Digest). d.bytes) in
     let given : List Answer = map view c.run-replies.result.replies.items in
     let rose : Type 0 = Rose (g.C.Store.faults c.args.store) (g.C.Store.faults c.run-replies.result.store) in
     let left = g.C.Store.items c.run-replies.result.store in
@@ -39,7 +40,7 @@ returns-in-Err-whole_text-clause-headline g c = λ start.
 pub returns-in-Ok-write_all-clause-headline : goal.returns-in-Ok-write_all-clause-headline
 returns-in-Ok-write_all-clause-headline g c = λ start.
     let input : Bytes = c.args.input.now in
-    let view = answer_view (λ (k : Bytes). k) (λ (v : Bytes). v) in
+    let view = answer_view (λ (k : Bytes). k) (λ (v : Bytes). v) (λ (d : Sha256Digest). d.bytes) in
     let given : List Answer = map view c.run-replies.result.replies.items in
     let rose : Type 0 = Rose (g.C.Store.faults c.args.store) (g.C.Store.faults c.run-replies.result.store) in
     let left = g.C.Store.items c.run-replies.result.store in
@@ -58,7 +59,7 @@ returns-in-Ok-write_all-clause-headline g c = λ start.
 pub returns-in-Err-Failed-clause-headline : goal.returns-in-Err-Failed-clause-headline
 returns-in-Err-Failed-clause-headline g c = λ start.
     let input : Bytes = c.args.input.now in
-    let view = answer_view (λ (k : Bytes). k) (λ (v : Bytes). v) in
+    let view = answer_view (λ (k : Bytes). k) (λ (v : Bytes). v) (λ (d : Sha256Digest). d.bytes) in
     let given : List Answer = map view c.run-replies.result.replies.items in
     let rose : Type 0 = Rose (g.C.Store.faults c.args.store) (g.C.Store.faults c.run-replies.result.store) in
     let left = g.C.Store.items c.run-replies.result.store in
@@ -76,7 +77,7 @@ returns-in-Err-Failed-clause-headline g c = λ start.
 pub returns-clause-headline : goal.returns-clause-headline
 returns-clause-headline g c = λ start.
     let input : Bytes = c.args.input.now in
-    let view = answer_view (λ (k : Bytes). k) (λ (v : Bytes). v) in
+    let view = answer_view (λ (k : Bytes). k) (λ (v : Bytes). v) (λ (d : Sha256Digest). d.bytes) in
     let given : List Answer = map view c.run-replies.result.replies.items in
     let rose : Type 0 = Rose (g.C.Store.faults c.args.store) (g.C.Store.faults c.run-replies.result.store) in
     let left = g.C.Store.items c.run-replies.result.store in

@@ -9,12 +9,22 @@ use Rattle.qm_run.specs.Runs.{IsRun}
 use Rattle.qm_run.proofs.Loops.{each, loop_step, ended_in, ended_at, line_here, Rose-wider}
 use Rattle.qm_run.proofs.runs.run.Goals as goal
 
+pub loop-command-init : goal.loop-command-init
+loop-command-init g c =
+    let a = answer_view g.X.Key.ByteString.bytes g.X.Value.ByteString.bytes g.X.Digest.Digest.bytes in
+    record {
+      count = ap length c.new-replies.ensures.items;
+      opened = omega (arith, c.in-Ok.ensures.opened);
+      later = omega (arith, ap g.C.Store.faults c.in-Ok.ensures.store);
+      machine = λ items is start apart. (ap (map a) c.new-replies.ensures.items, c.in-Ok.ensures.session items is start);
+    }
+
 pub returns-in-Some-clause-machine : goal.returns-in-Some-clause-machine
 returns-in-Some-clause-machine g c = λ start.
     let m : Meaning g.row.X.Denot g.row.C.Denot g.row.X-Batch.Denot g.row.X-Merkleized.Denot = meaning g.X.Engine g.C.Store in
     let scheme : Scheme Policy = scheme_of g.X.Engine in
     let f = line_view g.X.Key.ByteString.bytes g.X.Value.ByteString.bytes policy_view in
-    let a = answer_view g.X.Key.ByteString.bytes g.X.Value.ByteString.bytes in
+    let a = answer_view g.X.Key.ByteString.bytes g.X.Value.ByteString.bytes g.X.Digest.Digest.bytes in
     let i = c.loop-command.command-index in
     let kept : c.step-next.new.replies.items ≡ c.loop-command.replies.items = rw c.in-Some.is at c.step-next.ensures.kept in
     each (g.C.Store.items c.args.store) (λ items is.
@@ -36,7 +46,7 @@ loop-command-preserved g c =
     let m : Meaning g.row.X.Denot g.row.C.Denot g.row.X-Batch.Denot g.row.X-Merkleized.Denot = meaning g.X.Engine g.C.Store in
     let scheme : Scheme Policy = scheme_of g.X.Engine in
     let f = line_view g.X.Key.ByteString.bytes g.X.Value.ByteString.bytes policy_view in
-    let a = answer_view g.X.Key.ByteString.bytes g.X.Value.ByteString.bytes in
+    let a = answer_view g.X.Key.ByteString.bytes g.X.Value.ByteString.bytes g.X.Digest.Digest.bytes in
     let i = c.loop-command.command-index in
     let grown = rw c.in_default.is at c.step-next.ensures.grown in
     record {
@@ -57,7 +67,7 @@ returns-clause-machine g c = λ start.
     let m : Meaning g.row.X.Denot g.row.C.Denot g.row.X-Batch.Denot g.row.X-Merkleized.Denot = meaning g.X.Engine g.C.Store in
     let scheme : Scheme Policy = scheme_of g.X.Engine in
     let f = line_view g.X.Key.ByteString.bytes g.X.Value.ByteString.bytes policy_view in
-    let a = answer_view g.X.Key.ByteString.bytes g.X.Value.ByteString.bytes in
+    let a = answer_view g.X.Key.ByteString.bytes g.X.Value.ByteString.bytes g.X.Digest.Digest.bytes in
     let i = c.loop-command.command-index in
     each (g.C.Store.items c.args.store) (λ items is.
     rw c.close-2.ensures (ended_at scheme items (map f c.args.commands.now) i (map a c.loop-command.replies.items) _

@@ -19,6 +19,6 @@ invariant-loop-command g l =
       later : g.C.Store.faults l.fn.store ≤ g.C.Store.faults (store_given g.X.Engine.inside l.session.held);
       machine : (items : List Bytes) → g.C.Store.items l.fn.store ≡ Some items → g.C.Store.start l.fn.store ≡ 0
           → Apart g.X.Engine.root (after scheme items (map (line_view g.X.Key.ByteString.bytes g.X.Value.ByteString.bytes policy_view) l.commands) l.command-index).had
-          → (map (answer_view g.X.Key.ByteString.bytes g.X.Value.ByteString.bytes) l.replies.items ≡ answers scheme (initial items) (take l.command-index (map (line_view g.X.Key.ByteString.bytes g.X.Value.ByteString.bytes policy_view) l.commands)))
+          → (map (answer_view g.X.Key.ByteString.bytes g.X.Value.ByteString.bytes g.X.Digest.Digest.bytes) l.replies.items ≡ answers scheme (initial items) (take l.command-index (map (line_view g.X.Key.ByteString.bytes g.X.Value.ByteString.bytes policy_view) l.commands)))
           × Holds m l.session.held l.session.table.items l.session.opened (after scheme items (map (line_view g.X.Key.ByteString.bytes g.X.Value.ByteString.bytes policy_view) l.commands) l.command-index);
     }

@@ -5,7 +5,7 @@ use Rattle.qm_run.proofs.runs.step.Goals as goal
 
 pub returns-in-Ok-clause-machine : goal.returns-in-Ok-clause-machine
 returns-in-Ok-clause-machine g c = λ s k apart.
-    let view = answer_view g.X.Key.ByteString.bytes g.X.Value.ByteString.bytes in
+    let view = answer_view g.X.Key.ByteString.bytes g.X.Value.ByteString.bytes g.X.Digest.Digest.bytes in
     let answered = (rw c.in-Reply.is at (c.turn-session.ensures.machine s k)) apart in (
       rw c.in-Ok.ensures.ok (map-append view c.args.replies.now.items (c.in-Reply.reply ∷ []) ∙ ap (λ a. map view c.args.replies.now.items ++ a ∷ []) answered.0),
       answered.1,

@@ -10,4 +10,4 @@ pub returns-in-Ok-push_slot-clause-machine : goal.returns-in-Ok-push_slot-clause
 returns-in-Ok-push_slot-clause-machine g c = λ s k.
     let m : Meaning g.row.X.Denot g.row.C.Denot g.row.X-Batch.Denot g.row.X-Merkleized.Denot = meaning g.X.Engine g.C.Store in
     let scheme : Scheme Policy = scheme_of g.X.Engine in
-    rw c.in-Ok-push_slot.ensures.ok (batch_ok m g.X.Key.ByteString.bytes g.X.Value.ByteString.bytes scheme c.in-Database.x c.args.session.table.items c.args.session.opened c.in-Ok.made c.len-number.result s (rw c.in-Database.is at k) c.in-Ok.ensures (c.len-number.ensures ∙ c.args.session.table.ok.0))
+    rw c.in-Ok-push_slot.ensures.ok (batch_ok m g.X.Key.ByteString.bytes g.X.Value.ByteString.bytes g.X.Digest.Digest.bytes scheme c.in-Database.x c.args.session.table.items c.args.session.opened c.in-Ok.made c.len-number.result s (rw c.in-Database.is at k) c.in-Ok.ensures (c.len-number.ensures ∙ c.args.session.table.ok.0))

@@ -19,7 +19,7 @@ returns-then-start-gt0-clause-machine g c = λ s k.
     let scheme : Scheme Policy = scheme_of g.X.Engine in
     let law : IfSome (m.items (store_given m.inside c.args.session.held)) (λ xs. m.start (store_given m.inside c.args.session.held) + length xs ≡ c.bounds-start.result.1) =
     rw c.bounds-start.ensures.end (g.met.C.Store.told_end (store_given m.inside c.args.session.held)) in
-    open_refused m g.X.Key.ByteString.bytes g.X.Value.ByteString.bytes scheme c.args.session.held c.args.session.table.items c.args.session.opened c.bounds-start.result.0 c.bounds-start.result.1 s k c.bounds-start.ensures.start law
+    open_refused m g.X.Key.ByteString.bytes g.X.Value.ByteString.bytes g.X.Digest.Digest.bytes scheme c.args.session.held c.args.session.table.items c.args.session.opened c.bounds-start.result.0 c.bounds-start.result.1 s k c.bounds-start.ensures.start law
     (either c.bounds-start.result.0 c.bounds-start.result.1 c.then-start-gt0.either)
 
 pub returns-in-Ok-clause-machine : goal.returns-in-Ok-clause-machine
@@ -29,7 +29,7 @@ returns-in-Ok-clause-machine g c = λ s k.
     let law : IfSome (m.items (store_given m.inside c.args.session.held)) (λ xs. m.start (store_given m.inside c.args.session.held) + length xs ≡ c.bounds-start.result.1) =
     rw c.bounds-start.ensures.end (g.met.C.Store.told_end (store_given m.inside c.args.session.held)) in
     let grown = rw c.close-store.ensures at c.in-Ok.ensures.grown in
-    open_ok m g.X.Key.ByteString.bytes g.X.Value.ByteString.bytes scheme c.args.session.held c.in-Ok.x c.args.session.table.items c.args.session.opened c.info-numbers.result.start c.info-numbers.result.size c.bounds-start.result.1 s k law
+    open_ok m g.X.Key.ByteString.bytes g.X.Value.ByteString.bytes g.X.Digest.Digest.bytes scheme c.args.session.held c.in-Ok.x c.args.session.table.items c.args.session.opened c.info-numbers.result.start c.info-numbers.result.size c.bounds-start.result.1 s k law
     (omega arith) c.in-Ok.ensures.opened grown.start grown.items c.info-numbers.ensures.start (λ list stands. (c.info-numbers.ensures.list list stands).0)
 
 pub returns-in-Ok-clause-left : goal.returns-in-Ok-clause-left
@@ -39,5 +39,5 @@ returns-in-Ok-clause-left g c = λ s k apart.
     let law : IfSome (m.items (store_given m.inside c.args.session.held)) (λ xs. m.start (store_given m.inside c.args.session.held) + length xs ≡ c.bounds-start.result.1) =
     rw c.bounds-start.ensures.end (g.met.C.Store.told_end (store_given m.inside c.args.session.held)) in
     let grown = rw c.close-store.ensures at c.in-Ok.ensures.grown in
-    open_left m g.X.Key.ByteString.bytes g.X.Value.ByteString.bytes scheme c.args.session.held (m.items (m.inside c.in-Ok.x)) c.bounds-start.result.1 c.args.session.table.items c.args.session.opened s k law
+    open_left m g.X.Key.ByteString.bytes g.X.Value.ByteString.bytes g.X.Digest.Digest.bytes scheme c.args.session.held (m.items (m.inside c.in-Ok.x)) c.bounds-start.result.1 c.args.session.table.items c.args.session.opened s k law
     (omega arith) (Grows-whole (m.items (store_given m.inside c.args.session.held)) (m.items (m.inside c.in-Ok.x)) (map spelling fresh) grown.items)

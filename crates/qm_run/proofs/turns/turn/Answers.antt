@@ -19,6 +19,12 @@ returns-in-Put-clause-machine g c = λ s k. rw c.in-Put.is (c.put.ensures.machin
 pub returns-in-Put-clause-left : goal.returns-in-Put-clause-left
 returns-in-Put-clause-left g c = λ s k apart. rw c.in-Put.is (unchanged_left (g.C.Store.items (store_given g.X.Engine.inside c.args.session.held)) (g.C.Store.items (store_given g.X.Engine.inside c.put.result.0.held)) s.items _ k.items c.put.ensures.store.items (put_items s _ _ (slot_at s.table _)))
 
+pub returns-in-Del-clause-machine : goal.returns-in-Del-clause-machine
+returns-in-Del-clause-machine g c = λ s k. rw c.in-Del.is (c.del.ensures.machine s k)
+
+pub returns-in-Del-clause-left : goal.returns-in-Del-clause-left
+returns-in-Del-clause-left g c = λ s k apart. rw c.in-Del.is (unchanged_left (g.C.Store.items (store_given g.X.Engine.inside c.args.session.held)) (g.C.Store.items (store_given g.X.Engine.inside c.del.result.0.held)) s.items _ k.items c.del.ensures.store.items (put_items s _ _ (slot_at s.table _)))
+
 pub returns-in-Merkleize-clause-machine : goal.returns-in-Merkleize-clause-machine
 returns-in-Merkleize-clause-machine g c = λ s k. rw c.in-Merkleize.is (c.merkleize.ensures.machine s k)
 
@@ -42,3 +48,9 @@ returns-in-Get-clause-machine g c = λ s k. rw c.in-Get.is (c.get.ensures.machin
 
 pub returns-in-Info-clause-machine : goal.returns-in-Info-clause-machine
 returns-in-Info-clause-machine g c = λ s k. rw c.in-Info.is (c.info.ensures.machine s k)
+
+pub returns-in-Root-clause-machine : goal.returns-in-Root-clause-machine
+returns-in-Root-clause-machine g c = λ s k. rw c.in-Root.is (c.root.ensures.machine s k)
+
+pub returns-in-Meta-clause-machine : goal.returns-in-Meta-clause-machine
+returns-in-Meta-clause-machine g c = λ s k. rw c.in-Meta.is (c.meta.ensures.machine s k)
