@@ -1,9 +1,10 @@
 -- What a store in memory tells of itself.
 use Rattle.std.specs.Prelude.{ℕ, ◌+◌, ◌-◌, ◌^◌, min, List, ◌++◌}
 
--- where its items start, the items, the numbers of the calls that fail, and how many calls and faults there were
+-- where its items start, its head, the items, the numbers of the calls that fail, and how many calls and faults there were
 pub record Mem : Type 0 where
   pub start : ℕ
+  pub head : List ℕ
   pub items : List (List ℕ)
   pub fail : List ℕ
   pub calls : ℕ

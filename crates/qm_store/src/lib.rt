@@ -2,13 +2,15 @@
 #![tactic(auto)]
 
 ghost use Rattle.std.specs.Prelude.{◌≡◌, ℕ, ◌+◌, ◌-◌, ◌^◌, ◌<◌, ◌≤◌, List, length, map, slice_get};
-ghost use Rattle.std.specs.Prelude.{Option, Some, IfSome, IfOk, OnOk, OnErr, IsErrOf};
+ghost use Rattle.std.specs.Prelude.{Option, Some, None, IfSome, IfOk, OnOk, OnErr, IsErrOf};
 ghost use Rattle.qm_model.specs.Causes.{IsCause, Grows, GrowsPart};
 
+mod log;
 mod mem_store;
 #[cfg(test)]
 mod tests;
 
+pub use log::{AuthLog, LogError, LogGiven, LogRefusal};
 pub use mem_store::MemStore;
 use std::alloc::{AllocError, AllocFailed};
 use thiserror::Error;
@@ -56,6 +58,9 @@ pub trait Store: Drop {
     /// The items from the start on, where the store tells them: one in memory does, one over files does not.
     ghost items: { Self → Option (List (List ℕ)) };
 
+    /// The bytes of its head, where the store tells them.
+    ghost head: { Self → Option (List ℕ) };
+
     /// How often it has failed. The count never falls, and stands still at its greatest value.
     ghost faults: { Self → ℕ };
 
@@ -78,6 +83,16 @@ pub trait Store: Drop {
         ensures same_start { start self.new ≡ start self.old }
         ensures same_end { end self.new ≡ end self.old }
         ensures same_items { items self.new ≡ items self.old }
+        ensures same_head { head self.new ≡ head self.old }
+        ensures cause { IsCause (faults self.old) (faults self.new) (IsErrOf result StoreError.Failed) };
+
+    /// The digests of the peaks at the start, one after another; empty at start 0.
+    fn head(&mut self) -> Result<Vec<u8>, StoreError>
+        ensures value { IfOk result (λ v. IfSome (head self.old) (λ h. v.items ≡ h)) }
+        ensures same_start { start self.new ≡ start self.old }
+        ensures same_end { end self.new ≡ end self.old }
+        ensures same_items { items self.new ≡ items self.old }
+        ensures same_head { head self.new ≡ head self.old }
         ensures cause { IsCause (faults self.old) (faults self.new) (IsErrOf result StoreError.Failed) };
 
     /// Puts these behind the last item. After an error a first part of them may be there.
@@ -87,6 +102,8 @@ pub trait Store: Drop {
         ensures ok_end { OnOk result (end self.new ≡ end self.old + length added.now) }
         ensures err { OnErr result (GrowsPart (items self.old) (items self.new) (map (λ v. v.items) added.now)) }
         ensures same_start { start self.new ≡ start self.old }
+        ensures same_head { head self.new ≡ head self.old }
+        ensures untold { items self.old ≡ None → items self.new ≡ None }
         ensures grows { end self.old ≤ end self.new }
         ensures within { end self.new ≤ end self.old + length added.now }
         ensures cause { IsCause (faults self.old) (faults self.new) (IsErrOf result StoreError.Failed) };

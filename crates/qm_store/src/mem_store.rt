@@ -10,12 +10,13 @@ use crate::{Store, StoreError};
 use std::alloc::{AllocError, Global};
 use std::marker::Model;
 
-/// A store in memory. Its calls of `read` and `append` are numbered from 0 on, and those fail
+/// A store in memory. Its calls of `read`, `head` and `append` are numbered from 0 on, and those fail
 /// whose numbers are listed. The numbers stand still at their greatest value.
 #[derive(Drop)]
 pub struct MemStore {
     alloc: Global,
     first: u64,
+    head: Vec<u8>,
     kept: Vec<Vec<u8>>,
     listed: Vec<u64>,
     called: u64,
@@ -28,7 +29,7 @@ impl Model for MemStore {
 
     ghost Value = { Mem };
 
-    ghost view = { λ s. record { start = s.first; items = map (λ v. v.items) s.kept.items; fail = s.listed.items; calls = s.called; faults = s.failed } };
+    ghost view = { λ s. record { start = s.first; head = s.head.items; items = map (λ v. v.items) s.kept.items; fail = s.listed.items; calls = s.called; faults = s.failed } };
 
     ghost invariant = { λ s. s.first + length s.kept.items ≤ 2 ^ 62 };
 }
@@ -36,7 +37,7 @@ impl Model for MemStore {
 impl MemStore {
     /// An empty store, which fails at the calls of these numbers.
     pub fn new(alloc: Global, fail: Vec<u64>) -> MemStore
-        ensures { result ≡ record { start = 0; items = []; fail = fail.items; calls = 0; faults = 0 } }
+        ensures { result ≡ record { start = 0; head = []; items = []; fail = fail.items; calls = 0; faults = 0 } }
     {
         MemStore::starting_at(alloc, 0, fail)
     }
@@ -44,11 +45,12 @@ impl MemStore {
     /// An empty store whose first item will be at this location.
     pub fn starting_at(alloc: Global, start: u64, fail: Vec<u64>) -> MemStore
         requires { start ≤ 2 ^ 62 }
-        ensures { result ≡ record { start = start; items = []; fail = fail.items; calls = 0; faults = 0 } }
+        ensures { result ≡ record { start = start; head = []; items = []; fail = fail.items; calls = 0; faults = 0 } }
     {
         MemStore {
             alloc,
             first: start,
+            head: Vec::new(alloc),
             kept: Vec::new(alloc),
             listed: fail,
             called: 0,
@@ -99,6 +101,8 @@ impl Store for MemStore {
 
     ghost items = { λ s. Some s.items };
 
+    ghost head = { λ s. Some s.head };
+
     ghost faults = { λ s. s.faults };
 
     ghost ordered = { λ s. le-add_right s.start (length s.items) };
@@ -119,6 +123,7 @@ impl Store for MemStore {
         ensures item { IfOk result (λ v. slice_get self.old.items (at - self.old.start) ≡ Some v.items) }
         ensures same_start { self.new.start ≡ self.old.start }
         ensures same_items { self.new.items ≡ self.old.items }
+        ensures same_head { self.new.head ≡ self.old.head }
         ensures cause { IsCause self.old.faults self.new.faults (IsErrOf result StoreError.Failed) }
 
         // It fails at the listed calls alone, and a call changes only the two counts.
@@ -131,9 +136,26 @@ impl Store for MemStore {
         Ok(item.as_slice().to_vec(self.alloc)?)
     }
 
+    fn head(&mut self) -> Result<Vec<u8>, StoreError>
+        ensures value { IfOk result (λ v. v.items ≡ self.old.head) }
+        ensures same_start { self.new.start ≡ self.old.start }
+        ensures same_items { self.new.items ≡ self.old.items }
+        ensures same_head { self.new.head ≡ self.old.head }
+        ensures cause { IsCause self.old.faults self.new.faults (IsErrOf result StoreError.Failed) }
+
+        // It fails at the listed calls alone, and a call changes only the two counts.
+        ensures fails { (result ≡ Err StoreError.Failed) ↔ Contains self.old.fail self.old.calls }
+        ensures fault { result ≡ Err StoreError.Failed → self.new ≡ failed self.old }
+        ensures other { result ≢ Err StoreError.Failed → self.new ≡ called self.old }
+    {
+        self.call()?;
+        Ok(self.head.as_slice().to_vec(self.alloc)?)
+    }
+
     fn append(&mut self, added: &[Vec<u8>]) -> Result<(), StoreError>
         requires room { self.old.start + length self.old.items + length added.now ≤ 2 ^ 62 }
         ensures same_start { self.new.start ≡ self.old.start }
+        ensures same_head { self.new.head ≡ self.old.head }
         ensures cause { IsCause self.old.faults self.new.faults (IsErrOf result StoreError.Failed) }
 
         // It fails at the listed calls alone, and changes no item there.

@@ -27,6 +27,7 @@ fn reads_what_was_appended(rt: HostRuntime) -> Result<(), Fail> {
     assert_eq!(rt; store.bounds(), (5, 5));
     store.append(&two_items(rt.alloc())?)?;
     assert_eq!(rt; store.bounds(), (5, 7));
+    assert_eq!(rt; store.head()?.len(), 0);
     assert_eq!(rt; store.read(5)?.as_slice(), [1, 2].as_slice());
     assert_eq!(rt; store.read(6)?.as_slice(), [3].as_slice());
     assert_eq!(rt; last(&mut store)?, Some(vec![in rt.alloc(); 3u8]?));

@@ -1,0 +1,69 @@
+-- Logs: the leaves of items, the head of a store, and what a log stands for.
+use Rattle.std.specs.Prelude.{◌≡◌, ◌≤◌, ℕ, suc, ◌+◌, ◌-◌, List, [], ◌∷◌, length, take, drop, map, IfSome}
+use Rattle.std.specs.List.{concat}
+use Rattle.qm_model.specs.Causes.{Grows, GrowsPart}
+use Rattle.qm_model.specs.Operations.{Bytes}
+use Rattle.qm_model.specs.Trees.{Shape, leaf, peaks, leaf_digest, digest_of}
+use Rattle.qm_merkle.specs.Mems.{Kept, Stands}
+use Rattle.qm_store.specs.declared.Store as store
+use Rattle.qm_store.specs.declared.StoreError.{StoreError}
+use Rattle.qm_store.specs.declared.StoreError.TheVariants as stores
+use Rattle.qm_store.specs.declared.log.LogError.{LogError}
+use Rattle.qm_store.specs.declared.log.LogError.TheVariants as logs
+use Rattle.qm_store.specs.declared.log.LogGiven.{LogGiven}
+use Rattle.qm_store.specs.declared.log.LogGiven.TheVariants as given
+
+-- a log: its store, and the tree over its items' leaves
+pub record Log (C D : Type 0) : Type 0 where
+  pub store : C
+  pub tree : Kept D
+
+-- the leaves' digests of items from location i on
+abbrev pub digests_from : (Bytes → Bytes) → Shape → ℕ → List Bytes → List Bytes
+digests_from hash shape i [] = []
+digests_from hash shape i (item ∷ rest) = leaf_digest hash (shape.position (leaf i)) item ∷ digests_from hash shape (suc i) rest
+
+-- the bytes are the digests of the peaks over n leaves, one after another
+pub record IsHead {D : Type 0} (shape : Shape) (bytes : D → Bytes) (hash : Bytes → Bytes) (n : ℕ) (leaves : List Bytes) (head : Bytes) : Type 0 where
+  pub pins : List D
+  pub spelled : concat (map bytes pins) ≡ head
+  pub digests : map bytes pins ≡ map (digest_of hash shape leaves) (peaks shape n)
+
+-- a log stands for a list of items: its tree for their leaves, and its store, where it tells its items, has those from the start on
+pub record IsLog {C D : Type 0} (members : store.Ghosts C) (shape : Shape) (bytes : D → Bytes) (hash : Bytes → Bytes) (log : Log C D) (list : List Bytes) : Type 0 where
+  pub tree : Stands shape bytes hash log.tree (digests_from hash shape 0 list)
+  pub start : log.tree.start ≡ members.start log.store
+  pub size : log.tree.leaves ≡ length list
+  pub items : IfSome (members.items log.store) (λ xs. take (length list - log.tree.start) xs ≡ drop log.tree.start list)
+
+-- a store has what it had
+pub record IsKept {C : Type 0} (members : store.Ghosts C) (old new : C) : Type 0 where
+  pub start : members.start new ≡ members.start old
+  pub end : members.«end» new ≡ members.«end» old
+  pub items : members.items new ≡ members.items old
+  pub head : members.head new ≡ members.head old
+
+-- a store's items grew by these, and else it has what it had
+pub record HasGrown {C : Type 0} (members : store.Ghosts C) (old new : C) (more : List Bytes) : Type 0 where
+  pub start : members.start new ≡ members.start old
+  pub end : members.«end» new ≡ members.«end» old + length more
+  pub items : Grows (members.items old) (members.items new) more
+  pub head : members.head new ≡ members.head old
+
+-- they grew by a first part of these
+pub record HasGrownPart {C : Type 0} (members : store.Ghosts C) (old new : C) (more : List Bytes) : Type 0 where
+  pub start : members.start new ≡ members.start old
+  pub from : members.«end» old ≤ members.«end» new
+  pub within : members.«end» new ≤ members.«end» old + length more
+  pub items : GrowsPart (members.items old) (members.items new) more
+  pub head : members.head new ≡ members.head old
+
+-- why a log's call failed, where its store's did
+abbrev pub log_error : StoreError → LogError
+log_error stores.Memory = logs.Memory
+log_error stores.Failed = logs.Store
+
+-- the store that is given back, by itself or inside the log
+abbrev pub store_given : {C D : Type 0} → LogGiven (Log C D) C → C
+store_given (given.Log log) = log.store
+store_given (given.Store store) = store

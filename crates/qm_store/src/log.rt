@@ -1,0 +1,418 @@
+//! Logs: a store of items and a tree over their leaves, which agree.
+
+ghost use Rattle.std.specs.Prelude.{◌≡◌, ◌≢◌, ◌↔◌, ◌⊎◌, ℕ, ◌+◌, ◌-◌, ◌*◌, ◌^◌, ◌<◌, ◌≤◌, IsTrue, List, ◌++◌, length, map, take, drop, slice_get};
+ghost use Rattle.std.specs.Prelude.{Ok, Err, IfSome, IfOk, IfErr, OnOk, OnErr, IsErrOf};
+ghost use Rattle.std.specs.List.{concat};
+ghost use Rattle.qm_model.specs.Causes.{IsCause, Rose, Grows, GrowsPart};
+ghost use Rattle.qm_model.specs.Trees as trees;
+ghost use Rattle.qm_merkle.specs.Mems.{Stands};
+ghost use Rattle.qm_store.specs.Log.{Log, digests_from, IsHead, IsLog, IsKept, HasGrown, HasGrownPart, store_given};
+
+use crate::{Store, StoreError};
+use qm_base::{Digest, Hasher, Location};
+use qm_merkle::mem::Mem;
+use qm_merkle::{Family, Position, StandardHasher};
+use std::alloc::{AllocError, AllocFailed, Global};
+use std::marker::Model;
+use thiserror::Error;
+
+/// Why a log's call failed.
+#[derive(Clone, Copy, Debug, PartialEq, Eq, Error)]
+pub enum LogError {
+    /// There was no memory.
+    #[error("out of memory")]
+    Memory,
+    /// The store failed, and its count of faults rose.
+    #[error("store fault")]
+    Store,
+    /// The store's head is not as long as the digests of the peaks at its start.
+    #[error("head does not match the start")]
+    Head,
+    /// The item at this location is before the start.
+    #[error("item pruned: {0}")]
+    ItemPruned(u64),
+}
+
+impl From<AllocError> for LogError {
+    ghost use Rattle.qm_store.specs.declared.log.LogError.TheVariants.{Memory};
+
+    ghost from_gives = { λ _ e. e ≡ Memory };
+
+    fn from(_: AllocError) -> Self {
+        LogError::Memory
+    }
+}
+
+impl<T: Drop> From<AllocFailed<T>> for LogError {
+    ghost use Rattle.qm_store.specs.declared.log.LogError.TheVariants.{Memory};
+
+    ghost from_gives = { λ _ e. e ≡ Memory };
+
+    fn from(_: AllocFailed<T>) -> Self {
+        LogError::Memory
+    }
+}
+
+impl From<StoreError> for LogError {
+    ghost use Rattle.qm_store.specs.Log.{log_error};
+
+    ghost from_gives = { λ s e. e ≡ log_error s };
+
+    fn from(error: StoreError) -> Self {
+        match error {
+            StoreError::Memory => LogError::Memory,
+            StoreError::Failed => LogError::Store,
+        }
+    }
+}
+
+/// What a call that takes a log or a store by value gives back where it refuses: the log as it was, or the store.
+#[derive(Drop)]
+pub enum LogGiven<L, C> {
+    Log(L),
+    Store(C),
+}
+
+/// A refusal of a call that takes a log or a store by value.
+#[derive(Drop)]
+pub struct LogRefusal<L, C> {
+    pub given: LogGiven<L, C>,
+    pub error: LogError,
+}
+
+/// A list of items in a store, with the tree over their leaves.
+#[derive(Drop)]
+pub struct AuthLog<F: Family, C: Store, D, H> {
+    store: C,
+    tree: Mem<F, D>,
+    hasher: StandardHasher<H>,
+}
+
+impl<F: Family, C: Store, D, H> Model for AuthLog<F, C, D, H> {
+    ghost use Rattle.std.specs.Prelude.{◌≡◌, ◌≤◌};
+    ghost use Rattle.qm_store.specs.Log.{Log};
+
+    ghost Value = { Log C D };
+
+    ghost view = { λ l. record { store = l.store; tree = l.tree } };
+
+    ghost invariant = { λ l. (l.tree.start ≡ C.start l.store) × (l.tree.leaves ≤ C.end l.store) };
+}
+
+impl<F: Family, C: Store, D: Digest, H: Hasher<Digest = D> + Drop> AuthLog<F, C, D, H> {
+    /// The log that ends at `size`, whatever the store has past it.
+    /// Each item from the store's start up to there is read once. A refusal gives back the store.
+    pub fn open(alloc: Global, store: C, hasher: H, size: u64) -> Result<Self, LogRefusal<Self, C>>
+        requires start { C.start store ≤ size }
+        requires end { size ≤ C.end store }
+        ensures stands { (list : List (List ℕ)) → length list ≡ size → IfSome (C.items store) (λ xs. IfSome (C.head store) (λ h.
+            take (size - C.start store) xs ≡ drop (C.start store) list → IsHead F.shape D.bytes H.hash (C.start store) (digests_from H.hash F.shape 0 list) h
+            → IfOk result (λ log. IsLog C.Store F.shape D.bytes H.hash log list))) }
+        ensures start { IfOk result (λ log. log.tree.start ≡ C.start store) }
+        ensures size { IfOk result (λ log. log.tree.leaves ≡ size) }
+        ensures kept { IfOk result (λ log. IsKept C.Store store log.store) }
+        ensures back { IfErr result (λ r. (s : C) × (r.given ≡ LogGiven.Store s) × IsKept C.Store store s × IsCause (C.faults store) (C.faults s) (r.error ≡ LogError.Store)) }
+        ensures long { IfOk result (λ _. IfSome (C.head store) (λ h. length h ≡ length (trees.peaks F.shape (C.start store)) * D.SIZE)) }
+        ensures head { IfErr result (λ r. r.error ≡ LogError.Head → IfSome (C.head store) (λ h. length h ≢ length (trees.peaks F.shape (C.start store)) * D.SIZE)) }
+        ensures never { IfErr result (λ r. (n : ℕ) → r.error ≢ LogError.ItemPruned n) }
+        ensures later { IfOk result (λ log. C.faults store ≤ C.faults log.store) }
+    {
+        let mut store = store;
+        let mut hasher = StandardHasher::new(hasher);
+        match load(alloc, &mut store, &mut hasher, size) {
+            Ok(tree) => Ok(AuthLog {
+                store,
+                tree,
+                hasher,
+            }),
+            Err(error) => Err(LogRefusal {
+                given: LogGiven::Store(store),
+                error,
+            }),
+        }
+    }
+
+    /// Puts these behind the last item, and their leaves behind the last leaf. Where memory lacks
+    /// before the store is called, the log is given back as it was, and else the store.
+    pub fn append_batch(self, alloc: Global, items: &[Vec<u8>]) -> Result<Self, LogRefusal<Self, C>>
+        requires room { self.tree.leaves + length items.now ≤ 2 ^ 62 }
+        requires last { C.end self.store ≡ self.tree.leaves }
+        ensures stands { (list : List (List ℕ)) → IsLog C.Store F.shape D.bytes H.hash self list → IfOk result (λ log. IsLog C.Store F.shape D.bytes H.hash log (list ++ map (λ v. v.items) items.now)) }
+        ensures start { IfOk result (λ log. log.tree.start ≡ self.tree.start) }
+        ensures size { IfOk result (λ log. log.tree.leaves ≡ self.tree.leaves + length items.now) }
+        ensures grown { IfOk result (λ log. HasGrown C.Store self.store log.store (map (λ v. v.items) items.now)) }
+        ensures part { IfErr result (λ r. HasGrownPart C.Store self.store (store_given r.given) (map (λ v. v.items) items.now)) }
+        ensures back { IfErr result (λ r. (log : Log C D) → r.given ≡ LogGiven.Log log → (log ≡ self) × (r.error ≡ LogError.Memory)) }
+        ensures never { IfErr result (λ r. (r.error ≡ LogError.Memory) ⊎ (r.error ≡ LogError.Store)) }
+        ensures cause { IfErr result (λ r. IsCause (C.faults self.store) (C.faults (store_given r.given)) (r.error ≡ LogError.Store)) }
+        ensures later { IfOk result (λ log. C.faults self.store ≤ C.faults log.store) }
+    {
+        let AuthLog {
+            mut store,
+            mut tree,
+            mut hasher,
+        } = self;
+        match add_items(alloc, &mut tree, &mut hasher, items) {
+            Ok(()) => match store.append(items) {
+                Ok(()) => Ok(AuthLog {
+                    store,
+                    tree,
+                    hasher,
+                }),
+                Err(error) => Err(LogRefusal {
+                    given: LogGiven::Store(store),
+                    error: LogError::from(error),
+                }),
+            },
+            Err(_) => Err(LogRefusal {
+                given: LogGiven::Log(AuthLog {
+                    store,
+                    tree,
+                    hasher,
+                }),
+                error: LogError::Memory,
+            }),
+        }
+    }
+
+    /// Reads the item at a location.
+    pub fn read(&mut self, at: u64) -> Result<Vec<u8>, LogError>
+        requires { at < self.old.tree.leaves }
+        ensures item { (list : List (List ℕ)) → IsLog C.Store F.shape D.bytes H.hash self.old list → IfOk result (λ v. IfSome (C.items self.old.store) (λ _. slice_get list at ≡ Some v.items)) }
+        ensures stands { (list : List (List ℕ)) → IsLog C.Store F.shape D.bytes H.hash self.old list → IsLog C.Store F.shape D.bytes H.hash self.new list }
+        ensures pruned { (result ≡ Err (LogError.ItemPruned at)) ↔ (at < self.old.tree.start) }
+        ensures never { IfErr result (λ e. (e ≡ LogError.Memory) ⊎ ((e ≡ LogError.Store) ⊎ (e ≡ LogError.ItemPruned at))) }
+        ensures tree { self.new.tree ≡ self.old.tree }
+        ensures kept { IsKept C.Store self.old.store self.new.store }
+        ensures cause { IsCause (C.faults self.old.store) (C.faults self.new.store) (IsErrOf result LogError.Store) }
+    {
+        let (start, _) = self.tree.bounds();
+        if at < start.get() {
+            return Err(LogError::ItemPruned(at));
+        }
+        Ok(self.store.read(at)?)
+    }
+
+    /// The root of the tree, the first of whose peaks are inactive.
+    pub fn root(&mut self, alloc: Global, inactive: usize) -> Result<D, AllocError>
+        requires { inactive ≤ length (trees.peaks F.shape self.old.tree.leaves) }
+        ensures value { (list : List (List ℕ)) → IsLog C.Store F.shape D.bytes H.hash self.old list → IfOk result (λ d. D.bytes d ≡ trees.root H.hash F.shape (digests_from H.hash F.shape 0 list) inactive) }
+        ensures same { self.new ≡ self.old }
+    {
+        self.tree.root(alloc, &mut self.hasher, inactive)
+    }
+
+    /// How many items the log has, with those before the start.
+    pub fn size(&self) -> u64
+        ensures { result ≡ self.now.tree.leaves }
+    {
+        self.tree.leaves().get()
+    }
+
+    /// The location of the first item that is kept, and how many items the log has.
+    pub fn bounds(&self) -> (u64, u64)
+        ensures start { result.0 ≡ self.now.tree.start }
+        ensures size { result.1 ≡ self.now.tree.leaves }
+        ensures order { result.0 ≤ result.1 }
+        ensures limit { result.1 ≤ 2 ^ 62 }
+        ensures first { C.start self.now.store ≡ self.now.tree.start }
+        ensures past { self.now.tree.leaves ≤ C.end self.now.store }
+    {
+        let (start, leaves) = self.tree.bounds();
+        (start.get(), leaves.get())
+    }
+
+    /// The tree over the items' leaves.
+    pub fn tree(&self) -> &Mem<F, D>
+        ensures { result.now ≡ self.now.tree }
+    {
+        &self.tree
+    }
+
+    /// The store.
+    pub fn store(&self) -> &C
+        ensures { result.now ≡ self.now.store }
+    {
+        &self.store
+    }
+
+    /// Gives the store back.
+    pub fn close(self) -> C
+        ensures { result ≡ self.store }
+    {
+        self.store
+    }
+}
+
+// The tree of a store's items from its start up to `size`.
+fn load<F: Family, C: Store, D: Digest, H: Hasher<Digest = D>>(
+    alloc: Global,
+    store: &mut C,
+    hasher: &mut StandardHasher<H>,
+    size: u64,
+) -> Result<Mem<F, D>, LogError>
+    requires start { C.start store.old ≤ size }
+    requires end { size ≤ C.end store.old }
+    ensures stands { (list : List (List ℕ)) → length list ≡ size → IfSome (C.items store.old) (λ xs. IfSome (C.head store.old) (λ h.
+        take (size - C.start store.old) xs ≡ drop (C.start store.old) list → IsHead F.shape D.bytes H.hash (C.start store.old) (digests_from H.hash F.shape 0 list) h
+        → IfOk result (λ tree. Stands F.shape D.bytes H.hash tree (digests_from H.hash F.shape 0 list)))) }
+    ensures start { IfOk result (λ tree. tree.start ≡ C.start store.old) }
+    ensures size { IfOk result (λ tree. tree.leaves ≡ size) }
+    ensures long { IfOk result (λ _. IfSome (C.head store.old) (λ h. length h ≡ length (trees.peaks F.shape (C.start store.old)) * D.SIZE)) }
+    ensures head { IfErr result (λ e. e ≡ LogError.Head → IfSome (C.head store.old) (λ h. length h ≢ length (trees.peaks F.shape (C.start store.old)) * D.SIZE)) }
+    ensures never { IfErr result (λ e. (n : ℕ) → e ≢ LogError.ItemPruned n) }
+    ensures kept { IsKept C.Store store.old store.new }
+    ensures cause { IsCause (C.faults store.old) (C.faults store.new) (IsErrOf result LogError.Store) }
+{
+    let mut tree = pruned(alloc, store)?;
+    let (start, _) = store.bounds();
+    let digests = read_digests::<F, C, D, H>(alloc, store, hasher, start, size)?;
+    add_leaves(alloc, &mut tree, hasher, &digests)?;
+    Ok(tree)
+}
+
+// The tree of no leaves past a store's start.
+fn pruned<F: Family, C: Store, D: Digest>(
+    alloc: Global,
+    store: &mut C,
+) -> Result<Mem<F, D>, LogError>
+    ensures stands { (hash : List ℕ → List ℕ) (list : List (List ℕ)) → C.start store.old ≤ length list → IfSome (C.head store.old) (λ h.
+        IsHead F.shape D.bytes hash (C.start store.old) (digests_from hash F.shape 0 list) h
+        → IfOk result (λ tree. Stands F.shape D.bytes hash tree (digests_from hash F.shape 0 (take (C.start store.old) list)))) }
+    ensures start { IfOk result (λ tree. tree.start ≡ C.start store.old) }
+    ensures leaves { IfOk result (λ tree. tree.leaves ≡ C.start store.old) }
+    ensures long { IfOk result (λ _. IfSome (C.head store.old) (λ h. length h ≡ length (trees.peaks F.shape (C.start store.old)) * D.SIZE)) }
+    ensures head { IfErr result (λ e. e ≡ LogError.Head → IfSome (C.head store.old) (λ h. length h ≢ length (trees.peaks F.shape (C.start store.old)) * D.SIZE)) }
+    ensures never { IfErr result (λ e. (n : ℕ) → e ≢ LogError.ItemPruned n) }
+    ensures kept { IsKept C.Store store.old store.new }
+    ensures cause { IsCause (C.faults store.old) (C.faults store.new) (IsErrOf result LogError.Store) }
+{
+    let (start, _) = store.bounds();
+    let start = Location::new(start);
+    let head = store.head()?;
+    let count = F::peaks(alloc, start)?.len();
+    if !is_long(count, D::SIZE, head.len()) {
+        return Err(LogError::Head);
+    }
+    let pins = pieces(alloc, count, &head)?;
+    Ok(Mem::from_pruned_with_retained(alloc, Vec::new(alloc), start, pins)?)
+}
+
+// Whether there are so many bytes as so many digests of a size have.
+fn is_long(count: usize, size: usize, bytes: usize) -> bool
+    ensures { IsTrue result ↔ (bytes ≡ count * size) }
+{
+    match count.checked_mul(size) {
+        Some(all) => all == bytes,
+        None => false,
+    }
+}
+
+// The digests that stand in the bytes, one after another.
+fn pieces<D: Digest>(alloc: Global, count: usize, bytes: &[u8]) -> Result<Vec<D>, AllocError>
+    requires { length bytes.now ≡ count * D.SIZE }
+    ensures count { IfOk result (λ v. length v.items ≡ count) }
+    ensures spelled { IfOk result (λ v. concat (map D.bytes v.items) ≡ bytes.now) }
+{
+    let mut made = Vec::with_capacity(alloc, count)?;
+    let mut rest = bytes;
+    for _ in 0..count {
+        let (piece, others) = rest.split_at(D::SIZE);
+        made.push(D::from_bytes(piece).unwrap())?;
+        rest = others;
+    }
+    Ok(made)
+}
+
+// The leaves' digests of a store's items from its start up to `size`.
+fn read_digests<F: Family, C: Store, D: Digest, H: Hasher<Digest = D>>(
+    alloc: Global,
+    store: &mut C,
+    hasher: &mut StandardHasher<H>,
+    start: u64,
+    size: u64,
+) -> Result<Vec<D>, LogError>
+    requires start { start ≡ C.start store.old }
+    requires order { start ≤ size }
+    requires end { size ≤ C.end store.old }
+    requires few { size ≤ 2 ^ 62 }
+    ensures count { IfOk result (λ v. length v.items ≡ size - start) }
+    ensures digests { IfOk result (λ v. IfSome (C.items store.old) (λ xs. map D.bytes v.items ≡ digests_from H.hash F.shape start (take (size - start) xs))) }
+    ensures never { IfErr result (λ e. (e ≡ LogError.Memory) ⊎ (e ≡ LogError.Store)) }
+    ensures kept { IsKept C.Store store.old store.new }
+    ensures cause { IsCause (C.faults store.old) (C.faults store.new) (IsErrOf result LogError.Store) }
+{
+    let mut made = Vec::with_capacity(alloc, (size - start) as usize)?;
+    for at in start..size {
+        let item = store.read(at)?;
+        made.push(leaf_digest::<F, H>(hasher, at, &item))?;
+    }
+    Ok(made)
+}
+
+// Adds the leaves of items to a tree.
+fn add_items<F: Family, D: Digest, H: Hasher<Digest = D>>(
+    alloc: Global,
+    tree: &mut Mem<F, D>,
+    hasher: &mut StandardHasher<H>,
+    items: &[Vec<u8>],
+) -> Result<(), AllocError>
+    requires { tree.old.leaves + length items.now ≤ 2 ^ 62 }
+    ensures start { OnOk result (tree.new.start ≡ tree.old.start) }
+    ensures leaves { OnOk result (tree.new.leaves ≡ tree.old.leaves + length items.now) }
+    ensures stands { (list : List (List ℕ)) → Stands F.shape D.bytes H.hash tree.old (digests_from H.hash F.shape 0 list) → OnOk result (Stands F.shape D.bytes H.hash tree.new (digests_from H.hash F.shape 0 (list ++ map (λ v. v.items) items.now))) }
+    ensures err { OnErr result (tree.new ≡ tree.old) }
+{
+    let size = tree.leaves().get();
+    let digests = item_digests::<F, D, H>(alloc, hasher, size, items)?;
+    add_leaves(alloc, tree, hasher, &digests)
+}
+
+// The leaves' digests of items from a location on.
+fn item_digests<F: Family, D: Digest, H: Hasher<Digest = D>>(
+    alloc: Global,
+    hasher: &mut StandardHasher<H>,
+    from: u64,
+    items: &[Vec<u8>],
+) -> Result<Vec<D>, AllocError>
+    requires { from + length items.now ≤ 2 ^ 62 }
+    ensures { IfOk result (λ v. map D.bytes v.items ≡ digests_from H.hash F.shape from (map (λ v. v.items) items.now)) }
+{
+    let mut made = Vec::with_capacity(alloc, items.len())?;
+    for (index, item) in items.iter().enumerate() {
+        made.push(leaf_digest::<F, H>(hasher, from + index as u64, item))?;
+    }
+    Ok(made)
+}
+
+// Adds leaves with these digests to a tree.
+fn add_leaves<F: Family, D: Digest, H: Hasher<Digest = D>>(
+    alloc: Global,
+    tree: &mut Mem<F, D>,
+    hasher: &mut StandardHasher<H>,
+    digests: &[D],
+) -> Result<(), AllocError>
+    requires { tree.old.leaves + length digests.now ≤ 2 ^ 62 }
+    ensures start { OnOk result (tree.new.start ≡ tree.old.start) }
+    ensures leaves { OnOk result (tree.new.leaves ≡ tree.old.leaves + length digests.now) }
+    ensures stands { (list : List (List ℕ)) → Stands F.shape D.bytes H.hash tree.old list → OnOk result (Stands F.shape D.bytes H.hash tree.new (list ++ map D.bytes digests.now)) }
+    ensures err { OnErr result (tree.new ≡ tree.old) }
+{
+    let mut batch = tree.new_batch(alloc);
+    batch.add_leaf_digests(digests)?;
+    let batch = batch.merkleize(alloc, tree, hasher)?;
+    tree.apply_batch(&batch)
+}
+
+// The digest of the leaf at a location with these bytes.
+fn leaf_digest<F: Family, H: Hasher>(
+    hasher: &mut StandardHasher<H>,
+    at: u64,
+    item: &[u8],
+) -> H::Digest
+    requires { at ≤ 2 ^ 62 }
+    ensures { H.Digest.bytes result ≡ trees.leaf_digest H.hash (trees.Shape.position F.shape (trees.leaf at)) item.now }
+{
+    let position: Position<F> = F::location_to_position(Location::new(at));
+    hasher.leaf_digest(position, item)
+}
