@@ -34,6 +34,6 @@ pub record Database (C : Type 0) : Type 0 where
 
 -- it is the database of this list
 pub record IsDatabase {C : Type 0} (members : store.Ghosts C) (db : Database C) (list : List Operation) : Type 0 where
-  pub list : db.list ≡ list
+  pub same : db.list ≡ list
   pub commitment : db.commitment ≡ list_commitment list
   pub log : IsListLog members db.log list

@@ -218,22 +218,23 @@ fn begun<C: Store>(
 }
 
 // What a database gives back where its log refused.
-fn refused<C: Store>(
+fn given_back<C: Store>(
     list: OperationList,
     commitment: ListCommitment,
-    refusal: LogRefusal<ListLog<C>, C>,
-) -> Refusal<LogDb<C>, C> {
-    let given = match refusal.given {
+    given: LogGiven<ListLog<C>, C>,
+) -> Given<LogDb<C>, C>
+    requires sized { commitment.size ≡ length list.value.items }
+    requires whole { (log : logs.Log C Sha256Digest) → given ≡ LogGiven.Log log → (log.tree.leaves ≡ length list.value.items) × (C.end log.store ≡ length list.value.items) }
+    ensures store { store_given (λ db. db.log.store) result ≡ logs.store_given given }
+    ensures back { (x : Database C) → result ≡ Given.Database x → (given ≡ LogGiven.Log x.log) × (x.list ≡ byte_entries list.value.items) × (x.commitment ≡ commitment_view commitment) }
+{
+    match given {
         LogGiven::Log(log) => Given::Database(LogDb {
             list,
             commitment,
             log,
         }),
         LogGiven::Store(store) => Given::Store(store),
-    };
-    Refusal {
-        given,
-        error: error_of(refusal.error),
     }
 }
 
@@ -247,7 +248,7 @@ impl<C: Store> LogDb<C> {
         items: &[Vec<u8>],
     ) -> Result<Self, Refusal<Self, C>>
         requires size { made.size ≡ length tip.value.items }
-        requires room { length self.list + length items.now ≡ length tip.value.items }
+        requires room { self.commitment.size + length items.now ≡ length tip.value.items }
         requires few { length tip.value.items ≤ 2 ^ 62 }
         ensures list { IfOk result (λ next. next.list ≡ byte_entries tip.value.items) }
         ensures commitment { IfOk result (λ next. next.commitment ≡ commitment_view made) }
@@ -270,7 +271,10 @@ impl<C: Store> LogDb<C> {
                 commitment: made,
                 log,
             }),
-            Err(refusal) => Err(refused(list, commitment, refusal)),
+            Err(LogRefusal { given, error }) => Err(Refusal {
+                given: given_back(list, commitment, given),
+                error: error_of(error),
+            }),
         }
     }
 }
