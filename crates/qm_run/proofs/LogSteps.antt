@@ -1,6 +1,6 @@
 -- A database over a log: where its batches fit, and what its log stands for.
 use Rattle.std.proofs.Common.{◌≡◌, ℕ, suc, ◌<◌, ◌≤◌, ◌+◌, ◌-◌, ◌^◌, Bool, true, false, ◌&&◌, ◌||◌, List, [], ◌∷◌, ◌++◌, length, map, take, drop, refl, sym, ◌∙◌, ap, ap₂, subst, inl, inr, arith, Option, Some, None, IfSome, append_assoc, length-append}
-use Rattle.std.specs.Prelude.{Contains, ◌==◌, bytes_eq}
+use Rattle.std.specs.Prelude.{Contains, ◌==◌, bytes_eq, Result, Ok, Err, IfOk}
 use Rattle.std.specs.List.{list_any}
 use Rattle.std.proofs.Math.Bool.{or-false}
 use Rattle.std.proofs.Math.Seq.{take-append_seam}
@@ -25,6 +25,11 @@ use Rattle.qm_store.specs.Log.{Log, IsLog, digests_from}
 use Rattle.qm_store.proofs.Leaves.{leaves-spelled}
 use Rattle.qm_run.specs.LogViews.{digest_bytes, IsListLog}
 
+-- what holds of all three
+pub three-ok : {X E : Type 0} (r : Result X E) {P Q R S : X → Type 0} → IfOk r P → IfOk r Q → IfOk r R → ((x : X) → P x → Q x → R x → S x) → IfOk r S
+three-ok (Ok x) p q s then = then x p q s
+three-ok (Err e) p q s then = tt
+
 -- sizes that agree
 pub same-size : (a b : Commitment) → same a b ≡ true → a.size ≡ b.size
 same-size a b is = eqb-true a.size b.size (first (a.size == b.size) (bytes_eq a.root b.root) is)
@@ -45,7 +50,7 @@ module _ (root : List Operation → Bytes) (list : List Operation) (chain : Chai
   pub off-chain : (a b : Commitment) → a ≡ commitment root list → b ≡ commitment root chain.base → same a b ≡ false → IsOnChain list chain → ⊥
   off-chain a b is base other on =
       let both : true ≡ false = sym (fits-on_chain root list chain on) ∙ fits-base a b is base ∙ other in
-      absurd both
+      cc
 
   -- and where it is, it is the base
   pub on-base : IsOnChain list chain → list ≡ chain.base

@@ -252,7 +252,7 @@ impl<C: Store> LogDb<C> {
         requires few { length tip.value.items ≤ 2 ^ 62 }
         ensures list { IfOk result (λ next. next.list ≡ byte_entries tip.value.items) }
         ensures commitment { IfOk result (λ next. next.commitment ≡ commitment_view made) }
-        ensures log { (list : List Operation) → IsListLog C.Store self.log list → map spelling list ++ map (λ v. v.items) items.now ≡ map spelling (byte_entries tip.value.items) → IfOk result (λ next. IsListLog C.Store next.log (byte_entries tip.value.items)) }
+        ensures log { IfOk result (λ next. (list : List Operation) → IsListLog C.Store self.log list → map spelling list ++ map (λ v. v.items) items.now ≡ map spelling (byte_entries tip.value.items) → IsListLog C.Store next.log (byte_entries tip.value.items)) }
         ensures grown { IfOk result (λ next. Appended C.Store self.log.store next.log.store (map (λ v. v.items) items.now)) }
         ensures later { IfOk result (λ next. C.faults self.log.store ≤ C.faults next.log.store) }
         ensures part { IfErr result (λ r. AppendedPart C.Store self.log.store (store_given (λ db. db.log.store) r.given) (map (λ v. v.items) items.now)) }
