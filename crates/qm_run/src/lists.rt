@@ -1,4 +1,4 @@
-//! Plain operation lists: what they stand for, and a step of one. Everything is computed from the whole list.
+//! Plain operation lists: what they stand for, a step of one, and the root of one over a tree of its first leaves.
 
 mod copies;
 mod live;

@@ -167,6 +167,7 @@ fn empty_log<C: Store>(alloc: Global, store: C) -> Result<ListLog<C>, Refusal<Lo
 {
     match AuthLog::open(alloc, store, Sha256::new(), 0) {
         Ok(log) => {
+            // The tree is whole, so it has no pins.
             log.tree().bounds();
             Ok(log)
         }

@@ -1,8 +1,7 @@
-use Rattle.std.proofs.Common.{ℕ, take, ap₂, sym, subst, ◌∙◌}
+use Rattle.std.proofs.Common.{ℕ, take, ap₂, sym, subst}
 use Rattle.std.proofs.lemmas.List.{length-map}
 use Rattle.sha2.specs.Sha256.{sha256}
 use Rattle.qm_model.specs.Operations.{Bytes}
-use Rattle.qm_model.specs.Batches.{Commitment}
 use Rattle.qm_model.specs.Mmr.{mmr}
 use Rattle.qm_model.specs.Roots.{sha256_root}
 use Rattle.qm_model.specs.Trees.{leaves_from}

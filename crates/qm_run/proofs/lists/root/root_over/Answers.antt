@@ -1,6 +1,6 @@
-use Rattle.std.proofs.Common.{◌≡◌, ◌+◌, ◌++◌, IfOk, ap, sym, ◌∙◌, subst, map, length, drop, arith}
+use Rattle.std.proofs.Common.{◌≡◌, ◌+◌, IfOk, ap, ◌∙◌, subst, map, length, drop, arith}
 use Rattle.std.proofs.lemmas.List.{length-drop}
-use Rattle.qm_model.specs.Trees.{leaves_from, root, inactive_peaks}
+use Rattle.qm_model.specs.Trees.{leaves_from}
 use Rattle.qm_run.specs.ListViews.{entry_view}
 use Rattle.qm_run.proofs.ListRoots.{leaf_count, root-over}
 use Rattle.qm_run.proofs.lists.root.root_over.Goals as goal

@@ -1,7 +1,5 @@
 use Rattle.std.proofs.Common.{◌≡◌, ◌∙◌, length, take, drop, map, ap, ap₂, sym, subst}
-use Rattle.qm_model.specs.Mmr.{mmr}
 use Rattle.qm_model.specs.Operations.{spelling}
-use Rattle.qm_model.specs.Roots.{sha256_root}
 use Rattle.qm_run.specs.ListViews.{byte_entries}
 use Rattle.qm_run.specs.LogViews.{IsListLog}
 use Rattle.qm_run.proofs.LogSteps.{three-ok, on-base, spelled-behind}
@@ -11,7 +9,7 @@ pub returns-in-Ok-clause-applied : goal.returns-in-Ok-clause-applied
 returns-in-Ok-clause-applied g c =
     three-ok c.moved.result c.moved.ensures.list c.moved.ensures.commitment c.moved.ensures.log
     (λ next same commits log list chain tip is batch on.
-    let base : list ≡ chain.base = on-base (sha256_root mmr) list chain batch.1 on in
+    let base : list ≡ chain.base = on-base list chain batch.1 on in
     let taken : byte_entries c.in-Ok.tip.value.items ≡ tip = ap (λ v. byte_entries v.items) c.in-Ok.ensures.list ∙ batch.0 in
     let n = c.args.batch.now.base.size in
     let spelled = ap (λ vs. map (λ v. v.items) vs) c.deref.ensures.value ∙ c.in-Ok.ensures.items ∙ ap (λ v. map spelling (drop n (byte_entries v.items))) (sym c.in-Ok.ensures.list) in

@@ -1,4 +1,4 @@
-use Rattle.std.proofs.Common.{◌≡◌, drop, ap, sym, ◌∙◌}
+use Rattle.std.proofs.Common.{drop, ap, sym, ◌∙◌}
 use Rattle.std.proofs.lemmas.List.{drop-map, take_rest}
 use Rattle.qm_model.specs.Operations.{Bytes}
 use Rattle.qm_run.specs.ListViews.{entry_view, byte_entries}
