@@ -2,7 +2,7 @@
 use Rattle.std.proofs.Common.{◌≡◌, ℕ, ◌<◌, ◌+◌, ◌-◌, List, [], ◌∷◌, ◌++◌, Option, Some, None, ap, sym, ◌∙◌, ap₂, length, take, drop, map, get_or, add-one, arith}
 use Rattle.std.specs.Prelude.{option_map, is_some, if◌then◌else◌}
 use Rattle.std.specs.List.{cons_option}
-use Rattle.std.proofs.lemmas.List.{drop_more, take_rest, map_more, map-append, get_or-map}
+use Rattle.std.proofs.lemmas.List.{drop_more, take_rest, map_more, map-append}
 use Rattle.qm_model.specs.Operations.{Operation}
 use Rattle.qm_model.specs.Live.{Live, live_at, live_from}
 
@@ -35,8 +35,3 @@ mapped-more h f view xs i d made made' x l here pushed shown so_far =
     ap (map view) pushed ∙ map-append view made (x ∷ [])
     ∙ ap₂ (λ ys y. ys ++ y ∷ []) so_far (shown ∙ ap (λ z. h (f z)) here)
     ∙ sym (ap (map h) (map_more f xs i d l) ∙ map-append h (map f (take i xs)) (f (get_or xs i d) ∷ []))
-
--- where two lists show the same, so do their elements
-pub same-at : {A B : Type 0} (f : A → B) (xs ys : List A) (i : ℕ) (x y : A) → i < length xs → i < length ys → x ≡ get_or xs i x → y ≡ get_or ys i y → map f xs ≡ map f ys → f x ≡ f y
-same-at f xs ys i x y l m here there same =
-    ap f here ∙ sym (get_or-map f xs i x (f x) l) ∙ ap (λ zs. get_or zs i (f x)) same ∙ get_or-map f ys i y (f x) m ∙ sym (ap f there)

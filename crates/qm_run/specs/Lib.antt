@@ -4,5 +4,6 @@ pub mod Turn
 pub mod Session
 pub mod Runs
 pub mod ListViews
+pub mod LogViews
 pub mod Program
 pub mod Endings

@@ -2,8 +2,8 @@
 #![tactic(auto)]
 
 pub mod engine;
-mod list_db;
 mod lists;
+mod log_db;
 mod program;
 pub mod runs;
 mod session;

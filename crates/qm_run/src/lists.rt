@@ -1,9 +1,8 @@
-//! Plain operation lists: what they stand for, and a step of one. Everything is computed from the whole list.
+//! Plain operation lists: what they stand for, a step of one, and the root of one over a tree of its first leaves.
 
 mod copies;
 mod live;
 mod root;
-mod same;
 mod step;
 mod walk;
 mod writes;
@@ -12,8 +11,7 @@ pub(crate) use copies::{fresh_list, last_metadata, listed, spell_all, twin_list,
 pub(crate) use live::{floor, live_count, value_of};
 use qm_base::Operation;
 use qm_base::update::Unordered;
-pub(crate) use root::root;
-pub(crate) use same::same_list;
+pub(crate) use root::root_over;
 pub(crate) use step::step;
 pub(crate) use writes::Write;
 

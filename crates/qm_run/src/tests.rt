@@ -196,6 +196,7 @@ fn each_failing_call_is_told(rt: HostRuntime) -> Result<(), Fail> {
             6,
             &[
                 "store fault\n",
+                "store fault\n",
                 "open 1 0 1\nbatch 1\nok\nmerkleized 1 1 4 2\nstore fault\n",
             ],
         ),

@@ -7,4 +7,4 @@ abbrev pub invariant-loop-at : goal.invariant-loop-at
 invariant-loop-at g l =
     let views = entry_views g.K.ByteString.bytes g.V.ByteString.bytes in
     let shape = g.F.Family.shape in
-    map g.H.Digest.Digest.bytes l.leaves.items ++ leaves_from g.H.Hasher.hash shape l.at (views (drop l.at l.operations)) ≡ leaves_from g.H.Hasher.hash shape 0 (views l.operations)
+    map g.H.Digest.Digest.bytes l.leaves.items ++ leaves_from g.H.Hasher.hash shape l.at (views (drop l.at l.operations)) ≡ leaves_from g.H.Hasher.hash shape l.from (views (drop l.from l.operations))
