@@ -11,6 +11,12 @@ pub enum JournalError {
     /// The store failed; its count of faults rose.
     #[error("Store")]
     Store,
+    /// The item at this location is before the store's start.
+    #[error("ItemPruned {0}")]
+    ItemPruned(u64),
+    /// An operation's spelling has so many bytes, which are too many.
+    #[error("ItemTooLarge {0}")]
+    ItemTooLarge(u64),
 }
 
 /// Why a call of a tree failed.
@@ -42,6 +48,20 @@ impl From<AllocError> for MerkleError {
     }
 }
 
+/// What is wrong with what a store keeps.
+#[derive(Clone, Copy, Debug, Drop, PartialEq, Eq, Error)]
+pub enum Corrupt {
+    /// A commit's floor is past its location.
+    #[error("inactivity floor exceeds commit location")]
+    FloorExceedsCommit,
+    /// An item is the spelling of no operation.
+    #[error("item does not decode")]
+    ItemDoesNotDecode,
+    /// The head is not as long as the digests of the peaks at the start.
+    #[error("head does not match the start")]
+    HeadDoesNotMatch,
+}
+
 /// Why a call of a database failed. Want of memory may come in every call that allocates.
 #[derive(Clone, Copy, Debug, Drop, PartialEq, Eq, Error)]
 pub enum Error {
@@ -49,6 +69,15 @@ pub enum Error {
     Memory,
     #[error("stale batch: current database state does not match the batch")]
     StaleBatch,
+    #[error("stale read: database is at no state of the batch's chain")]
+    StaleRead,
+    /// There is no commit at the end of so many operations, or it is forgotten.
+    #[error("historical floor pruned for size: {0}")]
+    HistoricalFloorPruned(u64),
+    #[error("data corrupted: {0}")]
+    DataCorrupted(Corrupt),
+    #[error("merkle error: {0}")]
+    Merkle(MerkleError),
     #[error("journal error: {0}")]
     Journal(JournalError),
 }

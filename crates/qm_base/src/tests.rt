@@ -148,7 +148,39 @@ fn errors_have_text(rt: HostRuntime) -> Result<(), Fail> {
             Error::StaleBatch,
             "stale batch: current database state does not match the batch",
         ),
+        (
+            Error::StaleRead,
+            "stale read: database is at no state of the batch's chain",
+        ),
+        (
+            Error::HistoricalFloorPruned(3),
+            "historical floor pruned for size: 3",
+        ),
+        (
+            Error::DataCorrupted(Corrupt::ItemDoesNotDecode),
+            "data corrupted: item does not decode",
+        ),
+        (
+            Error::DataCorrupted(Corrupt::FloorExceedsCommit),
+            "data corrupted: inactivity floor exceeds commit location",
+        ),
+        (
+            Error::DataCorrupted(Corrupt::HeadDoesNotMatch),
+            "data corrupted: head does not match the start",
+        ),
+        (
+            Error::Merkle(MerkleError::RangeOutOfBounds(5)),
+            "merkle error: RangeOutOfBounds 5",
+        ),
         (Error::Journal(JournalError::Store), "journal error: Store"),
+        (
+            Error::Journal(JournalError::ItemPruned(7)),
+            "journal error: ItemPruned 7",
+        ),
+        (
+            Error::Journal(JournalError::ItemTooLarge(65_546)),
+            "journal error: ItemTooLarge 65546",
+        ),
     ] {
         let text = format!(in rt.alloc(); "{error}")?;
         assert_eq!(rt; text.as_str(), want);
