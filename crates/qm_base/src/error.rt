@@ -2,7 +2,7 @@
 
 ghost use Rattle.std.specs.Prelude.{◌≡◌};
 
-use std::alloc::AllocError;
+use std::alloc::{AllocError, AllocFailed};
 use thiserror::Error;
 
 /// What went wrong in the log.
@@ -89,6 +89,26 @@ impl From<AllocError> for Error {
 
     fn from(_: AllocError) -> Self {
         Error::Memory
+    }
+}
+
+impl<T: Drop> From<AllocFailed<T>> for Error {
+    ghost use Rattle.qm_base.specs.declared.error.Error.TheVariants.{Memory};
+
+    ghost from_gives = { λ _ e. e ≡ Memory };
+
+    fn from(_: AllocFailed<T>) -> Self {
+        Error::Memory
+    }
+}
+
+impl From<MerkleError> for Error {
+    ghost use Rattle.qm_base.specs.declared.error.Error.TheVariants.{Merkle};
+
+    ghost from_gives = { λ inner e. e ≡ Merkle inner };
+
+    fn from(inner: MerkleError) -> Self {
+        Error::Merkle(inner)
     }
 }
 

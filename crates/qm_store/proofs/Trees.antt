@@ -6,7 +6,8 @@ use Rattle.qm_model.specs.Operations.{Bytes}
 use Rattle.qm_model.specs.Trees.{Shape, peaks, digest_of}
 use Rattle.qm_model.specs.Families.{Births, IsFamily, HasPeaks}
 use Rattle.qm_merkle.specs.Mems.{Kept, Stands}
-use Rattle.qm_merkle.specs.Batches.{Draft, Batch, stops, all_layers, replaced_from, drafted}
+use Rattle.qm_model.proofs.Chains.{Contains-first}
+use Rattle.qm_merkle.specs.Batches.{Draft, Batch, stops, all_layers, replaced_from, drafted, IsHistory}
 use Rattle.qm_merkle.proofs.Growth.{digest-append, map_same}
 use Rattle.qm_store.specs.Log.{digests_from, IsHead}
 use Rattle.qm_store.proofs.Leaves.{pieces-same, length-digests_from, digests_from-split}
@@ -46,3 +47,14 @@ module _ {D : Type 0} (bytes : D → Bytes) where
           pins = same ∙ told.digests ∙ ap (λ ds. map (digest_of hash shape ds) (peaks shape n)) all ∙ whole ∙ ap (λ m. map (digest_of hash shape before) (peaks shape m)) (sym start);
           nodes = λ x late born. absurd (omega arith);
         }
+
+-- a batch that adds leaves to a tree
+module _ {D : Type 0} (draft : Draft D) (start base : ℕ) (added : List D) (is : draft ≡ record { start = start; base = base; layers = []; replaced = []; added = added }) where
+  pub new_reach : Contains (stops draft.base draft.layers) base
+  new_reach = subst (λ (d : Draft D). Contains (stops d.base d.layers) base) (sym is) (Contains-first base [])
+
+  pub new_history : (hash : Bytes → Bytes) (shape : Shape) (bytes : D → Bytes) (list : List Bytes) → IsHistory shape bytes hash draft.layers (list ∷ [])
+  new_history hash shape bytes list = subst (λ (d : Draft D). IsHistory shape bytes hash d.layers (list ∷ [])) (sym is) tt
+
+  pub new_drafted : (bytes : D → Bytes) (list : List Bytes) → drafted bytes draft list ≡ list ++ map bytes added
+  new_drafted bytes list = drafted-added bytes draft list added (ap (λ (d : Draft D). d.replaced) is) (ap (λ (d : Draft D). d.added) is)

@@ -4,12 +4,13 @@ use Rattle.std.specs.List.{concat}
 use Rattle.qm_model.specs.Causes.{Grows, GrowsPart}
 use Rattle.qm_model.specs.Operations.{Bytes}
 use Rattle.qm_model.specs.Trees.{Shape, leaf, peaks, leaf_digest, digest_of}
+use Rattle.qm_base.specs.declared.error.Error.{Error}
+use Rattle.qm_base.specs.declared.error.Error.TheVariants as errors
+use Rattle.qm_base.specs.declared.error.JournalError.TheVariants as journal
 use Rattle.qm_merkle.specs.Mems.{Kept, Stands}
 use Rattle.qm_store.specs.declared.Store as store
 use Rattle.qm_store.specs.declared.StoreError.{StoreError}
 use Rattle.qm_store.specs.declared.StoreError.TheVariants as stores
-use Rattle.qm_store.specs.declared.log.LogError.{LogError}
-use Rattle.qm_store.specs.declared.log.LogError.TheVariants as logs
 use Rattle.qm_store.specs.declared.log.LogGiven.{LogGiven}
 use Rattle.qm_store.specs.declared.log.LogGiven.TheVariants as given
 
@@ -59,9 +60,9 @@ pub record HasGrownPart {C : Type 0} (members : store.Ghosts C) (old new : C) (m
   pub head : members.head new ≡ members.head old
 
 -- why a log's call failed, where its store's did
-abbrev pub log_error : StoreError → LogError
-log_error stores.Memory = logs.Memory
-log_error stores.Failed = logs.Store
+abbrev pub log_error : StoreError → Error
+log_error stores.Memory = errors.Memory
+log_error stores.Failed = errors.Journal journal.Store
 
 -- the store that is given back, by itself or inside the log
 abbrev pub store_given : {C D : Type 0} → LogGiven (Log C D) C → C

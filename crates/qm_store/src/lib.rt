@@ -10,7 +10,7 @@ mod mem_store;
 #[cfg(test)]
 mod tests;
 
-pub use log::{AuthLog, LogError, LogGiven, LogRefusal};
+pub use log::{AuthLog, LogGiven, LogRefusal};
 pub use mem_store::MemStore;
 use std::alloc::{AllocError, AllocFailed};
 use thiserror::Error;

@@ -9,59 +9,21 @@ ghost use Rattle.qm_merkle.specs.Mems.{Stands};
 ghost use Rattle.qm_store.specs.Log.{Log, digests_from, IsHead, IsLog, IsKept, HasGrown, HasGrownPart, store_given};
 
 use crate::{Store, StoreError};
-use qm_base::{Digest, Hasher, Location};
+use qm_base::{Corrupt, Digest, Error, Hasher, JournalError, Location};
 use qm_merkle::mem::Mem;
 use qm_merkle::{Family, Position, StandardHasher};
-use std::alloc::{AllocError, AllocFailed, Global};
+use std::alloc::{AllocError, Global};
 use std::marker::Model;
-use thiserror::Error;
 
-/// Why a log's call failed.
-#[derive(Clone, Copy, Debug, PartialEq, Eq, Error)]
-pub enum LogError {
-    /// There was no memory.
-    #[error("out of memory")]
-    Memory,
-    /// The store failed, and its count of faults rose.
-    #[error("store fault")]
-    Store,
-    /// The store's head is not as long as the digests of the peaks at its start.
-    #[error("head does not match the start")]
-    Head,
-    /// The item at this location is before the start.
-    #[error("item pruned: {0}")]
-    ItemPruned(u64),
-}
-
-impl From<AllocError> for LogError {
-    ghost use Rattle.qm_store.specs.declared.log.LogError.TheVariants.{Memory};
-
-    ghost from_gives = { λ _ e. e ≡ Memory };
-
-    fn from(_: AllocError) -> Self {
-        LogError::Memory
-    }
-}
-
-impl<T: Drop> From<AllocFailed<T>> for LogError {
-    ghost use Rattle.qm_store.specs.declared.log.LogError.TheVariants.{Memory};
-
-    ghost from_gives = { λ _ e. e ≡ Memory };
-
-    fn from(_: AllocFailed<T>) -> Self {
-        LogError::Memory
-    }
-}
-
-impl From<StoreError> for LogError {
+impl From<StoreError> for Error {
     ghost use Rattle.qm_store.specs.Log.{log_error};
 
     ghost from_gives = { λ s e. e ≡ log_error s };
 
     fn from(error: StoreError) -> Self {
         match error {
-            StoreError::Memory => LogError::Memory,
-            StoreError::Failed => LogError::Store,
+            StoreError::Memory => Error::Memory,
+            StoreError::Failed => Error::Journal(JournalError::Store),
         }
     }
 }
@@ -77,7 +39,7 @@ pub enum LogGiven<L, C> {
 #[derive(Drop)]
 pub struct LogRefusal<L, C> {
     pub given: LogGiven<L, C>,
-    pub error: LogError,
+    pub error: Error,
 }
 
 /// A list of items in a store, with the tree over their leaves.
@@ -111,10 +73,10 @@ impl<F: Family, C: Store, D: Digest, H: Hasher<Digest = D> + Drop> AuthLog<F, C,
         ensures start { IfOk result (λ log. log.tree.start ≡ C.start store) }
         ensures size { IfOk result (λ log. log.tree.leaves ≡ size) }
         ensures kept { IfOk result (λ log. IsKept C.Store store log.store) }
-        ensures back { IfErr result (λ r. (s : C) × (r.given ≡ LogGiven.Store s) × IsKept C.Store store s × IsCause (C.faults store) (C.faults s) (r.error ≡ LogError.Store)) }
+        ensures back { IfErr result (λ r. (s : C) × (r.given ≡ LogGiven.Store s) × IsKept C.Store store s × IsCause (C.faults store) (C.faults s) (r.error ≡ Error.Journal JournalError.Store)) }
         ensures long { IfOk result (λ _. IfSome (C.head store) (λ h. length h ≡ length (trees.peaks F.shape (C.start store)) * D.SIZE)) }
-        ensures head { IfErr result (λ r. r.error ≡ LogError.Head → IfSome (C.head store) (λ h. length h ≢ length (trees.peaks F.shape (C.start store)) * D.SIZE)) }
-        ensures never { IfErr result (λ r. (n : ℕ) → r.error ≢ LogError.ItemPruned n) }
+        ensures head { IfErr result (λ r. r.error ≡ Error.DataCorrupted Corrupt.HeadDoesNotMatch → IfSome (C.head store) (λ h. length h ≢ length (trees.peaks F.shape (C.start store)) * D.SIZE)) }
+        ensures never { IfErr result (λ r. (n : ℕ) → r.error ≢ Error.Journal (JournalError.ItemPruned n)) }
         ensures later { IfOk result (λ log. C.faults store ≤ C.faults log.store) }
     {
         let mut store = store;
@@ -142,9 +104,9 @@ impl<F: Family, C: Store, D: Digest, H: Hasher<Digest = D> + Drop> AuthLog<F, C,
         ensures size { IfOk result (λ log. log.tree.leaves ≡ self.tree.leaves + length items.now) }
         ensures grown { IfOk result (λ log. HasGrown C.Store self.store log.store (map (λ v. v.items) items.now)) }
         ensures part { IfErr result (λ r. HasGrownPart C.Store self.store (store_given r.given) (map (λ v. v.items) items.now)) }
-        ensures back { IfErr result (λ r. (log : Log C D) → r.given ≡ LogGiven.Log log → (log ≡ self) × (r.error ≡ LogError.Memory)) }
-        ensures never { IfErr result (λ r. (r.error ≡ LogError.Memory) ⊎ (r.error ≡ LogError.Store)) }
-        ensures cause { IfErr result (λ r. IsCause (C.faults self.store) (C.faults (store_given r.given)) (r.error ≡ LogError.Store)) }
+        ensures back { IfErr result (λ r. (log : Log C D) → r.given ≡ LogGiven.Log log → (log ≡ self) × (r.error ≡ Error.Memory)) }
+        ensures never { IfErr result (λ r. (r.error ≡ Error.Memory) ⊎ (r.error ≡ Error.Journal JournalError.Store)) }
+        ensures cause { IfErr result (λ r. IsCause (C.faults self.store) (C.faults (store_given r.given)) (r.error ≡ Error.Journal JournalError.Store)) }
         ensures later { IfOk result (λ log. C.faults self.store ≤ C.faults log.store) }
     {
         let AuthLog {
@@ -161,7 +123,7 @@ impl<F: Family, C: Store, D: Digest, H: Hasher<Digest = D> + Drop> AuthLog<F, C,
                 }),
                 Err(error) => Err(LogRefusal {
                     given: LogGiven::Store(store),
-                    error: LogError::from(error),
+                    error: Error::from(error),
                 }),
             },
             Err(_) => Err(LogRefusal {
@@ -170,25 +132,25 @@ impl<F: Family, C: Store, D: Digest, H: Hasher<Digest = D> + Drop> AuthLog<F, C,
                     tree,
                     hasher,
                 }),
-                error: LogError::Memory,
+                error: Error::Memory,
             }),
         }
     }
 
     /// Reads the item at a location.
-    pub fn read(&mut self, at: u64) -> Result<Vec<u8>, LogError>
+    pub fn read(&mut self, at: u64) -> Result<Vec<u8>, Error>
         requires { at < self.old.tree.leaves }
         ensures item { (list : List (List ℕ)) → IsLog C.Store F.shape D.bytes H.hash self.old list → IfOk result (λ v. IfSome (C.items self.old.store) (λ _. slice_get list at ≡ Some v.items)) }
         ensures stands { (list : List (List ℕ)) → IsLog C.Store F.shape D.bytes H.hash self.old list → IsLog C.Store F.shape D.bytes H.hash self.new list }
-        ensures pruned { (result ≡ Err (LogError.ItemPruned at)) ↔ (at < self.old.tree.start) }
-        ensures never { IfErr result (λ e. (e ≡ LogError.Memory) ⊎ ((e ≡ LogError.Store) ⊎ (e ≡ LogError.ItemPruned at))) }
+        ensures pruned { (result ≡ Err (Error.Journal (JournalError.ItemPruned at))) ↔ (at < self.old.tree.start) }
+        ensures never { IfErr result (λ e. (e ≡ Error.Memory) ⊎ ((e ≡ Error.Journal JournalError.Store) ⊎ (e ≡ Error.Journal (JournalError.ItemPruned at)))) }
         ensures tree { self.new.tree ≡ self.old.tree }
         ensures kept { IsKept C.Store self.old.store self.new.store }
-        ensures cause { IsCause (C.faults self.old.store) (C.faults self.new.store) (IsErrOf result LogError.Store) }
+        ensures cause { IsCause (C.faults self.old.store) (C.faults self.new.store) (IsErrOf result (Error.Journal JournalError.Store)) }
     {
         let (start, _) = self.tree.bounds();
         if at < start.get() {
-            return Err(LogError::ItemPruned(at));
+            return Err(Error::Journal(JournalError::ItemPruned(at)));
         }
         Ok(self.store.read(at)?)
     }
@@ -200,6 +162,24 @@ impl<F: Family, C: Store, D: Digest, H: Hasher<Digest = D> + Drop> AuthLog<F, C,
         ensures same { self.new ≡ self.old }
     {
         self.tree.root(alloc, &mut self.hasher, inactive)
+    }
+
+    /// The root that the tree would have with the leaves of these items behind its own, the first of whose peaks are inactive.
+    pub fn root_with(
+        &mut self,
+        alloc: Global,
+        items: &[Vec<u8>],
+        inactive: usize,
+    ) -> Result<D, AllocError>
+        requires room { self.old.tree.leaves + length items.now ≤ 2 ^ 62 }
+        requires peaks { inactive ≤ length (trees.peaks F.shape (self.old.tree.leaves + length items.now)) }
+        ensures value { (list : List (List ℕ)) → IsLog C.Store F.shape D.bytes H.hash self.old list
+            → IfOk result (λ d. D.bytes d ≡ trees.root H.hash F.shape (digests_from H.hash F.shape 0 (list ++ map (λ v. v.items) items.now)) inactive) }
+        ensures same { self.new ≡ self.old }
+    {
+        let size = self.tree.leaves().get();
+        let digests = item_digests::<F, D, H>(alloc, &mut self.hasher, size, items)?;
+        grown_root(alloc, &self.tree, &mut self.hasher, &digests, inactive)
     }
 
     /// How many items the log has, with those before the start.
@@ -250,7 +230,7 @@ fn load<F: Family, C: Store, D: Digest, H: Hasher<Digest = D>>(
     store: &mut C,
     hasher: &mut StandardHasher<H>,
     size: u64,
-) -> Result<Mem<F, D>, LogError>
+) -> Result<Mem<F, D>, Error>
     requires start { C.start store.old ≤ size }
     requires end { size ≤ C.end store.old }
     ensures stands { (list : List (List ℕ)) → length list ≡ size → IfSome (C.items store.old) (λ xs. IfSome (C.head store.old) (λ h.
@@ -259,10 +239,10 @@ fn load<F: Family, C: Store, D: Digest, H: Hasher<Digest = D>>(
     ensures start { IfOk result (λ tree. tree.start ≡ C.start store.old) }
     ensures size { IfOk result (λ tree. tree.leaves ≡ size) }
     ensures long { IfOk result (λ _. IfSome (C.head store.old) (λ h. length h ≡ length (trees.peaks F.shape (C.start store.old)) * D.SIZE)) }
-    ensures head { IfErr result (λ e. e ≡ LogError.Head → IfSome (C.head store.old) (λ h. length h ≢ length (trees.peaks F.shape (C.start store.old)) * D.SIZE)) }
-    ensures never { IfErr result (λ e. (n : ℕ) → e ≢ LogError.ItemPruned n) }
+    ensures head { IfErr result (λ e. e ≡ Error.DataCorrupted Corrupt.HeadDoesNotMatch → IfSome (C.head store.old) (λ h. length h ≢ length (trees.peaks F.shape (C.start store.old)) * D.SIZE)) }
+    ensures never { IfErr result (λ e. (n : ℕ) → e ≢ Error.Journal (JournalError.ItemPruned n)) }
     ensures kept { IsKept C.Store store.old store.new }
-    ensures cause { IsCause (C.faults store.old) (C.faults store.new) (IsErrOf result LogError.Store) }
+    ensures cause { IsCause (C.faults store.old) (C.faults store.new) (IsErrOf result (Error.Journal JournalError.Store)) }
 {
     let mut tree = pruned(alloc, store)?;
     let (start, _) = store.bounds();
@@ -272,27 +252,24 @@ fn load<F: Family, C: Store, D: Digest, H: Hasher<Digest = D>>(
 }
 
 // The tree of no leaves past a store's start.
-fn pruned<F: Family, C: Store, D: Digest>(
-    alloc: Global,
-    store: &mut C,
-) -> Result<Mem<F, D>, LogError>
+fn pruned<F: Family, C: Store, D: Digest>(alloc: Global, store: &mut C) -> Result<Mem<F, D>, Error>
     ensures stands { (hash : List ℕ → List ℕ) (list : List (List ℕ)) → C.start store.old ≤ length list → IfSome (C.head store.old) (λ h.
         IsHead F.shape D.bytes hash (C.start store.old) (digests_from hash F.shape 0 list) h
         → IfOk result (λ tree. Stands F.shape D.bytes hash tree (digests_from hash F.shape 0 (take (C.start store.old) list)))) }
     ensures start { IfOk result (λ tree. tree.start ≡ C.start store.old) }
     ensures leaves { IfOk result (λ tree. tree.leaves ≡ C.start store.old) }
     ensures long { IfOk result (λ _. IfSome (C.head store.old) (λ h. length h ≡ length (trees.peaks F.shape (C.start store.old)) * D.SIZE)) }
-    ensures head { IfErr result (λ e. e ≡ LogError.Head → IfSome (C.head store.old) (λ h. length h ≢ length (trees.peaks F.shape (C.start store.old)) * D.SIZE)) }
-    ensures never { IfErr result (λ e. (n : ℕ) → e ≢ LogError.ItemPruned n) }
+    ensures head { IfErr result (λ e. e ≡ Error.DataCorrupted Corrupt.HeadDoesNotMatch → IfSome (C.head store.old) (λ h. length h ≢ length (trees.peaks F.shape (C.start store.old)) * D.SIZE)) }
+    ensures never { IfErr result (λ e. (n : ℕ) → e ≢ Error.Journal (JournalError.ItemPruned n)) }
     ensures kept { IsKept C.Store store.old store.new }
-    ensures cause { IsCause (C.faults store.old) (C.faults store.new) (IsErrOf result LogError.Store) }
+    ensures cause { IsCause (C.faults store.old) (C.faults store.new) (IsErrOf result (Error.Journal JournalError.Store)) }
 {
     let (start, _) = store.bounds();
     let start = Location::new(start);
     let head = store.head()?;
     let count = F::peaks(alloc, start)?.len();
     if !is_long(count, D::SIZE, head.len()) {
-        return Err(LogError::Head);
+        return Err(Error::DataCorrupted(Corrupt::HeadDoesNotMatch));
     }
     let pins = pieces(alloc, count, &head)?;
     Ok(Mem::from_pruned_with_retained(alloc, Vec::new(alloc), start, pins)?)
@@ -331,16 +308,16 @@ fn read_digests<F: Family, C: Store, D: Digest, H: Hasher<Digest = D>>(
     hasher: &mut StandardHasher<H>,
     start: u64,
     size: u64,
-) -> Result<Vec<D>, LogError>
+) -> Result<Vec<D>, Error>
     requires start { start ≡ C.start store.old }
     requires order { start ≤ size }
     requires end { size ≤ C.end store.old }
     requires few { size ≤ 2 ^ 62 }
     ensures count { IfOk result (λ v. length v.items ≡ size - start) }
     ensures digests { IfOk result (λ v. IfSome (C.items store.old) (λ xs. map D.bytes v.items ≡ digests_from H.hash F.shape start (take (size - start) xs))) }
-    ensures never { IfErr result (λ e. (e ≡ LogError.Memory) ⊎ (e ≡ LogError.Store)) }
+    ensures never { IfErr result (λ e. (e ≡ Error.Memory) ⊎ (e ≡ Error.Journal JournalError.Store)) }
     ensures kept { IsKept C.Store store.old store.new }
-    ensures cause { IsCause (C.faults store.old) (C.faults store.new) (IsErrOf result LogError.Store) }
+    ensures cause { IsCause (C.faults store.old) (C.faults store.new) (IsErrOf result (Error.Journal JournalError.Store)) }
 {
     let mut made = Vec::with_capacity(alloc, (size - start) as usize)?;
     for at in start..size {
@@ -402,6 +379,24 @@ fn add_leaves<F: Family, D: Digest, H: Hasher<Digest = D>>(
     batch.add_leaf_digests(digests)?;
     let batch = batch.merkleize(alloc, tree, hasher)?;
     tree.apply_batch(&batch)
+}
+
+// The root of a tree with these leaves behind its own.
+fn grown_root<F: Family, D: Digest, H: Hasher<Digest = D>>(
+    alloc: Global,
+    tree: &Mem<F, D>,
+    hasher: &mut StandardHasher<H>,
+    digests: &[D],
+    inactive: usize,
+) -> Result<D, AllocError>
+    requires room { tree.now.leaves + length digests.now ≤ 2 ^ 62 }
+    requires peaks { inactive ≤ length (trees.peaks F.shape (tree.now.leaves + length digests.now)) }
+    ensures { (list : List (List ℕ)) → Stands F.shape D.bytes H.hash tree.now list → IfOk result (λ d. D.bytes d ≡ trees.root H.hash F.shape (list ++ map D.bytes digests.now) inactive) }
+{
+    let mut batch = tree.new_batch(alloc);
+    batch.add_leaf_digests(digests)?;
+    let batch = batch.merkleize(alloc, tree, hasher)?;
+    batch.root(alloc, hasher, inactive)
 }
 
 // The digest of the leaf at a location with these bytes.

@@ -2,7 +2,7 @@
 ghost use Rattle.std.specs.Prelude.{◌≡◌, IfOk, length};
 
 use super::*;
-use qm_base::{Digest, Sha256, Sha256Digest};
+use qm_base::{Digest, Error, JournalError, Sha256, Sha256Digest};
 use qm_merkle::mmr::Family;
 use std::alloc::Global;
 use std::test::Fail;
@@ -110,7 +110,7 @@ fn eight(alloc: Global, store: MemStore, more: &[Vec<u8>]) -> Result<Log, LogRef
 }
 
 // The error, and the bounds of the store that is given back.
-fn refused(refusal: LogRefusal<Log, MemStore>) -> (LogError, Option<(u64, u64)>) {
+fn refused(refusal: LogRefusal<Log, MemStore>) -> (Error, Option<(u64, u64)>) {
     let LogRefusal { given, error } = refusal;
     match given {
         LogGiven::Log(_) => (error, None),
@@ -132,7 +132,7 @@ fn a_log_grows(rt: HostRuntime) -> Result<(), Fail> {
             assert_eq!(rt; log.store().faults(), 0);
             assert_eq!(rt; log.close().bounds(), (0, 8));
         }
-        Err(refusal) => assert_eq!(rt; refused(refusal), (LogError::Memory, None)),
+        Err(refusal) => assert_eq!(rt; refused(refusal), (Error::Memory, None)),
     }
     Ok(())
 }
@@ -146,26 +146,10 @@ fn each_failing_call_gives_back_the_store(rt: HostRuntime) -> Result<(), Fail> {
             Ok(_) => assert_eq!(rt; call, 8),
             Err(refusal) => assert_eq!(rt;
                 refused(refusal),
-                (LogError::Store, Some((0, 5))),
+                (Error::Journal(JournalError::Store), Some((0, 5))),
                 "at {call}"
             ),
         }
     }
-    Ok(())
-}
-
-#[test]
-fn tells_why_a_log_failed(rt: HostRuntime) -> Result<(), Fail> {
-    let text = format!(in rt.alloc();
-        "{}, {}, {}, {}",
-        LogError::Memory,
-        LogError::Store,
-        LogError::Head,
-        LogError::ItemPruned(3)
-    )?;
-    assert_eq!(rt;
-        text.as_str(),
-        "out of memory, store fault, head does not match the start, item pruned: 3"
-    );
     Ok(())
 }

@@ -1,0 +1,5 @@
+pub mod ListSteps
+pub mod ListWalks
+pub mod ListWrites
+pub mod ListRoots
+pub mod LogSteps

@@ -1,0 +1,4 @@
+pub mod Given
+pub mod ListViews
+pub mod Databases
+pub mod Tips

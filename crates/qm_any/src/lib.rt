@@ -1,0 +1,15 @@
+//! Databases of one value for each key, over a log: the database, its batches, and how one is opened.
+#![tactic(auto)]
+
+pub mod batch;
+pub mod db;
+mod lists;
+mod open;
+pub mod policy;
+pub mod refusal;
+#[cfg(test)]
+mod tests;
+
+pub use open::{hasher, init, initial_root};
+pub use policy::Proportional;
+pub use refusal::{Given, Refusal};
