@@ -1,6 +1,8 @@
 //! Why a call of a database failed.
 
 ghost use Rattle.std.specs.Prelude.{◌≡◌};
+ghost use Rattle.qm_model.specs.Text.{corrupt_text};
+ghost use Rattle.qm_base.specs.Views.{corrupt_view};
 
 use std::alloc::AllocError;
 use thiserror::Error;
@@ -60,6 +62,19 @@ pub enum Corrupt {
     /// The head is not as long as the digests of the peaks at the start.
     #[error("head does not match the start")]
     HeadDoesNotMatch,
+}
+
+impl Corrupt {
+    /// What a reply says of it.
+    pub fn text(&self) -> &'static str
+        ensures { result.now ≡ corrupt_text (corrupt_view self.now) }
+    {
+        match self {
+            Corrupt::FloorExceedsCommit => "inactivity floor exceeds commit location",
+            Corrupt::ItemDoesNotDecode => "item does not decode",
+            Corrupt::HeadDoesNotMatch => "head does not match the start",
+        }
+    }
 }
 
 /// Why a call of a database failed. Want of memory may come in every call that allocates.
