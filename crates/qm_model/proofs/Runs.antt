@@ -3,9 +3,10 @@ use Rattle.std.proofs.Common.{◌≡◌, ℕ, Bool, true, false, cond, List, [],
 use Rattle.std.specs.Prelude.{Contains}
 use Rattle.qm_model.specs.Operations.{Bytes, Operation, fresh}
 use Rattle.qm_model.specs.Writes.{Write}
-use Rattle.qm_model.specs.Batches.{Apart, commitment, fits}
-use Rattle.qm_model.specs.Lines.{Line, Open, Batch, Put, Del, Merkleize, Apply, Ops, Get, Info, Root, Meta, Answer}
-use Rattle.qm_model.specs.Machine.{Scheme, State, Slot, gone, writing, merkleized, turn, answers, state_after, slot_at, put_in, list_operations, with_database, open_over, merkleize_in, apply_in}
+use Rattle.qm_model.specs.Batches.{Chain, Apart, commitment, fits}
+use Rattle.qm_model.specs.Lines.{Line, Open, Batch, Put, Del, Merkleize, Apply, Ops, Get, Info, Root, Meta, Prove, Pins, Refused, Answer}
+use Rattle.qm_model.specs.Machine.{Scheme, State, Slot, gone, writing, merkleized, turn, answers, state_after, slot_at, put_in, list_operations, with_database, open_over, unless, merkleize_tip, merkleize_in, apply_in}
+use Rattle.qm_model.specs.Refusals.{tip_refusal, proof_refusal, pins_refusal}
 use Rattle.qm_model.proofs.Chains.{Contains-more}
 
 pub state_after-push : {P : Type 0} (m : Scheme P) (s : State) (lines : List (Line P)) (line : Line P) → state_after m s (lines ++ line ∷ []) ≡ (turn m (state_after m s lines) line).1
@@ -42,12 +43,20 @@ listed_keeps s h gone = λ x a. a
 listed_keeps s h (writing chain ws) = λ x a. a
 listed_keeps s h (merkleized chain tip) = λ x a. a
 
+unless_keeps : (s : State) (due : Option Refused) (answer : Answer) → Keeps s (unless s due answer)
+unless_keeps s None answer = λ x a. a
+unless_keeps s (Some r) answer = λ x a. a
+
 module _ {P : Type 0} (m : Scheme P) where
+  tip_keeps : (s : State) (h : ℕ) (chain : Chain) (tip : List Operation) (due : Option Refused) → Keeps s (merkleize_tip m s h chain tip due)
+  tip_keeps s h chain tip None = λ x a. Contains-more s.had tip x a
+  tip_keeps s h chain tip (Some r) = λ x a. a
+
   merkleize_keeps : (s : State) (h : ℕ) (policy : P) (meta : Option Bytes) (list : List Operation) (slot : Slot) → Keeps s (merkleize_in m s h policy meta list slot)
   merkleize_keeps s h policy meta list gone = λ x a. a
   merkleize_keeps s h policy meta list (merkleized chain tip) = λ x a. a
   merkleize_keeps s h policy meta list (writing chain ws) =
-      either s (fits m.root (commitment m.root list) chain) _ _ (λ x a. Contains-more s.had _ x a) (λ x a. a)
+      either s (fits m.root (commitment m.root list) chain) _ _ (tip_keeps s h chain _ (tip_refusal chain _)) (λ x a. a)
 
   apply_keeps : (s : State) (h : ℕ) (list : List Operation) (slot : Slot) → Keeps s (apply_in m s h list slot)
   apply_keeps s h list gone = λ x a. a
@@ -66,6 +75,8 @@ module _ {P : Type 0} (m : Scheme P) where
   turn_keeps s Info = with_list s s.database _ (λ list x a. a)
   turn_keeps s Root = with_list s s.database _ (λ list x a. a)
   turn_keeps s Meta = with_list s s.database _ (λ list x a. a)
+  turn_keeps s (Prove size start max) = with_list s s.database _ (λ list. unless_keeps s (proof_refusal list size start) _)
+  turn_keeps s (Pins n) = with_list s s.database _ (λ list. unless_keeps s (pins_refusal list n) _)
 
   -- what a longer run keeps apart, a shorter one does
   pub Apart-before : (s : State) (line : Line P) → Apart m.root ((turn m s line).1).had → Apart m.root s.had

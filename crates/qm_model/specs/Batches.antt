@@ -1,5 +1,5 @@
 -- Commitments, batches, and where a batch fits.
-use Rattle.std.specs.Prelude.{◌≡◌, ◌⊎◌, ℕ, Bool, true, ◌&&◌, ◌||◌, ◌==◌, List, [], ◌∷◌, length, map, All, Contains, bytes_eq}
+use Rattle.std.specs.Prelude.{◌≡◌, ◌⊎◌, ℕ, Bool, true, ◌&&◌, ◌||◌, ◌==◌, List, [], ◌∷◌, length, map, drop, All, Contains, bytes_eq}
 use Rattle.std.specs.List.{list_any}
 use Rattle.qm_model.specs.Operations.{Bytes, Operation}
 
@@ -33,6 +33,10 @@ boundary_list chain = oldest_base chain.base chain.kept
 -- the list is the boundary or a kept tip
 abbrev pub IsOnChain : List Operation → Chain → Type 0
 IsOnChain list chain = (list ≡ boundary_list chain) ⊎ Contains (map (λ k. k.tip) chain.kept) list
+
+-- a batch's own operations: its tip list behind its base
+abbrev pub own_operations : Chain → List Operation → List Operation
+own_operations chain tip = drop (length chain.base) tip
 
 -- each list of a chain is among these
 pub record IsAmong (had : List (List Operation)) (chain : Chain) : Type 0 where

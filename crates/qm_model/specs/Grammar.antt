@@ -1,12 +1,12 @@
 -- The grammar of lines: words between single spaces.
-use Rattle.std.specs.Prelude.{ℕ, ◌+◌, ◌-◌, ◌*◌, ◌^◌, ◌==◌, ◌&&◌, nat_lt, nat_le, slice_index, take, Bool, true, false, if◌then◌else◌, List, [], ◌∷◌, length, codes, Option, None, Some, Result, Ok, Err, option_map, option_and_then, bytes_eq}
+use Rattle.std.specs.Prelude.{ℕ, zero, suc, ◌+◌, ◌-◌, ◌*◌, ◌^◌, ◌==◌, ◌&&◌, nat_lt, nat_le, slice_index, take, Bool, true, false, if◌then◌else◌, List, [], ◌∷◌, length, codes, Option, None, Some, Result, Ok, Err, option_map, option_and_then, bytes_eq}
 use Rattle.std.specs.List.{slice_split}
 use Rattle.std.specs.Char.{is_ascii_digit}
 use Rattle.hex.specs.Hex.{decode_of}
 use Rattle.hex.specs.declared.error.FromHexError.{FromHexError}
 use Rattle.qm_model.specs.Operations.{Bytes}
 use Rattle.qm_model.specs.Policies.{Policy, proportional}
-use Rattle.qm_model.specs.Lines.{Line, Open, Batch, Put, Del, Merkleize, Apply, Ops, Get, Info, Root, Meta}
+use Rattle.qm_model.specs.Lines.{Line, Open, Batch, Put, Del, Merkleize, Apply, Ops, Get, Info, Root, Meta, Prove, Pins}
 
 -- the number with one decimal digit more, below 2 ^ 64
 abbrev pub next_digit : ℕ → ℕ → Option ℕ
@@ -58,7 +58,8 @@ abbrev pub of_two : Bytes → Bytes → Option (Line Policy)
 of_two w a =
     if bytes_eq w (codes "apply") then option_map (λ h. Apply h) (number_of a)
     else (if bytes_eq w (codes "ops") then option_map (λ h. Ops h) (number_of a)
-    else (if bytes_eq w (codes "get") then option_map (λ k. Get k) (key_of a) else None))
+    else (if bytes_eq w (codes "get") then option_map (λ k. Get k) (key_of a)
+    else (if bytes_eq w (codes "pins") then option_map (λ n. Pins n) (number_of a) else None)))
 
 abbrev pub del_of : Bytes → Bytes → Option (Line Policy)
 del_of a b = option_and_then (λ h. option_map (λ k. Del h k) (key_of b)) (number_of a)
@@ -72,10 +73,19 @@ put_of a b c = option_and_then (λ h. option_and_then (λ k. option_map (λ v. P
 abbrev pub merkleize_of : Bytes → Bytes → Bytes → Option (Line Policy)
 merkleize_of a b c = option_and_then (λ h. option_and_then (λ p. option_map (λ meta. Merkleize h p meta) (metadata_of c)) (policy_of b)) (number_of a)
 
+-- at least 1
+abbrev pub positive : ℕ → Option ℕ
+positive zero = None
+positive (suc n) = Some (suc n)
+
+abbrev pub prove_of : Bytes → Bytes → Bytes → Option (Line Policy)
+prove_of a b c = option_and_then (λ size. option_and_then (λ start. option_map (λ max. Prove size start max) (option_and_then positive (number_of c))) (number_of b)) (number_of a)
+
 abbrev pub of_four : Bytes → Bytes → Bytes → Bytes → Option (Line Policy)
 of_four w a b c =
     if bytes_eq w (codes "put") then put_of a b c
-    else (if bytes_eq w (codes "merkleize") then merkleize_of a b c else None)
+    else (if bytes_eq w (codes "merkleize") then merkleize_of a b c
+    else (if bytes_eq w (codes "prove") then prove_of a b c else None))
 
 abbrev pub of_words : List Bytes → Option (Line Policy)
 of_words [] = None

@@ -15,6 +15,7 @@ pub mod Proofs
 pub mod Roots
 pub mod Batches
 pub mod Lines
+pub mod Refusals
 pub mod Machine
 pub mod Grammar
 pub mod Text

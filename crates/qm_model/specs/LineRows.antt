@@ -1,20 +1,27 @@
 -- Worked scripts, from bytes to bytes.
-use Rattle.std.specs.Prelude.{◌≡◌, ◌++◌, List, [], ◌∷◌, Some, None, refl, codes}
+use Rattle.std.specs.Prelude.{◌≡◌, ◌+◌, ◌^◌, ◌++◌, List, [], ◌∷◌, Some, None, refl, codes}
 use Rattle.std.specs.List.{join_with_byte}
 use Rattle.std.specs.Fmt.{digits}
 use Rattle.hex.specs.Hex.{decode_pairs, encode_with}
-use Rattle.qm_model.specs.Operations.{Bytes}
+use Rattle.qm_model.specs.Operations.{Bytes, four_bytes, eight_bytes}
 use Rattle.qm_model.specs.Live.{floor}
+use Rattle.qm_model.specs.Mmr.{mmr, digits_below}
+use Rattle.qm_model.specs.Proofs.{ops_proof, pins_at}
 use Rattle.qm_model.specs.Policies.{Policy, policies, proportional}
 use Rattle.qm_model.specs.Step.{unordered}
-use Rattle.qm_model.specs.Lines.{Put, Del, Merkleize}
+use Rattle.qm_model.specs.Lines.{Put, Del, Merkleize, Prove, Pins, Merkle, LocationOverflow}
+use Rattle.qm_model.specs.Refusals.{too_many}
 use Rattle.qm_model.specs.Machine.{Scheme, initial, answers}
 use Rattle.qm_model.specs.Grammar.{line_of, commands_in, bad_in}
 use Rattle.qm_model.specs.Text.{text_of}
 
+-- a hash that is the same of all bytes
+abbrev same : Bytes → Bytes
+same bytes = 0x00 ∷ 0x2a ∷ []
+
 -- a root under which lists of one length collide, which these rows do not tell from a real one
 abbrev toy : Scheme Policy
-toy = record { kind = unordered; rules = policies; root = λ ops. 0x00 ∷ 0x2a ∷ []; boundary = floor }
+toy = record { kind = unordered; rules = policies; root = λ ops. same []; boundary = floor; proof = ops_proof same mmr; pins = pins_at same mmr }
 
 abbrev lines : List Bytes → Bytes
 lines ls = join_with_byte 10 ls ++ 10 ∷ []
@@ -25,7 +32,7 @@ text input = text_of (answers toy (initial []) (commands_in input))
 -- one put, read back
 one_put_text : text (lines (codes "open" ∷ codes "batch" ∷ codes "put 1 6b 76" ∷ codes "merkleize 1 prop none" ∷ codes "apply 1" ∷ codes "ops 1" ∷ codes "get 6b" ∷ codes "info" ∷ []))
     ≡ lines (codes "open 1 0 1" ∷ codes "batch 1" ∷ codes "ok" ∷ codes "merkleized 1 1 4 2" ∷ codes "applied 4" ∷ codes "ops 1 U:6b=76 U:6b=76 C:none@2" ∷ codes "read 76" ∷ codes "info 0 4 2 2 live" ∷ [])
-unfolding decode_pairs encode_with digits
+unfolding decode_pairs encode_with digits four_bytes eight_bytes
 one_put_text = refl
 
 -- the root and the operations root, in lower case
@@ -36,25 +43,25 @@ root_text = refl
 -- a batch that the database has left behind, its number used up, and a second opening
 stale_text : text (lines (codes "open" ∷ codes "batch" ∷ codes "batch" ∷ codes "put 1 61 01" ∷ codes "merkleize 1 prop none" ∷ codes "apply 1" ∷ codes "merkleize 2 prop none" ∷ codes "apply 2" ∷ codes "open" ∷ []))
     ≡ lines (codes "open 1 0 1" ∷ codes "batch 1" ∷ codes "batch 2" ∷ codes "ok" ∷ codes "merkleized 1 1 4 2" ∷ codes "applied 4" ∷ codes "refused StaleBatch" ∷ codes "refused NoSuchHandle 2" ∷ codes "refused NotOffered" ∷ [])
-unfolding decode_pairs encode_with digits
+unfolding decode_pairs encode_with digits four_bytes eight_bytes
 stale_text = refl
 
 -- one put, then its key deleted
 put_and_delete_text : text (lines (codes "open" ∷ codes "batch" ∷ codes "put 1 6b 76" ∷ codes "merkleize 1 prop none" ∷ codes "apply 1" ∷ codes "batch" ∷ codes "del 2 6b" ∷ codes "merkleize 2 prop none" ∷ codes "ops 2" ∷ codes "apply 2" ∷ codes "get 6b" ∷ []))
     ≡ lines (codes "open 1 0 1" ∷ codes "batch 1" ∷ codes "ok" ∷ codes "merkleized 1 1 4 2" ∷ codes "applied 4" ∷ codes "batch 2" ∷ codes "ok" ∷ codes "merkleized 2 4 6 5" ∷ codes "ops 4 D:6b C:none@5" ∷ codes "applied 6" ∷ codes "read none" ∷ [])
-unfolding decode_pairs encode_with digits
+unfolding decode_pairs encode_with digits four_bytes eight_bytes
 put_and_delete_text = refl
 
 -- a delete of an absent key, metadata with and without bytes, and writes to a batch that is merkleized or none
 metadata_text : text (lines (codes "open" ∷ codes "meta" ∷ codes "batch" ∷ codes "del 1 6b" ∷ codes "merkleize 1 prop aAbb" ∷ codes "ops 1" ∷ codes "apply 1" ∷ codes "meta" ∷ codes "batch" ∷ codes "merkleize 2 prop -" ∷ codes "meta" ∷ codes "apply 2" ∷ codes "meta" ∷ codes "del 2 6b" ∷ codes "del 9 6b" ∷ []))
     ≡ lines (codes "open 1 0 1" ∷ codes "meta none" ∷ codes "batch 1" ∷ codes "ok" ∷ codes "merkleized 1 1 2 1" ∷ codes "ops 1 C:aabb@1" ∷ codes "applied 2" ∷ codes "meta aabb" ∷ codes "batch 2" ∷ codes "merkleized 2 2 3 2" ∷ codes "meta aabb" ∷ codes "applied 3" ∷ codes "meta -" ∷ codes "refused NoSuchHandle 2" ∷ codes "refused NoSuchHandle 9" ∷ [])
-unfolding decode_pairs encode_with digits
+unfolding decode_pairs encode_with digits four_bytes eight_bytes
 metadata_text = refl
 
 -- a delete of an absent key alone
 absent_text : text (lines (codes "open" ∷ codes "batch" ∷ codes "del 1 6b" ∷ codes "merkleize 1 prop none" ∷ codes "ops 1" ∷ codes "apply 1" ∷ []))
     ≡ lines (codes "open 1 0 1" ∷ codes "batch 1" ∷ codes "ok" ∷ codes "merkleized 1 1 2 1" ∷ codes "ops 1 C:none@1" ∷ codes "applied 2" ∷ [])
-unfolding decode_pairs encode_with digits
+unfolding decode_pairs encode_with digits four_bytes eight_bytes
 absent_text = refl
 
 -- no database, and no line
@@ -63,9 +70,26 @@ closed_text : text (lines (codes "info" ∷ codes "ops 1" ∷ codes "merkleize 1
 unfolding decode_pairs digits
 closed_text = refl
 
+-- proofs and pins, and their refusals
+proved_text : text (lines (codes "open" ∷ codes "batch" ∷ codes "put 1 6b 76" ∷ codes "merkleize 1 prop none" ∷ codes "apply 1" ∷ codes "prove 4 0 9" ∷ codes "prove 4 1 2" ∷ codes "prove 1 0 1" ∷ codes "prove 3 0 1" ∷ codes "prove 0 0 1" ∷ codes "prove 5 0 1" ∷ codes "prove 4 4 1" ∷ codes "pins 0" ∷ codes "pins 3" ∷ codes "pins 4" ∷ codes "pins 5" ∷ codes "meta" ∷ []))
+    ≡ lines (codes "open 1 0 1" ∷ codes "batch 1" ∷ codes "ok" ∷ codes "merkleized 1 1 4 2" ∷ codes "applied 4" ∷ codes "proof 4 0 / C:none@0 U:6b=76 U:6b=76 C:none@2" ∷ codes "proof 4 0 002a 002a / U:6b=76 U:6b=76" ∷ codes "proof 1 0 / C:none@0" ∷ codes "refused HistoricalFloorPruned 3" ∷ codes "refused HistoricalFloorPruned 0" ∷ codes "refused Merkle RangeOutOfBounds 5" ∷ codes "refused Merkle RangeOutOfBounds 4" ∷ codes "pins" ∷ codes "pins 002a 002a" ∷ codes "pins 002a" ∷ codes "refused Merkle RangeOutOfBounds 5" ∷ codes "meta none" ∷ [])
+unfolding decode_pairs encode_with digits digits_below four_bytes eight_bytes
+proved_text = refl
+
+-- proofs and pins of no database
+unproved_text : text (lines (codes "prove 1 0 1" ∷ codes "pins 0" ∷ [])) ≡ lines (codes "refused NoDatabase" ∷ codes "refused NoDatabase" ∷ [])
+unproved_text = refl
+
 bad_second : bad_in (codes "open" ++ 10 ∷ codes "put 1 6") ≡ Some 2
 unfolding decode_pairs
 bad_second = refl
+
+-- a list of as many operations as there may be, and of one more
+largest_list : too_many (2 ^ 62) ≡ None
+largest_list = refl
+
+too_large_list : too_many (2 ^ 62 + 1) ≡ Some (Merkle (LocationOverflow (2 ^ 62 + 1)))
+too_large_list = refl
 
 no_lines : bad_in [] ≡ None
 no_lines = refl
@@ -95,6 +119,15 @@ too_large = refl
 
 leading_zero : line_of (codes "apply 01") ≡ None
 leading_zero = refl
+
+proved : line_of (codes "prove 4 0 9") ≡ Some (Prove 4 0 9)
+proved = refl
+
+proved_none : line_of (codes "prove 4 0 0") ≡ None
+proved_none = refl
+
+pinned : line_of (codes "pins 0") ≡ Some (Pins 0)
+pinned = refl
 
 two_spaces : line_of (codes "apply  1") ≡ None
 two_spaces = refl

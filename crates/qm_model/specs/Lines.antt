@@ -1,6 +1,7 @@
 -- Commands and replies over byte strings, with policies of a type P.
 use Rattle.std.specs.Prelude.{ℕ, Bool, List, Option}
 use Rattle.qm_model.specs.Operations.{Bytes, Operation}
+use Rattle.qm_model.specs.Proofs.{Proof}
 
 -- what a line asks for; a batch goes by its number
 pub data Line (P : Type 0) : Type 0 where
@@ -15,6 +16,27 @@ pub data Line (P : Type 0) : Type 0 where
   Info : Line P
   Root : Line P
   Meta : Line P
+  -- size, start, and how many operations at most
+  Prove : ℕ → ℕ → ℕ → Line P
+  Pins : ℕ → Line P
+
+-- what is wrong with what a store keeps
+pub data Corrupt : Type 0 where
+  FloorExceedsCommit : Corrupt
+  ItemDoesNotDecode : Corrupt
+  HeadDoesNotMatch : Corrupt
+
+-- why a tree refused: a location or size out of range, a node that is pruned or missing, too many leaves
+pub data TreeRefused : Type 0 where
+  RangeOutOfBounds : ℕ → TreeRefused
+  ElementPruned : ℕ → TreeRefused
+  MissingNode : ℕ → TreeRefused
+  LocationOverflow : ℕ → TreeRefused
+
+-- why a log refused: an item that is pruned, a spelling of too many bytes
+pub data LogRefused : Type 0 where
+  ItemPruned : ℕ → LogRefused
+  ItemTooLarge : ℕ → LogRefused
 
 -- why a command was refused
 pub data Refused : Type 0 where
@@ -22,6 +44,11 @@ pub data Refused : Type 0 where
   NoDatabase : Refused
   NoSuchHandle : ℕ → Refused
   StaleBatch : Refused
+  StaleRead : Refused
+  HistoricalFloorPruned : ℕ → Refused
+  DataCorrupted : Corrupt → Refused
+  Merkle : TreeRefused → Refused
+  Journal : LogRefused → Refused
 
 -- what a command answers
 pub data Answer : Type 0 where
@@ -42,4 +69,7 @@ pub data Answer : Type 0 where
   -- the root and the operations root
   Rooted : Bytes → Bytes → Answer
   Metadata : Option Bytes → Answer
+  -- a proof, and the operations that it proves
+  Proved : Proof → List Operation → Answer
+  Pinned : List Bytes → Answer
   Refuses : Refused → Answer

@@ -1,20 +1,26 @@
 -- The machine: databases and batches are operation lists, and each command is a function of the state.
-use Rattle.std.specs.Prelude.{ℕ, ◌+◌, nat_lt, if◌then◌else◌, List, [], ◌∷◌, ◌++◌, length, map, drop, slice_index_or, slice_set, Option, Some, None}
+use Rattle.std.specs.Prelude.{ℕ, ◌+◌, nat_lt, if◌then◌else◌, List, [], ◌∷◌, ◌++◌, length, map, take, drop, slice_index_or, slice_set, Option, Some, None}
 use Rattle.qm_model.specs.Operations.{Bytes, Operation, spelling, fresh}
 use Rattle.qm_model.specs.Live.{live, floor, value_of, last_metadata}
 use Rattle.qm_model.specs.Writes.{Write}
 use Rattle.qm_model.specs.Walk.{Rules}
 use Rattle.qm_model.specs.Step.{Kind}
 use Rattle.qm_model.specs.Step as steps
-use Rattle.qm_model.specs.Batches.{Chain, commitment, fits}
-use Rattle.qm_model.specs.Lines.{Line, Open, Batch, Put, Del, Merkleize, Apply, Ops, Get, Info, Root, Meta, Refused, NotOffered, NoDatabase, NoSuchHandle, StaleBatch, Answer, Opened, Started, Done, Merkleized, Applied, Listed, Read, Told, Rooted, Metadata, Refuses}
+use Rattle.qm_model.specs.Proofs.{Proof}
+use Rattle.qm_model.specs.Batches.{Chain, commitment, fits, own_operations}
+use Rattle.qm_model.specs.Lines.{Line, Open, Batch, Put, Del, Merkleize, Apply, Ops, Get, Info, Root, Meta, Prove, Pins, Refused, NotOffered, NoDatabase, NoSuchHandle, StaleBatch, Answer, Opened, Started, Done, Merkleized, Applied, Listed, Read, Told, Rooted, Metadata, Proved, Pinned, Refuses}
+use Rattle.qm_model.specs.Refusals.{tip_refusal, proof_refusal, proof_count, pins_refusal}
 
--- what a machine stands on: the kind of database, its policies, and a list's operations root and boundary
+-- what a machine stands on: the kind of database, its policies, and a list's operations root and boundary,
+-- the proofs of its operations and its pins
 pub record Scheme (P : Type 0) : Type 0 where
   pub kind : Kind
   pub rules : Rules P
   pub root : List Operation → Bytes
   pub boundary : List Operation → ℕ
+  -- of the whole list, for the operations from a up to b
+  pub proof : List Operation → ℕ → ℕ → Proof
+  pub pins : List Operation → ℕ → List Bytes
 
 -- a batch number: used up; a batch with its writes; a merkleized batch with its tip list
 pub data Slot : Type 0 where
@@ -47,6 +53,11 @@ refuse s r = (Refuses r, s)
 abbrev pub with_slot : State → ℕ → Slot → State
 with_slot s h slot = record s { table = slice_set s.table h slot }
 
+-- the answer, unless it is refused
+abbrev pub unless : State → Option Refused → Answer → Answer × State
+unless s None answer = (answer, s)
+unless s (Some r) answer = refuse s r
+
 -- what a command that needs a database does without one
 abbrev pub with_database : State → Option (List Operation) → (List Operation → Answer × State) → Answer × State
 with_database s None f = refuse s NoDatabase
@@ -75,10 +86,6 @@ put s h key value = put_in s h (record { key = key; value = Some value }) (slot_
 abbrev pub del : State → ℕ → Bytes → Answer × State
 del s h key = put_in s h (record { key = key; value = None }) (slot_at s.table h)
 
--- a batch's own operations
-abbrev pub own_operations : Chain → List Operation → List Operation
-own_operations chain tip = drop (length chain.base) tip
-
 abbrev pub list_operations : State → ℕ → Slot → Answer × State
 list_operations s h (merkleized chain tip) = (Listed (length chain.base) (own_operations chain tip), s)
 list_operations s h gone = refuse s (NoSuchHandle h)
@@ -95,12 +102,18 @@ abbrev pub meta : State → Answer × State
 meta s = with_database s s.database (λ list. (Metadata (last_metadata list), s))
 
 module _ {P : Type 0} (m : Scheme P) where
-  -- the batch gets its tip list, or is used up where the database has moved on
+  -- the batch gets its tip list, or is used up where that is refused
+  abbrev pub merkleize_tip : State → ℕ → Chain → List Operation → Option Refused → Answer × State
+  merkleize_tip s h chain tip None =
+      (Merkleized h (length chain.base) (length tip) (floor tip), record (with_slot s h (merkleized chain tip)) { had = tip ∷ s.had })
+  merkleize_tip s h chain tip (Some r) = refuse (with_slot s h gone) r
+
+  -- the batch is also used up where the database has moved on
   abbrev pub merkleize_in : State → ℕ → P → Option Bytes → List Operation → Slot → Answer × State
   merkleize_in s h policy meta list (writing chain ws) =
       let tip = steps.step m.kind m.rules chain.base ws policy meta in
       if fits m.root (commitment m.root list) chain
-      then (Merkleized h (length chain.base) (length tip) (floor tip), record (with_slot s h (merkleized chain tip)) { had = tip ∷ s.had })
+      then merkleize_tip s h chain tip (tip_refusal chain tip)
       else refuse (with_slot s h gone) StaleBatch
   merkleize_in s h policy meta list gone = refuse s (NoSuchHandle h)
   merkleize_in s h policy meta list (merkleized chain tip) = refuse s (NoSuchHandle h)
@@ -127,6 +140,14 @@ module _ {P : Type 0} (m : Scheme P) where
   abbrev pub root : State → Answer × State
   root s = with_database s s.database (λ list. (Rooted (m.root list) (m.root list), s))
 
+  -- up to `max` operations from `start` on, and their proof among the list's first `size` operations
+  abbrev pub prove : State → ℕ → ℕ → ℕ → Answer × State
+  prove s size start max = with_database s s.database (λ list. let n = proof_count size start max in
+      unless s (proof_refusal list size start) (Proved (m.proof (take size list) start (start + n)) (take n (drop start list))))
+
+  abbrev pub pins : State → ℕ → Answer × State
+  pins s n = with_database s s.database (λ list. unless s (pins_refusal list n) (Pinned (m.pins list n)))
+
   -- one command: the answer, and the state after it
   abbrev pub turn : State → Line P → Answer × State
   turn s Open = open_store s
@@ -140,6 +161,8 @@ module _ {P : Type 0} (m : Scheme P) where
   turn s Info = info s
   turn s Root = root s
   turn s Meta = meta s
+  turn s (Prove size start max) = prove s size start max
+  turn s (Pins n) = pins s n
 
   -- the answers to commands in order, and the state after them
   abbrev pub answers : State → List (Line P) → List Answer

@@ -2,7 +2,7 @@
 use Rattle.std.specs.Prelude.{Bool, true, false, List, [], ◌∷◌, ◌++◌, codes, Option, None, Some, flat_map, decimal}
 use Rattle.hex.specs.Hex.{encode_lower}
 use Rattle.qm_model.specs.Operations.{Bytes, Operation, update, delete, commit}
-use Rattle.qm_model.specs.Lines.{Refused, NotOffered, NoDatabase, NoSuchHandle, StaleBatch, Answer, Opened, Started, Done, Merkleized, Applied, Listed, Read, Told, Rooted, Metadata, Refuses}
+use Rattle.qm_model.specs.Lines.{Corrupt, FloorExceedsCommit, ItemDoesNotDecode, HeadDoesNotMatch, TreeRefused, RangeOutOfBounds, ElementPruned, MissingNode, LocationOverflow, LogRefused, ItemPruned, ItemTooLarge, Refused, NotOffered, NoDatabase, NoSuchHandle, StaleBatch, StaleRead, HistoricalFloorPruned, DataCorrupted, Merkle, Journal, Answer, Opened, Started, Done, Merkleized, Applied, Listed, Read, Told, Rooted, Metadata, Proved, Pinned, Refuses}
 
 -- bytes in hexadecimal, and the empty ones as a dash
 abbrev pub hex_text : Bytes → Bytes
@@ -22,11 +22,39 @@ operation_text (update k v n) = codes "U:" ++ (hex_text k ++ (codes "=" ++ (hex_
 operation_text (delete k) = codes "D:" ++ hex_text k
 operation_text (commit m f) = codes "C:" ++ (optional_text m ++ (codes "@" ++ decimal f))
 
+abbrev pub corrupt_text : Corrupt → Bytes
+corrupt_text FloorExceedsCommit = codes "inactivity floor exceeds commit location"
+corrupt_text ItemDoesNotDecode = codes "item does not decode"
+corrupt_text HeadDoesNotMatch = codes "head does not match the start"
+
+abbrev pub tree_text : TreeRefused → Bytes
+tree_text (RangeOutOfBounds n) = codes "RangeOutOfBounds " ++ decimal n
+tree_text (ElementPruned n) = codes "ElementPruned " ++ decimal n
+tree_text (MissingNode n) = codes "MissingNode " ++ decimal n
+tree_text (LocationOverflow n) = codes "LocationOverflow " ++ decimal n
+
+abbrev pub log_text : LogRefused → Bytes
+log_text (ItemPruned n) = codes "ItemPruned " ++ decimal n
+log_text (ItemTooLarge n) = codes "ItemTooLarge " ++ decimal n
+
 abbrev pub refused_text : Refused → Bytes
 refused_text NotOffered = codes "NotOffered"
 refused_text NoDatabase = codes "NoDatabase"
 refused_text (NoSuchHandle h) = codes "NoSuchHandle " ++ decimal h
 refused_text StaleBatch = codes "StaleBatch"
+refused_text StaleRead = codes "StaleRead"
+refused_text (HistoricalFloorPruned n) = codes "HistoricalFloorPruned " ++ decimal n
+refused_text (DataCorrupted c) = codes "DataCorrupted " ++ corrupt_text c
+refused_text (Merkle e) = codes "Merkle " ++ tree_text e
+refused_text (Journal e) = codes "Journal " ++ log_text e
+
+-- operations, each after a space
+abbrev pub operations_text : List Operation → Bytes
+operations_text ops = flat_map (λ op. codes " " ++ operation_text op) ops
+
+-- digests, each after a space
+abbrev pub digests_text : List Bytes → Bytes
+digests_text digests = flat_map (λ d. codes " " ++ encode_lower d) digests
 
 abbrev pub live_text : Bool → Bytes
 live_text true = codes "live"
@@ -40,12 +68,15 @@ reply_line Done = codes "ok"
 reply_line (Merkleized h base size floor) =
     codes "merkleized " ++ (decimal h ++ (codes " " ++ (decimal base ++ (codes " " ++ (decimal size ++ (codes " " ++ decimal floor))))))
 reply_line (Applied size) = codes "applied " ++ decimal size
-reply_line (Listed base ops) = codes "ops " ++ (decimal base ++ flat_map (λ op. codes " " ++ operation_text op) ops)
+reply_line (Listed base ops) = codes "ops " ++ (decimal base ++ operations_text ops)
 reply_line (Read v) = codes "read " ++ optional_text v
 reply_line (Told start size floor boundary is_live) =
     codes "info " ++ (decimal start ++ (codes " " ++ (decimal size ++ (codes " " ++ (decimal floor ++ (codes " " ++ (decimal boundary ++ (codes " " ++ live_text is_live))))))))
 reply_line (Rooted r o) = codes "root " ++ (encode_lower r ++ (codes " " ++ encode_lower o))
 reply_line (Metadata v) = codes "meta " ++ optional_text v
+reply_line (Proved proof ops) =
+    codes "proof " ++ (decimal proof.leaves ++ (codes " " ++ (decimal proof.inactive ++ (digests_text proof.digests ++ (codes " /" ++ operations_text ops)))))
+reply_line (Pinned digests) = codes "pins" ++ digests_text digests
 reply_line (Refuses r) = codes "refused " ++ refused_text r
 
 -- the replies, one line each

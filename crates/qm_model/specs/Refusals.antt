@@ -1,0 +1,54 @@
+-- Why a database refuses, by its operation list alone.
+use Rattle.std.specs.Prelude.{ℕ, zero, suc, ◌-◌, ◌^◌, min, nat_lt, if◌then◌else◌, List, [], ◌∷◌, length, slice_get, Option, Some, None, option_map, option_and_then}
+use Rattle.std.specs.Option.{option_or}
+use Rattle.qm_model.specs.Operations.{Operation, update, delete, commit, spelling}
+use Rattle.qm_model.specs.Batches.{Chain, own_operations}
+use Rattle.qm_model.specs.Lines.{Refused, HistoricalFloorPruned, DataCorrupted, Merkle, Journal, FloorExceedsCommit, RangeOutOfBounds, LocationOverflow, ItemTooLarge}
+
+-- the most bytes of a spelling
+abbrev pub max_spelling : ℕ
+max_spelling = 65536
+
+-- how many bytes the first spelling has that is too long
+abbrev pub too_long : List Operation → Option ℕ
+too_long [] = None
+too_long (op ∷ ops) = if nat_lt max_spelling (length (spelling op)) then Some (length (spelling op)) else too_long ops
+
+-- a list of too many operations
+abbrev pub too_many : ℕ → Option Refused
+too_many size = if nat_lt (2 ^ 62) size then Some (Merkle (LocationOverflow size)) else None
+
+-- why a batch with this tip list is not merkleized: an own operation is too long, or the list is
+abbrev pub tip_refusal : Chain → List Operation → Option Refused
+tip_refusal chain tip = option_or (option_map (λ n. Journal (ItemTooLarge n)) (too_long (own_operations chain tip))) (too_many (length tip))
+
+-- the floor of a commit
+abbrev pub commit_floor : Operation → Option ℕ
+commit_floor (update k v n) = None
+commit_floor (delete k) = None
+commit_floor (commit m f) = Some f
+
+-- the floor of the commit at the end of the first n operations, if a commit stands there
+abbrev pub floor_before : List Operation → ℕ → Option ℕ
+floor_before list zero = None
+floor_before list (suc i) = option_and_then commit_floor (slice_get list i)
+
+-- why there is no proof from `start` on of the first `size` operations, at whose end stands a commit of this floor
+abbrev pub end_refusal : ℕ → ℕ → Option ℕ → Option Refused
+end_refusal size start None = Some (HistoricalFloorPruned size)
+end_refusal size start (Some f) =
+    if nat_lt (size - 1) f then Some (DataCorrupted FloorExceedsCommit)
+    else (if nat_lt start size then None else Some (Merkle (RangeOutOfBounds start)))
+
+-- why there is no proof of operations from `start` on in the list's first `size` operations
+abbrev pub proof_refusal : List Operation → ℕ → ℕ → Option Refused
+proof_refusal list size start =
+    if nat_lt (length list) size then Some (Merkle (RangeOutOfBounds size)) else end_refusal size start (floor_before list size)
+
+-- how many operations a proof has from `start` on, of `max` at most
+abbrev pub proof_count : ℕ → ℕ → ℕ → ℕ
+proof_count size start max = min max (size - start)
+
+-- why there are no pins at n
+abbrev pub pins_refusal : List Operation → ℕ → Option Refused
+pins_refusal list n = if nat_lt (length list) n then Some (Merkle (RangeOutOfBounds n)) else None
