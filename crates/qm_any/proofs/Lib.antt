@@ -3,3 +3,4 @@ pub mod ListWalks
 pub mod ListWrites
 pub mod ListRoots
 pub mod LogSteps
+pub mod Writes

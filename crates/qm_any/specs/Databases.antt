@@ -1,5 +1,5 @@
 -- Databases over a log of their operations' spellings, and their batches.
-use Rattle.std.specs.Prelude.{◌≡◌, List, length, map, take, Option, None, Some}
+use Rattle.std.specs.Prelude.{◌≡◌, List, length, map, take, Option}
 use Rattle.qm_base.specs.declared.commitment.Commitment as declared
 use Rattle.qm_model.specs.Operations.{Bytes, Operation, spelling}
 use Rattle.qm_model.specs.Batches.{Commitment, commitment}
@@ -7,7 +7,7 @@ use Rattle.qm_model.specs.Trees.{Shape, ops_root}
 use Rattle.qm_model.specs.Live.{value_of}
 use Rattle.qm_model.specs.Policies.{Policy, policies}
 use Rattle.qm_model.specs.Step.{step, unordered}
-use Rattle.qm_model.specs.Writes.{Write, write_of, last_writes}
+use Rattle.qm_model.specs.Writes.{Write, write_of, last_writes, overwritten}
 use Rattle.qm_store.specs.declared.Store as store
 use Rattle.qm_store.specs.Log.{Log, IsLog}
 
@@ -33,18 +33,13 @@ pub record Made : Type 0 where
   pub tip : List Operation
   pub made : Commitment
 
--- the value of a write, or else the one given
-abbrev pub read_or : Option Write → Option Bytes → Option Bytes
-read_or None value = value
-read_or (Some w) value = w.value
-
 -- what a batch's writes make of its base list, under a policy, with this metadata
 abbrev pub stepped : List Operation → List Write → Policy → Option Bytes → List Operation
 stepped base ws policy meta = step unordered policies base ws policy meta
 
 -- the value of a key on a list with writes: that of its last write, or else the list's
 abbrev pub read_through : List Operation → List Write → Bytes → Option Bytes
-read_through base ws key = read_or (write_of (last_writes ws) key) (value_of base key)
+read_through base ws key = overwritten (write_of (last_writes ws) key) (value_of base key)
 
 -- over a hash and a family
 module _ (hash : Bytes → Bytes) (shape : Shape) where
@@ -59,8 +54,8 @@ module _ (hash : Bytes → Bytes) (shape : Shape) where
 
   -- the batch leads from this list to this one, which begins with it
   pub record LeadsTo (batch : Made) (base tip : List Operation) : Type 0 where
-    pub base : batch.base ≡ list_commitment base
-    pub tip : batch.tip ≡ tip
+    pub from : batch.base ≡ list_commitment base
+    pub list : batch.tip ≡ tip
     pub made : batch.made ≡ list_commitment tip
     pub begins : take (length base) tip ≡ base
 

@@ -6,7 +6,7 @@ ghost use Rattle.qm_model.specs.Live as lives;
 ghost use Rattle.qm_model.specs.Operations.{Operation, spelling};
 ghost use Rattle.qm_model.specs.Refusals.{too_long};
 ghost use Rattle.qm_model.specs.Writes.{write_of, last_writes};
-ghost use Rattle.qm_any.specs.Databases.{Begun, Made, IsDatabase, IsBegunOn, LeadsTo, commitment_view, read_through, stepped};
+ghost use Rattle.qm_any.specs.Databases.{IsDatabase, IsBegunOn, LeadsTo, commitment_view, read_through, stepped};
 ghost use Rattle.qm_any.specs.ListViews.{entry_views, write_view, write_views, policy_view};
 ghost use Rattle.qm_any.specs.Tips.{IsTaken, IsRefused, IsTooLong};
 
@@ -15,7 +15,8 @@ use crate::lists::{Entry, Write, floor, spell_all, step, twin_list, twin_option,
 use crate::policy::Proportional;
 use qm_base::update::{Unordered, Update};
 use qm_base::{
-    Commitment, Digest, Error, Hasher, JournalError, Key, Location, MerkleError, Operation, VariableValue,
+    Commitment, Digest, Error, Hasher, JournalError, Key, Location, MerkleError, VariableValue,
+    operation,
 };
 use qm_merkle::Family;
 use qm_store::Store;
@@ -32,7 +33,7 @@ const MAX_SPELLING: usize = 65_536;
 /// A batch: writes that are recorded on a database's list.
 #[derive(Drop)]
 pub struct UnmerkleizedBatch<F, D: Digest, U: Update> {
-    base: Rc<Vec<Operation<F, U>>>,
+    base: Rc<Vec<operation::Operation<F, U>>>,
     commitment: Commitment<D>,
     writes: Vec<Write<U::Key, U::Value>>,
 }
@@ -40,6 +41,8 @@ pub struct UnmerkleizedBatch<F, D: Digest, U: Update> {
 impl<F, D: Digest, U: Update> Model for UnmerkleizedBatch<F, D, U> {
     ghost use Rattle.std.specs.Prelude.{◌≡◌, length};
     ghost use Rattle.qm_base.specs.Views.{operation_views};
+    ghost use Rattle.qm_any.specs.Databases.{Begun, commitment_view};
+    ghost use Rattle.qm_any.specs.ListViews.{write_views};
 
     ghost Value = { Begun };
 
@@ -52,13 +55,14 @@ impl<F, D: Digest, U: Update> Model for UnmerkleizedBatch<F, D, U> {
 #[derive(Drop)]
 pub struct MerkleizedBatch<F, D: Digest, U: Update> {
     base: Commitment<D>,
-    tip: Rc<Vec<Operation<F, U>>>,
+    tip: Rc<Vec<operation::Operation<F, U>>>,
     made: Commitment<D>,
 }
 
 impl<F, D: Digest, U: Update> Model for MerkleizedBatch<F, D, U> {
     ghost use Rattle.std.specs.Prelude.{◌≡◌, ◌≤◌, ◌^◌, length};
     ghost use Rattle.qm_base.specs.Views.{operation_views};
+    ghost use Rattle.qm_any.specs.Databases.{Made, commitment_view};
 
     ghost Value = { Made };
 
@@ -96,7 +100,7 @@ impl<F: Family, D: Digest, K: Key, V: VariableValue> UnmerkleizedBatch<F, D, Uno
 
     /// The value of a key as the batch has it: that of its last write or, where it has none, the one on the list that
     /// it was begun on.
-    pub fn get<C: Store, H>(
+    pub fn get<C: Store, H: Hasher<Digest = D> + Drop>(
         &self,
         alloc: Global,
         key: &K,

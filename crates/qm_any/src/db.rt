@@ -1,6 +1,6 @@
 //! The database.
 
-ghost use Rattle.std.specs.Prelude.{◌≡◌, ◌⊎◌, ◌≤◌, ◌+◌, ◌^◌, ◌++◌, ◌==◌, [], List, Ok, true, false, length, map, drop, option_map, if◌then◌else◌, IfOk, IfErr};
+ghost use Rattle.std.specs.Prelude.{◌≡◌, ◌⊎◌, ◌≤◌, ◌+◌, ◌^◌, ◌++◌, ◌==◌, [], List, true, false, length, map, drop, option_map, if◌then◌else◌, IfOk, IfErr, OnOk};
 ghost use Rattle.qm_model.specs.Batches.{same};
 ghost use Rattle.qm_model.specs.Causes.{IsCause};
 ghost use Rattle.qm_model.specs.Live as lives;
@@ -15,7 +15,7 @@ use crate::lists::{Entry, floor, last_metadata, live_count, spell_all, twin_opti
 use crate::refusal::{Given, Refusal};
 use qm_base::update::{Unordered, Update};
 use qm_base::{
-    Commitment, Digest, Error, Hasher, JournalError, Key, Location, Operation, VariableValue,
+    Commitment, Digest, Error, Hasher, JournalError, Key, Location, VariableValue, operation,
 };
 use qm_merkle::Family;
 use qm_store::{AuthLog, LogGiven, LogRefusal, Store};
@@ -27,7 +27,7 @@ use std::rc::Rc;
 /// and a commitment that tells its list from others. It keeps the operations in memory, which its batches share.
 #[derive(Drop)]
 pub struct Db<F: Family, C: Store, D: Digest, H, U: Update> {
-    list: Rc<Vec<Operation<F, U>>>,
+    list: Rc<Vec<operation::Operation<F, U>>>,
     commitment: Commitment<D>,
     log: AuthLog<F, C, D, H>,
 }
@@ -35,6 +35,7 @@ pub struct Db<F: Family, C: Store, D: Digest, H, U: Update> {
 impl<F: Family, C: Store, D: Digest, H, U: Update> Model for Db<F, C, D, H, U> {
     ghost use Rattle.std.specs.Prelude.{◌≡◌, length};
     ghost use Rattle.qm_base.specs.Views.{operation_views};
+    ghost use Rattle.qm_any.specs.Databases.{Database, commitment_view};
 
     ghost Value = { Database C D };
 
@@ -50,11 +51,36 @@ pub(crate) fn is_same<D: Digest>(a: &Commitment<D>, b: &Commitment<D>) -> bool
     a.size == b.size && a.root.bytes() == b.root.bytes()
 }
 
-impl<F: Family, C: Store, D: Digest, H: Hasher<Digest = D> + Drop, K: Key, V: VariableValue>
-    Db<F, C, D, H, Unordered<K, V>>
-{
+impl<F: Family, C: Store, D: Digest, H: Hasher<Digest = D> + Drop, K: Key, V: VariableValue> Db<
+    F,
+    C,
+    D,
+    H,
+    Unordered<K, V>,
+> {
+    // The database of a list, what stands for it, and its log.
+    pub(crate) fn of_parts(
+        list: Rc<Vec<Entry<F, K, V>>>,
+        commitment: Commitment<D>,
+        log: AuthLog<F, C, D, H>,
+    ) -> Self
+        requires size { commitment.size ≡ length list.value.items }
+        requires leaves { log.tree.leaves ≡ length list.value.items }
+        requires end { C.end log.store ≡ length list.value.items }
+        ensures { result ≡ record { list = entry_views K.bytes V.bytes list.value.items; commitment = commitment_view D.bytes commitment; log = log } }
+    {
+        Db {
+            list,
+            commitment,
+            log,
+        }
+    }
+
     /// Begins a batch on the database as it is.
-    pub fn new_batch(&self, alloc: Global) -> Result<UnmerkleizedBatch<F, D, Unordered<K, V>>, AllocError>
+    pub fn new_batch(
+        &self,
+        alloc: Global,
+    ) -> Result<UnmerkleizedBatch<F, D, Unordered<K, V>>, AllocError>
         ensures { IfOk result (λ b. b ≡ record { base = self.now.list; commitment = self.now.commitment; writes = [] }) }
     {
         let base = self.list.clone()?;
@@ -66,7 +92,7 @@ impl<F: Family, C: Store, D: Digest, H: Hasher<Digest = D> + Drop, K: Key, V: Va
         &self,
         batch: &MerkleizedBatch<F, D, Unordered<K, V>>,
     ) -> Result<(), Error>
-        ensures fits { result ≡ Ok () → same self.now.commitment batch.now.base ≡ true }
+        ensures fits { OnOk result (same self.now.commitment batch.now.base ≡ true) }
         ensures stale { IfErr result (λ e. (e ≡ Error.StaleBatch) × (same self.now.commitment batch.now.base ≡ false)) }
     {
         if is_same(&self.commitment, batch.base()) {
@@ -257,7 +283,14 @@ impl<F: Family, C: Store, D: Digest, H: Hasher<Digest = D> + Drop, K: Key, V: Va
 }
 
 // What stands for a list that begins with the log's, and has these spellings behind it.
-pub(crate) fn commitment_over<F: Family, C: Store, D: Digest, H: Hasher<Digest = D> + Drop, K: Key, V: VariableValue>(
+pub(crate) fn commitment_over<
+    F: Family,
+    C: Store,
+    D: Digest,
+    H: Hasher<Digest = D> + Drop,
+    K: Key,
+    V: VariableValue,
+>(
     alloc: Global,
     log: &mut AuthLog<F, C, D, H>,
     operations: &[Entry<F, K, V>],

@@ -7,9 +7,7 @@ mod lists;
 mod open;
 pub mod policy;
 pub mod refusal;
-#[cfg(test)]
-mod tests;
 
-pub use open::{hasher, init, initial_root};
+pub use open::{hasher, init};
 pub use policy::Proportional;
 pub use refusal::{Given, Refusal};

@@ -5,7 +5,7 @@ ghost use Rattle.qm_model.specs.Causes.{IsCause};
 ghost use Rattle.qm_model.specs.Operations.{spelling, fresh};
 ghost use Rattle.qm_model.specs.Trees as trees;
 ghost use Rattle.qm_store.specs.Log as logs;
-ghost use Rattle.qm_any.specs.Databases.{Database, IsDatabase, IsListLog, commitment_view};
+ghost use Rattle.qm_any.specs.Databases.{Database, IsDatabase, IsListLog, commitment_view, list_commitment};
 ghost use Rattle.qm_any.specs.Given.{Appended, AppendedPart, store_given};
 ghost use Rattle.qm_any.specs.ListViews.{entry_views};
 
@@ -13,7 +13,7 @@ use crate::db::{Db, commitment_over};
 use crate::lists::{Entry, fresh_list, spell_all};
 use crate::refusal::{Given, Refusal};
 use qm_base::update::Unordered;
-use qm_base::{Digest, Error, Hasher, JournalError, Key, VariableValue};
+use qm_base::{Commitment, Corrupt, Digest, Error, Hasher, JournalError, Key, VariableValue};
 use qm_merkle::{Family, StandardHasher};
 use qm_store::{AuthLog, LogGiven, Store};
 use std::alloc::{AllocError, Global};
@@ -53,4 +53,118 @@ pub fn init<F: Family, C: Store, D: Digest, H: Hasher<Digest = D> + Drop, K: Key
             Ok(log) => begun(alloc, log, list, &items),
         },
     }
+}
+
+// The fresh list, and its spellings.
+fn fresh_parts<F, K: Key, V: VariableValue>(
+    alloc: Global,
+) -> Result<(Vec<Entry<F, K, V>>, Vec<Vec<u8>>), AllocError>
+    ensures list { IfOk result (λ parts. entry_views K.bytes V.bytes parts.0.items ≡ fresh) }
+    ensures items { IfOk result (λ parts. map (λ v. v.items) parts.1.items ≡ map spelling fresh) }
+{
+    let list = fresh_list(alloc)?;
+    let items = spell_all(alloc, &list)?;
+    Ok((list, items))
+}
+
+// The store that a log gave back.
+fn store_of<F: Family, C: Store, D: Digest, H: Hasher<Digest = D> + Drop>(
+    given: LogGiven<AuthLog<F, C, D, H>, C>,
+) -> C
+    ensures { result ≡ logs.store_given given }
+{
+    match given {
+        LogGiven::Log(log) => log.close(),
+        LogGiven::Store(store) => store,
+    }
+}
+
+// An empty log over an empty store.
+fn empty_log<F: Family, C: Store, D: Digest, H: Hasher<Digest = D> + Drop, X: Drop>(
+    alloc: Global,
+    store: C,
+    hasher: H,
+) -> Result<AuthLog<F, C, D, H>, Refusal<X, C>>
+    requires start { C.start store ≡ 0 }
+    requires empty { C.end store ≡ 0 }
+    ensures stands { IfOk result (λ log. IsListLog C.Store F.shape D.bytes H.hash log []) }
+    ensures kept { IfOk result (λ log. logs.IsKept C.Store store log.store) }
+    ensures later { IfOk result (λ log. C.faults store ≤ C.faults log.store) }
+    ensures back { IfErr result (λ r. (s : C) × (r.given ≡ Given.Store s) × logs.IsKept C.Store store s × IsCause (C.faults store) (C.faults s) (r.error ≡ Error.Journal JournalError.Store)) }
+    ensures causes { IfErr result (λ r. (r.error ≡ Error.Memory) ⊎ ((r.error ≡ Error.Journal JournalError.Store) ⊎ (r.error ≡ Error.DataCorrupted Corrupt.HeadDoesNotMatch))) }
+{
+    match AuthLog::open(alloc, store, hasher, 0) {
+        Ok(log) => {
+            // The tree is whole, so it has no pins.
+            log.tree().bounds();
+            Ok(log)
+        }
+        Err(refusal) => Err(Refusal {
+            given: Given::Store(store_of(refusal.given)),
+            error: refusal.error,
+        }),
+    }
+}
+
+// The database of a list whose spellings are put into an empty log.
+fn begun<F: Family, C: Store, D: Digest, H: Hasher<Digest = D> + Drop, K: Key, V: VariableValue>(
+    alloc: Global,
+    log: AuthLog<F, C, D, H>,
+    list: Vec<Entry<F, K, V>>,
+    items: &[Vec<u8>],
+) -> Result<Db<F, C, D, H, Unordered<K, V>>, Refusal<Db<F, C, D, H, Unordered<K, V>>, C>>
+    requires log { IsListLog C.Store F.shape D.bytes H.hash log [] }
+    requires end { C.end log.store ≡ 0 }
+    requires items { map (λ v. v.items) items.now ≡ map spelling (entry_views K.bytes V.bytes list.items) }
+    requires few { length list.items ≤ 2 ^ 62 }
+    ensures stands { IfOk result (λ db. IsDatabase C.Store F.shape D.bytes H.hash db (entry_views K.bytes V.bytes list.items)) }
+    ensures grown { IfOk result (λ db. Appended C.Store log.store db.log.store (map (λ v. v.items) items.now)) }
+    ensures later { IfOk result (λ db. C.faults log.store ≤ C.faults db.log.store) }
+    ensures part { IfErr result (λ r. AppendedPart C.Store log.store (store_given (λ db. db.log.store) r.given) (map (λ v. v.items) items.now)) }
+    ensures back { IfErr result (λ r. (x : Database C D) → r.given ≢ Given.Database x) }
+    ensures causes { IfErr result (λ r. (r.error ≡ Error.Memory) ⊎ (r.error ≡ Error.Journal JournalError.Store)) }
+    ensures cause { IfErr result (λ r. IsCause (C.faults log.store) (C.faults (store_given (λ db. db.log.store) r.given)) (r.error ≡ Error.Journal JournalError.Store)) }
+{
+    let mut log = log;
+    let parts = stood_for(alloc, &mut log, list, items);
+    let Ok((list, commitment)) = parts else {
+        return Err(Refusal {
+            given: Given::Store(log.close()),
+            error: Error::Memory,
+        });
+    };
+    match log.append_batch(alloc, items) {
+        Ok(log) => Ok(Db::of_parts(list, commitment, log)),
+        Err(refusal) => Err(Refusal {
+            given: Given::Store(store_of(refusal.given)),
+            error: refusal.error,
+        }),
+    }
+}
+
+// A list, shared, and what stands for it over an empty log.
+fn stood_for<
+    F: Family,
+    C: Store,
+    D: Digest,
+    H: Hasher<Digest = D> + Drop,
+    K: Key,
+    V: VariableValue,
+>(
+    alloc: Global,
+    log: &mut AuthLog<F, C, D, H>,
+    list: Vec<Entry<F, K, V>>,
+    items: &[Vec<u8>],
+) -> Result<(Rc<Vec<Entry<F, K, V>>>, Commitment<D>), AllocError>
+    requires log { IsListLog C.Store F.shape D.bytes H.hash log.old [] }
+    requires items { map (λ v. v.items) items.now ≡ map spelling (entry_views K.bytes V.bytes list.items) }
+    requires few { length list.items ≤ 2 ^ 62 }
+    ensures list { IfOk result (λ parts. parts.0.value ≡ list) }
+    ensures size { IfOk result (λ parts. parts.1.size ≡ length list.items) }
+    ensures commitment { IfOk result (λ parts. commitment_view D.bytes parts.1 ≡ list_commitment H.hash F.shape (entry_views K.bytes V.bytes list.items)) }
+    ensures same { log.new ≡ log.old }
+{
+    let commitment = commitment_over(alloc, log, &list, items)?;
+    let list = Rc::new(alloc, list)?;
+    Ok((list, commitment))
 }

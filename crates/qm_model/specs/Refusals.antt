@@ -1,7 +1,7 @@
 -- Why a database refuses, by its operation list alone.
-use Rattle.std.specs.Prelude.{ℕ, zero, suc, ◌-◌, ◌^◌, min, nat_lt, if◌then◌else◌, List, [], ◌∷◌, length, slice_get, Option, Some, None, option_map, option_and_then}
+use Rattle.std.specs.Prelude.{ℕ, zero, suc, ◌-◌, ◌^◌, min, nat_lt, if◌then◌else◌, List, [], ◌∷◌, length, map, slice_get, Option, Some, None, option_map, option_and_then}
 use Rattle.std.specs.Option.{option_or}
-use Rattle.qm_model.specs.Operations.{Operation, update, delete, commit, spelling}
+use Rattle.qm_model.specs.Operations.{Bytes, Operation, update, delete, commit, spelling}
 use Rattle.qm_model.specs.Batches.{Chain, own_operations}
 use Rattle.qm_model.specs.Lines.{Refused, HistoricalFloorPruned, DataCorrupted, Merkle, Journal, FloorExceedsCommit, RangeOutOfBounds, LocationOverflow, ItemTooLarge}
 
@@ -10,9 +10,9 @@ abbrev pub max_spelling : ℕ
 max_spelling = 65536
 
 -- how many bytes the first spelling has that is too long
-abbrev pub too_long : List Operation → Option ℕ
+abbrev pub too_long : List Bytes → Option ℕ
 too_long [] = None
-too_long (op ∷ ops) = if nat_lt max_spelling (length (spelling op)) then Some (length (spelling op)) else too_long ops
+too_long (spelt ∷ rest) = if nat_lt max_spelling (length spelt) then Some (length spelt) else too_long rest
 
 -- a list of too many operations
 abbrev pub too_many : ℕ → Option Refused
@@ -20,7 +20,7 @@ too_many size = if nat_lt (2 ^ 62) size then Some (Merkle (LocationOverflow size
 
 -- why a batch with this tip list is not merkleized: an own operation is too long, or the list is
 abbrev pub tip_refusal : Chain → List Operation → Option Refused
-tip_refusal chain tip = option_or (option_map (λ n. Journal (ItemTooLarge n)) (too_long (own_operations chain tip))) (too_many (length tip))
+tip_refusal chain tip = option_or (option_map (λ n. Journal (ItemTooLarge n)) (too_long (map spelling (own_operations chain tip)))) (too_many (length tip))
 
 -- the floor of a commit
 abbrev pub commit_floor : Operation → Option ℕ

@@ -76,7 +76,7 @@ impl<F: Family, C: Store, D: Digest, H: Hasher<Digest = D> + Drop> AuthLog<F, C,
         ensures back { IfErr result (λ r. (s : C) × (r.given ≡ LogGiven.Store s) × IsKept C.Store store s × IsCause (C.faults store) (C.faults s) (r.error ≡ Error.Journal JournalError.Store)) }
         ensures long { IfOk result (λ _. IfSome (C.head store) (λ h. length h ≡ length (trees.peaks F.shape (C.start store)) * D.SIZE)) }
         ensures head { IfErr result (λ r. r.error ≡ Error.DataCorrupted Corrupt.HeadDoesNotMatch → IfSome (C.head store) (λ h. length h ≢ length (trees.peaks F.shape (C.start store)) * D.SIZE)) }
-        ensures never { IfErr result (λ r. (n : ℕ) → r.error ≢ Error.Journal (JournalError.ItemPruned n)) }
+        ensures never { IfErr result (λ r. (r.error ≡ Error.Memory) ⊎ ((r.error ≡ Error.Journal JournalError.Store) ⊎ (r.error ≡ Error.DataCorrupted Corrupt.HeadDoesNotMatch))) }
         ensures later { IfOk result (λ log. C.faults store ≤ C.faults log.store) }
     {
         let mut store = store;
@@ -177,9 +177,7 @@ impl<F: Family, C: Store, D: Digest, H: Hasher<Digest = D> + Drop> AuthLog<F, C,
             → IfOk result (λ d. D.bytes d ≡ trees.root H.hash F.shape (digests_from H.hash F.shape 0 (list ++ map (λ v. v.items) items.now)) inactive) }
         ensures same { self.new ≡ self.old }
     {
-        let size = self.tree.leaves().get();
-        let digests = item_digests::<F, D, H>(alloc, &mut self.hasher, size, items)?;
-        grown_root(alloc, &self.tree, &mut self.hasher, &digests, inactive)
+        root_with_items(alloc, &self.tree, &mut self.hasher, items, inactive)
     }
 
     /// How many items the log has, with those before the start.
@@ -240,7 +238,7 @@ fn load<F: Family, C: Store, D: Digest, H: Hasher<Digest = D>>(
     ensures size { IfOk result (λ tree. tree.leaves ≡ size) }
     ensures long { IfOk result (λ _. IfSome (C.head store.old) (λ h. length h ≡ length (trees.peaks F.shape (C.start store.old)) * D.SIZE)) }
     ensures head { IfErr result (λ e. e ≡ Error.DataCorrupted Corrupt.HeadDoesNotMatch → IfSome (C.head store.old) (λ h. length h ≢ length (trees.peaks F.shape (C.start store.old)) * D.SIZE)) }
-    ensures never { IfErr result (λ e. (n : ℕ) → e ≢ Error.Journal (JournalError.ItemPruned n)) }
+    ensures never { IfErr result (λ e. (e ≡ Error.Memory) ⊎ ((e ≡ Error.Journal JournalError.Store) ⊎ (e ≡ Error.DataCorrupted Corrupt.HeadDoesNotMatch))) }
     ensures kept { IsKept C.Store store.old store.new }
     ensures cause { IsCause (C.faults store.old) (C.faults store.new) (IsErrOf result (Error.Journal JournalError.Store)) }
 {
@@ -260,7 +258,7 @@ fn pruned<F: Family, C: Store, D: Digest>(alloc: Global, store: &mut C) -> Resul
     ensures leaves { IfOk result (λ tree. tree.leaves ≡ C.start store.old) }
     ensures long { IfOk result (λ _. IfSome (C.head store.old) (λ h. length h ≡ length (trees.peaks F.shape (C.start store.old)) * D.SIZE)) }
     ensures head { IfErr result (λ e. e ≡ Error.DataCorrupted Corrupt.HeadDoesNotMatch → IfSome (C.head store.old) (λ h. length h ≢ length (trees.peaks F.shape (C.start store.old)) * D.SIZE)) }
-    ensures never { IfErr result (λ e. (n : ℕ) → e ≢ Error.Journal (JournalError.ItemPruned n)) }
+    ensures never { IfErr result (λ e. (e ≡ Error.Memory) ⊎ ((e ≡ Error.Journal JournalError.Store) ⊎ (e ≡ Error.DataCorrupted Corrupt.HeadDoesNotMatch))) }
     ensures kept { IsKept C.Store store.old store.new }
     ensures cause { IsCause (C.faults store.old) (C.faults store.new) (IsErrOf result (Error.Journal JournalError.Store)) }
 {
@@ -379,6 +377,24 @@ fn add_leaves<F: Family, D: Digest, H: Hasher<Digest = D>>(
     batch.add_leaf_digests(digests)?;
     let batch = batch.merkleize(alloc, tree, hasher)?;
     tree.apply_batch(&batch)
+}
+
+// The root of a tree with the leaves of items behind its own.
+fn root_with_items<F: Family, D: Digest, H: Hasher<Digest = D>>(
+    alloc: Global,
+    tree: &Mem<F, D>,
+    hasher: &mut StandardHasher<H>,
+    items: &[Vec<u8>],
+    inactive: usize,
+) -> Result<D, AllocError>
+    requires room { tree.now.leaves + length items.now ≤ 2 ^ 62 }
+    requires peaks { inactive ≤ length (trees.peaks F.shape (tree.now.leaves + length items.now)) }
+    ensures { (list : List (List ℕ)) → Stands F.shape D.bytes H.hash tree.now (digests_from H.hash F.shape 0 list)
+        → IfOk result (λ d. D.bytes d ≡ trees.root H.hash F.shape (digests_from H.hash F.shape 0 (list ++ map (λ v. v.items) items.now)) inactive) }
+{
+    let size = tree.leaves().get();
+    let digests = item_digests::<F, D, H>(alloc, hasher, size, items)?;
+    grown_root(alloc, tree, hasher, &digests, inactive)
 }
 
 // The root of a tree with these leaves behind its own.

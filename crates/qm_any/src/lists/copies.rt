@@ -26,7 +26,7 @@ pub(crate) fn twin_option<B: ByteString>(
     alloc: Global,
     value: Option<&B>,
 ) -> Result<Option<B>, AllocError>
-    ensures { IfOk result (λ copy. option_map B.bytes copy ≡ option_map (λ v. B.bytes v.now) value) }
+    ensures { IfOk result (λ copy. option_map B.bytes copy ≡ option_map (λ v. B.bytes v.now) value.entry) }
 {
     match value {
         None => Ok(None),

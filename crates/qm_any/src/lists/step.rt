@@ -11,8 +11,8 @@ use super::Entry;
 use super::live::{floor, live_count};
 use super::walk::{limits_of, moves, walk};
 use super::writes::{Write, append, written};
-use qm_base::{Key, Location, Operation, VariableValue};
 use crate::policy::Proportional;
+use qm_base::{Key, Location, Operation, VariableValue};
 use std::alloc::{AllocError, Global};
 
 /// How many operations a list has at most.

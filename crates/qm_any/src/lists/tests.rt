@@ -1,8 +1,8 @@
 //! Steps of a fresh list, spelled out.
 
 use super::{Entry, Write, fresh_list, spell_all, step, value_of};
-use qm_base::{ByteKey, ByteValue};
 use crate::policy::Proportional;
+use qm_base::{ByteKey, ByteValue};
 use std::alloc::{AllocError, Global};
 use std::test::Fail;
 

@@ -1,4 +1,4 @@
-use Rattle.std.proofs.Common.{◌≡◌, ◌+◌, [], ◌∷◌, ◌++◌, IfOk, ◌≤◌, ◌∙◌, ap, sym, subst, length}
+use Rattle.std.proofs.Common.{◌≡◌, [], ◌∷◌, ◌++◌, IfOk, ◌≤◌, ◌∙◌, ap, sym, subst, length}
 use Rattle.qm_model.specs.Trees.{root, peaks}
 use Rattle.qm_model.proofs.Chains.{Contains-first}
 use Rattle.qm_merkle.specs.Batches.{Draft, drafted, leaves_of}
