@@ -1,7 +1,7 @@
 -- Databases over logs: what an empty log stands for, and lists that begin with another.
-use Rattle.std.proofs.Common.{◌≡◌, ℕ, ◌≤◌, ◌+◌, ◌-◌, List, [], ◌∷◌, ◌++◌, length, map, take, drop, refl, sym, ◌∙◌, ap, ap₂, subst, arith, Option, Some, None, IfSome, append_assoc}
-use Rattle.std.specs.Prelude.{Result, Ok, Err, IfOk}
-use Rattle.std.proofs.lemmas.List.{nil_from_length, map-append, take-append-drop, length-map, length-drop}
+use Rattle.std.proofs.Common.{◌≡◌, ℕ, ◌≤◌, ◌+◌, ◌-◌, List, [], ◌∷◌, ◌++◌, length, map, take, drop, refl, sym, ◌∙◌, ap, ap₂, subst, arith, Option, Some, None, IfSome, append_assoc, ◌==◌, if◌then◌else◌, true, rules}
+use Rattle.std.specs.Prelude.{Result, Ok, Err, IfOk, IfErr}
+use Rattle.std.proofs.lemmas.List.{nil_from_length, map-append, take-append-drop, length-map, append-nil}
 use Rattle.qm_model.specs.Operations.{Bytes, Operation, spelling}
 use Rattle.qm_model.specs.Live.{floor}
 use Rattle.qm_model.specs.Trees.{Shape, peaks, leaves_from, root, ops_root, inactive_peaks}
@@ -11,12 +11,27 @@ use Rattle.qm_merkle.proofs.Standing.{peaks-none, stands-new}
 use Rattle.qm_store.specs.declared.Store as store
 use Rattle.qm_store.specs.Log.{Log, digests_from}
 use Rattle.qm_store.proofs.Leaves.{leaves-spelled}
-use Rattle.qm_any.specs.Databases.{IsListLog}
+use Rattle.std.proofs.Math.Seq.{take-append_seam}
+use Rattle.qm_model.specs.Causes.{Grows}
+use Rattle.qm_model.specs.Operations.{commit}
+use Rattle.qm_model.specs.Live.{live}
+use Rattle.qm_model.specs.Policies.{Policy, policies, limits_of}
+use Rattle.qm_model.specs.Walk.{walk}
+use Rattle.qm_model.specs.Writes.{Write, unordered_writes, made_inactive, operation_of}
+use Rattle.qm_any.specs.Databases.{IsListLog, stepped}
+use Rattle.qm_any.specs.Given.{AppendedPart}
+use Rattle.qm_any.specs.Tips.{own_spellings}
+use Rattle.qm_model.specs.Batches.{Commitment, same}
 
 -- what holds of all three
 pub three-ok : {X E : Type 0} (r : Result X E) {P Q R S : X → Type 0} → IfOk r P → IfOk r Q → IfOk r R → ((x : X) → P x → Q x → R x → S x) → IfOk r S
-three-ok (Ok x) p q s then = then x p q s
-three-ok (Err e) p q s then = tt
+three-ok (Ok x) p q s give = give x p q s
+three-ok (Err e) p q s give = tt
+
+-- what holds of an error, by what is known of it
+pub err-then : {X E : Type 0} (r : Result X E) {P Q : E → Type 0} → IfErr r P → ((e : E) → P e → Q e) → IfErr r Q
+err-then (Ok x) p give = tt
+err-then (Err e) p give = give e p
 
 -- a log of no items
 pub log-none : {C D : Type 0} (members : store.Ghosts C) (shape : Shape) (births : Births) → IsFamily shape births → HasPeaks shape → (bytes : D → Bytes) (hash : Bytes → Bytes) (log : Log C D)
@@ -46,5 +61,31 @@ root-spelled hash shape list ops inactive spelled is =
     ap₂ (root hash shape) (ap (digests_from hash shape 0) spelled ∙ sym (leaves-spelled hash shape 0 ops)) is
 
 -- as many spellings as operations
-pub spelled-count : {A : Type 0} (view : A → Operation) (ops : List A) (items : List Bytes) → items ≡ map spelling (map view ops) → length items ≡ length ops
-spelled-count view ops items are = ap length are ∙ length-map (map view ops) spelling ∙ length-map ops view
+pub spelled-count : {A B : Type 0} (view : A → Operation) (bytes : B → Bytes) (ops : List A) (items : List B) → map bytes items ≡ map spelling (map view ops) → length items ≡ length ops
+spelled-count view bytes ops items are = sym (length-map items bytes) ∙ ap length are ∙ length-map (map view ops) spelling ∙ length-map ops view
+
+-- the spellings behind a base, where the base is another view of a list as long
+pub own-spelled : {A : Type 0} (view : A → Operation) (base : List A) (tip : List Operation) (items : List Bytes) → items ≡ map spelling (drop (length base) tip) → items ≡ own_spellings (map view base) tip
+own-spelled view base tip items are = are ∙ ap (λ n. map spelling (drop n tip)) (sym (length-map base view))
+
+-- commitments that are the same have one size
+pub same-size : (a b : Commitment) → same a b ≡ true → a.size ≡ b.size
+same-size a b is = search rules
+
+-- a step's list begins with the one before it
+pub step-begins : (base : List Operation) (ws : List Write) (policy : Policy) (meta : Option Bytes) → take (length base) (stepped base ws policy meta) ≡ base
+step-begins base ws policy meta =
+    let made = unordered_writes base ws in
+    let w = walk policies (base ++ made) (floor base) (limits_of policy (made_inactive base made)) policy in
+    let moved = map operation_of w.decisions in
+    let all = (base ++ made) ++ moved in
+    let last = commit meta (if length (live all) == 0 then length all else w.floor) ∷ [] in
+    ap (take (length base)) (ap (λ l. l ++ last) (append_assoc base made moved) ∙ append_assoc base (made ++ moved) last) ∙ take-append_seam base ((made ++ moved) ++ last)
+
+-- nothing is a first part
+pub none-appended : {C : Type 0} (members : store.Ghosts C) (old new : C) (more : List Bytes) → new ≡ old → AppendedPart members old new more
+none-appended members old new more same = subst (λ s. AppendedPart members old s more) (sym same) (record { start = refl; items = (0, nothing (members.items old)) })
+  where
+    nothing : (o : Option (List Bytes)) → Grows o o []
+    nothing None = tt
+    nothing (Some xs) = ap (λ l. Some l) (sym (append-nil xs))

@@ -1,14 +1,14 @@
 //! Batches: writes that are recorded, and the list that they make.
 
-ghost use Rattle.std.specs.Prelude.{◌≡◌, ◌⊎◌, ◌≤◌, ◌<◌, ◌+◌, ◌^◌, ◌++◌, ◌∷◌, [], List, None, true, false, length, map, drop, option_map, IfOk, IfErr, OnOk};
+ghost use Rattle.std.specs.Prelude.{◌≡◌, ◌≢◌, ◌⊎◌, ◌≤◌, ◌<◌, ◌+◌, ◌^◌, ◌++◌, ◌∷◌, [], List, None, true, false, length, map, drop, option_map, bytes_eq, IfOk, IfErr, OnOk};
 ghost use Rattle.qm_model.specs.Batches.{same};
 ghost use Rattle.qm_model.specs.Live as lives;
 ghost use Rattle.qm_model.specs.Operations.{Operation, spelling};
 ghost use Rattle.qm_model.specs.Refusals.{too_long};
 ghost use Rattle.qm_model.specs.Writes.{write_of, last_writes};
-ghost use Rattle.qm_any.specs.Databases.{IsDatabase, IsBegunOn, LeadsTo, commitment_view, read_through, stepped};
+ghost use Rattle.qm_any.specs.Databases.{IsDatabase, IsListLog, IsBegunOn, LeadsTo, commitment_view, list_commitment, read_through, stepped};
 ghost use Rattle.qm_any.specs.ListViews.{entry_views, write_view, write_views, policy_view};
-ghost use Rattle.qm_any.specs.Tips.{IsTaken, IsRefused, IsTooLong};
+ghost use Rattle.qm_any.specs.Tips.{own_spellings, IsTaken, IsRefused, IsTooLong};
 
 use crate::db::{Db, is_same};
 use crate::lists::{Entry, Write, floor, spell_all, step, twin_list, twin_option, value_of};
@@ -143,20 +143,11 @@ impl<F: Family, D: Digest, K: Key, V: VariableValue> UnmerkleizedBatch<F, D, Uno
             commitment,
             writes,
         } = self;
-        if !is_same(db.commitment(), &commitment) {
-            return Err(Error::StaleBatch);
+        if is_same(db.commitment(), &commitment) {
+            made_on(alloc, db, &base, commitment, writes, policy, metadata)
+        } else {
+            Err(Error::StaleBatch)
         }
-        let tip = tip_of(alloc, &base, writes, policy, metadata)?;
-        let items = spell_own(alloc, &tip, base.len())?;
-        refuse(&items, tip.len())?;
-        let made = db.commitment_with(alloc, &tip, &items)?;
-        let tip = Rc::new(alloc, tip)?;
-        let batch = MerkleizedBatch {
-            base: commitment,
-            tip,
-            made,
-        };
-        Ok(Rc::new(alloc, batch)?)
     }
 }
 
@@ -209,6 +200,81 @@ impl<F: Family, D: Digest, K: Key, V: VariableValue> MerkleizedBatch<F, D, Unord
     }
 }
 
+// The merkleized batch of writes to the database's list.
+fn made_on<F: Family, C: Store, D: Digest, H: Hasher<Digest = D> + Drop, K: Key, V: VariableValue>(
+    alloc: Global,
+    db: &mut Db<F, C, D, H, Unordered<K, V>>,
+    base: &[Entry<F, K, V>],
+    commitment: Commitment<D>,
+    writes: Vec<Write<K, V>>,
+    policy: &Proportional,
+    metadata: Option<V>,
+) -> Result<Rc<MerkleizedBatch<F, D, Unordered<K, V>>>, Error>
+    requires size { commitment.size ≡ length base.now }
+    requires level { length db.old.list ≡ length base.now }
+    ensures made { IsDatabase C.Store F.shape D.bytes H.hash db.old (entry_views K.bytes V.bytes base.now) → commitment_view D.bytes commitment ≡ list_commitment H.hash F.shape (entry_views K.bytes V.bytes base.now)
+        → IfOk result (λ b. LeadsTo H.hash F.shape b.value (entry_views K.bytes V.bytes base.now) (stepped (entry_views K.bytes V.bytes base.now) (write_views K.bytes V.bytes writes.items) (policy_view policy.now) (option_map V.bytes metadata))) }
+    ensures taken { IfOk result (λ _. IsTaken (entry_views K.bytes V.bytes base.now) (stepped (entry_views K.bytes V.bytes base.now) (write_views K.bytes V.bytes writes.items) (policy_view policy.now) (option_map V.bytes metadata))) }
+    ensures refused { IfErr result (λ e. IsRefused (entry_views K.bytes V.bytes base.now) (stepped (entry_views K.bytes V.bytes base.now) (write_views K.bytes V.bytes writes.items) (policy_view policy.now) (option_map V.bytes metadata)) e) }
+    ensures never { IfErr result (λ e. e ≢ Error.StaleBatch) }
+    ensures same { db.new ≡ db.old }
+{
+    match made_list(alloc, base, writes, policy, metadata) {
+        Ok((tip, items)) => match sealed(alloc, db, commitment, tip, &items) {
+            Ok(batch) => Ok(batch),
+            Err(_) => Err(Error::Memory),
+        },
+        Err(error) => Err(error),
+    }
+}
+
+// The list that writes make of a base, and the spellings of what it has behind that.
+fn made_list<F, K: Key, V: VariableValue>(
+    alloc: Global,
+    base: &[Entry<F, K, V>],
+    writes: Vec<Write<K, V>>,
+    policy: &Proportional,
+    metadata: Option<V>,
+) -> Result<(Vec<Entry<F, K, V>>, Vec<Vec<u8>>), Error>
+    ensures list { IfOk result (λ made. entry_views K.bytes V.bytes made.0.items ≡ stepped (entry_views K.bytes V.bytes base.now) (write_views K.bytes V.bytes writes.items) (policy_view policy.now) (option_map V.bytes metadata)) }
+    ensures items { IfOk result (λ made. map (λ v. v.items) made.1.items ≡ own_spellings (entry_views K.bytes V.bytes base.now) (entry_views K.bytes V.bytes made.0.items)) }
+    ensures count { IfOk result (λ made. length base.now + length made.1.items ≡ length made.0.items) }
+    ensures few { IfOk result (λ made. length made.0.items ≤ 2 ^ 62) }
+    ensures taken { IfOk result (λ made. IsTaken (entry_views K.bytes V.bytes base.now) (entry_views K.bytes V.bytes made.0.items)) }
+    ensures refused { IfErr result (λ e. IsRefused (entry_views K.bytes V.bytes base.now) (stepped (entry_views K.bytes V.bytes base.now) (write_views K.bytes V.bytes writes.items) (policy_view policy.now) (option_map V.bytes metadata)) e) }
+    ensures never { IfErr result (λ e. e ≢ Error.StaleBatch) }
+{
+    let tip = tip_of(alloc, base, writes, policy, metadata)?;
+    let items = spell_own(alloc, &tip, base.len())?;
+    match refuse(&items, tip.len()) {
+        Ok(()) => Ok((tip, items)),
+        Err(error) => Err(error),
+    }
+}
+
+// The merkleized batch from a base to a list that has these spellings behind the database's.
+fn sealed<F: Family, C: Store, D: Digest, H: Hasher<Digest = D> + Drop, K: Key, V: VariableValue>(
+    alloc: Global,
+    db: &mut Db<F, C, D, H, Unordered<K, V>>,
+    base: Commitment<D>,
+    tip: Vec<Entry<F, K, V>>,
+    items: &[Vec<u8>],
+) -> Result<Rc<MerkleizedBatch<F, D, Unordered<K, V>>>, AllocError>
+    requires room { length db.old.list + length items.now ≡ length tip.items }
+    requires few { length tip.items ≤ 2 ^ 62 }
+    requires size { base.size ≤ length tip.items }
+    ensures base { IfOk result (λ b. b.value.base ≡ commitment_view D.bytes base) }
+    ensures tip { IfOk result (λ b. b.value.tip ≡ entry_views K.bytes V.bytes tip.items) }
+    ensures made { (list : List Operation) → IsListLog C.Store F.shape D.bytes H.hash db.old.log list → map spelling list ++ map (λ v. v.items) items.now ≡ map spelling (entry_views K.bytes V.bytes tip.items)
+        → IfOk result (λ b. b.value.made ≡ list_commitment H.hash F.shape (entry_views K.bytes V.bytes tip.items)) }
+    ensures same { db.new ≡ db.old }
+{
+    let made = db.commitment_with(alloc, &tip, items)?;
+    let tip = Rc::new(alloc, tip)?;
+    let batch = Rc::new(alloc, MerkleizedBatch { base, tip, made })?;
+    Ok(batch)
+}
+
 // The list after a step of the base.
 fn tip_of<F, K: Key, V: VariableValue>(
     alloc: Global,
@@ -217,7 +283,8 @@ fn tip_of<F, K: Key, V: VariableValue>(
     policy: &Proportional,
     metadata: Option<V>,
 ) -> Result<Vec<Entry<F, K, V>>, AllocError>
-    ensures { IfOk result (λ tip. entry_views K.bytes V.bytes tip.items ≡ stepped (entry_views K.bytes V.bytes base.now) (write_views K.bytes V.bytes writes.items) (policy_view policy.now) (option_map V.bytes metadata)) }
+    ensures list { IfOk result (λ tip. entry_views K.bytes V.bytes tip.items ≡ stepped (entry_views K.bytes V.bytes base.now) (write_views K.bytes V.bytes writes.items) (policy_view policy.now) (option_map V.bytes metadata)) }
+    ensures count { IfOk result (λ tip. length base.now ≤ length tip.items) }
 {
     let list = twin_list(alloc, base)?;
     step(alloc, list, writes, policy, metadata)
@@ -230,7 +297,8 @@ fn spell_own<F, K: Key, V: VariableValue>(
     from: usize,
 ) -> Result<Vec<Vec<u8>>, AllocError>
     requires { from ≤ length operations.now }
-    ensures { IfOk result (λ items. map (λ v. v.items) items.items ≡ map spelling (drop from (entry_views K.bytes V.bytes operations.now))) }
+    ensures items { IfOk result (λ items. map (λ v. v.items) items.items ≡ map spelling (drop from (entry_views K.bytes V.bytes operations.now))) }
+    ensures count { IfOk result (λ items. from + length items.items ≡ length operations.now) }
 {
     let (_, own) = operations.split_at(from);
     spell_all(alloc, own)
@@ -253,6 +321,13 @@ fn refuse(items: &[Vec<u8>], size: usize) -> Result<(), Error>
     Ok(())
 }
 
+// Whether the write is to the key.
+fn is_to<K: Key, V: VariableValue>(write: &Write<K, V>, key: &K) -> bool
+    ensures { result ≡ bytes_eq (write_view K.bytes V.bytes write.now).key (K.bytes key.now) }
+{
+    write.key.as_bytes() == key.as_bytes()
+}
+
 // The last write of a key.
 fn last_write<'a, K: Key, V: VariableValue>(
     writes: &'a [Write<K, V>],
@@ -262,7 +337,7 @@ fn last_write<'a, K: Key, V: VariableValue>(
 {
     let mut found = None;
     for write in writes {
-        if write.key.as_bytes() == key.as_bytes() {
+        if is_to(write, key) {
             found = Some(write);
         }
     }

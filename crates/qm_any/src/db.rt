@@ -262,7 +262,8 @@ impl<F: Family, C: Store, D: Digest, H: Hasher<Digest = D> + Drop, K: Key, V: Va
 
     // Size and root of the list.
     pub(crate) fn commitment(&self) -> &Commitment<D>
-        ensures { commitment_view D.bytes result.now ≡ self.now.commitment }
+        ensures value { commitment_view D.bytes result.now ≡ self.now.commitment }
+        ensures size { result.now.size ≡ length self.now.list }
     {
         &self.commitment
     }

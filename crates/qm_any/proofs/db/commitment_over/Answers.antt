@@ -1,4 +1,4 @@
-use Rattle.std.proofs.Common.{◌≡◌, ◌++◌, map, length, ap, ap₂, sym, ◌∙◌, subst, IfOk}
+use Rattle.std.proofs.Common.{◌≡◌, ℕ, ◌++◌, map, length, ap, ap₂, sym, ◌∙◌, subst, IfOk}
 use Rattle.std.proofs.lemmas.List.{length-map}
 use Rattle.qm_model.specs.Operations.{Bytes, spelling}
 use Rattle.qm_model.specs.Live.{floor}
@@ -15,5 +15,5 @@ returns-clause-value g c = λ list is spelled.
     let ops = entry_views g.K.ByteString.bytes g.V.ByteString.bytes c.args.operations.now in
     let count : length c.args.operations.now ≡ length ops = sym (length-map c.args.operations.now view) in
     let value = c.in_ok-root.ensures.value (map spelling list) is in
-    let inactive = c.inactive_peaks-inactive.ensures ∙ ap₂ (inactive_peaks shape) (c.new.ensures ∙ c.len-size.ensures ∙ count) (c.new-2.ensures ∙ c.floor.ensures) in
+    let inactive = c.inactive_peaks-inactive.ensures ∙ ap₂ (inactive_peaks shape) (c.new.ensures ∙ count) (c.new-2.ensures ∙ c.floor.ensures) in
     ap₂ (λ (n : ℕ) (r : Bytes). record { size = n; root = r }) count (value ∙ root-spelled hash shape (map spelling list ++ map (λ v. v.items) c.args.items.now) ops c.inactive_peaks-inactive.result spelled inactive)
