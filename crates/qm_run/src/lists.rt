@@ -2,13 +2,14 @@
 
 mod copies;
 mod live;
+mod marks;
 mod root;
 mod step;
 mod walk;
 mod writes;
 
 pub(crate) use copies::{fresh_list, last_metadata, listed, spell_all, twin_list, twin_metadata};
-pub(crate) use live::{floor, live_count, value_of};
+pub(crate) use live::{floor, has_live, value_of};
 use qm_base::Operation;
 use qm_base::update::Unordered;
 pub(crate) use root::root_over;
