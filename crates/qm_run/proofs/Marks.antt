@@ -1,5 +1,5 @@
 -- Live updates as flags, and live keys by what touched them last.
-use Rattle.std.proofs.lemmas.List.{drop_more, take-append-drop, map-append, reverse-append}
+use Rattle.std.proofs.lemmas.List.{drop_more, drop-map, take-append-drop, map-append, reverse-append}
 use Rattle.std.proofs.lemmas.List.Sums.{sum_by-cons}
 use Rattle.std.proofs.Common.{reverse, ◌++◌, take, ap₂, subst, add-one, ◌≡◌, ℕ, zero, suc, ◌<◌, ◌≤◌, ◌+◌, Bool, true, false, cond, List, [], ◌∷◌, Option, Some, None, refl, ap, sym, ◌∙◌, length, drop, map, get_or, count_by, arith, ◌||◌, Bor}
 use Rattle.std.specs.Prelude.{is_some, is_none, not, option_map, fold, if◌then◌else◌, bytes_eq}
@@ -12,6 +12,7 @@ use Rattle.std.proofs.lemmas.Map.Text.{btree_map_updates_str}
 use Rattle.qm_model.specs.Operations as model
 use Rattle.qm_model.specs.Operations.{Bytes, Operation}
 use Rattle.qm_model.specs.Live.{Live, live_at, live_from, touches, touched, live, live_of, value_of}
+use Rattle.qm_model.specs.Writes.{create_of, operation_of}
 use Rattle.qm_model.proofs.Maps.{same_key, set_by, after, value_of-append, fold-untouched}
 use Rattle.qm_run.specs.Marks.{is_live_at, live_flags, given, standing, said, IsStanding}
 
@@ -131,6 +132,10 @@ standing-live key ops = sym (standing-fold key None ops) ∙ sym (ap is_some (va
     some None = refl
     some (Some e) = refl
 
+-- and where the noted keys say so
+pub live-said : (keys : BTreeMap (Bor Bytes) Bool) (ops : List Operation) → IsStanding keys ops → (key : Bytes) → unwrap_or (said keys key) false ≡ is_some (live_of (live ops) key)
+live-said keys ops known key = ap (λ o. unwrap_or o false) (known key) ∙ standing-live key ops
+
 -- a key that nothing touches has no value
 pub value-untouched : (key : Bytes) (ops : List Operation) → touched key ops ≡ false → None ≡ value_of ops key
 value-untouched key ops h = sym (value_of-append [] ops key ∙ fold-untouched key None ops h)
@@ -141,11 +146,41 @@ value-touched key before op rest here later =
     given-set op ∙ sym (value_of-append before (op ∷ rest) key ∙ fold-untouched key (after key (value_of before key) op) rest later
     ∙ ap (λ t. if t then set_by op else value_of before key) here)
 
+-- what a write creates: nothing where it is a delete, nor where its key is live
+module _ (entries : List Live) (key : Bytes) {V : Type 0} (view : V → Bytes) (value : Option V) where
+  pub create-deleted : is_some value ≡ false → None ≡ create_of entries (record { key = key; value = option_map view value })
+  create-deleted h = by (is_some (live_of entries key)) value h
+    where
+      by : (b : Bool) (o : Option V) → is_some o ≡ false → None ≡ (if b then None else option_map (λ v. model.update key v None) (option_map view o))
+      by true o h = refl
+      by false None h = refl
+      by false (Some v) h = cc
+
+  pub create-live : is_some (live_of entries key) ≡ true → None ≡ create_of entries (record { key = key; value = option_map view value })
+  create-live h = sym (ap (λ b. if b then None else option_map (λ v. model.update key v None) (option_map view value)) h)
+
+  pub create-new : (op : Operation) → is_some value ≡ true → is_some (live_of entries key) ≡ false → op ≡ operation_of (record { key = key; value = option_map view value }) →
+      Some op ≡ create_of entries (record { key = key; value = option_map view value })
+  create-new op given_one dead is = ap (λ o. Some o) is ∙ by value given_one ∙ sym (ap (λ b. if b then None else option_map (λ v. model.update key v None) (option_map view value)) dead)
+    where
+      by : (o : Option V) → is_some o ≡ true → Some (operation_of (record { key = key; value = option_map view o })) ≡ option_map (λ v. model.update key v None) (option_map view o)
+      by None h = cc
+      by (Some v) h = refl
+
 module _ {A : Type 0} (f : A → Operation) where
   -- a flag for each operation
   pub length-flags : (xs : List A) → length (live_flags (map f xs)) ≡ length xs
   length-flags [] = refl
   length-flags (x ∷ xs) = ap suc (length-flags xs)
+
+  module _ (xs : List A) (flags : List Bool) (n : ℕ) (are : flags ≡ live_flags (map f xs)) where
+    -- as many flags are set as keys are live
+    pub counted : n ≡ count_by (λ flag. flag) flags → n ≡ length (live (map f xs))
+    counted is = is ∙ ap (count_by (λ flag. flag)) are ∙ sym (length-live 0 (map f xs))
+
+    -- and no more than there are operations
+    pub counted-bound : n ≤ length flags → n ≤ length xs
+    counted-bound within = subst (λ m. n ≤ m) (ap length are ∙ length-flags xs) within
 
   flag-place : (xs : List A) (i : ℕ) (d : A) (b : Bool) → i < length xs → get_or (live_flags (map f xs)) i b ≡ is_live_at (f (get_or xs i d)) (map f (drop (suc i) xs))
   flag-place [] i d b l = absurd (omega (arith, l))
@@ -153,9 +188,9 @@ module _ {A : Type 0} (f : A → Operation) where
   flag-place (x ∷ xs) (suc i) d b l = flag-place xs i d b (omega (arith, l))
 
   -- the flag at place i
-  pub flag-at : (xs : List A) (i : ℕ) (d : A) (flags : List Bool) (b : Bool) → i < length xs → d ≡ get_or xs i d → flags ≡ live_flags (map f xs) → b ≡ get_or flags i b → b ≡ is_live_at (f d) (map f (drop (i + 1) xs))
-  flag-at xs i d flags b l here are is =
-      is ∙ ap (λ fs. get_or fs i b) are ∙ flag-place xs i d b l
+  pub flag-at : (xs : List A) (i : ℕ) (d : A) (flags : List Bool) (b : Bool) → i < length xs → d ≡ get_or xs i d → flags ≡ live_flags (map f xs) → get_or flags i b ≡ is_live_at (f d) (map f (drop (i + 1) xs))
+  flag-at xs i d flags b l here are =
+      ap (λ fs. get_or fs i b) are ∙ flag-place xs i d b l
       ∙ ap₂ (λ z n. is_live_at (f z) (map f (drop n xs))) (sym here) (sym (add-one i))
 
   module _ (xs : List A) (i end : ℕ) (d : A) (l : i < length xs) (next : end ≡ i + 1) (here : d ≡ get_or xs i d) where
@@ -201,3 +236,10 @@ module _ {A : Type 0} (f : A → Operation) where
         by None es false h = omega arith
         by (Some e) es true h = omega arith
         by (Some e) es false h = cc
+
+    -- some key is live where the operation at i is a live update
+    pub live-here : (b : Bool) → b ≡ is_live_at (f d) (map f (drop end xs)) → b ≡ true → 0 < length (live (map f xs))
+    live-here b is set =
+        let one : length (live_from i (map f (drop i xs))) ≡ length (live_from end (map f (drop end xs))) + 1 = live-more b is ∙ ap (λ c. length (live_from end (map f (drop end xs))) + (if c then 1 else 0)) set in
+        let all : length (live_from i (map f (drop i xs))) ≤ length (live (map f xs)) = subst (λ ops. length (live_from i ops) ≤ length (live (map f xs))) (drop-map f i xs) (live-behind 0 i i (map f xs)) in
+        omega (arith, one, all)

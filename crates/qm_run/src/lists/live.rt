@@ -102,8 +102,9 @@ fn value_at<'a, F, K: Key, V: VariableValue>(
     ensures { option_map (λ v. V.bytes v.now) result ≡ model.value_of (entry_views K.bytes V.bytes operations.now) key.now }
 {
     for at in (0..operations.len()).rev() {
-        if touches(&operations[at], key) {
-            return given(&operations[at]);
+        let operation = &operations[at];
+        if touches(operation, key) {
+            return given(operation);
         }
     }
     None

@@ -77,7 +77,9 @@ fn walked_after<F, K: Key, V: VariableValue>(
 {
     let marks = marks_of(alloc, operations)?;
     let inactive = active.saturating_sub(marks.count()) as u64;
-    walk(alloc, operations, &marks.flags, floor, limits_of(policy, inactive), policy)
+    let limits = limits_of(policy, inactive);
+    let walked = walk(alloc, operations, &marks.flags, floor, limits, policy)?;
+    Ok(walked)
 }
 
 /// The list after a step: the writes, the moves that the policy decides from the floor on, and a commit.

@@ -85,7 +85,10 @@ fn create_of<F, K: Key, V: VariableValue>(
     ensures { IfOk result (λ made. (ops : List operations.Operation) → IsStanding marks.now.keys ops
         → option_map (entry_view K.bytes V.bytes) made ≡ model.create_of (live ops) (write_view K.bytes V.bytes write.now)) }
 {
-    if write.value.is_none() || marks.is_live(write.key.as_bytes()) {
+    if write.value.is_none() {
+        return Ok(None);
+    }
+    if marks.is_live(write.key.as_bytes()) {
         return Ok(None);
     }
     let create = operation_of(alloc, write)?;

@@ -1,0 +1,16 @@
+use Rattle.std.proofs.Common.{ap, ◌∙◌, ◌-◌, length}
+use Rattle.qm_model.specs.Live.{live}
+use Rattle.qm_model.specs.Policies.{policies, limits_of}
+use Rattle.qm_model.specs.Walk.{walk}
+use Rattle.qm_lines.specs.Views.{policy_view}
+use Rattle.qm_run.specs.ListViews.{entry_view, entry_views}
+use Rattle.qm_run.proofs.Marks.{counted}
+use Rattle.qm_run.proofs.lists.step.walked_after.Goals as goal
+
+pub returns : goal.returns
+returns g c =
+    let ops = entry_views g.K.ByteString.bytes g.V.ByteString.bytes c.args.operations.now in
+    let policy = policy_view c.args.policy.now in
+    c.in_ok-walked.ensures ∙ ap (λ limits. walk policies ops c.args.floor limits policy)
+    (c.limits_of.ensures ∙ ap (λ n. limits_of policy (c.args.active - n))
+    (counted (entry_view g.K.ByteString.bytes g.V.ByteString.bytes) c.args.operations.now c.in_ok-marks.marks.flags.items c.count.result c.in_ok-marks.ensures.flags c.count.ensures.count))
