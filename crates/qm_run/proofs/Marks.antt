@@ -219,9 +219,6 @@ module _ {A : Type 0} (f : A → Operation) where
         value-touched key (map f (take i xs)) (f d) (map f (drop end xs)) (sym is ∙ here_touched) later
         ∙ ap (λ ops. value_of ops key) (ap (λ ops. map f (take i xs) ++ ops) drop-here ∙ sym (map-append f (take i xs) (drop i xs)) ∙ ap (map f) (take-append-drop i xs))
 
-
-
-
     -- the live updates from place i on are one more than those behind it, where there is one at i
     pub live-more : (b : Bool) → b ≡ is_live_at (f d) (map f (drop end xs)) → length (live_from i (map f (drop i xs))) ≡ length (live_from end (map f (drop end xs))) + (if b then 1 else 0)
     live-more b is =

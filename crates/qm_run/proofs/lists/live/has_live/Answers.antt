@@ -14,5 +14,5 @@ returns-then-is_live_at g c =
     let within : at < length xs = omega (arith, c.loop-at-test.true, c.loop-at.auto.at) in
     let next : c.loop-at.at ≡ at + 1 = omega (arith, c.loop-at-test.true) in
     let some : 0 < length (live (map view xs)) = live-here view xs at c.loop-at.at c.index-operations-at.result within next c.index-operations-at.is c.is_live_at.result
-        (c.is_live_at.ensures ∙ ap (λ zs. is_live_at (view c.index-operations-at.result) (map view zs)) (take_rest xs (at + 1) ∙ ap (λ n. drop n xs) (sym next))) c.if-is_live_at.true in
+    (c.is_live_at.ensures ∙ ap (λ zs. is_live_at (view c.index-operations-at.result) (map view zs)) (take_rest xs (at + 1) ∙ ap (λ n. drop n xs) (sym next))) c.if-is_live_at.true in
     grind (arith, some)

@@ -12,5 +12,5 @@ returns g c =
     let ops = entry_views g.K.ByteString.bytes g.V.ByteString.bytes c.args.operations.now in
     let policy = policy_view c.args.policy.now in
     c.in_ok-walked.ensures ∙ ap (λ limits. walk policies ops c.args.floor limits policy)
-    (c.limits_of.ensures ∙ ap (λ n. limits_of policy (c.args.active - n))
-    (counted (entry_view g.K.ByteString.bytes g.V.ByteString.bytes) c.args.operations.now c.in_ok-marks.marks.flags.items c.count.result c.in_ok-marks.ensures.flags c.count.ensures.count))
+    (c.limits_of-limits.ensures ∙ ap (limits_of policy) (c.saturating_sub-inactive.ensures ∙ ap (λ n. c.args.active - n)
+    (counted (entry_view g.K.ByteString.bytes g.V.ByteString.bytes) c.args.operations.now c.in_ok-marks.marks.flags.items c.count.result c.in_ok-marks.ensures.flags c.count.ensures.count)))
