@@ -1,10 +1,9 @@
 -- Steps of loops over operation lists.
-use Rattle.std.proofs.Common.{◌≡◌, ℕ, ◌<◌, ◌+◌, ◌-◌, List, [], ◌∷◌, ◌++◌, Option, Some, None, ap, sym, ◌∙◌, ap₂, length, take, drop, map, get_or, add-one, arith}
-use Rattle.std.specs.Prelude.{option_map, is_some, if◌then◌else◌}
+use Rattle.std.proofs.Common.{◌≡◌, ℕ, ◌<◌, ◌+◌, List, [], ◌∷◌, ◌++◌, ap, sym, ◌∙◌, ap₂, length, take, drop, map, get_or, add-one}
 use Rattle.std.specs.List.{cons_option}
-use Rattle.std.proofs.lemmas.List.{drop_more, take_rest, map_more, map-append}
+use Rattle.std.proofs.lemmas.List.{drop_more, map_more, map-append}
 use Rattle.qm_model.specs.Operations.{Operation}
-use Rattle.qm_model.specs.Live.{Live, live_at, live_from}
+use Rattle.qm_model.specs.Live.{live_at, live_from}
 
 -- the live updates from place i on: the one at i, if it is one, and the later ones
 pub live_from-more : {A : Type 0} (f : A → Operation) (xs : List A) (i : ℕ) (d : A) → i < length xs → d ≡ get_or xs i d →

@@ -1,7 +1,7 @@
 -- Steps of a loop that walks.
-use Rattle.std.proofs.Common.{◌≡◌, ℕ, suc, ◌<◌, ◌+◌, ◌-◌, Bool, true, false, List, Option, ap, sym, ◌∙◌, length, take, drop, map, get_or, add-one, append-nil}
+use Rattle.std.proofs.Common.{◌≡◌, ℕ, suc, ◌<◌, ◌+◌, Bool, true, false, List, Option, ap, sym, ◌∙◌, length, drop, map, get_or, add-one, append-nil}
 use Rattle.std.specs.Prelude.{if◌then◌else◌}
-use Rattle.std.proofs.lemmas.List.{drop_more, take_rest}
+use Rattle.std.proofs.lemmas.List.{drop_more}
 use Rattle.qm_model.specs.Operations.{Operation}
 use Rattle.qm_model.specs.Live.{Live, live_at}
 use Rattle.qm_model.specs.Writes.{Write}

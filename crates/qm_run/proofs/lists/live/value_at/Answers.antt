@@ -1,4 +1,4 @@
-use Rattle.std.proofs.Common.{◌≡◌, ◌-◌, ◌+◌, ◌<◌, ap, sym, ◌∙◌, subst, arith, drop, length, false}
+use Rattle.std.proofs.Common.{◌≡◌, ◌-◌, ◌+◌, ◌<◌, ◌∙◌, subst, arith, drop, length, false}
 use Rattle.qm_model.specs.Live.{touched}
 use Rattle.qm_run.specs.ListViews.{entry_view, entry_views}
 use Rattle.qm_run.proofs.Marks.{value-here, value-untouched}

@@ -1,4 +1,4 @@
-use Rattle.std.proofs.Common.{◌≡◌, ◌-◌, ◌+◌, suc, ap, sym, ◌∙◌, subst, arith, drop, reverse, map, length, ◌<◌}
+use Rattle.std.proofs.Common.{◌≡◌, ◌-◌, ◌+◌, ap, ◌∙◌, subst, arith, drop, reverse, map, length, ◌<◌}
 use Rattle.std.proofs.lemmas.List.{reverse-reverse}
 use Rattle.qm_run.specs.ListViews.{entry_view, entry_views}
 use Rattle.qm_run.specs.Marks.{live_flags, IsStanding}

@@ -1,5 +1,4 @@
-use Rattle.std.proofs.Common.{ap, ◌∙◌, ◌-◌, length}
-use Rattle.qm_model.specs.Live.{live}
+use Rattle.std.proofs.Common.{ap, ◌∙◌, ◌-◌}
 use Rattle.qm_model.specs.Policies.{policies, limits_of}
 use Rattle.qm_model.specs.Walk.{walk}
 use Rattle.qm_lines.specs.Views.{policy_view}
