@@ -1,32 +1,18 @@
 -- Steps of loops over operation lists.
-use Rattle.std.proofs.Common.{◌≡◌, ℕ, ◌<◌, ◌+◌, ◌-◌, List, [], ◌∷◌, ◌++◌, Option, Some, None, ap, sym, ◌∙◌, ap₂, length, take, drop, map, get_or, add-one, arith}
-use Rattle.std.specs.Prelude.{option_map, is_some, if◌then◌else◌}
+use Rattle.std.proofs.Common.{◌≡◌, ℕ, ◌<◌, ◌+◌, List, [], ◌∷◌, ◌++◌, ap, sym, ◌∙◌, ap₂, length, take, drop, map, get_or, add-one}
 use Rattle.std.specs.List.{cons_option}
-use Rattle.std.proofs.lemmas.List.{drop_more, take_rest, map_more, map-append}
+use Rattle.std.proofs.lemmas.List.{drop_more, map_more, map-append}
 use Rattle.qm_model.specs.Operations.{Operation}
-use Rattle.qm_model.specs.Live.{Live, live_at, live_from}
+use Rattle.qm_model.specs.Live.{live_at, live_from}
 
 -- the live updates from place i on: the one at i, if it is one, and the later ones
 pub live_from-more : {A : Type 0} (f : A → Operation) (xs : List A) (i : ℕ) (d : A) → i < length xs → d ≡ get_or xs i d →
-    live_from i (map f (drop i xs)) ≡ cons_option (live_at i (f d) (map f (take (length xs - (i + 1)) (drop (i + 1) xs)))) (live_from (i + 1) (map f (drop (i + 1) xs)))
+    live_from i (map f (drop i xs)) ≡ cons_option (live_at i (f d) (map f (drop (i + 1) xs))) (live_from (i + 1) (map f (drop (i + 1) xs)))
 live_from-more f xs i d l here =
     let later = map f (drop (i + 1) xs) in
     ap (λ z. live_from i (map f z)) (drop_more xs i d l)
     ∙ ap (λ n. cons_option (live_at i (f (get_or xs i d)) later) (live_from n later)) (sym (add-one i))
     ∙ ap (λ z. cons_option (live_at i (f z) later) (live_from (i + 1) later)) (sym here)
-    ∙ ap (λ z. cons_option (live_at i (f d) (map f z)) (live_from (i + 1) later)) (sym (take_rest xs (i + 1)))
-
--- how the live update at place i adds to the count
-pub length-live_from-more : {A X : Type 0} (f : A → Operation) (view : X → Live) (xs : List A) (i : ℕ) (d : A) (o : Option X) → i < length xs → d ≡ get_or xs i d →
-    option_map view o ≡ live_at i (f d) (map f (take (length xs - (i + 1)) (drop (i + 1) xs))) →
-    length (live_from i (map f (drop i xs))) ≡ length (live_from (i + 1) (map f (drop (i + 1) xs))) + (if is_some o then 1 else 0)
-length-live_from-more f view xs i d o l here at =
-    let later = live_from (i + 1) (map f (drop (i + 1) xs)) in
-    ap length (live_from-more f xs i d l here) ∙ ap (λ z. length (cons_option z later)) (sym at) ∙ by o later
-  where
-    by : (o : Option _) (later : List Live) → length (cons_option (option_map view o) later) ≡ length later + (if is_some o then 1 else 0)
-    by None later = omega arith
-    by (Some x) later = omega arith
 
 -- one more element of a list that shows what h makes of another's
 pub mapped-more : {A B X Y : Type 0} (h : B → Y) (f : A → B) (view : X → Y) (xs : List A) (i : ℕ) (d : A) (made made' : List X) (x : X) → i < length xs → d ≡ get_or xs i d →

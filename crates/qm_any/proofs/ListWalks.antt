@@ -1,7 +1,7 @@
 -- Steps of a loop that walks.
-use Rattle.std.proofs.Common.{◌≡◌, ℕ, suc, ◌<◌, ◌+◌, ◌-◌, Bool, true, false, List, Option, ap, sym, ◌∙◌, length, take, drop, map, get_or, add-one, append-nil}
+use Rattle.std.proofs.Common.{◌≡◌, ℕ, suc, ◌<◌, ◌+◌, Bool, true, false, List, Option, ap, sym, ◌∙◌, length, drop, map, get_or, add-one, append-nil}
 use Rattle.std.specs.Prelude.{if◌then◌else◌}
-use Rattle.std.proofs.lemmas.List.{drop_more, take_rest}
+use Rattle.std.proofs.lemmas.List.{drop_more}
 use Rattle.qm_model.specs.Operations.{Operation}
 use Rattle.qm_model.specs.Live.{Live, live_at}
 use Rattle.qm_model.specs.Writes.{Write}
@@ -15,15 +15,14 @@ module _ {A P : Type 0} (rules : Rules P) (f : A → Operation) (xs : List A) (p
 
   -- it visits the operation at i, before the rest
   left-more : (i : ℕ) (d : A) (e s : ℕ) → i < length xs → d ≡ get_or xs i d →
-      left i i e s p ≡ visited rules (left (i + 1)) i e s p (live_at i (f d) (map f (take (length xs - (i + 1)) (drop (i + 1) xs))))
+      left i i e s p ≡ visited rules (left (i + 1)) i e s p (live_at i (f d) (map f (drop (i + 1) xs)))
   left-more i d e s l here =
       ap (λ zs. walk_from rules (map f zs) i e s p) (drop_more xs i d l)
       ∙ ap (λ z. visited rules (left (i + 1)) i e s p (live_at i (f z) (map f (drop (i + 1) xs)))) (sym here)
-      ∙ ap (λ zs. visited rules (left (i + 1)) i e s p (live_at i (f d) (map f zs))) (sym (take_rest xs (i + 1)))
 
   -- a visit to the operation at i, before which these were decided
   visit-left : (i : ℕ) (d : A) (e s : ℕ) (before : List Write) (o : Option Live) (now all : Walked P) → i < length xs → d ≡ get_or xs i d →
-      o ≡ live_at i (f d) (map f (take (length xs - (i + 1)) (drop (i + 1) xs))) → resumed before (visited rules (left (i + 1)) i e s p o) ≡ now →
+      o ≡ live_at i (f d) (map f (drop (i + 1) xs)) → resumed before (visited rules (left (i + 1)) i e s p o) ≡ now →
       resumed before (left i i e s p) ≡ all → now ≡ all
   visit-left i d e s before o now all l here at visit so_far =
       sym visit
@@ -33,7 +32,7 @@ module _ {A P : Type 0} (rules : Rules P) (f : A → Operation) (xs : List A) (p
 
   -- it leads on
   pub onward-left : (i : ℕ) (d : A) (e s e' s' : ℕ) (before after : List Write) (o : Option Live) (goes_on : Bool) (all : Walked P) → goes_on ≡ true → i < length xs → d ≡ get_or xs i d →
-      o ≡ live_at i (f d) (map f (take (length xs - (i + 1)) (drop (i + 1) xs))) →
+      o ≡ live_at i (f d) (map f (drop (i + 1) xs)) →
       resumed before (visited rules (left (i + 1)) i e s p o) ≡ resumed after (if goes_on then left (i + 1) (suc i) e' s' p else ended i p) →
       resumed before (left i i e s p) ≡ all → resumed after (left (i + 1) (i + 1) e' s' p) ≡ all
   onward-left i d e s e' s' before after o goes_on all goes l here at visit so_far =
@@ -43,7 +42,7 @@ module _ {A P : Type 0} (rules : Rules P) (f : A → Operation) (xs : List A) (p
 
   -- it ends the walk
   pub ended-left : (i : ℕ) (d : A) (e s e' s' : ℕ) (before after : List Write) (o : Option Live) (goes_on : Bool) (all : Walked P) → goes_on ≡ false → i < length xs → d ≡ get_or xs i d →
-      o ≡ live_at i (f d) (map f (take (length xs - (i + 1)) (drop (i + 1) xs))) →
+      o ≡ live_at i (f d) (map f (drop (i + 1) xs)) →
       resumed before (visited rules (left (i + 1)) i e s p o) ≡ resumed after (if goes_on then left (i + 1) (suc i) e' s' p else ended i p) →
       resumed before (left i i e s p) ≡ all → record { floor = i; decisions = after; policy = p } ≡ all
   ended-left i d e s e' s' before after o goes_on all ends l here at visit so_far =

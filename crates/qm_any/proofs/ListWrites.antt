@@ -1,5 +1,5 @@
 -- Steps of loops that collect the operations of writes.
-use Rattle.std.proofs.Common.{◌≡◌, ℕ, ◌<◌, ◌+◌, ◌-◌, List, [], ◌∷◌, ◌++◌, Option, Some, None, refl, ap, sym, ◌∙◌, append_assoc, length, take, drop, set, map, suc, get_or, add-one}
+use Rattle.std.proofs.Common.{◌≡◌, ℕ, ◌<◌, ◌+◌, List, [], ◌∷◌, ◌++◌, Option, Some, None, refl, ap, sym, ◌∙◌, append_assoc, length, take, drop, set, map, suc, get_or, add-one}
 use Rattle.std.specs.Prelude.{option_to_list, option_map, filter_map, option_and_then}
 use Rattle.std.specs.List.{cons_option}
 use Rattle.std.proofs.lemmas.List.{set_split, map-append, drop_more}
@@ -39,10 +39,10 @@ collects-more h f view xs i d made made' r all l here pushed is_r so_far =
 -- over the live updates
 pub collects-live : {A X Y : Type 0} (h : Live → Option Y) (f : A → Operation) (view : X → Y) (xs : List A) (i : ℕ) (d : A) (made made' : List X) (r : Option X) (all : List Y) →
     i < length xs → d ≡ get_or xs i d → map view made' ≡ map view made ++ option_to_list (option_map view r) →
-    option_map view r ≡ option_and_then h (live_at i (f d) (map f (take (length xs - (i + 1)) (drop (i + 1) xs)))) →
+    option_map view r ≡ option_and_then h (live_at i (f d) (map f (drop (i + 1) xs))) →
     map view made ++ filter_map h (live_from i (map f (drop i xs))) ≡ all → map view made' ++ filter_map h (live_from (i + 1) (map f (drop (i + 1) xs))) ≡ all
 collects-live h f view xs i d made made' r all l here pushed is_r so_far =
-    collects h view (live_at i (f d) (map f (take (length xs - (i + 1)) (drop (i + 1) xs)))) (live_from (i + 1) (map f (drop (i + 1) xs))) (live_from i (map f (drop i xs))) made made' r all
+    collects h view (live_at i (f d) (map f (drop (i + 1) xs))) (live_from (i + 1) (map f (drop (i + 1) xs))) (live_from i (map f (drop i xs))) made made' r all
     (live_from-more f xs i d l here) pushed is_r so_far
 
 -- an element put over the one at its place

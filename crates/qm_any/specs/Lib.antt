@@ -1,4 +1,5 @@
 pub mod Given
 pub mod ListViews
+pub mod Marks
 pub mod Databases
 pub mod Tips

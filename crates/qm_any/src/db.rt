@@ -1,6 +1,6 @@
 //! The database.
 
-ghost use Rattle.std.specs.Prelude.{◌≡◌, ◌⊎◌, ◌≤◌, ◌+◌, ◌^◌, ◌++◌, ◌==◌, [], List, true, false, length, map, drop, option_map, if◌then◌else◌, IfOk, IfErr, OnOk};
+ghost use Rattle.std.specs.Prelude.{◌≡◌, ◌⊎◌, ◌≤◌, ◌+◌, ◌^◌, ◌++◌, [], List, nat_lt, true, false, length, map, drop, option_map, if◌then◌else◌, IfOk, IfErr, OnOk};
 ghost use Rattle.qm_model.specs.Batches.{same};
 ghost use Rattle.qm_model.specs.Causes.{IsCause};
 ghost use Rattle.qm_model.specs.Live as lives;
@@ -11,7 +11,7 @@ ghost use Rattle.qm_any.specs.Given.{Appended, AppendedPart, store_given};
 ghost use Rattle.qm_any.specs.ListViews.{entry_views};
 
 use crate::batch::{MerkleizedBatch, UnmerkleizedBatch};
-use crate::lists::{Entry, floor, last_metadata, live_count, spell_all, twin_option, value_of};
+use crate::lists::{Entry, floor, has_live, last_metadata, spell_all, twin_option, value_of};
 use crate::refusal::{Given, Refusal};
 use qm_base::update::{Unordered, Update};
 use qm_base::{
@@ -248,9 +248,9 @@ impl<F: Family, C: Store, D: Digest, H: Hasher<Digest = D> + Drop, K: Key, V: Va
 
     /// Whether no key is live.
     pub fn is_empty(&self) -> bool
-        ensures { result ≡ (length (lives.live self.now.list) == 0) }
+        ensures { result ≡ (if nat_lt 0 (length (lives.live self.now.list)) then false else true) }
     {
-        live_count(&self.list) == 0
+        !has_live(&self.list)
     }
 
     /// With how many workers the database was opened.

@@ -2,12 +2,13 @@
 
 mod copies;
 mod live;
+mod marks;
 mod step;
 mod walk;
 mod writes;
 
 pub(crate) use copies::{fresh_list, last_metadata, spell_all, twin_list, twin_option};
-pub(crate) use live::{floor, live_count, value_of};
+pub(crate) use live::{floor, has_live, value_of};
 use qm_base::Operation;
 use qm_base::update::Unordered;
 pub(crate) use step::step;

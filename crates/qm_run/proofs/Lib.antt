@@ -1,6 +1,7 @@
 pub mod Tables
 pub mod Commands
 pub mod Loops
+pub mod Marks
 pub mod ListSteps
 pub mod ListWalks
 pub mod ListWrites

@@ -4,6 +4,7 @@ pub mod Turn
 pub mod Session
 pub mod Runs
 pub mod ListViews
+pub mod Marks
 pub mod LogViews
 pub mod Program
 pub mod Endings

@@ -16,7 +16,7 @@ ghost use Rattle.qm_run.specs.LogViews.{Database, IsDatabase, IsListLog, commitm
 
 use crate::engine::{BatchSizes, Engine, Given, Numbers, Refusal};
 use crate::lists::{
-    Entry, Write, floor, fresh_list, last_metadata, listed, live_count, root_over, spell_all, step,
+    Entry, Write, floor, fresh_list, has_live, last_metadata, listed, root_over, spell_all, step,
     twin_list, twin_metadata, value_of,
 };
 use qm_base::{
@@ -357,7 +357,7 @@ impl<C: Store> Engine<C> for LogDb<C> {
             size: self.list.len() as u64,
             floor,
             boundary: floor,
-            is_live: live_count(&self.list) > 0,
+            is_live: has_live(&self.list),
         }
     }
 

@@ -1,11 +1,14 @@
 //! What an operation list stands for: its live updates, its floor and its values.
 
-ghost use Rattle.std.specs.Prelude.{◌≡◌, ◌≤◌, ℕ, length, option_map, is_some};
+ghost use Rattle.std.specs.Prelude.{◌≡◌, ◌≤◌, ℕ, length, nat_lt, option_map, IfOk};
 ghost use Rattle.qm_model.specs.Live as model;
-ghost use Rattle.qm_any.specs.ListViews.{entry_view, entry_views, live_view};
+ghost use Rattle.qm_any.specs.ListViews.{entry_view, entry_views};
+ghost use Rattle.qm_any.specs.Marks as marks;
 
 use super::Entry;
+use super::marks::marks_of;
 use qm_base::{Key, Operation, VariableValue};
+use std::alloc::{AllocError, Global};
 
 // Whether the operation updates or deletes the key.
 fn touches<F, K: Key, V: VariableValue>(operation: &Entry<F, K, V>, key: &[u8]) -> bool
@@ -15,6 +18,16 @@ fn touches<F, K: Key, V: VariableValue>(operation: &Entry<F, K, V>, key: &[u8]) 
         Operation::Update(update) => update.0.as_bytes() == key,
         Operation::Delete(deleted) => deleted.as_bytes() == key,
         Operation::CommitFloor(_, _) => false,
+    }
+}
+
+// The value that an operation gives its key.
+fn given<F, K: Key, V: VariableValue>(operation: &Entry<F, K, V>) -> Option<&V>
+    ensures { option_map (λ v. V.bytes v.now) result ≡ marks.given (entry_view K.bytes V.bytes operation.now) }
+{
+    match operation {
+        Operation::Update(update) => Some(&update.1),
+        _ => None,
     }
 }
 
@@ -30,38 +43,42 @@ fn is_touched<F, K: Key, V: VariableValue>(operations: &[Entry<F, K, V>], key: &
     false
 }
 
-/// Key and value of an operation that is a live update before the rest of the list.
-pub(crate) fn live_at<'a, F, K: Key, V: VariableValue>(
-    operation: &'a Entry<F, K, V>,
+// Whether the operation is a live update before the rest of a list.
+fn is_live_at<F, K: Key, V: VariableValue>(
+    operation: &Entry<F, K, V>,
     rest: &[Entry<F, K, V>],
-) -> Option<(&'a K, &'a V)>
-    ensures { (at : ℕ) → option_map (λ p. live_view K.bytes V.bytes at p.0.now p.1.now) result
-        ≡ model.live_at at (entry_view K.bytes V.bytes operation.now) (entry_views K.bytes V.bytes rest.now) }
+) -> bool
+    ensures { result ≡ marks.is_live_at (entry_view K.bytes V.bytes operation.now) (entry_views K.bytes V.bytes rest.now) }
 {
     match operation {
-        Operation::Update(update) => {
-            if is_touched(rest, update.0.as_bytes()) {
-                None
-            } else {
-                Some((&update.0, &update.1))
-            }
-        }
-        _ => None,
+        Operation::Update(update) => !is_touched(rest, update.0.as_bytes()),
+        _ => false,
     }
 }
 
-/// How many keys are live.
-pub(crate) fn live_count<F, K: Key, V: VariableValue>(operations: &[Entry<F, K, V>]) -> usize
-    ensures count { result ≡ length (model.live (entry_views K.bytes V.bytes operations.now)) }
-    ensures bound { result ≤ length operations.now }
+/// Whether any key is live. It takes no memory, and looks no further than the last live update. Where no key is
+/// live, it compares the keys of the list in pairs.
+pub(crate) fn has_live<F, K: Key, V: VariableValue>(operations: &[Entry<F, K, V>]) -> bool
+    ensures { result ≡ nat_lt 0 (length (model.live (entry_views K.bytes V.bytes operations.now))) }
 {
-    let mut count = 0;
-    for (at, operation) in operations.iter().enumerate() {
-        if live_at(operation, &operations[at + 1..]).is_some() {
-            count += 1;
+    for at in (0..operations.len()).rev() {
+        if is_live_at(&operations[at], &operations[at + 1..]) {
+            return true;
         }
     }
-    count
+    false
+}
+
+/// How many keys are live. Want of memory is the only error.
+pub(crate) fn live_count<F, K: Key, V: VariableValue>(
+    alloc: Global,
+    operations: &[Entry<F, K, V>],
+) -> Result<usize, AllocError>
+    ensures count { IfOk result (λ count. count ≡ length (model.live (entry_views K.bytes V.bytes operations.now))) }
+    ensures bound { IfOk result (λ count. count ≤ length operations.now) }
+{
+    let marks = marks_of(alloc, operations)?;
+    Ok(marks.count())
 }
 
 /// The floor of a list.
@@ -77,18 +94,17 @@ pub(crate) fn floor<F, K: Key, V: VariableValue>(operations: &[Entry<F, K, V>]) 
     floor
 }
 
-// The value of the key, where it is live.
+// The value of the key, where it is live: the last operation that touches it decides.
 fn value_at<'a, F, K: Key, V: VariableValue>(
     operations: &'a [Entry<F, K, V>],
     key: &[u8],
 ) -> Option<&'a V>
     ensures { option_map (λ v. V.bytes v.now) result ≡ model.value_of (entry_views K.bytes V.bytes operations.now) key.now }
 {
-    for (at, operation) in operations.iter().enumerate() {
-        if let Some((k, value)) = live_at(operation, &operations[at + 1..]) {
-            if k.as_bytes() == key {
-                return Some(value);
-            }
+    for at in (0..operations.len()).rev() {
+        let operation = &operations[at];
+        if touches(operation, key) {
+            return given(operation);
         }
     }
     None

@@ -6,13 +6,14 @@ ghost use Rattle.qm_model.specs.Writes as model;
 ghost use Rattle.qm_model.specs.Policies.{Policy, policies};
 ghost use Rattle.qm_model.specs.Policies as rules;
 ghost use Rattle.qm_any.specs.ListViews.{policy_view};
+ghost use Rattle.qm_any.specs.Marks.{live_flags};
 ghost use Rattle.qm_any.specs.ListViews.{entry_views, live_view, write_view, write_views, action_view, limits_view, walked_view, decision_of, resumed};
 
 use super::Entry;
-use super::live::live_at;
+use super::marks::live_entry;
 use super::writes::{Write, operation_of};
-use crate::policy::Proportional;
 use qm_base::{Key, Twin, VariableValue};
+use crate::policy::Proportional;
 use std::alloc::{AllocError, Global};
 
 /// What a policy says of a live update: write it with this value, stop before it, or evict its key.
@@ -127,14 +128,17 @@ impl<K: Key, V: VariableValue> Walking<K, V> {
     }
 }
 
-/// Walks from the floor on, at most to the end of the list. It stays where it is past that end.
+/// Walks from the floor on, at most to the end of the list. It stays where it is past that end. The flags say which
+/// operations are live updates.
 pub(crate) fn walk<F, K: Key, V: VariableValue>(
     alloc: Global,
     operations: &[Entry<F, K, V>],
+    flags: &[bool],
     floor: u64,
     limits: Limits,
     policy: &Proportional,
 ) -> Result<Walked<K, V>, AllocError>
+    requires { flags.now ≡ live_flags (entry_views K.bytes V.bytes operations.now) }
     ensures { IfOk result (λ walked. walked_view K.bytes V.bytes (policy_view policy.now) walked
         ≡ walks.walk policies (entry_views K.bytes V.bytes operations.now) floor (limits_view limits) (policy_view policy.now)) }
 {
@@ -144,7 +148,7 @@ pub(crate) fn walk<F, K: Key, V: VariableValue>(
         decisions: Vec::new(alloc),
     };
     for at in floor as usize..operations.len() {
-        let live = live_at(&operations[at], &operations[at + 1..]);
+        let live = live_entry(&operations[at], flags[at]);
         if !walking.visit(alloc, policy, live)? {
             return Ok(Walked {
                 floor: at as u64,

@@ -1,12 +1,14 @@
 //! What writes append to a list: the writes to live keys by location, then the creates by key.
 
-ghost use Rattle.std.specs.Prelude.{◌≡◌, ◌++◌, ◌+◌, ◌-◌, ◌≤◌, ℕ, length, IfOk, OnOk, option_map, option_and_then, option_to_list, is_some, filter_map};
-ghost use Rattle.qm_model.specs.Live.{live, live_at, live_of};
+ghost use Rattle.std.specs.Prelude.{◌≡◌, ◌++◌, ◌+◌, ◌-◌, ◌≤◌, ℕ, List, length, IfOk, OnOk, option_map, option_and_then, option_to_list, is_some, filter_map};
+ghost use Rattle.qm_model.specs.Live.{live, live_at};
+ghost use Rattle.qm_model.specs.Operations as operations;
 ghost use Rattle.qm_model.specs.Writes as model;
+ghost use Rattle.qm_any.specs.Marks.{is_live_at, live_flags, IsStanding};
 ghost use Rattle.qm_any.specs.ListViews.{entry_view, entry_views, write_view, write_views};
 
 use super::Entry;
-use super::live::{live_at, live_count, value_of};
+use super::marks::{Marks, live_entry};
 use qm_base::update::Unordered;
 use qm_base::{ByteString, Key, Operation, VariableValue};
 use std::alloc::{AllocError, Global};
@@ -51,18 +53,18 @@ pub(crate) fn operation_of<F, K: Key, V: VariableValue>(
     }
 }
 
-// What the writes do to an operation, where it is a live update before the rest of the list.
+// What the writes do to an operation, where it is a live update.
 fn rewrite_of<F, K: Key, V: VariableValue>(
     alloc: Global,
     operation: &Entry<F, K, V>,
-    rest: &[Entry<F, K, V>],
+    is_live: bool,
     writes: &[Write<K, V>],
 ) -> Result<Option<Entry<F, K, V>>, AllocError>
-    ensures { IfOk result (λ made. (at : ℕ) → option_map (entry_view K.bytes V.bytes) made
-        ≡ option_and_then (model.rewrite_of (write_views K.bytes V.bytes writes.now))
-        (live_at at (entry_view K.bytes V.bytes operation.now) (entry_views K.bytes V.bytes rest.now))) }
+    ensures { IfOk result (λ made. (at : ℕ) (rest : List operations.Operation) → is_live ≡ is_live_at (entry_view K.bytes V.bytes operation.now) rest
+        → option_map (entry_view K.bytes V.bytes) made
+        ≡ option_and_then (model.rewrite_of (write_views K.bytes V.bytes writes.now)) (live_at at (entry_view K.bytes V.bytes operation.now) rest)) }
 {
-    match live_at(operation, rest) {
+    match live_entry(operation, is_live) {
         Some((key, _)) => match write_of(writes, key.as_bytes()) {
             Some(write) => {
                 let rewrite = operation_of(alloc, write)?;
@@ -74,23 +76,19 @@ fn rewrite_of<F, K: Key, V: VariableValue>(
     }
 }
 
-// Whether the key is live.
-fn is_live<F, K: Key, V: VariableValue>(operations: &[Entry<F, K, V>], key: &K) -> bool
-    ensures { result ≡ is_some (live_of (live (entry_views K.bytes V.bytes operations.now)) (K.bytes key.now)) }
-{
-    value_of(operations, key).is_some()
-}
-
-// What a write creates.
+// What a write creates, where its key is not live.
 fn create_of<F, K: Key, V: VariableValue>(
     alloc: Global,
-    operations: &[Entry<F, K, V>],
+    marks: &Marks,
     write: &Write<K, V>,
 ) -> Result<Option<Entry<F, K, V>>, AllocError>
-    ensures { IfOk result (λ made. option_map (entry_view K.bytes V.bytes) made
-        ≡ model.create_of (live (entry_views K.bytes V.bytes operations.now)) (write_view K.bytes V.bytes write.now)) }
+    ensures { IfOk result (λ made. (ops : List operations.Operation) → IsStanding marks.now.keys ops
+        → option_map (entry_view K.bytes V.bytes) made ≡ model.create_of (live ops) (write_view K.bytes V.bytes write.now)) }
 {
-    if write.value.is_none() || is_live(operations, &write.key) {
+    if write.value.is_none() {
+        return Ok(None);
+    }
+    if marks.is_live(write.key.as_bytes()) {
         return Ok(None);
     }
     let create = operation_of(alloc, write)?;
@@ -115,14 +113,16 @@ fn push_some<F, K: Key, V: VariableValue>(
 fn rewrites<F, K: Key, V: VariableValue>(
     alloc: Global,
     operations: &[Entry<F, K, V>],
+    flags: &[bool],
     writes: &[Write<K, V>],
 ) -> Result<Vec<Entry<F, K, V>>, AllocError>
+    requires { flags.now ≡ live_flags (entry_views K.bytes V.bytes operations.now) }
     ensures { IfOk result (λ made. entry_views K.bytes V.bytes made.items
         ≡ filter_map (model.rewrite_of (write_views K.bytes V.bytes writes.now)) (live (entry_views K.bytes V.bytes operations.now))) }
 {
     let mut made = Vec::new(alloc);
     for (at, operation) in operations.iter().enumerate() {
-        let rewrite = rewrite_of(alloc, operation, &operations[at + 1..], writes)?;
+        let rewrite = rewrite_of(alloc, operation, flags[at], writes)?;
         push_some(&mut made, rewrite)?;
     }
     Ok(made)
@@ -131,15 +131,15 @@ fn rewrites<F, K: Key, V: VariableValue>(
 // What the writes create, in their order.
 fn creates<F, K: Key, V: VariableValue>(
     alloc: Global,
-    operations: &[Entry<F, K, V>],
+    marks: &Marks,
     writes: &[Write<K, V>],
 ) -> Result<Vec<Entry<F, K, V>>, AllocError>
-    ensures { IfOk result (λ made. entry_views K.bytes V.bytes made.items
-        ≡ filter_map (model.create_of (live (entry_views K.bytes V.bytes operations.now))) (write_views K.bytes V.bytes writes.now)) }
+    ensures { IfOk result (λ made. (ops : List operations.Operation) → IsStanding marks.now.keys ops
+        → entry_views K.bytes V.bytes made.items ≡ filter_map (model.create_of (live ops)) (write_views K.bytes V.bytes writes.now)) }
 {
     let mut made = Vec::new(alloc);
     for write in writes {
-        let create = create_of(alloc, operations, write)?;
+        let create = create_of(alloc, marks, write)?;
         push_some(&mut made, create)?;
     }
     Ok(made)
@@ -197,18 +197,21 @@ pub(crate) fn append<F, K: Key, V: VariableValue>(
     Ok(())
 }
 
-/// The operations that the writes append.
+/// The operations that the writes append to a list with these marks.
 pub(crate) fn written<F, K: Key, V: VariableValue>(
     alloc: Global,
     operations: &[Entry<F, K, V>],
+    marks: &Marks,
     writes: Vec<Write<K, V>>,
 ) -> Result<Vec<Entry<F, K, V>>, AllocError>
+    requires flags { marks.now.flags.items ≡ live_flags (entry_views K.bytes V.bytes operations.now) }
+    requires keys { IsStanding marks.now.keys (entry_views K.bytes V.bytes operations.now) }
     ensures { IfOk result (λ made. entry_views K.bytes V.bytes made.items
         ≡ model.unordered_writes (entry_views K.bytes V.bytes operations.now) (write_views K.bytes V.bytes writes.items)) }
 {
     let last = last_writes(alloc, writes)?;
-    let mut made = rewrites(alloc, operations, &last)?;
-    let more = creates(alloc, operations, &last)?;
+    let mut made = rewrites(alloc, operations, &marks.flags, &last)?;
+    let more = creates(alloc, marks, &last)?;
     append(&mut made, more)?;
     Ok(made)
 }

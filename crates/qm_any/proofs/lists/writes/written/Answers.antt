@@ -11,7 +11,7 @@ returns g c =
     let value = g.V.ByteString.bytes in
     let entries = live (entry_views key value c.args.operations.now) in
     c.in_ok-append.ensures.views
-    ∙ ap₂ (λ a b. a ++ b) c.in_ok-made.ensures c.in_ok-more.ensures
+    ∙ ap₂ (λ a b. a ++ b) c.in_ok-made.ensures (c.in_ok-more.ensures (entry_views key value c.args.operations.now) c.requires.keys)
     ∙ ap₂ (λ a b. filter_map (rewrite_of a) entries ++ filter_map (create_of entries) b)
-    (ap (write_views key value) c.deref.ensures.value ∙ c.in_ok-last.ensures)
     (ap (write_views key value) c.deref-2.ensures.value ∙ c.in_ok-last.ensures)
+    (ap (write_views key value) c.deref-3.ensures.value ∙ c.in_ok-last.ensures)
