@@ -14,8 +14,8 @@ use super::live::{floor, live_count};
 use super::marks::marks_of;
 use super::walk::{Walked, limits_of, moves, walk};
 use super::writes::{Write, append, written};
-use qm_base::{Key, Location, Operation, VariableValue};
 use crate::policy::Proportional;
+use qm_base::{Key, Location, Operation, VariableValue};
 use std::alloc::{AllocError, Global};
 
 // Adds a commit: its floor is the one given, or its own location where nothing is live.

@@ -31,7 +31,7 @@ fn after(alloc: Global, is_put: bool) -> Result<Vec<Entry<(), ByteKey, ByteValue
     let mut writes = Vec::new(alloc);
     writes.push(Write { key, value })?;
     let list = fresh_list(alloc)?;
-    step(alloc, list, writes, &Proportional::Proportional, None)
+    step(alloc, list, writes, &Proportional, None)
 }
 
 #[test]

@@ -12,8 +12,8 @@ ghost use Rattle.qm_any.specs.ListViews.{entry_views, live_view, write_view, wri
 use super::Entry;
 use super::marks::live_entry;
 use super::writes::{Write, operation_of};
-use qm_base::{Key, Twin, VariableValue};
 use crate::policy::Proportional;
+use qm_base::{Key, Twin, VariableValue};
 use std::alloc::{AllocError, Global};
 
 /// What a policy says of a live update: write it with this value, stop before it, or evict its key.
