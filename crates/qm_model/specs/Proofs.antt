@@ -18,6 +18,18 @@ start_of node = node.index * 2 ^ node.height
 abbrev pub meets : ℕ → ℕ → Node → Bool
 meets a b node = nat_lt (max a (start_of node)) (min b (end_of node))
 
+-- the nodes that a proof of leaves a up to b lists of a node: itself, if it has none of them; else those of the halves, and none of a leaf
+abbrev pub needed : ℕ → ℕ → ℕ → ℕ → List Node
+needed a b zero index = if meets a b (leaf index) then [] else leaf index ∷ []
+needed a b (suc h) index =
+    let halves = needed a b h (2 * index) ++ needed a b h (2 * index + 1) in
+    let node : Node = record { height = suc h; index = index } in
+    if meets a b node then halves else node ∷ []
+
+-- the nodes that a proof of leaves a up to b lists of a tree of n leaves, in the order of the tree
+abbrev pub needed_of : Shape → ℕ → ℕ → ℕ → List Node
+needed_of shape n a b = flat_map (λ p. needed a b p.height p.index) (peaks shape n)
+
 -- a digest, and those behind it
 abbrev pub Taken : Type 0
 Taken = Option (Bytes × List Bytes)
