@@ -1,6 +1,8 @@
 -- Proofs of the program, and the nodes that they are made from.
-use Rattle.std.specs.Prelude.{◌≡◌, ◌≤◌, ℕ, List, [], ◌∷◌, length, map, find, Option, IfSome, is_none}
+use Rattle.std.specs.Prelude.{◌≡◌, ◌⊎◌, ◌≤◌, ℕ, List, length, map, find, Option, Some, IfSome, is_none}
 use Rattle.std.specs.Option.{option_or}
+use Rattle.qm_base.specs.declared.error.MerkleError.{MerkleError}
+use Rattle.qm_base.specs.declared.error.MerkleError.TheVariants.{Memory, ElementPruned}
 use Rattle.qm_model.specs.Operations.{Bytes}
 use Rattle.qm_model.specs.Trees.{Shape, Node, digest_of}
 use Rattle.qm_model.specs.Proofs as model
@@ -20,6 +22,10 @@ needed_positions shape n a b = map shape.position (needed_of shape n a b)
 -- the first position with no digest
 abbrev pub first_lacked : {D : Type 0} → (ℕ → Option D) → List ℕ → Option ℕ
 first_lacked at positions = find (λ p. is_none (at p)) positions
+
+-- the error names the first position with no digest, if it is not want of memory
+abbrev pub Lacks : {D : Type 0} → (ℕ → Option D) → List ℕ → MerkleError → Type 0
+Lacks at positions error = (error ≡ Memory) ⊎ ((p : ℕ) × (first_lacked at positions ≡ Some p) × (error ≡ ElementPruned p))
 
 -- the digests at positions are those of the nodes over the list
 abbrev pub Tells : {D : Type 0} → Shape → (D → Bytes) → (Bytes → Bytes) → (ℕ → Option D) → List Bytes → Type 0

@@ -138,16 +138,15 @@ impl crate::family::Family for Family {
         let leaves = leaves.get();
         let mut left = number;
         let mut height = 63;
-        'places: while height > 0 {
+        'places: loop {
             height -= 1;
             if has_peak(leaves, height) {
                 if left == 0 {
-                    break;
+                    return Node::new(height, (leaves >> height) - 1);
                 }
                 left -= 1;
             }
         }
-        Node::new(height, (leaves >> height) - 1)
     }
 
     fn nodes_to_pin(

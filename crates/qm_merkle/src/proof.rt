@@ -1,9 +1,9 @@
 //! Proofs that elements stand at locations of a tree.
 
-ghost use Rattle.std.specs.Prelude.{◌≡◌, ◌⊎◌, ◌≤◌, ◌<◌, ◌^◌, ◌+◌, ℕ, List, Option, Some, IfOk, IfErr, OnOk, length, map, take};
+ghost use Rattle.std.specs.Prelude.{◌≡◌, ◌≤◌, ◌^◌, ℕ, List, Option, Some, None, IfOk, IfErr, OnOk, length, map, take};
 ghost use Rattle.qm_model.specs.Trees as trees;
 ghost use Rattle.qm_model.specs.Proofs.{proof_of, verdict};
-ghost use Rattle.qm_merkle.specs.Proofs.{proof_view, needed_positions, first_lacked, Tells, over_at};
+ghost use Rattle.qm_merkle.specs.Proofs.{proof_view, needed_positions, first_lacked, Lacks, Tells, over_at};
 
 use crate::batch::MerkleizedBatch;
 use crate::family::Family;
@@ -86,7 +86,7 @@ impl<D: Digest> Proof<D> {
         ensures digests { IfOk result (λ p. map Some p.digests.items ≡ map (N.node_at nodes.now) (needed_positions F.shape leaves start end)) }
         ensures tells { (hash : List ℕ → List ℕ) (list : List (List ℕ)) → leaves ≤ length list → Tells F.shape D.bytes hash (N.node_at nodes.now) list
             → IfOk result (λ p. proof_view D.bytes p ≡ proof_of hash F.shape (take leaves list) inactive_peaks start end) }
-        ensures cause { IfErr result (λ e. (e ≡ MerkleError.Memory) ⊎ ((position : ℕ) × (first_lacked (N.node_at nodes.now) (needed_positions F.shape leaves start end) ≡ Some position) × (e ≡ MerkleError.ElementPruned position))) }
+        ensures cause { IfErr result (Lacks (N.node_at nodes.now) (needed_positions F.shape leaves start end)) }
         ensures held { OnOk result (first_lacked (N.node_at nodes.now) (needed_positions F.shape leaves start end) ≡ None) }
     {
         let digests = list::list_peaks(alloc, nodes, leaves, start.get(), end.get())?;

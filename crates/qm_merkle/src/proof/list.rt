@@ -1,9 +1,9 @@
 //! The digests that a proof lists.
 
-ghost use Rattle.std.specs.Prelude.{◌≡◌, ◌⊎◌, ◌≤◌, ◌<◌, ◌^◌, ◌++◌, ℕ, List, Option, Some, IfOk, IfErr, OnOk, map, None, [], ◌∷◌};
+ghost use Rattle.std.specs.Prelude.{◌≡◌, ◌≤◌, ◌^◌, ◌++◌, [], ◌∷◌, Some, IfOk, IfErr, OnOk, map};
 ghost use Rattle.qm_model.specs.Trees as trees;
 ghost use Rattle.qm_model.specs.Proofs as model;
-ghost use Rattle.qm_merkle.specs.Proofs.{needed_positions, first_lacked};
+ghost use Rattle.qm_merkle.specs.Proofs.{needed_positions, Lacks};
 
 use super::Nodes;
 use crate::family::{Family, Node};
@@ -21,7 +21,7 @@ pub(super) fn list_peaks<F: Family, D: Digest, N: Nodes<F, D>>(
 ) -> Result<Vec<D>, MerkleError>
     requires { leaves ≤ 2 ^ 62 }
     ensures digests { IfOk result (λ v. map Some v.items ≡ map (N.node_at nodes.now) (needed_positions F.shape leaves start end)) }
-    ensures cause { IfErr result (λ e. (e ≡ MerkleError.Memory) ⊎ ((position : ℕ) × (first_lacked (N.node_at nodes.now) (needed_positions F.shape leaves start end) ≡ Some position) × (e ≡ MerkleError.ElementPruned position))) }
+    ensures cause { IfErr result (Lacks (N.node_at nodes.now) (needed_positions F.shape leaves start end)) }
 {
     let mut digests = Vec::new(alloc);
     let count = F::peak_count(leaves);
@@ -42,7 +42,7 @@ fn list_node<F: Family, D: Digest, N: Nodes<F, D>>(
 ) -> Result<(), MerkleError>
     requires { trees.end_of node ≤ 2 ^ 62 }
     ensures digests { OnOk result (map Some digests.new.items ≡ map Some digests.old.items ++ map (N.node_at nodes.now) (map (trees.Shape.position F.shape) (model.needed start end node.height node.index))) }
-    ensures cause { IfErr result (λ e. (e ≡ MerkleError.Memory) ⊎ ((position : ℕ) × (first_lacked (N.node_at nodes.now) (map (trees.Shape.position F.shape) (model.needed start end node.height node.index)) ≡ Some position) × (e ≡ MerkleError.ElementPruned position))) }
+    ensures cause { IfErr result (Lacks (N.node_at nodes.now) (map (trees.Shape.position F.shape) (model.needed start end node.height node.index))) }
 {
     if !meets(node, start, end) {
         return list_digest(nodes, node, digests);
@@ -63,7 +63,7 @@ fn list_digest<F: Family, D: Digest, N: Nodes<F, D>>(
 ) -> Result<(), MerkleError>
     requires { trees.end_of node ≤ 2 ^ 62 }
     ensures digests { OnOk result (map Some digests.new.items ≡ map Some digests.old.items ++ N.node_at nodes.now (trees.Shape.position F.shape node) ∷ []) }
-    ensures cause { IfErr result (λ e. (e ≡ MerkleError.Memory) ⊎ ((N.node_at nodes.now (trees.Shape.position F.shape node) ≡ None) × (e ≡ MerkleError.ElementPruned (trees.Shape.position F.shape node)))) }
+    ensures cause { IfErr result (Lacks (N.node_at nodes.now) (trees.Shape.position F.shape node ∷ [])) }
 {
     let position = place::<F>(node);
     match nodes.get_node(position) {

@@ -83,7 +83,8 @@ impl<D: Digest> Proof<D> {
         let leaves = Location::new(self.leaves);
         let peak = F::peak(leaves, number);
         let (digest, used) = self.rebuild(hasher, elements, start, peak, used)?;
-        if number + 1 == F::peak_count(leaves) {
+        let count = F::peak_count(leaves);
+        if number + 1 == count {
             return self.all_used(digest, used);
         }
         let rest = self.fold_right(hasher, elements, start, number + 1, used)?;
