@@ -1,5 +1,5 @@
 -- Rebuilt digests of peaks, and what they fold to.
-use Rattle.std.proofs.Common.{◌≡◌, ℕ, zero, suc, ◌+◌, ◌-◌, ◌<◌, ◌≤◌, List, [], ◌∷◌, ◌++◌, length, map, arith, ap, ap₂, sym, ◌∙◌, refl, Option, Some, None, take, drop}
+use Rattle.std.proofs.Common.{◌≡◌, ℕ, suc, ◌<◌, List, [], ◌∷◌, ◌++◌, length, arith, ap, sym, ◌∙◌, refl, Option, Some, None, take, drop}
 use Rattle.std.specs.Prelude.{option_map, option_and_then}
 use Rattle.qm_model.specs.Operations.{Bytes}
 use Rattle.qm_model.specs.Trees.{Shape, Node, fold_left, fold_inactive, fold_right}

@@ -1,12 +1,12 @@
 -- What proofs list and rebuild of a node, by its halves.
-use Rattle.std.proofs.Common.{◌≡◌, ℕ, zero, suc, ◌+◌, ◌-◌, ◌*◌, ◌^◌, ◌<◌, ◌≤◌, Bool, true, false, List, [], ◌∷◌, ◌++◌, length, arith, ap, ap₂, sym, ◌∙◌, refl, Option, Some, None, drop, get_or, map, ⊎_elim}
+use Rattle.std.proofs.Common.{◌≡◌, ℕ, zero, suc, ◌+◌, ◌-◌, ◌*◌, ◌^◌, ◌<◌, ◌≤◌, Bool, true, false, List, [], ◌∷◌, ◌++◌, length, arith, ap, ap₂, sym, ◌∙◌, Some, None, drop, get_or, map, ⊎_elim}
 use Rattle.std.specs.Prelude.{slice_get, option_map, option_and_then, if◌then◌else◌}
 use Rattle.std.proofs.Math.Nat.{pow-suc}
 use Rattle.std.proofs.lemmas.Bool.{cases_lt}
 use Rattle.std.proofs.lemmas.List.{length-map}
 use Rattle.std.proofs.lemmas.Option.{slice_get_within, get_or_from_slice_get}
 use Rattle.qm_model.specs.Operations.{Bytes}
-use Rattle.qm_model.specs.Trees.{Shape, Node, end_of, leaf, peaks, leaf_digest, node_digest}
+use Rattle.qm_model.specs.Trees.{Shape, Node, end_of, leaf, peaks, node_digest}
 use Rattle.qm_model.specs.Families.{Births, IsFamily, HasPeaks}
 use Rattle.qm_model.specs.Proofs.{meets, needed, Taken, taken, rebuilt}
 use Rattle.qm_merkle.specs.Mems.{left_of, right_of}

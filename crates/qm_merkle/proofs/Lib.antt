@@ -13,3 +13,4 @@ pub mod Putting
 pub mod Halving
 pub mod Listing
 pub mod Folding
+pub mod Telling

@@ -1,6 +1,6 @@
 -- The first node that is lacked, of nodes in a row.
-use Rattle.std.proofs.Common.{◌≡◌, ℕ, zero, suc, ◌+◌, true, false, List, [], ◌∷◌, ◌++◌, map, arith, ap, ap₂, sym, ◌∙◌, refl, Option, Some, None, take, drop, append_assoc, append-nil, ⊎_elim, inl, inr, ◌⊎◌}
-use Rattle.std.specs.Prelude.{slice_get, find, is_none, cond, flat_map}
+use Rattle.std.proofs.Common.{◌≡◌, ℕ, zero, suc, ◌+◌, List, [], ◌∷◌, ◌++◌, map, arith, ap, ap₂, sym, ◌∙◌, refl, Option, Some, None, take, drop, append_assoc, append-nil, ⊎_elim, inl, inr}
+use Rattle.std.specs.Prelude.{slice_get, is_none, cond, flat_map}
 use Rattle.std.specs.Option.{option_or}
 use Rattle.std.proofs.lemmas.List.{map-append}
 use Rattle.std.proofs.lemmas.List.Folds.{find-append}

@@ -52,11 +52,7 @@ impl<H: Hasher> StandardHasher<H> {
     }
 
     /// The digest of the leaf at this position with the element's spelling.
-    pub fn leaf_digest_of<F, E: Spelled>(
-        &mut self,
-        position: Position<F>,
-        element: &E,
-    ) -> H::Digest
+    pub fn leaf_digest_of<F, E: Spelled>(&mut self, position: Position<F>, element: &E) -> H::Digest
         ensures digest { H.Digest.bytes result ≡ trees.leaf_digest H.hash position (E.spelling element.now) }
         ensures made { self.new ≡ more self.old 1 }
     {

@@ -16,7 +16,10 @@ impl<D: Digest> Proof<D> {
     pub(super) fn is_about<F: Family>(&self, count: u64, start: u64) -> bool
         ensures { IsTrue result ↔ ((self.now.leaves ≤ 2 ^ 62) × (0 < count) × (start + count ≤ self.now.leaves) × (self.now.inactive_peaks ≤ length (trees.peaks F.shape self.now.leaves))) }
     {
-        if self.leaves > 1 << 62 || count == 0 || self.leaves < count || self.leaves - count < start
+        if self.leaves > 1 << 62
+            || count == 0
+            || self.leaves < count
+            || self.leaves - count < start
         {
             return false;
         }

@@ -1,9 +1,9 @@
-use Rattle.std.proofs.Common.{◌≡◌, ◌<◌, ◌≤◌, ◌-◌, ℕ, suc, zero, List, ◌∷◌, ap, sym, ◌∙◌, arith, length, Some, ⊎_elim}
+use Rattle.std.proofs.Common.{◌≡◌, ◌<◌, ◌≤◌, ◌-◌, ℕ, suc, List, ◌∷◌, ap, sym, ◌∙◌, arith, length, Some, ⊎_elim}
 use Rattle.std.specs.Prelude.{slice_get}
 use Rattle.std.proofs.lemmas.Bool.{cases_lt}
 use Rattle.qm_model.specs.Trees.{Node, peaks}
 use Rattle.qm_model.specs.Mmr.{mmr}
-use Rattle.qm_model.proofs.MmrPeaks.{peaks_below, peak_at, peaks-one, peaks-none, peaks_below-zero, peaks_below-all}
+use Rattle.qm_model.proofs.MmrPeaks.{peaks_below, peak_at, peaks-one, peaks-none, peaks_below-zero}
 use Rattle.qm_merkle.proofs.MmrCalls.{no_digit}
 use Rattle.qm_merkle.proofs.mmr.FamilyFamily.peak.Goals as goal
 

@@ -1,4 +1,4 @@
-use Rattle.std.proofs.Common.{◌≡◌, ◌+◌, ◌-◌, ap, sym, ◌∙◌, arith, length}
+use Rattle.std.proofs.Common.{◌≡◌, ap, ◌∙◌, arith, length}
 use Rattle.qm_model.specs.Trees.{peaks}
 use Rattle.qm_model.specs.Mmr.{mmr}
 use Rattle.qm_model.proofs.MmrPeaks.{peaks_below, peaks-one, peaks-none, peaks_below-zero, peaks_below-all}

@@ -1,5 +1,4 @@
-use Rattle.std.proofs.Common.{◌≡◌, ◌+◌, ◌<◌, ◌∙◌, length, map, drop, arith, true, Some}
-use Rattle.qm_model.specs.Proofs.{meets}
+use Rattle.std.proofs.Common.{◌<◌, map, drop, arith}
 use Rattle.qm_merkle.proofs.Halving.{no_left, no_right, both, met}
 use Rattle.qm_merkle.proofs.proof.Proof.+rebuild.Goals as goal
 

@@ -1,5 +1,5 @@
-use Rattle.std.proofs.Common.{◌≡◌, ◌+◌, ◌-◌, ◌<◌, ◌∙◌, ◌++◌, ◌∷◌, length, map, drop, arith, ap, sym, refl, Some, None, ℕ, List}
-use Rattle.std.specs.Prelude.{slice_get, option_map}
+use Rattle.std.proofs.Common.{◌≡◌, ◌-◌, ◌∙◌, ◌∷◌, map, drop, arith, ap, sym, Some, ℕ}
+use Rattle.std.specs.Prelude.{slice_get}
 use Rattle.qm_model.specs.Trees.{Node, peaks}
 use Rattle.qm_merkle.proofs.Halving.{drop_next, peak_within, some_peak}
 use Rattle.qm_merkle.proofs.Folding.{folded, none_behind, first_step}

@@ -1,7 +1,7 @@
-use Rattle.std.proofs.Common.{◌≡◌, ◌++◌, ◌<◌, [], ◌∷◌, map, false, true, ap, sym, ◌∙◌, arith, subst, Some}
+use Rattle.std.proofs.Common.{◌++◌, ◌<◌, map, ap, sym, ◌∙◌, arith, subst, Some}
 use Rattle.std.proofs.lemmas.List.{map-append}
 use Rattle.std.proofs.lemmas.Result.{MatchResult-weaker, IfOk-weaker, err_from_is_err_and}
-use Rattle.qm_model.specs.Proofs.{meets, needed}
+use Rattle.qm_model.specs.Proofs.{needed}
 use Rattle.qm_merkle.specs.Proofs.{Lacks}
 use Rattle.qm_merkle.proofs.Halving.{needed_apart, needed_halves}
 use Rattle.qm_merkle.proofs.Listing.{lacks_first, lacks_later, none_lacked_more, listed_row}
