@@ -40,6 +40,11 @@ taken [] = None
 taken (d ∷ ds) = Some (d, ds)
 
 module _ (hash : Bytes → Bytes) (shape : Shape) where
+  -- the leaves' digests of items that stand from location i on
+  abbrev pub item_leaves : ℕ → List Bytes → List Bytes
+  item_leaves i [] = []
+  item_leaves i (item ∷ items) = leaf_digest hash (shape.position (leaf i)) item ∷ item_leaves (suc i) items
+
   -- what a proof of leaves a up to b lists of a node: its digest, if it has none of them; else what it lists of the halves, and nothing of a leaf
   abbrev pub listed : List Bytes → ℕ → ℕ → ℕ → ℕ → List Bytes
   listed leaves a b zero index =
