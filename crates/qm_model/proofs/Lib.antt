@@ -12,3 +12,4 @@ pub mod MmrPositions
 pub mod MmrFamily
 pub mod MmrPeaks
 pub mod Proving
+pub mod Speaking
