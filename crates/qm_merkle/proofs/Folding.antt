@@ -1,9 +1,11 @@
 -- Rebuilt digests of peaks, and what they fold to.
-use Rattle.std.proofs.Common.{◌≡◌, ℕ, suc, ◌<◌, List, [], ◌∷◌, ◌++◌, length, arith, ap, sym, ◌∙◌, refl, Option, Some, None, take, drop}
-use Rattle.std.specs.Prelude.{option_map, option_and_then}
+use Rattle.std.proofs.Common.{ap₂, ◌≡◌, ℕ, suc, ◌<◌, List, [], ◌∷◌, ◌++◌, length, arith, ap, sym, ◌∙◌, refl, Option, Some, None, take, drop}
+use Rattle.std.specs.Prelude.{◌+◌, ◌^◌, ◌≤◌, ◌&&◌, bytes_eq, option_map, option_and_then}
 use Rattle.qm_model.specs.Operations.{Bytes}
-use Rattle.qm_model.specs.Trees.{Shape, Node, fold_left, fold_inactive, fold_right}
-use Rattle.qm_model.specs.Proofs.{Taken, rebuilt, rebuilt_peaks}
+use Rattle.qm_model.specs.Trees.{peaks, root_of, Shape, Node, fold_left, fold_inactive, fold_right}
+use Rattle.qm_model.proofs.MmrPeaks.{test_true}
+use Rattle.qm_model.proofs.Proving.{less_true}
+use Rattle.qm_model.specs.Proofs.{Proof, has_root, verdict, Taken, rebuilt, rebuilt_peaks}
 
 -- what a row of digests folds to behind one, the first n of them from the left
 abbrev pub folded_onto : (Bytes → Bytes) → Bytes → ℕ → List Bytes → Bytes
@@ -125,3 +127,16 @@ module _ (hash : Bytes → Bytes) (shape : Shape) (items : List Bytes) (a : ℕ)
   pub onto_others : (qs : List Node) (ds : List Bytes) (x : Bytes) (n : ℕ) (o out : Option Bytes) → 0 < length qs → n ≡ 0 → o ≡ option_map (fold_right hash) (rows qs ds) → out ≡ option_map (λ y. hash (x ++ y)) o → out ≡ option_map (folded_onto hash x n) (rows qs ds)
   onto_others qs ds x n o out more none folded is_out =
       is_out ∙ ap (option_map (λ y. hash (x ++ y))) folded ∙ sym (onto_rest x n (rows qs ds) none (each qs ds more))
+
+  -- the verdict, where the numbers fit and the proof has a root
+  pub verdict_is : (proof : Proof) (d expected : Bytes) → proof.leaves ≤ 2 ^ 62 → 0 < length items → a + length items ≤ proof.leaves → proof.inactive ≤ length (peaks shape proof.leaves) →
+      Some d ≡ option_map (root_of hash proof.leaves proof.inactive) (rows (peaks shape proof.leaves) proof.digests) → verdict hash shape items a proof expected ≡ bytes_eq d expected
+  verdict_is proof d expected few some within inactive is =
+      ap₂ (λ s t. s && t) (test_true proof.leaves (2 ^ 62) few)
+      (ap₂ (λ s t. s && t) (less_true 0 (length items) some)
+      (ap₂ (λ s t. s && t) (test_true (a + length items) proof.leaves within)
+      (ap₂ (λ s t. s && t) (test_true proof.inactive (length (peaks shape proof.leaves)) inactive) (at (rows (peaks shape proof.leaves) proof.digests) is))))
+    where
+      at : (o : Option (List Bytes)) → Some d ≡ option_map (root_of hash proof.leaves proof.inactive) o → has_root hash shape items a proof expected o ≡ bytes_eq d expected
+      at None e = cc
+      at (Some out) e = let same : d ≡ root_of hash proof.leaves proof.inactive out = cc in ap (λ x. bytes_eq x expected) (sym same)

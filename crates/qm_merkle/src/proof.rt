@@ -1,8 +1,8 @@
 //! Proofs that elements stand at locations of a tree.
 
-ghost use Rattle.std.specs.Prelude.{◌≡◌, ◌≤◌, ◌^◌, ℕ, List, Option, Some, None, IfOk, IfErr, OnOk, length, map, take};
+ghost use Rattle.std.specs.Prelude.{◌≡◌, ◌⊎◌, ◌≤◌, ◌^◌, ℕ, true, List, Option, Some, None, IfOk, IfErr, OnOk, length, map, take, drop};
 ghost use Rattle.qm_model.specs.Trees as trees;
-ghost use Rattle.qm_model.specs.Proofs.{proof_of, verdict};
+ghost use Rattle.qm_model.specs.Proofs.{proof_of, verdict, item_leaves, checked_inputs, root_inputs, Collides};
 ghost use Rattle.qm_merkle.specs.Proofs.{proof_view, needed_positions, first_lacked, Lacks, Tells, over_at};
 
 use crate::batch::MerkleizedBatch;
@@ -15,6 +15,8 @@ use std::alloc::Global;
 
 mod list;
 mod rebuild;
+#[cfg(test)]
+mod tests;
 
 /// A proof that elements stand at locations in a row, in a tree of so many leaves, the first of whose peaks are
 /// inactive. The digests are those of the nodes beside the locations, from left to right. Any numbers and digests
@@ -98,7 +100,7 @@ impl<D: Digest> Proof<D> {
     }
 
     /// Whether the proof shows that these elements stand at the locations from `start` on, in the tree of this root. It
-    /// takes no memory.
+    /// takes no memory. Of a root that is no list's a yes says nothing, and of a list's root no more than the hash bears.
     pub fn verify<F: Family, H: Hasher<Digest = D>, E: Spelled>(
         &self,
         hasher: &mut StandardHasher<H>,
@@ -106,7 +108,10 @@ impl<D: Digest> Proof<D> {
         start: Location<F>,
         root: &D,
     ) -> bool
-        ensures { result ≡ verdict H.hash F.shape (map E.spelling elements.now) start (proof_view D.bytes self.now) (D.bytes root.now) }
+        ensures answer { result ≡ verdict H.hash F.shape (map E.spelling elements.now) start (proof_view D.bytes self.now) (D.bytes root.now) }
+        ensures speaks { (list : List (List ℕ)) (inactive : ℕ) → length list ≤ 2 ^ 62 → inactive ≤ length (trees.peaks F.shape (length list)) → D.bytes root.now ≡ trees.root H.hash F.shape (item_leaves H.hash F.shape 0 list) inactive → result ≡ true
+            → (take (length elements.now) (drop start list) ≡ map E.spelling elements.now)
+            ⊎ Collides H.hash (checked_inputs H.hash F.shape (map E.spelling elements.now) start (proof_view D.bytes self.now)) (root_inputs H.hash F.shape list inactive) }
     {
         if !self.is_about::<F>(elements.len() as u64, start.get()) {
             return false;
