@@ -11,3 +11,5 @@ pub mod Runs
 pub mod MmrPositions
 pub mod MmrFamily
 pub mod MmrPeaks
+pub mod Proving
+pub mod Speaking

@@ -11,6 +11,7 @@ pub mod Trees
 pub mod Families
 pub mod Mmr
 pub mod Mmb
+pub mod ProofRows
 pub mod Proofs
 pub mod Roots
 pub mod Batches
