@@ -12,4 +12,4 @@ returns-in-Err-clause-machine g c = λ s k.
     let scheme : Scheme Policy = scheme_of g.X.Engine in
     let held = rw c.in-Database.is at k in
     rw c.turn_of.ensures (get_err m g.X.Key.ByteString.bytes g.X.Value.ByteString.bytes g.X.Digest.Digest.bytes scheme c.in-Database.x c.get.new.self c.args.session.table.items c.args.session.opened c.in-Err.error s _ held
-    (c.in-Err.ensures.refused (Holds-told m (Database c.in-Database.x) c.args.session.table.items c.args.session.opened s held)))
+    (c.in-Err.ensures.refused (Holds-told m g.X.Key.ByteString.bytes g.X.Value.ByteString.bytes g.X.Digest.Digest.bytes scheme (Database c.in-Database.x) c.args.session.table.items c.args.session.opened s held)))

@@ -29,4 +29,4 @@ returns-in-Err-clause-machine g c = λ s k.
     rw (c.turn_of.ensures, c.in-Some.ensures.table) (merkleize_err m g.X.Key.ByteString.bytes g.X.Value.ByteString.bytes g.X.Digest.Digest.bytes scheme c.in-Database.x c.merkleize_batch.new.database c.args.session.table.items c.args.session.opened c.args.number
     (policy_view c.args.policy.now) (option_map g.X.Value.ByteString.bytes c.args.metadata.now) c.in-Some.batch c.in-Err.error s (rw c.in-Database.is at k)
     c.merkleize_batch.ensures.same c.merkleize_batch.ensures.store.start c.merkleize_batch.ensures.store.items c.in-Err.ensures.stale
-    (λ other list chain ws stands is. c.in-Err.ensures.refused other (Holds-told m (Database c.in-Database.x) c.args.session.table.items c.args.session.opened s (rw c.in-Database.is at k)) list chain ws stands is) (sym c.in-Some.ensures.value))
+    (λ other list chain ws stands is. c.in-Err.ensures.refused other (Holds-told m g.X.Key.ByteString.bytes g.X.Value.ByteString.bytes g.X.Digest.Digest.bytes scheme (Database c.in-Database.x) c.args.session.table.items c.args.session.opened s (rw c.in-Database.is at k)) list chain ws stands is) (sym c.in-Some.ensures.value))

@@ -23,4 +23,4 @@ returns-in-Err-clause-machine g c = λ s k.
     let scheme : Scheme Policy = scheme_of g.X.Engine in
     let held = rw c.in-Database.is at k in
     rw c.turn_of.ensures (prove_err m g.X.Key.ByteString.bytes g.X.Value.ByteString.bytes g.X.Digest.Digest.bytes scheme c.in-Database.x c.prove.new.self c.args.session.table.items c.args.session.opened c.args.size c.args.start (non_zero_u64_get c.args.max) c.in-Err.error s held
-    c.prove.ensures.same c.prove.ensures.store.start c.prove.ensures.store.items (c.in-Err.ensures.refused (Holds-told m (Database c.in-Database.x) c.args.session.table.items c.args.session.opened s held)))
+    c.prove.ensures.same c.prove.ensures.store.start c.prove.ensures.store.items (c.in-Err.ensures.refused (Holds-told m g.X.Key.ByteString.bytes g.X.Value.ByteString.bytes g.X.Digest.Digest.bytes scheme (Database c.in-Database.x) c.args.session.table.items c.args.session.opened s held)))
