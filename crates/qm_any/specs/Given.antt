@@ -1,5 +1,5 @@
 -- What a call that takes the database by value leaves, and what it does to the store.
-use Rattle.std.specs.Prelude.{◌≡◌, List, Result, Ok, Err}
+use Rattle.std.specs.Prelude.{◌≡◌, List, IsSome, Result, Ok, Err}
 use Rattle.qm_model.specs.Operations.{Bytes}
 use Rattle.qm_model.specs.Causes.{Grows, GrowsPart}
 use Rattle.qm_store.specs.declared.Store as store
@@ -26,6 +26,10 @@ pub record Appended {C : Type 0} (members : store.Ghosts C) (old new : C) (more 
 pub record AppendedPart {C : Type 0} (members : store.Ghosts C) (old new : C) (more : List Bytes) : Type 0 where
   pub start : members.start new ≡ members.start old
   pub items : GrowsPart (members.items old) (members.items new) more
+
+-- a store starts at 0, and tells its items
+abbrev pub TellsAll : {C : Type 0} → store.Ghosts C → C → Type 0
+TellsAll members c = (members.start c ≡ 0) × IsSome (members.items c)
 
 -- a store has the items that it had, and starts where it did
 pub record IsUnchanged {C : Type 0} (members : store.Ghosts C) (old new : C) : Type 0 where

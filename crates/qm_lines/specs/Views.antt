@@ -1,14 +1,20 @@
 -- Commands and replies over byte strings.
 use Rattle.std.specs.Prelude.{map, option_map}
+use Rattle.std.specs.Int.NonZero.{non_zero_u64_get}
 use Rattle.qm_model.specs.Operations.{Bytes, Operation, update, delete, commit}
 use Rattle.qm_model.specs.Policies.{Policy, proportional}
 use Rattle.qm_model.specs.Lines as lines
+use Rattle.qm_base.specs.Views.{corrupt_view}
 use Rattle.qm_lines.specs.declared.policy.AnyPolicy.{AnyPolicy}
 use Rattle.qm_lines.specs.declared.policy.AnyPolicy.TheVariants.{Proportional}
 use Rattle.qm_lines.specs.declared.command.Command.{Command}
 use Rattle.qm_lines.specs.declared.command.Command.TheVariants as commands
 use Rattle.qm_lines.specs.declared.reply.Listed.{Listed}
 use Rattle.qm_lines.specs.declared.reply.Listed.TheVariants as listed
+use Rattle.qm_lines.specs.declared.reply.TreeRefused.{TreeRefused}
+use Rattle.qm_lines.specs.declared.reply.TreeRefused.TheVariants as tree
+use Rattle.qm_lines.specs.declared.reply.LogRefused.{LogRefused}
+use Rattle.qm_lines.specs.declared.reply.LogRefused.TheVariants as log
 use Rattle.qm_lines.specs.declared.reply.Refused.{Refused}
 use Rattle.qm_lines.specs.declared.reply.Refused.TheVariants as refused
 use Rattle.qm_lines.specs.declared.reply.Reply.{Reply}
@@ -17,11 +23,26 @@ use Rattle.qm_lines.specs.declared.reply.Reply.TheVariants as replies
 abbrev pub policy_view : AnyPolicy → Policy
 policy_view Proportional = proportional
 
+abbrev pub tree_view : TreeRefused → lines.TreeRefused
+tree_view (tree.RangeOutOfBounds n) = lines.RangeOutOfBounds n
+tree_view (tree.ElementPruned n) = lines.ElementPruned n
+tree_view (tree.MissingNode n) = lines.MissingNode n
+tree_view (tree.LocationOverflow n) = lines.LocationOverflow n
+
+abbrev pub log_view : LogRefused → lines.LogRefused
+log_view (log.ItemPruned n) = lines.ItemPruned n
+log_view (log.ItemTooLarge n) = lines.ItemTooLarge n
+
 abbrev pub refused_view : Refused → lines.Refused
 refused_view refused.NotOffered = lines.NotOffered
 refused_view refused.NoDatabase = lines.NoDatabase
 refused_view (refused.NoSuchHandle h) = lines.NoSuchHandle h
 refused_view refused.StaleBatch = lines.StaleBatch
+refused_view refused.StaleRead = lines.StaleRead
+refused_view (refused.HistoricalFloorPruned n) = lines.HistoricalFloorPruned n
+refused_view (refused.DataCorrupted c) = lines.DataCorrupted (corrupt_view c)
+refused_view (refused.Merkle e) = lines.Merkle (tree_view e)
+refused_view (refused.Journal e) = lines.Journal (log_view e)
 
 module _ {K V : Type 0} (key : K → Bytes) (value : V → Bytes) where
   abbrev pub line_view : {P Q : Type 0} → (P → Q) → Command K V P → lines.Line Q
@@ -36,6 +57,8 @@ module _ {K V : Type 0} (key : K → Bytes) (value : V → Bytes) where
   line_view policy commands.Info = lines.Info
   line_view policy commands.Root = lines.Root
   line_view policy commands.Meta = lines.Meta
+  line_view policy (commands.Prove size start max) = lines.Prove size start (non_zero_u64_get max)
+  line_view policy (commands.Pins n) = lines.Pins n
 
   abbrev pub listed_view : Listed K V → Operation
   listed_view (listed.Update k v n) = update (key k) (value v) (option_map key n)
@@ -53,4 +76,7 @@ module _ {K V : Type 0} (key : K → Bytes) (value : V → Bytes) where
   answer_view digest (replies.Info start size floor boundary is_live) = lines.Told start size floor boundary is_live
   answer_view digest (replies.Root r o) = lines.Rooted (digest r) (digest o)
   answer_view digest (replies.Meta v) = lines.Metadata (option_map value v)
+  answer_view digest (replies.Proof leaves inactive digests ops) =
+      lines.Proved (record { leaves = leaves; inactive = inactive; digests = map digest digests.items }) (map listed_view ops.items)
+  answer_view digest (replies.Pins digests) = lines.Pinned (map digest digests.items)
   answer_view digest (replies.Refused r) = lines.Refuses (refused_view r)

@@ -1,5 +1,7 @@
 //! What a line asks for.
 
+use std::num::NonZeroU64;
+
 /// A command with keys, values and policies of these types. A batch goes by the number that the run gave it.
 #[derive(Drop)]
 pub enum Command<K, V, P> {
@@ -25,4 +27,8 @@ pub enum Command<K, V, P> {
     Root,
     /// Tells the metadata of the last commit.
     Meta,
+    /// Proves operations of the database's first ones, so many, from a location on, at most so many.
+    Prove(u64, u64, NonZeroU64),
+    /// Lists the digests of the peaks over the first operations, so many.
+    Pins(u64),
 }

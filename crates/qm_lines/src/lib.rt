@@ -19,6 +19,6 @@ pub use memory::{MemSink, MemSource};
 pub use parse::{ByteCommand, parse_all, parse_line};
 pub use policy::AnyPolicy;
 pub use ports::{Failed, Sink, SinkError, Source};
-pub use reply::{Listed, Refused, Reply};
+pub use reply::{Listed, LogRefused, Refused, Reply, TreeRefused};
 pub use text::{replies_text, reply_text};
 pub use whole::{InputError, LIMIT, read_all, write_all};

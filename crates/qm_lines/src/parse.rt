@@ -1,6 +1,7 @@
 //! Lines to commands.
 
 ghost use Rattle.std.specs.Prelude.{◌≡◌, ◌==◌, ◌<◌, length, map, IfOk, option_map};
+ghost use Rattle.std.specs.Int.NonZero.{non_zero_u64_get};
 ghost use Rattle.std.specs.List.{slice_split};
 ghost use Rattle.hex.specs.Hex.{decode_of};
 ghost use Rattle.qm_model.specs.Grammar as grammar;
@@ -12,6 +13,7 @@ use crate::policy::AnyPolicy;
 use hex::FromHexError;
 use qm_base::{ByteKey, ByteValue};
 use std::alloc::{AllocError, Global};
+use std::num::NonZeroU64;
 
 /// A command that a line can ask for.
 pub type ByteCommand = Command<ByteKey, ByteValue, AnyPolicy>;
@@ -44,6 +46,13 @@ fn number(word: &[u8]) -> Option<u64>
         return None;
     }
     digits(word)
+}
+
+// A number that is at least 1.
+fn positive(word: &[u8]) -> Option<NonZeroU64>
+    ensures { option_map non_zero_u64_get result ≡ grammar.positive_of word.now }
+{
+    NonZeroU64::new(number(word)?)
 }
 
 // Between `low` and `high` bytes in hexadecimal.
@@ -134,6 +143,8 @@ fn of_two(alloc: Global, word: &[u8], first: &[u8]) -> Result<Option<ByteCommand
         Ok(number(first).map(Command::Ops))
     } else if word == b"get".as_slice() {
         Ok(key(alloc, first)?.map(Command::Get))
+    } else if word == b"pins".as_slice() {
+        Ok(number(first).map(Command::Pins))
     } else {
         Ok(None)
     }
@@ -209,6 +220,15 @@ fn merkleize(
     Ok(Some(Command::Merkleize(handle, policy, metadata)))
 }
 
+fn prove(first: &[u8], second: &[u8], third: &[u8]) -> Option<ByteCommand>
+    ensures { option_map byte_line result ≡ grammar.prove_of first.now second.now third.now }
+{
+    let size = number(first)?;
+    let start = number(second)?;
+    let most = positive(third)?;
+    Some(Command::Prove(size, start, most))
+}
+
 fn of_four(
     alloc: Global,
     word: &[u8],
@@ -223,6 +243,8 @@ fn of_four(
         put(alloc, first, second, third)
     } else if word == b"merkleize".as_slice() {
         merkleize(alloc, first, second, third)
+    } else if word == b"prove".as_slice() {
+        Ok(prove(first, second, third))
     } else {
         Ok(None)
     }

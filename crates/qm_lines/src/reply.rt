@@ -1,5 +1,7 @@
 //! What a command answers.
 
+use qm_base::Corrupt;
+
 /// An operation as a reply lists it.
 #[derive(Drop)]
 pub enum Listed<K, V> {
@@ -10,6 +12,28 @@ pub enum Listed<K, V> {
     Commit(Option<V>, u64),
 }
 
+/// Why a tree refused.
+#[derive(Clone, Copy, Debug, PartialEq, Eq)]
+pub enum TreeRefused {
+    /// A size, or a location, past the end.
+    RangeOutOfBounds(u64),
+    /// The node at this position is forgotten.
+    ElementPruned(u64),
+    /// There is no digest for the node at this position.
+    MissingNode(u64),
+    /// So many leaves are too many.
+    LocationOverflow(u64),
+}
+
+/// Why a log refused.
+#[derive(Clone, Copy, Debug, PartialEq, Eq)]
+pub enum LogRefused {
+    /// The item at this location is before the store's start.
+    ItemPruned(u64),
+    /// A spelling has so many bytes, which are too many.
+    ItemTooLarge(u64),
+}
+
 /// Why a command was refused.
 #[derive(Clone, Copy, Debug, PartialEq, Eq)]
 pub enum Refused {
@@ -17,6 +41,12 @@ pub enum Refused {
     NoDatabase,
     NoSuchHandle(u64),
     StaleBatch,
+    StaleRead,
+    /// No commit stands at the end of so many operations.
+    HistoricalFloorPruned(u64),
+    DataCorrupted(Corrupt),
+    Merkle(TreeRefused),
+    Journal(LogRefused),
 }
 
 /// The reply to a command, with keys, values and digests of these types.
@@ -41,5 +71,9 @@ pub enum Reply<K, V, D> {
     Root(D, D),
     /// The metadata of the last commit.
     Meta(Option<V>),
+    /// How many leaves the tree has, how many of its peaks are inactive, the digests, and the operations proved.
+    Proof(u64, u64, Vec<D>, Vec<Listed<K, V>>),
+    /// The digests of peaks.
+    Pins(Vec<D>),
     Refused(Refused),
 }

@@ -1,5 +1,5 @@
 use super::*;
-use qm_base::{ByteKey, ByteString, ByteValue, Digest, Sha256Digest};
+use qm_base::{ByteKey, ByteString, ByteValue, Corrupt, Digest, Sha256Digest};
 use std::alloc::{AllocError, Global};
 use std::process::Abort;
 use std::test::Fail;
@@ -44,6 +44,11 @@ fn words(alloc: Global, command: &Option<ByteCommand>) -> Result<String, AllocEr
         Some(Command::Info) => String::from_str(alloc, "info"),
         Some(Command::Root) => String::from_str(alloc, "root"),
         Some(Command::Meta) => String::from_str(alloc, "meta"),
+        Some(Command::Prove(size, start, most)) => {
+            let most = most.get();
+            format!(in alloc; "prove {size} {start} {most}")
+        }
+        Some(Command::Pins(size)) => format!(in alloc; "pins {size}"),
     }
 }
 
@@ -65,6 +70,8 @@ fn lines_are_commands(rt: HostRuntime) -> Result<(), Fail> {
         ("apply 10", "apply 10"),
         ("ops 18446744073709551615", "ops 18446744073709551615"),
         ("get 4a4A", "get [74, 74]"),
+        ("prove 4 0 9", "prove 4 0 9"),
+        ("pins 0", "pins 0"),
         ("", "bad"),
         (" ", "bad"),
         ("Open", "bad"),
@@ -92,6 +99,9 @@ fn lines_are_commands(rt: HostRuntime) -> Result<(), Fail> {
         ("del 1 -", "bad"),
         ("del 1 6b 76", "bad"),
         ("root 1", "bad"),
+        ("prove 4 0 0", "bad"),
+        ("prove 4 0", "bad"),
+        ("pins", "bad"),
         ("merkleize 1 prop none ", "bad"),
     ];
     for (line, want) in lines {
@@ -222,41 +232,94 @@ fn replies_have_text(rt: HostRuntime) -> Result<(), Fail> {
         "root 0000000000000000000000000000000000000000000000000000000000000000 0b0b0b0b0b0b0b0b0b0b0b0b0b0b0b0b0b0b0b0b0b0b0b0b0b0b0b0b0b0b0b0b",
     )?;
     expect_text(&rt, alloc, Reply::Meta(None), "meta none")?;
+    let mut digests = Vec::new(alloc);
+    digests.push(elevens)?;
+    expect_text(
+        &rt,
+        alloc,
+        Reply::Pins(digests),
+        "pins 0b0b0b0b0b0b0b0b0b0b0b0b0b0b0b0b0b0b0b0b0b0b0b0b0b0b0b0b0b0b0b0b",
+    )?;
+    expect_text(&rt, alloc, Reply::Pins(Vec::new(alloc)), "pins")?;
+    let mut digests = Vec::new(alloc);
+    digests.push(zeros)?;
+    let mut ops = Vec::new(alloc);
+    ops.push(Listed::Commit(None, 0))?;
+    expect_text(
+        &rt,
+        alloc,
+        Reply::Proof(2, 1, digests, ops),
+        "proof 2 1 0000000000000000000000000000000000000000000000000000000000000000 / C:none@0",
+    )?;
+    expect_text(
+        &rt,
+        alloc,
+        Reply::Proof(1, 0, Vec::new(alloc), Vec::new(alloc)),
+        "proof 1 0 /",
+    )?;
     expect_text(
         &rt,
         alloc,
         Reply::Meta(Some(value(alloc, 0x0a)?)),
         "meta 0a",
     )?;
-    expect_text(
-        &rt,
-        alloc,
-        Reply::Refused(Refused::NotOffered),
-        "refused NotOffered",
-    )?;
-    expect_text(
-        &rt,
-        alloc,
-        Reply::Refused(Refused::NoDatabase),
-        "refused NoDatabase",
-    )?;
-    expect_text(
-        &rt,
-        alloc,
-        Reply::Refused(Refused::NoSuchHandle(7)),
-        "refused NoSuchHandle 7",
-    )?;
-    expect_text(
-        &rt,
-        alloc,
-        Reply::Refused(Refused::StaleBatch),
-        "refused StaleBatch",
-    )?;
     let mut replies: Vec<Reply<ByteKey, ByteValue, Sha256Digest>> = Vec::new(alloc);
     replies.push(Reply::Batch(1))?;
     replies.push(Reply::Done)?;
     let text = replies_text(alloc, &replies)?;
     assert_eq!(rt; text.as_slice(), b"batch 1\nok\n".as_slice());
+    Ok(())
+}
+
+#[test]
+fn refusals_have_text(rt: HostRuntime) -> Result<(), Fail> {
+    let alloc = rt.alloc();
+    let table = [
+        (Refused::NotOffered, "refused NotOffered"),
+        (Refused::NoDatabase, "refused NoDatabase"),
+        (Refused::NoSuchHandle(7), "refused NoSuchHandle 7"),
+        (Refused::StaleBatch, "refused StaleBatch"),
+        (Refused::StaleRead, "refused StaleRead"),
+        (
+            Refused::HistoricalFloorPruned(3),
+            "refused HistoricalFloorPruned 3",
+        ),
+        (
+            Refused::DataCorrupted(Corrupt::FloorExceedsCommit),
+            "refused DataCorrupted inactivity floor exceeds commit location",
+        ),
+        (
+            Refused::DataCorrupted(Corrupt::ItemDoesNotDecode),
+            "refused DataCorrupted item does not decode",
+        ),
+        (
+            Refused::Merkle(TreeRefused::RangeOutOfBounds(5)),
+            "refused Merkle RangeOutOfBounds 5",
+        ),
+        (
+            Refused::Merkle(TreeRefused::LocationOverflow(4611686018427387905)),
+            "refused Merkle LocationOverflow 4611686018427387905",
+        ),
+        (
+            Refused::Merkle(TreeRefused::ElementPruned(2)),
+            "refused Merkle ElementPruned 2",
+        ),
+        (
+            Refused::Merkle(TreeRefused::MissingNode(6)),
+            "refused Merkle MissingNode 6",
+        ),
+        (
+            Refused::Journal(LogRefused::ItemTooLarge(65546)),
+            "refused Journal ItemTooLarge 65546",
+        ),
+        (
+            Refused::Journal(LogRefused::ItemPruned(0)),
+            "refused Journal ItemPruned 0",
+        ),
+    ];
+    for (refused, want) in table {
+        expect_text(&rt, alloc, Reply::Refused(refused), want)?;
+    }
     Ok(())
 }
 

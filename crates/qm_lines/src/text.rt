@@ -1,11 +1,11 @@
 //! Replies as text.
 
-ghost use Rattle.std.specs.Prelude.{◌≡◌, ◌++◌, codes, flat_map, map, IfOk, option_map};
+ghost use Rattle.std.specs.Prelude.{◌≡◌, map, IfOk, option_map};
 ghost use Rattle.std.specs.String.{string_bytes};
 ghost use Rattle.qm_model.specs.Text as texts;
-ghost use Rattle.qm_lines.specs.Views.{refused_view, listed_view, answer_view};
+ghost use Rattle.qm_lines.specs.Views.{tree_view, log_view, refused_view, listed_view, answer_view};
 
-use crate::reply::{Listed, Refused, Reply};
+use crate::reply::{Listed, LogRefused, Refused, Reply, TreeRefused};
 use qm_base::{ByteString, Digest, Key, VariableValue};
 use std::alloc::{AllocError, Global};
 
@@ -71,8 +71,7 @@ fn operations_text<K: Key, V: VariableValue>(
     ops: &[Listed<K, V>],
 ) -> Result<String, AllocError>
     ensures { IfOk result (λ text.
-        string_bytes text ≡ flat_map (λ op. codes " " ++ texts.operation_text op)
-        (map (listed_view K.bytes V.bytes) ops.now)) }
+        string_bytes text ≡ texts.operations_text (map (listed_view K.bytes V.bytes) ops.now)) }
 {
     let mut out = String::new(alloc);
     for op in ops {
@@ -83,6 +82,39 @@ fn operations_text<K: Key, V: VariableValue>(
     Ok(out)
 }
 
+// The digests, each after a space.
+fn digests_text<D: Digest>(alloc: Global, digests: &[D]) -> Result<String, AllocError>
+    ensures { IfOk result (λ text. string_bytes text ≡ texts.digests_text (map D.bytes digests.now)) }
+{
+    let mut out = String::new(alloc);
+    for digest in digests {
+        let text = hex::encode(alloc, digest.bytes())?;
+        out.push_str(" ")?;
+        out.push_str(&text)?;
+    }
+    Ok(out)
+}
+
+fn tree_text(alloc: Global, refused: TreeRefused) -> Result<String, AllocError>
+    ensures { IfOk result (λ text. string_bytes text ≡ texts.tree_text (tree_view refused)) }
+{
+    match refused {
+        TreeRefused::RangeOutOfBounds(at) => format!(in alloc; "RangeOutOfBounds {at}"),
+        TreeRefused::ElementPruned(position) => format!(in alloc; "ElementPruned {position}"),
+        TreeRefused::MissingNode(position) => format!(in alloc; "MissingNode {position}"),
+        TreeRefused::LocationOverflow(count) => format!(in alloc; "LocationOverflow {count}"),
+    }
+}
+
+fn log_text(alloc: Global, refused: LogRefused) -> Result<String, AllocError>
+    ensures { IfOk result (λ text. string_bytes text ≡ texts.log_text (log_view refused)) }
+{
+    match refused {
+        LogRefused::ItemPruned(location) => format!(in alloc; "ItemPruned {location}"),
+        LogRefused::ItemTooLarge(length) => format!(in alloc; "ItemTooLarge {length}"),
+    }
+}
+
 fn refused_text(alloc: Global, refused: Refused) -> Result<String, AllocError>
     ensures { IfOk result (λ text. string_bytes text ≡ texts.refused_text (refused_view refused)) }
 {
@@ -91,6 +123,20 @@ fn refused_text(alloc: Global, refused: Refused) -> Result<String, AllocError>
         Refused::NoDatabase => String::from_str(alloc, "NoDatabase"),
         Refused::NoSuchHandle(handle) => format!(in alloc; "NoSuchHandle {handle}"),
         Refused::StaleBatch => String::from_str(alloc, "StaleBatch"),
+        Refused::StaleRead => String::from_str(alloc, "StaleRead"),
+        Refused::HistoricalFloorPruned(size) => format!(in alloc; "HistoricalFloorPruned {size}"),
+        Refused::DataCorrupted(corrupt) => {
+            let corrupt = corrupt.text();
+            format!(in alloc; "DataCorrupted {corrupt}")
+        }
+        Refused::Merkle(refused) => {
+            let refused = tree_text(alloc, refused)?;
+            format!(in alloc; "Merkle {refused}")
+        }
+        Refused::Journal(refused) => {
+            let refused = log_text(alloc, refused)?;
+            format!(in alloc; "Journal {refused}")
+        }
     }
 }
 
@@ -135,6 +181,15 @@ fn line_text<K: Key, V: VariableValue, D: Digest>(
         Reply::Meta(metadata) => {
             let metadata = optional_text(alloc, metadata)?;
             format!(in alloc; "meta {metadata}")
+        }
+        Reply::Proof(leaves, inactive, digests, ops) => {
+            let digests = digests_text(alloc, digests)?;
+            let ops = operations_text(alloc, ops)?;
+            format!(in alloc; "proof {leaves} {inactive}{digests} /{ops}")
+        }
+        Reply::Pins(digests) => {
+            let digests = digests_text(alloc, digests)?;
+            format!(in alloc; "pins{digests}")
         }
         Reply::Refused(refused) => {
             let refused = refused_text(alloc, *refused)?;

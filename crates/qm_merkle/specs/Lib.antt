@@ -2,3 +2,4 @@ pub mod Batches
 pub mod Mems
 pub mod Proofs
 pub mod Putting
+pub mod Proofs

@@ -1,5 +1,5 @@
 -- The grammar of lines: words between single spaces.
-use Rattle.std.specs.Prelude.{ℕ, zero, suc, ◌+◌, ◌-◌, ◌*◌, ◌^◌, ◌==◌, ◌&&◌, nat_lt, nat_le, slice_index, take, Bool, true, false, if◌then◌else◌, List, [], ◌∷◌, length, codes, Option, None, Some, Result, Ok, Err, option_map, option_and_then, bytes_eq}
+use Rattle.std.specs.Prelude.{ℕ, ◌+◌, ◌-◌, ◌*◌, ◌^◌, ◌==◌, ◌&&◌, nat_lt, nat_le, slice_index, take, Bool, true, false, if◌then◌else◌, List, [], ◌∷◌, length, codes, Option, None, Some, Result, Ok, Err, option_map, option_and_then, bytes_eq}
 use Rattle.std.specs.List.{slice_split}
 use Rattle.std.specs.Char.{is_ascii_digit}
 use Rattle.hex.specs.Hex.{decode_of}
@@ -73,13 +73,15 @@ put_of a b c = option_and_then (λ h. option_and_then (λ k. option_map (λ v. P
 abbrev pub merkleize_of : Bytes → Bytes → Bytes → Option (Line Policy)
 merkleize_of a b c = option_and_then (λ h. option_and_then (λ p. option_map (λ meta. Merkleize h p meta) (metadata_of c)) (policy_of b)) (number_of a)
 
--- at least 1
+-- a number that is at least 1
 abbrev pub positive : ℕ → Option ℕ
-positive zero = None
-positive (suc n) = Some (suc n)
+positive n = if n == 0 then None else Some n
+
+abbrev pub positive_of : Bytes → Option ℕ
+positive_of word = option_and_then positive (number_of word)
 
 abbrev pub prove_of : Bytes → Bytes → Bytes → Option (Line Policy)
-prove_of a b c = option_and_then (λ size. option_and_then (λ start. option_map (λ max. Prove size start max) (option_and_then positive (number_of c))) (number_of b)) (number_of a)
+prove_of a b c = option_and_then (λ size. option_and_then (λ start. option_map (λ max. Prove size start max) (positive_of c)) (number_of b)) (number_of a)
 
 abbrev pub of_four : Bytes → Bytes → Bytes → Bytes → Option (Line Policy)
 of_four w a b c =

@@ -1,5 +1,6 @@
 pub mod Given
 pub mod Table
+pub mod Refusals
 pub mod Turn
 pub mod Session
 pub mod Runs

@@ -5,7 +5,7 @@ use Rattle.qm_model.specs.Live.{floor}
 use Rattle.qm_model.specs.Policies.{Policy, policies}
 use Rattle.qm_model.specs.Step.{unordered}
 use Rattle.qm_model.specs.Mmr.{mmr}
-use Rattle.qm_model.specs.Roots.{sha256_root}
+use Rattle.qm_model.specs.Roots.{sha256_root, sha256_proof, sha256_pins}
 use Rattle.qm_model.specs.Batches.{Apart}
 use Rattle.qm_model.specs.Machine.{Scheme, State, initial, answers}
 use Rattle.qm_model.specs.Grammar.{commands_in, bad_in}
@@ -24,7 +24,7 @@ are_words (a ∷ b ∷ c ∷ d ∷ e ∷ ws) = false
 
 -- the machine of these words
 abbrev pub scheme : Scheme Policy
-scheme = record { kind = unordered; rules = policies; root = sha256_root mmr; boundary = floor }
+scheme = record { kind = unordered; rules = policies; root = sha256_root mmr; boundary = floor; proof = sha256_proof mmr; pins = sha256_pins mmr }
 
 abbrev pub bad_text : ℕ → Bytes
 bad_text n = codes "bad line " ++ (decimal n ++ 10 ∷ [])

@@ -34,9 +34,9 @@ pub record Meaning (X C B M : Type 0) : Type 1 where
 abbrev pub meaning : {X C K V D F B M : Type 0} → engine.Ghosts X C K V D F B M → store.Ghosts C → Meaning X C B M
 meaning x c = record { inside = x.inside; start = c.start; items = c.items; stands = x.stands; is_batch = x.is_batch; is_merkleized = x.is_merkleized }
 
--- the machine of an engine: its kind, root and boundary, under the policies
+-- the machine of an engine: its kind, root, boundary, proofs and pins, under the policies
 abbrev pub scheme_of : {X C K V D F B M : Type 0} → engine.Ghosts X C K V D F B M → Scheme Policy
-scheme_of x = record { kind = x.kind; rules = policies; root = x.root; boundary = x.boundary }
+scheme_of x = record { kind = x.kind; rules = policies; root = x.root; boundary = x.boundary; proof = x.proof; pins = x.pins }
 
 module _ {X C B M : Type 0} (m : Meaning X C B M) where
   -- the database stands for the machine's list, one of those that the run has had; without one there is a store alone

@@ -1,21 +1,27 @@
 //! What a database offers to a run, over any store.
 
-ghost use Rattle.std.specs.Prelude.{◌≡◌, ◌≢◌, ◌≤◌, ◌++◌, ◌∷◌, [], ℕ, List, Some, None, true, map, drop, length, nat_lt, option_map, if◌then◌else◌, IfOk, IfErr};
+ghost use Rattle.std.specs.Prelude.{◌≡◌, ◌≢◌, ◌≤◌, ◌+◌, ◌++◌, ◌∷◌, [], ℕ, List, Some, None, true, map, take, drop, length, nat_lt, option_map, if◌then◌else◌, IfOk, IfErr, IfSome};
+ghost use Rattle.std.specs.Int.NonZero.{non_zero_u64_get};
 ghost use Rattle.qm_model.specs.Causes.{Rose};
 ghost use Rattle.qm_model.specs.Operations.{Bytes, Operation, spelling, fresh};
 ghost use Rattle.qm_model.specs.Live.{live, floor, value_of, last_metadata};
 ghost use Rattle.qm_model.specs.Writes.{Write};
 ghost use Rattle.qm_model.specs.Step.{Kind, step};
 ghost use Rattle.qm_model.specs.Policies.{policies};
-ghost use Rattle.qm_model.specs.Batches.{Chain, IsOnChain, commitment, fits};
-ghost use Rattle.qm_model.specs.Machine.{own_operations};
+ghost use Rattle.qm_model.specs.Batches.{Chain, IsOnChain, commitment, fits, own_operations};
+ghost use Rattle.qm_model.specs.Proofs as proofs;
+ghost use Rattle.qm_model.specs.Refusals.{tip_refusal, proof_refusal, proof_count, pins_refusal};
 ghost use Rattle.qm_lines.specs.Views.{policy_view, listed_view};
-ghost use Rattle.qm_run.specs.Given.{store_given, store_after, Appended, AppendedPart, IsUnchanged};
+ghost use Rattle.qm_merkle.specs.Proofs.{proof_view};
+ghost use Rattle.qm_run.specs.Given.{store_given, store_after, Appended, AppendedPart, IsUnchanged, TellsAll};
+ghost use Rattle.qm_run.specs.Refusals.{refusal_of, IsDue};
 
 use qm_base::{Digest, Error, JournalError, Key, VariableValue};
 use qm_lines::{AnyPolicy, Listed};
+use qm_merkle::Proof;
 use qm_store::Store;
 use std::alloc::{AllocError, Global};
+use std::num::NonZeroU64;
 
 /// What a call that takes the database by value gives back where it refuses: the database as it was, or its store,
 /// which can be opened again.
@@ -93,7 +99,13 @@ pub trait Engine<C: Store>: Drop + Sized {
     /// Up to where a list may be pruned.
     ghost boundary: { List Operation → ℕ };
 
-    /// Opens a database over an empty store: a fresh list.
+    /// The proof of a list's operations from one location up to another, in the whole list.
+    ghost proof: { List Operation → ℕ → ℕ → proofs.Proof };
+
+    /// The digests of the peaks over a list's first operations, so many.
+    ghost pins: { List Operation → ℕ → List Bytes };
+
+    /// Opens a database over an empty store: a fresh list. Only memory and the store can fail.
     fn open(alloc: Global, store: C, config: &Self::Config) -> Result<Self, Refusal<Self, C>>
         requires start { C.start store ≡ 0 }
         requires empty { C.end store ≡ 0 }
@@ -102,7 +114,7 @@ pub trait Engine<C: Store>: Drop + Sized {
         ensures kept { IfErr result (λ r. AppendedPart C.Store store (store_given inside r.given) (map spelling fresh)) }
         ensures cause { IfErr result (λ r. r.error ≡ Error.Journal JournalError.Store → Rose (C.faults store) (C.faults (store_given inside r.given))) }
         ensures later { C.faults store ≤ C.faults (store_after inside result) }
-        ensures never { IfErr result (λ r. r.error ≢ Error.StaleBatch) };
+        ensures refused { IfErr result (λ r. refusal_of r.error ≡ None) };
 
     /// Lends the store.
     fn store(&self) -> &C
@@ -138,7 +150,8 @@ pub trait Engine<C: Store>: Drop + Sized {
             → is_batch b chain (ws ++ record { key = Self.Key.bytes key; value = None } ∷ [])) };
 
     /// Makes the batch's tip list: a step of its base list, under the policy. The batch is consumed also where
-    /// this is refused, and the policy may have moved on.
+    /// this is refused, and the policy may have moved on. It is refused where the batch is stale, where an own
+    /// operation's spelling has more than 65,536 bytes, and where the list has more than 2^62 operations.
     fn merkleize(
         &mut self,
         alloc: Global,
@@ -149,9 +162,14 @@ pub trait Engine<C: Store>: Drop + Sized {
         ensures fits { IfOk result (λ b. (list : List Operation) (chain : Chain) (ws : List Write) → stands self.old list → is_batch batch chain ws
             → fits root (commitment root list) chain ≡ true) }
         ensures made { IfOk result (λ b. (list : List Operation) (chain : Chain) (ws : List Write) → stands self.old list → is_batch batch chain ws → IsOnChain list chain
-            → is_merkleized b chain (step kind policies chain.base ws (policy_view policy.old) (option_map Self.Value.bytes metadata.now))) }
+            → let tip = step kind policies chain.base ws (policy_view policy.old) (option_map Self.Value.bytes metadata.now) in
+            (tip_refusal chain tip ≡ None) × is_merkleized b chain tip) }
         ensures stale { IfErr result (λ e. e ≡ Error.StaleBatch → (list : List Operation) (chain : Chain) (ws : List Write) → stands self.old list → is_batch batch chain ws
             → ¬ IsOnChain list chain) }
+        ensures refused { IfErr result (λ e. e ≢ Error.StaleBatch → TellsAll C.Store (inside self.old)
+            → (list : List Operation) (chain : Chain) (ws : List Write) → stands self.old list → is_batch batch chain ws
+            → IfSome (refusal_of e) (λ r. (fits root (commitment root list) chain ≡ true)
+            × (IsOnChain list chain → tip_refusal chain (step kind policies chain.base ws (policy_view policy.old) (option_map Self.Value.bytes metadata.now)) ≡ Some r))) }
         ensures same { (list : List Operation) → stands self.old list → stands self.new list }
         ensures store { IsUnchanged C.Store (inside self.old) (inside self.new) }
         ensures cause { IfErr result (λ e. e ≡ Error.Journal JournalError.Store → Rose (C.faults (inside self.old)) (C.faults (inside self.new))) }
@@ -180,6 +198,7 @@ pub trait Engine<C: Store>: Drop + Sized {
             → Appended C.Store (inside self) (inside next) (map spelling (drop (length list) tip))) }
         ensures stale { IfErr result (λ r. r.error ≡ Error.StaleBatch → (r.given ≡ Given.Database self)
             × ((list : List Operation) (chain : Chain) (tip : List Operation) → stands self list → is_merkleized batch.now chain tip → ¬ IsOnChain list chain)) }
+        ensures refused { IfErr result (λ r. r.error ≢ Error.StaleBatch → refusal_of r.error ≡ None) }
         ensures kept { IfErr result (λ r. (list : List Operation) (chain : Chain) (tip : List Operation) → stands self list → is_merkleized batch.now chain tip
             → AppendedPart C.Store (inside self) (store_given inside r.given) (if fits root (commitment root list) chain then map spelling (drop (length list) tip) else [])) }
         ensures back { IfErr result (λ r. (x : Self) → r.given ≡ Given.Database x → x ≡ self) }
@@ -193,7 +212,38 @@ pub trait Engine<C: Store>: Drop + Sized {
         ensures store { IsUnchanged C.Store (inside self.old) (inside self.new) }
         ensures cause { IfErr result (λ e. e ≡ Error.Journal JournalError.Store → Rose (C.faults (inside self.old)) (C.faults (inside self.new))) }
         ensures later { C.faults (inside self.old) ≤ C.faults (inside self.new) }
+        ensures never { IfErr result (λ e. e ≢ Error.StaleBatch) }
+        ensures refused { IfErr result (λ e. TellsAll C.Store (inside self.old) → (list : List Operation) → stands self.old list → refusal_of e ≡ None) };
+
+    /// Operations from `start` on, at most `max`, and their proof in the list of the database's first `size`
+    /// operations, which has to end with a commit. Where the store tells its items from 0 on it is refused only as
+    /// the definition says; another store may have forgotten, or not keep, what is asked.
+    fn prove(
+        &mut self,
+        alloc: Global,
+        size: u64,
+        start: u64,
+        max: NonZeroU64,
+    ) -> Result<(Proof<Self::Digest>, Vec<Listed<Self::Key, Self::Value>>), Error>
+        ensures offered { IfOk result (λ r. (list : List Operation) → stands self.old list → proof_refusal list size start ≡ None) }
+        ensures proof { IfOk result (λ r. (list : List Operation) → stands self.old list
+            → proof_view Self.Digest.bytes r.0 ≡ proof (take size list) start (start + proof_count size start (non_zero_u64_get max))) }
+        ensures ops { IfOk result (λ r. (list : List Operation) → stands self.old list
+            → map (listed_view Self.Key.bytes Self.Value.bytes) r.1.items ≡ take (proof_count size start (non_zero_u64_get max)) (drop start list)) }
+        ensures refused { IfErr result (λ e. TellsAll C.Store (inside self.old) → (list : List Operation) → stands self.old list → IsDue e (proof_refusal list size start)) }
+        ensures same { (list : List Operation) → stands self.old list → stands self.new list }
+        ensures store { IsUnchanged C.Store (inside self.old) (inside self.new) }
+        ensures cause { IfErr result (λ e. e ≡ Error.Journal JournalError.Store → Rose (C.faults (inside self.old)) (C.faults (inside self.new))) }
+        ensures later { C.faults (inside self.old) ≤ C.faults (inside self.new) }
         ensures never { IfErr result (λ e. e ≢ Error.StaleBatch) };
+
+    /// The digests of the peaks over the first `at` operations, which a node that starts there has to keep. A store
+    /// that starts above 0 may have forgotten them.
+    fn pins(&self, alloc: Global, at: u64) -> Result<Vec<Self::Digest>, Error>
+        ensures offered { IfOk result (λ digests. (list : List Operation) → stands self.now list → pins_refusal list at ≡ None) }
+        ensures digests { IfOk result (λ digests. (list : List Operation) → stands self.now list → map Self.Digest.bytes digests.items ≡ pins list at) }
+        ensures refused { IfErr result (λ e. C.start (inside self.now) ≡ 0 → (list : List Operation) → stands self.now list → IsDue e (pins_refusal list at)) }
+        ensures never { IfErr result (λ e. (e ≢ Error.StaleBatch) × (e ≢ Error.Journal JournalError.Store)) };
 
     /// The operations root of the database's list.
     fn root(&self, alloc: Global) -> Result<Self::Digest, AllocError>

@@ -6,7 +6,7 @@ ghost use Rattle.qm_model.specs.Live as lives;
 ghost use Rattle.qm_model.specs.Mmr.{mmr};
 ghost use Rattle.qm_model.specs.Operations.{Operation, spelling, fresh};
 ghost use Rattle.qm_model.specs.Policies.{policies};
-ghost use Rattle.qm_model.specs.Roots.{sha256_root};
+ghost use Rattle.qm_model.specs.Roots.{sha256_root, sha256_proof, sha256_pins};
 ghost use Rattle.qm_model.specs.Step as steps;
 ghost use Rattle.qm_lines.specs.Views.{policy_view};
 ghost use Rattle.qm_store.specs.Log as logs;
@@ -23,10 +23,11 @@ use qm_base::{
     ByteKey, ByteValue, Commitment, Digest, Error, JournalError, Sha256, Sha256Digest, Twin,
 };
 use qm_lines::{AnyPolicy, Listed};
-use qm_merkle::{StandardHasher, mmr};
+use qm_merkle::{Proof, StandardHasher, mmr};
 use qm_store::{AuthLog, LogError, LogGiven, LogRefusal, Store};
 use std::alloc::{AllocError, Global};
 use std::marker::Model;
+use std::num::NonZeroU64;
 use std::rc::Rc;
 
 /// An operation of this database.
@@ -328,6 +329,10 @@ impl<C: Store> Engine<C> for LogDb<C> {
 
     ghost boundary = { lives.floor };
 
+    ghost proof = { sha256_proof mmr };
+
+    ghost pins = { sha256_pins mmr };
+
     fn open(alloc: Global, store: C, _config: &()) -> Result<Self, Refusal<Self, C>> {
         match fresh_parts(alloc) {
             Err(_) => Err(Refusal {
@@ -454,6 +459,20 @@ impl<C: Store> Engine<C> for LogDb<C> {
                 Ok(Some(value))
             }
         }
+    }
+
+    fn prove(
+        &mut self,
+        _alloc: Global,
+        _size: u64,
+        _start: u64,
+        _max: NonZeroU64,
+    ) -> Result<(Proof<Sha256Digest>, Vec<Listed<ByteKey, ByteValue>>), Error> {
+        Err(Error::Memory)
+    }
+
+    fn pins(&self, _alloc: Global, _at: u64) -> Result<Vec<Sha256Digest>, Error> {
+        Err(Error::Memory)
     }
 
     fn root(&self, _alloc: Global) -> Result<Sha256Digest, AllocError> {

@@ -1,12 +1,12 @@
 // What a run holds between two commands.
 ghost use Rattle.std.specs.Prelude.{◌≡◌};
 ghost use Rattle.qm_run.specs.Given.{store_given};
-ghost use Rattle.qm_run.specs.Turn.{turn_of_error};
+ghost use Rattle.qm_run.specs.Turn.{turn_of_tree, turn_of_log, turn_of_error};
 
 use crate::engine::{Engine, Given};
 use crate::table::Slot;
-use qm_base::Error;
-use qm_lines::{Refused, Reply};
+use qm_base::{Error, JournalError, MerkleError};
+use qm_lines::{LogRefused, Refused, Reply, TreeRefused};
 use qm_store::Store;
 
 /// The database or its store, the batches, and how many openings were accepted.
@@ -27,15 +27,46 @@ pub enum Turn<K, V, D> {
     StoreFault,
 }
 
-/// What an error of a call comes to.
+// What an error of a tree comes to.
+fn turn_of_tree<K: Drop, V: Drop, D: Drop>(error: MerkleError) -> Turn<K, V, D>
+    ensures { result ≡ turn_of_tree error }
+{
+    let refused = match error {
+        MerkleError::Memory => return Turn::Memory,
+        MerkleError::RangeOutOfBounds(at) => TreeRefused::RangeOutOfBounds(at),
+        MerkleError::ElementPruned(position) => TreeRefused::ElementPruned(position),
+        MerkleError::MissingNode(position) => TreeRefused::MissingNode(position),
+        MerkleError::LocationOverflow(count) => TreeRefused::LocationOverflow(count),
+    };
+    Turn::Reply(Reply::Refused(Refused::Merkle(refused)))
+}
+
+// What an error of a log comes to.
+fn turn_of_log<K: Drop, V: Drop, D: Drop>(error: JournalError) -> Turn<K, V, D>
+    ensures { result ≡ turn_of_log error }
+{
+    let refused = match error {
+        JournalError::Store => return Turn::StoreFault,
+        JournalError::ItemPruned(location) => LogRefused::ItemPruned(location),
+        JournalError::ItemTooLarge(length) => LogRefused::ItemTooLarge(length),
+    };
+    Turn::Reply(Reply::Refused(Refused::Journal(refused)))
+}
+
+/// What an error of a call comes to: a refusal, or the end of the run.
 pub fn turn_of<K: Drop, V: Drop, D: Drop>(error: Error) -> Turn<K, V, D>
     ensures { result ≡ turn_of_error error }
 {
-    match error {
-        Error::Memory => Turn::Memory,
-        Error::StaleBatch => Turn::Reply(Reply::Refused(Refused::StaleBatch)),
-        Error::Journal(_) => Turn::StoreFault,
-    }
+    let refused = match error {
+        Error::Memory => return Turn::Memory,
+        Error::Merkle(error) => return turn_of_tree(error),
+        Error::Journal(error) => return turn_of_log(error),
+        Error::StaleBatch => Refused::StaleBatch,
+        Error::StaleRead => Refused::StaleRead,
+        Error::HistoricalFloorPruned(size) => Refused::HistoricalFloorPruned(size),
+        Error::DataCorrupted(corrupt) => Refused::DataCorrupted(corrupt),
+    };
+    Turn::Reply(Reply::Refused(refused))
 }
 
 /// The store that is held, by itself or inside the database.

@@ -129,11 +129,17 @@ fn inputs_have_replies(rt: HostRuntime) -> Result<(), Fail> {
             0,
             "open 1 0 1\nbatch 1\nbatch 2\nok\nmerkleized 1 1 4 2\napplied 4\nrefused StaleBatch\nrefused NoSuchHandle 2\nrefused NotOffered\n",
         ),
-        // Nor can it be applied.
+        // Nor can it be applied, though its list has the size of the one that was.
         (
             "open\nbatch\nbatch\nput 1 61 01\nput 2 61 02\nmerkleize 1 prop none\nmerkleize 2 prop none\napply 1\napply 2\nget 61\n",
             0,
             "open 1 0 1\nbatch 1\nbatch 2\nok\nok\nmerkleized 1 1 4 2\nmerkleized 2 1 4 2\napplied 4\nrefused StaleBatch\nread 01\n",
+        ),
+        // Proofs and pins, and their refusals.
+        (
+            "prove 1 0 1\npins 0\nopen\nbatch\nput 1 6b 76\nmerkleize 1 prop none\napply 1\nprove 4 0 9\nprove 1 0 1\nprove 3 0 1\nprove 0 0 1\nprove 5 0 1\nprove 4 4 1\npins 0\npins 5\nmeta\nprove 4 1 2\npins 4\nprove 4 0 0\n",
+            2,
+            "refused NoDatabase\nrefused NoDatabase\nopen 1 0 1\nbatch 1\nok\nmerkleized 1 1 4 2\napplied 4\nproof 4 0 / C:none@0 U:6b=76 U:6b=76 C:none@2\nproof 1 0 / C:none@0\nrefused HistoricalFloorPruned 3\nrefused HistoricalFloorPruned 0\nrefused Merkle RangeOutOfBounds 5\nrefused Merkle RangeOutOfBounds 4\npins\nrefused Merkle RangeOutOfBounds 5\nmeta none\nproof 4 0 6e290ec1b71d702d95e7193ca20dc9da03b9bcdc2645c140bddcd6d81480bb3a 8843d42fc32ad0efbba7c0f8559d761ce243a6023f95981b717d52c5a70055db / U:6b=76 U:6b=76\npins cbb112f8deafdd1075d117a89941c39dd819d40a0e76f2e0ee154a2d1053dcb6\nbad line 19\n",
         ),
     ];
     for (input, status, replies) in table {

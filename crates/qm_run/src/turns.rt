@@ -1,14 +1,17 @@
 // One command over what a run holds.
-ghost use Rattle.std.specs.Prelude.{◌≡◌, ◌+◌, ◌++◌, ◌∷◌, [], ◌^◌, ◌<◌, ◌≤◌, ℕ, List, Some, None, true, option_map, IfOk, IfErr};
+ghost use Rattle.std.specs.Prelude.{◌≡◌, ◌+◌, ◌++◌, ◌∷◌, [], ◌^◌, ◌<◌, ◌≤◌, ◌≢◌, ℕ, List, Some, None, true, option_map, IfOk, IfErr, IfSome};
+ghost use Rattle.std.specs.Int.NonZero.{non_zero_u64_get};
 ghost use Rattle.qm_model.specs.Causes.{Rose};
 ghost use Rattle.qm_model.specs.Operations.{Operation};
 ghost use Rattle.qm_model.specs.Writes.{Write};
 ghost use Rattle.qm_model.specs.Step.{step};
 ghost use Rattle.qm_model.specs.Batches.{Chain, IsOnChain, commitment, fits};
 ghost use Rattle.qm_model.specs.Policies.{policies};
+ghost use Rattle.qm_model.specs.Refusals.{tip_refusal};
 ghost use Rattle.qm_model.specs.Machine as machine;
 ghost use Rattle.qm_lines.specs.Views.{policy_view, line_view};
-ghost use Rattle.qm_run.specs.Given.{store_given, IsUnchanged};
+ghost use Rattle.qm_run.specs.Given.{store_given, IsUnchanged, TellsAll};
+ghost use Rattle.qm_run.specs.Refusals.{refusal_of};
 ghost use Rattle.qm_run.specs.Session.{meaning, scheme_of, Obeys, Leaves, Causes};
 
 use crate::engine::{Engine, Given, Numbers};
@@ -16,8 +19,10 @@ use crate::session::{Of, Session, Turn, close, turn_of};
 use crate::table::{Slot, merkleized_at, push_slot, put_slot, take_writing};
 use qm_base::{Error, JournalError, Twin};
 use qm_lines::{AnyPolicy, Command, Refused, Reply};
+use qm_merkle::Proof;
 use qm_store::Store;
 use std::alloc::{AllocError, Global};
+use std::num::NonZeroU64;
 
 /// Where the items of the held store start and end.
 fn bounds<X: Engine<C>, C: Store>(held: &Given<X, C>) -> (u64, u64)
@@ -282,9 +287,14 @@ fn merkleize_batch<X: Engine<C>, C: Store>(
     ensures fits { IfOk result (λ b. (list : List Operation) (chain : Chain) (ws : List Write) → X.stands database.old list → X.is_batch batch chain ws
         → fits X.root (commitment X.root list) chain ≡ true) }
     ensures made { IfOk result (λ b. (list : List Operation) (chain : Chain) (ws : List Write) → X.stands database.old list → X.is_batch batch chain ws → IsOnChain list chain
-        → X.is_merkleized b chain (step X.kind policies chain.base ws (policy_view policy.now) (option_map X.Value.bytes metadata.now))) }
+        → let tip = step X.kind policies chain.base ws (policy_view policy.now) (option_map X.Value.bytes metadata.now) in
+        (tip_refusal chain tip ≡ None) × X.is_merkleized b chain tip) }
     ensures stale { IfErr result (λ e. e ≡ Error.StaleBatch → (list : List Operation) (chain : Chain) (ws : List Write) → X.stands database.old list → X.is_batch batch chain ws
         → ¬ IsOnChain list chain) }
+    ensures refused { IfErr result (λ e. e ≢ Error.StaleBatch → TellsAll C.Store (X.inside database.old)
+        → (list : List Operation) (chain : Chain) (ws : List Write) → X.stands database.old list → X.is_batch batch chain ws
+        → IfSome (refusal_of e) (λ r. (fits X.root (commitment X.root list) chain ≡ true)
+        × (IsOnChain list chain → tip_refusal chain (step X.kind policies chain.base ws (policy_view policy.now) (option_map X.Value.bytes metadata.now)) ≡ Some r))) }
     ensures same { (list : List Operation) → X.stands database.old list → X.stands database.new list }
     ensures store { IsUnchanged C.Store (X.inside database.old) (X.inside database.new) }
     ensures cause { IfErr result (λ e. e ≡ Error.Journal JournalError.Store → Rose (C.faults (X.inside database.old)) (C.faults (X.inside database.new))) }
@@ -639,6 +649,107 @@ fn meta<X: Engine<C>, C: Store>(
     }
 }
 
+fn prove<X: Engine<C>, C: Store>(
+    alloc: Global,
+    session: Of<X, C>,
+    size: u64,
+    start: u64,
+    max: NonZeroU64,
+) -> (Of<X, C>, Turn<X::Key, X::Value, X::Digest>)
+    ensures machine { Obeys (meaning X.Engine C.Store) X.Key.bytes X.Value.bytes X.Digest.bytes X.root session result.0 result.1
+        (λ s. machine.prove (scheme_of X.Engine) s size start (non_zero_u64_get max)) }
+    ensures store { IsUnchanged C.Store (store_given X.inside session.held) (store_given X.inside result.0.held) }
+    ensures causes { Causes (C.faults (store_given X.inside session.held)) (C.faults (store_given X.inside result.0.held)) result.1 }
+    ensures opened { result.0.opened ≡ session.opened }
+{
+    let Session {
+        held,
+        table,
+        opened,
+    } = session;
+    match held {
+        Given::Store(store) => (
+            Session {
+                held: Given::Store(store),
+                table,
+                opened,
+            },
+            Turn::Reply(Reply::Refused(Refused::NoDatabase)),
+        ),
+        Given::Database(mut x) => match x.prove(alloc, size, start, max) {
+            Ok((proof, operations)) => {
+                let Proof {
+                    leaves,
+                    inactive_peaks,
+                    digests,
+                } = proof;
+                (
+                    Session {
+                        held: Given::Database(x),
+                        table,
+                        opened,
+                    },
+                    Turn::Reply(Reply::Proof(leaves, inactive_peaks as u64, digests, operations)),
+                )
+            }
+            Err(error) => (
+                Session {
+                    held: Given::Database(x),
+                    table,
+                    opened,
+                },
+                turn_of(error),
+            ),
+        },
+    }
+}
+
+fn pins<X: Engine<C>, C: Store>(
+    alloc: Global,
+    session: Of<X, C>,
+    at: u64,
+) -> (Of<X, C>, Turn<X::Key, X::Value, X::Digest>)
+    ensures machine { Obeys (meaning X.Engine C.Store) X.Key.bytes X.Value.bytes X.Digest.bytes X.root session result.0 result.1
+        (λ s. machine.pins (scheme_of X.Engine) s at) }
+    ensures store { IsUnchanged C.Store (store_given X.inside session.held) (store_given X.inside result.0.held) }
+    ensures causes { Causes (C.faults (store_given X.inside session.held)) (C.faults (store_given X.inside result.0.held)) result.1 }
+    ensures opened { result.0.opened ≡ session.opened }
+{
+    let Session {
+        held,
+        table,
+        opened,
+    } = session;
+    match held {
+        Given::Store(store) => (
+            Session {
+                held: Given::Store(store),
+                table,
+                opened,
+            },
+            Turn::Reply(Reply::Refused(Refused::NoDatabase)),
+        ),
+        Given::Database(x) => match x.pins(alloc, at) {
+            Ok(digests) => (
+                Session {
+                    held: Given::Database(x),
+                    table,
+                    opened,
+                },
+                Turn::Reply(Reply::Pins(digests)),
+            ),
+            Err(error) => (
+                Session {
+                    held: Given::Database(x),
+                    table,
+                    opened,
+                },
+                turn_of(error),
+            ),
+        },
+    }
+}
+
 /// One command: the machine's turn.
 pub fn turn<X: Engine<C>, C: Store>(
     alloc: Global,
@@ -668,5 +779,7 @@ pub fn turn<X: Engine<C>, C: Store>(
         Command::Info => info::<X, C>(session),
         Command::Root => root::<X, C>(alloc, session),
         Command::Meta => meta::<X, C>(alloc, session),
+        Command::Prove(size, start, max) => prove::<X, C>(alloc, session, *size, *start, *max),
+        Command::Pins(at) => pins::<X, C>(alloc, session, *at),
     }
 }

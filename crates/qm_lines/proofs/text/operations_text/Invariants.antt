@@ -1,9 +1,8 @@
-use Rattle.std.proofs.Common.{◌≡◌, ◌++◌, map, take, flat_map}
-use Rattle.std.specs.Prelude.{codes}
+use Rattle.std.proofs.Common.{◌≡◌, map, take}
 use Rattle.std.specs.String.{string_bytes}
-use Rattle.qm_model.specs.Text.{operation_text}
+use Rattle.qm_model.specs.Text as texts
 use Rattle.qm_lines.specs.Views.{listed_view}
 use Rattle.qm_lines.proofs.text.operations_text.Given as goal
 
 abbrev pub invariant-loop-op : goal.invariant-loop-op
-invariant-loop-op g l = string_bytes l.out ≡ flat_map (λ op. codes " " ++ operation_text op) (map (listed_view g.K.ByteString.bytes g.V.ByteString.bytes) (take l.op-index l.ops))
+invariant-loop-op g l = string_bytes l.out ≡ texts.operations_text (map (listed_view g.K.ByteString.bytes g.V.ByteString.bytes) (take l.op-index l.ops))

@@ -35,7 +35,7 @@ returns-in-Err-clause-machine g c = λ s k.
     let m : Meaning g.row.X.Denot g.row.C.Denot g.row.X-Batch.Denot g.row.X-Merkleized.Denot = meaning g.X.Engine g.C.Store in
     let scheme : Scheme Policy = scheme_of g.X.Engine in
     rw c.turn_of.ensures (apply_err m g.X.Key.ByteString.bytes g.X.Value.ByteString.bytes g.X.Digest.Digest.bytes scheme c.in-Database.x c.in-Err.refusal.given c.args.session.table.items c.args.session.opened c.args.number c.in-Some.batch.now c.in-Err.refusal.error s (rw c.in-Database.is at k)
-    c.in-Err.ensures.stale (sym c.in-Some.ensures))
+    c.in-Err.ensures.stale c.in-Err.ensures.refused (sym c.in-Some.ensures))
 
 pub returns-in-Err-clause-left : goal.returns-in-Err-clause-left
 returns-in-Err-clause-left g c = λ s k apart.

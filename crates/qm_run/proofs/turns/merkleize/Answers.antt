@@ -1,9 +1,10 @@
 use Rattle.std.proofs.Common.{sym, option_map}
 use Rattle.qm_model.specs.Policies.{Policy}
 use Rattle.qm_model.specs.Machine.{Scheme}
+use Rattle.qm_run.specs.declared.engine.Given.TheVariants.{Database}
 use Rattle.qm_run.specs.Session.{Meaning, meaning, scheme_of}
 use Rattle.qm_lines.specs.Views.{policy_view}
-use Rattle.qm_run.proofs.Commands.{no_batch, merkleize_ok, merkleize_err}
+use Rattle.qm_run.proofs.Commands.{Holds-told, no_batch, merkleize_ok, merkleize_err}
 use Rattle.qm_run.proofs.turns.merkleize.Goals as goal
 
 pub returns-in-None-clause-machine : goal.returns-in-None-clause-machine
@@ -27,4 +28,5 @@ returns-in-Err-clause-machine g c = λ s k.
     let scheme : Scheme Policy = scheme_of g.X.Engine in
     rw (c.turn_of.ensures, c.in-Some.ensures.table) (merkleize_err m g.X.Key.ByteString.bytes g.X.Value.ByteString.bytes g.X.Digest.Digest.bytes scheme c.in-Database.x c.merkleize_batch.new.database c.args.session.table.items c.args.session.opened c.args.number
     (policy_view c.args.policy.now) (option_map g.X.Value.ByteString.bytes c.args.metadata.now) c.in-Some.batch c.in-Err.error s (rw c.in-Database.is at k)
-    c.merkleize_batch.ensures.same c.merkleize_batch.ensures.store.start c.merkleize_batch.ensures.store.items c.in-Err.ensures.stale (sym c.in-Some.ensures.value))
+    c.merkleize_batch.ensures.same c.merkleize_batch.ensures.store.start c.merkleize_batch.ensures.store.items c.in-Err.ensures.stale
+    (λ other list chain ws stands is. c.in-Err.ensures.refused other (Holds-told m g.X.Key.ByteString.bytes g.X.Value.ByteString.bytes g.X.Digest.Digest.bytes scheme (Database c.in-Database.x) c.args.session.table.items c.args.session.opened s (rw c.in-Database.is at k)) list chain ws stands is) (sym c.in-Some.ensures.value))

@@ -4,7 +4,7 @@ use Rattle.qm_model.specs.Policies.{Policy}
 use Rattle.qm_model.specs.Machine.{Scheme}
 use Rattle.qm_run.specs.Session.{Meaning, meaning, scheme_of}
 use Rattle.qm_run.specs.Given.{store_given}
-use Rattle.qm_run.proofs.Commands.{Grows-whole, open_refused, open_ok, open_left}
+use Rattle.qm_run.proofs.Commands.{Grows-whole, open_refused, open_ok, open_left, no_refusal}
 use Rattle.qm_run.proofs.turns.open.Goals as goal
 use Rattle.qm_run.proofs.turns.open.Goals.{then-start-gt0-via-then-start-gt0, then-start-gt0-via-else-start-gt0+then-end-gt0}
 
@@ -40,3 +40,6 @@ returns-in-Ok-clause-left g c = λ s k apart.
     let grown = rw c.close-store.ensures at c.in-Ok.ensures.grown in
     open_left m g.X.Key.ByteString.bytes g.X.Value.ByteString.bytes g.X.Digest.Digest.bytes scheme c.args.session.held (m.items (m.inside c.in-Ok.x)) c.bounds-start.result.1 c.args.session.table.items c.args.session.opened s k law
     (omega arith) (Grows-whole (m.items (store_given m.inside c.args.session.held)) (m.items (m.inside c.in-Ok.x)) (map spelling fresh) grown.items)
+
+pub returns-in-Err-clause-machine : goal.returns-in-Err-clause-machine
+returns-in-Err-clause-machine g c = λ s k. rw c.turn_of.ensures (no_refusal c.in-Err.refusal.error _ c.in-Err.ensures.refused)

@@ -1,10 +1,11 @@
 use Rattle.std.proofs.Common.{option_map}
+use Rattle.std.specs.Int.NonZero.{non_zero_u64_get}
 use Rattle.qm_model.specs.Policies.{Policy}
 use Rattle.qm_model.specs.Machine.{Scheme, slot_at}
 use Rattle.qm_lines.specs.Views.{policy_view}
 use Rattle.qm_run.specs.Session.{scheme_of}
 use Rattle.qm_run.specs.Given.{store_given}
-use Rattle.qm_run.proofs.Commands.{unchanged_left, put_items, ops_items, merkleize_items}
+use Rattle.qm_run.proofs.Commands.{unchanged_left, put_items, ops_items, merkleize_items, prove_items, pins_items}
 use Rattle.qm_run.proofs.turns.turn.Goals as goal
 
 pub returns-in-Open-clause-machine : goal.returns-in-Open-clause-machine
@@ -54,3 +55,21 @@ returns-in-Root-clause-machine g c = λ s k. rw c.in-Root.is (c.root.ensures.mac
 
 pub returns-in-Meta-clause-machine : goal.returns-in-Meta-clause-machine
 returns-in-Meta-clause-machine g c = λ s k. rw c.in-Meta.is (c.meta.ensures.machine s k)
+
+pub returns-in-Prove-clause-machine : goal.returns-in-Prove-clause-machine
+returns-in-Prove-clause-machine g c = λ s k. rw c.in-Prove.is (c.prove.ensures.machine s k)
+
+pub returns-in-Prove-clause-left : goal.returns-in-Prove-clause-left
+returns-in-Prove-clause-left g c = λ s k apart.
+    let scheme : Scheme Policy = scheme_of g.X.Engine in
+    rw c.in-Prove.is (unchanged_left (g.C.Store.items (store_given g.X.Engine.inside c.args.session.held)) (g.C.Store.items (store_given g.X.Engine.inside c.prove.result.0.held)) s.items _ k.items c.prove.ensures.store.items
+    (prove_items scheme s c.in-Prove.size c.in-Prove.start (non_zero_u64_get c.in-Prove.max)))
+
+pub returns-in-Pins-clause-machine : goal.returns-in-Pins-clause-machine
+returns-in-Pins-clause-machine g c = λ s k. rw c.in-Pins.is (c.pins.ensures.machine s k)
+
+pub returns-in-Pins-clause-left : goal.returns-in-Pins-clause-left
+returns-in-Pins-clause-left g c = λ s k apart.
+    let scheme : Scheme Policy = scheme_of g.X.Engine in
+    rw c.in-Pins.is (unchanged_left (g.C.Store.items (store_given g.X.Engine.inside c.args.session.held)) (g.C.Store.items (store_given g.X.Engine.inside c.pins.result.0.held)) s.items _ k.items c.pins.ensures.store.items
+    (pins_items scheme s c.in-Pins.at))
