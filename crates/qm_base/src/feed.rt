@@ -5,20 +5,21 @@ ghost use Rattle.std.specs.Prelude.{List, ℕ, ◌++◌, option_map};
 ghost use Rattle.qm_model.specs.Operations as model;
 
 use crate::byte_strings::ByteString;
-use crate::digest::Hasher;
+use crate::digest::{Hasher, Spelled};
 use crate::operation::{Operation, eight_bytes, four_bytes};
 use crate::update::Update;
 
-impl<F, U: Update> Operation<F, U> {
+impl<F, U: Update> Spelled for Operation<F, U> {
     ghost use Rattle.qm_base.specs.Views.{operation_view};
 
-    /// Adds the spelling to a hasher's message, piece by piece, without memory.
-    pub fn feed<H: Hasher>(&self, hasher: &mut H)
-        ensures { (m : List ℕ) → H.holds hasher.old m
-            → H.holds hasher.new (m ++ model.spelling (operation_view U.view U.Key.bytes U.Value.bytes self.now)) }
-    {
+    ghost spelling = { λ o. model.spelling (operation_view U.view U.Key.bytes U.Value.bytes o) };
+
+    fn feed<H: Hasher>(&self, hasher: &mut H) {
         match self {
-            Operation::Update(update) => feed_update(hasher, update),
+            Operation::Update(update) => {
+                let (key, value, next) = update.parts();
+                feed_update(hasher, key, value, next);
+            }
             Operation::Delete(key) => {
                 hasher.update(&[2]);
                 feed_field(hasher, key);
@@ -55,10 +56,15 @@ fn feed_metadata<H: Hasher, B: ByteString>(hasher: &mut H, metadata: &Option<B>)
 }
 
 // Adds the fields of an update behind their tag.
-fn feed_update<H: Hasher, U: Update>(hasher: &mut H, update: &U)
-    ensures { (m : List ℕ) → H.holds hasher.old m → H.holds hasher.new (m ++ model.spelling (U.view update.now)) }
+fn feed_update<H: Hasher, K: ByteString, V: ByteString>(
+    hasher: &mut H,
+    key: &K,
+    value: &V,
+    next: Option<&K>,
+)
+    ensures { (m : List ℕ) → H.holds hasher.old m
+        → H.holds hasher.new (m ++ model.spelling (model.update (K.bytes key.now) (V.bytes value.now) (option_map (λ k. K.bytes k.now) next.entry))) }
 {
-    let (key, value, next) = update.parts();
     hasher.update(&[1]);
     feed_field(hasher, key);
     feed_field(hasher, value);

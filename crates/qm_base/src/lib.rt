@@ -17,7 +17,7 @@ pub mod update;
 
 pub use byte_strings::{ByteKey, ByteString, ByteValue, Key, Twin, VariableValue};
 pub use commitment::Commitment;
-pub use digest::{Digest, Hasher};
+pub use digest::{Digest, Hasher, Spelled};
 pub use error::{Corrupt, Error, JournalError, MerkleError};
 pub use gate::{Gate, OpenGate};
 pub use location::Location;

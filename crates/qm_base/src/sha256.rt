@@ -4,6 +4,7 @@ ghost use Rattle.std.specs.Prelude.{◌≡◌, length};
 ghost use Rattle.qm_base.specs.Sizes.{sized_path};
 ghost use Rattle.sha2.specs.Sha256.{sha256};
 ghost use Rattle.sha2.specs.Hashers.{Holds256};
+ghost use Rattle.sha2.proofs.Facts256.{length-sha256};
 
 use crate::digest::{Digest, Hasher};
 use sha2::Digest as _;
@@ -61,6 +62,8 @@ impl Hasher for Sha256 {
     ghost hash = { sha256 };
 
     ghost holds = { λ s m. Holds256 s.inner m };
+
+    ghost sized = { length-sha256 };
 
     fn start(&mut self) {
         self.inner = sha2::Sha256::new();

@@ -10,3 +10,7 @@ pub mod Histories
 pub mod Drafting
 pub mod Rows
 pub mod Putting
+pub mod Halving
+pub mod Listing
+pub mod Folding
+pub mod Telling

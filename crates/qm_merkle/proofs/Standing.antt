@@ -66,7 +66,7 @@ module _ (shape : Shape) (births : Births) (family : IsFamily shape births) (pea
 
   module _ {D : Type 0} (bytes : D → Bytes) (hash : Bytes → Bytes) (kept : Kept D) (leaves : List Bytes) (stands : Stands shape bytes hash kept leaves) where
     -- a pin is the digest of its peak
-    pinned : (x : Node) (xs : List Node) (ds : List D) → map bytes ds ≡ map (digest_of hash shape leaves) xs → Contains xs x → Gives bytes (pin_at (map shape.position xs) ds (shape.position x)) (digest_of hash shape leaves x)
+    pub pinned : (x : Node) (xs : List Node) (ds : List D) → map bytes ds ≡ map (digest_of hash shape leaves) xs → Contains xs x → Gives bytes (pin_at (map shape.position xs) ds (shape.position x)) (digest_of hash shape leaves x)
     pinned x xs ds same found = go xs ds same found.0 found.1 found.2
       where
         go : (xs : List Node) (ds : List D) → map bytes ds ≡ map (digest_of hash shape leaves) xs → (k : ℕ) → k < length xs → get_or xs k x ≡ x →

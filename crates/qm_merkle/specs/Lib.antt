@@ -1,3 +1,4 @@
 pub mod Batches
 pub mod Mems
+pub mod Proofs
 pub mod Putting

@@ -277,6 +277,16 @@ impl<F: Family, D: Digest> MerkleizedBatch<F, D> {
         self.newest.digest(position)
     }
 
+    // The digest of the node at this position, if the batch or those that it stands on add or replace it.
+    pub(crate) fn find_node(&self, position: Position<F>) -> Option<D>
+        ensures { result ≡ layers_at F.shape (all_layers self.now) position }
+    {
+        if let Some(digest) = self.newest.digest(position) {
+            return Some(digest);
+        }
+        layers_digest(&self.older, position)
+    }
+
     /// The root of the batch's list, the first of whose peaks are inactive.
     pub fn root<H: Hasher<Digest = D>>(
         &self,

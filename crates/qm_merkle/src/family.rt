@@ -1,6 +1,6 @@
 //! What a family of trees promises: how the nodes of a tree that grows by leaves are numbered.
 
-ghost use Rattle.std.specs.Prelude.{◌≡◌, ℕ, ◌+◌, ◌*◌, ◌<◌, ◌≤◌, ◌^◌, IfOk};
+ghost use Rattle.std.specs.Prelude.{◌≡◌, ℕ, ◌+◌, ◌*◌, ◌<◌, ◌≤◌, ◌^◌, length, slice_get, Some, IfOk};
 ghost use Rattle.qm_model.specs.Trees as trees;
 ghost use Rattle.qm_model.specs.Families.{Births, IsFamily, HasPeaks, StandsAt};
 
@@ -76,6 +76,17 @@ pub trait Family: Copy {
     fn peaks(alloc: Global, leaves: Location<Self>) -> Result<Vec<Node>, AllocError>
         requires { leaves ≤ 2 ^ 62 }
         ensures { IfOk result (λ v. v.items ≡ trees.peaks shape leaves) };
+
+    /// How many peaks stand over so many leaves, without memory.
+    fn peak_count(leaves: Location<Self>) -> u32
+        requires { leaves ≤ 2 ^ 62 }
+        ensures { result ≡ length (trees.peaks shape leaves) };
+
+    /// The peak of this number, from 0, of those over so many leaves, from left to right; without memory.
+    fn peak(leaves: Location<Self>, number: u32) -> Node
+        requires leaves { leaves ≤ 2 ^ 62 }
+        requires number { number < length (trees.peaks shape leaves) }
+        ensures { slice_get (trees.peaks shape leaves) number ≡ Some result };
 
     /// Where the peaks over so many leaves stand: the nodes that a tree pruned to there has to keep.
     fn nodes_to_pin(

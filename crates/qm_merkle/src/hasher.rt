@@ -7,7 +7,7 @@ ghost use Rattle.qm_merkle.specs.Mems.{more};
 
 use crate::position::Position;
 use qm_base::operation::eight_bytes;
-use qm_base::{Digest, Hasher, Location};
+use qm_base::{Digest, Hasher, Location, Spelled};
 use std::marker::Model;
 
 /// A hasher of trees over a hasher of messages, which counts the digests that it makes. It takes no memory.
@@ -48,6 +48,17 @@ impl<H: Hasher> StandardHasher<H> {
         self.hasher.start();
         self.hasher.update(&eight_bytes(position.get()));
         self.hasher.update(bytes);
+        finish(&mut self.hasher, &mut self.made)
+    }
+
+    /// The digest of the leaf at this position with the element's spelling.
+    pub fn leaf_digest_of<F, E: Spelled>(&mut self, position: Position<F>, element: &E) -> H::Digest
+        ensures digest { H.Digest.bytes result ≡ trees.leaf_digest H.hash position (E.spelling element.now) }
+        ensures made { self.new ≡ more self.old 1 }
+    {
+        self.hasher.start();
+        self.hasher.update(&eight_bytes(position.get()));
+        element.feed(&mut self.hasher);
         finish(&mut self.hasher, &mut self.made)
     }
 
@@ -97,7 +108,7 @@ impl<H: Hasher> StandardHasher<H> {
     }
 
     // The digest of two digests in a row.
-    fn pair_digest(&mut self, left: &H::Digest, right: &H::Digest) -> H::Digest
+    pub(crate) fn pair_digest(&mut self, left: &H::Digest, right: &H::Digest) -> H::Digest
         ensures digest { H.Digest.bytes result ≡ H.hash (H.Digest.bytes left.now ++ H.Digest.bytes right.now) }
         ensures made { self.new ≡ more self.old 1 }
     {
@@ -135,7 +146,12 @@ impl<H: Hasher> StandardHasher<H> {
     }
 
     // The digest of the two numbers and the folded peaks.
-    fn sealed<F>(&mut self, leaves: Location<F>, inactive: usize, folded: &[u8]) -> H::Digest
+    pub(crate) fn sealed<F>(
+        &mut self,
+        leaves: Location<F>,
+        inactive: usize,
+        folded: &[u8],
+    ) -> H::Digest
         ensures digest { H.Digest.bytes result ≡ H.hash (operations.eight_bytes leaves ++ operations.eight_bytes inactive ++ folded.now) }
         ensures made { self.new ≡ more self.old 1 }
     {

@@ -7,6 +7,7 @@ pub mod hasher;
 pub mod mem;
 pub mod mmr;
 pub mod position;
+pub mod proof;
 #[cfg(test)]
 mod tests;
 
@@ -14,3 +15,4 @@ pub use batch::{MerkleizedBatch, UnmerkleizedBatch};
 pub use family::{Family, Node};
 pub use hasher::StandardHasher;
 pub use position::Position;
+pub use proof::{Nodes, NodesOver, Proof};

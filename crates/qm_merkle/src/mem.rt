@@ -373,6 +373,8 @@ pub(crate) fn halves(node: Node) -> (Node, Node)
     requires within { trees.end_of node ≤ 2 ^ 62 }
     ensures left { result.0 ≡ left_of node }
     ensures right { result.1 ≡ right_of node }
+    ensures below { (result.0.height < node.height) × (result.1.height < node.height) }
+    ensures inside { (trees.end_of result.0 ≤ 2 ^ 62) × (trees.end_of result.1 ≤ 2 ^ 62) }
 {
     let height = node.height() - 1;
     let index = 2 * node.index();

@@ -1,6 +1,6 @@
 //! The family of Merkle mountain ranges.
 
-ghost use Rattle.std.specs.Prelude.{◌≡◌, ℕ, ◌+◌, ◌-◌, ◌*◌, ◌/◌, ◌%◌, ◌<◌, ◌≤◌, ◌^◌, ◌↔◌, IsTrue, IfOk};
+ghost use Rattle.std.specs.Prelude.{◌≡◌, ℕ, ◌+◌, ◌-◌, ◌*◌, ◌/◌, ◌%◌, ◌<◌, ◌≤◌, ◌^◌, ◌↔◌, IsTrue, IfOk, length, slice_get, Some};
 ghost use Rattle.qm_model.specs.Trees as trees;
 ghost use Rattle.qm_model.specs.Families.{StandsAt};
 ghost use Rattle.qm_model.specs.Mmr.{mmr, mmr_births};
@@ -112,6 +112,41 @@ impl crate::family::Family for Family {
             }
         }
         Ok(found)
+    }
+
+    fn peak_count(leaves: Location<Self>) -> u32
+        requires { leaves ≤ 2 ^ 62 }
+        ensures { result ≡ length (trees.peaks mmr leaves) }
+    {
+        let leaves = leaves.get();
+        let mut count = 0;
+        let mut height = 63;
+        'places: while height > 0 {
+            height -= 1;
+            if has_peak(leaves, height) {
+                count += 1;
+            }
+        }
+        count
+    }
+
+    fn peak(leaves: Location<Self>, number: u32) -> Node
+        requires leaves { leaves ≤ 2 ^ 62 }
+        requires number { number < length (trees.peaks mmr leaves) }
+        ensures { slice_get (trees.peaks mmr leaves) number ≡ Some result }
+    {
+        let leaves = leaves.get();
+        let mut left = number;
+        let mut height = 63;
+        'places: loop {
+            height -= 1;
+            if has_peak(leaves, height) {
+                if left == 0 {
+                    return Node::new(height, (leaves >> height) - 1);
+                }
+                left -= 1;
+            }
+        }
     }
 
     fn nodes_to_pin(

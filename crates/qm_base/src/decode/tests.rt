@@ -1,6 +1,6 @@
 //! Spellings, and bytes that are none.
 
-use crate::digest::{Digest, Hasher};
+use crate::digest::{Digest, Hasher, Spelled as _};
 use crate::sha256::Sha256;
 use crate::update::Unordered;
 use crate::{ByteKey, ByteString, ByteValue, Operation};
