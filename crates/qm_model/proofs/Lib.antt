@@ -11,3 +11,4 @@ pub mod Runs
 pub mod MmrPositions
 pub mod MmrFamily
 pub mod MmrPeaks
+pub mod Proving
