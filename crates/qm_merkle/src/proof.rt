@@ -48,6 +48,7 @@ impl<F: Family, D: Digest> Nodes<F, D> for Mem<F, D> {
 }
 
 /// The nodes of a batch's list: those of the batch and of the batches that it stands on, and those of the tree.
+#[derive(Drop)]
 pub struct NodesOver<'a, F: Family, D> {
     pub batch: &'a MerkleizedBatch<F, D>,
     pub mem: &'a Mem<F, D>,
