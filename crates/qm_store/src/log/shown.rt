@@ -1,6 +1,6 @@
 //! What a log shows of its items: proofs, peaks, and items in a row.
 
-ghost use Rattle.std.specs.Prelude.{◌≡◌, ◌×◌, ℕ, ◌⊎◌, ◌-◌, ◌^◌, ◌<◌, ◌≤◌, List, length, map, take, drop};
+ghost use Rattle.std.specs.Prelude.{◌≡◌, ℕ, ◌⊎◌, ◌-◌, ◌^◌, ◌<◌, ◌≤◌, List, length, map, take, drop};
 ghost use Rattle.std.specs.Prelude.{Some, None, IfSome, IfOk, IfErr, OnOk, IsErrOf};
 ghost use Rattle.qm_model.specs.Causes.{IsCause};
 ghost use Rattle.qm_model.specs.Trees as trees;
