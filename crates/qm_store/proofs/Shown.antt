@@ -1,6 +1,6 @@
 -- What a log shows: the digests of nodes, and items in a row.
 use Rattle.std.proofs.Common.{◌≡◌, ℕ, zero, suc, ◌+◌, ◌-◌, ◌<◌, ◌≤◌, List, [], ◌∷◌, ◌++◌, length, map, take, drop, arith, ap, ap₂, sym, ◌∙◌, refl, subst, Option, Some, None, IfSome, ⊎_elim, All, get_or}
-use Rattle.std.specs.Prelude.{slice_get, is_none, cond, min}
+use Rattle.std.specs.Prelude.{slice_get, is_none, cond}
 use Rattle.std.proofs.lemmas.List.{map-append, take-take, drop-take, drop-drop}
 use Rattle.qm_base.specs.declared.error.Error.{Error}
 use Rattle.qm_base.specs.declared.error.Error.TheVariants as errors
@@ -45,9 +45,8 @@ lacked_at at (q ∷ ps) (d ∷ ds) (suc k) p same lt is none =
 pub part_read : (xs list : List Bytes) (s start m : ℕ) → s ≤ start → start + m ≤ length list → take (length list - s) xs ≡ drop s list → take m (drop (start - s) xs) ≡ take m (drop start list)
 part_read xs list s start m from within same =
     let k = start - s in
-    let first : k + m ≡ min (k + m) (length list - s) = omega arith in
     let place : s + k ≡ start = omega arith in
-    sym (drop-take k m xs) ∙ ap (λ j. drop k (take j xs)) first ∙ ap (drop k) (sym (take-take (k + m) (length list - s) xs))
+    sym (drop-take k m xs) ∙ ap (drop k) (sym (take-take (k + m) (length list - s) xs (omega arith)))
     ∙ drop-take k m (take (length list - s) xs) ∙ ap (λ l. take m (drop k l)) same ∙ ap (take m) (drop-drop k s list ∙ ap (λ j. drop j list) place)
 
 -- the next item that is read
@@ -66,6 +65,6 @@ item-next value from start at made v items low le so_far is =
     take_next (suc k) (y ∷ xs) x is = ap (λ l. y ∷ l) (take_next k xs x is)
 
     slice_get-drop : (j k : ℕ) (xs : List Bytes) → slice_get (drop j xs) k ≡ slice_get xs (j + k)
-    slice_get-drop zero k xs = refl
+    slice_get-drop zero k xs = let same : k ≡ 0 + k = omega arith in ap (slice_get xs) same
     slice_get-drop (suc j) k [] = refl
-    slice_get-drop (suc j) k (x ∷ xs) = slice_get-drop j k xs
+    slice_get-drop (suc j) k (x ∷ xs) = let next : suc (j + k) ≡ suc j + k = omega arith in slice_get-drop j k xs ∙ ap (slice_get (x ∷ xs)) next

@@ -85,13 +85,30 @@ pub(super) fn peak_digests<F: Family, D: Digest>(
     tree: &Mem<F, D>,
     count: u64,
 ) -> Result<Vec<D>, Error>
-    requires { count ≤ 2 ^ 62 }
-    ensures digests { IfOk result (λ v. map Some v.items ≡ map (node_at F.shape tree.now) (trees.peak_positions F.shape count)) }
+    requires { count ≤ tree.now.leaves }
+    ensures value { (hash : List ℕ → List ℕ) (list : List (List ℕ)) → Stands F.shape D.bytes hash tree.now list → IfOk result (λ v. map D.bytes v.items ≡ map (trees.digest_of hash F.shape list) (trees.peaks F.shape count)) }
+    ensures held { OnOk result (first_lacked (node_at F.shape tree.now) (trees.peak_positions F.shape count) ≡ None) }
     ensures cause { IfErr result (IsLacked (node_at F.shape tree.now) (trees.peak_positions F.shape count)) }
+    ensures whole { tree.now.start ≤ count → IfErr result (λ e. e ≡ Error.Memory) }
 {
+    let (_, leaves) = tree.bounds();
+    prove!(count <= leaves.get());
     let positions = F::nodes_to_pin(alloc, Location::new(count))?;
+    digests_at(alloc, tree, &positions)
+}
+
+// The digests of the nodes at positions.
+fn digests_at<F: Family, D: Digest>(
+    alloc: Global,
+    tree: &Mem<F, D>,
+    positions: &[Position<F>],
+) -> Result<Vec<D>, Error>
+    ensures digests { IfOk result (λ v. map Some v.items ≡ map (node_at F.shape tree.now) positions.now) }
+    ensures held { OnOk result (first_lacked (node_at F.shape tree.now) positions.now ≡ None) }
+    ensures cause { IfErr result (IsLacked (node_at F.shape tree.now) positions.now) }
+{
     let mut digests = Vec::with_capacity(alloc, positions.len())?;
-    for position in &positions {
+    for position in positions {
         digests.push(kept_digest(tree, *position)?)?;
     }
     Ok(digests)
