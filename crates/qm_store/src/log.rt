@@ -268,14 +268,7 @@ impl<F: Family, C: Store, D: Digest, H: Hasher<Digest = D> + Drop> AuthLog<F, C,
             batch,
             mem: &self.tree,
         };
-        shown::proof_from(
-            alloc,
-            &nodes,
-            batch.leaves().get(),
-            inactive,
-            start,
-            end,
-        )
+        shown::proof_from(alloc, &nodes, batch.leaves().get(), inactive, start, end)
     }
 
     /// How many items the log has, with those before the start.
