@@ -1,4 +1,4 @@
-use Rattle.std.proofs.Common.{◌≡◌, ◌≤◌, ap, sym, subst}
+use Rattle.std.proofs.Common.{◌≤◌, sym, subst}
 use Rattle.qm_merkle.specs.Mems.{Stands}
 use Rattle.qm_store.specs.Log.{digests_from}
 use Rattle.qm_store.proofs.log.AuthLog.pinned_nodes_at.Goals as goal

@@ -1,4 +1,4 @@
-use Rattle.std.proofs.Common.{◌≡◌, ◌∙◌, ◌≤◌, length, take, IfOk, arith, ap, sym, subst}
+use Rattle.std.proofs.Common.{◌≡◌, ◌∙◌, length, IfOk, arith, sym, subst}
 use Rattle.std.proofs.lemmas.List.{take_all}
 use Rattle.qm_model.specs.Proofs.{proof_of}
 use Rattle.qm_merkle.specs.Mems.{Stands}

@@ -1,4 +1,4 @@
-use Rattle.std.proofs.Common.{◌≡◌, ◌∙◌, Some, None, inr, map, ap, sym, subst, IfErr}
+use Rattle.std.proofs.Common.{◌∙◌, inr, map, ap, sym, subst}
 use Rattle.std.proofs.lemmas.List.{take_all}
 use Rattle.std.proofs.lemmas.Result.{err_from_is_err_and}
 use Rattle.qm_merkle.specs.Mems.{node_at}

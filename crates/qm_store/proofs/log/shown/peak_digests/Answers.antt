@@ -1,4 +1,4 @@
-use Rattle.std.proofs.Common.{◌≡◌, ◌∙◌, ◌^◌, ◌≤◌, Some, None, OnOk, IfErr, length, map, arith, ap, sym, subst}
+use Rattle.std.proofs.Common.{◌≡◌, ◌∙◌, ◌^◌, ◌≤◌, Some, None, OnOk, IfErr, map, arith, ap, subst}
 use Rattle.std.proofs.lemmas.Result.{IfErr-weaker, IfOk-weaker}
 use Rattle.qm_base.specs.declared.error.Error.TheVariants as errors
 use Rattle.qm_model.specs.Trees.{digest_of, peaks, peak_positions}
@@ -8,7 +8,6 @@ use Rattle.qm_merkle.proofs.Keeping.{peaks_kept}
 use Rattle.qm_merkle.proofs.Telling.{tree_tells}
 use Rattle.qm_store.specs.Log.{IsLacked}
 use Rattle.qm_store.proofs.Shown.{told_row, only_memory}
-use Rattle.qm_store.proofs.log.shown.peak_digests.Given
 use Rattle.qm_store.proofs.log.shown.peak_digests.Goals as goal
 
 pub returns-clause-value : goal.returns-clause-value
