@@ -14,3 +14,4 @@ pub mod Halving
 pub mod Listing
 pub mod Folding
 pub mod Telling
+pub mod Keeping

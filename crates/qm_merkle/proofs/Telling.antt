@@ -42,15 +42,15 @@ rows_mapped : {X A B : Type 0} (f : A → B) (g : X → List A) (h : X → List 
 rows_mapped f g h same [] = refl
 rows_mapped f g h same (x ∷ xs) = map-append f (g x) (flat_map g xs) ∙ ap₂ (λ a b. a ++ b) (sym (same x)) (rows_mapped f g h same xs)
 
-each_append : {X : Type 0} (P : X → Type 0) (xs ys : List X) → Each P xs → Each P ys → Each P (xs ++ ys)
+pub each_append : {X : Type 0} (P : X → Type 0) (xs ys : List X) → Each P xs → Each P ys → Each P (xs ++ ys)
 each_append P [] ys left right = right
 each_append P (x ∷ xs) ys left right = (left.0, each_append P xs ys left.1 right)
 
-each_row : {X A : Type 0} (P : A → Type 0) (g : X → List A) (Q : X → Type 0) → ((x : X) → Q x → Each P (g x)) → (xs : List X) → Each Q xs → Each P (flat_map g xs)
+pub each_row : {X A : Type 0} (P : A → Type 0) (g : X → List A) (Q : X → Type 0) → ((x : X) → Q x → Each P (g x)) → (xs : List X) → Each Q xs → Each P (flat_map g xs)
 each_row P g Q make [] all = tt
 each_row P g Q make (x ∷ xs) all = each_append P (g x) (flat_map g xs) (make x all.0) (each_row P g Q make xs all.1)
 
-each_of : {X : Type 0} (P : X → Type 0) (xs : List X) → All P xs → Each P xs
+pub each_of : {X : Type 0} (P : X → Type 0) (xs : List X) → All P xs → Each P xs
 each_of P [] all = tt
 each_of P (x ∷ xs) all = (all 0 x (omega arith), each_of P xs (λ k d lt. all (suc k) d (omega arith)))
 
@@ -75,7 +75,7 @@ given bytes (Some d) digest is = cc
 
 module _ (shape : Shape) (births : Births) (family : IsFamily shape births) where
   -- the nodes that a proof needs of a node are there when it is
-  needed_born : (n a b h i : ℕ) → shape.birth (record { height = h; index = i }) ≤ n → Each (λ x. shape.birth x ≤ n) (needed a b h i)
+  pub needed_born : (n a b h i : ℕ) → shape.birth (record { height = h; index = i }) ≤ n → Each (λ x. shape.birth x ≤ n) (needed a b h i)
   needed_born n a b zero i born = at (meets a b (leaf i))
     where
       at : (t : Bool) → Each (λ x. shape.birth x ≤ n) (if t then [] else leaf i ∷ [])

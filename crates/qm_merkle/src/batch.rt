@@ -265,7 +265,8 @@ impl<F: Family, D: Digest> MerkleizedBatch<F, D> {
 
     /// How many leaves the batch's list has.
     pub fn leaves(&self) -> Location<F>
-        ensures { result ≡ self.now.newest.tree.leaves }
+        ensures count { result ≡ self.now.newest.tree.leaves }
+        ensures few { result ≤ 2 ^ 62 }
     {
         self.newest.tree.leaves()
     }

@@ -57,6 +57,12 @@ module _ (hash : Bytes → Bytes) (shape : Shape) where
       ap (λ i. digests_from hash shape 0 (take n list) ++ digests_from hash shape i (drop n list)) count
       ∙ sym (digests_from-append 0 (take n list) (drop n list)) ∙ ap (digests_from hash shape 0) (take-append-drop n list)
 
+  -- the first leaves are those of the first items
+  pub digests_from-take : (i n : ℕ) (items : List Bytes) → take n (digests_from hash shape i items) ≡ digests_from hash shape i (take n items)
+  digests_from-take i zero items = refl
+  digests_from-take i (suc n) [] = refl
+  digests_from-take i (suc n) (item ∷ items) = ap (λ ds. leaf_digest hash (shape.position (leaf i)) item ∷ ds) (digests_from-take (suc i) n items)
+
   -- one item more
   pub digests_from-next : (i k : ℕ) (items : List Bytes) (item : Bytes) → slice_get items k ≡ Some item →
       digests_from hash shape i (take (suc k) items) ≡ digests_from hash shape i (take k items) ++ leaf_digest hash (shape.position (leaf (i + k))) item ∷ []

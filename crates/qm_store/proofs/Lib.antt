@@ -1,3 +1,4 @@
 pub mod Leaves
 pub mod Trees
 pub mod Stores
+pub mod Shown

@@ -1,5 +1,5 @@
 -- Logs: the leaves of items, the head of a store, and what a log stands for.
-use Rattle.std.specs.Prelude.{◌≡◌, ◌≤◌, ℕ, suc, ◌+◌, ◌-◌, List, [], ◌∷◌, length, take, drop, map, IfSome}
+use Rattle.std.specs.Prelude.{◌≡◌, ◌⊎◌, ◌≤◌, ℕ, suc, ◌+◌, ◌-◌, List, [], ◌∷◌, length, take, drop, map, Option, Some, IfSome}
 use Rattle.std.specs.List.{concat}
 use Rattle.qm_model.specs.Causes.{Grows, GrowsPart}
 use Rattle.qm_model.specs.Operations.{Bytes}
@@ -7,7 +7,10 @@ use Rattle.qm_model.specs.Trees.{Shape, leaf, peaks, leaf_digest, digest_of}
 use Rattle.qm_base.specs.declared.error.Error.{Error}
 use Rattle.qm_base.specs.declared.error.Error.TheVariants as errors
 use Rattle.qm_base.specs.declared.error.JournalError.TheVariants as journal
+use Rattle.qm_base.specs.declared.error.MerkleError.{MerkleError}
+use Rattle.qm_base.specs.declared.error.MerkleError.TheVariants as merkle
 use Rattle.qm_merkle.specs.Mems.{Kept, Stands}
+use Rattle.qm_merkle.specs.Proofs.{first_lacked}
 use Rattle.qm_store.specs.declared.Store as store
 use Rattle.qm_store.specs.declared.StoreError.{StoreError}
 use Rattle.qm_store.specs.declared.StoreError.TheVariants as stores
@@ -68,3 +71,12 @@ log_error stores.Failed = errors.Journal journal.Store
 abbrev pub store_given : {C D : Type 0} → LogGiven (Log C D) C → C
 store_given (given.Log log) = log.store
 store_given (given.Store store) = store
+
+-- why a log's call failed, where its tree's did
+abbrev pub tree_error : MerkleError → Error
+tree_error merkle.Memory = errors.Memory
+tree_error error = errors.Merkle error
+
+-- the error names the first position with no digest, if it is not want of memory
+abbrev pub IsLacked : {D : Type 0} → (ℕ → Option D) → List ℕ → Error → Type 0
+IsLacked at positions error = (error ≡ errors.Memory) ⊎ ((p : ℕ) × (first_lacked at positions ≡ Some p) × (error ≡ errors.Merkle (merkle.ElementPruned p)))

@@ -1,19 +1,26 @@
 //! Logs: a store of items and a tree over their leaves, which agree.
 
-ghost use Rattle.std.specs.Prelude.{◌≡◌, ◌≢◌, ◌↔◌, ◌⊎◌, ℕ, ◌+◌, ◌-◌, ◌*◌, ◌^◌, ◌<◌, ◌≤◌, IsTrue, List, ◌++◌, length, map, take, drop, slice_get};
-ghost use Rattle.std.specs.Prelude.{Ok, Err, IfSome, IfOk, IfErr, OnOk, OnErr, IsErrOf};
+ghost use Rattle.std.specs.Prelude.{◌≡◌, ◌≢◌, ◌↔◌, ◌⊎◌, ℕ, ◌+◌, ◌-◌, ◌*◌, ◌^◌, ◌<◌, ◌≤◌, min, IsTrue, List, ◌∷◌, ◌++◌, Contains, length, map, take, drop, slice_get};
+ghost use Rattle.std.specs.Prelude.{Ok, Err, Some, None, IfSome, IfOk, IfErr, OnOk, OnErr, IsErrOf};
+ghost use Rattle.std.specs.Int.NonZero.{non_zero_u64_get};
 ghost use Rattle.std.specs.List.{concat};
 ghost use Rattle.qm_model.specs.Causes.{IsCause, Rose, Grows, GrowsPart};
 ghost use Rattle.qm_model.specs.Trees as trees;
-ghost use Rattle.qm_merkle.specs.Mems.{Stands};
-ghost use Rattle.qm_store.specs.Log.{Log, digests_from, IsHead, IsLog, IsKept, HasGrown, HasGrownPart, store_given};
+ghost use Rattle.qm_model.specs.Proofs.{proof_of};
+ghost use Rattle.qm_merkle.specs.Mems.{Stands, node_at};
+ghost use Rattle.qm_merkle.specs.Batches.{all_layers, IsHistory};
+ghost use Rattle.qm_merkle.specs.Proofs.{proof_view, needed_positions, first_lacked, over_at};
+ghost use Rattle.qm_store.specs.Log.{Log, digests_from, IsHead, IsLog, IsKept, HasGrown, HasGrownPart, store_given, IsLacked};
 
 use crate::{Store, StoreError};
-use qm_base::{Corrupt, Digest, Error, Hasher, JournalError, Location};
+use qm_base::{Corrupt, Digest, Error, Hasher, JournalError, Location, MerkleError};
 use qm_merkle::mem::Mem;
-use qm_merkle::{Family, Position, StandardHasher};
+use qm_merkle::{Family, MerkleizedBatch, NodesOver, Position, Proof, StandardHasher};
 use std::alloc::{AllocError, Global};
 use std::marker::Model;
+use std::num::NonZeroU64;
+
+mod shown;
 
 impl From<StoreError> for Error {
     ghost use Rattle.qm_store.specs.Log.{log_error};
@@ -178,6 +185,90 @@ impl<F: Family, C: Store, D: Digest, H: Hasher<Digest = D> + Drop> AuthLog<F, C,
         ensures same { self.new ≡ self.old }
     {
         root_with_items(alloc, &self.tree, &mut self.hasher, items, inactive)
+    }
+
+    /// The proof of the items from `start` on, at most `max` of them, in the tree of the first `size` items, the first of
+    /// whose peaks are inactive; and these items. `inactive` counts only where the log has so many items.
+    pub fn historical_proof(
+        &mut self,
+        alloc: Global,
+        size: u64,
+        inactive: usize,
+        start: u64,
+        max: NonZeroU64,
+    ) -> Result<(Proof<D>, Vec<Vec<u8>>), Error>
+        requires { size ≤ self.old.tree.leaves → inactive ≤ length (trees.peaks F.shape size) }
+        ensures proof { (list : List (List ℕ)) → IsLog C.Store F.shape D.bytes H.hash self.old list
+            → IfOk result (λ shown. proof_view D.bytes shown.0 ≡ proof_of H.hash F.shape (digests_from H.hash F.shape 0 (take size list)) inactive start (start + min (non_zero_u64_get max) (size - start))) }
+        ensures items { (list : List (List ℕ)) → IsLog C.Store F.shape D.bytes H.hash self.old list
+            → IfOk result (λ shown. IfSome (C.items self.old.store) (λ _. map (λ v. v.items) shown.1.items ≡ take (min (non_zero_u64_get max) (size - start)) (drop start list))) }
+        ensures count { IfOk result (λ shown. length shown.1.items ≡ min (non_zero_u64_get max) (size - start)) }
+        ensures size { self.old.tree.leaves < size → result ≡ Err (Error.Merkle (MerkleError.RangeOutOfBounds size)) }
+        ensures start { size ≤ self.old.tree.leaves → size ≤ start → result ≡ Err (Error.Merkle (MerkleError.RangeOutOfBounds start)) }
+        ensures pruned { size ≤ self.old.tree.leaves → start < size → start < self.old.tree.start → result ≡ Err (Error.Journal (JournalError.ItemPruned start)) }
+        ensures never { size ≤ self.old.tree.leaves → start < size → self.old.tree.start ≤ start → IfErr result (λ e. (e ≡ Error.Memory) ⊎ (e ≡ Error.Journal JournalError.Store)) }
+        ensures stands { (list : List (List ℕ)) → IsLog C.Store F.shape D.bytes H.hash self.old list → IsLog C.Store F.shape D.bytes H.hash self.new list }
+        ensures tree { self.new.tree ≡ self.old.tree }
+        ensures kept { IsKept C.Store self.old.store self.new.store }
+        ensures cause { IsCause (C.faults self.old.store) (C.faults self.new.store) (IsErrOf result (Error.Journal JournalError.Store)) }
+    {
+        let (first, leaves) = self.bounds();
+        if leaves < size {
+            return Err(Error::Merkle(MerkleError::RangeOutOfBounds(size)));
+        }
+        if size <= start {
+            return Err(Error::Merkle(MerkleError::RangeOutOfBounds(start)));
+        }
+        if start < first {
+            return Err(Error::Journal(JournalError::ItemPruned(start)));
+        }
+        let end = start + max.get().min(size - start);
+        let proof = shown::kept_proof(alloc, &self.tree, size, inactive, start, end)?;
+        let items = shown::read_items(alloc, &mut self.store, start, end)?;
+        Ok((proof, items))
+    }
+
+    /// The digests of the peaks over the first `count` items, from left to right. Where the log is kept from there or from
+    /// before, it has them all.
+    pub fn pinned_nodes_at(&self, alloc: Global, count: u64) -> Result<Vec<D>, Error>
+        ensures value { (list : List (List ℕ)) → IsLog C.Store F.shape D.bytes H.hash self.now list
+            → IfOk result (λ pins. map D.bytes pins.items ≡ map (trees.digest_of H.hash F.shape (digests_from H.hash F.shape 0 list)) (trees.peaks F.shape count)) }
+        ensures range { self.now.tree.leaves < count → result ≡ Err (Error.Merkle (MerkleError.RangeOutOfBounds count)) }
+        ensures held { OnOk result (first_lacked (node_at F.shape self.now.tree) (trees.peak_positions F.shape count) ≡ None) }
+        ensures cause { count ≤ self.now.tree.leaves → IfErr result (IsLacked (node_at F.shape self.now.tree) (trees.peak_positions F.shape count)) }
+        ensures whole { self.now.tree.start ≤ count → count ≤ self.now.tree.leaves → IfErr result (λ e. e ≡ Error.Memory) }
+    {
+        let (_, leaves) = self.bounds();
+        if leaves < count {
+            return Err(Error::Merkle(MerkleError::RangeOutOfBounds(count)));
+        }
+        shown::peak_digests(alloc, &self.tree, count)
+    }
+
+    /// The proof of the leaves from `start` up to, and without, `end`, in the tree as a batch leaves it, the first of whose
+    /// peaks are inactive.
+    pub fn speculative_proof(
+        &self,
+        alloc: Global,
+        batch: &MerkleizedBatch<F, D>,
+        inactive: usize,
+        start: u64,
+        end: u64,
+    ) -> Result<Proof<D>, Error>
+        requires order { start ≤ end }
+        requires within { end ≤ batch.now.newest.tree.leaves }
+        requires inactive { inactive ≤ length (trees.peaks F.shape batch.now.newest.tree.leaves) }
+        ensures value { (list : List (List ℕ)) (new : List (List ℕ)) (lists : List (List (List ℕ))) → IsLog C.Store F.shape D.bytes H.hash self.now list
+            → IsHistory F.shape D.bytes H.hash (all_layers batch.now) (new ∷ lists) → Contains (new ∷ lists) (digests_from H.hash F.shape 0 list)
+            → IfOk result (λ p. proof_view D.bytes p ≡ proof_of H.hash F.shape new inactive start end) }
+        ensures held { OnOk result (first_lacked (over_at F.shape batch.now self.now.tree) (needed_positions F.shape batch.now.newest.tree.leaves start end) ≡ None) }
+        ensures cause { IfErr result (IsLacked (over_at F.shape batch.now self.now.tree) (needed_positions F.shape batch.now.newest.tree.leaves start end)) }
+    {
+        let nodes = NodesOver {
+            batch,
+            mem: &self.tree,
+        };
+        shown::proof_from(alloc, &nodes, batch.leaves().get(), inactive, start, end)
     }
 
     /// How many items the log has, with those before the start.

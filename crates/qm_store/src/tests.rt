@@ -2,9 +2,11 @@
 ghost use Rattle.std.specs.Prelude.{◌≡◌, IfOk, length};
 
 use super::*;
-use qm_base::{Digest, Error, JournalError, Sha256, Sha256Digest};
+use qm_base::{Digest, Error, JournalError, Location, Sha256, Sha256Digest};
+use qm_merkle::StandardHasher;
 use qm_merkle::mmr::Family;
 use std::alloc::Global;
+use std::num::NonZeroU64;
 use std::test::Fail;
 
 type Log = AuthLog<Family, MemStore, Sha256Digest, Sha256>;
@@ -134,6 +136,39 @@ fn a_log_grows(rt: HostRuntime) -> Result<(), Fail> {
         }
         Err(refusal) => assert_eq!(rt; refused(refusal), (Error::Memory, None)),
     }
+    Ok(())
+}
+
+#[test]
+fn a_log_proves_its_items(rt: HostRuntime) -> Result<(), Fail> {
+    let store = five(rt.alloc(), 100)?;
+    let more = last_items(rt.alloc())?;
+    match Log::open(rt.alloc(), store, Sha256::new(), 5) {
+        Ok(mut log) => {
+            let root = log.root(rt.alloc(), 0)?;
+            match log.append_batch(rt.alloc(), &more) {
+                Ok(log) => proves_items_of_five(&rt, log, &root)?,
+                Err(refusal) => assert_eq!(rt; refused(refusal), (Error::Memory, None)),
+            }
+        }
+        Err(refusal) => assert_eq!(rt; refused(refusal), (Error::Memory, None)),
+    }
+    Ok(())
+}
+
+// That a log of eight items proves some of its first five, against their root.
+fn proves_items_of_five(rt: &HostRuntime, log: Log, root: &Sha256Digest) -> Result<(), Fail> {
+    let mut log = log;
+    let mut hasher = StandardHasher::new(Sha256::new());
+    let from: Location<Family> = Location::new(1);
+    let (proof, items) = log.historical_proof(rt.alloc(), 5, 0, 1, NonZeroU64::MIN)?;
+    assert_eq!(rt; items.len(), 1);
+    assert!(rt; proof.verify(&mut hasher, &items, from, root));
+    assert_eq!(rt; log.pinned_nodes_at(rt.alloc(), 5)?.len(), 2);
+    let batch = log.tree().new_batch(rt.alloc());
+    let batch = batch.merkleize(rt.alloc(), log.tree(), &mut hasher)?;
+    let proof = log.speculative_proof(rt.alloc(), &batch, 0, 0, 0)?;
+    assert_eq!(rt; proof.digests.len(), 1);
     Ok(())
 }
 

@@ -31,10 +31,10 @@ invariant_of-self-2 g c =
     let below = stops-below shape batch.newest.tree.leaves (all_layers batch) c.self.inside.leaves c.room.ensures.linked (reach g c) in (
       c.self.invariant.0,
       record {
-        order = omega (arith, whole.order, below, c.leaves-self-inside.ensures);
-        few = omega (arith, c.room.ensures.linked.1.few, c.leaves-self-inside.ensures);
+        order = omega (arith, whole.order, below, c.leaves-self-inside.ensures.count);
+        few = omega (arith, c.room.ensures.linked.1.few, c.leaves-self-inside.ensures.count);
         pinned = ap length (written_pins g c) ∙ c.put.ensures.length ∙ ap length c.deref_mut.ensures.value ∙ whole.pinned;
-        full = omega (arith, c.put.ensures.size, c.get-size.ensures, c.location_to_position.ensures.size, ap shape.size c.leaves-self-inside.ensures);
+        full = omega (arith, c.put.ensures.size, c.get-size.ensures, c.location_to_position.ensures.size, ap shape.size c.leaves-self-inside.ensures.count);
       },
     )
 
@@ -55,6 +55,6 @@ returns-clause-stands g c = λ hash list new lists history found stands.
     } in
     let next : Kept g.row.D.Denot = record { start = c.self.inside.start; leaves = c.leaves-self-inside.result; pins = take c.self.inside.pins.len (c.put.new.pins ++ drop (length c.put.new.pins) c.self.inside.pins.items); nodes = c.put.new.nodes.items } in
     stands-put shape g.F.Family.births g.met.F.Family.numbered g.met.F.Family.peaked bytes hash kept c.self.invariant.1 batch.newest.tree.leaves (all_layers batch) c.room.ensures.linked new lists list history found
-    (subst (λ k. Stands shape bytes hash k list) (sym c.self.view_is) stands) next refl (c.leaves-self-inside.ensures ∙ history-count shape g.F.Family.births g.met.F.Family.numbered g.met.F.Family.peaked bytes hash batch.newest batch.older new lists history) (omega (arith, below, c.leaves-self-inside.ensures))
+    (subst (λ k. Stands shape bytes hash k list) (sym c.self.view_is) stands) next refl (c.leaves-self-inside.ensures.count ∙ history-count shape g.F.Family.births g.met.F.Family.numbered g.met.F.Family.peaked bytes hash batch.newest batch.older new lists history) (omega (arith, below, c.leaves-self-inside.ensures.count))
     (same_put shape kept.leaves lack next.nodes c.deref.result.now (peak_positions shape kept.start) c.get-size.result (shape.size kept.start) c.deref_mut.result.now kept.pins c.reserve.new.self.items kept.nodes c.put.new.pins next.pins
     (c.deref.ensures.value ∙ c.self.invariant.0) (c.get-size.ensures ∙ c.location_to_position.ensures.size) c.deref_mut.ensures.value c.reserve.ensures.items (sym (written_pins g c)) put)

@@ -1,0 +1,150 @@
+//! What a log shows of its items: proofs, peaks, and items in a row.
+
+ghost use Rattle.std.specs.Prelude.{◌≡◌, ℕ, ◌⊎◌, ◌-◌, ◌^◌, ◌<◌, ◌≤◌, List, length, map, take, drop};
+ghost use Rattle.std.specs.Prelude.{Some, None, IfSome, IfOk, IfErr, OnOk, IsErrOf};
+ghost use Rattle.qm_model.specs.Causes.{IsCause};
+ghost use Rattle.qm_model.specs.Trees as trees;
+ghost use Rattle.qm_model.specs.Proofs.{proof_of};
+ghost use Rattle.qm_merkle.specs.Mems.{Stands, node_at};
+ghost use Rattle.qm_merkle.specs.Proofs.{proof_view, needed_positions, first_lacked, Tells};
+ghost use Rattle.qm_store.specs.Log.{IsKept, IsLacked, tree_error};
+
+use crate::Store;
+use qm_base::{Digest, Error, JournalError, Location, MerkleError};
+use qm_merkle::mem::Mem;
+use qm_merkle::{Family, Nodes, Position, Proof};
+use std::alloc::Global;
+
+// The proof of leaves that a tree is kept from, or that are behind these.
+pub(super) fn kept_proof<F: Family, D: Digest>(
+    alloc: Global,
+    tree: &Mem<F, D>,
+    size: u64,
+    inactive: usize,
+    start: u64,
+    end: u64,
+) -> Result<Proof<D>, Error>
+    requires from { tree.now.start ≤ start }
+    requires some { start < end }
+    requires within { end ≤ size }
+    requires size { size ≤ tree.now.leaves }
+    requires inactive { inactive ≤ length (trees.peaks F.shape size) }
+    ensures value { (hash : List ℕ → List ℕ) (list : List (List ℕ)) → Stands F.shape D.bytes hash tree.now list → IfOk result (λ p. proof_view D.bytes p ≡ proof_of hash F.shape (take size list) inactive start end) }
+    ensures memory { IfErr result (λ e. e ≡ Error.Memory) }
+{
+    let (_, leaves) = tree.bounds();
+    prove!(size <= leaves.get());
+    proof_from(alloc, tree, size, inactive, start, end)
+}
+
+// The proof of leaves, from what has digests of nodes.
+pub(super) fn proof_from<F: Family, D: Digest, N: Nodes<F, D>>(
+    alloc: Global,
+    nodes: &N,
+    size: u64,
+    inactive: usize,
+    start: u64,
+    end: u64,
+) -> Result<Proof<D>, Error>
+    requires few { size ≤ 2 ^ 62 }
+    requires order { start ≤ end }
+    requires within { end ≤ size }
+    requires inactive { inactive ≤ length (trees.peaks F.shape size) }
+    ensures value { (hash : List ℕ → List ℕ) (list : List (List ℕ)) → size ≤ length list → Tells F.shape D.bytes hash (N.node_at nodes.now) list
+        → IfOk result (λ p. proof_view D.bytes p ≡ proof_of hash F.shape (take size list) inactive start end) }
+    ensures cause { IfErr result (IsLacked (N.node_at nodes.now) (needed_positions F.shape size start end)) }
+    ensures held { OnOk result (first_lacked (N.node_at nodes.now) (needed_positions F.shape size start end) ≡ None) }
+{
+    let size: Location<F> = Location::new(size);
+    match Proof::new(
+        alloc,
+        nodes,
+        size,
+        inactive,
+        Location::new(start),
+        Location::new(end),
+    ) {
+        Ok(proof) => Ok(proof),
+        Err(error) => Err(told(error)),
+    }
+}
+
+// Why a log's call failed, where its tree's did.
+fn told(error: MerkleError) -> Error
+    ensures { result ≡ tree_error error }
+{
+    match error {
+        MerkleError::Memory => Error::Memory,
+        other => Error::Merkle(other),
+    }
+}
+
+// The digests of the peaks over a tree's first leaves.
+pub(super) fn peak_digests<F: Family, D: Digest>(
+    alloc: Global,
+    tree: &Mem<F, D>,
+    count: u64,
+) -> Result<Vec<D>, Error>
+    requires { count ≤ tree.now.leaves }
+    ensures value { (hash : List ℕ → List ℕ) (list : List (List ℕ)) → Stands F.shape D.bytes hash tree.now list → IfOk result (λ v. map D.bytes v.items ≡ map (trees.digest_of hash F.shape list) (trees.peaks F.shape count)) }
+    ensures held { OnOk result (first_lacked (node_at F.shape tree.now) (trees.peak_positions F.shape count) ≡ None) }
+    ensures cause { IfErr result (IsLacked (node_at F.shape tree.now) (trees.peak_positions F.shape count)) }
+    ensures whole { tree.now.start ≤ count → IfErr result (λ e. e ≡ Error.Memory) }
+{
+    let (_, leaves) = tree.bounds();
+    prove!(count <= leaves.get());
+    let positions = F::nodes_to_pin(alloc, Location::new(count))?;
+    digests_at(alloc, tree, &positions)
+}
+
+// The digests of the nodes at positions.
+fn digests_at<F: Family, D: Digest>(
+    alloc: Global,
+    tree: &Mem<F, D>,
+    positions: &[Position<F>],
+) -> Result<Vec<D>, Error>
+    ensures digests { IfOk result (λ v. map Some v.items ≡ map (node_at F.shape tree.now) positions.now) }
+    ensures held { OnOk result (first_lacked (node_at F.shape tree.now) positions.now ≡ None) }
+    ensures cause { IfErr result (IsLacked (node_at F.shape tree.now) positions.now) }
+{
+    let mut digests = Vec::with_capacity(alloc, positions.len())?;
+    for position in positions {
+        digests.push(kept_digest(tree, *position)?)?;
+    }
+    Ok(digests)
+}
+
+// The digest of the node at a position.
+fn kept_digest<F: Family, D: Digest>(tree: &Mem<F, D>, position: Position<F>) -> Result<D, Error>
+    ensures digest { IfOk result (λ d. node_at F.shape tree.now position ≡ Some d) }
+    ensures cause { IfErr result (λ e. (node_at F.shape tree.now position ≡ None) × (e ≡ Error.Merkle (MerkleError.ElementPruned position))) }
+{
+    match tree.get_node(position) {
+        Some(digest) => Ok(digest),
+        None => Err(Error::Merkle(MerkleError::ElementPruned(position.get()))),
+    }
+}
+
+// A store's items from a location up to, and without, another.
+pub(super) fn read_items<C: Store>(
+    alloc: Global,
+    store: &mut C,
+    start: u64,
+    end: u64,
+) -> Result<Vec<Vec<u8>>, Error>
+    requires start { C.start store.old ≤ start }
+    requires order { start ≤ end }
+    requires end { end ≤ C.end store.old }
+    requires few { end ≤ 2 ^ 62 }
+    ensures count { IfOk result (λ v. length v.items ≡ end - start) }
+    ensures items { IfOk result (λ v. IfSome (C.items store.old) (λ xs. map (λ v. v.items) v.items ≡ take (end - start) (drop (start - C.start store.old) xs))) }
+    ensures never { IfErr result (λ e. (e ≡ Error.Memory) ⊎ (e ≡ Error.Journal JournalError.Store)) }
+    ensures kept { IsKept C.Store store.old store.new }
+    ensures cause { IsCause (C.faults store.old) (C.faults store.new) (IsErrOf result (Error.Journal JournalError.Store)) }
+{
+    let mut items = Vec::with_capacity(alloc, (end - start) as usize)?;
+    for at in start..end {
+        items.push(store.read(at)?)?;
+    }
+    Ok(items)
+}
