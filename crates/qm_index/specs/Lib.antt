@@ -1,0 +1,3 @@
+pub mod Translated
+pub mod Buckets
+pub mod Held
