@@ -1,11 +1,8 @@
--- Maps whose bucket under one index key changes.
-use Rattle.std.proofs.Common.{◌≡◌, ◌≢◌, ◌∙◌, refl, sym, ℕ, nat_eq, Bool, true, false, cond, List, [], Option, Some}
-use Rattle.std.specs.Map.{lookup}
+-- Buckets from which a value goes.
+use Rattle.std.proofs.Common.{◌≡◌, ◌≢◌, ◌<◌, ap, arith, ℕ, List, [], length}
+use Rattle.std.specs.List.{remove}
+use Rattle.std.proofs.lemmas.List.Edits.{length-remove}
 
--- no bucket is empty where none was and the one put is not
-pub filled_after : {V : Type 0} {old new : List (ℕ × List V)} (k : ℕ) (put : Option (List V)) → ((q : ℕ) → lookup (nat_eq q) new ≡ cond (nat_eq k q) put (lookup (nat_eq q) old)) → put ≢ Some [] → ((q : ℕ) → lookup (nat_eq q) old ≢ Some []) → (q : ℕ) → lookup (nat_eq q) new ≢ Some []
-filled_after {V} {old} {new} k put is filled were q = by_cases (nat_eq k q) (is q)
-  where
-    by_cases : (b : Bool) → lookup (nat_eq q) new ≡ cond b put (lookup (nat_eq q) old) → lookup (nat_eq q) new ≢ Some []
-    by_cases true e = λ none. filled (sym e ∙ none)
-    by_cases false e = λ none. were q (sym e ∙ none)
+-- several values without one are not none
+pub remove_filled : {V : Type 0} (values : List V) (i : ℕ) → i < length values → 1 < length values → remove values i ≢ []
+remove_filled values i place several = λ none. let gone : length (remove values i) ≡ 0 = ap length none in absurd (omega (arith, length-remove values i place, gone, several))

@@ -1,5 +1,5 @@
 -- The values of a bucket, from how they are held.
-use Rattle.std.specs.Prelude.{ℕ, ◌≤◌, List, [], ◌∷◌, length, ⊤}
+use Rattle.std.specs.Prelude.{◌≤◌, List, [], ◌∷◌, length, ⊤}
 use Rattle.qm_index.specs.declared.bucket.Held.{Held}
 use Rattle.qm_index.specs.declared.bucket.Held.TheVariants.{One, More}
 

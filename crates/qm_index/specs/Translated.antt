@@ -1,6 +1,7 @@
 -- What keys are translated to.
-use Rattle.std.specs.Prelude.{ℕ, zero, suc, ◌+◌, ◌*◌, ◌^◌, ◌<◌, List, [], ◌∷◌, length, All}
+use Rattle.std.specs.Prelude.{◌≡◌, ℕ, zero, suc, ◌+◌, ◌*◌, ◌^◌, ◌<◌, ◌≤◌, [], ◌∷◌, length, All, true}
 use Rattle.qm_model.specs.Operations.{Bytes}
+use Rattle.qm_model.specs.Keys.{key_lt}
 
 -- the number of these bytes, the highest first
 abbrev pub number_of : Bytes → ℕ
@@ -20,3 +21,7 @@ capped width key = number_of (first_bytes width key)
 -- each is a byte
 abbrev pub AreBytes : Bytes → Type 0
 AreBytes key = All (λ x. x < 256) key
+
+-- a key that is before another has no greater index key
+abbrev pub IsMonotone : (Bytes → ℕ) → Type 0
+IsMonotone index_key = (a b : Bytes) → AreBytes a → AreBytes b → key_lt a b ≡ true → index_key a ≤ index_key b

@@ -1,6 +1,6 @@
 //! The values under one index key.
 
-ghost use Rattle.std.specs.Prelude.{◌≡◌, ◌<◌, [], ◌∷◌, ◌++◌, length, set, remove, OnOk, OnErr};
+ghost use Rattle.std.specs.Prelude.{◌≡◌, ◌≢◌, ◌<◌, [], ◌∷◌, ◌++◌, length, set, remove, OnOk, OnErr};
 ghost use Rattle.qm_index.specs.Held.{values_in, IsHeld};
 
 use crate::value::IndexValue;
@@ -76,10 +76,12 @@ impl<V: IndexValue> Bucket<V> {
     }
 
     // Takes one of several values out, and the later ones move down.
+    #[tactic(auto, using(crate::proofs::Maps::remove_filled))]
     pub fn remove(&mut self, i: usize)
         requires place { i < length self.old }
         requires several { 1 < length self.old }
-        ensures { self.new ≡ remove self.old i }
+        ensures value { self.new ≡ remove self.old i }
+        ensures some { self.new ≢ [] }
     {
         if let Held::More(values) = &mut self.held {
             values.remove(i);

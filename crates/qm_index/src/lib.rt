@@ -2,6 +2,8 @@
 #![tactic(auto)]
 
 mod bucket;
+#[cfg(test)]
+mod tests;
 pub mod translator;
 pub mod unordered;
 pub mod value;

@@ -1,8 +1,8 @@
 //! Translators: what makes an index key of a key.
 
 ghost use Rattle.std.specs.Prelude.{◌≡◌, ◌≤◌, ◌<◌, ◌+◌, ◌*◌, ◌^◌, ℕ, suc, List, true};
-ghost use Rattle.qm_model.specs.Keys.{key_lt};
-ghost use Rattle.qm_index.specs.Translated.{capped, AreBytes};
+ghost use Rattle.qm_index.specs.Translated.{capped, IsMonotone};
+ghost use Rattle.qm_index.specs.Monotone.{capped-monotone};
 
 /// What makes a short index key of a key of any length. Several keys may have the same index key.
 pub trait Translator: Send + Sync + Drop {
@@ -15,7 +15,7 @@ pub trait Translator: Send + Sync + Drop {
 
 /// A translator that keeps the order of keys, in which a prefix comes before what it begins.
 pub trait OrderedTranslator: Translator {
-    ghost monotone: { (a b : List ℕ) → AreBytes a → AreBytes b → key_lt a b ≡ true → Self.index_key a ≤ Self.index_key b };
+    ghost monotone: { IsMonotone Self.index_key };
 }
 
 /// The first byte of a key.
@@ -53,7 +53,8 @@ fn capped(key: &[u8], width: u32) -> u64
 // The first byte and those behind it; zero where there is none.
 #[inline(always)]
 fn first(bytes: &[u8]) -> (u8, &[u8])
-    ensures { (n : ℕ) → capped (suc n) bytes.now ≡ result.0 * 256 ^ n + capped n result.1.now }
+    ensures byte { result.0 < 256 }
+    ensures split { (n : ℕ) → capped (suc n) bytes.now ≡ result.0 * 256 ^ n + capped n result.1.now }
 {
     match bytes.split_first() {
         Some((byte, behind)) => (*byte, behind),
@@ -91,4 +92,20 @@ impl Translator for EightCap {
     fn index_key(&self, key: &[u8]) -> u64 {
         capped(key, 8)
     }
+}
+
+impl OrderedTranslator for OneCap {
+    ghost monotone = { capped-monotone 1 };
+}
+
+impl OrderedTranslator for TwoCap {
+    ghost monotone = { capped-monotone 2 };
+}
+
+impl OrderedTranslator for FourCap {
+    ghost monotone = { capped-monotone 4 };
+}
+
+impl OrderedTranslator for EightCap {
+    ghost monotone = { capped-monotone 8 };
 }

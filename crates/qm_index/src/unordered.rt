@@ -98,6 +98,7 @@ impl<T: Translator, V: IndexValue> Unordered for Index<T, V> {
         }
     }
 
+    #[tactic(auto, using(std::proofs::lemmas::Map::Steps::set_value_same))]
     fn insert(&mut self, key: &[u8], value: V) -> Result<(), AllocError> {
         let index_key = self.translator.index_key(key);
         match self.buckets.get_mut(&index_key) {
