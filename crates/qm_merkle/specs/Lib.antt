@@ -2,4 +2,3 @@ pub mod Batches
 pub mod Mems
 pub mod Proofs
 pub mod Putting
-pub mod Proofs

@@ -1,0 +1,4 @@
+pub mod Translated
+pub mod Buckets
+pub mod Held
+pub mod Monotone

@@ -1,0 +1,13 @@
+//! Translated indices: for each short index key, the values of the keys that translate to it. The keys themselves are kept elsewhere.
+#![tactic(auto)]
+
+mod bucket;
+#[cfg(test)]
+mod tests;
+pub mod translator;
+pub mod unordered;
+pub mod value;
+
+pub use translator::{EightCap, FourCap, OneCap, OrderedTranslator, Translator, TwoCap};
+pub use unordered::Unordered;
+pub use value::IndexValue;
