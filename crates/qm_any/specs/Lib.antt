@@ -3,3 +3,4 @@ pub mod ListViews
 pub mod Marks
 pub mod Databases
 pub mod Tips
+pub mod Refusals

@@ -5,6 +5,7 @@ pub mod batch;
 pub mod db;
 mod lists;
 mod open;
+pub mod proof;
 pub mod policy;
 pub mod refusal;
 

@@ -35,8 +35,8 @@ use Rattle.qm_run.specs.declared.session.Turn.{Turn}
 use Rattle.qm_run.specs.declared.session.Turn.TheVariants.{Reply}
 use Rattle.qm_run.specs.Table.{writing_of, merkleized_of}
 use Rattle.qm_run.specs.Turn.{turn_of_error}
-use Rattle.qm_run.specs.Refusals.{refusal_of, IsDue}
-use Rattle.qm_run.specs.Given.{store_given}
+use Rattle.qm_any.specs.Refusals.{refusal_of, IsDue}
+use Rattle.qm_any.specs.Given.{store_given}
 use Rattle.qm_run.specs.Session.{Meaning, HeldIs, SlotIs, Holds, IfReply, IsLeft}
 use Rattle.qm_run.proofs.Tables.{push_at, set_at, set_set}
 

@@ -1,6 +1,5 @@
 pub mod Given
 pub mod Table
-pub mod Refusals
 pub mod Turn
 pub mod Session
 pub mod Runs

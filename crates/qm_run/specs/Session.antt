@@ -19,7 +19,7 @@ use Rattle.qm_run.specs.declared.table.Slot.TheVariants.{Gone, Writing, Merkleiz
 use Rattle.qm_run.specs.declared.session.Session.{Session}
 use Rattle.qm_run.specs.declared.session.Turn.{Turn}
 use Rattle.qm_run.specs.declared.session.Turn.TheVariants.{Reply, Memory, StoreFault}
-use Rattle.qm_run.specs.Given.{store_given}
+use Rattle.qm_any.specs.Given.{store_given}
 
 -- what the engine's values stand for, over its store
 pub record Meaning (X C B M : Type 0) : Type 1 where

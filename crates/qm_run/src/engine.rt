@@ -13,8 +13,8 @@ ghost use Rattle.qm_model.specs.Proofs as proofs;
 ghost use Rattle.qm_model.specs.Refusals.{tip_refusal, proof_refusal, proof_count, pins_refusal};
 ghost use Rattle.qm_lines.specs.Views.{policy_view, listed_view};
 ghost use Rattle.qm_merkle.specs.Proofs.{proof_view};
-ghost use Rattle.qm_run.specs.Given.{store_given, store_after, Appended, AppendedPart, IsUnchanged, TellsAll};
-ghost use Rattle.qm_run.specs.Refusals.{refusal_of, IsDue};
+ghost use Rattle.qm_any.specs.Given.{store_given, store_after, Appended, AppendedPart, IsUnchanged, TellsAll};
+ghost use Rattle.qm_any.specs.Refusals.{refusal_of, IsDue};
 
 use qm_base::{Digest, Error, JournalError, Key, VariableValue};
 use qm_lines::{AnyPolicy, Listed};

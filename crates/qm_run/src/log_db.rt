@@ -10,8 +10,8 @@ ghost use Rattle.qm_model.specs.Roots.{sha256_root, sha256_proof, sha256_pins};
 ghost use Rattle.qm_model.specs.Step as steps;
 ghost use Rattle.qm_lines.specs.Views.{policy_view};
 ghost use Rattle.qm_store.specs.Log as logs;
-ghost use Rattle.qm_run.specs.Given.{Appended, AppendedPart, store_given};
-ghost use Rattle.qm_run.specs.ListViews.{byte_entries, byte_writes};
+ghost use Rattle.qm_any.specs.Given.{Appended, AppendedPart, store_given};
+ghost use Rattle.qm_any.specs.ListViews.{byte_entries, byte_writes};
 ghost use Rattle.qm_run.specs.LogViews.{Database, IsDatabase, IsListLog, commitment_view, list_commitment};
 
 use crate::engine::{BatchSizes, Engine, Given, Numbers, Refusal};

@@ -6,7 +6,7 @@ ghost use Rattle.qm_model.specs.Operations.{Bytes};
 ghost use Rattle.qm_model.specs.Batches.{Apart};
 ghost use Rattle.qm_model.specs.Machine as machine;
 ghost use Rattle.qm_lines.specs.Views.{policy_view, line_view, answer_view};
-ghost use Rattle.qm_run.specs.Given.{store_given};
+ghost use Rattle.qm_any.specs.Given.{store_given};
 ghost use Rattle.qm_run.specs.Session.{meaning, scheme_of, Stands, Leaves};
 ghost use Rattle.qm_run.specs.Runs.{IsRun};
 

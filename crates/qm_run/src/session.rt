@@ -1,6 +1,6 @@
 // What a run holds between two commands.
 ghost use Rattle.std.specs.Prelude.{◌≡◌};
-ghost use Rattle.qm_run.specs.Given.{store_given};
+ghost use Rattle.qm_any.specs.Given.{store_given};
 ghost use Rattle.qm_run.specs.Turn.{turn_of_tree, turn_of_log, turn_of_error};
 
 use crate::engine::{Engine, Given};

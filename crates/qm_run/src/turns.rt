@@ -10,8 +10,8 @@ ghost use Rattle.qm_model.specs.Policies.{policies};
 ghost use Rattle.qm_model.specs.Refusals.{tip_refusal};
 ghost use Rattle.qm_model.specs.Machine as machine;
 ghost use Rattle.qm_lines.specs.Views.{policy_view, line_view};
-ghost use Rattle.qm_run.specs.Given.{store_given, IsUnchanged, TellsAll};
-ghost use Rattle.qm_run.specs.Refusals.{refusal_of};
+ghost use Rattle.qm_any.specs.Given.{store_given, IsUnchanged, TellsAll};
+ghost use Rattle.qm_any.specs.Refusals.{refusal_of};
 ghost use Rattle.qm_run.specs.Session.{meaning, scheme_of, Obeys, Leaves, Causes};
 
 use crate::engine::{Engine, Given, Numbers};

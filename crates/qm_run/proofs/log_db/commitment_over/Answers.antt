@@ -6,7 +6,7 @@ use Rattle.qm_model.specs.Mmr.{mmr}
 use Rattle.qm_model.specs.Roots.{sha256_root}
 use Rattle.qm_model.specs.Trees.{leaves_from}
 use Rattle.qm_merkle.specs.Mems.{Stands}
-use Rattle.qm_run.specs.ListViews.{entry_view, byte_entries}
+use Rattle.qm_any.specs.ListViews.{entry_view, byte_entries}
 use Rattle.qm_run.specs.LogViews.{digest_bytes}
 use Rattle.qm_run.proofs.LogSteps.{log-tree}
 use Rattle.qm_run.proofs.log_db.commitment_over.Goals as goal

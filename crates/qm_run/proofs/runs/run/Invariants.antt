@@ -4,7 +4,7 @@ use Rattle.qm_model.specs.Batches.{Apart}
 use Rattle.qm_model.specs.Policies.{Policy}
 use Rattle.qm_model.specs.Machine.{Scheme, initial, answers}
 use Rattle.qm_lines.specs.Views.{policy_view, line_view, answer_view}
-use Rattle.qm_run.specs.Given.{store_given}
+use Rattle.qm_any.specs.Given.{store_given}
 use Rattle.qm_run.specs.Session.{Meaning, meaning, scheme_of, Holds}
 use Rattle.qm_run.specs.Runs.{after}
 use Rattle.qm_run.proofs.runs.run.Given as goal

@@ -3,7 +3,7 @@ use Rattle.qm_model.specs.Operations.{spelling}
 use Rattle.qm_model.specs.Policies.{Policy}
 use Rattle.qm_model.specs.Machine.{Scheme}
 use Rattle.qm_run.specs.Session.{Meaning, meaning, scheme_of}
-use Rattle.qm_run.specs.Given.{store_given}
+use Rattle.qm_any.specs.Given.{store_given}
 use Rattle.qm_run.proofs.Commands.{Grows-whole, not_merkleized, apply_ok, apply_err, apply_left}
 use Rattle.qm_run.proofs.turns.apply.Goals as goal
 

@@ -3,7 +3,7 @@ use Rattle.qm_model.specs.Operations.{spelling, fresh}
 use Rattle.qm_model.specs.Policies.{Policy}
 use Rattle.qm_model.specs.Machine.{Scheme}
 use Rattle.qm_run.specs.Session.{Meaning, meaning, scheme_of}
-use Rattle.qm_run.specs.Given.{store_given}
+use Rattle.qm_any.specs.Given.{store_given}
 use Rattle.qm_run.proofs.Commands.{Grows-whole, open_refused, open_ok, open_left, no_refusal}
 use Rattle.qm_run.proofs.turns.open.Goals as goal
 use Rattle.qm_run.proofs.turns.open.Goals.{then-start-gt0-via-then-start-gt0, then-start-gt0-via-else-start-gt0+then-end-gt0}

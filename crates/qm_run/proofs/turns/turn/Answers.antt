@@ -4,7 +4,7 @@ use Rattle.qm_model.specs.Policies.{Policy}
 use Rattle.qm_model.specs.Machine.{Scheme, slot_at}
 use Rattle.qm_lines.specs.Views.{policy_view}
 use Rattle.qm_run.specs.Session.{scheme_of}
-use Rattle.qm_run.specs.Given.{store_given}
+use Rattle.qm_any.specs.Given.{store_given}
 use Rattle.qm_run.proofs.Commands.{unchanged_left, put_items, ops_items, merkleize_items, prove_items, pins_items}
 use Rattle.qm_run.proofs.turns.turn.Goals as goal
 

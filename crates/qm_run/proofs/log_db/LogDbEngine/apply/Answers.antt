@@ -1,6 +1,6 @@
 use Rattle.std.proofs.Common.{◌≡◌, ◌∙◌, length, take, drop, map, ap, ap₂, sym, subst}
 use Rattle.qm_model.specs.Operations.{spelling}
-use Rattle.qm_run.specs.ListViews.{byte_entries}
+use Rattle.qm_any.specs.ListViews.{byte_entries}
 use Rattle.qm_run.specs.LogViews.{IsListLog}
 use Rattle.qm_run.proofs.LogSteps.{three-ok, on-base, spelled-behind}
 use Rattle.qm_run.proofs.log_db.LogDbEngine.apply.Goals as goal

@@ -1,7 +1,7 @@
 use Rattle.std.proofs.Common.{drop, ap, sym, ◌∙◌}
 use Rattle.std.proofs.lemmas.List.{drop-map, take_rest}
 use Rattle.qm_model.specs.Operations.{Bytes}
-use Rattle.qm_run.specs.ListViews.{entry_view, byte_entries}
+use Rattle.qm_any.specs.ListViews.{entry_view, byte_entries}
 use Rattle.qm_run.proofs.log_db.LogTip.own.Goals as goal
 
 pub returns-clause-value : goal.returns-clause-value
