@@ -136,6 +136,7 @@ impl<F: Family, D: Digest, K: Key, V: VariableValue> UnmerkleizedBatch<F, D, Uno
         ensures taken { IfOk result (λ _. IsTaken self.base (stepped self.base self.writes (policy_view policy.old) (option_map V.bytes metadata))) }
         ensures refused { IfErr result (λ e. IsRefused self.base (stepped self.base self.writes (policy_view policy.old) (option_map V.bytes metadata)) e) }
         ensures stale { IfErr result (λ e. e ≡ Error.StaleBatch → same db.old.commitment self.commitment ≡ false) }
+        ensures order { IfErr result (λ e. e ≢ Error.Memory → e ≢ Error.StaleBatch → same db.old.commitment self.commitment ≡ true) }
         ensures same { db.new ≡ db.old }
     {
         let UnmerkleizedBatch {

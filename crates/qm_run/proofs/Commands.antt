@@ -27,8 +27,8 @@ use Rattle.qm_lines.specs.declared.reply.TreeRefused.TheVariants as tree
 use Rattle.qm_lines.specs.declared.reply.LogRefused.TheVariants as log
 use Rattle.qm_lines.specs.declared.reply.Refused.{Refused}
 use Rattle.qm_lines.specs.declared.reply.Refused.TheVariants as refused
-use Rattle.qm_run.specs.declared.engine.Given.{Given}
-use Rattle.qm_run.specs.declared.engine.Given.TheVariants.{Database, Store}
+use Rattle.qm_any.specs.declared.refusal.Given.{Given}
+use Rattle.qm_any.specs.declared.refusal.Given.TheVariants.{Database, Store}
 use Rattle.qm_run.specs.declared.table.Slot.{Slot}
 use Rattle.qm_run.specs.declared.table.Slot.TheVariants.{Gone, Writing, Merkleized}
 use Rattle.qm_run.specs.declared.session.Turn.{Turn}

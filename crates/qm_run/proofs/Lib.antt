@@ -1,10 +1,5 @@
 pub mod Tables
 pub mod Commands
 pub mod Loops
-pub mod Marks
-pub mod ListSteps
-pub mod ListWalks
-pub mod ListWrites
-pub mod ListRoots
-pub mod LogSteps
 pub mod Sayings
+pub mod Engines

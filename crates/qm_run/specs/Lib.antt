@@ -1,10 +1,7 @@
-pub mod Given
 pub mod Table
 pub mod Turn
 pub mod Session
 pub mod Runs
-pub mod ListViews
-pub mod Marks
-pub mod LogViews
 pub mod Program
 pub mod Endings
+pub mod Databases

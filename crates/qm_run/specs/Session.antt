@@ -12,8 +12,8 @@ use Rattle.qm_lines.specs.Views.{answer_view}
 use Rattle.qm_lines.specs.declared.reply.Reply as reply
 use Rattle.qm_store.specs.declared.Store as store
 use Rattle.qm_run.specs.declared.engine.Engine as engine
-use Rattle.qm_run.specs.declared.engine.Given.{Given}
-use Rattle.qm_run.specs.declared.engine.Given.TheVariants.{Database, Store}
+use Rattle.qm_any.specs.declared.refusal.Given.{Given}
+use Rattle.qm_any.specs.declared.refusal.Given.TheVariants.{Database, Store}
 use Rattle.qm_run.specs.declared.table.Slot.{Slot}
 use Rattle.qm_run.specs.declared.table.Slot.TheVariants.{Gone, Writing, Merkleized}
 use Rattle.qm_run.specs.declared.session.Session.{Session}

@@ -16,27 +16,13 @@ ghost use Rattle.qm_merkle.specs.Proofs.{proof_view};
 ghost use Rattle.qm_any.specs.Given.{store_given, store_after, Appended, AppendedPart, IsUnchanged, TellsAll};
 ghost use Rattle.qm_any.specs.Refusals.{refusal_of, IsDue};
 
+use qm_any::{Given, Refusal};
 use qm_base::{Digest, Error, JournalError, Key, VariableValue};
 use qm_lines::{AnyPolicy, Listed};
 use qm_merkle::Proof;
 use qm_store::Store;
 use std::alloc::{AllocError, Global};
 use std::num::NonZeroU64;
-
-/// What a call that takes the database by value gives back where it refuses: the database as it was, or its store,
-/// which can be opened again.
-#[derive(Drop)]
-pub enum Given<X, C> {
-    Database(X),
-    Store(C),
-}
-
-/// A refusal of a call that takes the database by value.
-#[derive(Drop)]
-pub struct Refusal<X, C> {
-    pub given: Given<X, C>,
-    pub error: Error,
-}
 
 /// The numbers of a database.
 #[derive(Clone, Copy, Debug, PartialEq, Eq)]

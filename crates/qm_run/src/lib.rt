@@ -1,9 +1,10 @@
 //! The engine, the run of a list of commands, and the program's top call.
 #![tactic(auto)]
 
+mod database;
 pub mod engine;
+mod listed;
 mod lists;
-mod log_db;
 mod program;
 pub mod runs;
 mod session;
@@ -12,6 +13,6 @@ mod table;
 mod tests;
 mod turns;
 
-pub use engine::{BatchSizes, Engine, Given, Numbers, Refusal};
+pub use engine::{BatchSizes, Engine, Numbers};
 pub use program::qmdb_main;
 pub use runs::{End, Outcome, run};

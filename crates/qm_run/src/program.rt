@@ -10,7 +10,7 @@ ghost use Rattle.qm_lines.specs.Views.{answer_view};
 ghost use Rattle.qm_run.specs.Program.{are_words, Says, bad_text};
 ghost use Rattle.qm_run.specs.Endings.{tail_text, tail_status};
 
-use crate::log_db::LogDb;
+use crate::database::Database;
 use crate::runs::{End, Outcome, run};
 use qm_base::{Digest, Gate, Key, VariableValue};
 use qm_lines::{
@@ -115,7 +115,7 @@ fn serve<C: Store, K: Sink, G: Gate>(
         replies,
         end,
         store,
-    } = run::<LogDb<C>, C, G>(alloc, store, (), &commands, gate);
+    } = run::<Database<C>, C, G>(alloc, store, (), &commands, gate);
     let text = match whole_text(alloc, &replies, end, bad) {
         Ok(text) => text,
         Err(_) => return (5, store),

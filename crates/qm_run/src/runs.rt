@@ -10,10 +10,11 @@ ghost use Rattle.qm_any.specs.Given.{store_given};
 ghost use Rattle.qm_run.specs.Session.{meaning, scheme_of, Stands, Leaves};
 ghost use Rattle.qm_run.specs.Runs.{IsRun};
 
-use crate::engine::{Engine, Given};
+use crate::engine::Engine;
 use crate::session::{Of, Session, Turn, close};
 use crate::table::{Slot, push_slot};
 use crate::turns::turn;
+use qm_any::Given;
 use qm_base::Gate;
 use qm_lines::{AnyPolicy, Command, Reply};
 use qm_store::Store;

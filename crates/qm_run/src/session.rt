@@ -3,8 +3,9 @@ ghost use Rattle.std.specs.Prelude.{◌≡◌};
 ghost use Rattle.qm_any.specs.Given.{store_given};
 ghost use Rattle.qm_run.specs.Turn.{turn_of_tree, turn_of_log, turn_of_error};
 
-use crate::engine::{Engine, Given};
+use crate::engine::Engine;
 use crate::table::Slot;
+use qm_any::Given;
 use qm_base::{Error, JournalError, MerkleError};
 use qm_lines::{LogRefused, Refused, Reply, TreeRefused};
 use qm_store::Store;

@@ -14,9 +14,10 @@ ghost use Rattle.qm_any.specs.Given.{store_given, IsUnchanged, TellsAll};
 ghost use Rattle.qm_any.specs.Refusals.{refusal_of};
 ghost use Rattle.qm_run.specs.Session.{meaning, scheme_of, Obeys, Leaves, Causes};
 
-use crate::engine::{Engine, Given, Numbers};
+use crate::engine::{Engine, Numbers};
 use crate::session::{Of, Session, Turn, close, turn_of};
 use crate::table::{Slot, merkleized_at, push_slot, put_slot, take_writing};
+use qm_any::Given;
 use qm_base::{Error, JournalError, Twin};
 use qm_lines::{AnyPolicy, Command, Refused, Reply};
 use qm_merkle::Proof;

@@ -2,7 +2,7 @@ use Rattle.std.proofs.Common.{}
 use Rattle.qm_model.specs.Policies.{Policy}
 use Rattle.qm_model.specs.Machine.{Scheme}
 use Rattle.qm_run.specs.Session.{Meaning, meaning, scheme_of}
-use Rattle.qm_run.specs.declared.engine.Given.TheVariants.{Database}
+use Rattle.qm_any.specs.declared.refusal.Given.TheVariants.{Database}
 use Rattle.qm_run.proofs.Commands.{Holds-told, get_err}
 use Rattle.qm_run.proofs.turns.get.Goals as goal
 

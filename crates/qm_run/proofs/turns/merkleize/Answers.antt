@@ -1,7 +1,7 @@
 use Rattle.std.proofs.Common.{sym, option_map}
 use Rattle.qm_model.specs.Policies.{Policy}
 use Rattle.qm_model.specs.Machine.{Scheme}
-use Rattle.qm_run.specs.declared.engine.Given.TheVariants.{Database}
+use Rattle.qm_any.specs.declared.refusal.Given.TheVariants.{Database}
 use Rattle.qm_run.specs.Session.{Meaning, meaning, scheme_of}
 use Rattle.qm_lines.specs.Views.{policy_view}
 use Rattle.qm_run.proofs.Commands.{Holds-told, no_batch, merkleize_ok, merkleize_err}

@@ -5,7 +5,7 @@ use Rattle.qm_run.specs.Session.{Meaning, meaning, scheme_of}
 use Rattle.std.specs.Int.NonZero.{non_zero_u64_get}
 use Rattle.qm_lines.specs.Views.{listed_view}
 use Rattle.qm_merkle.specs.Proofs.{proof_view}
-use Rattle.qm_run.specs.declared.engine.Given.TheVariants.{Database}
+use Rattle.qm_any.specs.declared.refusal.Given.TheVariants.{Database}
 use Rattle.qm_run.proofs.Commands.{Holds-told, prove_ok, prove_err}
 use Rattle.qm_run.proofs.turns.prove.Goals as goal
 

@@ -1,4 +1,5 @@
 use Rattle.std.proofs.Common.{◌≡◌, ◌∙◌, length, ap, ap₂, sym, subst, arith, option_map, IfOk, IfErr}
+use Rattle.qm_model.specs.Batches.{same}
 use Rattle.qm_any.specs.Databases.{IsDatabase, LeadsTo, commitment_view, list_commitment, stepped}
 use Rattle.qm_any.specs.ListViews.{entry_views, policy_view}
 use Rattle.qm_any.specs.Tips.{IsTaken, IsRefused}
@@ -48,3 +49,6 @@ returns-then-is_same-clause-made g c = λ base is begun.
     let led = c.made_on.ensures.made stands (commits ∙ ap (list_commitment hash shape) (sym own)) in
     subst (λ l. IfOk c.made_on.result (λ b. LeadsTo hash shape b.value l (stepped l c.args.self.writes policy meta))) own
     (subst (λ ws. IfOk c.made_on.result (λ b. LeadsTo hash shape b.value (views c.deref-then-is_same.result.now) (stepped (views c.deref-then-is_same.result.now) ws policy meta))) (ap (λ b. b.writes) c.self.view_is) led)
+
+pub returns-then-is_same-clause-order : goal.returns-then-is_same-clause-order
+returns-then-is_same-clause-order g c = err-then c.made_on.result c.made_on.ensures.never (λ e never memory stale. sym (ap₂ same c.commitment.ensures.value (ap (λ b. b.commitment) c.self.view_is)) ∙ sym c.is_same.ensures ∙ c.if-is_same.true)

@@ -1,0 +1,183 @@
+// The program's database as an engine.
+ghost use Rattle.std.specs.Prelude.{◌≡◌, ◌×◌, [], IfOk, IfErr};
+ghost use Rattle.qm_model.specs.Live as lives;
+ghost use Rattle.qm_model.specs.Mmr.{mmr};
+ghost use Rattle.qm_model.specs.Roots.{sha256_root, sha256_proof, sha256_pins};
+ghost use Rattle.qm_model.specs.Step as steps;
+ghost use Rattle.sha2.specs.Sha256.{sha256};
+ghost use Rattle.qm_any.specs.Databases.{IsDatabase, IsBegunOn, LeadsTo};
+ghost use Rattle.qm_any.specs.Refusals.{refusal_of};
+ghost use Rattle.qm_run.specs.Databases.{digest_bytes};
+
+use crate::engine::{BatchSizes, Engine, Numbers};
+use crate::listed::{listed, twin_option};
+use qm_any::batch::{MerkleizedBatch, UnmerkleizedBatch};
+use qm_any::db::Db;
+use qm_any::{Given, Proportional, Refusal, init};
+use qm_base::update::Unordered;
+use qm_base::{ByteKey, ByteValue, Error, JournalError, Location, Sha256, Sha256Digest};
+use qm_lines::{AnyPolicy, Listed};
+use qm_merkle::{Proof, mmr};
+use qm_store::Store;
+use std::alloc::{AllocError, Global};
+use std::num::NonZeroU64;
+use std::rc::Rc;
+
+/// What its updates say.
+type Pair = Unordered<ByteKey, ByteValue>;
+
+/// The program's database over a store.
+pub type Database<C> = Db<mmr::Family, C, Sha256Digest, Sha256, Pair>;
+
+// What an opening that fails comes to: a store's head that does not match counts as want of memory.
+fn opening_error(error: Error) -> Error
+    ensures refused { refusal_of result ≡ None }
+    ensures store { result ≡ Error.Journal JournalError.Store → error ≡ Error.Journal JournalError.Store }
+{
+    match error {
+        Error::Journal(JournalError::Store) => Error::Journal(JournalError::Store),
+        _ => Error::Memory,
+    }
+}
+
+impl<C: Store> Engine<C>
+    for Db<mmr::Family, C, Sha256Digest, Sha256, Unordered<ByteKey, ByteValue>> {
+    type Key = ByteKey;
+
+    type Value = ByteValue;
+
+    type Digest = Sha256Digest;
+
+    type Config = ();
+
+    type Batch = UnmerkleizedBatch<mmr::Family, Sha256Digest, Pair>;
+
+    type Merkleized = Rc<MerkleizedBatch<mmr::Family, Sha256Digest, Pair>>;
+
+    ghost inside = { λ db. db.log.store };
+
+    ghost stands = { λ db list. IsDatabase C.Store mmr digest_bytes sha256 db list };
+
+    ghost is_batch = { λ b chain ws. IsBegunOn sha256 mmr b chain.base × (chain.kept ≡ []) × (b.writes ≡ ws) };
+
+    ghost is_merkleized = { λ b chain tip. LeadsTo sha256 mmr b.value chain.base tip × (chain.kept ≡ []) };
+
+    ghost kind = { steps.unordered };
+
+    ghost root = { sha256_root mmr };
+
+    ghost boundary = { lives.floor };
+
+    ghost proof = { sha256_proof mmr };
+
+    ghost pins = { sha256_pins mmr };
+
+    fn open(alloc: Global, store: C, _config: &()) -> Result<Self, Refusal<Self, C>> {
+        match init(alloc, store, Sha256::new()) {
+            Ok(db) => Ok(db),
+            Err(Refusal { given, error }) => Err(Refusal {
+                given,
+                error: opening_error(error),
+            }),
+        }
+    }
+
+    fn store(&self) -> &C {
+        Db::store(self)
+    }
+
+    fn close(self) -> C {
+        Db::close(self)
+    }
+
+    fn info(&self) -> Numbers {
+        let (start, size) = self.bounds();
+        Numbers {
+            start: start.get(),
+            size: size.get(),
+            floor: self.inactivity_floor_loc().get(),
+            boundary: self.sync_boundary().get(),
+            is_live: !self.is_empty(),
+        }
+    }
+
+    fn batch(&self, alloc: Global) -> Result<Self::Batch, AllocError> {
+        self.new_batch(alloc)
+    }
+
+    fn put(
+        _alloc: Global,
+        batch: Self::Batch,
+        key: ByteKey,
+        value: ByteValue,
+    ) -> Result<Self::Batch, AllocError> {
+        batch.write(key, Some(value))
+    }
+
+    fn del(_alloc: Global, batch: Self::Batch, key: ByteKey) -> Result<Self::Batch, AllocError> {
+        batch.write(key, None)
+    }
+
+    fn merkleize(
+        &mut self,
+        alloc: Global,
+        batch: Self::Batch,
+        policy: &mut AnyPolicy,
+        metadata: &Option<ByteValue>,
+    ) -> Result<Self::Merkleized, Error> {
+        let metadata = twin_option(alloc, metadata)?;
+        match policy {
+            AnyPolicy::Proportional => { batch.merkleize(alloc, self, metadata, &mut Proportional) }
+        }
+    }
+
+    fn sizes(batch: &Self::Merkleized) -> BatchSizes {
+        BatchSizes {
+            base: batch.base().size,
+            tip: batch.tip().size,
+            floor: batch.inactivity_floor_loc().get(),
+        }
+    }
+
+    fn ops(
+        alloc: Global,
+        batch: &Self::Merkleized,
+    ) -> Result<(u64, Vec<Listed<ByteKey, ByteValue>>), AllocError> {
+        let (base, own) = batch.operations();
+        let own = listed(alloc, own)?;
+        Ok((base.get(), own))
+    }
+
+    fn apply(self, alloc: Global, batch: &Self::Merkleized) -> Result<Self, Refusal<Self, C>> {
+        self.apply_batch(alloc, batch)
+    }
+
+    fn get(&mut self, alloc: Global, key: &ByteKey) -> Result<Option<ByteValue>, Error> {
+        Db::get(self, alloc, key)
+    }
+
+    fn root(&self, _alloc: Global) -> Result<Sha256Digest, AllocError> {
+        Ok(Db::root(self))
+    }
+
+    fn metadata(&self, alloc: Global) -> Result<Option<ByteValue>, AllocError> {
+        self.get_metadata(alloc)
+    }
+
+    fn prove(
+        &mut self,
+        alloc: Global,
+        size: u64,
+        start: u64,
+        max: NonZeroU64,
+    ) -> Result<(Proof<Sha256Digest>, Vec<Listed<ByteKey, ByteValue>>), Error> {
+        let (size, start) = (Location::new(size), Location::new(start));
+        let (proof, operations) = self.historical_proof(alloc, size, start, max)?;
+        let operations = listed(alloc, &operations)?;
+        Ok((proof, operations))
+    }
+
+    fn pins(&self, alloc: Global, at: u64) -> Result<Vec<Sha256Digest>, Error> {
+        self.pinned_nodes_at(alloc, Location::new(at))
+    }
+}
