@@ -7,6 +7,7 @@ use qm_merkle::StandardHasher;
 use qm_merkle::mmr::Family;
 use std::alloc::Global;
 use std::num::NonZeroU64;
+use std::process::Abort;
 use std::test::Fail;
 
 type Log = AuthLog<Family, MemStore, Sha256Digest, Sha256>;
@@ -147,7 +148,7 @@ fn a_log_proves_its_items(rt: HostRuntime) -> Result<(), Fail> {
         Ok(mut log) => {
             let root = log.root(rt.alloc(), 0)?;
             match log.append_batch(rt.alloc(), &more) {
-                Ok(log) => proves_items_of_five(&rt, log, &root)?,
+                Ok(log) => proves_items_of_five(&rt, rt.alloc(), log, &root)?,
                 Err(refusal) => assert_eq!(rt; refused(refusal), (Error::Memory, None)),
             }
         }
@@ -157,17 +158,22 @@ fn a_log_proves_its_items(rt: HostRuntime) -> Result<(), Fail> {
 }
 
 // That a log of eight items proves some of its first five, against their root.
-fn proves_items_of_five(rt: &HostRuntime, log: Log, root: &Sha256Digest) -> Result<(), Fail> {
+fn proves_items_of_five(
+    rt: &impl Abort,
+    alloc: Global,
+    log: Log,
+    root: &Sha256Digest,
+) -> Result<(), Error> {
     let mut log = log;
     let mut hasher = StandardHasher::new(Sha256::new());
     let from: Location<Family> = Location::new(1);
-    let (proof, items) = log.historical_proof(rt.alloc(), 5, 0, 1, NonZeroU64::MIN)?;
+    let (proof, items) = log.historical_proof(alloc, 5, 0, 1, NonZeroU64::MIN)?;
     assert_eq!(rt; items.len(), 1);
     assert!(rt; proof.verify(&mut hasher, &items, from, root));
-    assert_eq!(rt; log.pinned_nodes_at(rt.alloc(), 5)?.len(), 2);
-    let batch = log.tree().new_batch(rt.alloc());
-    let batch = batch.merkleize(rt.alloc(), log.tree(), &mut hasher)?;
-    let proof = log.speculative_proof(rt.alloc(), &batch, 0, 0, 0)?;
+    assert_eq!(rt; log.pinned_nodes_at(alloc, 5)?.len(), 2);
+    let batch = log.tree().new_batch(alloc);
+    let batch = batch.merkleize(alloc, log.tree(), &mut hasher)?;
+    let proof = log.speculative_proof(alloc, &batch, 0, 0, 0)?;
     assert_eq!(rt; proof.digests.len(), 1);
     Ok(())
 }
