@@ -4,7 +4,6 @@
 mod database;
 pub mod engine;
 mod listed;
-mod lists;
 mod program;
 pub mod runs;
 mod session;
