@@ -1,14 +1,13 @@
-use Rattle.std.proofs.Common.{◌≡◌, ◌⊎◌, ◌∙◌, ◌≤◌, ◌^◌, ℕ, List, length, map, take, drop, true, All, ap, sym, arith, rules, subst, zero, suc, ◌∷◌, []}
+use Rattle.std.proofs.Common.{◌≡◌, ◌⊎◌, ◌∙◌, ℕ, List, length, map, take, drop, true, All, ap, sym, arith, rules, subst, zero, suc, ◌∷◌, []}
 use Rattle.std.proofs.lemmas.List.{length-map}
 use Rattle.qm_model.specs.Operations.{Bytes}
-use Rattle.qm_model.specs.Trees.{leaf, peaks, root}
+use Rattle.qm_model.specs.Trees.{root}
 use Rattle.qm_model.specs.Proofs.{item_leaves, verdict, checked_inputs, root_inputs, Collides}
 use Rattle.qm_model.proofs.Speaking.{speaks}
 use Rattle.qm_merkle.specs.Proofs.{proof_view}
 use Rattle.std.specs.Prelude.{bytes_eq}
 use Rattle.qm_merkle.proofs.Numbering.{birth-born}
 use Rattle.qm_merkle.proofs.Folding.{verdict_is}
-use Rattle.qm_merkle.proofs.proof.Proof.verify.Given
 use Rattle.qm_merkle.proofs.proof.Proof.verify.Goals as goal
 
 -- digests of the proof's type are as long as hashes
