@@ -1,0 +1,15 @@
+use Rattle.std.proofs.Common.{◌∙◌, ◌+◌, ap, ap₂, take}
+use Rattle.sha2.specs.Sha256.{sha256}
+use Rattle.std.specs.Int.NonZero.{non_zero_u64_get}
+use Rattle.qm_model.specs.Mmr.{mmr}
+use Rattle.qm_model.specs.Proofs.{ops_proof}
+use Rattle.qm_model.specs.Refusals.{proof_count}
+use Rattle.qm_run.proofs.Engines.{proved}
+use Rattle.qm_run.proofs.database.DbMmrFamilySha256DigestSha256UnorderedByteKeyByteValueEngine.prove.Goals as goal
+
+pub returns-clause-proof : goal.returns-clause-proof
+returns-clause-proof g c = λ list is.
+    let max = non_zero_u64_get c.args.max in
+    c.in_ok-proof.ensures.proof list is
+    ∙ ap₂ (λ n a. ops_proof sha256 mmr (take n list) a (a + proof_count n a max)) c.new-size.ensures c.new-start.ensures
+    ∙ proved (take c.args.size list) c.args.start (c.args.start + proof_count c.args.size c.args.start max)
