@@ -4,3 +4,4 @@ pub mod ListWalks
 pub mod ListWrites
 pub mod LogSteps
 pub mod Writes
+pub mod Proving

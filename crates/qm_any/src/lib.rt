@@ -5,8 +5,8 @@ pub mod batch;
 pub mod db;
 mod lists;
 mod open;
-pub mod proof;
 pub mod policy;
+pub mod proof;
 pub mod refusal;
 
 pub use open::{hasher, init};
