@@ -5,3 +5,4 @@ pub mod ListWrites
 pub mod LogSteps
 pub mod Writes
 pub mod Proving
+pub mod Fresh

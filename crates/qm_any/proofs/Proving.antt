@@ -86,3 +86,8 @@ proof-whole (Err e) hash shape list view n a m all is = tt
 proof-whole (Ok x) hash shape list view n a m all is =
     is ∙ ap (λ k. ops_proof hash shape (take k list) a (a + proof_count k a m)) all
     ∙ ap (λ l. ops_proof hash shape l a (a + proof_count (length list) a m)) (take_all (length list) list (omega arith))
+
+-- what holds of four things holds of others that are the same
+pub four : {A B C D : Type 0} (T : A → B → C → D → Type 0) {a a2 : A} {b b2 : B} {c c2 : C} {d d2 : D} → a ≡ a2 → b ≡ b2 → c ≡ c2 → d ≡ d2 → T a b c d → T a2 b2 c2 d2
+four T {a} {a2} {b} {b2} {c} {c2} {d} {d2} p q r s is =
+    subst (λ x. T a2 b2 c2 x) s (subst (λ x. T a2 b2 x d) r (subst (λ x. T a2 x c d) q (subst (λ x. T x b c d) p is)))

@@ -9,6 +9,6 @@ pub mod policy;
 pub mod proof;
 pub mod refusal;
 
-pub use open::{hasher, init};
+pub use open::{hasher, init, initial_root};
 pub use policy::Proportional;
 pub use refusal::{Given, Refusal};

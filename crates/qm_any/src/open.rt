@@ -12,8 +12,11 @@ ghost use Rattle.qm_any.specs.ListViews.{entry_views};
 use crate::db::{Db, commitment_over};
 use crate::lists::{Entry, fresh_list, spell_all};
 use crate::refusal::{Given, Refusal};
-use qm_base::update::Unordered;
-use qm_base::{Commitment, Corrupt, Digest, Error, Hasher, JournalError, Key, VariableValue};
+use qm_base::update::{Unordered, Update};
+use qm_base::{
+    Commitment, Corrupt, Digest, Error, Hasher, JournalError, Key, Location, Operation,
+    VariableValue,
+};
 use qm_merkle::{Family, StandardHasher};
 use qm_store::{AuthLog, LogGiven, Store};
 use std::alloc::{AllocError, Global};
@@ -24,6 +27,16 @@ pub fn hasher<H: Hasher>(inner: H) -> StandardHasher<H>
     ensures { result ≡ 0 }
 {
     StandardHasher::new(inner)
+}
+
+/// The operations root of a fresh database: of a list of one commit without metadata and with floor 0. It takes no memory.
+pub fn initial_root<F: Family, H: Hasher + Drop, U: Update>(inner: H) -> H::Digest
+    ensures { H.Digest.bytes result ≡ trees.ops_root H.hash F.shape fresh }
+{
+    let mut hasher = StandardHasher::new(inner);
+    let first: Operation<F, U> = Operation::CommitFloor(None, Location::new(0));
+    let leaf = hasher.leaf_digest_of(F::location_to_position(Location::new(0)), &first);
+    hasher.root(Location::<F>::new(1), 0, &[leaf])
 }
 
 /// Opens a database over an empty store: a fresh list, one commit without metadata and with floor 0, which it appends.

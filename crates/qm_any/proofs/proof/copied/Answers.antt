@@ -8,5 +8,5 @@ returns g c =
     let views = entry_views g.K.ByteString.bytes g.V.ByteString.bytes in
     subst (λ l. IfOk c.twin_list.result (λ copy. views copy.items ≡ l))
     (ap views (c.split_at-2.ensures.front ∙ ap (take c.args.count) c.split_at.ensures.back)
-      ∙ part-viewed (entry_view g.K.ByteString.bytes g.V.ByteString.bytes) c.args.list.now c.args.start c.args.count)
+    ∙ part-viewed (entry_view g.K.ByteString.bytes g.V.ByteString.bytes) c.args.list.now c.args.start c.args.count)
     c.twin_list.ensures

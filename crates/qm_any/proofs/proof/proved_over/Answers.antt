@@ -7,7 +7,7 @@ returns-in-Ok-clause-proof g c = λ is.
     c.in_ok-proof.ensures.value (entry_views g.K.ByteString.bytes g.V.ByteString.bytes c.args.list.now) is c.in_ok-floor.ensures.floor
 
 pub returns-in-Ok-clause-cause : goal.returns-in-Ok-clause-cause
-returns-in-Ok-clause-cause g c = caused-by _ _ c.proof_of_first.ensures.cause (λ failed. absurd failed)
+returns-in-Ok-clause-cause g c = caused-by _ _ c.proof_of_first.ensures.cause (λ failed. absurd cc)
 
 pub returns-in-Err-clause-cause : goal.returns-in-Err-clause-cause
-returns-in-Err-clause-cause g c = caused-by _ _ c.proof_of_first.ensures.cause (λ failed. absurd (cc failed))
+returns-in-Err-clause-cause g c = caused-by _ _ c.proof_of_first.ensures.cause (λ failed. absurd cc)
