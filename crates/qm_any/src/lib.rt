@@ -12,3 +12,6 @@ pub mod refusal;
 pub use open::{hasher, init, initial_root};
 pub use policy::Proportional;
 pub use refusal::{Given, Refusal};
+
+#[cfg(test)]
+mod tests;
