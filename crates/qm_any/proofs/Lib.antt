@@ -4,3 +4,5 @@ pub mod ListWalks
 pub mod ListWrites
 pub mod LogSteps
 pub mod Writes
+pub mod Proving
+pub mod Fresh

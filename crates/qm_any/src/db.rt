@@ -27,9 +27,9 @@ use std::rc::Rc;
 /// and a commitment that tells its list from others. It keeps the operations in memory, which its batches share.
 #[derive(Drop)]
 pub struct Db<F: Family, C: Store, D: Digest, H, U: Update> {
-    list: Rc<Vec<operation::Operation<F, U>>>,
+    pub(crate) list: Rc<Vec<operation::Operation<F, U>>>,
     commitment: Commitment<D>,
-    log: AuthLog<F, C, D, H>,
+    pub(crate) log: AuthLog<F, C, D, H>,
 }
 
 impl<F: Family, C: Store, D: Digest, H, U: Update> Model for Db<F, C, D, H, U> {

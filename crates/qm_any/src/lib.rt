@@ -5,10 +5,13 @@ pub mod batch;
 pub mod db;
 mod lists;
 mod open;
-pub mod proof;
 pub mod policy;
+pub mod proof;
 pub mod refusal;
 
-pub use open::{hasher, init};
+pub use open::{hasher, init, initial_root};
 pub use policy::Proportional;
 pub use refusal::{Given, Refusal};
+
+#[cfg(test)]
+mod tests;

@@ -1,6 +1,6 @@
 //! How a database is opened, and the root of a fresh one.
 
-ghost use Rattle.std.specs.Prelude.{◌≡◌, ◌≢◌, ◌⊎◌, ◌≤◌, ◌^◌, [], length, map, IfOk, IfErr};
+ghost use Rattle.std.specs.Prelude.{◌≡◌, ◌≢◌, ◌⊎◌, ◌≤◌, ◌^◌, ◌∷◌, [], length, map, IfOk, IfErr};
 ghost use Rattle.qm_model.specs.Causes.{IsCause};
 ghost use Rattle.qm_model.specs.Operations.{spelling, fresh};
 ghost use Rattle.qm_model.specs.Trees as trees;
@@ -12,8 +12,12 @@ ghost use Rattle.qm_any.specs.ListViews.{entry_views};
 use crate::db::{Db, commitment_over};
 use crate::lists::{Entry, fresh_list, spell_all};
 use crate::refusal::{Given, Refusal};
-use qm_base::update::Unordered;
-use qm_base::{Commitment, Corrupt, Digest, Error, Hasher, JournalError, Key, VariableValue};
+use qm_base::operation::eight_bytes;
+use qm_base::update::{Unordered, Update};
+use qm_base::{
+    Commitment, Corrupt, Digest, Error, Hasher, JournalError, Key, Location, Operation, Spelled,
+    VariableValue,
+};
 use qm_merkle::{Family, StandardHasher};
 use qm_store::{AuthLog, LogGiven, Store};
 use std::alloc::{AllocError, Global};
@@ -24,6 +28,39 @@ pub fn hasher<H: Hasher>(inner: H) -> StandardHasher<H>
     ensures { result ≡ 0 }
 {
     StandardHasher::new(inner)
+}
+
+/// The operations root of a fresh database: of a list of one commit without metadata and with floor 0. It takes no memory.
+pub fn initial_root<F: Family, H: Hasher + Drop, U: Update>(inner: H) -> H::Digest
+    ensures { H.Digest.bytes result ≡ trees.ops_root H.hash F.shape fresh }
+{
+    let mut hasher = inner;
+    let first: Operation<F, U> = Operation::CommitFloor(None, Location::new(0));
+    let position = F::location_to_position(Location::new(0));
+    let leaf = leaf_of(&mut hasher, position.get(), &first);
+    root_of_one(&mut hasher, &leaf)
+}
+
+// The digest of a leaf.
+fn leaf_of<H: Hasher, E: Spelled>(hasher: &mut H, position: u64, element: &E) -> H::Digest
+    ensures { H.Digest.bytes result ≡ trees.leaf_digest H.hash position (E.spelling element.now) }
+{
+    hasher.start();
+    hasher.update(&eight_bytes(position));
+    element.feed(hasher);
+    hasher.finish()
+}
+
+// The root of a tree of one leaf, which is active.
+#[tactic(auto, using(std::proofs::Common::append_assoc))]
+fn root_of_one<H: Hasher>(hasher: &mut H, leaf: &H::Digest) -> H::Digest
+    ensures { H.Digest.bytes result ≡ trees.root_of H.hash 1 0 (H.Digest.bytes leaf.now ∷ []) }
+{
+    hasher.start();
+    hasher.update(&eight_bytes(1));
+    hasher.update(&eight_bytes(0));
+    hasher.update(leaf.bytes());
+    hasher.finish()
 }
 
 /// Opens a database over an empty store: a fresh list, one commit without metadata and with floor 0, which it appends.
