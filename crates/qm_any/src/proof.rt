@@ -48,6 +48,7 @@ impl<F: Family, C: Store, D: Digest, H: Hasher<Digest = D> + Drop, K: Key, V: Va
         ensures operations { IfOk result (λ shown. entry_views K.bytes V.bytes shown.1.items ≡ take (proof_count size start (non_zero_u64_get max)) (drop start self.old.list)) }
         ensures refused { C.start self.old.log.store ≤ start → IfErr result (λ e. IsDue e (proof_refusal self.old.list size start)) }
         ensures pruned { start < C.start self.old.log.store → proof_refusal self.old.list size start ≡ None → result ≡ Err (Error.Journal (JournalError.ItemPruned start)) }
+        ensures never { IfErr result (λ e. e ≢ Error.StaleBatch) }
         ensures stands { (list : List operations.Operation) → IsDatabase C.Store F.shape D.bytes H.hash self.old list → IsDatabase C.Store F.shape D.bytes H.hash self.new list }
         ensures kept { IsKept C.Store self.old.log.store self.new.log.store }
         ensures cause { IsCause (C.faults self.old.log.store) (C.faults self.new.log.store) (IsErrOf result (Error.Journal JournalError.Store)) }
@@ -75,6 +76,7 @@ impl<F: Family, C: Store, D: Digest, H: Hasher<Digest = D> + Drop, K: Key, V: Va
         ensures operations { IfOk result (λ shown. entry_views K.bytes V.bytes shown.1.items ≡ take (proof_count (length self.old.list) start (non_zero_u64_get max)) (drop start self.old.list)) }
         ensures refused { C.start self.old.log.store ≤ start → IfErr result (λ e. IsDue e (proof_refusal self.old.list (length self.old.list) start)) }
         ensures pruned { start < C.start self.old.log.store → proof_refusal self.old.list (length self.old.list) start ≡ None → result ≡ Err (Error.Journal (JournalError.ItemPruned start)) }
+        ensures never { IfErr result (λ e. e ≢ Error.StaleBatch) }
         ensures stands { (list : List operations.Operation) → IsDatabase C.Store F.shape D.bytes H.hash self.old list → IsDatabase C.Store F.shape D.bytes H.hash self.new list }
         ensures kept { IsKept C.Store self.old.log.store self.new.log.store }
         ensures cause { IsCause (C.faults self.old.log.store) (C.faults self.new.log.store) (IsErrOf result (Error.Journal JournalError.Store)) }
@@ -120,6 +122,7 @@ fn proved_over<
     ensures operations { IfOk result (λ shown. entry_views K.bytes V.bytes shown.1.items ≡ take (proof_count size start (non_zero_u64_get max)) (drop start (entry_views K.bytes V.bytes list.now))) }
     ensures refused { C.start log.old.store ≤ start → IfErr result (λ e. IsDue e (proof_refusal (entry_views K.bytes V.bytes list.now) size start)) }
     ensures pruned { start < C.start log.old.store → proof_refusal (entry_views K.bytes V.bytes list.now) size start ≡ None → result ≡ Err (Error.Journal (JournalError.ItemPruned start)) }
+    ensures never { IfErr result (λ e. e ≢ Error.StaleBatch) }
     ensures stands { (ops : List operations.Operation) → IsListLog C.Store F.shape D.bytes H.hash log.old ops → IsListLog C.Store F.shape D.bytes H.hash log.new ops }
     ensures tree { log.new.tree ≡ log.old.tree }
     ensures kept { IsKept C.Store log.old.store log.new.store }
@@ -148,6 +151,7 @@ fn proof_of_first<F: Family, C: Store, D: Digest, H: Hasher<Digest = D> + Drop>(
         → IfOk result (λ p. proof_view D.bytes p ≡ ops_proof H.hash F.shape (take size ops) start (start + proof_count size start (non_zero_u64_get max))) }
     ensures pruned { start < C.start log.old.store → result ≡ Err (Error.Journal (JournalError.ItemPruned start)) }
     ensures never { C.start log.old.store ≤ start → IfErr result (λ e. (e ≡ Error.Memory) ⊎ (e ≡ Error.Journal JournalError.Store)) }
+    ensures fresh { IfErr result (λ e. e ≢ Error.StaleBatch) }
     ensures stands { (ops : List operations.Operation) → IsListLog C.Store F.shape D.bytes H.hash log.old ops → IsListLog C.Store F.shape D.bytes H.hash log.new ops }
     ensures tree { log.new.tree ≡ log.old.tree }
     ensures kept { IsKept C.Store log.old.store log.new.store }
@@ -208,6 +212,7 @@ fn offered<F, K: Key, V: VariableValue>(
     ensures offered { OnOk result (proof_refusal (entry_views K.bytes V.bytes list.now) size start ≡ None) }
     ensures within { OnOk result ((size ≤ length list.now) × (start < size)) }
     ensures floor { IfOk result (λ f. f ≡ lives.floor (take size (entry_views K.bytes V.bytes list.now))) }
+    ensures never { IfErr result (λ e. e ≢ Error.StaleBatch) }
     ensures refused { IfErr result (λ e. (r : lines.Refused) × (refusal_of e ≡ Some r) × (proof_refusal (entry_views K.bytes V.bytes list.now) size start ≡ Some r)) }
 {
     if (list.len() as u64) < size {
