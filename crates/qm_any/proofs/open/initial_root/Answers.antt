@@ -1,13 +1,14 @@
-use Rattle.std.proofs.Common.{◌∙◌, ap}
+use Rattle.std.proofs.Common.{◌∙◌, ap, ap₂, None}
 use Rattle.qm_model.specs.Operations.{spelling, commit}
-use Rattle.qm_model.specs.Trees.{leaf_digest}
-use Rattle.std.proofs.Common.{None}
+use Rattle.qm_model.specs.Trees.{leaf, leaf_digest}
 use Rattle.qm_any.proofs.Fresh.{fresh-rooted}
 use Rattle.qm_any.proofs.open.initial_root.Goals as goal
 
 pub returns : goal.returns
 returns g c =
     let hash = g.H.Hasher.hash in
+    let shape = g.F.Family.shape in
+    let place = c.get.ensures ∙ c.location_to_position-position.ensures.place ∙ ap (λ l. shape.position (leaf l)) c.new-2.ensures in
     c.root_of_one.ensures
-    ∙ fresh-rooted g.F.Family.shape g.F.Family.births g.met.F.Family.numbered g.met.F.Family.peaked hash (g.H.Digest.Digest.bytes c.leaf_of-leaf.result)
-    (c.leaf_of-leaf.ensures ∙ ap (λ p. leaf_digest hash p (spelling (commit None 0))) (c.get.ensures ∙ c.location_to_position-position.ensures.place))
+    ∙ fresh-rooted shape g.F.Family.births g.met.F.Family.numbered g.met.F.Family.peaked hash (g.H.Digest.Digest.bytes c.leaf_of-leaf.result)
+    (c.leaf_of-leaf.ensures ∙ ap₂ (λ p f. leaf_digest hash p (spelling (commit None f))) place c.new.ensures)
