@@ -34,13 +34,13 @@ fn key(alloc: Global) -> Result<ByteKey, AllocError> {
 }
 
 // A value of so many zeros.
-fn zeros(alloc: Global, count: usize) -> Result<ByteValue, AllocError> {
-    let bytes = vec![in alloc; 0u8; count]?;
+fn zeros(alloc: Global, count: u32) -> Result<ByteValue, AllocError> {
+    let bytes = vec![in alloc; 0u8; count as usize]?;
     Ok(ByteValue::new(bytes))
 }
 
 // The batch that gives the key a value of so many zeros.
-fn batch_of(alloc: Global, db: &mut Database, count: usize) -> Result<Rc<Batch>, Error> {
+fn batch_of(alloc: Global, db: &mut Database, count: u32) -> Result<Rc<Batch>, Error> {
     let batch = db.new_batch(alloc)?;
     let batch = batch.write(key(alloc)?, Some(zeros(alloc, count)?))?;
     let metadata = Some(zeros(alloc, 2)?);
