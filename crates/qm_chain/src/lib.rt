@@ -1,0 +1,8 @@
+//! Where a batch of a database comes from, and the differences that batches make.
+#![tactic(auto)]
+
+pub mod bounds;
+pub mod diff;
+
+pub use bounds::{Bounds, effective_boundary, validate_batch_applicable};
+pub use diff::{Diff, DiffEntry};
