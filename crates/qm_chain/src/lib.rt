@@ -3,6 +3,8 @@
 
 pub mod bounds;
 pub mod diff;
+#[cfg(test)]
+mod tests;
 
 pub use bounds::{Bounds, effective_boundary, validate_batch_applicable};
 pub use diff::{Diff, DiffEntry};
