@@ -5,7 +5,7 @@ ghost use Rattle.std.specs.List.{list_any};
 ghost use Rattle.qm_model.specs.Batches as model;
 ghost use Rattle.qm_model.specs.Batches.{same, Chain};
 ghost use Rattle.qm_model.specs.Operations.{Bytes, Operation};
-ghost use Rattle.qm_chain.specs.Bounds.{commitment_view, is_at, later_boundary, IsBounds};
+ghost use Rattle.qm_chain.specs.Bounds.{commitment_view, is_at, later_boundary, IsBounds, readable};
 
 use qm_base::{Commitment, Digest, Error, Location};
 use std::marker::Model;
@@ -74,7 +74,7 @@ impl<F, D: Digest> Bounds<F, D> {
         ensures exact { is_ok result ≡ same (commitment_view D.bytes current.now) self.now.tip || is_at (commitment_view D.bytes current.now) self.now.db self.now.ancestors }
         ensures stale { IfErr result (λ e. e ≡ Error.StaleRead) }
         ensures chain { (root : List Operation → Bytes) (chain : Chain) (list : List Operation) → IsBounds root self.now chain list
-            → is_ok result ≡ model.readable root (commitment_view D.bytes current.now) chain list }
+            → is_ok result ≡ readable root (commitment_view D.bytes current.now) chain list }
     {
         ok_where(self.knows(current), Error::StaleRead)
     }

@@ -53,10 +53,6 @@ module _ (root : List Operation → Bytes) where
   fits current chain =
       same current (commitment (boundary_list chain)) || list_any (λ k. same current (commitment k.tip)) chain.kept
 
-  -- a batch that makes this list can be read: the commitment is the list's, or it fits
-  abbrev pub readable : Commitment → Chain → List Operation → Bool
-  readable current chain tip = same current (commitment tip) || fits current chain
-
   -- of these lists, two with equal commitments are equal
   abbrev pub Apart : List (List Operation) → Type 0
   Apart had = (a b : List Operation) → Contains had a → Contains had b → same (commitment a) (commitment b) ≡ true → a ≡ b
