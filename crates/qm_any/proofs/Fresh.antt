@@ -1,5 +1,5 @@
 -- The tree of one leaf, and the root of a fresh list.
-use Rattle.std.proofs.Common.{◌≡◌, ℕ, zero, suc, ◌+◌, ◌*◌, ◌^◌, ◌/◌, ◌≤◌, ◌<◌, List, [], ◌∷◌, length, map, refl, sym, ◌∙◌, ap, ap₂, arith, None, All, Contains}
+use Rattle.std.proofs.Common.{◌≡◌, ℕ, zero, suc, ◌*◌, ◌^◌, ◌/◌, ◌≤◌, ◌<◌, List, [], ◌∷◌, map, refl, sym, ◌∙◌, ap, arith, None, All, Contains}
 use Rattle.std.specs.Prelude.{count_by, nat_le}
 use Rattle.qm_model.specs.Operations.{Bytes, spelling, fresh, commit}
 use Rattle.qm_model.specs.Trees.{Shape, Node, leaf, end_of, peaks, row_from, digest_of, leaf_digest, root_of, ops_root}

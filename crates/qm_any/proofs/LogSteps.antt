@@ -1,10 +1,10 @@
 -- Databases over logs: what an empty log stands for, and lists that begin with another.
-use Rattle.std.proofs.Common.{◌≡◌, ℕ, ◌≤◌, ◌+◌, ◌-◌, List, [], ◌∷◌, ◌++◌, length, map, take, drop, refl, sym, ◌∙◌, ap, ap₂, subst, arith, Option, Some, None, IfSome, append_assoc, ◌==◌, if◌then◌else◌, true, rules}
+use Rattle.std.proofs.Common.{◌≡◌, ℕ, ◌-◌, List, [], ◌∷◌, ◌++◌, length, map, take, drop, refl, sym, ◌∙◌, ap, ap₂, subst, Option, Some, None, IfSome, append_assoc, ◌==◌, if◌then◌else◌, true, rules}
 use Rattle.std.specs.Prelude.{Result, Ok, Err, IfOk, IfErr}
 use Rattle.std.proofs.lemmas.List.{nil_from_length, map-append, take-append-drop, length-map, append-nil}
 use Rattle.qm_model.specs.Operations.{Bytes, Operation, spelling}
 use Rattle.qm_model.specs.Live.{floor}
-use Rattle.qm_model.specs.Trees.{Shape, peaks, leaves_from, root, ops_root, inactive_peaks}
+use Rattle.qm_model.specs.Trees.{Shape, peaks, root, ops_root, inactive_peaks}
 use Rattle.qm_model.specs.Families.{Births, IsFamily, HasPeaks}
 use Rattle.qm_merkle.specs.Mems.{IsWhole}
 use Rattle.qm_merkle.proofs.Standing.{peaks-none, stands-new}

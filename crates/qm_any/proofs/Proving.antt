@@ -1,15 +1,15 @@
 -- Proofs in the first operations of a list, and the floor of these.
-use Rattle.std.proofs.Common.{◌≡◌, ℕ, zero, suc, ◌≤◌, ◌<◌, ◌-◌, ◌+◌, true, false, List, [], ◌∷◌, length, map, take, drop, refl, sym, ◌∙◌, ap, ap₂, subst, arith, get_or, Option, Some, None, IfOk}
+use Rattle.std.proofs.Common.{◌≡◌, ℕ, zero, suc, ◌≤◌, ◌<◌, ◌-◌, ◌+◌, List, [], ◌∷◌, length, map, take, drop, sym, ◌∙◌, ap, ap₂, subst, arith, get_or, Option, Some, None, IfOk}
 use Rattle.std.specs.Prelude.{nat_lt, slice_get, option_and_then, if◌then◌else◌, Result, Ok, Err}
 use Rattle.std.proofs.lemmas.List.{length-take-le, take-map, drop-map, take_all}
+use Rattle.std.proofs.lemmas.Bool.{lt-ltb, le-ltb}
 use Rattle.qm_model.specs.Operations.{Bytes, Operation, update, delete, commit, spelling}
 use Rattle.qm_model.specs.Live.{floor, floor_after}
 use Rattle.qm_model.specs.Trees.{Shape, inactive_peaks}
 use Rattle.qm_model.specs.Proofs.{Proof, proof_of, ops_proof}
 use Rattle.qm_model.specs.Refusals.{commit_floor, floor_before, end_refusal, proof_refusal, proof_count}
-use Rattle.qm_model.specs.Lines.{Refused, HistoricalFloorPruned, DataCorrupted, Merkle, FloorExceedsCommit, RangeOutOfBounds}
+use Rattle.qm_model.specs.Lines.{HistoricalFloorPruned, DataCorrupted, Merkle, FloorExceedsCommit, RangeOutOfBounds}
 use Rattle.qm_model.specs.Causes.{IsCause}
-use Rattle.std.proofs.lemmas.Bool.Decides.{nat_tests}
 use Rattle.qm_store.specs.Log.{digests_from}
 use Rattle.qm_store.proofs.Leaves.{leaves-spelled, slice_get-mapped}
 
@@ -48,19 +48,13 @@ part-viewed view xs a n = sym (take-map view n (drop a xs)) ∙ ap (take n) (sym
 pub caused-by : (a b : ℕ) {P Q : Type 0} → IsCause a b P → (Q → P) → IsCause a b Q
 caused-by a b cause because = record { later = cause.later; failed = λ q. cause.failed (because q) }
 
-less : (m n : ℕ) → m < n → nat_lt m n ≡ true
-less m n h = grind (arith, nat_tests)
-
-not_less : (m n : ℕ) → n ≤ m → nat_lt m n ≡ false
-not_less m n h = grind (arith, nat_tests)
-
 -- why there is no proof, case by case
 module _ (list : List Operation) (size start : ℕ) where
   pub refused-past : length list < size → proof_refusal list size start ≡ Some (Merkle (RangeOutOfBounds size))
-  refused-past past = ap (λ b. if b then Some (Merkle (RangeOutOfBounds size)) else end_refusal size start (floor_before list size)) (less (length list) size past)
+  refused-past past = ap (λ b. if b then Some (Merkle (RangeOutOfBounds size)) else end_refusal size start (floor_before list size)) (lt-ltb (length list) size past)
 
   ended : (o : Option ℕ) → size ≤ length list → o ≡ floor_before list size → proof_refusal list size start ≡ end_refusal size start o
-  ended o within is = ap (λ b. if b then Some (Merkle (RangeOutOfBounds size)) else end_refusal size start (floor_before list size)) (not_less (length list) size within) ∙ ap (end_refusal size start) (sym is)
+  ended o within is = ap (λ b. if b then Some (Merkle (RangeOutOfBounds size)) else end_refusal size start (floor_before list size)) (le-ltb (length list) size within) ∙ ap (end_refusal size start) (sym is)
 
   pub refused-end : size ≤ length list → None ≡ floor_before list size → proof_refusal list size start ≡ Some (HistoricalFloorPruned size)
   refused-end within is = ended None within is
@@ -69,15 +63,15 @@ module _ (list : List Operation) (size start : ℕ) where
     pub refused-floor : size ≤ f → proof_refusal list size start ≡ Some (DataCorrupted FloorExceedsCommit)
     refused-floor over =
         let low : size - 1 < f = omega (arith, over, some) in
-        ended (Some f) within is ∙ ap (λ b. if b then Some (DataCorrupted FloorExceedsCommit) else (if nat_lt start size then None else Some (Merkle (RangeOutOfBounds start)))) (less (size - 1) f low)
+        ended (Some f) within is ∙ ap (λ b. if b then Some (DataCorrupted FloorExceedsCommit) else (if nat_lt start size then None else Some (Merkle (RangeOutOfBounds start)))) (lt-ltb (size - 1) f low)
 
     in_floor : f < size → proof_refusal list size start ≡ (if nat_lt start size then None else Some (Merkle (RangeOutOfBounds start)))
     in_floor low =
         let high : f ≤ size - 1 = omega (arith, low) in
-        ended (Some f) within is ∙ ap (λ b. if b then Some (DataCorrupted FloorExceedsCommit) else (if nat_lt start size then None else Some (Merkle (RangeOutOfBounds start)))) (not_less (size - 1) f high)
+        ended (Some f) within is ∙ ap (λ b. if b then Some (DataCorrupted FloorExceedsCommit) else (if nat_lt start size then None else Some (Merkle (RangeOutOfBounds start)))) (le-ltb (size - 1) f high)
 
     pub refused-start : f < size → size ≤ start → proof_refusal list size start ≡ Some (Merkle (RangeOutOfBounds start))
-    refused-start low over = in_floor low ∙ ap (λ b. if b then None else Some (Merkle (RangeOutOfBounds start))) (not_less start size over)
+    refused-start low over = in_floor low ∙ ap (λ b. if b then None else Some (Merkle (RangeOutOfBounds start))) (le-ltb start size over)
 
 -- the proof in all operations is the list's
 pub proof-whole : {X E : Type 0} (r : Result X E) (hash : Bytes → Bytes) (shape : Shape) (list : List Operation) (view : X → Proof) (n a m : ℕ) → n ≡ length list

@@ -1,5 +1,5 @@
 -- The program's database as an engine: where its batches fit, and what its refusals are.
-use Rattle.std.proofs.Common.{◌≡◌, ◌≢◌, ◌⊎◌, ℕ, ◌<◌, ◌≤◌, ◌^◌, ◌∙◌, ap, ap₂, sym, subst, refl, inl, inr, arith, rules, List, length, map, take, drop, Option, Some, None, Bool, true, false, ◌||◌, [], IfSome}
+use Rattle.std.proofs.Common.{◌≡◌, ◌≢◌, ℕ, ◌<◌, ◌^◌, ◌∙◌, ap, ap₂, sym, subst, refl, inl, inr, arith, List, length, map, drop, Option, Some, None, Bool, true, false, ◌||◌, [], IfSome}
 use Rattle.std.specs.Prelude.{Result, Ok, Err, IfOk, IfErr, if◌then◌else◌, option_map}
 use Rattle.std.specs.Option.{option_or}
 use Rattle.std.proofs.lemmas.Bool.{lt-ltb, le-ltb}
@@ -25,7 +25,7 @@ use Rattle.qm_lines.specs.declared.policy.AnyPolicy.{AnyPolicy}
 use Rattle.qm_lines.specs.declared.policy.AnyPolicy.TheVariants.{Proportional}
 use Rattle.qm_any.specs.Databases.{Begun, Made, list_commitment, IsBegunOn, LeadsTo, stepped}
 use Rattle.qm_any.proofs.LogSteps.{same-size}
-use Rattle.qm_any.specs.Tips.{own_spellings, IsTaken, IsRefused, IsTooLong}
+use Rattle.qm_any.specs.Tips.{own_spellings, IsTaken, IsRefused}
 use Rattle.qm_any.specs.Refusals.{refusal_of}
 
 -- what holds of a value, by what is known of it

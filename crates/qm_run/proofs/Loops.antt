@@ -1,6 +1,6 @@
 -- The loop over the commands: one more, and its ends.
-use Rattle.std.proofs.Common.{◌≡◌, ◌≤◌, ◌<◌, ℕ, suc, ◌+◌, ◌-◌, ◌^◌, min, List, [], ◌∷◌, ◌++◌, length, get_or, take, map, Option, Some, None, IfSome, arith, refl, sym, ◌∙◌, ap, subst, add-one}
-use Rattle.std.proofs.lemmas.List.{take_more, take_all, get_or-map}
+use Rattle.std.proofs.Common.{◌≡◌, ◌≤◌, ◌<◌, ℕ, suc, ◌+◌, List, [], ◌∷◌, ◌++◌, length, get_or, take, map, Option, Some, None, IfSome, arith, refl, sym, ◌∙◌, ap, subst, add-one}
+use Rattle.std.proofs.lemmas.List.{take_more, get_or-map}
 use Rattle.qm_model.specs.Causes.{Rose}
 use Rattle.qm_model.specs.Operations.{Bytes}
 use Rattle.qm_model.specs.Batches.{Apart}

@@ -1,17 +1,17 @@
 -- What each status says, from what the run gave.
-use Rattle.std.proofs.Common.{◌≡◌, ◌≤◌, ◌⊎◌, ℕ, suc, Bool, List, [], ◌∷◌, ◌++◌, length, take, drop, map, Option, Some, None, arith, refl, sym, ◌∙◌, ap, subst, inl, inr, append-nil, IfSome}
+use Rattle.std.proofs.Common.{◌≡◌, ◌⊎◌, ℕ, suc, List, [], ◌++◌, length, take, Option, Some, None, arith, refl, sym, ◌∙◌, ap, subst, inl, inr, append-nil, IfSome}
 use Rattle.std.proofs.lemmas.List.{take_all}
 use Rattle.std.proofs.Math.Seq.{take-nil, drop-length}
 use Rattle.qm_model.specs.Causes.{Grows, GrowsPart}
 use Rattle.qm_model.specs.Operations.{Bytes}
 use Rattle.qm_model.specs.Policies.{Policy}
 use Rattle.qm_model.specs.Lines.{Line, Answer}
-use Rattle.qm_model.specs.Machine.{State, initial, state_after}
+use Rattle.qm_model.specs.Machine.{initial, state_after}
 use Rattle.qm_model.specs.Grammar.{commands_in, bad_in}
 use Rattle.qm_model.specs.Text.{text_of}
 use Rattle.qm_run.specs.Session.{IsLeft}
-use Rattle.qm_run.specs.Runs.{IsRun, after}
-use Rattle.qm_run.specs.Program.{scheme, count, state, model_text, IsApart, IsLeftAt, bad_text, fault_text, IsPartOf, IsPartial, Says}
+use Rattle.qm_run.specs.Runs.{IsRun}
+use Rattle.qm_run.specs.Program.{scheme, count, state, model_text, IsApart, IsLeftAt, bad_text, fault_text, IsPartial, Says}
 use Rattle.qm_run.specs.Endings.{tail_text, tail_status}
 use Rattle.qm_run.specs.declared.runs.End.{End}
 use Rattle.qm_run.specs.declared.runs.End.TheVariants.{Done, Memory, StoreFault}

@@ -1,5 +1,5 @@
 -- A table of slots that stands for one of the machine, place by place.
-use Rattle.std.proofs.Common.{◌≡◌, ℕ, zero, suc, ◌<◌, List, [], ◌∷◌, ◌++◌, length, get_or, set, arith, refl, ap}
+use Rattle.std.proofs.Common.{◌≡◌, ℕ, zero, suc, List, [], ◌∷◌, ◌++◌, length, get_or, set, arith, refl, ap}
 
 module _ {A B : Type 0} (R : A → B → Type 0) (da : A) (db : B) (past : R da db) where
   pub push_at : (xs : List A) (ys : List B) (x : A) (y : B) → length xs ≡ length ys → ((h : ℕ) → R (get_or xs h da) (get_or ys h db)) → R x y

@@ -1,5 +1,5 @@
 -- What the program may answer, write and leave.
-use Rattle.std.specs.Prelude.{◌≡◌, ◌≤◌, ◌⊎◌, ℕ, suc, Bool, true, false, ◌&&◌, List, [], ◌∷◌, ◌++◌, length, take, codes, Option, None, Some, bytes_eq, decimal}
+use Rattle.std.specs.Prelude.{◌≡◌, ◌≤◌, ◌⊎◌, ℕ, suc, Bool, false, ◌&&◌, List, [], ◌∷◌, ◌++◌, length, take, codes, Option, None, Some, bytes_eq, decimal}
 use Rattle.qm_model.specs.Operations.{Bytes}
 use Rattle.qm_model.specs.Live.{floor}
 use Rattle.qm_model.specs.Policies.{Policy, policies}

@@ -15,6 +15,16 @@ const ONE_PUT: &str =
 const REPLIES: &str =
     "open 1 0 1\nbatch 1\nok\nmerkleized 1 1 4 2\napplied 4\nops 1 U:6b=76 U:6b=76 C:none@2\nread 76\ninfo 0 4 2 2 live\n";
 
+// The same, and a proof of each operation, for which the store is read.
+const ONE_PUT_PROVED: &str =
+    "open\nbatch\nput 1 6b 76\nmerkleize 1 prop none\napply 1\nprove 4 0 9\n";
+
+const REPLIES_PROVED: &str =
+    "open 1 0 1\nbatch 1\nok\nmerkleized 1 1 4 2\napplied 4\nproof 4 0 / C:none@0 U:6b=76 U:6b=76 C:none@2\n";
+
+const FAULT_WHEN_PROVED: &str =
+    "open 1 0 1\nbatch 1\nok\nmerkleized 1 1 4 2\napplied 4\nstore fault\n";
+
 // The calls that fail, by their numbers.
 #[derive(Drop)]
 struct Fails {
@@ -204,17 +214,21 @@ fn each_failing_call_is_told(rt: HostRuntime) -> Result<(), Fail> {
                 "store fault\n",
                 "store fault\n",
                 "open 1 0 1\nbatch 1\nok\nmerkleized 1 1 4 2\nstore fault\n",
+                FAULT_WHEN_PROVED,
+                FAULT_WHEN_PROVED,
+                FAULT_WHEN_PROVED,
+                FAULT_WHEN_PROVED,
             ],
         ),
     ];
     for (port, status, texts) in table {
         for call in 0..=texts.len() {
-            let input = ONE_PUT.as_bytes().to_vec(alloc)?;
+            let input = ONE_PUT_PROVED.as_bytes().to_vec(alloc)?;
             let fails = fails_at(alloc, port, call as u64)?;
             let ran = program(alloc, &WORDS, input, fails)?;
             let (status, text) = match texts.get(call) {
                 Some(text) => (status, *text),
-                None => (0, REPLIES),
+                None => (0, REPLIES_PROVED),
             };
             assert_eq!(rt; ran.status, status, "at {call}");
             assert_eq!(rt; ran.sink.bytes(), text.as_bytes(), "at {call}");

@@ -1,8 +1,6 @@
-use Rattle.std.proofs.Common.{◌≡◌, ◌∙◌, ◌++◌, ◌+◌, length, take, drop, map, ap, sym, subst, arith, option_map, refl}
-use Rattle.std.proofs.lemmas.List.{length-map}
-use Rattle.qm_model.specs.Operations.{spelling}
-use Rattle.qm_any.specs.Databases.{stepped, list_commitment}
-use Rattle.qm_any.specs.ListViews.{entry_view, entry_views, write_views, policy_view}
+use Rattle.std.proofs.Common.{◌∙◌, length, take, map, ap, option_map, refl}
+use Rattle.qm_any.specs.Databases.{list_commitment}
+use Rattle.qm_any.specs.ListViews.{entry_views, write_views, policy_view}
 use Rattle.qm_any.proofs.LogSteps.{step-begins, spelled-behind}
 use Rattle.qm_any.proofs.batch.made_on.Goals as goal
 

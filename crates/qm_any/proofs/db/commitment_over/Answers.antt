@@ -1,7 +1,6 @@
-use Rattle.std.proofs.Common.{◌≡◌, ℕ, ◌++◌, map, length, ap, ap₂, sym, ◌∙◌, subst, IfOk}
+use Rattle.std.proofs.Common.{◌≡◌, ℕ, ◌++◌, map, length, ap₂, sym, ◌∙◌}
 use Rattle.std.proofs.lemmas.List.{length-map}
 use Rattle.qm_model.specs.Operations.{Bytes, spelling}
-use Rattle.qm_model.specs.Live.{floor}
 use Rattle.qm_model.specs.Trees.{inactive_peaks}
 use Rattle.qm_any.specs.ListViews.{entry_view, entry_views}
 use Rattle.qm_any.proofs.LogSteps.{root-spelled}

@@ -1,4 +1,4 @@
-use Rattle.std.proofs.Common.{◌≡◌, ◌≤◌, ◌<◌, arith, length, refl, sym, ◌∙◌}
+use Rattle.std.proofs.Common.{◌≤◌, ◌<◌, arith, length, refl, sym}
 use Rattle.std.proofs.lemmas.List.{length-map}
 use Rattle.qm_any.specs.ListViews.{entry_view, entry_views}
 use Rattle.qm_any.proofs.Proving.{refused-past, refused-end, refused-floor, refused-start, floor-ended}

@@ -1,8 +1,7 @@
-use Rattle.std.proofs.Common.{◌≡◌, ◌≤◌, ◌+◌, ◌∙◌, arith, length, map, ap₂}
+use Rattle.std.proofs.Common.{◌≤◌, ◌+◌, ◌∙◌, arith, length, map, ap₂}
 use Rattle.std.specs.NonZero.{non_zero_u64_get}
 use Rattle.std.proofs.lemmas.List.{length-map}
 use Rattle.qm_model.specs.Operations.{spelling}
-use Rattle.qm_model.specs.Proofs.{proof_of}
 use Rattle.qm_model.specs.Refusals.{proof_count}
 use Rattle.qm_model.specs.Trees.{inactive_peaks}
 use Rattle.qm_any.proofs.Proving.{proof-spelled}

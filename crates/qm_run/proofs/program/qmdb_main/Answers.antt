@@ -1,4 +1,4 @@
-use Rattle.std.proofs.Common.{◌≡◌, ℕ, ◌++◌, List, Option, Some, refl, sym, ◌∙◌, ap, subst, inl, inr, IfSome}
+use Rattle.std.proofs.Common.{◌≡◌, ◌++◌, Some, refl, ◌∙◌, subst, inl, inr, IfSome}
 use Rattle.qm_model.specs.Causes.{Rose}
 use Rattle.qm_model.specs.Operations.{Bytes}
 use Rattle.qm_run.specs.Program.{Says}

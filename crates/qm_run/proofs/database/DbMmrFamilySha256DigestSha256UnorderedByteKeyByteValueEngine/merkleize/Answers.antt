@@ -1,4 +1,4 @@
-use Rattle.std.proofs.Common.{◌≡◌, ◌∙◌, ap, sym, subst, true, IfOk, IfErr, option_map}
+use Rattle.std.proofs.Common.{◌≡◌, ◌∙◌, ap, sym, subst, IfOk, option_map}
 use Rattle.sha2.specs.Sha256.{sha256}
 use Rattle.qm_model.specs.Mmr.{mmr}
 use Rattle.qm_model.specs.Batches.{IsOnChain}

@@ -1,4 +1,4 @@
-use Rattle.std.proofs.Common.{◌≡◌, ◌≤◌, ◌∙◌, ap, ap₂, sym, subst, map, IfErr, arith}
+use Rattle.std.proofs.Common.{◌≡◌, ◌≤◌, ◌∙◌, ap, ap₂, subst, map, arith}
 use Rattle.sha2.specs.Sha256.{sha256}
 use Rattle.qm_model.specs.Mmr.{mmr}
 use Rattle.qm_model.specs.Proofs.{pins_at}

@@ -1,4 +1,4 @@
-use Rattle.std.proofs.Common.{◌∙◌, ◌+◌, ap, ap₂, take}
+use Rattle.std.proofs.Common.{◌∙◌, ◌+◌, ap₂, take}
 use Rattle.sha2.specs.Sha256.{sha256}
 use Rattle.std.specs.Int.NonZero.{non_zero_u64_get}
 use Rattle.qm_model.specs.Mmr.{mmr}
