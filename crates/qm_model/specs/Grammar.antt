@@ -1,12 +1,12 @@
 -- The grammar of lines: words between single spaces.
-use Rattle.std.specs.Prelude.{ℕ, ◌+◌, ◌-◌, ◌*◌, ◌^◌, ◌==◌, ◌&&◌, nat_lt, nat_le, slice_index, take, Bool, true, false, if◌then◌else◌, List, [], ◌∷◌, length, codes, Option, None, Some, Result, Ok, Err, option_map, option_and_then, bytes_eq}
+use Rattle.std.specs.Prelude.{ℕ, ◌+◌, ◌-◌, ◌*◌, ◌^◌, ◌==◌, ◌&&◌, nat_lt, nat_le, slice_index, take, drop, Bool, true, false, if◌then◌else◌, List, [], ◌∷◌, length, codes, Option, None, Some, Result, Ok, Err, option_map, option_and_then, bytes_eq}
 use Rattle.std.specs.List.{slice_split}
 use Rattle.std.specs.Char.{is_ascii_digit}
 use Rattle.hex.specs.Hex.{decode_of}
 use Rattle.hex.specs.declared.error.FromHexError.{FromHexError}
 use Rattle.qm_model.specs.Operations.{Bytes}
 use Rattle.qm_model.specs.Policies.{Policy, proportional}
-use Rattle.qm_model.specs.Lines.{Line, Open, Batch, Put, Del, Merkleize, Apply, Ops, Get, Info, Root, Meta, Prove, Pins}
+use Rattle.qm_model.specs.Lines.{Line, Open, Batch, Child, Tip, Put, Del, Merkleize, Apply, Ops, Get, Many, Info, BatchInfo, Root, BatchRoot, BatchProof, Meta, Prove, Pins}
 
 -- the number with one decimal digit more, below 2 ^ 64
 abbrev pub next_digit : ℕ → ℕ → Option ℕ
@@ -45,27 +45,72 @@ policy_of word = if bytes_eq word (codes "prop") then Some proportional else Non
 abbrev pub metadata_of : Bytes → Option (Option Bytes)
 metadata_of word = if bytes_eq word (codes "none") then Some None else option_map (λ v. Some v) (value_of word)
 
--- the commands of one to four words
+-- the number behind a word and an equals sign
+abbrev pub named_number : Bytes → Bytes → Option ℕ
+named_number name word =
+    if bytes_eq (take (length name) word) name then number_of (drop (length name) word) else None
+
+-- what is read: keys, and the batch through which they are
+abbrev pub Reading : Type 0
+Reading = List Bytes × Option ℕ
+
+-- a last word: the batch, or a key
+abbrev pub batch_or_key : Option ℕ → Bytes → Option Reading
+batch_or_key (Some h) word = Some ([], Some h)
+batch_or_key None word = option_map (λ k. (k ∷ [], None)) (key_of word)
+
+abbrev pub last_reading : Bytes → Option Reading
+last_reading word = batch_or_key (named_number (codes "from=") word) word
+
+abbrev pub with_key : Bytes → Reading → Reading
+with_key key (keys, from) = (key ∷ keys, from)
+
+-- keys, at whose end a batch may stand
+abbrev pub reading_of : List Bytes → Option Reading
+reading_of [] = None
+reading_of (w ∷ []) = last_reading w
+reading_of (w ∷ v ∷ ws) = option_and_then (λ k. option_map (with_key k) (reading_of (v ∷ ws))) (key_of w)
+
+-- the commands that read
+abbrev pub get_of : Reading → Option (Line Policy)
+get_of ([], from) = None
+get_of (k ∷ [], from) = Some (Get k from)
+get_of (k ∷ l ∷ ks, from) = None
+
+abbrev pub many_of : Reading → Option (Line Policy)
+many_of ([], from) = None
+many_of (k ∷ ks, from) = Some (Many (k ∷ ks) from)
+
+-- the other commands, of one to four words
 abbrev pub of_one : Bytes → Option (Line Policy)
 of_one w =
     if bytes_eq w (codes "open") then Some Open
     else (if bytes_eq w (codes "batch") then Some Batch
+    else (if bytes_eq w (codes "tip") then Some Tip
     else (if bytes_eq w (codes "info") then Some Info
     else (if bytes_eq w (codes "root") then Some Root
-    else (if bytes_eq w (codes "meta") then Some Meta else None))))
+    else (if bytes_eq w (codes "meta") then Some Meta else None)))))
 
 abbrev pub of_two : Bytes → Bytes → Option (Line Policy)
 of_two w a =
     if bytes_eq w (codes "apply") then option_map (λ h. Apply h) (number_of a)
     else (if bytes_eq w (codes "ops") then option_map (λ h. Ops h) (number_of a)
-    else (if bytes_eq w (codes "get") then option_map (λ k. Get k) (key_of a)
-    else (if bytes_eq w (codes "pins") then option_map (λ n. Pins n) (number_of a) else None)))
+    else (if bytes_eq w (codes "child") then option_map (λ h. Child h None) (number_of a)
+    else (if bytes_eq w (codes "info") then option_map (λ h. BatchInfo h) (number_of a)
+    else (if bytes_eq w (codes "root") then option_map (λ h. BatchRoot h) (number_of a)
+    else (if bytes_eq w (codes "proof") then option_map (λ h. BatchProof h) (number_of a)
+    else (if bytes_eq w (codes "pins") then option_map (λ n. Pins n) (number_of a) else None))))))
 
 abbrev pub del_of : Bytes → Bytes → Option (Line Policy)
 del_of a b = option_and_then (λ h. option_map (λ k. Del h k) (key_of b)) (number_of a)
 
+abbrev pub keeping_of : Bytes → Bytes → Option (Line Policy)
+keeping_of a b = option_and_then (λ h. option_map (λ n. Child h (Some n)) (named_number (codes "keep=") b)) (number_of a)
+
 abbrev pub of_three : Bytes → Bytes → Bytes → Option (Line Policy)
-of_three w a b = if bytes_eq w (codes "del") then del_of a b else None
+of_three w a b =
+    if bytes_eq w (codes "del") then del_of a b
+    else (if bytes_eq w (codes "child") then keeping_of a b else None)
 
 abbrev pub put_of : Bytes → Bytes → Bytes → Option (Line Policy)
 put_of a b c = option_and_then (λ h. option_and_then (λ k. option_map (λ v. Put h k v) (value_of c)) (key_of b)) (number_of a)
@@ -89,13 +134,18 @@ of_four w a b c =
     else (if bytes_eq w (codes "merkleize") then merkleize_of a b c
     else (if bytes_eq w (codes "prove") then prove_of a b c else None))
 
+abbrev pub of_few : Bytes → List Bytes → Option (Line Policy)
+of_few w [] = of_one w
+of_few w (a ∷ []) = of_two w a
+of_few w (a ∷ b ∷ []) = of_three w a b
+of_few w (a ∷ b ∷ c ∷ []) = of_four w a b c
+of_few w (a ∷ b ∷ c ∷ d ∷ ws) = None
+
 abbrev pub of_words : List Bytes → Option (Line Policy)
 of_words [] = None
-of_words (w ∷ []) = of_one w
-of_words (w ∷ a ∷ []) = of_two w a
-of_words (w ∷ a ∷ b ∷ []) = of_three w a b
-of_words (w ∷ a ∷ b ∷ c ∷ []) = of_four w a b c
-of_words (w ∷ a ∷ b ∷ c ∷ d ∷ ws) = None
+of_words (w ∷ ws) =
+    if bytes_eq w (codes "get") then option_and_then get_of (reading_of ws)
+    else (if bytes_eq w (codes "many") then option_and_then many_of (reading_of ws) else of_few w ws)
 
 -- the command that a line is, if it is one
 abbrev pub line_of : Bytes → Option (Line Policy)

@@ -1,15 +1,15 @@
 -- Worked scripts, from bytes to bytes.
-use Rattle.std.specs.Prelude.{◌≡◌, ◌+◌, ◌^◌, ◌++◌, List, [], ◌∷◌, Some, None, refl, codes}
+use Rattle.std.specs.Prelude.{◌≡◌, ◌+◌, ◌^◌, ◌++◌, List, [], ◌∷◌, Some, None, refl, codes, flat_map}
 use Rattle.std.specs.List.{join_with_byte}
 use Rattle.std.specs.Fmt.{digits}
 use Rattle.hex.specs.Hex.{decode_pairs, encode_with}
-use Rattle.qm_model.specs.Operations.{Bytes, four_bytes, eight_bytes}
+use Rattle.qm_model.specs.Operations.{Bytes, Operation, update, delete, commit, four_bytes, eight_bytes}
 use Rattle.qm_model.specs.Live.{floor}
 use Rattle.qm_model.specs.Mmr.{mmr, digits_below}
 use Rattle.qm_model.specs.Proofs.{ops_proof, pins_at}
 use Rattle.qm_model.specs.Policies.{Policy, policies, proportional}
 use Rattle.qm_model.specs.Step.{unordered}
-use Rattle.qm_model.specs.Lines.{Put, Del, Merkleize, Prove, Pins, Merkle, LocationOverflow}
+use Rattle.qm_model.specs.Lines.{Child, Put, Del, Merkleize, Get, Many, Prove, Pins, Merkle, LocationOverflow}
 use Rattle.qm_model.specs.Refusals.{too_many}
 use Rattle.qm_model.specs.Machine.{Scheme, initial, answers}
 use Rattle.qm_model.specs.Grammar.{line_of, commands_in, bad_in}
@@ -23,11 +23,23 @@ same bytes = 0x00 ∷ 0x2a ∷ []
 abbrev toy : Scheme Policy
 toy = record { kind = unordered; rules = policies; root = λ ops. same []; boundary = floor; proof = ops_proof same mmr; pins = pins_at same mmr }
 
+-- the keys and values of a list's operations, which tell its lists apart here
+abbrev said : Operation → Bytes
+said (update k v n) = k ++ v
+said (delete k) = k
+said (commit m f) = []
+
+abbrev telling : Scheme Policy
+telling = record toy { root = λ ops. flat_map said ops }
+
 abbrev lines : List Bytes → Bytes
 lines ls = join_with_byte 10 ls ++ 10 ∷ []
 
 abbrev text : Bytes → Bytes
 text input = text_of (answers toy (initial []) (commands_in input))
+
+abbrev forked : Bytes → Bytes
+forked input = text_of (answers telling (initial []) (commands_in input))
 
 -- one put, read back
 one_put_text : text (lines (codes "open" ∷ codes "batch" ∷ codes "put 1 6b 76" ∷ codes "merkleize 1 prop none" ∷ codes "apply 1" ∷ codes "ops 1" ∷ codes "get 6b" ∷ codes "info" ∷ []))
@@ -79,6 +91,36 @@ proved_text = refl
 -- proofs and pins of no database
 unproved_text : text (lines (codes "prove 1 0 1" ∷ codes "pins 0" ∷ [])) ≡ lines (codes "refused NoDatabase" ∷ codes "refused NoDatabase" ∷ [])
 unproved_text = refl
+
+-- two batches of one database: the second is stale once the first is applied
+siblings_text : forked (lines (codes "open" ∷ codes "batch" ∷ codes "put 1 61 01" ∷ codes "batch" ∷ codes "put 2 61 02" ∷ codes "merkleize 1 prop none" ∷ codes "merkleize 2 prop none" ∷ codes "get 61 from=1" ∷ codes "apply 1" ∷ codes "apply 2" ∷ codes "get 61 from=2" ∷ codes "get 61 from=1" ∷ codes "many 61 62 from=1" ∷ codes "get 61" ∷ []))
+    ≡ lines (codes "open 1 0 1" ∷ codes "batch 1" ∷ codes "ok" ∷ codes "batch 2" ∷ codes "ok" ∷ codes "merkleized 1 1 4 2" ∷ codes "merkleized 2 1 4 2" ∷ codes "read 01" ∷ codes "applied 4" ∷ codes "refused StaleBatch" ∷ codes "refused StaleRead" ∷ codes "read 01" ∷ codes "read 01 none" ∷ codes "read 01" ∷ [])
+unfolding decode_pairs encode_with digits digits_below four_bytes eight_bytes
+siblings_text = refl
+
+-- a child applied in one step, its parent after it, and the database as a batch
+one_step_text : forked (lines (codes "open" ∷ codes "batch" ∷ codes "put 1 61 01" ∷ codes "merkleize 1 prop none" ∷ codes "child 1" ∷ codes "put 2 62 02" ∷ codes "get 61 from=2" ∷ codes "merkleize 2 prop none" ∷ codes "ops 2" ∷ codes "apply 2" ∷ codes "apply 1" ∷ codes "tip" ∷ codes "ops 3" ∷ codes "apply 3" ∷ codes "info 2" ∷ codes "get 62 from=1" ∷ []))
+    ≡ lines (codes "open 1 0 1" ∷ codes "batch 1" ∷ codes "ok" ∷ codes "merkleized 1 1 4 2" ∷ codes "batch 2" ∷ codes "ok" ∷ codes "read 01" ∷ codes "merkleized 2 4 7 3" ∷ codes "ops 4 U:62=02 U:61=01 C:none@3" ∷ codes "applied 7" ∷ codes "refused StaleBatch" ∷ codes "batch 3" ∷ codes "ops 7" ∷ codes "applied 7" ∷ codes "info 4 7 3 3" ∷ codes "refused StaleRead" ∷ [])
+unfolding decode_pairs encode_with digits digits_below four_bytes eight_bytes
+one_step_text = refl
+
+-- a child that keeps its parent alone fits once the parent's parent is applied
+kept_text : forked (lines (codes "open" ∷ codes "batch" ∷ codes "put 1 61 01" ∷ codes "merkleize 1 prop none" ∷ codes "child 1" ∷ codes "put 2 62 02" ∷ codes "merkleize 2 prop none" ∷ codes "child 2 keep=0" ∷ codes "get 62 from=3" ∷ codes "merkleize 3 prop none" ∷ codes "put 3 63 03" ∷ codes "apply 1" ∷ codes "child 2 keep=0" ∷ codes "put 4 63 03" ∷ codes "merkleize 4 prop none" ∷ codes "apply 4" ∷ []))
+    ≡ lines (codes "open 1 0 1" ∷ codes "batch 1" ∷ codes "ok" ∷ codes "merkleized 1 1 4 2" ∷ codes "batch 2" ∷ codes "ok" ∷ codes "merkleized 2 4 7 3" ∷ codes "batch 3" ∷ codes "read 02" ∷ codes "refused StaleBatch" ∷ codes "refused NoSuchHandle 3" ∷ codes "applied 4" ∷ codes "batch 4" ∷ codes "ok" ∷ codes "merkleized 4 7 10 5" ∷ codes "applied 10" ∷ [])
+unfolding decode_pairs encode_with digits digits_below four_bytes eight_bytes
+kept_text = refl
+
+-- a batch's proof, numbers and root before it is applied, and what a number does not name
+batch_proof_text : forked (lines (codes "open" ∷ codes "batch" ∷ codes "put 1 6b 76" ∷ codes "child 1" ∷ codes "proof 1" ∷ codes "merkleize 1 prop none" ∷ codes "proof 1" ∷ codes "info 1" ∷ codes "root 1" ∷ codes "proof 2" ∷ codes "info 2" ∷ codes "root 2" ∷ codes "child 2" ∷ codes "get 6b from=2" ∷ []))
+    ≡ lines (codes "open 1 0 1" ∷ codes "batch 1" ∷ codes "ok" ∷ codes "refused NoSuchHandle 1" ∷ codes "refused NoSuchHandle 1" ∷ codes "merkleized 1 1 4 2" ∷ codes "proof 4 0 002a / 002a" ∷ codes "info 1 4 2 2" ∷ codes "root 6b766b76 6b766b76" ∷ codes "refused NoSuchHandle 2" ∷ codes "refused NoSuchHandle 2" ∷ codes "refused NoSuchHandle 2" ∷ codes "refused NoSuchHandle 2" ∷ codes "refused NoSuchHandle 2" ∷ [])
+unfolding decode_pairs encode_with digits digits_below four_bytes eight_bytes
+batch_proof_text = refl
+
+-- without a database
+no_database_text : forked (lines (codes "tip" ∷ codes "get 6b" ∷ codes "many 6b" ∷ codes "get 6b from=1" ∷ codes "proof 1" ∷ codes "child 1 keep=2" ∷ codes "info 1" ∷ codes "root 1" ∷ []))
+    ≡ lines (codes "refused NoDatabase" ∷ codes "refused NoDatabase" ∷ codes "refused NoDatabase" ∷ codes "refused NoDatabase" ∷ codes "refused NoDatabase" ∷ codes "refused NoSuchHandle 1" ∷ codes "refused NoSuchHandle 1" ∷ codes "refused NoSuchHandle 1" ∷ [])
+unfolding decode_pairs encode_with digits digits_below four_bytes eight_bytes
+no_database_text = refl
 
 bad_second : bad_in (codes "open" ++ 10 ∷ codes "put 1 6") ≡ Some 2
 unfolding decode_pairs
@@ -134,3 +176,31 @@ two_spaces = refl
 
 empty_line : line_of [] ≡ None
 empty_line = refl
+
+child_keeping : line_of (codes "child 7 keep=0") ≡ Some (Child 7 (Some 0))
+child_keeping = refl
+
+child_keeping_all : line_of (codes "child 7") ≡ Some (Child 7 None)
+child_keeping_all = refl
+
+child_keeping_nothing : line_of (codes "child 7 keep=") ≡ None
+child_keeping_nothing = refl
+
+read_from : line_of (codes "get 6b from=3") ≡ Some (Get (0x6b ∷ []) (Some 3))
+unfolding decode_pairs
+read_from = refl
+
+read_two : line_of (codes "get 6b 6c") ≡ None
+unfolding decode_pairs
+read_two = refl
+
+read_many : line_of (codes "many 6b 6c 6b from=0") ≡ Some (Many ((0x6b ∷ []) ∷ (0x6c ∷ []) ∷ (0x6b ∷ []) ∷ []) (Some 0))
+unfolding decode_pairs
+read_many = refl
+
+read_no_key : line_of (codes "many from=3") ≡ None
+read_no_key = refl
+
+from_in_the_middle : line_of (codes "many 6b from=3 6b") ≡ None
+unfolding decode_pairs
+from_in_the_middle = refl

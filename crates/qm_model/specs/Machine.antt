@@ -2,13 +2,13 @@
 use Rattle.std.specs.Prelude.{ℕ, ◌+◌, nat_lt, if◌then◌else◌, List, [], ◌∷◌, ◌++◌, length, map, take, drop, slice_index_or, slice_set, Option, Some, None}
 use Rattle.qm_model.specs.Operations.{Bytes, Operation, spelling, fresh}
 use Rattle.qm_model.specs.Live.{live, floor, value_of, last_metadata}
-use Rattle.qm_model.specs.Writes.{Write}
+use Rattle.qm_model.specs.Writes.{Write, read_through}
 use Rattle.qm_model.specs.Walk.{Rules}
 use Rattle.qm_model.specs.Step.{Kind}
 use Rattle.qm_model.specs.Step as steps
 use Rattle.qm_model.specs.Proofs.{Proof}
-use Rattle.qm_model.specs.Batches.{Chain, commitment, fits, own_operations}
-use Rattle.qm_model.specs.Lines.{Line, Open, Batch, Put, Del, Merkleize, Apply, Ops, Get, Info, Root, Meta, Prove, Pins, Refused, NotOffered, NoDatabase, NoSuchHandle, StaleBatch, Answer, Opened, Started, Done, Merkleized, Applied, Listed, Read, Told, Rooted, Metadata, Proved, Pinned, Refuses}
+use Rattle.qm_model.specs.Batches.{Chain, begun_on, child_of, commitment, fits, readable, own_operations}
+use Rattle.qm_model.specs.Lines.{Line, Open, Batch, Child, Tip, Put, Del, Merkleize, Apply, Ops, Get, Many, Info, BatchInfo, Root, BatchRoot, BatchProof, Meta, Prove, Pins, Refused, NotOffered, NoDatabase, NoSuchHandle, StaleBatch, StaleRead, Answer, Opened, Started, Done, Merkleized, Applied, Listed, Read, Told, BatchTold, Rooted, Metadata, Proved, BatchProved, Pinned, Refuses}
 use Rattle.qm_model.specs.Refusals.{tip_refusal, proof_refusal, proof_count, pins_refusal}
 
 -- what a machine stands on: the kind of database, its policies, and a list's operations root and boundary,
@@ -22,10 +22,11 @@ pub record Scheme (P : Type 0) : Type 0 where
   pub proof : List Operation → ℕ → ℕ → Proof
   pub pins : List Operation → ℕ → List Bytes
 
--- a batch number: used up; a batch with its writes; a merkleized batch with its tip list
+-- a batch number: used up; a batch with the chain of its parent, which made its base, and its writes; a merkleized
+-- batch with its tip list. The parent of a batch that was begun on a database is that as a merkleized batch.
 pub data Slot : Type 0 where
   gone : Slot
-  writing : Chain → List Write → Slot
+  writing : Chain → Chain → List Write → Slot
   merkleized : Chain → List Operation → Slot
 
 pub record State : Type 0 where
@@ -71,12 +72,26 @@ open_over s (item ∷ items) = refuse s NotOffered
 abbrev pub open_store : State → Answer × State
 open_store s = open_over s s.items
 
+-- a batch gets the next number
+abbrev pub started : State → Slot → Answer × State
+started s slot = (Started (length s.table), record s { table = s.table ++ slot ∷ [] })
+
 abbrev pub start_batch : State → Answer × State
-start_batch s = with_database s s.database (λ list.
-    (Started (length s.table), record s { table = s.table ++ writing (record { base = list; kept = [] }) [] ∷ [] }))
+start_batch s = with_database s s.database (λ list. started s (writing (begun_on list) (begun_on list) []))
+
+abbrev pub start_child : State → ℕ → Option ℕ → Slot → Answer × State
+start_child s h keep (merkleized chain tip) = started s (writing (child_of keep chain tip) chain [])
+start_child s h keep gone = refuse s (NoSuchHandle h)
+start_child s h keep (writing chain parent ws) = refuse s (NoSuchHandle h)
+
+abbrev pub child : State → ℕ → Option ℕ → Answer × State
+child s h keep = start_child s h keep (slot_at s.table h)
+
+abbrev pub start_tip : State → Answer × State
+start_tip s = with_database s s.database (λ list. started s (merkleized (begun_on list) list))
 
 abbrev pub put_in : State → ℕ → Write → Slot → Answer × State
-put_in s h w (writing chain ws) = (Done, with_slot s h (writing chain (ws ++ w ∷ [])))
+put_in s h w (writing chain parent ws) = (Done, with_slot s h (writing chain parent (ws ++ w ∷ [])))
 put_in s h w gone = refuse s (NoSuchHandle h)
 put_in s h w (merkleized chain tip) = refuse s (NoSuchHandle h)
 
@@ -89,13 +104,10 @@ del s h key = put_in s h (record { key = key; value = None }) (slot_at s.table h
 abbrev pub list_operations : State → ℕ → Slot → Answer × State
 list_operations s h (merkleized chain tip) = (Listed (length chain.base) (own_operations chain tip), s)
 list_operations s h gone = refuse s (NoSuchHandle h)
-list_operations s h (writing chain ws) = refuse s (NoSuchHandle h)
+list_operations s h (writing chain parent ws) = refuse s (NoSuchHandle h)
 
 abbrev pub ops : State → ℕ → Answer × State
 ops s h = list_operations s h (slot_at s.table h)
-
-abbrev pub get : State → Bytes → Answer × State
-get s key = with_database s s.database (λ list. (Read (value_of list key), s))
 
 -- the metadata of the list's last commit
 abbrev pub meta : State → Answer × State
@@ -110,7 +122,7 @@ module _ {P : Type 0} (m : Scheme P) where
 
   -- the batch is also used up where the database has moved on
   abbrev pub merkleize_in : State → ℕ → P → Option Bytes → List Operation → Slot → Answer × State
-  merkleize_in s h policy meta list (writing chain ws) =
+  merkleize_in s h policy meta list (writing chain parent ws) =
       let tip = steps.step m.kind m.rules chain.base ws policy meta in
       if fits m.root (commitment m.root list) chain
       then merkleize_tip s h chain tip (tip_refusal chain tip)
@@ -128,17 +140,58 @@ module _ {P : Type 0} (m : Scheme P) where
       then (Applied (length tip), record s { database = Some tip; items = s.items ++ map spelling (drop (length list) tip) })
       else refuse s StaleBatch
   apply_in s h list gone = refuse s (NoSuchHandle h)
-  apply_in s h list (writing chain ws) = refuse s (NoSuchHandle h)
+  apply_in s h list (writing chain parent ws) = refuse s (NoSuchHandle h)
 
   abbrev pub apply : State → ℕ → Answer × State
   apply s h = with_database s s.database (λ list. apply_in s h list (slot_at s.table h))
 
+  -- the answer, unless the database is at no state of the batch's chain
+  abbrev pub if_readable : State → List Operation → Chain → List Operation → Answer → Answer × State
+  if_readable s list chain tip answer = if readable m.root (commitment m.root list) chain tip then (answer, s) else refuse s StaleRead
+
+  -- the values of keys through a batch
+  abbrev pub read_in : State → ℕ → List Bytes → List Operation → Slot → Answer × State
+  read_in s h keys list (writing chain parent ws) = if_readable s list parent chain.base (Read (map (read_through chain.base ws) keys))
+  read_in s h keys list (merkleized chain tip) = if_readable s list chain tip (Read (map (value_of tip) keys))
+  read_in s h keys list gone = refuse s (NoSuchHandle h)
+
+  -- the values of keys, through a batch where one is given
+  abbrev pub read : State → List Bytes → Option ℕ → Answer × State
+  read s keys None = with_database s s.database (λ list. (Read (map (value_of list) keys), s))
+  read s keys (Some h) = with_database s s.database (λ list. read_in s h keys list (slot_at s.table h))
+
   abbrev pub info : State → Answer × State
   info s = with_database s s.database (λ list. (Told 0 (length list) (floor list) (m.boundary list) (nat_lt 0 (length (live list))), s))
+
+  -- the numbers of a merkleized batch
+  abbrev pub info_in : State → ℕ → Slot → Answer × State
+  info_in s h (merkleized chain tip) = (BatchTold (length chain.base) (length tip) (floor tip) (m.boundary tip), s)
+  info_in s h gone = refuse s (NoSuchHandle h)
+  info_in s h (writing chain parent ws) = refuse s (NoSuchHandle h)
+
+  abbrev pub batch_info : State → ℕ → Answer × State
+  batch_info s h = info_in s h (slot_at s.table h)
 
   -- the root, which is the operations root in this kind of database
   abbrev pub root : State → Answer × State
   root s = with_database s s.database (λ list. (Rooted (m.root list) (m.root list), s))
+
+  abbrev pub root_in : State → ℕ → Slot → Answer × State
+  root_in s h (merkleized chain tip) = (Rooted (m.root tip) (m.root tip), s)
+  root_in s h gone = refuse s (NoSuchHandle h)
+  root_in s h (writing chain parent ws) = refuse s (NoSuchHandle h)
+
+  abbrev pub batch_root : State → ℕ → Answer × State
+  batch_root s h = root_in s h (slot_at s.table h)
+
+  -- the proof of a merkleized batch's own operations in its tip list, and the pins at its base
+  abbrev pub proof_in : State → ℕ → List Operation → Slot → Answer × State
+  proof_in s h list (merkleized chain tip) = if_readable s list chain tip (BatchProved (m.proof tip (length chain.base) (length tip)) (m.pins tip (length chain.base)))
+  proof_in s h list gone = refuse s (NoSuchHandle h)
+  proof_in s h list (writing chain parent ws) = refuse s (NoSuchHandle h)
+
+  abbrev pub batch_proof : State → ℕ → Answer × State
+  batch_proof s h = with_database s s.database (λ list. proof_in s h list (slot_at s.table h))
 
   -- up to `max` operations from `start` on, and their proof among the list's first `size` operations
   abbrev pub prove : State → ℕ → ℕ → ℕ → Answer × State
@@ -152,14 +205,20 @@ module _ {P : Type 0} (m : Scheme P) where
   abbrev pub turn : State → Line P → Answer × State
   turn s Open = open_store s
   turn s Batch = start_batch s
+  turn s (Child h keep) = child s h keep
+  turn s Tip = start_tip s
   turn s (Put h key value) = put s h key value
   turn s (Del h key) = del s h key
   turn s (Merkleize h policy meta) = merkleize s h policy meta
   turn s (Apply h) = apply s h
   turn s (Ops h) = ops s h
-  turn s (Get key) = get s key
+  turn s (Get key from) = read s (key ∷ []) from
+  turn s (Many keys from) = read s keys from
   turn s Info = info s
+  turn s (BatchInfo h) = batch_info s h
   turn s Root = root s
+  turn s (BatchRoot h) = batch_root s h
+  turn s (BatchProof h) = batch_proof s h
   turn s Meta = meta s
   turn s (Prove size start max) = prove s size start max
   turn s (Pins n) = pins s n

@@ -2,7 +2,7 @@
 use Rattle.std.specs.Prelude.{Bool, true, false, List, [], ◌∷◌, ◌++◌, codes, Option, None, Some, flat_map, decimal}
 use Rattle.hex.specs.Hex.{encode_lower}
 use Rattle.qm_model.specs.Operations.{Bytes, Operation, update, delete, commit}
-use Rattle.qm_model.specs.Lines.{Corrupt, FloorExceedsCommit, ItemDoesNotDecode, HeadDoesNotMatch, TreeRefused, RangeOutOfBounds, ElementPruned, MissingNode, LocationOverflow, LogRefused, ItemPruned, ItemTooLarge, Refused, NotOffered, NoDatabase, NoSuchHandle, StaleBatch, StaleRead, HistoricalFloorPruned, DataCorrupted, Merkle, Journal, Answer, Opened, Started, Done, Merkleized, Applied, Listed, Read, Told, Rooted, Metadata, Proved, Pinned, Refuses}
+use Rattle.qm_model.specs.Lines.{Corrupt, FloorExceedsCommit, ItemDoesNotDecode, HeadDoesNotMatch, TreeRefused, RangeOutOfBounds, ElementPruned, MissingNode, LocationOverflow, LogRefused, ItemPruned, ItemTooLarge, Refused, NotOffered, NoDatabase, NoSuchHandle, StaleBatch, StaleRead, HistoricalFloorPruned, DataCorrupted, Merkle, Journal, Answer, Opened, Started, Done, Merkleized, Applied, Listed, Read, Told, BatchTold, Rooted, Metadata, Proved, BatchProved, Pinned, Refuses}
 
 -- bytes in hexadecimal, and the empty ones as a dash
 abbrev pub hex_text : Bytes → Bytes
@@ -52,6 +52,10 @@ refused_text (Journal e) = codes "Journal " ++ log_text e
 abbrev pub operations_text : List Operation → Bytes
 operations_text ops = flat_map (λ op. codes " " ++ operation_text op) ops
 
+-- what was read, each after a space
+abbrev pub values_text : List (Option Bytes) → Bytes
+values_text values = flat_map (λ v. codes " " ++ optional_text v) values
+
 -- digests, each after a space
 abbrev pub digests_text : List Bytes → Bytes
 digests_text digests = flat_map (λ d. codes " " ++ encode_lower d) digests
@@ -69,13 +73,17 @@ reply_line (Merkleized h base size floor) =
     codes "merkleized " ++ (decimal h ++ (codes " " ++ (decimal base ++ (codes " " ++ (decimal size ++ (codes " " ++ decimal floor))))))
 reply_line (Applied size) = codes "applied " ++ decimal size
 reply_line (Listed base ops) = codes "ops " ++ (decimal base ++ operations_text ops)
-reply_line (Read v) = codes "read " ++ optional_text v
+reply_line (Read values) = codes "read" ++ values_text values
 reply_line (Told start size floor boundary is_live) =
     codes "info " ++ (decimal start ++ (codes " " ++ (decimal size ++ (codes " " ++ (decimal floor ++ (codes " " ++ (decimal boundary ++ (codes " " ++ live_text is_live))))))))
+reply_line (BatchTold base size floor boundary) =
+    codes "info " ++ (decimal base ++ (codes " " ++ (decimal size ++ (codes " " ++ (decimal floor ++ (codes " " ++ decimal boundary))))))
 reply_line (Rooted r o) = codes "root " ++ (encode_lower r ++ (codes " " ++ encode_lower o))
 reply_line (Metadata v) = codes "meta " ++ optional_text v
 reply_line (Proved proof ops) =
     codes "proof " ++ (decimal proof.leaves ++ (codes " " ++ (decimal proof.inactive ++ (digests_text proof.digests ++ (codes " /" ++ operations_text ops)))))
+reply_line (BatchProved proof pins) =
+    codes "proof " ++ (decimal proof.leaves ++ (codes " " ++ (decimal proof.inactive ++ (digests_text proof.digests ++ (codes " /" ++ digests_text pins)))))
 reply_line (Pinned digests) = codes "pins" ++ digests_text digests
 reply_line (Refuses r) = codes "refused " ++ refused_text r
 
