@@ -2,8 +2,8 @@
 use Rattle.std.proofs.Common.{◌≡◌, ◌∙◌, ap, refl, Bool, ◌||◌, List, [], ◌∷◌, map}
 use Rattle.std.specs.List.{list_any}
 use Rattle.qm_model.specs.Operations.{Bytes, Operation}
-use Rattle.qm_model.specs.Batches.{Commitment, same, Chain, boundary_list, commitment, fits}
-use Rattle.qm_chain.specs.Bounds.{Bounds, is_at, IsBounds, readable}
+use Rattle.qm_model.specs.Batches.{Commitment, same, Chain, boundary_list, commitment, fits, readable}
+use Rattle.qm_chain.specs.Bounds.{Bounds, is_at, IsBounds}
 
 -- some image passes where some element's image does
 pub any-map : {A B : Type 0} (f : A → B) (test : B → Bool) (xs : List A) → list_any test (map f xs) ≡ list_any (λ x. test (f x)) xs

@@ -3,7 +3,7 @@ use Rattle.std.specs.Prelude.{◌≡◌, ℕ, Bool, ◌||◌, nat_lt, if◌then�
 use Rattle.std.specs.List.{list_any}
 use Rattle.qm_base.specs.declared.commitment.Commitment as declared
 use Rattle.qm_model.specs.Operations.{Bytes, Operation}
-use Rattle.qm_model.specs.Batches.{Commitment, same, Chain, boundary_list, commitment, fits}
+use Rattle.qm_model.specs.Batches.{Commitment, same, Chain, boundary_list, commitment}
 
 -- a size and a root as bytes
 abbrev pub commitment_view : {D : Type 0} → (D → Bytes) → declared.Commitment D → Commitment
@@ -32,7 +32,3 @@ pub record IsBounds (root : List Operation → Bytes) (bounds : Bounds) (chain :
   pub db : bounds.db ≡ commitment root (boundary_list chain)
   pub tip : bounds.tip ≡ commitment root list
   pub ancestors : bounds.ancestors ≡ map (λ k. commitment root k.tip) chain.kept
-
--- a batch of this chain that makes this list can be read: the commitment is the list's, or it fits
-abbrev pub readable : (List Operation → Bytes) → Commitment → Chain → List Operation → Bool
-readable root current chain tip = same current (commitment root tip) || fits root current chain

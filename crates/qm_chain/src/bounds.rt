@@ -3,9 +3,9 @@
 ghost use Rattle.std.specs.Prelude.{◌≡◌, ◌||◌, ℕ, List, is_ok, map, option_map, IfErr};
 ghost use Rattle.std.specs.List.{list_any};
 ghost use Rattle.qm_model.specs.Batches as model;
-ghost use Rattle.qm_model.specs.Batches.{same, Chain};
+ghost use Rattle.qm_model.specs.Batches.{same, Chain, readable};
 ghost use Rattle.qm_model.specs.Operations.{Bytes, Operation};
-ghost use Rattle.qm_chain.specs.Bounds.{commitment_view, is_at, later_boundary, IsBounds, readable};
+ghost use Rattle.qm_chain.specs.Bounds.{commitment_view, is_at, later_boundary, IsBounds};
 
 use qm_base::{Commitment, Digest, Error, Location};
 use std::marker::Model;
@@ -34,8 +34,8 @@ impl<F, D: Digest> Model for Bounds<F, D> {
     ghost view = { λ b. record { base = commitment_view D.bytes b.base; db = commitment_view D.bytes b.db; tip = commitment_view D.bytes b.tip; ancestors = map (commitment_view D.bytes) b.ancestors.items; inactivity_floor = b.inactivity_floor } };
 }
 
-// Whether size and root both agree.
-fn is_same<D: Digest>(a: &Commitment<D>, b: &Commitment<D>) -> bool
+/// Whether size and root both agree. It takes no memory.
+pub fn is_same<D: Digest>(a: &Commitment<D>, b: &Commitment<D>) -> bool
     ensures { result ≡ same (commitment_view D.bytes a.now) (commitment_view D.bytes b.now) }
 {
     a.size == b.size && a.root.bytes() == b.root.bytes()

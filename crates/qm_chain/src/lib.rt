@@ -6,5 +6,5 @@ pub mod diff;
 #[cfg(test)]
 mod tests;
 
-pub use bounds::{Bounds, effective_boundary, validate_batch_applicable};
+pub use bounds::{Bounds, effective_boundary, is_same, validate_batch_applicable};
 pub use diff::{Diff, DiffEntry};
