@@ -107,7 +107,7 @@ child-rising keep parent tip rising begins =
     let old : Kept → Type 0 = λ k. Begins k.base parent.base × Begins k.tip parent.base in
     let new : Kept → Type 0 = λ k. Begins k.base tip × Begins k.tip tip in
     let kept : All new parent.kept = λ k d h. let was = rising k d h in let x = get_or parent.kept k d in
-        (Begins-through x.base parent.base tip was.0 begins, Begins-through x.tip parent.base tip was.1 begins) in
+    (Begins-through x.base parent.base tip was.0 begins, Begins-through x.tip parent.base tip was.1 begins) in
     All-cons new (record { base = parent.base; tip = tip }) (first_of keep parent.kept) (begins, Begins-self tip) (All-first new keep parent.kept kept)
 
 oldest-begins : (base whole : List Operation) (kept : List Kept) → Begins base whole → All (λ k. Begins k.base whole × Begins k.tip whole) kept → Begins (oldest_base base kept) whole
