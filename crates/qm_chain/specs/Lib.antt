@@ -1,3 +1,4 @@
 pub mod Ascending
 pub mod Bounds
 pub mod Diffs
+pub mod Merges

@@ -3,8 +3,10 @@
 
 pub mod bounds;
 pub mod diff;
+pub mod merge;
 #[cfg(test)]
 mod tests;
 
 pub use bounds::{Bounds, effective_boundary, validate_batch_applicable};
 pub use diff::{Diff, DiffEntry};
+pub use merge::DiffMerge;

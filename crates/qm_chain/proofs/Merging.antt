@@ -1,0 +1,243 @@
+-- The entries of several diffs, merged.
+use Rattle.std.proofs.Common.{◌≡◌, ◌≢◌, ◌∙◌, ap, sym, refl, subst, Bool, true, false, cond, not, ◌||◌, true≢false, List, [], ◌∷◌, ◌++◌, map, Option, Some, None}
+use Rattle.std.specs.Prelude.{bytes_eq, All, ⊤, MatchOption, IfSome}
+use Rattle.std.specs.List.{list_any, find, filter, filter_map, cons_option, flat_map, AllByRecursion as Each}
+use Rattle.std.specs.Option.{option_or}
+use Rattle.std.proofs.lemmas.Slice.Eq.{bytes_eq-Decides}
+use Rattle.qm_model.specs.Operations.{Bytes}
+use Rattle.qm_model.specs.Keys.{key_lt, contains_key, once, by_key}
+use Rattle.qm_chain.specs.Ascending.{IsAscending}
+use Rattle.std.proofs.lemmas.List.Elements.{filter-append, recursion_from_All}
+use Rattle.qm_chain.specs.Merges.{keys_of, entry_of, nearest, merged, IsLeast}
+use Rattle.qm_chain.proofs.KeyOrder.{Ascends, ascends_from, ascending_from, each_weaker, same_key, lt_itself, lt_on, lt_back, level, apart, eq_back, not_below, above, sorted_ascends, sorted_has}
+
+module _ {K E : Type 0} (bytes : K → Bytes) where
+  abbrev key : K × E → Bytes
+  key e = bytes e.0
+
+  -- ---- the entry of a key
+
+  found_cases : (t : Bool) (e : K × E) (rest : Option (K × E)) (P : K × E → Type 0) → (t ≡ true → P e) → IfSome rest P → IfSome (cond t (Some e) rest) P
+  found_cases true e rest P p h = p refl
+  found_cases false e rest P p h = h
+
+  -- what is found has the key
+  pub found_key : (es : List (K × E)) (q : Bytes) → IfSome (entry_of bytes es q) (λ e. bytes e.0 ≡ q)
+  found_key [] q = tt
+  found_key (e ∷ es) q =
+      found_cases (bytes_eq (key e) q) e (entry_of bytes es q) (λ e. bytes e.0 ≡ q) (λ t. (bytes_eq-Decides (key e) q).0 t) (found_key es q)
+
+  -- and what each entry has
+  pub found_each : (P : K × E → Type 0) (es : List (K × E)) (q : Bytes) → Each P es → IfSome (entry_of bytes es q) P
+  found_each P [] q h = tt
+  found_each P (e ∷ es) q h = found_cases (bytes_eq (key e) q) e (entry_of bytes es q) P (λ t. h.0) (found_each P es q h.1)
+
+  -- a key that no entry has
+  pub found_none : (es : List (K × E)) (q : Bytes) → contains_key (keys_of bytes es) q ≡ false → entry_of bytes es q ≡ None
+  found_none [] q h = refl
+  found_none (e ∷ es) q h = cases (bytes_eq (key e) q) refl (found_none es q)
+    where
+      cases : (t : Bool) → bytes_eq (key e) q ≡ t → (contains_key (keys_of bytes es) q ≡ false → entry_of bytes es q ≡ None) → cond t (Some e) (entry_of bytes es q) ≡ None
+      cases true f rest = absurd (true≢false (sym (ap (λ t. t || contains_key (keys_of bytes es) q) f) ∙ h))
+      cases false f rest = rest (sym (ap (λ t. t || contains_key (keys_of bytes es) q) f) ∙ h)
+
+  pub none_where : (es : List (K × E)) (q : Bytes) → Each (λ e. bytes_eq (bytes e.0) q ≡ false) es → entry_of bytes es q ≡ None
+  none_where [] q h = refl
+  none_where (e ∷ es) q h = ap (λ t. cond t (Some e) (entry_of bytes es q)) h.0 ∙ none_where es q h.1
+
+  -- of the entries above a key, the entry of another
+  pub found_above : (es : List (K × E)) (k q : Bytes) → entry_of bytes (filter (λ e. key_lt k (bytes e.0)) es) q ≡ cond (key_lt k q) (entry_of bytes es q) None
+  found_above [] k q = cases (key_lt k q) (entry_of bytes [] q) refl
+    where
+      cases : (t : Bool) (r : Option (K × E)) → r ≡ None → r ≡ cond t r None
+      cases true r h = refl
+      cases false r h = h
+  found_above (e ∷ es) k q = cases (key_lt k (key e)) refl (bytes_eq (key e) q) refl (found_above es k q)
+    where
+      rest : List (K × E)
+      rest = filter (λ e. key_lt k (bytes e.0)) es
+      cases : (t : Bool) → key_lt k (key e) ≡ t → (s : Bool) → bytes_eq (key e) q ≡ s → entry_of bytes rest q ≡ cond (key_lt k q) (entry_of bytes es q) None →
+          entry_of bytes (cond t (e ∷ rest) rest) q ≡ cond (key_lt k q) (cond s (Some e) (entry_of bytes es q)) None
+      cases true f true g h = ap (λ t. cond t (Some e) (entry_of bytes rest q)) g ∙ sym (ap (λ t. cond t (Some e) None) (ap (key_lt k) (sym ((bytes_eq-Decides (key e) q).0 g)) ∙ f))
+      cases true f false g h = ap (λ t. cond t (Some e) (entry_of bytes rest q)) g ∙ h
+      cases false f true g h =
+          let away : key_lt k q ≡ false = ap (key_lt k) (sym ((bytes_eq-Decides (key e) q).0 g)) ∙ f in
+          h ∙ ap (λ t. cond t (entry_of bytes es q) None) away ∙ sym (ap (λ t. cond t (Some e) None) away)
+      cases false f false g h = h
+
+  -- ---- entries by ascending key are known by the entry of each key
+
+  some_none : (e : K × E) → Some e ≡ None → ⊥
+  some_none e h = cc
+
+  some_some : (d e : K × E) → Some d ≡ Some e → d ≡ e
+  some_some d e h = cc
+
+  below_none : (k : Bytes) (es : List (K × E)) → Each (λ later. key_lt k later ≡ true) (keys_of bytes es) → entry_of bytes es k ≡ None
+  below_none k [] h = refl
+  below_none k (e ∷ es) h = ap (λ t. cond t (Some e) (entry_of bytes es k)) (eq_back k (key e) (apart k (key e) h.0)) ∙ below_none k es h.1
+
+  head_entry : (e : K × E) (es : List (K × E)) → entry_of bytes (e ∷ es) (key e) ≡ Some e
+  head_entry e es = ap (λ t. cond t (Some e) (entry_of bytes es (key e))) (same_key (key e))
+
+  pub unique : (xs ys : List (K × E)) → Ascends (keys_of bytes xs) → Ascends (keys_of bytes ys) → ((q : Bytes) → entry_of bytes xs q ≡ entry_of bytes ys q) → xs ≡ ys
+  unique [] [] a b same = refl
+  unique [] (y ∷ ys) a b same = absurd (some_none y (sym (same (key y) ∙ head_entry y ys)))
+  unique (x ∷ xs) [] a b same = absurd (some_none x (sym (head_entry x xs) ∙ same (key x)))
+  unique (x ∷ xs) (y ∷ ys) a b same = cases (key_lt (key x) (key y)) refl (key_lt (key y) (key x)) refl (unique xs ys a.1 b.1)
+    where
+      before : (v w : K × E) (ws : List (K × E)) → key_lt (key v) (key w) ≡ true → Ascends (keys_of bytes (w ∷ ws)) → entry_of bytes (w ∷ ws) (key v) ≡ None
+      before v w ws l asc = below_none (key v) (w ∷ ws) (l, each_weaker (λ later. key_lt (key w) later ≡ true) (λ later. key_lt (key v) later ≡ true) (λ later h. lt_on (key v) (key w) later l h) (keys_of bytes ws) asc.0)
+      level_heads : key_lt (key x) (key y) ≡ false → key_lt (key y) (key x) ≡ false → x ≡ y
+      level_heads f g =
+          let equal : key x ≡ key y = (bytes_eq-Decides (key x) (key y)).0 (level (key x) (key y) f g) in
+          some_some x y (sym (head_entry x xs) ∙ same (key x) ∙ ap (entry_of bytes (y ∷ ys)) equal ∙ head_entry y ys)
+      rest_cases : x ≡ y → (q : Bytes) (t : Bool) → bytes_eq (key x) q ≡ t → entry_of bytes xs q ≡ entry_of bytes ys q
+      rest_cases e q true h =
+          let at_x : key x ≡ q = (bytes_eq-Decides (key x) q).0 h in
+          let at_y : key y ≡ q = sym (ap key e) ∙ at_x in
+          sym (ap (entry_of bytes xs) at_x) ∙ below_none (key x) xs a.0 ∙ sym (below_none (key y) ys b.0) ∙ ap (entry_of bytes ys) at_y
+      rest_cases e q false h =
+          sym (ap (λ t. cond t (Some x) (entry_of bytes xs q)) h) ∙ same q ∙ ap (λ t. cond t (Some y) (entry_of bytes ys q)) (ap (λ z. bytes_eq (key z) q) (sym e) ∙ h)
+      rest_same : x ≡ y → (q : Bytes) → entry_of bytes xs q ≡ entry_of bytes ys q
+      rest_same e q = rest_cases e q (bytes_eq (key x) q) refl
+      cases : (s : Bool) → key_lt (key x) (key y) ≡ s → (t : Bool) → key_lt (key y) (key x) ≡ t → (((q : Bytes) → entry_of bytes xs q ≡ entry_of bytes ys q) → xs ≡ ys) → x ∷ xs ≡ y ∷ ys
+      cases true f t g rest = absurd (some_none x (sym (head_entry x xs) ∙ same (key x) ∙ before x y ys f b))
+      cases false f true g rest = absurd (some_none y (sym (head_entry y ys) ∙ sym (same (key y)) ∙ before y x xs g a))
+      cases false f false g rest = let e = level_heads f g in ap (λ z. z ∷ xs) e ∙ ap (λ zs. y ∷ zs) (rest (rest_same e))
+
+  -- ---- each key once, in key order, with its first entry
+
+  abbrev pub ordered : List (K × E) → List (K × E)
+  ordered es = filter_map (entry_of bytes es) (by_key (once (keys_of bytes es)))
+
+  pick_each : (P : K × E → Type 0) (es : List (K × E)) (ks : List Bytes) → Each P es → Each P (filter_map (entry_of bytes es) ks)
+  pick_each P es [] h = tt
+  pick_each P es (k ∷ ks) h = cases (entry_of bytes es k) (found_each P es k h) (pick_each P es ks h)
+    where
+      cases : (r : Option (K × E)) → IfSome r P → Each P (filter_map (entry_of bytes es) ks) → Each P (cons_option r (filter_map (entry_of bytes es) ks))
+      cases None p rest = rest
+      cases (Some e) p rest = (p, rest)
+
+  pick_above : (es : List (K × E)) (k : Bytes) (ks : List Bytes) → Each (λ later. key_lt k later ≡ true) ks → Each (λ later. key_lt k later ≡ true) (keys_of bytes (filter_map (entry_of bytes es) ks))
+  pick_above es k [] h = tt
+  pick_above es k (j ∷ ks) h = cases (entry_of bytes es j) (found_key es j) (pick_above es k ks h.1)
+    where
+      cases : (r : Option (K × E)) → IfSome r (λ e. bytes e.0 ≡ j) → Each (λ later. key_lt k later ≡ true) (keys_of bytes (filter_map (entry_of bytes es) ks)) →
+          Each (λ later. key_lt k later ≡ true) (keys_of bytes (cons_option r (filter_map (entry_of bytes es) ks)))
+      cases None p rest = rest
+      cases (Some e) p rest = (ap (key_lt k) p ∙ h.0, rest)
+
+  pick_ascends : (es : List (K × E)) (ks : List Bytes) → Ascends ks → Ascends (keys_of bytes (filter_map (entry_of bytes es) ks))
+  pick_ascends es [] a = tt
+  pick_ascends es (j ∷ ks) a = cases (entry_of bytes es j) (found_key es j) (pick_above es j ks a.0) (pick_ascends es ks a.1)
+    where
+      cases : (r : Option (K × E)) → IfSome r (λ e. bytes e.0 ≡ j) → Each (λ later. key_lt j later ≡ true) (keys_of bytes (filter_map (entry_of bytes es) ks)) →
+          Ascends (keys_of bytes (filter_map (entry_of bytes es) ks)) → Ascends (keys_of bytes (cons_option r (filter_map (entry_of bytes es) ks)))
+      cases None p over rest = rest
+      cases (Some e) p over rest = (subst (λ k. Each (λ later. key_lt k later ≡ true) (keys_of bytes (filter_map (entry_of bytes es) ks))) (sym p) over, rest)
+
+  pick_entry : (es : List (K × E)) (ks : List Bytes) (q : Bytes) → entry_of bytes (filter_map (entry_of bytes es) ks) q ≡ cond (contains_key ks q) (entry_of bytes es q) None
+  pick_entry es [] q = refl
+  pick_entry es (j ∷ ks) q = cases (entry_of bytes es j) refl (found_key es j) (bytes_eq j q) refl (pick_entry es ks q)
+    where
+      rest : List (K × E)
+      rest = filter_map (entry_of bytes es) ks
+      either : (t : Bool) (r : Option (K × E)) → r ≡ None → cond t r None ≡ None
+      either true r h = h
+      either false r h = refl
+      at_key : (t : Bool) → bytes_eq j q ≡ t → (s : Bool) (r : Option (K × E)) → t ≡ true → entry_of bytes es j ≡ r → entry_of bytes es q ≡ r
+      at_key t f s r is h = ap (entry_of bytes es) (sym ((bytes_eq-Decides j q).0 (f ∙ is))) ∙ h
+      cases : (r : Option (K × E)) → entry_of bytes es j ≡ r → IfSome r (λ e. bytes e.0 ≡ j) → (t : Bool) → bytes_eq j q ≡ t →
+          entry_of bytes rest q ≡ cond (contains_key ks q) (entry_of bytes es q) None →
+          entry_of bytes (cons_option r rest) q ≡ cond (t || contains_key ks q) (entry_of bytes es q) None
+      cases None h p true f eq = let none : entry_of bytes es q ≡ None = at_key true f true None refl h in eq ∙ either (contains_key ks q) (entry_of bytes es q) none ∙ sym none
+      cases None h p false f eq = eq
+      cases (Some e) h p true f eq =
+          ap (λ t. cond t (Some e) (entry_of bytes rest q)) (ap (λ k. bytes_eq k q) p ∙ f) ∙ sym (at_key true f true (Some e) refl h)
+      cases (Some e) h p false f eq = ap (λ t. cond t (Some e) (entry_of bytes rest q)) (ap (λ k. bytes_eq k q) p ∙ f) ∙ eq
+
+  pub ordered_ascends : (es : List (K × E)) → Ascends (keys_of bytes (ordered es))
+  ordered_ascends es = pick_ascends es (by_key (once (keys_of bytes es))) (sorted_ascends (keys_of bytes es))
+
+  pub ordered_entry : (es : List (K × E)) (q : Bytes) → entry_of bytes (ordered es) q ≡ entry_of bytes es q
+  ordered_entry es q =
+      pick_entry es (by_key (once (keys_of bytes es))) q ∙ ap (λ t. cond t (entry_of bytes es q) None) (sorted_has (keys_of bytes es) q)
+      ∙ cases (contains_key (keys_of bytes es) q) (found_none es q)
+    where
+      cases : (t : Bool) → (t ≡ false → entry_of bytes es q ≡ None) → cond t (entry_of bytes es q) None ≡ entry_of bytes es q
+      cases true h = refl
+      cases false h = sym (h refl)
+
+  keys_each : (P : Bytes → Type 0) (es : List (K × E)) → Each (λ e. P (bytes e.0)) es → Each P (keys_of bytes es)
+  keys_each P [] h = tt
+  keys_each P (e ∷ es) h = (h.0, keys_each P es h.1)
+
+  filter_above : (k : Bytes) (es : List (K × E)) → Each (λ e. key_lt k (bytes e.0) ≡ true) (filter (λ e. key_lt k (bytes e.0)) es)
+  filter_above k [] = tt
+  filter_above k (e ∷ es) = cases (key_lt k (bytes e.0)) refl (filter_above k es)
+    where
+      rest : List (K × E)
+      rest = filter (λ e. key_lt k (bytes e.0)) es
+      cases : (t : Bool) → key_lt k (bytes e.0) ≡ t → Each (λ e. key_lt k (bytes e.0) ≡ true) rest → Each (λ e. key_lt k (bytes e.0) ≡ true) (cond t (e ∷ rest) rest)
+      cases true h r = (h, r)
+      cases false h r = r
+
+  -- the first entry of the least key comes first, then the entries of the keys above it
+  pub ordered_step : (es : List (K × E)) (e : K × E) → entry_of bytes es (bytes e.0) ≡ Some e → Each (λ o. key_lt (bytes o.0) (bytes e.0) ≡ false) es →
+      ordered es ≡ e ∷ ordered (filter (λ o. key_lt (bytes e.0) (bytes o.0)) es)
+  ordered_step es e is least = unique (ordered es) (e ∷ ordered later) (ordered_ascends es) (above_all, ordered_ascends later) same
+    where
+      later : List (K × E)
+      later = filter (λ o. key_lt (bytes e.0) (bytes o.0)) es
+      above_all : Each (λ k. key_lt (key e) k ≡ true) (keys_of bytes (ordered later))
+      above_all = keys_each (λ k. key_lt (key e) k ≡ true) (ordered later) (pick_each (λ o. key_lt (key e) (bytes o.0) ≡ true) later (by_key (once (keys_of bytes later))) (filter_above (key e) es))
+      no_lower : (q : Bytes) → bytes_eq (key e) q ≡ false → key_lt (key e) q ≡ false → (o : K × E) → key_lt (bytes o.0) (bytes e.0) ≡ false → bytes_eq (bytes o.0) q ≡ false
+      no_lower q f g o h = cases (bytes_eq (bytes o.0) q) refl
+        where
+          cases : (t : Bool) → bytes_eq (bytes o.0) q ≡ t → bytes_eq (bytes o.0) q ≡ false
+          cases false i = i
+          cases true i = absurd (true≢false (sym (level (key e) q g (ap (λ k. key_lt k (key e)) (sym ((bytes_eq-Decides (bytes o.0) q).0 i)) ∙ h)) ∙ f))
+      tail : (q : Bytes) → entry_of bytes (ordered later) q ≡ cond (key_lt (key e) q) (entry_of bytes es q) None
+      tail q = ordered_entry later q ∙ found_above es (key e) q
+      cases : (q : Bytes) (t : Bool) → bytes_eq (key e) q ≡ t → (s : Bool) → key_lt (key e) q ≡ s → entry_of bytes es q ≡ cond t (Some e) (entry_of bytes (ordered later) q)
+      cases q true f s g = ap (entry_of bytes es) (sym ((bytes_eq-Decides (key e) q).0 f)) ∙ is
+      cases q false f true g = sym (tail q ∙ ap (λ t. cond t (entry_of bytes es q) None) g)
+      cases q false f false g = none_where es q (each_weaker (λ o. key_lt (bytes o.0) (bytes e.0) ≡ false) (λ o. bytes_eq (bytes o.0) q ≡ false) (no_lower q f g) es least)
+          ∙ sym (tail q ∙ ap (λ t. cond t (entry_of bytes es q) None) g)
+      same : (q : Bytes) → entry_of bytes (ordered es) q ≡ entry_of bytes (e ∷ ordered later) q
+      same q = ordered_entry es q ∙ cases q (bytes_eq (key e) q) refl (key_lt (key e) q) refl
+
+  -- ---- in a row of diffs
+
+  pub filter_rows : (test : K × E → Bool) (rows : List (List (K × E))) → flat_map (λ d. d) (map (filter test) rows) ≡ filter test (flat_map (λ d. d) rows)
+  filter_rows test [] = refl
+  filter_rows test (d ∷ rows) = ap (λ rest. filter test d ++ rest) (filter_rows test rows) ∙ sym (filter-append test d (flat_map (λ d. d) rows))
+
+  pub filter_ascends : (k : Bytes) (es : List (K × E)) → Ascends (keys_of bytes es) → Ascends (keys_of bytes (filter (λ e. key_lt k (bytes e.0)) es))
+  filter_ascends k [] a = tt
+  filter_ascends k (e ∷ es) a = cases (key_lt k (bytes e.0)) (filter_keys (λ j. key_lt (key e) j ≡ true) es a.0) (filter_ascends k es a.1)
+    where
+      rest : List (K × E)
+      rest = filter (λ e. key_lt k (bytes e.0)) es
+      filter_keys : (P : Bytes → Type 0) (xs : List (K × E)) → Each P (keys_of bytes xs) → Each P (keys_of bytes (filter (λ e. key_lt k (bytes e.0)) xs))
+      filter_keys P [] h = tt
+      filter_keys P (x ∷ xs) h = pick (key_lt k (bytes x.0)) (filter_keys P xs h.1)
+        where
+          pick : (t : Bool) → Each P (keys_of bytes (filter (λ e. key_lt k (bytes e.0)) xs)) →
+              Each P (keys_of bytes (cond t (x ∷ filter (λ e. key_lt k (bytes e.0)) xs) (filter (λ e. key_lt k (bytes e.0)) xs)))
+          pick true r = (h.0, r)
+          pick false r = r
+      cases : (t : Bool) → Each (λ j. key_lt (key e) j ≡ true) (keys_of bytes rest) → Ascends (keys_of bytes rest) → Ascends (keys_of bytes (cond t (e ∷ rest) rest))
+      cases true over r = (over, r)
+      cases false over r = r
+
+  -- the merge of diffs gives the first entry of the least key, and then the merge of what is above it
+  pub merged_step : (rows : List (List (K × E))) (e : K × E) → IsLeast bytes (flat_map (λ d. d) rows) (Some e) →
+      merged bytes rows ≡ e ∷ merged bytes (map (filter (λ o. key_lt (bytes e.0) (bytes o.0))) rows)
+  merged_step rows e least =
+      ordered_step (flat_map (λ d. d) rows) e least.0 (recursion_from_All _ (flat_map (λ d. d) rows) least.1)
+      ∙ ap (λ es. e ∷ ordered es) (sym (filter_rows (λ o. key_lt (bytes e.0) (bytes o.0)) rows))
+
+  pub merged_end : (rows : List (List (K × E))) → IsLeast bytes (flat_map (λ d. d) rows) None → merged bytes rows ≡ []
+  merged_end rows none = ap ordered none
