@@ -57,6 +57,10 @@ apart a b p = cases (bytes_eq a b) refl
 pub not_below : (a b c : Bytes) → key_lt a b ≡ true → key_lt c b ≡ false → key_lt c a ≡ false
 not_below a b c p q = ranks.chain c b a q (lt_back a b p)
 
+-- what stands above a key is not below what that key is not below
+pub not_lower : (o f e : Bytes) → key_lt o f ≡ false → key_lt f e ≡ false → key_lt o e ≡ false
+not_lower o f e p q = ranks.chain o f e p q
+
 -- a key is another, or above or below it
 pub above : (a b : Bytes) → bytes_eq a b ≡ false → key_lt b a ≡ false → key_lt a b ≡ true
 above a b other q = cases (key_lt a b) refl

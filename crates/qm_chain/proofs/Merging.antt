@@ -1,15 +1,19 @@
 -- The entries of several diffs, merged.
-use Rattle.std.proofs.Common.{◌≡◌, ◌≢◌, ◌∙◌, ap, sym, refl, subst, Bool, true, false, cond, not, ◌||◌, true≢false, List, [], ◌∷◌, ◌++◌, map, Option, Some, None}
+use Rattle.std.proofs.Common.{◌≡◌, ◌∙◌, ℕ, ◌+◌, ◌<◌, length, get_or, take, append-nil, ap, sym, refl, subst, Bool, true, false, cond, not, ◌||◌, true≢false, List, [], ◌∷◌, ◌++◌, map, Option, Some, None}
 use Rattle.std.specs.Prelude.{bytes_eq, All, ⊤, MatchOption, IfSome}
-use Rattle.std.specs.List.{list_any, find, filter, filter_map, cons_option, flat_map, AllByRecursion as Each}
+use Rattle.std.specs.List.{find, slice_get, filter, filter_map, cons_option, flat_map, AllByRecursion as Each}
 use Rattle.std.specs.Option.{option_or}
 use Rattle.std.proofs.lemmas.Slice.Eq.{bytes_eq-Decides}
 use Rattle.qm_model.specs.Operations.{Bytes}
 use Rattle.qm_model.specs.Keys.{key_lt, contains_key, once, by_key}
 use Rattle.qm_chain.specs.Ascending.{IsAscending}
-use Rattle.std.proofs.lemmas.List.Elements.{filter-append, recursion_from_All}
+use Rattle.std.proofs.lemmas.List.Elements.{filter-append, recursion_from_All, All-from_recursion, All-append, All-weaker, All-nil, All-head}
+use Rattle.std.proofs.lemmas.List.Folds.{find-append}
+use Rattle.std.proofs.lemmas.List.Concat.{flat_map-append}
+use Rattle.std.proofs.lemmas.List.{map_more}
+use denote.Ref.{Bor}
 use Rattle.qm_chain.specs.Merges.{keys_of, entry_of, nearest, merged, IsLeast}
-use Rattle.qm_chain.proofs.KeyOrder.{Ascends, ascends_from, ascending_from, each_weaker, same_key, lt_itself, lt_on, lt_back, level, apart, eq_back, not_below, above, sorted_ascends, sorted_has}
+use Rattle.qm_chain.proofs.KeyOrder.{Ascends, ascends_from, ascending_from, each_weaker, same_key, lt_itself, lt_on, lt_back, level, apart, eq_back, not_below, not_lower, above, sorted_ascends, sorted_has}
 
 module _ {K E : Type 0} (bytes : K → Bytes) where
   abbrev key : K × E → Bytes
@@ -241,3 +245,91 @@ module _ {K E : Type 0} (bytes : K → Bytes) where
 
   pub merged_end : (rows : List (List (K × E))) → IsLeast bytes (flat_map (λ d. d) rows) None → merged bytes rows ≡ []
   merged_end rows none = ap ordered none
+
+  -- ---- the least entry, as the diffs are gone through
+
+  each_keys : (P : Bytes → Type 0) (es : List (K × E)) → Each P (keys_of bytes es) → Each (λ e. P (bytes e.0)) es
+  each_keys P [] h = tt
+  each_keys P (e ∷ es) h = (h.0, each_keys P es h.1)
+
+  pub least_first : (es : List (K × E)) → IsAscending (keys_of bytes es) → IsLeast bytes es (slice_get es 0)
+  least_first [] asc = refl
+  least_first (f ∷ os) asc =
+      ( head_entry f os
+      , All-from_recursion (λ o. key_lt (bytes o.0) (key f) ≡ false) (f ∷ os)
+          ( lt_itself (key f)
+          , each_weaker (λ o. key_lt (key f) (bytes o.0) ≡ true) (λ o. key_lt (bytes o.0) (key f) ≡ false) (λ o h. lt_back (key f) (bytes o.0) h) os
+              (each_keys (λ k. key_lt (key f) k ≡ true) os (ascends_from (keys_of bytes (f ∷ os)) asc).0)))
+
+  pub least_none : (before es : List (K × E)) → IsLeast bytes before None → IsAscending (keys_of bytes es) → IsLeast bytes (before ++ es) (slice_get es 0)
+  least_none before es none asc = subst (λ b. IsLeast bytes (b ++ es) (slice_get es 0)) (sym none) (least_first es asc)
+
+  entry_append : (before es : List (K × E)) (q : Bytes) → entry_of bytes (before ++ es) q ≡ option_or (entry_of bytes before q) (entry_of bytes es q)
+  entry_append before es q = find-append (λ e. bytes_eq (bytes e.0) q) before es
+
+  pub least_lower : (before es : List (K × E)) (e f : K × E) → IsLeast bytes before (Some e) → IsAscending (keys_of bytes es) → Some f ≡ slice_get es 0 →
+      key_lt (bytes f.0) (bytes e.0) ≡ true → IsLeast bytes (before ++ es) (Some f)
+  least_lower before es e f least asc first lower =
+      ( entry_append before es (key f) ∙ ap (λ r. option_or r (entry_of bytes es (key f))) (none_where before (key f) (recursion_from_All _ before others)) ∙ alone.0
+      , All-append (λ o. key_lt (bytes o.0) (key f) ≡ false) before es (All-weaker _ _ (λ o h. not_below (key f) (key e) (bytes o.0) lower h) before least.1) alone.1)
+    where
+      alone : IsLeast bytes es (Some f)
+      alone = subst (IsLeast bytes es) (sym first) (least_first es asc)
+      other : (o : K × E) → key_lt (bytes o.0) (key e) ≡ false → bytes_eq (bytes o.0) (key f) ≡ false
+      other o h = cases (bytes_eq (bytes o.0) (key f)) refl
+        where
+          cases : (t : Bool) → bytes_eq (bytes o.0) (key f) ≡ t → bytes_eq (bytes o.0) (key f) ≡ false
+          cases false i = i
+          cases true i = absurd (true≢false (sym lower ∙ ap (λ k. key_lt k (key e)) (sym ((bytes_eq-Decides (bytes o.0) (key f)).0 i)) ∙ h))
+      others : All (λ o. bytes_eq (bytes o.0) (key f) ≡ false) before
+      others = All-weaker _ _ other before least.1
+
+  kept_entry : (before es : List (K × E)) (e : K × E) → entry_of bytes before (key e) ≡ Some e → entry_of bytes (before ++ es) (key e) ≡ Some e
+  kept_entry before es e is = entry_append before es (key e) ∙ ap (λ r. option_or r (entry_of bytes es (key e))) is
+
+  pub least_kept : (before es : List (K × E)) (e f : K × E) → IsLeast bytes before (Some e) → IsAscending (keys_of bytes es) → Some f ≡ slice_get es 0 →
+      key_lt (bytes f.0) (bytes e.0) ≡ false → IsLeast bytes (before ++ es) (Some e)
+  least_kept before es e f least asc first higher =
+      (kept_entry before es e least.0, All-append (λ o. key_lt (bytes o.0) (key e) ≡ false) before es least.1 (All-weaker _ _ (λ o h. not_lower (bytes o.0) (key f) (key e) h higher) es alone.1))
+    where
+      alone : IsLeast bytes es (Some f)
+      alone = subst (IsLeast bytes es) (sym first) (least_first es asc)
+
+  pub least_still : (before es : List (K × E)) (e : K × E) → IsLeast bytes before (Some e) → None ≡ slice_get es 0 → IsLeast bytes (before ++ es) (Some e)
+  least_still before [] e least none = (kept_entry before [] e least.0, All-append (λ o. key_lt (bytes o.0) (key e) ≡ false) before [] least.1 (All-nil (λ o. key_lt (bytes o.0) (key e) ≡ false)))
+  least_still before (f ∷ os) e least none = absurd (some_none f (sym none))
+
+  -- one more diff
+  pub rows_more : (rows : List (Bor (List (K × E)))) (i : ℕ) (d : Bor (List (K × E))) → i < length rows →
+      flat_map (λ d. d) (map (λ d. d.now) (take (i + 1) rows)) ≡ flat_map (λ d. d) (map (λ d. d.now) (take i rows)) ++ (get_or rows i d).now
+  rows_more rows i d l =
+      ap (flat_map (λ d. d)) (map_more (λ d. d.now) rows i d l) ∙ flat_map-append (λ d. d) (map (λ d. d.now) (take i rows)) ((get_or rows i d).now ∷ [])
+      ∙ ap (λ end. flat_map (λ d. d) (map (λ d. d.now) (take i rows)) ++ end) (append-nil (get_or rows i d).now)
+
+  -- ---- what comes behind a key
+
+  filter_all : (test : K × E → Bool) (es : List (K × E)) → Each (λ e. test e ≡ true) es → filter test es ≡ es
+  filter_all test [] h = refl
+  filter_all test (e ∷ es) h = ap (λ t. cond t (e ∷ filter test es) (filter test es)) h.0 ∙ ap (λ rest. e ∷ rest) (filter_all test es h.1)
+
+  pub behind_head : (k : Bytes) (f : K × E) (os : List (K × E)) → IsAscending (keys_of bytes (f ∷ os)) → bytes_eq (bytes f.0) k ≡ true →
+      os ≡ filter (λ e. key_lt k (bytes e.0)) (f ∷ os)
+  behind_head k f os asc is =
+      sym (ap (λ t. cond t (f ∷ rest) rest) (ap (key_lt k) equal ∙ lt_itself k) ∙ filter_all (λ e. key_lt k (bytes e.0)) os
+        (subst (λ j. Each (λ e. key_lt j (bytes e.0) ≡ true) os) equal (each_keys (λ j. key_lt (key f) j ≡ true) os (ascends_from (keys_of bytes (f ∷ os)) asc).0)))
+    where
+      rest : List (K × E)
+      rest = filter (λ e. key_lt k (bytes e.0)) os
+      equal : key f ≡ k
+      equal = (bytes_eq-Decides (key f) k).0 is
+
+  pub behind_all : (k : Bytes) (f : K × E) (os : List (K × E)) → IsAscending (keys_of bytes (f ∷ os)) → bytes_eq (bytes f.0) k ≡ false →
+      All (λ e. key_lt (bytes e.0) k ≡ false) (f ∷ os) → f ∷ os ≡ filter (λ e. key_lt k (bytes e.0)) (f ∷ os)
+  behind_all k f os asc other least =
+      sym (filter_all (λ e. key_lt k (bytes e.0)) (f ∷ os)
+        ( over
+        , each_weaker (λ e. key_lt (key f) (bytes e.0) ≡ true) (λ e. key_lt k (bytes e.0) ≡ true) (λ e h. lt_on k (key f) (bytes e.0) over h) os
+            (each_keys (λ j. key_lt (key f) j ≡ true) os (ascends_from (keys_of bytes (f ∷ os)) asc).0)))
+    where
+      over : key_lt k (key f) ≡ true
+      over = above k (key f) (eq_back (key f) k other) (All-head (λ e. key_lt (bytes e.0) k ≡ false) f os least)

@@ -40,10 +40,18 @@ fn lower<'a, F, K: ByteString, V>(
     requires { IsAscending (keys_of K.bytes others.now) }
     ensures { (before : List _) → IsLeast K.bytes before (option_map (λ e. e.now) least.entry) → IsLeast K.bytes (before ++ others.now) (option_map (λ e. e.now) result) }
 {
-    match (least, others.first()) {
-        (Some(least), Some(first)) if first.0.as_bytes() < least.0.as_bytes() => Some(first),
-        (Some(least), _) => Some(least),
-        (None, first) => first,
+    let Some(least) = least else {
+        return others.first();
+    };
+    match others.first() {
+        Some(first) => {
+            if first.0.as_bytes() < least.0.as_bytes() {
+                Some(first)
+            } else {
+                Some(least)
+            }
+        }
+        None => Some(least),
     }
 }
 
@@ -71,8 +79,14 @@ fn past<'a, F, K: ByteString, V>(
     ensures { result.now ≡ filter (λ e. key_lt key.now (K.bytes e.0)) entries.now }
 {
     match entries.split_first() {
-        Some((first, others)) if first.0.as_bytes() == key => others,
-        _ => entries,
+        Some((first, others)) => {
+            if first.0.as_bytes() == key {
+                others
+            } else {
+                entries
+            }
+        }
+        None => entries,
     }
 }
 
