@@ -69,6 +69,21 @@ above a b other q = cases (key_lt a b) refl
     cases true e = e
     cases false e = absurd (true≢false (sym (level a b e q) ∙ other))
 
+-- what a test of two spellings says of the keys
+pub below_is : (t s : Bool) (a b x y : Bytes) → t ≡ key_lt a b → t ≡ s → a ≡ x → b ≡ y → key_lt x y ≡ s
+below_is t s a b x y e f p q = ap (λ k. key_lt k y) (sym p) ∙ ap (key_lt a) (sym q) ∙ sym e ∙ f
+
+pub equal_is : (t s : Bool) (a b x : Bytes) → t ≡ bytes_eq a b → t ≡ s → a ≡ x → bytes_eq x b ≡ s
+equal_is t s a b x e f p = ap (λ k. bytes_eq k b) (sym p) ∙ sym e ∙ f
+
+-- what is below a key is below what is not below that
+pub lt_upto : (a b c : Bytes) → key_lt a b ≡ true → key_lt c b ≡ false → key_lt a c ≡ true
+lt_upto a b c p q = cases (key_lt a c) refl
+  where
+    cases : (t : Bool) → key_lt a c ≡ t → key_lt a c ≡ true
+    cases true e = e
+    cases false e = absurd (true≢false (sym p ∙ ranks.chain a c b e q))
+
 pub eq_back : (a b : Bytes) → bytes_eq a b ≡ false → bytes_eq b a ≡ false
 eq_back a b other = cases (bytes_eq b a) refl
   where

@@ -1,3 +1,4 @@
 pub mod Fits
 pub mod KeyOrder
 pub mod Merging
+pub mod Seeking

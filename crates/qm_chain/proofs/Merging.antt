@@ -248,7 +248,7 @@ module _ {K E : Type 0} (bytes : K → Bytes) where
 
   -- ---- the least entry, as the diffs are gone through
 
-  each_keys : (P : Bytes → Type 0) (es : List (K × E)) → Each P (keys_of bytes es) → Each (λ e. P (bytes e.0)) es
+  pub each_keys : (P : Bytes → Type 0) (es : List (K × E)) → Each P (keys_of bytes es) → Each (λ e. P (bytes e.0)) es
   each_keys P [] h = tt
   each_keys P (e ∷ es) h = (h.0, each_keys P es h.1)
 
@@ -312,9 +312,9 @@ module _ {K E : Type 0} (bytes : K → Bytes) where
   filter_all test [] h = refl
   filter_all test (e ∷ es) h = ap (λ t. cond t (e ∷ filter test es) (filter test es)) h.0 ∙ ap (λ rest. e ∷ rest) (filter_all test es h.1)
 
-  pub behind_head : (k : Bytes) (f : K × E) (os : List (K × E)) → IsAscending (keys_of bytes (f ∷ os)) → bytes_eq (bytes f.0) k ≡ true →
+  head_gone : (k : Bytes) (f : K × E) (os : List (K × E)) → IsAscending (keys_of bytes (f ∷ os)) → bytes_eq (bytes f.0) k ≡ true →
       os ≡ filter (λ e. key_lt k (bytes e.0)) (f ∷ os)
-  behind_head k f os asc is =
+  head_gone k f os asc is =
       sym (ap (λ t. cond t (f ∷ rest) rest) (ap (key_lt k) equal ∙ lt_itself k) ∙ filter_all (λ e. key_lt k (bytes e.0)) os
         (subst (λ j. Each (λ e. key_lt j (bytes e.0) ≡ true) os) equal (each_keys (λ j. key_lt (key f) j ≡ true) os (ascends_from (keys_of bytes (f ∷ os)) asc).0)))
     where
@@ -323,9 +323,9 @@ module _ {K E : Type 0} (bytes : K → Bytes) where
       equal : key f ≡ k
       equal = (bytes_eq-Decides (key f) k).0 is
 
-  pub behind_all : (k : Bytes) (f : K × E) (os : List (K × E)) → IsAscending (keys_of bytes (f ∷ os)) → bytes_eq (bytes f.0) k ≡ false →
+  all_stay : (k : Bytes) (f : K × E) (os : List (K × E)) → IsAscending (keys_of bytes (f ∷ os)) → bytes_eq (bytes f.0) k ≡ false →
       All (λ e. key_lt (bytes e.0) k ≡ false) (f ∷ os) → f ∷ os ≡ filter (λ e. key_lt k (bytes e.0)) (f ∷ os)
-  behind_all k f os asc other least =
+  all_stay k f os asc other least =
       sym (filter_all (λ e. key_lt k (bytes e.0)) (f ∷ os)
         ( over
         , each_weaker (λ e. key_lt (key f) (bytes e.0) ≡ true) (λ e. key_lt k (bytes e.0) ≡ true) (λ e h. lt_on k (key f) (bytes e.0) over h) os
@@ -333,3 +333,14 @@ module _ {K E : Type 0} (bytes : K → Bytes) where
     where
       over : key_lt k (key f) ≡ true
       over = above k (key f) (eq_back (key f) k other) (All-head (λ e. key_lt (bytes e.0) k ≡ false) f os least)
+
+  pub behind_head : (k : Bytes) (es : List (K × E)) (f : K × E) (os : List (K × E)) → es ≡ f ∷ os → IsAscending (keys_of bytes es) → bytes_eq (bytes f.0) k ≡ true →
+      os ≡ filter (λ e. key_lt k (bytes e.0)) es
+  behind_head k es f os at asc is =
+      subst (λ l. os ≡ filter (λ e. key_lt k (bytes e.0)) l) (sym at) (head_gone k f os (subst (λ l. IsAscending (keys_of bytes l)) at asc) is)
+
+  pub behind_all : (k : Bytes) (es : List (K × E)) (f : K × E) (os : List (K × E)) → es ≡ f ∷ os → IsAscending (keys_of bytes es) → bytes_eq (bytes f.0) k ≡ false →
+      All (λ e. key_lt (bytes e.0) k ≡ false) es → es ≡ filter (λ e. key_lt k (bytes e.0)) es
+  behind_all k es f os at asc other least =
+      subst (λ l. l ≡ filter (λ e. key_lt k (bytes e.0)) l) (sym at)
+        (all_stay k f os (subst (λ l. IsAscending (keys_of bytes l)) at asc) other (subst (All (λ e. key_lt (bytes e.0) k ≡ false)) at least))

@@ -7,7 +7,7 @@ ghost use Rattle.qm_model.specs.Keys.{key_lt};
 ghost use Rattle.qm_chain.specs.Ascending.{IsAscending};
 ghost use Rattle.qm_chain.specs.Merges.{keys_of, merged, IsLeast};
 
-use crate::diff::{Diff, DiffEntry};
+use crate::diff::{Diff, DiffEntry, is_below};
 use qm_base::{ByteString, Key};
 use std::alloc::{AllocError, Global};
 use std::marker::Model;
@@ -45,7 +45,7 @@ fn lower<'a, F, K: ByteString, V>(
     };
     match others.first() {
         Some(first) => {
-            if first.0.as_bytes() < least.0.as_bytes() {
+            if is_below(first.0.as_bytes(), least.0.as_bytes()) {
                 Some(first)
             } else {
                 Some(least)
@@ -62,7 +62,7 @@ fn least_of<'a, F, K: ByteString, V>(
     requires { All (λ d. IsAscending (keys_of K.bytes d.now)) left.now }
     ensures { IsLeast K.bytes (flat_map (λ d. d) (map (λ d. d.now) left.now)) (option_map (λ e. e.now) result) }
 {
-    let mut least = None;
+    let mut least: Option<&'a (K, DiffEntry<F, V>)> = None;
     for entries in left {
         least = lower(least, entries);
     }
