@@ -1,5 +1,5 @@
 -- The entries of several diffs, merged.
-use Rattle.std.proofs.Common.{◌≡◌, ◌∙◌, ℕ, ◌+◌, ◌<◌, length, get_or, take, append-nil, ap, sym, refl, subst, Bool, true, false, cond, not, ◌||◌, true≢false, List, [], ◌∷◌, ◌++◌, map, Option, Some, None}
+use Rattle.std.proofs.Common.{◌≡◌, ◌∙◌, ℕ, zero, suc, ◌+◌, ◌<◌, ◌≤◌, arith, set, drop, length, get_or, take, append-nil, ap, sym, refl, subst, Bool, true, false, cond, not, ◌||◌, true≢false, List, [], ◌∷◌, ◌++◌, map, Option, Some, None}
 use Rattle.std.specs.Prelude.{bytes_eq, All, ⊤, MatchOption, IfSome}
 use Rattle.std.specs.List.{find, slice_get, filter, filter_map, cons_option, flat_map, AllByRecursion as Each}
 use Rattle.std.specs.Option.{option_or}
@@ -7,10 +7,10 @@ use Rattle.std.proofs.lemmas.Slice.Eq.{bytes_eq-Decides}
 use Rattle.qm_model.specs.Operations.{Bytes}
 use Rattle.qm_model.specs.Keys.{key_lt, contains_key, once, by_key}
 use Rattle.qm_chain.specs.Ascending.{IsAscending}
-use Rattle.std.proofs.lemmas.List.Elements.{filter-append, recursion_from_All, All-from_recursion, All-append, All-weaker, All-nil, All-head}
+use Rattle.std.proofs.lemmas.List.Elements.{filter-append, recursion_from_All, All-from_recursion, All-append, All-weaker, All-nil, All-cons, All-head, All-tail, All-map, All-push}
 use Rattle.std.proofs.lemmas.List.Folds.{find-append}
 use Rattle.std.proofs.lemmas.List.Concat.{flat_map-append}
-use Rattle.std.proofs.lemmas.List.{map_more}
+use Rattle.std.proofs.lemmas.List.{map_more, map-append, take_more_set, drop-set-lt, take-append-le, take_all}
 use denote.Ref.{Bor}
 use Rattle.qm_chain.specs.Merges.{keys_of, entry_of, nearest, merged, IsLeast}
 use Rattle.qm_chain.proofs.KeyOrder.{Ascends, ascends_from, ascending_from, each_weaker, same_key, lt_itself, lt_on, lt_back, level, apart, eq_back, not_below, not_lower, above, sorted_ascends, sorted_has}
@@ -300,11 +300,11 @@ module _ {K E : Type 0} (bytes : K → Bytes) where
   least_still before (f ∷ os) e least none = absurd (some_none f (sym none))
 
   -- one more diff
-  pub rows_more : (rows : List (Bor (List (K × E)))) (i : ℕ) (d : Bor (List (K × E))) → i < length rows →
-      flat_map (λ d. d) (map (λ d. d.now) (take (i + 1) rows)) ≡ flat_map (λ d. d) (map (λ d. d.now) (take i rows)) ++ (get_or rows i d).now
-  rows_more rows i d l =
+  pub rows_more : (rows : List (Bor (List (K × E)))) (i : ℕ) (d : Bor (List (K × E))) → i < length rows → d ≡ get_or rows i d →
+      flat_map (λ d. d) (map (λ d. d.now) (take (i + 1) rows)) ≡ flat_map (λ d. d) (map (λ d. d.now) (take i rows)) ++ d.now
+  rows_more rows i d l is =
       ap (flat_map (λ d. d)) (map_more (λ d. d.now) rows i d l) ∙ flat_map-append (λ d. d) (map (λ d. d.now) (take i rows)) ((get_or rows i d).now ∷ [])
-      ∙ ap (λ end. flat_map (λ d. d) (map (λ d. d.now) (take i rows)) ++ end) (append-nil (get_or rows i d).now)
+      ∙ ap (λ end. flat_map (λ d. d) (map (λ d. d.now) (take i rows)) ++ end) (append-nil (get_or rows i d).now ∙ ap (λ d. d.now) (sym is))
 
   -- ---- what comes behind a key
 
@@ -344,3 +344,97 @@ module _ {K E : Type 0} (bytes : K → Bytes) where
   behind_all k es f os at asc other least =
       subst (λ l. l ≡ filter (λ e. key_lt k (bytes e.0)) l) (sym at)
         (all_stay k f os (subst (λ l. IsAscending (keys_of bytes l)) at asc) other (subst (All (λ e. key_lt (bytes e.0) k ≡ false)) at least))
+
+-- ---- a turn of the merge
+
+all_of_map : {X Y : Type 0} (P : Y → Type 0) (f : X → Y) (xs : List X) → All P (map f xs) → All (λ x. P (f x)) xs
+all_of_map P f [] h = All-nil (λ x. P (f x))
+all_of_map P f (x ∷ xs) h = All-cons (λ x. P (f x)) x xs (All-head P (f x) (map f xs) h) (all_of_map P f xs (All-tail P (f x) (map f xs) h))
+
+pub rows_all : {X : Type 0} (P : X → Type 0) (rows : List (Bor (List X))) → All P (flat_map (λ d. d) (map (λ d. d.now) rows)) → All (λ d. All P d.now) rows
+rows_all {X = X} P rows h = All-from_recursion (λ d. All P d.now) rows (each rows (recursion_from_All P (flat_map (λ d. d) (map (λ d. d.now) rows)) h))
+  where
+    front : (xs ys : List X) → Each P (xs ++ ys) → Each P xs
+    front [] ys h = tt
+    front (x ∷ xs) ys h = (h.0, front xs ys h.1)
+    back : (xs ys : List X) → Each P (xs ++ ys) → Each P ys
+    back [] ys h = h
+    back (x ∷ xs) ys h = back xs ys h.1
+    each : (rows : List (Bor (List X))) → Each P (flat_map (λ d. d) (map (λ d. d.now) rows)) → Each (λ d. All P d.now) rows
+    each [] h = tt
+    each (d ∷ rows) h =
+        (All-from_recursion P d.now (front d.now (flat_map (λ d. d) (map (λ d. d.now) rows)) h), each rows (back d.now (flat_map (λ d. d) (map (λ d. d.now) rows)) h))
+
+module _ {K E : Type 0} (bytes : K → Bytes) where
+  map_filter : (k : Bytes) (rows : List (Bor (List (K × E)))) → map (λ d. filter (λ e. key_lt k (bytes e.0)) d.now) rows ≡ map (filter (λ e. key_lt k (bytes e.0))) (map (λ d. d.now) rows)
+  map_filter k [] = refl
+  map_filter k (d ∷ rows) = ap (λ rest. filter (λ e. key_lt k (bytes e.0)) d.now ∷ rest) (map_filter k rows)
+
+  pub merged_turn : (given : List (K × E)) (items read written left : List (Bor (List (K × E)))) (e : K × E) (k : Bytes) → merged bytes (map (λ d. d.now) items) ≡ given → read ≡ items → written ≡ items →
+      IsLeast bytes (flat_map (λ d. d) (map (λ d. d.now) read)) (Some e) → k ≡ bytes e.0 →
+      map (λ d. d.now) left ≡ map (λ d. filter (λ o. key_lt k (bytes o.0)) d.now) written → given ≡ e ∷ merged bytes (map (λ d. d.now) left)
+  merged_turn given items read written left e k view was were least is step =
+      sym view ∙ ap (λ rows. merged bytes (map (λ d. d.now) rows)) (sym was) ∙ merged_step bytes (map (λ d. d.now) read) e least
+      ∙ ap (λ rows. e ∷ merged bytes rows)
+          (ap (λ j. map (filter (λ o. key_lt j (bytes o.0))) (map (λ d. d.now) read)) (sym is) ∙ ap (λ rows. map (filter (λ o. key_lt k (bytes o.0))) (map (λ d. d.now) rows)) (was ∙ sym were)
+          ∙ sym (map_filter k written) ∙ sym step)
+
+  pub turn_least : (items read written : List (Bor (List (K × E)))) (e : K × E) (k : Bytes) → read ≡ items → written ≡ items → IsLeast bytes (flat_map (λ d. d) (map (λ d. d.now) read)) (Some e) →
+      k ≡ bytes e.0 → All (λ d. All (λ o. key_lt (bytes o.0) k ≡ false) d.now) written
+  turn_least items read written e k was were least is =
+      subst (λ j. All (λ d. All (λ o. key_lt (bytes o.0) j ≡ false) d.now) written) (sym is)
+        (subst (All (λ d. All (λ o. key_lt (bytes o.0) (bytes e.0) ≡ false) d.now)) (was ∙ sym were) (rows_all (λ o. key_lt (bytes o.0) (bytes e.0) ≡ false) read least.1))
+
+  pub still_ascend : (items written left : List (Bor (List (K × E)))) (k : Bytes) → written ≡ items → map (λ d. d.now) left ≡ map (λ d. filter (λ o. key_lt k (bytes o.0)) d.now) written →
+      All (λ d. IsAscending (keys_of bytes d.now)) items → All (λ d. IsAscending (keys_of bytes d.now)) left
+  still_ascend items written left k were step asc =
+      all_of_map (λ es. IsAscending (keys_of bytes es)) (λ d. d.now) left
+        (subst (All (λ es. IsAscending (keys_of bytes es))) (sym step)
+          (All-map (λ es. IsAscending (keys_of bytes es)) (λ d. filter (λ o. key_lt k (bytes o.0)) d.now) written
+            (All-weaker (λ d. IsAscending (keys_of bytes d.now)) (λ d. IsAscending (keys_of bytes (filter (λ o. key_lt k (bytes o.0)) d.now)))
+              (λ d a. ascending_from (keys_of bytes (filter (λ o. key_lt k (bytes o.0)) d.now)) (filter_ascends bytes k d.now (ascends_from (keys_of bytes d.now) a))) written
+              (subst (All (λ d. IsAscending (keys_of bytes d.now))) (sym were) asc))))
+
+pub shorter : {X : Type 0} (x : X) (xs ys : List X) → ys ≡ x ∷ xs → length xs < length ys
+shorter x xs ys is = subst (λ zs. length xs < length zs) (sym is) (omega arith)
+
+-- a list that took the place of the first part of another is that whole part
+pub whole : {X : Type 0} (n : ℕ) (xs ys : List X) → length xs ≡ length ys → n ≡ length ys → take n (xs ++ drop (length xs) ys) ≡ xs
+whole n xs ys same all =
+    let at : n ≡ length xs = all ∙ sym same in
+    ap (λ m. take m (xs ++ drop (length xs) ys)) at ∙ take-append-le (length xs) xs (drop (length xs) ys) (omega arith) ∙ take_all (length xs) xs (omega arith)
+
+-- ---- a row whose elements are put one by one
+
+pub same_there : {X : Type 0} (xs ys : List X) (i : ℕ) (d : X) → drop i xs ≡ drop i ys → get_or xs i d ≡ get_or ys i d
+same_there {X = X} xs ys i d same = at xs i ∙ ap (λ zs. get_or zs 0 d) same ∙ sym (at ys i)
+  where
+    at : (zs : List X) (i : ℕ) → get_or zs i d ≡ get_or (drop i zs) 0 d
+    at zs zero = refl
+    at [] (suc i) = refl
+    at (z ∷ zs) (suc i) = at zs i
+
+pub more_put : {X Y : Type 0} (now f : X → Y) (xs ys : List X) (i : ℕ) (x d : X) → i < length xs → i < length ys → map now (take i ys) ≡ map f (take i xs) → drop i ys ≡ drop i xs →
+    now x ≡ f (get_or ys i d) → map now (take (i + 1) (set ys i x)) ≡ map f (take (i + 1) xs)
+more_put now f xs ys i x d lx ly done rest is =
+    ap (map now) (take_more_set ys i x ly) ∙ map-append now (take i ys) (x ∷ []) ∙ ap (λ zs. zs ++ now x ∷ []) done
+    ∙ ap (λ y. map f (take i xs) ++ y ∷ []) (is ∙ ap f (same_there ys xs i d rest)) ∙ sym (map_more f xs i d lx)
+
+pub rest_put : {X : Type 0} (xs ys : List X) (i : ℕ) (x : X) → drop i ys ≡ drop i xs → drop (i + 1) (set ys i x) ≡ drop (i + 1) xs
+rest_put {X = X} xs ys i x rest = drop-set-lt (i + 1) ys i x (omega arith) ∙ next ys i ∙ ap (drop 1) rest ∙ sym (next xs i)
+  where
+    none : (n : ℕ) → drop {A = X} n [] ≡ []
+    none zero = refl
+    none (suc n) = refl
+    next : (zs : List X) (i : ℕ) → drop (i + 1) zs ≡ drop 1 (drop i zs)
+    next zs zero = refl
+    next [] (suc i) = none (suc i + 1)
+    next (z ∷ zs) (suc i) = let e : suc i + 1 ≡ suc (i + 1) = omega arith in ap (λ n. drop n (z ∷ zs)) e ∙ next zs i
+
+pub pushed_row : {X Y Z : Type 0} (f : X → Z) (g : Y → Z) (items new : List X) (x : X) (ys : List Y) (i : ℕ) (d : Y) → new ≡ items ++ x ∷ [] → map f items ≡ map g (take i ys) →
+    i < length ys → f x ≡ g (get_or ys i d) → map f new ≡ map g (take (i + 1) ys)
+pushed_row f g items new x ys i d is so_far l same =
+    ap (map f) is ∙ map-append f items (x ∷ []) ∙ ap (λ zs. zs ++ f x ∷ []) so_far ∙ ap (λ z. map g (take i ys) ++ z ∷ []) same ∙ sym (map_more g ys i d l)
+
+pub pushed_all : {X : Type 0} (P : X → Type 0) (items new : List X) (x : X) → new ≡ items ++ x ∷ [] → All P items → P x → All P new
+pushed_all P items new x is h p = subst (All P) (sym is) (All-push P items x h p)

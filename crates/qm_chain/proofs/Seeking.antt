@@ -1,10 +1,10 @@
 -- Cursors over diffs in a row.
-use Rattle.std.proofs.Common.{◌≡◌, ◌∙◌, ap, sym, refl, subst, ℕ, zero, suc, ◌+◌, ◌<◌, ◌≤◌, length, get_or, take, Bool, true, false, cond, true≢false, List, [], ◌∷◌, ◌++◌, map, Option, Some, None, add-one, arith, length-append}
+use Rattle.std.proofs.Common.{◌≡◌, ◌∙◌, ap, sym, refl, subst, ℕ, zero, suc, ◌+◌, ◌<◌, ◌≤◌, length, get_or, take, Bool, true, false, cond, true≢false, List, [], ◌∷◌, ◌++◌, map, Option, Some, None, arith}
 use Rattle.std.specs.Prelude.{bytes_eq, All, ⊤, IfSome, option_map}
 use Rattle.std.specs.List.{find, slice_get, flat_map, AllByRecursion as Each}
 use Rattle.std.specs.Option.{option_or}
-use Rattle.std.proofs.lemmas.List.{map_more, take_more}
-use Rattle.std.proofs.lemmas.List.Elements.{recursion_from_All, All-from_recursion, All-push, All-append, All-nil}
+use Rattle.std.proofs.lemmas.List.{map_more, take_more, get_or-map, length-map}
+use Rattle.std.proofs.lemmas.List.Elements.{recursion_from_All, All-from_recursion, All-push, All-append, All-nil, All-weaker}
 use Rattle.std.proofs.lemmas.List.Folds.{find-append}
 use Rattle.std.proofs.lemmas.List.Concat.{flat_map-append}
 use Rattle.std.proofs.lemmas.Option.{slice_get-get_or, slice_get_past}
@@ -22,17 +22,15 @@ Below ks k = Each (λ j. key_lt j k ≡ true) ks
 
 module _ {K E : Type 0} (bytes : K → Bytes) where
   -- one more entry is below the key
-  pub below_more : (es : List (K × E)) (i : ℕ) (x : K × E) (k : Bytes) → i < length es → x ≡ get_or es i x → AreBelow (keys_of bytes (take i es)) k →
-      key_lt (bytes x.0) k ≡ true → AreBelow (keys_of bytes (take (i + 1) es)) k
-  below_more es i x k l is below lower =
-      subst (λ ks. AreBelow ks k) (sym (map_more (λ e. bytes e.0) es i x l))
-        (All-push (λ j. key_lt j k ≡ true) (keys_of bytes (take i es)) (bytes (get_or es i x).0) below (ap (λ e. key_lt (bytes e.0) k) (sym is) ∙ lower))
+  pub below_more : (es : List (K × E)) (i : ℕ) (d : K × E) (k : Bytes) → i < length es → AreBelow (keys_of bytes (take i es)) k →
+      key_lt (bytes (get_or es i d).0) k ≡ true → AreBelow (keys_of bytes (take (i + 1) es)) k
+  below_more es i d k l below lower =
+      subst (λ ks. AreBelow ks k) (sym (map_more (λ e. bytes e.0) es i d l)) (All-push (λ j. key_lt j k ≡ true) (keys_of bytes (take i es)) (bytes (get_or es i d).0) below lower)
 
   -- the entry at which a cursor stops is not below the key
-  pub stops_at : (es : List (K × E)) (i : ℕ) (x : K × E) (k : Bytes) → i < length es → x ≡ get_or es i x → key_lt (bytes x.0) k ≡ false →
+  pub stops_at : (es : List (K × E)) (i : ℕ) (d : K × E) (k : Bytes) → i < length es → key_lt (bytes (get_or es i d).0) k ≡ false →
       IfSome (slice_get es i) (λ e. key_lt (bytes e.0) k ≡ false)
-  stops_at es i x k l is higher =
-      subst (λ r. IfSome r (λ e. key_lt (bytes e.0) k ≡ false)) (sym (slice_get-get_or es i x l)) (ap (λ e. key_lt (bytes e.0) k) (sym is) ∙ higher)
+  stops_at es i d k l higher = subst (λ r. IfSome r (λ e. key_lt (bytes e.0) k ≡ false)) (sym (slice_get-get_or es i d l)) higher
 
   pub stops_behind : (es : List (K × E)) (k : Bytes) → IfSome (slice_get es (length es)) (λ e. key_lt (bytes e.0) k ≡ false)
   stops_behind es k = subst (λ r. IfSome r (λ e. key_lt (bytes e.0) k ≡ false)) (sym (slice_get_past es (length es) (omega arith))) tt
@@ -70,6 +68,12 @@ module _ {K E : Type 0} (bytes : K → Bytes) where
   behind [] i k below at = refl
   behind (x ∷ xs) zero k below at = absurd (some_other x (sym at))
   behind (x ∷ xs) (suc i) k below at = skipped x xs k below.0 ∙ behind xs i k below.1 at
+
+  pub at_item : (es : List (K × E)) (i : ℕ) (f : K × E) → i < length es → f ≡ get_or es i f → Some f ≡ slice_get es i
+  at_item es i f l is = ap Some is ∙ sym (slice_get-get_or es i f l)
+
+  pub at_none : (es : List (K × E)) (i : ℕ) → length es ≤ i → None ≡ slice_get es i
+  at_none es i l = sym (slice_get_past es i l)
 
   pub found_here : (es : List (K × E)) (i : ℕ) (k : Bytes) (f : K × E) → AreBelow (keys_of bytes (take i es)) k → Some f ≡ slice_get es i → bytes_eq (bytes f.0) k ≡ true →
       Some f.1 ≡ option_map (λ e. e.1) (entry_of bytes es k)
@@ -140,6 +144,13 @@ module _ {K E : Type 0} (bytes : K → Bytes) where
       cases None g = refl
       cases (Some e) g = absurd (no_value e.1 g)
 
+-- an element's part stands in the row of these parts
+pub row_at : {X Y : Type 0} (f : X → Y) (xs : List X) (rows : List Y) (i : ℕ) (d : X) → map f xs ≡ rows → i < length xs → f (get_or xs i d) ≡ get_or rows i (f (get_or xs i d))
+row_at f xs rows i d same l = sym (ap (λ r. get_or r i (f (get_or xs i d))) (sym same) ∙ get_or-map f xs i d (f (get_or xs i d)) l)
+
+pub row_has : {X Y : Type 0} (f : X → Y) (xs : List X) (rows : List Y) (i : ℕ) → map f xs ≡ rows → i < length xs → i < length rows
+row_has f xs rows i same l = subst (λ r. i < length r) same (subst (λ n. i < n) (sym (length-map xs f)) l)
+
 -- ---- keys that were passed in each diff, and in all
 
 pub all_from_flat : {X : Type 0} (f : X → List Bytes) (P : Bytes → Type 0) (xs : List X) → All P (flat_map f xs) → All (λ x. All P (f x)) xs
@@ -161,3 +172,22 @@ flat_from_all {X = X} f P xs h = each xs (recursion_from_All (λ x. All P (f x))
     each : (xs : List X) → Each (λ x. All P (f x)) xs → All P (flat_map f xs)
     each [] h = All-nil P
     each (x ∷ xs) h = All-append P (f x) (flat_map f xs) h.0 (each xs h.1)
+
+-- what a query asks of the keys passed, cursor by cursor
+pub asked : {X : Type 0} (f : X → List Bytes) (cs items : List X) (passed : List Bytes) (k q : Bytes) → cs ≡ items → flat_map f items ≡ passed → q ≡ k → AreBelow passed k →
+    All (λ x. AreBelow (f x) q) cs
+asked f cs items passed k q at view is h =
+    all_from_flat f (λ j. key_lt j q ≡ true) cs (subst (λ l. AreBelow l q) (sym (ap (flat_map f) at ∙ view)) (subst (AreBelow passed) (sym is) h))
+
+-- and what it leaves to each query that is not below it
+pub may_follow : {X : Type 0} (f : X → List Bytes) (cs items : List X) (k q later : Bytes) → cs ≡ items → q ≡ k → key_lt later k ≡ false →
+    All (λ x. AreBelow (f x) q) items → AreBelow (flat_map f cs) later
+may_follow f cs items k q later at is rising h =
+    let up : key_lt later q ≡ false = ap (key_lt later) is ∙ rising in
+    All-weaker (λ j. key_lt j q ≡ true) (λ j. key_lt j later ≡ true) (λ j below. lt_upto j q later below up) (flat_map f cs)
+      (flat_from_all f (λ j. key_lt j q ≡ true) cs (subst (All (λ x. AreBelow (f x) q)) (sym at) h))
+
+-- a cursor that has passed nothing
+pub pushed_start : {X : Type 0} (f : X → List Bytes) (items new : List X) (x : X) → new ≡ items ++ x ∷ [] → flat_map f items ≡ [] → f x ≡ [] → flat_map f new ≡ []
+pushed_start f items new x is so_far none =
+    ap (flat_map f) is ∙ flat_map-append f items (x ∷ []) ∙ ap (λ ks. ks ++ (f x ++ [])) so_far ∙ ap (λ ks. ks ++ []) none
