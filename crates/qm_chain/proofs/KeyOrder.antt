@@ -177,9 +177,10 @@ fresh_more seen key (k ∷ ks) new h = cases (bytes_eq k key) refl (fresh_more s
   where
     cases : (t : Bool) → bytes_eq k key ≡ t → (contains_key ks key ≡ false → Fresh seen ks → Fresh (put_key seen key) ks) → Fresh (put_key seen key) (k ∷ ks)
     cases true e rest = absurd (true≢false (sym (ap (λ t. t || contains_key ks key) e) ∙ new))
-    cases false e rest =
-        ( put_has seen key k ∙ ap (λ t. t || contains_key seen k) (eq_back k key e) ∙ h.0
-        , rest (sym (ap (λ t. t || contains_key ks key) e) ∙ new) h.1)
+    cases false e rest = (
+      put_has seen key k ∙ ap (λ t. t || contains_key seen k) (eq_back k key e) ∙ h.0,
+      rest (sym (ap (λ t. t || contains_key ks key) e) ∙ new) h.1,
+    )
 
 put_all_ascend : (seen ks : List Bytes) → Ascends seen → Distinct ks → Fresh seen ks → Ascends (fold put_key seen ks)
 put_all_ascend seen [] a d f = a
@@ -208,9 +209,10 @@ behind_distinct (k ∷ ks) key d new = cases (bytes_eq k key) refl (behind_disti
   where
     cases : (t : Bool) → bytes_eq k key ≡ t → (contains_key ks key ≡ false → Distinct (ks ++ key ∷ [])) → Distinct (k ∷ (ks ++ key ∷ []))
     cases true e rest = absurd (true≢false (sym (ap (λ t. t || contains_key ks key) e) ∙ new))
-    cases false e rest =
-        ( behind_has ks key k ∙ ap (λ t. t || bytes_eq key k) d.0 ∙ eq_back k key e
-        , rest (sym (ap (λ t. t || contains_key ks key) e) ∙ new))
+    cases false e rest = (
+      behind_has ks key k ∙ ap (λ t. t || bytes_eq key k) d.0 ∙ eq_back k key e,
+      rest (sym (ap (λ t. t || contains_key ks key) e) ∙ new),
+    )
 
 keep_distinct : (seen : List Bytes) (key : Bytes) → Distinct seen → Distinct (keep seen key)
 keep_distinct seen key d = cases (contains_key seen key) refl
@@ -225,6 +227,7 @@ keep_has seen key q = cases (contains_key seen key) refl (bytes_eq key q) refl
     or_none : (b : Bool) → b ≡ b || false
     or_none true = refl
     or_none false = refl
+
     cases : (t : Bool) → contains_key seen key ≡ t → (s : Bool) → bytes_eq key q ≡ s → contains_key (if t then seen else seen ++ key ∷ []) q ≡ contains_key seen q || s
     cases true e true f = let h : contains_key seen q ≡ true = ap (contains_key seen) (sym ((bytes_eq-Decides key q).0 f)) ∙ e in h ∙ sym (ap (λ t. t || true) h)
     cases true e false f = or_none (contains_key seen q)

@@ -60,6 +60,7 @@ module _ {K E : Type 0} (bytes : K → Bytes) where
     where
       rest : List (K × E)
       rest = filter (λ e. key_lt k (bytes e.0)) es
+
       cases : (t : Bool) → key_lt k (key e) ≡ t → (s : Bool) → bytes_eq (key e) q ≡ s → entry_of bytes rest q ≡ cond (key_lt k q) (entry_of bytes es q) None →
           entry_of bytes (cond t (e ∷ rest) rest) q ≡ cond (key_lt k q) (cond s (Some e) (entry_of bytes es q)) None
       cases true f true g h = ap (λ t. cond t (Some e) (entry_of bytes rest q)) g ∙ sym (ap (λ t. cond t (Some e) None) (ap (key_lt k) (sym ((bytes_eq-Decides (key e) q).0 g)) ∙ f))
@@ -92,10 +93,12 @@ module _ {K E : Type 0} (bytes : K → Bytes) where
     where
       before : (v w : K × E) (ws : List (K × E)) → key_lt (key v) (key w) ≡ true → Ascends (keys_of bytes (w ∷ ws)) → entry_of bytes (w ∷ ws) (key v) ≡ None
       before v w ws l asc = below_none (key v) (w ∷ ws) (l, each_weaker (λ later. key_lt (key w) later ≡ true) (λ later. key_lt (key v) later ≡ true) (λ later h. lt_on (key v) (key w) later l h) (keys_of bytes ws) asc.0)
+
       level_heads : key_lt (key x) (key y) ≡ false → key_lt (key y) (key x) ≡ false → x ≡ y
       level_heads f g =
           let equal : key x ≡ key y = (bytes_eq-Decides (key x) (key y)).0 (level (key x) (key y) f g) in
           some_some x y (sym (head_entry x xs) ∙ same (key x) ∙ ap (entry_of bytes (y ∷ ys)) equal ∙ head_entry y ys)
+
       rest_cases : x ≡ y → (q : Bytes) (t : Bool) → bytes_eq (key x) q ≡ t → entry_of bytes xs q ≡ entry_of bytes ys q
       rest_cases e q true h =
           let at_x : key x ≡ q = (bytes_eq-Decides (key x) q).0 h in
@@ -103,8 +106,10 @@ module _ {K E : Type 0} (bytes : K → Bytes) where
           sym (ap (entry_of bytes xs) at_x) ∙ below_none (key x) xs a.0 ∙ sym (below_none (key y) ys b.0) ∙ ap (entry_of bytes ys) at_y
       rest_cases e q false h =
           sym (ap (λ t. cond t (Some x) (entry_of bytes xs q)) h) ∙ same q ∙ ap (λ t. cond t (Some y) (entry_of bytes ys q)) (ap (λ z. bytes_eq (key z) q) (sym e) ∙ h)
+
       rest_same : x ≡ y → (q : Bytes) → entry_of bytes xs q ≡ entry_of bytes ys q
       rest_same e q = rest_cases e q (bytes_eq (key x) q) refl
+
       cases : (s : Bool) → key_lt (key x) (key y) ≡ s → (t : Bool) → key_lt (key y) (key x) ≡ t → (((q : Bytes) → entry_of bytes xs q ≡ entry_of bytes ys q) → xs ≡ ys) → x ∷ xs ≡ y ∷ ys
       cases true f t g rest = absurd (some_none x (sym (head_entry x xs) ∙ same (key x) ∙ before x y ys f b))
       cases false f true g rest = absurd (some_none y (sym (head_entry y ys) ∙ sym (same (key y)) ∙ before y x xs g a))
@@ -147,11 +152,14 @@ module _ {K E : Type 0} (bytes : K → Bytes) where
     where
       rest : List (K × E)
       rest = filter_map (entry_of bytes es) ks
+
       either : (t : Bool) (r : Option (K × E)) → r ≡ None → cond t r None ≡ None
       either true r h = h
       either false r h = refl
+
       at_key : (t : Bool) → bytes_eq j q ≡ t → (s : Bool) (r : Option (K × E)) → t ≡ true → entry_of bytes es j ≡ r → entry_of bytes es q ≡ r
       at_key t f s r is h = ap (entry_of bytes es) (sym ((bytes_eq-Decides j q).0 (f ∙ is))) ∙ h
+
       cases : (r : Option (K × E)) → entry_of bytes es j ≡ r → IfSome r (λ e. bytes e.0 ≡ j) → (t : Bool) → bytes_eq j q ≡ t →
           entry_of bytes rest q ≡ cond (contains_key ks q) (entry_of bytes es q) None →
           entry_of bytes (cons_option r rest) q ≡ cond (t || contains_key ks q) (entry_of bytes es q) None
@@ -183,6 +191,7 @@ module _ {K E : Type 0} (bytes : K → Bytes) where
     where
       rest : List (K × E)
       rest = filter (λ e. key_lt k (bytes e.0)) es
+
       cases : (t : Bool) → key_lt k (bytes e.0) ≡ t → Each (λ e. key_lt k (bytes e.0) ≡ true) rest → Each (λ e. key_lt k (bytes e.0) ≡ true) (cond t (e ∷ rest) rest)
       cases true h r = (h, r)
       cases false h r = r
@@ -194,21 +203,26 @@ module _ {K E : Type 0} (bytes : K → Bytes) where
     where
       later : List (K × E)
       later = filter (λ o. key_lt (bytes e.0) (bytes o.0)) es
+
       above_all : Each (λ k. key_lt (key e) k ≡ true) (keys_of bytes (ordered later))
       above_all = keys_each (λ k. key_lt (key e) k ≡ true) (ordered later) (pick_each (λ o. key_lt (key e) (bytes o.0) ≡ true) later (by_key (once (keys_of bytes later))) (filter_above (key e) es))
+
       no_lower : (q : Bytes) → bytes_eq (key e) q ≡ false → key_lt (key e) q ≡ false → (o : K × E) → key_lt (bytes o.0) (bytes e.0) ≡ false → bytes_eq (bytes o.0) q ≡ false
       no_lower q f g o h = cases (bytes_eq (bytes o.0) q) refl
         where
           cases : (t : Bool) → bytes_eq (bytes o.0) q ≡ t → bytes_eq (bytes o.0) q ≡ false
           cases false i = i
           cases true i = absurd (true≢false (sym (level (key e) q g (ap (λ k. key_lt k (key e)) (sym ((bytes_eq-Decides (bytes o.0) q).0 i)) ∙ h)) ∙ f))
+
       tail : (q : Bytes) → entry_of bytes (ordered later) q ≡ cond (key_lt (key e) q) (entry_of bytes es q) None
       tail q = ordered_entry later q ∙ found_above es (key e) q
+
       cases : (q : Bytes) (t : Bool) → bytes_eq (key e) q ≡ t → (s : Bool) → key_lt (key e) q ≡ s → entry_of bytes es q ≡ cond t (Some e) (entry_of bytes (ordered later) q)
       cases q true f s g = ap (entry_of bytes es) (sym ((bytes_eq-Decides (key e) q).0 f)) ∙ is
       cases q false f true g = sym (tail q ∙ ap (λ t. cond t (entry_of bytes es q) None) g)
       cases q false f false g = none_where es q (each_weaker (λ o. key_lt (bytes o.0) (bytes e.0) ≡ false) (λ o. bytes_eq (bytes o.0) q ≡ false) (no_lower q f g) es least)
           ∙ sym (tail q ∙ ap (λ t. cond t (entry_of bytes es q) None) g)
+
       same : (q : Bytes) → entry_of bytes (ordered es) q ≡ entry_of bytes (e ∷ ordered later) q
       same q = ordered_entry es q ∙ cases q (bytes_eq (key e) q) refl (key_lt (key e) q) refl
 
@@ -224,6 +238,7 @@ module _ {K E : Type 0} (bytes : K → Bytes) where
     where
       rest : List (K × E)
       rest = filter (λ e. key_lt k (bytes e.0)) es
+
       filter_keys : (P : Bytes → Type 0) (xs : List (K × E)) → Each P (keys_of bytes xs) → Each P (keys_of bytes (filter (λ e. key_lt k (bytes e.0)) xs))
       filter_keys P [] h = tt
       filter_keys P (x ∷ xs) h = pick (key_lt k (bytes x.0)) (filter_keys P xs h.1)
@@ -232,6 +247,7 @@ module _ {K E : Type 0} (bytes : K → Bytes) where
               Each P (keys_of bytes (cond t (x ∷ filter (λ e. key_lt k (bytes e.0)) xs) (filter (λ e. key_lt k (bytes e.0)) xs)))
           pick true r = (h.0, r)
           pick false r = r
+
       cases : (t : Bool) → Each (λ j. key_lt (key e) j ≡ true) (keys_of bytes rest) → Ascends (keys_of bytes rest) → Ascends (keys_of bytes (cond t (e ∷ rest) rest))
       cases true over r = (over, r)
       cases false over r = r
@@ -242,6 +258,13 @@ module _ {K E : Type 0} (bytes : K → Bytes) where
   merged_step rows e least =
       ordered_step (flat_map (λ d. d) rows) e least.0 (recursion_from_All _ (flat_map (λ d. d) rows) least.1)
       ∙ ap (λ es. e ∷ ordered es) (sym (filter_rows (λ o. key_lt (bytes e.0) (bytes o.0)) rows))
+
+  -- its keys ascend, and it has the nearest entry of each key
+  pub merged_ascends : (rows : List (List (K × E))) → IsAscending (keys_of bytes (merged bytes rows))
+  merged_ascends rows = ascending_from (keys_of bytes (merged bytes rows)) (ordered_ascends (flat_map (λ d. d) rows))
+
+  pub merged_nearest : (rows : List (List (K × E))) (q : Bytes) → entry_of bytes (merged bytes rows) q ≡ nearest bytes rows q
+  merged_nearest rows q = ordered_entry (flat_map (λ d. d) rows) q
 
   pub merged_end : (rows : List (List (K × E))) → IsLeast bytes (flat_map (λ d. d) rows) None → merged bytes rows ≡ []
   merged_end rows none = ap ordered none
@@ -254,12 +277,14 @@ module _ {K E : Type 0} (bytes : K → Bytes) where
 
   pub least_first : (es : List (K × E)) → IsAscending (keys_of bytes es) → IsLeast bytes es (slice_get es 0)
   least_first [] asc = refl
-  least_first (f ∷ os) asc =
-      ( head_entry f os
-      , All-from_recursion (λ o. key_lt (bytes o.0) (key f) ≡ false) (f ∷ os)
-          ( lt_itself (key f)
-          , each_weaker (λ o. key_lt (key f) (bytes o.0) ≡ true) (λ o. key_lt (bytes o.0) (key f) ≡ false) (λ o h. lt_back (key f) (bytes o.0) h) os
-              (each_keys (λ k. key_lt (key f) k ≡ true) os (ascends_from (keys_of bytes (f ∷ os)) asc).0)))
+  least_first (f ∷ os) asc = (
+    head_entry f os,
+    All-from_recursion (λ o. key_lt (bytes o.0) (key f) ≡ false) (f ∷ os) (
+      lt_itself (key f),
+      each_weaker (λ o. key_lt (key f) (bytes o.0) ≡ true) (λ o. key_lt (bytes o.0) (key f) ≡ false) (λ o h. lt_back (key f) (bytes o.0) h) os
+          (each_keys (λ k. key_lt (key f) k ≡ true) os (ascends_from (keys_of bytes (f ∷ os)) asc).0),
+    ),
+  )
 
   pub least_none : (before es : List (K × E)) → IsLeast bytes before None → IsAscending (keys_of bytes es) → IsLeast bytes (before ++ es) (slice_get es 0)
   least_none before es none asc = subst (λ b. IsLeast bytes (b ++ es) (slice_get es 0)) (sym none) (least_first es asc)
@@ -269,18 +294,21 @@ module _ {K E : Type 0} (bytes : K → Bytes) where
 
   pub least_lower : (before es : List (K × E)) (e f : K × E) → IsLeast bytes before (Some e) → IsAscending (keys_of bytes es) → Some f ≡ slice_get es 0 →
       key_lt (bytes f.0) (bytes e.0) ≡ true → IsLeast bytes (before ++ es) (Some f)
-  least_lower before es e f least asc first lower =
-      ( entry_append before es (key f) ∙ ap (λ r. option_or r (entry_of bytes es (key f))) (none_where before (key f) (recursion_from_All _ before others)) ∙ alone.0
-      , All-append (λ o. key_lt (bytes o.0) (key f) ≡ false) before es (All-weaker _ _ (λ o h. not_below (key f) (key e) (bytes o.0) lower h) before least.1) alone.1)
+  least_lower before es e f least asc first lower = (
+    entry_append before es (key f) ∙ ap (λ r. option_or r (entry_of bytes es (key f))) (none_where before (key f) (recursion_from_All _ before others)) ∙ alone.0,
+    All-append (λ o. key_lt (bytes o.0) (key f) ≡ false) before es (All-weaker _ _ (λ o h. not_below (key f) (key e) (bytes o.0) lower h) before least.1) alone.1,
+  )
     where
       alone : IsLeast bytes es (Some f)
       alone = subst (IsLeast bytes es) (sym first) (least_first es asc)
+
       other : (o : K × E) → key_lt (bytes o.0) (key e) ≡ false → bytes_eq (bytes o.0) (key f) ≡ false
       other o h = cases (bytes_eq (bytes o.0) (key f)) refl
         where
           cases : (t : Bool) → bytes_eq (bytes o.0) (key f) ≡ t → bytes_eq (bytes o.0) (key f) ≡ false
           cases false i = i
           cases true i = absurd (true≢false (sym lower ∙ ap (λ k. key_lt k (key e)) (sym ((bytes_eq-Decides (bytes o.0) (key f)).0 i)) ∙ h))
+
       others : All (λ o. bytes_eq (bytes o.0) (key f) ≡ false) before
       others = All-weaker _ _ other before least.1
 
@@ -316,20 +344,22 @@ module _ {K E : Type 0} (bytes : K → Bytes) where
       os ≡ filter (λ e. key_lt k (bytes e.0)) (f ∷ os)
   head_gone k f os asc is =
       sym (ap (λ t. cond t (f ∷ rest) rest) (ap (key_lt k) equal ∙ lt_itself k) ∙ filter_all (λ e. key_lt k (bytes e.0)) os
-        (subst (λ j. Each (λ e. key_lt j (bytes e.0) ≡ true) os) equal (each_keys (λ j. key_lt (key f) j ≡ true) os (ascends_from (keys_of bytes (f ∷ os)) asc).0)))
+      (subst (λ j. Each (λ e. key_lt j (bytes e.0) ≡ true) os) equal (each_keys (λ j. key_lt (key f) j ≡ true) os (ascends_from (keys_of bytes (f ∷ os)) asc).0)))
     where
       rest : List (K × E)
       rest = filter (λ e. key_lt k (bytes e.0)) os
+
       equal : key f ≡ k
       equal = (bytes_eq-Decides (key f) k).0 is
 
   all_stay : (k : Bytes) (f : K × E) (os : List (K × E)) → IsAscending (keys_of bytes (f ∷ os)) → bytes_eq (bytes f.0) k ≡ false →
       All (λ e. key_lt (bytes e.0) k ≡ false) (f ∷ os) → f ∷ os ≡ filter (λ e. key_lt k (bytes e.0)) (f ∷ os)
   all_stay k f os asc other least =
-      sym (filter_all (λ e. key_lt k (bytes e.0)) (f ∷ os)
-        ( over
-        , each_weaker (λ e. key_lt (key f) (bytes e.0) ≡ true) (λ e. key_lt k (bytes e.0) ≡ true) (λ e h. lt_on k (key f) (bytes e.0) over h) os
-            (each_keys (λ j. key_lt (key f) j ≡ true) os (ascends_from (keys_of bytes (f ∷ os)) asc).0)))
+      sym (filter_all (λ e. key_lt k (bytes e.0)) (f ∷ os) (
+        over,
+        each_weaker (λ e. key_lt (key f) (bytes e.0) ≡ true) (λ e. key_lt k (bytes e.0) ≡ true) (λ e h. lt_on k (key f) (bytes e.0) over h) os
+            (each_keys (λ j. key_lt (key f) j ≡ true) os (ascends_from (keys_of bytes (f ∷ os)) asc).0),
+      ))
     where
       over : key_lt k (key f) ≡ true
       over = above k (key f) (eq_back (key f) k other) (All-head (λ e. key_lt (bytes e.0) k ≡ false) f os least)
@@ -343,7 +373,7 @@ module _ {K E : Type 0} (bytes : K → Bytes) where
       All (λ e. key_lt (bytes e.0) k ≡ false) es → es ≡ filter (λ e. key_lt k (bytes e.0)) es
   behind_all k es f os at asc other least =
       subst (λ l. l ≡ filter (λ e. key_lt k (bytes e.0)) l) (sym at)
-        (all_stay k f os (subst (λ l. IsAscending (keys_of bytes l)) at asc) other (subst (All (λ e. key_lt (bytes e.0) k ≡ false)) at least))
+      (all_stay k f os (subst (λ l. IsAscending (keys_of bytes l)) at asc) other (subst (All (λ e. key_lt (bytes e.0) k ≡ false)) at least))
 
 -- ---- a turn of the merge
 
@@ -357,9 +387,11 @@ rows_all {X = X} P rows h = All-from_recursion (λ d. All P d.now) rows (each ro
     front : (xs ys : List X) → Each P (xs ++ ys) → Each P xs
     front [] ys h = tt
     front (x ∷ xs) ys h = (h.0, front xs ys h.1)
+
     back : (xs ys : List X) → Each P (xs ++ ys) → Each P ys
     back [] ys h = h
     back (x ∷ xs) ys h = back xs ys h.1
+
     each : (rows : List (Bor (List X))) → Each P (flat_map (λ d. d) (map (λ d. d.now) rows)) → Each (λ d. All P d.now) rows
     each [] h = tt
     each (d ∷ rows) h =
@@ -376,24 +408,24 @@ module _ {K E : Type 0} (bytes : K → Bytes) where
   merged_turn given items read written left e k view was were least is step =
       sym view ∙ ap (λ rows. merged bytes (map (λ d. d.now) rows)) (sym was) ∙ merged_step bytes (map (λ d. d.now) read) e least
       ∙ ap (λ rows. e ∷ merged bytes rows)
-          (ap (λ j. map (filter (λ o. key_lt j (bytes o.0))) (map (λ d. d.now) read)) (sym is) ∙ ap (λ rows. map (filter (λ o. key_lt k (bytes o.0))) (map (λ d. d.now) rows)) (was ∙ sym were)
-          ∙ sym (map_filter k written) ∙ sym step)
+      (ap (λ j. map (filter (λ o. key_lt j (bytes o.0))) (map (λ d. d.now) read)) (sym is) ∙ ap (λ rows. map (filter (λ o. key_lt k (bytes o.0))) (map (λ d. d.now) rows)) (was ∙ sym were)
+      ∙ sym (map_filter k written) ∙ sym step)
 
   pub turn_least : (items read written : List (Bor (List (K × E)))) (e : K × E) (k : Bytes) → read ≡ items → written ≡ items → IsLeast bytes (flat_map (λ d. d) (map (λ d. d.now) read)) (Some e) →
       k ≡ bytes e.0 → All (λ d. All (λ o. key_lt (bytes o.0) k ≡ false) d.now) written
   turn_least items read written e k was were least is =
       subst (λ j. All (λ d. All (λ o. key_lt (bytes o.0) j ≡ false) d.now) written) (sym is)
-        (subst (All (λ d. All (λ o. key_lt (bytes o.0) (bytes e.0) ≡ false) d.now)) (was ∙ sym were) (rows_all (λ o. key_lt (bytes o.0) (bytes e.0) ≡ false) read least.1))
+      (subst (All (λ d. All (λ o. key_lt (bytes o.0) (bytes e.0) ≡ false) d.now)) (was ∙ sym were) (rows_all (λ o. key_lt (bytes o.0) (bytes e.0) ≡ false) read least.1))
 
   pub still_ascend : (items written left : List (Bor (List (K × E)))) (k : Bytes) → written ≡ items → map (λ d. d.now) left ≡ map (λ d. filter (λ o. key_lt k (bytes o.0)) d.now) written →
       All (λ d. IsAscending (keys_of bytes d.now)) items → All (λ d. IsAscending (keys_of bytes d.now)) left
   still_ascend items written left k were step asc =
       all_of_map (λ es. IsAscending (keys_of bytes es)) (λ d. d.now) left
-        (subst (All (λ es. IsAscending (keys_of bytes es))) (sym step)
-          (All-map (λ es. IsAscending (keys_of bytes es)) (λ d. filter (λ o. key_lt k (bytes o.0)) d.now) written
-            (All-weaker (λ d. IsAscending (keys_of bytes d.now)) (λ d. IsAscending (keys_of bytes (filter (λ o. key_lt k (bytes o.0)) d.now)))
-              (λ d a. ascending_from (keys_of bytes (filter (λ o. key_lt k (bytes o.0)) d.now)) (filter_ascends bytes k d.now (ascends_from (keys_of bytes d.now) a))) written
-              (subst (All (λ d. IsAscending (keys_of bytes d.now))) (sym were) asc))))
+      (subst (All (λ es. IsAscending (keys_of bytes es))) (sym step)
+      (All-map (λ es. IsAscending (keys_of bytes es)) (λ d. filter (λ o. key_lt k (bytes o.0)) d.now) written
+      (All-weaker (λ d. IsAscending (keys_of bytes d.now)) (λ d. IsAscending (keys_of bytes (filter (λ o. key_lt k (bytes o.0)) d.now)))
+      (λ d a. ascending_from (keys_of bytes (filter (λ o. key_lt k (bytes o.0)) d.now)) (filter_ascends bytes k d.now (ascends_from (keys_of bytes d.now) a))) written
+      (subst (All (λ d. IsAscending (keys_of bytes d.now))) (sym were) asc))))
 
 pub shorter : {X : Type 0} (x : X) (xs ys : List X) → ys ≡ x ∷ xs → length xs < length ys
 shorter x xs ys is = subst (λ zs. length xs < length zs) (sym is) (omega arith)
@@ -426,6 +458,7 @@ rest_put {X = X} xs ys i x rest = drop-set-lt (i + 1) ys i x (omega arith) ∙ n
     none : (n : ℕ) → drop {A = X} n [] ≡ []
     none zero = refl
     none (suc n) = refl
+
     next : (zs : List X) (i : ℕ) → drop (i + 1) zs ≡ drop 1 (drop i zs)
     next zs zero = refl
     next [] (suc i) = none (suc i + 1)

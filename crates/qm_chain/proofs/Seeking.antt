@@ -60,8 +60,8 @@ module _ {K E : Type 0} (bytes : K → Bytes) where
       let over : key_lt k (bytes x.0) ≡ true = above k (bytes x.0) (eq_back (bytes x.0) k not_x) (ap (λ e. key_lt (bytes e.0) k) (sym same) ∙ higher) in
       ap (λ t. cond t (Some x) (entry_of bytes xs k)) not_x
       ∙ none_where bytes xs k (each_weaker (λ e. key_lt (bytes x.0) (bytes e.0) ≡ true) (λ e. bytes_eq (bytes e.0) k ≡ false)
-          (λ e h. eq_back k (bytes e.0) (apart k (bytes e.0) (lt_on k (bytes x.0) (bytes e.0) over h))) xs
-          (each_keys bytes (λ j. key_lt (bytes x.0) j ≡ true) xs (ascends_from (keys_of bytes (x ∷ xs)) asc).0))
+      (λ e h. eq_back k (bytes e.0) (apart k (bytes e.0) (lt_on k (bytes x.0) (bytes e.0) over h))) xs
+      (each_keys bytes (λ j. key_lt (bytes x.0) j ≡ true) xs (ascends_from (keys_of bytes (x ∷ xs)) asc).0))
   elsewhere (x ∷ xs) (suc i) k f asc below at other higher = skipped x xs k below.0 ∙ elsewhere xs i k f asc.1 below.1 at other higher
 
   behind : (es : List (K × E)) (i : ℕ) (k : Bytes) → Below (keys_of bytes (take i es)) k → None ≡ slice_get es i → entry_of bytes es k ≡ None
@@ -83,7 +83,7 @@ module _ {K E : Type 0} (bytes : K → Bytes) where
       bytes_eq (bytes f.0) k ≡ false → IfSome (slice_get es i) (λ e. key_lt (bytes e.0) k ≡ false) → None ≡ option_map (λ e. e.1) (entry_of bytes es k)
   not_here es i k f asc below at other higher =
       sym (ap (option_map (λ e. e.1)) (elsewhere es i k f asc (recursion_from_All _ (keys_of bytes (take i es)) below) at other
-        (subst (λ r. IfSome r (λ e. key_lt (bytes e.0) k ≡ false)) (sym at) higher)))
+      (subst (λ r. IfSome r (λ e. key_lt (bytes e.0) k ≡ false)) (sym at) higher)))
 
   pub not_behind : (es : List (K × E)) (i : ℕ) (k : Bytes) → AreBelow (keys_of bytes (take i es)) k → None ≡ slice_get es i → None ≡ option_map (λ e. e.1) (entry_of bytes es k)
   not_behind es i k below at = sym (ap (option_map (λ e. e.1)) (behind es i k (recursion_from_All _ (keys_of bytes (take i es)) below) at))
@@ -119,6 +119,7 @@ module _ {K E : Type 0} (bytes : K → Bytes) where
     where
       test : K × E → Bool
       test e = bytes_eq (bytes e.0) k
+
       cases : (r : Option (K × E)) → option_or r (nearest bytes (take i rows) k) ≡ Some e → (nearest bytes (take i rows) k ≡ Some e → nearest bytes rows k ≡ Some e) →
           option_or r (nearest bytes rows k) ≡ Some e
       cases None g rest = rest g
@@ -130,6 +131,7 @@ module _ {K E : Type 0} (bytes : K → Bytes) where
     where
       no_value : Some v ≡ None → ⊥
       no_value h = cc
+
       cases : (r : Option (K × E)) → entry_of bytes d k ≡ r → Some v ≡ option_map (λ e. e.1) r → Some v ≡ option_map (λ e. e.1) (nearest bytes rows k)
       cases None f g = absurd (no_value g)
       cases (Some e) f g = g ∙ sym (ap (option_map (λ e. e.1)) (nearest_stays rows (i + 1) k e (nearest_more rows i d k l is none ∙ f)))
@@ -140,6 +142,7 @@ module _ {K E : Type 0} (bytes : K → Bytes) where
     where
       no_value : (v : E) → None ≡ Some v → ⊥
       no_value v h = cc
+
       cases : (r : Option (K × E)) → None ≡ option_map (λ e. e.1) r → r ≡ None
       cases None g = refl
       cases (Some e) g = absurd (no_value e.1 g)
@@ -159,9 +162,11 @@ all_from_flat {X = X} f P xs h = All-from_recursion (λ x. All P (f x)) xs (each
     front : (ys bs : List Bytes) → Each P (ys ++ bs) → Each P ys
     front [] bs h = tt
     front (a ∷ ys) bs h = (h.0, front ys bs h.1)
+
     back : (ys bs : List Bytes) → Each P (ys ++ bs) → Each P bs
     back [] bs h = h
     back (a ∷ ys) bs h = back ys bs h.1
+
     each : (xs : List X) → Each P (flat_map f xs) → Each (λ x. All P (f x)) xs
     each [] h = tt
     each (x ∷ xs) h = (All-from_recursion P (f x) (front (f x) (flat_map f xs) h), each xs (back (f x) (flat_map f xs) h))
@@ -185,7 +190,7 @@ pub may_follow : {X : Type 0} (f : X → List Bytes) (cs items : List X) (k q la
 may_follow f cs items k q later at is rising h =
     let up : key_lt later q ≡ false = ap (key_lt later) is ∙ rising in
     All-weaker (λ j. key_lt j q ≡ true) (λ j. key_lt j later ≡ true) (λ j below. lt_upto j q later below up) (flat_map f cs)
-      (flat_from_all f (λ j. key_lt j q ≡ true) cs (subst (All (λ x. AreBelow (f x) q)) (sym at) h))
+    (flat_from_all f (λ j. key_lt j q ≡ true) cs (subst (All (λ x. AreBelow (f x) q)) (sym at) h))
 
 -- a cursor that has passed nothing
 pub pushed_start : {X : Type 0} (f : X → List Bytes) (items new : List X) (x : X) → new ≡ items ++ x ∷ [] → flat_map f items ≡ [] → f x ≡ [] → flat_map f new ≡ []
