@@ -119,7 +119,7 @@ fn diffs(alloc: Global) -> Result<Vec<Rc<Diff<(), ByteKey, ByteValue>>>, AllocEr
         entry(alloc, b"same", Some(1))?,
         entry(alloc, b"same3", Some(2))?,
     )?;
-    vec![in alloc; nearest, middle, farthest]
+    Ok(vec![in alloc; nearest, middle, farthest]?)
 }
 
 #[test]
