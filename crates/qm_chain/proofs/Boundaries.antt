@@ -1,9 +1,9 @@
 -- The boundary of a child is that of its chain.
-use Rattle.std.proofs.Common.{◌≡◌, ◌∙◌, ap, sym, refl, subst, ℕ, zero, suc, ◌<◌, Bool, true, false, if◌then◌else◌, List, [], ◌∷◌, ◌++◌, length, take, append_assoc, append-nil, arith, length-append, Option, Some, None}
-use Rattle.std.specs.Prelude.{nat_lt, option_map}
+use Rattle.std.proofs.Common.{◌≡◌, ◌∙◌, ap, sym, refl, subst, ℕ, zero, suc, ◌<◌, Bool, true, false, if◌then◌else◌, List, [], ◌∷◌, ◌++◌, length, take, append_assoc, append-nil, arith, length-append, Some}
+use Rattle.std.specs.Prelude.{nat_lt}
 use Rattle.std.proofs.lemmas.Bool.{lt-ltb}
 use Rattle.qm_model.specs.Operations.{Bytes, Operation}
-use Rattle.qm_model.specs.Batches.{Commitment, Kept, Chain, oldest_base, boundary_list, commitment}
+use Rattle.qm_model.specs.Batches.{Kept, Chain, oldest_base, boundary_list, commitment}
 use Rattle.qm_chain.specs.Bounds.{later_boundary}
 use Rattle.qm_chain.specs.Nested.{BeginsWith, AreNested}
 
@@ -11,7 +11,7 @@ itself : (list : List Operation) → BeginsWith list list
 itself list = ([], sym (append-nil list))
 
 further : (a b c : List Operation) → BeginsWith a b → BeginsWith b c → BeginsWith a c
-further a b c ab bc = (bc.0 ++ ab.0, ab.1 ∙ ap (λ l. l ++ ab.0) bc.1 ∙ append_assoc)
+further a b c ab bc = (bc.0 ++ ab.0, ab.1 ∙ ap (λ l. l ++ ab.0) bc.1 ∙ append_assoc c bc.0 ab.0)
 
 -- the oldest base begins that of the first few
 pub oldest_begins : (base : List Operation) (kept : List Kept) (n : ℕ) → AreNested base kept → BeginsWith (oldest_base base (take n kept)) (oldest_base base kept)

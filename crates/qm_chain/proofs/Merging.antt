@@ -1,7 +1,7 @@
 -- The entries of several diffs, merged.
-use Rattle.std.proofs.Common.{◌≡◌, ◌∙◌, ℕ, zero, suc, ◌+◌, ◌<◌, ◌≤◌, arith, set, drop, length, get_or, take, append-nil, ap, sym, refl, subst, Bool, true, false, cond, not, ◌||◌, true≢false, List, [], ◌∷◌, ◌++◌, map, Option, Some, None}
-use Rattle.std.specs.Prelude.{bytes_eq, All, ⊤, MatchOption, IfSome}
-use Rattle.std.specs.List.{find, slice_get, filter, filter_map, cons_option, flat_map, AllByRecursion as Each}
+use Rattle.std.proofs.Common.{◌≡◌, ◌∙◌, ℕ, zero, suc, ◌+◌, ◌<◌, arith, set, drop, length, get_or, take, append-nil, ap, sym, refl, subst, Bool, true, false, cond, ◌||◌, true≢false, List, [], ◌∷◌, ◌++◌, map, Option, Some, None}
+use Rattle.std.specs.Prelude.{bytes_eq, All, IfSome}
+use Rattle.std.specs.List.{slice_get, filter, filter_map, cons_option, flat_map, AllByRecursion as Each}
 use Rattle.std.specs.Option.{option_or}
 use Rattle.std.proofs.lemmas.Slice.Eq.{bytes_eq-Decides}
 use Rattle.qm_model.specs.Operations.{Bytes}
