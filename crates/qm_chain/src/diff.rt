@@ -1,6 +1,7 @@
 //! What a batch does to keys.
 
 ghost use Rattle.std.specs.Prelude.{◌≡◌, map, option_map};
+ghost use Rattle.qm_model.specs.Keys.{key_lt};
 ghost use Rattle.qm_chain.specs.Ascending.{IsAscending};
 ghost use Rattle.qm_chain.specs.Diffs.{value_of, loc_of, base_old_loc_of};
 
@@ -24,6 +25,13 @@ pub enum DiffEntry<F, V> {
         /// Where the key's live update stood before, or none where the key was not live.
         base_old_loc: Option<Location<F>>,
     },
+}
+
+// Whether a key is below another, in byte order.
+pub(crate) fn is_below(key: &[u8], other: &[u8]) -> bool
+    ensures { result ≡ key_lt key.now other.now }
+{
+    key < other
 }
 
 // A copy of a location that may be none.

@@ -2,9 +2,13 @@
 #![tactic(auto)]
 
 pub mod bounds;
+pub mod cursors;
 pub mod diff;
+pub mod merge;
 #[cfg(test)]
 mod tests;
 
 pub use bounds::{Bounds, effective_boundary, is_same, validate_batch_applicable};
+pub use cursors::DiffCursors;
 pub use diff::{Diff, DiffEntry};
+pub use merge::DiffMerge;
