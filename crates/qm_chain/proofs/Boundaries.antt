@@ -1,9 +1,9 @@
 -- The boundary of a child is that of its chain.
 use Rattle.std.proofs.Common.{◌≡◌, ◌∙◌, ap, sym, refl, subst, ℕ, zero, suc, ◌<◌, Bool, true, false, if◌then◌else◌, List, [], ◌∷◌, ◌++◌, length, take, append_assoc, append-nil, arith, length-append, Some}
-use Rattle.std.specs.Prelude.{nat_lt}
+use Rattle.std.specs.Prelude.{Option, None, nat_lt, option_map}
 use Rattle.std.proofs.lemmas.Bool.{lt-ltb}
 use Rattle.qm_model.specs.Operations.{Bytes, Operation}
-use Rattle.qm_model.specs.Batches.{Kept, Chain, oldest_base, boundary_list, commitment}
+use Rattle.qm_model.specs.Batches.{Commitment, Kept, Chain, oldest_base, boundary_list, commitment}
 use Rattle.qm_chain.specs.Bounds.{later_boundary}
 use Rattle.qm_chain.specs.Nested.{BeginsWith, AreNested}
 
@@ -39,3 +39,24 @@ module _ (root : List Operation → Bytes) where
   child_boundary chain tip n nested =
       let b : BeginsWith (oldest_base chain.base (take n chain.kept)) (boundary_list chain) = oldest_begins chain.base chain.kept n nested in
       subst (λ list. later_boundary (λ c. c.size) (commitment root (boundary_list chain)) (Some (commitment root list)) ≡ commitment root list) (sym b.1) (longer (boundary_list chain) b.0)
+
+-- the same of commitments that are seen as these
+pub later_view : {A : Type 0} (size : A → ℕ) (view : A → Commitment) → ((a : A) → (view a).size ≡ size a) → (inherited : A) (oldest : Option A) (result : A) → result ≡ later_boundary size inherited oldest →
+    view result ≡ later_boundary (λ c. c.size) (view inherited) (option_map view oldest)
+later_view size view sized inherited None result is = ap view is
+later_view size view sized inherited (Some base) result is = ap view is ∙ cases (nat_lt (size inherited) (size base)) ∙ sym same
+  where
+    cases : (t : Bool) → view (if t then base else inherited) ≡ (if t then view base else view inherited)
+    cases true = refl
+    cases false = refl
+
+    same : later_boundary (λ c. c.size) (view inherited) (Some (view base)) ≡ (if nat_lt (size inherited) (size base) then view base else view inherited)
+    same = ap (λ n. if nat_lt n (view base).size then view base else view inherited) (sized inherited) ∙ ap (λ n. if nat_lt (size inherited) n then view base else view inherited) (sized base)
+
+pub child_view : {A : Type 0} (size : A → ℕ) (view : A → Commitment) → ((a : A) → (view a).size ≡ size a) → (inherited : A) (oldest : Option A) (result : A) → result ≡ later_boundary size inherited oldest →
+    (root : List Operation → Bytes) (chain : Chain) (tip : List Operation) (n : ℕ) → AreNested chain.base chain.kept → view inherited ≡ commitment root (boundary_list chain) →
+    option_map view oldest ≡ Some (commitment root (oldest_base chain.base (take n chain.kept))) →
+    view result ≡ commitment root (boundary_list (record { base = tip; kept = record { base = chain.base; tip = tip } ∷ take n chain.kept }))
+child_view size view sized inherited oldest result is root chain tip n nested at first =
+    later_view size view sized inherited oldest result is ∙ ap (λ c. later_boundary (λ c. c.size) c (option_map view oldest)) at
+    ∙ ap (later_boundary (λ c. c.size) (commitment root (boundary_list chain))) first ∙ child_boundary root chain tip n nested

@@ -1,11 +1,12 @@
 //! At which states of a database a batch can be applied, and at which it can be read.
 
-ghost use Rattle.std.specs.Prelude.{◌≡◌, ◌||◌, ℕ, List, is_ok, map, option_map, IfErr};
+ghost use Rattle.std.specs.Prelude.{◌≡◌, ◌||◌, ℕ, List, ◌∷◌, Some, is_ok, map, take, option_map, IfErr};
 ghost use Rattle.std.specs.List.{list_any};
 ghost use Rattle.qm_model.specs.Batches as model;
 ghost use Rattle.qm_model.specs.Batches.{same, Chain, readable};
 ghost use Rattle.qm_model.specs.Operations.{Bytes, Operation};
 ghost use Rattle.qm_chain.specs.Bounds.{commitment_view, is_at, later_boundary, IsBounds};
+ghost use Rattle.qm_chain.specs.Nested.{AreNested};
 
 use qm_base::{Commitment, Digest, Error, Location};
 use std::marker::Model;
@@ -111,7 +112,11 @@ pub fn effective_boundary<D: Digest>(
     inherited: Commitment<D>,
     oldest_kept_base: Option<Commitment<D>>,
 ) -> Commitment<D>
-    ensures { result ≡ later_boundary (λ c. c.size) inherited oldest_kept_base }
+    ensures value { result ≡ later_boundary (λ c. c.size) inherited oldest_kept_base }
+    ensures chain { (root : List Operation → Bytes) (chain : Chain) (tip : List Operation) (n : ℕ) → AreNested chain.base chain.kept
+        → commitment_view D.bytes inherited ≡ model.commitment root (model.boundary_list chain)
+        → option_map (commitment_view D.bytes) oldest_kept_base ≡ Some (model.commitment root (model.oldest_base chain.base (take n chain.kept)))
+        → commitment_view D.bytes result ≡ model.commitment root (model.boundary_list (model.child_of (Some n) chain tip)) }
 {
     match oldest_kept_base {
         Some(base) if base.size > inherited.size => base,
