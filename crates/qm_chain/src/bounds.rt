@@ -1,6 +1,6 @@
 //! At which states of a database a batch can be applied, and at which it can be read.
 
-ghost use Rattle.std.specs.Prelude.{◌≡◌, ◌||◌, ℕ, List, ◌∷◌, Some, is_ok, map, take, option_map, IfErr};
+ghost use Rattle.std.specs.Prelude.{◌≡◌, ◌||◌, ℕ, List, Some, is_ok, map, take, option_map, IfErr};
 ghost use Rattle.std.specs.List.{list_any};
 ghost use Rattle.qm_model.specs.Batches as model;
 ghost use Rattle.qm_model.specs.Batches.{same, Chain, readable};
