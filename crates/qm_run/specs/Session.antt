@@ -27,7 +27,7 @@ pub record Meaning (X C B M : Type 0) : Type 1 where
   pub start : C → ℕ
   pub items : C → Option (List Bytes)
   pub stands : X → List Operation → Type 0
-  pub is_batch : B → Chain → List Write → Type 0
+  pub is_batch : B → Chain → Chain → List Write → Type 0
   pub is_merkleized : M → Chain → List Operation → Type 0
 
 -- that of a bound on an engine and on its store
@@ -49,13 +49,13 @@ module _ {X C B M : Type 0} (m : Meaning X C B M) where
   -- a batch stands for the machine's batch of its number
   abbrev pub SlotIs : List (List Operation) → Slot B M → machine.Slot → Type 0
   SlotIs had Gone machine.gone = Unit {0}
-  SlotIs had Gone (machine.writing chain ws) = ⊥
+  SlotIs had Gone (machine.writing chain above ws) = ⊥
   SlotIs had Gone (machine.merkleized chain tip) = ⊥
   SlotIs had (Writing b) machine.gone = ⊥
-  SlotIs had (Writing b) (machine.writing chain ws) = m.is_batch b chain ws × IsAmong had chain
+  SlotIs had (Writing b) (machine.writing chain above ws) = m.is_batch b chain above ws × IsAmong had chain × IsAmong had above
   SlotIs had (Writing b) (machine.merkleized chain tip) = ⊥
   SlotIs had (Merkleized b) machine.gone = ⊥
-  SlotIs had (Merkleized b) (machine.writing chain ws) = ⊥
+  SlotIs had (Merkleized b) (machine.writing chain above ws) = ⊥
   SlotIs had (Merkleized b) (machine.merkleized chain tip) = m.is_merkleized b chain tip × IsAmong had chain × Contains had tip
 
   -- what is held stands for this state
