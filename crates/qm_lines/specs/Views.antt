@@ -48,14 +48,20 @@ module _ {K V : Type 0} (key : K → Bytes) (value : V → Bytes) where
   abbrev pub line_view : {P Q : Type 0} → (P → Q) → Command K V P → lines.Line Q
   line_view policy commands.Open = lines.Open
   line_view policy commands.Batch = lines.Batch
+  line_view policy (commands.Child h keep) = lines.Child h keep
+  line_view policy commands.Tip = lines.Tip
   line_view policy (commands.Put h k v) = lines.Put h (key k) (value v)
   line_view policy (commands.Del h k) = lines.Del h (key k)
   line_view policy (commands.Merkleize h p m) = lines.Merkleize h (policy p) (option_map value m)
   line_view policy (commands.Apply h) = lines.Apply h
   line_view policy (commands.Ops h) = lines.Ops h
-  line_view policy (commands.Get k) = lines.Get (key k)
+  line_view policy (commands.Get k from) = lines.Get (key k) from
+  line_view policy (commands.Many keys from) = lines.Many (map key keys.items) from
   line_view policy commands.Info = lines.Info
+  line_view policy (commands.BatchInfo h) = lines.BatchInfo h
   line_view policy commands.Root = lines.Root
+  line_view policy (commands.BatchRoot h) = lines.BatchRoot h
+  line_view policy (commands.BatchProof h) = lines.BatchProof h
   line_view policy commands.Meta = lines.Meta
   line_view policy (commands.Prove size start max) = lines.Prove size start (non_zero_u64_get max)
   line_view policy (commands.Pins n) = lines.Pins n
@@ -72,11 +78,14 @@ module _ {K V : Type 0} (key : K → Bytes) (value : V → Bytes) where
   answer_view digest (replies.Merkleized h base size floor) = lines.Merkleized h base size floor
   answer_view digest (replies.Applied size) = lines.Applied size
   answer_view digest (replies.Ops base ops) = lines.Listed base (map listed_view ops.items)
-  answer_view digest (replies.Read v) = lines.Read (option_map value v)
+  answer_view digest (replies.Read values) = lines.Read (map (option_map value) values.items)
   answer_view digest (replies.Info start size floor boundary is_live) = lines.Told start size floor boundary is_live
+  answer_view digest (replies.BatchInfo base size floor boundary) = lines.BatchTold base size floor boundary
   answer_view digest (replies.Root r o) = lines.Rooted (digest r) (digest o)
   answer_view digest (replies.Meta v) = lines.Metadata (option_map value v)
   answer_view digest (replies.Proof leaves inactive digests ops) =
       lines.Proved (record { leaves = leaves; inactive = inactive; digests = map digest digests.items }) (map listed_view ops.items)
+  answer_view digest (replies.BatchProof leaves inactive digests pins) =
+      lines.BatchProved (record { leaves = leaves; inactive = inactive; digests = map digest digests.items }) (map digest pins.items)
   answer_view digest (replies.Pins digests) = lines.Pinned (map digest digests.items)
   answer_view digest (replies.Refused r) = lines.Refuses (refused_view r)

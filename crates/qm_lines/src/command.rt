@@ -9,6 +9,10 @@ pub enum Command<K, V, P> {
     Open,
     /// Begins a batch.
     Batch,
+    /// Begins a child of the merkleized batch of this number, which keeps so many of its kept ancestors, or all.
+    Child(u64, Option<u64>),
+    /// Makes the database a merkleized batch.
+    Tip,
     /// Writes a value for a key, in the batch of this number.
     Put(u64, K, V),
     /// Deletes a key, in the batch of this number.
@@ -19,12 +23,20 @@ pub enum Command<K, V, P> {
     Apply(u64),
     /// Lists the own operations of the merkleized batch of this number.
     Ops(u64),
-    /// Reads the value of a key.
-    Get(K),
+    /// Reads the value of a key, in the database or through the batch of this number.
+    Get(K, Option<u64>),
+    /// Reads the values of keys, in the database or through the batch of this number.
+    Many(Vec<K>, Option<u64>),
     /// Tells the database's numbers.
     Info,
+    /// Tells the numbers of the merkleized batch of this number.
+    BatchInfo(u64),
     /// Tells the database's roots.
     Root,
+    /// Tells the roots of the merkleized batch of this number.
+    BatchRoot(u64),
+    /// Proves the own operations of the merkleized batch of this number.
+    BatchProof(u64),
     /// Tells the metadata of the last commit.
     Meta,
     /// Proves operations of the database's first ones, so many, from a location on, at most so many.

@@ -63,16 +63,20 @@ pub enum Reply<K, V, D> {
     Applied(u64),
     /// The size of a batch's base, and its own operations.
     Ops(u64, Vec<Listed<K, V>>),
-    /// A key's value.
-    Read(Option<V>),
+    /// The values of the keys that were asked, in their order.
+    Read(Vec<Option<V>>),
     /// Start, size, floor and boundary, and whether any key is live.
     Info(u64, u64, u64, u64, bool),
+    /// The sizes of a batch's base and its tip, its floor and its boundary.
+    BatchInfo(u64, u64, u64, u64),
     /// The root and the operations root.
     Root(D, D),
     /// The metadata of the last commit.
     Meta(Option<V>),
     /// How many leaves the tree has, how many of its peaks are inactive, the digests, and the operations proved.
     Proof(u64, u64, Vec<D>, Vec<Listed<K, V>>),
+    /// The same of a batch's own operations: leaves, inactive peaks and digests, and then the pins at its base.
+    BatchProof(u64, u64, Vec<D>, Vec<D>),
     /// The digests of peaks.
     Pins(Vec<D>),
     Refused(Refused),
