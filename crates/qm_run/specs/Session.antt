@@ -77,11 +77,18 @@ IfReply (Reply r) P = P r
 IfReply Memory P = Unit {0}
 IfReply StoreFault P = Unit {0}
 
--- A command does what the machine does: from each state that the session stood for, a reply is the machine's
--- and the session stands for its next state, where that run's lists are apart.
+-- A turn does what the machine does: a reply is the machine's, and the session stands for its next state, where that
+-- run's lists are apart.
+abbrev pub Follows : {X C B M K V D : Type 0} → Meaning X C B M → (K → Bytes) → (V → Bytes) → (D → Bytes) → (List Operation → Bytes) → Session X C B M → Turn K V D → Answer × State → Type 0
+Follows m key value digest root new turn next = IfReply turn (λ r. Apart root (next.1).had → (answer_view key value digest r ≡ next.0) × Stands m new next.1)
+
+-- A command does so from each state that the session stood for.
 abbrev pub Obeys : {X C B M K V D : Type 0} → Meaning X C B M → (K → Bytes) → (V → Bytes) → (D → Bytes) → (List Operation → Bytes) → Session X C B M → Session X C B M → Turn K V D → (State → Answer × State) → Type 0
-Obeys m key value digest root old new turn next =
-    (s : State) → Stands m old s → IfReply turn (λ r. Apart root ((next s).1).had → (answer_view key value digest r ≡ (next s).0) × Stands m new (next s).1)
+Obeys m key value digest root old new turn next = (s : State) → Stands m old s → Follows m key value digest root new turn (next s)
+
+-- A reply is the machine's, where the lists of this state are apart.
+abbrev pub Answers : {K V D : Type 0} → (K → Bytes) → (V → Bytes) → (D → Bytes) → (List Operation → Bytes) → Turn K V D → State → Answer × State → Type 0
+Answers key value digest root turn s next = IfReply turn (λ r. Apart root s.had → answer_view key value digest r ≡ next.0)
 
 -- The items are those before a command, or with a first part of what it appends.
 pub record IsLeft (items : Option (List Bytes)) (before after : List Bytes) : Type 0 where

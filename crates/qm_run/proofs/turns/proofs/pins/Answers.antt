@@ -2,8 +2,8 @@ use Rattle.std.proofs.Common.{map}
 use Rattle.qm_model.specs.Policies.{Policy}
 use Rattle.qm_model.specs.Machine.{Scheme}
 use Rattle.qm_run.specs.Session.{Meaning, meaning, scheme_of}
-use Rattle.qm_run.proofs.Commands.{pins_ok, pins_err}
-use Rattle.qm_run.proofs.turns.pins.Goals as goal
+use Rattle.qm_run.proofs.ProofCommands.{pins_ok, pins_err}
+use Rattle.qm_run.proofs.turns.proofs.pins.Goals as goal
 
 pub returns-in-Ok-clause-machine : goal.returns-in-Ok-clause-machine
 returns-in-Ok-clause-machine g c = λ s k _.

@@ -6,8 +6,9 @@ use Rattle.std.specs.Int.NonZero.{non_zero_u64_get}
 use Rattle.qm_lines.specs.Views.{listed_view}
 use Rattle.qm_merkle.specs.Proofs.{proof_view}
 use Rattle.qm_any.specs.declared.refusal.Given.TheVariants.{Database}
-use Rattle.qm_run.proofs.Commands.{Holds-told, prove_ok, prove_err}
-use Rattle.qm_run.proofs.turns.prove.Goals as goal
+use Rattle.qm_run.proofs.Commands.{Holds-told}
+use Rattle.qm_run.proofs.ProofCommands.{prove_ok, prove_err}
+use Rattle.qm_run.proofs.turns.proofs.prove.Goals as goal
 
 pub returns-in-Ok-clause-machine : goal.returns-in-Ok-clause-machine
 returns-in-Ok-clause-machine g c = λ s k _.
@@ -23,4 +24,4 @@ returns-in-Err-clause-machine g c = λ s k.
     let scheme : Scheme Policy = scheme_of g.X.Engine in
     let held = rw c.in-Database.is at k in
     rw c.turn_of.ensures (prove_err m g.X.Key.ByteString.bytes g.X.Value.ByteString.bytes g.X.Digest.Digest.bytes scheme c.in-Database.x c.prove.new.self c.args.session.table.items c.args.session.opened c.args.size c.args.start (non_zero_u64_get c.args.max) c.in-Err.error s held
-    c.prove.ensures.same c.prove.ensures.store.start c.prove.ensures.store.items (c.in-Err.ensures.refused (Holds-told m g.X.Key.ByteString.bytes g.X.Value.ByteString.bytes g.X.Digest.Digest.bytes scheme (Database c.in-Database.x) c.args.session.table.items c.args.session.opened s held)))
+    c.prove.ensures.same c.prove.ensures.store.start c.prove.ensures.store.items (c.in-Err.ensures.refused (Holds-told m (Database c.in-Database.x) c.args.session.table.items c.args.session.opened s held)))

@@ -4,8 +4,8 @@ use Rattle.qm_model.specs.Machine.{Scheme, slot_at}
 use Rattle.qm_lines.specs.Views.{listed_view}
 use Rattle.qm_run.specs.declared.table.Slot.TheVariants.{Gone}
 use Rattle.qm_run.specs.Session.{Meaning, meaning, scheme_of}
-use Rattle.qm_run.proofs.Commands.{ops_ok}
-use Rattle.qm_run.proofs.turns.ops.Goals as goal
+use Rattle.qm_run.proofs.ReadCommands.{ops_ok}
+use Rattle.qm_run.proofs.turns.reads.ops.Goals as goal
 
 pub returns-in-Ok-clause-machine : goal.returns-in-Ok-clause-machine
 returns-in-Ok-clause-machine g c = λ s k _.

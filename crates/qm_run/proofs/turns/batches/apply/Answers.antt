@@ -4,8 +4,9 @@ use Rattle.qm_model.specs.Policies.{Policy}
 use Rattle.qm_model.specs.Machine.{Scheme}
 use Rattle.qm_run.specs.Session.{Meaning, meaning, scheme_of}
 use Rattle.qm_any.specs.Given.{store_given}
-use Rattle.qm_run.proofs.Commands.{Grows-whole, not_merkleized, apply_ok, apply_err, apply_left}
-use Rattle.qm_run.proofs.turns.apply.Goals as goal
+use Rattle.qm_run.proofs.Commands.{Grows-whole}
+use Rattle.qm_run.proofs.BatchCommands.{not_merkleized, apply_ok, apply_err, apply_left}
+use Rattle.qm_run.proofs.turns.batches.apply.Goals as goal
 
 pub returns-in-None-clause-machine : goal.returns-in-None-clause-machine
 returns-in-None-clause-machine g c = λ s k.
