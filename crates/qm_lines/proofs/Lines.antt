@@ -1,36 +1,37 @@
 -- Words that are no line, and one line more of an input.
-use Rattle.std.proofs.Common.{◌≡◌, ◌≢◌, ◌+◌, ◌<◌, ℕ, List, [], ◌∷◌, ◌++◌, drop, length, get_or, map, Option, Some, None, refl, sym, ◌∙◌, ap, append-nil, append_assoc}
+use Rattle.std.proofs.Common.{◌≡◌, ◌+◌, ◌<◌, ◌≤◌, ℕ, List, [], ◌∷◌, ◌++◌, drop, length, get_or, map, Option, Some, None, refl, sym, ◌∙◌, ap, append-nil, append_assoc, arith}
 use Rattle.std.specs.Borrow.{Bor}
 use Rattle.std.proofs.lemmas.List.{drop_more, get_or-map, length-map}
 use Rattle.qm_model.specs.Operations.{Bytes}
 use Rattle.qm_model.specs.Policies.{Policy}
 use Rattle.qm_model.specs.Lines.{Line}
-use Rattle.qm_model.specs.Grammar.{of_words, line_of, commands_of, bad_from, onto, bad_here}
+use Rattle.qm_model.specs.Grammar.{of_few, line_of, commands_of, bad_from, onto, bad_here}
 
--- only one to four words can be a line
-pub no_line : (refs : List (Bor Bytes)) → length refs ≢ 1 → length refs ≢ 2 → length refs ≢ 3 → length refs ≢ 4 → None ≡ of_words (map (λ (x : Bor Bytes). x.now) refs)
-no_line [] one two three four = refl
-no_line (w ∷ []) one two three four = absurd (one refl)
-no_line (w ∷ a ∷ []) one two three four = absurd (two refl)
-no_line (w ∷ a ∷ b ∷ []) one two three four = absurd (three refl)
-no_line (w ∷ a ∷ b ∷ c ∷ []) one two three four = absurd (four refl)
-no_line (w ∷ a ∷ b ∷ c ∷ d ∷ ws) one two three four = refl
+-- only one to four words can be a line that reads no keys
+pub no_line : (word : Bytes) (refs : List (Bor Bytes)) → 4 ≤ length refs → None ≡ of_few word (map (λ (x : Bor Bytes). x.now) refs)
+no_line w [] more = absurd (omega (arith, more))
+no_line w (a ∷ []) more = absurd (omega (arith, more))
+no_line w (a ∷ b ∷ []) more = absurd (omega (arith, more))
+no_line w (a ∷ b ∷ c ∷ []) more = absurd (omega (arith, more))
+no_line w (a ∷ b ∷ c ∷ d ∷ ws) more = refl
+
+-- the i-th of those that are lent, and those behind it
+pub opened : (refs : List (Bor Bytes)) (i : ℕ) (d : Bor Bytes) → i < length refs → drop i (map (λ (x : Bor Bytes). x.now) refs) ≡ (get_or refs i d).now ∷ drop (i + 1) (map (λ (x : Bor Bytes). x.now) refs)
+opened refs i d h =
+    let lent : List Bytes = map (λ (x : Bor Bytes). x.now) refs in
+    drop_more lent i (get_or refs i d).now (rw (length-map refs (λ (x : Bor Bytes). x.now)) h)
+    ∙ ap (λ x. x ∷ drop (i + 1) lent) (get_or-map (λ (x : Bor Bytes). x.now) refs i d (get_or refs i d).now h)
 
 -- the i-th line of those that are lent, and what it is
 module _ (refs : List (Bor Bytes)) (i : ℕ) (d : Bor Bytes) (h : i < length refs) (o : Option (Line Policy)) (parsed : o ≡ line_of (get_or refs i d).now) where
   abbrev lines : List Bytes
   lines = map (λ (x : Bor Bytes). x.now) refs
 
-  opened : drop i lines ≡ (get_or refs i d).now ∷ drop (i + 1) lines
-  opened =
-      drop_more lines i (get_or refs i d).now (rw (length-map refs (λ (x : Bor Bytes). x.now)) h)
-      ∙ ap (λ x. x ∷ drop (i + 1) lines) (get_or-map (λ (x : Bor Bytes). x.now) refs i d (get_or refs i d).now h)
-
   commands_here : commands_of (drop i lines) ≡ onto o (commands_of (drop (i + 1) lines))
-  commands_here = ap commands_of opened ∙ ap (λ x. onto x (commands_of (drop (i + 1) lines))) (sym parsed)
+  commands_here = ap commands_of (opened refs i d h) ∙ ap (λ x. onto x (commands_of (drop (i + 1) lines))) (sym parsed)
 
   bad_here_is : (n : ℕ) → bad_from n (drop i lines) ≡ bad_here n o (bad_from (n + 1) (drop (i + 1) lines))
-  bad_here_is n = ap (bad_from n) opened ∙ ap (λ x. bad_here n x (bad_from (n + 1) (drop (i + 1) lines))) (sym parsed)
+  bad_here_is n = ap (bad_from n) (opened refs i d h) ∙ ap (λ x. bad_here n x (bad_from (n + 1) (drop (i + 1) lines))) (sym parsed)
 
   module _ (done : List (Line Policy)) (so_far : done ++ commands_of (drop i lines) ≡ commands_of lines) where
     pub commands-at_bad : o ≡ None → done ≡ commands_of lines

@@ -1,7 +1,9 @@
 -- The commands that lines are read as.
+use Rattle.std.specs.Prelude.{List, [], ◌∷◌, ◌++◌, Option, Some, option_map, option_and_then}
 use Rattle.qm_model.specs.Operations.{Bytes}
 use Rattle.qm_model.specs.Policies.{Policy}
 use Rattle.qm_model.specs.Lines.{Line}
+use Rattle.qm_model.specs.Grammar.{key_of, Reading}
 use Rattle.qm_lines.specs.declared.policy.AnyPolicy.{AnyPolicy}
 use Rattle.qm_lines.specs.declared.command.Command.{Command}
 use Rattle.qm_lines.specs.Views.{policy_view, line_view}
@@ -9,3 +11,12 @@ use Rattle.qm_lines.specs.Views.{policy_view, line_view}
 -- a command whose keys and values are seen as their bytes
 abbrev pub byte_line : Command Bytes Bytes AnyPolicy → Line Policy
 byte_line = line_view (λ k. k) (λ v. v) policy_view
+
+-- words as keys, if each is one
+abbrev pub keys_of : List Bytes → Option (List Bytes)
+keys_of [] = Some []
+keys_of (w ∷ ws) = option_and_then (λ k. option_map (λ ks. k ∷ ks) (keys_of ws)) (key_of w)
+
+-- a reading with these keys before its own
+abbrev pub with_keys : List Bytes → Reading → Reading
+with_keys before (keys, from) = (before ++ keys, from)

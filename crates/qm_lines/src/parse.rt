@@ -5,7 +5,7 @@ ghost use Rattle.std.specs.Int.NonZero.{non_zero_u64_get};
 ghost use Rattle.std.specs.List.{slice_split};
 ghost use Rattle.hex.specs.Hex.{decode_of};
 ghost use Rattle.qm_model.specs.Grammar as grammar;
-ghost use Rattle.qm_lines.specs.Parsed.{byte_line};
+ghost use Rattle.qm_lines.specs.Parsed.{byte_line, keys_of, with_keys};
 ghost use Rattle.qm_lines.specs.Views.{policy_view};
 
 use crate::command::Command;
@@ -13,6 +13,7 @@ use crate::policy::AnyPolicy;
 use hex::FromHexError;
 use qm_base::{ByteKey, ByteValue};
 use std::alloc::{AllocError, Global};
+use std::marker::Model;
 use std::num::NonZeroU64;
 
 /// A command that a line can ask for.
@@ -46,6 +47,13 @@ fn number(word: &[u8]) -> Option<u64>
         return None;
     }
     digits(word)
+}
+
+// The number behind this name.
+fn named_number(name: &[u8], word: &[u8]) -> Option<u64>
+    ensures { result ≡ grammar.named_number name.now word.now }
+{
+    number(word.strip_prefix(name)?)
 }
 
 // A number that is at least 1.
@@ -94,6 +102,89 @@ fn value(alloc: Global, word: &[u8]) -> Result<Option<ByteValue>, AllocError>
     }
 }
 
+// These words as keys, if each is one.
+fn keys(alloc: Global, words: &[&[u8]]) -> Result<Option<Vec<ByteKey>>, AllocError>
+    ensures { IfOk result (λ found.
+        option_map (λ keys. keys.items) found ≡ keys_of (map (λ word. word.now) words.now)) }
+{
+    let mut keys = Vec::new(alloc);
+    for word in words {
+        let Some(key) = key(alloc, word)? else {
+            return Ok(None);
+        };
+        keys.push(key)?;
+    }
+    Ok(Some(keys))
+}
+
+// Keys, and the batch through which they are read.
+#[derive(Drop)]
+struct Reading {
+    keys: Vec<ByteKey>,
+    from: Option<u64>,
+}
+
+impl Model for Reading {
+    ghost Value = { grammar.Reading };
+
+    ghost view = { λ r. (r.keys.items, r.from) };
+}
+
+// Keys, and behind them a last word: the batch, or one more key.
+fn end_reading(
+    alloc: Global,
+    mut keys: Vec<ByteKey>,
+    last: &[u8],
+) -> Result<Option<Reading>, AllocError>
+    ensures { IfOk result (λ found.
+        found ≡ option_map (with_keys keys.items) (grammar.last_reading last.now)) }
+{
+    if let Some(batch) = named_number(b"from=", last) {
+        return Ok(Some(Reading {
+            keys,
+            from: Some(batch),
+        }));
+    }
+    let Some(key) = key(alloc, last)? else {
+        return Ok(None);
+    };
+    keys.push(key)?;
+    Ok(Some(Reading { keys, from: None }))
+}
+
+fn parse_reading(alloc: Global, words: &[&[u8]]) -> Result<Option<Reading>, AllocError>
+    ensures { IfOk result (λ found. found ≡ grammar.reading_of (map (λ word. word.now) words.now)) }
+{
+    let Some((last, before)) = words.split_last() else {
+        return Ok(None);
+    };
+    match keys(alloc, before)? {
+        None => Ok(None),
+        Some(keys) => end_reading(alloc, keys, last),
+    }
+}
+
+// A reading of one key.
+fn get(mut reading: Reading) -> Option<ByteCommand>
+    ensures { option_map byte_line result ≡ grammar.get_of reading }
+{
+    let key = reading.keys.pop()?;
+    reading
+        .keys
+        .is_empty()
+        .then_some(Command::Get(key, reading.from))
+}
+
+// A reading of at least one.
+fn many(reading: Reading) -> Option<ByteCommand>
+    ensures { option_map byte_line result ≡ grammar.many_of reading }
+{
+    if reading.keys.is_empty() {
+        return None;
+    }
+    Some(Command::Many(reading.keys, reading.from))
+}
+
 fn policy(word: &[u8]) -> Option<AnyPolicy>
     ensures { option_map policy_view result ≡ grammar.policy_of word.now }
 {
@@ -123,6 +214,8 @@ fn of_one(word: &[u8]) -> Option<ByteCommand>
         Some(Command::Open)
     } else if word == b"batch".as_slice() {
         Some(Command::Batch)
+    } else if word == b"tip".as_slice() {
+        Some(Command::Tip)
     } else if word == b"info".as_slice() {
         Some(Command::Info)
     } else if word == b"root".as_slice() {
@@ -134,19 +227,25 @@ fn of_one(word: &[u8]) -> Option<ByteCommand>
     }
 }
 
-fn of_two(alloc: Global, word: &[u8], first: &[u8]) -> Result<Option<ByteCommand>, AllocError>
-    ensures { IfOk result (λ command. option_map byte_line command ≡ grammar.of_two word.now first.now) }
+fn of_two(word: &[u8], first: &[u8]) -> Option<ByteCommand>
+    ensures { option_map byte_line result ≡ grammar.of_two word.now first.now }
 {
     if word == b"apply".as_slice() {
-        Ok(number(first).map(Command::Apply))
+        number(first).map(Command::Apply)
     } else if word == b"ops".as_slice() {
-        Ok(number(first).map(Command::Ops))
-    } else if word == b"get".as_slice() {
-        Ok(key(alloc, first)?.map(Command::Get))
+        number(first).map(Command::Ops)
+    } else if word == b"child".as_slice() {
+        number(first).map(|handle| Command::Child(handle, None))
+    } else if word == b"info".as_slice() {
+        number(first).map(Command::BatchInfo)
+    } else if word == b"root".as_slice() {
+        number(first).map(Command::BatchRoot)
+    } else if word == b"proof".as_slice() {
+        number(first).map(Command::BatchProof)
     } else if word == b"pins".as_slice() {
-        Ok(number(first).map(Command::Pins))
+        number(first).map(Command::Pins)
     } else {
-        Ok(None)
+        None
     }
 }
 
@@ -162,6 +261,15 @@ fn del(alloc: Global, first: &[u8], second: &[u8]) -> Result<Option<ByteCommand>
     Ok(Some(Command::Del(handle, key)))
 }
 
+// A child that keeps so many ancestors.
+fn keeping(first: &[u8], second: &[u8]) -> Option<ByteCommand>
+    ensures { option_map byte_line result ≡ grammar.keeping_of first.now second.now }
+{
+    let handle = number(first)?;
+    let count = named_number(b"keep=", second)?;
+    Some(Command::Child(handle, Some(count)))
+}
+
 fn of_three(
     alloc: Global,
     word: &[u8],
@@ -173,6 +281,8 @@ fn of_three(
 {
     if word == b"del".as_slice() {
         del(alloc, first, second)
+    } else if word == b"child".as_slice() {
+        Ok(keeping(first, second))
     } else {
         Ok(None)
     }
@@ -250,17 +360,33 @@ fn of_four(
     }
 }
 
+// A command of one to four words that reads no keys.
+fn of_few(alloc: Global, word: &[u8], rest: &[&[u8]]) -> Result<Option<ByteCommand>, AllocError>
+    ensures { IfOk result (λ command.
+        option_map byte_line command ≡ grammar.of_few word.now (map (λ word. word.now) rest.now)) }
+{
+    match rest {
+        [] => Ok(of_one(word)),
+        [first] => Ok(of_two(word, first)),
+        [first, second] => of_three(alloc, word, first, second),
+        [first, second, third] => of_four(alloc, word, first, second, third),
+        _ => Ok(None),
+    }
+}
+
 fn of_words(alloc: Global, words: &[&[u8]]) -> Result<Option<ByteCommand>, AllocError>
     ensures { IfOk result (λ command.
         option_map byte_line command ≡ grammar.of_words (map (λ word. word.now) words.now)) }
 {
-    match words {
-        [] => Ok(None),
-        [word] => Ok(of_one(word)),
-        [word, first] => of_two(alloc, word, first),
-        [word, first, second] => of_three(alloc, word, first, second),
-        [word, first, second, third] => of_four(alloc, word, first, second, third),
-        _ => Ok(None),
+    let Some((word, rest)) = words.split_first() else {
+        return Ok(None);
+    };
+    if *word == b"get".as_slice() {
+        Ok(parse_reading(alloc, rest)?.and_then(get))
+    } else if *word == b"many".as_slice() {
+        Ok(parse_reading(alloc, rest)?.and_then(many))
+    } else {
+        of_few(alloc, word, rest)
     }
 }
 

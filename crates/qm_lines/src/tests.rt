@@ -22,6 +22,8 @@ fn words(alloc: Global, command: &Option<ByteCommand>) -> Result<String, AllocEr
         None => String::from_str(alloc, "bad"),
         Some(Command::Open) => String::from_str(alloc, "open"),
         Some(Command::Batch) => String::from_str(alloc, "batch"),
+        Some(Command::Child(handle, keep)) => format!(in alloc; "child {handle} {keep:?}"),
+        Some(Command::Tip) => String::from_str(alloc, "tip"),
         Some(Command::Put(handle, key, value)) => {
             let key = key.as_bytes();
             let value = value.as_bytes();
@@ -37,12 +39,24 @@ fn words(alloc: Global, command: &Option<ByteCommand>) -> Result<String, AllocEr
         }
         Some(Command::Apply(handle)) => format!(in alloc; "apply {handle}"),
         Some(Command::Ops(handle)) => format!(in alloc; "ops {handle}"),
-        Some(Command::Get(key)) => {
+        Some(Command::Get(key, from)) => {
             let key = key.as_bytes();
-            format!(in alloc; "get {key:?}")
+            format!(in alloc; "get {key:?} {from:?}")
+        }
+        Some(Command::Many(keys, from)) => {
+            let mut out = String::from_str(alloc, "many")?;
+            for key in keys {
+                let key = key.as_bytes();
+                write!(out, " {key:?}")?;
+            }
+            write!(out, " {from:?}")?;
+            Ok(out)
         }
         Some(Command::Info) => String::from_str(alloc, "info"),
+        Some(Command::BatchInfo(handle)) => format!(in alloc; "info {handle}"),
         Some(Command::Root) => String::from_str(alloc, "root"),
+        Some(Command::BatchRoot(handle)) => format!(in alloc; "root {handle}"),
+        Some(Command::BatchProof(handle)) => format!(in alloc; "proof {handle}"),
         Some(Command::Meta) => String::from_str(alloc, "meta"),
         Some(Command::Prove(size, start, most)) => {
             let most = most.get();
@@ -69,7 +83,16 @@ fn lines_are_commands(rt: HostRuntime) -> Result<(), Fail> {
         ("merkleize 1 prop 0f", "merkleize 1 Proportional Some([15])"),
         ("apply 10", "apply 10"),
         ("ops 18446744073709551615", "ops 18446744073709551615"),
-        ("get 4a4A", "get [74, 74]"),
+        ("get 4a4A", "get [74, 74] None"),
+        ("get 4a from=3", "get [74] Some(3)"),
+        ("many 4a", "many [74] None"),
+        ("many 4a 6b 4a from=0", "many [74] [107] [74] Some(0)"),
+        ("child 2", "child 2 None"),
+        ("child 2 keep=0", "child 2 Some(0)"),
+        ("tip", "tip"),
+        ("info 1", "info 1"),
+        ("root 1", "root 1"),
+        ("proof 1", "proof 1"),
         ("prove 4 0 9", "prove 4 0 9"),
         ("pins 0", "pins 0"),
         ("", "bad"),
@@ -98,7 +121,18 @@ fn lines_are_commands(rt: HostRuntime) -> Result<(), Fail> {
         ("del 1", "bad"),
         ("del 1 -", "bad"),
         ("del 1 6b 76", "bad"),
-        ("root 1", "bad"),
+        ("get 4a 6b", "bad"),
+        ("get from=3", "bad"),
+        ("many", "bad"),
+        ("many from=3", "bad"),
+        ("many 4a from=3 6b", "bad"),
+        ("many 4a from=", "bad"),
+        ("many 4a from=03", "bad"),
+        ("child 2 keep", "bad"),
+        ("child 2 from=1", "bad"),
+        ("tip 1", "bad"),
+        ("info 1 2", "bad"),
+        ("proof", "bad"),
         ("prove 4 0 0", "bad"),
         ("prove 4 0", "bad"),
         ("pins", "bad"),
@@ -198,19 +232,12 @@ fn replies_have_text(rt: HostRuntime) -> Result<(), Fail> {
         "merkleized 1 1 4 2",
     )?;
     expect_text(&rt, alloc, Reply::Applied(4), "applied 4")?;
-    expect_text(&rt, alloc, Reply::Read(None), "read none")?;
-    expect_text(
-        &rt,
-        alloc,
-        Reply::Read(Some(ByteValue::new(Vec::new(alloc)))),
-        "read -",
-    )?;
-    expect_text(
-        &rt,
-        alloc,
-        Reply::Read(Some(value(alloc, 0x76)?)),
-        "read 76",
-    )?;
+    let mut values = Vec::new(alloc);
+    values.push(None)?;
+    values.push(Some(ByteValue::new(Vec::new(alloc))))?;
+    values.push(Some(value(alloc, 0x76)?))?;
+    expect_text(&rt, alloc, Reply::Read(values), "read none - 76")?;
+    expect_text(&rt, alloc, Reply::BatchInfo(1, 4, 2, 2), "info 1 4 2 2")?;
     expect_text(
         &rt,
         alloc,
@@ -256,6 +283,14 @@ fn replies_have_text(rt: HostRuntime) -> Result<(), Fail> {
         alloc,
         Reply::Proof(1, 0, Vec::new(alloc), Vec::new(alloc)),
         "proof 1 0 /",
+    )?;
+    let mut pins = Vec::new(alloc);
+    pins.push(zeros)?;
+    expect_text(
+        &rt,
+        alloc,
+        Reply::BatchProof(2, 1, Vec::new(alloc), pins),
+        "proof 2 1 / 0000000000000000000000000000000000000000000000000000000000000000",
     )?;
     expect_text(
         &rt,

@@ -28,6 +28,20 @@ fn optional_text<B: ByteString>(alloc: Global, value: &Option<B>) -> Result<Stri
     }
 }
 
+// The values, each after a space.
+fn values_text<B: ByteString>(alloc: Global, values: &[Option<B>]) -> Result<String, AllocError>
+    ensures { IfOk result (λ text.
+        string_bytes text ≡ texts.values_text (map (option_map B.bytes) values.now)) }
+{
+    let mut out = String::new(alloc);
+    for value in values {
+        let text = optional_text(alloc, value)?;
+        out.push_str(" ")?;
+        out.push_str(&text)?;
+    }
+    Ok(out)
+}
+
 fn next_text<B: ByteString>(alloc: Global, next: &Option<B>) -> Result<String, AllocError>
     ensures { IfOk result (λ text. string_bytes text ≡ texts.next_text (option_map B.bytes next.now)) }
 {
@@ -165,13 +179,16 @@ fn line_text<K: Key, V: VariableValue, D: Digest>(
             let ops = operations_text(alloc, ops)?;
             format!(in alloc; "ops {base}{ops}")
         }
-        Reply::Read(value) => {
-            let value = optional_text(alloc, value)?;
-            format!(in alloc; "read {value}")
+        Reply::Read(values) => {
+            let values = values_text(alloc, values)?;
+            format!(in alloc; "read{values}")
         }
         Reply::Info(start, size, floor, boundary, is_live) => {
             let live = live_text(*is_live);
             format!(in alloc; "info {start} {size} {floor} {boundary} {live}")
+        }
+        Reply::BatchInfo(base, size, floor, boundary) => {
+            format!(in alloc; "info {base} {size} {floor} {boundary}")
         }
         Reply::Root(root, operations) => {
             let root = hex::encode(alloc, root.bytes())?;
@@ -186,6 +203,11 @@ fn line_text<K: Key, V: VariableValue, D: Digest>(
             let digests = digests_text(alloc, digests)?;
             let ops = operations_text(alloc, ops)?;
             format!(in alloc; "proof {leaves} {inactive}{digests} /{ops}")
+        }
+        Reply::BatchProof(leaves, inactive, digests, pins) => {
+            let digests = digests_text(alloc, digests)?;
+            let pins = digests_text(alloc, pins)?;
+            format!(in alloc; "proof {leaves} {inactive}{digests} /{pins}")
         }
         Reply::Pins(digests) => {
             let digests = digests_text(alloc, digests)?;
