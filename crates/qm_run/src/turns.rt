@@ -16,9 +16,8 @@ use proofs::{batch_proof, pins, prove};
 use qm_any::Given;
 use qm_lines::{AnyPolicy, Command, Refused, Reply};
 use qm_store::Store;
-use reads::{batch_info, batch_root, info, meta, ops, read, root};
+use reads::{batch_info, batch_root, info, meta, ops, read, read_key, root};
 use std::alloc::Global;
-use std::slice;
 
 /// Where the items of the held store start and end.
 fn bounds<X: Engine<C>, C: Store>(held: &Given<X, C>) -> (u64, u64)
@@ -112,7 +111,7 @@ pub fn turn<X: Engine<C>, C: Store>(
         }
         Command::Apply(number) => apply::<X, C>(alloc, session, *number),
         Command::Ops(number) => ops::<X, C>(alloc, session, *number),
-        Command::Get(key, from) => read::<X, C>(alloc, session, slice::from_ref(key), *from),
+        Command::Get(key, from) => read_key::<X, C>(alloc, session, key, *from),
         Command::Many(keys, from) => read::<X, C>(alloc, session, keys, *from),
         Command::Info => info::<X, C>(session),
         Command::BatchInfo(number) => batch_info::<X, C>(session, *number),

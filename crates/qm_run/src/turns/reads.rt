@@ -1,5 +1,5 @@
 // Commands that read, list and tell.
-ghost use Rattle.std.specs.Prelude.{◌≡◌, List, Some, None, map, Contains};
+ghost use Rattle.std.specs.Prelude.{◌≡◌, ◌∷◌, [], List, Some, None, map, Contains, IfOk};
 ghost use Rattle.qm_model.specs.Operations.{Operation};
 ghost use Rattle.qm_model.specs.Machine.{State};
 ghost use Rattle.qm_model.specs.Machine as machine;
@@ -10,9 +10,10 @@ use crate::engine::{BatchSizes, Engine, Numbers};
 use crate::session::{Of, Session, Turn, turn_of};
 use crate::table::{Slot, merkleized_at, slot_at};
 use qm_any::Given;
+use qm_base::{Key, Twin};
 use qm_lines::{Refused, Reply};
 use qm_store::Store;
-use std::alloc::Global;
+use std::alloc::{AllocError, Global};
 
 // Reads the values of keys through what a batch number names.
 fn read_slot<X: Engine<C>, C: Store>(
@@ -154,6 +155,35 @@ pub fn read<X: Engine<C>, C: Store>(
     match from {
         None => read_database::<X, C>(alloc, session, keys),
         Some(number) => read_batch::<X, C>(alloc, session, keys, number),
+    }
+}
+
+// A copy of the key, alone.
+fn alone<K: Key>(alloc: Global, key: &K) -> Result<Vec<K>, AllocError>
+    ensures { IfOk result (λ keys. keys.items ≡ key.now ∷ []) }
+{
+    let key = key.twin(alloc)?;
+    let mut keys = Vec::new(alloc);
+    keys.push(key)?;
+    Ok(keys)
+}
+
+/// Reads the value of a key, through a batch where its number is given.
+pub fn read_key<X: Engine<C>, C: Store>(
+    alloc: Global,
+    session: Of<X, C>,
+    key: &X::Key,
+    from: Option<u64>,
+) -> (Of<X, C>, Turn<X::Key, X::Value, X::Digest>)
+    ensures machine { Obeys (meaning X.Engine C.Store) X.Key.bytes X.Value.bytes X.Digest.bytes X.root session result.0 result.1
+        (λ s. machine.read (scheme_of X.Engine) s (X.Key.bytes key.now ∷ []) from) }
+    ensures store { IsUnchanged C.Store (store_given X.inside session.held) (store_given X.inside result.0.held) }
+    ensures causes { Causes (C.faults (store_given X.inside session.held)) (C.faults (store_given X.inside result.0.held)) result.1 }
+    ensures opened { result.0.opened ≡ session.opened }
+{
+    match alone(alloc, key) {
+        Err(_) => (session, Turn::Memory),
+        Ok(keys) => read::<X, C>(alloc, session, &keys, from),
     }
 }
 

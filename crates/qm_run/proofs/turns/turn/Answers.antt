@@ -45,21 +45,21 @@ pub returns-in-Ops-clause-left : goal.returns-in-Ops-clause-left
 returns-in-Ops-clause-left g c = λ s k apart. rw c.in-Ops.is (unchanged_left (g.C.Store.items (store_given g.X.Engine.inside c.args.session.held)) (g.C.Store.items (store_given g.X.Engine.inside c.ops.result.0.held)) s.items _ k.items c.ops.ensures.store.items (ops_items s _ (slot_at s.table _)))
 
 pub returns-in-Get-clause-machine : goal.returns-in-Get-clause-machine
-returns-in-Get-clause-machine g c = λ s k. rw c.in-Get.is (c.read.ensures.machine s k)
+returns-in-Get-clause-machine g c = λ s k. rw c.in-Get.is (c.read_key.ensures.machine s k)
 
 pub returns-in-Get-clause-left : goal.returns-in-Get-clause-left
 returns-in-Get-clause-left g c = λ s k apart.
     let scheme : Scheme Policy = scheme_of g.X.Engine in
-    rw c.in-Get.is (unchanged_left (g.C.Store.items (store_given g.X.Engine.inside c.args.session.held)) (g.C.Store.items (store_given g.X.Engine.inside c.read.result.0.held)) s.items _ k.items c.read.ensures.store.items
+    rw c.in-Get.is (unchanged_left (g.C.Store.items (store_given g.X.Engine.inside c.args.session.held)) (g.C.Store.items (store_given g.X.Engine.inside c.read_key.result.0.held)) s.items _ k.items c.read_key.ensures.store.items
     (read_items scheme s (g.X.Key.ByteString.bytes c.in-Get.key ∷ []) c.in-Get.from))
 
 pub returns-in-Many-clause-machine : goal.returns-in-Many-clause-machine
-returns-in-Many-clause-machine g c = λ s k. rw c.in-Many.is (c.read-in-Many.ensures.machine s k)
+returns-in-Many-clause-machine g c = λ s k. rw c.in-Many.is (rw c.deref.ensures.value at (c.read.ensures.machine s k))
 
 pub returns-in-Many-clause-left : goal.returns-in-Many-clause-left
 returns-in-Many-clause-left g c = λ s k apart.
     let scheme : Scheme Policy = scheme_of g.X.Engine in
-    rw c.in-Many.is (unchanged_left (g.C.Store.items (store_given g.X.Engine.inside c.args.session.held)) (g.C.Store.items (store_given g.X.Engine.inside c.read-in-Many.result.0.held)) s.items _ k.items c.read-in-Many.ensures.store.items
+    rw c.in-Many.is (unchanged_left (g.C.Store.items (store_given g.X.Engine.inside c.args.session.held)) (g.C.Store.items (store_given g.X.Engine.inside c.read.result.0.held)) s.items _ k.items c.read.ensures.store.items
     (read_items scheme s (map g.X.Key.ByteString.bytes c.in-Many.keys.items) c.in-Many.from))
 
 pub returns-in-Info-clause-machine : goal.returns-in-Info-clause-machine
