@@ -205,9 +205,13 @@ impl<C: Store> Engine<C>
         alloc: Global,
         batch: &Self::Merkleized,
     ) -> Result<(Proof<Sha256Digest>, Vec<Sha256Digest>), Error> {
-        let proof = batch.proof(alloc, self)?;
-        let pins = batch.pinned_nodes(alloc, self)?;
-        Ok((proof, pins))
+        match batch.proof(alloc, self) {
+            Ok(proof) => match batch.pinned_nodes(alloc, self) {
+                Ok(pins) => Ok((proof, pins)),
+                Err(error) => Err(error),
+            },
+            Err(error) => Err(error),
+        }
     }
 
     fn root(&self, _alloc: Global) -> Result<Sha256Digest, AllocError> {
