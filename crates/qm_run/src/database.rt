@@ -174,11 +174,7 @@ impl<C: Store> Engine<C>
         self.apply_batch(alloc, batch)
     }
 
-    fn get(
-        &mut self,
-        alloc: Global,
-        keys: &[ByteKey],
-    ) -> Result<Vec<Option<ByteValue>>, Error> {
+    fn get(&mut self, alloc: Global, keys: &[ByteKey]) -> Result<Vec<Option<ByteValue>>, Error> {
         self.get_many(alloc, keys)
     }
 

@@ -211,11 +211,7 @@ pub trait Engine<C: Store>: Drop + Sized {
         ensures later { C.faults (inside self) ≤ C.faults (store_after inside result) };
 
     /// Reads the values of keys, in their order.
-    fn get(
-        &mut self,
-        alloc: Global,
-        keys: &[Self::Key],
-    ) -> Result<Vec<Option<Self::Value>>, Error>
+    fn get(&mut self, alloc: Global, keys: &[Self::Key]) -> Result<Vec<Option<Self::Value>>, Error>
         ensures values { IfOk result (λ v. (list : List Operation) → stands self.old list
             → map (option_map Self.Value.bytes) v.items ≡ map (λ k. value_of list (Self.Key.bytes k)) keys.now) }
         ensures same { (list : List Operation) → stands self.old list → stands self.new list }

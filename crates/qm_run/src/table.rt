@@ -55,7 +55,11 @@ pub fn slot_at<B, M>(table: &Vec<Slot<B, M>>, number: u64) -> Option<&Slot<B, M>
     ensures { unwrap_or (option_copied result) Slot.Gone ≡ slice_index_or table.now.items number Slot.Gone }
 {
     let at = number as usize;
-    if at < table.len() { Some(&table[at]) } else { None }
+    if at < table.len() {
+        Some(&table[at])
+    } else {
+        None
+    }
 }
 
 /// Lends a merkleized batch.

@@ -62,7 +62,12 @@ pub fn batch_proof<X: Engine<C>, C: Store>(
                             table,
                             opened,
                         },
-                        Turn::Reply(Reply::BatchProof(leaves, inactive_peaks as u64, digests, pins)),
+                        Turn::Reply(Reply::BatchProof(
+                            leaves,
+                            inactive_peaks as u64,
+                            digests,
+                            pins,
+                        )),
                     )
                 }
                 Err(error) => (

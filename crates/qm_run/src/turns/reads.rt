@@ -233,7 +233,9 @@ pub fn ops<X: Engine<C>, C: Store>(
     }
 }
 
-pub fn info<X: Engine<C>, C: Store>(session: Of<X, C>) -> (Of<X, C>, Turn<X::Key, X::Value, X::Digest>)
+pub fn info<X: Engine<C>, C: Store>(
+    session: Of<X, C>,
+) -> (Of<X, C>, Turn<X::Key, X::Value, X::Digest>)
     ensures machine { Obeys (meaning X.Engine C.Store) X.Key.bytes X.Value.bytes X.Digest.bytes X.root session result.0 result.1
         (machine.info (scheme_of X.Engine)) }
     ensures store { IsUnchanged C.Store (store_given X.inside session.held) (store_given X.inside result.0.held) }

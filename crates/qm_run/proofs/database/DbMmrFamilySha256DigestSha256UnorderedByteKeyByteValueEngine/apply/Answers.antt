@@ -20,8 +20,11 @@ returns-clause-applied g c =
 pub returns-clause-stale : goal.returns-clause-stale
 returns-clause-stale g c =
     err-then c.apply_batch.result c.apply_batch.ensures.stale
-    (λ r told stale. ((told stale).0, λ list chain tip is batch. off-chain list chain
-    (sym (at-made list chain tip c.args.self.commitment c.deref.result.now is.commitment (subst (λ b. IsMade sha256 mmr b chain tip) (sym c.deref.ensures) batch)) ∙ (told stale).1)))
+    (λ r told stale. (
+      (told stale).0,
+      λ list chain tip is batch. off-chain list chain
+          (sym (at-made list chain tip c.args.self.commitment c.deref.result.now is.commitment (subst (λ b. IsMade sha256 mmr b chain tip) (sym c.deref.ensures) batch)) ∙ (told stale).1),
+    ))
 
 pub returns-clause-kept : goal.returns-clause-kept
 returns-clause-kept g c =
