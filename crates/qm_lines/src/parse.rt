@@ -169,10 +169,8 @@ fn get(mut reading: Reading) -> Option<ByteCommand>
     ensures { option_map byte_line result ≡ grammar.get_of reading }
 {
     let key = reading.keys.pop()?;
-    reading
-        .keys
-        .is_empty()
-        .then_some(Command::Get(key, reading.from))
+    let from = reading.from;
+    reading.keys.is_empty().then_some(Command::Get(key, from))
 }
 
 // A reading of at least one.
