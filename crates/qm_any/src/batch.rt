@@ -30,60 +30,77 @@ const MAX_OPERATIONS: u64 = 1 << 62;
 /// How many bytes the spelling of an operation has at most.
 const MAX_SPELLING: usize = 65_536;
 
-/// A batch: writes that are recorded on a database's list.
+/// A kept ancestor of a batch: the states before and after its operations.
+#[derive(Clone, Copy)]
+pub(crate) struct Ancestor<D> {
+    pub(crate) base: Commitment<D>,
+    pub(crate) tip: Commitment<D>,
+}
+
+/// A batch: writes that are recorded on a list, which is a database's or a merkleized batch's.
 #[derive(Drop)]
 pub struct UnmerkleizedBatch<F, D: Digest, U: Update> {
     base: Rc<Vec<operation::Operation<F, U>>>,
-    commitment: Commitment<D>,
+    parent: Bounds<F, D>,
+    kept: Vec<Ancestor<D>>,
     writes: Vec<Write<U::Key, U::Value>>,
 }
 
 impl<F, D: Digest, U: Update> Model for UnmerkleizedBatch<F, D, U> {
-    ghost use Rattle.std.specs.Prelude.{◌≡◌, length};
+    ghost use Rattle.std.specs.Prelude.{◌≡◌, ◌≤◌, length, map, All};
     ghost use Rattle.qm_base.specs.Views.{operation_views};
-    ghost use Rattle.qm_any.specs.Databases.{Begun, commitment_view};
+    ghost use Rattle.qm_any.specs.Databases.{Begun};
+    ghost use Rattle.qm_any.specs.Ancestors.{ancestor_view};
     ghost use Rattle.qm_any.specs.ListViews.{write_views};
 
     ghost Value = { Begun };
 
-    ghost view = { λ b. record { base = operation_views U.view U.Key.bytes U.Value.bytes b.base.value.items; commitment = commitment_view D.bytes b.commitment; writes = write_views U.Key.bytes U.Value.bytes b.writes.items } };
+    ghost view = { λ b. record { base = operation_views U.view U.Key.bytes U.Value.bytes b.base.value.items; parent = b.parent; kept = map (ancestor_view D.bytes) b.kept.items; writes = write_views U.Key.bytes U.Value.bytes b.writes.items } };
 
-    ghost invariant = { λ b. b.commitment.size ≡ length b.base.value.items };
+    ghost invariant = { λ b. (b.parent.tip.size ≡ length b.base.value.items) × (length b.base.value.items ≤ 2 ^ 62)
+        × All (λ k. (k.base.size ≤ length b.base.value.items) × (k.tip.size ≤ length b.base.value.items)) b.kept.items };
 }
 
-/// A merkleized batch: the list that its writes make, and what stands for the list that it was begun on and for that one.
+/// A merkleized batch: the list that its writes make, and the states of a database that it knows.
 #[derive(Drop)]
 pub struct MerkleizedBatch<F, D: Digest, U: Update> {
-    base: Commitment<D>,
+    bounds: Bounds<F, D>,
+    kept: Vec<Ancestor<D>>,
     tip: Rc<Vec<operation::Operation<F, U>>>,
-    made: Commitment<D>,
 }
 
 impl<F, D: Digest, U: Update> Model for MerkleizedBatch<F, D, U> {
-    ghost use Rattle.std.specs.Prelude.{◌≡◌, ◌≤◌, ◌^◌, length};
+    ghost use Rattle.std.specs.Prelude.{◌≡◌, ◌≤◌, ◌^◌, length, map, All};
     ghost use Rattle.qm_base.specs.Views.{operation_views};
-    ghost use Rattle.qm_any.specs.Databases.{Made, commitment_view};
+    ghost use Rattle.qm_any.specs.Databases.{Made};
+    ghost use Rattle.qm_any.specs.Ancestors.{ancestor_view};
 
     ghost Value = { Made };
 
-    ghost view = { λ b. record { base = commitment_view D.bytes b.base; tip = operation_views U.view U.Key.bytes U.Value.bytes b.tip.value.items; made = commitment_view D.bytes b.made } };
+    ghost view = { λ b. record { bounds = b.bounds; kept = map (ancestor_view D.bytes) b.kept.items; tip = operation_views U.view U.Key.bytes U.Value.bytes b.tip.value.items } };
 
-    ghost invariant = { λ b. (b.base.size ≤ length b.tip.value.items) × (b.made.size ≡ length b.tip.value.items) × (length b.tip.value.items ≤ 2 ^ 62) };
+    ghost invariant = { λ b. (b.bounds.base.size ≤ length b.tip.value.items) × (b.bounds.tip.size ≡ length b.tip.value.items) × (length b.tip.value.items ≤ 2 ^ 62)
+        × (b.bounds.db.size ≤ length b.tip.value.items) × All (λ c. c.size ≤ length b.tip.value.items) b.bounds.ancestors
+        × All (λ k. (k.base.size ≤ length b.tip.value.items) × (k.tip.size ≤ length b.tip.value.items)) b.kept.items };
 }
 
 impl<F: Family, D: Digest, K: Key, V: VariableValue> UnmerkleizedBatch<F, D, Unordered<K, V>> {
-    // A batch with no writes yet.
+    // A batch on the list of a merkleized batch or of a database, with no writes yet.
     pub(crate) fn begun(
         alloc: Global,
         base: Rc<Vec<Entry<F, K, V>>>,
-        commitment: Commitment<D>,
+        parent: Bounds<F, D>,
+        kept: Vec<Ancestor<D>>,
     ) -> Self
-        requires { commitment.size ≡ length base.value.items }
-        ensures { result ≡ record { base = entry_views K.bytes V.bytes base.value.items; commitment = commitment_view D.bytes commitment; writes = [] } }
+        requires size { parent.tip.size ≡ length base.value.items }
+        requires few { length base.value.items ≤ 2 ^ 62 }
+        requires kept { All (λ k. (k.base.size ≤ length base.value.items) × (k.tip.size ≤ length base.value.items)) kept.items }
+        ensures { result ≡ record { base = entry_views K.bytes V.bytes base.value.items; parent = parent; kept = map (ancestor_view D.bytes) kept.items; writes = [] } }
     {
         UnmerkleizedBatch {
             base,
-            commitment,
+            parent,
+            kept,
             writes: Vec::new(alloc),
         }
     }
@@ -98,31 +115,45 @@ impl<F: Family, D: Digest, K: Key, V: VariableValue> UnmerkleizedBatch<F, D, Uno
         Ok(batch)
     }
 
-    /// The value of a key as the batch has it: that of its last write or, where it has none, the one on the list that
-    /// it was begun on.
+    /// The value of a key as the batch has it: that of its last write or, where it has none, the one on its base list. It
+    /// is read where the database is at a state that the batch's parent knows; the parent of a batch that was begun on a
+    /// database is that database as it was.
     pub fn get<C: Store, H: Hasher<Digest = D> + Drop>(
         &self,
         alloc: Global,
         key: &K,
-        db: &Db<F, C, D, H, Unordered<K, V>>,
+        db: &mut Db<F, C, D, H, Unordered<K, V>>,
     ) -> Result<Option<V>, Error>
         ensures value { IfOk result (λ v. option_map V.bytes v ≡ read_through self.now.base self.now.writes (K.bytes key.now)) }
-        ensures readable { IfOk result (λ _. same db.now.commitment self.now.commitment ≡ true) }
-        ensures stale { IfErr result (λ e. (e ≡ Error.Memory) ⊎ ((e ≡ Error.StaleRead) × (same db.now.commitment self.now.commitment ≡ false))) }
+        ensures readable { OnOk result (knows self.now.parent db.old.commitment ≡ true) }
+        ensures stale { IfErr result (λ e. (e ≡ Error.Memory) ⊎ ((e ≡ Error.StaleRead) × (knows self.now.parent db.old.commitment ≡ false))) }
+        ensures same { db.new ≡ db.old }
     {
-        if !is_same(db.commitment(), &self.commitment) {
-            return Err(Error::StaleRead);
-        }
-        let found = match last_write(&self.writes, key) {
-            Some(write) => write.value.as_ref(),
-            None => value_of(&self.base, key),
-        };
+        self.parent.compatible(db.commitment())?;
+        let found = self.found(key);
         Ok(twin_option(alloc, found)?)
     }
 
-    /// Makes the list of the batch: its writes on the list that it was begun on, then what the policy moves, then a
-    /// commit with the metadata. It refuses a batch that the database has left behind, then the first spelling of more
-    /// than 65,536 bytes, then a list of more than 2^62 operations. The batch is gone also where this is refused.
+    /// The values of keys, in their order, as `get` reads them.
+    pub fn get_many<C: Store, H: Hasher<Digest = D> + Drop>(
+        &self,
+        alloc: Global,
+        keys: &[K],
+        db: &mut Db<F, C, D, H, Unordered<K, V>>,
+    ) -> Result<Vec<Option<V>>, Error>
+        ensures values { IfOk result (λ v. map (option_map V.bytes) v.items ≡ map (λ k. read_through self.now.base self.now.writes (K.bytes k)) keys.now) }
+        ensures readable { OnOk result (knows self.now.parent db.old.commitment ≡ true) }
+        ensures stale { IfErr result (λ e. (e ≡ Error.Memory) ⊎ ((e ≡ Error.StaleRead) × (knows self.now.parent db.old.commitment ≡ false))) }
+        ensures same { db.new ≡ db.old }
+    {
+        self.parent.compatible(db.commitment())?;
+        todo
+    }
+
+    /// Makes the list of the batch: its writes on its base list, then what the policy moves, then a commit with the
+    /// metadata. The database is at the batch's boundary or at a kept ancestor's tip, else the batch is refused as stale;
+    /// then come the first spelling of more than 65,536 bytes, and a list of more than 2^62 operations. The batch is gone
+    /// also where this is refused.
     pub fn merkleize<C: Store, H: Hasher<Digest = D> + Drop>(
         self,
         alloc: Global,
@@ -130,71 +161,145 @@ impl<F: Family, D: Digest, K: Key, V: VariableValue> UnmerkleizedBatch<F, D, Uno
         metadata: Option<V>,
         policy: &mut Proportional,
     ) -> Result<Rc<MerkleizedBatch<F, D, Unordered<K, V>>>, Error>
-        ensures fits { IfOk result (λ _. same db.old.commitment self.commitment ≡ true) }
-        ensures made { (base : List Operation) → IsDatabase C.Store F.shape D.bytes H.hash db.old base → IsBegunOn H.hash F.shape self base
-            → IfOk result (λ b. LeadsTo H.hash F.shape b.value base (stepped base self.writes (policy_view policy.old) (option_map V.bytes metadata))) }
-        ensures taken { IfOk result (λ _. IsTaken self.base (stepped self.base self.writes (policy_view policy.old) (option_map V.bytes metadata))) }
+        ensures fits { OnOk result (is_on db.old.commitment self ≡ true) }
+        ensures made { (list : List Operation) (chain above : Chain) → IsDatabase C.Store F.shape D.bytes H.hash db.old list → IsBegun H.hash F.shape self chain above → IsOnChain list chain
+            → IfOk result (λ b. IsMade H.hash F.shape b.value chain (stepped chain.base self.writes (policy_view policy.old) (option_map V.bytes metadata))) }
+        ensures taken { OnOk result (IsTaken self.base (stepped self.base self.writes (policy_view policy.old) (option_map V.bytes metadata))) }
         ensures refused { IfErr result (λ e. IsRefused self.base (stepped self.base self.writes (policy_view policy.old) (option_map V.bytes metadata)) e) }
-        ensures stale { IfErr result (λ e. e ≡ Error.StaleBatch → same db.old.commitment self.commitment ≡ false) }
-        ensures order { IfErr result (λ e. e ≢ Error.Memory → e ≢ Error.StaleBatch → same db.old.commitment self.commitment ≡ true) }
+        ensures stale { IfErr result (λ e. e ≡ Error.StaleBatch → is_on db.old.commitment self ≡ false) }
+        ensures order { IfErr result (λ e. e ≢ Error.Memory → e ≢ Error.StaleBatch → is_on db.old.commitment self ≡ true) }
         ensures same { db.new ≡ db.old }
     {
         let UnmerkleizedBatch {
             base,
-            commitment,
+            parent,
+            kept,
             writes,
         } = self;
-        if is_same(db.commitment(), &commitment) {
-            made_on(alloc, db, &base, commitment, writes, policy, metadata)
-        } else {
-            Err(Error::StaleBatch)
-        }
+        todo
     }
 }
 
 impl<F: Family, D: Digest, K: Key, V: VariableValue> MerkleizedBatch<F, D, Unordered<K, V>> {
     /// The operations root of the list that the batch makes.
     pub fn root(&self) -> D
-        ensures { D.bytes result ≡ self.now.made.root }
+        ensures { D.bytes result ≡ self.now.bounds.tip.root }
     {
-        self.made.root
+        self.bounds.tip.root
     }
 
-    /// Size and root of the list that the batch was begun on.
-    pub fn base(&self) -> &Commitment<D>
-        ensures { commitment_view D.bytes result.now ≡ self.now.base }
+    /// The states of a database that the batch knows, and the floor of its commit.
+    pub fn bounds(&self) -> &Bounds<F, D>
+        ensures { result.now ≡ self.now.bounds }
     {
-        &self.base
-    }
-
-    /// Size and root of the list that the batch makes.
-    pub fn tip(&self) -> &Commitment<D>
-        ensures { commitment_view D.bytes result.now ≡ self.now.made }
-    {
-        &self.made
-    }
-
-    /// The floor of the list that the batch makes.
-    pub fn inactivity_floor_loc(&self) -> Location<F>
-        ensures { result ≡ lives.floor self.now.tip }
-    {
-        Location::new(floor(&self.tip))
+        &self.bounds
     }
 
     /// Where the batch's own operations begin, and these.
     pub fn operations(&self) -> (Location<F>, &[Entry<F, K, V>])
-        ensures base { result.0 ≡ self.now.base.size }
-        ensures own { entry_views K.bytes V.bytes result.1.now ≡ drop self.now.base.size self.now.tip }
-        ensures count { result.0 + length result.1.now ≡ self.now.made.size }
+        ensures base { result.0 ≡ self.now.bounds.base.size }
+        ensures own { entry_views K.bytes V.bytes result.1.now ≡ drop self.now.bounds.base.size self.now.tip }
+        ensures count { result.0 + length result.1.now ≡ self.now.bounds.tip.size }
     {
-        let (_, own) = self.tip.split_at(self.base.size as usize);
-        (Location::new(self.base.size), own)
+        let (_, own) = self.tip.split_at(self.bounds.base.size as usize);
+        (Location::new(self.bounds.base.size), own)
+    }
+
+    /// Begins a batch on the list that this one makes. It keeps this one and all that this one keeps: it can be applied
+    /// after them, or in one step with those that are not applied yet.
+    pub fn new_batch(
+        &self,
+        alloc: Global,
+    ) -> Result<UnmerkleizedBatch<F, D, Unordered<K, V>>, AllocError>
+        ensures { IfOk result (λ b. b ≡ record { base = self.now.tip; parent = self.now.bounds; kept = child_keeps self.now self.now.kept; writes = [] }) }
+    {
+        self.new_batch_keeping(alloc, self.kept.len())
+    }
+
+    /// Begins a batch on the list that this one makes, which keeps this one and the first `n` that this one keeps, newest
+    /// first, or all where there are fewer.
+    pub fn new_batch_keeping(
+        &self,
+        alloc: Global,
+        n: usize,
+    ) -> Result<UnmerkleizedBatch<F, D, Unordered<K, V>>, AllocError>
+        ensures { IfOk result (λ b. b ≡ record { base = self.now.tip; parent = self.now.bounds; kept = child_keeps self.now (take n self.now.kept); writes = [] }) }
+    {
+        todo
+    }
+
+    /// The value of a key on the list that the batch makes. It is read where the database is at a state that the batch
+    /// knows: its tip, its boundary, or a kept ancestor's tip.
+    pub fn get<C: Store, H: Hasher<Digest = D> + Drop>(
+        &self,
+        alloc: Global,
+        key: &K,
+        db: &mut Db<F, C, D, H, Unordered<K, V>>,
+    ) -> Result<Option<V>, Error>
+        ensures value { IfOk result (λ v. option_map V.bytes v ≡ lives.value_of self.now.tip (K.bytes key.now)) }
+        ensures readable { OnOk result (knows self.now.bounds db.old.commitment ≡ true) }
+        ensures stale { IfErr result (λ e. (e ≡ Error.Memory) ⊎ ((e ≡ Error.StaleRead) × (knows self.now.bounds db.old.commitment ≡ false))) }
+        ensures same { db.new ≡ db.old }
+    {
+        self.bounds.compatible(db.commitment())?;
+        Ok(twin_option(alloc, value_of(&self.tip, key))?)
+    }
+
+    /// The values of keys, in their order, as `get` reads them.
+    pub fn get_many<C: Store, H: Hasher<Digest = D> + Drop>(
+        &self,
+        alloc: Global,
+        keys: &[K],
+        db: &mut Db<F, C, D, H, Unordered<K, V>>,
+    ) -> Result<Vec<Option<V>>, Error>
+        ensures values { IfOk result (λ v. map (option_map V.bytes) v.items ≡ map (λ k. lives.value_of self.now.tip (K.bytes k)) keys.now) }
+        ensures readable { OnOk result (knows self.now.bounds db.old.commitment ≡ true) }
+        ensures stale { IfErr result (λ e. (e ≡ Error.Memory) ⊎ ((e ≡ Error.StaleRead) × (knows self.now.bounds db.old.commitment ≡ false))) }
+        ensures same { db.new ≡ db.old }
+    {
+        todo
+    }
+
+    /// The proof of the batch's own operations in the list that it makes. It verifies against the batch's root.
+    pub fn proof<C: Store, H: Hasher<Digest = D> + Drop>(
+        &self,
+        alloc: Global,
+        db: &mut Db<F, C, D, H, Unordered<K, V>>,
+    ) -> Result<Proof<D>, Error>
+        ensures proof { (list : List Operation) (chain : Chain) (tip : List Operation) → IsDatabase C.Store F.shape D.bytes H.hash db.old list → IsMade H.hash F.shape self.now chain tip → IsKnown list chain tip
+            → IfOk result (λ p. proof_view D.bytes p ≡ ops_proof H.hash F.shape tip (length chain.base) (length tip)) }
+        ensures readable { OnOk result (knows self.now.bounds db.old.commitment ≡ true) }
+        ensures stale { IfErr result (λ e. e ≡ Error.StaleRead → knows self.now.bounds db.old.commitment ≡ false) }
+        ensures never { IfErr result (λ e. (e ≡ Error.Memory) ⊎ ((e ≡ Error.StaleRead) ⊎ ((p : ℕ) × (e ≡ Error.Merkle (MerkleError.ElementPruned p))))) }
+        ensures whole { C.start db.old.log.store ≡ 0 → (list : List Operation) (chain : Chain) (tip : List Operation) → IsDatabase C.Store F.shape D.bytes H.hash db.old list → IsMade H.hash F.shape self.now chain tip → IsKnown list chain tip
+            → IfErr result (λ e. e ≡ Error.Memory) }
+        ensures same { db.new ≡ db.old }
+    {
+        todo
+    }
+
+    /// The digests of the peaks over the list that the batch was made from, from left to right.
+    pub fn pinned_nodes<C: Store, H: Hasher<Digest = D> + Drop>(
+        &self,
+        alloc: Global,
+        db: &mut Db<F, C, D, H, Unordered<K, V>>,
+    ) -> Result<Vec<D>, Error>
+        ensures pins { (list : List Operation) (chain : Chain) (tip : List Operation) → IsDatabase C.Store F.shape D.bytes H.hash db.old list → IsMade H.hash F.shape self.now chain tip → IsKnown list chain tip
+            → IfOk result (λ pins. map D.bytes pins.items ≡ pins_at H.hash F.shape tip (length chain.base)) }
+        ensures readable { OnOk result (knows self.now.bounds db.old.commitment ≡ true) }
+        ensures stale { IfErr result (λ e. e ≡ Error.StaleRead → knows self.now.bounds db.old.commitment ≡ false) }
+        ensures never { IfErr result (λ e. (e ≡ Error.Memory) ⊎ ((e ≡ Error.StaleRead) ⊎ ((p : ℕ) × (e ≡ Error.Merkle (MerkleError.ElementPruned p))))) }
+        ensures whole { C.start db.old.log.store ≡ 0 → (list : List Operation) (chain : Chain) (tip : List Operation) → IsDatabase C.Store F.shape D.bytes H.hash db.old list → IsMade H.hash F.shape self.now chain tip → IsKnown list chain tip
+            → IfErr result (λ e. e ≡ Error.Memory) }
+        ensures same { db.new ≡ db.old }
+    {
+        todo
     }
 
     // The list that the batch makes, shared.
     pub(crate) fn list(&self) -> Result<Rc<Vec<Entry<F, K, V>>>, AllocError>
         ensures list { IfOk result (λ list. entry_views K.bytes V.bytes list.value.items ≡ self.now.tip) }
-        ensures size { IfOk result (λ list. self.now.made.size ≡ length list.value.items) }
+        ensures size { IfOk result (λ list. self.now.bounds.tip.size ≡ length list.value.items) }
         ensures few { IfOk result (λ list. length list.value.items ≤ 2 ^ 62) }
     {
         Ok(self.tip.clone()?)

@@ -81,42 +81,50 @@ impl<F: Family, C: Store, D: Digest, H: Hasher<Digest = D> + Drop, K: Key, V: Va
         &self,
         alloc: Global,
     ) -> Result<UnmerkleizedBatch<F, D, Unordered<K, V>>, AllocError>
-        ensures { IfOk result (λ b. b ≡ record { base = self.now.list; commitment = self.now.commitment; writes = [] }) }
+        ensures { IfOk result (λ b. b ≡ record { base = self.now.list; parent = at_rest self.now; kept = []; writes = [] }) }
     {
         let base = self.list.clone()?;
-        Ok(UnmerkleizedBatch::begun(alloc, base, self.commitment))
+        Ok(UnmerkleizedBatch::begun(alloc, base, self.at_rest(alloc), Vec::new(alloc)))
     }
 
-    /// Whether the batch can be applied: the database is as the batch found it. It takes no memory.
+    /// The database as a merkleized batch, which does nothing: batches can be begun on it, and reads through it are exact
+    /// where the database is as it is now.
+    pub fn to_batch(
+        &self,
+        alloc: Global,
+    ) -> Result<Rc<MerkleizedBatch<F, D, Unordered<K, V>>>, AllocError>
+        ensures { IfOk result (λ b. b.value ≡ record { bounds = at_rest self.now; kept = []; tip = self.now.list }) }
+    {
+        todo
+    }
+
+    /// Whether the batch can be applied: the database is at its boundary or at a kept ancestor's tip. It takes no memory.
     pub fn validate_batch(
         &self,
         batch: &MerkleizedBatch<F, D, Unordered<K, V>>,
     ) -> Result<(), Error>
-        ensures fits { OnOk result (same self.now.commitment batch.now.base ≡ true) }
-        ensures stale { IfErr result (λ e. (e ≡ Error.StaleBatch) × (same self.now.commitment batch.now.base ≡ false)) }
+        ensures fits { OnOk result (is_at self.now.commitment batch.now.bounds.db batch.now.bounds.ancestors ≡ true) }
+        ensures stale { IfErr result (λ e. (e ≡ Error.StaleBatch) × (is_at self.now.commitment batch.now.bounds.db batch.now.bounds.ancestors ≡ false)) }
     {
-        if is_same(&self.commitment, batch.base()) {
-            Ok(())
-        } else {
-            Err(Error::StaleBatch)
-        }
+        batch.bounds().validate_apply_to(&self.commitment)
     }
 
-    /// Takes the batch's tip list, and appends to the store what it lacks of it. The database comes back as it was where
+    /// Takes the batch's tip list, and appends to the store what it lacks of it: the operations of kept ancestors that are
+    /// not applied yet, and the batch's own. The database comes back as it was where
     /// the batch is stale, and where memory lacks before the store is called; after that its store comes back.
     pub fn apply_batch(
         self,
         alloc: Global,
         batch: &MerkleizedBatch<F, D, Unordered<K, V>>,
     ) -> Result<Self, Refusal<Self, C>>
-        ensures stands { (base tip : List Operation) → IsDatabase C.Store F.shape D.bytes H.hash self base → LeadsTo H.hash F.shape batch.now base tip
+        ensures stands { (list : List Operation) (chain : Chain) (tip : List Operation) → IsDatabase C.Store F.shape D.bytes H.hash self list → IsMade H.hash F.shape batch.now chain tip → IsOnChain list chain
             → IfOk result (λ next. IsDatabase C.Store F.shape D.bytes H.hash next tip) }
-        ensures fits { IfOk result (λ next. same self.commitment batch.now.base ≡ true) }
-        ensures grown { IfOk result (λ next. Appended C.Store self.log.store next.log.store (map spelling (drop batch.now.base.size batch.now.tip))) }
+        ensures fits { OnOk result (is_at self.commitment batch.now.bounds.db batch.now.bounds.ancestors ≡ true) }
+        ensures grown { IfOk result (λ next. Appended C.Store self.log.store next.log.store (map spelling (drop (length self.list) batch.now.tip))) }
         ensures later { IfOk result (λ next. C.faults self.log.store ≤ C.faults next.log.store) }
-        ensures stale { IfErr result (λ r. r.error ≡ Error.StaleBatch → (r.given ≡ Given.Database self) × (same self.commitment batch.now.base ≡ false)) }
+        ensures stale { IfErr result (λ r. r.error ≡ Error.StaleBatch → (r.given ≡ Given.Database self) × (is_at self.commitment batch.now.bounds.db batch.now.bounds.ancestors ≡ false)) }
         ensures part { IfErr result (λ r. AppendedPart C.Store self.log.store (store_given (λ db. db.log.store) r.given)
-            (if same self.commitment batch.now.base then map spelling (drop batch.now.base.size batch.now.tip) else [])) }
+            (if is_at self.commitment batch.now.bounds.db batch.now.bounds.ancestors then map spelling (drop (length self.list) batch.now.tip) else [])) }
         ensures back { IfErr result (λ r. (x : Database C D) → r.given ≡ Given.Database x → (x ≡ self) × ((r.error ≡ Error.StaleBatch) ⊎ (r.error ≡ Error.Memory))) }
         ensures causes { IfErr result (λ r. (r.error ≡ Error.StaleBatch) ⊎ ((r.error ≡ Error.Memory) ⊎ (r.error ≡ Error.Journal JournalError.Store))) }
         ensures cause { IfErr result (λ r. IsCause (C.faults self.log.store) (C.faults (store_given (λ db. db.log.store) r.given)) (r.error ≡ Error.Journal JournalError.Store)) }
@@ -200,6 +208,15 @@ impl<F: Family, C: Store, D: Digest, H: Hasher<Digest = D> + Drop, K: Key, V: Va
     {
         let value = twin_option(alloc, value_of(&self.list, key))?;
         Ok(value)
+    }
+
+    /// The values of keys, in their order, if they are live.
+    pub fn get_many(&mut self, alloc: Global, keys: &[K]) -> Result<Vec<Option<V>>, Error>
+        ensures values { IfOk result (λ v. map (option_map V.bytes) v.items ≡ map (λ k. lives.value_of self.old.list (K.bytes k)) keys.now) }
+        ensures memory { IfErr result (λ e. e ≡ Error.Memory) }
+        ensures same { self.new ≡ self.old }
+    {
+        todo
     }
 
     /// The metadata of the last commit.
