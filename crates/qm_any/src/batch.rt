@@ -1,41 +1,38 @@
 //! Batches: writes that are recorded, and the list that they make.
 
-ghost use Rattle.std.specs.Prelude.{◌≡◌, ◌≢◌, ◌⊎◌, ◌≤◌, ◌<◌, ◌+◌, ◌^◌, ◌++◌, ◌∷◌, [], List, None, true, false, length, map, drop, option_map, bytes_eq, IfOk, IfErr, OnOk};
-ghost use Rattle.qm_model.specs.Batches.{same};
+ghost use Rattle.std.specs.Prelude.{◌≡◌, ◌≢◌, ◌⊎◌, ◌≤◌, ◌+◌, ◌^◌, ◌++◌, ◌∷◌, [], List, true, false, length, map, take, drop, option_map, All, IfOk, IfErr, OnOk};
+ghost use Rattle.qm_model.specs.Batches.{Chain, IsKnown, IsOnChain};
 ghost use Rattle.qm_model.specs.Live as lives;
 ghost use Rattle.qm_model.specs.Operations.{Operation, spelling};
-ghost use Rattle.qm_model.specs.Refusals.{too_long};
-ghost use Rattle.qm_model.specs.Writes.{write_of, last_writes};
-ghost use Rattle.qm_any.specs.Databases.{IsDatabase, IsListLog, IsBegunOn, LeadsTo, commitment_view, list_commitment, read_through, stepped};
-ghost use Rattle.qm_any.specs.ListViews.{entry_views, write_view, write_views, policy_view};
-ghost use Rattle.qm_any.specs.Tips.{own_spellings, IsTaken, IsRefused, IsTooLong};
+ghost use Rattle.qm_model.specs.Writes.{read_through};
+ghost use Rattle.qm_chain.specs.Bounds.{commitment_view, is_at, knows};
+ghost use Rattle.qm_any.specs.Ancestors.{ancestor_view};
+ghost use Rattle.qm_any.specs.Databases.{IsDatabase, IsBegun, IsMade, child_keeps, is_on, oldest, stepped};
+ghost use Rattle.qm_any.specs.ListViews.{entry_views, policy_view};
+ghost use Rattle.qm_any.specs.Tips.{IsTaken, IsRefused};
 
-use crate::db::{Db, is_same};
-use crate::lists::{Entry, Write, floor, spell_all, step, twin_list, twin_option, value_of};
+use crate::db::Db;
+use crate::lists::{Entry, Write, floor, spell_from, twin_option, value_of};
 use crate::policy::Proportional;
 use qm_base::update::{Unordered, Update};
 use qm_base::{
-    Commitment, Digest, Error, Hasher, JournalError, Key, Location, MerkleError, VariableValue,
-    operation,
+    Commitment, Digest, Error, Hasher, Key, Location, Twin, VariableValue, operation,
 };
+use qm_chain::Bounds;
 use qm_merkle::Family;
 use qm_store::Store;
 use std::alloc::{AllocError, Global};
 use std::marker::Model;
 use std::rc::Rc;
 
-/// How many operations a list has at most.
-const MAX_OPERATIONS: u64 = 1 << 62;
+mod ancestors;
+mod making;
+mod reading;
 
-/// How many bytes the spelling of an operation has at most.
-const MAX_SPELLING: usize = 65_536;
-
-/// A kept ancestor of a batch: the states before and after its operations.
-#[derive(Clone, Copy)]
-pub(crate) struct Ancestor<D> {
-    pub(crate) base: Commitment<D>,
-    pub(crate) tip: Commitment<D>,
-}
+use ancestors::{Ancestor, keeping, oldest_of, tips_where_on};
+use making::made_on;
+use reading::{read, read_all};
+pub(crate) use reading::values_of;
 
 /// A batch: writes that are recorded on a list, which is a database's or a merkleized batch's.
 #[derive(Drop)]
@@ -47,7 +44,7 @@ pub struct UnmerkleizedBatch<F, D: Digest, U: Update> {
 }
 
 impl<F, D: Digest, U: Update> Model for UnmerkleizedBatch<F, D, U> {
-    ghost use Rattle.std.specs.Prelude.{◌≡◌, ◌≤◌, length, map, All};
+    ghost use Rattle.std.specs.Prelude.{◌≡◌, ◌≤◌, ◌^◌, length, map, All};
     ghost use Rattle.qm_base.specs.Views.{operation_views};
     ghost use Rattle.qm_any.specs.Databases.{Begun};
     ghost use Rattle.qm_any.specs.Ancestors.{ancestor_view};
@@ -130,8 +127,7 @@ impl<F: Family, D: Digest, K: Key, V: VariableValue> UnmerkleizedBatch<F, D, Uno
         ensures same { db.new ≡ db.old }
     {
         self.parent.compatible(db.commitment())?;
-        let found = self.found(key);
-        Ok(twin_option(alloc, found)?)
+        Ok(twin_option(alloc, read(&self.base, &self.writes, key))?)
     }
 
     /// The values of keys, in their order, as `get` reads them.
@@ -147,7 +143,8 @@ impl<F: Family, D: Digest, K: Key, V: VariableValue> UnmerkleizedBatch<F, D, Uno
         ensures same { db.new ≡ db.old }
     {
         self.parent.compatible(db.commitment())?;
-        todo
+        let values = read_all(alloc, &self.base, &self.writes, keys)?;
+        Ok(values)
     }
 
     /// Makes the list of the batch: its writes on its base list, then what the policy moves, then a commit with the
@@ -176,7 +173,17 @@ impl<F: Family, D: Digest, K: Key, V: VariableValue> UnmerkleizedBatch<F, D, Uno
             kept,
             writes,
         } = self;
-        todo
+        let state = state_after(&parent);
+        match tips_where_on(alloc, db.commitment(), &state, &kept) {
+            Ok(tips) => match made_on(alloc, db, &base, writes, policy, metadata) {
+                Ok((tip, made)) => match sealed(alloc, state, tips, kept, tip, made) {
+                    Ok(batch) => Ok(batch),
+                    Err(_) => Err(Error::Memory),
+                },
+                Err(error) => Err(error),
+            },
+            Err(error) => Err(error),
+        }
     }
 }
 
@@ -225,7 +232,14 @@ impl<F: Family, D: Digest, K: Key, V: VariableValue> MerkleizedBatch<F, D, Unord
     ) -> Result<UnmerkleizedBatch<F, D, Unordered<K, V>>, AllocError>
         ensures { IfOk result (λ b. b ≡ record { base = self.now.tip; parent = self.now.bounds; kept = child_keeps self.now (take n self.now.kept); writes = [] }) }
     {
-        todo
+        let newest = Ancestor {
+            base: self.bounds.base,
+            tip: self.bounds.tip,
+        };
+        let kept = keeping(alloc, newest, &self.kept, n)?;
+        let parent = self.bounds.twin(alloc)?;
+        let base = self.tip.clone()?;
+        Ok(UnmerkleizedBatch::begun(alloc, base, parent, kept))
     }
 
     /// The value of a key on the list that the batch makes. It is read where the database is at a state that the batch
@@ -257,195 +271,114 @@ impl<F: Family, D: Digest, K: Key, V: VariableValue> MerkleizedBatch<F, D, Unord
         ensures stale { IfErr result (λ e. (e ≡ Error.Memory) ⊎ ((e ≡ Error.StaleRead) × (knows self.now.bounds db.old.commitment ≡ false))) }
         ensures same { db.new ≡ db.old }
     {
-        todo
+        self.bounds.compatible(db.commitment())?;
+        let values = values_of(alloc, &self.tip, keys)?;
+        Ok(values)
     }
 
-    /// The proof of the batch's own operations in the list that it makes. It verifies against the batch's root.
-    pub fn proof<C: Store, H: Hasher<Digest = D> + Drop>(
-        &self,
+    // The merkleized batch of these bounds, kept ancestors and list.
+    pub(crate) fn of_parts(
         alloc: Global,
-        db: &mut Db<F, C, D, H, Unordered<K, V>>,
-    ) -> Result<Proof<D>, Error>
-        ensures proof { (list : List Operation) (chain : Chain) (tip : List Operation) → IsDatabase C.Store F.shape D.bytes H.hash db.old list → IsMade H.hash F.shape self.now chain tip → IsKnown list chain tip
-            → IfOk result (λ p. proof_view D.bytes p ≡ ops_proof H.hash F.shape tip (length chain.base) (length tip)) }
-        ensures readable { OnOk result (knows self.now.bounds db.old.commitment ≡ true) }
-        ensures stale { IfErr result (λ e. e ≡ Error.StaleRead → knows self.now.bounds db.old.commitment ≡ false) }
-        ensures never { IfErr result (λ e. (e ≡ Error.Memory) ⊎ ((e ≡ Error.StaleRead) ⊎ ((p : ℕ) × (e ≡ Error.Merkle (MerkleError.ElementPruned p))))) }
-        ensures whole { C.start db.old.log.store ≡ 0 → (list : List Operation) (chain : Chain) (tip : List Operation) → IsDatabase C.Store F.shape D.bytes H.hash db.old list → IsMade H.hash F.shape self.now chain tip → IsKnown list chain tip
-            → IfErr result (λ e. e ≡ Error.Memory) }
-        ensures same { db.new ≡ db.old }
+        bounds: Bounds<F, D>,
+        kept: Vec<Ancestor<D>>,
+        tip: Rc<Vec<Entry<F, K, V>>>,
+    ) -> Result<Rc<Self>, AllocError>
+        requires base { bounds.base.size ≤ length tip.value.items }
+        requires size { bounds.tip.size ≡ length tip.value.items }
+        requires few { length tip.value.items ≤ 2 ^ 62 }
+        requires boundary { bounds.db.size ≤ length tip.value.items }
+        requires ancestors { All (λ c. c.size ≤ length tip.value.items) bounds.ancestors }
+        requires kept { All (λ k. (k.base.size ≤ length tip.value.items) × (k.tip.size ≤ length tip.value.items)) kept.items }
+        ensures { IfOk result (λ b. b.value ≡ record { bounds = bounds; kept = map (ancestor_view D.bytes) kept.items; tip = entry_views K.bytes V.bytes tip.value.items }) }
     {
-        todo
+        Ok(Rc::new(alloc, MerkleizedBatch { bounds, kept, tip })?)
     }
 
-    /// The digests of the peaks over the list that the batch was made from, from left to right.
-    pub fn pinned_nodes<C: Store, H: Hasher<Digest = D> + Drop>(
-        &self,
-        alloc: Global,
-        db: &mut Db<F, C, D, H, Unordered<K, V>>,
-    ) -> Result<Vec<D>, Error>
-        ensures pins { (list : List Operation) (chain : Chain) (tip : List Operation) → IsDatabase C.Store F.shape D.bytes H.hash db.old list → IsMade H.hash F.shape self.now chain tip → IsKnown list chain tip
-            → IfOk result (λ pins. map D.bytes pins.items ≡ pins_at H.hash F.shape tip (length chain.base)) }
-        ensures readable { OnOk result (knows self.now.bounds db.old.commitment ≡ true) }
-        ensures stale { IfErr result (λ e. e ≡ Error.StaleRead → knows self.now.bounds db.old.commitment ≡ false) }
-        ensures never { IfErr result (λ e. (e ≡ Error.Memory) ⊎ ((e ≡ Error.StaleRead) ⊎ ((p : ℕ) × (e ≡ Error.Merkle (MerkleError.ElementPruned p))))) }
-        ensures whole { C.start db.old.log.store ≡ 0 → (list : List Operation) (chain : Chain) (tip : List Operation) → IsDatabase C.Store F.shape D.bytes H.hash db.old list → IsMade H.hash F.shape self.now chain tip → IsKnown list chain tip
-            → IfErr result (λ e. e ≡ Error.Memory) }
-        ensures same { db.new ≡ db.old }
+    // Whether the batch can be applied at this state of a database, whose list is then no longer than the batch's.
+    pub(crate) fn fits(&self, current: &Commitment<D>) -> Result<(), Error>
+        ensures fits { OnOk result (is_at (commitment_view D.bytes current.now) self.now.bounds.db self.now.bounds.ancestors ≡ true) }
+        ensures stale { IfErr result (λ e. (e ≡ Error.StaleBatch) × (is_at (commitment_view D.bytes current.now) self.now.bounds.db self.now.bounds.ancestors ≡ false)) }
+        ensures within { OnOk result (current.now.size ≤ length self.now.tip) }
     {
-        todo
+        self.bounds.validate_apply_to(current)
+    }
+
+    // Size and root of the list that the batch makes.
+    pub(crate) fn tip(&self) -> Commitment<D>
+        ensures value { commitment_view D.bytes result ≡ self.now.bounds.tip }
+        ensures size { result.size ≡ length self.now.tip }
+    {
+        self.bounds.tip
     }
 
     // The list that the batch makes, shared.
     pub(crate) fn list(&self) -> Result<Rc<Vec<Entry<F, K, V>>>, AllocError>
         ensures list { IfOk result (λ list. entry_views K.bytes V.bytes list.value.items ≡ self.now.tip) }
-        ensures size { IfOk result (λ list. self.now.bounds.tip.size ≡ length list.value.items) }
+        ensures size { IfOk result (λ list. length self.now.tip ≡ length list.value.items) }
         ensures few { IfOk result (λ list. length list.value.items ≤ 2 ^ 62) }
     {
         Ok(self.tip.clone()?)
     }
-}
 
-// The merkleized batch of writes to the database's list.
-fn made_on<F: Family, C: Store, D: Digest, H: Hasher<Digest = D> + Drop, K: Key, V: VariableValue>(
-    alloc: Global,
-    db: &mut Db<F, C, D, H, Unordered<K, V>>,
-    base: &[Entry<F, K, V>],
-    commitment: Commitment<D>,
-    writes: Vec<Write<K, V>>,
-    policy: &Proportional,
-    metadata: Option<V>,
-) -> Result<Rc<MerkleizedBatch<F, D, Unordered<K, V>>>, Error>
-    requires size { commitment.size ≡ length base.now }
-    requires level { length db.old.list ≡ length base.now }
-    ensures made { IsDatabase C.Store F.shape D.bytes H.hash db.old (entry_views K.bytes V.bytes base.now) → commitment_view D.bytes commitment ≡ list_commitment H.hash F.shape (entry_views K.bytes V.bytes base.now)
-        → IfOk result (λ b. LeadsTo H.hash F.shape b.value (entry_views K.bytes V.bytes base.now) (stepped (entry_views K.bytes V.bytes base.now) (write_views K.bytes V.bytes writes.items) (policy_view policy.now) (option_map V.bytes metadata))) }
-    ensures taken { IfOk result (λ _. IsTaken (entry_views K.bytes V.bytes base.now) (stepped (entry_views K.bytes V.bytes base.now) (write_views K.bytes V.bytes writes.items) (policy_view policy.now) (option_map V.bytes metadata))) }
-    ensures refused { IfErr result (λ e. IsRefused (entry_views K.bytes V.bytes base.now) (stepped (entry_views K.bytes V.bytes base.now) (write_views K.bytes V.bytes writes.items) (policy_view policy.now) (option_map V.bytes metadata)) e) }
-    ensures never { IfErr result (λ e. e ≢ Error.StaleBatch) }
-    ensures same { db.new ≡ db.old }
-{
-    match made_list(alloc, base, writes, policy, metadata) {
-        Ok((tip, items)) => match sealed(alloc, db, commitment, tip, &items) {
-            Ok(batch) => Ok(batch),
-            Err(_) => Err(Error::Memory),
-        },
-        Err(error) => Err(error),
+    // The spellings of what the list has from a location on.
+    pub(crate) fn spelled_from(
+        &self,
+        alloc: Global,
+        from: u64,
+    ) -> Result<Vec<Vec<u8>>, AllocError>
+        requires { from ≤ length self.now.tip }
+        ensures items { IfOk result (λ items. map (λ v. v.items) items.items ≡ map spelling (drop from self.now.tip)) }
+        ensures count { IfOk result (λ items. from + length items.items ≡ length self.now.tip) }
+    {
+        spell_from(alloc, &self.tip, from as usize)
     }
 }
 
-// The list that writes make of a base, and the spellings of what it has behind that.
-fn made_list<F, K: Key, V: VariableValue>(
+// The merkleized batch of a list that was made on this base.
+fn sealed<F: Family, D: Digest, K: Key, V: VariableValue>(
     alloc: Global,
-    base: &[Entry<F, K, V>],
-    writes: Vec<Write<K, V>>,
-    policy: &Proportional,
-    metadata: Option<V>,
-) -> Result<(Vec<Entry<F, K, V>>, Vec<Vec<u8>>), Error>
-    ensures list { IfOk result (λ made. entry_views K.bytes V.bytes made.0.items ≡ stepped (entry_views K.bytes V.bytes base.now) (write_views K.bytes V.bytes writes.items) (policy_view policy.now) (option_map V.bytes metadata)) }
-    ensures items { IfOk result (λ made. map (λ v. v.items) made.1.items ≡ own_spellings (entry_views K.bytes V.bytes base.now) (entry_views K.bytes V.bytes made.0.items)) }
-    ensures count { IfOk result (λ made. length base.now + length made.1.items ≡ length made.0.items) }
-    ensures few { IfOk result (λ made. length made.0.items ≤ 2 ^ 62) }
-    ensures taken { IfOk result (λ made. IsTaken (entry_views K.bytes V.bytes base.now) (entry_views K.bytes V.bytes made.0.items)) }
-    ensures refused { IfErr result (λ e. IsRefused (entry_views K.bytes V.bytes base.now) (stepped (entry_views K.bytes V.bytes base.now) (write_views K.bytes V.bytes writes.items) (policy_view policy.now) (option_map V.bytes metadata)) e) }
-    ensures never { IfErr result (λ e. e ≢ Error.StaleBatch) }
-{
-    let tip = tip_of(alloc, base, writes, policy, metadata)?;
-    let items = spell_own(alloc, &tip, base.len())?;
-    match refuse(&items, tip.len()) {
-        Ok(()) => Ok((tip, items)),
-        Err(error) => Err(error),
-    }
-}
-
-// The merkleized batch from a base to a list that has these spellings behind the database's.
-fn sealed<F: Family, C: Store, D: Digest, H: Hasher<Digest = D> + Drop, K: Key, V: VariableValue>(
-    alloc: Global,
-    db: &mut Db<F, C, D, H, Unordered<K, V>>,
     base: Commitment<D>,
+    tips: Vec<Commitment<D>>,
+    kept: Vec<Ancestor<D>>,
     tip: Vec<Entry<F, K, V>>,
-    items: &[Vec<u8>],
+    made: Commitment<D>,
 ) -> Result<Rc<MerkleizedBatch<F, D, Unordered<K, V>>>, AllocError>
-    requires room { length db.old.list + length items.now ≡ length tip.items }
+    requires size { made.size ≡ length tip.items }
     requires few { length tip.items ≤ 2 ^ 62 }
-    requires size { base.size ≤ length tip.items }
-    ensures base { IfOk result (λ b. b.value.base ≡ commitment_view D.bytes base) }
-    ensures tip { IfOk result (λ b. b.value.tip ≡ entry_views K.bytes V.bytes tip.items) }
-    ensures made { (list : List Operation) → IsListLog C.Store F.shape D.bytes H.hash db.old.log list → map spelling list ++ map (λ v. v.items) items.now ≡ map spelling (entry_views K.bytes V.bytes tip.items)
-        → IfOk result (λ b. b.value.made ≡ list_commitment H.hash F.shape (entry_views K.bytes V.bytes tip.items)) }
-    ensures same { db.new ≡ db.old }
+    requires base { base.size ≤ length tip.items }
+    requires tips { map (commitment_view D.bytes) tips.items ≡ map (λ k. k.tip) (map (ancestor_view D.bytes) kept.items) }
+    requires kept { All (λ k. (k.base.size ≤ length tip.items) × (k.tip.size ≤ length tip.items)) kept.items }
+    ensures bounds { IfOk result (λ b. b.value.bounds ≡ record { base = commitment_view D.bytes base; db = oldest (commitment_view D.bytes base) (map (ancestor_view D.bytes) kept.items); tip = commitment_view D.bytes made; ancestors = map (λ k. k.tip) (map (ancestor_view D.bytes) kept.items); inactivity_floor = lives.floor (entry_views K.bytes V.bytes tip.items) }) }
+    ensures kept { IfOk result (λ b. b.value.kept ≡ map (ancestor_view D.bytes) kept.items) }
+    ensures list { IfOk result (λ b. b.value.tip ≡ entry_views K.bytes V.bytes tip.items) }
 {
-    let made = db.commitment_with(alloc, &tip, items)?;
+    let bounds = bounds_of(base, tips, &kept, &tip, made);
     let tip = Rc::new(alloc, tip)?;
-    let batch = Rc::new(alloc, MerkleizedBatch { base, tip, made })?;
-    Ok(batch)
+    MerkleizedBatch::of_parts(alloc, bounds, kept, tip)
 }
 
-// The list after a step of the base.
-fn tip_of<F, K: Key, V: VariableValue>(
-    alloc: Global,
-    base: &[Entry<F, K, V>],
-    writes: Vec<Write<K, V>>,
-    policy: &Proportional,
-    metadata: Option<V>,
-) -> Result<Vec<Entry<F, K, V>>, AllocError>
-    ensures list { IfOk result (λ tip. entry_views K.bytes V.bytes tip.items ≡ stepped (entry_views K.bytes V.bytes base.now) (write_views K.bytes V.bytes writes.items) (policy_view policy.now) (option_map V.bytes metadata)) }
-    ensures count { IfOk result (λ tip. length base.now ≤ length tip.items) }
+// The bounds of a batch that makes this list on a base.
+fn bounds_of<F, D: Digest, K: Key, V: VariableValue>(
+    base: Commitment<D>,
+    tips: Vec<Commitment<D>>,
+    kept: &[Ancestor<D>],
+    tip: &[Entry<F, K, V>],
+    made: Commitment<D>,
+) -> Bounds<F, D>
+    ensures { result ≡ record { base = commitment_view D.bytes base; db = oldest (commitment_view D.bytes base) (map (ancestor_view D.bytes) kept.now); tip = commitment_view D.bytes made; ancestors = map (commitment_view D.bytes) tips.items; inactivity_floor = lives.floor (entry_views K.bytes V.bytes tip.now) } }
 {
-    let list = twin_list(alloc, base)?;
-    step(alloc, list, writes, policy, metadata)
-}
-
-// The spellings of the operations from a location on.
-fn spell_own<F, K: Key, V: VariableValue>(
-    alloc: Global,
-    operations: &[Entry<F, K, V>],
-    from: usize,
-) -> Result<Vec<Vec<u8>>, AllocError>
-    requires { from ≤ length operations.now }
-    ensures items { IfOk result (λ items. map (λ v. v.items) items.items ≡ map spelling (drop from (entry_views K.bytes V.bytes operations.now))) }
-    ensures count { IfOk result (λ items. from + length items.items ≡ length operations.now) }
-{
-    let (_, own) = operations.split_at(from);
-    spell_all(alloc, own)
-}
-
-// Refuses the first spelling that is too long, then a list of too many operations.
-fn refuse(items: &[Vec<u8>], size: usize) -> Result<(), Error>
-    ensures ok { OnOk result ((too_long (map (λ v. v.items) items.now) ≡ None) × (size ≤ 2 ^ 62)) }
-    ensures err { IfErr result (λ e. IsTooLong (map (λ v. v.items) items.now) size e) }
-{
-    for item in items {
-        if item.len() > MAX_SPELLING {
-            return Err(Error::Journal(JournalError::ItemTooLarge(item.len() as u64)));
-        }
+    Bounds {
+        base,
+        db: oldest_of(&base, kept),
+        tip: made,
+        ancestors: tips,
+        inactivity_floor: Location::new(floor(tip)),
     }
-    let size = size as u64;
-    if size > MAX_OPERATIONS {
-        return Err(Error::Merkle(MerkleError::LocationOverflow(size)));
-    }
-    Ok(())
 }
 
-// Whether the write is to the key.
-fn is_to<K: Key, V: VariableValue>(write: &Write<K, V>, key: &K) -> bool
-    ensures { result ≡ bytes_eq (write_view K.bytes V.bytes write.now).key (K.bytes key.now) }
+// The state after a batch's operations.
+fn state_after<F, D: Digest>(bounds: &Bounds<F, D>) -> Commitment<D>
+    ensures { commitment_view D.bytes result ≡ bounds.now.tip }
 {
-    write.key.as_bytes() == key.as_bytes()
-}
-
-// The last write of a key.
-fn last_write<'a, K: Key, V: VariableValue>(
-    writes: &'a [Write<K, V>],
-    key: &K,
-) -> Option<&'a Write<K, V>>
-    ensures { option_map (λ w. write_view K.bytes V.bytes w.now) result ≡ write_of (last_writes (write_views K.bytes V.bytes writes.now)) (K.bytes key.now) }
-{
-    let mut found = None;
-    for write in writes {
-        if is_to(write, key) {
-            found = Some(write);
-        }
-    }
-    found
+    bounds.tip
 }

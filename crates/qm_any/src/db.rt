@@ -1,22 +1,24 @@
 //! The database.
 
 ghost use Rattle.std.specs.Prelude.{◌≡◌, ◌⊎◌, ◌≤◌, ◌+◌, ◌^◌, ◌++◌, [], List, nat_lt, true, false, length, map, drop, option_map, if◌then◌else◌, IfOk, IfErr, OnOk};
-ghost use Rattle.qm_model.specs.Batches.{same};
+ghost use Rattle.qm_model.specs.Batches.{Chain, IsOnChain};
 ghost use Rattle.qm_model.specs.Causes.{IsCause};
 ghost use Rattle.qm_model.specs.Live as lives;
 ghost use Rattle.qm_model.specs.Operations.{Operation, spelling};
 ghost use Rattle.qm_store.specs.Log as logs;
-ghost use Rattle.qm_any.specs.Databases.{Database, IsDatabase, IsListLog, LeadsTo, commitment_view, list_commitment};
+ghost use Rattle.qm_chain.specs.Bounds.{commitment_view, is_at};
+ghost use Rattle.qm_any.specs.Databases.{Database, IsDatabase, IsListLog, IsMade, at_rest, list_commitment};
 ghost use Rattle.qm_any.specs.Given.{Appended, AppendedPart, store_given};
 ghost use Rattle.qm_any.specs.ListViews.{entry_views};
 
-use crate::batch::{MerkleizedBatch, UnmerkleizedBatch};
-use crate::lists::{Entry, floor, has_live, last_metadata, spell_all, twin_option, value_of};
+use crate::batch::{MerkleizedBatch, UnmerkleizedBatch, values_of};
+use crate::lists::{Entry, floor, has_live, last_metadata, twin_option, value_of};
 use crate::refusal::{Given, Refusal};
 use qm_base::update::{Unordered, Update};
 use qm_base::{
     Commitment, Digest, Error, Hasher, JournalError, Key, Location, VariableValue, operation,
 };
+use qm_chain::Bounds;
 use qm_merkle::Family;
 use qm_store::{AuthLog, LogGiven, LogRefusal, Store};
 use std::alloc::{AllocError, Global};
@@ -35,20 +37,14 @@ pub struct Db<F: Family, C: Store, D: Digest, H, U: Update> {
 impl<F: Family, C: Store, D: Digest, H, U: Update> Model for Db<F, C, D, H, U> {
     ghost use Rattle.std.specs.Prelude.{◌≡◌, length};
     ghost use Rattle.qm_base.specs.Views.{operation_views};
-    ghost use Rattle.qm_any.specs.Databases.{Database, commitment_view};
+    ghost use Rattle.qm_chain.specs.Bounds.{commitment_view};
+    ghost use Rattle.qm_any.specs.Databases.{Database};
 
     ghost Value = { Database C D };
 
     ghost view = { λ db. record { list = operation_views U.view U.Key.bytes U.Value.bytes db.list.value.items; commitment = commitment_view D.bytes db.commitment; log = db.log } };
 
     ghost invariant = { λ db. (db.commitment.size ≡ length db.list.value.items) × (db.log.tree.leaves ≡ length db.list.value.items) × (C.end db.log.store ≡ length db.list.value.items) };
-}
-
-// Whether size and root both agree.
-pub(crate) fn is_same<D: Digest>(a: &Commitment<D>, b: &Commitment<D>) -> bool
-    ensures { result ≡ same (commitment_view D.bytes a.now) (commitment_view D.bytes b.now) }
-{
-    a.size == b.size && a.root.bytes() == b.root.bytes()
 }
 
 impl<F: Family, C: Store, D: Digest, H: Hasher<Digest = D> + Drop, K: Key, V: VariableValue> Db<
@@ -83,7 +79,7 @@ impl<F: Family, C: Store, D: Digest, H: Hasher<Digest = D> + Drop, K: Key, V: Va
     ) -> Result<UnmerkleizedBatch<F, D, Unordered<K, V>>, AllocError>
         ensures { IfOk result (λ b. b ≡ record { base = self.now.list; parent = at_rest self.now; kept = []; writes = [] }) }
     {
-        let base = self.list.clone()?;
+        let base = self.shared()?;
         Ok(UnmerkleizedBatch::begun(alloc, base, self.at_rest(alloc), Vec::new(alloc)))
     }
 
@@ -95,7 +91,8 @@ impl<F: Family, C: Store, D: Digest, H: Hasher<Digest = D> + Drop, K: Key, V: Va
     ) -> Result<Rc<MerkleizedBatch<F, D, Unordered<K, V>>>, AllocError>
         ensures { IfOk result (λ b. b.value ≡ record { bounds = at_rest self.now; kept = []; tip = self.now.list }) }
     {
-        todo
+        let tip = self.shared()?;
+        MerkleizedBatch::of_parts(alloc, self.at_rest(alloc), Vec::new(alloc), tip)
     }
 
     /// Whether the batch can be applied: the database is at its boundary or at a kept ancestor's tip. It takes no memory.
@@ -106,7 +103,31 @@ impl<F: Family, C: Store, D: Digest, H: Hasher<Digest = D> + Drop, K: Key, V: Va
         ensures fits { OnOk result (is_at self.now.commitment batch.now.bounds.db batch.now.bounds.ancestors ≡ true) }
         ensures stale { IfErr result (λ e. (e ≡ Error.StaleBatch) × (is_at self.now.commitment batch.now.bounds.db batch.now.bounds.ancestors ≡ false)) }
     {
-        batch.bounds().validate_apply_to(&self.commitment)
+        batch.fits(&self.commitment)
+    }
+
+    // The list, shared.
+    fn shared(&self) -> Result<Rc<Vec<Entry<F, K, V>>>, AllocError>
+        ensures list { IfOk result (λ list. entry_views K.bytes V.bytes list.value.items ≡ self.now.list) }
+        ensures size { IfOk result (λ list. self.now.commitment.size ≡ length list.value.items) }
+        ensures few { IfOk result (λ list. length list.value.items ≤ 2 ^ 62) }
+    {
+        // The log has at most 2^62 items.
+        self.log.bounds();
+        Ok(self.list.clone()?)
+    }
+
+    // The bounds of the database as a batch that does nothing.
+    fn at_rest(&self, alloc: Global) -> Bounds<F, D>
+        ensures { result ≡ at_rest self.now }
+    {
+        Bounds {
+            base: self.commitment,
+            db: self.commitment,
+            tip: self.commitment,
+            ancestors: Vec::new(alloc),
+            inactivity_floor: self.inactivity_floor_loc(),
+        }
     }
 
     /// Takes the batch's tip list, and appends to the store what it lacks of it: the operations of kept ancestors that are
@@ -129,18 +150,12 @@ impl<F: Family, C: Store, D: Digest, H: Hasher<Digest = D> + Drop, K: Key, V: Va
         ensures causes { IfErr result (λ r. (r.error ≡ Error.StaleBatch) ⊎ ((r.error ≡ Error.Memory) ⊎ (r.error ≡ Error.Journal JournalError.Store))) }
         ensures cause { IfErr result (λ r. IsCause (C.faults self.log.store) (C.faults (store_given (λ db. db.log.store) r.given)) (r.error ≡ Error.Journal JournalError.Store)) }
     {
-        if !is_same(&self.commitment, batch.base()) {
-            return Err(Refusal {
+        match parts_behind(alloc, batch, &self.commitment) {
+            Err(error) => Err(Refusal {
                 given: Given::Database(self),
-                error: Error::StaleBatch,
-            });
-        }
-        match own_parts(alloc, batch) {
-            Err(_) => Err(Refusal {
-                given: Given::Database(self),
-                error: Error::Memory,
+                error,
             }),
-            Ok((tip, items)) => self.moved(alloc, tip, *batch.tip(), &items),
+            Ok((tip, items)) => self.moved(alloc, tip, batch.tip(), &items),
         }
     }
 
@@ -216,7 +231,8 @@ impl<F: Family, C: Store, D: Digest, H: Hasher<Digest = D> + Drop, K: Key, V: Va
         ensures memory { IfErr result (λ e. e ≡ Error.Memory) }
         ensures same { self.new ≡ self.old }
     {
-        todo
+        let values = values_of(alloc, &self.list, keys)?;
+        Ok(values)
     }
 
     /// The metadata of the last commit.
@@ -348,19 +364,22 @@ fn given_back<F: Family, C: Store, D: Digest, H, K: Key, V: VariableValue>(
     }
 }
 
-// A merkleized batch's list, and the spellings of its own operations.
-fn own_parts<F: Family, D: Digest, K: Key, V: VariableValue>(
+// A batch's list, and the spellings of what it has behind a database's, where the batch can be applied there.
+fn parts_behind<F: Family, D: Digest, K: Key, V: VariableValue>(
     alloc: Global,
     batch: &MerkleizedBatch<F, D, Unordered<K, V>>,
-) -> Result<(Rc<Vec<Entry<F, K, V>>>, Vec<Vec<u8>>), AllocError>
+    current: &Commitment<D>,
+) -> Result<(Rc<Vec<Entry<F, K, V>>>, Vec<Vec<u8>>), Error>
     ensures list { IfOk result (λ parts. entry_views K.bytes V.bytes parts.0.value.items ≡ batch.now.tip) }
-    ensures size { IfOk result (λ parts. batch.now.made.size ≡ length parts.0.value.items) }
+    ensures size { IfOk result (λ parts. length batch.now.tip ≡ length parts.0.value.items) }
     ensures few { IfOk result (λ parts. length parts.0.value.items ≤ 2 ^ 62) }
-    ensures items { IfOk result (λ parts. map (λ v. v.items) parts.1.items ≡ map spelling (drop batch.now.base.size batch.now.tip)) }
-    ensures count { IfOk result (λ parts. batch.now.base.size + length parts.1.items ≡ batch.now.made.size) }
+    ensures items { IfOk result (λ parts. map (λ v. v.items) parts.1.items ≡ map spelling (drop current.now.size batch.now.tip)) }
+    ensures count { IfOk result (λ parts. current.now.size + length parts.1.items ≡ length batch.now.tip) }
+    ensures fits { OnOk result (is_at (commitment_view D.bytes current.now) batch.now.bounds.db batch.now.bounds.ancestors ≡ true) }
+    ensures stale { IfErr result (λ e. (e ≡ Error.Memory) ⊎ ((e ≡ Error.StaleBatch) × (is_at (commitment_view D.bytes current.now) batch.now.bounds.db batch.now.bounds.ancestors ≡ false))) }
 {
-    let (_, own) = batch.operations();
-    let items = spell_all(alloc, own)?;
+    batch.fits(current)?;
+    let items = batch.spelled_from(alloc, current.size)?;
     let list = batch.list()?;
     Ok((list, items))
 }

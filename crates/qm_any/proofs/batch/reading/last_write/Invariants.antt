@@ -2,7 +2,7 @@ use Rattle.std.proofs.Common.{◌≡◌, take}
 use Rattle.std.specs.Prelude.{option_map}
 use Rattle.qm_model.specs.Writes.{write_of, last_writes}
 use Rattle.qm_any.specs.ListViews.{write_view, write_views}
-use Rattle.qm_any.proofs.batch.last_write.Given as goal
+use Rattle.qm_any.proofs.batch.reading.last_write.Given as goal
 
 -- the last write so far
 abbrev pub invariant-loop-write : goal.invariant-loop-write

@@ -1,6 +1,6 @@
 use Rattle.std.proofs.Common.{◌≡◌, drop, map}
 use Rattle.qm_model.specs.Refusals.{too_long}
-use Rattle.qm_any.proofs.batch.refuse.Given as goal
+use Rattle.qm_any.proofs.batch.making.refuse.Given as goal
 
 -- what is too long is among the items that are left
 abbrev pub invariant-loop-item : goal.invariant-loop-item

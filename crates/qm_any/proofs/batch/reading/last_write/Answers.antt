@@ -2,8 +2,8 @@ use Rattle.std.proofs.Common.{ap, sym, ◌∙◌}
 use Rattle.std.specs.Prelude.{option_map}
 use Rattle.qm_any.specs.ListViews.{write_view}
 use Rattle.qm_any.proofs.Writes.{found-here, found-before}
-use Rattle.qm_any.proofs.batch.last_write.Goals.{then-is_to, else-is_to}
-use Rattle.qm_any.proofs.batch.last_write.Goals as goal
+use Rattle.qm_any.proofs.batch.reading.last_write.Goals.{then-is_to, else-is_to}
+use Rattle.qm_any.proofs.batch.reading.last_write.Goals as goal
 
 pub loop-write-preserved : goal.loop-write-preserved
 loop-write-preserved g c =
