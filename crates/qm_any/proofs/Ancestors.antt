@@ -1,13 +1,13 @@
 -- Kept ancestors: their tips, the oldest base, and the chain that they are of.
-use Rattle.std.proofs.Common.{◌≡◌, ℕ, ◌<◌, ◌≤◌, ◌+◌, ◌∙◌, ap, sym, subst, refl, true, false, Bool, ◌||◌, List, [], ◌∷◌, ◌++◌, length, take, map, get_or, zero, suc}
+use Rattle.std.proofs.Common.{◌≡◌, ℕ, ◌<◌, ◌≤◌, ◌+◌, ◌∙◌, ap, sym, subst, arith, refl, true, false, Bool, ◌||◌, List, [], ◌∷◌, ◌++◌, length, take, map, get_or, zero, suc}
 use Rattle.std.specs.Prelude.{All}
 use Rattle.std.specs.List.{list_any}
 use Rattle.std.proofs.lemmas.List.{map_more}
-use Rattle.std.proofs.lemmas.List.Elements.{All-map, All-weaker, All-head, All-tail}
+use Rattle.std.proofs.lemmas.List.Elements.{All-map, All-weaker, All-head, All-tail, All-cons, All-take}
 use Rattle.qm_model.specs.Operations.{Bytes, Operation}
 use Rattle.qm_model.specs.Batches.{Commitment, Kept, oldest_base, same}
 use Rattle.qm_model.specs.Trees.{Shape, ops_root}
-use Rattle.qm_chain.specs.Bounds.{commitment_view, is_at}
+use Rattle.qm_chain.specs.Bounds.{Bounds, commitment_view, is_at, knows}
 use Rattle.qm_any.specs.Ancestors.{ancestor_view}
 use Rattle.qm_any.specs.Databases.{Ancestor, oldest, list_commitment, ancestor_of}
 use Rattle.qm_any.specs.declared.batch.ancestors.Ancestor as declared
@@ -59,6 +59,13 @@ at-within n current boundary tips at within all =
     (λ e. subst (λ m. m ≤ n) (sym (same-size current boundary e)) within)
     (λ e. among-within n current tips e all) at
 
+-- nor has one that a batch knows
+pub known-within : (n : ℕ) (current : Commitment) (bounds : Bounds) → knows bounds current ≡ true → bounds.tip.size ≤ n → bounds.db.size ≤ n → All (λ c. c.size ≤ n) bounds.ancestors → current.size ≤ n
+known-within n current bounds known tip within all =
+    or-then (same current bounds.tip) (is_at current bounds.db bounds.ancestors) (current.size ≤ n)
+    (λ e. subst (λ m. m ≤ n) (sym (same-size current bounds.tip e)) tip)
+    (λ e. at-within n current bounds.db bounds.ancestors e within all) known
+
 -- what stands for the boundary of a chain, and for its kept tips
 pub oldest-chain : (hash : Bytes → Bytes) (shape : Shape) (base : List Operation) (kept : List Kept)
     → oldest (list_commitment hash shape base) (map (ancestor_of hash shape) kept) ≡ list_commitment hash shape (oldest_base base kept)
@@ -74,3 +81,17 @@ pub take-views : {A B : Type 0} (f : A → B) (n : ℕ) (xs : List A) → map f 
 take-views f zero xs = refl
 take-views f (suc n) [] = refl
 take-views f (suc n) (x ∷ xs) = ap (λ rest. f x ∷ rest) (take-views f n xs)
+
+-- ancestors of at most n operations have no more than a greater number
+pub kept-within-more : {D : Type 0} (n m : ℕ) (kept : List (declared.Ancestor D)) → n ≤ m → All (λ k. (k.base.size ≤ n) × (k.tip.size ≤ n)) kept → All (λ k. (k.base.size ≤ m) × (k.tip.size ≤ m)) kept
+kept-within-more {D} n m kept more all =
+    All-weaker (λ (k : declared.Ancestor D). (k.base.size ≤ n) × (k.tip.size ≤ n)) (λ (k : declared.Ancestor D). (k.base.size ≤ m) × (k.tip.size ≤ m))
+    (λ k both. let base = both.0 in let tip = both.1 in (omega (arith, base, more), omega (arith, tip, more))) kept all
+
+-- those that a child keeps
+pub child-within : {D : Type 0} (bytes : D → Bytes) (n count : ℕ) (newest : declared.Ancestor D) (older : List (declared.Ancestor D)) (base tip : Commitment)
+    → ancestor_view bytes newest ≡ record { base = base; tip = tip } → base.size ≤ n → tip.size ≤ n → All (λ k. (k.base.size ≤ n) × (k.tip.size ≤ n)) older
+    → All (λ k. (k.base.size ≤ n) × (k.tip.size ≤ n)) (newest ∷ take count older)
+child-within {D} bytes n count newest older base tip is base_within tip_within all =
+    let one : declared.Ancestor D → Type 0 = λ k. (k.base.size ≤ n) × (k.tip.size ≤ n) in
+    All-cons one newest (take count older) (subst (λ m. m ≤ n) (sym (ap (λ k. k.base.size) is)) base_within, subst (λ m. m ≤ n) (sym (ap (λ k. k.tip.size) is)) tip_within) (All-take one count older all)

@@ -1,5 +1,5 @@
 -- A merkleized batch of a chain, and the lists at which it can be made and applied.
-use Rattle.std.proofs.Common.{◌≡◌, ℕ, ◌<◌, ◌≤◌, ◌+◌, ◌-◌, ◌∙◌, ap, ap₂, sym, subst, refl, arith, Bool, true, List, length, take, drop, map, inl, inr}
+use Rattle.std.proofs.Common.{◌≡◌, ℕ, ◌<◌, ◌≤◌, ◌+◌, ◌-◌, ◌∙◌, ap, ap₂, sym, subst, refl, arith, Bool, true, List, [], length, take, drop, map, inl, inr}
 use Rattle.std.specs.Prelude.{Result, Ok, Err, IfOk, OnOk, is_ok, ◌≢◌}
 use Rattle.std.proofs.lemmas.List.{drop-map, drop-drop, length-map}
 use Rattle.qm_base.specs.declared.error.Error.{Error}
@@ -35,10 +35,18 @@ made-of hash shape batch made chain above tip stands begun bounds kept list stan
 abbrev pub bounds_with : Commitment → List Ancestor → Commitment → List Commitment → List Operation → Bounds
 bounds_with base kept stands tips tip = record { base = base; db = oldest base kept; tip = stands; ancestors = tips; inactivity_floor = floor tip }
 
-pub bounds-equal : (base stands : Commitment) (kept kept' : List Ancestor) (tips tips' : List Commitment) (tip tip' : List Operation) → kept ≡ kept' → tips ≡ tips' → tip ≡ tip'
-    → bounds_with base kept stands tips tip ≡ bounds_with base kept' stands tips' tip'
-bounds-equal base stands kept kept' tips tips' tip tip' ks ts list =
-    ap (λ x. bounds_with base x stands tips tip) ks ∙ ap (λ x. bounds_with base kept' stands x tip) ts ∙ ap (bounds_with base kept' stands tips') list
+pub bounds-equal : (base base' stands : Commitment) (kept kept' : List Ancestor) (tips tips' : List Commitment) (tip tip' : List Operation) → base ≡ base' → kept ≡ kept' → tips ≡ tips' → tip ≡ tip'
+    → bounds_with base kept stands tips tip ≡ bounds_with base' kept' stands tips' tip'
+bounds-equal base base' stands kept kept' tips tips' tip tip' below ks ts list =
+    ap (λ x. bounds_with x kept stands tips tip) below ∙ ap (λ x. bounds_with base' x stands tips tip) ks ∙ ap (λ x. bounds_with base' kept' stands x tip) ts ∙ ap (bounds_with base' kept' stands tips') list
+
+-- a batch with no writes yet
+abbrev pub begun_with : List Operation → Bounds → List Ancestor → Begun
+begun_with base parent kept = record { base = base; parent = parent; kept = kept; writes = [] }
+
+pub begun-equal : (base base' : List Operation) (parent parent' : Bounds) (kept kept' : List Ancestor) → base ≡ base' → parent ≡ parent' → kept ≡ kept' → begun_with base parent kept ≡ begun_with base' parent' kept'
+begun-equal base base' parent parent' kept kept' list above ks =
+    ap (λ l. begun_with l parent kept) list ∙ ap (λ p. begun_with base' p kept) above ∙ ap (begun_with base' parent') ks
 
 -- what holds of a value, by what is known of it
 pub ok-from : {X E : Type 0} (r : Result X E) {P Q : X → Type 0} → IfOk r P → ((x : X) → P x → Q x) → IfOk r Q
@@ -53,7 +61,7 @@ ok-then (Err e) test P is give = tt
 -- an error that tells what is too long is of no batch left behind
 pub too_long-fresh : (spelt : List Bytes) (size : ℕ) (e : Error) → IsTooLong spelt size e → e ≢ errors.StaleBatch
 too_long-fresh spelt size e (inl long) stale = absurd (cc (long.2, stale))
-too_long-fresh spelt size e (inr many) stale = absurd (cc (many.1.1, stale))
+too_long-fresh spelt size e (inr many) stale = absurd (cc (many.2, stale))
 
 -- the spellings of the own operations, among those of what is behind a database's list
 pub own-part : {A B : Type 0} (view : A → Operation) (bytes : B → Bytes) (n base : ℕ) (tip : List A) (items : List B) → n ≤ base → map bytes items ≡ map spelling (drop n (map view tip))

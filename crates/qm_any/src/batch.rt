@@ -1,10 +1,12 @@
 //! Batches: writes that are recorded, and the list that they make.
 
-ghost use Rattle.std.specs.Prelude.{◌≡◌, ◌≢◌, ◌⊎◌, ◌≤◌, ◌+◌, ◌^◌, ◌++◌, ◌∷◌, [], List, true, false, length, map, take, drop, option_map, All, IfOk, IfErr, OnOk};
+ghost use Rattle.std.specs.Prelude.{◌≡◌, ◌≢◌, ◌⊎◌, ◌≤◌, ◌+◌, ◌^◌, ◌++◌, ◌∷◌, ℕ, [], List, true, false, length, map, take, drop, option_map, All, IfOk, IfErr, OnOk};
 ghost use Rattle.qm_model.specs.Batches.{Chain, IsKnown, IsOnChain};
 ghost use Rattle.qm_model.specs.Live as lives;
 ghost use Rattle.qm_model.specs.Operations.{Operation, spelling};
+ghost use Rattle.qm_model.specs.Proofs.{ops_proof, pins_at};
 ghost use Rattle.qm_model.specs.Writes.{read_through};
+ghost use Rattle.qm_merkle.specs.Proofs.{proof_view};
 ghost use Rattle.qm_chain.specs.Bounds.{commitment_view, is_at, knows};
 ghost use Rattle.qm_any.specs.Ancestors.{ancestor_view};
 ghost use Rattle.qm_any.specs.Databases.{IsDatabase, IsBegun, IsMade, child_keeps, is_on, oldest, stepped};
@@ -16,10 +18,10 @@ use crate::lists::{Entry, Write, floor, spell_from, twin_option, value_of};
 use crate::policy::Proportional;
 use qm_base::update::{Unordered, Update};
 use qm_base::{
-    Commitment, Digest, Error, Hasher, Key, Location, Twin, VariableValue, operation,
+    Commitment, Digest, Error, Hasher, Key, Location, MerkleError, Twin, VariableValue, operation,
 };
 use qm_chain::Bounds;
-use qm_merkle::Family;
+use qm_merkle::{Family, Proof};
 use qm_store::Store;
 use std::alloc::{AllocError, Global};
 use std::marker::Model;
@@ -232,13 +234,9 @@ impl<F: Family, D: Digest, K: Key, V: VariableValue> MerkleizedBatch<F, D, Unord
     ) -> Result<UnmerkleizedBatch<F, D, Unordered<K, V>>, AllocError>
         ensures { IfOk result (λ b. b ≡ record { base = self.now.tip; parent = self.now.bounds; kept = child_keeps self.now (take n self.now.kept); writes = [] }) }
     {
-        let newest = Ancestor {
-            base: self.bounds.base,
-            tip: self.bounds.tip,
-        };
-        let kept = keeping(alloc, newest, &self.kept, n)?;
-        let parent = self.bounds.twin(alloc)?;
-        let base = self.tip.clone()?;
+        let base = self.list()?;
+        let kept = self.kept_by_child(alloc, n)?;
+        let parent = self.bounds().twin(alloc)?;
         Ok(UnmerkleizedBatch::begun(alloc, base, parent, kept))
     }
 
@@ -276,6 +274,48 @@ impl<F: Family, D: Digest, K: Key, V: VariableValue> MerkleizedBatch<F, D, Unord
         Ok(values)
     }
 
+    /// The proof of the batch's own operations in the list that it makes. It verifies against the batch's root.
+    pub fn proof<C: Store, H: Hasher<Digest = D> + Drop>(
+        &self,
+        alloc: Global,
+        db: &mut Db<F, C, D, H, Unordered<K, V>>,
+    ) -> Result<Proof<D>, Error>
+        ensures proof { (list : List Operation) (chain : Chain) (tip : List Operation) → IsDatabase C.Store F.shape D.bytes H.hash db.old list → IsMade H.hash F.shape self.now chain tip → IsKnown list chain tip
+            → IfOk result (λ p. proof_view D.bytes p ≡ ops_proof H.hash F.shape tip (length chain.base) (length tip)) }
+        ensures readable { OnOk result (knows self.now.bounds db.old.commitment ≡ true) }
+        ensures stale { IfErr result (λ e. e ≡ Error.StaleRead → knows self.now.bounds db.old.commitment ≡ false) }
+        ensures never { IfErr result (λ e. (e ≡ Error.Memory) ⊎ ((e ≡ Error.StaleRead) ⊎ ((p : ℕ) × (e ≡ Error.Merkle (MerkleError.ElementPruned p))))) }
+        ensures whole { C.start db.old.log.store ≡ 0 → (list : List Operation) (chain : Chain) (tip : List Operation) → IsDatabase C.Store F.shape D.bytes H.hash db.old list → IsMade H.hash F.shape self.now chain tip → IsKnown list chain tip
+            → IfErr result (λ e. e ≡ Error.Memory) }
+        ensures same { db.new ≡ db.old }
+    {
+        let state = *db.commitment();
+        self.known(&state)?;
+        let items = self.spelled_from(alloc, state.size)?;
+        db.proof_with(alloc, &items, self.floor(), self.start())
+    }
+
+    /// The digests of the peaks over the list that the batch was made from, from left to right.
+    pub fn pinned_nodes<C: Store, H: Hasher<Digest = D> + Drop>(
+        &self,
+        alloc: Global,
+        db: &mut Db<F, C, D, H, Unordered<K, V>>,
+    ) -> Result<Vec<D>, Error>
+        ensures pins { (list : List Operation) (chain : Chain) (tip : List Operation) → IsDatabase C.Store F.shape D.bytes H.hash db.old list → IsMade H.hash F.shape self.now chain tip → IsKnown list chain tip
+            → IfOk result (λ pins. map D.bytes pins.items ≡ pins_at H.hash F.shape tip (length chain.base)) }
+        ensures readable { OnOk result (knows self.now.bounds db.old.commitment ≡ true) }
+        ensures stale { IfErr result (λ e. e ≡ Error.StaleRead → knows self.now.bounds db.old.commitment ≡ false) }
+        ensures never { IfErr result (λ e. (e ≡ Error.Memory) ⊎ ((e ≡ Error.StaleRead) ⊎ ((p : ℕ) × (e ≡ Error.Merkle (MerkleError.ElementPruned p))))) }
+        ensures whole { C.start db.old.log.store ≡ 0 → (list : List Operation) (chain : Chain) (tip : List Operation) → IsDatabase C.Store F.shape D.bytes H.hash db.old list → IsMade H.hash F.shape self.now chain tip → IsKnown list chain tip
+            → IfErr result (λ e. e ≡ Error.Memory) }
+        ensures same { db.new ≡ db.old }
+    {
+        let state = *db.commitment();
+        self.known(&state)?;
+        let items = self.spelled_from(alloc, state.size)?;
+        db.pins_with(alloc, &items, self.start())
+    }
+
     // The merkleized batch of these bounds, kept ancestors and list.
     pub(crate) fn of_parts(
         alloc: Global,
@@ -294,6 +334,19 @@ impl<F: Family, D: Digest, K: Key, V: VariableValue> MerkleizedBatch<F, D, Unord
         Ok(Rc::new(alloc, MerkleizedBatch { bounds, kept, tip })?)
     }
 
+    // The ancestors that a child keeps: this one, and the first `n` that this one keeps.
+    fn kept_by_child(
+        &self,
+        alloc: Global,
+        n: usize,
+    ) -> Result<Vec<Ancestor<D>>, AllocError>
+        ensures kept { IfOk result (λ kept. map (ancestor_view D.bytes) kept.items ≡ child_keeps self.now (take n self.now.kept)) }
+        ensures within { IfOk result (λ kept. All (λ k. (k.base.size ≤ length self.now.tip) × (k.tip.size ≤ length self.now.tip)) kept.items) }
+    {
+        let newest = as_ancestor(&self.bounds);
+        keeping(alloc, newest, &self.kept, n)
+    }
+
     // Whether the batch can be applied at this state of a database, whose list is then no longer than the batch's.
     pub(crate) fn fits(&self, current: &Commitment<D>) -> Result<(), Error>
         ensures fits { OnOk result (is_at (commitment_view D.bytes current.now) self.now.bounds.db self.now.bounds.ancestors ≡ true) }
@@ -301,6 +354,30 @@ impl<F: Family, D: Digest, K: Key, V: VariableValue> MerkleizedBatch<F, D, Unord
         ensures within { OnOk result (current.now.size ≤ length self.now.tip) }
     {
         self.bounds.validate_apply_to(current)
+    }
+
+    // Whether the batch can be read at this state of a database, whose list is then no longer than the batch's.
+    fn known(&self, current: &Commitment<D>) -> Result<(), Error>
+        ensures readable { OnOk result (knows self.now.bounds (commitment_view D.bytes current.now) ≡ true) }
+        ensures stale { IfErr result (λ e. (e ≡ Error.StaleRead) × (knows self.now.bounds (commitment_view D.bytes current.now) ≡ false)) }
+        ensures within { OnOk result (current.now.size ≤ length self.now.tip) }
+    {
+        self.bounds.compatible(current)
+    }
+
+    // Where the batch's own operations begin.
+    fn start(&self) -> u64
+        ensures value { result ≡ self.now.bounds.base.size }
+        ensures within { result ≤ length self.now.tip }
+    {
+        self.bounds.base.size
+    }
+
+    // The floor of the batch's commit.
+    fn floor(&self) -> u64
+        ensures { result ≡ self.now.bounds.inactivity_floor }
+    {
+        self.bounds.inactivity_floor.get()
     }
 
     // Size and root of the list that the batch makes.
@@ -314,7 +391,8 @@ impl<F: Family, D: Digest, K: Key, V: VariableValue> MerkleizedBatch<F, D, Unord
     // The list that the batch makes, shared.
     pub(crate) fn list(&self) -> Result<Rc<Vec<Entry<F, K, V>>>, AllocError>
         ensures list { IfOk result (λ list. entry_views K.bytes V.bytes list.value.items ≡ self.now.tip) }
-        ensures size { IfOk result (λ list. length self.now.tip ≡ length list.value.items) }
+        ensures size { IfOk result (λ list. self.now.bounds.tip.size ≡ length list.value.items) }
+        ensures count { IfOk result (λ list. length self.now.tip ≡ length list.value.items) }
         ensures few { IfOk result (λ list. length list.value.items ≤ 2 ^ 62) }
     {
         Ok(self.tip.clone()?)
@@ -329,6 +407,7 @@ impl<F: Family, D: Digest, K: Key, V: VariableValue> MerkleizedBatch<F, D, Unord
         requires { from ≤ length self.now.tip }
         ensures items { IfOk result (λ items. map (λ v. v.items) items.items ≡ map spelling (drop from self.now.tip)) }
         ensures count { IfOk result (λ items. from + length items.items ≡ length self.now.tip) }
+        ensures few { length self.now.tip ≤ 2 ^ 62 }
     {
         spell_from(alloc, &self.tip, from as usize)
     }
@@ -381,4 +460,14 @@ fn state_after<F, D: Digest>(bounds: &Bounds<F, D>) -> Commitment<D>
     ensures { commitment_view D.bytes result ≡ bounds.now.tip }
 {
     bounds.tip
+}
+
+// The batch of these bounds as a kept ancestor.
+fn as_ancestor<F, D: Digest>(bounds: &Bounds<F, D>) -> Ancestor<D>
+    ensures { ancestor_view D.bytes result ≡ record { base = bounds.now.base; tip = bounds.now.tip } }
+{
+    Ancestor {
+        base: bounds.base,
+        tip: bounds.tip,
+    }
 }

@@ -13,4 +13,4 @@ returns-clause-within g c =
     let n = length c.self.inside.tip.value.items in
     let long : n ≡ length c.args.self.now.tip = sym (length-map c.self.inside.tip.value.items (entry_view g.K.ByteString.bytes g.V.ByteString.bytes)) ∙ ap (λ b. length b.tip) c.self.view_is in
     ok-then c.validate_apply_to.result (is_at current bounds.db bounds.ancestors) (c.args.current.now.size ≤ length c.args.self.now.tip) c.validate_apply_to.ensures.exact
-    (λ at. subst (λ m. c.args.current.now.size ≤ m) long (at-within n current bounds.db bounds.ancestors at c.self.invariant.1.1.1.0 c.self.invariant.1.1.1.1.0))
+    (λ at. subst (λ m. c.args.current.now.size ≤ m) long (at-within n current bounds.db bounds.ancestors at c.self.invariant.3 c.self.invariant.4))
