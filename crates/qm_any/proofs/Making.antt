@@ -1,12 +1,14 @@
 -- A merkleized batch of a chain, and the lists at which it can be made and applied.
-use Rattle.std.proofs.Common.{◌≡◌, ℕ, ◌<◌, ◌≤◌, ◌+◌, ◌-◌, ◌∙◌, ap, ap₂, sym, subst, refl, arith, Bool, true, List, [], length, take, drop, map, inl, inr}
+use Rattle.std.proofs.Common.{◌≡◌, ℕ, ◌<◌, ◌≤◌, ◌+◌, ◌-◌, ◌∙◌, ap, ap₂, sym, subst, refl, arith, Bool, true, false, List, [], length, take, drop, map, inl, inr}
 use Rattle.std.specs.Prelude.{Result, Ok, Err, IfOk, OnOk, is_ok, ◌≢◌}
 use Rattle.std.proofs.lemmas.List.{drop-map, drop-drop, length-map}
 use Rattle.qm_base.specs.declared.error.Error.{Error}
 use Rattle.qm_base.specs.declared.error.Error.TheVariants as errors
 use Rattle.qm_model.specs.Operations.{Bytes, Operation, spelling}
-use Rattle.qm_model.specs.Batches.{Commitment, Chain, Begins}
-use Rattle.qm_chain.specs.Bounds.{Bounds}
+use Rattle.qm_model.specs.Batches.{Commitment, Chain, Begins, IsKnown, commitment, readable}
+use Rattle.qm_model.proofs.Chains.{readable-known}
+use Rattle.qm_chain.specs.Bounds.{Bounds, IsBounds, knows}
+use Rattle.qm_chain.proofs.Fits.{at-readable}
 use Rattle.qm_model.specs.Live.{floor}
 use Rattle.qm_model.specs.Trees.{Shape}
 use Rattle.qm_any.specs.Databases.{Ancestor, Begun, Made, IsBegun, IsMade, oldest, list_commitment, ancestor_of}
@@ -57,6 +59,13 @@ ok-from (Err e) p give = tt
 pub ok-then : {X E : Type 0} (r : Result X E) (test : Bool) (P : Type 0) → is_ok r ≡ test → (test ≡ true → P) → OnOk r P
 ok-then (Ok x) test P is give = give (sym is)
 ok-then (Err e) test P is give = tt
+
+-- a batch at a list that it knows is not refused as stale
+pub known-read : (root : List Operation → Bytes) (bounds : Bounds) (chain : Chain) (tip list : List Operation) (current : Commitment) {P : Type 0} → IsBounds root bounds chain tip → current ≡ commitment root list → IsKnown list chain tip
+    → knows bounds current ≡ false → P
+known-read root bounds chain tip list current is at known stale =
+    let read : knows bounds current ≡ true = at-readable root bounds chain tip current is ∙ ap (λ k. readable root k chain tip) at ∙ readable-known root list chain tip known in
+    absurd (cc (stale, read))
 
 -- an error that tells what is too long is of no batch left behind
 pub too_long-fresh : (spelt : List Bytes) (size : ℕ) (e : Error) → IsTooLong spelt size e → e ≢ errors.StaleBatch

@@ -33,8 +33,8 @@ mod reading;
 
 use ancestors::{Ancestor, keeping, oldest_of, tips_where_on};
 use making::made_on;
-use reading::{read, read_all};
 pub(crate) use reading::values_of;
+use reading::{read, read_all};
 
 /// A batch: writes that are recorded on a list, which is a database's or a merkleized batch's.
 #[derive(Drop)]
@@ -335,11 +335,7 @@ impl<F: Family, D: Digest, K: Key, V: VariableValue> MerkleizedBatch<F, D, Unord
     }
 
     // The ancestors that a child keeps: this one, and the first `n` that this one keeps.
-    fn kept_by_child(
-        &self,
-        alloc: Global,
-        n: usize,
-    ) -> Result<Vec<Ancestor<D>>, AllocError>
+    fn kept_by_child(&self, alloc: Global, n: usize) -> Result<Vec<Ancestor<D>>, AllocError>
         ensures kept { IfOk result (λ kept. map (ancestor_view D.bytes) kept.items ≡ child_keeps self.now (take n self.now.kept)) }
         ensures within { IfOk result (λ kept. All (λ k. (k.base.size ≤ length self.now.tip) × (k.tip.size ≤ length self.now.tip)) kept.items) }
     {
@@ -399,11 +395,7 @@ impl<F: Family, D: Digest, K: Key, V: VariableValue> MerkleizedBatch<F, D, Unord
     }
 
     // The spellings of what the list has from a location on.
-    pub(crate) fn spelled_from(
-        &self,
-        alloc: Global,
-        from: u64,
-    ) -> Result<Vec<Vec<u8>>, AllocError>
+    pub(crate) fn spelled_from(&self, alloc: Global, from: u64) -> Result<Vec<Vec<u8>>, AllocError>
         requires { from ≤ length self.now.tip }
         ensures items { IfOk result (λ items. map (λ v. v.items) items.items ≡ map spelling (drop from self.now.tip)) }
         ensures count { IfOk result (λ items. from + length items.items ≡ length self.now.tip) }

@@ -14,5 +14,5 @@ pub use open::{hasher, init, initial_root};
 pub use policy::Proportional;
 pub use refusal::{Given, Refusal};
 
-
-
+#[cfg(test)]
+mod tests;

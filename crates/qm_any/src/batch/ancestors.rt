@@ -36,10 +36,7 @@ pub(super) fn tips_where_on<D: Digest>(
 }
 
 // Their tips.
-fn tips_of<D: Digest>(
-    alloc: Global,
-    kept: &[Ancestor<D>],
-) -> Result<Vec<Commitment<D>>, AllocError>
+fn tips_of<D: Digest>(alloc: Global, kept: &[Ancestor<D>]) -> Result<Vec<Commitment<D>>, AllocError>
     ensures { IfOk result (λ tips. map (commitment_view D.bytes) tips.items ≡ map (λ k. k.tip) (map (ancestor_view D.bytes) kept.now)) }
 {
     let mut tips = Vec::new(alloc);
@@ -50,10 +47,7 @@ fn tips_of<D: Digest>(
 }
 
 /// The boundary of a batch on this base: the base of the oldest, or this one where none is kept.
-pub(super) fn oldest_of<D: Digest>(
-    base: &Commitment<D>,
-    kept: &[Ancestor<D>],
-) -> Commitment<D>
+pub(super) fn oldest_of<D: Digest>(base: &Commitment<D>, kept: &[Ancestor<D>]) -> Commitment<D>
     ensures { commitment_view D.bytes result ≡ oldest (commitment_view D.bytes base.now) (map (ancestor_view D.bytes) kept.now) }
 {
     let mut oldest = *base;

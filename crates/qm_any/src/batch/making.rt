@@ -13,9 +13,7 @@ use crate::db::Db;
 use crate::lists::{Entry, Write, spell_from, step, twin_list};
 use crate::policy::Proportional;
 use qm_base::update::Unordered;
-use qm_base::{
-    Commitment, Digest, Error, Hasher, JournalError, Key, MerkleError, VariableValue,
-};
+use qm_base::{Commitment, Digest, Error, Hasher, JournalError, Key, MerkleError, VariableValue};
 use qm_merkle::Family;
 use qm_store::Store;
 use std::alloc::{AllocError, Global};
@@ -123,4 +121,3 @@ fn refuse(items: &[Vec<u8>], size: usize) -> Result<(), Error>
     }
     Ok(())
 }
-

@@ -1,7 +1,10 @@
-use Rattle.std.proofs.Common.{◌≡◌, ◌∙◌, length, drop, map, ap, sym, subst, IfOk}
+use Rattle.std.proofs.Common.{◌≡◌, ◌∙◌, length, drop, map, ap, subst, IfOk}
 use Rattle.qm_model.specs.Operations.{spelling}
 use Rattle.qm_model.proofs.Chains.{known-begins}
 use Rattle.qm_model.specs.Proofs.{pins_at}
+use Rattle.qm_model.specs.Trees.{ops_root}
+use Rattle.qm_chain.specs.Bounds.{commitment_view}
+use Rattle.qm_any.proofs.Making.{known-read}
 use Rattle.qm_any.proofs.LogSteps.{spelled-behind}
 use Rattle.qm_any.proofs.batch.MerkleizedBatch+F+D+Unordered+K+V.pinned_nodes.Goals as goal
 
@@ -18,3 +21,7 @@ returns-clause-pins g c = λ list chain tip is made known.
 
 pub returns-clause-whole : goal.returns-clause-whole
 returns-clause-whole g c = λ first list chain tip is made known. c.pins_with.ensures.whole first list is.log
+
+pub returns-in_err-known-clause-whole : goal.returns-in_err-known-clause-whole
+returns-in_err-known-clause-whole g c = λ first list chain tip is made known.
+    known-read (ops_root g.H.Hasher.hash g.F.Family.shape) c.args.self.now.bounds chain tip list (commitment_view g.D.Digest.bytes c.commitment.result.now) made.bounds (c.commitment.ensures.value ∙ is.commitment) known c.in_err-known.ensures.stale.1

@@ -1,4 +1,4 @@
-use Rattle.std.proofs.Common.{◌≡◌, ◌≤◌, ◌∙◌, length, map, ap, ap₂, sym, subst, arith, option_map}
+use Rattle.std.proofs.Common.{◌≡◌, ◌≤◌, ◌∙◌, length, map, ap, sym, subst, arith, option_map}
 use Rattle.std.specs.Prelude.{All}
 use Rattle.qm_model.specs.Batches.{Begins}
 use Rattle.qm_model.proofs.Chains.{on_chain-begins}
@@ -6,7 +6,7 @@ use Rattle.qm_chain.specs.Bounds.{commitment_view}
 use Rattle.qm_any.specs.Ancestors.{ancestor_view}
 use Rattle.qm_any.specs.Databases.{oldest, list_commitment, stepped}
 use Rattle.qm_any.specs.ListViews.{entry_views, write_views, policy_view}
-use Rattle.qm_any.specs.Tips.{IsTaken}
+use Rattle.qm_any.specs.Tips.{IsTaken, IsRefused}
 use Rattle.qm_any.proofs.Ancestors.{at-within, oldest-within, tips-within, views-within, kept-within-more}
 use Rattle.qm_any.proofs.LogSteps.{step-begins}
 use Rattle.qm_any.proofs.Making.{made-of, bounds-equal}
@@ -21,7 +21,7 @@ made_on-requires-after_bounds g c =
     let state : c.state_after-state.result.size ≡ c.self.inside.parent.tip.size = ap (λ k. k.size) c.state_after-state.ensures in
     let low : c.state_after-state.result.size ≤ n = omega (arith, state, c.self.invariant.0) in
     let at : c.commitment.result.now.size ≤ n = at-within n (commitment_view bytes c.commitment.result.now) (oldest (commitment_view bytes c.state_after-state.result) kept) (map (λ k. k.tip) kept)
-        c.in-Ok.ensures.fits (oldest-within n (commitment_view bytes c.state_after-state.result) kept low within) (tips-within n kept within) in
+    c.in-Ok.ensures.fits (oldest-within n (commitment_view bytes c.state_after-state.result) kept low within) (tips-within n kept within) in
     let long : length c.deref-in-Ok-2.result.now ≡ n = ap length (c.deref-in-Ok-2.ensures.value ∙ ap (λ v. v.items) c.deref-in-Ok.ensures) in
     omega (arith, c.commitment.ensures.size, at, long)
 
@@ -59,3 +59,13 @@ returns-in-Ok-sealed-clause-taken g c =
     let base = ap views (c.deref-in-Ok-2.ensures.value ∙ ap (λ v. v.items) c.deref-in-Ok.ensures) ∙ ap (λ b. b.base) c.self.view_is in
     subst (λ l. IsTaken l (stepped l c.args.self.writes policy meta)) base
     (subst (λ ws. IsTaken (views c.deref-in-Ok-2.result.now) (stepped (views c.deref-in-Ok-2.result.now) ws policy meta)) (ap (λ b. b.writes) c.self.view_is) c.in-Ok-made_on.ensures.taken)
+
+pub returns-in-Ok-clause-refused : goal.returns-in-Ok-clause-refused
+returns-in-Ok-clause-refused g c =
+    let views = entry_views g.K.ByteString.bytes g.V.ByteString.bytes in
+    let policy = policy_view c.args.policy.now in
+    let meta = option_map g.V.ByteString.bytes c.args.metadata in
+    let error = c.in-Err-made_on.error in
+    let base = ap views (c.deref-in-Ok-2.ensures.value ∙ ap (λ v. v.items) c.deref-in-Ok.ensures) ∙ ap (λ b. b.base) c.self.view_is in
+    subst (λ l. IsRefused l (stepped l c.args.self.writes policy meta) error) base
+    (subst (λ ws. IsRefused (views c.deref-in-Ok-2.result.now) (stepped (views c.deref-in-Ok-2.result.now) ws policy meta) error) (ap (λ b. b.writes) c.self.view_is) c.in-Err-made_on.ensures.refused)

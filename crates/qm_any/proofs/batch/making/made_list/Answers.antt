@@ -16,7 +16,7 @@ returns-in-Ok-clause-taken g c =
     let base = c.args.base.now in
     let behind = c.in_ok-items.ensures.items ∙ ap (λ xs. map spelling (drop c.args.from (map view xs))) c.deref.ensures.value in
     let own = ap (map (λ v. v.items)) (c.split_at.ensures.back ∙ ap (drop (length base - c.args.from)) c.deref-2.ensures.value)
-        ∙ own-part view (λ v. v.items) c.args.from (length base) c.in_ok-tip.tip.items c.in_ok-items.items.items c.requires behind in
+    ∙ own-part view (λ v. v.items) c.args.from (length base) c.in_ok-tip.tip.items c.in_ok-items.items.items c.requires behind in
     let size : c.len.result ≡ length made = omega (arith, c.len.ensures, c.in_ok-tip.tip.ok.0, length-map c.in_ok-tip.tip.items view) in
     let ok = c.in-Ok.ensures.ok in
     let few : c.len.result ≤ 2 ^ 62 = ok.1 in
@@ -32,7 +32,7 @@ returns-in-Err-clause-refused g c =
     let tip = stepped (entry_views key value base) (write_views key value c.args.writes.items) (policy_view c.args.policy.now) (option_map value c.args.metadata) in
     let behind = c.in_ok-items.ensures.items ∙ ap (λ xs. map spelling (drop c.args.from (map view xs))) c.deref.ensures.value in
     let spelled = ap (map (λ v. v.items)) (c.split_at.ensures.back ∙ ap (drop (length base - c.args.from)) c.deref-2.ensures.value)
-        ∙ own-part view (λ v. v.items) c.args.from (length base) c.in_ok-tip.tip.items c.in_ok-items.items.items c.requires behind in
+    ∙ own-part view (λ v. v.items) c.args.from (length base) c.in_ok-tip.tip.items c.in_ok-items.items.items c.requires behind in
     let own = own-spelled view base made (map (λ v. v.items) c.split_at.result.1.now) spelled ∙ ap (own_spellings (map view base)) c.in_ok-tip.ensures.list in
     let size : c.len.result ≡ length made = omega (arith, c.len.ensures, c.in_ok-tip.tip.ok.0, length-map c.in_ok-tip.tip.items view) in
     inr (inr (subst (λ n. IsTooLong (own_spellings (entry_views key value base) tip) n c.in-Err.error) (size ∙ ap length c.in_ok-tip.ensures.list) (subst (λ items. IsTooLong items c.len.result c.in-Err.error) own c.in-Err.ensures.err)))
