@@ -1,12 +1,19 @@
 -- What a log shows: the digests of nodes, and items in a row.
-use Rattle.std.proofs.Common.{◌≡◌, ℕ, zero, suc, ◌+◌, ◌-◌, ◌<◌, ◌≤◌, List, [], ◌∷◌, ◌++◌, length, map, take, drop, arith, ap, ap₂, sym, ◌∙◌, refl, subst, Option, Some, None, IfSome, ⊎_elim, All, get_or}
+use Rattle.std.proofs.Common.{◌≡◌, ℕ, zero, suc, ◌+◌, ◌-◌, ◌<◌, ◌≤◌, List, [], ◌∷◌, ◌++◌, length, map, take, drop, arith, ap, ap₂, sym, ◌∙◌, refl, subst, Option, Some, None, IfSome, ⊎_elim, All, Contains, get_or}
 use Rattle.std.specs.Prelude.{slice_get, is_none, cond}
 use Rattle.std.proofs.lemmas.List.{map-append, take-take, drop-take, drop-drop}
 use Rattle.qm_base.specs.declared.error.Error.{Error}
 use Rattle.qm_base.specs.declared.error.Error.TheVariants as errors
 use Rattle.qm_model.specs.Operations.{Bytes}
 use Rattle.qm_model.specs.Trees.{Shape, Node, digest_of}
-use Rattle.qm_merkle.specs.Proofs.{first_lacked, Tells}
+use Rattle.qm_model.specs.Families.{Births, IsFamily, HasPeaks}
+use Rattle.qm_merkle.specs.Mems.{Kept, IsWhole, Stands}
+use Rattle.qm_merkle.specs.Batches.{Batch, all_layers, IsHistory, AreThere}
+use Rattle.qm_merkle.specs.Proofs.{first_lacked, over_at, Tells}
+use Rattle.qm_merkle.proofs.Putting.{history-count}
+use Rattle.qm_merkle.proofs.Histories.{seen}
+use Rattle.qm_merkle.proofs.Telling.{layers_tell}
+use Rattle.qm_merkle.proofs.Keeping.{read_there}
 use Rattle.qm_store.specs.Log.{IsLacked}
 
 -- digests that are told of nodes are the list's
@@ -40,6 +47,22 @@ lacked_at at (q ∷ ps) (d ∷ ds) (suc k) p same lt is none =
     let head : Some d ≡ at q = cc in
     let tail : map Some ds ≡ map at (take k ps) = cc in
     ap (λ o. cond (is_none o) (Some q) (first_lacked at ps)) (sym head) ∙ lacked_at at ps ds k p tail (omega arith) is none
+
+-- a batch over a tree that stands for one of its lists
+module _ (shape : Shape) (births : Births) (family : IsFamily shape births) (peaked : HasPeaks shape) {D : Type 0} (bytes : D → Bytes) (hash : Bytes → Bytes) (tree : Kept D) (batch : Batch D)
+    (list new : List Bytes) (lists : List (List Bytes)) (stands : Stands shape bytes hash tree list) (history : IsHistory shape bytes hash (all_layers batch) (new ∷ lists)) (found : Contains (new ∷ lists) list) where
+  pub over_count : batch.newest.tree.leaves ≡ length new
+  over_count = history-count shape births family peaked bytes hash batch.newest batch.older new lists history
+
+  -- what they have is told of the newest list
+  pub over_tells : Tells shape bytes hash (over_at shape batch tree) new
+  over_tells = layers_tell shape births family peaked bytes hash tree (all_layers batch) list new lists history found stands
+
+  -- and each node of it is there, where the node over it was not there at the kept start
+  pub over_there : IsWhole shape tree → AreThere shape (all_layers batch) tree batch.newest.tree.leaves
+  over_there whole =
+      subst (AreThere shape (all_layers batch) tree) (sym over_count)
+      (read_there shape births family peaked tree bytes hash (all_layers batch) new (seen shape births family bytes hash peaked tree (all_layers batch) list new lists whole history found stands))
 
 -- a part of what a store has is that part of the list
 pub part_read : (xs list : List Bytes) (s start m : ℕ) → s ≤ start → start + m ≤ length list → take (length list - s) xs ≡ drop s list → take m (drop (start - s) xs) ≡ take m (drop start list)

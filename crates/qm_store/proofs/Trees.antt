@@ -1,5 +1,5 @@
 -- Trees that begin at a store's start, and grow by a batch of leaves.
-use Rattle.std.proofs.Common.{◌≡◌, ℕ, suc, ◌^◌, ◌≤◌, List, [], ◌∷◌, ◌++◌, length, map, take, drop, get_or, arith, ap, ap₂, sym, ◌∙◌, refl, subst, Contains}
+use Rattle.std.proofs.Common.{◌≡◌, ℕ, suc, ◌^◌, ◌≤◌, List, [], ◌∷◌, ◌++◌, length, map, take, drop, get_or, arith, ap, ap₂, sym, ◌∙◌, refl, subst, Contains, Result, Ok, Err, IfOk}
 use Rattle.std.specs.List.{concat}
 use Rattle.std.proofs.lemmas.List.{length-take-le, length-map}
 use Rattle.qm_model.specs.Operations.{Bytes}
@@ -11,6 +11,11 @@ use Rattle.qm_merkle.specs.Batches.{Draft, Batch, stops, all_layers, replaced_fr
 use Rattle.qm_merkle.proofs.Growth.{digest-append, map_same}
 use Rattle.qm_store.specs.Log.{digests_from, IsHead}
 use Rattle.qm_store.proofs.Leaves.{pieces-same, length-digests_from, digests_from-split}
+
+-- what holds of a value by two facts
+pub if_both : {X E : Type 0} (r : Result X E) (P Q R : X → Type 0) → ((x : X) → P x → Q x → R x) → IfOk r P → IfOk r Q → IfOk r R
+if_both (Ok x) P Q R make p q = make x p q
+if_both (Err e) P Q R make p q = tt
 
 -- a batch with no older ones begins where its tree ends
 pub begins : {D : Type 0} (batch : Batch D) (n : ℕ) → batch.older ≡ [] → batch.newest.tree.start ≡ n → Contains (stops batch.newest.tree.leaves (all_layers batch)) n

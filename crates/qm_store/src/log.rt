@@ -1,6 +1,6 @@
 //! Logs: a store of items and a tree over their leaves, which agree.
 
-ghost use Rattle.std.specs.Prelude.{◌≡◌, ◌≢◌, ◌↔◌, ◌⊎◌, ℕ, ◌+◌, ◌-◌, ◌*◌, ◌^◌, ◌<◌, ◌≤◌, min, IsTrue, List, ◌∷◌, ◌++◌, Contains, length, map, take, drop, slice_get};
+ghost use Rattle.std.specs.Prelude.{◌≡◌, ◌≢◌, ◌↔◌, ◌⊎◌, ℕ, ◌+◌, ◌-◌, ◌*◌, ◌^◌, ◌<◌, ◌≤◌, min, IsTrue, List, [], ◌∷◌, ◌++◌, Contains, length, map, take, drop, slice_get};
 ghost use Rattle.std.specs.Prelude.{Ok, Err, Some, None, IfSome, IfOk, IfErr, OnOk, OnErr, IsErrOf};
 ghost use Rattle.std.specs.Int.NonZero.{non_zero_u64_get};
 ghost use Rattle.std.specs.List.{concat};
@@ -8,14 +8,14 @@ ghost use Rattle.qm_model.specs.Causes.{IsCause, Rose, Grows, GrowsPart};
 ghost use Rattle.qm_model.specs.Trees as trees;
 ghost use Rattle.qm_model.specs.Proofs.{proof_of};
 ghost use Rattle.qm_merkle.specs.Mems.{Stands, node_at};
-ghost use Rattle.qm_merkle.specs.Batches.{all_layers, IsHistory};
+ghost use Rattle.qm_merkle.specs.Batches.{all_layers, stops, IsHistory};
 ghost use Rattle.qm_merkle.specs.Proofs.{proof_view, needed_positions, first_lacked, over_at};
 ghost use Rattle.qm_store.specs.Log.{Log, digests_from, IsHead, IsLog, IsKept, HasGrown, HasGrownPart, store_given, IsLacked};
 
 use crate::{Store, StoreError};
 use qm_base::{Corrupt, Digest, Error, Hasher, JournalError, Location, MerkleError};
 use qm_merkle::mem::Mem;
-use qm_merkle::{Family, MerkleizedBatch, NodesOver, Position, Proof, StandardHasher};
+use qm_merkle::{Family, MerkleizedBatch, Position, Proof, StandardHasher};
 use std::alloc::{AllocError, Global};
 use std::marker::Model;
 use std::num::NonZeroU64;
@@ -171,6 +171,21 @@ impl<F: Family, C: Store, D: Digest, H: Hasher<Digest = D> + Drop> AuthLog<F, C,
         self.tree.root(alloc, &mut self.hasher, inactive)
     }
 
+    /// The batch of the tree that puts the leaves of these items behind the tree's own.
+    pub fn tree_with(
+        &mut self,
+        alloc: Global,
+        items: &[Vec<u8>],
+    ) -> Result<MerkleizedBatch<F, D>, AllocError>
+        requires room { self.old.tree.leaves + length items.now ≤ 2 ^ 62 }
+        ensures history { (list : List (List ℕ)) → IsLog C.Store F.shape D.bytes H.hash self.old list
+            → IfOk result (λ b. IsHistory F.shape D.bytes H.hash (all_layers b) (digests_from H.hash F.shape 0 (list ++ map (λ v. v.items) items.now) ∷ digests_from H.hash F.shape 0 list ∷ [])) }
+        ensures leaves { IfOk result (λ b. b.newest.tree.leaves ≡ self.old.tree.leaves + length items.now) }
+        ensures same { self.new ≡ self.old }
+    {
+        grown_by_items(alloc, &self.tree, &mut self.hasher, items)
+    }
+
     /// The root that the tree would have with the leaves of these items behind its own, the first of whose peaks are inactive.
     pub fn root_with(
         &mut self,
@@ -184,7 +199,8 @@ impl<F: Family, C: Store, D: Digest, H: Hasher<Digest = D> + Drop> AuthLog<F, C,
             → IfOk result (λ d. D.bytes d ≡ trees.root H.hash F.shape (digests_from H.hash F.shape 0 (list ++ map (λ v. v.items) items.now)) inactive) }
         ensures same { self.new ≡ self.old }
     {
-        root_with_items(alloc, &self.tree, &mut self.hasher, items, inactive)
+        let batch = grown_by_items(alloc, &self.tree, &mut self.hasher, items)?;
+        batch.root(alloc, &mut self.hasher, inactive)
     }
 
     /// The proof of the items from `start` on, at most `max` of them, in the tree of the first `size` items, the first of
@@ -242,7 +258,7 @@ impl<F: Family, C: Store, D: Digest, H: Hasher<Digest = D> + Drop> AuthLog<F, C,
         if leaves < count {
             return Err(Error::Merkle(MerkleError::RangeOutOfBounds(count)));
         }
-        shown::peak_digests(alloc, &self.tree, count)
+        shown::kept_peaks(alloc, &self.tree, count)
     }
 
     /// The proof of the leaves from `start` up to, and without, `end`, in the tree as a batch leaves it, the first of whose
@@ -263,12 +279,31 @@ impl<F: Family, C: Store, D: Digest, H: Hasher<Digest = D> + Drop> AuthLog<F, C,
             → IfOk result (λ p. proof_view D.bytes p ≡ proof_of H.hash F.shape new inactive start end) }
         ensures held { OnOk result (first_lacked (over_at F.shape batch.now self.now.tree) (needed_positions F.shape batch.now.newest.tree.leaves start end) ≡ None) }
         ensures cause { IfErr result (IsLacked (over_at F.shape batch.now self.now.tree) (needed_positions F.shape batch.now.newest.tree.leaves start end)) }
+        ensures whole { self.now.tree.start ≤ start → (list : List (List ℕ)) (new : List (List ℕ)) (lists : List (List (List ℕ))) → IsLog C.Store F.shape D.bytes H.hash self.now list
+            → IsHistory F.shape D.bytes H.hash (all_layers batch.now) (new ∷ lists) → Contains (new ∷ lists) (digests_from H.hash F.shape 0 list)
+            → IfErr result (λ e. e ≡ Error.Memory) }
     {
-        let nodes = NodesOver {
-            batch,
-            mem: &self.tree,
-        };
-        shown::proof_from(alloc, &nodes, batch.leaves().get(), inactive, start, end)
+        shown::proof_over(alloc, batch, &self.tree, inactive, start, end)
+    }
+
+    /// The digests of the peaks over the first `at` leaves, from left to right, in the tree as a batch leaves it.
+    pub fn speculative_pinned_nodes(
+        &self,
+        alloc: Global,
+        batch: &MerkleizedBatch<F, D>,
+        at: u64,
+    ) -> Result<Vec<D>, Error>
+        requires within { at ≤ batch.now.newest.tree.leaves }
+        ensures value { (list : List (List ℕ)) (new : List (List ℕ)) (lists : List (List (List ℕ))) → IsLog C.Store F.shape D.bytes H.hash self.now list
+            → IsHistory F.shape D.bytes H.hash (all_layers batch.now) (new ∷ lists) → Contains (new ∷ lists) (digests_from H.hash F.shape 0 list)
+            → IfOk result (λ pins. map D.bytes pins.items ≡ map (trees.digest_of H.hash F.shape new) (trees.peaks F.shape at)) }
+        ensures held { OnOk result (first_lacked (over_at F.shape batch.now self.now.tree) (trees.peak_positions F.shape at) ≡ None) }
+        ensures cause { IfErr result (IsLacked (over_at F.shape batch.now self.now.tree) (trees.peak_positions F.shape at)) }
+        ensures whole { self.now.tree.start ≤ at → (list : List (List ℕ)) (new : List (List ℕ)) (lists : List (List (List ℕ))) → IsLog C.Store F.shape D.bytes H.hash self.now list
+            → IsHistory F.shape D.bytes H.hash (all_layers batch.now) (new ∷ lists) → Contains (new ∷ lists) (digests_from H.hash F.shape 0 list)
+            → IfErr result (λ e. e ≡ Error.Memory) }
+    {
+        shown::peaks_over(alloc, batch, &self.tree, at)
     }
 
     /// How many items the log has, with those before the start.
@@ -429,9 +464,8 @@ fn add_items<F: Family, D: Digest, H: Hasher<Digest = D>>(
     ensures stands { (list : List (List ℕ)) → Stands F.shape D.bytes H.hash tree.old (digests_from H.hash F.shape 0 list) → OnOk result (Stands F.shape D.bytes H.hash tree.new (digests_from H.hash F.shape 0 (list ++ map (λ v. v.items) items.now))) }
     ensures err { OnErr result (tree.new ≡ tree.old) }
 {
-    let size = tree.leaves().get();
-    let digests = item_digests::<F, D, H>(alloc, hasher, size, items)?;
-    add_leaves(alloc, tree, hasher, &digests)
+    let batch = grown_by_items(alloc, tree, hasher, items)?;
+    tree.apply_batch(&batch)
 }
 
 // The leaves' digests of items from a location on.
@@ -464,46 +498,44 @@ fn add_leaves<F: Family, D: Digest, H: Hasher<Digest = D>>(
     ensures stands { (list : List (List ℕ)) → Stands F.shape D.bytes H.hash tree.old list → OnOk result (Stands F.shape D.bytes H.hash tree.new (list ++ map D.bytes digests.now)) }
     ensures err { OnErr result (tree.new ≡ tree.old) }
 {
-    let mut batch = tree.new_batch(alloc);
-    batch.add_leaf_digests(digests)?;
-    let batch = batch.merkleize(alloc, tree, hasher)?;
+    let batch = grown(alloc, tree, hasher, digests)?;
     tree.apply_batch(&batch)
 }
 
-// The root of a tree with the leaves of items behind its own.
-fn root_with_items<F: Family, D: Digest, H: Hasher<Digest = D>>(
+// The batch that puts the leaves of items behind a tree's own.
+fn grown_by_items<F: Family, D: Digest, H: Hasher<Digest = D>>(
     alloc: Global,
     tree: &Mem<F, D>,
     hasher: &mut StandardHasher<H>,
     items: &[Vec<u8>],
-    inactive: usize,
-) -> Result<D, AllocError>
-    requires room { tree.now.leaves + length items.now ≤ 2 ^ 62 }
-    requires peaks { inactive ≤ length (trees.peaks F.shape (tree.now.leaves + length items.now)) }
-    ensures { (list : List (List ℕ)) → Stands F.shape D.bytes H.hash tree.now (digests_from H.hash F.shape 0 list)
-        → IfOk result (λ d. D.bytes d ≡ trees.root H.hash F.shape (digests_from H.hash F.shape 0 (list ++ map (λ v. v.items) items.now)) inactive) }
+) -> Result<MerkleizedBatch<F, D>, AllocError>
+    requires { tree.now.leaves + length items.now ≤ 2 ^ 62 }
+    ensures leaves { IfOk result (λ b. b.newest.tree.leaves ≡ tree.now.leaves + length items.now) }
+    ensures reach { IfOk result (λ b. Contains (stops b.newest.tree.leaves (all_layers b)) tree.now.leaves) }
+    ensures history { (list : List (List ℕ)) → Stands F.shape D.bytes H.hash tree.now (digests_from H.hash F.shape 0 list)
+        → IfOk result (λ b. IsHistory F.shape D.bytes H.hash (all_layers b) (digests_from H.hash F.shape 0 (list ++ map (λ v. v.items) items.now) ∷ digests_from H.hash F.shape 0 list ∷ [])) }
 {
     let size = tree.leaves().get();
     let digests = item_digests::<F, D, H>(alloc, hasher, size, items)?;
-    grown_root(alloc, tree, hasher, &digests, inactive)
+    grown(alloc, tree, hasher, &digests)
 }
 
-// The root of a tree with these leaves behind its own.
-fn grown_root<F: Family, D: Digest, H: Hasher<Digest = D>>(
+// The batch that puts leaves with these digests behind a tree's own.
+fn grown<F: Family, D: Digest, H: Hasher<Digest = D>>(
     alloc: Global,
     tree: &Mem<F, D>,
     hasher: &mut StandardHasher<H>,
     digests: &[D],
-    inactive: usize,
-) -> Result<D, AllocError>
-    requires room { tree.now.leaves + length digests.now ≤ 2 ^ 62 }
-    requires peaks { inactive ≤ length (trees.peaks F.shape (tree.now.leaves + length digests.now)) }
-    ensures { (list : List (List ℕ)) → Stands F.shape D.bytes H.hash tree.now list → IfOk result (λ d. D.bytes d ≡ trees.root H.hash F.shape (list ++ map D.bytes digests.now) inactive) }
+) -> Result<MerkleizedBatch<F, D>, AllocError>
+    requires { tree.now.leaves + length digests.now ≤ 2 ^ 62 }
+    ensures leaves { IfOk result (λ b. b.newest.tree.leaves ≡ tree.now.leaves + length digests.now) }
+    ensures reach { IfOk result (λ b. Contains (stops b.newest.tree.leaves (all_layers b)) tree.now.leaves) }
+    ensures history { (list : List (List ℕ)) → Stands F.shape D.bytes H.hash tree.now list
+        → IfOk result (λ b. IsHistory F.shape D.bytes H.hash (all_layers b) ((list ++ map D.bytes digests.now) ∷ list ∷ [])) }
 {
     let mut batch = tree.new_batch(alloc);
     batch.add_leaf_digests(digests)?;
-    let batch = batch.merkleize(alloc, tree, hasher)?;
-    batch.root(alloc, hasher, inactive)
+    batch.merkleize(alloc, tree, hasher)
 }
 
 // The digest of the leaf at a location with these bytes.

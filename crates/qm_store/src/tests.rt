@@ -148,7 +148,10 @@ fn a_log_proves_its_items(rt: HostRuntime) -> Result<(), Fail> {
         Ok(mut log) => {
             let root = log.root(rt.alloc(), 0)?;
             match log.append_batch(rt.alloc(), &more) {
-                Ok(log) => proves_items_of_five(&rt, rt.alloc(), log, &root)?,
+                Ok(log) => {
+                    let log = proves_items_of_five(&rt, rt.alloc(), log, &root)?;
+                    proves_behind_a_batch(&rt, rt.alloc(), log, &more)?;
+                }
                 Err(refusal) => assert_eq!(rt; refused(refusal), (Error::Memory, None)),
             }
         }
@@ -163,7 +166,9 @@ fn proves_items_of_five(
     alloc: Global,
     log: Log,
     root: &Sha256Digest,
-) -> Result<(), Error> {
+) -> Result<Log, Error>
+    ensures { IfOk result (λ l. l.tree ≡ log.tree) }
+{
     let mut log = log;
     let mut hasher = StandardHasher::new(Sha256::new());
     let from: Location<Family> = Location::new(1);
@@ -171,10 +176,29 @@ fn proves_items_of_five(
     assert_eq!(rt; items.len(), 1);
     assert!(rt; proof.verify(&mut hasher, &items, from, root));
     assert_eq!(rt; log.pinned_nodes_at(alloc, 5)?.len(), 2);
-    let batch = log.tree().new_batch(alloc);
-    let batch = batch.merkleize(alloc, log.tree(), &mut hasher)?;
-    let proof = log.speculative_proof(alloc, &batch, 0, 0, 0)?;
-    assert_eq!(rt; proof.digests.len(), 1);
+    Ok(log)
+}
+
+// That a log of eight items proves the last of three more, which a batch puts behind them, and that the proof's digests
+// are the pins before it.
+fn proves_behind_a_batch(
+    rt: &impl Abort,
+    alloc: Global,
+    log: Log,
+    more: &[Vec<u8>],
+) -> Result<(), Error>
+    requires eight { log.tree.leaves ≡ 8 }
+    requires three { length more.now ≡ 3 }
+{
+    let mut log = log;
+    let mut hasher = StandardHasher::new(Sha256::new());
+    let root = log.root_with(alloc, more, 0)?;
+    let batch = log.tree_with(alloc, more)?;
+    let mut proof = log.speculative_proof(alloc, &batch, 0, 10, 11)?;
+    let from: Location<Family> = Location::new(10);
+    assert!(rt; proof.verify(&mut hasher, &more[2..], from, &root));
+    proof.digests = log.speculative_pinned_nodes(alloc, &batch, 10)?;
+    assert!(rt; proof.verify(&mut hasher, &more[2..], from, &root));
     Ok(())
 }
 

@@ -1,0 +1,15 @@
+use Rattle.std.proofs.Common.{◌≤◌, ◌∙◌, ◌+◌, ◌++◌, ◌∷◌, [], ap, sym, subst, length, map}
+use Rattle.qm_model.specs.Trees.{peaks}
+use Rattle.qm_merkle.specs.Mems.{Stands}
+use Rattle.qm_store.specs.Log.{digests_from}
+use Rattle.qm_store.proofs.log.AuthLog.root_with.Goals as goal
+
+pub root-requires : goal.root-requires
+root-requires g c =
+    subst (λ n. c.args.inactive ≤ length (peaks g.F.Family.shape n)) (sym (c.in_ok-batch.ensures.leaves ∙ ap (λ log. log.tree.leaves + length c.args.items.now) c.self.view_is)) c.requires.peaks
+
+pub returns-clause-value : goal.returns-clause-value
+returns-clause-value g c = λ list is.
+    let leaves = digests_from g.H.Hasher.hash g.F.Family.shape 0 in
+    let stands = subst (λ log. Stands g.F.Family.shape g.D.Digest.bytes g.H.Hasher.hash log.tree (leaves list)) (sym c.self.view_is) is.tree in
+    c.root.ensures.root (leaves (list ++ map (λ v. v.items) c.args.items.now)) (leaves list ∷ []) (c.in_ok-batch.ensures.history list stands)
