@@ -285,6 +285,7 @@ impl<F: Family, D: Digest, K: Key, V: VariableValue> MerkleizedBatch<F, D, Unord
         ensures readable { OnOk result (knows self.now.bounds db.old.commitment ≡ true) }
         ensures stale { IfErr result (λ e. e ≡ Error.StaleRead → knows self.now.bounds db.old.commitment ≡ false) }
         ensures never { IfErr result (λ e. (e ≡ Error.Memory) ⊎ ((e ≡ Error.StaleRead) ⊎ ((p : ℕ) × (e ≡ Error.Merkle (MerkleError.ElementPruned p))))) }
+        ensures order { IfErr result (λ e. e ≢ Error.Memory → e ≢ Error.StaleRead → knows self.now.bounds db.old.commitment ≡ true) }
         ensures whole { C.start db.old.log.store ≡ 0 → (list : List Operation) (chain : Chain) (tip : List Operation) → IsDatabase C.Store F.shape D.bytes H.hash db.old list → IsMade H.hash F.shape self.now chain tip → IsKnown list chain tip
             → IfErr result (λ e. e ≡ Error.Memory) }
         ensures same { db.new ≡ db.old }
@@ -306,6 +307,7 @@ impl<F: Family, D: Digest, K: Key, V: VariableValue> MerkleizedBatch<F, D, Unord
         ensures readable { OnOk result (knows self.now.bounds db.old.commitment ≡ true) }
         ensures stale { IfErr result (λ e. e ≡ Error.StaleRead → knows self.now.bounds db.old.commitment ≡ false) }
         ensures never { IfErr result (λ e. (e ≡ Error.Memory) ⊎ ((e ≡ Error.StaleRead) ⊎ ((p : ℕ) × (e ≡ Error.Merkle (MerkleError.ElementPruned p))))) }
+        ensures order { IfErr result (λ e. e ≢ Error.Memory → e ≢ Error.StaleRead → knows self.now.bounds db.old.commitment ≡ true) }
         ensures whole { C.start db.old.log.store ≡ 0 → (list : List Operation) (chain : Chain) (tip : List Operation) → IsDatabase C.Store F.shape D.bytes H.hash db.old list → IsMade H.hash F.shape self.now chain tip → IsKnown list chain tip
             → IfErr result (λ e. e ≡ Error.Memory) }
         ensures same { db.new ≡ db.old }
