@@ -6,3 +6,5 @@ pub mod LogSteps
 pub mod Writes
 pub mod Proving
 pub mod Fresh
+pub mod Ancestors
+pub mod Making

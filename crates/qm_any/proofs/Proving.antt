@@ -1,11 +1,11 @@
 -- Proofs in the first operations of a list, and the floor of these.
-use Rattle.std.proofs.Common.{◌≡◌, ℕ, zero, suc, ◌≤◌, ◌<◌, ◌-◌, ◌+◌, List, [], ◌∷◌, length, map, take, drop, sym, ◌∙◌, ap, ap₂, subst, arith, get_or, Option, Some, None, IfOk}
+use Rattle.std.proofs.Common.{◌≡◌, ℕ, zero, suc, ◌≤◌, ◌<◌, ◌-◌, ◌+◌, List, [], ◌∷◌, ◌++◌, length, map, take, drop, sym, ◌∙◌, ap, ap₂, subst, arith, get_or, Option, Some, None, IfOk}
 use Rattle.std.specs.Prelude.{nat_lt, slice_get, option_and_then, if◌then◌else◌, Result, Ok, Err}
-use Rattle.std.proofs.lemmas.List.{length-take-le, take-map, drop-map, take_all}
+use Rattle.std.proofs.lemmas.List.{length-take-le, take-map, drop-map, take_all, length-map, length-append}
 use Rattle.std.proofs.lemmas.Bool.{lt-ltb, le-ltb}
 use Rattle.qm_model.specs.Operations.{Bytes, Operation, update, delete, commit, spelling}
 use Rattle.qm_model.specs.Live.{floor, floor_after}
-use Rattle.qm_model.specs.Trees.{Shape, inactive_peaks}
+use Rattle.qm_model.specs.Trees.{Shape, inactive_peaks, leaves_from}
 use Rattle.qm_model.specs.Proofs.{Proof, proof_of, ops_proof}
 use Rattle.qm_model.specs.Refusals.{commit_floor, floor_before, end_refusal, proof_refusal, proof_count}
 use Rattle.qm_model.specs.Lines.{HistoricalFloorPruned, DataCorrupted, Merkle, FloorExceedsCommit, RangeOutOfBounds}
@@ -34,6 +34,18 @@ proof-spelled hash shape list size inactive a b within is =
     ap₂ (λ leaves n. proof_of hash shape leaves n a b)
     (ap (digests_from hash shape 0) (take-map spelling size list) ∙ sym (leaves-spelled hash shape 0 (take size list)))
     (is ∙ ap (λ n. inactive_peaks shape n (floor (take size list))) (sym (length-take-le size list within)))
+
+-- the proof over spellings of a list is the list's
+pub proof-behind : (hash : Bytes → Bytes) (shape : Shape) (spelt : List Bytes) (tip : List Operation) (inactive a size low : ℕ) → spelt ≡ map spelling tip → size ≡ length tip → low ≡ floor tip → inactive ≡ inactive_peaks shape size low
+    → proof_of hash shape (digests_from hash shape 0 spelt) inactive a size ≡ ops_proof hash shape tip a (length tip)
+proof-behind hash shape spelt tip inactive a size low spelled long lowest is =
+    ap (λ leaves. proof_of hash shape leaves inactive a size) (ap (digests_from hash shape 0) spelled ∙ sym (leaves-spelled hash shape 0 tip))
+    ∙ ap₂ (λ i n. proof_of hash shape (leaves_from hash shape 0 tip) i a n) (is ∙ ap₂ (inactive_peaks shape) long lowest) long
+
+-- as many operations as there are spellings of a first part and behind it
+pub size-behind : {B : Type 0} (bytes : B → Bytes) (list tip : List Operation) (items : List B) (n : ℕ) → n ≡ length (map spelling list) → map spelling list ++ map bytes items ≡ map spelling tip → n + length items ≡ length tip
+size-behind bytes list tip items n is spelled =
+    ap₂ (λ a b. a + b) is (sym (length-map items bytes)) ∙ sym (length-append (map spelling list) (map bytes items)) ∙ ap length spelled ∙ length-map tip spelling
 
 -- the operation before the end of the first ones tells their floor
 pub floor_before-at : {A : Type 0} (view : A → Operation) (xs : List A) (x : A) (size i : ℕ) → size ≡ suc i → i < length xs → x ≡ get_or xs i x → commit_floor (view x) ≡ floor_before (map view xs) size

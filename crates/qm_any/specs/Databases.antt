@@ -1,19 +1,15 @@
 -- Databases over a log of their operations' spellings, and their batches.
-use Rattle.std.specs.Prelude.{◌≡◌, List, length, map, take, Option}
-use Rattle.qm_base.specs.declared.commitment.Commitment as declared
+use Rattle.std.specs.Prelude.{◌≡◌, Bool, List, [], ◌∷◌, map, Option}
 use Rattle.qm_model.specs.Operations.{Bytes, Operation, spelling}
-use Rattle.qm_model.specs.Batches.{Commitment, commitment}
+use Rattle.qm_model.specs.Batches.{Commitment, Kept, Chain, Begins, IsRising, commitment}
 use Rattle.qm_model.specs.Trees.{Shape, ops_root}
-use Rattle.qm_model.specs.Live.{value_of}
+use Rattle.qm_model.specs.Live.{floor}
 use Rattle.qm_model.specs.Policies.{Policy, policies}
 use Rattle.qm_model.specs.Step.{step, unordered}
-use Rattle.qm_model.specs.Writes.{Write, write_of, last_writes, overwritten}
+use Rattle.qm_model.specs.Writes.{Write}
+use Rattle.qm_chain.specs.Bounds.{Bounds, IsBounds, is_at}
 use Rattle.qm_store.specs.declared.Store as store
 use Rattle.qm_store.specs.Log.{Log, IsLog}
-
--- a size and a root as bytes
-abbrev pub commitment_view : {D : Type 0} → (D → Bytes) → declared.Commitment D → Commitment
-commitment_view bytes c = record { size = c.size; root = bytes c.root }
 
 -- a database: its operation list, what stands for it, and its log
 pub record Database (C D : Type 0) : Type 0 where
@@ -21,25 +17,44 @@ pub record Database (C D : Type 0) : Type 0 where
   pub commitment : Commitment
   pub log : Log C D
 
--- a batch: the list that it was begun on, what stands for that, and its writes in order
+-- the bounds of the database as a batch, which keeps no ancestor and does nothing
+abbrev pub at_rest : {C D : Type 0} → Database C D → Bounds
+at_rest db = record { base = db.commitment; db = db.commitment; tip = db.commitment; ancestors = []; inactivity_floor = floor db.list }
+
+-- a kept ancestor of a batch: what stands for the list that it was made from, and for the one that it makes
+pub record Ancestor : Type 0 where
+  pub base : Commitment
+  pub tip : Commitment
+
+-- what stands for the boundary of a batch: the base of its oldest kept ancestor, or its own where none is kept
+abbrev pub oldest : Commitment → List Ancestor → Commitment
+oldest base [] = base
+oldest base (k ∷ ks) = oldest k.base ks
+
+-- a batch: its base list, the bounds of its parent, which made that list, its kept ancestors, newest first, and its writes in order
 pub record Begun : Type 0 where
   pub base : List Operation
-  pub commitment : Commitment
+  pub parent : Bounds
+  pub kept : List Ancestor
   pub writes : List Write
 
--- a merkleized batch: what stands for the list that it was begun on, its tip list, and what stands for that
+-- the commitment is that of the batch's boundary, or of a kept ancestor's tip
+abbrev pub is_on : Commitment → Begun → Bool
+is_on current batch = is_at current (oldest batch.parent.tip batch.kept) (map (λ k. k.tip) batch.kept)
+
+-- a merkleized batch: its bounds, its kept ancestors, newest first, and its tip list
 pub record Made : Type 0 where
-  pub base : Commitment
+  pub bounds : Bounds
+  pub kept : List Ancestor
   pub tip : List Operation
-  pub made : Commitment
+
+-- what a child keeps of ancestors: its parent, and these
+abbrev pub child_keeps : Made → List Ancestor → List Ancestor
+child_keeps parent older = record { base = parent.bounds.base; tip = parent.bounds.tip } ∷ older
 
 -- what a batch's writes make of its base list, under a policy, with this metadata
 abbrev pub stepped : List Operation → List Write → Policy → Option Bytes → List Operation
 stepped base ws policy meta = step unordered policies base ws policy meta
-
--- the value of a key on a list with writes: that of its last write, or else the list's
-abbrev pub read_through : List Operation → List Write → Bytes → Option Bytes
-read_through base ws key = overwritten (write_of (last_writes ws) key) (value_of base key)
 
 -- over a hash and a family
 module _ (hash : Bytes → Bytes) (shape : Shape) where
@@ -47,17 +62,24 @@ module _ (hash : Bytes → Bytes) (shape : Shape) where
   abbrev pub list_commitment : List Operation → Commitment
   list_commitment = commitment (ops_root hash shape)
 
-  -- the batch was begun on this list
-  pub record IsBegunOn (batch : Begun) (base : List Operation) : Type 0 where
-    pub same : batch.base ≡ base
-    pub commitment : batch.commitment ≡ list_commitment base
+  abbrev pub ancestor_of : Kept → Ancestor
+  ancestor_of k = record { base = list_commitment k.base; tip = list_commitment k.tip }
 
-  -- the batch leads from this list to this one, which begins with it
-  pub record LeadsTo (batch : Made) (base tip : List Operation) : Type 0 where
-    pub from : batch.base ≡ list_commitment base
+  -- the batch is of this chain, and its parent of that one
+  pub record IsBegun (batch : Begun) (chain above : Chain) : Type 0 where
+    pub list : batch.base ≡ chain.base
+    pub bounds : IsBounds (ops_root hash shape) batch.parent above chain.base
+    pub kept : batch.kept ≡ map ancestor_of chain.kept
+    pub rising : IsRising chain
+
+  -- the batch is of this chain, and makes this list
+  pub record IsMade (batch : Made) (chain : Chain) (tip : List Operation) : Type 0 where
+    pub bounds : IsBounds (ops_root hash shape) batch.bounds chain tip
+    pub lowest : batch.bounds.inactivity_floor ≡ floor tip
+    pub kept : batch.kept ≡ map ancestor_of chain.kept
     pub list : batch.tip ≡ tip
-    pub made : batch.made ≡ list_commitment tip
-    pub begins : take (length base) tip ≡ base
+    pub rising : IsRising chain
+    pub begins : Begins chain.base tip
 
 -- the log stands for the list's spellings
 abbrev pub IsListLog : {C D : Type 0} → store.Ghosts C → Shape → (D → Bytes) → (Bytes → Bytes) → Log C D → List Operation → Type 0

@@ -4,3 +4,4 @@ pub mod Marks
 pub mod Databases
 pub mod Tips
 pub mod Refusals
+pub mod Ancestors

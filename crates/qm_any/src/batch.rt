@@ -1,89 +1,105 @@
 //! Batches: writes that are recorded, and the list that they make.
 
-ghost use Rattle.std.specs.Prelude.{◌≡◌, ◌≢◌, ◌⊎◌, ◌≤◌, ◌<◌, ◌+◌, ◌^◌, ◌++◌, ◌∷◌, [], List, None, true, false, length, map, drop, option_map, bytes_eq, IfOk, IfErr, OnOk};
-ghost use Rattle.qm_model.specs.Batches.{same};
+ghost use Rattle.std.specs.Prelude.{◌≡◌, ◌≢◌, ◌⊎◌, ◌≤◌, ◌+◌, ◌^◌, ◌++◌, ◌∷◌, ℕ, [], List, true, false, length, map, take, drop, option_map, All, IfOk, IfErr, OnOk};
+ghost use Rattle.qm_model.specs.Batches.{Chain, IsKnown, IsOnChain};
 ghost use Rattle.qm_model.specs.Live as lives;
 ghost use Rattle.qm_model.specs.Operations.{Operation, spelling};
-ghost use Rattle.qm_model.specs.Refusals.{too_long};
-ghost use Rattle.qm_model.specs.Writes.{write_of, last_writes};
-ghost use Rattle.qm_any.specs.Databases.{IsDatabase, IsListLog, IsBegunOn, LeadsTo, commitment_view, list_commitment, read_through, stepped};
-ghost use Rattle.qm_any.specs.ListViews.{entry_views, write_view, write_views, policy_view};
-ghost use Rattle.qm_any.specs.Tips.{own_spellings, IsTaken, IsRefused, IsTooLong};
+ghost use Rattle.qm_model.specs.Proofs.{ops_proof, pins_at};
+ghost use Rattle.qm_model.specs.Writes.{read_through};
+ghost use Rattle.qm_merkle.specs.Proofs.{proof_view};
+ghost use Rattle.qm_chain.specs.Bounds.{commitment_view, is_at, knows};
+ghost use Rattle.qm_any.specs.Ancestors.{ancestor_view};
+ghost use Rattle.qm_any.specs.Databases.{IsDatabase, IsBegun, IsMade, child_keeps, is_on, oldest, stepped};
+ghost use Rattle.qm_any.specs.ListViews.{entry_views, policy_view};
+ghost use Rattle.qm_any.specs.Tips.{IsTaken, IsRefused};
 
-use crate::db::{Db, is_same};
-use crate::lists::{Entry, Write, floor, spell_all, step, twin_list, twin_option, value_of};
+use crate::db::Db;
+use crate::lists::{Entry, Write, floor, spell_from, twin_option, value_of};
 use crate::policy::Proportional;
 use qm_base::update::{Unordered, Update};
 use qm_base::{
-    Commitment, Digest, Error, Hasher, JournalError, Key, Location, MerkleError, VariableValue,
-    operation,
+    Commitment, Digest, Error, Hasher, Key, Location, MerkleError, Twin, VariableValue, operation,
 };
-use qm_merkle::Family;
+use qm_chain::Bounds;
+use qm_merkle::{Family, Proof};
 use qm_store::Store;
 use std::alloc::{AllocError, Global};
 use std::marker::Model;
 use std::rc::Rc;
 
-/// How many operations a list has at most.
-const MAX_OPERATIONS: u64 = 1 << 62;
+mod ancestors;
+mod making;
+mod reading;
 
-/// How many bytes the spelling of an operation has at most.
-const MAX_SPELLING: usize = 65_536;
+use ancestors::{Ancestor, keeping, oldest_of, tips_where_on};
+use making::made_on;
+pub(crate) use reading::values_of;
+use reading::{read, read_all};
 
-/// A batch: writes that are recorded on a database's list.
+/// A batch: writes that are recorded on a list, which is a database's or a merkleized batch's.
 #[derive(Drop)]
 pub struct UnmerkleizedBatch<F, D: Digest, U: Update> {
     base: Rc<Vec<operation::Operation<F, U>>>,
-    commitment: Commitment<D>,
+    parent: Bounds<F, D>,
+    kept: Vec<Ancestor<D>>,
     writes: Vec<Write<U::Key, U::Value>>,
 }
 
 impl<F, D: Digest, U: Update> Model for UnmerkleizedBatch<F, D, U> {
-    ghost use Rattle.std.specs.Prelude.{◌≡◌, length};
+    ghost use Rattle.std.specs.Prelude.{◌≡◌, ◌≤◌, ◌^◌, length, map, All};
     ghost use Rattle.qm_base.specs.Views.{operation_views};
-    ghost use Rattle.qm_any.specs.Databases.{Begun, commitment_view};
+    ghost use Rattle.qm_any.specs.Databases.{Begun};
+    ghost use Rattle.qm_any.specs.Ancestors.{ancestor_view};
     ghost use Rattle.qm_any.specs.ListViews.{write_views};
 
     ghost Value = { Begun };
 
-    ghost view = { λ b. record { base = operation_views U.view U.Key.bytes U.Value.bytes b.base.value.items; commitment = commitment_view D.bytes b.commitment; writes = write_views U.Key.bytes U.Value.bytes b.writes.items } };
+    ghost view = { λ b. record { base = operation_views U.view U.Key.bytes U.Value.bytes b.base.value.items; parent = b.parent; kept = map (ancestor_view D.bytes) b.kept.items; writes = write_views U.Key.bytes U.Value.bytes b.writes.items } };
 
-    ghost invariant = { λ b. b.commitment.size ≡ length b.base.value.items };
+    ghost invariant = { λ b. (b.parent.tip.size ≡ length b.base.value.items) × (length b.base.value.items ≤ 2 ^ 62)
+        × All (λ k. (k.base.size ≤ length b.base.value.items) × (k.tip.size ≤ length b.base.value.items)) b.kept.items };
 }
 
-/// A merkleized batch: the list that its writes make, and what stands for the list that it was begun on and for that one.
+/// A merkleized batch: the list that its writes make, and the states of a database that it knows.
 #[derive(Drop)]
 pub struct MerkleizedBatch<F, D: Digest, U: Update> {
-    base: Commitment<D>,
+    bounds: Bounds<F, D>,
+    kept: Vec<Ancestor<D>>,
     tip: Rc<Vec<operation::Operation<F, U>>>,
-    made: Commitment<D>,
 }
 
 impl<F, D: Digest, U: Update> Model for MerkleizedBatch<F, D, U> {
-    ghost use Rattle.std.specs.Prelude.{◌≡◌, ◌≤◌, ◌^◌, length};
+    ghost use Rattle.std.specs.Prelude.{◌≡◌, ◌≤◌, ◌^◌, length, map, All};
     ghost use Rattle.qm_base.specs.Views.{operation_views};
-    ghost use Rattle.qm_any.specs.Databases.{Made, commitment_view};
+    ghost use Rattle.qm_any.specs.Databases.{Made};
+    ghost use Rattle.qm_any.specs.Ancestors.{ancestor_view};
 
     ghost Value = { Made };
 
-    ghost view = { λ b. record { base = commitment_view D.bytes b.base; tip = operation_views U.view U.Key.bytes U.Value.bytes b.tip.value.items; made = commitment_view D.bytes b.made } };
+    ghost view = { λ b. record { bounds = b.bounds; kept = map (ancestor_view D.bytes) b.kept.items; tip = operation_views U.view U.Key.bytes U.Value.bytes b.tip.value.items } };
 
-    ghost invariant = { λ b. (b.base.size ≤ length b.tip.value.items) × (b.made.size ≡ length b.tip.value.items) × (length b.tip.value.items ≤ 2 ^ 62) };
+    ghost invariant = { λ b. (b.bounds.base.size ≤ length b.tip.value.items) × (b.bounds.tip.size ≡ length b.tip.value.items) × (length b.tip.value.items ≤ 2 ^ 62)
+        × (b.bounds.db.size ≤ length b.tip.value.items) × All (λ c. c.size ≤ length b.tip.value.items) b.bounds.ancestors
+        × All (λ k. (k.base.size ≤ length b.tip.value.items) × (k.tip.size ≤ length b.tip.value.items)) b.kept.items };
 }
 
 impl<F: Family, D: Digest, K: Key, V: VariableValue> UnmerkleizedBatch<F, D, Unordered<K, V>> {
-    // A batch with no writes yet.
+    // A batch on the list of a merkleized batch or of a database, with no writes yet.
     pub(crate) fn begun(
         alloc: Global,
         base: Rc<Vec<Entry<F, K, V>>>,
-        commitment: Commitment<D>,
+        parent: Bounds<F, D>,
+        kept: Vec<Ancestor<D>>,
     ) -> Self
-        requires { commitment.size ≡ length base.value.items }
-        ensures { result ≡ record { base = entry_views K.bytes V.bytes base.value.items; commitment = commitment_view D.bytes commitment; writes = [] } }
+        requires size { parent.tip.size ≡ length base.value.items }
+        requires few { length base.value.items ≤ 2 ^ 62 }
+        requires kept { All (λ k. (k.base.size ≤ length base.value.items) × (k.tip.size ≤ length base.value.items)) kept.items }
+        ensures { result ≡ record { base = entry_views K.bytes V.bytes base.value.items; parent = parent; kept = map (ancestor_view D.bytes) kept.items; writes = [] } }
     {
         UnmerkleizedBatch {
             base,
-            commitment,
+            parent,
+            kept,
             writes: Vec::new(alloc),
         }
     }
@@ -98,31 +114,45 @@ impl<F: Family, D: Digest, K: Key, V: VariableValue> UnmerkleizedBatch<F, D, Uno
         Ok(batch)
     }
 
-    /// The value of a key as the batch has it: that of its last write or, where it has none, the one on the list that
-    /// it was begun on.
+    /// The value of a key as the batch has it: that of its last write or, where it has none, the one on its base list. It
+    /// is read where the database is at a state that the batch's parent knows; the parent of a batch that was begun on a
+    /// database is that database as it was.
     pub fn get<C: Store, H: Hasher<Digest = D> + Drop>(
         &self,
         alloc: Global,
         key: &K,
-        db: &Db<F, C, D, H, Unordered<K, V>>,
+        db: &mut Db<F, C, D, H, Unordered<K, V>>,
     ) -> Result<Option<V>, Error>
         ensures value { IfOk result (λ v. option_map V.bytes v ≡ read_through self.now.base self.now.writes (K.bytes key.now)) }
-        ensures readable { IfOk result (λ _. same db.now.commitment self.now.commitment ≡ true) }
-        ensures stale { IfErr result (λ e. (e ≡ Error.Memory) ⊎ ((e ≡ Error.StaleRead) × (same db.now.commitment self.now.commitment ≡ false))) }
+        ensures readable { OnOk result (knows self.now.parent db.old.commitment ≡ true) }
+        ensures stale { IfErr result (λ e. (e ≡ Error.Memory) ⊎ ((e ≡ Error.StaleRead) × (knows self.now.parent db.old.commitment ≡ false))) }
+        ensures same { db.new ≡ db.old }
     {
-        if !is_same(db.commitment(), &self.commitment) {
-            return Err(Error::StaleRead);
-        }
-        let found = match last_write(&self.writes, key) {
-            Some(write) => write.value.as_ref(),
-            None => value_of(&self.base, key),
-        };
-        Ok(twin_option(alloc, found)?)
+        self.parent.compatible(db.commitment())?;
+        Ok(twin_option(alloc, read(&self.base, &self.writes, key))?)
     }
 
-    /// Makes the list of the batch: its writes on the list that it was begun on, then what the policy moves, then a
-    /// commit with the metadata. It refuses a batch that the database has left behind, then the first spelling of more
-    /// than 65,536 bytes, then a list of more than 2^62 operations. The batch is gone also where this is refused.
+    /// The values of keys, in their order, as `get` reads them.
+    pub fn get_many<C: Store, H: Hasher<Digest = D> + Drop>(
+        &self,
+        alloc: Global,
+        keys: &[K],
+        db: &mut Db<F, C, D, H, Unordered<K, V>>,
+    ) -> Result<Vec<Option<V>>, Error>
+        ensures values { IfOk result (λ v. map (option_map V.bytes) v.items ≡ map (λ k. read_through self.now.base self.now.writes (K.bytes k)) keys.now) }
+        ensures readable { OnOk result (knows self.now.parent db.old.commitment ≡ true) }
+        ensures stale { IfErr result (λ e. (e ≡ Error.Memory) ⊎ ((e ≡ Error.StaleRead) × (knows self.now.parent db.old.commitment ≡ false))) }
+        ensures same { db.new ≡ db.old }
+    {
+        self.parent.compatible(db.commitment())?;
+        let values = read_all(alloc, &self.base, &self.writes, keys)?;
+        Ok(values)
+    }
+
+    /// Makes the list of the batch: its writes on its base list, then what the policy moves, then a commit with the
+    /// metadata. The database is at the batch's boundary or at a kept ancestor's tip, else the batch is refused as stale;
+    /// then come the first spelling of more than 65,536 bytes, and a list of more than 2^62 operations. The batch is gone
+    /// also where this is refused.
     pub fn merkleize<C: Store, H: Hasher<Digest = D> + Drop>(
         self,
         alloc: Global,
@@ -130,24 +160,31 @@ impl<F: Family, D: Digest, K: Key, V: VariableValue> UnmerkleizedBatch<F, D, Uno
         metadata: Option<V>,
         policy: &mut Proportional,
     ) -> Result<Rc<MerkleizedBatch<F, D, Unordered<K, V>>>, Error>
-        ensures fits { IfOk result (λ _. same db.old.commitment self.commitment ≡ true) }
-        ensures made { (base : List Operation) → IsDatabase C.Store F.shape D.bytes H.hash db.old base → IsBegunOn H.hash F.shape self base
-            → IfOk result (λ b. LeadsTo H.hash F.shape b.value base (stepped base self.writes (policy_view policy.old) (option_map V.bytes metadata))) }
-        ensures taken { IfOk result (λ _. IsTaken self.base (stepped self.base self.writes (policy_view policy.old) (option_map V.bytes metadata))) }
+        ensures fits { OnOk result (is_on db.old.commitment self ≡ true) }
+        ensures made { (list : List Operation) (chain above : Chain) → IsDatabase C.Store F.shape D.bytes H.hash db.old list → IsBegun H.hash F.shape self chain above → IsOnChain list chain
+            → IfOk result (λ b. IsMade H.hash F.shape b.value chain (stepped chain.base self.writes (policy_view policy.old) (option_map V.bytes metadata))) }
+        ensures taken { OnOk result (IsTaken self.base (stepped self.base self.writes (policy_view policy.old) (option_map V.bytes metadata))) }
         ensures refused { IfErr result (λ e. IsRefused self.base (stepped self.base self.writes (policy_view policy.old) (option_map V.bytes metadata)) e) }
-        ensures stale { IfErr result (λ e. e ≡ Error.StaleBatch → same db.old.commitment self.commitment ≡ false) }
-        ensures order { IfErr result (λ e. e ≢ Error.Memory → e ≢ Error.StaleBatch → same db.old.commitment self.commitment ≡ true) }
+        ensures stale { IfErr result (λ e. e ≡ Error.StaleBatch → is_on db.old.commitment self ≡ false) }
+        ensures order { IfErr result (λ e. e ≢ Error.Memory → e ≢ Error.StaleBatch → is_on db.old.commitment self ≡ true) }
         ensures same { db.new ≡ db.old }
     {
         let UnmerkleizedBatch {
             base,
-            commitment,
+            parent,
+            kept,
             writes,
         } = self;
-        if is_same(db.commitment(), &commitment) {
-            made_on(alloc, db, &base, commitment, writes, policy, metadata)
-        } else {
-            Err(Error::StaleBatch)
+        let state = state_after(&parent);
+        match tips_where_on(alloc, db.commitment(), &state, &kept) {
+            Ok(tips) => match made_on(alloc, db, &base, writes, policy, metadata) {
+                Ok((tip, made)) => match sealed(alloc, state, tips, kept, tip, made) {
+                    Ok(batch) => Ok(batch),
+                    Err(_) => Err(Error::Memory),
+                },
+                Err(error) => Err(error),
+            },
+            Err(error) => Err(error),
         }
     }
 }
@@ -155,192 +192,276 @@ impl<F: Family, D: Digest, K: Key, V: VariableValue> UnmerkleizedBatch<F, D, Uno
 impl<F: Family, D: Digest, K: Key, V: VariableValue> MerkleizedBatch<F, D, Unordered<K, V>> {
     /// The operations root of the list that the batch makes.
     pub fn root(&self) -> D
-        ensures { D.bytes result ≡ self.now.made.root }
+        ensures { D.bytes result ≡ self.now.bounds.tip.root }
     {
-        self.made.root
+        self.bounds.tip.root
     }
 
-    /// Size and root of the list that the batch was begun on.
-    pub fn base(&self) -> &Commitment<D>
-        ensures { commitment_view D.bytes result.now ≡ self.now.base }
+    /// The states of a database that the batch knows, and the floor of its commit.
+    pub fn bounds(&self) -> &Bounds<F, D>
+        ensures { result.now ≡ self.now.bounds }
     {
-        &self.base
-    }
-
-    /// Size and root of the list that the batch makes.
-    pub fn tip(&self) -> &Commitment<D>
-        ensures { commitment_view D.bytes result.now ≡ self.now.made }
-    {
-        &self.made
-    }
-
-    /// The floor of the list that the batch makes.
-    pub fn inactivity_floor_loc(&self) -> Location<F>
-        ensures { result ≡ lives.floor self.now.tip }
-    {
-        Location::new(floor(&self.tip))
+        &self.bounds
     }
 
     /// Where the batch's own operations begin, and these.
     pub fn operations(&self) -> (Location<F>, &[Entry<F, K, V>])
-        ensures base { result.0 ≡ self.now.base.size }
-        ensures own { entry_views K.bytes V.bytes result.1.now ≡ drop self.now.base.size self.now.tip }
-        ensures count { result.0 + length result.1.now ≡ self.now.made.size }
+        ensures base { result.0 ≡ self.now.bounds.base.size }
+        ensures own { entry_views K.bytes V.bytes result.1.now ≡ drop self.now.bounds.base.size self.now.tip }
+        ensures count { result.0 + length result.1.now ≡ self.now.bounds.tip.size }
     {
-        let (_, own) = self.tip.split_at(self.base.size as usize);
-        (Location::new(self.base.size), own)
+        let (_, own) = self.tip.split_at(self.bounds.base.size as usize);
+        (Location::new(self.bounds.base.size), own)
+    }
+
+    /// Begins a batch on the list that this one makes. It keeps this one and all that this one keeps: it can be applied
+    /// after them, or in one step with those that are not applied yet.
+    pub fn new_batch(
+        &self,
+        alloc: Global,
+    ) -> Result<UnmerkleizedBatch<F, D, Unordered<K, V>>, AllocError>
+        ensures { IfOk result (λ b. b ≡ record { base = self.now.tip; parent = self.now.bounds; kept = child_keeps self.now self.now.kept; writes = [] }) }
+    {
+        self.new_batch_keeping(alloc, self.kept.len())
+    }
+
+    /// Begins a batch on the list that this one makes, which keeps this one and the first `n` that this one keeps, newest
+    /// first, or all where there are fewer.
+    pub fn new_batch_keeping(
+        &self,
+        alloc: Global,
+        n: usize,
+    ) -> Result<UnmerkleizedBatch<F, D, Unordered<K, V>>, AllocError>
+        ensures { IfOk result (λ b. b ≡ record { base = self.now.tip; parent = self.now.bounds; kept = child_keeps self.now (take n self.now.kept); writes = [] }) }
+    {
+        let base = self.list()?;
+        let kept = self.kept_by_child(alloc, n)?;
+        let parent = self.bounds().twin(alloc)?;
+        Ok(UnmerkleizedBatch::begun(alloc, base, parent, kept))
+    }
+
+    /// The value of a key on the list that the batch makes. It is read where the database is at a state that the batch
+    /// knows: its tip, its boundary, or a kept ancestor's tip.
+    pub fn get<C: Store, H: Hasher<Digest = D> + Drop>(
+        &self,
+        alloc: Global,
+        key: &K,
+        db: &mut Db<F, C, D, H, Unordered<K, V>>,
+    ) -> Result<Option<V>, Error>
+        ensures value { IfOk result (λ v. option_map V.bytes v ≡ lives.value_of self.now.tip (K.bytes key.now)) }
+        ensures readable { OnOk result (knows self.now.bounds db.old.commitment ≡ true) }
+        ensures stale { IfErr result (λ e. (e ≡ Error.Memory) ⊎ ((e ≡ Error.StaleRead) × (knows self.now.bounds db.old.commitment ≡ false))) }
+        ensures same { db.new ≡ db.old }
+    {
+        self.bounds.compatible(db.commitment())?;
+        Ok(twin_option(alloc, value_of(&self.tip, key))?)
+    }
+
+    /// The values of keys, in their order, as `get` reads them.
+    pub fn get_many<C: Store, H: Hasher<Digest = D> + Drop>(
+        &self,
+        alloc: Global,
+        keys: &[K],
+        db: &mut Db<F, C, D, H, Unordered<K, V>>,
+    ) -> Result<Vec<Option<V>>, Error>
+        ensures values { IfOk result (λ v. map (option_map V.bytes) v.items ≡ map (λ k. lives.value_of self.now.tip (K.bytes k)) keys.now) }
+        ensures readable { OnOk result (knows self.now.bounds db.old.commitment ≡ true) }
+        ensures stale { IfErr result (λ e. (e ≡ Error.Memory) ⊎ ((e ≡ Error.StaleRead) × (knows self.now.bounds db.old.commitment ≡ false))) }
+        ensures same { db.new ≡ db.old }
+    {
+        self.bounds.compatible(db.commitment())?;
+        let values = values_of(alloc, &self.tip, keys)?;
+        Ok(values)
+    }
+
+    /// The proof of the batch's own operations in the list that it makes. It verifies against the batch's root.
+    pub fn proof<C: Store, H: Hasher<Digest = D> + Drop>(
+        &self,
+        alloc: Global,
+        db: &mut Db<F, C, D, H, Unordered<K, V>>,
+    ) -> Result<Proof<D>, Error>
+        ensures proof { (list : List Operation) (chain : Chain) (tip : List Operation) → IsDatabase C.Store F.shape D.bytes H.hash db.old list → IsMade H.hash F.shape self.now chain tip → IsKnown list chain tip
+            → IfOk result (λ p. proof_view D.bytes p ≡ ops_proof H.hash F.shape tip (length chain.base) (length tip)) }
+        ensures readable { OnOk result (knows self.now.bounds db.old.commitment ≡ true) }
+        ensures stale { IfErr result (λ e. e ≡ Error.StaleRead → knows self.now.bounds db.old.commitment ≡ false) }
+        ensures never { IfErr result (λ e. (e ≡ Error.Memory) ⊎ ((e ≡ Error.StaleRead) ⊎ ((p : ℕ) × (e ≡ Error.Merkle (MerkleError.ElementPruned p))))) }
+        ensures order { IfErr result (λ e. e ≢ Error.Memory → e ≢ Error.StaleRead → knows self.now.bounds db.old.commitment ≡ true) }
+        ensures whole { C.start db.old.log.store ≡ 0 → (list : List Operation) (chain : Chain) (tip : List Operation) → IsDatabase C.Store F.shape D.bytes H.hash db.old list → IsMade H.hash F.shape self.now chain tip → IsKnown list chain tip
+            → IfErr result (λ e. e ≡ Error.Memory) }
+        ensures same { db.new ≡ db.old }
+    {
+        let state = *db.commitment();
+        self.known(&state)?;
+        let items = self.spelled_from(alloc, state.size)?;
+        db.proof_with(alloc, &items, self.floor(), self.start())
+    }
+
+    /// The digests of the peaks over the list that the batch was made from, from left to right.
+    pub fn pinned_nodes<C: Store, H: Hasher<Digest = D> + Drop>(
+        &self,
+        alloc: Global,
+        db: &mut Db<F, C, D, H, Unordered<K, V>>,
+    ) -> Result<Vec<D>, Error>
+        ensures pins { (list : List Operation) (chain : Chain) (tip : List Operation) → IsDatabase C.Store F.shape D.bytes H.hash db.old list → IsMade H.hash F.shape self.now chain tip → IsKnown list chain tip
+            → IfOk result (λ pins. map D.bytes pins.items ≡ pins_at H.hash F.shape tip (length chain.base)) }
+        ensures readable { OnOk result (knows self.now.bounds db.old.commitment ≡ true) }
+        ensures stale { IfErr result (λ e. e ≡ Error.StaleRead → knows self.now.bounds db.old.commitment ≡ false) }
+        ensures never { IfErr result (λ e. (e ≡ Error.Memory) ⊎ ((e ≡ Error.StaleRead) ⊎ ((p : ℕ) × (e ≡ Error.Merkle (MerkleError.ElementPruned p))))) }
+        ensures order { IfErr result (λ e. e ≢ Error.Memory → e ≢ Error.StaleRead → knows self.now.bounds db.old.commitment ≡ true) }
+        ensures whole { C.start db.old.log.store ≡ 0 → (list : List Operation) (chain : Chain) (tip : List Operation) → IsDatabase C.Store F.shape D.bytes H.hash db.old list → IsMade H.hash F.shape self.now chain tip → IsKnown list chain tip
+            → IfErr result (λ e. e ≡ Error.Memory) }
+        ensures same { db.new ≡ db.old }
+    {
+        let state = *db.commitment();
+        self.known(&state)?;
+        let items = self.spelled_from(alloc, state.size)?;
+        db.pins_with(alloc, &items, self.start())
+    }
+
+    // The merkleized batch of these bounds, kept ancestors and list.
+    pub(crate) fn of_parts(
+        alloc: Global,
+        bounds: Bounds<F, D>,
+        kept: Vec<Ancestor<D>>,
+        tip: Rc<Vec<Entry<F, K, V>>>,
+    ) -> Result<Rc<Self>, AllocError>
+        requires base { bounds.base.size ≤ length tip.value.items }
+        requires size { bounds.tip.size ≡ length tip.value.items }
+        requires few { length tip.value.items ≤ 2 ^ 62 }
+        requires boundary { bounds.db.size ≤ length tip.value.items }
+        requires ancestors { All (λ c. c.size ≤ length tip.value.items) bounds.ancestors }
+        requires kept { All (λ k. (k.base.size ≤ length tip.value.items) × (k.tip.size ≤ length tip.value.items)) kept.items }
+        ensures { IfOk result (λ b. b.value ≡ record { bounds = bounds; kept = map (ancestor_view D.bytes) kept.items; tip = entry_views K.bytes V.bytes tip.value.items }) }
+    {
+        Ok(Rc::new(alloc, MerkleizedBatch { bounds, kept, tip })?)
+    }
+
+    // The ancestors that a child keeps: this one, and the first `n` that this one keeps.
+    fn kept_by_child(&self, alloc: Global, n: usize) -> Result<Vec<Ancestor<D>>, AllocError>
+        ensures kept { IfOk result (λ kept. map (ancestor_view D.bytes) kept.items ≡ child_keeps self.now (take n self.now.kept)) }
+        ensures within { IfOk result (λ kept. All (λ k. (k.base.size ≤ length self.now.tip) × (k.tip.size ≤ length self.now.tip)) kept.items) }
+    {
+        let newest = as_ancestor(&self.bounds);
+        keeping(alloc, newest, &self.kept, n)
+    }
+
+    // Whether the batch can be applied at this state of a database, whose list is then no longer than the batch's.
+    pub(crate) fn fits(&self, current: &Commitment<D>) -> Result<(), Error>
+        ensures fits { OnOk result (is_at (commitment_view D.bytes current.now) self.now.bounds.db self.now.bounds.ancestors ≡ true) }
+        ensures stale { IfErr result (λ e. (e ≡ Error.StaleBatch) × (is_at (commitment_view D.bytes current.now) self.now.bounds.db self.now.bounds.ancestors ≡ false)) }
+        ensures within { OnOk result (current.now.size ≤ length self.now.tip) }
+    {
+        self.bounds.validate_apply_to(current)
+    }
+
+    // Whether the batch can be read at this state of a database, whose list is then no longer than the batch's.
+    fn known(&self, current: &Commitment<D>) -> Result<(), Error>
+        ensures readable { OnOk result (knows self.now.bounds (commitment_view D.bytes current.now) ≡ true) }
+        ensures stale { IfErr result (λ e. (e ≡ Error.StaleRead) × (knows self.now.bounds (commitment_view D.bytes current.now) ≡ false)) }
+        ensures within { OnOk result (current.now.size ≤ length self.now.tip) }
+    {
+        self.bounds.compatible(current)
+    }
+
+    // Where the batch's own operations begin.
+    fn start(&self) -> u64
+        ensures value { result ≡ self.now.bounds.base.size }
+        ensures within { result ≤ length self.now.tip }
+    {
+        self.bounds.base.size
+    }
+
+    // The floor of the batch's commit.
+    fn floor(&self) -> u64
+        ensures { result ≡ self.now.bounds.inactivity_floor }
+    {
+        self.bounds.inactivity_floor.get()
+    }
+
+    // Size and root of the list that the batch makes.
+    pub(crate) fn tip(&self) -> Commitment<D>
+        ensures value { commitment_view D.bytes result ≡ self.now.bounds.tip }
+        ensures size { result.size ≡ length self.now.tip }
+    {
+        self.bounds.tip
     }
 
     // The list that the batch makes, shared.
     pub(crate) fn list(&self) -> Result<Rc<Vec<Entry<F, K, V>>>, AllocError>
         ensures list { IfOk result (λ list. entry_views K.bytes V.bytes list.value.items ≡ self.now.tip) }
-        ensures size { IfOk result (λ list. self.now.made.size ≡ length list.value.items) }
+        ensures size { IfOk result (λ list. self.now.bounds.tip.size ≡ length list.value.items) }
+        ensures count { IfOk result (λ list. length self.now.tip ≡ length list.value.items) }
         ensures few { IfOk result (λ list. length list.value.items ≤ 2 ^ 62) }
     {
         Ok(self.tip.clone()?)
     }
-}
 
-// The merkleized batch of writes to the database's list.
-fn made_on<F: Family, C: Store, D: Digest, H: Hasher<Digest = D> + Drop, K: Key, V: VariableValue>(
-    alloc: Global,
-    db: &mut Db<F, C, D, H, Unordered<K, V>>,
-    base: &[Entry<F, K, V>],
-    commitment: Commitment<D>,
-    writes: Vec<Write<K, V>>,
-    policy: &Proportional,
-    metadata: Option<V>,
-) -> Result<Rc<MerkleizedBatch<F, D, Unordered<K, V>>>, Error>
-    requires size { commitment.size ≡ length base.now }
-    requires level { length db.old.list ≡ length base.now }
-    ensures made { IsDatabase C.Store F.shape D.bytes H.hash db.old (entry_views K.bytes V.bytes base.now) → commitment_view D.bytes commitment ≡ list_commitment H.hash F.shape (entry_views K.bytes V.bytes base.now)
-        → IfOk result (λ b. LeadsTo H.hash F.shape b.value (entry_views K.bytes V.bytes base.now) (stepped (entry_views K.bytes V.bytes base.now) (write_views K.bytes V.bytes writes.items) (policy_view policy.now) (option_map V.bytes metadata))) }
-    ensures taken { IfOk result (λ _. IsTaken (entry_views K.bytes V.bytes base.now) (stepped (entry_views K.bytes V.bytes base.now) (write_views K.bytes V.bytes writes.items) (policy_view policy.now) (option_map V.bytes metadata))) }
-    ensures refused { IfErr result (λ e. IsRefused (entry_views K.bytes V.bytes base.now) (stepped (entry_views K.bytes V.bytes base.now) (write_views K.bytes V.bytes writes.items) (policy_view policy.now) (option_map V.bytes metadata)) e) }
-    ensures never { IfErr result (λ e. e ≢ Error.StaleBatch) }
-    ensures same { db.new ≡ db.old }
-{
-    match made_list(alloc, base, writes, policy, metadata) {
-        Ok((tip, items)) => match sealed(alloc, db, commitment, tip, &items) {
-            Ok(batch) => Ok(batch),
-            Err(_) => Err(Error::Memory),
-        },
-        Err(error) => Err(error),
+    // The spellings of what the list has from a location on.
+    pub(crate) fn spelled_from(&self, alloc: Global, from: u64) -> Result<Vec<Vec<u8>>, AllocError>
+        requires { from ≤ length self.now.tip }
+        ensures items { IfOk result (λ items. map (λ v. v.items) items.items ≡ map spelling (drop from self.now.tip)) }
+        ensures count { IfOk result (λ items. from + length items.items ≡ length self.now.tip) }
+        ensures few { length self.now.tip ≤ 2 ^ 62 }
+    {
+        spell_from(alloc, &self.tip, from as usize)
     }
 }
 
-// The list that writes make of a base, and the spellings of what it has behind that.
-fn made_list<F, K: Key, V: VariableValue>(
+// The merkleized batch of a list that was made on this base.
+fn sealed<F: Family, D: Digest, K: Key, V: VariableValue>(
     alloc: Global,
-    base: &[Entry<F, K, V>],
-    writes: Vec<Write<K, V>>,
-    policy: &Proportional,
-    metadata: Option<V>,
-) -> Result<(Vec<Entry<F, K, V>>, Vec<Vec<u8>>), Error>
-    ensures list { IfOk result (λ made. entry_views K.bytes V.bytes made.0.items ≡ stepped (entry_views K.bytes V.bytes base.now) (write_views K.bytes V.bytes writes.items) (policy_view policy.now) (option_map V.bytes metadata)) }
-    ensures items { IfOk result (λ made. map (λ v. v.items) made.1.items ≡ own_spellings (entry_views K.bytes V.bytes base.now) (entry_views K.bytes V.bytes made.0.items)) }
-    ensures count { IfOk result (λ made. length base.now + length made.1.items ≡ length made.0.items) }
-    ensures few { IfOk result (λ made. length made.0.items ≤ 2 ^ 62) }
-    ensures taken { IfOk result (λ made. IsTaken (entry_views K.bytes V.bytes base.now) (entry_views K.bytes V.bytes made.0.items)) }
-    ensures refused { IfErr result (λ e. IsRefused (entry_views K.bytes V.bytes base.now) (stepped (entry_views K.bytes V.bytes base.now) (write_views K.bytes V.bytes writes.items) (policy_view policy.now) (option_map V.bytes metadata)) e) }
-    ensures never { IfErr result (λ e. e ≢ Error.StaleBatch) }
-{
-    let tip = tip_of(alloc, base, writes, policy, metadata)?;
-    let items = spell_own(alloc, &tip, base.len())?;
-    match refuse(&items, tip.len()) {
-        Ok(()) => Ok((tip, items)),
-        Err(error) => Err(error),
-    }
-}
-
-// The merkleized batch from a base to a list that has these spellings behind the database's.
-fn sealed<F: Family, C: Store, D: Digest, H: Hasher<Digest = D> + Drop, K: Key, V: VariableValue>(
-    alloc: Global,
-    db: &mut Db<F, C, D, H, Unordered<K, V>>,
     base: Commitment<D>,
+    tips: Vec<Commitment<D>>,
+    kept: Vec<Ancestor<D>>,
     tip: Vec<Entry<F, K, V>>,
-    items: &[Vec<u8>],
+    made: Commitment<D>,
 ) -> Result<Rc<MerkleizedBatch<F, D, Unordered<K, V>>>, AllocError>
-    requires room { length db.old.list + length items.now ≡ length tip.items }
+    requires size { made.size ≡ length tip.items }
     requires few { length tip.items ≤ 2 ^ 62 }
-    requires size { base.size ≤ length tip.items }
-    ensures base { IfOk result (λ b. b.value.base ≡ commitment_view D.bytes base) }
-    ensures tip { IfOk result (λ b. b.value.tip ≡ entry_views K.bytes V.bytes tip.items) }
-    ensures made { (list : List Operation) → IsListLog C.Store F.shape D.bytes H.hash db.old.log list → map spelling list ++ map (λ v. v.items) items.now ≡ map spelling (entry_views K.bytes V.bytes tip.items)
-        → IfOk result (λ b. b.value.made ≡ list_commitment H.hash F.shape (entry_views K.bytes V.bytes tip.items)) }
-    ensures same { db.new ≡ db.old }
+    requires base { base.size ≤ length tip.items }
+    requires tips { map (commitment_view D.bytes) tips.items ≡ map (λ k. k.tip) (map (ancestor_view D.bytes) kept.items) }
+    requires kept { All (λ k. (k.base.size ≤ length tip.items) × (k.tip.size ≤ length tip.items)) kept.items }
+    ensures bounds { IfOk result (λ b. b.value.bounds ≡ record { base = commitment_view D.bytes base; db = oldest (commitment_view D.bytes base) (map (ancestor_view D.bytes) kept.items); tip = commitment_view D.bytes made; ancestors = map (λ k. k.tip) (map (ancestor_view D.bytes) kept.items); inactivity_floor = lives.floor (entry_views K.bytes V.bytes tip.items) }) }
+    ensures kept { IfOk result (λ b. b.value.kept ≡ map (ancestor_view D.bytes) kept.items) }
+    ensures list { IfOk result (λ b. b.value.tip ≡ entry_views K.bytes V.bytes tip.items) }
 {
-    let made = db.commitment_with(alloc, &tip, items)?;
+    let bounds = bounds_of(base, tips, &kept, &tip, made);
     let tip = Rc::new(alloc, tip)?;
-    let batch = Rc::new(alloc, MerkleizedBatch { base, tip, made })?;
-    Ok(batch)
+    MerkleizedBatch::of_parts(alloc, bounds, kept, tip)
 }
 
-// The list after a step of the base.
-fn tip_of<F, K: Key, V: VariableValue>(
-    alloc: Global,
-    base: &[Entry<F, K, V>],
-    writes: Vec<Write<K, V>>,
-    policy: &Proportional,
-    metadata: Option<V>,
-) -> Result<Vec<Entry<F, K, V>>, AllocError>
-    ensures list { IfOk result (λ tip. entry_views K.bytes V.bytes tip.items ≡ stepped (entry_views K.bytes V.bytes base.now) (write_views K.bytes V.bytes writes.items) (policy_view policy.now) (option_map V.bytes metadata)) }
-    ensures count { IfOk result (λ tip. length base.now ≤ length tip.items) }
+// The bounds of a batch that makes this list on a base.
+fn bounds_of<F, D: Digest, K: Key, V: VariableValue>(
+    base: Commitment<D>,
+    tips: Vec<Commitment<D>>,
+    kept: &[Ancestor<D>],
+    tip: &[Entry<F, K, V>],
+    made: Commitment<D>,
+) -> Bounds<F, D>
+    ensures { result ≡ record { base = commitment_view D.bytes base; db = oldest (commitment_view D.bytes base) (map (ancestor_view D.bytes) kept.now); tip = commitment_view D.bytes made; ancestors = map (commitment_view D.bytes) tips.items; inactivity_floor = lives.floor (entry_views K.bytes V.bytes tip.now) } }
 {
-    let list = twin_list(alloc, base)?;
-    step(alloc, list, writes, policy, metadata)
-}
-
-// The spellings of the operations from a location on.
-fn spell_own<F, K: Key, V: VariableValue>(
-    alloc: Global,
-    operations: &[Entry<F, K, V>],
-    from: usize,
-) -> Result<Vec<Vec<u8>>, AllocError>
-    requires { from ≤ length operations.now }
-    ensures items { IfOk result (λ items. map (λ v. v.items) items.items ≡ map spelling (drop from (entry_views K.bytes V.bytes operations.now))) }
-    ensures count { IfOk result (λ items. from + length items.items ≡ length operations.now) }
-{
-    let (_, own) = operations.split_at(from);
-    spell_all(alloc, own)
-}
-
-// Refuses the first spelling that is too long, then a list of too many operations.
-fn refuse(items: &[Vec<u8>], size: usize) -> Result<(), Error>
-    ensures ok { OnOk result ((too_long (map (λ v. v.items) items.now) ≡ None) × (size ≤ 2 ^ 62)) }
-    ensures err { IfErr result (λ e. IsTooLong (map (λ v. v.items) items.now) size e) }
-{
-    for item in items {
-        if item.len() > MAX_SPELLING {
-            return Err(Error::Journal(JournalError::ItemTooLarge(item.len() as u64)));
-        }
+    Bounds {
+        base,
+        db: oldest_of(&base, kept),
+        tip: made,
+        ancestors: tips,
+        inactivity_floor: Location::new(floor(tip)),
     }
-    let size = size as u64;
-    if size > MAX_OPERATIONS {
-        return Err(Error::Merkle(MerkleError::LocationOverflow(size)));
-    }
-    Ok(())
 }
 
-// Whether the write is to the key.
-fn is_to<K: Key, V: VariableValue>(write: &Write<K, V>, key: &K) -> bool
-    ensures { result ≡ bytes_eq (write_view K.bytes V.bytes write.now).key (K.bytes key.now) }
+// The state after a batch's operations.
+fn state_after<F, D: Digest>(bounds: &Bounds<F, D>) -> Commitment<D>
+    ensures { commitment_view D.bytes result ≡ bounds.now.tip }
 {
-    write.key.as_bytes() == key.as_bytes()
+    bounds.tip
 }
 
-// The last write of a key.
-fn last_write<'a, K: Key, V: VariableValue>(
-    writes: &'a [Write<K, V>],
-    key: &K,
-) -> Option<&'a Write<K, V>>
-    ensures { option_map (λ w. write_view K.bytes V.bytes w.now) result ≡ write_of (last_writes (write_views K.bytes V.bytes writes.now)) (K.bytes key.now) }
+// The batch of these bounds as a kept ancestor.
+fn as_ancestor<F, D: Digest>(bounds: &Bounds<F, D>) -> Ancestor<D>
+    ensures { ancestor_view D.bytes result ≡ record { base = bounds.now.base; tip = bounds.now.tip } }
 {
-    let mut found = None;
-    for write in writes {
-        if is_to(write, key) {
-            found = Some(write);
-        }
+    Ancestor {
+        base: bounds.base,
+        tip: bounds.tip,
     }
-    found
 }

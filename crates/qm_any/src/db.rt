@@ -1,22 +1,24 @@
 //! The database.
 
 ghost use Rattle.std.specs.Prelude.{◌≡◌, ◌⊎◌, ◌≤◌, ◌+◌, ◌^◌, ◌++◌, [], List, nat_lt, true, false, length, map, drop, option_map, if◌then◌else◌, IfOk, IfErr, OnOk};
-ghost use Rattle.qm_model.specs.Batches.{same};
+ghost use Rattle.qm_model.specs.Batches.{Chain, IsOnChain};
 ghost use Rattle.qm_model.specs.Causes.{IsCause};
 ghost use Rattle.qm_model.specs.Live as lives;
 ghost use Rattle.qm_model.specs.Operations.{Operation, spelling};
 ghost use Rattle.qm_store.specs.Log as logs;
-ghost use Rattle.qm_any.specs.Databases.{Database, IsDatabase, IsListLog, LeadsTo, commitment_view, list_commitment};
+ghost use Rattle.qm_chain.specs.Bounds.{commitment_view, is_at};
+ghost use Rattle.qm_any.specs.Databases.{Database, IsDatabase, IsListLog, IsMade, at_rest, list_commitment};
 ghost use Rattle.qm_any.specs.Given.{Appended, AppendedPart, store_given};
 ghost use Rattle.qm_any.specs.ListViews.{entry_views};
 
-use crate::batch::{MerkleizedBatch, UnmerkleizedBatch};
-use crate::lists::{Entry, floor, has_live, last_metadata, spell_all, twin_option, value_of};
+use crate::batch::{MerkleizedBatch, UnmerkleizedBatch, values_of};
+use crate::lists::{Entry, floor, has_live, last_metadata, twin_option, value_of};
 use crate::refusal::{Given, Refusal};
 use qm_base::update::{Unordered, Update};
 use qm_base::{
     Commitment, Digest, Error, Hasher, JournalError, Key, Location, VariableValue, operation,
 };
+use qm_chain::Bounds;
 use qm_merkle::Family;
 use qm_store::{AuthLog, LogGiven, LogRefusal, Store};
 use std::alloc::{AllocError, Global};
@@ -35,20 +37,14 @@ pub struct Db<F: Family, C: Store, D: Digest, H, U: Update> {
 impl<F: Family, C: Store, D: Digest, H, U: Update> Model for Db<F, C, D, H, U> {
     ghost use Rattle.std.specs.Prelude.{◌≡◌, length};
     ghost use Rattle.qm_base.specs.Views.{operation_views};
-    ghost use Rattle.qm_any.specs.Databases.{Database, commitment_view};
+    ghost use Rattle.qm_chain.specs.Bounds.{commitment_view};
+    ghost use Rattle.qm_any.specs.Databases.{Database};
 
     ghost Value = { Database C D };
 
     ghost view = { λ db. record { list = operation_views U.view U.Key.bytes U.Value.bytes db.list.value.items; commitment = commitment_view D.bytes db.commitment; log = db.log } };
 
     ghost invariant = { λ db. (db.commitment.size ≡ length db.list.value.items) × (db.log.tree.leaves ≡ length db.list.value.items) × (C.end db.log.store ≡ length db.list.value.items) };
-}
-
-// Whether size and root both agree.
-pub(crate) fn is_same<D: Digest>(a: &Commitment<D>, b: &Commitment<D>) -> bool
-    ensures { result ≡ same (commitment_view D.bytes a.now) (commitment_view D.bytes b.now) }
-{
-    a.size == b.size && a.root.bytes() == b.root.bytes()
 }
 
 impl<F: Family, C: Store, D: Digest, H: Hasher<Digest = D> + Drop, K: Key, V: VariableValue> Db<
@@ -81,58 +77,85 @@ impl<F: Family, C: Store, D: Digest, H: Hasher<Digest = D> + Drop, K: Key, V: Va
         &self,
         alloc: Global,
     ) -> Result<UnmerkleizedBatch<F, D, Unordered<K, V>>, AllocError>
-        ensures { IfOk result (λ b. b ≡ record { base = self.now.list; commitment = self.now.commitment; writes = [] }) }
+        ensures { IfOk result (λ b. b ≡ record { base = self.now.list; parent = at_rest self.now; kept = []; writes = [] }) }
     {
-        let base = self.list.clone()?;
-        Ok(UnmerkleizedBatch::begun(alloc, base, self.commitment))
+        let base = self.shared()?;
+        Ok(UnmerkleizedBatch::begun(alloc, base, self.at_rest(alloc), Vec::new(alloc)))
     }
 
-    /// Whether the batch can be applied: the database is as the batch found it. It takes no memory.
+    /// The database as a merkleized batch, which does nothing: batches can be begun on it, and reads through it are exact
+    /// where the database is as it is now.
+    pub fn to_batch(
+        &self,
+        alloc: Global,
+    ) -> Result<Rc<MerkleizedBatch<F, D, Unordered<K, V>>>, AllocError>
+        ensures { IfOk result (λ b. b.value ≡ record { bounds = at_rest self.now; kept = []; tip = self.now.list }) }
+    {
+        let tip = self.shared()?;
+        MerkleizedBatch::of_parts(alloc, self.at_rest(alloc), Vec::new(alloc), tip)
+    }
+
+    /// Whether the batch can be applied: the database is at its boundary or at a kept ancestor's tip. It takes no memory.
     pub fn validate_batch(
         &self,
         batch: &MerkleizedBatch<F, D, Unordered<K, V>>,
     ) -> Result<(), Error>
-        ensures fits { OnOk result (same self.now.commitment batch.now.base ≡ true) }
-        ensures stale { IfErr result (λ e. (e ≡ Error.StaleBatch) × (same self.now.commitment batch.now.base ≡ false)) }
+        ensures fits { OnOk result (is_at self.now.commitment batch.now.bounds.db batch.now.bounds.ancestors ≡ true) }
+        ensures stale { IfErr result (λ e. (e ≡ Error.StaleBatch) × (is_at self.now.commitment batch.now.bounds.db batch.now.bounds.ancestors ≡ false)) }
     {
-        if is_same(&self.commitment, batch.base()) {
-            Ok(())
-        } else {
-            Err(Error::StaleBatch)
+        batch.fits(&self.commitment)
+    }
+
+    // The list, shared.
+    fn shared(&self) -> Result<Rc<Vec<Entry<F, K, V>>>, AllocError>
+        ensures list { IfOk result (λ list. entry_views K.bytes V.bytes list.value.items ≡ self.now.list) }
+        ensures size { IfOk result (λ list. self.now.commitment.size ≡ length list.value.items) }
+        ensures few { IfOk result (λ list. length list.value.items ≤ 2 ^ 62) }
+    {
+        // The log has at most 2^62 items.
+        self.log.bounds();
+        Ok(self.list.clone()?)
+    }
+
+    // The bounds of the database as a batch that does nothing.
+    fn at_rest(&self, alloc: Global) -> Bounds<F, D>
+        ensures { result ≡ at_rest self.now }
+    {
+        Bounds {
+            base: self.commitment,
+            db: self.commitment,
+            tip: self.commitment,
+            ancestors: Vec::new(alloc),
+            inactivity_floor: self.inactivity_floor_loc(),
         }
     }
 
-    /// Takes the batch's tip list, and appends to the store what it lacks of it. The database comes back as it was where
+    /// Takes the batch's tip list, and appends to the store what it lacks of it: the operations of kept ancestors that are
+    /// not applied yet, and the batch's own. The database comes back as it was where
     /// the batch is stale, and where memory lacks before the store is called; after that its store comes back.
     pub fn apply_batch(
         self,
         alloc: Global,
         batch: &MerkleizedBatch<F, D, Unordered<K, V>>,
     ) -> Result<Self, Refusal<Self, C>>
-        ensures stands { (base tip : List Operation) → IsDatabase C.Store F.shape D.bytes H.hash self base → LeadsTo H.hash F.shape batch.now base tip
+        ensures stands { (list : List Operation) (chain : Chain) (tip : List Operation) → IsDatabase C.Store F.shape D.bytes H.hash self list → IsMade H.hash F.shape batch.now chain tip → IsOnChain list chain
             → IfOk result (λ next. IsDatabase C.Store F.shape D.bytes H.hash next tip) }
-        ensures fits { IfOk result (λ next. same self.commitment batch.now.base ≡ true) }
-        ensures grown { IfOk result (λ next. Appended C.Store self.log.store next.log.store (map spelling (drop batch.now.base.size batch.now.tip))) }
+        ensures fits { OnOk result (is_at self.commitment batch.now.bounds.db batch.now.bounds.ancestors ≡ true) }
+        ensures grown { IfOk result (λ next. Appended C.Store self.log.store next.log.store (map spelling (drop (length self.list) batch.now.tip))) }
         ensures later { IfOk result (λ next. C.faults self.log.store ≤ C.faults next.log.store) }
-        ensures stale { IfErr result (λ r. r.error ≡ Error.StaleBatch → (r.given ≡ Given.Database self) × (same self.commitment batch.now.base ≡ false)) }
+        ensures stale { IfErr result (λ r. r.error ≡ Error.StaleBatch → (r.given ≡ Given.Database self) × (is_at self.commitment batch.now.bounds.db batch.now.bounds.ancestors ≡ false)) }
         ensures part { IfErr result (λ r. AppendedPart C.Store self.log.store (store_given (λ db. db.log.store) r.given)
-            (if same self.commitment batch.now.base then map spelling (drop batch.now.base.size batch.now.tip) else [])) }
+            (if is_at self.commitment batch.now.bounds.db batch.now.bounds.ancestors then map spelling (drop (length self.list) batch.now.tip) else [])) }
         ensures back { IfErr result (λ r. (x : Database C D) → r.given ≡ Given.Database x → (x ≡ self) × ((r.error ≡ Error.StaleBatch) ⊎ (r.error ≡ Error.Memory))) }
         ensures causes { IfErr result (λ r. (r.error ≡ Error.StaleBatch) ⊎ ((r.error ≡ Error.Memory) ⊎ (r.error ≡ Error.Journal JournalError.Store))) }
         ensures cause { IfErr result (λ r. IsCause (C.faults self.log.store) (C.faults (store_given (λ db. db.log.store) r.given)) (r.error ≡ Error.Journal JournalError.Store)) }
     {
-        if !is_same(&self.commitment, batch.base()) {
-            return Err(Refusal {
+        match parts_behind(alloc, batch, &self.commitment) {
+            Err(error) => Err(Refusal {
                 given: Given::Database(self),
-                error: Error::StaleBatch,
-            });
-        }
-        match own_parts(alloc, batch) {
-            Err(_) => Err(Refusal {
-                given: Given::Database(self),
-                error: Error::Memory,
+                error,
             }),
-            Ok((tip, items)) => self.moved(alloc, tip, *batch.tip(), &items),
+            Ok((tip, items)) => self.moved(alloc, tip, batch.tip(), &items),
         }
     }
 
@@ -200,6 +223,16 @@ impl<F: Family, C: Store, D: Digest, H: Hasher<Digest = D> + Drop, K: Key, V: Va
     {
         let value = twin_option(alloc, value_of(&self.list, key))?;
         Ok(value)
+    }
+
+    /// The values of keys, in their order, if they are live.
+    pub fn get_many(&mut self, alloc: Global, keys: &[K]) -> Result<Vec<Option<V>>, Error>
+        ensures values { IfOk result (λ v. map (option_map V.bytes) v.items ≡ map (λ k. lives.value_of self.old.list (K.bytes k)) keys.now) }
+        ensures memory { IfErr result (λ e. e ≡ Error.Memory) }
+        ensures same { self.new ≡ self.old }
+    {
+        let values = values_of(alloc, &self.list, keys)?;
+        Ok(values)
     }
 
     /// The metadata of the last commit.
@@ -331,19 +364,22 @@ fn given_back<F: Family, C: Store, D: Digest, H, K: Key, V: VariableValue>(
     }
 }
 
-// A merkleized batch's list, and the spellings of its own operations.
-fn own_parts<F: Family, D: Digest, K: Key, V: VariableValue>(
+// A batch's list, and the spellings of what it has behind a database's, where the batch can be applied there.
+fn parts_behind<F: Family, D: Digest, K: Key, V: VariableValue>(
     alloc: Global,
     batch: &MerkleizedBatch<F, D, Unordered<K, V>>,
-) -> Result<(Rc<Vec<Entry<F, K, V>>>, Vec<Vec<u8>>), AllocError>
+    current: &Commitment<D>,
+) -> Result<(Rc<Vec<Entry<F, K, V>>>, Vec<Vec<u8>>), Error>
     ensures list { IfOk result (λ parts. entry_views K.bytes V.bytes parts.0.value.items ≡ batch.now.tip) }
-    ensures size { IfOk result (λ parts. batch.now.made.size ≡ length parts.0.value.items) }
+    ensures size { IfOk result (λ parts. length batch.now.tip ≡ length parts.0.value.items) }
     ensures few { IfOk result (λ parts. length parts.0.value.items ≤ 2 ^ 62) }
-    ensures items { IfOk result (λ parts. map (λ v. v.items) parts.1.items ≡ map spelling (drop batch.now.base.size batch.now.tip)) }
-    ensures count { IfOk result (λ parts. batch.now.base.size + length parts.1.items ≡ batch.now.made.size) }
+    ensures items { IfOk result (λ parts. map (λ v. v.items) parts.1.items ≡ map spelling (drop current.now.size batch.now.tip)) }
+    ensures count { IfOk result (λ parts. current.now.size + length parts.1.items ≡ length batch.now.tip) }
+    ensures fits { OnOk result (is_at (commitment_view D.bytes current.now) batch.now.bounds.db batch.now.bounds.ancestors ≡ true) }
+    ensures stale { IfErr result (λ e. (e ≡ Error.Memory) ⊎ ((e ≡ Error.StaleBatch) × (is_at (commitment_view D.bytes current.now) batch.now.bounds.db batch.now.bounds.ancestors ≡ false))) }
 {
-    let (_, own) = batch.operations();
-    let items = spell_all(alloc, own)?;
+    batch.fits(current)?;
+    let items = batch.spelled_from(alloc, current.size)?;
     let list = batch.list()?;
     Ok((list, items))
 }

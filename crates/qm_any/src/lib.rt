@@ -8,6 +8,7 @@ mod open;
 pub mod policy;
 pub mod proof;
 pub mod refusal;
+mod speculative;
 
 pub use open::{hasher, init, initial_root};
 pub use policy::Proportional;

@@ -7,7 +7,7 @@ mod step;
 mod walk;
 mod writes;
 
-pub(crate) use copies::{fresh_list, last_metadata, spell_all, twin_list, twin_option};
+pub(crate) use copies::{fresh_list, last_metadata, spell_all, spell_from, twin_list, twin_option};
 pub(crate) use live::{floor, has_live, value_of};
 use qm_base::Operation;
 use qm_base::update::Unordered;

@@ -5,7 +5,8 @@ ghost use Rattle.qm_model.specs.Causes.{IsCause};
 ghost use Rattle.qm_model.specs.Operations.{spelling, fresh};
 ghost use Rattle.qm_model.specs.Trees as trees;
 ghost use Rattle.qm_store.specs.Log as logs;
-ghost use Rattle.qm_any.specs.Databases.{Database, IsDatabase, IsListLog, commitment_view, list_commitment};
+ghost use Rattle.qm_chain.specs.Bounds.{commitment_view};
+ghost use Rattle.qm_any.specs.Databases.{Database, IsDatabase, IsListLog, list_commitment};
 ghost use Rattle.qm_any.specs.Given.{Appended, AppendedPart, store_given};
 ghost use Rattle.qm_any.specs.ListViews.{entry_views};
 

@@ -1,6 +1,6 @@
 //! That calls succeed, and the root of a fresh database, which was computed by another program.
 
-use crate::batch::MerkleizedBatch;
+use crate::batch::{MerkleizedBatch, UnmerkleizedBatch};
 use crate::db::Db;
 use crate::{Proportional, hasher, init, initial_root};
 use qm_base::update::Unordered;
@@ -17,6 +17,8 @@ use std::test::Fail;
 type Database = Db<Family, MemStore, Sha256Digest, Sha256, Unordered<ByteKey, ByteValue>>;
 
 type Batch = MerkleizedBatch<Family, Sha256Digest, Unordered<ByteKey, ByteValue>>;
+
+type Begun = UnmerkleizedBatch<Family, Sha256Digest, Unordered<ByteKey, ByteValue>>;
 
 // A fresh database over an empty store.
 fn opened(alloc: Global) -> Result<Database, Error> {
@@ -113,16 +115,178 @@ fn a_batch_reads_through(rt: HostRuntime) -> Result<(), Fail> {
     let key = key(rt.alloc())?;
     let other = batch_of(rt.alloc(), &mut db, 5)?;
     let batch = db.new_batch(rt.alloc())?;
-    assert_eq!(rt; long(batch.get(rt.alloc(), &key, &db)?), None);
+    assert_eq!(rt; long(batch.get(rt.alloc(), &key, &mut db)?), None);
     let batch = batch.write(self::key(rt.alloc())?, Some(zeros(rt.alloc(), 7)?))?;
-    assert_eq!(rt; long(batch.get(rt.alloc(), &key, &db)?), Some(7));
-    let db = applied(rt.alloc(), db, &other)?;
+    assert_eq!(rt; long(batch.get(rt.alloc(), &key, &mut db)?), Some(7));
+    let mut db = applied(rt.alloc(), db, &other)?;
     assert_eq!(rt;
-        batch.get(rt.alloc(), &key, &db).err(),
+        batch.get(rt.alloc(), &key, &mut db).err(),
         Some(Error::StaleRead)
     );
-    let batch = db.new_batch(rt.alloc())?;
-    assert_eq!(rt; long(batch.get(rt.alloc(), &key, &db)?), Some(5));
+    Ok(())
+}
+
+#[test]
+fn keys_are_read_together(rt: HostRuntime) -> Result<(), Fail> {
+    let mut db = opened(rt.alloc())?;
+    let keys = [key(rt.alloc())?, numbered(rt.alloc(), 1)?];
+    let made = batch_of(rt.alloc(), &mut db, 5)?;
+    assert_eq!(rt; made.get_many(rt.alloc(), &keys, &mut db)?.len(), 2);
+    let batch = made.new_batch(rt.alloc())?;
+    assert_eq!(rt; batch.get_many(rt.alloc(), &keys, &mut db)?.len(), 2);
+    assert_eq!(rt; db.get_many(rt.alloc(), &keys)?.len(), 2);
+    Ok(())
+}
+
+// A key that shares its first four bytes with all others of these.
+fn numbered(alloc: Global, number: u8) -> Result<ByteKey, AllocError> {
+    let bytes = [0x6b, 0x6b, 0x6b, 0x6b, number].to_vec(alloc)?;
+    Ok(ByteKey::new(bytes))
+}
+
+// The batch with a value of so many zeros for the key of this number.
+fn made(alloc: Global, batch: Begun, number: u8, db: &mut Database) -> Result<Rc<Batch>, Error> {
+    let value = zeros(alloc, u32::from(number))?;
+    let batch = batch.write(numbered(alloc, number)?, Some(value))?;
+    batch.merkleize(alloc, db, None, &mut Proportional)
+}
+
+// A fresh database as a batch, so many batches each on the one before, which keep all, and one on the last of them that
+// keeps this many of what that keeps.
+fn chain(alloc: Global, older: u8, keep: u8) -> Result<(Vec<Rc<Batch>>, Rc<Batch>), Error> {
+    let mut db = opened(alloc)?;
+    let mut batches = Vec::new(alloc);
+    let mut parent = db.to_batch(alloc)?;
+    for number in 0..older {
+        let child = made(alloc, parent.new_batch(alloc)?, number, &mut db)?;
+        batches.push(parent)?;
+        parent = child;
+    }
+    let mut db = applied(alloc, db, &parent)?;
+    let batch = parent.new_batch_keeping(alloc, usize::from(keep))?;
+    let last = made(alloc, batch, older, &mut db)?;
+    batches.push(parent)?;
+    Ok((batches, last))
+}
+
+// The database after these batches, each after the one before.
+fn applied_in_turn(alloc: Global, db: Database, batches: &[Rc<Batch>]) -> Result<Database, Error> {
+    let mut db = db;
+    for batch in batches {
+        db = applied(alloc, db, batch)?;
+    }
+    Ok(db)
+}
+
+// A database after so many batches of a chain: in one step or, where the last one is among them, in turn.
+fn after(alloc: Global, batches: &[Rc<Batch>], last: &Batch, state: u8) -> Result<Database, Error> {
+    let db = opened(alloc)?;
+    match batches.get(usize::from(state)) {
+        Some(batch) => applied(alloc, db, batch),
+        None => applied(alloc, applied_in_turn(alloc, db, batches)?, last),
+    }
+}
+
+// How many bytes the value has that was read.
+fn read(value: Result<Option<ByteValue>, Error>) -> Result<Option<usize>, Error> {
+    match value {
+        Ok(value) => Ok(long(value)),
+        Err(error) => Err(error),
+    }
+}
+
+// What a batch of a chain answers at a state of the database.
+#[derive(Debug, Drop, PartialEq, Eq)]
+struct Seen {
+    read: Result<Option<usize>, Error>,
+    read_by_child: Result<Option<usize>, Error>,
+    child: Option<Error>,
+    applied: Result<Option<usize>, Error>,
+}
+
+// What the last batch of a chain answers.
+fn seen(alloc: Global, last: &Batch, number: u8, db: Database) -> Result<Seen, Error> {
+    let mut db = db;
+    let key = numbered(alloc, number)?;
+    let value = read(last.get(alloc, &key, &mut db));
+    let batch = last
+        .new_batch(alloc)?
+        .write(numbered(alloc, number)?, None)?;
+    let through = read(batch.get(alloc, &key, &mut db));
+    let child = batch
+        .merkleize(alloc, &mut db, None, &mut Proportional)
+        .err();
+    Ok(Seen {
+        read: value,
+        read_by_child: through,
+        child,
+        applied: read_after(alloc, db, last, &key),
+    })
+}
+
+// The value of a key in the database after a batch.
+fn read_after(
+    alloc: Global,
+    db: Database,
+    batch: &Batch,
+    key: &ByteKey,
+) -> Result<Option<usize>, Error> {
+    let mut db = applied(alloc, db, batch)?;
+    read(db.get(alloc, key))
+}
+
+// What it has to answer after `state` batches of its chain: it knows the states from the base of the oldest batch that
+// it keeps on, and fits at those that are not its own.
+fn expected(older: u8, keep: u8, state: u8) -> Seen {
+    let lowest = older.saturating_sub(keep.saturating_add(1));
+    let known = lowest <= state;
+    let value = Some(usize::from(older));
+    Seen {
+        read: if known {
+            Ok(value)
+        } else {
+            Err(Error::StaleRead)
+        },
+        read_by_child: if known {
+            Ok(None)
+        } else {
+            Err(Error::StaleRead)
+        },
+        child: if known { None } else { Some(Error::StaleBatch) },
+        applied: if known && state <= older {
+            Ok(value)
+        } else {
+            Err(Error::StaleBatch)
+        },
+    }
+}
+
+#[test]
+fn batches_know_the_states_of_their_chains(rt: HostRuntime) -> Result<(), Fail> {
+    for older in 0..5 {
+        for keep in 0..=older {
+            let (batches, last) = chain(rt.alloc(), older, keep)?;
+            for state in 0..older + 2 {
+                let db = after(rt.alloc(), &batches, &last, state)?;
+                let seen = self::seen(rt.alloc(), &last, older, db)?;
+                assert_eq!(rt; seen, expected(older, keep, state));
+            }
+        }
+    }
+    Ok(())
+}
+
+#[test]
+fn a_child_proves_its_operations(rt: HostRuntime) -> Result<(), Fail> {
+    let mut db = opened(rt.alloc())?;
+    let parent = batch_of(rt.alloc(), &mut db, 5)?;
+    let child = made(rt.alloc(), parent.new_batch(rt.alloc())?, 1, &mut db)?;
+    let proof = child.proof(rt.alloc(), &mut db)?;
+    let (from, own) = child.operations();
+    assert_eq!(rt; from.get(), parent.bounds().tip.size);
+    let mut hasher = hasher(Sha256::new());
+    assert!(rt; proof.verify(&mut hasher, own, from, &child.root()));
+    assert_eq!(rt; child.pinned_nodes(rt.alloc(), &mut db)?.len(), 1);
     Ok(())
 }
 

@@ -1,6 +1,6 @@
 //! At which states of a database a batch can be applied, and at which it can be read.
 
-ghost use Rattle.std.specs.Prelude.{◌≡◌, ◌||◌, ℕ, List, Some, is_ok, map, take, option_map, IfErr};
+ghost use Rattle.std.specs.Prelude.{◌≡◌, ◌||◌, ℕ, List, Some, is_ok, map, take, option_map, IfOk, IfErr};
 ghost use Rattle.std.specs.List.{list_any};
 ghost use Rattle.qm_model.specs.Batches as model;
 ghost use Rattle.qm_model.specs.Batches.{same, Chain, readable};
@@ -8,7 +8,8 @@ ghost use Rattle.qm_model.specs.Operations.{Bytes, Operation};
 ghost use Rattle.qm_chain.specs.Bounds.{commitment_view, is_at, later_boundary, IsBounds};
 ghost use Rattle.qm_chain.specs.Nested.{AreNested};
 
-use qm_base::{Commitment, Digest, Error, Location};
+use qm_base::{Commitment, Digest, Error, Location, Twin};
+use std::alloc::{AllocError, Global};
 use std::marker::Model;
 
 /// Where a merkleized batch stands: the states of a database that it knows, and the floor of its commit.
@@ -33,6 +34,33 @@ impl<F, D: Digest> Model for Bounds<F, D> {
     ghost Value = { Bounds };
 
     ghost view = { λ b. record { base = commitment_view D.bytes b.base; db = commitment_view D.bytes b.db; tip = commitment_view D.bytes b.tip; ancestors = map (commitment_view D.bytes) b.ancestors.items; inactivity_floor = b.inactivity_floor } };
+}
+
+impl<F, D: Digest> Twin for Bounds<F, D> {
+    fn twin(&self, alloc: Global) -> Result<Bounds<F, D>, AllocError> {
+        let ancestors = twin_states(alloc, &self.ancestors)?;
+        Ok(Bounds {
+            base: self.base,
+            db: self.db,
+            tip: self.tip,
+            ancestors,
+            inactivity_floor: Location::new(self.inactivity_floor.get()),
+        })
+    }
+}
+
+// A copy of the states.
+fn twin_states<D: Digest>(
+    alloc: Global,
+    states: &[Commitment<D>],
+) -> Result<Vec<Commitment<D>>, AllocError>
+    ensures { IfOk result (λ copy. copy.items ≡ states.now) }
+{
+    let mut copy = Vec::new(alloc);
+    for state in states {
+        copy.push(*state)?;
+    }
+    Ok(copy)
 }
 
 /// Whether size and root both agree. It takes no memory.

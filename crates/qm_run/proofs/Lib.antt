@@ -1,5 +1,9 @@
 pub mod Tables
 pub mod Commands
+pub mod BatchCommands
+pub mod ReadCommands
+pub mod ProofCommands
+pub mod CommandItems
 pub mod Loops
 pub mod Sayings
 pub mod Engines

@@ -27,7 +27,7 @@ pub record Meaning (X C B M : Type 0) : Type 1 where
   pub start : C → ℕ
   pub items : C → Option (List Bytes)
   pub stands : X → List Operation → Type 0
-  pub is_batch : B → Chain → List Write → Type 0
+  pub is_batch : B → Chain → Chain → List Write → Type 0
   pub is_merkleized : M → Chain → List Operation → Type 0
 
 -- that of a bound on an engine and on its store
@@ -49,13 +49,13 @@ module _ {X C B M : Type 0} (m : Meaning X C B M) where
   -- a batch stands for the machine's batch of its number
   abbrev pub SlotIs : List (List Operation) → Slot B M → machine.Slot → Type 0
   SlotIs had Gone machine.gone = Unit {0}
-  SlotIs had Gone (machine.writing chain ws) = ⊥
+  SlotIs had Gone (machine.writing chain above ws) = ⊥
   SlotIs had Gone (machine.merkleized chain tip) = ⊥
   SlotIs had (Writing b) machine.gone = ⊥
-  SlotIs had (Writing b) (machine.writing chain ws) = m.is_batch b chain ws × IsAmong had chain
+  SlotIs had (Writing b) (machine.writing chain above ws) = m.is_batch b chain above ws × IsAmong had chain × IsAmong had above
   SlotIs had (Writing b) (machine.merkleized chain tip) = ⊥
   SlotIs had (Merkleized b) machine.gone = ⊥
-  SlotIs had (Merkleized b) (machine.writing chain ws) = ⊥
+  SlotIs had (Merkleized b) (machine.writing chain above ws) = ⊥
   SlotIs had (Merkleized b) (machine.merkleized chain tip) = m.is_merkleized b chain tip × IsAmong had chain × Contains had tip
 
   -- what is held stands for this state
@@ -77,11 +77,18 @@ IfReply (Reply r) P = P r
 IfReply Memory P = Unit {0}
 IfReply StoreFault P = Unit {0}
 
--- A command does what the machine does: from each state that the session stood for, a reply is the machine's
--- and the session stands for its next state, where that run's lists are apart.
+-- A turn does what the machine does: a reply is the machine's, and the session stands for its next state, where that
+-- run's lists are apart.
+abbrev pub Follows : {X C B M K V D : Type 0} → Meaning X C B M → (K → Bytes) → (V → Bytes) → (D → Bytes) → (List Operation → Bytes) → Session X C B M → Turn K V D → Answer × State → Type 0
+Follows m key value digest root new turn next = IfReply turn (λ r. Apart root (next.1).had → (answer_view key value digest r ≡ next.0) × Stands m new next.1)
+
+-- A command does so from each state that the session stood for.
 abbrev pub Obeys : {X C B M K V D : Type 0} → Meaning X C B M → (K → Bytes) → (V → Bytes) → (D → Bytes) → (List Operation → Bytes) → Session X C B M → Session X C B M → Turn K V D → (State → Answer × State) → Type 0
-Obeys m key value digest root old new turn next =
-    (s : State) → Stands m old s → IfReply turn (λ r. Apart root ((next s).1).had → (answer_view key value digest r ≡ (next s).0) × Stands m new (next s).1)
+Obeys m key value digest root old new turn next = (s : State) → Stands m old s → Follows m key value digest root new turn (next s)
+
+-- A reply is the machine's, where the lists of this state are apart.
+abbrev pub Answers : {K V D : Type 0} → (K → Bytes) → (V → Bytes) → (D → Bytes) → (List Operation → Bytes) → Turn K V D → State → Answer × State → Type 0
+Answers key value digest root turn s next = IfReply turn (λ r. Apart root s.had → answer_view key value digest r ≡ next.0)
 
 -- The items are those before a command, or with a first part of what it appends.
 pub record IsLeft (items : Option (List Bytes)) (before after : List Bytes) : Type 0 where

@@ -1,11 +1,11 @@
 // The program's database as an engine.
-ghost use Rattle.std.specs.Prelude.{◌≡◌, [], IfOk, IfErr};
+ghost use Rattle.std.specs.Prelude.{◌≡◌};
 ghost use Rattle.qm_model.specs.Live as lives;
 ghost use Rattle.qm_model.specs.Mmr.{mmr};
 ghost use Rattle.qm_model.specs.Roots.{sha256_root, sha256_proof, sha256_pins};
 ghost use Rattle.qm_model.specs.Step as steps;
 ghost use Rattle.sha2.specs.Sha256.{sha256};
-ghost use Rattle.qm_any.specs.Databases.{IsDatabase, IsBegunOn, LeadsTo};
+ghost use Rattle.qm_any.specs.Databases.{IsDatabase, IsBegun, IsMade};
 ghost use Rattle.qm_any.specs.Refusals.{refusal_of};
 ghost use Rattle.qm_run.specs.Databases.{digest_bytes};
 
@@ -58,9 +58,9 @@ impl<C: Store> Engine<C>
 
     ghost stands = { λ db list. IsDatabase C.Store mmr digest_bytes sha256 db list };
 
-    ghost is_batch = { λ b chain ws. IsBegunOn sha256 mmr b chain.base × (chain.kept ≡ []) × (b.writes ≡ ws) };
+    ghost is_batch = { λ b chain above ws. IsBegun sha256 mmr b chain above × (b.writes ≡ ws) };
 
-    ghost is_merkleized = { λ b chain tip. LeadsTo sha256 mmr b.value chain.base tip × (chain.kept ≡ []) };
+    ghost is_merkleized = { λ b chain tip. IsMade sha256 mmr b.value chain tip };
 
     ghost kind = { steps.unordered };
 
@@ -105,6 +105,21 @@ impl<C: Store> Engine<C>
         self.new_batch(alloc)
     }
 
+    fn child(
+        alloc: Global,
+        batch: &Self::Merkleized,
+        keep: Option<u64>,
+    ) -> Result<Self::Batch, AllocError> {
+        match keep {
+            None => batch.new_batch(alloc),
+            Some(n) => batch.new_batch_keeping(alloc, n as usize),
+        }
+    }
+
+    fn tip(&self, alloc: Global) -> Result<Self::Merkleized, AllocError> {
+        self.to_batch(alloc)
+    }
+
     fn put(
         _alloc: Global,
         batch: Self::Batch,
@@ -132,11 +147,18 @@ impl<C: Store> Engine<C>
     }
 
     fn sizes(batch: &Self::Merkleized) -> BatchSizes {
+        let bounds = batch.bounds();
+        let floor = bounds.inactivity_floor.get();
         BatchSizes {
-            base: batch.base().size,
-            tip: batch.tip().size,
-            floor: batch.inactivity_floor_loc().get(),
+            base: bounds.base.size,
+            tip: bounds.tip.size,
+            floor,
+            boundary: floor,
         }
+    }
+
+    fn batch_root(batch: &Self::Merkleized) -> Sha256Digest {
+        batch.root()
     }
 
     fn ops(
@@ -152,8 +174,40 @@ impl<C: Store> Engine<C>
         self.apply_batch(alloc, batch)
     }
 
-    fn get(&mut self, alloc: Global, key: &ByteKey) -> Result<Option<ByteValue>, Error> {
-        Db::get(self, alloc, key)
+    fn get(&mut self, alloc: Global, keys: &[ByteKey]) -> Result<Vec<Option<ByteValue>>, Error> {
+        self.get_many(alloc, keys)
+    }
+
+    fn get_through(
+        &mut self,
+        alloc: Global,
+        batch: &Self::Batch,
+        keys: &[ByteKey],
+    ) -> Result<Vec<Option<ByteValue>>, Error> {
+        batch.get_many(alloc, keys, self)
+    }
+
+    fn get_from(
+        &mut self,
+        alloc: Global,
+        batch: &Self::Merkleized,
+        keys: &[ByteKey],
+    ) -> Result<Vec<Option<ByteValue>>, Error> {
+        batch.get_many(alloc, keys, self)
+    }
+
+    fn proof(
+        &mut self,
+        alloc: Global,
+        batch: &Self::Merkleized,
+    ) -> Result<(Proof<Sha256Digest>, Vec<Sha256Digest>), Error> {
+        match batch.proof(alloc, self) {
+            Ok(proof) => match batch.pinned_nodes(alloc, self) {
+                Ok(pins) => Ok((proof, pins)),
+                Err(error) => Err(error),
+            },
+            Err(error) => Err(error),
+        }
     }
 
     fn root(&self, _alloc: Global) -> Result<Sha256Digest, AllocError> {

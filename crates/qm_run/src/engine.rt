@@ -5,10 +5,10 @@ ghost use Rattle.std.specs.Int.NonZero.{non_zero_u64_get};
 ghost use Rattle.qm_model.specs.Causes.{Rose};
 ghost use Rattle.qm_model.specs.Operations.{Bytes, Operation, spelling, fresh};
 ghost use Rattle.qm_model.specs.Live.{live, floor, value_of, last_metadata};
-ghost use Rattle.qm_model.specs.Writes.{Write};
+ghost use Rattle.qm_model.specs.Writes.{Write, read_through};
 ghost use Rattle.qm_model.specs.Step.{Kind, step};
 ghost use Rattle.qm_model.specs.Policies.{policies};
-ghost use Rattle.qm_model.specs.Batches.{Chain, IsOnChain, commitment, fits, own_operations};
+ghost use Rattle.qm_model.specs.Batches.{Chain, begun_on, child_of, IsOnChain, IsKnown, commitment, fits, readable, own_operations};
 ghost use Rattle.qm_model.specs.Proofs as proofs;
 ghost use Rattle.qm_model.specs.Refusals.{tip_refusal, proof_refusal, proof_count, pins_refusal};
 ghost use Rattle.qm_lines.specs.Views.{policy_view, listed_view};
@@ -48,6 +48,8 @@ pub struct BatchSizes {
     pub tip: u64,
     /// The floor of that list.
     pub floor: u64,
+    /// Up to where that list may be pruned.
+    pub boundary: u64,
 }
 
 /// A kind of database: one call for each command of a run.
@@ -70,8 +72,9 @@ pub trait Engine<C: Store>: Drop + Sized {
     /// It stands for this operation list.
     ghost stands: { Self → List Operation → Type 0 };
 
-    /// A batch of this chain with these writes.
-    ghost is_batch: { Self.Batch → Chain → List Write → Type 0 };
+    /// A batch of this chain, whose parent is of that one and made its base, with these writes. The parent of a batch that
+    /// was begun on a database is that as a merkleized batch.
+    ghost is_batch: { Self.Batch → Chain → Chain → List Write → Type 0 };
 
     /// A merkleized batch of this chain with this tip list.
     ghost is_merkleized: { Self.Merkleized → Chain → List Operation → Type 0 };
@@ -118,7 +121,19 @@ pub trait Engine<C: Store>: Drop + Sized {
 
     /// Begins a batch.
     fn batch(&self, alloc: Global) -> Result<Self::Batch, AllocError>
-        ensures { IfOk result (λ b. (list : List Operation) → stands self.now list → is_batch b (record { base = list; kept = [] }) []) };
+        ensures { IfOk result (λ b. (list : List Operation) → stands self.now list → is_batch b (begun_on list) (begun_on list) []) };
+
+    /// Begins a batch on the list of a merkleized one. It keeps that one and the first of its kept ancestors, so many, or all.
+    fn child(
+        alloc: Global,
+        batch: &Self::Merkleized,
+        keep: Option<u64>,
+    ) -> Result<Self::Batch, AllocError>
+        ensures { IfOk result (λ b. (chain : Chain) (tip : List Operation) → is_merkleized batch.now chain tip → is_batch b (child_of keep chain tip) chain []) };
+
+    /// The database as a merkleized batch, which does nothing.
+    fn tip(&self, alloc: Global) -> Result<Self::Merkleized, AllocError>
+        ensures { IfOk result (λ b. (list : List Operation) → stands self.now list → is_merkleized b (begun_on list) list) };
 
     /// Writes a value for a key.
     fn put(
@@ -127,13 +142,13 @@ pub trait Engine<C: Store>: Drop + Sized {
         key: Self::Key,
         value: Self::Value,
     ) -> Result<Self::Batch, AllocError>
-        ensures { IfOk result (λ b. (chain : Chain) (ws : List Write) → is_batch batch chain ws
-            → is_batch b chain (ws ++ record { key = Self.Key.bytes key; value = Some (Self.Value.bytes value) } ∷ [])) };
+        ensures { IfOk result (λ b. (chain above : Chain) (ws : List Write) → is_batch batch chain above ws
+            → is_batch b chain above (ws ++ record { key = Self.Key.bytes key; value = Some (Self.Value.bytes value) } ∷ [])) };
 
     /// Deletes a key.
     fn del(alloc: Global, batch: Self::Batch, key: Self::Key) -> Result<Self::Batch, AllocError>
-        ensures { IfOk result (λ b. (chain : Chain) (ws : List Write) → is_batch batch chain ws
-            → is_batch b chain (ws ++ record { key = Self.Key.bytes key; value = None } ∷ [])) };
+        ensures { IfOk result (λ b. (chain above : Chain) (ws : List Write) → is_batch batch chain above ws
+            → is_batch b chain above (ws ++ record { key = Self.Key.bytes key; value = None } ∷ [])) };
 
     /// Makes the batch's tip list: a step of its base list, under the policy. The batch is consumed also where
     /// this is refused, and the policy may have moved on. It is refused where the batch is stale, where an own
@@ -145,15 +160,15 @@ pub trait Engine<C: Store>: Drop + Sized {
         policy: &mut AnyPolicy,
         metadata: &Option<Self::Value>,
     ) -> Result<Self::Merkleized, Error>
-        ensures fits { IfOk result (λ b. (list : List Operation) (chain : Chain) (ws : List Write) → stands self.old list → is_batch batch chain ws
+        ensures fits { IfOk result (λ b. (list : List Operation) (chain above : Chain) (ws : List Write) → stands self.old list → is_batch batch chain above ws
             → fits root (commitment root list) chain ≡ true) }
-        ensures made { IfOk result (λ b. (list : List Operation) (chain : Chain) (ws : List Write) → stands self.old list → is_batch batch chain ws → IsOnChain list chain
+        ensures made { IfOk result (λ b. (list : List Operation) (chain above : Chain) (ws : List Write) → stands self.old list → is_batch batch chain above ws → IsOnChain list chain
             → let tip = step kind policies chain.base ws (policy_view policy.old) (option_map Self.Value.bytes metadata.now) in
             (tip_refusal chain tip ≡ None) × is_merkleized b chain tip) }
-        ensures stale { IfErr result (λ e. e ≡ Error.StaleBatch → (list : List Operation) (chain : Chain) (ws : List Write) → stands self.old list → is_batch batch chain ws
+        ensures stale { IfErr result (λ e. e ≡ Error.StaleBatch → (list : List Operation) (chain above : Chain) (ws : List Write) → stands self.old list → is_batch batch chain above ws
             → ¬ IsOnChain list chain) }
         ensures refused { IfErr result (λ e. e ≢ Error.StaleBatch → TellsAll C.Store (inside self.old)
-            → (list : List Operation) (chain : Chain) (ws : List Write) → stands self.old list → is_batch batch chain ws
+            → (list : List Operation) (chain above : Chain) (ws : List Write) → stands self.old list → is_batch batch chain above ws
             → IfSome (refusal_of e) (λ r. (fits root (commitment root list) chain ≡ true)
             × (IsOnChain list chain → tip_refusal chain (step kind policies chain.base ws (policy_view policy.old) (option_map Self.Value.bytes metadata.now)) ≡ Some r))) }
         ensures same { (list : List Operation) → stands self.old list → stands self.new list }
@@ -164,7 +179,11 @@ pub trait Engine<C: Store>: Drop + Sized {
     /// The sizes of a merkleized batch.
     fn sizes(batch: &Self::Merkleized) -> BatchSizes
         ensures { (chain : Chain) (tip : List Operation) → is_merkleized batch.now chain tip
-            → (result.base ≡ length chain.base) × (result.tip ≡ length tip) × (result.floor ≡ floor tip) };
+            → (result.base ≡ length chain.base) × (result.tip ≡ length tip) × (result.floor ≡ floor tip) × (result.boundary ≡ boundary tip) };
+
+    /// The root of the list that a merkleized batch makes.
+    fn batch_root(batch: &Self::Merkleized) -> Self::Digest
+        ensures { (chain : Chain) (tip : List Operation) → is_merkleized batch.now chain tip → Self.Digest.bytes result ≡ root tip };
 
     /// The size of a merkleized batch's base, and its own operations.
     fn ops(
@@ -191,15 +210,87 @@ pub trait Engine<C: Store>: Drop + Sized {
         ensures cause { IfErr result (λ r. r.error ≡ Error.Journal JournalError.Store → Rose (C.faults (inside self)) (C.faults (store_given inside r.given))) }
         ensures later { C.faults (inside self) ≤ C.faults (store_after inside result) };
 
-    /// Reads the value of a key.
-    fn get(&mut self, alloc: Global, key: &Self::Key) -> Result<Option<Self::Value>, Error>
-        ensures value { IfOk result (λ v. (list : List Operation) → stands self.old list → option_map Self.Value.bytes v ≡ value_of list (Self.Key.bytes key.now)) }
+    /// Reads the values of keys, in their order.
+    fn get(&mut self, alloc: Global, keys: &[Self::Key]) -> Result<Vec<Option<Self::Value>>, Error>
+        ensures values { IfOk result (λ v. (list : List Operation) → stands self.old list
+            → map (option_map Self.Value.bytes) v.items ≡ map (λ k. value_of list (Self.Key.bytes k)) keys.now) }
         ensures same { (list : List Operation) → stands self.old list → stands self.new list }
         ensures store { IsUnchanged C.Store (inside self.old) (inside self.new) }
         ensures cause { IfErr result (λ e. e ≡ Error.Journal JournalError.Store → Rose (C.faults (inside self.old)) (C.faults (inside self.new))) }
         ensures later { C.faults (inside self.old) ≤ C.faults (inside self.new) }
         ensures never { IfErr result (λ e. e ≢ Error.StaleBatch) }
         ensures refused { IfErr result (λ e. TellsAll C.Store (inside self.old) → (list : List Operation) → stands self.old list → refusal_of e ≡ None) };
+
+    /// Reads the values of keys through a batch: its own writes, then its base list. It is refused where the database is at no
+    /// state at which the batch's parent can be read.
+    fn get_through(
+        &mut self,
+        alloc: Global,
+        batch: &Self::Batch,
+        keys: &[Self::Key],
+    ) -> Result<Vec<Option<Self::Value>>, Error>
+        ensures readable { IfOk result (λ _. (list : List Operation) (chain above : Chain) (ws : List Write) → stands self.old list → is_batch batch.now chain above ws
+            → readable root (commitment root list) above chain.base ≡ true) }
+        ensures values { IfOk result (λ v. (list : List Operation) (chain above : Chain) (ws : List Write) → stands self.old list → is_batch batch.now chain above ws → IsKnown list above chain.base
+            → map (option_map Self.Value.bytes) v.items ≡ map (λ k. read_through chain.base ws (Self.Key.bytes k)) keys.now) }
+        ensures stale { IfErr result (λ e. e ≡ Error.StaleRead → (list : List Operation) (chain above : Chain) (ws : List Write) → stands self.old list → is_batch batch.now chain above ws
+            → ¬ IsKnown list above chain.base) }
+        ensures refused { IfErr result (λ e. e ≢ Error.StaleRead → TellsAll C.Store (inside self.old)
+            → (list : List Operation) (chain above : Chain) (ws : List Write) → stands self.old list → is_batch batch.now chain above ws → IsKnown list above chain.base → refusal_of e ≡ None) }
+        ensures order { IfErr result (λ e. e ≢ Error.StaleRead → e ≢ Error.Memory → (list : List Operation) (chain above : Chain) (ws : List Write) → stands self.old list → is_batch batch.now chain above ws
+            → readable root (commitment root list) above chain.base ≡ true) }
+        ensures same { (list : List Operation) → stands self.old list → stands self.new list }
+        ensures store { IsUnchanged C.Store (inside self.old) (inside self.new) }
+        ensures cause { IfErr result (λ e. e ≡ Error.Journal JournalError.Store → Rose (C.faults (inside self.old)) (C.faults (inside self.new))) }
+        ensures later { C.faults (inside self.old) ≤ C.faults (inside self.new) }
+        ensures never { IfErr result (λ e. e ≢ Error.StaleBatch) };
+
+    /// Reads the values of keys through a merkleized batch, on the list that it makes. It is refused where the database is at
+    /// no state at which the batch can be read.
+    fn get_from(
+        &mut self,
+        alloc: Global,
+        batch: &Self::Merkleized,
+        keys: &[Self::Key],
+    ) -> Result<Vec<Option<Self::Value>>, Error>
+        ensures readable { IfOk result (λ _. (list : List Operation) (chain : Chain) (tip : List Operation) → stands self.old list → is_merkleized batch.now chain tip
+            → readable root (commitment root list) chain tip ≡ true) }
+        ensures values { IfOk result (λ v. (list : List Operation) (chain : Chain) (tip : List Operation) → stands self.old list → is_merkleized batch.now chain tip → IsKnown list chain tip
+            → map (option_map Self.Value.bytes) v.items ≡ map (λ k. value_of tip (Self.Key.bytes k)) keys.now) }
+        ensures stale { IfErr result (λ e. e ≡ Error.StaleRead → (list : List Operation) (chain : Chain) (tip : List Operation) → stands self.old list → is_merkleized batch.now chain tip
+            → ¬ IsKnown list chain tip) }
+        ensures refused { IfErr result (λ e. e ≢ Error.StaleRead → TellsAll C.Store (inside self.old)
+            → (list : List Operation) (chain : Chain) (tip : List Operation) → stands self.old list → is_merkleized batch.now chain tip → IsKnown list chain tip → refusal_of e ≡ None) }
+        ensures order { IfErr result (λ e. e ≢ Error.StaleRead → e ≢ Error.Memory → (list : List Operation) (chain : Chain) (tip : List Operation) → stands self.old list → is_merkleized batch.now chain tip
+            → readable root (commitment root list) chain tip ≡ true) }
+        ensures same { (list : List Operation) → stands self.old list → stands self.new list }
+        ensures store { IsUnchanged C.Store (inside self.old) (inside self.new) }
+        ensures cause { IfErr result (λ e. e ≡ Error.Journal JournalError.Store → Rose (C.faults (inside self.old)) (C.faults (inside self.new))) }
+        ensures later { C.faults (inside self.old) ≤ C.faults (inside self.new) }
+        ensures never { IfErr result (λ e. e ≢ Error.StaleBatch) };
+
+    /// The proof of a merkleized batch's own operations in the list that it makes, and the digests of the peaks over its base
+    /// list. It is refused where the database is at no state at which the batch can be read.
+    fn proof(
+        &mut self,
+        alloc: Global,
+        batch: &Self::Merkleized,
+    ) -> Result<(Proof<Self::Digest>, Vec<Self::Digest>), Error>
+        ensures readable { IfOk result (λ _. (list : List Operation) (chain : Chain) (tip : List Operation) → stands self.old list → is_merkleized batch.now chain tip
+            → readable root (commitment root list) chain tip ≡ true) }
+        ensures proof { IfOk result (λ r. (list : List Operation) (chain : Chain) (tip : List Operation) → stands self.old list → is_merkleized batch.now chain tip → IsKnown list chain tip
+            → (proof_view Self.Digest.bytes r.0 ≡ proof tip (length chain.base) (length tip)) × (map Self.Digest.bytes r.1.items ≡ pins tip (length chain.base))) }
+        ensures stale { IfErr result (λ e. e ≡ Error.StaleRead → (list : List Operation) (chain : Chain) (tip : List Operation) → stands self.old list → is_merkleized batch.now chain tip
+            → ¬ IsKnown list chain tip) }
+        ensures refused { IfErr result (λ e. e ≢ Error.StaleRead → C.start (inside self.old) ≡ 0
+            → (list : List Operation) (chain : Chain) (tip : List Operation) → stands self.old list → is_merkleized batch.now chain tip → IsKnown list chain tip → refusal_of e ≡ None) }
+        ensures order { IfErr result (λ e. e ≢ Error.StaleRead → e ≢ Error.Memory → (list : List Operation) (chain : Chain) (tip : List Operation) → stands self.old list → is_merkleized batch.now chain tip
+            → readable root (commitment root list) chain tip ≡ true) }
+        ensures same { (list : List Operation) → stands self.old list → stands self.new list }
+        ensures store { IsUnchanged C.Store (inside self.old) (inside self.new) }
+        ensures cause { IfErr result (λ e. e ≡ Error.Journal JournalError.Store → Rose (C.faults (inside self.old)) (C.faults (inside self.new))) }
+        ensures later { C.faults (inside self.old) ≤ C.faults (inside self.new) }
+        ensures never { IfErr result (λ e. e ≢ Error.StaleBatch) };
 
     /// Operations from `start` on, at most `max`, and their proof in the list of the database's first `size`
     /// operations, which has to end with a commit. Where the store tells its items from 0 on it is refused only as

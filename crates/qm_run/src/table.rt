@@ -1,5 +1,6 @@
 // The table of batches, by number.
 ghost use Rattle.std.specs.Prelude.{◌≡◌, ◌++◌, ◌∷◌, [], OnOk, OnErr, is_some, if◌then◌else◌, slice_index_or, slice_set, option_copied};
+ghost use Rattle.std.specs.Option.{unwrap_or};
 ghost use Rattle.qm_run.specs.Table.{writing_of, merkleized_of};
 
 use std::alloc::AllocError;
@@ -47,6 +48,18 @@ pub fn take_writing<B: Drop, M: Drop>(table: &mut Vec<Slot<B, M>>, number: u64) 
         return None;
     }
     into_writing(mem::replace(&mut table[at], Slot::Gone))
+}
+
+/// Lends what a number names. Past the table it names nothing.
+pub fn slot_at<B, M>(table: &Vec<Slot<B, M>>, number: u64) -> Option<&Slot<B, M>>
+    ensures { unwrap_or (option_copied result) Slot.Gone ≡ slice_index_or table.now.items number Slot.Gone }
+{
+    let at = number as usize;
+    if at < table.len() {
+        Some(&table[at])
+    } else {
+        None
+    }
 }
 
 /// Lends a merkleized batch.

@@ -162,6 +162,45 @@ fn inputs_have_replies(rt: HostRuntime) -> Result<(), Fail> {
 }
 
 #[test]
+fn forks_have_replies(rt: HostRuntime) -> Result<(), Fail> {
+    let alloc = rt.alloc();
+    let table = [
+        // Two batches of one database: the second is stale once the first is applied.
+        (
+            "open\nbatch\nput 1 61 01\nbatch\nput 2 61 02\nmerkleize 1 prop none\nmerkleize 2 prop none\nget 61 from=2\napply 1\napply 2\nget 61 from=2\nget 61 from=1\nmany 61 62 from=1\nmany 62 61\n",
+            "open 1 0 1\nbatch 1\nok\nbatch 2\nok\nmerkleized 1 1 4 2\nmerkleized 2 1 4 2\nread 02\napplied 4\nrefused StaleBatch\nrefused StaleRead\nread 01\nread 01 none\nread none 01\n",
+        ),
+        // A child applied in one step with its parent, the parent after it, and the database as a batch.
+        (
+            "open\nbatch\nput 1 61 01\nmerkleize 1 prop none\nchild 1\nput 2 62 02\nget 61 from=2\nmany 62 61 63 from=2\nmerkleize 2 prop none\nops 2\napply 2\napply 1\ntip\nops 3\napply 3\ninfo 2\nget 62 from=1\nget 62 from=3\n",
+            "open 1 0 1\nbatch 1\nok\nmerkleized 1 1 4 2\nbatch 2\nok\nread 01\nread 02 01 none\nmerkleized 2 4 7 3\nops 4 U:62=02 U:61=01 C:none@3\napplied 7\nrefused StaleBatch\nbatch 3\nops 7\napplied 7\ninfo 4 7 3 3\nrefused StaleRead\nread 02\n",
+        ),
+        // A child that keeps its parent alone fits once the parent's parent is applied.
+        (
+            "open\nbatch\nput 1 61 01\nmerkleize 1 prop none\nchild 1\nput 2 62 02\nmerkleize 2 prop none\nchild 2 keep=0\nget 62 from=3\nmerkleize 3 prop none\nput 3 63 03\napply 1\nchild 2 keep=0\nput 4 63 03\nmerkleize 4 prop none\napply 4\n",
+            "open 1 0 1\nbatch 1\nok\nmerkleized 1 1 4 2\nbatch 2\nok\nmerkleized 2 4 7 3\nbatch 3\nread 02\nrefused StaleBatch\nrefused NoSuchHandle 3\napplied 4\nbatch 4\nok\nmerkleized 4 7 10 5\napplied 10\n",
+        ),
+        // Proofs, numbers and roots of batches that are not applied, or are behind.
+        (
+            "open\nbatch\nput 1 6b 76\nchild 1\nproof 1\nmerkleize 1 prop none\nproof 1\nroot 1\nproof 2\ninfo 1\nchild 1\nput 2 6c 77\nmerkleize 2 prop none\nproof 2\ninfo 2\napply 1\nproof 2\napply 2\nproof 1\nroot\nroot 2\ninfo 9\nroot 0\n",
+            "open 1 0 1\nbatch 1\nok\nrefused NoSuchHandle 1\nrefused NoSuchHandle 1\nmerkleized 1 1 4 2\nproof 4 0 6e290ec1b71d702d95e7193ca20dc9da03b9bcdc2645c140bddcd6d81480bb3a / 6e290ec1b71d702d95e7193ca20dc9da03b9bcdc2645c140bddcd6d81480bb3a\nroot 183c19a0b6f42584bf2d68552da389bc980511207befe92fc296ae89c8aa6d14 183c19a0b6f42584bf2d68552da389bc980511207befe92fc296ae89c8aa6d14\nrefused NoSuchHandle 2\ninfo 1 4 2 2\nbatch 2\nok\nmerkleized 2 4 7 3\nproof 7 0 cbb112f8deafdd1075d117a89941c39dd819d40a0e76f2e0ee154a2d1053dcb6 / cbb112f8deafdd1075d117a89941c39dd819d40a0e76f2e0ee154a2d1053dcb6\ninfo 4 7 3 3\napplied 4\nproof 7 0 cbb112f8deafdd1075d117a89941c39dd819d40a0e76f2e0ee154a2d1053dcb6 / cbb112f8deafdd1075d117a89941c39dd819d40a0e76f2e0ee154a2d1053dcb6\napplied 7\nrefused StaleRead\nroot 980ea5716c66fd1574182b934e2ac2077948dd397a6d677ce73d4ef20dc2e853 980ea5716c66fd1574182b934e2ac2077948dd397a6d677ce73d4ef20dc2e853\nroot 980ea5716c66fd1574182b934e2ac2077948dd397a6d677ce73d4ef20dc2e853 980ea5716c66fd1574182b934e2ac2077948dd397a6d677ce73d4ef20dc2e853\nrefused NoSuchHandle 9\nrefused NoSuchHandle 0\n",
+        ),
+        // Without a database.
+        (
+            "tip\nget 6b\nmany 6b\nget 6b from=1\nproof 1\nchild 1 keep=2\ninfo 1\nroot 1\n",
+            "refused NoDatabase\nrefused NoDatabase\nrefused NoDatabase\nrefused NoDatabase\nrefused NoDatabase\nrefused NoSuchHandle 1\nrefused NoSuchHandle 1\nrefused NoSuchHandle 1\n",
+        ),
+    ];
+    for (input, replies) in table {
+        let bytes = input.as_bytes().to_vec(alloc)?;
+        let ran = program(alloc, &WORDS, bytes, no_fails(alloc))?;
+        assert_eq!(rt; ran.status, 0, "at {input}");
+        assert_eq!(rt; ran.sink.bytes(), replies.as_bytes(), "at {input}");
+    }
+    Ok(())
+}
+
+#[test]
 fn inputs_have_a_limit(rt: HostRuntime) -> Result<(), Fail> {
     let alloc = rt.alloc();
     for (count, status, replies) in [(16_777_216, 2, "bad line 1\n"), (16_777_217, 7, "")] {

@@ -1,6 +1,6 @@
 //! Lists made of others: copies, spellings and what replies list.
 
-ghost use Rattle.std.specs.Prelude.{◌≡◌, IfOk, map, option_map};
+ghost use Rattle.std.specs.Prelude.{◌≡◌, ◌≤◌, ◌+◌, IfOk, length, map, drop, option_map};
 ghost use Rattle.qm_model.specs.Live as lives;
 ghost use Rattle.qm_model.specs.Operations as model;
 ghost use Rattle.qm_any.specs.ListViews.{entry_view, entry_views};
@@ -89,6 +89,20 @@ pub(crate) fn spell_all<F, K: Key, V: VariableValue>(
         spelt.push(bytes)?;
     }
     Ok(spelt)
+}
+
+/// The spellings of the operations from a location on.
+pub(crate) fn spell_from<F, K: Key, V: VariableValue>(
+    alloc: Global,
+    operations: &[Entry<F, K, V>],
+    from: usize,
+) -> Result<Vec<Vec<u8>>, AllocError>
+    requires { from ≤ length operations.now }
+    ensures items { IfOk result (λ items. map (λ v. v.items) items.items ≡ map model.spelling (drop from (entry_views K.bytes V.bytes operations.now))) }
+    ensures count { IfOk result (λ items. from + length items.items ≡ length operations.now) }
+{
+    let (_, own) = operations.split_at(from);
+    spell_all(alloc, own)
 }
 
 // The metadata of the last commit.

@@ -1,54 +1,71 @@
-use Rattle.std.proofs.Common.{◌≡◌, ◌∙◌, length, ap, ap₂, sym, subst, arith, option_map, IfOk, IfErr}
-use Rattle.qm_model.specs.Batches.{same}
-use Rattle.qm_any.specs.Databases.{IsDatabase, LeadsTo, commitment_view, list_commitment, stepped}
-use Rattle.qm_any.specs.ListViews.{entry_views, policy_view}
+use Rattle.std.proofs.Common.{◌≡◌, ◌≤◌, ◌∙◌, length, map, ap, sym, subst, arith, option_map}
+use Rattle.std.specs.Prelude.{All}
+use Rattle.qm_model.specs.Batches.{Begins}
+use Rattle.qm_model.proofs.Chains.{on_chain-begins}
+use Rattle.qm_chain.specs.Bounds.{commitment_view}
+use Rattle.qm_any.specs.Ancestors.{ancestor_view}
+use Rattle.qm_any.specs.Databases.{oldest, list_commitment, stepped}
+use Rattle.qm_any.specs.ListViews.{entry_views, write_views, policy_view}
 use Rattle.qm_any.specs.Tips.{IsTaken, IsRefused}
-use Rattle.qm_any.proofs.LogSteps.{same-size, err-then}
+use Rattle.qm_any.proofs.Ancestors.{at-within, oldest-within, tips-within, views-within, kept-within-more}
+use Rattle.qm_any.proofs.LogSteps.{step-begins}
+use Rattle.qm_any.proofs.Making.{made-of, bounds-equal}
 use Rattle.qm_any.proofs.batch.UnmerkleizedBatch+F+D+Unordered+K+V.merkleize.Goals as goal
 
-pub made_on-requires-clause-level : goal.made_on-requires-clause-level
-made_on-requires-clause-level g c = λ κs within.
+pub made_on-requires-after_bounds : goal.made_on-requires-after_bounds
+made_on-requires-after_bounds g c =
     let bytes = g.D.Digest.bytes in
-    let level : c.commitment.result.now.size ≡ c.self.inside.commitment.size =
-    same-size (commitment_view bytes c.commitment.result.now) (commitment_view bytes c.self.inside.commitment) (sym c.is_same.ensures ∙ c.if-is_same.true) in
-    let long : length c.deref-then-is_same.result.now ≡ length c.self.inside.base.value.items = ap length (c.deref-then-is_same.ensures.value ∙ ap (λ v. v.items) c.deref.ensures) in
-    omega (arith, c.commitment.ensures.size, level, c.self.invariant, long)
+    let n = length c.self.inside.base.value.items in
+    let kept = map (ancestor_view bytes) c.deref.result.now in
+    let within = subst (λ ks. All (λ k. (k.base.size ≤ n) × (k.tip.size ≤ n)) ks) (ap (map (ancestor_view bytes)) (sym c.deref.ensures.value)) (views-within bytes n c.self.inside.kept.items c.self.invariant.2) in
+    let state : c.state_after-state.result.size ≡ c.self.inside.parent.tip.size = ap (λ k. k.size) c.state_after-state.ensures in
+    let low : c.state_after-state.result.size ≤ n = omega (arith, state, c.self.invariant.0) in
+    let at : c.commitment.result.now.size ≤ n = at-within n (commitment_view bytes c.commitment.result.now) (oldest (commitment_view bytes c.state_after-state.result) kept) (map (λ k. k.tip) kept)
+    c.in-Ok.ensures.fits (oldest-within n (commitment_view bytes c.state_after-state.result) kept low within) (tips-within n kept within) in
+    let long : length c.deref-in-Ok-2.result.now ≡ n = ap length (c.deref-in-Ok-2.ensures.value ∙ ap (λ v. v.items) c.deref-in-Ok.ensures) in
+    omega (arith, c.commitment.ensures.size, at, long)
 
-pub returns-then-is_same-clause-taken : goal.returns-then-is_same-clause-taken
-returns-then-is_same-clause-taken g c =
-    let views = entry_views g.K.ByteString.bytes g.V.ByteString.bytes in
-    let policy = policy_view c.args.policy.now in
-    let meta = option_map g.V.ByteString.bytes c.args.metadata in
-    let base = ap views (c.deref-then-is_same.ensures.value ∙ ap (λ v. v.items) c.deref.ensures) ∙ ap (λ b. b.base) c.self.view_is in
-    subst (λ l. IfOk c.made_on.result (λ x. IsTaken l (stepped l c.args.self.writes policy meta))) base
-    (subst (λ ws. IfOk c.made_on.result (λ x. IsTaken (views c.deref-then-is_same.result.now) (stepped (views c.deref-then-is_same.result.now) ws policy meta))) (ap (λ b. b.writes) c.self.view_is) c.made_on.ensures.taken)
+pub sealed-requires-clause-kept : goal.sealed-requires-clause-kept
+sealed-requires-clause-kept g c = λ κs lives.
+    let n = length c.self.inside.base.value.items in
+    let long : length c.deref-in-Ok-2.result.now ≡ n = ap length (c.deref-in-Ok-2.ensures.value ∙ ap (λ v. v.items) c.deref-in-Ok.ensures) in
+    kept-within-more n (length c.in-Ok-made_on.tip.items) c.self.inside.kept.items (omega (arith, c.in-Ok-made_on.ensures.longer, long)) c.self.invariant.2
 
-pub returns-then-is_same-clause-refused : goal.returns-then-is_same-clause-refused
-returns-then-is_same-clause-refused g c =
-    let views = entry_views g.K.ByteString.bytes g.V.ByteString.bytes in
-    let policy = policy_view c.args.policy.now in
-    let meta = option_map g.V.ByteString.bytes c.args.metadata in
-    let base = ap views (c.deref-then-is_same.ensures.value ∙ ap (λ v. v.items) c.deref.ensures) ∙ ap (λ b. b.base) c.self.view_is in
-    subst (λ l. IfErr c.made_on.result (λ e. IsRefused l (stepped l c.args.self.writes policy meta) e)) base
-    (subst (λ ws. IfErr c.made_on.result (λ e. IsRefused (views c.deref-then-is_same.result.now) (stepped (views c.deref-then-is_same.result.now) ws policy meta) e)) (ap (λ b. b.writes) c.self.view_is) c.made_on.ensures.refused)
-
-pub returns-then-is_same-clause-stale : goal.returns-then-is_same-clause-stale
-returns-then-is_same-clause-stale g c = err-then c.made_on.result c.made_on.ensures.never (λ e never stale. absurd (never stale))
-
-pub returns-then-is_same-clause-made : goal.returns-then-is_same-clause-made
-returns-then-is_same-clause-made g c = λ base is begun.
+pub returns-in-Ok-sealed-clause-made : goal.returns-in-Ok-sealed-clause-made
+returns-in-Ok-sealed-clause-made g c = λ list chain above is begun on.
     let shape = g.F.Family.shape in
     let bytes = g.D.Digest.bytes in
     let hash = g.H.Hasher.hash in
     let views = entry_views g.K.ByteString.bytes g.V.ByteString.bytes in
     let policy = policy_view c.args.policy.now in
     let meta = option_map g.V.ByteString.bytes c.args.metadata in
-    let own = ap views (c.deref-then-is_same.ensures.value ∙ ap (λ v. v.items) c.deref.ensures) ∙ ap (λ b. b.base) c.self.view_is ∙ begun.same in
-    let stands = subst (IsDatabase g.C.Store shape bytes hash c.args.db.now) (sym own) is in
-    let commits = ap (λ b. b.commitment) c.self.view_is ∙ begun.commitment in
-    let led = c.made_on.ensures.made stands (commits ∙ ap (list_commitment hash shape) (sym own)) in
-    subst (λ l. IfOk c.made_on.result (λ b. LeadsTo hash shape b.value l (stepped l c.args.self.writes policy meta))) own
-    (subst (λ ws. IfOk c.made_on.result (λ b. LeadsTo hash shape b.value (views c.deref-then-is_same.result.now) (stepped (views c.deref-then-is_same.result.now) ws policy meta))) (ap (λ b. b.writes) c.self.view_is) led)
+    let ws = write_views g.K.ByteString.bytes g.V.ByteString.bytes c.self.inside.writes.items in
+    let own = ap views (c.deref-in-Ok-2.ensures.value ∙ ap (λ v. v.items) c.deref-in-Ok.ensures) ∙ ap (λ b. b.base) c.self.view_is ∙ begun.list in
+    let tip = stepped chain.base c.args.self.writes policy meta in
+    let made = c.in-Ok-made_on.ensures.list ∙ ap (λ l. stepped l ws policy meta) own ∙ ap (λ us. stepped chain.base us policy meta) (ap (λ b. b.writes) c.self.view_is) in
+    let begins = on_chain-begins list chain on begun.rising in
+    let standing = c.in-Ok-made_on.ensures.made list is (subst (Begins list) (sym own) begins) in
+    let below = c.state_after-state.ensures ∙ ap (λ b. b.parent.tip) c.self.view_is in
+    let kept = ap (λ b. b.kept) c.self.view_is in
+    made-of hash shape c.args.self c.in-Ok-sealed.batch.value chain above tip (commitment_view bytes c.in-Ok-made_on.made) begun
+    (c.in-Ok-sealed.ensures.bounds ∙ bounds-equal _ _ (commitment_view bytes c.in-Ok-made_on.made) _ _ _ _ _ _ below kept (ap (map (λ k. k.tip)) kept) made)
+    (c.in-Ok-sealed.ensures.kept ∙ kept) (c.in-Ok-sealed.ensures.list ∙ made) (standing ∙ ap (list_commitment hash shape) made) (step-begins chain.base c.args.self.writes policy meta)
 
-pub returns-then-is_same-clause-order : goal.returns-then-is_same-clause-order
-returns-then-is_same-clause-order g c = err-then c.made_on.result c.made_on.ensures.never (λ e never memory stale. sym (ap₂ same c.commitment.ensures.value (ap (λ b. b.commitment) c.self.view_is)) ∙ sym c.is_same.ensures ∙ c.if-is_same.true)
+pub returns-in-Ok-sealed-clause-taken : goal.returns-in-Ok-sealed-clause-taken
+returns-in-Ok-sealed-clause-taken g c =
+    let views = entry_views g.K.ByteString.bytes g.V.ByteString.bytes in
+    let policy = policy_view c.args.policy.now in
+    let meta = option_map g.V.ByteString.bytes c.args.metadata in
+    let base = ap views (c.deref-in-Ok-2.ensures.value ∙ ap (λ v. v.items) c.deref-in-Ok.ensures) ∙ ap (λ b. b.base) c.self.view_is in
+    subst (λ l. IsTaken l (stepped l c.args.self.writes policy meta)) base
+    (subst (λ ws. IsTaken (views c.deref-in-Ok-2.result.now) (stepped (views c.deref-in-Ok-2.result.now) ws policy meta)) (ap (λ b. b.writes) c.self.view_is) c.in-Ok-made_on.ensures.taken)
+
+pub returns-in-Ok-clause-refused : goal.returns-in-Ok-clause-refused
+returns-in-Ok-clause-refused g c =
+    let views = entry_views g.K.ByteString.bytes g.V.ByteString.bytes in
+    let policy = policy_view c.args.policy.now in
+    let meta = option_map g.V.ByteString.bytes c.args.metadata in
+    let error = c.in-Err-made_on.error in
+    let base = ap views (c.deref-in-Ok-2.ensures.value ∙ ap (λ v. v.items) c.deref-in-Ok.ensures) ∙ ap (λ b. b.base) c.self.view_is in
+    subst (λ l. IsRefused l (stepped l c.args.self.writes policy meta) error) base
+    (subst (λ ws. IsRefused (views c.deref-in-Ok-2.result.now) (stepped (views c.deref-in-Ok-2.result.now) ws policy meta) error) (ap (λ b. b.writes) c.self.view_is) c.in-Err-made_on.ensures.refused)

@@ -1,8 +1,0 @@
-use Rattle.std.proofs.Common.{sym}
-use Rattle.qm_run.proofs.turns.merkleize_batch.Goals as goal
-
-pub returns-clause-made : goal.returns-clause-made
-returns-clause-made g c = rw (sym c.in_ok-policy.ensures) c.merkleize.ensures.made
-
-pub returns-clause-refused : goal.returns-clause-refused
-returns-clause-refused g c = rw (sym c.in_ok-policy.ensures) c.merkleize.ensures.refused
