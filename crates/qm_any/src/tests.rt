@@ -205,7 +205,7 @@ struct Seen {
 }
 
 // What the last batch of a chain answers.
-fn seen(alloc: Global, last: &Batch, number: u8, db: Database) -> Result<Seen, Error> {
+fn seen_of(alloc: Global, last: &Batch, number: u8, db: Database) -> Result<Seen, Error> {
     let mut db = db;
     let key = numbered(alloc, number)?;
     let value = read(last.get(alloc, &key, &mut db));
@@ -268,7 +268,7 @@ fn batches_know_the_states_of_their_chains(rt: HostRuntime) -> Result<(), Fail> 
             let (batches, last) = chain(rt.alloc(), older, keep)?;
             for state in 0..older + 2 {
                 let db = after(rt.alloc(), &batches, &last, state)?;
-                let seen = self::seen(rt.alloc(), &last, older, db)?;
+                let seen = seen_of(rt.alloc(), &last, older, db)?;
                 assert_eq!(rt; seen, expected(older, keep, state));
             }
         }
