@@ -25,6 +25,16 @@ const REPLIES_PROVED: &str =
 const FAULT_WHEN_PROVED: &str =
     "open 1 0 1\nbatch 1\nok\nmerkleized 1 1 4 2\napplied 4\nstore fault\n";
 
+// A batch and its child, applied in one step.
+const ONE_STEP: &str =
+    "open\nbatch\nput 1 6b 76\nmerkleize 1 prop none\nchild 1\nput 2 6c 77\nmerkleize 2 prop none\nget 6b from=2\napply 2\nget 6c from=1\napply 1\n";
+
+const REPLIES_ONE_STEP: &str =
+    "open 1 0 1\nbatch 1\nok\nmerkleized 1 1 4 2\nbatch 2\nok\nmerkleized 2 4 7 3\nread 76\napplied 7\nrefused StaleRead\nrefused StaleBatch\n";
+
+const FAULT_OF_ONE_STEP: &str =
+    "open 1 0 1\nbatch 1\nok\nmerkleized 1 1 4 2\nbatch 2\nok\nmerkleized 2 4 7 3\nread 76\nstore fault\n";
+
 // The calls that fail, by their numbers.
 #[derive(Drop)]
 struct Fails {
@@ -272,6 +282,33 @@ fn each_failing_call_is_told(rt: HostRuntime) -> Result<(), Fail> {
             assert_eq!(rt; ran.status, status, "at {call}");
             assert_eq!(rt; ran.sink.bytes(), text.as_bytes(), "at {call}");
         }
+    }
+    Ok(())
+}
+
+#[test]
+fn a_step_of_two_batches_appends_once(rt: HostRuntime) -> Result<(), Fail> {
+    let alloc = rt.alloc();
+    let texts = [
+        "store fault\n",
+        "store fault\n",
+        FAULT_OF_ONE_STEP,
+        REPLIES_ONE_STEP,
+    ];
+    for (call, text) in texts.iter().enumerate() {
+        let input = ONE_STEP.as_bytes().to_vec(alloc)?;
+        let fails = fails_at(alloc, Port::Store, call as u64)?;
+        let ran = program(alloc, &WORDS, input, fails)?;
+        assert_eq!(rt; ran.status, if call < 3 { 6 } else { 0 }, "at {call}");
+        assert_eq!(rt; ran.sink.bytes(), text.as_bytes(), "at {call}");
+        let items = if call < 2 {
+            0
+        } else if call == 2 {
+            1
+        } else {
+            7
+        };
+        assert_eq!(rt; ran.store.items().len(), items, "at {call}");
     }
     Ok(())
 }
