@@ -1,0 +1,4 @@
+pub mod Changes
+pub mod Layers
+pub mod Lent
+pub mod Views

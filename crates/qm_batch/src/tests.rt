@@ -1,0 +1,1 @@
+//! That each call answers, at a concrete type.
