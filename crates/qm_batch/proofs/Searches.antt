@@ -1,9 +1,10 @@
 -- Searches of changes that ascend by key.
-use Rattle.std.proofs.Common.{◌≡◌, ◌∙◌, ap, sym, refl, subst, Bool, true, false, cond, List, [], ◌∷◌, ◌++◌, Option, Some, None, map, Ordering, Less, Equal, Greater, true≢false}
+use Rattle.std.proofs.Common.{ℕ, ◌+◌, ◌<◌, length, get_or, take, drop, ◌≡◌, ◌∙◌, ap, sym, refl, subst, Bool, true, false, cond, List, [], ◌∷◌, ◌++◌, Option, Some, None, map, Ordering, Less, Equal, Greater, true≢false}
 use Rattle.std.specs.Prelude.{All, find, bytes_eq, option_map}
-use Rattle.std.specs.Cmp.Lexicographic.{slice_cmp}
+use Rattle.std.specs.Cmp.Lexicographic.{slice_cmp, texts_ties}
 use Rattle.std.specs.Ordering.{nat_cmp, is_lt, is_eq, ordering_reverse}
 use Rattle.std.proofs.lemmas.Cmp.{nat_list_cmp_total}
+use Rattle.std.proofs.lemmas.List.{drop_more, take-append-drop}
 use Rattle.std.proofs.lemmas.List.Elements.{All-nil, All-cons, All-head, All-tail}
 use Rattle.qm_model.specs.Operations.{Bytes}
 use Rattle.qm_model.specs.Keys.{key_lt}
@@ -119,3 +120,31 @@ module _ {X : Type 0} (key : X → Bytes) where
         sym (change_in-cons (key m) k (what m) (views behind) ∙ ap (λ t. cond t (Some (what m)) (change_in (views behind) k)) (ap (λ b. bytes_eq b k) same ∙ bytes_same k))
         ∙ sym (past_front front m behind all (λ a e. subst (λ b. bytes_eq a b ≡ false) same (apart-below a (key m) e)))
         ∙ ap (λ es. change_in (views es) k) parts
+
+    -- the keys before one are others
+    front-none : (front : List X) (m : X) (behind : List X) → key m ≡ k → IsAscending (map key (front ++ m ∷ behind)) → change_in (views front) k ≡ None
+    front-none [] m behind is h = refl
+    front-none (e ∷ front) m behind is h =
+        let below : key_lt (key e) (key m) ≡ true = All-middle (λ later. key_lt (key e) later ≡ true) front m behind h.0 in
+        let apart : bytes_eq (key e) k ≡ false = subst (λ b. bytes_eq (key e) b ≡ false) is (apart-below (key e) (key m) (less_of (key e) (key m) below)) in
+        change_in-cons (key e) k (what e) (views front) ∙ ap (λ t. cond t (Some (what e)) (change_in (views front) k)) apart ∙ front-none front m behind is h.1
+
+equal_itself : (b : Bytes) → slice_cmp nat_cmp b b ≡ Equal
+equal_itself b = by (slice_cmp nat_cmp b b) (sym (texts_ties b b) ∙ bytes_same b)
+  where
+    by : (o : Ordering) → is_eq o ≡ true → o ≡ Equal
+    by Less h = absurd (true≢false (sym h))
+    by Equal h = refl
+    by Greater h = absurd (true≢false (sym h))
+
+-- the entry at a place: its key is new there, and the changes of all have it
+module _ {X : Type 0} (key : X → Bytes) (what : X → Change) (xs : List X) (i : ℕ) (d : X) (within : i < length xs) (ascends : IsAscending (map key xs)) where
+  parts : take i xs ++ get_or xs i d ∷ drop (i + 1) xs ≡ xs
+  parts = ap (λ back. take i xs ++ back) (sym (drop_more xs i d within)) ∙ take-append-drop i xs
+
+  pub new-at : change_in (views key what (key (get_or xs i d)) (take i xs)) (key (get_or xs i d)) ≡ None
+  new-at = front-none key what (key (get_or xs i d)) (take i xs) (get_or xs i d) (drop (i + 1) xs) refl (subst (λ es. IsAscending (map key es)) (sym parts) ascends)
+
+  pub own-at : Some (what (get_or xs i d)) ≡ change_in (views key what (key (get_or xs i d)) xs) (key (get_or xs i d))
+  own-at =
+      here-found key what (key (get_or xs i d)) xs (take i xs) (get_or xs i d ∷ drop (i + 1) xs) (drop (i + 1) xs) (get_or xs i d) parts refl ascends (equal_itself (key (get_or xs i d)))
