@@ -45,12 +45,12 @@ counted (x ∷ xs) ys h =
     let front = found.0 in
     let back = found.1 in
     let rest = counted xs (front ++ back) (λ n.
-      let all = h n ∙ ap (times_in n) found.2 in
-      let here = sum_by-cons (one_at n) x xs in
-      let parts = sum_by-append (one_at n) front (x ∷ back) in
-      let there = sum_by-cons (one_at n) x back in
-      let both = sum_by-append (one_at n) front back in
-      omega (arith, all, here, parts, there, both)) in
+    let all = h n ∙ ap (times_in n) found.2 in
+    let here = sum_by-cons (one_at n) x xs in
+    let parts = sum_by-append (one_at n) front (x ∷ back) in
+    let there = sum_by-cons (one_at n) x back in
+    let both = sum_by-append (one_at n) front back in
+    omega (arith, all, here, parts, there, both)) in
     subst (IsPermutation (x ∷ xs)) (sym found.2)
     (IsPermutation-trans (x ∷ xs) (x ∷ (front ++ back)) (front ++ x ∷ back) (IsPermutation-cons x xs (front ++ back) rest)
     (IsPermutation-sym (front ++ x ∷ back) (x ∷ (front ++ back)) (IsPermutation-middle front x back)))

@@ -70,7 +70,7 @@ module _ (index_key : Bytes → ℕ) (old new : List (ℕ × List ℕ)) (ps : Pl
         by q n true is =
             let same = eqb-true (index_key key) q is in
             let edit = sum_by-set (one_at n) bucket i at 0 within in
-                        let all : times_in n bucket ≡ total index_key q n ps = times-has index_key old ps has (index_key key) n ∙ ap (λ k. total index_key k n ps) same in
+            let all : times_in n bucket ≡ total index_key q n ps = times-has index_key old ps has (index_key key) n ∙ ap (λ k. total index_key k n ps) same in
             let taken = total-taken index_key q n key before ps apart stood in
             let was = at-key n before q same in
             let more = total-moved index_key q n key at ps in
@@ -91,7 +91,7 @@ module _ (index_key : Bytes → ℕ) (old new : List (ℕ × List ℕ)) (ps : Pl
         by q n true is =
             let same = eqb-true (index_key key) q is in
             let edit = sum_by-remove (one_at n) bucket i 0 within in
-                        let all : times_in n bucket ≡ total index_key q n ps = times-has index_key old ps has (index_key key) n ∙ ap (λ k. total index_key k n ps) same in
+            let all : times_in n bucket ≡ total index_key q n ps = times-has index_key old ps has (index_key key) n ∙ ap (λ k. total index_key k n ps) same in
             let taken = total-taken index_key q n key before ps apart stood in
             let was = at-key n before q same in
             omega (arith, edit, all, taken, was)

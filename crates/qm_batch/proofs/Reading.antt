@@ -71,8 +71,8 @@ module _ (index_key : Bytes → ℕ) (entries : List (ℕ × List ℕ)) (list : 
   in-bucket at h =
       let all = filter here (live list) in
       let found = from_image (λ (e : Live). e.location) all at
-          (Contains-permutation (bucket_at entries (index_key key)) (locations_at index_key list (index_key key)) at
-          (IsPermutation-sym (locations_at index_key list (index_key key)) (bucket_at entries (index_key key)) (indexed (index_key key))) h) in
+      (Contains-permutation (bucket_at entries (index_key key)) (locations_at index_key list (index_key key)) at
+      (IsPermutation-sym (locations_at index_key list (index_key key)) (bucket_at entries (index_key key)) (indexed (index_key key))) h) in
       (found.0, (from_filtered here (live list) found.0 found.1).0, found.2)
 
   -- the key's own is among them

@@ -90,12 +90,11 @@ module _ {X : Type 0} (key : X → Bytes) where
         IsAscending (map key behind) × (change_in (views behind) k ≡ change_in (views rest) k)
     behind-kept rest front back behind m whole is ascends below =
         let parts : front ++ m ∷ behind ≡ rest = ap (λ b. front ++ b) (sym is) ∙ whole in
-        let all : IsAscending (map key (front ++ m ∷ behind)) = subst (λ es. IsAscending (map key es)) (sym parts) ascends in
-        (
+        let all : IsAscending (map key (front ++ m ∷ behind)) = subst (λ es. IsAscending (map key es)) (sym parts) ascends in (
           (ascends-back front (m ∷ behind) all).1,
           sym (change_in-cons (key m) k (what m) (views behind) ∙ ap (λ t. cond t (Some (what m)) (change_in (views behind) k)) (apart-below (key m) k below))
-          ∙ sym (past_front front m behind all (λ a e. apart-below a k (nat_list_cmp_total.trans a (key m) k e below)))
-          ∙ ap (λ es. change_in (views es) k) parts,
+              ∙ sym (past_front front m behind all (λ a e. apart-below a k (nat_list_cmp_total.trans a (key m) k e below)))
+              ∙ ap (λ es. change_in (views es) k) parts,
         )
 
     -- or before one above it

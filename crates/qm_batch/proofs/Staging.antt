@@ -10,7 +10,7 @@ use Rattle.qm_model.specs.Live.{Live, live, live_of}
 use Rattle.qm_model.proofs.LastWrites.{bytes_same}
 use Rattle.qm_model.proofs.Maps.{same_key}
 use Rattle.qm_chain.specs.Ascending.{IsAscending}
-use Rattle.qm_batch.specs.Changes.{Change, Changes, AreChanges, LeadTo, change_in, stands_at}
+use Rattle.qm_batch.specs.Changes.{Change, Changes, AreChanges, LeadTo, change_in, stands_at, place_in}
 use Rattle.qm_batch.specs.Lent.{IsIndexed}
 use Rattle.qm_batch.specs.Places.{Places, AreApart, HasPlaces, place_of, places_of, moved}
 use Rattle.qm_batch.proofs.Moving.{has-from, times-has}
@@ -20,9 +20,6 @@ use Rattle.qm_batch.proofs.Searches.{change_in-cons, new-at, own-at}
 use Rattle.qm_batch.proofs.Standing as standing
 use Rattle.qm_batch.proofs.Standing.{live-apart}
 use Rattle.qm_batch.proofs.Steps.{changed, unchanged}
-
-abbrev place_in : List Operation → Bytes → Option ℕ
-place_in list key = option_map (λ p. p.0) (stands_at list key)
 
 -- the places of a list are those of its live updates
 place_of-live : (es : List Live) (key : Bytes) →
@@ -132,7 +129,7 @@ module _ (index_key : Bytes → ℕ) where
 
       has : HasPlaces index_key entries (places_of tip)
       has = has-from index_key entries (places_of tip) (λ q n.
-        times-has index_key entries at.ps at.has q n ∙ total-same index_key q n at.ps (places_of tip) at.apart (apart-live (live tip) (live-apart 0 tip)) same)
+          times-has index_key entries at.ps at.has q n ∙ total-same index_key q n at.ps (places_of tip) at.apart (apart-live (live tip) (live-apart 0 tip)) same)
 
 -- over the entries of a diff, at place i
 module _ {X : Type 0} (key : X → Bytes) (what : X → Change) (index_key : Bytes → ℕ) where

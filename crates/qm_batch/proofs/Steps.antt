@@ -87,3 +87,12 @@ module _ (layers : List Layer) (lent base : List Operation) (is : IsBase layers 
 pub map-twice : {X Y Z : Type 0} (f : Y → Z) (g : X → Y) (xs : List X) → map f (map g xs) ≡ map (λ x. f (g x)) xs
 map-twice f g [] = refl
 map-twice f g (x ∷ xs) = ap (λ ys. f (g x) ∷ ys) (map-twice f g xs)
+
+-- a place by what was found of it
+pub place-found : (key : Bytes) (found : Option (ℕ × (Bytes × Bytes))) (o : Option (ℕ × Bytes)) → found ≡ option_map (λ p. (p.0, (key, p.1))) o →
+    option_map (λ (f : ℕ × (Bytes × Bytes)). f.0) found ≡ option_map (λ (p : ℕ × Bytes). p.0) o
+place-found key found o is = ap (option_map (λ (f : ℕ × (Bytes × Bytes)). f.0)) is ∙ by o
+  where
+    by : (o : Option (ℕ × Bytes)) → option_map (λ (f : ℕ × (Bytes × Bytes)). f.0) (option_map (λ (p : ℕ × Bytes). (p.0, (key, p.1))) o) ≡ option_map (λ (p : ℕ × Bytes). p.0) o
+    by None = refl
+    by (Some p) = refl

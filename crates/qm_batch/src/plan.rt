@@ -18,6 +18,11 @@ use std::alloc::Global;
 use std::marker::Model;
 use std::rc::Rc;
 
+mod last;
+mod located;
+mod own;
+mod walk;
+
 /// What a batch makes of its base list.
 #[derive(Drop)]
 pub struct Plan<F, K: Key, V: VariableValue> {

@@ -19,9 +19,9 @@ loop-entry-preserved g c = λ base tip are indexed.
     staged-next (λ e. key e.0) (λ e. what e.1) g.I.Unordered.index_key (g.I.Unordered.entries c.loop-entry.index) new c.args.entries.now c.loop-entry.entry-index entry base tip
     c.loop-entry-test.true c.entry-item.is c.requires are
     (λ ps apart has before.
-      subst (λ o. HasPlaces g.I.Unordered.index_key new (moved ps (key entry.0) o)) (sym (view-now g.V.ByteString.bytes entry.1))
-      (subst (λ k. HasPlaces g.I.Unordered.index_key new (moved ps k (loc_of entry.1))) c.as_bytes.ensures.value
-      (c.in_ok-apply_entry.ensures ps apart has (ap (place_of ps) c.as_bytes.ensures.value ∙ before ∙ view-before g.V.ByteString.bytes entry.1))))
+    subst (λ o. HasPlaces g.I.Unordered.index_key new (moved ps (key entry.0) o)) (sym (view-now g.V.ByteString.bytes entry.1))
+    (subst (λ k. HasPlaces g.I.Unordered.index_key new (moved ps k (loc_of entry.1))) c.as_bytes.ensures.value
+    (c.in_ok-apply_entry.ensures ps apart has (ap (place_of ps) c.as_bytes.ensures.value ∙ before ∙ view-before g.V.ByteString.bytes entry.1))))
     (c.loop-entry.invariant base tip are indexed)
 
 pub returns : goal.returns

@@ -36,8 +36,8 @@ returns-in-None-Some g c = λ ps apart has stood.
     let none = subst (All (λ at. Some at ≢ c.base_old_loc.result)) c.bucket.ensures.value (rw c.in-None-Some.is-0 at c.place_in-place.ensures.none) in
     let nowhere = place-nowhere index_key old new ps key apart has c.base_old_loc.result (stood ∙ sym c.base_old_loc.ensures) none in
     on_ok_weaker c.insert.result (λ puts.
-      subst (λ o. HasPlaces index_key new (moved ps key o)) (sym c.in-None-Some.is-1 ∙ c.loc.ensures)
-      (inserted index_key old new ps key apart has nowhere c.in-None-Some.now puts)) c.insert.ensures.ok
+    subst (λ o. HasPlaces index_key new (moved ps key o)) (sym c.in-None-Some.is-1 ∙ c.loc.ensures)
+    (inserted index_key old new ps key apart has nowhere c.in-None-Some.now puts)) c.insert.ensures.ok
 
 pub returns-in-None-None : goal.returns-in-None-None
 returns-in-None-None g c = λ ps apart has stood.

@@ -24,8 +24,8 @@ returns-in-None-clause-value g c = λ lent base is from.
     let key = g.K.ByteString.bytes c.args.key.now in
     let layers = map (λ l. l.value) c.args.layers.now in
     let same = lent-decides layers lent base from key
-        (ap (option_map (λ e. change_view g.V.ByteString.bytes e.now)) (sym c.in-None.is) ∙ c.newest.ensures
-        ∙ ap (nearest (map (λ l. (l.value).changes) c.args.layers.now)) c.as_bytes.ensures.value
-        ∙ ap (λ ds. nearest ds key) (sym (map-twice (λ (l : Layer). l.changes) (λ l. l.value) c.args.layers.now))) in
+    (ap (option_map (λ e. change_view g.V.ByteString.bytes e.now)) (sym c.in-None.is) ∙ c.newest.ensures
+    ∙ ap (nearest (map (λ l. (l.value).changes) c.args.layers.now)) c.as_bytes.ensures.value
+    ∙ ap (λ ds. nearest ds key) (sym (map-twice (λ (l : Layer). l.changes) (λ l. l.value) c.args.layers.now))) in
     let found : update_of base key ≡ update_of lent key = ap (option_map (λ (p : ℕ × Bytes). (p.0, (key, p.1)))) same in
     rw found (c.read_bucket.ensures.value lent is)
