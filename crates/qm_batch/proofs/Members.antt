@@ -1,6 +1,7 @@
 -- Elements of images and of filtered lists.
-use Rattle.std.proofs.Common.{◌≡◌, ℕ, zero, suc, ◌<◌, Bool, true, false, cond, List, [], ◌∷◌, refl, ap, sym, ◌∙◌, map, arith, ◌⊎◌, inl, inr}
+use Rattle.std.proofs.Common.{◌≡◌, ℕ, zero, suc, ◌<◌, Bool, true, false, cond, List, [], ◌∷◌, ◌++◌, refl, ap, sym, ◌∙◌, map, arith, ◌⊎◌, inl, inr}
 use Rattle.std.specs.Prelude.{Contains, filter}
+use Rattle.std.specs.List.{AllByRecursion as Each}
 use Rattle.std.proofs.lemmas.List.Elements.{All-contains, All-map, All-weaker, All-contains_itself, All-filter, filter_passes}
 
 -- an element of a list is the first or a later one
@@ -47,3 +48,7 @@ module _ {X : Type 0} (p : X → Bool) where
       by true is (inr within) later = Contains-later u (filter p xs) x (later within)
       by false is (inl same) later = let no : false ≡ true = sym is ∙ ap p same ∙ passes in cc
       by false is (inr within) later = later within
+
+pub Each-push : {X : Type 0} (P : X → Type 0) (xs : List X) (x : X) → Each P xs → P x → Each P (xs ++ x ∷ [])
+Each-push P [] x h here = (here, tt)
+Each-push P (u ∷ xs) x h here = (h.0, Each-push P xs x h.1 here)

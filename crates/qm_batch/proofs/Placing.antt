@@ -10,6 +10,7 @@ use Rattle.qm_model.proofs.LastWrites.{bytes_same}
 use Rattle.qm_model.proofs.Maps.{same_key}
 use Rattle.qm_batch.specs.Places.{Places, AreApart, place_of, without, moved}
 use Rattle.qm_batch.proofs.Counts.{one_at, times_in}
+use Rattle.qm_batch.proofs.Members.{Each-push}
 
 pub apart-back : (a b : Bytes) → bytes_eq a b ≡ false → bytes_eq b a ≡ false
 apart-back a b h = by (bytes_eq b a) refl
@@ -111,10 +112,6 @@ apart-without key (p ∷ ps) h = by (bytes_eq p.0 key) refl h.0 (apart-without k
     by : (t : Bool) → bytes_eq p.0 key ≡ t → Each (λ u. bytes_eq u.0 p.0 ≡ false) ps → AreApart (without key ps) → AreApart (without key (p ∷ ps))
     by true is here later = subst AreApart (sym (without-cons key p ps true is)) later
     by false is here later = subst AreApart (sym (without-cons key p ps false is)) (Each-without (λ u. bytes_eq u.0 p.0 ≡ false) key ps here, later)
-
-Each-push : (P : Bytes × ℕ → Type 0) (ps : Places) (p : Bytes × ℕ) → Each P ps → P p → Each P (ps ++ p ∷ [])
-Each-push P [] p h here = (here, tt)
-Each-push P (u ∷ ps) p h here = (h.0, Each-push P ps p h.1 here)
 
 apart-push : (ps : Places) (key : Bytes) (at : ℕ) → AreApart ps → Each (λ u. bytes_eq key u.0 ≡ false) ps → AreApart (ps ++ (key, at) ∷ [])
 apart-push [] key at apart h = (tt, tt)

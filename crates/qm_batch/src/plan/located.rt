@@ -86,11 +86,20 @@ fn place_of<
 {
     match newest(layers, key.as_bytes()) {
         Some(entry) => Ok(number_of(entry.loc())),
-        None => match read_bucket::<F, I, C, D, H, K, V>(alloc, index, log, key) {
-            Ok(Some((location, _))) => Ok(Some(location.get())),
-            Ok(None) => Ok(None),
-            Err(error) => Err(error),
-        },
+        None => {
+            let found = read_bucket::<F, I, C, D, H, K, V>(alloc, index, log, key)?;
+            Ok(location_of(found))
+        }
+    }
+}
+
+// The location of what was found.
+fn location_of<F, U: Drop>(found: Option<(Location<F>, U)>) -> Option<u64>
+    ensures { result ≡ option_map (λ f. f.0) found }
+{
+    match found {
+        Some((location, _)) => Some(location.get()),
+        None => None,
     }
 }
 

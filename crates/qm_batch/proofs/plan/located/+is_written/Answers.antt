@@ -1,0 +1,1 @@
+use Rattle.qm_batch.proofs.plan.located.+is_written.Goals as goal
