@@ -1,8 +1,6 @@
 pub mod Appends
 pub mod Counts
 pub mod Entries
-pub mod Inserting
-pub mod Keeping
 pub mod Members
 pub mod Moving
 pub mod Placing

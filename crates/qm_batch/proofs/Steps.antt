@@ -1,12 +1,12 @@
 -- Where a key stands in a list to which layers lead.
-use Rattle.std.proofs.Common.{◌≡◌, ◌<◌, ◌≤◌, ◌-◌, append_assoc, append-nil, ℕ, Bool, true, false, cond, List, [], ◌∷◌, ◌++◌, length, take, drop, refl, ap, sym, ◌∙◌, Option, Some, None, map, arith, suc, zero, ◌⊎◌, inl, inr, true≢false}
-use Rattle.std.specs.Prelude.{Contains, slice_get, option_map, if◌then◌else◌}
+use Rattle.std.proofs.Common.{◌≡◌, ℕ, Bool, true, false, List, [], ◌∷◌, ◌++◌, length, drop, refl, ap, sym, ◌∙◌, Option, Some, None, map, arith, ◌⊎◌, inl, inr}
+use Rattle.std.specs.Prelude.{Contains, option_map, if◌then◌else◌}
 use Rattle.std.specs.Option.{option_or}
 use Rattle.std.proofs.lemmas.List.{take-append-drop}
 use Rattle.qm_model.specs.Operations.{Bytes, Operation}
 use Rattle.qm_model.specs.Live.{live, live_of, touched}
-use Rattle.qm_batch.specs.Changes.{Change, Changes, change_in, change_of, nearest, stands_at, AreChanges}
-use Rattle.qm_batch.specs.Layers.{Layer, IsStep, LeadThrough, IsBase}
+use Rattle.qm_batch.specs.Changes.{Change, Changes, change_in, nearest, stands_at, AreChanges}
+use Rattle.qm_batch.specs.Layers.{Layer, LeadThrough, IsBase}
 use Rattle.qm_batch.proofs.Appends.{live_of-append}
 use Rattle.qm_batch.proofs.Members.{first_or_later}
 
@@ -87,49 +87,3 @@ module _ (layers : List Layer) (lent base : List Operation) (is : IsBase layers 
 pub map-twice : {X Y Z : Type 0} (f : Y → Z) (g : X → Y) (xs : List X) → map f (map g xs) ≡ map (λ x. f (g x)) xs
 map-twice f g [] = refl
 map-twice f g (x ∷ xs) = ap (λ ys. f (g x) ∷ ys) (map-twice f g xs)
-
--- a place by what was found of it
-pub place-found : (key : Bytes) (found : Option (ℕ × (Bytes × Bytes))) (o : Option (ℕ × Bytes)) → found ≡ option_map (λ p. (p.0, (key, p.1))) o →
-    option_map (λ (f : ℕ × (Bytes × Bytes)). f.0) found ≡ option_map (λ (p : ℕ × Bytes). p.0) o
-place-found key found o is = ap (option_map (λ (f : ℕ × (Bytes × Bytes)). f.0)) is ∙ by o
-  where
-    by : (o : Option (ℕ × Bytes)) → option_map (λ (f : ℕ × (Bytes × Bytes)). f.0) (option_map (λ (p : ℕ × Bytes). (p.0, (key, p.1))) o) ≡ option_map (λ (p : ℕ × Bytes). p.0) o
-    by None = refl
-    by (Some p) = refl
-
--- where what was found stands, shown with its location
-pub place-seen : {X : Type 0} (view : ℕ × X → ℕ × (Bytes × Bytes)) → ((f : ℕ × X) → (view f).0 ≡ f.0) → (key : Bytes) (found : Option (ℕ × X)) (o : Option (ℕ × Bytes)) →
-    option_map view found ≡ option_map (λ p. (p.0, (key, p.1))) o → option_map (λ (f : ℕ × X). f.0) found ≡ option_map (λ (p : ℕ × Bytes). p.0) o
-place-seen {X} view same key found o is = by found ∙ place-found key (option_map view found) o is
-  where
-    by : (f : Option (ℕ × X)) → option_map (λ (u : ℕ × X). u.0) f ≡ option_map (λ (u : ℕ × (Bytes × Bytes)). u.0) (option_map view f)
-    by None = refl
-    by (Some u) = ap (λ n. Some n) (sym (same u))
-
--- the lent list begins the base list
-pub lent-begins : (layers : List Layer) (base : List Operation) (older : List (List Operation)) (lent : List Operation) → LeadThrough layers base older → Contains (base ∷ older) lent →
-    (more : List Operation) × (base ≡ lent ++ more)
-lent-begins [] base [] lent leads among = by (first_or_later base [] lent among)
-  where
-    by : (base ≡ lent) ⊎ Contains [] lent → (more : List Operation) × (base ≡ lent ++ more)
-    by (inl same) = ([], same ∙ sym (append-nil lent))
-    by (inr within) = let none = within.1 in absurd (omega (arith, none))
-lent-begins [] base (b ∷ older) lent leads among = absurd leads
-lent-begins (layer ∷ layers) base [] lent leads among = absurd leads
-lent-begins (layer ∷ layers) tip (base ∷ older) lent leads among = by (first_or_later tip (base ∷ older) lent among) (lent-begins layers base older lent leads.1)
-  where
-    by : (tip ≡ lent) ⊎ Contains (base ∷ older) lent → (Contains (base ∷ older) lent → (more : List Operation) × (base ≡ lent ++ more)) → (more : List Operation) × (tip ≡ lent ++ more)
-    by (inl same) later = ([], same ∙ sym (append-nil lent))
-    by (inr within) later =
-        let rest = later within in
-        (rest.0 ++ layer.operations, (leads.0).list ∙ ap (λ ops. ops ++ layer.operations) rest.1 ∙ append_assoc lent rest.0 layer.operations)
-
-pub get-begins : {X : Type 0} (xs more : List X) (i : ℕ) → i < length xs → slice_get (xs ++ more) i ≡ slice_get xs i
-get-begins [] more i h = absurd (omega (arith, h))
-get-begins (x ∷ xs) more zero h = refl
-get-begins (x ∷ xs) more (suc i) h = get-begins xs more i (omega (arith, h))
-
-pub get-behind : {X : Type 0} (xs more : List X) (i : ℕ) → length xs ≤ i → slice_get (xs ++ more) i ≡ slice_get more (i - length xs)
-get-behind [] more i h = refl
-get-behind (x ∷ xs) more zero h = absurd (omega (arith, h))
-get-behind (x ∷ xs) more (suc i) h = get-behind xs more i (omega (arith, h))

@@ -1,5 +1,5 @@
 -- What a step does to keys, and what says so.
-use Rattle.std.specs.Prelude.{◌≡◌, ◌==◌, ℕ, Bool, false, List, [], ◌∷◌, length, take, drop, find, slice_get, Option, Some, None, option_map, option_and_then, bytes_eq, if◌then◌else◌}
+use Rattle.std.specs.Prelude.{◌≡◌, ℕ, List, [], ◌∷◌, length, take, drop, find, slice_get, Option, Some, None, option_map, option_and_then, bytes_eq, if◌then◌else◌}
 use Rattle.std.specs.Option.{option_or}
 use Rattle.qm_model.specs.Operations.{Bytes, Operation, update, delete, commit}
 use Rattle.qm_model.specs.Live.{live, live_of, touched}
@@ -26,11 +26,6 @@ stands_at list key = option_map (λ e. (e.location, e.value)) (live_of (live lis
 -- where a key's live update stands
 abbrev pub place_in : List Operation → Bytes → Option ℕ
 place_in list key = option_map (λ p. p.0) (stands_at list key)
-
--- whether it stands at this location
-abbrev pub is_at : ℕ → Option (ℕ × Bytes) → Bool
-is_at at None = false
-is_at at (Some p) = p.0 == at
 
 -- a key's live update with its location
 abbrev pub update_of : List Operation → Bytes → Option (ℕ × (Bytes × Bytes))

@@ -138,9 +138,9 @@ pub(crate) fn entry_of<'a, F, K: Key, V: VariableValue>(
     None
 }
 
-/// A key's live update in the list that index and log are lent for, with its location. Updates of other keys with its
-/// index key are passed over.
-pub(crate) fn read_bucket<
+// A key's live update in the list that index and log are lent for, with its location. Updates of other keys with its
+// index key are passed over.
+fn read_bucket<
     F: Family,
     I: qm_index::Unordered<Value = Location<F>>,
     C: Store,

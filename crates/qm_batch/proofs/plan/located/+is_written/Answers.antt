@@ -1,1 +1,0 @@
-use Rattle.qm_batch.proofs.plan.located.+is_written.Goals as goal
