@@ -8,7 +8,7 @@ use qm_chain::{Diff, DiffEntry};
 use qm_index::unordered::Index;
 use qm_index::{FourCap, Unordered as _};
 use qm_merkle::mmr::Family;
-use qm_store::{AuthLog, LogRefusal, MemStore, Store, StoreError};
+use qm_store::{AuthLog, MemStore, Store, StoreError};
 use std::alloc::{AllocError, Global};
 use std::rc::Rc;
 use std::test::Fail;
@@ -110,7 +110,7 @@ fn keys_are_read_through_layers(rt: HostRuntime) -> Result<(), Fail> {
                 [Some((3, 30)), Some((2, 20)), None].as_slice()
             );
         }
-        Err(LogRefusal { error, .. }) => assert_eq!(rt; error, Error::Memory),
+        Err(refusal) => assert_eq!(rt; refusal.error, Error::Memory),
     }
     Ok(())
 }
