@@ -1,0 +1,11 @@
+pub mod Appends
+pub mod Counts
+pub mod Entries
+pub mod Members
+pub mod Moving
+pub mod Placing
+pub mod Reading
+pub mod Searches
+pub mod Staging
+pub mod Standing
+pub mod Steps
