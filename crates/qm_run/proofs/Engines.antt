@@ -1,5 +1,5 @@
 -- The program's database as an engine: where its batches fit and can be read, and what its refusals are.
-use Rattle.std.proofs.Common.{◌≡◌, ◌≢◌, ℕ, ◌<◌, ◌^◌, ◌∙◌, ◌⊎◌, ap, ap₂, sym, subst, refl, inl, inr, List, [], ◌∷◌, length, map, drop, Option, Some, None, Bool, true, false, IfSome}
+use Rattle.std.proofs.Common.{◌≡◌, ◌≢◌, ℕ, ◌^◌, ◌∙◌, ◌⊎◌, ap, ap₂, sym, subst, refl, inl, inr, List, [], ◌∷◌, length, map, drop, Option, Some, None, Bool, true, false, IfSome}
 use Rattle.std.specs.Prelude.{Result, Ok, Err, IfOk, IfErr, if◌then◌else◌, option_map}
 use Rattle.std.specs.Option.{option_or}
 use Rattle.std.proofs.lemmas.Bool.{lt-ltb, le-ltb}

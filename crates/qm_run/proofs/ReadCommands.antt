@@ -13,15 +13,12 @@ use Rattle.qm_model.proofs.Chains.{known-readable}
 use Rattle.qm_base.specs.declared.error.Error.{Error}
 use Rattle.qm_base.specs.declared.error.Error.TheVariants as errors
 use Rattle.qm_lines.specs.Views.{refused_view}
-use Rattle.qm_lines.specs.declared.reply.Reply.TheVariants as replies
 use Rattle.qm_lines.specs.declared.reply.Refused.{Refused}
-use Rattle.qm_lines.specs.declared.reply.Refused.TheVariants as refused
 use Rattle.qm_any.specs.declared.refusal.Given.{Given}
 use Rattle.qm_any.specs.declared.refusal.Given.TheVariants.{Database}
 use Rattle.qm_run.specs.declared.table.Slot.{Slot}
 use Rattle.qm_run.specs.declared.table.Slot.TheVariants.{Gone, Writing, Merkleized}
 use Rattle.qm_run.specs.declared.session.Turn.{Turn}
-use Rattle.qm_run.specs.declared.session.Turn.TheVariants.{Reply}
 use Rattle.qm_run.specs.Table.{merkleized_of}
 use Rattle.qm_run.specs.Turn.{turn_of_error}
 use Rattle.qm_any.specs.Refusals.{refusal_of}

@@ -1,4 +1,4 @@
-use Rattle.std.proofs.Common.{◌∙◌, ap, sym, subst}
+use Rattle.std.proofs.Common.{◌∙◌, sym, subst}
 use Rattle.sha2.specs.Sha256.{sha256}
 use Rattle.qm_model.specs.Mmr.{mmr}
 use Rattle.qm_any.specs.Databases.{IsDatabase, IsMade}

@@ -1,6 +1,5 @@
 use Rattle.std.proofs.Common.{◌∙◌, ap, ap₂, sym, map}
 use Rattle.qm_model.specs.Writes.{read_through}
-use Rattle.qm_base.specs.declared.error.Error.TheVariants as errors
 use Rattle.qm_any.specs.Refusals.{refusal_of}
 use Rattle.qm_chain.specs.Bounds.{knows}
 use Rattle.qm_run.proofs.Engines.{ok-then, err-then, knows-readable, unknown, stale-read, fresh-read}

@@ -1,4 +1,4 @@
-use Rattle.std.proofs.Common.{map, option_map, ◌∙◌, subst}
+use Rattle.std.proofs.Common.{map, option_map, ◌∙◌}
 use Rattle.qm_model.specs.Live.{value_of}
 use Rattle.qm_model.specs.Writes.{read_through}
 use Rattle.qm_model.specs.Policies.{Policy}
