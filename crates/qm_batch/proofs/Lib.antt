@@ -1,5 +1,8 @@
 pub mod Appends
 pub mod Members
+pub mod PlanLists
+pub mod PlanReads
+pub mod PlanWalks
 pub mod Reading
 pub mod Searches
 pub mod Standing
