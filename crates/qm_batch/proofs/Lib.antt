@@ -1,8 +1,10 @@
 pub mod Appends
 pub mod Members
 pub mod PlanLists
+pub mod PlanPlaces
 pub mod PlanReads
 pub mod PlanWalks
+pub mod PlanWrites
 pub mod Reading
 pub mod Searches
 pub mod Standing
