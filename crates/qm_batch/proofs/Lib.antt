@@ -1,8 +1,10 @@
 pub mod Appends
 pub mod Members
+pub mod PlanDiffs
 pub mod PlanLists
 pub mod PlanPlaces
 pub mod PlanReads
+pub mod PlanSteps
 pub mod PlanWalks
 pub mod PlanWrites
 pub mod Reading

@@ -55,7 +55,7 @@ find-dropped p q drops (e ∷ es) = cases (p e) (q e) refl (drops e) (find-dropp
     cases false false at is later = later
 
 -- where an update of a key is in front of others, the key's live update is among them
-last_of : (front : List Operation) (op : Operation) (rest : List Operation) (key : Bytes) → touches key op ≡ true → live_of (live (front ++ op ∷ rest)) key ≡ live_of (live_from (length front) (op ∷ rest)) key
+pub last_of : (front : List Operation) (op : Operation) (rest : List Operation) (key : Bytes) → touches key op ≡ true → live_of (live (front ++ op ∷ rest)) key ≡ live_of (live_from (length front) (op ∷ rest)) key
 last_of front op rest key h =
     let p : Live → Bool = λ e. bytes_eq e.key key in
     let q : Live → Bool = λ e. not (touched e.key (op ∷ rest)) in
