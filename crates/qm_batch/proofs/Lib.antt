@@ -2,6 +2,7 @@ pub mod Appends
 pub mod Members
 pub mod PlanDiffs
 pub mod PlanLists
+pub mod PlanLoops
 pub mod PlanPlaces
 pub mod PlanReads
 pub mod PlanSteps

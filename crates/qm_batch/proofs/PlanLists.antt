@@ -14,7 +14,7 @@ use Rattle.qm_model.proofs.LastWrites.{bytes_same}
 use Rattle.qm_model.proofs.Maps.{same_key}
 use Rattle.qm_model.proofs.Pushes.{Within, live_from-within}
 use Rattle.qm_batch.specs.Changes.{stands_at, update_at, said_by}
-use Rattle.qm_batch.specs.Touches.{live_said_at}
+use Rattle.qm_batch.specs.Touches.{live_said_at, is_there}
 use Rattle.qm_batch.proofs.Standing.{of_key-within}
 use Rattle.qm_batch.proofs.PlanWalks.{drop-here}
 
@@ -64,11 +64,6 @@ last_of front op rest key h =
     ap (find p) (live-append 0 front (op ∷ rest)) ∙ find-append p (filter q (live front)) (live_from (0 + length front) (op ∷ rest))
     ∙ ap (λ o. option_or o (find p (live_from (0 + length front) (op ∷ rest)))) (find-dropped p q drops (live front))
     ∙ ap (λ j. find p (live_from j (op ∷ rest))) (omega arith)
-
--- whether a key stands at this location
-abbrev pub is_there : Option (ℕ × Bytes) → ℕ → Bool
-is_there None at = false
-is_there (Some p) at = p.0 == at
 
 elsewhere : (i n : ℕ) (es : List Live) (key : Bytes) → Each (Within (suc i) n) es → is_there (option_map (λ e. (e.location, e.value)) (live_of es key)) i ≡ false
 elsewhere i n es key within = by (live_of es key) refl

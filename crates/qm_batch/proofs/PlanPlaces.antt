@@ -18,7 +18,7 @@ use Rattle.qm_model.proofs.LastWrites.{bytes_same, bytes_apart, equal_keys, writ
 use Rattle.qm_model.proofs.Maps.{same_key}
 use Rattle.qm_model.proofs.Pushes.{Within, live_from-within, Each-weaker}
 use Rattle.qm_batch.specs.Changes.{stands_at}
-use Rattle.qm_batch.specs.Touches.{Touch, operations_of, place_of, IsFrom}
+use Rattle.qm_batch.specs.Touches.{Touch, operations_of, place_of, IsFrom, rewrite_here, moved_touch, new_touch, written_touches}
 use Rattle.qm_batch.proofs.PlanWrites.{touches-operation, bytes-turned}
 use Rattle.qm_batch.proofs.Standing.{AreApart, live-apart, live-of_key, of_key-within}
 
@@ -39,10 +39,6 @@ live-rises i (update k v n ∷ rest) = cases (touched k rest) (live-rises (suc i
     cases false later = (Each-weaker (Within (suc i) (length rest)) (λ u. i < u.location) (λ u h. let low = h.0 in omega arith) (live_from (suc i) rest) (live_from-within (suc i) rest), later)
 live-rises i (delete k ∷ rest) = live-rises (suc i) rest
 live-rises i (commit m f ∷ rest) = live-rises (suc i) rest
-
--- what writes do to a live update, with its location
-abbrev pub rewrite_here : List Write → Live → Option (ℕ × Operation)
-rewrite_here ws e = option_map (λ op. (e.location, op)) (rewrite_of ws e)
 
 write_of-push : (ws : List Write) (w : Write) (key : Bytes) → write_of (ws ++ w ∷ []) key ≡ option_or (write_of ws key) (cond (bytes_eq w.key key) (Some w) None)
 write_of-push ws w key = find-append (λ (u : Write). bytes_eq u.key key) ws (w ∷ [])
@@ -163,16 +159,6 @@ insert-shown f (e ∷ es) k x = by (nat_cmp k e.0) (insert-shown f es k x)
     by Less later = refl
     by Equal later = refl
     by Greater later = ap (λ xs. (e.0, f e.1) ∷ xs) later
-
--- the writes to live keys and the creates, with where their keys stood
-abbrev pub moved_touch : ℕ × Operation → Touch
-moved_touch p = record { operation = p.1; before = Some p.0 }
-
-abbrev pub new_touch : Operation → Touch
-new_touch op = record { operation = op; before = None }
-
-abbrev pub written_touches : List Operation → List Write → List Touch
-written_touches base ws = map moved_touch (filter_map (rewrite_here ws) (live base)) ++ map new_touch (filter_map (create_of (live base)) ws)
 
 rewrites-operations : (ws : List Write) (es : List Live) → operations_of (map moved_touch (filter_map (rewrite_here ws) es)) ≡ filter_map (rewrite_of ws) es
 rewrites-operations ws [] = refl

@@ -7,8 +7,8 @@ use Rattle.std.proofs.lemmas.Option.{same_Some, slice_get_within}
 use Rattle.qm_model.specs.Operations.{Bytes, Operation, update, delete, commit}
 use Rattle.qm_model.specs.Live.{Live, live, live_at, touches, touched}
 use Rattle.qm_batch.specs.Changes.{stands_at, update_at, said_by}
-use Rattle.qm_batch.specs.Touches.{live_said_at, place_of}
-use Rattle.qm_batch.proofs.PlanLists.{is_there, stands-untouched, there-touched}
+use Rattle.qm_batch.specs.Touches.{live_said_at, is_there}
+use Rattle.qm_batch.proofs.PlanLists.{stands-untouched, there-touched}
 use Rattle.qm_batch.proofs.PlanWalks.{drop-here, said, none-past}
 
 -- what is said, where nothing behind touches the key

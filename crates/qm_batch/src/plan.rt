@@ -7,6 +7,11 @@ ghost use Rattle.qm_batch.specs.Layers.{IsBase};
 ghost use Rattle.qm_batch.specs.Lent.{IsLent, IsRead, IsReadError, NoneBelow};
 ghost use Rattle.qm_batch.specs.Views.{write_view, IsPlan, stepped};
 
+mod diff;
+mod touch;
+mod walk;
+mod writes;
+
 use crate::layer::Layer;
 use crate::write::Write;
 use qm_base::update::Unordered;

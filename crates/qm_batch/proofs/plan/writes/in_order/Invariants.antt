@@ -1,0 +1,7 @@
+use Rattle.std.proofs.Common.{◌≡◌, ◌++◌, map}
+use Rattle.std.specs.BTreeMap.{values}
+use Rattle.qm_batch.specs.Views.{write_view}
+use Rattle.qm_batch.proofs.plan.writes.in_order.Given as goal
+
+abbrev pub invariant-loop-write : goal.invariant-loop-write
+invariant-loop-write g l = l.writes.items ++ l.write-iterator ≡ values l.last
