@@ -1,8 +1,11 @@
 pub mod Appends
 pub mod Members
 pub mod PlanDiffs
+pub mod PlanFinds
 pub mod PlanLists
 pub mod PlanLoops
+pub mod PlanMoves
+pub mod PlanOwns
 pub mod PlanPlaces
 pub mod PlanReads
 pub mod PlanSteps

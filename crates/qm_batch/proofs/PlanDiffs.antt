@@ -3,7 +3,14 @@ use Rattle.std.proofs.Common.{◌≡◌, ℕ, ◌+◌, Bool, true, false, cond, 
 use Rattle.std.specs.Prelude.{option_map, bytes_eq, if◌then◌else◌, find}
 use Rattle.std.specs.Map.{lookup}
 use Rattle.std.specs.Cmp.Lexicographic.{slice_cmp}
-use Rattle.std.specs.Ordering.{nat_cmp, is_eq}
+use Rattle.std.specs.Ordering.{nat_cmp, is_eq, is_lt}
+use Rattle.std.specs.List.{AllByRecursion as Each}
+use Rattle.std.specs.List.Sorted.{IsStrictlySortedBy}
+use Rattle.std.specs.declared.cmp.Ordering.TheVariants.{Less}
+use denote.Ref.{Bor}
+use Rattle.std.proofs.lemmas.List.Elements.{All-from_recursion}
+use Rattle.qm_chain.specs.Ascending.{IsAscending}
+use Rattle.qm_model.specs.Keys.{key_lt}
 use Rattle.std.proofs.lemmas.List.{drop_at, take_at}
 use Rattle.std.proofs.lemmas.List.Folds.{list_any-append}
 use Rattle.std.proofs.lemmas.Map.Text.{is_eq-slice_cmp}
@@ -101,3 +108,48 @@ module _ (base own : List Operation) (touch : Touch) (from : IsFrom base touch) 
       by : (t : Bool) → bytes_eq k q ≡ t → cond t (Some change) (old q) ≡ (if t then Some (record { now = given_at (length (base ++ own)) touch.operation; before = place_of base q }) else change_of base (base ++ own) q)
       by true is = ap₂ (λ n b. Some (record { now = n; before = b })) now (before ∙ from q (only q ∙ is))
       by false is = so_far q
+
+pub map-put : {X Y : Type 0} (f : X → Y) (b : Bool) (x : X) (o : Option X) → option_map f (cond b (Some x) o) ≡ cond b (Some (f x)) (option_map f o)
+map-put f true x o = refl
+map-put f false x o = refl
+
+-- a map's answers with one put
+pub put-answers : {X : Type 0} (f : X → Change) (old new : Bytes → Option X) (k key : Bytes) (x : X) (change : Change) → f x ≡ change → k ≡ key → ((q : Bytes) → new q ≡ cond (bytes_eq k q) (Some x) (old q)) →
+    (q : Bytes) → option_map f (new q) ≡ cond (bytes_eq key q) (Some change) (option_map f (old q))
+put-answers f old new k key x change is same put q =
+    ap (option_map f) (put q) ∙ map-put f (bytes_eq k q) x (old q) ∙ ap₂ (λ b c. cond (bytes_eq b q) (Some c) (option_map f (old q))) same is
+
+-- an update is noted
+pub noted-update : (base own : List Operation) (touch : Touch) (k v : Bytes) (old new : Bytes → Option Change) → touch.operation ≡ update k v None → IsFrom base touch →
+    ((q : Bytes) → new q ≡ cond (bytes_eq k q) (Some (record { now = Some (length (base ++ own), v); before = touch.before })) (old q)) → ((q : Bytes) → old q ≡ change_of base (base ++ own) q) →
+    (q : Bytes) → new q ≡ change_of base ((base ++ own) ++ touch.operation ∷ []) q
+noted-update base own touch k v old new is from put so_far =
+    noted-more base own touch from k (λ q. ap (touches q) is) old new (record { now = Some (length (base ++ own), v); before = touch.before }) (sym (ap (given_at (length (base ++ own))) is)) refl put so_far
+
+-- a delete is noted
+pub noted-delete : (base own : List Operation) (touch : Touch) (k : Bytes) (old new : Bytes → Option Change) → touch.operation ≡ delete k → IsFrom base touch →
+    ((q : Bytes) → new q ≡ cond (bytes_eq k q) (Some (record { now = None; before = touch.before })) (old q)) → ((q : Bytes) → old q ≡ change_of base (base ++ own) q) →
+    (q : Bytes) → new q ≡ change_of base ((base ++ own) ++ touch.operation ∷ []) q
+noted-delete base own touch k old new is from put so_far =
+    noted-more base own touch from k (λ q. ap (touches q) is) old new (record { now = None; before = touch.before }) (sym (ap (given_at (length (base ++ own))) is)) refl put so_far
+
+-- a commit leaves all as it is
+pub noted-commit : (base own : List Operation) (op : Operation) (m : Option Bytes) (f : ℕ) (old : Bytes → Option Change) → op ≡ commit m f → ((q : Bytes) → old q ≡ change_of base (base ++ own) q) →
+    (q : Bytes) → old q ≡ change_of base ((base ++ own) ++ op ∷ []) q
+noted-commit base own op m f old is so_far q = so_far q ∙ sym (change-push base own q (commit m f)) ∙ ap (λ o. change_of base ((base ++ own) ++ o ∷ []) q) (sym is)
+
+-- keys of a map in order ascend
+pub sorted-ascends : (ks : List (Bor Bytes)) → IsStrictlySortedBy (λ x y. slice_cmp nat_cmp x.now y.now) ks → IsAscending (map (λ k. k.now) ks)
+unfolding IsStrictlySortedBy
+sorted-ascends [] h = tt
+sorted-ascends (k ∷ ks) h = (All-from_recursion (λ later. key_lt k.now later ≡ true) (map (λ k. k.now) ks) (above ks h.0), sorted-ascends ks h.1)
+  where
+    above : (us : List (Bor Bytes)) → Each (λ y. slice_cmp nat_cmp k.now y.now ≡ Less) us → Each (λ later. key_lt k.now later ≡ true) (map (λ k. k.now) us)
+    above [] h = tt
+    above (u ∷ us) h = (ap is_lt h.0, above us h.1)
+
+-- the changes of a step from a map's answers
+pub listed-changes : {X : Type 0} (shown : X → Change) (es : List (Bor Bytes × X)) (changes : Changes) (base own : List Operation) → changes ≡ map (λ e. (e.0.now, shown e.1)) es →
+    ((q : Bytes) → option_map shown (lookup (λ k. is_eq (slice_cmp nat_cmp q k.now)) es) ≡ change_of base (base ++ own) q) → AreChanges changes base (base ++ own)
+listed-changes shown es changes base own is answers =
+    are-changes changes base own (λ q. ap (λ cs. change_in cs q) is ∙ listed-answer (λ (k : Bor Bytes). k.now) shown es q ∙ answers q)

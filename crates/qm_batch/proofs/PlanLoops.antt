@@ -1,13 +1,13 @@
 -- Steps of the loops that make a plan.
-use Rattle.std.proofs.Common.{◌≡◌, ℕ, zero, suc, ◌+◌, ◌≤◌, ◌<◌, ◌^◌, Bool, true, false, cond, List, [], ◌∷◌, ◌++◌, length, take, drop, map, get_or, refl, ap, ap₂, sym, ◌∙◌, subst, Option, Some, None, arith, Ordering, Less, Equal, Greater, Bor, append_assoc, append-nil}
+use Rattle.std.proofs.Common.{◌≡◌, ℕ, zero, suc, ◌+◌, ◌≤◌, ◌<◌, ◌^◌, Bool, true, false, cond, List, [], ◌∷◌, ◌++◌, length, length-append, take, drop, map, get_or, refl, ap, ap₂, sym, ◌∙◌, subst, Option, Some, None, arith, Ordering, Less, Equal, Greater, Bor, append_assoc, append-nil}
 use Rattle.std.specs.Prelude.{filter_map, fold, slice_get, option_map, option_and_then, option_to_list, bytes_eq, All}
 use Rattle.std.specs.BTreeMap.{insert_entry}
 use Rattle.std.specs.List.{cons_option, AllByRecursion as Each}
 use Rattle.std.specs.Cmp.Lexicographic.{slice_cmp}
 use Rattle.std.specs.Ordering.{nat_cmp, match_ordering}
-use Rattle.std.proofs.lemmas.List.{take_all, take_more, map-append, map_more, length-map}
+use Rattle.std.proofs.lemmas.List.{take_all, take_more, map-append, map_more, length-map, length-take, get_or-map}
 use Rattle.std.proofs.lemmas.List.Sums.{fold-append}
-use Rattle.std.proofs.lemmas.List.Elements.{filter_map-append, All-nil, All-cons, All-head, All-tail}
+use Rattle.std.proofs.lemmas.List.Elements.{filter_map-append, All-nil, All-cons, All-head, All-tail, All-same}
 use Rattle.std.proofs.lemmas.Option.{same_Some, slice_get-map, slice_get_read, get_or_from_slice_get, slice_get_within}
 use Rattle.qm_model.specs.Operations.{Bytes, Operation}
 use Rattle.qm_model.specs.Live.{Live, live, live_of}
@@ -15,7 +15,7 @@ use Rattle.qm_model.specs.Writes.{Write, put_write, placed, write_of, last_write
 use Rattle.qm_model.proofs.LastWrites.{equal_keys, Rising, last_writes-Rising}
 use Rattle.qm_batch.specs.Changes.{stands_at, update_of}
 use Rattle.qm_batch.specs.PlanViews.{keyed, site_in}
-use Rattle.qm_batch.specs.Touches.{Touch, place_of, rewrite_here, new_touch}
+use Rattle.qm_batch.specs.Touches.{Touch, operations_of, place_of, rewrite_here, new_touch}
 use Rattle.qm_batch.proofs.PlanPlaces.{one-more, none-more, live-rises}
 use Rattle.qm_batch.proofs.Searches.{apart-below}
 use Rattle.qm_batch.proofs.Standing.{live-apart}
@@ -73,7 +73,7 @@ module _ {X : Type 0} (view : X → Write) where
       ∙ ap (map keyed) (sym (ap (fold put_write []) (map_more view xs i d within) ∙ fold-append put_write [] (map view (take i xs)) (view (get_or xs i d) ∷ [])))
 
 -- where the key stands of which an update was found
-module _ {A F W : Type 0} (said : F → ℕ × (Bytes × Bytes)) (place : F → ℕ) (same_place : (f : F) → (said f).0 ≡ place f) (key : W → Bytes) (base : List Operation) where
+module _ {F W : Type 0} (said : F → ℕ × (Bytes × Bytes)) (place : F → ℕ) (same_place : (f : F) → (said f).0 ≡ place f) (key : W → Bytes) (base : List Operation) where
   place-of : (o : Option F) (k : Bytes) → option_map said o ≡ update_of base k → option_map place o ≡ place_of base k
   place-of o k h = first o ∙ ap (option_map (λ (p : ℕ × (Bytes × Bytes)). p.0)) h ∙ second (stands_at base k)
     where
@@ -218,3 +218,27 @@ pub taken-all : {A B C : Type 0} (f : A → C) (h : B → C) (xs : List A) (ys :
 taken-all f h xs ys i same past =
     let long : length (map f xs) ≡ length (map h ys) = ap length same in
     take_all i ys (omega (arith, long, length-map xs f, length-map ys h, past))
+
+-- what holds of the image of a list
+pub all-mapped : {A X : Type 0} (P : X → Type 0) (f : A → X) (xs : List A) (i : ℕ) (d : A) → All P (map f xs) → i < length xs → d ≡ get_or xs i d → P (f d)
+all-mapped P f xs i d all within here =
+    subst P (get_or-map f xs i d (f d) within ∙ ap f (sym here)) (all i (f d) (omega (arith, within, length-map xs f)))
+
+-- one operation more behind a base list
+module _ {A : Type 0} (f : A → Touch) (base : List Operation) (xs : List A) (i : ℕ) where
+  pub own-more : (d : A) → i < length xs → d ≡ get_or xs i d → (base ++ operations_of (map f (take i xs))) ++ (f d).operation ∷ [] ≡ base ++ operations_of (map f (take (i + 1) xs))
+  own-more d within here =
+      append_assoc base (operations_of (map f (take i xs))) ((f d).operation ∷ [])
+      ∙ ap (λ z. base ++ (operations_of (map f (take i xs)) ++ (f z).operation ∷ [])) here
+      ∙ ap (λ ops. base ++ ops)
+      (sym (ap operations_of (map_more f xs i d within) ∙ map-append (λ (t : Touch). t.operation) (map f (take i xs)) (f (get_or xs i d) ∷ [])))
+
+  pub own-long : (size : ℕ) → size ≡ length base → i ≤ length xs → size + i ≡ length (base ++ operations_of (map f (take i xs)))
+  own-long size is within =
+      omega (arith, is, within, length-append base (operations_of (map f (take i xs))), length-map (map f (take i xs)) (λ (t : Touch). t.operation), length-map (take i xs) f, length-take i xs)
+
+pub insert-kept : {K X : Type 0} (P : K → Type 0) (cmp : K → K → Ordering) (es new : List (K × X)) (k : K) (x : X) → new ≡ insert_entry cmp es k x → P k → All (λ e. P e.0) es → All (λ e. P e.0) new
+insert-kept {K} {X} P cmp es new k x is here all = All-same (λ (e : K × X). P e.0) new (insert_entry cmp es k x) is (insert-keeps P cmp es k x here all)
+
+pub none-kept : {K X : Type 0} (P : K → Type 0) (es : List (K × X)) → es ≡ [] → All (λ e. P e.0) es
+none-kept {K} {X} P es is = All-same (λ (e : K × X). P e.0) es [] is (All-nil (λ (e : K × X). P e.0))

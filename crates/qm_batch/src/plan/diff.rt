@@ -107,7 +107,7 @@ fn diff_of<F, K: Key, V: VariableValue>(
     alloc: Global,
     notes: BTreeMap<&[u8], Noted<'_, V>>,
 ) -> Result<Diff<F, K, V>, AllocError>
-    requires { All (λ e. length e.0.now < 2 ^ 32) notes.entry.entries }
+    requires { All (λ e. length e.0.now < 2 ^ 32) notes.entries }
     ensures { IfOk result (λ diff. changes_view K.bytes V.bytes diff ≡ map (λ e. (e.0.now, noted_view V.bytes e.1)) notes.entry.entries) }
 {
     let mut entries = Vec::new(alloc);

@@ -1,6 +1,6 @@
 //! The walk from the floor, over a base list and the operations of writes behind it.
 
-ghost use Rattle.std.specs.Prelude.{◌≡◌, ◌≢◌, ◌≤◌, ◌<◌, ◌-◌, ◌^◌, ◌++◌, ◌==◌, ℕ, List, length, map, None, option_map, slice_get, All, IfSome, IfOk, IfErr, MatchOption};
+ghost use Rattle.std.specs.Prelude.{◌≡◌, ◌≢◌, ◌≤◌, ◌<◌, ◌-◌, ◌^◌, ◌++◌, ◌==◌, ℕ, List, length, map, None, option_map, slice_get, All, IfSome, IfOk, IfErr, MatchOption, OnOk, option_to_list, is_some, if◌then◌else◌};
 ghost use Rattle.std.specs.List.{list_any};
 ghost use Rattle.qm_base.specs.Decode.{IsUnordered};
 ghost use Rattle.qm_base.specs.Views.{unordered_view};
@@ -244,6 +244,25 @@ fn move_at<
     }
 }
 
+// Adds the move, where there is one, and tells how many more there may be.
+fn add_move<F, K: Key, V: VariableValue>(
+    moves: &mut Vec<Touch<F, K, V>>,
+    moved: Option<Touch<F, K, V>>,
+    entries: u64,
+) -> Result<u64, AllocError>
+    requires { 0 < entries }
+    ensures moves { OnOk result (touch_views K.bytes V.bytes moves.new.items ≡ touch_views K.bytes V.bytes moves.old.items ++ option_to_list (option_map (touch_view K.bytes V.bytes) moved)) }
+    ensures left { IfOk result (λ left. left ≡ (if is_some moved then entries - 1 else entries)) }
+{
+    match moved {
+        Some(moved) => {
+            moves.push(moved)?;
+            Ok(entries - 1)
+        }
+        None => Ok(entries),
+    }
+}
+
 /// Walks from the floor on, to the end of the operations of writes at most, and moves so many live updates at most.
 #[allow(clippy::too_many_arguments)]
 pub(crate) fn walk<
@@ -281,10 +300,8 @@ pub(crate) fn walk<
         if entries == 0 {
             return Ok(Walked { moves, floor: at });
         }
-        if let Some(moved) = move_at(alloc, index, log, layers, last, made, size, at)? {
-            moves.push(moved)?;
-            entries -= 1;
-        }
+        let moved = move_at(alloc, index, log, layers, last, made, size, at)?;
+        entries = add_move(&mut moves, moved, entries)?;
     }
     Ok(Walked {
         moves,

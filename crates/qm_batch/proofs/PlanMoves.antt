@@ -1,0 +1,75 @@
+-- Steps of the walk's loop.
+use Rattle.std.proofs.Common.{◌≡◌, ℕ, zero, suc, ◌+◌, ◌-◌, ◌≤◌, ◌<◌, Bool, true, false, List, [], ◌∷◌, ◌++◌, length, map, drop, refl, ap, ap₂, sym, ◌∙◌, subst, Option, Some, None, arith, append-nil, length-append, true≢false}
+use Rattle.std.specs.Prelude.{option_map, option_and_then, option_to_list, is_some, All, if◌then◌else◌}
+use Rattle.std.proofs.lemmas.List.{length-map, map-append}
+use Rattle.std.proofs.lemmas.List.Elements.{All-nil, All-push}
+use Rattle.std.proofs.lemmas.Option.{same_Some}
+use Rattle.qm_model.specs.Operations.{Bytes, Operation, update}
+use Rattle.qm_model.specs.Writes.{Write, last_writes, operation_of, unordered_writes}
+use Rattle.qm_model.specs.Walk.{Walked, walk_from}
+use Rattle.qm_model.specs.Policies.{Policy, policies, proportional}
+use Rattle.qm_batch.specs.Changes.{stands_at, said_by}
+use Rattle.qm_batch.specs.Touches.{Touch, IsFrom, IsMoveAt, IsStanding, AreMoves, operations_of, place_of, live_said_at, written_touches}
+use Rattle.qm_batch.proofs.PlanPlaces.{written-operations}
+use Rattle.qm_batch.proofs.PlanWalks.{resumed, walked-past, walked-over, walked-enough, walked-all}
+
+-- these were moved on a walk that has come to this location, with so many moves left
+abbrev pub IsWalking : List Operation → List Operation → ℕ → List Touch → ℕ → ℕ → Walked Policy → Type 0
+IsWalking base list m moves at e all =
+    (ds : List Write) × (operations_of moves ≡ map operation_of ds) × All (IsFrom base) moves × (resumed ds (walk_from policies (drop at list) at e m proportional) ≡ all)
+
+pub walk-begins : (base list : List Operation) (m : ℕ) (moves : List Touch) (at e : ℕ) → moves ≡ [] → IsWalking base list m moves at e (walk_from policies (drop at list) at e m proportional)
+walk-begins base list m moves at e none = ([], ap operations_of none, subst (All (IsFrom base)) (sym none) (All-nil (IsFrom base)), refl)
+
+module _ (base list : List Operation) (m : ℕ) (short : length list ≤ m) (moves : List Touch) (at e : ℕ) (all : Walked Policy) (so_far : IsWalking base list m moves at e all) where
+  none-said : (o : Option (Bytes × Bytes)) → None ≡ option_map (λ p. update p.0 p.1 None) o → o ≡ None
+  none-said None h = refl
+  none-said (Some p) h = cc
+
+  pub walk-next : (next : List Touch) (moved : Option Touch) (left : ℕ) → 0 < e → at < length list → IsMoveAt moved base list at → next ≡ moves ++ option_to_list moved →
+      left ≡ (if is_some moved then e - 1 else e) → IsWalking base list m next (at + 1) left all
+  walk-next next None left some within move pushed less =
+      let still : next ≡ moves = pushed ∙ append-nil moves in
+      let none : live_said_at list at ≡ None = none-said (live_said_at list at) move.operation in
+      (
+        so_far.0,
+        ap operations_of still ∙ so_far.1,
+        subst (All (IsFrom base)) (sym still) so_far.2,
+        ap (λ n. resumed so_far.0 (walk_from policies (drop (at + 1) list) (at + 1) n m proportional)) less
+        ∙ walked-past list m short at e so_far.0 all some within none so_far.3,
+      )
+  walk-next next (Some t) left some within move pushed less = by (live_said_at list at) refl move.operation
+    where
+      by : (o : Option (Bytes × Bytes)) → live_said_at list at ≡ o → Some t.operation ≡ option_map (λ p. update p.0 p.1 None) o → IsWalking base list m next (at + 1) left all
+      by None is h = cc
+      by (Some p) is h =
+          let d : Write = record { key = p.0; value = Some p.1 } in
+          (
+            so_far.0 ++ d ∷ [],
+            ap operations_of pushed ∙ map-append (λ (t : Touch). t.operation) moves (t ∷ []) ∙ ap₂ (λ ops op. ops ++ op ∷ []) so_far.1 (same_Some t.operation (update p.0 p.1 None) h)
+            ∙ sym (map-append operation_of so_far.0 (d ∷ [])),
+            subst (All (IsFrom base)) (sym pushed) (All-push (IsFrom base) moves t so_far.2 move.from),
+            ap (λ n. resumed (so_far.0 ++ d ∷ []) (walk_from policies (drop (at + 1) list) (at + 1) n m proportional)) less
+            ∙ walked-over list m short at e p.0 p.1 so_far.0 all some is so_far.3,
+          )
+
+  pub walk-enough : e ≡ 0 → AreMoves moves at base all
+  walk-enough none = record {
+    operations = so_far.1 ∙ ap (λ (w : Walked Policy). map operation_of w.decisions) (walked-enough list m short at e so_far.0 all none so_far.3);
+    from = so_far.2;
+    floor = ap (λ (w : Walked Policy). w.floor) (walked-enough list m short at e so_far.0 all none so_far.3);
+  }
+
+  pub walk-done : (end : ℕ) → end ≡ at → length list ≤ at → AreMoves moves end base all
+  walk-done end is past = record {
+    operations = so_far.1 ∙ ap (λ (w : Walked Policy). map operation_of w.decisions) (walked-all list m short at e so_far.0 all past so_far.3);
+    from = so_far.2;
+    floor = is ∙ ap (λ (w : Walked Policy). w.floor) (walked-all list m short at e so_far.0 all past so_far.3);
+  }
+
+-- how long a list with the operations of writes is
+pub written-long : {A : Type 0} (f : A → Touch) (base : List Operation) (ws : List Write) (made : List A) → map f made ≡ written_touches base (last_writes ws) → length (base ++ unordered_writes base ws) ≡ length base + length made
+written-long f base ws made same =
+    let count : length (map f made) ≡ length (written_touches base (last_writes ws)) = ap length same in
+    let ops : length (operations_of (written_touches base (last_writes ws))) ≡ length (unordered_writes base ws) = ap length (written-operations base ws) in
+    omega (arith, length-append base (unordered_writes base ws), count, ops, length-map made f, length-map (written_touches base (last_writes ws)) (λ (t : Touch). t.operation))
