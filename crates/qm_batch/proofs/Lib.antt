@@ -1,6 +1,7 @@
 pub mod Appends
 pub mod Members
 pub mod PlanDiffs
+pub mod PlanEntries
 pub mod PlanFinds
 pub mod PlanLists
 pub mod PlanLoops

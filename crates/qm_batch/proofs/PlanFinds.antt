@@ -1,5 +1,5 @@
 -- Where the operations of a base list are found, and where its keys stand.
-use Rattle.std.proofs.Common.{◌≡◌, ℕ, zero, suc, ◌+◌, ◌-◌, ◌≤◌, ◌<◌, Bool, true, false, cond, List, [], ◌∷◌, ◌++◌, length, map, drop, get_or, refl, ap, ap₂, sym, ◌∙◌, subst, Option, Some, None, arith, ◌⊎◌, inl, inr, append_assoc, append-nil, length-append, true≢false, Bor, leb}
+use Rattle.std.proofs.Common.{◌≡◌, ℕ, zero, suc, ◌+◌, ◌-◌, ◌≤◌, ◌<◌, Bool, true, false, cond, List, [], ◌∷◌, ◌++◌, length, map, drop, get_or, refl, ap, ap₂, sym, ◌∙◌, subst, Option, Some, None, arith, ◌||◌, ◌⊎◌, inl, inr, append_assoc, append-nil, length-append, true≢false, Bor, leb}
 use Rattle.std.specs.Prelude.{◌==◌, Contains, slice_get, option_map, option_and_then, MatchOption, bytes_eq, is_some, if◌then◌else◌}
 use Rattle.std.specs.List.{list_any}
 use Rattle.std.specs.Map.{lookup}
@@ -8,8 +8,9 @@ use Rattle.std.specs.Ordering.{nat_cmp, is_eq}
 use Rattle.std.proofs.lemmas.Bool.{eqb-true, eq-eqb, leb-true, cases_lt, le-leb, lt-leb}
 use Rattle.std.proofs.lemmas.Map.Text.{is_eq-slice_cmp}
 use Rattle.std.specs.Option.{option_copied}
+use Rattle.std.specs.Slice.{IsItemAt}
 use Rattle.std.proofs.lemmas.List.{drop_more}
-use Rattle.std.proofs.lemmas.Option.{same_Some, slice_get_within, slice_get-map}
+use Rattle.std.proofs.lemmas.Option.{same_Some, slice_get_within, slice_get-map, slice_get_past, slice_get_read}
 use Rattle.qm_model.specs.Operations.{Bytes, Operation}
 use Rattle.qm_model.specs.Live.{Live, live, live_of}
 use Rattle.qm_model.specs.Writes.{Write, write_of, last_writes, unordered_writes}
@@ -81,7 +82,7 @@ found-base (layer ∷ layers) tip (base ∷ older) lent at leads among within =
         ap (λ ops. slice_get ops at) list ∙ slice_get-behind base layer.operations at (omega (arith, step_size, past)) ∙ ap (λ n. slice_get layer.operations (at - n)) (sym step_size) ∙ is
 
     below : leb layer.base at ≡ false → at < length base
-    below no = elim (cases_lt at (length base)) [ inl low ↦ low | inr high ↦ absurd (true≢false (sym (le-leb layer.base at (omega (arith, step_size, high))) ∙ no)) ]
+    below apart = elim (cases_lt at (length base)) [ inl low ↦ low | inr high ↦ absurd (true≢false (sym (le-leb layer.base at (omega (arith, step_size, high))) ∙ apart)) ]
 
     here : at < length base → slice_get tip at ≡ slice_get base at
     here low = ap (λ ops. slice_get ops at) list ∙ slice_get-front base layer.operations at low
@@ -138,7 +139,7 @@ module _ (index_key : Bytes → ℕ) (entries : List (ℕ × List ℕ)) (layers 
   any-in [] h = absurd (true≢false (sym h))
   any-in (x ∷ xs) h = one (x == at) refl h (any-in xs)
     where
-      one : (t : Bool) → (x == at) ≡ t → (cond t true (list_any (λ x. x == at) xs)) ≡ true → (list_any (λ x. x == at) xs ≡ true → Contains xs at) → Contains (x ∷ xs) at
+      one : (t : Bool) → (x == at) ≡ t → (t || list_any (λ x. x == at) xs) ≡ true → (list_any (λ x. x == at) xs ≡ true → Contains xs at) → Contains (x ∷ xs) at
       one true same h later = (0, omega arith, eqb-true x at same)
       one false same h later = let rest = later h in let place = rest.1 in (suc rest.0, omega (arith, place), rest.2)
 
@@ -146,12 +147,12 @@ module _ (index_key : Bytes → ℕ) (entries : List (ℕ × List ℕ)) (layers 
   in-any [] h = let none = h.1 in absurd (omega (arith, none))
   in-any (x ∷ xs) h = by (first_or_later x xs at h) (in-any xs)
     where
-      or-later : (a b : Bool) → b ≡ true → (cond a true b) ≡ true
+      or-later : (a b : Bool) → b ≡ true → (a || b) ≡ true
       or-later true b h = refl
       or-later false b h = h
 
       by : (x ≡ at) ⊎ Contains xs at → (Contains xs at → list_any (λ x. x == at) xs ≡ true) → list_any (λ x. x == at) (x ∷ xs) ≡ true
-      by (inl same) later = ap (λ t. cond t true (list_any (λ x. x == at) xs)) (eq-eqb x at same)
+      by (inl same) later = ap (λ t. t || list_any (λ x. x == at) xs) (eq-eqb x at same)
       by (inr within) later = or-later (x == at) (list_any (λ x. x == at) xs) (later within)
 
   pub bucket-there : (bucket : List ℕ) → bucket ≡ bucket_at entries (index_key key) → list_any (λ x. x == at) bucket ≡ is_there (stands_at lent key) at
@@ -245,3 +246,21 @@ got-shown f r ops i h = by r ∙ ap (option_map f) h ∙ sym (slice_get-map f op
     by : (r : Option (Bor _)) → option_map (λ o. f o.now) r ≡ option_map f (option_copied r)
     by None = refl
     by (Some x) = refl
+
+pub match-some : {X : Type 0} (r : Option X) (x : X) (P : Type 0) (Q : X → Type 0) → r ≡ Some x → MatchOption r P Q → Q x
+match-some r x P Q is h = subst (λ r. MatchOption r P Q) is h
+
+pub match-none : {X : Type 0} (r : Option X) (P : Type 0) (Q : X → Type 0) → r ≡ None → MatchOption r P Q → P
+match-none r P Q is h = subst (λ r. MatchOption r P Q) is h
+
+-- what an index of a slice gives
+pub got : {X : Type 0} (r : Option (Bor X)) (xs : List X) (i : ℕ) → IsItemAt xs i r → option_copied r ≡ slice_get xs i
+got None xs i h = sym (slice_get_past xs i h.3)
+got (Some x) xs i h = sym (slice_get_read xs (length xs) i x.now refl (h.3).0 h.1)
+
+pub got-one : {X Y : Type 0} (f : X → Y) (r : Option (Bor X)) (xs : List X) (i j : ℕ) (x : Bor X) → IsItemAt xs i r → r ≡ Some x → i ≡ j → slice_get (map f xs) j ≡ Some (f x.now)
+got-one f r xs i j x h is same =
+    slice_get-map f xs j ∙ ap (option_map f) (ap (slice_get xs) (sym same) ∙ sym (got r xs i h) ∙ ap option_copied is)
+
+pub got-none : {X Y : Type 0} (f : X → Y) (r : Option (Bor X)) (xs : List X) (i j : ℕ) → IsItemAt xs i r → r ≡ None → i ≡ j → slice_get (map f xs) j ≡ None
+got-none f r xs i j h is same = slice_get-map f xs j ∙ ap (option_map f) (ap (slice_get xs) (sym same) ∙ sym (got r xs i h) ∙ ap option_copied is)

@@ -120,7 +120,7 @@ fn diff_of<F, K: Key, V: VariableValue>(
 }
 
 /// What the operations behind a base list of this size do to keys.
-pub(crate) fn diff<F, K: Key, V: VariableValue>(
+pub(crate) fn diff_of_touches<F, K: Key, V: VariableValue>(
     alloc: Global,
     size: u64,
     touches: &[Touch<F, K, V>],

@@ -265,7 +265,7 @@ fn add_move<F, K: Key, V: VariableValue>(
 
 /// Walks from the floor on, to the end of the operations of writes at most, and moves so many live updates at most.
 #[allow(clippy::too_many_arguments)]
-pub(crate) fn walk<
+pub(crate) fn walk_from<
     F: Family,
     I: qm_index::Unordered<Value = Location<F>>,
     C: Store,

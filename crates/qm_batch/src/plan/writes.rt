@@ -112,7 +112,7 @@ fn sites_of<'a, F, K: Key, V: VariableValue>(
 }
 
 /// The last writes, each with where its key stands in the base list.
-pub(crate) fn sites<
+pub(crate) fn find_sites<
     'a,
     F: Family,
     I: qm_index::Unordered<Value = Location<F>>,

@@ -5,7 +5,7 @@ use Rattle.qm_batch.specs.PlanViews.{site_in}
 use Rattle.qm_batch.specs.Views.{read_view, write_view}
 use Rattle.qm_batch.proofs.Reading.{told-one}
 use Rattle.qm_batch.proofs.Steps.{map-twice}
-use Rattle.qm_batch.proofs.plan.writes.sites.Goals as goal
+use Rattle.qm_batch.proofs.plan.writes.find_sites.Goals as goal
 
 pub returns-clause-value : goal.returns-clause-value
 returns-clause-value g c = λ lent base is from.

@@ -9,7 +9,7 @@ use Rattle.qm_batch.specs.Lent.{IsLent, IsRead}
 use Rattle.qm_batch.specs.PlanViews.{keyed, last_view, touch_views}
 use Rattle.qm_batch.specs.Touches.{written_touches}
 use Rattle.qm_batch.proofs.PlanMoves.{IsWalking}
-use Rattle.qm_batch.proofs.plan.walk.walk.Given as goal
+use Rattle.qm_batch.proofs.plan.walk.walk_from.Given as goal
 
 abbrev pub invariant-loop-at : goal.invariant-loop-at
 invariant-loop-at g l =
