@@ -29,12 +29,12 @@ kept-first {K} {X} P es rest e is all = All-head (λ (e : K × X). P e.0) e rest
 pub kept-rest : {K X : Type 0} (P : K → Type 0) (es rest : List (K × X)) (e : K × X) → es ≡ e ∷ rest → All (λ e. P e.0) es → All (λ e. P e.0) rest
 kept-rest {K} {X} P es rest e is all = All-tail (λ (e : K × X). P e.0) e rest (All-same (λ (e : K × X). P e.0) (e ∷ rest) es (sym is) all)
 
--- entries that show those of a map in order ascend by key
-pub ascends-shown : {A X : Type 0} (k : A → Bytes) (what : A → Change) (shown : X → Change) (xs : List A) (es : List (Bor Bytes × X)) → map (λ a. (k a, what a)) xs ≡ map (λ e. (e.0.now, shown e.1)) es →
-    IsStrictlySortedBy (λ x y. slice_cmp nat_cmp x.now y.now) (map (λ e. e.0) es) → IsAscending (map k xs)
-ascends-shown {A} {X} k what shown xs es same sorted =
+-- entries that show what is noted ascend by key, as the keys of a map do
+pub ascends-shown : {F K V : Type 0} (key : K → Bytes) (value : V → Bytes) (xs : List (K × DiffEntry F V)) (es : List (Bor Bytes × Noted V)) → map (entry_shown key value) xs ≡ map (note_shown value) es →
+    IsStrictlySortedBy (λ x y. slice_cmp nat_cmp x.now y.now) (map (λ e. e.0) es) → IsAscending (map (λ e. key e.0) xs)
+ascends-shown {F} {K} {V} key value xs es same sorted =
     let first : Bytes × Change → Bytes = λ p. p.0 in
-    let keys : map k xs ≡ map (λ (b : Bor Bytes). b.now) (map (λ (e : Bor Bytes × X). e.0) es) =
-    sym (map-twice first (λ (a : A). (k a, what a)) xs) ∙ ap (map first) same ∙ map-twice first (λ (e : Bor Bytes × X). (e.0.now, shown e.1)) es
-    ∙ sym (map-twice (λ (b : Bor Bytes). b.now) (λ (e : Bor Bytes × X). e.0) es) in
-    subst IsAscending (sym keys) (sorted-ascends (map (λ (e : Bor Bytes × X). e.0) es) sorted)
+    let keys : map (λ (e : K × DiffEntry F V). key e.0) xs ≡ map (λ (b : Bor Bytes). b.now) (map (λ (e : Bor Bytes × Noted V). e.0) es) =
+    sym (map-twice first (entry_shown key value) xs) ∙ ap (map first) same ∙ map-twice first (note_shown value) es
+    ∙ sym (map-twice (λ (b : Bor Bytes). b.now) (λ (e : Bor Bytes × Noted V). e.0) es) in
+    subst IsAscending (sym keys) (sorted-ascends (map (λ (e : Bor Bytes × Noted V). e.0) es) sorted)

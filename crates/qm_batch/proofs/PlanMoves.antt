@@ -1,6 +1,6 @@
 -- Steps of the walk's loop.
 use Rattle.std.proofs.Common.{◌≡◌, ℕ, zero, suc, ◌+◌, ◌-◌, ◌≤◌, ◌<◌, Bool, true, false, List, [], ◌∷◌, ◌++◌, length, map, drop, refl, ap, ap₂, sym, ◌∙◌, subst, Option, Some, None, arith, append-nil, length-append, true≢false}
-use Rattle.std.specs.Prelude.{option_map, option_and_then, option_to_list, is_some, All, if◌then◌else◌, slice_get, bytes_eq}
+use Rattle.std.specs.Prelude.{option_map, option_and_then, option_to_list, is_some, All, if◌then◌else◌, slice_get, bytes_eq, IfSome}
 use Rattle.std.proofs.lemmas.List.{length-map, map-append}
 use Rattle.std.proofs.lemmas.List.Elements.{All-nil, All-push}
 use Rattle.std.proofs.lemmas.Option.{same_Some, slice_get-map, slice_get_within, get_or_from_slice_get}

@@ -1,7 +1,7 @@
 use Rattle.std.proofs.Common.{◌∙◌, ◌<◌, ◌^◌, ap, ap₂, map, length, Bor, List, ℕ}
 use Rattle.std.proofs.lemmas.Map.Iter.{rest_more, rest_all}
-use Rattle.qm_batch.proofs.PlanEntries.{entry_shown, note_shown, kept-first, kept-rest}
-use Rattle.qm_batch.proofs.PlanLoops.{drained-more}
+use Rattle.qm_batch.proofs.PlanEntries.{entry_shown, note_shown, kept-first, kept-rest, ascends-shown}
+use Rattle.qm_batch.proofs.PlanLoops.{drained-more, drained-all}
 use Rattle.qm_batch.proofs.plan.diff.diff_of.Goals as goal
 
 pub loop-key-preserved : goal.loop-key-preserved
@@ -15,7 +15,7 @@ loop-key-preserved g c =
       short = kept-rest (λ (k : Bor (List ℕ)). length k.now < 2 ^ 32) c.loop-key.key-iterator c.next.new.self (c.in-Some.key, c.in-Some.noted) more c.loop-key.invariant.short;
     }
 
-pub from_bytes-key-requires : goal.from_bytes-key-requires
-from_bytes-key-requires g c =
+pub from_bytes-requires : goal.from_bytes-requires
+from_bytes-requires g c =
     kept-first (λ (k : Bor (List ℕ)). length k.now < 2 ^ 32) c.loop-key.key-iterator c.next.new.self (c.in-Some.key, c.in-Some.noted)
     (rest_more (λ x. x) c.loop-key.key-iterator c.next.new.self c.next.result (c.in-Some.key, c.in-Some.noted) c.in-Some.is c.next.ensures.steps) c.loop-key.invariant.short

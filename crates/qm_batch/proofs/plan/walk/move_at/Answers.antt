@@ -1,4 +1,7 @@
-use Rattle.std.proofs.Common.{◌≡◌, ◌∙◌, ◌-◌, ◌≤◌, ap, sym, length, arith, List, ℕ}
+use Rattle.std.proofs.Common.{◌∙◌, ◌-◌, ◌++◌, ap, length, arith, subst}
+use Rattle.std.specs.Prelude.{option_map}
+use Rattle.qm_model.specs.Writes.{unordered_writes}
+use Rattle.qm_batch.specs.Touches.{IsStanding}
 use Rattle.qm_batch.specs.PlanViews.{touch_view, touch_views}
 use Rattle.qm_batch.specs.Views.{said_view}
 use Rattle.qm_batch.proofs.PlanFinds.{got-one, got-none}
@@ -23,7 +26,17 @@ returns-in-None-clause-value g c = λ lent base ws is from size last made.
     (got-none view c.get.result c.args.made.now (c.args.at - c.args.size) (c.args.at - length base) c.get.ensures.lookup c.in-None.is (ap (λ n. c.args.at - n) size)))
 
 pub returns-in-Some-2-clause-value : goal.returns-in-Some-2-clause-value
-returns-in-Some-2-clause-value g c = ?
+returns-in-Some-2-clause-value g c = λ lent base ws is from size last made.
+    let key = g.K.ByteString.bytes in
+    let value = g.V.ByteString.bytes in
+    let list = base ++ unordered_writes base ws in
+    told-one _ _ (g.C.Store.items c.args.log.now.store) (c.in_ok-update.ensures.value lent base ws is from (omega (arith, size, c.if-size-at.false)) last) (λ standing.
+      standing-moves base list c.args.at (key c.in-Some-2.update.0) (value c.in-Some-2.update.1) (subst (λ found. IsStanding found base list c.args.at) (ap (option_map (said_view key value)) c.in-Some-2.is) standing))
 
 pub returns-in-None-2-clause-value : goal.returns-in-None-2-clause-value
-returns-in-None-2-clause-value g c = ?
+returns-in-None-2-clause-value g c = λ lent base ws is from size last made.
+    let key = g.K.ByteString.bytes in
+    let value = g.V.ByteString.bytes in
+    let list = base ++ unordered_writes base ws in
+    told-one _ _ (g.C.Store.items c.args.log.now.store) (c.in_ok-update.ensures.value lent base ws is from (omega (arith, size, c.if-size-at.false)) last) (λ standing.
+      standing-rests base list c.args.at (subst (λ found. IsStanding found base list c.args.at) (ap (option_map (said_view key value)) c.in-None-2.is) standing))

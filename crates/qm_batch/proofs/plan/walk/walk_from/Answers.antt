@@ -31,20 +31,20 @@ returns-then-entries-eq0-clause-value g c = λ lent base ws is from size last ma
 
 pub returns-in_err-moved-clause-value : goal.returns-in_err-moved-clause-value
 returns-in_err-moved-clause-value g c = λ lent base ws is from size last made.
-    let exit = err_from_is_err_and c.from_residual-in_err-moved.result c.from_residual-in_err-moved.ensures.1 in
-    told-err _ (g.C.Store.items c.args.log.now.store) c.from_residual-in_err-moved.result exit.0 exit.1
+    let exit = err_from_is_err_and c.from_residual.result c.from_residual.ensures.1 in
+    told-err _ (g.C.Store.items c.args.log.now.store) c.from_residual.result exit.0 exit.1
 
 pub returns-in_err-moved-clause-read : goal.returns-in_err-moved-clause-read
 returns-in_err-moved-clause-read g c = read-then g.C.Store g.F.Family.shape g.D.Digest.bytes g.H.Hasher.hash c.args.log.now c.loop-at.log c.move_at.new.log c.loop-at.invariant.read c.move_at.ensures.read
 
 pub returns-in_err-moved-clause-error : goal.returns-in_err-moved-clause-error
 returns-in_err-moved-clause-error g c =
-    let exit = err_from_is_err_and c.from_residual-in_err-moved.result c.from_residual-in_err-moved.ensures.1 in
+    let exit = err_from_is_err_and c.from_residual.result c.from_residual.ensures.1 in
     rw (exit.1, exit.2) (error-then g.C.Store g.F.Family.shape g.D.Digest.bytes g.H.Hasher.hash c.args.log.now c.loop-at.log c.move_at.new.log _ c.loop-at.invariant.read c.in_err-moved.ensures.error)
 
 pub returns-in_err-moved-clause-pruned : goal.returns-in_err-moved-clause-pruned
 returns-in_err-moved-clause-pruned g c = λ above.
-    let exit = err_from_is_err_and c.from_residual-in_err-moved.result c.from_residual-in_err-moved.ensures.1 in
+    let exit = err_from_is_err_and c.from_residual.result c.from_residual.ensures.1 in
     let same = ap (λ t. t.start) (c.loop-at.invariant.read).tree in
     let low = c.loop-at.invariant.low in
     rw (exit.1, exit.2) (c.in_err-moved.ensures.pruned (omega (arith, same, low, above)))
