@@ -1,6 +1,6 @@
 use Rattle.std.proofs.Common.{◌≡◌, ◌∙◌, ◌++◌, ◌+◌, ◌-◌, ◌^◌, min, ap, ap₂, sym, arith, length, map, count_by, subst, List, ℕ}
 use Rattle.std.specs.Prelude.{is_some}
-use Rattle.std.proofs.lemmas.List.{map-append}
+use Rattle.std.proofs.lemmas.List.{map-append, length-map}
 use Rattle.std.proofs.lemmas.Result.{err_from_is_err_and}
 use Rattle.qm_base.specs.Parts.{is_update}
 use Rattle.qm_model.specs.Policies.{policies, proportional}
@@ -51,7 +51,8 @@ returns-clause-own g c = λ lent base is from size floor all.
     ap (count_by (λ t. is_update (view t).operation)) c.deref-2.ensures.value ∙ count-shown (λ (t : Touch). is_update t.operation) view touches in
     let count : behind ≡ c.args.live - count_by (λ (t : Touch). is_some t.before) (map view touches) + count_by (λ (t : Touch). is_update t.operation) (map view touches) =
     c.live_behind-behind.ensures ∙ ap₂ (λ a b. c.args.live - a + b) stood new in
-    let limit : entries ≡ min (length (map view touches) + c.args.live - behind + 1) (2 ^ 64 - 1) = ? in
+    let limit : entries ≡ min (length (map view touches) + c.args.live - behind + 1) (2 ^ 64 - 1) =
+    omega (arith, c.saturating_add-entries.ensures, c.saturating_sub-inactive.ensures, c.len.ensures, c.in_ok-touches.touches.ok.0, length-map touches view) in
     told-then _ _ items (c.in_ok-sites.ensures.value lent base is from) (λ sites.
       let made = c.in_ok-touches.ensures base ws (ap (map _) c.deref.ensures.value ∙ sites ∙ sites-last (last_view key value) base c.in_ok-last.last.entries (last_writes ws) c.in_ok-last.ensures) in
       told-one _ _ items (told _ _ _ read.kept.items (c.in_ok-walked.ensures.value lent base ws mid from size c.in_ok-last.ensures (ap (map view) c.deref-3.ensures.value ∙ made))) (λ are.

@@ -19,3 +19,12 @@ pub from_bytes-requires : goal.from_bytes-requires
 from_bytes-requires g c =
     kept-first (λ (k : Bor (List ℕ)). length k.now < 2 ^ 32) c.loop-key.key-iterator c.next.new.self (c.in-Some.key, c.in-Some.noted)
     (rest_more (λ x. x) c.loop-key.key-iterator c.next.new.self c.next.result (c.in-Some.key, c.in-Some.noted) c.in-Some.is c.next.ensures.steps) c.loop-key.invariant.short
+
+pub new-requires-after_bounds : goal.new-requires-after_bounds
+new-requires-after_bounds g c κs within =
+    let key = g.K.ByteString.bytes in
+    let value = g.V.ByteString.bytes in
+    ascends-shown key value c.loop-key.entries.items c.args.notes.entries
+    (drained-all (entry_shown key value) (note_shown value) c.loop-key.entries.items c.loop-key.key-iterator (map (note_shown value) c.args.notes.entries)
+    (rest_all (λ x. x) c.loop-key.key-iterator c.next.new.self c.next.result c.in-None.is c.next.ensures.steps) c.loop-key.invariant.value)
+    c.into_iter-key-iterator.ensures.into_iter_gives.5
