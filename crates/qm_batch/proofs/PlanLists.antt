@@ -60,7 +60,7 @@ last_of front op rest key h =
     let p : Live → Bool = λ e. bytes_eq e.key key in
     let q : Live → Bool = λ e. not (touched e.key (op ∷ rest)) in
     let drops : (e : Live) → p e ≡ true → q e ≡ false = λ e is.
-        ap (λ k. not (touched k (op ∷ rest))) (same_key e.key key is) ∙ ap (λ t. not (t || touched key rest)) h in
+    ap (λ k. not (touched k (op ∷ rest))) (same_key e.key key is) ∙ ap (λ t. not (t || touched key rest)) h in
     ap (find p) (live-append 0 front (op ∷ rest)) ∙ find-append p (filter q (live front)) (live_from (0 + length front) (op ∷ rest))
     ∙ ap (λ o. option_or o (find p (live_from (0 + length front) (op ∷ rest)))) (find-dropped p q drops (live front))
     ∙ ap (λ j. find p (live_from j (op ∷ rest))) (omega arith)

@@ -34,27 +34,25 @@ module _ (base list : List Operation) (m : ℕ) (short : length list ≤ m) (mov
       left ≡ (if is_some moved then e - 1 else e) → IsWalking base list m next (at + 1) left all
   walk-next next None left some within move pushed less =
       let still : next ≡ moves = pushed ∙ append-nil moves in
-      let none : live_said_at list at ≡ None = none-said (live_said_at list at) move.operation in
-      (
+      let none : live_said_at list at ≡ None = none-said (live_said_at list at) move.operation in (
         so_far.0,
         ap operations_of still ∙ so_far.1,
         subst (All (IsFrom base)) (sym still) so_far.2,
         ap (λ n. resumed so_far.0 (walk_from policies (drop (at + 1) list) (at + 1) n m proportional)) less
-        ∙ walked-past list m short at e so_far.0 all some within none so_far.3,
+            ∙ walked-past list m short at e so_far.0 all some within none so_far.3,
       )
   walk-next next (Some t) left some within move pushed less = by (live_said_at list at) refl move.operation
     where
       by : (o : Option (Bytes × Bytes)) → live_said_at list at ≡ o → Some t.operation ≡ option_map (λ p. update p.0 p.1 None) o → IsWalking base list m next (at + 1) left all
       by None is h = cc
       by (Some p) is h =
-          let d : Write = record { key = p.0; value = Some p.1 } in
-          (
+          let d : Write = record { key = p.0; value = Some p.1 } in (
             so_far.0 ++ d ∷ [],
             ap operations_of pushed ∙ map-append (λ (t : Touch). t.operation) moves (t ∷ []) ∙ ap₂ (λ ops op. ops ++ op ∷ []) so_far.1 (same_Some t.operation (update p.0 p.1 None) h)
-            ∙ sym (map-append operation_of so_far.0 (d ∷ [])),
+                ∙ sym (map-append operation_of so_far.0 (d ∷ [])),
             subst (All (IsFrom base)) (sym pushed) (All-push (IsFrom base) moves t so_far.2 move.from),
             ap (λ n. resumed (so_far.0 ++ d ∷ []) (walk_from policies (drop (at + 1) list) (at + 1) n m proportional)) less
-            ∙ walked-over list m short at e p.0 p.1 so_far.0 all some is so_far.3,
+                ∙ walked-over list m short at e p.0 p.1 so_far.0 all some is so_far.3,
           )
 
   pub walk-enough : e ≡ 0 → AreMoves moves at base all

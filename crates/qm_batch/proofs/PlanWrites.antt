@@ -234,7 +234,7 @@ live-written base ws =
     let each : Each (λ e. touched e.key made ≡ is_some (h e)) (live base) =
     recursion_from_All (λ e. touched e.key made ≡ is_some (h e)) (live base)
     (All-weaker (Contains (live base)) (λ e. touched e.key made ≡ is_some (h e)) (λ e within.
-      touched-live base ws e.key (ap is_some (live-of_key base e within)) ∙ sym (some-map operation_of (write_of (last_writes ws) e.key))) (live base) (All-contains_itself (live base))) in
+    touched-live base ws e.key (ap is_some (live-of_key base e within)) ∙ sym (some-map operation_of (write_of (last_writes ws) e.key))) (live base) (All-contains_itself (live base))) in
     let parts = ap length (live-append 0 base made) in
     let sizes = length-append (filter (λ e. not (touched e.key made)) (live base)) (live_from (0 + length base) made) in
     let new = live-once (0 + length base) made (once-writes base ws) in

@@ -1,4 +1,4 @@
-use Rattle.std.proofs.Common.{◌≡◌, ◌∙◌, ◌++◌, ◌+◌, ◌-◌, ◌^◌, min, ap, ap₂, sym, arith, length, map, count_by, subst, List, ℕ}
+use Rattle.std.proofs.Common.{◌≡◌, ◌∙◌, ◌++◌, ◌+◌, ◌-◌, ◌^◌, min, ap, ap₂, sym, arith, length, map, count_by, subst, List}
 use Rattle.std.specs.Prelude.{is_some}
 use Rattle.std.proofs.lemmas.List.{map-append, length-map}
 use Rattle.std.proofs.lemmas.Result.{err_from_is_err_and}
@@ -54,8 +54,8 @@ returns-clause-own g c = λ lent base is from size floor all.
     let limit : entries ≡ min (length (map view touches) + c.args.live - behind + 1) (2 ^ 64 - 1) =
     omega (arith, c.saturating_add-entries.ensures, c.saturating_sub-inactive.ensures, c.len.ensures, c.in_ok-touches.touches.ok.0, length-map touches view) in
     told-then _ _ items (c.in_ok-sites.ensures.value lent base is from) (λ sites.
-      let made = c.in_ok-touches.ensures base ws (ap (map _) c.deref.ensures.value ∙ sites ∙ sites-last (last_view key value) base c.in_ok-last.last.entries (last_writes ws) c.in_ok-last.ensures) in
-      told-one _ _ items (told _ _ _ read.kept.items (c.in_ok-walked.ensures.value lent base ws mid from size c.in_ok-last.ensures (ap (map view) c.deref-3.ensures.value ∙ made))) (λ are.
-        subst (λ (ts : List Touch). AreOwn ts behind c.in_ok-walked.walked.floor base ws) (sym (ap (map view) c.in_ok-append.ensures ∙ map-append view touches c.in_ok-walked.walked.moves.items))
-        (are-own base ws (map view touches) (map view c.in_ok-walked.walked.moves.items) c.args.live behind c.in_ok-walked.walked.floor entries made all count limit
-        (subst (λ n. AreMoves (map view c.in_ok-walked.walked.moves.items) c.in_ok-walked.walked.floor base (walk policies (base ++ unordered_writes base ws) n (record { entries = entries; skips = 2 ^ 64 - 1 }) proportional)) floor are))))
+    let made = c.in_ok-touches.ensures base ws (ap (map _) c.deref.ensures.value ∙ sites ∙ sites-last (last_view key value) base c.in_ok-last.last.entries (last_writes ws) c.in_ok-last.ensures) in
+    told-one _ _ items (told _ _ _ read.kept.items (c.in_ok-walked.ensures.value lent base ws mid from size c.in_ok-last.ensures (ap (map view) c.deref-3.ensures.value ∙ made))) (λ are.
+    subst (λ (ts : List Touch). AreOwn ts behind c.in_ok-walked.walked.floor base ws) (sym (ap (map view) c.in_ok-append.ensures ∙ map-append view touches c.in_ok-walked.walked.moves.items))
+    (are-own base ws (map view touches) (map view c.in_ok-walked.walked.moves.items) c.args.live behind c.in_ok-walked.walked.floor entries made all count limit
+    (subst (λ n. AreMoves (map view c.in_ok-walked.walked.moves.items) c.in_ok-walked.walked.floor base (walk policies (base ++ unordered_writes base ws) n (record { entries = entries; skips = 2 ^ 64 - 1 }) proportional)) floor are))))

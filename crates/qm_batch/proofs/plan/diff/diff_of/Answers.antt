@@ -1,4 +1,4 @@
-use Rattle.std.proofs.Common.{◌∙◌, ◌<◌, ◌^◌, ap, ap₂, map, length, Bor, List, ℕ}
+use Rattle.std.proofs.Common.{◌<◌, ◌^◌, ap₂, map, length, Bor, List, ℕ}
 use Rattle.std.proofs.lemmas.Map.Iter.{rest_more, rest_all}
 use Rattle.qm_batch.proofs.PlanEntries.{entry_shown, note_shown, kept-first, kept-rest, ascends-shown}
 use Rattle.qm_batch.proofs.PlanLoops.{drained-more, drained-all}

@@ -1,4 +1,4 @@
-use Rattle.std.proofs.Common.{◌≡◌, ◌<◌, ◌^◌, ◌++◌, List, length, map, take, All}
+use Rattle.std.proofs.Common.{◌≡◌, ◌<◌, ◌^◌, ◌++◌, List, length, take, All}
 use Rattle.qm_model.specs.Operations.{Operation}
 use Rattle.qm_batch.specs.PlanViews.{touch_views, IsNoted}
 use Rattle.qm_batch.specs.Touches.{IsFrom, operations_of}

@@ -31,7 +31,7 @@ returns-in-Some-2-clause-value g c = λ lent base ws is from size last made.
     let value = g.V.ByteString.bytes in
     let list = base ++ unordered_writes base ws in
     told-one _ _ (g.C.Store.items c.args.log.now.store) (c.in_ok-update.ensures.value lent base ws is from (omega (arith, size, c.if-size-at.false)) last) (λ standing.
-      standing-moves base list c.args.at (key c.in-Some-2.update.0) (value c.in-Some-2.update.1) (subst (λ found. IsStanding found base list c.args.at) (ap (option_map (said_view key value)) c.in-Some-2.is) standing))
+    standing-moves base list c.args.at (key c.in-Some-2.update.0) (value c.in-Some-2.update.1) (subst (λ found. IsStanding found base list c.args.at) (ap (option_map (said_view key value)) c.in-Some-2.is) standing))
 
 pub returns-in-None-2-clause-value : goal.returns-in-None-2-clause-value
 returns-in-None-2-clause-value g c = λ lent base ws is from size last made.
@@ -39,4 +39,4 @@ returns-in-None-2-clause-value g c = λ lent base ws is from size last made.
     let value = g.V.ByteString.bytes in
     let list = base ++ unordered_writes base ws in
     told-one _ _ (g.C.Store.items c.args.log.now.store) (c.in_ok-update.ensures.value lent base ws is from (omega (arith, size, c.if-size-at.false)) last) (λ standing.
-      standing-rests base list c.args.at (subst (λ found. IsStanding found base list c.args.at) (ap (option_map (said_view key value)) c.in-None-2.is) standing))
+    standing-rests base list c.args.at (subst (λ found. IsStanding found base list c.args.at) (ap (option_map (said_view key value)) c.in-None-2.is) standing))

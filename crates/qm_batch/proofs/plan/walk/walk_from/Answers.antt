@@ -1,8 +1,6 @@
-use Rattle.std.proofs.Common.{◌≡◌, ◌∙◌, ◌++◌, ◌≤◌, ◌<◌, ◌-◌, ◌^◌, ap, sym, arith, length, map, subst, refl}
-use Rattle.std.specs.Prelude.{max, option_map}
+use Rattle.std.proofs.Common.{◌∙◌, ◌++◌, ◌≤◌, ◌<◌, ◌-◌, ◌^◌, ap, arith, length, map}
+use Rattle.std.specs.Prelude.{option_map}
 use Rattle.std.proofs.lemmas.Result.{err_from_is_err_and}
-use Rattle.qm_model.specs.Policies.{policies, proportional}
-use Rattle.qm_model.specs.Walk.{walk}
 use Rattle.qm_model.specs.Writes.{unordered_writes}
 use Rattle.qm_batch.specs.PlanViews.{touch_view, touch_views}
 use Rattle.qm_batch.proofs.PlanMoves.{walk-begins, walk-next, walk-enough, walk-done, written-long, shown-left}
@@ -27,7 +25,7 @@ returns-then-entries-eq0-clause-value g c = λ lent base ws is from size last ma
     let long = written-long view base ws c.args.made.now made in
     let short : length list ≤ 2 ^ 64 - 1 = omega (arith, long, size) in
     told-one _ _ (g.C.Store.items c.args.log.now.store) (c.loop-at.invariant.value lent base ws is from size last made) (λ so_far.
-      walk-enough base list (2 ^ 64 - 1) short (map view c.loop-at.moves.items) c.loop-at.at c.loop-at.entries _ so_far c.if-entries-eq0.true)
+    walk-enough base list (2 ^ 64 - 1) short (map view c.loop-at.moves.items) c.loop-at.at c.loop-at.entries _ so_far c.if-entries-eq0.true)
 
 pub returns-in_err-moved-clause-value : goal.returns-in_err-moved-clause-value
 returns-in_err-moved-clause-value g c = λ lent base ws is from size last made.
@@ -75,8 +73,8 @@ loop-at-preserved g c =
           let mid = lent-then g.C.Store g.F.Family.shape g.D.Digest.bytes g.H.Hasher.hash g.I.Unordered.index_key (g.I.Unordered.entries c.args.index.now) c.args.log.now c.loop-at.log lent read is in
           told-both _ _ _ (g.C.Store.items c.args.log.now.store) (c.loop-at.invariant.value lent base ws is from size last made)
           (told _ _ _ read.kept.items (c.in_ok-moved.ensures.value lent base ws mid from size last made)) (λ so_far move.
-            walk-next base list (2 ^ 64 - 1) short (map view c.loop-at.moves.items) c.loop-at.at c.loop-at.entries _ so_far (map view c.add_move.new.moves.items) (option_map view c.in_ok-moved.moved) _ some within move
-            c.in_ok-entries.ensures.moves (shown-left view c.in_ok-moved.moved c.loop-at.entries _ c.in_ok-entries.ensures.left));
+          walk-next base list (2 ^ 64 - 1) short (map view c.loop-at.moves.items) c.loop-at.at c.loop-at.entries _ so_far (map view c.add_move.new.moves.items) (option_map view c.in_ok-moved.moved) _ some within move
+          c.in_ok-entries.ensures.moves (shown-left view c.in_ok-moved.moved c.loop-at.entries _ c.in_ok-entries.ensures.left));
     }
 
 pub returns-clause-value : goal.returns-clause-value
@@ -89,4 +87,4 @@ returns-clause-value g c = λ lent base ws is from size last made.
     let high = c.loop-at.invariant.high in
     let past : length list ≤ c.loop-at.at = omega (arith, long, size, c.loop-at-test.false) in
     told-one _ _ (g.C.Store.items c.args.log.now.store) (c.loop-at.invariant.value lent base ws is from size last made) (λ so_far.
-      walk-done base list (2 ^ 64 - 1) short (map view c.loop-at.moves.items) c.loop-at.at c.loop-at.entries _ so_far _ (c.max.ensures ∙ omega (arith, low, high, c.loop-at-test.false)) past)
+    walk-done base list (2 ^ 64 - 1) short (map view c.loop-at.moves.items) c.loop-at.at c.loop-at.entries _ so_far _ (c.max.ensures ∙ omega (arith, low, high, c.loop-at-test.false)) past)

@@ -1,6 +1,5 @@
-use Rattle.std.proofs.Common.{◌≡◌, ◌++◌, map}
+use Rattle.std.proofs.Common.{◌≡◌, ◌++◌}
 use Rattle.std.specs.BTreeMap.{values}
-use Rattle.qm_batch.specs.Views.{write_view}
 use Rattle.qm_batch.proofs.plan.writes.in_order.Given as goal
 
 abbrev pub invariant-loop-write : goal.invariant-loop-write

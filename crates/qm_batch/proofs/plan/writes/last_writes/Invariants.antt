@@ -1,4 +1,4 @@
-use Rattle.std.proofs.Common.{◌≡◌, List, [], map, take}
+use Rattle.std.proofs.Common.{◌≡◌, [], map, take}
 use Rattle.std.specs.Prelude.{fold}
 use Rattle.qm_model.specs.Writes as model
 use Rattle.qm_batch.specs.PlanViews.{keyed, last_view}
