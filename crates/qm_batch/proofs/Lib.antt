@@ -1,5 +1,9 @@
 pub mod Appends
+pub mod Counts
+pub mod Entries
 pub mod Members
+pub mod Moving
+pub mod Placing
 pub mod PlanDiffs
 pub mod PlanEntries
 pub mod PlanFinds
@@ -14,5 +18,6 @@ pub mod PlanWalks
 pub mod PlanWrites
 pub mod Reading
 pub mod Searches
+pub mod Staging
 pub mod Standing
 pub mod Steps

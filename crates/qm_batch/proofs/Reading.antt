@@ -1,7 +1,7 @@
 -- What reads of a log leave, and what a bucket's locations say.
-use Rattle.std.proofs.Common.{◌≡◌, ◌≢◌, ℕ, ◌+◌, ◌-◌, ◌^◌, ◌≤◌, ◌<◌, min, Bool, true, false, List, refl, ap, sym, ◌∙◌, subst, Option, Some, None, Result, Ok, Err, arith, map, length, get_or, take, ap₂, [], ◌∷◌, ◌++◌, ◌⊎◌, inl, inr}
-use Rattle.std.specs.Prelude.{◌==◌, Contains, filter, All, IsPermutation, IfSome, IfOk, option_map, bytes_eq, if◌then◌else◌}
-use Rattle.std.proofs.lemmas.Bool.{eqb-true, eq-eqb}
+use Rattle.std.proofs.Common.{◌≡◌, ◌≢◌, ℕ, ◌+◌, ◌≤◌, ◌<◌, Bool, true, false, List, refl, ap, sym, ◌∙◌, subst, Option, Some, None, Result, Err, arith, map, length, get_or, take, ap₂, [], ◌∷◌, ◌++◌, inl, inr}
+use Rattle.std.specs.Prelude.{◌==◌, Contains, filter, All, IfSome, IfOk, option_map, bytes_eq, if◌then◌else◌}
+use Rattle.std.proofs.lemmas.Bool.{eq-eqb}
 use Rattle.std.proofs.lemmas.List.{take_more, map-append}
 use Rattle.std.proofs.lemmas.List.Elements.{All-contains, Contains-get_or}
 use Rattle.std.proofs.lemmas.Option.{same_Some}
@@ -19,7 +19,7 @@ use Rattle.qm_base.specs.Decode.{IsSpelling, decoded}
 use Rattle.qm_base.proofs.Spellings.{decoded-spelling}
 use Rattle.qm_index.specs.Buckets.{bucket_at}
 use Rattle.qm_store.specs.declared.Store as store
-use Rattle.qm_store.specs.Log.{Log, IsLog, IsKept}
+use Rattle.qm_store.specs.Log.{Log}
 use Rattle.qm_store.proofs.Stores.{kept-then}
 use Rattle.qm_batch.specs.Changes.{update_at, update_of, only}
 use Rattle.qm_batch.specs.Lent.{IsIndexed, IsLent, IsRead, IsReadError, NoneBelow, locations_at}
@@ -71,8 +71,8 @@ module _ (index_key : Bytes → ℕ) (entries : List (ℕ × List ℕ)) (list : 
   in-bucket at h =
       let all = filter here (live list) in
       let found = from_image (λ (e : Live). e.location) all at
-          (Contains-permutation (bucket_at entries (index_key key)) (locations_at index_key list (index_key key)) at
-          (IsPermutation-sym (locations_at index_key list (index_key key)) (bucket_at entries (index_key key)) (indexed (index_key key))) h) in
+      (Contains-permutation (bucket_at entries (index_key key)) (locations_at index_key list (index_key key)) at
+      (IsPermutation-sym (locations_at index_key list (index_key key)) (bucket_at entries (index_key key)) (indexed (index_key key))) h) in
       (found.0, (from_filtered here (live list) found.0 found.1).0, found.2)
 
   -- the key's own is among them

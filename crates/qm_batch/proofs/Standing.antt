@@ -1,8 +1,8 @@
 -- The live updates of a list: what stands at their locations, and which one is a key's.
-use Rattle.std.proofs.Common.{◌≡◌, ◌≢◌, ℕ, zero, suc, ◌+◌, ◌<◌, Bool, true, false, cond, List, [], ◌∷◌, refl, ap, sym, ◌∙◌, subst, Option, Some, None, arith, ◌||◌, true≢false}
-use Rattle.std.specs.Prelude.{Contains, find, option_map, IfSome, bytes_eq, if◌then◌else◌}
+use Rattle.std.proofs.Common.{◌≡◌, ℕ, suc, ◌+◌, Bool, true, false, cond, List, [], ◌∷◌, refl, ap, sym, ◌∙◌, Option, Some, None, arith, ◌||◌, true≢false}
+use Rattle.std.specs.Prelude.{Contains, IfSome, bytes_eq, if◌then◌else◌}
 use Rattle.std.specs.List.{cons_option, AllByRecursion as Each}
-use Rattle.std.proofs.lemmas.List.Elements.{All-contains, All-from_recursion, All-nil}
+use Rattle.std.proofs.lemmas.List.Elements.{All-contains, All-from_recursion}
 use Rattle.qm_model.specs.Operations.{Bytes, Operation, update, delete, commit}
 use Rattle.qm_model.specs.Live.{Live, live, live_at, live_from, live_of, touches, touched}
 use Rattle.qm_model.proofs.LastWrites.{bytes_same}

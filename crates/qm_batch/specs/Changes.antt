@@ -23,6 +23,10 @@ update_at list at = option_and_then said_by (slice_get list at)
 abbrev pub stands_at : List Operation → Bytes → Option (ℕ × Bytes)
 stands_at list key = option_map (λ e. (e.location, e.value)) (live_of (live list) key)
 
+-- where a key's live update stands
+abbrev pub place_in : List Operation → Bytes → Option ℕ
+place_in list key = option_map (λ p. p.0) (stands_at list key)
+
 -- a key's live update with its location
 abbrev pub update_of : List Operation → Bytes → Option (ℕ × (Bytes × Bytes))
 update_of list key = option_map (λ p. (p.0, (key, p.1))) (stands_at list key)
@@ -49,7 +53,7 @@ nearest (newest ∷ older) key = option_or (change_in newest key) (nearest older
 abbrev pub change_of : List Operation → List Operation → Bytes → Option Change
 change_of base tip key =
     if touched key (drop (length base) tip)
-    then Some (record { now = stands_at tip key; before = option_map (λ p. p.0) (stands_at base key) })
+    then Some (record { now = stands_at tip key; before = place_in base key })
     else None
 
 -- the changes are those of the step from the base list to the tip list

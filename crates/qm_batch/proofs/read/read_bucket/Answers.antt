@@ -1,5 +1,5 @@
-use Rattle.std.proofs.Common.{◌≡◌, ◌∙◌, ap, sym, subst, None, Some, take}
-use Rattle.std.specs.Prelude.{Contains, All, option_map}
+use Rattle.std.proofs.Common.{◌≡◌, ◌∙◌, ap, sym, subst, None, Some}
+use Rattle.std.specs.Prelude.{All, option_map}
 use Rattle.std.proofs.lemmas.List.{take_all}
 use Rattle.std.proofs.lemmas.List.Elements.{All-more}
 use Rattle.std.proofs.lemmas.Result.{err_from_is_err_and}
@@ -28,9 +28,9 @@ returns-in-Some-clause-value g c = λ lent is.
     let within = taken-in c.bucket-location-items.result.now _ c.loop-location.location-index c.location-item.result bucket c.loop-location-test.true c.location-item.is in
     let view = said_view g.K.ByteString.bytes g.V.ByteString.bytes in
     told-one _ _ (g.C.Store.items c.args.log.now.store) (told _ _ _ read.kept.items (c.in_ok-update.ensures.value lent mid.logged mid.unordered)) (λ said.
-      ap (λ n. Some (n, view c.in-Some.update)) (c.new.ensures ∙ c.get-in-Some.ensures)
-      ∙ found-live g.I.Unordered.index_key entries lent is.indexed key c.location-item.result (view c.in-Some.update) within
-      (ap (λ n. only key (update_at lent n)) (sym c.get.ensures) ∙ ap (only key) (sym said) ∙ sym c.of_key.ensures ∙ ap (option_map view) c.in-Some.is))
+    ap (λ n. Some (n, view c.in-Some.update)) (c.new.ensures ∙ c.get-in-Some.ensures)
+    ∙ found-live g.I.Unordered.index_key entries lent is.indexed key c.location-item.result (view c.in-Some.update) within
+    (ap (λ n. only key (update_at lent n)) (sym c.get.ensures) ∙ ap (only key) (sym said) ∙ sym c.of_key.ensures ∙ ap (option_map view) c.in-Some.is))
 
 pub loop-location-preserved : goal.loop-location-preserved
 loop-location-preserved g c = record {
@@ -43,9 +43,9 @@ loop-location-preserved g c = record {
       let view = said_view g.K.ByteString.bytes g.V.ByteString.bytes in
       told-both _ _ _ (g.C.Store.items c.args.log.now.store) (c.loop-location.invariant.none lent is)
       (told _ _ _ read.kept.items (c.in_ok-update.ensures.value lent mid.logged mid.unordered)) (λ before said.
-        All-more (λ at. only key (update_at lent at) ≡ None) c.bucket-location-items.result.now c.loop-location.location-index c.location-item.result c.loop-location-test.true before
-        (subst (λ n. only key (update_at lent n) ≡ None) c.location-item.is
-        (ap (λ n. only key (update_at lent n)) (sym c.get.ensures) ∙ ap (only key) (sym said) ∙ sym c.of_key.ensures ∙ ap (option_map view) c.in_default.is)));
+      All-more (λ at. only key (update_at lent at) ≡ None) c.bucket-location-items.result.now c.loop-location.location-index c.location-item.result c.loop-location-test.true before
+      (subst (λ n. only key (update_at lent n) ≡ None) c.location-item.is
+      (ap (λ n. only key (update_at lent n)) (sym c.get.ensures) ∙ ap (only key) (sym said) ∙ sym c.of_key.ensures ∙ ap (option_map view) c.in_default.is)));
 }
 
 pub returns-clause-value : goal.returns-clause-value
@@ -54,5 +54,5 @@ returns-clause-value g c = λ lent is.
     let entries = g.I.Unordered.entries c.args.index.now in
     let bucket = c.bucket-location-items.ensures.value ∙ ap (λ k. bucket_at entries (g.I.Unordered.index_key k)) c.as_bytes.ensures.value in
     told-one _ _ (g.C.Store.items c.args.log.now.store) (c.loop-location.invariant.none lent is) (λ all.
-      none-live g.I.Unordered.index_key entries lent is.indexed key
-      (subst (All (λ at. only key (update_at lent at) ≡ None)) (take_all c.loop-location.location-index c.bucket-location-items.result.now c.loop-location-test.false ∙ bucket) all))
+    none-live g.I.Unordered.index_key entries lent is.indexed key
+    (subst (All (λ at. only key (update_at lent at) ≡ None)) (take_all c.loop-location.location-index c.bucket-location-items.result.now c.loop-location-test.false ∙ bucket) all))

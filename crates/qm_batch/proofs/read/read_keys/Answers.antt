@@ -1,4 +1,4 @@
-use Rattle.std.proofs.Common.{◌≡◌, ◌∙◌, ap, sym, take, map, subst}
+use Rattle.std.proofs.Common.{◌∙◌, ap, sym, map, subst}
 use Rattle.std.specs.Prelude.{option_map}
 use Rattle.std.proofs.lemmas.List.{take_all}
 use Rattle.std.proofs.lemmas.Result.{err_from_is_err_and}
@@ -47,11 +47,11 @@ loop-key-preserved g c =
           let mid = lent-then g.C.Store g.F.Family.shape g.D.Digest.bytes g.H.Hasher.hash g.I.Unordered.index_key entries c.args.log.now c.loop-key.log lent read is in
           told-both _ _ _ (g.C.Store.items c.args.log.now.store) (c.loop-key.invariant.value lent base is from)
           (told _ _ _ read.kept.items (c.in_ok-update.ensures.value lent base mid from)) (λ before found.
-            mapped-more (λ key. update_of base (g.K.ByteString.bytes key)) (option_map (read_view g.K.ByteString.bytes g.V.ByteString.bytes)) c.args.keys.now c.loop-key.key-index c.key-item.result
-            c.loop-key.found.items c.push.new.self.items c.in_ok-update.update c.loop-key-test.true c.key-item.is c.in_ok-push.ensures.items found before);
+          mapped-more (λ key. update_of base (g.K.ByteString.bytes key)) (option_map (read_view g.K.ByteString.bytes g.V.ByteString.bytes)) c.args.keys.now c.loop-key.key-index c.key-item.result
+          c.loop-key.found.items c.push.new.self.items c.in_ok-update.update c.loop-key-test.true c.key-item.is c.in_ok-push.ensures.items found before);
     }
 
 pub returns-clause-value : goal.returns-clause-value
 returns-clause-value g c = λ lent base is from.
     told-one _ _ (g.C.Store.items c.args.log.now.store) (c.loop-key.invariant.value lent base is from) (λ found.
-      found ∙ ap (map (λ key. update_of base (g.K.ByteString.bytes key))) (take_all c.loop-key.key-index c.args.keys.now c.loop-key-test.false))
+    found ∙ ap (map (λ key. update_of base (g.K.ByteString.bytes key))) (take_all c.loop-key.key-index c.args.keys.now c.loop-key-test.false))

@@ -1,7 +1,6 @@
-use Rattle.std.proofs.Common.{◌∙◌, ap, sym, Some}
+use Rattle.std.proofs.Common.{◌∙◌, ap, sym}
 use Rattle.qm_base.specs.Views.{unordered_view}
 use Rattle.qm_batch.specs.Changes.{said_by}
-use Rattle.qm_batch.specs.Views.{said_view}
 use Rattle.qm_batch.proofs.Reading.{spelled-once}
 use Rattle.qm_batch.proofs.read.update_in.Goals as goal
 
