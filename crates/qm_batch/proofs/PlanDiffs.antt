@@ -1,6 +1,6 @@
 -- What more operations of a step do to keys, and lists of changes by key.
-use Rattle.std.proofs.Common.{◌≡◌, ℕ, ◌+◌, Bool, true, false, cond, List, [], ◌∷◌, ◌++◌, length, take, drop, map, refl, ap, ap₂, sym, ◌∙◌, subst, Option, Some, None, arith, ◌||◌, append_assoc, append-nil, true≢false}
-use Rattle.std.specs.Prelude.{option_map, bytes_eq, if◌then◌else◌, find}
+use Rattle.std.proofs.Common.{◌≡◌, ℕ, Bool, true, false, cond, List, [], ◌∷◌, ◌++◌, length, drop, map, refl, ap, ap₂, sym, ◌∙◌, Option, Some, None, ◌||◌, append_assoc, append-nil, true≢false}
+use Rattle.std.specs.Prelude.{option_map, bytes_eq, if◌then◌else◌}
 use Rattle.std.specs.Map.{lookup}
 use Rattle.std.specs.Cmp.Lexicographic.{slice_cmp}
 use Rattle.std.specs.Ordering.{nat_cmp, is_eq, is_lt}
@@ -15,10 +15,10 @@ use Rattle.std.proofs.lemmas.List.{drop_at, take_at}
 use Rattle.std.proofs.lemmas.List.Folds.{list_any-append}
 use Rattle.std.proofs.lemmas.Map.Text.{is_eq-slice_cmp}
 use Rattle.qm_model.specs.Operations.{Bytes, Operation, update, delete, commit}
-use Rattle.qm_model.specs.Live.{Live, live, live_from, live_of, touches, touched}
+use Rattle.qm_model.specs.Live.{Live, touches, touched}
 use Rattle.qm_model.proofs.Maps.{same_key}
-use Rattle.qm_batch.specs.Changes.{Change, Changes, change_in, change_of, stands_at, AreChanges}
-use Rattle.qm_batch.specs.Touches.{Touch, IsFrom, place_of}
+use Rattle.qm_batch.specs.Changes.{Change, Changes, change_in, change_of, stands_at, AreChanges, place_in}
+use Rattle.qm_batch.specs.Touches.{Touch, IsFrom}
 use Rattle.qm_batch.proofs.Appends.{live_of-append}
 use Rattle.qm_batch.proofs.PlanLists.{last_of, stands-untouched}
 use Rattle.qm_batch.proofs.PlanWrites.{bytes-turned}
@@ -58,17 +58,17 @@ module _ (base own : List Operation) (q : Bytes) where
   or-none false = refl
 
   -- what a step with one more operation does to a key
-  pub change-push : (op : Operation) → change_of base (list ++ op ∷ []) q ≡ (if touches q op then Some (record { now = given_at (length list) op; before = place_of base q }) else change_of base list q)
+  pub change-push : (op : Operation) → change_of base (list ++ op ∷ []) q ≡ (if touches q op then Some (record { now = given_at (length list) op; before = place_in base q }) else change_of base list q)
   change-push op = by (touches q op) refl
     where
-      by : (t : Bool) → touches q op ≡ t → change_of base (list ++ op ∷ []) q ≡ (if t then Some (record { now = given_at (length list) op; before = place_of base q }) else change_of base list q)
+      by : (t : Bool) → touches q op ≡ t → change_of base (list ++ op ∷ []) q ≡ (if t then Some (record { now = given_at (length list) op; before = place_in base q }) else change_of base list q)
       by true is =
           ap₂ (λ (b : Bool) (o : Option (ℕ × Bytes)). ◌if◌then◌ b o) (touched-more op true is ∙ or-last (touched q own)) (given-last op is)
         where
           ◌if◌then◌ : Bool → Option (ℕ × Bytes) → Option Change
-          ◌if◌then◌ b o = if b then Some (record { now = o; before = place_of base q }) else None
+          ◌if◌then◌ b o = if b then Some (record { now = o; before = place_in base q }) else None
       by false is =
-          ap₂ (λ (b : Bool) (o : Option Live). if b then Some (record { now = option_map (λ (e : Live). (e.location, e.value)) o; before = place_of base q }) else None)
+          ap₂ (λ (b : Bool) (o : Option Live). if b then Some (record { now = option_map (λ (e : Live). (e.location, e.value)) o; before = place_in base q }) else None)
           (touched-more op false is ∙ or-none (touched q own) ∙ ap (touched q) (sym own-behind)) (live_of-append list (op ∷ []) q (ap (λ b. b || false) is))
 
 -- a map's answer to a key, shown as a change
@@ -93,7 +93,7 @@ module _ {K X : Type 0} (key : K → Bytes) (shown : X → Change) where
 
 -- no operation yet, no change
 pub no-change : (base : List Operation) (q : Bytes) → None ≡ change_of base base q
-no-change base q = sym (ap (λ ops. if touched q ops then Some (record { now = stands_at base q; before = place_of base q }) else None) (ap (drop (length base)) (sym (append-nil base)) ∙ drop_at base [] (length base) refl))
+no-change base q = sym (ap (λ ops. if touched q ops then Some (record { now = stands_at base q; before = place_in base q }) else None) (ap (drop (length base)) (sym (append-nil base)) ∙ drop_at base [] (length base) refl))
 
 pub are-changes : (changes : Changes) (base own : List Operation) → ((q : Bytes) → change_in changes q ≡ change_of base (base ++ own) q) → AreChanges changes base (base ++ own)
 are-changes changes base own each = record { begins = take_at base own (length base) refl; each = each }
@@ -103,9 +103,9 @@ module _ (base own : List Operation) (touch : Touch) (from : IsFrom base touch) 
     (old new : Bytes → Option Change) (change : Change) (now : change.now ≡ given_at (length (base ++ own)) touch.operation) (before : change.before ≡ touch.before)
     (put : (q : Bytes) → new q ≡ cond (bytes_eq k q) (Some change) (old q)) (so_far : (q : Bytes) → old q ≡ change_of base (base ++ own) q) where
   pub noted-more : (q : Bytes) → new q ≡ change_of base ((base ++ own) ++ touch.operation ∷ []) q
-  noted-more q = put q ∙ by (bytes_eq k q) refl ∙ ap (λ t. if t then Some (record { now = given_at (length (base ++ own)) touch.operation; before = place_of base q }) else change_of base (base ++ own) q) (sym (only q)) ∙ sym (change-push base own q touch.operation)
+  noted-more q = put q ∙ by (bytes_eq k q) refl ∙ ap (λ t. if t then Some (record { now = given_at (length (base ++ own)) touch.operation; before = place_in base q }) else change_of base (base ++ own) q) (sym (only q)) ∙ sym (change-push base own q touch.operation)
     where
-      by : (t : Bool) → bytes_eq k q ≡ t → cond t (Some change) (old q) ≡ (if t then Some (record { now = given_at (length (base ++ own)) touch.operation; before = place_of base q }) else change_of base (base ++ own) q)
+      by : (t : Bool) → bytes_eq k q ≡ t → cond t (Some change) (old q) ≡ (if t then Some (record { now = given_at (length (base ++ own)) touch.operation; before = place_in base q }) else change_of base (base ++ own) q)
       by true is = ap₂ (λ n b. Some (record { now = n; before = b })) now (before ∙ from q (only q ∙ is))
       by false is = so_far q
 

@@ -1,5 +1,5 @@
 -- Where the operations of a base list are found, and where its keys stand.
-use Rattle.std.proofs.Common.{◌≡◌, ℕ, zero, suc, ◌+◌, ◌-◌, ◌≤◌, ◌<◌, Bool, true, false, cond, List, [], ◌∷◌, ◌++◌, length, map, drop, get_or, refl, ap, ap₂, sym, ◌∙◌, subst, Option, Some, None, arith, ◌||◌, ◌⊎◌, inl, inr, append_assoc, append-nil, length-append, true≢false, Bor, leb}
+use Rattle.std.proofs.Common.{◌≡◌, ℕ, suc, ◌+◌, ◌-◌, ◌≤◌, ◌<◌, Bool, true, false, cond, List, [], ◌∷◌, ◌++◌, length, map, drop, get_or, refl, ap, sym, ◌∙◌, subst, Option, Some, None, arith, ◌||◌, ◌⊎◌, inl, inr, append_assoc, append-nil, length-append, true≢false, Bor, leb}
 use Rattle.std.specs.Prelude.{◌==◌, Contains, slice_get, option_map, option_and_then, MatchOption, bytes_eq, is_some, if◌then◌else◌}
 use Rattle.std.specs.List.{list_any}
 use Rattle.std.specs.Map.{lookup}
@@ -14,7 +14,6 @@ use Rattle.std.proofs.lemmas.Option.{same_Some, slice_get_within, slice_get-map,
 use Rattle.qm_model.specs.Operations.{Bytes, Operation}
 use Rattle.qm_model.specs.Live.{Live, live, live_of}
 use Rattle.qm_model.specs.Writes.{Write, write_of, last_writes, unordered_writes}
-use Rattle.qm_model.proofs.LastWrites.{bytes_same}
 use Rattle.qm_index.specs.Buckets.{bucket_at}
 use Rattle.qm_batch.specs.Changes.{stands_at, update_at, said_by}
 use Rattle.qm_batch.specs.Layers.{Layer, LeadThrough, IsBase}
@@ -22,6 +21,7 @@ use Rattle.qm_batch.specs.Lent.{IsIndexed}
 use Rattle.qm_batch.specs.PlanViews.{keyed}
 use Rattle.qm_batch.specs.Touches.{is_there, live_said_at, IsStanding}
 use Rattle.qm_batch.proofs.Members.{first_or_later}
+use Rattle.qm_batch.proofs.PlanWalks.{none-past}
 use Rattle.qm_batch.proofs.PlanReads.{slice_get-front, slice_get-behind, update-here, front-none, front-touched, front-gone, front-live}
 use Rattle.qm_batch.proofs.PlanWrites.{bytes-turned, touched-live, touched-unwritten}
 use Rattle.qm_batch.proofs.Reading.{in-bucket, own-bucket}
@@ -72,12 +72,7 @@ found-base (layer ∷ layers) tip (base ∷ older) lent at leads among within =
     whole = ap length list ∙ length-append base layer.operations
 
     at_end : (o : Option Operation) → slice_get layer.operations (at - layer.base) ≡ o → layer.base ≤ at → MatchOption o (slice_get tip at ≡ slice_get lent at) (λ op. slice_get tip at ≡ Some op)
-    at_end None is past = absurd (omega (arith, none-here layer.operations (at - layer.base) is, whole, step_size, within, past))
-      where
-        none-here : {X : Type 0} (xs : List X) (i : ℕ) → slice_get xs i ≡ None → length xs ≤ i
-        none-here [] i h = omega arith
-        none-here (x ∷ xs) zero h = cc
-        none-here (x ∷ xs) (suc i) h = omega (arith, none-here xs i h)
+    at_end None is past = absurd (omega (arith, none-past layer.operations (at - layer.base) is, whole, step_size, within, past))
     at_end (Some op) is past =
         ap (λ ops. slice_get ops at) list ∙ slice_get-behind base layer.operations at (omega (arith, step_size, past)) ∙ ap (λ n. slice_get layer.operations (at - n)) (sym step_size) ∙ is
 

@@ -1,22 +1,19 @@
 -- The live updates of a list with more operations at its end.
-use Rattle.std.proofs.Common.{◌≡◌, ℕ, zero, suc, ◌+◌, ◌≤◌, ◌<◌, Bool, true, false, cond, List, [], ◌∷◌, ◌++◌, length, take, drop, refl, ap, sym, ◌∙◌, subst, Option, Some, None, arith, ◌||◌, append_assoc, append-nil, length-append, add-one, true≢false}
-use Rattle.std.specs.Prelude.{◌==◌, not, filter, find, slice_get, option_map, option_and_then, bytes_eq, is_some, IfSome, if◌then◌else◌, All, Contains}
+use Rattle.std.proofs.Common.{◌≡◌, ℕ, suc, ◌+◌, ◌≤◌, Bool, true, false, cond, List, [], ◌∷◌, ◌++◌, length, refl, ap, sym, ◌∙◌, Option, Some, None, arith, ◌||◌}
+use Rattle.std.specs.Prelude.{◌==◌, not, filter, find, option_map, bytes_eq, if◌then◌else◌}
 use Rattle.std.specs.Option.{option_or}
 use Rattle.std.specs.List.{cons_option, AllByRecursion as Each}
 use Rattle.std.proofs.lemmas.Bool.{eq-eqb, eqb-true}
-use Rattle.std.proofs.lemmas.List.{drop_at, drop-append-le, take-append-drop, length-take, length-drop}
 use Rattle.std.proofs.lemmas.List.Folds.{find-append, list_any-append}
 use Rattle.std.proofs.lemmas.List.Elements.{All-contains, All-from_recursion}
-use Rattle.std.proofs.lemmas.Option.{same_Some, slice_get_within}
 use Rattle.qm_model.specs.Operations.{Bytes, Operation, update, delete, commit}
-use Rattle.qm_model.specs.Live.{Live, live, live_at, live_from, live_of, touches, touched}
+use Rattle.qm_model.specs.Live.{Live, live, live_from, live_of, touches, touched}
 use Rattle.qm_model.proofs.LastWrites.{bytes_same}
 use Rattle.qm_model.proofs.Maps.{same_key}
 use Rattle.qm_model.proofs.Pushes.{Within, live_from-within}
-use Rattle.qm_batch.specs.Changes.{stands_at, update_at, said_by}
-use Rattle.qm_batch.specs.Touches.{live_said_at, is_there}
+use Rattle.qm_batch.specs.Changes.{stands_at}
+use Rattle.qm_batch.specs.Touches.{is_there}
 use Rattle.qm_batch.proofs.Standing.{of_key-within}
-use Rattle.qm_batch.proofs.PlanWalks.{drop-here}
 
 -- an update that is touched behind it in the first list (a) or in the second (b)
 kept_update : (a b : Bool) (e : Live) (test : Live → Bool) (xs tail : List Live) → test e ≡ not b →

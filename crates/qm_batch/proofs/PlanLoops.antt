@@ -1,6 +1,6 @@
 -- Steps of the loops that make a plan.
-use Rattle.std.proofs.Common.{◌≡◌, ℕ, zero, suc, ◌+◌, ◌≤◌, ◌<◌, ◌^◌, Bool, true, false, cond, List, [], ◌∷◌, ◌++◌, length, length-append, take, drop, map, get_or, refl, ap, ap₂, sym, ◌∙◌, subst, Option, Some, None, arith, Ordering, Less, Equal, Greater, Bor, append_assoc, append-nil}
-use Rattle.std.specs.Prelude.{filter_map, fold, slice_get, option_map, option_and_then, option_to_list, bytes_eq, All}
+use Rattle.std.proofs.Common.{◌≡◌, ℕ, zero, suc, ◌+◌, ◌≤◌, ◌<◌, cond, List, [], ◌∷◌, ◌++◌, length, length-append, take, map, get_or, refl, ap, ap₂, sym, ◌∙◌, subst, Option, Some, None, arith, Ordering, Less, Equal, Greater, Bor, append_assoc, append-nil}
+use Rattle.std.specs.Prelude.{filter_map, fold, slice_get, option_map, option_and_then, option_to_list, All}
 use Rattle.std.specs.BTreeMap.{insert_entry}
 use Rattle.std.specs.List.{cons_option, AllByRecursion as Each}
 use Rattle.std.specs.Cmp.Lexicographic.{slice_cmp}
@@ -11,11 +11,11 @@ use Rattle.std.proofs.lemmas.List.Elements.{filter_map-append, All-nil, All-cons
 use Rattle.std.proofs.lemmas.Option.{same_Some, slice_get-map, slice_get_read, get_or_from_slice_get, slice_get_within}
 use Rattle.qm_model.specs.Operations.{Bytes, Operation}
 use Rattle.qm_model.specs.Live.{Live, live, live_of}
-use Rattle.qm_model.specs.Writes.{Write, put_write, placed, write_of, last_writes, operation_of, create_of}
-use Rattle.qm_model.proofs.LastWrites.{equal_keys, Rising, last_writes-Rising}
-use Rattle.qm_batch.specs.Changes.{stands_at, update_of}
+use Rattle.qm_model.specs.Writes.{Write, put_write, placed, write_of, operation_of, create_of}
+use Rattle.qm_model.proofs.LastWrites.{equal_keys, Rising}
+use Rattle.qm_batch.specs.Changes.{stands_at, update_of, place_in}
 use Rattle.qm_batch.specs.PlanViews.{keyed, site_in}
-use Rattle.qm_batch.specs.Touches.{Touch, operations_of, place_of, rewrite_here, new_touch}
+use Rattle.qm_batch.specs.Touches.{Touch, operations_of, rewrite_here, new_touch}
 use Rattle.qm_batch.proofs.PlanPlaces.{one-more, none-more, live-rises}
 use Rattle.qm_batch.proofs.Searches.{apart-below}
 use Rattle.qm_batch.proofs.Standing.{live-apart}
@@ -74,7 +74,7 @@ module _ {X : Type 0} (view : X → Write) where
 
 -- where the key stands of which an update was found
 module _ {F W : Type 0} (said : F → ℕ × (Bytes × Bytes)) (place : F → ℕ) (same_place : (f : F) → (said f).0 ≡ place f) (key : W → Bytes) (base : List Operation) where
-  place-of : (o : Option F) (k : Bytes) → option_map said o ≡ update_of base k → option_map place o ≡ place_of base k
+  place-of : (o : Option F) (k : Bytes) → option_map said o ≡ update_of base k → option_map place o ≡ place_in base k
   place-of o k h = first o ∙ ap (option_map (λ (p : ℕ × (Bytes × Bytes)). p.0)) h ∙ second (stands_at base k)
     where
       first : (o : Option F) → option_map place o ≡ option_map (λ (p : ℕ × (Bytes × Bytes)). p.0) (option_map said o)
@@ -86,13 +86,13 @@ module _ {F W : Type 0} (said : F → ℕ × (Bytes × Bytes)) (place : F → �
       second (Some p) = refl
 
   pub found-place : (found : List (Option F)) (writes : List W) (i : ℕ) (d : W) → map (option_map said) found ≡ map (λ w. update_of base (key w)) writes → i < length writes → d ≡ get_or writes i d →
-      option_and_then (option_map place) (slice_get found i) ≡ place_of base (key d)
+      option_and_then (option_map place) (slice_get found i) ≡ place_in base (key d)
   found-place found writes i d same within here =
       by (slice_get found i)
       (sym (slice_get-map (option_map said) found i) ∙ ap (λ l. slice_get l i) same ∙ slice_get-map (λ w. update_of base (key w)) writes i
       ∙ ap (option_map (λ w. update_of base (key w))) (slice_get_read writes (length writes) i d refl within here))
     where
-      by : (o : Option (Option F)) → option_map (option_map said) o ≡ Some (update_of base (key d)) → option_and_then (option_map place) o ≡ place_of base (key d)
+      by : (o : Option (Option F)) → option_map (option_map said) o ≡ Some (update_of base (key d)) → option_and_then (option_map place) o ≡ place_in base (key d)
       by None h = cc
       by (Some f) h = place-of f (key d) (same_Some (option_map said f) (update_of base (key d)) h)
 
@@ -127,7 +127,7 @@ module _ {A : Type 0} (view : A → Write × Option ℕ) (base : List Operation)
   write-is : site-here.0 ≡ (view d).0
   write-is = ap (λ (p : Write × Option ℕ). p.0) site-here.2
 
-  place-is : place_of base (site-here.0).key ≡ (view d).1
+  place-is : place_in base (site-here.0).key ≡ (view d).1
   place-is = ap (λ (p : Write × Option ℕ). p.1) site-here.2
 
   -- one write more to a live key

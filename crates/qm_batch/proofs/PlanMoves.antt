@@ -1,5 +1,5 @@
 -- Steps of the walk's loop.
-use Rattle.std.proofs.Common.{◌≡◌, ℕ, zero, suc, ◌+◌, ◌-◌, ◌≤◌, ◌<◌, Bool, true, false, List, [], ◌∷◌, ◌++◌, length, map, drop, refl, ap, ap₂, sym, ◌∙◌, subst, Option, Some, None, arith, append-nil, length-append, true≢false}
+use Rattle.std.proofs.Common.{◌≡◌, ℕ, ◌+◌, ◌-◌, ◌≤◌, ◌<◌, List, [], ◌∷◌, ◌++◌, length, map, drop, refl, ap, ap₂, sym, ◌∙◌, subst, Option, Some, None, arith, append-nil, length-append}
 use Rattle.std.specs.Prelude.{option_map, option_and_then, option_to_list, is_some, All, if◌then◌else◌, slice_get, bytes_eq, IfSome}
 use Rattle.std.proofs.lemmas.List.{length-map, map-append}
 use Rattle.std.proofs.lemmas.List.Elements.{All-nil, All-push}
@@ -10,8 +10,8 @@ use Rattle.qm_model.proofs.Maps.{same_key}
 use Rattle.qm_model.specs.Writes.{Write, last_writes, operation_of, unordered_writes}
 use Rattle.qm_model.specs.Walk.{Walked, walk_from}
 use Rattle.qm_model.specs.Policies.{Policy, policies, proportional}
-use Rattle.qm_batch.specs.Changes.{stands_at, said_by}
-use Rattle.qm_batch.specs.Touches.{Touch, IsFrom, IsMoveAt, IsStanding, AreMoves, operations_of, place_of, live_said_at, written_touches}
+use Rattle.qm_batch.specs.Changes.{said_by, place_in}
+use Rattle.qm_batch.specs.Touches.{Touch, IsFrom, IsMoveAt, IsStanding, AreMoves, operations_of, live_said_at, written_touches}
 use Rattle.qm_batch.proofs.PlanPlaces.{written-from, written-operations}
 use Rattle.qm_batch.proofs.PlanReads.{behind-said}
 use Rattle.qm_batch.proofs.PlanWrites.{once-writes, said-once}
@@ -121,7 +121,7 @@ module _ (base : List Operation) (ws : List Write) (at : ℕ) (past : length bas
 -- the move of what stands live at a location of the base list
 module _ (base list : List Operation) (at : ℕ) where
   pub standing-moves : (k v : Bytes) → IsStanding (Some (k, v)) base list at → IsMoveAt (Some (record { operation = update k v None; before = Some at })) base list at
-  standing-moves k v is = record { operation = ap (option_map updated) is.said; from = λ key hit. sym (ap (place_of base) (sym (same_key k key hit)) ∙ is.place) }
+  standing-moves k v is = record { operation = ap (option_map updated) is.said; from = λ key hit. sym (ap (place_in base) (sym (same_key k key hit)) ∙ is.place) }
 
   pub standing-rests : IsStanding None base list at → IsMoveAt None base list at
   standing-rests is = record { operation = ap (option_map updated) is.said; from = tt }

@@ -1,26 +1,24 @@
 -- The writes to live keys by location, and where the keys of a step's operations stood before.
-use Rattle.std.proofs.Common.{◌≡◌, ℕ, suc, ◌+◌, ◌≤◌, ◌<◌, Bool, true, false, cond, List, [], ◌∷◌, ◌++◌, length, map, count_by, refl, ap, ap₂, sym, ◌∙◌, subst, Option, Some, None, arith, ◌&&◌, Ordering, Less, Equal, Greater, true≢false}
-use Rattle.std.specs.Prelude.{◌==◌, nat_lt, not, filter_map, find, option_map, bytes_eq, is_some, if◌then◌else◌, All, Contains, fold}
+use Rattle.std.proofs.Common.{◌≡◌, ℕ, suc, ◌+◌, ◌<◌, Bool, true, false, cond, List, [], ◌∷◌, ◌++◌, length, map, count_by, refl, ap, ap₂, sym, ◌∙◌, subst, Option, Some, None, arith, Ordering, Less, Equal, Greater, true≢false}
+use Rattle.std.specs.Prelude.{◌==◌, nat_lt, filter_map, option_map, bytes_eq, is_some, if◌then◌else◌, All, Contains}
 use Rattle.std.specs.Option.{option_or}
 use Rattle.std.specs.BTreeMap.{insert_entry}
 use Rattle.std.specs.List.{cons_option, AllByRecursion as Each}
-use Rattle.std.specs.Cmp.Lexicographic.{slice_cmp}
-use Rattle.std.specs.Ordering.{nat_cmp, match_ordering, is_eq}
+use Rattle.std.specs.Ordering.{nat_cmp, match_ordering}
 use Rattle.std.proofs.lemmas.List.{map-append}
 use Rattle.std.proofs.lemmas.List.Folds.{find-append}
 use Rattle.std.proofs.lemmas.List.Sums.{sum_by-cons}
-use Rattle.std.proofs.lemmas.List.Elements.{All-append, All-map, All-weaker, All-from_recursion, recursion_from_All, All-contains_itself}
-use Rattle.std.proofs.lemmas.Bool.{eqb-true, ltb-true}
+use Rattle.std.proofs.lemmas.List.Elements.{All-append, All-from_recursion, recursion_from_All, All-contains_itself}
 use Rattle.qm_model.specs.Operations.{Bytes, Operation, update, delete, commit}
-use Rattle.qm_model.specs.Live.{Live, live, live_at, live_from, live_of, touches, touched}
-use Rattle.qm_model.specs.Writes.{Write, write_of, last_writes, operation_of, rewrite_of, create_of, unordered_writes, put_write, placed}
-use Rattle.qm_model.proofs.LastWrites.{bytes_same, bytes_apart, equal_keys, write_of-key, Rising}
+use Rattle.qm_model.specs.Live.{Live, live, live_from, live_of, touched}
+use Rattle.qm_model.specs.Writes.{Write, write_of, last_writes, operation_of, rewrite_of, create_of, unordered_writes}
+use Rattle.qm_model.proofs.LastWrites.{bytes_same, write_of-key}
 use Rattle.qm_model.proofs.Maps.{same_key}
 use Rattle.qm_model.proofs.Pushes.{Within, live_from-within, Each-weaker}
-use Rattle.qm_batch.specs.Changes.{stands_at}
-use Rattle.qm_batch.specs.Touches.{Touch, operations_of, place_of, IsFrom, rewrite_here, moved_touch, new_touch, written_touches}
+use Rattle.qm_batch.specs.Changes.{place_in}
+use Rattle.qm_batch.specs.Touches.{Touch, operations_of, IsFrom, rewrite_here, moved_touch, new_touch, written_touches}
 use Rattle.qm_batch.proofs.PlanWrites.{touches-operation, bytes-turned}
-use Rattle.qm_batch.proofs.Standing.{AreApart, live-apart, live-of_key, of_key-within}
+use Rattle.qm_batch.proofs.Standing.{AreApart, live-of_key}
 
 -- entries ascend by location
 abbrev pub Rises : List Live → Type 0
@@ -199,10 +197,10 @@ written-stood base ws = by (live base)
             let first : count_by (λ t. is_some t.before) (t ∷ rest) ≡ 1 + count_by (λ t. is_some t.before) rest = sum_by-cons (λ (t : Touch). cond (is_some t.before) 1 0) t rest in
             omega (arith, first, later)
 
-some-place : (base : List Operation) (key : Bytes) (e : Live) → live_of (live base) key ≡ Some e → place_of base key ≡ Some e.location
+some-place : (base : List Operation) (key : Bytes) (e : Live) → live_of (live base) key ≡ Some e → place_in base key ≡ Some e.location
 some-place base key e h = ap (λ o. option_map (λ (p : ℕ × Bytes). p.0) (option_map (λ (e : Live). (e.location, e.value)) o)) h
 
-no-place : (base : List Operation) (key : Bytes) → is_some (live_of (live base) key) ≡ false → None ≡ place_of base key
+no-place : (base : List Operation) (key : Bytes) → is_some (live_of (live base) key) ≡ false → None ≡ place_in base key
 no-place base key h = by (live_of (live base) key) h
   where
     by : (o : Option Live) → is_some o ≡ false → ◌≡◌ {A = Option ℕ} None (option_map (λ (p : ℕ × Bytes). p.0) (option_map (λ (e : Live). (e.location, e.value)) o))
@@ -226,7 +224,7 @@ written-from base ws =
         by (Some w) is later = (
           λ key here.
               let same : e.key ≡ key = sym (write_of-key ws e.key w is) ∙ same_key w.key key (sym (touches-operation w key) ∙ here) in
-              sym (ap (place_of base) (sym same) ∙ some-place base e.key e (live-of_key base e h.0)),
+              sym (ap (place_in base) (sym same) ∙ some-place base e.key e (live-of_key base e h.0)),
           later,
         )
 

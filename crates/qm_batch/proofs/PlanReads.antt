@@ -1,15 +1,15 @@
 -- What stands live at a location of a base list with more operations at its end.
-use Rattle.std.proofs.Common.{◌≡◌, ℕ, zero, suc, ◌+◌, ◌-◌, ◌≤◌, ◌<◌, Bool, true, false, List, [], ◌∷◌, ◌++◌, length, take, drop, refl, ap, ap₂, sym, ◌∙◌, subst, Option, Some, None, arith, ◌||◌, length-append}
+use Rattle.std.proofs.Common.{◌≡◌, ℕ, zero, suc, ◌+◌, ◌-◌, ◌≤◌, ◌<◌, Bool, true, false, List, [], ◌∷◌, ◌++◌, length, take, drop, refl, ap, ap₂, sym, ◌∙◌, Option, Some, None, arith, ◌||◌}
 use Rattle.std.specs.Prelude.{not, slice_get, option_map, option_and_then, if◌then◌else◌}
 use Rattle.std.proofs.lemmas.List.{drop_at, drop-append-le, drop-drop, take-append-drop, length-take}
 use Rattle.std.proofs.lemmas.List.Folds.{list_any-append}
 use Rattle.std.proofs.lemmas.Option.{same_Some, slice_get_within}
 use Rattle.qm_model.specs.Operations.{Bytes, Operation, update, delete, commit}
-use Rattle.qm_model.specs.Live.{Live, live, live_at, touches, touched}
+use Rattle.qm_model.specs.Live.{live_at, touches, touched}
 use Rattle.qm_batch.specs.Changes.{stands_at, update_at, said_by}
 use Rattle.qm_batch.specs.Touches.{live_said_at, is_there}
 use Rattle.qm_batch.proofs.PlanLists.{stands-untouched, there-touched}
-use Rattle.qm_batch.proofs.PlanWalks.{drop-here, said, none-past}
+use Rattle.qm_batch.proofs.PlanWalks.{drop-here, said}
 
 -- what is said, where nothing behind touches the key
 abbrev pub unless_touched : List Operation → Bytes × Bytes → Option (Bytes × Bytes)

@@ -1,18 +1,18 @@
 -- The plan of a step, from its parts.
-use Rattle.std.proofs.Common.{◌≡◌, ℕ, zero, suc, ◌+◌, ◌-◌, ◌≤◌, ◌<◌, ◌^◌, min, Bool, true, false, cond, List, [], ◌∷◌, ◌++◌, length, take, drop, map, count_by, refl, ap, ap₂, sym, ◌∙◌, subst, Option, Some, None, arith, append_assoc, append-nil}
+use Rattle.std.proofs.Common.{◌≡◌, ℕ, zero, suc, ◌+◌, ◌-◌, ◌≤◌, ◌^◌, min, Bool, true, false, List, [], ◌∷◌, ◌++◌, length, take, drop, map, count_by, refl, ap, sym, ◌∙◌, subst, Option, Some, None, arith, append_assoc}
 use Rattle.std.specs.Prelude.{◌==◌, filter_map, option_map, is_some, if◌then◌else◌}
 use Rattle.std.specs.List.{cons_option, AllByRecursion as Each}
 use Rattle.std.proofs.lemmas.List.{drop_at, take_at, take-append-drop}
 use Rattle.qm_base.specs.Parts.{is_update}
 use Rattle.qm_model.specs.Operations.{Bytes, Operation, update, delete, commit}
 use Rattle.qm_model.specs.Live.{Live, live, live_at, live_of, floor, floor_after, touched}
-use Rattle.qm_model.specs.Writes.{Write, last_writes, operation_of, unordered_writes, made_inactive}
+use Rattle.qm_model.specs.Writes.{Write, operation_of, unordered_writes, made_inactive}
 use Rattle.qm_model.specs.Walk.{Walked, walk, walk_from, visited}
 use Rattle.qm_model.specs.Policies.{Policy, policies, proportional, limits_of}
 use Rattle.qm_model.specs.Step.{committed}
 use Rattle.qm_model.proofs.Pushes.{live-commit}
-use Rattle.qm_batch.specs.Changes.{Changes, change_of, stands_at, AreChanges}
-use Rattle.qm_batch.specs.Views.{Plan, IsPlan, stepped}
+use Rattle.qm_batch.specs.Changes.{Changes, change_of, AreChanges}
+use Rattle.qm_batch.specs.Views.{IsPlan, stepped}
 use Rattle.qm_batch.proofs.PlanDiffs.{change-push}
 use Rattle.qm_batch.proofs.PlanLists.{stands-untouched}
 use Rattle.qm_batch.proofs.PlanWrites.{IsMove, live-moved, live-written, rewrites}

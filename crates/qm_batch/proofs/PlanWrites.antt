@@ -1,21 +1,20 @@
 -- Which keys the operations of writes touch, and how many keys are live behind them.
-use Rattle.std.proofs.Common.{◌≡◌, ℕ, zero, suc, ◌+◌, ◌≤◌, ◌<◌, Bool, true, false, cond, List, [], ◌∷◌, ◌++◌, length, take, drop, map, count_by, refl, ap, ap₂, sym, ◌∙◌, subst, Option, Some, None, arith, ◌||◌, ◌&&◌, append_assoc, append-nil, length-append, true≢false}
-use Rattle.std.specs.Prelude.{not, filter, filter_map, find, slice_get, option_map, option_and_then, bytes_eq, is_some, if◌then◌else◌, All, Contains}
+use Rattle.std.proofs.Common.{◌≡◌, ℕ, zero, suc, ◌+◌, Bool, true, false, cond, List, [], ◌∷◌, ◌++◌, length, drop, count_by, refl, ap, ap₂, sym, ◌∙◌, subst, Option, Some, None, arith, ◌||◌, ◌&&◌, append_assoc, append-nil, length-append, true≢false}
+use Rattle.std.specs.Prelude.{not, filter, filter_map, option_map, option_and_then, bytes_eq, is_some, if◌then◌else◌, Contains}
 use Rattle.std.specs.List.{cons_option, list_any, AllByRecursion as Each}
 use Rattle.std.specs.Cmp.Lexicographic.{slice_cmp}
 use Rattle.std.specs.Ordering.{nat_cmp}
 use Rattle.std.specs.declared.cmp.Ordering.TheVariants.{Less}
 use Rattle.std.proofs.lemmas.List.Folds.{list_any-append}
-use Rattle.std.proofs.lemmas.List.Sums.{sum_by-cons, sum_by-append}
-use Rattle.std.proofs.lemmas.List.Elements.{All-weaker, All-contains_itself, recursion_from_All, All-head, All-tail}
-use Rattle.std.proofs.lemmas.Slice.Eq.{bytes_eq-Decides}
+use Rattle.std.proofs.lemmas.List.Sums.{sum_by-cons}
+use Rattle.std.proofs.lemmas.List.Elements.{All-weaker, All-contains_itself, recursion_from_All}
 use Rattle.qm_base.specs.Parts.{is_update}
 use Rattle.qm_model.specs.Operations.{Bytes, Operation, update, delete, commit}
-use Rattle.qm_model.specs.Live.{Live, live, live_at, live_from, live_of, touches, touched, value_of}
+use Rattle.qm_model.specs.Live.{Live, live, live_from, live_of, touches, touched, value_of}
 use Rattle.qm_model.specs.Writes.{Write, write_of, last_writes, operation_of, rewrite_of, create_of, unordered_writes}
 use Rattle.qm_model.proofs.LastWrites.{bytes_same, write_of-key, Rising, last_writes-Rising}
 use Rattle.qm_model.proofs.Maps.{same_key, value_of-append}
-use Rattle.qm_batch.specs.Changes.{update_at, said_by}
+use Rattle.qm_batch.specs.Changes.{update_at}
 use Rattle.qm_batch.proofs.PlanLists.{live-append}
 use Rattle.qm_batch.proofs.PlanReads.{unless_touched}
 use Rattle.qm_batch.proofs.Searches.{apart-above}

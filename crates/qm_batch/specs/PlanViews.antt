@@ -13,8 +13,8 @@ use Rattle.qm_batch.specs.declared.write.Write as written
 use Rattle.qm_batch.specs.declared.plan.touch.Touch as declared
 use Rattle.qm_batch.specs.declared.plan.writes.Site as site
 use Rattle.qm_batch.specs.declared.plan.diff.Noted as noted
-use Rattle.qm_batch.specs.Changes.{Change, change_of}
-use Rattle.qm_batch.specs.Touches.{Touch, IsFrom, operations_of, place_of}
+use Rattle.qm_batch.specs.Changes.{Change, change_of, place_in}
+use Rattle.qm_batch.specs.Touches.{Touch, IsFrom, operations_of}
 use Rattle.qm_batch.specs.Views.{write_view, stepped}
 
 -- a write by its key
@@ -23,7 +23,7 @@ keyed w = (w.key, w)
 
 -- a write, and where its key stands
 abbrev pub site_in : List Operation → Write → Write × Option ℕ
-site_in base w = (w, place_of base w.key)
+site_in base w = (w, place_in base w.key)
 
 -- what is noted of a key
 abbrev pub noted_view : {V : Type 0} → (V → Bytes) → noted.Noted V → Change

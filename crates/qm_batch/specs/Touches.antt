@@ -5,11 +5,7 @@ use Rattle.qm_model.specs.Live.{Live, live, live_at, touches}
 use Rattle.qm_model.specs.Policies.{Policy}
 use Rattle.qm_model.specs.Walk.{Walked}
 use Rattle.qm_model.specs.Writes.{Write, operation_of, rewrite_of, create_of}
-use Rattle.qm_batch.specs.Changes.{stands_at}
-
--- where a key's live update stands
-abbrev pub place_of : List Operation → Bytes → Option ℕ
-place_of list key = option_map (λ p. p.0) (stands_at list key)
+use Rattle.qm_batch.specs.Changes.{place_in}
 
 -- key and value of the live update at a location
 abbrev pub live_said_at : List Operation → ℕ → Option (Bytes × Bytes)
@@ -23,7 +19,7 @@ is_there (Some p) at = p.0 == at
 -- what was found is the live update at a location of a list, and its key stands there in the base list
 pub record IsStanding (found : Option (Bytes × Bytes)) (base list : List Operation) (at : ℕ) : Type 0 where
   pub said : found ≡ live_said_at list at
-  pub place : IfSome found (λ p. place_of base p.0 ≡ Some at)
+  pub place : IfSome found (λ p. place_in base p.0 ≡ Some at)
 
 -- an operation of a step, and where its key's live update stood before
 pub record Touch : Type 0 where
@@ -35,7 +31,7 @@ operations_of touches = map (λ t. t.operation) touches
 
 -- the operation is of a step from this list: its key stood there
 abbrev pub IsFrom : List Operation → Touch → Type 0
-IsFrom base t = (key : Bytes) → touches key t.operation ≡ true → t.before ≡ place_of base key
+IsFrom base t = (key : Bytes) → touches key t.operation ≡ true → t.before ≡ place_in base key
 
 -- this moves the live update at a location of a list, where one is there
 pub record IsMoveAt (moved : Option Touch) (base list : List Operation) (at : ℕ) : Type 0 where

@@ -191,10 +191,7 @@ fn spelled(alloc: Global, operations: &[Entry]) -> Result<Vec<u8>, AllocError> {
 // A key's last byte, where it stands, and where it stood.
 type Shown = (u8, Option<Location<Family>>, Option<Location<Family>>);
 
-fn shown(
-    alloc: Global,
-    diff: &Diff<Family, ByteKey, ByteValue>,
-) -> Result<Vec<Shown>, AllocError> {
+fn shown(alloc: Global, diff: &Diff<Family, ByteKey, ByteValue>) -> Result<Vec<Shown>, AllocError> {
     let mut all = Vec::new(alloc);
     for (key, entry) in diff.entries() {
         let last = key.as_bytes().last().copied().unwrap_or(0);
