@@ -1,13 +1,16 @@
-//! Where keys are live in an operation list, found over an index and a log that are lent for a list on the way to it; and what an
-//! index becomes where steps are applied.
+//! What a batch puts behind an operation list, found over an index and a log that are lent for a list on the way to it.
 #![tactic(auto)]
 
 pub mod apply;
 pub mod layer;
+pub mod plan;
 pub mod read;
 #[cfg(test)]
 mod tests;
+pub mod write;
 
 pub use apply::apply_diffs;
 pub use layer::Layer;
+pub use plan::{Plan, plain};
 pub use read::read_keys;
+pub use write::Write;

@@ -139,3 +139,95 @@ fn steps_are_put_in_oldest_first(rt: HostRuntime) -> Result<(), Fail> {
     assert_eq!(rt; left, [Location::new(2), Location::new(5)].as_slice());
     Ok(())
 }
+
+// A write to the key.
+fn write(
+    alloc: Global,
+    last: u8,
+    byte: Option<u8>,
+) -> Result<Write<ByteKey, ByteValue>, AllocError> {
+    let value = match byte {
+        Some(byte) => Some(value(alloc, byte)?),
+        None => None,
+    };
+    Ok(Write {
+        key: key(alloc, last)?,
+        value,
+    })
+}
+
+// What a batch makes that deletes the second key and writes a third twice.
+fn planned(alloc: Global, log: &mut Log) -> Result<Plan<Family, ByteKey, ByteValue>, Error> {
+    let layers = vec![in alloc; Rc::new(alloc, layer(alloc)?)?]?;
+    let writes = vec![in alloc;
+        write(alloc, 3, Some(50))?,
+        write(alloc, 2, None)?,
+        write(alloc, 3, Some(60))?,
+    ]?;
+    plain(
+        alloc,
+        &index(alloc)?,
+        log,
+        &layers,
+        4,
+        Location::new(0),
+        2,
+        &writes,
+        None,
+    )
+}
+
+// The spellings of operations in a row.
+fn spelled(alloc: Global, operations: &[Entry]) -> Result<Vec<u8>, AllocError> {
+    let mut all = Vec::new(alloc);
+    for operation in operations {
+        for byte in operation.encode(alloc)? {
+            all.push(byte)?;
+        }
+    }
+    Ok(all)
+}
+
+// A key's last byte, where it stands, and where it stood.
+type Shown = (u8, Option<Location<Family>>, Option<Location<Family>>);
+
+fn shown(alloc: Global, diff: &Diff<Family, ByteKey, ByteValue>) -> Result<Vec<Shown>, AllocError> {
+    let mut all = Vec::new(alloc);
+    for (key, entry) in diff.entries() {
+        let last = key.as_bytes().last().copied().unwrap_or(0);
+        all.push((last, entry.loc(), entry.base_old_loc()))?;
+    }
+    Ok(all)
+}
+
+#[test]
+fn a_batch_is_planned_over_layers(rt: HostRuntime) -> Result<(), Fail> {
+    match Log::open(rt.alloc(), store(rt.alloc())?, Sha256::new(), 3) {
+        Ok(mut log) => {
+            let plan = planned(rt.alloc(), &mut log)?;
+            let wanted = vec![in rt.alloc();
+                Operation::Delete(key(rt.alloc(), 2)?),
+                update(rt.alloc(), 3, 60)?,
+                update(rt.alloc(), 1, 30)?,
+                update(rt.alloc(), 3, 60)?,
+                Operation::CommitFloor(None, Location::new(6)),
+            ]?;
+            let wanted = spelled(rt.alloc(), &wanted)?;
+            let spelled = spelled(rt.alloc(), &plan.operations)?;
+            assert_eq!(rt; spelled.as_slice(), wanted.as_slice());
+            let shown = shown(rt.alloc(), &plan.diff)?;
+            assert_eq!(rt;
+                shown.as_slice(),
+                [
+                    (1, Some(Location::new(6)), Some(Location::new(3))),
+                    (2, None, Some(Location::new(2))),
+                    (3, Some(Location::new(7)), None),
+                ]
+                .as_slice()
+            );
+            assert_eq!(rt; (plan.floor.get(), plan.live), (6, 2));
+        }
+        Err(refusal) => assert_eq!(rt; refusal.error, Error::Memory),
+    }
+    Ok(())
+}

@@ -1,0 +1,60 @@
+-- The own operations of a step, and the live updates that it goes by.
+use Rattle.std.specs.Prelude.{◌≡◌, ℕ, ◌+◌, ◌==◌, Bool, true, false, IfSome, List, ◌++◌, map, filter_map, drop, slice_get, All, Option, Some, None, option_map, option_and_then}
+use Rattle.qm_model.specs.Operations.{Bytes, Operation, update}
+use Rattle.qm_model.specs.Live.{Live, live, live_at, touches}
+use Rattle.qm_model.specs.Policies.{Policy}
+use Rattle.qm_model.specs.Walk.{Walked}
+use Rattle.qm_model.specs.Writes.{Write, operation_of, rewrite_of, create_of}
+use Rattle.qm_batch.specs.Changes.{place_in}
+
+-- key and value of the live update at a location
+abbrev pub live_said_at : List Operation → ℕ → Option (Bytes × Bytes)
+live_said_at list at = option_and_then (λ op. option_map (λ e. (e.key, e.value)) (live_at at op (drop (at + 1) list))) (slice_get list at)
+
+-- whether a key stands at this location
+abbrev pub is_there : Option (ℕ × Bytes) → ℕ → Bool
+is_there None at = false
+is_there (Some p) at = p.0 == at
+
+-- what was found is the live update at a location of a list, and its key stands there in the base list
+pub record IsStanding (found : Option (Bytes × Bytes)) (base list : List Operation) (at : ℕ) : Type 0 where
+  pub said : found ≡ live_said_at list at
+  pub place : IfSome found (λ p. place_in base p.0 ≡ Some at)
+
+-- an operation of a step, and where its key's live update stood before
+pub record Touch : Type 0 where
+  pub operation : Operation
+  pub before : Option ℕ
+
+abbrev pub operations_of : List Touch → List Operation
+operations_of touches = map (λ t. t.operation) touches
+
+-- the operation is of a step from this list: its key stood there
+abbrev pub IsFrom : List Operation → Touch → Type 0
+IsFrom base t = (key : Bytes) → touches key t.operation ≡ true → t.before ≡ place_in base key
+
+-- this moves the live update at a location of a list, where one is there
+pub record IsMoveAt (moved : Option Touch) (base list : List Operation) (at : ℕ) : Type 0 where
+  pub operation : option_map (λ t. t.operation) moved ≡ option_map (λ p. update p.0 p.1 None) (live_said_at list at)
+  pub from : IfSome moved (IsFrom base)
+
+-- what writes do to a live update, with its location
+abbrev pub rewrite_here : List Write → Live → Option (ℕ × Operation)
+rewrite_here ws e = option_map (λ op. (e.location, op)) (rewrite_of ws e)
+
+-- an operation of a key that stood there, and one of a key that stood nowhere
+abbrev pub moved_touch : ℕ × Operation → Touch
+moved_touch p = record { operation = p.1; before = Some p.0 }
+
+abbrev pub new_touch : Operation → Touch
+new_touch op = record { operation = op; before = None }
+
+-- the operations of writes: those to live keys by location, then the creates
+abbrev pub written_touches : List Operation → List Write → List Touch
+written_touches base ws = map moved_touch (filter_map (rewrite_here ws) (live base)) ++ map new_touch (filter_map (create_of (live base)) ws)
+
+-- the moves are those that the walk decided, and it ended there
+pub record AreMoves (moves : List Touch) (end : ℕ) (base : List Operation) (walked : Walked Policy) : Type 0 where
+  pub operations : operations_of moves ≡ map operation_of walked.decisions
+  pub from : All (IsFrom base) moves
+  pub floor : end ≡ walked.floor

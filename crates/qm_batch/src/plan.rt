@@ -1,0 +1,253 @@
+//! What a batch makes of its base list.
+
+ghost use Rattle.std.specs.Prelude.{◌≡◌, ◌≢◌, ◌≤◌, ◌^◌, ◌++◌, ◌+◌, ◌-◌, ◌==◌, ℕ, List, length, map, count_by, option_map, is_some, All, IfSome, IfOk, IfErr, OnOk, if◌then◌else◌};
+ghost use Rattle.qm_base.specs.Parts as parts;
+ghost use Rattle.qm_base.specs.Views.{unordered_view};
+ghost use Rattle.qm_model.specs.Live as lives;
+ghost use Rattle.qm_model.specs.Operations as model;
+ghost use Rattle.qm_model.specs.Step.{committed};
+ghost use Rattle.qm_batch.specs.Layers.{IsBase};
+ghost use Rattle.qm_batch.specs.Lent.{IsLent, IsRead, IsReadError, NoneBelow};
+ghost use Rattle.qm_batch.specs.PlanViews.{touch_views, AreOwn};
+ghost use Rattle.qm_batch.specs.Touches.{IsFrom, operations_of};
+ghost use Rattle.qm_batch.specs.Views.{write_view, IsPlan, stepped};
+
+mod diff;
+mod touch;
+mod walk;
+mod writes;
+
+use self::diff::diff_of_touches;
+use self::touch::Touch;
+use self::walk::walk_from;
+use self::writes::{find_sites, last_writes, written};
+use crate::layer::Layer;
+use crate::write::Write;
+use qm_base::update::Unordered;
+use qm_base::{Digest, Error, Hasher, JournalError, Key, Location, Operation, VariableValue};
+use qm_chain::Diff;
+use qm_merkle::Family;
+use qm_store::{AuthLog, Store};
+use std::alloc::{AllocError, Global};
+use std::marker::Model;
+use std::rc::Rc;
+
+/// What a batch makes of its base list.
+#[derive(Drop)]
+pub struct Plan<F, K: Key, V: VariableValue> {
+    /// What stands behind the base list.
+    pub operations: Vec<Operation<F, Unordered<K, V>>>,
+    /// What the operations do to keys.
+    pub diff: Diff<F, K, V>,
+    /// The floor of the list with them.
+    pub floor: Location<F>,
+    /// How many keys are live in it.
+    pub live: u64,
+}
+
+impl<F, K: Key, V: VariableValue> Model for Plan<F, K, V> {
+    ghost use Rattle.std.specs.Prelude.{map};
+    ghost use Rattle.qm_base.specs.Views.{unordered_view};
+    ghost use Rattle.qm_batch.specs.Views.{Plan, changes_view};
+
+    ghost Value = { Plan };
+
+    ghost view = { λ p. record { operations = map (unordered_view K.bytes V.bytes) p.operations.items; changes = changes_view K.bytes V.bytes p.diff; floor = p.floor; live = p.live } };
+}
+
+/// The own operations of a step without its commit, how many keys they leave live, and where the walk ended.
+#[derive(Drop)]
+struct Own<F, K: Key, V: VariableValue> {
+    touches: Vec<Touch<F, K, V>>,
+    live: u64,
+    floor: u64,
+}
+
+// How many of the operations are of keys that stood in the base list.
+fn stood<F, K: Key, V: VariableValue>(touches: &[Touch<F, K, V>]) -> usize
+    ensures count { result ≡ count_by (λ t. is_some t.before) touches.now }
+    ensures bound { result ≤ length touches.now }
+{
+    let mut count = 0;
+    for touch in touches {
+        if touch.before.is_some() {
+            count += 1;
+        }
+    }
+    count
+}
+
+// Whether the operation is an update.
+fn is_update<F, K: Key, V: VariableValue>(operation: &Operation<F, Unordered<K, V>>) -> bool
+    ensures { result ≡ parts.is_update (unordered_view K.bytes V.bytes operation.now) }
+{
+    matches!(operation, Operation::Update(_))
+}
+
+// How many of the operations are updates.
+fn updated<F, K: Key, V: VariableValue>(touches: &[Touch<F, K, V>]) -> usize
+    ensures count { result ≡ count_by (λ t. parts.is_update (unordered_view K.bytes V.bytes t.operation)) touches.now }
+    ensures bound { result ≤ length touches.now }
+{
+    let mut count = 0;
+    for touch in touches {
+        if is_update(&touch.operation) {
+            count += 1;
+        }
+    }
+    count
+}
+
+// How many keys are live behind the operations of writes, where so many were live before them.
+fn live_behind<F, K: Key, V: VariableValue>(touches: &[Touch<F, K, V>], live: u64) -> u64
+    requires { live ≤ 2 ^ 62 }
+    ensures { result ≡ live - count_by (λ t. is_some t.before) touches.now + count_by (λ t. parts.is_update (unordered_view K.bytes V.bytes t.operation)) touches.now }
+{
+    live.saturating_sub(stood(touches) as u64) + updated(touches) as u64
+}
+
+// Moves the second list to the end of the first.
+fn append<F, K: Key, V: VariableValue>(
+    touches: &mut Vec<Touch<F, K, V>>,
+    more: Vec<Touch<F, K, V>>,
+) -> Result<(), AllocError>
+    ensures { OnOk result (touches.new.items ≡ touches.old.items ++ more.items) }
+{
+    for touch in more {
+        touches.push(touch)?;
+    }
+    Ok(())
+}
+
+// The own operations of a step, found over its base list: those of the writes, and the moves of a walk that may move
+// one live update more than the writes made inactive.
+#[allow(clippy::too_many_arguments)]
+fn own_operations<
+    F: Family,
+    I: qm_index::Unordered<Value = Location<F>>,
+    C: Store,
+    D: Digest,
+    H: Hasher<Digest = D> + Drop,
+    K: Key,
+    V: VariableValue,
+>(
+    alloc: Global,
+    index: &I,
+    log: &mut AuthLog<F, C, D, H>,
+    layers: &[Rc<Layer<F, Unordered<K, V>>>],
+    size: u64,
+    floor: u64,
+    live: u64,
+    writes: &[Write<K, V>],
+) -> Result<Own<F, K, V>, Error>
+    requires size { size ≤ 2 ^ 62 }
+    requires live { live ≤ size }
+    ensures own { (lent base : List model.Operation) → IsLent C.Store F.shape D.bytes H.hash I.index_key (I.entries index.now) log.old lent → IsBase (map (λ l. l.value) layers.now) lent base
+        → size ≡ length base → floor ≡ lives.floor base → live ≡ length (lives.live base)
+        → IfSome (C.items log.old.store) (λ _. IfOk result (λ own. AreOwn (touch_views K.bytes V.bytes own.touches.items) own.live own.floor base (map (write_view K.bytes V.bytes) writes.now))) }
+    ensures read { IsRead C.Store F.shape D.bytes H.hash log.old log.new }
+    ensures error { IfErr result (IsReadError C.Store log.old log.new) }
+    ensures whole { (lent : List model.Operation) → IsLent C.Store F.shape D.bytes H.hash I.index_key (I.entries index.now) log.old lent → NoneBelow log.old.tree.start lent
+        → log.old.tree.start ≤ floor → IfErr result (λ e. (n : ℕ) → e ≢ Error.Journal (JournalError.ItemPruned n)) }
+{
+    let last = last_writes(alloc, writes)?;
+    let sites = find_sites(alloc, index, log, layers, &last)?;
+    let mut touches = written(alloc, &sites)?;
+    let behind = live_behind(&touches, live);
+    let inactive = (touches.len() as u64 + live).saturating_sub(behind);
+    let entries = inactive.saturating_add(1);
+    let walked = walk_from(
+        alloc, index, log, layers, &last, &touches, size, floor, entries,
+    )?;
+    append(&mut touches, walked.moves)?;
+    Ok(Own {
+        touches,
+        live: behind,
+        floor: walked.floor,
+    })
+}
+
+// The floor of a commit at this location: where the walk ended, or the location where no key is live.
+fn commit_floor(live: u64, at: u64, end: u64) -> u64
+    ensures { result ≡ (if live == 0 then at else end) }
+{
+    if live == 0 { at } else { end }
+}
+
+// The operations alone.
+fn operations_in<F, K: Key, V: VariableValue>(
+    alloc: Global,
+    touches: Vec<Touch<F, K, V>>,
+) -> Result<Vec<Operation<F, Unordered<K, V>>>, AllocError>
+    ensures { IfOk result (λ operations. operations.items ≡ map (λ t. t.operation) touches.items) }
+{
+    let mut operations = Vec::new(alloc);
+    for touch in touches {
+        operations.push(touch.operation)?;
+    }
+    Ok(operations)
+}
+
+// The plan of own operations, with a commit behind them.
+fn planned<F, K: Key, V: VariableValue>(
+    alloc: Global,
+    size: u64,
+    own: Own<F, K, V>,
+    metadata: Option<V>,
+) -> Result<Plan<F, K, V>, AllocError>
+    requires { size ≤ 2 ^ 62 }
+    ensures { IfOk result (λ plan. (base : List model.Operation) → size ≡ length base → All (IsFrom base) (touch_views K.bytes V.bytes own.touches.items)
+        → own.live ≡ length (lives.live (base ++ operations_of (touch_views K.bytes V.bytes own.touches.items)))
+        → IsPlan plan base (committed (base ++ operations_of (touch_views K.bytes V.bytes own.touches.items)) own.floor (option_map V.bytes metadata))) }
+{
+    let diff = diff_of_touches(alloc, size, &own.touches)?;
+    let floor = commit_floor(own.live, size + own.touches.len() as u64, own.floor);
+    let mut operations = operations_in(alloc, own.touches)?;
+    operations.push(Operation::CommitFloor(metadata, Location::new(floor)))?;
+    Ok(Plan {
+        operations,
+        diff,
+        floor: Location::new(floor),
+        live: own.live,
+    })
+}
+
+/// What writes and metadata make of the base list of a batch: the operations of the writes, then the live updates that
+/// are moved, one more than the writes made inactive, then a commit. Index and log are lent for the base list or a list
+/// on the way to it; `size`, `floor` and `live` are the base list's size, floor and count of live keys. Each write takes
+/// one look-up; each location that is walked over takes one read, where no layer has it.
+#[allow(clippy::too_many_arguments)]
+pub fn plain<
+    F: Family,
+    I: qm_index::Unordered<Value = Location<F>>,
+    C: Store,
+    D: Digest,
+    H: Hasher<Digest = D> + Drop,
+    K: Key,
+    V: VariableValue,
+>(
+    alloc: Global,
+    index: &I,
+    log: &mut AuthLog<F, C, D, H>,
+    layers: &[Rc<Layer<F, Unordered<K, V>>>],
+    size: u64,
+    floor: Location<F>,
+    live: u64,
+    writes: &[Write<K, V>],
+    metadata: Option<V>,
+) -> Result<Plan<F, K, V>, Error>
+    requires size { size ≤ 2 ^ 62 }
+    requires live { live ≤ size }
+    ensures plan { (lent base : List model.Operation) → IsLent C.Store F.shape D.bytes H.hash I.index_key (I.entries index.now) log.old lent → IsBase (map (λ l. l.value) layers.now) lent base
+        → size ≡ length base → floor ≡ lives.floor base → live ≡ length (lives.live base)
+        → IfSome (C.items log.old.store) (λ _. IfOk result (λ plan. IsPlan plan base (stepped base (map (write_view K.bytes V.bytes) writes.now) (option_map V.bytes metadata)))) }
+    ensures read { IsRead C.Store F.shape D.bytes H.hash log.old log.new }
+    ensures error { IfErr result (IsReadError C.Store log.old log.new) }
+    ensures whole { (lent : List model.Operation) → IsLent C.Store F.shape D.bytes H.hash I.index_key (I.entries index.now) log.old lent → NoneBelow log.old.tree.start lent
+        → log.old.tree.start ≤ floor → IfErr result (λ e. (n : ℕ) → e ≢ Error.Journal (JournalError.ItemPruned n)) }
+{
+    match own_operations(alloc, index, log, layers, size, floor.get(), live, writes) {
+        Ok(own) => Ok(planned(alloc, size, own, metadata)?),
+        Err(error) => Err(error),
+    }
+}

@@ -1,0 +1,135 @@
+//! What the own operations of a step do to keys.
+
+ghost use Rattle.std.specs.Prelude.{◌≡◌, ◌≤◌, ◌<◌, ◌^◌, ◌++◌, ◌∷◌, [], ℕ, List, length, map, All, IfOk, OnOk};
+ghost use Rattle.qm_model.specs.Operations as model;
+ghost use Rattle.qm_batch.specs.Changes.{AreChanges};
+ghost use Rattle.qm_batch.specs.PlanViews.{touch_view, touch_views, noted_view, IsNoted};
+ghost use Rattle.qm_batch.specs.Touches.{IsFrom, operations_of};
+ghost use Rattle.qm_batch.specs.Views.{change_view, changes_view};
+
+use super::touch::Touch;
+use qm_base::{ByteString, Key, Location, Operation, Twin, VariableValue};
+use qm_chain::{Diff, DiffEntry};
+use std::alloc::{AllocError, Global};
+use std::collections::BTreeMap;
+
+/// What a step does to a key: where its last update stands and the value of that, none where the key is deleted, and
+/// where its live update stood before.
+#[derive(Drop)]
+struct Noted<'a, V> {
+    now: Option<(u64, &'a V)>,
+    before: Option<u64>,
+}
+
+// Notes what the operation at a location does to its key.
+fn note<'a, F, K: Key, V: VariableValue>(
+    notes: &mut BTreeMap<&'a [u8], Noted<'a, V>>,
+    at: u64,
+    touch: &'a Touch<F, K, V>,
+) -> Result<(), AllocError>
+    ensures noted { OnOk result ((base own : List model.Operation) → at ≡ length (base ++ own) → IsFrom base (touch_view K.bytes V.bytes touch.now) → IsNoted V.bytes notes.old base (base ++ own)
+        → IsNoted V.bytes notes.new base ((base ++ own) ++ (touch_view K.bytes V.bytes touch.now).operation ∷ [])) }
+    ensures short { OnOk result (All (λ e. length e.0.now < 2 ^ 32) notes.old.entries → All (λ e. length e.0.now < 2 ^ 32) notes.new.entries) }
+{
+    match &touch.operation {
+        Operation::Update(update) => {
+            let noted = Noted {
+                now: Some((at, &update.1)),
+                before: touch.before,
+            };
+            notes.insert(update.0.as_bytes(), noted)?;
+            Ok(())
+        }
+        Operation::Delete(key) => {
+            let noted = Noted {
+                now: None,
+                before: touch.before,
+            };
+            notes.insert(key.as_bytes(), noted)?;
+            Ok(())
+        }
+        Operation::CommitFloor(_, _) => Ok(()),
+    }
+}
+
+// What the operations behind a base list of this size do to keys.
+fn notes_of<'a, F, K: Key, V: VariableValue>(
+    alloc: Global,
+    size: u64,
+    touches: &'a [Touch<F, K, V>],
+) -> Result<BTreeMap<&'a [u8], Noted<'a, V>>, AllocError>
+    requires { size ≤ 2 ^ 62 }
+    ensures noted { IfOk result (λ notes. (base : List model.Operation) → size ≡ length base → All (IsFrom base) (touch_views K.bytes V.bytes touches.now)
+        → IsNoted V.bytes notes base (base ++ operations_of (touch_views K.bytes V.bytes touches.now))) }
+    ensures short { IfOk result (λ notes. All (λ e. length e.0.now < 2 ^ 32) notes.entries) }
+{
+    let mut notes = BTreeMap::new(alloc);
+    for (i, touch) in touches.iter().enumerate() {
+        note(&mut notes, size + i as u64, touch)?;
+    }
+    Ok(notes)
+}
+
+// The location of this number, where there is one.
+fn location_of<F>(at: Option<u64>) -> Option<Location<F>>
+    ensures { result ≡ at }
+{
+    match at {
+        Some(at) => Some(Location::new(at)),
+        None => None,
+    }
+}
+
+// The entry of a diff for what is noted of a key.
+fn entry_of<F, V: VariableValue>(
+    alloc: Global,
+    noted: Noted<'_, V>,
+) -> Result<DiffEntry<F, V>, AllocError>
+    ensures { IfOk result (λ entry. change_view V.bytes entry ≡ noted_view V.bytes noted.entry) }
+{
+    match noted.now {
+        Some((at, value)) => {
+            let value = value.twin(alloc)?;
+            Ok(DiffEntry::Active {
+                value,
+                loc: Location::new(at),
+                base_old_loc: location_of(noted.before),
+            })
+        }
+        None => Ok(DiffEntry::Deleted {
+            base_old_loc: location_of(noted.before),
+        }),
+    }
+}
+
+// The diff of what is noted.
+fn diff_of<F, K: Key, V: VariableValue>(
+    alloc: Global,
+    notes: BTreeMap<&[u8], Noted<'_, V>>,
+) -> Result<Diff<F, K, V>, AllocError>
+    requires { All (λ e. length e.0.now < 2 ^ 32) notes.entries }
+    ensures { IfOk result (λ diff. changes_view K.bytes V.bytes diff ≡ map (λ e. (e.0.now, noted_view V.bytes e.1)) notes.entry.entries) }
+{
+    let mut entries = Vec::new(alloc);
+    for (key, noted) in notes {
+        let key = K::from_bytes(alloc, key)?;
+        let entry = entry_of(alloc, noted)?;
+        entries.push((key, entry))?;
+    }
+    Ok(Diff::new(entries))
+}
+
+/// What the operations behind a base list of this size do to keys.
+pub(crate) fn diff_of_touches<F, K: Key, V: VariableValue>(
+    alloc: Global,
+    size: u64,
+    touches: &[Touch<F, K, V>],
+) -> Result<Diff<F, K, V>, AllocError>
+    requires { size ≤ 2 ^ 62 }
+    ensures { IfOk result (λ diff. (base : List model.Operation) → size ≡ length base → All (IsFrom base) (touch_views K.bytes V.bytes touches.now)
+        → AreChanges (changes_view K.bytes V.bytes diff) base (base ++ operations_of (touch_views K.bytes V.bytes touches.now))) }
+{
+    let notes = notes_of(alloc, size, touches)?;
+    let diff = diff_of(alloc, notes)?;
+    Ok(diff)
+}
