@@ -12,5 +12,5 @@ pub mod write;
 pub use apply::apply_diffs;
 pub use layer::Layer;
 pub use plan::{Plan, plain};
-pub use read::read_keys;
+pub use read::{read_key, read_keys};
 pub use write::Write;

@@ -55,8 +55,8 @@ pub fn read_keys<
     Ok(found)
 }
 
-// A key's live update in the base list with its location.
-fn read_key<
+/// A key's live update in the base list with its location, as `read_keys` finds it.
+pub fn read_key<
     F: Family,
     I: qm_index::Unordered<Value = Location<F>>,
     C: Store,

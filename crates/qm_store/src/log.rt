@@ -181,9 +181,51 @@ impl<F: Family, C: Store, D: Digest, H: Hasher<Digest = D> + Drop> AuthLog<F, C,
         ensures history { (list : List (List ℕ)) → IsLog C.Store F.shape D.bytes H.hash self.old list
             → IfOk result (λ b. IsHistory F.shape D.bytes H.hash (all_layers b) (digests_from H.hash F.shape 0 (list ++ map (λ v. v.items) items.now) ∷ digests_from H.hash F.shape 0 list ∷ [])) }
         ensures leaves { IfOk result (λ b. b.newest.tree.leaves ≡ self.old.tree.leaves + length items.now) }
+        ensures start { IfOk result (λ b. b.newest.tree.start ≡ self.old.tree.leaves) }
+        ensures older { IfOk result (λ b. b.older ≡ []) }
         ensures same { self.new ≡ self.old }
     {
         grown_by_items(alloc, &self.tree, &mut self.hasher, items)
+    }
+
+    /// The tree as these items leave it, behind the list of a batch on this tree. Only their leaves, and the nodes over
+    /// these, are hashed.
+    pub fn tree_behind(
+        &mut self,
+        alloc: Global,
+        batch: &MerkleizedBatch<F, D>,
+        items: &[Vec<u8>],
+    ) -> Result<MerkleizedBatch<F, D>, AllocError>
+        requires room { batch.now.newest.tree.leaves + length items.now ≤ 2 ^ 62 }
+        requires reach { Contains (stops batch.now.newest.tree.leaves (all_layers batch.now)) self.old.tree.leaves }
+        ensures history { (list base : List (List ℕ)) (lists : List (List (List ℕ))) → IsLog C.Store F.shape D.bytes H.hash self.old list
+            → IsHistory F.shape D.bytes H.hash (all_layers batch.now) (digests_from H.hash F.shape 0 base ∷ lists) → Contains (digests_from H.hash F.shape 0 base ∷ lists) (digests_from H.hash F.shape 0 list)
+            → IfOk result (λ b. IsHistory F.shape D.bytes H.hash (all_layers b) (digests_from H.hash F.shape 0 (base ++ map (λ v. v.items) items.now) ∷ digests_from H.hash F.shape 0 base ∷ lists)) }
+        ensures leaves { IfOk result (λ b. b.newest.tree.leaves ≡ batch.now.newest.tree.leaves + length items.now) }
+        ensures start { IfOk result (λ b. b.newest.tree.start ≡ batch.now.newest.tree.leaves) }
+        ensures older { IfOk result (λ b. b.older ≡ all_layers batch.now) }
+        ensures same { self.new ≡ self.old }
+    {
+        let size = batch.leaves().get();
+        let digests = item_digests::<F, D, H>(alloc, &mut self.hasher, size, items)?;
+        let mut grown = batch.new_batch(alloc)?;
+        grown.add_leaf_digests(&digests)?;
+        grown.merkleize(alloc, &self.tree, &mut self.hasher)
+    }
+
+    /// The root of the tree as a batch leaves it, the first of whose peaks are inactive.
+    pub fn speculative_root(
+        &mut self,
+        alloc: Global,
+        batch: &MerkleizedBatch<F, D>,
+        inactive: usize,
+    ) -> Result<D, AllocError>
+        requires { inactive ≤ length (trees.peaks F.shape batch.now.newest.tree.leaves) }
+        ensures value { (new : List (List ℕ)) (lists : List (List (List ℕ))) → IsHistory F.shape D.bytes H.hash (all_layers batch.now) (new ∷ lists)
+            → IfOk result (λ d. D.bytes d ≡ trees.root H.hash F.shape new inactive) }
+        ensures same { self.new ≡ self.old }
+    {
+        batch.root(alloc, &mut self.hasher, inactive)
     }
 
     /// The root that the tree would have with the leaves of these items behind its own, the first of whose peaks are inactive.
