@@ -1,10 +1,6 @@
-pub mod Marks
-pub mod ListSteps
-pub mod ListWalks
-pub mod ListWrites
-pub mod LogSteps
-pub mod Writes
-pub mod Proving
-pub mod Fresh
-pub mod Ancestors
+pub mod Unapplied
+pub mod Known
 pub mod Making
+pub mod Databases
+pub mod Proving
+pub mod Telling

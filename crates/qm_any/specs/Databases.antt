@@ -1,92 +1,172 @@
--- Databases over a log of their operations' spellings, and their batches.
-use Rattle.std.specs.Prelude.{◌≡◌, Bool, List, [], ◌∷◌, map, Option}
-use Rattle.qm_model.specs.Operations.{Bytes, Operation, spelling}
-use Rattle.qm_model.specs.Batches.{Commitment, Kept, Chain, Begins, IsRising, commitment}
+-- Databases over an index and a log of their operations' spellings, and their batches.
+use Rattle.std.specs.Prelude.{◌≡◌, ◌≤◌, ◌^◌, ℕ, suc, ◌+◌, nat_le, if◌then◌else◌, Bool, List, [], ◌∷◌, ◌++◌, length, map, take, get_or, All, Contains, Option, IsSome, ⊤}
+use Rattle.qm_model.specs.Operations.{Bytes, Operation}
+use Rattle.qm_model.specs.Batches.{Commitment, Kept, Chain, commitment}
 use Rattle.qm_model.specs.Trees.{Shape, ops_root}
-use Rattle.qm_model.specs.Live.{floor}
+use Rattle.qm_model.specs.Live.{live, floor, last_metadata}
 use Rattle.qm_model.specs.Policies.{Policy, policies}
 use Rattle.qm_model.specs.Step.{step, unordered}
 use Rattle.qm_model.specs.Writes.{Write}
+use Rattle.qm_base.specs.Decode.{IsUnordered}
+use Rattle.qm_merkle.specs.Batches.{stops}
+use Rattle.qm_index.specs.Translated.{capped}
 use Rattle.qm_chain.specs.Bounds.{Bounds, IsBounds, is_at}
 use Rattle.qm_store.specs.declared.Store as store
-use Rattle.qm_store.specs.Log.{Log, IsLog}
+use Rattle.qm_store.specs.Log.{Log}
+use Rattle.qm_batch.specs.Layers.{Layer, LeadThrough}
+use Rattle.qm_batch.specs.Lent.{IsLent, IsRead}
+use Rattle.qm_batch.specs.Views.{Plan}
+use Rattle.qm_any.specs.KeptTrees.{KeptTree, IsKeptTree}
 
--- a database: its operation list, what stands for it, and its log
+-- a database: the locations of live keys by index key, its log, what stands for its list, and this list's floor, count
+-- of live keys and metadata
 pub record Database (C D : Type 0) : Type 0 where
-  pub list : List Operation
-  pub commitment : Commitment
+  pub entries : List (ℕ × List ℕ)
   pub log : Log C D
+  pub commitment : Commitment
+  pub floor : ℕ
+  pub live : ℕ
+  pub metadata : Option Bytes
 
--- the bounds of the database as a batch, which keeps no ancestor and does nothing
-abbrev pub at_rest : {C D : Type 0} → Database C D → Bounds
-at_rest db = record { base = db.commitment; db = db.commitment; tip = db.commitment; ancestors = []; inactivity_floor = floor db.list }
+-- a merkleized batch: its bounds, its own step and those of its kept ancestors, newest first, its tree, and the count of
+-- live keys and the metadata of the list that it makes
+pub record Made (D : Type 0) : Type 0 where
+  pub bounds : Bounds
+  pub layers : List Layer
+  pub tree : KeptTree D
+  pub live : ℕ
+  pub metadata : Option Bytes
 
--- a kept ancestor of a batch: what stands for the list that it was made from, and for the one that it makes
-pub record Ancestor : Type 0 where
-  pub base : Commitment
-  pub tip : Commitment
-
--- what stands for the boundary of a batch: the base of its oldest kept ancestor, or its own where none is kept
-abbrev pub oldest : Commitment → List Ancestor → Commitment
-oldest base [] = base
-oldest base (k ∷ ks) = oldest k.base ks
-
--- a batch: its base list, the bounds of its parent, which made that list, its kept ancestors, newest first, and its writes in order
-pub record Begun : Type 0 where
-  pub base : List Operation
-  pub parent : Bounds
-  pub kept : List Ancestor
+-- a batch: its parent, which made its base list, how many ancestors it keeps, the parent first, and its writes in order
+pub record Begun (D : Type 0) : Type 0 where
+  pub parent : Made D
+  pub keep : ℕ
   pub writes : List Write
 
+-- the bounds of a database as a batch, which keeps no ancestor and does nothing
+abbrev pub bounds_at_rest : {C D : Type 0} → Database C D → Bounds
+bounds_at_rest db = record { base = db.commitment; db = db.commitment; tip = db.commitment; ancestors = []; inactivity_floor = db.floor }
+
+-- the database as a batch
+abbrev pub at_rest : {C D : Type 0} → Database C D → Made D
+at_rest db = record {
+  bounds = bounds_at_rest db;
+  layers = record { base = db.commitment.size; operations = []; changes = [] } ∷ [];
+  tree = record { leaves = db.commitment.size; layers = [] };
+  live = db.live;
+  metadata = db.metadata;
+}
+
+-- what stands for the lists that a batch's steps lead through, newest first: its tip, its kept ancestors' tips, its boundary
+abbrev pub states : Bounds → List Commitment
+states bounds = bounds.tip ∷ (bounds.ancestors ++ bounds.db ∷ [])
+
+-- what stands for the kept ancestors' tips, and for the boundary, of a child that keeps so many ancestors
+abbrev pub child_tips : ℕ → Bounds → List Commitment
+child_tips keep parent = take keep (states parent)
+
+abbrev pub child_boundary : ℕ → Bounds → Commitment
+child_boundary keep parent = get_or (states parent) keep parent.db
+
 -- the commitment is that of the batch's boundary, or of a kept ancestor's tip
-abbrev pub is_on : Commitment → Begun → Bool
-is_on current batch = is_at current (oldest batch.parent.tip batch.kept) (map (λ k. k.tip) batch.kept)
+abbrev pub is_on : {D : Type 0} → Commitment → Begun D → Bool
+is_on current batch = is_at current (child_boundary batch.keep batch.parent.bounds) (child_tips batch.keep batch.parent.bounds)
 
--- a merkleized batch: its bounds, its kept ancestors, newest first, and its tip list
-pub record Made : Type 0 where
-  pub bounds : Bounds
-  pub kept : List Ancestor
-  pub tip : List Operation
+-- the newest of the layers, up to the one that starts where a list of this size ends
+abbrev pub unapplied : ℕ → List Layer → List Layer
+unapplied size [] = []
+unapplied size (layer ∷ layers) = if nat_le size layer.base then layer ∷ unapplied size layers else []
 
--- what a child keeps of ancestors: its parent, and these
-abbrev pub child_keeps : Made → List Ancestor → List Ancestor
-child_keeps parent older = record { base = parent.bounds.base; tip = parent.bounds.tip } ∷ older
+-- what the layers, newest first, put behind the list that the oldest of them starts from
+abbrev pub operations_in : List Layer → List Operation
+operations_in [] = []
+operations_in (layer ∷ layers) = operations_in layers ++ layer.operations
+
+-- the sizes of the lists from which the layers start
+abbrev pub bases : List Layer → List ℕ
+bases layers = map (λ l. l.base) layers
+
+-- each layer ends where the newer one starts, and the newest at this size
+abbrev pub AreJoined : ℕ → List Layer → Type 0
+AreJoined size [] = ⊤
+AreJoined size (layer ∷ layers) = (layer.base + length layer.operations ≡ size) × AreJoined layer.base layers
+
+-- the numbers of a merkleized batch agree: the first of its layers is its own, the layers start where its kept ancestors
+-- and its boundary end, and its tree goes through all of these
+pub record AreAgreed {D : Type 0} (batch : Made D) : Type 0 where
+  pub few : batch.bounds.tip.size ≤ 2 ^ 62
+  pub live : batch.live ≤ batch.bounds.tip.size
+  pub own : take 1 (bases batch.layers) ≡ batch.bounds.base.size ∷ []
+  pub starts : bases batch.layers ≡ map (λ c. c.size) (batch.bounds.ancestors ++ batch.bounds.db ∷ [])
+  pub joined : AreJoined batch.bounds.tip.size batch.layers
+  pub leaves : batch.tree.leaves ≡ batch.bounds.tip.size
+  pub reached : All (Contains (stops batch.tree.leaves batch.tree.layers)) (batch.bounds.tip.size ∷ bases batch.layers)
+
+-- the batch that a plan makes on its parent: it keeps so many ancestors, the parent first
+abbrev pub child_made : {D : Type 0} → Made D → ℕ → Plan → KeptTree D → Bytes → Option Bytes → Made D
+child_made parent keep plan tree root meta = record {
+  bounds = record {
+    base = parent.bounds.tip;
+    db = child_boundary keep parent.bounds;
+    tip = record { size = tree.leaves; root = root };
+    ancestors = child_tips keep parent.bounds;
+    inactivity_floor = plan.floor;
+  };
+  layers = record { base = parent.bounds.tip.size; operations = plan.operations; changes = plan.changes } ∷ take keep parent.layers;
+  tree = tree;
+  live = plan.live;
+  metadata = meta;
+}
 
 -- what a batch's writes make of its base list, under a policy, with this metadata
 abbrev pub stepped : List Operation → List Write → Policy → Option Bytes → List Operation
 stepped base ws policy meta = step unordered policies base ws policy meta
 
--- over a hash and a family
-module _ (hash : Bytes → Bytes) (shape : Shape) where
-  -- what stands for a list: its size and its operations root
-  abbrev pub list_commitment : List Operation → Commitment
-  list_commitment = commitment (ops_root hash shape)
+-- each kept ancestor makes the list from which the newer one starts, and the newest makes this one
+abbrev pub AreLinked : List Operation → List Kept → Type 0
+AreLinked base [] = ⊤
+AreLinked base (k ∷ ks) = (k.tip ≡ base) × AreLinked k.base ks
 
-  abbrev pub ancestor_of : Kept → Ancestor
-  ancestor_of k = record { base = list_commitment k.base; tip = list_commitment k.tip }
+-- the lists from which the steps of a batch of this chain start, newest first
+abbrev pub bases_of : Chain → List (List Operation)
+bases_of chain = chain.base ∷ map (λ k. k.base) chain.kept
 
-  -- the batch is of this chain, and its parent of that one
-  pub record IsBegun (batch : Begun) (chain above : Chain) : Type 0 where
-    pub list : batch.base ≡ chain.base
-    pub bounds : IsBounds (ops_root hash shape) batch.parent above chain.base
-    pub kept : batch.kept ≡ map ancestor_of chain.kept
-    pub rising : IsRising chain
+-- what a child keeps of a chain that makes this list: so many ancestors, of which the parent is the first
+abbrev pub kept_by : ℕ → Chain → List Operation → List Kept
+kept_by keep parent tip = take keep (record { base = parent.base; tip = tip } ∷ parent.kept)
 
+-- what stands for a list: its size and its operations root
+abbrev pub list_commitment : (Bytes → Bytes) → Shape → List Operation → Commitment
+list_commitment hash shape list = commitment (ops_root hash shape) list
+
+module _ {D : Type 0} (bytes : D → Bytes) (hash : Bytes → Bytes) (shape : Shape) where
   -- the batch is of this chain, and makes this list
-  pub record IsMade (batch : Made) (chain : Chain) (tip : List Operation) : Type 0 where
+  pub record IsMade (batch : Made D) (chain : Chain) (tip : List Operation) : Type 0 where
     pub bounds : IsBounds (ops_root hash shape) batch.bounds chain tip
     pub lowest : batch.bounds.inactivity_floor ≡ floor tip
-    pub kept : batch.kept ≡ map ancestor_of chain.kept
-    pub list : batch.tip ≡ tip
-    pub rising : IsRising chain
-    pub begins : Begins chain.base tip
+    pub live : batch.live ≡ length (live tip)
+    pub metadata : batch.metadata ≡ last_metadata tip
+    pub linked : AreLinked chain.base chain.kept
+    pub steps : LeadThrough batch.layers tip (bases_of chain)
+    pub tree : IsKeptTree bytes hash shape batch.tree tip (bases_of chain)
+    pub unordered : All IsUnordered tip
 
--- the log stands for the list's spellings
-abbrev pub IsListLog : {C D : Type 0} → store.Ghosts C → Shape → (D → Bytes) → (Bytes → Bytes) → Log C D → List Operation → Type 0
-IsListLog members shape bytes hash log list = IsLog members shape bytes hash log (map spelling list)
+  -- the batch is of this chain, and its parent of that one
+  pub record IsBegun (batch : Begun D) (chain above : Chain) : Type 0 where
+    pub parent : IsMade batch.parent above chain.base
+    pub kept : chain.kept ≡ kept_by batch.keep above chain.base
 
--- the database stands for this list
-pub record IsDatabase {C D : Type 0} (members : store.Ghosts C) (shape : Shape) (bytes : D → Bytes) (hash : Bytes → Bytes) (db : Database C D) (list : List Operation) : Type 0 where
-  pub same : db.list ≡ list
-  pub commitment : db.commitment ≡ list_commitment hash shape list
-  pub log : IsListLog members shape bytes hash db.log list
+module _ {C D : Type 0} (members : store.Ghosts C) (bytes : D → Bytes) (hash : Bytes → Bytes) (shape : Shape) where
+  -- the database stands for this list, and its store tells its items
+  pub record IsDatabase (db : Database C D) (list : List Operation) : Type 0 where
+    pub told : IsSome (members.items db.log.store)
+    pub lent : IsLent members shape bytes hash (capped 4) db.entries db.log list
+    pub commitment : db.commitment ≡ list_commitment hash shape list
+    pub floor : db.floor ≡ floor list
+    pub live : db.live ≡ length (live list)
+    pub metadata : db.metadata ≡ last_metadata list
+
+  -- reads left the database as it was, but for its store's count of faults, which did not fall
+  pub record IsLeft (old new : Database C D) : Type 0 where
+    pub rest : new ≡ record old { log = new.log }
+    pub read : IsRead members shape bytes hash old.log new.log

@@ -1,7 +1,6 @@
 pub mod Given
-pub mod ListViews
-pub mod Marks
+pub mod KeptTrees
 pub mod Databases
 pub mod Tips
 pub mod Refusals
-pub mod Ancestors
+pub mod Views

@@ -1,105 +1,114 @@
 //! Batches: writes that are recorded, and the list that they make.
 
-ghost use Rattle.std.specs.Prelude.{◌≡◌, ◌≢◌, ◌⊎◌, ◌≤◌, ◌+◌, ◌^◌, ◌++◌, ◌∷◌, ℕ, [], List, true, false, length, map, take, drop, option_map, All, IfOk, IfErr, OnOk};
-ghost use Rattle.qm_model.specs.Batches.{Chain, IsKnown, IsOnChain};
+ghost use Rattle.std.specs.Prelude.{◌≡◌, ◌≢◌, ◌⊎◌, ◌≤◌, ◌+◌, ◌^◌, ◌++◌, ◌∷◌, ℕ, suc, min, [], List, None, true, false, length, map, take, drop, option_map, Contains, IfOk, IfErr, OnOk};
+ghost use Rattle.qm_model.specs.Batches.{Chain, IsKnown, IsOnChain, own_operations};
+ghost use Rattle.qm_model.specs.Causes.{Rose};
 ghost use Rattle.qm_model.specs.Live as lives;
 ghost use Rattle.qm_model.specs.Operations.{Operation, spelling};
+ghost use Rattle.qm_model.specs.Policies.{proportional};
 ghost use Rattle.qm_model.specs.Proofs.{ops_proof, pins_at};
+ghost use Rattle.qm_model.specs.Refusals.{too_long};
 ghost use Rattle.qm_model.specs.Writes.{read_through};
+ghost use Rattle.qm_merkle.specs.Batches.{stops};
 ghost use Rattle.qm_merkle.specs.Proofs.{proof_view};
 ghost use Rattle.qm_chain.specs.Bounds.{commitment_view, is_at, knows};
-ghost use Rattle.qm_any.specs.Ancestors.{ancestor_view};
-ghost use Rattle.qm_any.specs.Databases.{IsDatabase, IsBegun, IsMade, child_keeps, is_on, oldest, stepped};
-ghost use Rattle.qm_any.specs.ListViews.{entry_views, policy_view};
+ghost use Rattle.qm_batch.specs.Layers.{IsBase};
+ghost use Rattle.qm_batch.specs.Lent.{IsReadError};
+ghost use Rattle.qm_batch.specs.Views.{changes_view, IsPlan};
+ghost use Rattle.qm_any.specs.Databases.{IsDatabase, IsBegun, IsMade, IsLeft, bases, child_boundary, child_made, child_tips, is_on, kept_by, operations_in, stepped, unapplied};
 ghost use Rattle.qm_any.specs.Tips.{IsTaken, IsRefused};
+ghost use Rattle.qm_any.specs.Views.{entry_views, policy_view, write_views};
 
 use crate::db::Db;
-use crate::lists::{Entry, Write, floor, spell_from, twin_option, value_of};
+use crate::operations::{
+    Entry, Step, diffs_of, refuse, spelled, spelled_steps, twin_option, unapplied_of,
+};
 use crate::policy::Proportional;
 use qm_base::update::{Unordered, Update};
 use qm_base::{
-    Commitment, Digest, Error, Hasher, Key, Location, MerkleError, Twin, VariableValue, operation,
+    Commitment, Digest, Error, Hasher, JournalError, Key, Location, MerkleError, VariableValue,
 };
-use qm_chain::Bounds;
+use qm_batch::{Layer, Plan, Write};
+use qm_chain::{Bounds, Diff, validate_batch_applicable};
 use qm_merkle::{Family, Proof};
 use qm_store::Store;
 use std::alloc::{AllocError, Global};
 use std::marker::Model;
 use std::rc::Rc;
 
-mod ancestors;
-mod making;
-mod reading;
+mod tree;
 
-use ancestors::{Ancestor, keeping, oldest_of, tips_where_on};
-use making::made_on;
-pub(crate) use reading::values_of;
-use reading::{read, read_all};
+pub(crate) use tree::KeptTree;
 
 /// A batch: writes that are recorded on a list, which is a database's or a merkleized batch's.
 #[derive(Drop)]
-pub struct UnmerkleizedBatch<F, D: Digest, U: Update> {
-    base: Rc<Vec<operation::Operation<F, U>>>,
-    parent: Bounds<F, D>,
-    kept: Vec<Ancestor<D>>,
+pub struct UnmerkleizedBatch<F: Family, D: Digest, U: Update> {
+    parent: Rc<MerkleizedBatch<F, D, U>>,
+    keep: usize,
     writes: Vec<Write<U::Key, U::Value>>,
 }
 
-impl<F, D: Digest, U: Update> Model for UnmerkleizedBatch<F, D, U> {
-    ghost use Rattle.std.specs.Prelude.{◌≡◌, ◌≤◌, ◌^◌, length, map, All};
-    ghost use Rattle.qm_base.specs.Views.{operation_views};
+impl<F: Family, D: Digest, U: Update> Model for UnmerkleizedBatch<F, D, U> {
+    ghost use Rattle.std.specs.Prelude.{◌≤◌, suc, length, map};
+    ghost use Rattle.qm_batch.specs.Views.{write_view};
     ghost use Rattle.qm_any.specs.Databases.{Begun};
-    ghost use Rattle.qm_any.specs.Ancestors.{ancestor_view};
-    ghost use Rattle.qm_any.specs.ListViews.{write_views};
 
-    ghost Value = { Begun };
+    ghost Value = { Begun D };
 
-    ghost view = { λ b. record { base = operation_views U.view U.Key.bytes U.Value.bytes b.base.value.items; parent = b.parent; kept = map (ancestor_view D.bytes) b.kept.items; writes = write_views U.Key.bytes U.Value.bytes b.writes.items } };
+    ghost view = { λ b. record { parent = b.parent.value; keep = b.keep; writes = map (write_view U.Key.bytes U.Value.bytes) b.writes.items } };
 
-    ghost invariant = { λ b. (b.parent.tip.size ≡ length b.base.value.items) × (length b.base.value.items ≤ 2 ^ 62)
-        × All (λ k. (k.base.size ≤ length b.base.value.items) × (k.tip.size ≤ length b.base.value.items)) b.kept.items };
+    ghost invariant = { λ b. b.keep ≤ suc (length b.parent.value.bounds.ancestors) };
 }
 
-/// A merkleized batch: the list that its writes make, and the states of a database that it knows.
+/// A merkleized batch: the step that its writes make, those of the ancestors that it keeps, and the states of a database
+/// that it knows.
 #[derive(Drop)]
-pub struct MerkleizedBatch<F, D: Digest, U: Update> {
+pub struct MerkleizedBatch<F: Family, D: Digest, U: Update> {
     bounds: Bounds<F, D>,
-    kept: Vec<Ancestor<D>>,
-    tip: Rc<Vec<operation::Operation<F, U>>>,
+    steps: Vec<Rc<Layer<F, U>>>,
+    tree: KeptTree<F, D>,
+    live: u64,
+    metadata: Option<U::Value>,
 }
 
-impl<F, D: Digest, U: Update> Model for MerkleizedBatch<F, D, U> {
-    ghost use Rattle.std.specs.Prelude.{◌≡◌, ◌≤◌, ◌^◌, length, map, All};
-    ghost use Rattle.qm_base.specs.Views.{operation_views};
-    ghost use Rattle.qm_any.specs.Databases.{Made};
-    ghost use Rattle.qm_any.specs.Ancestors.{ancestor_view};
+impl<F: Family, D: Digest, U: Update> Model for MerkleizedBatch<F, D, U> {
+    ghost use Rattle.std.specs.Prelude.{map, option_map};
+    ghost use Rattle.qm_any.specs.Databases.{Made, AreAgreed};
 
-    ghost Value = { Made };
+    ghost Value = { Made D };
 
-    ghost view = { λ b. record { bounds = b.bounds; kept = map (ancestor_view D.bytes) b.kept.items; tip = operation_views U.view U.Key.bytes U.Value.bytes b.tip.value.items } };
+    ghost view = { λ b. record { bounds = b.bounds; layers = map (λ l. l.value) b.steps.items; tree = b.tree; live = b.live; metadata = option_map U.Value.bytes b.metadata } };
 
-    ghost invariant = { λ b. (b.bounds.base.size ≤ length b.tip.value.items) × (b.bounds.tip.size ≡ length b.tip.value.items) × (length b.tip.value.items ≤ 2 ^ 62)
-        × (b.bounds.db.size ≤ length b.tip.value.items) × All (λ c. c.size ≤ length b.tip.value.items) b.bounds.ancestors
-        × All (λ k. (k.base.size ≤ length b.tip.value.items) × (k.tip.size ≤ length b.tip.value.items)) b.kept.items };
+    ghost invariant = { λ b. AreAgreed {D = D} (record { bounds = b.bounds; layers = map (λ l. l.value) b.steps.items; tree = b.tree; live = b.live; metadata = option_map U.Value.bytes b.metadata }) };
+}
+
+/// What a database lacks of a batch's list.
+#[derive(Drop)]
+pub(crate) struct Lacking<F, D, K: Key, V: VariableValue> {
+    /// The spellings of the operations that it lacks.
+    pub(crate) items: Vec<Vec<u8>>,
+    /// What these do to keys, by steps, newest first.
+    pub(crate) diffs: Vec<Rc<Diff<F, K, V>>>,
+    /// What stands for the list.
+    pub(crate) tip: Commitment<D>,
+    pub(crate) floor: Location<F>,
+    pub(crate) live: u64,
+    pub(crate) metadata: Option<V>,
 }
 
 impl<F: Family, D: Digest, K: Key, V: VariableValue> UnmerkleizedBatch<F, D, Unordered<K, V>> {
-    // A batch on the list of a merkleized batch or of a database, with no writes yet.
+    // A batch on the list of a merkleized one, with no writes yet, that keeps so many ancestors, the parent first.
     pub(crate) fn begun(
         alloc: Global,
-        base: Rc<Vec<Entry<F, K, V>>>,
-        parent: Bounds<F, D>,
-        kept: Vec<Ancestor<D>>,
+        parent: Rc<MerkleizedBatch<F, D, Unordered<K, V>>>,
+        keep: usize,
     ) -> Self
-        requires size { parent.tip.size ≡ length base.value.items }
-        requires few { length base.value.items ≤ 2 ^ 62 }
-        requires kept { All (λ k. (k.base.size ≤ length base.value.items) × (k.tip.size ≤ length base.value.items)) kept.items }
-        ensures { result ≡ record { base = entry_views K.bytes V.bytes base.value.items; parent = parent; kept = map (ancestor_view D.bytes) kept.items; writes = [] } }
+        requires { keep ≤ suc (length parent.value.bounds.ancestors) }
+        ensures { result ≡ record { parent = parent.value; keep = keep; writes = [] } }
     {
         UnmerkleizedBatch {
-            base,
             parent,
-            kept,
+            keep,
             writes: Vec::new(alloc),
         }
     }
@@ -116,20 +125,23 @@ impl<F: Family, D: Digest, K: Key, V: VariableValue> UnmerkleizedBatch<F, D, Uno
 
     /// The value of a key as the batch has it: that of its last write or, where it has none, the one on its base list. It
     /// is read where the database is at a state that the batch's parent knows; the parent of a batch that was begun on a
-    /// database is that database as it was.
+    /// database is that database as it was. A key that no kept step touches takes one read of the log for each location
+    /// in its bucket, at most.
     pub fn get<C: Store, H: Hasher<Digest = D> + Drop>(
         &self,
         alloc: Global,
         key: &K,
         db: &mut Db<F, C, D, H, Unordered<K, V>>,
     ) -> Result<Option<V>, Error>
-        ensures value { IfOk result (λ v. option_map V.bytes v ≡ read_through self.now.base self.now.writes (K.bytes key.now)) }
-        ensures readable { OnOk result (knows self.now.parent db.old.commitment ≡ true) }
-        ensures stale { IfErr result (λ e. (e ≡ Error.Memory) ⊎ ((e ≡ Error.StaleRead) × (knows self.now.parent db.old.commitment ≡ false))) }
-        ensures same { db.new ≡ db.old }
+        ensures value { (list : List Operation) (chain above : Chain) → IsDatabase C.Store D.bytes H.hash F.shape db.old list → IsBegun D.bytes H.hash F.shape self.now chain above → IsKnown list above chain.base
+            → IfOk result (λ v. option_map V.bytes v ≡ read_through chain.base self.now.writes (K.bytes key.now)) }
+        ensures readable { OnOk result (knows self.now.parent.bounds db.old.commitment ≡ true) }
+        ensures error { IfErr result (λ e. ((e ≡ Error.StaleRead) × (knows self.now.parent.bounds db.old.commitment ≡ false))
+            ⊎ ((e ≡ Error.Memory) ⊎ ((knows self.now.parent.bounds db.old.commitment ≡ true) × IsReadError C.Store db.old.log db.new.log e))) }
+        ensures left { IsLeft C.Store D.bytes H.hash F.shape db.old db.new }
     {
-        self.parent.compatible(db.commitment())?;
-        Ok(twin_option(alloc, read(&self.base, &self.writes, key))?)
+        self.parent.bounds.compatible(db.commitment())?;
+        db.read_one(alloc, &self.parent.steps, &self.writes, key)
     }
 
     /// The values of keys, in their order, as `get` reads them.
@@ -139,20 +151,22 @@ impl<F: Family, D: Digest, K: Key, V: VariableValue> UnmerkleizedBatch<F, D, Uno
         keys: &[K],
         db: &mut Db<F, C, D, H, Unordered<K, V>>,
     ) -> Result<Vec<Option<V>>, Error>
-        ensures values { IfOk result (λ v. map (option_map V.bytes) v.items ≡ map (λ k. read_through self.now.base self.now.writes (K.bytes k)) keys.now) }
-        ensures readable { OnOk result (knows self.now.parent db.old.commitment ≡ true) }
-        ensures stale { IfErr result (λ e. (e ≡ Error.Memory) ⊎ ((e ≡ Error.StaleRead) × (knows self.now.parent db.old.commitment ≡ false))) }
-        ensures same { db.new ≡ db.old }
+        ensures values { (list : List Operation) (chain above : Chain) → IsDatabase C.Store D.bytes H.hash F.shape db.old list → IsBegun D.bytes H.hash F.shape self.now chain above → IsKnown list above chain.base
+            → IfOk result (λ v. map (option_map V.bytes) v.items ≡ map (λ k. read_through chain.base self.now.writes (K.bytes k)) keys.now) }
+        ensures readable { OnOk result (knows self.now.parent.bounds db.old.commitment ≡ true) }
+        ensures error { IfErr result (λ e. ((e ≡ Error.StaleRead) × (knows self.now.parent.bounds db.old.commitment ≡ false))
+            ⊎ ((e ≡ Error.Memory) ⊎ ((knows self.now.parent.bounds db.old.commitment ≡ true) × IsReadError C.Store db.old.log db.new.log e))) }
+        ensures left { IsLeft C.Store D.bytes H.hash F.shape db.old db.new }
     {
-        self.parent.compatible(db.commitment())?;
-        let values = read_all(alloc, &self.base, &self.writes, keys)?;
-        Ok(values)
+        self.parent.bounds.compatible(db.commitment())?;
+        db.read_all(alloc, &self.parent.steps, &self.writes, keys)
     }
 
     /// Makes the list of the batch: its writes on its base list, then what the policy moves, then a commit with the
     /// metadata. The database is at the batch's boundary or at a kept ancestor's tip, else the batch is refused as stale;
     /// then come the first spelling of more than 65,536 bytes, and a list of more than 2^62 operations. The batch is gone
-    /// also where this is refused.
+    /// also where this is refused. k writes take k look-ups and k log k comparisons; each location that is walked over
+    /// takes one read of the log, where no kept step has it; only the own operations are hashed.
     pub fn merkleize<C: Store, H: Hasher<Digest = D> + Drop>(
         self,
         alloc: Global,
@@ -161,30 +175,27 @@ impl<F: Family, D: Digest, K: Key, V: VariableValue> UnmerkleizedBatch<F, D, Uno
         policy: &mut Proportional,
     ) -> Result<Rc<MerkleizedBatch<F, D, Unordered<K, V>>>, Error>
         ensures fits { OnOk result (is_on db.old.commitment self ≡ true) }
-        ensures made { (list : List Operation) (chain above : Chain) → IsDatabase C.Store F.shape D.bytes H.hash db.old list → IsBegun H.hash F.shape self chain above → IsOnChain list chain
-            → IfOk result (λ b. IsMade H.hash F.shape b.value chain (stepped chain.base self.writes (policy_view policy.old) (option_map V.bytes metadata))) }
-        ensures taken { OnOk result (IsTaken self.base (stepped self.base self.writes (policy_view policy.old) (option_map V.bytes metadata))) }
-        ensures refused { IfErr result (λ e. IsRefused self.base (stepped self.base self.writes (policy_view policy.old) (option_map V.bytes metadata)) e) }
+        ensures made { (list : List Operation) (chain above : Chain) → IsDatabase C.Store D.bytes H.hash F.shape db.old list → IsBegun D.bytes H.hash F.shape self chain above → IsOnChain list chain
+            → IfOk result (λ b. IsMade D.bytes H.hash F.shape b.value chain (stepped chain.base self.writes (policy_view policy.old) (option_map V.bytes metadata))) }
+        ensures taken { (list : List Operation) (chain above : Chain) → IsDatabase C.Store D.bytes H.hash F.shape db.old list → IsBegun D.bytes H.hash F.shape self chain above → IsOnChain list chain
+            → OnOk result (IsTaken chain.base (stepped chain.base self.writes (policy_view policy.old) (option_map V.bytes metadata))) }
+        ensures refused { (list : List Operation) (chain above : Chain) → IsDatabase C.Store D.bytes H.hash F.shape db.old list → IsBegun D.bytes H.hash F.shape self chain above → IsOnChain list chain
+            → IfErr result (λ e. IsRefused chain.base (stepped chain.base self.writes (policy_view policy.old) (option_map V.bytes metadata)) e ⊎ IsReadError C.Store db.old.log db.new.log e) }
         ensures stale { IfErr result (λ e. e ≡ Error.StaleBatch → is_on db.old.commitment self ≡ false) }
         ensures order { IfErr result (λ e. e ≢ Error.Memory → e ≢ Error.StaleBatch → is_on db.old.commitment self ≡ true) }
-        ensures same { db.new ≡ db.old }
+        ensures cause { IfErr result (λ e. e ≡ Error.Journal JournalError.Store → Rose (C.faults db.old.log.store) (C.faults db.new.log.store)) }
+        ensures left { IsLeft C.Store D.bytes H.hash F.shape db.old db.new }
     {
         let UnmerkleizedBatch {
-            base,
             parent,
-            kept,
+            keep,
             writes,
         } = self;
-        let state = state_after(&parent);
-        match tips_where_on(alloc, db.commitment(), &state, &kept) {
-            Ok(tips) => match made_on(alloc, db, &base, writes, policy, metadata) {
-                Ok((tip, made)) => match sealed(alloc, state, tips, kept, tip, made) {
-                    Ok(batch) => Ok(batch),
-                    Err(_) => Err(Error::Memory),
-                },
-                Err(error) => Err(error),
-            },
+        let tips = parent.child_tips(alloc, keep)?;
+        let boundary = parent.child_boundary(keep);
+        match validate_batch_applicable(db.commitment(), &boundary, &tips) {
             Err(error) => Err(error),
+            Ok(()) => made_on(alloc, db, &parent, keep, boundary, tips, &writes, metadata),
         }
     }
 }
@@ -207,37 +218,45 @@ impl<F: Family, D: Digest, K: Key, V: VariableValue> MerkleizedBatch<F, D, Unord
     /// Where the batch's own operations begin, and these.
     pub fn operations(&self) -> (Location<F>, &[Entry<F, K, V>])
         ensures base { result.0 ≡ self.now.bounds.base.size }
-        ensures own { entry_views K.bytes V.bytes result.1.now ≡ drop self.now.bounds.base.size self.now.tip }
+        ensures own { (chain : Chain) (tip : List Operation) → IsMade D.bytes H.hash F.shape self.now chain tip → entry_views K.bytes V.bytes result.1.now ≡ own_operations chain tip }
         ensures count { result.0 + length result.1.now ≡ self.now.bounds.tip.size }
     {
-        let (_, own) = self.tip.split_at(self.bounds.base.size as usize);
-        (Location::new(self.bounds.base.size), own)
+        (
+            Location::new(self.bounds.base.size),
+            self.steps[0].operations(),
+        )
+    }
+
+    /// What the steps of the batch and of its kept ancestors do to keys, the batch's own first.
+    pub fn diffs(&self, alloc: Global) -> Result<Vec<Rc<Diff<F, K, V>>>, AllocError>
+        ensures { IfOk result (λ diffs. map (λ d. changes_view K.bytes V.bytes d.value) diffs.items ≡ map (λ l. l.changes) self.now.layers) }
+    {
+        diffs_of(alloc, &self.steps)
     }
 
     /// Begins a batch on the list that this one makes. It keeps this one and all that this one keeps: it can be applied
     /// after them, or in one step with those that are not applied yet.
     pub fn new_batch(
-        &self,
+        batch: &Rc<Self>,
         alloc: Global,
     ) -> Result<UnmerkleizedBatch<F, D, Unordered<K, V>>, AllocError>
-        ensures { IfOk result (λ b. b ≡ record { base = self.now.tip; parent = self.now.bounds; kept = child_keeps self.now self.now.kept; writes = [] }) }
+        ensures { IfOk result (λ b. b ≡ record { parent = batch.now.value; keep = suc (length batch.now.value.bounds.ancestors); writes = [] }) }
     {
-        self.new_batch_keeping(alloc, self.kept.len())
+        Self::new_batch_keeping(batch, alloc, batch.bounds.ancestors.len())
     }
 
     /// Begins a batch on the list that this one makes, which keeps this one and the first `n` that this one keeps, newest
     /// first, or all where there are fewer.
     pub fn new_batch_keeping(
-        &self,
+        batch: &Rc<Self>,
         alloc: Global,
         n: usize,
     ) -> Result<UnmerkleizedBatch<F, D, Unordered<K, V>>, AllocError>
-        ensures { IfOk result (λ b. b ≡ record { base = self.now.tip; parent = self.now.bounds; kept = child_keeps self.now (take n self.now.kept); writes = [] }) }
+        ensures { IfOk result (λ b. b ≡ record { parent = batch.now.value; keep = suc (min n (length batch.now.value.bounds.ancestors)); writes = [] }) }
     {
-        let base = self.list()?;
-        let kept = self.kept_by_child(alloc, n)?;
-        let parent = self.bounds().twin(alloc)?;
-        Ok(UnmerkleizedBatch::begun(alloc, base, parent, kept))
+        let keep = n.min(batch.bounds.ancestors.len()) + 1;
+        let parent = batch.clone()?;
+        Ok(UnmerkleizedBatch::begun(alloc, parent, keep))
     }
 
     /// The value of a key on the list that the batch makes. It is read where the database is at a state that the batch
@@ -248,13 +267,15 @@ impl<F: Family, D: Digest, K: Key, V: VariableValue> MerkleizedBatch<F, D, Unord
         key: &K,
         db: &mut Db<F, C, D, H, Unordered<K, V>>,
     ) -> Result<Option<V>, Error>
-        ensures value { IfOk result (λ v. option_map V.bytes v ≡ lives.value_of self.now.tip (K.bytes key.now)) }
+        ensures value { (list : List Operation) (chain : Chain) (tip : List Operation) → IsDatabase C.Store D.bytes H.hash F.shape db.old list → IsMade D.bytes H.hash F.shape self.now chain tip → IsKnown list chain tip
+            → IfOk result (λ v. option_map V.bytes v ≡ lives.value_of tip (K.bytes key.now)) }
         ensures readable { OnOk result (knows self.now.bounds db.old.commitment ≡ true) }
-        ensures stale { IfErr result (λ e. (e ≡ Error.Memory) ⊎ ((e ≡ Error.StaleRead) × (knows self.now.bounds db.old.commitment ≡ false))) }
-        ensures same { db.new ≡ db.old }
+        ensures error { IfErr result (λ e. ((e ≡ Error.StaleRead) × (knows self.now.bounds db.old.commitment ≡ false))
+            ⊎ ((e ≡ Error.Memory) ⊎ ((knows self.now.bounds db.old.commitment ≡ true) × IsReadError C.Store db.old.log db.new.log e))) }
+        ensures left { IsLeft C.Store D.bytes H.hash F.shape db.old db.new }
     {
         self.bounds.compatible(db.commitment())?;
-        Ok(twin_option(alloc, value_of(&self.tip, key))?)
+        db.read_one(alloc, &self.steps, &Vec::new(alloc), key)
     }
 
     /// The values of keys, in their order, as `get` reads them.
@@ -264,14 +285,15 @@ impl<F: Family, D: Digest, K: Key, V: VariableValue> MerkleizedBatch<F, D, Unord
         keys: &[K],
         db: &mut Db<F, C, D, H, Unordered<K, V>>,
     ) -> Result<Vec<Option<V>>, Error>
-        ensures values { IfOk result (λ v. map (option_map V.bytes) v.items ≡ map (λ k. lives.value_of self.now.tip (K.bytes k)) keys.now) }
+        ensures values { (list : List Operation) (chain : Chain) (tip : List Operation) → IsDatabase C.Store D.bytes H.hash F.shape db.old list → IsMade D.bytes H.hash F.shape self.now chain tip → IsKnown list chain tip
+            → IfOk result (λ v. map (option_map V.bytes) v.items ≡ map (λ k. lives.value_of tip (K.bytes k)) keys.now) }
         ensures readable { OnOk result (knows self.now.bounds db.old.commitment ≡ true) }
-        ensures stale { IfErr result (λ e. (e ≡ Error.Memory) ⊎ ((e ≡ Error.StaleRead) × (knows self.now.bounds db.old.commitment ≡ false))) }
-        ensures same { db.new ≡ db.old }
+        ensures error { IfErr result (λ e. ((e ≡ Error.StaleRead) × (knows self.now.bounds db.old.commitment ≡ false))
+            ⊎ ((e ≡ Error.Memory) ⊎ ((knows self.now.bounds db.old.commitment ≡ true) × IsReadError C.Store db.old.log db.new.log e))) }
+        ensures left { IsLeft C.Store D.bytes H.hash F.shape db.old db.new }
     {
         self.bounds.compatible(db.commitment())?;
-        let values = values_of(alloc, &self.tip, keys)?;
-        Ok(values)
+        db.read_all(alloc, &self.steps, &Vec::new(alloc), keys)
     }
 
     /// The proof of the batch's own operations in the list that it makes. It verifies against the batch's root.
@@ -280,20 +302,18 @@ impl<F: Family, D: Digest, K: Key, V: VariableValue> MerkleizedBatch<F, D, Unord
         alloc: Global,
         db: &mut Db<F, C, D, H, Unordered<K, V>>,
     ) -> Result<Proof<D>, Error>
-        ensures proof { (list : List Operation) (chain : Chain) (tip : List Operation) → IsDatabase C.Store F.shape D.bytes H.hash db.old list → IsMade H.hash F.shape self.now chain tip → IsKnown list chain tip
+        ensures proof { (list : List Operation) (chain : Chain) (tip : List Operation) → IsDatabase C.Store D.bytes H.hash F.shape db.old list → IsMade D.bytes H.hash F.shape self.now chain tip → IsKnown list chain tip
             → IfOk result (λ p. proof_view D.bytes p ≡ ops_proof H.hash F.shape tip (length chain.base) (length tip)) }
         ensures readable { OnOk result (knows self.now.bounds db.old.commitment ≡ true) }
         ensures stale { IfErr result (λ e. e ≡ Error.StaleRead → knows self.now.bounds db.old.commitment ≡ false) }
         ensures never { IfErr result (λ e. (e ≡ Error.Memory) ⊎ ((e ≡ Error.StaleRead) ⊎ ((p : ℕ) × (e ≡ Error.Merkle (MerkleError.ElementPruned p))))) }
         ensures order { IfErr result (λ e. e ≢ Error.Memory → e ≢ Error.StaleRead → knows self.now.bounds db.old.commitment ≡ true) }
-        ensures whole { C.start db.old.log.store ≡ 0 → (list : List Operation) (chain : Chain) (tip : List Operation) → IsDatabase C.Store F.shape D.bytes H.hash db.old list → IsMade H.hash F.shape self.now chain tip → IsKnown list chain tip
+        ensures whole { C.start db.old.log.store ≡ 0 → (list : List Operation) (chain : Chain) (tip : List Operation) → IsDatabase C.Store D.bytes H.hash F.shape db.old list → IsMade D.bytes H.hash F.shape self.now chain tip → IsKnown list chain tip
             → IfErr result (λ e. e ≡ Error.Memory) }
         ensures same { db.new ≡ db.old }
     {
-        let state = *db.commitment();
-        self.known(&state)?;
-        let items = self.spelled_from(alloc, state.size)?;
-        db.proof_with(alloc, &items, self.floor(), self.start())
+        self.known(db.commitment())?;
+        db.proof_through(alloc, &self.tree, self.floor(), self.start())
     }
 
     /// The digests of the peaks over the list that the batch was made from, from left to right.
@@ -302,71 +322,133 @@ impl<F: Family, D: Digest, K: Key, V: VariableValue> MerkleizedBatch<F, D, Unord
         alloc: Global,
         db: &mut Db<F, C, D, H, Unordered<K, V>>,
     ) -> Result<Vec<D>, Error>
-        ensures pins { (list : List Operation) (chain : Chain) (tip : List Operation) → IsDatabase C.Store F.shape D.bytes H.hash db.old list → IsMade H.hash F.shape self.now chain tip → IsKnown list chain tip
+        ensures pins { (list : List Operation) (chain : Chain) (tip : List Operation) → IsDatabase C.Store D.bytes H.hash F.shape db.old list → IsMade D.bytes H.hash F.shape self.now chain tip → IsKnown list chain tip
             → IfOk result (λ pins. map D.bytes pins.items ≡ pins_at H.hash F.shape tip (length chain.base)) }
         ensures readable { OnOk result (knows self.now.bounds db.old.commitment ≡ true) }
         ensures stale { IfErr result (λ e. e ≡ Error.StaleRead → knows self.now.bounds db.old.commitment ≡ false) }
         ensures never { IfErr result (λ e. (e ≡ Error.Memory) ⊎ ((e ≡ Error.StaleRead) ⊎ ((p : ℕ) × (e ≡ Error.Merkle (MerkleError.ElementPruned p))))) }
         ensures order { IfErr result (λ e. e ≢ Error.Memory → e ≢ Error.StaleRead → knows self.now.bounds db.old.commitment ≡ true) }
-        ensures whole { C.start db.old.log.store ≡ 0 → (list : List Operation) (chain : Chain) (tip : List Operation) → IsDatabase C.Store F.shape D.bytes H.hash db.old list → IsMade H.hash F.shape self.now chain tip → IsKnown list chain tip
+        ensures whole { C.start db.old.log.store ≡ 0 → (list : List Operation) (chain : Chain) (tip : List Operation) → IsDatabase C.Store D.bytes H.hash F.shape db.old list → IsMade D.bytes H.hash F.shape self.now chain tip → IsKnown list chain tip
             → IfErr result (λ e. e ≡ Error.Memory) }
         ensures same { db.new ≡ db.old }
     {
-        let state = *db.commitment();
-        self.known(&state)?;
-        let items = self.spelled_from(alloc, state.size)?;
-        db.pins_with(alloc, &items, self.start())
+        self.known(db.commitment())?;
+        db.pins_through(alloc, &self.tree, self.start())
     }
 
-    // The merkleized batch of these bounds, kept ancestors and list.
-    pub(crate) fn of_parts(
+    // The database at rest as a batch: a step that does nothing.
+    pub(crate) fn at_rest(
         alloc: Global,
-        bounds: Bounds<F, D>,
-        kept: Vec<Ancestor<D>>,
-        tip: Rc<Vec<Entry<F, K, V>>>,
+        commitment: Commitment<D>,
+        floor: Location<F>,
+        live: u64,
+        metadata: Option<V>,
     ) -> Result<Rc<Self>, AllocError>
-        requires base { bounds.base.size ≤ length tip.value.items }
-        requires size { bounds.tip.size ≡ length tip.value.items }
-        requires few { length tip.value.items ≤ 2 ^ 62 }
-        requires boundary { bounds.db.size ≤ length tip.value.items }
-        requires ancestors { All (λ c. c.size ≤ length tip.value.items) bounds.ancestors }
-        requires kept { All (λ k. (k.base.size ≤ length tip.value.items) × (k.tip.size ≤ length tip.value.items)) kept.items }
-        ensures { IfOk result (λ b. b.value ≡ record { bounds = bounds; kept = map (ancestor_view D.bytes) kept.items; tip = entry_views K.bytes V.bytes tip.value.items }) }
+        requires few { commitment.size ≤ 2 ^ 62 }
+        requires live { live ≤ commitment.size }
+        ensures { IfOk result (λ b. b.value ≡ record {
+          bounds = record { base = commitment_view D.bytes commitment; db = commitment_view D.bytes commitment; tip = commitment_view D.bytes commitment; ancestors = []; inactivity_floor = floor };
+          layers = record { base = commitment.size; operations = []; changes = [] } ∷ [];
+          tree = record { leaves = commitment.size; layers = [] };
+          live = live;
+          metadata = option_map V.bytes metadata;
+        }) }
     {
-        Ok(Rc::new(alloc, MerkleizedBatch { bounds, kept, tip })?)
+        let diff = Rc::new(alloc, Diff::new(Vec::new(alloc)))?;
+        let step = Rc::new(alloc, Layer::new(commitment.size, Vec::new(alloc), diff))?;
+        let mut steps = Vec::new(alloc);
+        steps.push(step)?;
+        let bounds = Bounds {
+            base: commitment,
+            db: commitment,
+            tip: commitment,
+            ancestors: Vec::new(alloc),
+            inactivity_floor: floor,
+        };
+        let tree = KeptTree::at_rest(commitment.size);
+        Ok(Rc::new(
+            alloc,
+            MerkleizedBatch {
+                bounds,
+                steps,
+                tree,
+                live,
+                metadata,
+            },
+        )?)
     }
 
-    // The ancestors that a child keeps: this one, and the first `n` that this one keeps.
-    fn kept_by_child(&self, alloc: Global, n: usize) -> Result<Vec<Ancestor<D>>, AllocError>
-        ensures kept { IfOk result (λ kept. map (ancestor_view D.bytes) kept.items ≡ child_keeps self.now (take n self.now.kept)) }
-        ensures within { IfOk result (λ kept. All (λ k. (k.base.size ≤ length self.now.tip) × (k.tip.size ≤ length self.now.tip)) kept.items) }
+    // What stands for the tips of the ancestors that a child keeps, so many, newest first.
+    fn child_tips(&self, alloc: Global, keep: usize) -> Result<Vec<Commitment<D>>, AllocError>
+        requires { keep ≤ suc (length self.now.bounds.ancestors) }
+        ensures { IfOk result (λ tips. map (commitment_view D.bytes) tips.items ≡ child_tips keep self.now.bounds) }
     {
-        let newest = as_ancestor(&self.bounds);
-        keeping(alloc, newest, &self.kept, n)
+        let mut tips = Vec::new(alloc);
+        if keep > 0 {
+            tips.push(self.bounds.tip)?;
+            let (kept, _) = self.bounds.ancestors.split_at(keep - 1);
+            for state in kept {
+                tips.push(*state)?;
+            }
+        }
+        Ok(tips)
     }
 
-    // Whether the batch can be applied at this state of a database, whose list is then no longer than the batch's.
-    pub(crate) fn fits(&self, current: &Commitment<D>) -> Result<(), Error>
-        ensures fits { OnOk result (is_at (commitment_view D.bytes current.now) self.now.bounds.db self.now.bounds.ancestors ≡ true) }
-        ensures stale { IfErr result (λ e. (e ≡ Error.StaleBatch) × (is_at (commitment_view D.bytes current.now) self.now.bounds.db self.now.bounds.ancestors ≡ false)) }
-        ensures within { OnOk result (current.now.size ≤ length self.now.tip) }
+    // What stands for the boundary of a child that keeps so many ancestors.
+    fn child_boundary(&self, keep: usize) -> Commitment<D>
+        ensures { commitment_view D.bytes result ≡ child_boundary keep self.now.bounds }
     {
-        self.bounds.validate_apply_to(current)
+        if keep == 0 {
+            return self.bounds.tip;
+        }
+        match self.bounds.ancestors.get(keep - 1) {
+            Some(state) => *state,
+            None => self.bounds.db,
+        }
     }
 
-    // Whether the batch can be read at this state of a database, whose list is then no longer than the batch's.
+    // The steps that a child keeps: so many, newest first.
+    fn child_steps(
+        &self,
+        alloc: Global,
+        own: Layer<F, Unordered<K, V>>,
+        keep: usize,
+    ) -> Result<Vec<Step<F, K, V>>, AllocError>
+        requires { keep ≤ suc (length self.now.bounds.ancestors) }
+        ensures { IfOk result (λ steps. map (λ l. l.value) steps.items ≡ own ∷ take keep self.now.layers) }
+    {
+        let mut steps = Vec::new(alloc);
+        steps.push(Rc::new(alloc, own)?)?;
+        let (kept, _) = self.steps.split_at(keep);
+        for step in kept {
+            let step = step.clone()?;
+            steps.push(step)?;
+        }
+        Ok(steps)
+    }
+
+    // Whether the batch can be read at this state of a database, which is then one of those that its steps lead through.
     fn known(&self, current: &Commitment<D>) -> Result<(), Error>
         ensures readable { OnOk result (knows self.now.bounds (commitment_view D.bytes current.now) ≡ true) }
         ensures stale { IfErr result (λ e. (e ≡ Error.StaleRead) × (knows self.now.bounds (commitment_view D.bytes current.now) ≡ false)) }
-        ensures within { OnOk result (current.now.size ≤ length self.now.tip) }
+        ensures reached { OnOk result (Contains (stops self.now.tree.leaves self.now.tree.layers) current.now.size) }
     {
         self.bounds.compatible(current)
+    }
+
+    // Whether the batch can be applied at this state of a database.
+    pub(crate) fn fits(&self, current: &Commitment<D>) -> Result<(), Error>
+        ensures fits { OnOk result (is_at (commitment_view D.bytes current.now) self.now.bounds.db self.now.bounds.ancestors ≡ true) }
+        ensures stale { IfErr result (λ e. (e ≡ Error.StaleBatch) × (is_at (commitment_view D.bytes current.now) self.now.bounds.db self.now.bounds.ancestors ≡ false)) }
+        ensures among { OnOk result (Contains (bases self.now.layers) current.now.size) }
+    {
+        self.bounds.validate_apply_to(current)
     }
 
     // Where the batch's own operations begin.
     fn start(&self) -> u64
         ensures value { result ≡ self.now.bounds.base.size }
-        ensures within { result ≤ length self.now.tip }
+        ensures within { result ≤ self.now.tree.leaves }
     {
         self.bounds.base.size
     }
@@ -378,90 +460,161 @@ impl<F: Family, D: Digest, K: Key, V: VariableValue> MerkleizedBatch<F, D, Unord
         self.bounds.inactivity_floor.get()
     }
 
-    // Size and root of the list that the batch makes.
-    pub(crate) fn tip(&self) -> Commitment<D>
-        ensures value { commitment_view D.bytes result ≡ self.now.bounds.tip }
-        ensures size { result.size ≡ length self.now.tip }
+    // What a database at this state lacks of the list, where the batch can be applied to it.
+    pub(crate) fn lacking(
+        &self,
+        alloc: Global,
+        current: &Commitment<D>,
+    ) -> Result<Lacking<F, D, K, V>, Error>
+        ensures items { IfOk result (λ lack. map (λ v. v.items) lack.items.items ≡ map spelling (operations_in (unapplied current.now.size self.now.layers))) }
+        ensures diffs { IfOk result (λ lack. map (λ d. changes_view K.bytes V.bytes d.value) lack.diffs.items ≡ map (λ l. l.changes) (unapplied current.now.size self.now.layers)) }
+        ensures rest { IfOk result (λ lack. (commitment_view D.bytes lack.tip ≡ self.now.bounds.tip) × (lack.floor ≡ self.now.bounds.inactivity_floor) × (lack.live ≡ self.now.live) × (option_map V.bytes lack.metadata ≡ self.now.metadata)) }
+        ensures count { IfOk result (λ lack. current.now.size + length lack.items.items ≡ lack.tip.size) }
+        ensures few { IfOk result (λ lack. (lack.tip.size ≤ 2 ^ 62) × (lack.live ≤ lack.tip.size)) }
+        ensures among { OnOk result (Contains (bases self.now.layers) current.now.size) }
+        ensures fits { OnOk result (is_at (commitment_view D.bytes current.now) self.now.bounds.db self.now.bounds.ancestors ≡ true) }
+        ensures stale { IfErr result (λ e. (e ≡ Error.Memory) ⊎ ((e ≡ Error.StaleBatch) × (is_at (commitment_view D.bytes current.now) self.now.bounds.db self.now.bounds.ancestors ≡ false))) }
     {
-        self.bounds.tip
-    }
-
-    // The list that the batch makes, shared.
-    pub(crate) fn list(&self) -> Result<Rc<Vec<Entry<F, K, V>>>, AllocError>
-        ensures list { IfOk result (λ list. entry_views K.bytes V.bytes list.value.items ≡ self.now.tip) }
-        ensures size { IfOk result (λ list. self.now.bounds.tip.size ≡ length list.value.items) }
-        ensures count { IfOk result (λ list. length self.now.tip ≡ length list.value.items) }
-        ensures few { IfOk result (λ list. length list.value.items ≤ 2 ^ 62) }
-    {
-        Ok(self.tip.clone()?)
-    }
-
-    // The spellings of what the list has from a location on.
-    pub(crate) fn spelled_from(&self, alloc: Global, from: u64) -> Result<Vec<Vec<u8>>, AllocError>
-        requires { from ≤ length self.now.tip }
-        ensures items { IfOk result (λ items. map (λ v. v.items) items.items ≡ map spelling (drop from self.now.tip)) }
-        ensures count { IfOk result (λ items. from + length items.items ≡ length self.now.tip) }
-        ensures few { length self.now.tip ≤ 2 ^ 62 }
-    {
-        spell_from(alloc, &self.tip, from as usize)
+        self.fits(current)?;
+        let steps = unapplied_of(&self.steps, current.size);
+        let items = spelled_steps(alloc, steps)?;
+        let diffs = diffs_of(alloc, steps)?;
+        let metadata = twin_option(alloc, &self.metadata)?;
+        Ok(Lacking {
+            items,
+            diffs,
+            tip: self.bounds.tip,
+            floor: Location::new(self.bounds.inactivity_floor.get()),
+            live: self.live,
+            metadata,
+        })
     }
 }
 
-// The merkleized batch of a list that was made on this base.
+// The list that writes make on a batch, at a database that is at the child's boundary or one of its kept tips.
+#[allow(clippy::too_many_arguments)]
+fn made_on<F: Family, C: Store, D: Digest, H: Hasher<Digest = D> + Drop, K: Key, V: VariableValue>(
+    alloc: Global,
+    db: &mut Db<F, C, D, H, Unordered<K, V>>,
+    parent: &MerkleizedBatch<F, D, Unordered<K, V>>,
+    keep: usize,
+    boundary: Commitment<D>,
+    tips: Vec<Commitment<D>>,
+    writes: &[Write<K, V>],
+    metadata: Option<V>,
+) -> Result<Rc<MerkleizedBatch<F, D, Unordered<K, V>>>, Error>
+    requires keep { keep ≤ suc (length parent.now.bounds.ancestors) }
+    requires boundary { commitment_view D.bytes boundary ≡ child_boundary keep parent.now.bounds }
+    requires tips { map (commitment_view D.bytes) tips.items ≡ child_tips keep parent.now.bounds }
+    requires on { is_at db.old.commitment (child_boundary keep parent.now.bounds) (child_tips keep parent.now.bounds) ≡ true }
+    ensures made { (list : List Operation) (chain above : Chain) → IsDatabase C.Store D.bytes H.hash F.shape db.old list → IsMade D.bytes H.hash F.shape parent.now above chain.base → chain.kept ≡ kept_by keep above chain.base → IsOnChain list chain
+        → IfOk result (λ b. IsMade D.bytes H.hash F.shape b.value chain (stepped chain.base (write_views K.bytes V.bytes writes.now) proportional (option_map V.bytes metadata))) }
+    ensures taken { (list : List Operation) (chain above : Chain) → IsDatabase C.Store D.bytes H.hash F.shape db.old list → IsMade D.bytes H.hash F.shape parent.now above chain.base → chain.kept ≡ kept_by keep above chain.base → IsOnChain list chain
+        → OnOk result (IsTaken chain.base (stepped chain.base (write_views K.bytes V.bytes writes.now) proportional (option_map V.bytes metadata))) }
+    ensures refused { (list : List Operation) (chain above : Chain) → IsDatabase C.Store D.bytes H.hash F.shape db.old list → IsMade D.bytes H.hash F.shape parent.now above chain.base → chain.kept ≡ kept_by keep above chain.base → IsOnChain list chain
+        → IfErr result (λ e. IsRefused chain.base (stepped chain.base (write_views K.bytes V.bytes writes.now) proportional (option_map V.bytes metadata)) e ⊎ IsReadError C.Store db.old.log db.new.log e) }
+    ensures never { IfErr result (λ e. e ≢ Error.StaleBatch) }
+    ensures cause { IfErr result (λ e. e ≡ Error.Journal JournalError.Store → Rose (C.faults db.old.log.store) (C.faults db.new.log.store)) }
+    ensures left { IsLeft C.Store D.bytes H.hash F.shape db.old db.new }
+{
+    let copy = twin_option(alloc, &metadata)?;
+    let (plan, items) = planned(alloc, db, parent, writes, metadata)?;
+    let (tree, root) = db.grown(alloc, &parent.tree, &items, plan.floor.get())?;
+    let batch = sealed(alloc, parent, keep, boundary, tips, plan, tree, root, copy)?;
+    Ok(batch)
+}
+
+// What writes make of the list of a batch, and its spellings, where none is too long and the list is not.
+fn planned<F: Family, C: Store, D: Digest, H: Hasher<Digest = D> + Drop, K: Key, V: VariableValue>(
+    alloc: Global,
+    db: &mut Db<F, C, D, H, Unordered<K, V>>,
+    parent: &MerkleizedBatch<F, D, Unordered<K, V>>,
+    writes: &[Write<K, V>],
+    metadata: Option<V>,
+) -> Result<(Plan<F, K, V>, Vec<Vec<u8>>), Error>
+    ensures plan { (list base : List Operation) → IsDatabase C.Store D.bytes H.hash F.shape db.old list → IsBase parent.now.layers list base → parent.now.bounds.tip.size ≡ length base → parent.now.bounds.inactivity_floor ≡ lives.floor base → parent.now.live ≡ length (lives.live base)
+        → IfOk result (λ made. IsPlan made.0 base (stepped base (write_views K.bytes V.bytes writes.now) proportional (option_map V.bytes metadata))) }
+    ensures items { IfOk result (λ made. map (λ v. v.items) made.1.items ≡ map spelling (made.0).operations) }
+    ensures room { IfOk result (λ made. parent.now.bounds.tip.size + length made.1.items ≤ 2 ^ 62) }
+    ensures short { IfOk result (λ made. too_long (map (λ v. v.items) made.1.items) ≡ None) }
+    ensures live { IfOk result (λ made. (made.0).live ≤ parent.now.bounds.tip.size + length made.1.items) }
+    ensures refused { (list base : List Operation) → IsDatabase C.Store D.bytes H.hash F.shape db.old list → IsBase parent.now.layers list base → parent.now.bounds.tip.size ≡ length base → parent.now.bounds.inactivity_floor ≡ lives.floor base → parent.now.live ≡ length (lives.live base)
+        → IfErr result (λ e. IsRefused base (stepped base (write_views K.bytes V.bytes writes.now) proportional (option_map V.bytes metadata)) e ⊎ IsReadError C.Store db.old.log db.new.log e) }
+    ensures never { IfErr result (λ e. e ≢ Error.StaleBatch) }
+    ensures cause { IfErr result (λ e. e ≡ Error.Journal JournalError.Store → Rose (C.faults db.old.log.store) (C.faults db.new.log.store)) }
+    ensures left { IsLeft C.Store D.bytes H.hash F.shape db.old db.new }
+{
+    let Bounds {
+        tip,
+        inactivity_floor,
+        ..
+    } = &parent.bounds;
+    let floor = Location::new(inactivity_floor.get());
+    let plan = db.plan(
+        alloc,
+        &parent.steps,
+        tip.size,
+        floor,
+        parent.live,
+        writes,
+        metadata,
+    )?;
+    let items = spelled(alloc, &plan.operations)?;
+    match refuse(&items, tip.size + items.len() as u64) {
+        Ok(()) => Ok((plan, items)),
+        Err(error) => Err(error),
+    }
+}
+
+// The merkleized batch of a plan on its parent, which keeps so many ancestors.
+#[allow(clippy::too_many_arguments)]
 fn sealed<F: Family, D: Digest, K: Key, V: VariableValue>(
     alloc: Global,
-    base: Commitment<D>,
+    parent: &MerkleizedBatch<F, D, Unordered<K, V>>,
+    keep: usize,
+    boundary: Commitment<D>,
     tips: Vec<Commitment<D>>,
-    kept: Vec<Ancestor<D>>,
-    tip: Vec<Entry<F, K, V>>,
-    made: Commitment<D>,
+    plan: Plan<F, K, V>,
+    tree: KeptTree<F, D>,
+    root: D,
+    metadata: Option<V>,
 ) -> Result<Rc<MerkleizedBatch<F, D, Unordered<K, V>>>, AllocError>
-    requires size { made.size ≡ length tip.items }
-    requires few { length tip.items ≤ 2 ^ 62 }
-    requires base { base.size ≤ length tip.items }
-    requires tips { map (commitment_view D.bytes) tips.items ≡ map (λ k. k.tip) (map (ancestor_view D.bytes) kept.items) }
-    requires kept { All (λ k. (k.base.size ≤ length tip.items) × (k.tip.size ≤ length tip.items)) kept.items }
-    ensures bounds { IfOk result (λ b. b.value.bounds ≡ record { base = commitment_view D.bytes base; db = oldest (commitment_view D.bytes base) (map (ancestor_view D.bytes) kept.items); tip = commitment_view D.bytes made; ancestors = map (λ k. k.tip) (map (ancestor_view D.bytes) kept.items); inactivity_floor = lives.floor (entry_views K.bytes V.bytes tip.items) }) }
-    ensures kept { IfOk result (λ b. b.value.kept ≡ map (ancestor_view D.bytes) kept.items) }
-    ensures list { IfOk result (λ b. b.value.tip ≡ entry_views K.bytes V.bytes tip.items) }
+    requires keep { keep ≤ suc (length parent.now.bounds.ancestors) }
+    requires boundary { commitment_view D.bytes boundary ≡ child_boundary keep parent.now.bounds }
+    requires tips { map (commitment_view D.bytes) tips.items ≡ child_tips keep parent.now.bounds }
+    requires count { parent.now.bounds.tip.size + length plan.operations ≡ tree.leaves }
+    requires few { tree.leaves ≤ 2 ^ 62 }
+    requires live { plan.live ≤ tree.leaves }
+    requires stops { stops tree.leaves tree.layers ≡ tree.leaves ∷ stops parent.now.tree.leaves parent.now.tree.layers }
+    ensures { IfOk result (λ b. b.value ≡ child_made parent.now keep plan tree (D.bytes root) (option_map V.bytes metadata)) }
 {
-    let bounds = bounds_of(base, tips, &kept, &tip, made);
-    let tip = Rc::new(alloc, tip)?;
-    MerkleizedBatch::of_parts(alloc, bounds, kept, tip)
-}
-
-// The bounds of a batch that makes this list on a base.
-fn bounds_of<F, D: Digest, K: Key, V: VariableValue>(
-    base: Commitment<D>,
-    tips: Vec<Commitment<D>>,
-    kept: &[Ancestor<D>],
-    tip: &[Entry<F, K, V>],
-    made: Commitment<D>,
-) -> Bounds<F, D>
-    ensures { result ≡ record { base = commitment_view D.bytes base; db = oldest (commitment_view D.bytes base) (map (ancestor_view D.bytes) kept.now); tip = commitment_view D.bytes made; ancestors = map (commitment_view D.bytes) tips.items; inactivity_floor = lives.floor (entry_views K.bytes V.bytes tip.now) } }
-{
-    Bounds {
+    let Plan {
+        operations,
+        diff,
+        floor,
+        live,
+    } = plan;
+    let base = parent.bounds.tip;
+    let own = Layer::new(base.size, operations, Rc::new(alloc, diff)?);
+    let steps = parent.child_steps(alloc, own, keep)?;
+    let bounds = Bounds {
         base,
-        db: oldest_of(&base, kept),
-        tip: made,
+        db: boundary,
+        tip: Commitment {
+            size: tree.leaves(),
+            root,
+        },
         ancestors: tips,
-        inactivity_floor: Location::new(floor(tip)),
-    }
-}
-
-// The state after a batch's operations.
-fn state_after<F, D: Digest>(bounds: &Bounds<F, D>) -> Commitment<D>
-    ensures { commitment_view D.bytes result ≡ bounds.now.tip }
-{
-    bounds.tip
-}
-
-// The batch of these bounds as a kept ancestor.
-fn as_ancestor<F, D: Digest>(bounds: &Bounds<F, D>) -> Ancestor<D>
-    ensures { ancestor_view D.bytes result ≡ record { base = bounds.now.base; tip = bounds.now.tip } }
-{
-    Ancestor {
-        base: bounds.base,
-        tip: bounds.tip,
-    }
+        inactivity_floor: floor,
+    };
+    Ok(Rc::new(
+        alloc,
+        MerkleizedBatch {
+            bounds,
+            steps,
+            tree,
+            live,
+            metadata,
+        },
+    )?)
 }

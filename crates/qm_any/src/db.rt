@@ -1,50 +1,68 @@
 //! The database.
 
-ghost use Rattle.std.specs.Prelude.{◌≡◌, ◌⊎◌, ◌≤◌, ◌+◌, ◌^◌, ◌++◌, [], List, nat_lt, true, false, length, map, drop, option_map, if◌then◌else◌, IfOk, IfErr, OnOk};
+ghost use Rattle.std.specs.Prelude.{◌≡◌, ◌≢◌, ◌⊎◌, ◌≤◌, ◌+◌, ◌^◌, ◌++◌, ◌∷◌, ℕ, [], List, bytes_eq, nat_lt, true, false, length, map, drop, option_map, Contains, if◌then◌else◌, IfOk, IfErr, OnOk};
 ghost use Rattle.qm_model.specs.Batches.{Chain, IsOnChain};
 ghost use Rattle.qm_model.specs.Causes.{IsCause};
 ghost use Rattle.qm_model.specs.Live as lives;
 ghost use Rattle.qm_model.specs.Operations.{Operation, spelling};
+ghost use Rattle.qm_model.specs.Policies.{proportional};
+ghost use Rattle.qm_model.specs.Proofs.{ops_proof, pins_at};
+ghost use Rattle.qm_model.specs.Trees.{ops_root};
+ghost use Rattle.qm_model.specs.Writes.{read_through, write_of, last_writes};
+ghost use Rattle.qm_merkle.specs.Batches.{stops};
+ghost use Rattle.qm_merkle.specs.Proofs.{proof_view};
+ghost use Rattle.qm_index.specs.Translated.{capped};
 ghost use Rattle.qm_store.specs.Log as logs;
 ghost use Rattle.qm_chain.specs.Bounds.{commitment_view, is_at};
-ghost use Rattle.qm_any.specs.Databases.{Database, IsDatabase, IsListLog, IsMade, at_rest, list_commitment};
+ghost use Rattle.qm_batch.specs.Layers.{IsBase};
+ghost use Rattle.qm_batch.specs.Changes.{LeadTo};
+ghost use Rattle.qm_batch.specs.Lent.{IsIndexed, IsReadError, NoneBelow};
+ghost use Rattle.qm_batch.specs.Views.{changes_view, write_view, IsPlan};
+ghost use Rattle.qm_any.specs.Databases.{Database, IsDatabase, IsLeft, IsMade, at_rest, bases, operations_in, stepped, unapplied};
 ghost use Rattle.qm_any.specs.Given.{Appended, AppendedPart, store_given};
-ghost use Rattle.qm_any.specs.ListViews.{entry_views};
+ghost use Rattle.qm_any.specs.KeptTrees.{IsKeptTree};
+ghost use Rattle.qm_any.specs.Views.{write_views};
 
-use crate::batch::{MerkleizedBatch, UnmerkleizedBatch, values_of};
-use crate::lists::{Entry, floor, has_live, last_metadata, twin_option, value_of};
+use crate::batch::{KeptTree, Lacking, MerkleizedBatch, UnmerkleizedBatch};
+use crate::operations::{Step, twin_option};
 use crate::refusal::{Given, Refusal};
 use qm_base::update::{Unordered, Update};
 use qm_base::{
-    Commitment, Digest, Error, Hasher, JournalError, Key, Location, VariableValue, operation,
+    ByteString, Commitment, Digest, Error, Hasher, JournalError, Key, Location, MerkleError,
+    VariableValue,
 };
-use qm_chain::Bounds;
-use qm_merkle::Family;
+use qm_batch::{Plan, Write, apply_diffs, plain, read_key};
+use qm_index::FourCap;
+use qm_index::unordered::Index;
+use qm_merkle::{Family, Proof};
 use qm_store::{AuthLog, LogGiven, LogRefusal, Store};
 use std::alloc::{AllocError, Global};
 use std::marker::Model;
 use std::rc::Rc;
 
-/// A database over a log of its operations: one value for each live key, a floor below which no live update stands,
-/// and a commitment that tells its list from others. It keeps the operations in memory, which its batches share.
+/// A database over a log of its operations and an index of where keys are live: one value for each live key, a floor
+/// below which no live update stands, and a commitment that tells its list from others. It keeps no operations in memory:
+/// a read goes from the index to the log. The index knows the first four bytes of a key.
 #[derive(Drop)]
 pub struct Db<F: Family, C: Store, D: Digest, H, U: Update> {
-    pub(crate) list: Rc<Vec<operation::Operation<F, U>>>,
-    commitment: Commitment<D>,
+    index: Index<FourCap, Location<F>>,
     pub(crate) log: AuthLog<F, C, D, H>,
+    commitment: Commitment<D>,
+    floor: Location<F>,
+    live: u64,
+    metadata: Option<U::Value>,
 }
 
 impl<F: Family, C: Store, D: Digest, H, U: Update> Model for Db<F, C, D, H, U> {
-    ghost use Rattle.std.specs.Prelude.{◌≡◌, length};
-    ghost use Rattle.qm_base.specs.Views.{operation_views};
+    ghost use Rattle.std.specs.Prelude.{◌≡◌, ◌≤◌, option_map};
     ghost use Rattle.qm_chain.specs.Bounds.{commitment_view};
     ghost use Rattle.qm_any.specs.Databases.{Database};
 
     ghost Value = { Database C D };
 
-    ghost view = { λ db. record { list = operation_views U.view U.Key.bytes U.Value.bytes db.list.value.items; commitment = commitment_view D.bytes db.commitment; log = db.log } };
+    ghost view = { λ db. record { entries = db.index; log = db.log; commitment = commitment_view D.bytes db.commitment; floor = db.floor; live = db.live; metadata = option_map U.Value.bytes db.metadata } };
 
-    ghost invariant = { λ db. (db.commitment.size ≡ length db.list.value.items) × (db.log.tree.leaves ≡ length db.list.value.items) × (C.end db.log.store ≡ length db.list.value.items) };
+    ghost invariant = { λ db. (db.commitment.size ≡ db.log.tree.leaves) × (C.end db.log.store ≡ db.log.tree.leaves) × (db.live ≤ db.commitment.size) };
 }
 
 impl<F: Family, C: Store, D: Digest, H: Hasher<Digest = D> + Drop, K: Key, V: VariableValue> Db<
@@ -54,21 +72,27 @@ impl<F: Family, C: Store, D: Digest, H: Hasher<Digest = D> + Drop, K: Key, V: Va
     H,
     Unordered<K, V>,
 > {
-    // The database of a list, what stands for it, and its log.
+    // The database of an index, a log and what these stand for.
     pub(crate) fn of_parts(
-        list: Rc<Vec<Entry<F, K, V>>>,
-        commitment: Commitment<D>,
+        index: Index<FourCap, Location<F>>,
         log: AuthLog<F, C, D, H>,
+        commitment: Commitment<D>,
+        floor: Location<F>,
+        live: u64,
+        metadata: Option<V>,
     ) -> Self
-        requires size { commitment.size ≡ length list.value.items }
-        requires leaves { log.tree.leaves ≡ length list.value.items }
-        requires end { C.end log.store ≡ length list.value.items }
-        ensures { result ≡ record { list = entry_views K.bytes V.bytes list.value.items; commitment = commitment_view D.bytes commitment; log = log } }
+        requires size { commitment.size ≡ log.tree.leaves }
+        requires end { C.end log.store ≡ log.tree.leaves }
+        requires live { live ≤ commitment.size }
+        ensures { result ≡ record { entries = index; log = log; commitment = commitment_view D.bytes commitment; floor = floor; live = live; metadata = option_map V.bytes metadata } }
     {
         Db {
-            list,
-            commitment,
+            index,
             log,
+            commitment,
+            floor,
+            live,
+            metadata,
         }
     }
 
@@ -77,10 +101,10 @@ impl<F: Family, C: Store, D: Digest, H: Hasher<Digest = D> + Drop, K: Key, V: Va
         &self,
         alloc: Global,
     ) -> Result<UnmerkleizedBatch<F, D, Unordered<K, V>>, AllocError>
-        ensures { IfOk result (λ b. b ≡ record { base = self.now.list; parent = at_rest self.now; kept = []; writes = [] }) }
+        ensures { IfOk result (λ b. b ≡ record { parent = at_rest self.now; keep = 0; writes = [] }) }
     {
-        let base = self.shared()?;
-        Ok(UnmerkleizedBatch::begun(alloc, base, self.at_rest(alloc), Vec::new(alloc)))
+        let parent = self.to_batch(alloc)?;
+        Ok(UnmerkleizedBatch::begun(alloc, parent, 0))
     }
 
     /// The database as a merkleized batch, which does nothing: batches can be begun on it, and reads through it are exact
@@ -89,10 +113,13 @@ impl<F: Family, C: Store, D: Digest, H: Hasher<Digest = D> + Drop, K: Key, V: Va
         &self,
         alloc: Global,
     ) -> Result<Rc<MerkleizedBatch<F, D, Unordered<K, V>>>, AllocError>
-        ensures { IfOk result (λ b. b.value ≡ record { bounds = at_rest self.now; kept = []; tip = self.now.list }) }
+        ensures { IfOk result (λ b. b.value ≡ at_rest self.now) }
     {
-        let tip = self.shared()?;
-        MerkleizedBatch::of_parts(alloc, self.at_rest(alloc), Vec::new(alloc), tip)
+        // The log has at most 2^62 items.
+        self.log.bounds();
+        let metadata = twin_option(alloc, &self.metadata)?;
+        let floor = Location::new(self.floor.get());
+        MerkleizedBatch::at_rest(alloc, self.commitment, floor, self.live, metadata)
     }
 
     /// Whether the batch can be applied: the database is at its boundary or at a kept ancestor's tip. It takes no memory.
@@ -106,140 +133,236 @@ impl<F: Family, C: Store, D: Digest, H: Hasher<Digest = D> + Drop, K: Key, V: Va
         batch.fits(&self.commitment)
     }
 
-    // The list, shared.
-    fn shared(&self) -> Result<Rc<Vec<Entry<F, K, V>>>, AllocError>
-        ensures list { IfOk result (λ list. entry_views K.bytes V.bytes list.value.items ≡ self.now.list) }
-        ensures size { IfOk result (λ list. self.now.commitment.size ≡ length list.value.items) }
-        ensures few { IfOk result (λ list. length list.value.items ≤ 2 ^ 62) }
-    {
-        // The log has at most 2^62 items.
-        self.log.bounds();
-        Ok(self.list.clone()?)
-    }
-
-    // The bounds of the database as a batch that does nothing.
-    fn at_rest(&self, alloc: Global) -> Bounds<F, D>
-        ensures { result ≡ at_rest self.now }
-    {
-        Bounds {
-            base: self.commitment,
-            db: self.commitment,
-            tip: self.commitment,
-            ancestors: Vec::new(alloc),
-            inactivity_floor: self.inactivity_floor_loc(),
-        }
-    }
-
-    /// Takes the batch's tip list, and appends to the store what it lacks of it: the operations of kept ancestors that are
-    /// not applied yet, and the batch's own. The database comes back as it was where
-    /// the batch is stale, and where memory lacks before the store is called; after that its store comes back.
+    /// Takes the batch's tip list: it appends to the store what that lacks of it, the operations of kept ancestors that are
+    /// not applied yet and the batch's own, and puts into the index what these do to keys. The database comes back as it
+    /// was where the batch is stale, and where memory lacks before the store is called; after that its store comes back.
     pub fn apply_batch(
         self,
         alloc: Global,
         batch: &MerkleizedBatch<F, D, Unordered<K, V>>,
     ) -> Result<Self, Refusal<Self, C>>
-        ensures stands { (list : List Operation) (chain : Chain) (tip : List Operation) → IsDatabase C.Store F.shape D.bytes H.hash self list → IsMade H.hash F.shape batch.now chain tip → IsOnChain list chain
-            → IfOk result (λ next. IsDatabase C.Store F.shape D.bytes H.hash next tip) }
+        ensures stands { (list : List Operation) (chain : Chain) (tip : List Operation) → IsDatabase C.Store D.bytes H.hash F.shape self list → IsMade D.bytes H.hash F.shape batch.now chain tip → IsOnChain list chain
+            → IfOk result (λ next. IsDatabase C.Store D.bytes H.hash F.shape next tip) }
         ensures fits { OnOk result (is_at self.commitment batch.now.bounds.db batch.now.bounds.ancestors ≡ true) }
-        ensures grown { IfOk result (λ next. Appended C.Store self.log.store next.log.store (map spelling (drop (length self.list) batch.now.tip))) }
+        ensures grown { (chain : Chain) (tip : List Operation) → IsMade D.bytes H.hash F.shape batch.now chain tip → IfOk result (λ next. Appended C.Store self.log.store next.log.store (map spelling (drop self.commitment.size tip))) }
         ensures later { IfOk result (λ next. C.faults self.log.store ≤ C.faults next.log.store) }
         ensures stale { IfErr result (λ r. r.error ≡ Error.StaleBatch → (r.given ≡ Given.Database self) × (is_at self.commitment batch.now.bounds.db batch.now.bounds.ancestors ≡ false)) }
-        ensures part { IfErr result (λ r. AppendedPart C.Store self.log.store (store_given (λ db. db.log.store) r.given)
-            (if is_at self.commitment batch.now.bounds.db batch.now.bounds.ancestors then map spelling (drop (length self.list) batch.now.tip) else [])) }
+        ensures part { (chain : Chain) (tip : List Operation) → IsMade D.bytes H.hash F.shape batch.now chain tip → IfErr result (λ r. AppendedPart C.Store self.log.store (store_given (λ db. db.log.store) r.given)
+            (if is_at self.commitment batch.now.bounds.db batch.now.bounds.ancestors then map spelling (drop self.commitment.size tip) else [])) }
         ensures back { IfErr result (λ r. (x : Database C D) → r.given ≡ Given.Database x → (x ≡ self) × ((r.error ≡ Error.StaleBatch) ⊎ (r.error ≡ Error.Memory))) }
         ensures causes { IfErr result (λ r. (r.error ≡ Error.StaleBatch) ⊎ ((r.error ≡ Error.Memory) ⊎ (r.error ≡ Error.Journal JournalError.Store))) }
         ensures cause { IfErr result (λ r. IsCause (C.faults self.log.store) (C.faults (store_given (λ db. db.log.store) r.given)) (r.error ≡ Error.Journal JournalError.Store)) }
     {
-        match parts_behind(alloc, batch, &self.commitment) {
+        match batch.lacking(alloc, &self.commitment) {
             Err(error) => Err(Refusal {
                 given: Given::Database(self),
                 error,
             }),
-            Ok((tip, items)) => self.moved(alloc, tip, batch.tip(), &items),
+            Ok(lacking) => self.moved(alloc, lacking),
         }
     }
 
-    // What stands for a list that begins with the database's, and has these spellings behind it.
-    pub(crate) fn commitment_with(
-        &mut self,
-        alloc: Global,
-        operations: &[Entry<F, K, V>],
-        items: &[Vec<u8>],
-    ) -> Result<Commitment<D>, AllocError>
-        requires room { length self.old.list + length items.now ≡ length operations.now }
-        requires few { length operations.now ≤ 2 ^ 62 }
-        ensures size { IfOk result (λ c. c.size ≡ length operations.now) }
-        ensures value { (list : List Operation) → IsListLog C.Store F.shape D.bytes H.hash self.old.log list → map spelling list ++ map (λ v. v.items) items.now ≡ map spelling (entry_views K.bytes V.bytes operations.now)
-            → IfOk result (λ c. commitment_view D.bytes c ≡ list_commitment H.hash F.shape (entry_views K.bytes V.bytes operations.now)) }
-        ensures same { self.new ≡ self.old }
-    {
-        commitment_over(alloc, &mut self.log, operations, items)
-    }
-
-    // The database of a batch's list, whose own operations have these spellings.
-    fn moved(
-        self,
-        alloc: Global,
-        tip: Rc<Vec<Entry<F, K, V>>>,
-        made: Commitment<D>,
-        items: &[Vec<u8>],
-    ) -> Result<Self, Refusal<Self, C>>
-        requires size { made.size ≡ length tip.value.items }
-        requires room { self.commitment.size + length items.now ≡ length tip.value.items }
-        requires few { length tip.value.items ≤ 2 ^ 62 }
-        ensures list { IfOk result (λ next. next.list ≡ entry_views K.bytes V.bytes tip.value.items) }
-        ensures commitment { IfOk result (λ next. next.commitment ≡ commitment_view D.bytes made) }
-        ensures log { IfOk result (λ next. (list : List Operation) → IsListLog C.Store F.shape D.bytes H.hash self.log list → map spelling list ++ map (λ v. v.items) items.now ≡ map spelling (entry_views K.bytes V.bytes tip.value.items) → IsListLog C.Store F.shape D.bytes H.hash next.log (entry_views K.bytes V.bytes tip.value.items)) }
-        ensures grown { IfOk result (λ next. Appended C.Store self.log.store next.log.store (map (λ v. v.items) items.now)) }
+    // The database with what it lacked of a list.
+    fn moved(self, alloc: Global, lacking: Lacking<F, D, K, V>) -> Result<Self, Refusal<Self, C>>
+        requires count { self.commitment.size + length lacking.items.items ≡ lacking.tip.size }
+        requires few { lacking.tip.size ≤ 2 ^ 62 }
+        requires live { lacking.live ≤ lacking.tip.size }
+        ensures log { IfOk result (λ next. (list : List Operation) → logs.IsLog C.Store F.shape D.bytes H.hash self.log (map spelling list) → logs.IsLog C.Store F.shape D.bytes H.hash next.log (map spelling list ++ map (λ v. v.items) lacking.items.items)) }
+        ensures index { IfOk result (λ next. (list tip : List Operation) → LeadTo (map (λ d. changes_view K.bytes V.bytes d.value) lacking.diffs.items) list tip → IsIndexed (capped 4) self.entries list → IsIndexed (capped 4) next.entries tip) }
+        ensures rest { IfOk result (λ next. (next.commitment ≡ commitment_view D.bytes lacking.tip) × (next.floor ≡ lacking.floor) × (next.live ≡ lacking.live) × (next.metadata ≡ option_map V.bytes lacking.metadata)) }
+        ensures grown { IfOk result (λ next. Appended C.Store self.log.store next.log.store (map (λ v. v.items) lacking.items.items)) }
         ensures later { IfOk result (λ next. C.faults self.log.store ≤ C.faults next.log.store) }
-        ensures part { IfErr result (λ r. AppendedPart C.Store self.log.store (store_given (λ db. db.log.store) r.given) (map (λ v. v.items) items.now)) }
+        ensures part { IfErr result (λ r. AppendedPart C.Store self.log.store (store_given (λ db. db.log.store) r.given) (map (λ v. v.items) lacking.items.items)) }
         ensures back { IfErr result (λ r. (x : Database C D) → r.given ≡ Given.Database x → (x ≡ self) × (r.error ≡ Error.Memory)) }
         ensures causes { IfErr result (λ r. (r.error ≡ Error.Memory) ⊎ (r.error ≡ Error.Journal JournalError.Store)) }
         ensures cause { IfErr result (λ r. IsCause (C.faults self.log.store) (C.faults (store_given (λ db. db.log.store) r.given)) (r.error ≡ Error.Journal JournalError.Store)) }
     {
         let Db {
-            list,
-            commitment,
+            index,
             log,
+            commitment,
+            floor,
+            live,
+            metadata,
         } = self;
-        match log.append_batch(alloc, items) {
-            Ok(log) => Ok(Db {
-                list: tip,
-                commitment: made,
-                log,
-            }),
+        match log.append_batch(alloc, &lacking.items) {
+            Ok(log) => indexed(index, log, lacking),
             Err(LogRefusal { given, error }) => Err(Refusal {
-                given: given_back(list, commitment, given),
+                given: given_back(index, commitment, floor, live, metadata, given),
                 error,
             }),
         }
     }
 
-    /// The value of a key, if it is live.
+    /// The value of a key, if it is live. It takes one read of the log for each location in the key's bucket, at most.
     pub fn get(&mut self, alloc: Global, key: &K) -> Result<Option<V>, Error>
-        ensures value { IfOk result (λ v. option_map V.bytes v ≡ lives.value_of self.old.list (K.bytes key.now)) }
-        ensures memory { IfErr result (λ e. e ≡ Error.Memory) }
-        ensures same { self.new ≡ self.old }
+        ensures value { (list : List Operation) → IsDatabase C.Store D.bytes H.hash F.shape self.old list → IfOk result (λ v. option_map V.bytes v ≡ lives.value_of list (K.bytes key.now)) }
+        ensures error { IfErr result (IsReadError C.Store self.old.log self.new.log) }
+        ensures whole { (list : List Operation) → IsDatabase C.Store D.bytes H.hash F.shape self.old list → NoneBelow self.old.log.tree.start list → IfErr result (λ e. (n : ℕ) → e ≢ Error.Journal (JournalError.ItemPruned n)) }
+        ensures left { IsLeft C.Store D.bytes H.hash F.shape self.old self.new }
     {
-        let value = twin_option(alloc, value_of(&self.list, key))?;
-        Ok(value)
+        self.read_one(alloc, &Vec::new(alloc), &Vec::new(alloc), key)
     }
 
     /// The values of keys, in their order, if they are live.
     pub fn get_many(&mut self, alloc: Global, keys: &[K]) -> Result<Vec<Option<V>>, Error>
-        ensures values { IfOk result (λ v. map (option_map V.bytes) v.items ≡ map (λ k. lives.value_of self.old.list (K.bytes k)) keys.now) }
-        ensures memory { IfErr result (λ e. e ≡ Error.Memory) }
+        ensures values { (list : List Operation) → IsDatabase C.Store D.bytes H.hash F.shape self.old list → IfOk result (λ v. map (option_map V.bytes) v.items ≡ map (λ k. lives.value_of list (K.bytes k)) keys.now) }
+        ensures error { IfErr result (IsReadError C.Store self.old.log self.new.log) }
+        ensures left { IsLeft C.Store D.bytes H.hash F.shape self.old self.new }
+    {
+        self.read_all(alloc, &Vec::new(alloc), &Vec::new(alloc), keys)
+    }
+
+    // The value of a key: that of its last write or, where it has none, the one on the base list of a batch of these steps.
+    pub(crate) fn read_one(
+        &mut self,
+        alloc: Global,
+        steps: &[Step<F, K, V>],
+        writes: &[Write<K, V>],
+        key: &K,
+    ) -> Result<Option<V>, Error>
+        ensures value { (list base : List Operation) → IsDatabase C.Store D.bytes H.hash F.shape self.old list → IsBase (map (λ l. l.value) steps.now) list base
+            → IfOk result (λ v. option_map V.bytes v ≡ read_through base (write_views K.bytes V.bytes writes.now) (K.bytes key.now)) }
+        ensures error { IfErr result (IsReadError C.Store self.old.log self.new.log) }
+        ensures whole { (list : List Operation) → IsDatabase C.Store D.bytes H.hash F.shape self.old list → NoneBelow self.old.log.tree.start list → IfErr result (λ e. (n : ℕ) → e ≢ Error.Journal (JournalError.ItemPruned n)) }
+        ensures left { IsLeft C.Store D.bytes H.hash F.shape self.old self.new }
+    {
+        if let Some(write) = last_write(writes, key) {
+            return Ok(twin_option(alloc, &write.value)?);
+        }
+        match read_key(alloc, &self.index, &mut self.log, steps, key)? {
+            Some((_, update)) => Ok(Some(update.1)),
+            None => Ok(None),
+        }
+    }
+
+    // The values of keys, in their order.
+    pub(crate) fn read_all(
+        &mut self,
+        alloc: Global,
+        steps: &[Step<F, K, V>],
+        writes: &[Write<K, V>],
+        keys: &[K],
+    ) -> Result<Vec<Option<V>>, Error>
+        ensures values { (list base : List Operation) → IsDatabase C.Store D.bytes H.hash F.shape self.old list → IsBase (map (λ l. l.value) steps.now) list base
+            → IfOk result (λ v. map (option_map V.bytes) v.items ≡ map (λ k. read_through base (write_views K.bytes V.bytes writes.now) (K.bytes k)) keys.now) }
+        ensures error { IfErr result (IsReadError C.Store self.old.log self.new.log) }
+        ensures left { IsLeft C.Store D.bytes H.hash F.shape self.old self.new }
+    {
+        let mut values = Vec::new(alloc);
+        for key in keys {
+            let value = self.read_one(alloc, steps, writes, key)?;
+            values.push(value)?;
+        }
+        Ok(values)
+    }
+
+    // What writes and metadata make of the base list of a batch of these steps.
+    #[allow(clippy::too_many_arguments)]
+    pub(crate) fn plan(
+        &mut self,
+        alloc: Global,
+        steps: &[Step<F, K, V>],
+        size: u64,
+        floor: Location<F>,
+        live: u64,
+        writes: &[Write<K, V>],
+        metadata: Option<V>,
+    ) -> Result<Plan<F, K, V>, Error>
+        requires size { size ≤ 2 ^ 62 }
+        requires live { live ≤ size }
+        ensures plan { (list base : List Operation) → IsDatabase C.Store D.bytes H.hash F.shape self.old list → IsBase (map (λ l. l.value) steps.now) list base
+            → size ≡ length base → floor ≡ lives.floor base → live ≡ length (lives.live base)
+            → IfOk result (λ plan. IsPlan plan base (stepped base (write_views K.bytes V.bytes writes.now) proportional (option_map V.bytes metadata))) }
+        ensures live { IfOk result (λ plan. plan.live ≤ size + length plan.operations) }
+        ensures error { IfErr result (IsReadError C.Store self.old.log self.new.log) }
+        ensures left { IsLeft C.Store D.bytes H.hash F.shape self.old self.new }
+    {
+        plain(
+            alloc,
+            &self.index,
+            &mut self.log,
+            steps,
+            size,
+            floor,
+            live,
+            writes,
+            metadata,
+        )
+    }
+
+    // A batch's tree with the leaves of these items behind it, and the root of its list with this floor.
+    pub(crate) fn grown(
+        &mut self,
+        alloc: Global,
+        tree: &KeptTree<F, D>,
+        items: &[Vec<u8>],
+        floor: u64,
+    ) -> Result<(KeptTree<F, D>, D), AllocError>
+        requires room { tree.now.leaves + length items.now ≤ 2 ^ 62 }
+        requires reach { Contains (stops tree.now.leaves tree.now.layers) self.old.commitment.size }
+        ensures leaves { IfOk result (λ grown. grown.0.leaves ≡ tree.now.leaves + length items.now) }
+        ensures stops { IfOk result (λ grown. stops grown.0.leaves grown.0.layers ≡ grown.0.leaves ∷ stops tree.now.leaves tree.now.layers) }
+        ensures tree { (list base tip : List Operation) (older : List (List Operation)) → IsDatabase C.Store D.bytes H.hash F.shape self.old list → IsKeptTree D.bytes H.hash F.shape tree.now base older
+            → Contains (base ∷ older) list → map spelling base ++ map (λ v. v.items) items.now ≡ map spelling tip
+            → IfOk result (λ grown. IsKeptTree D.bytes H.hash F.shape grown.0 tip (base ∷ older)) }
+        ensures root { (list base tip : List Operation) (older : List (List Operation)) → IsDatabase C.Store D.bytes H.hash F.shape self.old list → IsKeptTree D.bytes H.hash F.shape tree.now base older
+            → Contains (base ∷ older) list → map spelling base ++ map (λ v. v.items) items.now ≡ map spelling tip → floor ≡ lives.floor tip
+            → IfOk result (λ grown. D.bytes grown.1 ≡ ops_root H.hash F.shape tip) }
         ensures same { self.new ≡ self.old }
     {
-        let values = values_of(alloc, &self.list, keys)?;
-        Ok(values)
+        tree.grown(alloc, &mut self.log, items, floor)
+    }
+
+    // The proof of the operations from `start` on in the list of a batch's tree, which has this floor.
+    pub(crate) fn proof_through(
+        &mut self,
+        alloc: Global,
+        tree: &KeptTree<F, D>,
+        floor: u64,
+        start: u64,
+    ) -> Result<Proof<D>, Error>
+        requires start { start ≤ tree.now.leaves }
+        requires reach { Contains (stops tree.now.leaves tree.now.layers) self.old.commitment.size }
+        ensures value { (list tip : List Operation) (older : List (List Operation)) → IsDatabase C.Store D.bytes H.hash F.shape self.old list → IsKeptTree D.bytes H.hash F.shape tree.now tip older
+            → Contains (tip ∷ older) list → floor ≡ lives.floor tip
+            → IfOk result (λ p. proof_view D.bytes p ≡ ops_proof H.hash F.shape tip start (length tip)) }
+        ensures never { IfErr result (λ e. (e ≡ Error.Memory) ⊎ ((p : ℕ) × (e ≡ Error.Merkle (MerkleError.ElementPruned p)))) }
+        ensures whole { C.start self.old.log.store ≡ 0 → (list tip : List Operation) (older : List (List Operation)) → IsDatabase C.Store D.bytes H.hash F.shape self.old list → IsKeptTree D.bytes H.hash F.shape tree.now tip older
+            → Contains (tip ∷ older) list → IfErr result (λ e. e ≡ Error.Memory) }
+        ensures same { self.new ≡ self.old }
+    {
+        // The log is kept from where its store is.
+        self.log.bounds();
+        tree.proof(alloc, &mut self.log, floor, start)
+    }
+
+    // The digests of the peaks over the first `count` operations of the list of a batch's tree.
+    pub(crate) fn pins_through(
+        &mut self,
+        alloc: Global,
+        tree: &KeptTree<F, D>,
+        count: u64,
+    ) -> Result<Vec<D>, Error>
+        requires count { count ≤ tree.now.leaves }
+        requires reach { Contains (stops tree.now.leaves tree.now.layers) self.old.commitment.size }
+        ensures value { (list tip : List Operation) (older : List (List Operation)) → IsDatabase C.Store D.bytes H.hash F.shape self.old list → IsKeptTree D.bytes H.hash F.shape tree.now tip older
+            → Contains (tip ∷ older) list → IfOk result (λ pins. map D.bytes pins.items ≡ pins_at H.hash F.shape tip count) }
+        ensures never { IfErr result (λ e. (e ≡ Error.Memory) ⊎ ((p : ℕ) × (e ≡ Error.Merkle (MerkleError.ElementPruned p)))) }
+        ensures whole { C.start self.old.log.store ≡ 0 → (list tip : List Operation) (older : List (List Operation)) → IsDatabase C.Store D.bytes H.hash F.shape self.old list → IsKeptTree D.bytes H.hash F.shape tree.now tip older
+            → Contains (tip ∷ older) list → IfErr result (λ e. e ≡ Error.Memory) }
+        ensures same { self.new ≡ self.old }
+    {
+        // The log is kept from where its store is.
+        self.log.bounds();
+        tree.pins(alloc, &mut self.log, count)
     }
 
     /// The metadata of the last commit.
     pub fn get_metadata(&self, alloc: Global) -> Result<Option<V>, AllocError>
-        ensures { IfOk result (λ v. option_map V.bytes v ≡ lives.last_metadata self.now.list) }
+        ensures { IfOk result (λ v. option_map V.bytes v ≡ self.now.metadata) }
     {
-        last_metadata(alloc, &self.list)
+        twin_option(alloc, &self.metadata)
     }
 
     /// The operations root of the list.
@@ -252,7 +375,7 @@ impl<F: Family, C: Store, D: Digest, H: Hasher<Digest = D> + Drop, K: Key, V: Va
     /// The location of the first operation that the store keeps, and the location after the last one.
     pub fn bounds(&self) -> (Location<F>, Location<F>)
         ensures start { result.0 ≡ C.start self.now.log.store }
-        ensures end { result.1 ≡ length self.now.list }
+        ensures end { result.1 ≡ self.now.commitment.size }
     {
         let (start, size) = self.log.bounds();
         (Location::new(start), Location::new(size))
@@ -260,30 +383,30 @@ impl<F: Family, C: Store, D: Digest, H: Hasher<Digest = D> + Drop, K: Key, V: Va
 
     /// How many operations the list has.
     pub fn size(&self) -> Location<F>
-        ensures { result ≡ length self.now.list }
+        ensures { result ≡ self.now.commitment.size }
     {
-        Location::new(self.list.len() as u64)
+        Location::new(self.commitment.size)
     }
 
     /// The floor of the last commit: no live update stands below it.
     pub fn inactivity_floor_loc(&self) -> Location<F>
-        ensures { result ≡ lives.floor self.now.list }
+        ensures { result ≡ self.now.floor }
     {
-        Location::new(floor(&self.list))
+        Location::new(self.floor.get())
     }
 
     /// Up to where the list may be pruned: the floor.
     pub fn sync_boundary(&self) -> Location<F>
-        ensures { result ≡ lives.floor self.now.list }
+        ensures { result ≡ self.now.floor }
     {
         self.inactivity_floor_loc()
     }
 
     /// Whether no key is live.
     pub fn is_empty(&self) -> bool
-        ensures { result ≡ (if nat_lt 0 (length (lives.live self.now.list)) then false else true) }
+        ensures { result ≡ (if nat_lt 0 self.now.live then false else true) }
     {
-        !has_live(&self.list)
+        self.live == 0
     }
 
     /// With how many workers the database was opened.
@@ -296,7 +419,7 @@ impl<F: Family, C: Store, D: Digest, H: Hasher<Digest = D> + Drop, K: Key, V: Va
     // Size and root of the list.
     pub(crate) fn commitment(&self) -> &Commitment<D>
         ensures value { commitment_view D.bytes result.now ≡ self.now.commitment }
-        ensures size { result.now.size ≡ length self.now.list }
+        ensures size { result.now.size ≡ self.now.commitment.size }
     {
         &self.commitment
     }
@@ -316,70 +439,84 @@ impl<F: Family, C: Store, D: Digest, H: Hasher<Digest = D> + Drop, K: Key, V: Va
     }
 }
 
-// What stands for a list that begins with the log's, and has these spellings behind it.
-pub(crate) fn commitment_over<
-    F: Family,
-    C: Store,
-    D: Digest,
-    H: Hasher<Digest = D> + Drop,
-    K: Key,
-    V: VariableValue,
->(
-    alloc: Global,
-    log: &mut AuthLog<F, C, D, H>,
-    operations: &[Entry<F, K, V>],
-    items: &[Vec<u8>],
-) -> Result<Commitment<D>, AllocError>
-    requires room { log.old.tree.leaves + length items.now ≡ length operations.now }
-    requires few { length operations.now ≤ 2 ^ 62 }
-    ensures size { IfOk result (λ c. c.size ≡ length operations.now) }
-    ensures value { (list : List Operation) → IsListLog C.Store F.shape D.bytes H.hash log.old list → map spelling list ++ map (λ v. v.items) items.now ≡ map spelling (entry_views K.bytes V.bytes operations.now)
-        → IfOk result (λ c. commitment_view D.bytes c ≡ list_commitment H.hash F.shape (entry_views K.bytes V.bytes operations.now)) }
-    ensures same { log.new ≡ log.old }
+// The database of a log that has what was lacking, where the index takes it too.
+fn indexed<F: Family, C: Store, D: Digest, H: Hasher<Digest = D> + Drop, K: Key, V: VariableValue>(
+    index: Index<FourCap, Location<F>>,
+    log: AuthLog<F, C, D, H>,
+    lacking: Lacking<F, D, K, V>,
+) -> Result<Db<F, C, D, H, Unordered<K, V>>, Refusal<Db<F, C, D, H, Unordered<K, V>>, C>>
+    requires size { lacking.tip.size ≡ log.tree.leaves }
+    requires end { C.end log.store ≡ log.tree.leaves }
+    requires live { lacking.live ≤ lacking.tip.size }
+    ensures log { IfOk result (λ next. next.log ≡ log) }
+    ensures index { IfOk result (λ next. (list tip : List Operation) → LeadTo (map (λ d. changes_view K.bytes V.bytes d.value) lacking.diffs.items) list tip → IsIndexed (capped 4) index list → IsIndexed (capped 4) next.entries tip) }
+    ensures rest { IfOk result (λ next. (next.commitment ≡ commitment_view D.bytes lacking.tip) × (next.floor ≡ lacking.floor) × (next.live ≡ lacking.live) × (next.metadata ≡ option_map V.bytes lacking.metadata)) }
+    ensures back { IfErr result (λ r. (r.given ≡ Given.Store log.store) × (r.error ≡ Error.Memory)) }
 {
-    let size = operations.len() as u64;
-    let inactive = F::inactive_peaks(Location::new(size), Location::new(floor(operations)));
-    let root = log.root_with(alloc, items, inactive)?;
-    Ok(Commitment { size, root })
+    let mut index = index;
+    match apply_diffs(&mut index, &lacking.diffs) {
+        Ok(()) => Ok(Db {
+            index,
+            log,
+            commitment: lacking.tip,
+            floor: lacking.floor,
+            live: lacking.live,
+            metadata: lacking.metadata,
+        }),
+        Err(_) => Err(Refusal {
+            given: Given::Store(log.close()),
+            error: Error::Memory,
+        }),
+    }
 }
 
 // What a database gives back where its log refused.
 fn given_back<F: Family, C: Store, D: Digest, H, K: Key, V: VariableValue>(
-    list: Rc<Vec<Entry<F, K, V>>>,
+    index: Index<FourCap, Location<F>>,
     commitment: Commitment<D>,
+    floor: Location<F>,
+    live: u64,
+    metadata: Option<V>,
     given: LogGiven<AuthLog<F, C, D, H>, C>,
 ) -> Given<Db<F, C, D, H, Unordered<K, V>>, C>
-    requires sized { commitment.size ≡ length list.value.items }
-    requires whole { (log : logs.Log C D) → given ≡ LogGiven.Log log → (log.tree.leaves ≡ length list.value.items) × (C.end log.store ≡ length list.value.items) }
+    requires whole { (log : logs.Log C D) → given ≡ LogGiven.Log log → (commitment.size ≡ log.tree.leaves) × (C.end log.store ≡ log.tree.leaves) }
+    requires live { live ≤ commitment.size }
     ensures store { store_given (λ db. db.log.store) result ≡ logs.store_given given }
-    ensures back { (x : Database C D) → result ≡ Given.Database x → (given ≡ LogGiven.Log x.log) × (x.list ≡ entry_views K.bytes V.bytes list.value.items) × (x.commitment ≡ commitment_view D.bytes commitment) }
+    ensures back { (x : Database C D) → result ≡ Given.Database x → (given ≡ LogGiven.Log x.log)
+        × (x ≡ record { entries = index; log = x.log; commitment = commitment_view D.bytes commitment; floor = floor; live = live; metadata = option_map V.bytes metadata }) }
 {
     match given {
         LogGiven::Log(log) => Given::Database(Db {
-            list,
-            commitment,
+            index,
             log,
+            commitment,
+            floor,
+            live,
+            metadata,
         }),
         LogGiven::Store(store) => Given::Store(store),
     }
 }
 
-// A batch's list, and the spellings of what it has behind a database's, where the batch can be applied there.
-fn parts_behind<F: Family, D: Digest, K: Key, V: VariableValue>(
-    alloc: Global,
-    batch: &MerkleizedBatch<F, D, Unordered<K, V>>,
-    current: &Commitment<D>,
-) -> Result<(Rc<Vec<Entry<F, K, V>>>, Vec<Vec<u8>>), Error>
-    ensures list { IfOk result (λ parts. entry_views K.bytes V.bytes parts.0.value.items ≡ batch.now.tip) }
-    ensures size { IfOk result (λ parts. length batch.now.tip ≡ length parts.0.value.items) }
-    ensures few { IfOk result (λ parts. length parts.0.value.items ≤ 2 ^ 62) }
-    ensures items { IfOk result (λ parts. map (λ v. v.items) parts.1.items ≡ map spelling (drop current.now.size batch.now.tip)) }
-    ensures count { IfOk result (λ parts. current.now.size + length parts.1.items ≡ length batch.now.tip) }
-    ensures fits { OnOk result (is_at (commitment_view D.bytes current.now) batch.now.bounds.db batch.now.bounds.ancestors ≡ true) }
-    ensures stale { IfErr result (λ e. (e ≡ Error.Memory) ⊎ ((e ≡ Error.StaleBatch) × (is_at (commitment_view D.bytes current.now) batch.now.bounds.db batch.now.bounds.ancestors ≡ false))) }
+// Whether the write is to the key.
+fn is_to<K: Key, V: VariableValue>(write: &Write<K, V>, key: &K) -> bool
+    ensures { result ≡ bytes_eq (write_view K.bytes V.bytes write.now).key (K.bytes key.now) }
 {
-    batch.fits(current)?;
-    let items = batch.spelled_from(alloc, current.size)?;
-    let list = batch.list()?;
-    Ok((list, items))
+    write.key.as_bytes() == key.as_bytes()
+}
+
+// The last write of a key.
+fn last_write<'a, K: Key, V: VariableValue>(
+    writes: &'a [Write<K, V>],
+    key: &K,
+) -> Option<&'a Write<K, V>>
+    ensures { option_map (λ w. write_view K.bytes V.bytes w.now) result ≡ write_of (last_writes (write_views K.bytes V.bytes writes.now)) (K.bytes key.now) }
+{
+    let mut found = None;
+    for write in writes {
+        if is_to(write, key) {
+            found = Some(write);
+        }
+    }
+    found
 }

@@ -1,14 +1,13 @@
-//! Databases of one value for each key, over a log: the database, its batches, and how one is opened.
+//! Databases of one value for each key, over an index and a log: the database, its batches, and how one is opened.
 #![tactic(auto)]
 
 pub mod batch;
 pub mod db;
-mod lists;
 mod open;
+mod operations;
 pub mod policy;
 pub mod proof;
 pub mod refusal;
-mod speculative;
 
 pub use open::{hasher, init, initial_root};
 pub use policy::Proportional;

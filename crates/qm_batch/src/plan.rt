@@ -101,7 +101,8 @@ fn updated<F, K: Key, V: VariableValue>(touches: &[Touch<F, K, V>]) -> usize
 // How many keys are live behind the operations of writes, where so many were live before them.
 fn live_behind<F, K: Key, V: VariableValue>(touches: &[Touch<F, K, V>], live: u64) -> u64
     requires { live ≤ 2 ^ 62 }
-    ensures { result ≡ live - count_by (λ t. is_some t.before) touches.now + count_by (λ t. parts.is_update (unordered_view K.bytes V.bytes t.operation)) touches.now }
+    ensures value { result ≡ live - count_by (λ t. is_some t.before) touches.now + count_by (λ t. parts.is_update (unordered_view K.bytes V.bytes t.operation)) touches.now }
+    ensures bound { result ≤ live + length touches.now }
 {
     live.saturating_sub(stood(touches) as u64) + updated(touches) as u64
 }
@@ -145,6 +146,7 @@ fn own_operations<
     ensures own { (lent base : List model.Operation) → IsLent C.Store F.shape D.bytes H.hash I.index_key (I.entries index.now) log.old lent → IsBase (map (λ l. l.value) layers.now) lent base
         → size ≡ length base → floor ≡ lives.floor base → live ≡ length (lives.live base)
         → IfSome (C.items log.old.store) (λ _. IfOk result (λ own. AreOwn (touch_views K.bytes V.bytes own.touches.items) own.live own.floor base (map (write_view K.bytes V.bytes) writes.now))) }
+    ensures count { IfOk result (λ own. own.live ≤ size + length own.touches.items) }
     ensures read { IsRead C.Store F.shape D.bytes H.hash log.old log.new }
     ensures error { IfErr result (IsReadError C.Store log.old log.new) }
     ensures whole { (lent : List model.Operation) → IsLent C.Store F.shape D.bytes H.hash I.index_key (I.entries index.now) log.old lent → NoneBelow log.old.tree.start lent
@@ -196,7 +198,9 @@ fn planned<F, K: Key, V: VariableValue>(
     metadata: Option<V>,
 ) -> Result<Plan<F, K, V>, AllocError>
     requires { size ≤ 2 ^ 62 }
-    ensures { IfOk result (λ plan. (base : List model.Operation) → size ≡ length base → All (IsFrom base) (touch_views K.bytes V.bytes own.touches.items)
+    ensures count { IfOk result (λ plan. length plan.operations ≡ length own.touches.items + 1) }
+    ensures live { IfOk result (λ plan. plan.live ≡ own.live) }
+    ensures plan { IfOk result (λ plan. (base : List model.Operation) → size ≡ length base → All (IsFrom base) (touch_views K.bytes V.bytes own.touches.items)
         → own.live ≡ length (lives.live (base ++ operations_of (touch_views K.bytes V.bytes own.touches.items)))
         → IsPlan plan base (committed (base ++ operations_of (touch_views K.bytes V.bytes own.touches.items)) own.floor (option_map V.bytes metadata))) }
 {
@@ -241,6 +245,7 @@ pub fn plain<
     ensures plan { (lent base : List model.Operation) → IsLent C.Store F.shape D.bytes H.hash I.index_key (I.entries index.now) log.old lent → IsBase (map (λ l. l.value) layers.now) lent base
         → size ≡ length base → floor ≡ lives.floor base → live ≡ length (lives.live base)
         → IfSome (C.items log.old.store) (λ _. IfOk result (λ plan. IsPlan plan base (stepped base (map (write_view K.bytes V.bytes) writes.now) (option_map V.bytes metadata)))) }
+    ensures live { IfOk result (λ plan. plan.live ≤ size + length plan.operations) }
     ensures read { IsRead C.Store F.shape D.bytes H.hash log.old log.new }
     ensures error { IfErr result (IsReadError C.Store log.old log.new) }
     ensures whole { (lent : List model.Operation) → IsLent C.Store F.shape D.bytes H.hash I.index_key (I.entries index.now) log.old lent → NoneBelow log.old.tree.start lent

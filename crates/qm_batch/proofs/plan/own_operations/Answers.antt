@@ -50,7 +50,7 @@ returns-clause-own g c = λ lent base is from size floor all.
     let new : count_by (λ t. is_update (view t).operation) c.deref-2.result.now ≡ count_by (λ (t : Touch). is_update t.operation) (map view touches) =
     ap (count_by (λ t. is_update (view t).operation)) c.deref-2.ensures.value ∙ count-shown (λ (t : Touch). is_update t.operation) view touches in
     let count : behind ≡ c.args.live - count_by (λ (t : Touch). is_some t.before) (map view touches) + count_by (λ (t : Touch). is_update t.operation) (map view touches) =
-    c.live_behind-behind.ensures ∙ ap₂ (λ a b. c.args.live - a + b) stood new in
+    c.live_behind-behind.ensures.value ∙ ap₂ (λ a b. c.args.live - a + b) stood new in
     let limit : entries ≡ min (length (map view touches) + c.args.live - behind + 1) (2 ^ 64 - 1) =
     omega (arith, c.saturating_add-entries.ensures, c.saturating_sub-inactive.ensures, c.len.ensures, c.in_ok-touches.touches.ok.0, length-map touches view) in
     told-then _ _ items (c.in_ok-sites.ensures.value lent base is from) (λ sites.

@@ -10,8 +10,8 @@ use Rattle.qm_batch.proofs.PlanOwns.{operations-push, own-length}
 use Rattle.qm_batch.proofs.PlanSteps.{own-plan}
 use Rattle.qm_batch.proofs.plan.planned.Goals as goal
 
-pub returns : goal.returns
-returns g c = λ base size from count.
+pub returns-clause-plan : goal.returns-clause-plan
+returns-clause-plan g c = λ base size from count.
     let key = g.K.ByteString.bytes in
     let value = g.V.ByteString.bytes in
     let view = touch_view key value in
