@@ -208,9 +208,7 @@ impl<F: Family, C: Store, D: Digest, H: Hasher<Digest = D> + Drop> AuthLog<F, C,
     {
         let size = batch.leaves().get();
         let digests = item_digests::<F, D, H>(alloc, &mut self.hasher, size, items)?;
-        let mut grown = batch.new_batch(alloc)?;
-        grown.add_leaf_digests(&digests)?;
-        grown.merkleize(alloc, &self.tree, &mut self.hasher)
+        grown_behind(alloc, &self.tree, &mut self.hasher, batch, &digests)
     }
 
     /// The root of the tree as a batch leaves it, the first of whose peaks are inactive.
@@ -553,6 +551,8 @@ fn grown_by_items<F: Family, D: Digest, H: Hasher<Digest = D>>(
 ) -> Result<MerkleizedBatch<F, D>, AllocError>
     requires { tree.now.leaves + length items.now ≤ 2 ^ 62 }
     ensures leaves { IfOk result (λ b. b.newest.tree.leaves ≡ tree.now.leaves + length items.now) }
+    ensures start { IfOk result (λ b. b.newest.tree.start ≡ tree.now.leaves) }
+    ensures older { IfOk result (λ b. b.older ≡ []) }
     ensures reach { IfOk result (λ b. Contains (stops b.newest.tree.leaves (all_layers b)) tree.now.leaves) }
     ensures history { (list : List (List ℕ)) → Stands F.shape D.bytes H.hash tree.now (digests_from H.hash F.shape 0 list)
         → IfOk result (λ b. IsHistory F.shape D.bytes H.hash (all_layers b) (digests_from H.hash F.shape 0 (list ++ map (λ v. v.items) items.now) ∷ digests_from H.hash F.shape 0 list ∷ [])) }
@@ -571,6 +571,8 @@ fn grown<F: Family, D: Digest, H: Hasher<Digest = D>>(
 ) -> Result<MerkleizedBatch<F, D>, AllocError>
     requires { tree.now.leaves + length digests.now ≤ 2 ^ 62 }
     ensures leaves { IfOk result (λ b. b.newest.tree.leaves ≡ tree.now.leaves + length digests.now) }
+    ensures start { IfOk result (λ b. b.newest.tree.start ≡ tree.now.leaves) }
+    ensures older { IfOk result (λ b. b.older ≡ []) }
     ensures reach { IfOk result (λ b. Contains (stops b.newest.tree.leaves (all_layers b)) tree.now.leaves) }
     ensures history { (list : List (List ℕ)) → Stands F.shape D.bytes H.hash tree.now list
         → IfOk result (λ b. IsHistory F.shape D.bytes H.hash (all_layers b) ((list ++ map D.bytes digests.now) ∷ list ∷ [])) }
@@ -578,6 +580,28 @@ fn grown<F: Family, D: Digest, H: Hasher<Digest = D>>(
     let mut batch = tree.new_batch(alloc);
     batch.add_leaf_digests(digests)?;
     batch.merkleize(alloc, tree, hasher)
+}
+
+// The batch that puts leaves with these digests behind the list of a batch on a tree.
+fn grown_behind<F: Family, D: Digest, H: Hasher<Digest = D>>(
+    alloc: Global,
+    tree: &Mem<F, D>,
+    hasher: &mut StandardHasher<H>,
+    batch: &MerkleizedBatch<F, D>,
+    digests: &[D],
+) -> Result<MerkleizedBatch<F, D>, AllocError>
+    requires room { batch.now.newest.tree.leaves + length digests.now ≤ 2 ^ 62 }
+    requires reach { Contains (stops batch.now.newest.tree.leaves (all_layers batch.now)) tree.now.leaves }
+    ensures leaves { IfOk result (λ b. b.newest.tree.leaves ≡ batch.now.newest.tree.leaves + length digests.now) }
+    ensures start { IfOk result (λ b. b.newest.tree.start ≡ batch.now.newest.tree.leaves) }
+    ensures older { IfOk result (λ b. b.older ≡ all_layers batch.now) }
+    ensures history { (list base : List (List ℕ)) (lists : List (List (List ℕ))) → Stands F.shape D.bytes H.hash tree.now list
+        → IsHistory F.shape D.bytes H.hash (all_layers batch.now) (base ∷ lists) → Contains (base ∷ lists) list
+        → IfOk result (λ b. IsHistory F.shape D.bytes H.hash (all_layers b) ((base ++ map D.bytes digests.now) ∷ base ∷ lists)) }
+{
+    let mut draft = batch.new_batch(alloc)?;
+    draft.add_leaf_digests(digests)?;
+    draft.merkleize(alloc, tree, hasher)
 }
 
 // The digest of the leaf at a location with these bytes.

@@ -1,0 +1,16 @@
+use Rattle.std.proofs.Common.{◌∙◌, ◌++◌, ◌∷◌, IfOk, ap, sym, subst}
+use Rattle.qm_merkle.specs.Batches.{Draft, all_layers, IsHistory}
+use Rattle.qm_store.proofs.Trees.{drafted-added}
+use Rattle.qm_store.proofs.log.grown_behind.Goals as goal
+
+pub returns-clause-history : goal.returns-clause-history
+returns-clause-history g c = λ list base lists stands history found.
+    let hash = g.H.Hasher.hash in
+    let shape = g.F.Family.shape in
+    let bytes = g.D.Digest.bytes in
+    let draft = c.add_leaf_digests.new.self in
+    let added = c.args.digests.now in
+    let is = c.in_ok-add_leaf_digests.ensures.ok ∙ ap (λ (d : Draft _). record d { added = d.added ++ added }) c.in_ok-draft.ensures in
+    subst (λ ds. IfOk c.merkleize.result (λ b. IsHistory shape bytes hash (all_layers b) (ds ∷ base ∷ lists)))
+    (drafted-added bytes draft base added (ap (λ (d : Draft _). d.replaced) is) (ap (λ (d : Draft _). d.added) is))
+    (c.merkleize.ensures.history list base lists (subst (λ (d : Draft _). IsHistory shape bytes hash d.layers (base ∷ lists)) (sym is) history) found stands)
