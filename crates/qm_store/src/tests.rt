@@ -203,6 +203,35 @@ fn proves_behind_a_batch(
 }
 
 #[test]
+fn a_batch_grows_behind_another(rt: HostRuntime) -> Result<(), Fail> {
+    let store = five(rt.alloc(), 100)?;
+    let more = last_items(rt.alloc())?;
+    match Log::open(rt.alloc(), store, Sha256::new(), 5) {
+        Ok(mut log) => {
+            let at_once = log.root_with(rt.alloc(), &more, 0)?;
+            let in_steps = root_in_steps(rt.alloc(), &mut log, &more)?;
+            assert_eq!(rt; in_steps.bytes(), at_once.bytes());
+            assert!(rt; in_steps.bytes().starts_with(&[0x75, 0x49, 0x31, 0xb5]));
+            assert_eq!(rt; log.size(), 5);
+        }
+        Err(refusal) => assert_eq!(rt; refused(refusal), (Error::Memory, None)),
+    }
+    Ok(())
+}
+
+// The root of a log of five items with three more, of which a batch puts the first behind it, and another the rest.
+fn root_in_steps(alloc: Global, log: &mut Log, more: &[Vec<u8>]) -> Result<Sha256Digest, AllocError>
+    requires five { log.old.tree.leaves ≡ 5 }
+    requires three { length more.now ≡ 3 }
+    ensures { log.new ≡ log.old }
+{
+    let (first, rest) = more.split_at(1);
+    let below = log.tree_with(alloc, first)?;
+    let batch = log.tree_behind(alloc, &below, rest)?;
+    log.speculative_root(alloc, &batch, 0)
+}
+
+#[test]
 fn each_failing_call_gives_back_the_store(rt: HostRuntime) -> Result<(), Fail> {
     for call in 1..9 {
         let store = five(rt.alloc(), call)?;
