@@ -1,6 +1,7 @@
-pub mod Unapplied
+pub mod Agreed
 pub mod Known
 pub mod Making
-pub mod Databases
-pub mod Proving
+pub mod Reading
 pub mod Telling
+pub mod Trees
+pub mod Unapplied

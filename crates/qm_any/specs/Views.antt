@@ -1,6 +1,5 @@
 -- The program's operations, writes and layers of an unordered database, over byte strings.
 use Rattle.std.specs.Prelude.{List, map}
-use Rattle.std.specs.Rc.{Rc}
 use Rattle.qm_model.specs.Operations.{Bytes, Operation}
 use Rattle.qm_model.specs.Policies.{Policy, proportional}
 use Rattle.qm_model.specs.Writes.{Write}

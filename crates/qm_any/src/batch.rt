@@ -218,7 +218,7 @@ impl<F: Family, D: Digest, K: Key, V: VariableValue> MerkleizedBatch<F, D, Unord
     /// Where the batch's own operations begin, and these.
     pub fn operations(&self) -> (Location<F>, &[Entry<F, K, V>])
         ensures base { result.0 ≡ self.now.bounds.base.size }
-        ensures own { (chain : Chain) (tip : List Operation) → IsMade D.bytes H.hash F.shape self.now chain tip → entry_views K.bytes V.bytes result.1.now ≡ own_operations chain tip }
+        ensures own { (hash : List ℕ → List ℕ) (chain : Chain) (tip : List Operation) → IsMade D.bytes hash F.shape self.now chain tip → entry_views K.bytes V.bytes result.1.now ≡ own_operations chain tip }
         ensures count { result.0 + length result.1.now ≡ self.now.bounds.tip.size }
     {
         (

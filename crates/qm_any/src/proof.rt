@@ -184,20 +184,23 @@ fn floor_at_end<
         return Ok(None);
     }
     let item = log.read(size - 1)?;
-    Ok(commit_floor_in::<K, V>(alloc, &item)?)
+    Ok(commit_floor_in::<F, K, V>(alloc, &item)?)
 }
 
 // The floor of the commit that the bytes spell, if they spell one.
-fn commit_floor_in<K: Key, V: VariableValue>(
+fn commit_floor_in<F, K: Key, V: VariableValue>(
     alloc: Global,
     item: &[u8],
 ) -> Result<Option<u64>, AllocError>
     ensures { (op : operations.Operation) → IsSpelling item.now op → IfOk result (λ f. f ≡ commit_floor op) }
 {
-    let operation: Option<Operation<(), Unordered<K, V>>> = Operation::decode(alloc, item)?;
-    match operation {
-        Some(Operation::CommitFloor(_, floor)) => Ok(Some(floor.get())),
-        _ => Ok(None),
+    let operation: Option<Entry<F, K, V>> = Operation::decode(alloc, item)?;
+    match &operation {
+        Some(operation) => match operation.has_floor() {
+            Some(floor) => Ok(Some(floor.get())),
+            None => Ok(None),
+        },
+        None => Ok(None),
     }
 }
 
