@@ -1,4 +1,4 @@
-use Rattle.std.proofs.Common.{◌≡◌, ◌∙◌, ap, sym, subst, map, ℕ, None}
+use Rattle.std.proofs.Common.{◌≡◌, ◌∙◌, ap, sym, subst, ℕ, None}
 use Rattle.std.specs.Prelude.{option_map}
 use Rattle.qm_model.specs.Operations.{Bytes}
 use Rattle.qm_model.specs.Live.{value_of}
