@@ -1,23 +1,28 @@
 -- What a fresh list stands for, proofs in the first operations of a list, and the floor of these.
-use Rattle.std.proofs.Common.{◌≡◌, ℕ, zero, suc, ◌*◌, ◌^◌, ◌/◌, ◌-◌, ◌≤◌, ◌<◌, List, [], ◌∷◌, ◌++◌, length, take, drop, map, refl, sym, ◌∙◌, ap, ap₂, subst, arith, Option, None, Some, IfSome, All, Contains}
-use Rattle.std.specs.Prelude.{count_by, nat_le, nat_eq, IsSome}
-use Rattle.std.proofs.lemmas.List.{nil_from_length}
-use Rattle.std.proofs.lemmas.List.Elements.{All-cons, All-nil}
+use Rattle.std.proofs.Common.{◌≡◌, ℕ, zero, suc, ◌+◌, ◌*◌, ◌^◌, ◌/◌, ◌-◌, ◌≤◌, ◌<◌, List, [], ◌∷◌, ◌++◌, length, take, drop, map, get_or, refl, sym, ◌∙◌, ap, ap₂, subst, arith, Option, None, Some, IfSome, All, Contains}
+use Rattle.std.specs.Prelude.{count_by, nat_le, nat_lt, IsSome, slice_get, option_and_then, if◌then◌else◌, Result, Ok, Err, IfOk}
+use Rattle.std.proofs.lemmas.Bool.{lt-ltb, le-ltb}
+use Rattle.std.proofs.lemmas.List.{nil_from_length, length-take-le, length-map, take-map, take_all, take_more, map-append, get_or-map, get_or_default}
+use Rattle.std.proofs.lemmas.List.Elements.{All-cons, All-nil, All-head, All-tail}
 use Rattle.std.proofs.lemmas.List.Sorted.{IsPermutation-refl}
 use Rattle.qm_model.specs.Batches.{Commitment}
 use Rattle.qm_model.specs.Causes.{Grows}
-use Rattle.qm_model.specs.Live.{floor}
-use Rattle.qm_model.specs.Operations.{Bytes, Operation, spelling, fresh, commit}
+use Rattle.qm_model.specs.Lines.{HistoricalFloorPruned, DataCorrupted, Merkle, FloorExceedsCommit, RangeOutOfBounds}
+use Rattle.qm_model.specs.Live.{floor, floor_after}
+use Rattle.qm_model.specs.Operations.{Bytes, Operation, update, delete, commit, spelling, fresh}
+use Rattle.qm_model.specs.Proofs.{Proof, proof_of, ops_proof}
+use Rattle.qm_model.specs.Refusals.{commit_floor, floor_before, end_refusal, proof_refusal, proof_count}
 use Rattle.qm_model.specs.Trees.{Shape, Node, leaf, end_of, peaks, row_from, digest_of, leaf_digest, root_of, root, ops_root, inactive_peaks}
 use Rattle.qm_model.specs.Families.{Births, IsFamily, HasPeaks, over}
-use Rattle.qm_base.specs.Decode.{IsUnordered}
-use Rattle.qm_index.specs.Translated.{capped}
+use Rattle.qm_base.specs.Decode.{IsUnordered, IsSpelling}
+use Rattle.qm_base.specs.Parts.{floor_of}
 use Rattle.qm_merkle.specs.Mems.{IsWhole}
 use Rattle.qm_merkle.proofs.Numbering.{birth-born}
 use Rattle.qm_merkle.proofs.Standing.{peaks-none, stands-new}
 use Rattle.qm_store.specs.declared.Store as store
 use Rattle.qm_store.specs.Log.{Log, IsLog, digests_from}
 use Rattle.qm_store.proofs.Leaves.{leaves-spelled}
+use Rattle.qm_batch.proofs.Reading.{spelled-once}
 use Rattle.qm_any.specs.Databases.{Database, IsDatabase}
 
 -- a node of two leaves or more ends past the first leaf
@@ -101,3 +106,112 @@ fresh-stands members bytes hash shape db log first is committed told logged = su
   live = refl;
   metadata = refl;
 })
+
+-- the floor of a commit, in the words of refusals
+pub floor-same : (op : Operation) → floor_of op ≡ commit_floor op
+floor-same (update k v n) = refl
+floor-same (delete k) = refl
+floor-same (commit m f) = refl
+
+-- the floor of a list that ends with a commit
+floor-commit : (g : ℕ) (list : List Operation) (i f : ℕ) → option_and_then commit_floor (slice_get list i) ≡ Some f → floor_after g (take (suc i) list) ≡ f
+floor-commit g [] i f is = cc
+floor-commit g (update k v n ∷ rest) zero f is = cc
+floor-commit g (delete k ∷ rest) zero f is = cc
+floor-commit g (commit m x ∷ rest) zero f is = cc
+floor-commit g (update k v n ∷ rest) (suc i) f is = floor-commit g rest i f is
+floor-commit g (delete k ∷ rest) (suc i) f is = floor-commit g rest i f is
+floor-commit g (commit m x ∷ rest) (suc i) f is = floor-commit x rest i f is
+
+pub floor-ended : (list : List Operation) (size f : ℕ) → floor_before list size ≡ Some f → f ≡ floor (take size list)
+floor-ended list zero f is = cc
+floor-ended list (suc i) f is = sym (floor-commit 0 list i f is)
+
+-- the bytes at a location among a list's spellings spell its operation there
+spelled-there : (list : List Operation) (i : ℕ) (bs : Bytes) → All IsUnordered list → slice_get (map spelling list) i ≡ Some bs → (op : Operation) × (slice_get list i ≡ Some op) × IsSpelling bs op
+spelled-there [] i bs all is = cc
+spelled-there (op ∷ rest) zero bs all is =
+    let same : spelling op ≡ bs = cc in
+    (op, refl, record { unordered = All-head IsUnordered op rest all; spelled = same })
+spelled-there (op ∷ rest) (suc i) bs all is = spelled-there rest i bs (All-tail IsUnordered op rest all) is
+
+-- the bytes before the end of the first operations tell their floor
+pub floor-read : (list : List Operation) (size i : ℕ) (bs : Bytes) (f : Option ℕ) → size ≡ suc i → All IsUnordered list → slice_get (map spelling list) i ≡ Some bs
+    → ((op : Operation) → IsSpelling bs op → f ≡ commit_floor op) → f ≡ floor_before list size
+floor-read list size i bs f after all is told =
+    let there = spelled-there list i bs all is in
+    told there.0 there.2 ∙ ap (option_and_then commit_floor) (sym there.1) ∙ ap (floor_before list) (sym after)
+
+-- a floor that is told is the one that stands there
+pub floor-found : (f g : Option ℕ) → f ≡ g → IfSome f (λ floor. g ≡ Some floor)
+floor-found None g is = tt
+floor-found (Some floor) g is = sym is
+
+-- the item at a location spells the operation there
+pub item-spells : {V : Type 0} (bytes : V → Bytes) (items : List V) (list : List Operation) (i : ℕ) (item : V) (d : Operation) → i < length items → item ≡ get_or items i item → map bytes items ≡ map spelling list
+    → All IsUnordered list → IsSpelling (bytes item) (get_or list i d)
+item-spells bytes items list i item d within is spelled all =
+    let long : length items ≡ length list = sym (length-map items bytes) ∙ ap length spelled ∙ length-map list spelling in
+    let inside : i < length list = omega (arith, within, long) in
+    let there : spelling (get_or list i d) ≡ bytes item =
+    sym (get_or-map spelling list i d (bytes item) inside) ∙ ap (λ l. get_or l i (bytes item)) (sym spelled) ∙ get_or-map bytes items i item (bytes item) within ∙ ap bytes (sym is) in
+    record { unordered = all i d inside; spelled = there }
+
+-- one more item that is decoded
+pub decoded-more : {X V : Type 0} (view : X → Operation) (bytes : V → Bytes) (items : List V) (list : List Operation) (i : ℕ) (item : V) (made made2 : List X) (x : X) → i < length items → item ≡ get_or items i item
+    → map bytes items ≡ map spelling list → All IsUnordered list → made2 ≡ made ++ x ∷ [] → IsSpelling (bytes item) (view x) → map view made ≡ take i list → map view made2 ≡ take (i + 1) list
+decoded-more view bytes items list i item made made2 x within is spelled all pushed spells so_far =
+    let long : length items ≡ length list = sym (length-map items bytes) ∙ ap length spelled ∙ length-map list spelling in
+    let inside : i < length list = omega (arith, within, long) in
+    let there : view x ≡ get_or list i (view x) = spelled-once (bytes item) (view x) (get_or list i (view x)) spells (item-spells bytes items list i item (view x) within is spelled all) in
+    ap (map view) pushed ∙ map-append view made (x ∷ []) ∙ ap₂ (λ ys y. ys ++ y ∷ []) so_far there ∙ sym (take_more list i (view x) inside)
+
+-- all items are decoded
+pub decoded-all : {X V : Type 0} (view : X → Operation) (bytes : V → Bytes) (items : List V) (list : List Operation) (i : ℕ) (made : List X) → length items ≤ i → map bytes items ≡ map spelling list → map view made ≡ take i list → map view made ≡ list
+decoded-all view bytes items list i made past spelled is =
+    let long : length items ≡ length list = sym (length-map items bytes) ∙ ap length spelled ∙ length-map list spelling in
+    is ∙ take_all i list (omega (arith, past, long))
+
+-- the proof over the spellings of the first operations is theirs
+pub proof-spelled : (hash : Bytes → Bytes) (shape : Shape) (list : List Operation) (size inactive a b : ℕ) → size ≤ length list → inactive ≡ inactive_peaks shape size (floor (take size list))
+    → proof_of hash shape (digests_from hash shape 0 (take size (map spelling list))) inactive a b ≡ ops_proof hash shape (take size list) a b
+proof-spelled hash shape list size inactive a b within is =
+    ap₂ (λ leaves n. proof_of hash shape leaves n a b)
+    (ap (digests_from hash shape 0) (take-map spelling size list) ∙ sym (leaves-spelled hash shape 0 (take size list)))
+    (is ∙ ap (λ n. inactive_peaks shape n (floor (take size list))) (sym (length-take-le size list within)))
+
+-- why there is no proof, case by case
+module _ (list : List Operation) (size start : ℕ) where
+  pub refused-past : length list < size → proof_refusal list size start ≡ Some (Merkle (RangeOutOfBounds size))
+  refused-past past = ap (λ b. if b then Some (Merkle (RangeOutOfBounds size)) else end_refusal size start (floor_before list size)) (lt-ltb (length list) size past)
+
+  ended : (o : Option ℕ) → size ≤ length list → o ≡ floor_before list size → proof_refusal list size start ≡ end_refusal size start o
+  ended o within is = ap (λ b. if b then Some (Merkle (RangeOutOfBounds size)) else end_refusal size start (floor_before list size)) (le-ltb (length list) size within) ∙ ap (end_refusal size start) (sym is)
+
+  pub refused-end : size ≤ length list → None ≡ floor_before list size → proof_refusal list size start ≡ Some (HistoricalFloorPruned size)
+  refused-end within is = ended None within is
+
+  module _ (f : ℕ) (within : size ≤ length list) (some : 0 < size) (is : Some f ≡ floor_before list size) where
+    pub refused-floor : size ≤ f → proof_refusal list size start ≡ Some (DataCorrupted FloorExceedsCommit)
+    refused-floor over =
+        let low : size - 1 < f = omega (arith, over, some) in
+        ended (Some f) within is ∙ ap (λ b. if b then Some (DataCorrupted FloorExceedsCommit) else (if nat_lt start size then None else Some (Merkle (RangeOutOfBounds start)))) (lt-ltb (size - 1) f low)
+
+    in_floor : f < size → proof_refusal list size start ≡ (if nat_lt start size then None else Some (Merkle (RangeOutOfBounds start)))
+    in_floor low =
+        let high : f ≤ size - 1 = omega (arith, low) in
+        ended (Some f) within is ∙ ap (λ b. if b then Some (DataCorrupted FloorExceedsCommit) else (if nat_lt start size then None else Some (Merkle (RangeOutOfBounds start)))) (le-ltb (size - 1) f high)
+
+    pub refused-start : f < size → size ≤ start → proof_refusal list size start ≡ Some (Merkle (RangeOutOfBounds start))
+    refused-start low over = in_floor low ∙ ap (λ b. if b then None else Some (Merkle (RangeOutOfBounds start))) (le-ltb start size over)
+
+    pub offered-there : f < size → start < size → proof_refusal list size start ≡ None
+    offered-there low before = in_floor low ∙ ap (λ b. if b then None else Some (Merkle (RangeOutOfBounds start))) (lt-ltb start size before)
+
+-- the proof in all operations is the list's
+pub proof-whole : {X E : Type 0} (r : Result X E) (hash : Bytes → Bytes) (shape : Shape) (list : List Operation) (view : X → Proof) (n a m : ℕ) → n ≡ length list
+    → IfOk r (λ x. view x ≡ ops_proof hash shape (take n list) a (a + proof_count n a m)) → IfOk r (λ x. view x ≡ ops_proof hash shape list a (a + proof_count (length list) a m))
+proof-whole (Err e) hash shape list view n a m all is = tt
+proof-whole (Ok x) hash shape list view n a m all is =
+    is ∙ ap (λ k. ops_proof hash shape (take k list) a (a + proof_count k a m)) all
+    ∙ ap (λ l. ops_proof hash shape l a (a + proof_count (length list) a m)) (take_all (length list) list (omega arith))
