@@ -1,12 +1,13 @@
 -- What a fresh list stands for, proofs in the first operations of a list, and the floor of these.
 use Rattle.std.proofs.Common.{◌≡◌, ℕ, zero, suc, ◌+◌, ◌*◌, ◌^◌, ◌/◌, ◌-◌, ◌≤◌, ◌<◌, List, [], ◌∷◌, ◌++◌, length, take, drop, map, get_or, refl, sym, ◌∙◌, ap, ap₂, subst, arith, Option, None, Some, IfSome, All, Contains}
-use Rattle.std.specs.Prelude.{count_by, nat_le, nat_lt, IsSome, slice_get, option_and_then, if◌then◌else◌, Result, Ok, Err, IfOk}
+use Rattle.std.specs.Prelude.{count_by, nat_le, nat_lt, IsSome, slice_get, option_and_then, if◌then◌else◌, Result, Ok, Err, IfOk, IfErr}
 use Rattle.std.proofs.lemmas.Bool.{lt-ltb, le-ltb}
-use Rattle.std.proofs.lemmas.List.{nil_from_length, length-take-le, length-map, take-map, take_all, take_more, map-append, get_or-map, get_or_default}
-use Rattle.std.proofs.lemmas.List.Elements.{All-cons, All-nil, All-head, All-tail}
+use Rattle.std.proofs.lemmas.List.{nil_from_length, length-take-le, length-map, take-map, drop-map, take_all, take_more, map-append, get_or-map}
+use Rattle.std.proofs.lemmas.List.Elements.{All-cons, All-nil, All-head, All-tail, All-take, All-drop}
 use Rattle.std.proofs.lemmas.List.Sorted.{IsPermutation-refl}
 use Rattle.qm_model.specs.Batches.{Commitment}
 use Rattle.qm_model.specs.Causes.{Grows}
+use Rattle.qm_model.specs.Lines as lines
 use Rattle.qm_model.specs.Lines.{HistoricalFloorPruned, DataCorrupted, Merkle, FloorExceedsCommit, RangeOutOfBounds}
 use Rattle.qm_model.specs.Live.{floor, floor_after}
 use Rattle.qm_model.specs.Operations.{Bytes, Operation, update, delete, commit, spelling, fresh}
@@ -16,6 +17,8 @@ use Rattle.qm_model.specs.Trees.{Shape, Node, leaf, end_of, peaks, row_from, dig
 use Rattle.qm_model.specs.Families.{Births, IsFamily, HasPeaks, over}
 use Rattle.qm_base.specs.Decode.{IsUnordered, IsSpelling}
 use Rattle.qm_base.specs.Parts.{floor_of}
+use Rattle.qm_base.specs.declared.error.Error.{Error}
+use Rattle.qm_base.specs.declared.error.Error.TheVariants as errors
 use Rattle.qm_merkle.specs.Mems.{IsWhole}
 use Rattle.qm_merkle.proofs.Numbering.{birth-born}
 use Rattle.qm_merkle.proofs.Standing.{peaks-none, stands-new}
@@ -24,6 +27,7 @@ use Rattle.qm_store.specs.Log.{Log, IsLog, digests_from}
 use Rattle.qm_store.proofs.Leaves.{leaves-spelled}
 use Rattle.qm_batch.proofs.Reading.{spelled-once}
 use Rattle.qm_any.specs.Databases.{Database, IsDatabase}
+use Rattle.qm_any.specs.Refusals.{IsDue}
 
 -- a node of two leaves or more ends past the first leaf
 wide : (i h : ℕ) → 2 ≤ suc i * 2 ^ suc h
@@ -215,3 +219,31 @@ proof-whole (Err e) hash shape list view n a m all is = tt
 proof-whole (Ok x) hash shape list view n a m all is =
     is ∙ ap (λ k. ops_proof hash shape (take k list) a (a + proof_count k a m)) all
     ∙ ap (λ l. ops_proof hash shape l a (a + proof_count (length list) a m)) (take_all (length list) list (omega arith))
+
+-- the spellings of a part of a list
+pub part-spelled : (list : List Operation) (a n : ℕ) → take n (drop a (map spelling list)) ≡ map spelling (take n (drop a list))
+part-spelled list a n = ap (take n) (drop-map spelling a list) ∙ take-map spelling n (drop a list)
+
+pub part-unordered : (list : List Operation) (a n : ℕ) → All IsUnordered list → All IsUnordered (take n (drop a list))
+part-unordered list a n all = All-take IsUnordered n (drop a list) (All-drop IsUnordered a list all)
+
+-- want of memory is due to nothing
+pub memory-due : {X : Type 0} (r : Result X Error) (y e : Error) (due : Option lines.Refused) → r ≡ Err y → y ≡ e → e ≡ errors.Memory → IfErr r (λ e. IsDue e due)
+memory-due r y e due is from memory = subst (λ x. IfErr x (λ e. IsDue e due)) (sym (is ∙ ap Err (from ∙ memory))) tt
+
+-- a call that answered was not refused
+pub ok-err : {X E : Type 0} (r : Result X E) (x : X) (e : E) → r ≡ Ok x → r ≡ Err e → ⊥
+ok-err r x e ok err = cc
+
+-- what is not below is at or past it
+pub at-or-past : (a b : ℕ) → (b < a → ⊥) → a ≤ b
+at-or-past a b past = omega (arith, past)
+
+-- what is told of a store that tells its items
+pub told-there : {X : Type 0} (P : Type 0) (o : Option X) → IsSome o → IfSome o (λ _. P) → P
+told-there P None some p = cc
+told-there P (Some x) some p = p
+
+-- what holds of three things holds of others that are the same
+pub three : {A B C : Type 0} (T : A → B → C → Type 0) {a a2 : A} {b b2 : B} {c c2 : C} → a ≡ a2 → b ≡ b2 → c ≡ c2 → T a b c → T a2 b2 c2
+three T {a} {a2} {b} {b2} {c} {c2} p q r is = subst (λ x. T a2 b2 x) r (subst (λ x. T a2 x c) q (subst (λ x. T x b c) p is))
