@@ -1,1 +1,249 @@
--- To be filled.
+-- What a fresh list stands for, proofs in the first operations of a list, and the floor of these.
+use Rattle.std.proofs.Common.{◌≡◌, ℕ, zero, suc, ◌+◌, ◌*◌, ◌^◌, ◌/◌, ◌-◌, ◌≤◌, ◌<◌, List, [], ◌∷◌, ◌++◌, length, take, drop, map, get_or, refl, sym, ◌∙◌, ap, ap₂, subst, arith, Option, None, Some, IfSome, All, Contains}
+use Rattle.std.specs.Prelude.{count_by, nat_le, nat_lt, IsSome, slice_get, option_and_then, if◌then◌else◌, Result, Ok, Err, IfOk, IfErr}
+use Rattle.std.proofs.lemmas.Bool.{lt-ltb, le-ltb}
+use Rattle.std.proofs.lemmas.List.{nil_from_length, length-take-le, length-map, take-map, drop-map, take_all, take_more, map-append, get_or-map}
+use Rattle.std.proofs.lemmas.List.Elements.{All-cons, All-nil, All-head, All-tail, All-take, All-drop}
+use Rattle.std.proofs.lemmas.List.Sorted.{IsPermutation-refl}
+use Rattle.qm_model.specs.Batches.{Commitment}
+use Rattle.qm_model.specs.Causes.{Grows}
+use Rattle.qm_model.specs.Lines as lines
+use Rattle.qm_model.specs.Lines.{HistoricalFloorPruned, DataCorrupted, Merkle, FloorExceedsCommit, RangeOutOfBounds}
+use Rattle.qm_model.specs.Live.{floor, floor_after}
+use Rattle.qm_model.specs.Operations.{Bytes, Operation, update, delete, commit, spelling, fresh}
+use Rattle.qm_model.specs.Proofs.{Proof, proof_of, ops_proof}
+use Rattle.qm_model.specs.Refusals.{commit_floor, floor_before, end_refusal, proof_refusal, proof_count}
+use Rattle.qm_model.specs.Trees.{Shape, Node, leaf, end_of, peaks, row_from, digest_of, leaf_digest, root_of, root, ops_root, inactive_peaks}
+use Rattle.qm_model.specs.Families.{Births, IsFamily, HasPeaks, over}
+use Rattle.qm_base.specs.Decode.{IsUnordered, IsSpelling}
+use Rattle.qm_base.specs.Parts.{floor_of}
+use Rattle.qm_base.specs.declared.error.Error.{Error}
+use Rattle.qm_base.specs.declared.error.Error.TheVariants as errors
+use Rattle.qm_merkle.specs.Mems.{IsWhole}
+use Rattle.qm_merkle.proofs.Numbering.{birth-born}
+use Rattle.qm_merkle.proofs.Standing.{peaks-none, stands-new}
+use Rattle.qm_store.specs.declared.Store as store
+use Rattle.qm_store.specs.Log.{Log, IsLog, digests_from}
+use Rattle.qm_store.proofs.Leaves.{leaves-spelled}
+use Rattle.qm_batch.proofs.Reading.{spelled-once}
+use Rattle.qm_any.specs.Databases.{Database, IsDatabase}
+use Rattle.qm_any.specs.Refusals.{IsDue}
+
+-- a node of two leaves or more ends past the first leaf
+wide : (i h : ℕ) → 2 ≤ suc i * 2 ^ suc h
+wide i h = omega (arith, some h)
+  where
+    some : (k : ℕ) → 1 ≤ 2 ^ k
+    some zero = omega arith
+    some (suc k) = omega (arith, some k)
+
+module _ (shape : Shape) (births : Births) (family : IsFamily shape births) (peaked : HasPeaks shape) where
+  -- a row of nodes over one leaf is that leaf
+  row-one : (hs : List ℕ) → All (λ p. shape.birth p ≤ 1) (row_from 0 hs) → Contains (row_from 0 hs) (leaf 0) → row_from 0 hs ≡ leaf 0 ∷ []
+  row-one [] born found = absurd (omega (arith, found.1))
+  row-one (suc h ∷ hs) born found =
+      let x : Node = record { height = suc h; index = 0 / 2 ^ suc h } in
+      absurd (omega (arith, born 0 x (omega arith), family.inside x, wide x.index h))
+  row-one (zero ∷ []) born found = refl
+  row-one (zero ∷ zero ∷ hs) born found =
+      let x : Node = record { height = 0; index = 1 } in
+      let past : end_of x ≡ 2 = refl in
+      absurd (omega (arith, born 1 x (omega arith), family.inside x, past))
+  row-one (zero ∷ suc h ∷ hs) born found =
+      let x : Node = record { height = suc h; index = 1 / 2 ^ suc h } in
+      absurd (omega (arith, born 1 x (omega arith), family.inside x, wide x.index h))
+
+  pub peaks-one : peaks shape 1 ≡ leaf 0 ∷ []
+  peaks-one =
+      let first : shape.birth (leaf 0) ≡ 1 = ap shape.birth (sym (family.first 0)) ∙ birth-born shape births family 0 0 (family.some 0) in
+      let two : end_of (over (leaf 0)) ≡ 2 = refl in
+      let low : shape.birth (leaf 0) ≤ 1 = omega (arith, first) in
+      let high : 1 < shape.birth (over (leaf 0)) = omega (arith, family.inside (over (leaf 0)), two) in
+      row-one (shape.heights 1) (peaked.born 1 (omega arith)) (peaked.all 1 (leaf 0) (omega arith) low high)
+
+  -- the root over the first commit's leaf is that of a fresh list
+  pub fresh-rooted : (hash : Bytes → Bytes) (digest : Bytes) → digest ≡ leaf_digest hash (shape.position (leaf 0)) (spelling (commit None 0)) → root_of hash 1 0 (digest ∷ []) ≡ ops_root hash shape fresh
+  fresh-rooted hash digest is =
+      let d = leaf_digest hash (shape.position (leaf 0)) (spelling (commit None 0)) in
+      ap (λ x. root_of hash 1 0 (x ∷ [])) is
+      ∙ sym (ap (λ ps. root_of hash 1 (count_by (λ p. nat_le (end_of p) 0) ps) (map (digest_of hash shape (d ∷ [])) ps)) peaks-one)
+
+-- a log of no items
+pub log-none : {C D : Type 0} (members : store.Ghosts C) (shape : Shape) (births : Births) → IsFamily shape births → HasPeaks shape → (bytes : D → Bytes) (hash : Bytes → Bytes) (log : Log C D)
+    → IsWhole shape log.tree → log.tree.start ≡ 0 → log.tree.leaves ≡ 0 → log.tree.start ≡ members.start log.store → IsLog members shape bytes hash log []
+log-none members shape births family peaked bytes hash log whole start leaves first = record {
+  tree = stands-new shape births family peaked bytes hash log.tree start leaves
+      (nil_from_length log.tree.pins (whole.pinned ∙ ap (λ n. length (peaks shape n)) start ∙ ap length (peaks-none shape births family peaked)));
+  start = first;
+  size = leaves;
+  items = subst (λ n. IfSome (members.items log.store) (λ xs. take (0 - n) xs ≡ drop n [])) (sym start) (nothing (members.items log.store));
+}
+  where
+    nothing : (o : Option (List Bytes)) → IfSome o (λ xs. take 0 xs ≡ [])
+    nothing None = tt
+    nothing (Some xs) = refl
+
+-- the root over a list's spellings is its operations root
+pub root-spelled : (hash : Bytes → Bytes) (shape : Shape) (list : List Bytes) (ops : List Operation) (inactive : ℕ) → list ≡ map spelling ops → inactive ≡ inactive_peaks shape (length ops) (floor ops)
+    → root hash shape (digests_from hash shape 0 list) inactive ≡ ops_root hash shape ops
+root-spelled hash shape list ops inactive spelled is =
+    ap₂ (root hash shape) (ap (digests_from hash shape 0) spelled ∙ sym (leaves-spelled hash shape 0 ops)) is
+
+-- a store that told its items still does when these have grown
+pub grown-told : {A : Type 0} (o new : Option (List A)) (more : List A) (P : Type 0) → Grows o new more → (IsSome new → P) → IfSome o (λ _. P)
+grown-told None new more P grows give = tt
+grown-told (Some xs) new more P grows give = give (subst IsSome (sym grows) refl)
+
+-- an operation of a fresh list is one of an unordered database
+fresh-unordered : All IsUnordered fresh
+fresh-unordered = All-cons IsUnordered (commit None 0) [] (tt, omega arith) (All-nil IsUnordered)
+
+-- an empty index, a log of the fresh list and its commitment are a database of the fresh list
+pub fresh-stands : {C D : Type 0} (members : store.Ghosts C) (bytes : D → Bytes) (hash : Bytes → Bytes) (shape : Shape) (db : Database C D) (log : Log C D) (first : Commitment)
+    → db ≡ record { entries = []; log = log; commitment = first; floor = 0; live = 0; metadata = None }
+    → first ≡ record { size = 1; root = ops_root hash shape fresh } → IsSome (members.items log.store) → IsLog members shape bytes hash log (map spelling fresh) → IsDatabase members bytes hash shape db fresh
+fresh-stands members bytes hash shape db log first is committed told logged = subst (λ d. IsDatabase members bytes hash shape d fresh) (sym is) (record {
+  told = told;
+  lent = record { indexed = λ k. IsPermutation-refl []; logged = logged; unordered = fresh-unordered };
+  commitment = committed;
+  floor = refl;
+  live = refl;
+  metadata = refl;
+})
+
+-- the floor of a commit, in the words of refusals
+pub floor-same : (op : Operation) → floor_of op ≡ commit_floor op
+floor-same (update k v n) = refl
+floor-same (delete k) = refl
+floor-same (commit m f) = refl
+
+-- the floor of a list that ends with a commit
+floor-commit : (g : ℕ) (list : List Operation) (i f : ℕ) → option_and_then commit_floor (slice_get list i) ≡ Some f → floor_after g (take (suc i) list) ≡ f
+floor-commit g [] i f is = cc
+floor-commit g (update k v n ∷ rest) zero f is = cc
+floor-commit g (delete k ∷ rest) zero f is = cc
+floor-commit g (commit m x ∷ rest) zero f is = cc
+floor-commit g (update k v n ∷ rest) (suc i) f is = floor-commit g rest i f is
+floor-commit g (delete k ∷ rest) (suc i) f is = floor-commit g rest i f is
+floor-commit g (commit m x ∷ rest) (suc i) f is = floor-commit x rest i f is
+
+pub floor-ended : (list : List Operation) (size f : ℕ) → floor_before list size ≡ Some f → f ≡ floor (take size list)
+floor-ended list zero f is = cc
+floor-ended list (suc i) f is = sym (floor-commit 0 list i f is)
+
+-- the bytes at a location among a list's spellings spell its operation there
+spelled-there : (list : List Operation) (i : ℕ) (bs : Bytes) → All IsUnordered list → slice_get (map spelling list) i ≡ Some bs → (op : Operation) × (slice_get list i ≡ Some op) × IsSpelling bs op
+spelled-there [] i bs all is = cc
+spelled-there (op ∷ rest) zero bs all is =
+    let same : spelling op ≡ bs = cc in
+    (op, refl, record { unordered = All-head IsUnordered op rest all; spelled = same })
+spelled-there (op ∷ rest) (suc i) bs all is = spelled-there rest i bs (All-tail IsUnordered op rest all) is
+
+-- the bytes before the end of the first operations tell their floor
+pub floor-read : (list : List Operation) (size i : ℕ) (bs : Bytes) (f : Option ℕ) → size ≡ suc i → All IsUnordered list → slice_get (map spelling list) i ≡ Some bs
+    → ((op : Operation) → IsSpelling bs op → f ≡ commit_floor op) → f ≡ floor_before list size
+floor-read list size i bs f after all is told =
+    let there = spelled-there list i bs all is in
+    told there.0 there.2 ∙ ap (option_and_then commit_floor) (sym there.1) ∙ ap (floor_before list) (sym after)
+
+-- a floor that is told is the one that stands there
+pub floor-found : (f g : Option ℕ) → f ≡ g → IfSome f (λ floor. g ≡ Some floor)
+floor-found None g is = tt
+floor-found (Some floor) g is = sym is
+
+-- the item at a location spells the operation there
+pub item-spells : {V : Type 0} (bytes : V → Bytes) (items : List V) (list : List Operation) (i : ℕ) (item : V) (d : Operation) → i < length items → item ≡ get_or items i item → map bytes items ≡ map spelling list
+    → All IsUnordered list → IsSpelling (bytes item) (get_or list i d)
+item-spells bytes items list i item d within is spelled all =
+    let long : length items ≡ length list = sym (length-map items bytes) ∙ ap length spelled ∙ length-map list spelling in
+    let inside : i < length list = omega (arith, within, long) in
+    let there : spelling (get_or list i d) ≡ bytes item =
+    sym (get_or-map spelling list i d (bytes item) inside) ∙ ap (λ l. get_or l i (bytes item)) (sym spelled) ∙ get_or-map bytes items i item (bytes item) within ∙ ap bytes (sym is) in
+    record { unordered = all i d inside; spelled = there }
+
+-- one more item that is decoded
+pub decoded-more : {X V : Type 0} (view : X → Operation) (bytes : V → Bytes) (items : List V) (list : List Operation) (i : ℕ) (item : V) (made made2 : List X) (x : X) → i < length items → item ≡ get_or items i item
+    → map bytes items ≡ map spelling list → All IsUnordered list → made2 ≡ made ++ x ∷ [] → IsSpelling (bytes item) (view x) → map view made ≡ take i list → map view made2 ≡ take (i + 1) list
+decoded-more view bytes items list i item made made2 x within is spelled all pushed spells so_far =
+    let long : length items ≡ length list = sym (length-map items bytes) ∙ ap length spelled ∙ length-map list spelling in
+    let inside : i < length list = omega (arith, within, long) in
+    let there : view x ≡ get_or list i (view x) = spelled-once (bytes item) (view x) (get_or list i (view x)) spells (item-spells bytes items list i item (view x) within is spelled all) in
+    ap (map view) pushed ∙ map-append view made (x ∷ []) ∙ ap₂ (λ ys y. ys ++ y ∷ []) so_far there ∙ sym (take_more list i (view x) inside)
+
+-- all items are decoded
+pub decoded-all : {X V : Type 0} (view : X → Operation) (bytes : V → Bytes) (items : List V) (list : List Operation) (i : ℕ) (made : List X) → length items ≤ i → map bytes items ≡ map spelling list → map view made ≡ take i list → map view made ≡ list
+decoded-all view bytes items list i made past spelled is =
+    let long : length items ≡ length list = sym (length-map items bytes) ∙ ap length spelled ∙ length-map list spelling in
+    is ∙ take_all i list (omega (arith, past, long))
+
+-- the proof over the spellings of the first operations is theirs
+pub proof-spelled : (hash : Bytes → Bytes) (shape : Shape) (list : List Operation) (size inactive a b : ℕ) → size ≤ length list → inactive ≡ inactive_peaks shape size (floor (take size list))
+    → proof_of hash shape (digests_from hash shape 0 (take size (map spelling list))) inactive a b ≡ ops_proof hash shape (take size list) a b
+proof-spelled hash shape list size inactive a b within is =
+    ap₂ (λ leaves n. proof_of hash shape leaves n a b)
+    (ap (digests_from hash shape 0) (take-map spelling size list) ∙ sym (leaves-spelled hash shape 0 (take size list)))
+    (is ∙ ap (λ n. inactive_peaks shape n (floor (take size list))) (sym (length-take-le size list within)))
+
+-- why there is no proof, case by case
+module _ (list : List Operation) (size start : ℕ) where
+  pub refused-past : length list < size → proof_refusal list size start ≡ Some (Merkle (RangeOutOfBounds size))
+  refused-past past = ap (λ b. if b then Some (Merkle (RangeOutOfBounds size)) else end_refusal size start (floor_before list size)) (lt-ltb (length list) size past)
+
+  ended : (o : Option ℕ) → size ≤ length list → o ≡ floor_before list size → proof_refusal list size start ≡ end_refusal size start o
+  ended o within is = ap (λ b. if b then Some (Merkle (RangeOutOfBounds size)) else end_refusal size start (floor_before list size)) (le-ltb (length list) size within) ∙ ap (end_refusal size start) (sym is)
+
+  pub refused-end : size ≤ length list → None ≡ floor_before list size → proof_refusal list size start ≡ Some (HistoricalFloorPruned size)
+  refused-end within is = ended None within is
+
+  module _ (f : ℕ) (within : size ≤ length list) (some : 0 < size) (is : Some f ≡ floor_before list size) where
+    pub refused-floor : size ≤ f → proof_refusal list size start ≡ Some (DataCorrupted FloorExceedsCommit)
+    refused-floor over =
+        let low : size - 1 < f = omega (arith, over, some) in
+        ended (Some f) within is ∙ ap (λ b. if b then Some (DataCorrupted FloorExceedsCommit) else (if nat_lt start size then None else Some (Merkle (RangeOutOfBounds start)))) (lt-ltb (size - 1) f low)
+
+    in_floor : f < size → proof_refusal list size start ≡ (if nat_lt start size then None else Some (Merkle (RangeOutOfBounds start)))
+    in_floor low =
+        let high : f ≤ size - 1 = omega (arith, low) in
+        ended (Some f) within is ∙ ap (λ b. if b then Some (DataCorrupted FloorExceedsCommit) else (if nat_lt start size then None else Some (Merkle (RangeOutOfBounds start)))) (le-ltb (size - 1) f high)
+
+    pub refused-start : f < size → size ≤ start → proof_refusal list size start ≡ Some (Merkle (RangeOutOfBounds start))
+    refused-start low over = in_floor low ∙ ap (λ b. if b then None else Some (Merkle (RangeOutOfBounds start))) (le-ltb start size over)
+
+    pub offered-there : f < size → start < size → proof_refusal list size start ≡ None
+    offered-there low before = in_floor low ∙ ap (λ b. if b then None else Some (Merkle (RangeOutOfBounds start))) (lt-ltb start size before)
+
+-- the proof in all operations is the list's
+pub proof-whole : {X E : Type 0} (r : Result X E) (hash : Bytes → Bytes) (shape : Shape) (list : List Operation) (view : X → Proof) (n a m : ℕ) → n ≡ length list
+    → IfOk r (λ x. view x ≡ ops_proof hash shape (take n list) a (a + proof_count n a m)) → IfOk r (λ x. view x ≡ ops_proof hash shape list a (a + proof_count (length list) a m))
+proof-whole (Err e) hash shape list view n a m all is = tt
+proof-whole (Ok x) hash shape list view n a m all is =
+    is ∙ ap (λ k. ops_proof hash shape (take k list) a (a + proof_count k a m)) all
+    ∙ ap (λ l. ops_proof hash shape l a (a + proof_count (length list) a m)) (take_all (length list) list (omega arith))
+
+-- the spellings of a part of a list
+pub part-spelled : (list : List Operation) (a n : ℕ) → take n (drop a (map spelling list)) ≡ map spelling (take n (drop a list))
+part-spelled list a n = ap (take n) (drop-map spelling a list) ∙ take-map spelling n (drop a list)
+
+pub part-unordered : (list : List Operation) (a n : ℕ) → All IsUnordered list → All IsUnordered (take n (drop a list))
+part-unordered list a n all = All-take IsUnordered n (drop a list) (All-drop IsUnordered a list all)
+
+-- want of memory is due to nothing
+pub memory-due : {X : Type 0} (r : Result X Error) (y e : Error) (due : Option lines.Refused) → r ≡ Err y → y ≡ e → e ≡ errors.Memory → IfErr r (λ e. IsDue e due)
+memory-due r y e due is from memory = subst (λ x. IfErr x (λ e. IsDue e due)) (sym (is ∙ ap Err (from ∙ memory))) tt
+
+-- a call that answered was not refused
+pub ok-err : {X E : Type 0} (r : Result X E) (x : X) (e : E) → r ≡ Ok x → r ≡ Err e → ⊥
+ok-err r x e ok err = cc
+
+-- what is not below is at or past it
+pub at-or-past : (a b : ℕ) → (b < a → ⊥) → a ≤ b
+at-or-past a b past = omega (arith, past)
+
+-- what is told of a store that tells its items
+pub told-there : {X : Type 0} (P : Type 0) (o : Option X) → IsSome o → IfSome o (λ _. P) → P
+told-there P None some p = cc
+told-there P (Some x) some p = p
+
+-- what holds of three things holds of others that are the same
+pub three : {A B C : Type 0} (T : A → B → C → Type 0) {a a2 : A} {b b2 : B} {c c2 : C} → a ≡ a2 → b ≡ b2 → c ≡ c2 → T a b c → T a2 b2 c2
+three T {a} {a2} {b} {b2} {c} {c2} p q r is = subst (λ x. T a2 b2 x) r (subst (λ x. T a2 x c) q (subst (λ x. T x b c) p is))

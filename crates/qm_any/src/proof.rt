@@ -127,6 +127,8 @@ fn proved_over<
     ensures cause { IfErr result (λ e. e ≡ Error.Journal JournalError.Store → Rose (C.faults log.old.store) (C.faults log.new.store)) }
     ensures read { IsRead C.Store F.shape D.bytes H.hash log.old log.new }
 {
+    // The log has at most 2^62 items, and is kept from where its store is.
+    log.bounds();
     let floor = offered::<F, C, D, H, K, V>(alloc, log, size, start)?;
     let inactive = F::inactive_peaks(Location::new(size), Location::new(floor));
     let (proof, items) = log.historical_proof(alloc, size, inactive, start, max)?;
