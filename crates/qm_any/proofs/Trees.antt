@@ -1,5 +1,5 @@
 -- The trees that batches keep, over a log at one of their lists.
-use Rattle.std.proofs.Common.{◌≡◌, ℕ, ◌+◌, List, [], ◌∷◌, ◌++◌, length, map, refl, sym, ◌∙◌, ap, ap₂, subst, append-nil}
+use Rattle.std.proofs.Common.{◌≡◌, ℕ, ◌+◌, true, false, List, [], ◌∷◌, ◌++◌, length, map, refl, sym, ◌∙◌, ap, ap₂, subst, append-nil}
 use Rattle.std.specs.Prelude.{All, Contains}
 use Rattle.std.proofs.lemmas.List.{length-map, length-append}
 use Rattle.std.proofs.lemmas.List.Elements.{All-nil, All-cons, All-contains, All-weaker}
@@ -7,7 +7,10 @@ use Rattle.qm_model.specs.Operations.{Bytes, Operation, spelling}
 use Rattle.qm_model.specs.Live.{floor}
 use Rattle.qm_model.specs.Trees.{Shape, root, ops_root, inactive_peaks, leaves_from, digest_of, peaks}
 use Rattle.qm_model.specs.Proofs.{proof_of, ops_proof, pins_at}
-use Rattle.qm_model.proofs.Chains.{Contains-first, Contains-more}
+use Rattle.qm_model.specs.Batches.{Commitment, Chain, IsKnown, commitment, readable}
+use Rattle.qm_model.proofs.Chains.{Contains-first, Contains-more, readable-known}
+use Rattle.qm_chain.specs.Bounds.{Bounds, IsBounds, knows}
+use Rattle.qm_chain.proofs.Fits.{at-readable}
 use Rattle.qm_merkle.specs.Batches.{Layer, IsHistory}
 use Rattle.qm_store.specs.Log.{digests_from}
 use Rattle.qm_store.proofs.Leaves.{leaves-spelled, digests_from-append, length-digests_from}
@@ -92,3 +95,10 @@ module _ (hash : Bytes → Bytes) (shape : Shape) where
             history = subst (λ l. IsHistory shape bytes hash next.layers (digests_from hash shape 0 l ∷ own ∷ kept.lists)) are history;
             through = All-cons then list older (more list (Contains-first own kept.lists)) (All-weaker among then more older kept.through);
           }
+
+-- a batch at a list that it knows is not refused as stale
+pub known-read : (root : List Operation → Bytes) (bounds : Bounds) (chain : Chain) (tip list : List Operation) (current : Commitment) {P : Type 0} → IsBounds root bounds chain tip → current ≡ commitment root list → IsKnown list chain tip
+    → knows bounds current ≡ false → P
+known-read root bounds chain tip list current is at known stale =
+    let read : knows bounds current ≡ true = at-readable root bounds chain tip current is ∙ ap (λ k. readable root k chain tip) at ∙ readable-known root list chain tip known in
+    absurd (cc (stale, read))
