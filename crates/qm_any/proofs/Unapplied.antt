@@ -1,14 +1,18 @@
 -- What a list lacks of the list that layers lead to, and the loops over these.
 use Rattle.std.proofs.Common.{◌≡◌, ℕ, ◌≤◌, ◌<◌, ◌+◌, Bool, true, false, List, [], ◌∷◌, ◌++◌, refl, ap, ap₂, sym, ◌∙◌, subst, arith, append_assoc, length, take, drop, map, get_or, ◌⊎◌, inl, inr, ⊎_elim}
-use Rattle.std.specs.Prelude.{Contains, nat_le, if◌then◌else◌}
+use Rattle.std.specs.Prelude.{Contains, nat_le, if◌then◌else◌, Result, Ok, Err, IfOk, IfErr}
 use Rattle.std.proofs.lemmas.Bool.Decides.{leb_tells}
-use Rattle.std.proofs.lemmas.List.{append-nil, length-append, map_more, map-append, nil_from_length}
+use Rattle.std.proofs.lemmas.List.{take_all, append-nil, length-append, map_more, map-append, nil_from_length}
 use Rattle.std.proofs.Math.Seq.{drop-append_seam}
-use Rattle.qm_model.specs.Operations.{Operation}
+use Rattle.qm_model.specs.Causes.{Grows}
+use Rattle.qm_model.specs.Operations.{Bytes, Operation}
+use Rattle.qm_store.specs.declared.Store as store
+use Rattle.qm_store.specs.Log.{Log, HasGrown}
 use Rattle.qm_batch.specs.Changes.{LeadTo}
 use Rattle.qm_batch.specs.Layers.{Layer, LeadThrough}
 use Rattle.qm_batch.proofs.Members.{first_or_later, Contains-first, Contains-later}
-use Rattle.qm_any.specs.Databases.{unapplied, operations_in, bases, AreJoined}
+use Rattle.qm_any.specs.Given.{AppendedPart}
+use Rattle.qm_any.specs.Databases.{Database, unapplied, operations_in, bases, AreJoined}
 
 -- one more behind a list is what h makes of one more of another's elements
 pub mapped-behind : {A B X Y : Type 0} (h : B → Y) (f : A → B) (view : X → Y) (first : List Y) (xs : List A) (i : ℕ) (d : A) (made more : List X) (x : X) → i < length xs → d ≡ get_or xs i d
@@ -124,3 +128,24 @@ lacked-behind layers tip older n leads among =
     subst (λ m. drop m tip ≡ operations_in (unapplied m layers)) here.2
     (ap (drop (length lent)) (lacked-lists layers tip older lent leads (Contains-later tip older lent here.1)).0
     ∙ drop-append_seam lent (operations_in (unapplied (length lent) layers)))
+
+-- what holds of an answer, by what is known of it
+pub ok-then : {X E : Type 0} (r : Result X E) {P Q : X → Type 0} → IfOk r P → ((x : X) → P x → Q x) → IfOk r Q
+ok-then (Ok x) p give = give x p
+ok-then (Err e) p give = tt
+
+-- and of an error
+pub err-then : {X E : Type 0} (r : Result X E) {P Q : E → Type 0} → IfErr r P → ((e : E) → P e → Q e) → IfErr r Q
+err-then (Ok x) p give = tt
+err-then (Err e) p give = give e p
+
+-- what grew by all of these grew by a first part of them
+pub part-whole : {C : Type 0} (members : store.Ghosts C) (old new : C) (more : List Bytes) → HasGrown members old new more → AppendedPart members old new more
+part-whole members old new more grown = record {
+  start = grown.start;
+  items = (length more, subst (Grows (members.items old) (members.items new)) (sym (take_all (length more) more (omega arith))) grown.items);
+}
+
+-- a database with the log that it has
+pub with-log : {C D : Type 0} (db : Database C D) (log : Log C D) → log ≡ db.log → record db { log = log } ≡ db
+with-log db log same = ap (λ l. record db { log = l }) same
