@@ -4,7 +4,7 @@ use Rattle.std.specs.Prelude.{All, Contains, IfSome, IsSome, IfOk, OnOk, is_ok, 
 use Rattle.std.specs.List.{cons_option, AllByRecursion as Each}
 use Rattle.std.proofs.lemmas.Bool.{le-ltb}
 use Rattle.std.proofs.lemmas.Bool.Decides.{nat_tests}
-use Rattle.std.proofs.lemmas.List.{take-map, take_more, take-append-drop, length-append, length-drop, length-map, map-append}
+use Rattle.std.proofs.lemmas.List.{take-map, take_more, take_all, take-append-le, take-append-drop, length-append, length-drop, length-map, map-append}
 use Rattle.std.proofs.lemmas.List.Elements.{All-cons, All-nil, All-tail, All-take, All-drop, All-append, All-weaker, All-map, All-from_recursion, recursion_from_All, Contains-append_right}
 use Rattle.qm_model.specs.Operations.{Bytes, Operation, update, delete, commit, spelling, field, four_bytes, eight_bytes, optional_field, metadata_field}
 use Rattle.qm_model.specs.Batches.{Commitment, Chain, Kept}
@@ -21,6 +21,7 @@ use Rattle.qm_base.specs.declared.error.Error.TheVariants as errors
 use Rattle.qm_base.specs.declared.error.JournalError.TheVariants as journal
 use Rattle.qm_base.specs.declared.error.MerkleError.TheVariants as merkle
 use Rattle.qm_merkle.specs.Batches.{stops}
+use Rattle.qm_chain.specs.Bounds.{Bounds}
 use Rattle.qm_batch.specs.Layers.{Layer, LeadThrough, IsStep}
 use Rattle.qm_batch.specs.Views.{Plan, IsPlan}
 use Rattle.qm_any.specs.Databases.{Made, AreAgreed, AreJoined, AreLinked, IsMade, bases, bases_of, states, child_boundary, child_made, child_tips, kept_by, stepped}
@@ -295,5 +296,16 @@ module _ (base : List Operation) (ws : List Write) (policy : Policy) (meta : Opt
 
 -- what holds of a call's value where a store tells its items holds of it, since the store does
 pub told-ok : {X T E : Type 0} (o : Option X) (r : Result T E) (P : T → Type 0) → IsSome o → IfSome o (λ _. IfOk r P) → IfOk r P
-told-ok None r P told is = absurd told
+told-ok None r P told is = cc
 told-ok (Some x) r P told is = is
+
+-- the tips that a child keeps: its parent's own, and the first of those that the parent keeps
+pub kept-tips : {A : Type 0} (view : A → Commitment) (bounds : Bounds) (keep i : ℕ) (older kept tips : List A) → map view older ≡ bounds.ancestors → 0 < keep → keep ≤ suc (length bounds.ancestors)
+    → kept ≡ take (keep - 1) older → length kept ≤ i → map view tips ≡ bounds.tip ∷ map view (take i kept) → map view tips ≡ child_tips keep bounds
+kept-tips view bounds keep i older kept tips same some few front all is =
+    let less : keep - 1 ≤ length bounds.ancestors = omega arith in
+    let count : suc (keep - 1) ≡ keep = omega arith in
+    is
+    ∙ ap (λ cs. bounds.tip ∷ map view cs) (take_all i kept all ∙ front)
+    ∙ ap (λ cs. bounds.tip ∷ cs) (sym (take-map view (keep - 1) older) ∙ ap (take (keep - 1)) same ∙ sym (take-append-le (keep - 1) bounds.ancestors (bounds.db ∷ []) less))
+    ∙ ap (λ n. child_tips n bounds) count
