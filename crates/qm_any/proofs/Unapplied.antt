@@ -1,1 +1,126 @@
--- To be filled.
+-- What a list lacks of the list that layers lead to, and the loops over these.
+use Rattle.std.proofs.Common.{◌≡◌, ℕ, ◌≤◌, ◌<◌, ◌+◌, Bool, true, false, List, [], ◌∷◌, ◌++◌, refl, ap, ap₂, sym, ◌∙◌, subst, arith, append_assoc, length, take, drop, map, get_or, ◌⊎◌, inl, inr, ⊎_elim}
+use Rattle.std.specs.Prelude.{Contains, nat_le, if◌then◌else◌}
+use Rattle.std.proofs.lemmas.Bool.Decides.{leb_tells}
+use Rattle.std.proofs.lemmas.List.{append-nil, length-append, map_more, map-append, nil_from_length}
+use Rattle.std.proofs.Math.Seq.{drop-append_seam}
+use Rattle.qm_model.specs.Operations.{Operation}
+use Rattle.qm_batch.specs.Changes.{LeadTo}
+use Rattle.qm_batch.specs.Layers.{Layer, LeadThrough}
+use Rattle.qm_batch.proofs.Members.{first_or_later, Contains-first, Contains-later}
+use Rattle.qm_any.specs.Databases.{unapplied, operations_in, bases, AreJoined}
+
+-- one more behind a list is what h makes of one more of another's elements
+pub mapped-behind : {A B X Y : Type 0} (h : B → Y) (f : A → B) (view : X → Y) (first : List Y) (xs : List A) (i : ℕ) (d : A) (made more : List X) (x : X) → i < length xs → d ≡ get_or xs i d
+    → more ≡ made ++ x ∷ [] → view x ≡ h (f d) → map view made ≡ first ++ map h (map f (take i xs)) → map view more ≡ first ++ map h (map f (take (i + 1) xs))
+mapped-behind h f view first xs i d made more x within here pushed shown so_far =
+    ap (map view) pushed ∙ map-append view made (x ∷ [])
+    ∙ ap₂ (λ ys y. ys ++ y ∷ []) so_far (shown ∙ ap (λ z. h (f z)) here)
+    ∙ append_assoc first (map h (map f (take i xs))) (h (f (get_or xs i d)) ∷ [])
+    ∙ ap (λ ys. first ++ ys) (sym (ap (map h) (map_more f xs i d within) ∙ map-append h (map f (take i xs)) (f (get_or xs i d) ∷ [])))
+
+-- the newest layer is lacking where it starts from the list's end or later, and nothing is where it starts before
+pub unapplied-more : (n : ℕ) (layer : Layer) (layers : List Layer) → nat_le n layer.base ≡ true → unapplied n (layer ∷ layers) ≡ layer ∷ unapplied n layers
+unapplied-more n layer layers from = ap (λ b. if b then layer ∷ unapplied n layers else []) from
+
+pub unapplied-none : (n : ℕ) (layer : Layer) (layers : List Layer) → nat_le n layer.base ≡ false → unapplied n (layer ∷ layers) ≡ []
+unapplied-none n layer layers before = ap (λ b. if b then layer ∷ unapplied n layers else []) before
+
+-- no layer starts behind where the newest ends
+pub joined-below : (size from : ℕ) (layers : List Layer) → AreJoined size layers → Contains (size ∷ bases layers) from → from ≤ size
+joined-below size from [] joined among = ⊎_elim
+    (λ (same : size ≡ from). omega (arith, same))
+    (λ (none : Contains [] from). absurd (omega (arith, none.1)))
+    (first_or_later size [] from among)
+joined-below size from (layer ∷ layers) joined among = ⊎_elim
+    (λ (same : size ≡ from). omega (arith, same))
+    (λ (older : Contains (bases (layer ∷ layers)) from). omega (arith, joined.0, joined-below layer.base from layers joined.1 older))
+    (first_or_later size (bases (layer ∷ layers)) from among)
+
+-- what a list lacks makes it as long as the newest layer's
+pub joined-counts : (size from : ℕ) (layers : List Layer) → AreJoined size layers → Contains (size ∷ bases layers) from → from + length (operations_in (unapplied from layers)) ≡ size
+joined-counts size from [] joined among = ⊎_elim
+    (λ (same : size ≡ from). omega (arith, same))
+    (λ (none : Contains [] from). absurd (omega (arith, none.1)))
+    (first_or_later size [] from among)
+joined-counts size from (layer ∷ layers) joined among = ⊎_elim
+    (λ (high : (nat_le from layer.base ≡ true) × (from ≤ layer.base)).
+    let older : Contains (layer.base ∷ bases layers) from = ⊎_elim
+        (λ (same : size ≡ from). (0, omega arith, omega (arith, same, high.1, joined.0)))
+        (λ (within : Contains (layer.base ∷ bases layers) from). within)
+        (first_or_later size (layer.base ∷ bases layers) from among) in
+    ap (λ ls. from + length (operations_in ls)) (unapplied-more from layer layers high.0)
+    ∙ omega (arith, length-append (operations_in (unapplied from layers)) layer.operations, joined-counts layer.base from layers joined.1 older, joined.0))
+    (λ (low : (nat_le from layer.base ≡ false) × (layer.base < from)).
+    ap (λ ls. from + length (operations_in ls)) (unapplied-none from layer layers low.0)
+    ∙ ⊎_elim
+        (λ (same : size ≡ from). omega (arith, same))
+        (λ (within : Contains (layer.base ∷ bases layers) from). absurd (omega (arith, low.1, joined-below layer.base from layers joined.1 within)))
+        (first_or_later size (layer.base ∷ bases layers) from among))
+    (leb_tells from layer.base)
+
+-- no list on the way is longer than the last
+pub lead-shorter : (layers : List Layer) (tip : List Operation) (older : List (List Operation)) (lent : List Operation) → LeadThrough layers tip older → Contains (tip ∷ older) lent → length lent ≤ length tip
+lead-shorter [] tip [] lent leads among = ⊎_elim
+    (λ (same : tip ≡ lent). omega (arith, ap length same))
+    (λ (none : Contains [] lent). absurd (omega (arith, none.1)))
+    (first_or_later tip [] lent among)
+lead-shorter [] tip (base ∷ older) lent leads among = absurd leads
+lead-shorter (layer ∷ layers) tip [] lent leads among = absurd leads
+lead-shorter (layer ∷ layers) tip (base ∷ older) lent leads among = ⊎_elim
+    (λ (same : tip ≡ lent). omega (arith, ap length same))
+    (λ (within : Contains (base ∷ older) lent).
+    omega (arith, ap length leads.0.list, length-append base layer.operations, lead-shorter layers base older lent leads.1 within))
+    (first_or_later tip (base ∷ older) lent among)
+
+-- the list and what it lacks are the list that the layers lead to, and the lacking changes lead from it to this
+abbrev pub IsLacked : List Layer → List Operation → List Operation → Type 0
+IsLacked lacked lent tip = (tip ≡ lent ++ operations_in lacked) × LeadTo (map (λ l. l.changes) lacked) lent tip
+
+pub lacked-lists : (layers : List Layer) (tip : List Operation) (older : List (List Operation)) (lent : List Operation) → LeadThrough layers tip older → Contains (tip ∷ older) lent → IsLacked (unapplied (length lent) layers) lent tip
+lacked-lists [] tip [] lent leads among = ⊎_elim
+    (λ (same : tip ≡ lent). (same ∙ sym (append-nil lent), sym same))
+    (λ (none : Contains [] lent). absurd (omega (arith, none.1)))
+    (first_or_later tip [] lent among)
+lacked-lists [] tip (base ∷ older) lent leads among = absurd leads
+lacked-lists (layer ∷ layers) tip [] lent leads among = absurd leads
+lacked-lists (layer ∷ layers) tip (base ∷ older) lent leads among = ⊎_elim
+    (λ (high : (nat_le (length lent) layer.base ≡ true) × (length lent ≤ layer.base)).
+    let rest = lacked-lists layers base older lent leads.1 (⊎_elim
+        (λ (same : tip ≡ lent).
+        let none : layer.operations ≡ [] = nil_from_length layer.operations (omega (arith, high.1, leads.0.size, ap length same, ap length leads.0.list, length-append base layer.operations)) in
+        (0, omega arith, sym (append-nil base) ∙ ap (λ ops. base ++ ops) (sym none) ∙ sym leads.0.list ∙ same))
+        (λ (within : Contains (base ∷ older) lent). within)
+        (first_or_later tip (base ∷ older) lent among)) in
+    let lacked = unapplied (length lent) layers in
+    subst (λ ls. IsLacked ls lent tip) (sym (unapplied-more (length lent) layer layers high.0)) (
+      leads.0.list ∙ ap (λ ops. ops ++ layer.operations) rest.0 ∙ append_assoc lent (operations_in lacked) layer.operations,
+      (base, leads.0.changes, rest.1),
+    ))
+    (λ (low : (nat_le (length lent) layer.base ≡ false) × (layer.base < length lent)).
+    subst (λ ls. IsLacked ls lent tip) (sym (unapplied-none (length lent) layer layers low.0))
+    (⊎_elim
+        (λ (same : tip ≡ lent). (same ∙ sym (append-nil lent), sym same))
+        (λ (within : Contains (base ∷ older) lent). absurd (omega (arith, low.1, leads.0.size, lead-shorter layers base older lent leads.1 within)))
+        (first_or_later tip (base ∷ older) lent among)))
+    (leb_tells (length lent) layer.base)
+
+-- where a layer starts a list of the way ends
+pub base-list : (layers : List Layer) (tip : List Operation) (older : List (List Operation)) (n : ℕ) → LeadThrough layers tip older → Contains (bases layers) n → (l : List Operation) × Contains older l × (length l ≡ n)
+base-list [] tip older n leads among = absurd (omega (arith, among.1))
+base-list (layer ∷ layers) tip [] n leads among = absurd leads
+base-list (layer ∷ layers) tip (base ∷ older) n leads among = ⊎_elim
+    (λ (same : layer.base ≡ n). (base, Contains-first base older, sym leads.0.size ∙ same))
+    (λ (within : Contains (bases layers) n).
+    let rest = base-list layers base older n leads.1 within in
+    (rest.0, Contains-later base older rest.0 rest.1, rest.2))
+    (first_or_later layer.base (bases layers) n among)
+
+-- what lies behind a size where a layer starts is what a list of this size lacks
+pub lacked-behind : (layers : List Layer) (tip : List Operation) (older : List (List Operation)) (n : ℕ) → LeadThrough layers tip older → Contains (bases layers) n → drop n tip ≡ operations_in (unapplied n layers)
+lacked-behind layers tip older n leads among =
+    let here = base-list layers tip older n leads among in
+    let lent = here.0 in
+    subst (λ m. drop m tip ≡ operations_in (unapplied m layers)) here.2
+    (ap (drop (length lent)) (lacked-lists layers tip older lent leads (Contains-later tip older lent here.1)).0
+    ∙ drop-append_seam lent (operations_in (unapplied (length lent) layers)))

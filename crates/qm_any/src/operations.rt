@@ -93,15 +93,13 @@ pub(crate) fn unapplied_of<F, K: Key, V: VariableValue>(
 ) -> &[Step<F, K, V>]
     ensures { map (λ l. l.value) result.now ≡ unapplied size (map (λ l. l.value) steps.now) }
 {
-    let mut count = 0;
-    for step in steps {
-        if step.base() < size {
-            break;
+    for at in 0..steps.len() {
+        if steps[at].base() < size {
+            let (newest, _) = steps.split_at(at);
+            return newest;
         }
-        count += 1;
     }
-    let (newest, _) = steps.split_at(count);
-    newest
+    steps
 }
 
 /// The spellings of what steps, newest first, put behind a list.
