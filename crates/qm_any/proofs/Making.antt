@@ -118,6 +118,33 @@ module _ {D : Type 0} (parent : Made D) (keep : ℕ) (few : keep ≤ suc (length
         (All-weaker (Contains older) (Contains (tree.leaves ∷ older)) (λ n has. contains-behind tree.leaves n older has) (parent.bounds.tip.size ∷ bases (take keep parent.layers)) kept));
       }
 
+module _ {D : Type 0} (root : Bytes) (meta : Option Bytes) where
+  -- a merkleized batch of these parts
+  abbrev sealed_with : Commitment → Commitment → ℕ → List Commitment → ℕ → List Layer → KeptTree D → ℕ → Made D
+  sealed_with base db size tips low layers tree count = record {
+    bounds = record { base = base; db = db; tip = record { size = size; root = root }; ancestors = tips; inactivity_floor = low };
+    layers = layers;
+    tree = tree;
+    live = count;
+    metadata = meta;
+  }
+
+  -- the batch of a plan on its parent, by its parts
+  pub sealed-child : (parent : Made D) (keep : ℕ) (plan : Plan) (tree : KeptTree D) (base db : Commitment) (size low count : ℕ) (tips : List Commitment) (layers : List Layer) (kept : KeptTree D)
+      → base ≡ parent.bounds.tip → db ≡ child_boundary keep parent.bounds → size ≡ tree.leaves → tips ≡ child_tips keep parent.bounds → low ≡ plan.floor
+      → layers ≡ record { base = parent.bounds.tip.size; operations = plan.operations; changes = plan.changes } ∷ take keep parent.layers → kept ≡ tree → count ≡ plan.live
+      → child_made parent keep plan tree root meta ≡ sealed_with base db size tips low layers kept count
+  sealed-child parent keep plan tree base db size low count tips layers kept below at end on floor steps same live =
+      let own : List Layer = record { base = parent.bounds.tip.size; operations = plan.operations; changes = plan.changes } ∷ take keep parent.layers in
+      sym (ap (λ x. sealed_with x db size tips low layers kept count) below
+      ∙ ap (λ x. sealed_with parent.bounds.tip x size tips low layers kept count) at
+      ∙ ap (λ x. sealed_with parent.bounds.tip (child_boundary keep parent.bounds) x tips low layers kept count) end
+      ∙ ap (λ x. sealed_with parent.bounds.tip (child_boundary keep parent.bounds) tree.leaves x low layers kept count) on
+      ∙ ap (λ x. sealed_with parent.bounds.tip (child_boundary keep parent.bounds) tree.leaves (child_tips keep parent.bounds) x layers kept count) floor
+      ∙ ap (λ x. sealed_with parent.bounds.tip (child_boundary keep parent.bounds) tree.leaves (child_tips keep parent.bounds) plan.floor x kept count) steps
+      ∙ ap (λ x. sealed_with parent.bounds.tip (child_boundary keep parent.bounds) tree.leaves (child_tips keep parent.bounds) plan.floor own x count) same
+      ∙ ap (sealed_with parent.bounds.tip (child_boundary keep parent.bounds) tree.leaves (child_tips keep parent.bounds) plan.floor own tree) live)
+
 -- the operations of a plan stand behind its base list
 pub plan-behind : (plan : Plan) (base tip : List Operation) → IsPlan plan base tip → tip ≡ base ++ plan.operations
 plan-behind plan base tip is = sym (take-append-drop (length base) tip) ∙ ap₂ (λ front back. front ++ back) is.changes.begins (sym is.operations)
