@@ -336,3 +336,19 @@ kept-tips view bounds keep i older kept tips same some few front all is =
     ∙ ap (λ cs. bounds.tip ∷ map view cs) (take_all i kept all ∙ front)
     ∙ ap (λ cs. bounds.tip ∷ cs) (sym (take-map view (keep - 1) older) ∙ ap (take (keep - 1)) same ∙ sym (take-append-le (keep - 1) bounds.ancestors (bounds.db ∷ []) less))
     ∙ ap (λ n. child_tips n bounds) count
+
+-- an error that tells what is too long is of no batch left behind
+pub too_long-fresh : (spelt : List Bytes) (size : ℕ) (e : Error) → IsTooLong spelt size e → e ≢ errors.StaleBatch
+too_long-fresh spelt size e (inl long) stale = absurd (cc (long.2, stale))
+too_long-fresh spelt size e (inr many) stale = absurd (cc (many.2, stale))
+
+-- nor of a store that failed
+pub too_long-cause : (spelt : List Bytes) (size : ℕ) (e : Error) {P : Type 0} → IsTooLong spelt size e → e ≡ errors.Journal journal.Store → P
+too_long-cause spelt size e (inl long) fault = absurd (cc (long.2, fault))
+too_long-cause spelt size e (inr many) fault = absurd (cc (many.2, fault))
+
+-- an error that tells what is too long of the operations of a plan tells it of the own operations of its list
+pub plan-refused : (plan : Plan) (base tip : List Operation) (items : List Bytes) (size : ℕ) (e : Error) → IsPlan plan base tip → items ≡ map spelling plan.operations → size ≡ length base + length plan.operations
+    → IsTooLong items size e → IsTooLong (own_spellings base tip) (length tip) e
+plan-refused plan base tip items size e is spelt count long =
+    subst (λ n. IsTooLong (own_spellings base tip) n e) (count ∙ plan-length plan base tip is) (subst (λ xs. IsTooLong xs size e) (spelt ∙ ap (map spelling) is.operations) long)
