@@ -5,9 +5,9 @@ ghost use Rattle.qm_model.specs.Live as lives;
 ghost use Rattle.qm_model.specs.Operations.{Operation, spelling};
 ghost use Rattle.qm_model.specs.Proofs.{ops_proof, pins_at};
 ghost use Rattle.qm_model.specs.Trees.{ops_root};
-ghost use Rattle.qm_merkle.specs.Batches.{stops};
+ghost use Rattle.qm_merkle.specs.Batches.{all_layers, stops, IsHistory};
 ghost use Rattle.qm_merkle.specs.Proofs.{proof_view};
-ghost use Rattle.qm_store.specs.Log.{IsLog};
+ghost use Rattle.qm_store.specs.Log.{digests_from, IsLog};
 ghost use Rattle.qm_any.specs.KeptTrees.{IsKeptTree};
 
 use qm_base::{Digest, Error, Hasher, Location, MerkleError};
@@ -92,7 +92,12 @@ impl<F: Family, D: Digest> KeptTree<F, D> {
     ) -> Result<MerkleizedBatch<F, D>, AllocError>
         requires room { self.now.leaves + length items.now ≤ 2 ^ 62 }
         requires reach { Contains (stops self.now.leaves self.now.layers) log.old.tree.leaves }
+        ensures history { (list base : List (List ℕ)) (lists : List (List (List ℕ))) → IsLog C.Store F.shape D.bytes H.hash log.old list
+            → IsHistory F.shape D.bytes H.hash self.now.layers (digests_from H.hash F.shape 0 base ∷ lists) → Contains (digests_from H.hash F.shape 0 base ∷ lists) (digests_from H.hash F.shape 0 list)
+            → IfOk result (λ b. IsHistory F.shape D.bytes H.hash (all_layers b) (digests_from H.hash F.shape 0 (base ++ map (λ v. v.items) items.now) ∷ digests_from H.hash F.shape 0 base ∷ lists)) }
         ensures leaves { IfOk result (λ b. b.newest.tree.leaves ≡ self.now.leaves + length items.now) }
+        ensures start { IfOk result (λ b. b.newest.tree.start ≡ self.now.leaves) }
+        ensures older { IfOk result (λ b. b.older ≡ self.now.layers) }
         ensures same { log.new ≡ log.old }
     {
         match &self.batch {
