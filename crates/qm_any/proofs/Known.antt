@@ -1,12 +1,11 @@
 -- The lists of a chain, and where steps start from them.
-use Rattle.std.proofs.Common.{◌≡◌, ◌∙◌, ap, ap₂, sym, subst, refl, inl, inr, arith, ◌≤◌, ◌<◌, ◌⊎◌, ℕ, zero, suc, List, [], ◌∷◌, ◌++◌, length, map, take, get_or}
+use Rattle.std.proofs.Common.{◌≡◌, ◌∙◌, ap, ap₂, sym, subst, refl, inl, inr, arith, ◌≤◌, ℕ, zero, suc, List, [], ◌∷◌, ◌++◌, length, map, take, get_or}
 use Rattle.std.specs.Prelude.{Contains}
 use Rattle.std.proofs.lemmas.List.{length-map}
 use Rattle.qm_model.specs.Operations.{Bytes, Operation}
 use Rattle.qm_model.specs.Batches.{Commitment, Chain, Kept, IsKnown, IsOnChain, boundary_list, oldest_base, commitment}
 use Rattle.qm_model.specs.Trees.{Shape, ops_root}
 use Rattle.qm_model.proofs.Chains.{Contains-first, Contains-more}
-use Rattle.qm_chain.specs.Bounds.{Bounds}
 use Rattle.qm_batch.specs.Layers.{IsBase}
 use Rattle.qm_any.specs.Databases.{Made, IsMade, AreLinked, bases_of, kept_by, child_boundary, child_tips, list_commitment}
 

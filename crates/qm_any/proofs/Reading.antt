@@ -1,1 +1,83 @@
--- To be filled.
+-- What reads leave of a database, and what they find.
+use Rattle.std.proofs.Common.{◌≡◌, ◌∙◌, ◌≤◌, ◌<◌, ◌+◌, ap, sym, subst, refl, ℕ, List, [], ◌∷◌, ◌++◌, length, map, take, get_or, Option, None, Some, true, false}
+use Rattle.std.specs.Prelude.{IsSome, IfSome, bytes_eq, option_map}
+use Rattle.std.proofs.lemmas.List.{map_more}
+use Rattle.std.proofs.lemmas.List.Sums.{fold_push}
+use Rattle.std.proofs.lemmas.Slice.Eq.{bytes_eq-Decides}
+use Rattle.qm_model.specs.Operations.{Bytes, Operation}
+use Rattle.qm_model.specs.Live.{Live, live, live_of, value_of}
+use Rattle.qm_model.specs.Trees.{Shape}
+use Rattle.qm_model.specs.Writes.{Write, put_write, write_of, last_writes}
+use Rattle.qm_model.proofs.Chains.{Contains-first}
+use Rattle.qm_model.proofs.LastWrites.{write_of-same, write_of-other}
+use Rattle.qm_base.specs.declared.error.Error.{Error}
+use Rattle.qm_index.specs.Translated.{capped}
+use Rattle.qm_store.specs.declared.Store as store
+use Rattle.qm_batch.specs.Changes.{update_of}
+use Rattle.qm_batch.specs.Layers.{Layer, IsBase}
+use Rattle.qm_batch.specs.Lent.{IsReadError}
+use Rattle.qm_batch.proofs.Reading.{read-none, read-then, error-then, lent-then}
+use Rattle.qm_any.specs.Databases.{Database, IsDatabase, IsLeft}
+
+module _ {C D : Type 0} (members : store.Ghosts C) (bytes : D → Bytes) (hash : Bytes → Bytes) (shape : Shape) where
+  -- no read leaves a database as it was
+  pub left-none : (a : Database C D) → IsLeft members bytes hash shape a a
+  left-none a = record { rest = refl; read = read-none members shape bytes hash a.log }
+
+  -- and reads after reads do
+  pub left-then : (a b c : Database C D) → IsLeft members bytes hash shape a b → IsLeft members bytes hash shape b c → IsLeft members bytes hash shape a c
+  left-then a b c before after = record {
+    rest = after.rest ∙ ap (λ (x : Database C D). record x { log = c.log }) before.rest;
+    read = read-then members shape bytes hash a.log b.log c.log before.read after.read;
+  }
+
+  -- an error after reads
+  pub left-error : (a b c : Database C D) (e : Error) → IsLeft members bytes hash shape a b → IsReadError members b.log c.log e → IsReadError members a.log c.log e
+  left-error a b c e before error = error-then members shape bytes hash a.log b.log c.log e before.read error
+
+  -- a database stands after reads for the list that it stood for
+  pub left-database : (old new : Database C D) (list : List Operation) → IsLeft members bytes hash shape old new → IsDatabase members bytes hash shape old list → IsDatabase members bytes hash shape new list
+  left-database old new list left is =
+      subst (λ (x : Database C D). IsDatabase members bytes hash shape x list) (sym left.rest)
+      (record {
+        told = subst (λ items. IsSome items) (sym ((left.read).kept.items)) is.told;
+        lent = lent-then members shape bytes hash (capped 4) old.entries old.log new.log list left.read is.lent;
+        commitment = is.commitment;
+        floor = is.floor;
+        live = is.live;
+        metadata = is.metadata;
+      })
+
+  -- its store starts where it did and has the items that it had, and its count of faults did not fall
+  pub left-store : (old new : Database C D) → IsLeft members bytes hash shape old new
+      → (members.start new.log.store ≡ members.start old.log.store) × (members.items new.log.store ≡ members.items old.log.store) × (members.faults old.log.store ≤ members.faults new.log.store)
+  left-store old new left = ((left.read).kept.start, (left.read).kept.items, (left.read).later)
+
+-- no steps lead from a list to itself
+pub itself-base : (layers : List Layer) (list : List Operation) → layers ≡ [] → IsBase layers list list
+itself-base layers list none = subst (λ ls. IsBase ls list list) (sym none) (record { older = []; steps = tt; among = Contains-first list [] })
+
+-- what holds of what a store tells
+pub told-here : {X : Type 0} (P : Type 0) (o : Option X) → IsSome o → IfSome o (λ _. P) → P
+told-here P None some p = absurd (cc)
+told-here P (Some x) some p = p
+
+-- the value of what is found of a key is its value
+pub value-found : (list : List Operation) (key : Bytes) → option_map (λ (p : ℕ × (Bytes × Bytes)). p.1.1) (update_of list key) ≡ value_of list key
+value-found list key = by (live_of (live list) key)
+  where
+    by : (o : Option Live) → option_map (λ (p : ℕ × (Bytes × Bytes)). p.1.1) (option_map (λ (p : ℕ × Bytes). (p.0, (key, p.1))) (option_map (λ (e : Live). (e.location, e.value)) o)) ≡ option_map (λ (e : Live). e.value) o
+    by None = refl
+    by (Some e) = refl
+
+module _ {W : Type 0} (view : W → Write) (ws : List W) (i : ℕ) (w : W) (key : Bytes) (l : i < length ws) (here : w ≡ get_or ws i w) where
+  last-more : last_writes (map view (take (i + 1) ws)) ≡ put_write (last_writes (map view (take i ws))) (view w)
+  last-more = ap last_writes (map_more view ws i w l ∙ ap (λ x. map view (take i ws) ++ view x ∷ []) (sym here)) ∙ fold_push put_write [] (map view (take i ws)) (view w)
+
+  -- a write to the key comes in the place of what was found before
+  pub found-here : bytes_eq (view w).key key ≡ true → Some (view w) ≡ write_of (last_writes (map view (take (i + 1) ws))) key
+  found-here own = sym (ap (λ us. write_of us key) last-more ∙ ap (write_of (put_write (last_writes (map view (take i ws))) (view w))) (sym ((bytes_eq-Decides (view w).key key).0 own)) ∙ write_of-same (last_writes (map view (take i ws))) (view w))
+
+  -- another write leaves it
+  pub found-before : (found : Option Write) → bytes_eq (view w).key key ≡ false → found ≡ write_of (last_writes (map view (take i ws))) key → found ≡ write_of (last_writes (map view (take (i + 1) ws))) key
+  found-before found other so_far = so_far ∙ sym (ap (λ us. write_of us key) last-more ∙ write_of-other (last_writes (map view (take i ws))) (view w) key other)
