@@ -1,1 +1,354 @@
--- To be filled.
+-- What a step makes of a list, and the merkleized batch of a plan on its parent.
+use Rattle.std.proofs.Common.{◌≡◌, ◌≢◌, ◌∙◌, ℕ, zero, suc, ◌+◌, ◌-◌, ◌≤◌, ◌<◌, ◌^◌, arith, ap, ap₂, sym, subst, refl, Bool, true, false, List, [], ◌∷◌, ◌++◌, length, take, drop, get_or, map, inl, inr, Option, Some, None, Result, Ok, Err, option_map}
+use Rattle.std.specs.Prelude.{All, Contains, IfSome, IsSome, IfOk, OnOk, is_ok, is_some, nat_lt, filter_map, if◌then◌else◌, ◌==◌, bytes_eq}
+use Rattle.std.specs.List.{cons_option, AllByRecursion as Each}
+use Rattle.std.proofs.lemmas.Bool.{le-ltb}
+use Rattle.std.proofs.lemmas.Bool.Decides.{nat_tests}
+use Rattle.std.proofs.lemmas.List.{take-map, take_more, take_all, take-append-le, take-append-drop, length-append, length-drop, length-map, map-append}
+use Rattle.std.proofs.lemmas.List.Elements.{All-cons, All-nil, All-tail, All-take, All-drop, All-append, All-weaker, All-map, All-from_recursion, recursion_from_All, Contains-append_right}
+use Rattle.qm_model.specs.Operations.{Bytes, Operation, update, delete, commit, spelling, field, four_bytes, eight_bytes, optional_field, metadata_field}
+use Rattle.qm_model.specs.Batches.{Commitment, Chain, Kept}
+use Rattle.qm_model.specs.Live.{Live, live, live_of, floor, floor_after, last_metadata, metadata_after}
+use Rattle.qm_model.specs.Policies.{Policy, policies}
+use Rattle.qm_model.specs.Refusals.{too_long, max_spelling}
+use Rattle.qm_model.specs.Trees.{Shape, ops_root}
+use Rattle.qm_model.specs.Writes.{Write, write_of, last_writes, operation_of, rewrite_of, create_of, unordered_writes}
+use Rattle.qm_model.proofs.Steps.{walked, moved, walked-walks}
+use Rattle.qm_model.proofs.Walks.{walks_within}
+use Rattle.qm_base.specs.Decode.{IsUnordered}
+use Rattle.qm_base.specs.declared.error.Error.{Error}
+use Rattle.qm_base.specs.declared.error.Error.TheVariants as errors
+use Rattle.qm_base.specs.declared.error.JournalError.TheVariants as journal
+use Rattle.qm_base.specs.declared.error.MerkleError.TheVariants as merkle
+use Rattle.qm_merkle.specs.Batches.{stops}
+use Rattle.qm_chain.specs.Bounds.{Bounds}
+use Rattle.qm_batch.specs.Layers.{Layer, LeadThrough, IsStep}
+use Rattle.qm_batch.specs.Views.{Plan, IsPlan}
+use Rattle.qm_any.specs.Databases.{Made, AreAgreed, AreJoined, AreLinked, IsMade, bases, bases_of, states, child_boundary, child_made, child_tips, kept_by, stepped}
+use Rattle.qm_any.specs.KeptTrees.{KeptTree, IsKeptTree, leaves_of}
+use Rattle.qm_any.specs.Tips.{own_spellings, IsTooLong}
+use Rattle.qm_any.proofs.Known.{child-linked, child-bases, child-boundary, child-tips}
+
+-- what a list has is in it with one more element before it
+contains-behind : {X : Type 0} (y x : X) (xs : List X) → Contains xs x → Contains (y ∷ xs) x
+contains-behind y x xs has = Contains-append_right (y ∷ []) xs x has
+
+-- the first of a list is in it
+contains-first : {X : Type 0} (x : X) (xs : List X) → Contains (x ∷ xs) x
+contains-first x xs = (0, omega arith, refl)
+
+-- what the first elements of a list have, the list has
+pub contains-whole : {X : Type 0} (n : ℕ) (xs : List X) (x : X) → Contains (take n xs) x → Contains xs x
+contains-whole zero xs x has = absurd (omega (arith, has.1))
+contains-whole (suc n) [] x has = absurd (omega (arith, has.1))
+contains-whole (suc n) (y ∷ xs) x (zero, within, is) = (0, omega arith, is)
+contains-whole (suc n) (y ∷ xs) x (suc k, within, is) = contains-behind y x xs (contains-whole n xs x (k, omega arith, is))
+
+-- what lies between steps stays joined where only the newest are kept
+joined-first : (keep size : ℕ) (layers : List Layer) → AreJoined size layers → AreJoined size (take keep layers)
+joined-first zero size layers joined = tt
+joined-first (suc keep) size [] joined = tt
+joined-first (suc keep) size (layer ∷ layers) joined = (joined.0, joined-first keep layer.base layers joined.1)
+
+-- the newest steps lead to the same list
+leads-first : (keep : ℕ) (layers : List Layer) (list : List Operation) (older : List (List Operation)) → LeadThrough layers list older → LeadThrough (take keep layers) list (take keep older)
+leads-first zero layers list older leads = tt
+leads-first (suc keep) [] list [] leads = tt
+leads-first (suc keep) [] list (base ∷ older) leads = absurd leads
+leads-first (suc keep) (layer ∷ layers) list [] leads = absurd leads
+leads-first (suc keep) (layer ∷ layers) list (base ∷ older) leads = (leads.0, leads-first keep layers base older leads.1)
+
+module _ {D : Type 0} (stands : Commitment) (low count : ℕ) (meta : Option Bytes) where
+  -- a batch that is applied where it stands
+  abbrev rest_with : List Commitment → List Layer → KeptTree D → Made D
+  rest_with ancestors layers tree = record {
+    bounds = record { base = stands; db = stands; tip = stands; ancestors = ancestors; inactivity_floor = low };
+    layers = layers;
+    tree = tree;
+    live = count;
+    metadata = meta;
+  }
+
+  -- the numbers of a database at rest agree
+  pub rest-agreed : (ancestors : List Commitment) (layers : List Layer) (tree : KeptTree D) → ancestors ≡ [] → layers ≡ record { base = stands.size; operations = []; changes = [] } ∷ []
+      → tree ≡ record { leaves = stands.size; layers = [] } → stands.size ≤ 2 ^ 62 → count ≤ stands.size → AreAgreed (rest_with ancestors layers tree)
+  rest-agreed ancestors layers tree none one bare few within =
+      let at : List ℕ = stands.size ∷ [] in
+      let stop = contains-first stands.size [] in
+      subst (λ ks. AreAgreed (rest_with ks layers tree)) (sym none) (subst (λ ls. AreAgreed (rest_with [] ls tree)) (sym one) (subst (λ t. AreAgreed (rest_with [] (record { base = stands.size; operations = []; changes = [] } ∷ []) t)) (sym bare) (record {
+        few = few;
+        live = within;
+        own = refl;
+        starts = refl;
+        joined = (omega arith, tt);
+        leaves = refl;
+        reached = All-cons (Contains at) stands.size at stop (All-cons (Contains at) stands.size [] stop (All-nil (Contains at)));
+      })))
+
+module _ {D : Type 0} (parent : Made D) (keep : ℕ) (few : keep ≤ suc (length parent.bounds.ancestors)) (agreed : AreAgreed parent) where
+  -- the steps that a child keeps, behind its own, start where the states end at which it can be applied
+  child-starts : parent.bounds.tip.size ∷ bases (take keep parent.layers) ≡ map (λ c. c.size) (child_tips keep parent.bounds ++ child_boundary keep parent.bounds ∷ [])
+  child-starts =
+      let size : Commitment → ℕ = λ c. c.size in
+      let all = states parent.bounds in
+      let within : keep < length all = omega (arith, few, length-append parent.bounds.ancestors (parent.bounds.db ∷ [])) in
+      let one : suc keep ≡ keep + 1 = omega arith in
+      ap (λ ns. parent.bounds.tip.size ∷ ns) (sym (take-map (λ (l : Layer). l.base) keep parent.layers))
+      ∙ ap (λ ns. parent.bounds.tip.size ∷ take keep ns) agreed.starts
+      ∙ take-map size (suc keep) all
+      ∙ ap (λ n. map size (take n all)) one
+      ∙ ap (map size) (take_more all keep parent.bounds.db within)
+
+  -- the numbers of a child agree
+  pub child-agreed : (plan : Plan) (tree : KeptTree D) (root : Bytes) (meta : Option Bytes) → parent.bounds.tip.size + length plan.operations ≡ tree.leaves → tree.leaves ≤ 2 ^ 62 → plan.live ≤ tree.leaves
+      → stops tree.leaves tree.layers ≡ tree.leaves ∷ stops parent.tree.leaves parent.tree.layers → AreAgreed (child_made parent keep plan tree root meta)
+  child-agreed plan tree root meta count room live through =
+      let older = stops parent.tree.leaves parent.tree.layers in
+      let reached = All-take (Contains older) (suc keep) (parent.bounds.tip.size ∷ bases parent.layers) agreed.reached in
+      let kept = subst (λ ns. All (Contains older) (parent.bounds.tip.size ∷ ns)) (take-map (λ (l : Layer). l.base) keep parent.layers) reached in
+      record {
+        few = room;
+        live = live;
+        own = refl;
+        starts = child-starts;
+        joined = (count, joined-first keep parent.bounds.tip.size parent.layers agreed.joined);
+        leaves = refl;
+        reached = subst (λ ns. All (Contains ns) (tree.leaves ∷ parent.bounds.tip.size ∷ bases (take keep parent.layers))) (sym through)
+        (All-cons (Contains (tree.leaves ∷ older)) tree.leaves (parent.bounds.tip.size ∷ bases (take keep parent.layers)) (contains-first tree.leaves older)
+        (All-weaker (Contains older) (Contains (tree.leaves ∷ older)) (λ n has. contains-behind tree.leaves n older has) (parent.bounds.tip.size ∷ bases (take keep parent.layers)) kept));
+      }
+
+module _ {D : Type 0} (root : Bytes) (meta : Option Bytes) where
+  -- a merkleized batch of these parts
+  abbrev sealed_with : Commitment → Commitment → ℕ → List Commitment → ℕ → List Layer → KeptTree D → ℕ → Made D
+  sealed_with base db size tips low layers tree count = record {
+    bounds = record { base = base; db = db; tip = record { size = size; root = root }; ancestors = tips; inactivity_floor = low };
+    layers = layers;
+    tree = tree;
+    live = count;
+    metadata = meta;
+  }
+
+  -- the batch of a plan on its parent, by its parts
+  pub sealed-child : (parent : Made D) (keep : ℕ) (plan : Plan) (tree : KeptTree D) (base db : Commitment) (size low count : ℕ) (tips : List Commitment) (layers : List Layer) (kept : KeptTree D)
+      → base ≡ parent.bounds.tip → db ≡ child_boundary keep parent.bounds → size ≡ tree.leaves → tips ≡ child_tips keep parent.bounds → low ≡ plan.floor
+      → layers ≡ record { base = parent.bounds.tip.size; operations = plan.operations; changes = plan.changes } ∷ take keep parent.layers → kept ≡ tree → count ≡ plan.live
+      → child_made parent keep plan tree root meta ≡ sealed_with base db size tips low layers kept count
+  sealed-child parent keep plan tree base db size low count tips layers kept below at end on floor steps same live =
+      let own : List Layer = record { base = parent.bounds.tip.size; operations = plan.operations; changes = plan.changes } ∷ take keep parent.layers in
+      sym (ap (λ x. sealed_with x db size tips low layers kept count) below
+      ∙ ap (λ x. sealed_with parent.bounds.tip x size tips low layers kept count) at
+      ∙ ap (λ x. sealed_with parent.bounds.tip (child_boundary keep parent.bounds) x tips low layers kept count) end
+      ∙ ap (λ x. sealed_with parent.bounds.tip (child_boundary keep parent.bounds) tree.leaves x low layers kept count) on
+      ∙ ap (λ x. sealed_with parent.bounds.tip (child_boundary keep parent.bounds) tree.leaves (child_tips keep parent.bounds) x layers kept count) floor
+      ∙ ap (λ x. sealed_with parent.bounds.tip (child_boundary keep parent.bounds) tree.leaves (child_tips keep parent.bounds) plan.floor x kept count) steps
+      ∙ ap (λ x. sealed_with parent.bounds.tip (child_boundary keep parent.bounds) tree.leaves (child_tips keep parent.bounds) plan.floor own x count) same
+      ∙ ap (sealed_with parent.bounds.tip (child_boundary keep parent.bounds) tree.leaves (child_tips keep parent.bounds) plan.floor own tree) live)
+
+-- the operations of a plan stand behind its base list
+pub plan-behind : (plan : Plan) (base tip : List Operation) → IsPlan plan base tip → tip ≡ base ++ plan.operations
+plan-behind plan base tip is = sym (take-append-drop (length base) tip) ∙ ap₂ (λ front back. front ++ back) is.changes.begins (sym is.operations)
+
+-- and so does their number
+pub plan-length : (plan : Plan) (base tip : List Operation) → IsPlan plan base tip → length base + length plan.operations ≡ length tip
+plan-length plan base tip is = sym (length-append base plan.operations) ∙ ap length (sym (plan-behind plan base tip is))
+
+-- and their spellings
+pub plan-spelled : (plan : Plan) (base tip : List Operation) (items : List Bytes) → IsPlan plan base tip → items ≡ map spelling plan.operations → map spelling base ++ items ≡ map spelling tip
+plan-spelled plan base tip items is spelt =
+    ap (λ xs. map spelling base ++ xs) spelt ∙ sym (map-append spelling base plan.operations) ∙ ap (map spelling) (sym (plan-behind plan base tip is))
+
+module _ {D : Type 0} (bytes : D → Bytes) (hash : Bytes → Bytes) (shape : Shape) (parent : Made D) (keep : ℕ) (chain above : Chain)
+    (few : keep ≤ suc (length parent.bounds.ancestors)) (made : IsMade bytes hash shape parent above chain.base) (kept : chain.kept ≡ kept_by keep above chain.base) where
+  -- a child's steps start from the first lists from which the parent's start, behind its own
+  child-older : map (λ (k : Kept). k.base) chain.kept ≡ take keep (bases_of above)
+  child-older = ap (map (λ (k : Kept). k.base)) kept ∙ child-bases keep above chain.base
+
+  -- the list on which a child can be made is its parent's or one from which the parent's steps start
+  pub child-among : (list : List Operation) → Contains (bases_of chain) list → Contains (chain.base ∷ bases_of above) list
+  child-among list has = contains-whole (suc keep) (chain.base ∷ bases_of above) list (subst (λ ls. Contains (chain.base ∷ ls) list) child-older has)
+
+  -- a plan on the parent's list makes a batch of the child's chain
+  pub child-is_made : (plan : Plan) (tree : KeptTree D) (root : Bytes) (meta : Option Bytes) (tip : List Operation) → IsPlan plan chain.base tip → IsKeptTree bytes hash shape tree tip (chain.base ∷ bases_of above)
+      → root ≡ ops_root hash shape tip → meta ≡ last_metadata tip → All IsUnordered tip → IsMade bytes hash shape (child_made parent keep plan tree root meta) chain tip
+  child-is_made plan tree root meta tip is grown standing last ordered =
+    let goes : List Operation → Type 0 = λ l. Contains (leaves_of hash shape tip ∷ grown.lists) (leaves_of hash shape l) in
+    record {
+      bounds = record {
+        base = made.bounds.tip;
+        db = child-boundary bytes hash shape parent keep chain above few made kept;
+        tip = ap₂ (λ (size : ℕ) (r : Bytes). record { size = size; root = r }) grown.leaves standing;
+        ancestors = child-tips bytes hash shape parent keep chain above few made kept;
+      };
+      lowest = is.floor;
+      live = is.live;
+      metadata = last;
+      linked = subst (AreLinked chain.base) (sym kept) (child-linked keep above chain.base made.linked);
+      steps = (record { size = ap (λ c. c.size) made.bounds.tip; list = plan-behind plan chain.base tip is; changes = is.changes },
+      subst (LeadThrough (take keep parent.layers) chain.base) (sym child-older) (leads-first keep parent.layers chain.base (bases_of above) made.steps));
+      tree = record {
+        leaves = grown.leaves;
+        lists = grown.lists;
+        history = grown.history;
+        through = subst (λ ls. All goes (chain.base ∷ ls)) (sym child-older) (All-take goes (suc keep) (chain.base ∷ bases_of above) grown.through);
+      };
+      unordered = ordered;
+    }
+
+-- an operation without a next key, and with a floor of at most 2 ^ 62
+abbrev pub IsPlain : Operation → Type 0
+IsPlain (update key value next) = next ≡ None
+IsPlain (delete key) = Unit {0}
+IsPlain (commit meta low) = low ≤ 2 ^ 62
+
+plain-from : (op : Operation) → IsUnordered op → IsPlain op
+plain-from (update key value next) is = is.2
+plain-from (delete key) is = tt
+plain-from (commit meta low) is = is.1
+
+-- what is plain, and spelled in at most 65,536 bytes, is an operation of an unordered database
+short-field : (bs more : Bytes) → length (field bs ++ more) ≤ max_spelling → length bs ≤ max_spelling
+short-field bs more short = omega (arith, length-append (four_bytes (length bs) ++ bs) more, length-append (four_bytes (length bs)) bs)
+
+unordered-from : (op : Operation) → IsPlain op → length (spelling op) ≤ max_spelling → IsUnordered op
+unordered-from (update key value next) plain short =
+    let first = short-field key (field value ++ optional_field next) (omega arith) in
+    let second = short-field value (optional_field next) (omega (arith, length-append (field key) (field value ++ optional_field next))) in
+    (omega arith, omega arith, plain)
+unordered-from (delete key) plain short = omega (arith, length-append (four_bytes (length key)) key)
+unordered-from (commit None low) plain short = (tt, plain)
+unordered-from (commit (Some value) low) plain short = (omega (arith, short-field value (eight_bytes low) (omega arith)), plain)
+
+-- where none of the spellings is too long, each is short
+each-short : (ops : List Operation) → too_long (map spelling ops) ≡ None → Each (λ op. length (spelling op) ≤ max_spelling) ops
+each-short [] none = tt
+each-short (op ∷ ops) none = by (nat_lt max_spelling (length (spelling op))) refl none (each-short ops)
+  where
+    by : (t : Bool) → nat_lt max_spelling (length (spelling op)) ≡ t → (if t then Some (length (spelling op)) else too_long (map spelling ops)) ≡ None
+        → (too_long (map spelling ops) ≡ None → Each (λ op. length (spelling op) ≤ max_spelling) ops) → (length (spelling op) ≤ max_spelling) × Each (λ op. length (spelling op) ≤ max_spelling) ops
+    by true is none later = cc
+    by false is none later = (within (length (spelling op)) is, later none)
+      where
+        within : (n : ℕ) → nat_lt max_spelling n ≡ false → n ≤ max_spelling
+        within n is = grind (arith, nat_tests)
+
+plain-operation : (key : Bytes) (value : Option Bytes) → IsPlain (operation_of (record { key = key; value = value }))
+plain-operation key None = tt
+plain-operation key (Some value) = refl
+
+-- moves are plain
+plain-moves : (ds : List Write) → Each IsPlain (map operation_of ds)
+plain-moves [] = tt
+plain-moves (w ∷ ds) = (plain-operation w.key w.value, plain-moves ds)
+
+plain-cons : (o : Option Operation) (ops : List Operation) → IfSome o IsPlain → Each IsPlain ops → Each IsPlain (cons_option o ops)
+plain-cons None ops here later = later
+plain-cons (Some op) ops here later = (here, later)
+
+plain-kept : {X : Type 0} (h : X → Option Operation) → ((x : X) → IfSome (h x) IsPlain) → (xs : List X) → Each IsPlain (filter_map h xs)
+plain-kept h plain [] = tt
+plain-kept h plain (x ∷ xs) = plain-cons (h x) (filter_map h xs) (plain x) (plain-kept h plain xs)
+
+plain-write : (o : Option Write) → IfSome (option_map operation_of o) IsPlain
+plain-write None = tt
+plain-write (Some w) = plain-operation w.key w.value
+
+plain-create : (key : Bytes) (stood : Bool) (o : Option Bytes) → IfSome (if stood then None else option_map (λ value. update key value None) o) IsPlain
+plain-create key true o = tt
+plain-create key false None = tt
+plain-create key false (Some value) = refl
+
+-- so are the operations of writes
+plain-writes : (base : List Operation) (ws : List Write) → All IsPlain (unordered_writes base ws)
+plain-writes base ws =
+    let last = last_writes ws in
+    let found = live base in
+    All-append IsPlain (filter_map (rewrite_of last) found) (filter_map (create_of found) last)
+    (All-from_recursion IsPlain (filter_map (rewrite_of last) found) (plain-kept (rewrite_of last) (λ e. plain-write (write_of last e.key)) found))
+    (All-from_recursion IsPlain (filter_map (create_of found) last) (plain-kept (create_of found) (λ w. plain-create w.key (is_some (live_of found w.key)) w.value) last))
+
+-- the floor of plain operations is at most 2 ^ 62
+low-floor : (low : ℕ) (ops : List Operation) → low ≤ 2 ^ 62 → Each IsPlain ops → floor_after low ops ≤ 2 ^ 62
+low-floor low [] few plain = few
+low-floor low (update key value next ∷ ops) few plain = low-floor low ops few plain.1
+low-floor low (delete key ∷ ops) few plain = low-floor low ops few plain.1
+low-floor low (commit meta next ∷ ops) few plain = low-floor next ops plain.0 plain.1
+
+-- the metadata of a list is that of a commit at its end
+last-commit : (before : Option Bytes) (ops : List Operation) (meta : Option Bytes) (low : ℕ) → metadata_after before (ops ++ commit meta low ∷ []) ≡ meta
+last-commit before [] meta low = refl
+last-commit before (update key value next ∷ ops) meta low = last-commit before ops meta low
+last-commit before (delete key ∷ ops) meta low = last-commit before ops meta low
+last-commit before (commit m f ∷ ops) meta low = last-commit m ops meta low
+
+-- what a step makes of a list of an unordered database
+module _ (base : List Operation) (ws : List Write) (policy : Policy) (meta : Option Bytes) where
+  -- its metadata is the one given
+  pub stepped-metadata : meta ≡ last_metadata (stepped base ws policy meta)
+  stepped-metadata =
+      let list = moved policies base ws policy meta in
+      sym (last-commit None list meta (if length (live list) == 0 then length list else (walked policies base ws policy meta).floor))
+
+  stepped-plain : All IsUnordered base → length (stepped base ws policy meta) ≤ 2 ^ 62 → All IsPlain (stepped base ws policy meta)
+  stepped-plain ordered few =
+      let made = unordered_writes base ws in
+      let walk = walked policies base ws policy meta in
+      let list = moved policies base ws policy meta in
+      let plain = All-weaker IsUnordered IsPlain plain-from base ordered in
+      let below = low-floor 0 base (omega arith) (recursion_from_All IsPlain base plain) in
+      let within = walks_within policies (walked-walks policies base ws policy meta) in
+      let count = length-append list (commit meta (if length (live list) == 0 then length list else walk.floor) ∷ []) in
+      let size : length list ≤ 2 ^ 62 = omega (arith, few, count) in
+      let first : length (base ++ made) ≤ 2 ^ 62 = omega (arith, size, length-append (base ++ made) (map operation_of walk.decisions)) in
+      let end : walk.floor ≤ 2 ^ 62 = omega (arith, within.1, length-drop (floor base) (base ++ made), first, below) in
+      All-append IsPlain list (commit meta (if length (live list) == 0 then length list else walk.floor) ∷ [])
+      (All-append IsPlain (base ++ made) (map operation_of walk.decisions) (All-append IsPlain base made plain (plain-writes base ws))
+      (All-from_recursion IsPlain (map operation_of walk.decisions) (plain-moves walk.decisions)))
+      (All-cons IsPlain (commit meta (if length (live list) == 0 then length list else walk.floor)) [] (by (length (live list) == 0) (length list) walk.floor size end) (All-nil IsPlain))
+    where
+      by : (t : Bool) (n f : ℕ) → n ≤ 2 ^ 62 → f ≤ 2 ^ 62 → (if t then n else f) ≤ 2 ^ 62
+      by true n f one other = one
+      by false n f one other = other
+
+  -- it is one of an unordered database, if no own spelling is too long and the list is not
+  pub stepped-unordered : All IsUnordered base → take (length base) (stepped base ws policy meta) ≡ base → too_long (own_spellings base (stepped base ws policy meta)) ≡ None
+      → length (stepped base ws policy meta) ≤ 2 ^ 62 → All IsUnordered (stepped base ws policy meta)
+  stepped-unordered ordered begins none few =
+      let tip = stepped base ws policy meta in
+      let own = drop (length base) tip in
+      let plain = All-drop IsPlain (length base) tip (stepped-plain ordered few) in
+      let short = All-from_recursion (λ op. length (spelling op) ≤ max_spelling) own (each-short own none) in
+      subst (All IsUnordered) (take-append-drop (length base) tip)
+      (All-append IsUnordered (take (length base) tip) own (subst (All IsUnordered) (sym begins) ordered) (λ k d within. unordered-from (get_or own k d) (plain k d within) (short k d within)))
+
+-- what holds of a call's value where a store tells its items holds of it, since the store does
+pub told-ok : {X T E : Type 0} (o : Option X) (r : Result T E) (P : T → Type 0) → IsSome o → IfSome o (λ _. IfOk r P) → IfOk r P
+told-ok None r P told is = cc
+told-ok (Some x) r P told is = is
+
+-- the tips that a child keeps: its parent's own, and the first of those that the parent keeps
+pub kept-tips : {A : Type 0} (view : A → Commitment) (bounds : Bounds) (keep i : ℕ) (older kept tips : List A) → map view older ≡ bounds.ancestors → 0 < keep → keep ≤ suc (length bounds.ancestors)
+    → kept ≡ take (keep - 1) older → length kept ≤ i → map view tips ≡ bounds.tip ∷ map view (take i kept) → map view tips ≡ child_tips keep bounds
+kept-tips view bounds keep i older kept tips same some few front all is =
+    let less : keep - 1 ≤ length bounds.ancestors = omega arith in
+    let count : suc (keep - 1) ≡ keep = omega arith in
+    is
+    ∙ ap (λ cs. bounds.tip ∷ map view cs) (take_all i kept all ∙ front)
+    ∙ ap (λ cs. bounds.tip ∷ cs) (sym (take-map view (keep - 1) older) ∙ ap (take (keep - 1)) same ∙ sym (take-append-le (keep - 1) bounds.ancestors (bounds.db ∷ []) less))
+    ∙ ap (λ n. child_tips n bounds) count
+
+-- an error that tells what is too long is of no batch left behind
+pub too_long-fresh : (spelt : List Bytes) (size : ℕ) (e : Error) → IsTooLong spelt size e → e ≢ errors.StaleBatch
+too_long-fresh spelt size e (inl long) stale = absurd (cc (long.2, stale))
+too_long-fresh spelt size e (inr many) stale = absurd (cc (many.2, stale))
+
+-- nor of a store that failed
+pub too_long-cause : (spelt : List Bytes) (size : ℕ) (e : Error) {P : Type 0} → IsTooLong spelt size e → e ≡ errors.Journal journal.Store → P
+too_long-cause spelt size e (inl long) fault = absurd (cc (long.2, fault))
+too_long-cause spelt size e (inr many) fault = absurd (cc (many.2, fault))
+
+-- an error that tells what is too long of the operations of a plan tells it of the own operations of its list
+pub plan-refused : (plan : Plan) (base tip : List Operation) (items : List Bytes) (size : ℕ) (e : Error) → IsPlan plan base tip → items ≡ map spelling plan.operations → size ≡ length base + length plan.operations
+    → IsTooLong items size e → IsTooLong (own_spellings base tip) (length tip) e
+plan-refused plan base tip items size e is spelt count long =
+    subst (λ n. IsTooLong (own_spellings base tip) n e) (count ∙ plan-length plan base tip is) (subst (λ xs. IsTooLong xs size e) (spelt ∙ ap (map spelling) is.operations) long)
