@@ -1,0 +1,66 @@
+-- A database as a batch, and what a call leaves that does nothing.
+use Rattle.std.proofs.Common.{◌≡◌, ◌≤◌, ◌∙◌, ℕ, suc, min, refl, sym, ap, subst, arith, List, [], ◌∷◌, ◌++◌, length, take, drop, map, Contains, Option, None, Some, zero}
+use Rattle.std.specs.Prelude.{All, if◌then◌else◌}
+use Rattle.std.proofs.Math.Seq.{take-length, drop-length}
+use Rattle.std.proofs.lemmas.List.{append-nil, take_all, take_min, length-map}
+use Rattle.std.proofs.lemmas.List.Elements.{All-cons}
+use Rattle.qm_model.specs.Live.{touched}
+use Rattle.qm_batch.specs.Changes.{AreChanges, stands_at, place_in}
+use Rattle.qm_any.specs.KeptTrees.{leaves_of}
+use Rattle.qm_model.specs.Operations.{Bytes, Operation}
+use Rattle.qm_model.specs.Batches.{Chain, Kept, commitment, begun_on, child_of}
+use Rattle.qm_model.specs.Trees.{Shape, ops_root}
+use Rattle.qm_model.proofs.Chains.{Begins-self, Contains-first}
+use Rattle.qm_chain.specs.Bounds.{IsBounds}
+use Rattle.qm_store.specs.declared.Store as store
+use Rattle.qm_any.specs.Databases.{Database, Made, Begun, IsDatabase, IsMade, IsBegun, IsLeft, at_rest, kept_by}
+
+-- a step that does nothing changes no key
+still : (list : List Operation) → AreChanges [] list list
+still list = record {
+  begins = take-length list;
+  each = λ key. sym (ap (λ own. if touched key own then Some (record { now = stands_at list key; before = place_in list key }) else None) (drop-length list));
+}
+
+All-one : {A : Type 0} (P : A → Type 0) (x : A) → P x → All P (x ∷ [])
+All-one P x p = All-cons P x [] p (λ k d l. absurd (omega (arith, l)))
+
+module _ {C D : Type 0} (members : store.Ghosts C) (bytes : D → Bytes) (hash : Bytes → Bytes) (shape : Shape) where
+  -- a call that does nothing
+  pub left-self : (db : Database C D) → IsLeft members bytes hash shape db db
+  left-self db = record { rest = refl; read = record { stands = λ list is. is; tree = refl; kept = record { start = refl; end = refl; items = refl; head = refl }; later = omega arith } }
+
+  -- the database is a batch that does nothing
+  pub rest-made : (db : Database C D) (list : List Operation) → IsDatabase members bytes hash shape db list → IsMade bytes hash shape (at_rest db) (begun_on list) list
+  rest-made db list is =
+      let size : db.commitment.size ≡ length list = ap (λ c. c.size) is.commitment in
+      record {
+        bounds = record { base = is.commitment; db = is.commitment; tip = is.commitment; ancestors = refl };
+        lowest = is.floor;
+        live = is.live;
+        metadata = is.metadata;
+        linked = tt;
+        steps = (record { size = size; list = sym (append-nil list); changes = still list }, tt);
+        tree = record { leaves = size; lists = []; history = tt; through = All-one (λ l. Contains (leaves_of hash shape list ∷ []) (leaves_of hash shape l)) list (Contains-first (leaves_of hash shape list) []) };
+        unordered = is.lent.unordered;
+      }
+
+module _ {D : Type 0} (bytes : D → Bytes) (hash : Bytes → Bytes) (shape : Shape) where
+  kept-count : (made : Made D) (chain : Chain) (tip : List Operation) → IsMade bytes hash shape made chain tip → length made.bounds.ancestors ≡ length chain.kept
+  kept-count made chain tip is = ap length is.bounds.ancestors ∙ length-map chain.kept (λ (k : Kept). commitment (ops_root hash shape) k.tip)
+
+  -- a child of a batch that keeps all that this keeps
+  pub child-all : (made : Made D) (chain : Chain) (tip : List Operation) → IsMade bytes hash shape made chain tip
+      → IsBegun bytes hash shape (record { parent = made; keep = suc (length made.bounds.ancestors); writes = [] }) (child_of None chain tip) chain
+  child-all made chain tip is = record {
+    parent = is;
+    kept = ap (λ older. record { base = chain.base; tip = tip } ∷ older) (sym (take_all (length made.bounds.ancestors) chain.kept (omega (arith, kept-count made chain tip is))));
+  }
+
+  -- one that keeps the first of these
+  pub child-first : (n : ℕ) (made : Made D) (chain : Chain) (tip : List Operation) → IsMade bytes hash shape made chain tip
+      → IsBegun bytes hash shape (record { parent = made; keep = suc (min n (length made.bounds.ancestors)); writes = [] }) (child_of (Some n) chain tip) chain
+  child-first n made chain tip is = record {
+    parent = is;
+    kept = ap (λ older. record { base = chain.base; tip = tip } ∷ older) (sym (ap (λ c. take (min n c) chain.kept) (kept-count made chain tip is) ∙ take_min n chain.kept));
+  }
