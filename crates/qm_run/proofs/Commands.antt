@@ -47,6 +47,11 @@ none_some none some = absurd (cc)
 pub due_told : {A : Type 0} (o due : Option A) (r : A) → IfSome o (λ x. due ≡ Some x) → o ≡ Some r → due ≡ Some r
 due_told o due r is told = subst (λ p. IfSome p (λ x. due ≡ Some x)) told is
 
+-- what holds where a thing is told holds of one that is
+pub some_then : {A P : Type 0} (told : Option A) (x : A) → told ≡ Some x → IfSome told (λ _. P) → P
+some_then None x is p = absurd (cc is)
+some_then (Some y) x is p = p
+
 -- all of what is due is a first part of it
 pub Grows-whole : {A : Type 0} (old new : Option (List A)) (more : List A) → Grows old new more → GrowsPart old new more
 Grows-whole old new more grows = (length more, subst (Grows old new) (sym (take-length more)) grows)

@@ -1,5 +1,5 @@
 -- The program's database as an engine: where its batches fit and can be read, and what its refusals are.
-use Rattle.std.proofs.Common.{◌≡◌, ◌≢◌, ℕ, ◌^◌, ◌∙◌, ◌⊎◌, ap, ap₂, sym, subst, refl, inl, inr, List, [], ◌∷◌, length, map, drop, Option, Some, None, Bool, true, false, IfSome}
+use Rattle.std.proofs.Common.{◌≡◌, ◌≢◌, ◌≤◌, ℕ, suc, arith, ◌^◌, ◌∙◌, ◌⊎◌, ap, ap₂, sym, subst, refl, inl, inr, List, [], ◌∷◌, length, map, drop, Option, Some, None, Bool, true, false, IfSome}
 use Rattle.std.specs.Prelude.{Result, Ok, Err, IfOk, IfErr, if◌then◌else◌, option_map}
 use Rattle.std.specs.Option.{option_or}
 use Rattle.std.proofs.lemmas.Bool.{lt-ltb, le-ltb}
@@ -12,8 +12,12 @@ use Rattle.qm_base.specs.declared.error.MerkleError.{MerkleError}
 use Rattle.qm_base.specs.declared.error.MerkleError.TheVariants as merkle
 use Rattle.qm_model.specs.Operations.{Bytes, Operation, spelling}
 use Rattle.qm_model.specs.Live.{floor}
-use Rattle.qm_model.specs.Batches.{Commitment, Chain, boundary_list, begun_on, first_of, child_of, IsOnChain, IsKnown, commitment, fits, readable}
-use Rattle.qm_model.specs.Lines.{Journal, ItemTooLarge, Merkle, LocationOverflow}
+use Rattle.qm_model.specs.Batches.{Commitment, Chain, boundary_list, IsOnChain, IsKnown, commitment, fits, readable}
+use Rattle.qm_model.specs.Causes.{Rose}
+use Rattle.qm_store.specs.declared.Store as store
+use Rattle.qm_store.specs.Log.{Log}
+use Rattle.qm_batch.specs.Lent.{IsReadError}
+use Rattle.qm_model.specs.Lines.{Refused, Journal, ItemTooLarge, Merkle, LocationOverflow}
 use Rattle.qm_model.specs.Mmr.{mmr}
 use Rattle.qm_model.specs.Refusals.{tip_refusal, too_long, too_many}
 use Rattle.qm_model.specs.Roots.{sha256_root, sha256_proof, sha256_pins}
@@ -21,14 +25,16 @@ use Rattle.qm_model.specs.Trees.{ops_root}
 use Rattle.qm_model.specs.Proofs.{ops_proof, pins_at}
 use Rattle.qm_model.specs.Policies.{Policy, proportional}
 use Rattle.qm_model.specs.Writes.{Write}
-use Rattle.qm_model.proofs.Chains.{begun-rising, child-rising, Begins-self, fits-on_chain, readable-known}
+use Rattle.qm_model.proofs.Chains.{fits-on_chain, readable-known}
 use Rattle.qm_chain.specs.Bounds.{Bounds, IsBounds, is_at, knows}
 use Rattle.qm_chain.proofs.Fits.{at-fits, at-readable}
+use Rattle.qm_base.specs.declared.sha256.Sha256Digest.{Sha256Digest}
 use Rattle.qm_lines.specs.Views.{policy_view}
+use Rattle.qm_run.specs.Databases.{digest_bytes}
 use Rattle.qm_lines.specs.declared.policy.AnyPolicy.{AnyPolicy}
 use Rattle.qm_lines.specs.declared.policy.AnyPolicy.TheVariants.{Proportional}
-use Rattle.qm_any.specs.Databases.{Database, Ancestor, Begun, Made, IsBegun, IsMade, at_rest, child_keeps, is_on, oldest, ancestor_of, list_commitment, stepped}
-use Rattle.qm_any.proofs.Ancestors.{oldest-chain, tips-chain, take-views}
+use Rattle.qm_any.specs.Databases.{Database, Begun, Made, IsDatabase, IsBegun, IsMade, IsLeft, at_rest, is_on, child_boundary, child_tips, list_commitment, stepped}
+use Rattle.qm_any.proofs.Known.{child-boundary, child-tips}
 use Rattle.qm_any.specs.Tips.{own_spellings, IsTaken, IsRefused}
 use Rattle.qm_any.specs.Refusals.{refusal_of}
 
@@ -71,7 +77,7 @@ unfolding sha256_root
 readable-same list chain tip = refl
 
 -- a merkleized batch fits where its bounds say so
-pub at-made : (list : List Operation) (chain : Chain) (tip : List Operation) (current : Commitment) (made : Made) → current ≡ list_commitment sha256 mmr list → IsMade sha256 mmr made chain tip
+pub at-made : (list : List Operation) (chain : Chain) (tip : List Operation) (current : Commitment) (made : Made Sha256Digest) → current ≡ list_commitment sha256 mmr list → IsMade digest_bytes sha256 mmr made chain tip
     → is_at current made.bounds.db made.bounds.ancestors ≡ fits (sha256_root mmr) (commitment (sha256_root mmr) list) chain
 at-made list chain tip current made is batch =
     ap (λ c. is_at c made.bounds.db made.bounds.ancestors) is ∙ at-fits (ops_root sha256 mmr) made.bounds chain tip (list_commitment sha256 mmr list) batch.bounds ∙ fits-same list chain
@@ -86,12 +92,13 @@ bounds_of chain = record {
   inactivity_floor = 0;
 }
 
--- a batch does where its parent's tip and its kept ancestors say so
-pub on-begun : (list : List Operation) (chain above : Chain) (current : Commitment) (begun : Begun) → current ≡ list_commitment sha256 mmr list → IsBegun sha256 mmr begun chain above
-    → is_on current begun ≡ fits (sha256_root mmr) (commitment (sha256_root mmr) list) chain
-on-begun list chain above current begun is batch =
+-- a batch does where the states that it keeps of its parent say so
+pub on-begun : (list : List Operation) (chain above : Chain) (current : Commitment) (begun : Begun Sha256Digest) → begun.keep ≤ suc (length begun.parent.bounds.ancestors) → current ≡ list_commitment sha256 mmr list
+    → IsBegun digest_bytes sha256 mmr begun chain above → is_on current begun ≡ fits (sha256_root mmr) (commitment (sha256_root mmr) list) chain
+on-begun list chain above current begun few is batch =
     ap (λ c. is_on c begun) is
-    ∙ ap₂ (is_at (list_commitment sha256 mmr list)) (ap₂ oldest batch.bounds.tip batch.kept ∙ oldest-chain sha256 mmr chain.base chain.kept) (ap (map (λ (k : Ancestor). k.tip)) batch.kept ∙ tips-chain sha256 mmr chain.kept)
+    ∙ ap₂ (is_at (list_commitment sha256 mmr list)) (child-boundary digest_bytes sha256 mmr begun.parent begun.keep chain above few batch.parent batch.kept)
+    (child-tips digest_bytes sha256 mmr begun.parent begun.keep chain above few batch.parent batch.kept)
     ∙ at-fits (ops_root sha256 mmr) (bounds_of chain) chain chain.base (list_commitment sha256 mmr list) (record { base = refl; db = refl; tip = refl; ancestors = refl })
     ∙ fits-same list chain
 
@@ -112,28 +119,102 @@ off-chain list chain unfit on = apart (sym (fits-on_chain (sha256_root mmr) list
 pub unknown : (list : List Operation) (chain : Chain) (tip : List Operation) → readable (sha256_root mmr) (commitment (sha256_root mmr) list) chain tip ≡ false → IsKnown list chain tip → ⊥
 unknown list chain tip closed known = apart (sym (readable-known (sha256_root mmr) list chain tip known) ∙ closed)
 
--- a read that fails wants memory or is stale
-abbrev pub IsReadErr : Error → Bool → Type 0
-IsReadErr e can = (e ≡ errors.Memory) ⊎ ((e ≡ errors.StaleRead) × (can ≡ false))
+-- a read that fails is stale, wants memory, or failed at the log
+abbrev pub IsReadErr : {C D : Type 0} → store.Ghosts C → Log C D → Log C D → Bool → Error → Type 0
+IsReadErr members old new can e = ((e ≡ errors.StaleRead) × (can ≡ false)) ⊎ ((e ≡ errors.Memory) ⊎ ((can ≡ true) × IsReadError members old new e))
 
-pub stale-read : (e : Error) (can : Bool) → IsReadErr e can → e ≡ errors.StaleRead → can ≡ false
-stale-read e can (inl memory) stale = absurd (cc (memory, stale))
-stale-read e can (inr why) stale = why.1
+-- an error of the log is none of a stale read
+log-fresh : {C D : Type 0} (members : store.Ghosts C) (old new : Log C D) (e : Error) → IsReadError members old new e → e ≡ errors.StaleRead → ⊥
+log-fresh members old new e (inl memory) stale = absurd (cc (memory, stale))
+log-fresh members old new e (inr (inl fault)) stale = absurd (cc (fault.0, stale))
+log-fresh members old new e (inr (inr pruned)) stale = absurd (cc (pruned.2, stale))
 
-pub fresh-read : (e : Error) (can : Bool) → IsReadErr e can → e ≢ errors.StaleRead → e ≡ errors.Memory
-fresh-read e can (inl memory) fresh = memory
-fresh-read e can (inr why) fresh = absurd (fresh why.0)
+-- nor of a stale batch
+pub log-kept : {C D : Type 0} (members : store.Ghosts C) (old new : Log C D) (e : Error) → IsReadError members old new e → e ≢ errors.StaleBatch
+log-kept members old new e (inl memory) stale = absurd (cc (memory, stale))
+log-kept members old new e (inr (inl fault)) stale = absurd (cc (fault.0, stale))
+log-kept members old new e (inr (inr pruned)) stale = absurd (cc (pruned.2, stale))
 
-pub read-never : (e : Error) (can : Bool) (other : Error) → IsReadErr e can → errors.Memory ≢ other → errors.StaleRead ≢ other → e ≢ other
-read-never e can other (inl memory) a b is = a (sym memory ∙ is)
-read-never e can other (inr why) a b is = b (sym why.0 ∙ is)
+-- where nothing is pruned it is told as no refusal
+pub log-untold : {C D : Type 0} (members : store.Ghosts C) (old new : Log C D) (e : Error) → old.tree.start ≡ 0 → IsReadError members old new e → refusal_of e ≡ None
+log-untold members old new e whole (inl memory) = ap refusal_of memory
+log-untold members old new e whole (inr (inl fault)) = ap refusal_of fault.0
+log-untold members old new e whole (inr (inr pruned)) = let low = pruned.1 in absurd (omega (arith, low, whole))
+
+-- a fault of the store is one by which its count rose
+pub log-rose : {C D : Type 0} (members : store.Ghosts C) (old new : Log C D) (e : Error) → IsReadError members old new e → e ≡ errors.Journal journal.Store → Rose (members.faults old.store) (members.faults new.store)
+log-rose members old new e (inl memory) fault = absurd (cc (memory, fault))
+log-rose members old new e (inr (inl told)) fault = told.1
+log-rose members old new e (inr (inr pruned)) fault = absurd (item-apart pruned.0 (sym pruned.2 ∙ fault))
+  where
+    item-apart : (n : ℕ) → errors.Journal (journal.ItemPruned n) ≡ errors.Journal journal.Store → ⊥
+    item-apart n is = cc
+
+module _ {C D : Type 0} (members : store.Ghosts C) (old new : Log C D) (can : Bool) (e : Error) where
+  pub stale-read : IsReadErr members old new can e → e ≡ errors.StaleRead → can ≡ false
+  stale-read (inl why) stale = why.1
+  stale-read (inr (inl memory)) stale = absurd (cc (memory, stale))
+  stale-read (inr (inr told)) stale = absurd (log-fresh members old new e told.1 stale)
+
+  pub fresh-read : IsReadErr members old new can e → e ≢ errors.StaleRead → old.tree.start ≡ 0 → refusal_of e ≡ None
+  fresh-read (inl why) fresh whole = absurd (fresh why.0)
+  fresh-read (inr (inl memory)) fresh whole = ap refusal_of memory
+  fresh-read (inr (inr told)) fresh whole = log-untold members old new e whole told.1
+
+  pub known-read : IsReadErr members old new can e → e ≢ errors.StaleRead → e ≢ errors.Memory → can ≡ true
+  known-read (inl why) fresh other = absurd (fresh why.0)
+  known-read (inr (inl memory)) fresh other = absurd (other memory)
+  known-read (inr (inr told)) fresh other = told.0
+
+  pub rose-read : IsReadErr members old new can e → e ≡ errors.Journal journal.Store → Rose (members.faults old.store) (members.faults new.store)
+  rose-read (inl why) fault = absurd (cc (why.0, fault))
+  rose-read (inr (inl memory)) fault = absurd (cc (memory, fault))
+  rose-read (inr (inr told)) fault = log-rose members old new e told.1 fault
+
+  pub never-read : IsReadErr members old new can e → e ≢ errors.StaleBatch
+  never-read (inl why) stale = absurd (cc (why.0, stale))
+  never-read (inr (inl memory)) stale = absurd (cc (memory, stale))
+  never-read (inr (inr told)) stale = log-kept members old new e told.1 stale
+
+-- a database of a list is at its size
+pub size-of : {C : Type 0} (members : store.Ghosts C) (db : Database C Sha256Digest) (list : List Operation) → IsDatabase members digest_bytes sha256 mmr db list → db.commitment.size ≡ length list
+size-of members db list is = ap (λ c. c.size) is.commitment
+
+-- what holds of an error for every list of a kind
+pub err-each : {X E A : Type 0} (S : A → Type 0) (P : A → E → Type 0) (r : Result X E) → ((a : A) → S a → IfErr r (P a)) → IfErr r (λ e. (a : A) → S a → P a e)
+err-each S P (Ok x) p = tt
+err-each S P (Err e) p = p
+
+-- what holds of a value, and of an error, for every chain of a merkleized batch
+pub ok-made : {X E : Type 0} (r : Result X E) (made : Made Sha256Digest) (P : List Operation → X → Type 0) → ((chain : Chain) (tip : List Operation) → IsMade digest_bytes sha256 mmr made chain tip → IfOk r (P tip))
+    → IfOk r (λ x. (chain : Chain) (tip : List Operation) → IsMade digest_bytes sha256 mmr made chain tip → P tip x)
+ok-made (Ok x) made P given = given
+ok-made (Err e) made P given = tt
+
+pub err-made : {X E : Type 0} (r : Result X E) (made : Made Sha256Digest) (P : List Operation → E → Type 0) → ((chain : Chain) (tip : List Operation) → IsMade digest_bytes sha256 mmr made chain tip → IfErr r (P tip))
+    → IfErr r (λ e. (chain : Chain) (tip : List Operation) → IsMade digest_bytes sha256 mmr made chain tip → P tip e)
+err-made (Ok x) made P given = tt
+err-made (Err e) made P given = given
+
+-- reads through batches
+pub made-reads : {X E : Type 0} (r : Result X E) (S : List Operation → Type 0) (L : Chain → List Operation → Type 0) (Q : X → List Operation → Type 0)
+    → ((list : List Operation) (chain : Chain) (tip : List Operation) → S list → L chain tip → IsKnown list chain tip → IfOk r (λ x. Q x tip))
+    → IfOk r (λ x. (list : List Operation) (chain : Chain) (tip : List Operation) → S list → L chain tip → IsKnown list chain tip → Q x tip)
+made-reads (Ok x) S L Q given = given
+made-reads (Err e) S L Q given = tt
+
+pub begun-reads : {X E : Type 0} (r : Result X E) (S : List Operation → Type 0) (begun : Begun Sha256Digest) (Q : X → List Operation → List Write → Type 0)
+    → ((list : List Operation) (chain above : Chain) → S list → IsBegun digest_bytes sha256 mmr begun chain above → IsKnown list above chain.base → IfOk r (λ x. Q x chain.base begun.writes))
+    → IfOk r (λ x. (list : List Operation) (chain above : Chain) (ws : List Write) → S list → IsBegun digest_bytes sha256 mmr begun chain above × (begun.writes ≡ ws) → IsKnown list above chain.base → Q x chain.base ws)
+begun-reads (Ok x) S begun Q given = λ list chain above ws is batch known. subst (Q x chain.base) batch.1 (given list chain above is batch.0 known)
+begun-reads (Err e) S begun Q given = tt
 
 -- what an apply appends, said of bounds and of lists
-pub appends-same : (list : List Operation) (chain : Chain) (tip own : List Operation) (current : Commitment) (made : Made) → current ≡ list_commitment sha256 mmr list → own ≡ list → IsMade sha256 mmr made chain tip
-    → (if is_at current made.bounds.db made.bounds.ancestors then map spelling (drop (length own) made.tip) else []) ≡ (if fits (sha256_root mmr) (commitment (sha256_root mmr) list) chain then map spelling (drop (length list) tip) else [])
-appends-same list chain tip own current made is same batch =
-    ap (λ b. if b then map spelling (drop (length own) made.tip) else []) (at-made list chain tip current made is batch)
-    ∙ ap₂ (λ l t. if fits (sha256_root mmr) (commitment (sha256_root mmr) list) chain then map spelling (drop (length l) t) else []) same batch.list
+pub appends-same : (list : List Operation) (chain : Chain) (tip : List Operation) (current : Commitment) (made : Made Sha256Digest) → current ≡ list_commitment sha256 mmr list → IsMade digest_bytes sha256 mmr made chain tip
+    → (if is_at current made.bounds.db made.bounds.ancestors then map spelling (drop current.size tip) else []) ≡ (if fits (sha256_root mmr) (commitment (sha256_root mmr) list) chain then map spelling (drop (length list) tip) else [])
+appends-same list chain tip current made is batch =
+    ap (λ b. if b then map spelling (drop current.size tip) else []) (at-made list chain tip current made is batch)
+    ∙ ap (λ (n : ℕ). if fits (sha256_root mmr) (commitment (sha256_root mmr) list) chain then map spelling (drop n tip) else []) (ap (λ c. c.size) is)
 
 -- an apply's database stands for the tip
 pub applied-ok : {X E : Type 0} (S : List Operation → Type 0) (L : Chain → List Operation → Type 0) (Q : List Operation → X → Type 0) (r : Result X E)
@@ -141,49 +222,6 @@ pub applied-ok : {X E : Type 0} (S : List Operation → Type 0) (L : Chain → L
     → IfOk r (λ next. (list : List Operation) (chain : Chain) (tip : List Operation) → S list → L chain tip → IsOnChain list chain → Q tip next)
 applied-ok S L Q (Ok x) given = given
 applied-ok S L Q (Err e) given = tt
-
--- a batch that is begun on a database, and the database as a merkleized one
-pub base-begun : {C D : Type 0} (db : Database C D) (list : List Operation) (b : Begun) → db.list ≡ list → db.commitment ≡ list_commitment sha256 mmr list
-    → b ≡ record { base = db.list; parent = at_rest db; kept = []; writes = [] } → IsBegun sha256 mmr b (begun_on list) (begun_on list) × (b.writes ≡ [])
-base-begun db list b same is begun = (
-  record {
-    list = ap (λ x. x.base) begun ∙ same;
-    bounds = subst (λ p. IsBounds (ops_root sha256 mmr) p (begun_on list) list) (sym (ap (λ x. x.parent) begun)) (record { base = is; db = is; tip = is; ancestors = refl });
-    kept = ap (λ x. x.kept) begun;
-    rising = begun-rising list;
-  },
-  ap (λ x. x.writes) begun,
-)
-
-pub rest-made : {C D : Type 0} (db : Database C D) (list : List Operation) (b : Made) → db.list ≡ list → db.commitment ≡ list_commitment sha256 mmr list
-    → b ≡ record { bounds = at_rest db; kept = []; tip = db.list } → IsMade sha256 mmr b (begun_on list) list
-rest-made db list b same is made = record {
-  bounds = subst (λ p. IsBounds (ops_root sha256 mmr) p (begun_on list) list) (sym (ap (λ x. x.bounds) made)) (record { base = is; db = is; tip = is; ancestors = refl });
-  lowest = ap (λ x. x.bounds.inactivity_floor) made ∙ ap floor same;
-  kept = ap (λ x. x.kept) made;
-  list = ap (λ x. x.tip) made ∙ same;
-  rising = begun-rising list;
-  begins = Begins-self list;
-}
-
-first-views : {A B : Type 0} (f : A → B) (keep : Option ℕ) (xs : List A) → first_of keep (map f xs) ≡ map f (first_of keep xs)
-first-views f None xs = refl
-first-views f (Some n) xs = sym (take-views f n xs)
-
--- a child of a merkleized batch
-pub child-begun : (keep : Option ℕ) (made : Made) (chain : Chain) (tip : List Operation) (b : Begun) → IsMade sha256 mmr made chain tip
-    → b ≡ record { base = made.tip; parent = made.bounds; kept = child_keeps made (first_of keep made.kept); writes = [] } → IsBegun sha256 mmr b (child_of keep chain tip) chain × (b.writes ≡ [])
-child-begun keep made chain tip b batch begun = (
-  record {
-    list = ap (λ x. x.base) begun ∙ batch.list;
-    bounds = subst (λ p. IsBounds (ops_root sha256 mmr) p chain tip) (sym (ap (λ x. x.parent) begun)) batch.bounds;
-    kept = ap (λ x. x.kept) begun
-        ∙ ap₂ (λ (b t : Commitment). record { base = b; tip = t } ∷ first_of keep made.kept) batch.bounds.base batch.bounds.tip
-        ∙ ap (λ older. ancestor_of sha256 mmr (record { base = chain.base; tip = tip }) ∷ older) (ap (first_of keep) batch.kept ∙ first-views (ancestor_of sha256 mmr) keep chain.kept);
-    rising = child-rising keep chain tip batch.rising batch.begins;
-  },
-  ap (λ x. x.writes) begun,
-)
 
 -- the program's one policy
 pub only : (p : AnyPolicy) → policy_view p ≡ proportional
@@ -197,12 +235,12 @@ pub pinned : (ops : List Operation) (n : ℕ) → pins_at sha256 mmr ops n ≡ s
 unfolding sha256_pins
 pinned ops n = refl
 
--- the errors that tell what is too long are not want of memory
-journal-apart : (j : JournalError) → errors.Journal j ≡ errors.Memory → ⊥
-journal-apart j is = cc
+none-some : (r : Refused) → None ≡ Some r → ⊥
+none-some r is = cc
 
-merkle-apart : (m : MerkleError) → errors.Merkle m ≡ errors.Memory → ⊥
-merkle-apart m is = cc
+some-intro : {A : Type 0} (o : Option A) (P : A → Type 0) → ((a : A) → o ≡ Some a → P a) → IfSome o P
+some-intro None P give = tt
+some-intro (Some a) P give = give a refl
 
 module _ (chain : Chain) (tip : List Operation) where
   -- why a tip is refused, where no spelling is too long
@@ -214,25 +252,41 @@ module _ (chain : Chain) (tip : List Operation) where
   taken-offered taken = short taken.0 ∙ ap (λ b. if b then Some (Merkle (LocationOverflow (length tip))) else None) (le-ltb (2 ^ 62) (length tip) taken.1)
 
   -- what is too long of a tip is why it is refused
-  pub refused-due : (P On : Type 0) (e : Error) → e ≢ errors.StaleBatch → IsRefused chain.base tip e → (e ≢ errors.Memory → P) → IfSome (refusal_of e) (λ r. P × (On → tip_refusal chain tip ≡ Some r))
-  refused-due P On e fresh (inl memory) give = subst (λ x. IfSome (refusal_of x) (λ r. P × (On → tip_refusal chain tip ≡ Some r))) (sym memory) tt
-  refused-due P On e fresh (inr (inl stale)) give = absurd (fresh stale)
-  refused-due P On e fresh (inr (inr (inl large))) give =
-      subst (λ x. IfSome (refusal_of x) (λ r. P × (On → tip_refusal chain tip ≡ Some r))) (sym large.2)
-      (give (λ memory. journal-apart (journal.ItemTooLarge large.0) (sym large.2 ∙ memory)), λ on. ap (λ o. option_or (option_map (λ n. Journal (ItemTooLarge n)) o) (too_many (length tip))) large.1)
-  refused-due P On e fresh (inr (inr (inr many))) give =
-      subst (λ x. IfSome (refusal_of x) (λ r. P × (On → tip_refusal chain tip ≡ Some r))) (sym many.2)
-      (give (λ memory. merkle-apart (merkle.LocationOverflow (length tip)) (sym many.2 ∙ memory)), λ on. short many.0 ∙ ap (λ b. if b then Some (Merkle (LocationOverflow (length tip))) else None) (lt-ltb (2 ^ 62) (length tip) many.1))
+  due : (e : Error) (r : Refused) → e ≢ errors.StaleBatch → IsRefused chain.base tip e → refusal_of e ≡ Some r → tip_refusal chain tip ≡ Some r
+  due e r fresh (inl memory) told = absurd (none-some r (sym (ap refusal_of memory) ∙ told))
+  due e r fresh (inr (inl stale)) told = absurd (fresh stale)
+  due e r fresh (inr (inr (inl large))) told =
+      ap (λ o. option_or (option_map (λ n. Journal (ItemTooLarge n)) o) (too_many (length tip))) large.1 ∙ sym (ap refusal_of large.2) ∙ told
+  due e r fresh (inr (inr (inr many))) told =
+      short many.0 ∙ ap (λ b. if b then Some (Merkle (LocationOverflow (length tip))) else None) (lt-ltb (2 ^ 62) (length tip) many.1) ∙ sym (ap refusal_of many.2) ∙ told
+
+  -- a merkleize that is refused, and not as stale, is so for that where the database is on the chain
+  pub refused-due : {C D : Type 0} (members : store.Ghosts C) (old new : Log C D) (P On : Type 0) (e : Error) → e ≢ errors.StaleBatch → old.tree.start ≡ 0 → (On → IsRefused chain.base tip e ⊎ IsReadError members old new e)
+      → (e ≢ errors.Memory → P) → IfSome (refusal_of e) (λ r. P × (On → tip_refusal chain tip ≡ Some r))
+  refused-due members old new P On e fresh whole refused give =
+      some-intro (refusal_of e) (λ r. P × (On → tip_refusal chain tip ≡ Some r)) (λ r told. (give (λ memory. none-some r (sym (ap refusal_of memory) ∙ told)), λ on. either r told (refused on)))
+    where
+      either : (r : Refused) → refusal_of e ≡ Some r → IsRefused chain.base tip e ⊎ IsReadError members old new e → tip_refusal chain tip ≡ Some r
+      either r told (inl long) = due e r fresh long told
+      either r told (inr read) = absurd (none-some r (sym (log-untold members old new e whole read) ∙ told))
 
 -- a merkleize's batch makes a tip that is not refused
-pub made-ok : {X E : Type 0} (r : Result X E) (made : X → Made) (begun : Begun) (policy : Policy) (meta : Option Bytes) (S : List Operation → Type 0)
-    → ((list : List Operation) (chain above : Chain) → S list → IsBegun sha256 mmr begun chain above → IsOnChain list chain → IfOk r (λ x. IsMade sha256 mmr (made x) chain (stepped chain.base begun.writes policy meta)))
-    → IfOk r (λ x. IsTaken begun.base (stepped begun.base begun.writes policy meta))
-    → IfOk r (λ x. (list : List Operation) (chain above : Chain) (ws : List Write) → S list → IsBegun sha256 mmr begun chain above × (begun.writes ≡ ws) → IsOnChain list chain
-    → (tip_refusal chain (stepped chain.base ws policy meta) ≡ None) × IsMade sha256 mmr (made x) chain (stepped chain.base ws policy meta))
-made-ok (Ok x) made begun policy meta S given taken = λ list chain above ws is batch on.
-    let here = subst (λ l. IsTaken l (stepped l begun.writes policy meta)) batch.0.list taken in (
-      taken-offered chain (stepped chain.base ws policy meta) (subst (λ w. IsTaken chain.base (stepped chain.base w policy meta)) batch.1 here),
-      subst (λ w. IsMade sha256 mmr (made x) chain (stepped chain.base w policy meta)) batch.1 (given list chain above is batch.0 on),
-    )
+pub made-ok : {X E : Type 0} (r : Result X E) (made : X → Made Sha256Digest) (begun : Begun Sha256Digest) (policy : Policy) (meta : Option Bytes) (S : List Operation → Type 0)
+    → ((list : List Operation) (chain above : Chain) → S list → IsBegun digest_bytes sha256 mmr begun chain above → IsOnChain list chain → IfOk r (λ x. IsMade digest_bytes sha256 mmr (made x) chain (stepped chain.base begun.writes policy meta)))
+    → ((list : List Operation) (chain above : Chain) → S list → IsBegun digest_bytes sha256 mmr begun chain above → IsOnChain list chain → IfOk r (λ x. IsTaken chain.base (stepped chain.base begun.writes policy meta)))
+    → IfOk r (λ x. (list : List Operation) (chain above : Chain) (ws : List Write) → S list → IsBegun digest_bytes sha256 mmr begun chain above × (begun.writes ≡ ws) → IsOnChain list chain
+    → (tip_refusal chain (stepped chain.base ws policy meta) ≡ None) × IsMade digest_bytes sha256 mmr (made x) chain (stepped chain.base ws policy meta))
+made-ok (Ok x) made begun policy meta S given taken = λ list chain above ws is batch on. (
+  taken-offered chain (stepped chain.base ws policy meta) (subst (λ w. IsTaken chain.base (stepped chain.base w policy meta)) batch.1 (taken list chain above is batch.0 on)),
+  subst (λ w. IsMade digest_bytes sha256 mmr (made x) chain (stepped chain.base w policy meta)) batch.1 (given list chain above is batch.0 on),
+)
 made-ok (Err e) made begun policy meta S given taken = tt
+
+-- and one that fails is refused, or failed at the log
+pub made-err : {X : Type 0} (r : Result X Error) (begun : Begun Sha256Digest) (policy : Policy) (meta : Option Bytes) (R : Error → Type 0) (S : List Operation → Type 0)
+    → ((list : List Operation) (chain above : Chain) → S list → IsBegun digest_bytes sha256 mmr begun chain above → IsOnChain list chain → IfErr r (λ e. IsRefused chain.base (stepped chain.base begun.writes policy meta) e ⊎ R e))
+    → IfErr r (λ e. (list : List Operation) (chain above : Chain) (ws : List Write) → S list → IsBegun digest_bytes sha256 mmr begun chain above × (begun.writes ≡ ws) → IsOnChain list chain
+    → IsRefused chain.base (stepped chain.base ws policy meta) e ⊎ R e)
+made-err (Ok x) begun policy meta R S given = tt
+made-err (Err e) begun policy meta R S given = λ list chain above ws is batch on.
+    subst (λ w. IsRefused chain.base (stepped chain.base w policy meta) e ⊎ R e) batch.1 (given list chain above is batch.0 on)

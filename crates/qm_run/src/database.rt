@@ -56,11 +56,11 @@ impl<C: Store> Engine<C>
 
     ghost inside = { λ db. db.log.store };
 
-    ghost stands = { λ db list. IsDatabase C.Store mmr digest_bytes sha256 db list };
+    ghost stands = { λ db list. IsDatabase C.Store digest_bytes sha256 mmr db list };
 
-    ghost is_batch = { λ b chain above ws. IsBegun sha256 mmr b chain above × (b.writes ≡ ws) };
+    ghost is_batch = { λ b chain above ws. IsBegun digest_bytes sha256 mmr b chain above × (b.writes ≡ ws) };
 
-    ghost is_merkleized = { λ b chain tip. IsMade sha256 mmr b.value chain tip };
+    ghost is_merkleized = { λ b chain tip. IsMade digest_bytes sha256 mmr b.value chain tip };
 
     ghost kind = { steps.unordered };
 
@@ -111,8 +111,8 @@ impl<C: Store> Engine<C>
         keep: Option<u64>,
     ) -> Result<Self::Batch, AllocError> {
         match keep {
-            None => batch.new_batch(alloc),
-            Some(n) => batch.new_batch_keeping(alloc, n as usize),
+            None => MerkleizedBatch::new_batch(batch, alloc),
+            Some(n) => MerkleizedBatch::new_batch_keeping(batch, alloc, n as usize),
         }
     }
 

@@ -94,11 +94,12 @@ pub trait Engine<C: Store>: Drop + Sized {
     /// The digests of the peaks over a list's first operations, so many.
     ghost pins: { List Operation → ℕ → List Bytes };
 
-    /// Opens a database over an empty store: a fresh list. Only memory and the store can fail.
+    /// Opens a database over an empty store: a fresh list. Only memory and the store can fail. What a store holds that tells
+    /// no items is not known.
     fn open(alloc: Global, store: C, config: &Self::Config) -> Result<Self, Refusal<Self, C>>
         requires start { C.start store ≡ 0 }
         requires empty { C.end store ≡ 0 }
-        ensures opened { IfOk result (λ x. stands x fresh) }
+        ensures opened { IfSome (C.items store) (λ _. IfOk result (λ x. stands x fresh)) }
         ensures grown { IfOk result (λ x. Appended C.Store store (inside x) (map spelling fresh)) }
         ensures kept { IfErr result (λ r. AppendedPart C.Store store (store_given inside r.given) (map spelling fresh)) }
         ensures cause { IfErr result (λ r. r.error ≡ Error.Journal JournalError.Store → Rose (C.faults store) (C.faults (store_given inside r.given))) }

@@ -1,7 +1,8 @@
 // Operations as replies list them.
 ghost use Rattle.std.specs.Prelude.{◌≡◌, IfOk, map, option_map};
 ghost use Rattle.qm_lines.specs.Views.{listed_view};
-ghost use Rattle.qm_any.specs.ListViews.{entry_view, entry_views};
+ghost use Rattle.qm_base.specs.Views.{unordered_view};
+ghost use Rattle.qm_any.specs.Views.{entry_views};
 
 use qm_base::update::Unordered;
 use qm_base::{Key, Operation, VariableValue};
@@ -29,7 +30,7 @@ fn listed_entry<F, K: Key, V: VariableValue>(
     alloc: Global,
     operation: &Operation<F, Unordered<K, V>>,
 ) -> Result<Listed<K, V>, AllocError>
-    ensures { IfOk result (λ listed. listed_view K.bytes V.bytes listed ≡ entry_view K.bytes V.bytes operation.now) }
+    ensures { IfOk result (λ listed. listed_view K.bytes V.bytes listed ≡ unordered_view K.bytes V.bytes operation.now) }
 {
     match operation {
         Operation::Update(update) => {

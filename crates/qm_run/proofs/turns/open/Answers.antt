@@ -4,7 +4,7 @@ use Rattle.qm_model.specs.Policies.{Policy}
 use Rattle.qm_model.specs.Machine.{Scheme}
 use Rattle.qm_run.specs.Session.{Meaning, meaning, scheme_of}
 use Rattle.qm_any.specs.Given.{store_given}
-use Rattle.qm_run.proofs.Commands.{Grows-whole, open_refused, open_ok, open_left, no_refusal}
+use Rattle.qm_run.proofs.Commands.{Grows-whole, open_refused, open_ok, open_left, no_refusal, some_then}
 use Rattle.qm_run.proofs.turns.open.Goals as goal
 use Rattle.qm_run.proofs.turns.open.Goals.{then-start-gt0-via-then-start-gt0, then-start-gt0-via-else-start-gt0+then-end-gt0}
 
@@ -29,7 +29,7 @@ returns-in-Ok-clause-machine g c = λ s k.
     rw c.bounds-start.ensures.end (g.met.C.Store.told_end (store_given m.inside c.args.session.held)) in
     let grown = rw c.close-store.ensures at c.in-Ok.ensures.grown in
     open_ok m g.X.Key.ByteString.bytes g.X.Value.ByteString.bytes g.X.Digest.Digest.bytes scheme c.args.session.held c.in-Ok.x c.args.session.table.items c.args.session.opened c.info-numbers.result.start c.info-numbers.result.size c.bounds-start.result.1 s k law
-    (omega arith) c.in-Ok.ensures.opened grown.start grown.items c.info-numbers.ensures.start (λ list stands. (c.info-numbers.ensures.list list stands).0)
+    (omega arith) (some_then (m.items (store_given m.inside c.args.session.held)) s.items k.items (rw c.close-store.ensures at c.in-Ok.ensures.opened)) grown.start grown.items c.info-numbers.ensures.start (λ list stands. (c.info-numbers.ensures.list list stands).0)
 
 pub returns-in-Ok-clause-left : goal.returns-in-Ok-clause-left
 returns-in-Ok-clause-left g c = λ s k apart.

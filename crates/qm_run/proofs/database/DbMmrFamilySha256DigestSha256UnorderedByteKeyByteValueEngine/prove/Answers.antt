@@ -4,6 +4,8 @@ use Rattle.std.specs.Int.NonZero.{non_zero_u64_get}
 use Rattle.qm_model.specs.Mmr.{mmr}
 use Rattle.qm_model.specs.Proofs.{ops_proof}
 use Rattle.qm_model.specs.Refusals.{proof_count}
+use Rattle.qm_any.proofs.Reading.{left-database}
+use Rattle.qm_run.specs.Databases.{digest_bytes}
 use Rattle.qm_run.proofs.Engines.{proved}
 use Rattle.qm_run.proofs.database.DbMmrFamilySha256DigestSha256UnorderedByteKeyByteValueEngine.prove.Goals as goal
 
@@ -13,3 +15,9 @@ returns-clause-proof g c = λ list is.
     c.in_ok-proof.ensures.proof list is
     ∙ ap₂ (λ n a. ops_proof sha256 mmr (take n list) a (a + proof_count n a max)) c.new-size.ensures c.new-start.ensures
     ∙ proved (take c.args.size list) c.args.start (c.args.start + proof_count c.args.size c.args.start max)
+
+pub returns-in_err-operations-clause-same : goal.returns-in_err-operations-clause-same
+returns-in_err-operations-clause-same g c = λ list is. left-database g.C.Store digest_bytes sha256 mmr c.args.self.now c.historical_proof.new.self list c.historical_proof.ensures.left is
+
+pub returns-clause-same : goal.returns-clause-same
+returns-clause-same g c = λ list is. left-database g.C.Store digest_bytes sha256 mmr c.args.self.now c.historical_proof.new.self list c.historical_proof.ensures.left is
