@@ -114,8 +114,8 @@ module _ {D : Type 0} (parent : Made D) (keep : ℕ) (few : keep ≤ suc (length
         joined = (count, joined-first keep parent.bounds.tip.size parent.layers agreed.joined);
         leaves = refl;
         reached = subst (λ ns. All (Contains ns) (tree.leaves ∷ parent.bounds.tip.size ∷ bases (take keep parent.layers))) (sym through)
-        (All-cons (Contains (tree.leaves ∷ older)) tree.leaves (parent.bounds.tip.size ∷ bases (take keep parent.layers)) (contains-first tree.leaves older)
-        (All-weaker (Contains older) (Contains (tree.leaves ∷ older)) (λ n has. contains-behind tree.leaves n older has) (parent.bounds.tip.size ∷ bases (take keep parent.layers)) kept));
+            (All-cons (Contains (tree.leaves ∷ older)) tree.leaves (parent.bounds.tip.size ∷ bases (take keep parent.layers)) (contains-first tree.leaves older)
+            (All-weaker (Contains older) (Contains (tree.leaves ∷ older)) (λ n has. contains-behind tree.leaves n older has) (parent.bounds.tip.size ∷ bases (take keep parent.layers)) kept));
       }
 
 module _ {D : Type 0} (root : Bytes) (meta : Option Bytes) where
@@ -172,28 +172,30 @@ module _ {D : Type 0} (bytes : D → Bytes) (hash : Bytes → Bytes) (shape : Sh
   pub child-is_made : (plan : Plan) (tree : KeptTree D) (root : Bytes) (meta : Option Bytes) (tip : List Operation) → IsPlan plan chain.base tip → IsKeptTree bytes hash shape tree tip (chain.base ∷ bases_of above)
       → root ≡ ops_root hash shape tip → meta ≡ last_metadata tip → All IsUnordered tip → IsMade bytes hash shape (child_made parent keep plan tree root meta) chain tip
   child-is_made plan tree root meta tip is grown standing last ordered =
-    let goes : List Operation → Type 0 = λ l. Contains (leaves_of hash shape tip ∷ grown.lists) (leaves_of hash shape l) in
-    record {
-      bounds = record {
-        base = made.bounds.tip;
-        db = child-boundary bytes hash shape parent keep chain above few made kept;
-        tip = ap₂ (λ (size : ℕ) (r : Bytes). record { size = size; root = r }) grown.leaves standing;
-        ancestors = child-tips bytes hash shape parent keep chain above few made kept;
-      };
-      lowest = is.floor;
-      live = is.live;
-      metadata = last;
-      linked = subst (AreLinked chain.base) (sym kept) (child-linked keep above chain.base made.linked);
-      steps = (record { size = ap (λ c. c.size) made.bounds.tip; list = plan-behind plan chain.base tip is; changes = is.changes },
-      subst (LeadThrough (take keep parent.layers) chain.base) (sym child-older) (leads-first keep parent.layers chain.base (bases_of above) made.steps));
-      tree = record {
-        leaves = grown.leaves;
-        lists = grown.lists;
-        history = grown.history;
-        through = subst (λ ls. All goes (chain.base ∷ ls)) (sym child-older) (All-take goes (suc keep) (chain.base ∷ bases_of above) grown.through);
-      };
-      unordered = ordered;
-    }
+      let goes : List Operation → Type 0 = λ l. Contains (leaves_of hash shape tip ∷ grown.lists) (leaves_of hash shape l) in
+      record {
+        bounds = record {
+          base = made.bounds.tip;
+          db = child-boundary bytes hash shape parent keep chain above few made kept;
+          tip = ap₂ (λ (size : ℕ) (r : Bytes). record { size = size; root = r }) grown.leaves standing;
+          ancestors = child-tips bytes hash shape parent keep chain above few made kept;
+        };
+        lowest = is.floor;
+        live = is.live;
+        metadata = last;
+        linked = subst (AreLinked chain.base) (sym kept) (child-linked keep above chain.base made.linked);
+        steps = (
+          record { size = ap (λ c. c.size) made.bounds.tip; list = plan-behind plan chain.base tip is; changes = is.changes },
+          subst (LeadThrough (take keep parent.layers) chain.base) (sym child-older) (leads-first keep parent.layers chain.base (bases_of above) made.steps),
+        );
+        tree = record {
+          leaves = grown.leaves;
+          lists = grown.lists;
+          history = grown.history;
+          through = subst (λ ls. All goes (chain.base ∷ ls)) (sym child-older) (All-take goes (suc keep) (chain.base ∷ bases_of above) grown.through);
+        };
+        unordered = ordered;
+      }
 
 -- an operation without a next key, and with a floor of at most 2 ^ 62
 abbrev pub IsPlain : Operation → Type 0

@@ -50,17 +50,17 @@ joined-counts size from [] joined among = ⊎_elim
 joined-counts size from (layer ∷ layers) joined among = ⊎_elim
     (λ (high : (nat_le from layer.base ≡ true) × (from ≤ layer.base)).
     let older : Contains (layer.base ∷ bases layers) from = ⊎_elim
-        (λ (same : size ≡ from). (0, omega arith, omega (arith, same, high.1, joined.0)))
-        (λ (within : Contains (layer.base ∷ bases layers) from). within)
-        (first_or_later size (layer.base ∷ bases layers) from among) in
+    (λ (same : size ≡ from). (0, omega arith, omega (arith, same, high.1, joined.0)))
+    (λ (within : Contains (layer.base ∷ bases layers) from). within)
+    (first_or_later size (layer.base ∷ bases layers) from among) in
     ap (λ ls. from + length (operations_in ls)) (unapplied-more from layer layers high.0)
     ∙ omega (arith, length-append (operations_in (unapplied from layers)) layer.operations, joined-counts layer.base from layers joined.1 older, joined.0))
     (λ (low : (nat_le from layer.base ≡ false) × (layer.base < from)).
     ap (λ ls. from + length (operations_in ls)) (unapplied-none from layer layers low.0)
     ∙ ⊎_elim
-        (λ (same : size ≡ from). omega (arith, same))
-        (λ (within : Contains (layer.base ∷ bases layers) from). absurd (omega (arith, low.1, joined-below layer.base from layers joined.1 within)))
-        (first_or_later size (layer.base ∷ bases layers) from among))
+    (λ (same : size ≡ from). omega (arith, same))
+    (λ (within : Contains (layer.base ∷ bases layers) from). absurd (omega (arith, low.1, joined-below layer.base from layers joined.1 within)))
+    (first_or_later size (layer.base ∷ bases layers) from among))
     (leb_tells from layer.base)
 
 -- no list on the way is longer than the last
@@ -91,11 +91,11 @@ lacked-lists (layer ∷ layers) tip [] lent leads among = absurd leads
 lacked-lists (layer ∷ layers) tip (base ∷ older) lent leads among = ⊎_elim
     (λ (high : (nat_le (length lent) layer.base ≡ true) × (length lent ≤ layer.base)).
     let rest = lacked-lists layers base older lent leads.1 (⊎_elim
-        (λ (same : tip ≡ lent).
-        let none : layer.operations ≡ [] = nil_from_length layer.operations (omega (arith, high.1, leads.0.size, ap length same, ap length leads.0.list, length-append base layer.operations)) in
-        (0, omega arith, sym (append-nil base) ∙ ap (λ ops. base ++ ops) (sym none) ∙ sym leads.0.list ∙ same))
-        (λ (within : Contains (base ∷ older) lent). within)
-        (first_or_later tip (base ∷ older) lent among)) in
+    (λ (same : tip ≡ lent).
+    let none : layer.operations ≡ [] = nil_from_length layer.operations (omega (arith, high.1, leads.0.size, ap length same, ap length leads.0.list, length-append base layer.operations)) in
+    (0, omega arith, sym (append-nil base) ∙ ap (λ ops. base ++ ops) (sym none) ∙ sym leads.0.list ∙ same))
+    (λ (within : Contains (base ∷ older) lent). within)
+    (first_or_later tip (base ∷ older) lent among)) in
     let lacked = unapplied (length lent) layers in
     subst (λ ls. IsLacked ls lent tip) (sym (unapplied-more (length lent) layer layers high.0)) (
       leads.0.list ∙ ap (λ ops. ops ++ layer.operations) rest.0 ∙ append_assoc lent (operations_in lacked) layer.operations,
@@ -104,9 +104,9 @@ lacked-lists (layer ∷ layers) tip (base ∷ older) lent leads among = ⊎_elim
     (λ (low : (nat_le (length lent) layer.base ≡ false) × (layer.base < length lent)).
     subst (λ ls. IsLacked ls lent tip) (sym (unapplied-none (length lent) layer layers low.0))
     (⊎_elim
-        (λ (same : tip ≡ lent). (same ∙ sym (append-nil lent), sym same))
-        (λ (within : Contains (base ∷ older) lent). absurd (omega (arith, low.1, leads.0.size, lead-shorter layers base older lent leads.1 within)))
-        (first_or_later tip (base ∷ older) lent among)))
+    (λ (same : tip ≡ lent). (same ∙ sym (append-nil lent), sym same))
+    (λ (within : Contains (base ∷ older) lent). absurd (omega (arith, low.1, leads.0.size, lead-shorter layers base older lent leads.1 within)))
+    (first_or_later tip (base ∷ older) lent among)))
     (leb_tells (length lent) layer.base)
 
 -- where a layer starts a list of the way ends

@@ -132,7 +132,7 @@ fn keys_are_read_together(rt: HostRuntime) -> Result<(), Fail> {
     let keys = [key(rt.alloc())?, numbered(rt.alloc(), 1)?];
     let made = batch_of(rt.alloc(), &mut db, 5)?;
     assert_eq!(rt; made.get_many(rt.alloc(), &keys, &mut db)?.len(), 2);
-    let batch = made.new_batch(rt.alloc())?;
+    let batch = Batch::new_batch(&made, rt.alloc())?;
     assert_eq!(rt; batch.get_many(rt.alloc(), &keys, &mut db)?.len(), 2);
     assert_eq!(rt; db.get_many(rt.alloc(), &keys)?.len(), 2);
     Ok(())
@@ -158,12 +158,12 @@ fn chain(alloc: Global, older: u8, keep: u8) -> Result<(Vec<Rc<Batch>>, Rc<Batch
     let mut batches = Vec::new(alloc);
     let mut parent = db.to_batch(alloc)?;
     for number in 0..older {
-        let child = made(alloc, parent.new_batch(alloc)?, number, &mut db)?;
+        let child = made(alloc, Batch::new_batch(&parent, alloc)?, number, &mut db)?;
         batches.push(parent)?;
         parent = child;
     }
     let mut db = applied(alloc, db, &parent)?;
-    let batch = parent.new_batch_keeping(alloc, usize::from(keep))?;
+    let batch = Batch::new_batch_keeping(&parent, alloc, usize::from(keep))?;
     let last = made(alloc, batch, older, &mut db)?;
     batches.push(parent)?;
     Ok((batches, last))
@@ -205,13 +205,11 @@ struct Seen {
 }
 
 // What the last batch of a chain answers.
-fn seen_of(alloc: Global, last: &Batch, number: u8, db: Database) -> Result<Seen, Error> {
+fn seen_of(alloc: Global, last: &Rc<Batch>, number: u8, db: Database) -> Result<Seen, Error> {
     let mut db = db;
     let key = numbered(alloc, number)?;
     let value = read(last.get(alloc, &key, &mut db));
-    let batch = last
-        .new_batch(alloc)?
-        .write(numbered(alloc, number)?, None)?;
+    let batch = Batch::new_batch(last, alloc)?.write(numbered(alloc, number)?, None)?;
     let through = read(batch.get(alloc, &key, &mut db));
     let child = batch
         .merkleize(alloc, &mut db, None, &mut Proportional)
@@ -280,13 +278,19 @@ fn batches_know_the_states_of_their_chains(rt: HostRuntime) -> Result<(), Fail> 
 fn a_child_proves_its_operations(rt: HostRuntime) -> Result<(), Fail> {
     let mut db = opened(rt.alloc())?;
     let parent = batch_of(rt.alloc(), &mut db, 5)?;
-    let child = made(rt.alloc(), parent.new_batch(rt.alloc())?, 1, &mut db)?;
+    let child = made(
+        rt.alloc(),
+        Batch::new_batch(&parent, rt.alloc())?,
+        1,
+        &mut db,
+    )?;
     let proof = child.proof(rt.alloc(), &mut db)?;
     let (from, own) = child.operations();
     assert_eq!(rt; from.get(), parent.bounds().tip.size);
     let mut hasher = hasher(Sha256::new());
     assert!(rt; proof.verify(&mut hasher, own, from, &child.root()));
     assert_eq!(rt; child.pinned_nodes(rt.alloc(), &mut db)?.len(), 1);
+    assert_eq!(rt; child.diffs(rt.alloc())?.len(), 2);
     Ok(())
 }
 

@@ -15,7 +15,7 @@ returns-in-Ok-clause-part g c =
     err-then c.indexed.result c.indexed.ensures.back (λ r back.
     let more = map (λ v. v.items) c.args.lacking.items.items in
     let grown = subst (λ items. AppendedPart g.C.Store c.self.inside.log.store c.in-Ok.log.store (map (λ v. v.items) items)) c.deref.ensures.value
-        (part-whole g.C.Store c.self.inside.log.store c.in-Ok.log.store (map (λ v. v.items) c.deref.result.now) c.in-Ok.ensures.grown) in
+    (part-whole g.C.Store c.self.inside.log.store c.in-Ok.log.store (map (λ v. v.items) c.deref.result.now) c.in-Ok.ensures.grown) in
     let here = subst (λ s. AppendedPart g.C.Store s c.in-Ok.log.store more) (ap (λ db. db.log.store) c.self.view_is) grown in
     subst (λ given. AppendedPart g.C.Store c.args.self.log.store (store_given (λ db. db.log.store) given) more) (sym back.0) here)
 
