@@ -146,6 +146,6 @@ part-whole members old new more grown = record {
   items = (length more, subst (Grows (members.items old) (members.items new)) (sym (take_all (length more) more (omega arith))) grown.items);
 }
 
--- a database with the log that it has
-pub with-log : {C D : Type 0} (db : Database C D) (log : Log C D) → log ≡ db.log → record db { log = log } ≡ db
-with-log db log same = ap (λ l. record db { log = l }) same
+-- a database is another one where it has what that has, and the same log
+pub same-database : {C D : Type 0} (old db x : Database C D) → old ≡ db → x ≡ record old { log = x.log } → x.log ≡ old.log → x ≡ db
+same-database old db x is rest same = rest ∙ ap (λ l. record old { log = l }) same ∙ is
