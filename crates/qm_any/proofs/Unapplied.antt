@@ -1,18 +1,23 @@
 -- What a list lacks of the list that layers lead to, and the loops over these.
 use Rattle.std.proofs.Common.{◌≡◌, ℕ, ◌≤◌, ◌<◌, ◌+◌, Bool, true, false, List, [], ◌∷◌, ◌++◌, refl, ap, ap₂, sym, ◌∙◌, subst, arith, append_assoc, length, take, drop, map, get_or, ◌⊎◌, inl, inr, ⊎_elim}
-use Rattle.std.specs.Prelude.{Contains, nat_le, if◌then◌else◌, Result, Ok, Err, IfOk, IfErr}
+use Rattle.std.specs.Prelude.{Contains, nat_le, if◌then◌else◌, Result, Ok, Err, IfOk, IfErr, Option, Some, None, IsSome}
 use Rattle.std.proofs.lemmas.Bool.Decides.{leb_tells}
 use Rattle.std.proofs.lemmas.List.{take_all, append-nil, length-append, map_more, map-append, nil_from_length}
 use Rattle.std.proofs.Math.Seq.{drop-append_seam}
 use Rattle.qm_model.specs.Causes.{Grows}
-use Rattle.qm_model.specs.Operations.{Bytes, Operation}
+use Rattle.qm_model.specs.Operations.{Bytes, Operation, spelling}
+use Rattle.qm_model.specs.Batches.{Chain, IsOnChain}
+use Rattle.qm_model.specs.Trees.{Shape}
+use Rattle.qm_index.specs.Translated.{capped}
 use Rattle.qm_store.specs.declared.Store as store
-use Rattle.qm_store.specs.Log.{Log, HasGrown}
-use Rattle.qm_batch.specs.Changes.{LeadTo}
+use Rattle.qm_store.specs.Log.{Log, IsLog, HasGrown}
+use Rattle.qm_batch.specs.Changes.{Changes, LeadTo}
+use Rattle.qm_batch.specs.Lent.{IsIndexed}
 use Rattle.qm_batch.specs.Layers.{Layer, LeadThrough}
 use Rattle.qm_batch.proofs.Members.{first_or_later, Contains-first, Contains-later}
-use Rattle.qm_any.specs.Given.{AppendedPart}
-use Rattle.qm_any.specs.Databases.{Database, unapplied, operations_in, bases, AreJoined}
+use Rattle.qm_any.specs.Given.{Appended, AppendedPart}
+use Rattle.qm_any.specs.Databases.{Database, Made, IsDatabase, IsMade, bases_of, unapplied, operations_in, bases, AreJoined}
+use Rattle.qm_any.proofs.Known.{on_chain-base}
 
 -- one more behind a list is what h makes of one more of another's elements
 pub mapped-behind : {A B X Y : Type 0} (h : B → Y) (f : A → B) (view : X → Y) (first : List Y) (xs : List A) (i : ℕ) (d : A) (made more : List X) (x : X) → i < length xs → d ≡ get_or xs i d
@@ -146,6 +151,51 @@ part-whole members old new more grown = record {
   items = (length more, subst (Grows (members.items old) (members.items new)) (sym (take_all (length more) more (omega arith))) grown.items);
 }
 
--- a database with the log that it has
-pub with-log : {C D : Type 0} (db : Database C D) (log : Log C D) → log ≡ db.log → record db { log = log } ≡ db
-with-log db log same = ap (λ l. record db { log = l }) same
+-- a database is another one where it has what that has, and the same log
+pub same-database : {C D : Type 0} (old db x : Database C D) → old ≡ db → x ≡ record old { log = x.log } → x.log ≡ old.log → x ≡ db
+same-database old db x is rest same = rest ∙ ap (λ l. record old { log = l }) same ∙ is
+
+-- what holds of an answer by four clauses holds of it by all
+pub ok-four : {X E : Type 0} (r : Result X E) {P Q R S : X → Type 0} → IfOk r P → IfOk r Q → IfOk r R → IfOk r S → {T : X → Type 0} → ((x : X) → P x → Q x → R x → S x → T x) → IfOk r T
+ok-four (Ok x) p q r s give = give x p q r s
+ok-four (Err e) p q r s give = tt
+
+-- what grew still tells its items
+pub grown-told : {A : Type 0} (old new : Option (List A)) (more : List A) → IsSome old → Grows old new more → IsSome new
+grown-told None new more told grown = let none : false ≡ true = told in cc
+grown-told (Some xs) new more told grown = subst IsSome (sym grown) refl
+
+module _ {C D : Type 0} (members : store.Ghosts C) (bytes : D → Bytes) (hash : Bytes → Bytes) (shape : Shape) where
+  -- a database that took what its list lacked of a batch's list stands for that
+  pub applied : (db next : Database C D) (batch : Made D) (list : List Operation) (chain : Chain) (tip : List Operation) (n : ℕ) (items : List Bytes) (changes : List Changes)
+      → IsDatabase members bytes hash shape db list → IsMade bytes hash shape batch chain tip → IsOnChain list chain → n ≡ db.commitment.size
+      → items ≡ map spelling (operations_in (unapplied n batch.layers)) → changes ≡ map (λ l. l.changes) (unapplied n batch.layers)
+      → ((l : List Operation) → IsLog members shape bytes hash db.log (map spelling l) → IsLog members shape bytes hash next.log (map spelling l ++ items))
+      → ((l t : List Operation) → LeadTo changes l t → IsIndexed (capped 4) db.entries l → IsIndexed (capped 4) next.entries t)
+      → (next.commitment ≡ batch.bounds.tip) × (next.floor ≡ batch.bounds.inactivity_floor) × (next.live ≡ batch.live) × (next.metadata ≡ batch.metadata)
+      → Appended members db.log.store next.log.store items
+      → IsDatabase members bytes hash shape next tip
+  applied db next batch list chain tip n items changes is made on at spelled done log index rest grown =
+      let size : length list ≡ n = sym (at ∙ ap (λ k. k.size) is.commitment) in
+      let lacked : IsLacked (unapplied n batch.layers) list tip = subst (λ m. IsLacked (unapplied m batch.layers) list tip) size
+          (lacked-lists batch.layers tip (bases_of chain) list made.steps (Contains-later tip (bases_of chain) list (on_chain-base list chain made.linked on))) in
+      let all : map spelling list ++ items ≡ map spelling tip =
+      ap (λ xs. map spelling list ++ xs) spelled ∙ sym (map-append spelling list (operations_in (unapplied n batch.layers))) ∙ ap (map spelling) (sym lacked.0) in
+      record {
+        told = grown-told (members.items db.log.store) (members.items next.log.store) items is.told grown.items;
+        lent = record {
+          indexed = index list tip (subst (λ cs. LeadTo cs list tip) (sym done) lacked.1) is.lent.indexed;
+          logged = subst (IsLog members shape bytes hash next.log) all (log list is.lent.logged);
+          unordered = made.unordered;
+        };
+        commitment = rest.0 ∙ made.bounds.tip;
+        floor = rest.1 ∙ made.lowest;
+        live = rest.2 ∙ made.live;
+        metadata = rest.3 ∙ made.metadata;
+      }
+
+  -- what a database lacks of a batch's list is what lies behind its size
+  pub lacked-spelled : (batch : Made D) (chain : Chain) (tip : List Operation) (n m : ℕ) (items : List Bytes) → IsMade bytes hash shape batch chain tip → n ≡ m → Contains (bases batch.layers) n
+      → items ≡ map spelling (operations_in (unapplied n batch.layers)) → items ≡ map spelling (drop m tip)
+  lacked-spelled batch chain tip n m items made same among spelled =
+      spelled ∙ ap (map spelling) (sym (lacked-behind batch.layers tip (bases_of chain) n made.steps among)) ∙ ap (λ k. map spelling (drop k tip)) same

@@ -1,8 +1,8 @@
-use Rattle.std.proofs.Common.{◌∙◌, ap, sym, subst, map}
+use Rattle.std.proofs.Common.{ap, sym, subst, map}
 use Rattle.qm_batch.specs.Lent.{IsIndexed}
 use Rattle.qm_index.specs.Translated.{capped}
 use Rattle.qm_any.specs.Given.{AppendedPart, store_given}
-use Rattle.qm_any.proofs.Unapplied.{ok-then, err-then, part-whole, with-log}
+use Rattle.qm_any.proofs.Unapplied.{ok-then, err-then, part-whole, same-database}
 use Rattle.qm_any.proofs.db.Db+F+C+D+H+Unordered+K+V.moved.Goals as goal
 
 pub returns-in-Ok-clause-index : goal.returns-in-Ok-clause-index
@@ -23,4 +23,4 @@ pub returns-in-Err-clause-back : goal.returns-in-Err-clause-back
 returns-in-Err-clause-back g c = λ x given.
     let at = c.given_back.ensures.back x given in
     let was = c.in-Err.ensures.back x.log at.0 in
-    (at.1 ∙ ap (λ db. record db { log = x.log }) c.self.view_is ∙ with-log c.args.self x.log (was.0 ∙ ap (λ db. db.log) c.self.view_is), was.1)
+    (same-database _ c.args.self x c.self.view_is at.1 was.0, was.1)
