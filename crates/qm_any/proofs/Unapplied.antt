@@ -178,7 +178,7 @@ module _ {C D : Type 0} (members : store.Ghosts C) (bytes : D → Bytes) (hash :
   applied db next batch list chain tip n items changes is made on at spelled done log index rest grown =
       let size : length list ≡ n = sym (at ∙ ap (λ k. k.size) is.commitment) in
       let lacked : IsLacked (unapplied n batch.layers) list tip = subst (λ m. IsLacked (unapplied m batch.layers) list tip) size
-          (lacked-lists batch.layers tip (bases_of chain) list made.steps (Contains-later tip (bases_of chain) list (on_chain-base list chain made.linked on))) in
+      (lacked-lists batch.layers tip (bases_of chain) list made.steps (Contains-later tip (bases_of chain) list (on_chain-base list chain made.linked on))) in
       let all : map spelling list ++ items ≡ map spelling tip =
       ap (λ xs. map spelling list ++ xs) spelled ∙ sym (map-append spelling list (operations_in (unapplied n batch.layers))) ∙ ap (map spelling) (sym lacked.0) in
       record {

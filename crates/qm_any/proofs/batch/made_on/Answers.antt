@@ -87,6 +87,7 @@ returns-clause-taken g c = λ list chain above is made kept on.
     let from = child-base bytes hash shape c.args.parent.now c.args.keep list chain above made kept on in
     let plan = c.in_ok-plan.ensures.plan list base is from size made.lowest made.live in
     let count : length c.in_ok-plan.items.items ≡ length c.in_ok-plan.plan.operations = sym (length-map c.in_ok-plan.items.items (λ v. v.items)) ∙ ap length c.in_ok-plan.ensures.items ∙ length-map c.in_ok-plan.plan.operations spelling in
-    let room = c.in_ok-plan.ensures.room in
-    (subst (λ xs. too_long xs ≡ None) (c.in_ok-plan.ensures.items ∙ ap (map spelling) plan.operations) c.in_ok-plan.ensures.short,
-    omega (arith, room, size, count, plan-length c.in_ok-plan.plan base tip plan))
+    let room = c.in_ok-plan.ensures.room in (
+      subst (λ xs. too_long xs ≡ None) (c.in_ok-plan.ensures.items ∙ ap (map spelling) plan.operations) c.in_ok-plan.ensures.short,
+      omega (arith, room, size, count, plan-length c.in_ok-plan.plan base tip plan),
+    )

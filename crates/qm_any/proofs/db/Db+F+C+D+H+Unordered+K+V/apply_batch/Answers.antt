@@ -23,7 +23,7 @@ returns-in-Ok-clause-grown g c = λ chain tip made.
     let n = c.self.inside.commitment.size in
     let items = map (λ v. v.items) c.in-Ok.lacking.items.items in
     let behind = lacked-spelled g.C.Store g.D.Digest.bytes g.H.Hasher.hash g.F.Family.shape c.args.batch.now chain tip n c.args.self.commitment.size items made
-        (ap (λ db. db.commitment.size) c.self.view_is) c.in-Ok.ensures.among c.in-Ok.ensures.items in
+    (ap (λ db. db.commitment.size) c.self.view_is) c.in-Ok.ensures.among c.in-Ok.ensures.items in
     ok-then c.moved.result c.moved.ensures.grown (λ next grown. subst (Appended g.C.Store c.args.self.log.store next.log.store) behind grown)
 
 pub returns-in-Ok-clause-part : goal.returns-in-Ok-clause-part
@@ -31,7 +31,7 @@ returns-in-Ok-clause-part g c = λ chain tip made.
     let n = c.self.inside.commitment.size in
     let items = map (λ v. v.items) c.in-Ok.lacking.items.items in
     let behind = lacked-spelled g.C.Store g.D.Digest.bytes g.H.Hasher.hash g.F.Family.shape c.args.batch.now chain tip n c.args.self.commitment.size items made
-        (ap (λ db. db.commitment.size) c.self.view_is) c.in-Ok.ensures.among c.in-Ok.ensures.items in
+    (ap (λ db. db.commitment.size) c.self.view_is) c.in-Ok.ensures.among c.in-Ok.ensures.items in
     let bounds = c.args.batch.now.bounds in
     let fits : is_at c.args.self.commitment bounds.db bounds.ancestors ≡ true = subst (λ k. is_at k bounds.db bounds.ancestors ≡ true) (ap (λ db. db.commitment) c.self.view_is) c.in-Ok.ensures.fits in
     let more = map spelling (drop c.args.self.commitment.size tip) in
