@@ -1,14 +1,13 @@
 -- What a step makes of a list, and the merkleized batch of a plan on its parent.
-use Rattle.std.proofs.Common.{◌≡◌, ◌≢◌, ◌∙◌, ℕ, zero, suc, ◌+◌, ◌-◌, ◌≤◌, ◌<◌, ◌^◌, arith, ap, ap₂, sym, subst, refl, Bool, true, false, List, [], ◌∷◌, ◌++◌, length, take, drop, get_or, map, inl, inr, Option, Some, None, Result, Ok, Err, option_map}
-use Rattle.std.specs.Prelude.{All, Contains, IfSome, IsSome, IfOk, OnOk, is_ok, is_some, nat_lt, filter_map, if◌then◌else◌, ◌==◌, bytes_eq}
+use Rattle.std.proofs.Common.{◌≡◌, ◌≢◌, ◌∙◌, ℕ, zero, suc, ◌+◌, ◌-◌, ◌≤◌, ◌<◌, ◌^◌, arith, ap, ap₂, sym, subst, refl, Bool, true, false, List, [], ◌∷◌, ◌++◌, length, take, drop, get_or, map, inl, inr, Option, Some, None, Result, option_map}
+use Rattle.std.specs.Prelude.{All, Contains, IfSome, IsSome, IfOk, is_some, nat_lt, filter_map, if◌then◌else◌, ◌==◌}
 use Rattle.std.specs.List.{cons_option, AllByRecursion as Each}
-use Rattle.std.proofs.lemmas.Bool.{le-ltb}
 use Rattle.std.proofs.lemmas.Bool.Decides.{nat_tests}
-use Rattle.std.proofs.lemmas.List.{take-map, take_more, take_all, take-append-le, take-append-drop, length-append, length-drop, length-map, map-append}
-use Rattle.std.proofs.lemmas.List.Elements.{All-cons, All-nil, All-tail, All-take, All-drop, All-append, All-weaker, All-map, All-from_recursion, recursion_from_All, Contains-append_right}
-use Rattle.qm_model.specs.Operations.{Bytes, Operation, update, delete, commit, spelling, field, four_bytes, eight_bytes, optional_field, metadata_field}
+use Rattle.std.proofs.lemmas.List.{take-map, take_more, take_all, take-append-le, take-append-drop, length-append, length-drop, map-append}
+use Rattle.std.proofs.lemmas.List.Elements.{All-cons, All-nil, All-take, All-drop, All-append, All-weaker, All-from_recursion, recursion_from_All, Contains-append_right}
+use Rattle.qm_model.specs.Operations.{Bytes, Operation, update, delete, commit, spelling, field, four_bytes, eight_bytes, optional_field}
 use Rattle.qm_model.specs.Batches.{Commitment, Chain, Kept}
-use Rattle.qm_model.specs.Live.{Live, live, live_of, floor, floor_after, last_metadata, metadata_after}
+use Rattle.qm_model.specs.Live.{live, live_of, floor, floor_after, last_metadata, metadata_after}
 use Rattle.qm_model.specs.Policies.{Policy, policies}
 use Rattle.qm_model.specs.Refusals.{too_long, max_spelling}
 use Rattle.qm_model.specs.Trees.{Shape, ops_root}
@@ -19,10 +18,9 @@ use Rattle.qm_base.specs.Decode.{IsUnordered}
 use Rattle.qm_base.specs.declared.error.Error.{Error}
 use Rattle.qm_base.specs.declared.error.Error.TheVariants as errors
 use Rattle.qm_base.specs.declared.error.JournalError.TheVariants as journal
-use Rattle.qm_base.specs.declared.error.MerkleError.TheVariants as merkle
 use Rattle.qm_merkle.specs.Batches.{stops}
 use Rattle.qm_chain.specs.Bounds.{Bounds}
-use Rattle.qm_batch.specs.Layers.{Layer, LeadThrough, IsStep}
+use Rattle.qm_batch.specs.Layers.{Layer, LeadThrough}
 use Rattle.qm_batch.specs.Views.{Plan, IsPlan}
 use Rattle.qm_any.specs.Databases.{Made, AreAgreed, AreJoined, AreLinked, IsMade, bases, bases_of, states, child_boundary, child_made, child_tips, kept_by, stepped}
 use Rattle.qm_any.specs.KeptTrees.{KeptTree, IsKeptTree, leaves_of}

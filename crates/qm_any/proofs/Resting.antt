@@ -1,5 +1,5 @@
 -- A database as a batch, and what a call leaves that does nothing.
-use Rattle.std.proofs.Common.{◌≡◌, ◌≤◌, ◌∙◌, ℕ, suc, min, refl, sym, ap, subst, arith, List, [], ◌∷◌, ◌++◌, length, take, drop, map, Contains, Option, None, Some, zero}
+use Rattle.std.proofs.Common.{◌≡◌, ◌∙◌, ℕ, suc, min, refl, sym, ap, arith, List, [], ◌∷◌, length, take, Contains, None, Some}
 use Rattle.std.specs.Prelude.{All, if◌then◌else◌}
 use Rattle.std.proofs.Math.Seq.{take-length, drop-length}
 use Rattle.std.proofs.lemmas.List.{append-nil, take_all, take_min, length-map}
@@ -10,10 +10,9 @@ use Rattle.qm_any.specs.KeptTrees.{leaves_of}
 use Rattle.qm_model.specs.Operations.{Bytes, Operation}
 use Rattle.qm_model.specs.Batches.{Chain, Kept, commitment, begun_on, child_of}
 use Rattle.qm_model.specs.Trees.{Shape, ops_root}
-use Rattle.qm_model.proofs.Chains.{Begins-self, Contains-first}
-use Rattle.qm_chain.specs.Bounds.{IsBounds}
+use Rattle.qm_model.proofs.Chains.{Contains-first}
 use Rattle.qm_store.specs.declared.Store as store
-use Rattle.qm_any.specs.Databases.{Database, Made, Begun, IsDatabase, IsMade, IsBegun, IsLeft, at_rest, kept_by}
+use Rattle.qm_any.specs.Databases.{Database, Made, IsDatabase, IsMade, IsBegun, IsLeft, at_rest}
 
 -- a step that does nothing changes no key
 still : (list : List Operation) → AreChanges [] list list

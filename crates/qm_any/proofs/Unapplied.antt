@@ -1,5 +1,5 @@
 -- What a list lacks of the list that layers lead to, and the loops over these.
-use Rattle.std.proofs.Common.{◌≡◌, ℕ, ◌≤◌, ◌<◌, ◌+◌, Bool, true, false, List, [], ◌∷◌, ◌++◌, refl, ap, ap₂, sym, ◌∙◌, subst, arith, append_assoc, length, take, drop, map, get_or, ◌⊎◌, inl, inr, ⊎_elim}
+use Rattle.std.proofs.Common.{◌≡◌, ℕ, ◌≤◌, ◌<◌, ◌+◌, true, false, List, [], ◌∷◌, ◌++◌, refl, ap, ap₂, sym, ◌∙◌, subst, arith, append_assoc, length, take, drop, map, get_or, ⊎_elim}
 use Rattle.std.specs.Prelude.{Contains, nat_le, if◌then◌else◌, Result, Ok, Err, IfOk, IfErr, Option, Some, None, IsSome}
 use Rattle.std.proofs.lemmas.Bool.Decides.{leb_tells}
 use Rattle.std.proofs.lemmas.List.{take_all, append-nil, length-append, map_more, map-append, nil_from_length}
@@ -10,7 +10,7 @@ use Rattle.qm_model.specs.Batches.{Chain, IsOnChain}
 use Rattle.qm_model.specs.Trees.{Shape}
 use Rattle.qm_index.specs.Translated.{capped}
 use Rattle.qm_store.specs.declared.Store as store
-use Rattle.qm_store.specs.Log.{Log, IsLog, HasGrown}
+use Rattle.qm_store.specs.Log.{IsLog, HasGrown}
 use Rattle.qm_batch.specs.Changes.{Changes, LeadTo}
 use Rattle.qm_batch.specs.Lent.{IsIndexed}
 use Rattle.qm_batch.specs.Layers.{Layer, LeadThrough}

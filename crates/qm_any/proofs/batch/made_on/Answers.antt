@@ -1,12 +1,12 @@
-use Rattle.std.proofs.Common.{◌≡◌, ◌≤◌, ◌+◌, ◌^◌, ◌∙◌, ◌∷◌, None, ap, sym, subst, refl, map, length, arith, inl, inr, List, option_map}
+use Rattle.std.proofs.Common.{◌≡◌, ◌≤◌, ◌^◌, ◌∙◌, None, ap, sym, subst, refl, map, length, arith, inl, option_map}
 use Rattle.std.specs.Prelude.{Contains}
 use Rattle.std.proofs.lemmas.List.{length-map}
 use Rattle.std.proofs.lemmas.Result.{err_from_is_err_and}
-use Rattle.qm_model.specs.Operations.{Operation, spelling}
+use Rattle.qm_model.specs.Operations.{spelling}
 use Rattle.qm_model.specs.Policies.{proportional}
 use Rattle.qm_model.specs.Refusals.{too_long}
 use Rattle.qm_merkle.specs.Batches.{stops}
-use Rattle.qm_any.specs.Databases.{Made, AreAgreed, AreLinked, IsMade, bases_of, child_made, stepped}
+use Rattle.qm_any.specs.Databases.{AreAgreed, AreLinked, IsMade, bases_of, child_made, stepped}
 use Rattle.qm_any.specs.KeptTrees.{KeptTree, IsKeptTree}
 use Rattle.qm_any.specs.Views.{write_views}
 use Rattle.qm_any.proofs.Agreed.{child-reached}

@@ -1,12 +1,8 @@
-use Rattle.std.proofs.Common.{◌≡◌, ◌≤◌, ◌+◌, ◌∙◌, ap, sym, subst, map, length, arith, inl, inr, List, option_map}
+use Rattle.std.proofs.Common.{◌≡◌, ◌+◌, ◌∙◌, ap, sym, subst, map, length, arith, inl, inr}
 use Rattle.std.proofs.lemmas.List.{length-map}
-use Rattle.qm_model.specs.Live as lives
-use Rattle.qm_model.specs.Operations.{Operation, spelling}
-use Rattle.qm_model.specs.Policies.{proportional}
+use Rattle.qm_model.specs.Operations.{spelling}
 use Rattle.qm_batch.specs.Layers.{IsBase}
-use Rattle.qm_batch.specs.Views.{IsPlan}
-use Rattle.qm_any.specs.Databases.{IsDatabase, stepped}
-use Rattle.qm_any.specs.Views.{entry_views, write_views}
+use Rattle.qm_any.specs.Views.{entry_views}
 use Rattle.qm_any.proofs.Making.{too_long-fresh, too_long-cause, plan-refused}
 use Rattle.qm_any.proofs.batch.planned.Goals as goal
 

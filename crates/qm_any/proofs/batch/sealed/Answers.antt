@@ -1,9 +1,9 @@
-use Rattle.std.proofs.Common.{◌≡◌, ◌∙◌, ◌∷◌, ap, ap₂, sym, subst, refl, map, take, option_map}
+use Rattle.std.proofs.Common.{◌≡◌, ◌∙◌, ◌∷◌, ap, ap₂, subst, refl, map, take, option_map}
 use Rattle.qm_base.specs.Views.{unordered_view}
 use Rattle.qm_chain.specs.Bounds.{commitment_view}
 use Rattle.qm_batch.specs.Layers.{Layer}
 use Rattle.qm_batch.specs.Views.{changes_view}
-use Rattle.qm_any.specs.Databases.{Made, AreAgreed}
+use Rattle.qm_any.specs.Databases.{AreAgreed}
 use Rattle.qm_any.proofs.Making.{child-agreed, sealed-child}
 use Rattle.qm_any.proofs.batch.sealed.Goals as goal
 

@@ -1,9 +1,8 @@
-use Rattle.std.proofs.Common.{◌∙◌, ◌∷◌, ◌++◌, [], map, refl, ap, ap₂, sym, subst, None}
+use Rattle.std.proofs.Common.{◌∙◌, [], map, ap, ap₂, sym, subst, None}
 use Rattle.qm_model.specs.Causes.{Grows}
-use Rattle.qm_model.specs.Operations.{spelling, fresh}
+use Rattle.qm_model.specs.Operations.{fresh}
 use Rattle.qm_model.specs.Trees.{inactive_peaks}
 use Rattle.qm_store.specs.Log.{IsLog}
-use Rattle.qm_any.specs.Databases.{Database}
 use Rattle.qm_any.proofs.Telling.{root-spelled, grown-told, fresh-stands}
 use Rattle.qm_any.proofs.open.begun.Goals as goal
 

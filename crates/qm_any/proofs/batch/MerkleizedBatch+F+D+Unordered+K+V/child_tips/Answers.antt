@@ -1,4 +1,4 @@
-use Rattle.std.proofs.Common.{◌≡◌, ◌∙◌, ap, sym, map, arith}
+use Rattle.std.proofs.Common.{◌≡◌, ◌∙◌, ap, map, arith}
 use Rattle.qm_chain.specs.Bounds.{commitment_view}
 use Rattle.qm_any.specs.Databases.{child_tips}
 use Rattle.qm_any.proofs.Making.{kept-tips}

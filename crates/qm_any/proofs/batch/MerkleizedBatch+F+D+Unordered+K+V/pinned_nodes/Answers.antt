@@ -1,7 +1,6 @@
-use Rattle.std.proofs.Common.{◌≡◌, ◌∙◌, length, map, ap, sym, subst, IfOk}
-use Rattle.qm_model.specs.Proofs.{ops_proof, pins_at}
+use Rattle.std.proofs.Common.{◌≡◌, ◌∙◌, map, ap, sym, subst, IfOk}
+use Rattle.qm_model.specs.Proofs.{pins_at}
 use Rattle.qm_model.specs.Trees.{ops_root}
-use Rattle.qm_merkle.specs.Proofs.{proof_view}
 use Rattle.qm_chain.specs.Bounds.{commitment_view}
 use Rattle.qm_any.specs.Databases.{bases_of}
 use Rattle.qm_any.specs.KeptTrees.{IsKeptTree}

@@ -1,5 +1,5 @@
-use Rattle.std.proofs.Common.{◌≡◌, ◌∙◌, length, map, ap, sym, subst, IfOk}
-use Rattle.qm_model.specs.Proofs.{ops_proof, pins_at}
+use Rattle.std.proofs.Common.{◌≡◌, ◌∙◌, length, ap, sym, subst, IfOk}
+use Rattle.qm_model.specs.Proofs.{ops_proof}
 use Rattle.qm_model.specs.Trees.{ops_root}
 use Rattle.qm_merkle.specs.Proofs.{proof_view}
 use Rattle.qm_chain.specs.Bounds.{commitment_view}

@@ -1,4 +1,4 @@
-use Rattle.std.proofs.Common.{◌≡◌, subst, sym}
+use Rattle.std.proofs.Common.{subst, sym}
 use Rattle.qm_any.specs.Databases.{IsDatabase}
 use Rattle.qm_any.proofs.Making.{told-ok}
 use Rattle.qm_any.proofs.db.Db+F+C+D+H+Unordered+K+V.plan.Goals as goal

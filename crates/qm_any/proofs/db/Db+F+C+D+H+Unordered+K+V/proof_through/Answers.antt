@@ -1,4 +1,4 @@
-use Rattle.std.proofs.Common.{◌≡◌, ◌≤◌, ◌∙◌, map, ap, sym, subst, arith}
+use Rattle.std.proofs.Common.{◌≡◌, ◌∙◌, map, ap, sym, subst, arith}
 use Rattle.qm_model.specs.Operations.{spelling}
 use Rattle.qm_store.specs.Log.{IsLog}
 use Rattle.qm_any.proofs.db.Db+F+C+D+H+Unordered+K+V.proof_through.Goals as goal

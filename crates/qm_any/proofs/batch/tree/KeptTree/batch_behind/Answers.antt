@@ -1,4 +1,4 @@
-use Rattle.std.proofs.Common.{◌≡◌, ◌∙◌, ◌++◌, ◌∷◌, [], List, map, ap, sym, subst, IfOk}
+use Rattle.std.proofs.Common.{◌≡◌, ◌∙◌, ◌∷◌, [], map, ap, sym, subst, IfOk}
 use Rattle.std.specs.Option.{option_map}
 use Rattle.qm_merkle.specs.Batches.{all_layers, IsHistory}
 use Rattle.qm_store.specs.Log.{digests_from}

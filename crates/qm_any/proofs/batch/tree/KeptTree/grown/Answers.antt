@@ -1,10 +1,10 @@
-use Rattle.std.proofs.Common.{◌≡◌, ◌∙◌, ◌+◌, ◌++◌, ◌∷◌, [], List, length, map, refl, sym, ap, ap₂, subst, arith, IfOk}
+use Rattle.std.proofs.Common.{◌≡◌, ◌∙◌, ◌+◌, ◌++◌, ◌∷◌, length, map, sym, ap, ap₂, subst}
 use Rattle.std.proofs.lemmas.List.{length-map}
 use Rattle.qm_model.specs.Operations.{spelling}
 use Rattle.qm_model.specs.Trees.{inactive_peaks}
 use Rattle.qm_merkle.specs.Batches.{all_layers, IsHistory}
-use Rattle.qm_store.specs.Log.{IsLog, digests_from}
-use Rattle.qm_any.specs.KeptTrees.{layers_of, leaves_of}
+use Rattle.qm_store.specs.Log.{digests_from}
+use Rattle.qm_any.specs.KeptTrees.{leaves_of}
 use Rattle.qm_any.proofs.Trees.{kept-among, kept-grown, length-grown, root-kept}
 use Rattle.qm_any.proofs.batch.tree.KeptTree.grown.Goals as goal
 

@@ -1,10 +1,8 @@
-use Rattle.std.proofs.Common.{◌≡◌, ◌∙◌, ◌++◌, ◌∷◌, [], List, length, map, refl, sym, ap, ap₂, subst, append-nil, arith, IfOk}
+use Rattle.std.proofs.Common.{◌≡◌, ◌∙◌, ◌++◌, ◌∷◌, [], map, refl, sym, ap, subst, append-nil, arith, IfOk}
 use Rattle.std.specs.Option.{option_map}
 use Rattle.qm_model.specs.Operations.{spelling}
-use Rattle.qm_model.specs.Trees.{inactive_peaks}
 use Rattle.qm_model.proofs.Chains.{Contains-first, Contains-more}
 use Rattle.qm_merkle.specs.Batches.{all_layers, IsHistory}
-use Rattle.qm_merkle.specs.Proofs.{proof_view}
 use Rattle.qm_store.specs.Log.{IsLog, digests_from}
 use Rattle.qm_any.specs.KeptTrees.{layers_of, leaves_of}
 use Rattle.qm_any.proofs.Trees.{kept-among, rest-same, pins-kept}

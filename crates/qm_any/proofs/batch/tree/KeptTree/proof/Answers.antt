@@ -1,4 +1,4 @@
-use Rattle.std.proofs.Common.{◌≡◌, ◌∙◌, ◌++◌, ◌∷◌, [], List, length, map, refl, sym, ap, ap₂, subst, append-nil, arith, IfOk}
+use Rattle.std.proofs.Common.{◌≡◌, ◌∙◌, ◌++◌, ◌∷◌, [], length, map, refl, sym, ap, ap₂, subst, append-nil, arith, IfOk}
 use Rattle.std.specs.Option.{option_map}
 use Rattle.qm_model.specs.Operations.{spelling}
 use Rattle.qm_model.specs.Trees.{inactive_peaks}
