@@ -199,6 +199,7 @@ fn read(value: Result<Option<ByteValue>, Error>) -> Result<Option<usize>, Error>
 #[derive(Debug, Drop, PartialEq, Eq)]
 struct Seen {
     read: Result<Option<usize>, Error>,
+    read_oldest: Result<Option<usize>, Error>,
     read_by_child: Result<Option<usize>, Error>,
     child: Option<Error>,
     applied: Result<Option<usize>, Error>,
@@ -209,6 +210,7 @@ fn seen_of(alloc: Global, last: &Rc<Batch>, number: u8, db: Database) -> Result<
     let mut db = db;
     let key = numbered(alloc, number)?;
     let value = read(last.get(alloc, &key, &mut db));
+    let oldest = read(last.get(alloc, &numbered(alloc, 0)?, &mut db));
     let batch = Batch::new_batch(last, alloc)?.write(numbered(alloc, number)?, None)?;
     let through = read(batch.get(alloc, &key, &mut db));
     let child = batch
@@ -216,6 +218,7 @@ fn seen_of(alloc: Global, last: &Rc<Batch>, number: u8, db: Database) -> Result<
         .err();
     Ok(Seen {
         read: value,
+        read_oldest: oldest,
         read_by_child: through,
         child,
         applied: read_after(alloc, db, last, &key),
@@ -242,6 +245,11 @@ fn expected(older: u8, keep: u8, state: u8) -> Seen {
     Seen {
         read: if known {
             Ok(value)
+        } else {
+            Err(Error::StaleRead)
+        },
+        read_oldest: if known {
+            Ok(Some(0))
         } else {
             Err(Error::StaleRead)
         },
