@@ -1,14 +1,15 @@
 //! Trees that batches keep, so that a batch's root and proof hash its own operations and no others.
 
-ghost use Rattle.std.specs.Prelude.{◌≡◌, ◌⊎◌, ◌≤◌, ◌+◌, ◌^◌, ◌++◌, ◌∷◌, ℕ, [], List, Contains, length, map, IfOk, IfErr};
+ghost use Rattle.std.specs.Prelude.{◌≡◌, ◌≤◌, ◌+◌, ◌^◌, ◌++◌, ◌∷◌, ℕ, [], List, None, Contains, length, map, IfOk, IfErr, OnOk};
 ghost use Rattle.qm_model.specs.Live as lives;
 ghost use Rattle.qm_model.specs.Operations.{Operation, spelling};
 ghost use Rattle.qm_model.specs.Proofs.{ops_proof, pins_at};
+ghost use Rattle.qm_model.specs.Trees as trees;
 ghost use Rattle.qm_model.specs.Trees.{ops_root};
 ghost use Rattle.qm_merkle.specs.Batches.{all_layers, stops, IsHistory};
-ghost use Rattle.qm_merkle.specs.Proofs.{proof_view};
+ghost use Rattle.qm_merkle.specs.Proofs.{proof_view, first_lacked, needed_positions};
 ghost use Rattle.qm_store.specs.Log.{digests_from, IsLog};
-ghost use Rattle.qm_any.specs.KeptTrees.{IsKeptTree};
+ghost use Rattle.qm_any.specs.KeptTrees.{IsKeptTree, held_at};
 
 use qm_base::{Digest, Error, Hasher, Location, MerkleError};
 use qm_merkle::{Family, MerkleizedBatch, Proof};
@@ -120,7 +121,8 @@ impl<F: Family, D: Digest> KeptTree<F, D> {
         ensures value { (list tip : List Operation) (older : List (List Operation)) → IsLog C.Store F.shape D.bytes H.hash log.old (map spelling list) → IsKeptTree D.bytes H.hash F.shape self.now tip older
             → Contains (tip ∷ older) list → floor ≡ lives.floor tip
             → IfOk result (λ p. proof_view D.bytes p ≡ ops_proof H.hash F.shape tip start (length tip)) }
-        ensures never { IfErr result (λ e. (e ≡ Error.Memory) ⊎ ((p : ℕ) × (e ≡ Error.Merkle (MerkleError.ElementPruned p)))) }
+        ensures held { OnOk result (first_lacked (held_at F.shape self.now log.old.tree) (needed_positions F.shape self.now.leaves start self.now.leaves) ≡ None) }
+        ensures cause { IfErr result (IsLacked (held_at F.shape self.now log.old.tree) (needed_positions F.shape self.now.leaves start self.now.leaves)) }
         ensures whole { log.old.tree.start ≤ start → (list tip : List Operation) (older : List (List Operation)) → IsLog C.Store F.shape D.bytes H.hash log.old (map spelling list) → IsKeptTree D.bytes H.hash F.shape self.now tip older
             → Contains (tip ∷ older) list → IfErr result (λ e. e ≡ Error.Memory) }
         ensures same { log.new ≡ log.old }
@@ -146,7 +148,8 @@ impl<F: Family, D: Digest> KeptTree<F, D> {
         requires reach { Contains (stops self.now.leaves self.now.layers) log.old.tree.leaves }
         ensures value { (list tip : List Operation) (older : List (List Operation)) → IsLog C.Store F.shape D.bytes H.hash log.old (map spelling list) → IsKeptTree D.bytes H.hash F.shape self.now tip older
             → Contains (tip ∷ older) list → IfOk result (λ pins. map D.bytes pins.items ≡ pins_at H.hash F.shape tip count) }
-        ensures never { IfErr result (λ e. (e ≡ Error.Memory) ⊎ ((p : ℕ) × (e ≡ Error.Merkle (MerkleError.ElementPruned p)))) }
+        ensures held { OnOk result (first_lacked (held_at F.shape self.now log.old.tree) (trees.peak_positions F.shape count) ≡ None) }
+        ensures cause { IfErr result (IsLacked (held_at F.shape self.now log.old.tree) (trees.peak_positions F.shape count)) }
         ensures whole { log.old.tree.start ≤ count → (list tip : List Operation) (older : List (List Operation)) → IsLog C.Store F.shape D.bytes H.hash log.old (map spelling list) → IsKeptTree D.bytes H.hash F.shape self.now tip older
             → Contains (tip ∷ older) list → IfErr result (λ e. e ≡ Error.Memory) }
         ensures same { log.new ≡ log.old }
