@@ -14,6 +14,7 @@ ghost use Rattle.qm_merkle.specs.Batches.{stops};
 ghost use Rattle.qm_merkle.specs.Proofs.{proof_view, first_lacked, needed_positions};
 ghost use Rattle.qm_index.specs.Translated.{capped};
 ghost use Rattle.qm_store.specs.Log as logs;
+ghost use Rattle.qm_store.specs.Log.{IsLacked};
 ghost use Rattle.qm_chain.specs.Bounds.{commitment_view, is_at};
 ghost use Rattle.qm_batch.specs.Layers.{IsBase};
 ghost use Rattle.qm_batch.specs.Changes.{LeadTo};

@@ -3,15 +3,17 @@
 ghost use Rattle.std.specs.Prelude.{◌≡◌, ◌≤◌, ◌+◌, ◌^◌, ◌++◌, ◌∷◌, ℕ, [], List, None, Contains, length, map, IfOk, IfErr, OnOk};
 ghost use Rattle.qm_model.specs.Live as lives;
 ghost use Rattle.qm_model.specs.Operations.{Operation, spelling};
-ghost use Rattle.qm_model.specs.Proofs.{ops_proof, pins_at};
+ghost use Rattle.qm_model.specs.Proofs.{ops_proof, pins_at, proof_of};
 ghost use Rattle.qm_model.specs.Trees as trees;
 ghost use Rattle.qm_model.specs.Trees.{ops_root};
 ghost use Rattle.qm_merkle.specs.Batches.{all_layers, stops, IsHistory};
+ghost use Rattle.qm_merkle.specs.Mems.{Stands, node_at};
 ghost use Rattle.qm_merkle.specs.Proofs.{proof_view, first_lacked, needed_positions};
-ghost use Rattle.qm_store.specs.Log.{digests_from, IsLog};
+ghost use Rattle.qm_store.specs.Log.{digests_from, tree_error, IsLacked, IsLog};
 ghost use Rattle.qm_any.specs.KeptTrees.{IsKeptTree, held_at};
 
 use qm_base::{Digest, Error, Hasher, Location, MerkleError};
+use qm_merkle::mem::Mem;
 use qm_merkle::{Family, MerkleizedBatch, Proof};
 use qm_store::{AuthLog, Store};
 use std::alloc::{AllocError, Global};
@@ -130,10 +132,7 @@ impl<F: Family, D: Digest> KeptTree<F, D> {
         let inactive = F::inactive_peaks(Location::new(self.leaves), Location::new(floor));
         match &self.batch {
             Some(batch) => log.speculative_proof(alloc, batch, inactive, start, self.leaves),
-            None => {
-                let batch = log.tree_with(alloc, &Vec::new(alloc))?;
-                log.speculative_proof(alloc, &batch, inactive, start, self.leaves)
-            }
+            None => proof_at_rest(alloc, log.tree(), inactive, start),
         }
     }
 
@@ -156,10 +155,39 @@ impl<F: Family, D: Digest> KeptTree<F, D> {
     {
         match &self.batch {
             Some(batch) => log.speculative_pinned_nodes(alloc, batch, count),
-            None => {
-                let batch = log.tree_with(alloc, &Vec::new(alloc))?;
-                log.speculative_pinned_nodes(alloc, &batch, count)
-            }
+            None => log.pinned_nodes_at(alloc, count),
         }
+    }
+}
+
+// The proof of the leaves from `start` on in a tree that no batch is on.
+fn proof_at_rest<F: Family, D: Digest>(
+    alloc: Global,
+    tree: &Mem<F, D>,
+    inactive: usize,
+    start: u64,
+) -> Result<Proof<D>, Error>
+    requires start { start ≤ tree.now.leaves }
+    requires inactive { inactive ≤ length (trees.peaks F.shape tree.now.leaves) }
+    ensures value { (hash : List ℕ → List ℕ) (list : List (List ℕ)) → Stands F.shape D.bytes hash tree.now list
+        → IfOk result (λ p. proof_view D.bytes p ≡ proof_of hash F.shape list inactive start tree.now.leaves) }
+    ensures held { OnOk result (first_lacked (node_at F.shape tree.now) (needed_positions F.shape tree.now.leaves start tree.now.leaves) ≡ None) }
+    ensures cause { IfErr result (IsLacked (node_at F.shape tree.now) (needed_positions F.shape tree.now.leaves start tree.now.leaves)) }
+    ensures whole { tree.now.start ≤ start → IfErr result (λ e. e ≡ Error.Memory) }
+{
+    let (_, leaves) = tree.bounds();
+    match Proof::new(alloc, tree, leaves, inactive, Location::new(start), leaves) {
+        Ok(proof) => Ok(proof),
+        Err(error) => Err(told(error)),
+    }
+}
+
+// Why a log's call failed, where its tree's did.
+fn told(error: MerkleError) -> Error
+    ensures { result ≡ tree_error error }
+{
+    match error {
+        MerkleError::Memory => Error::Memory,
+        other => Error::Merkle(other),
     }
 }
