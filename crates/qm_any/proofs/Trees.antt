@@ -1,8 +1,10 @@
 -- The trees that batches keep, over a log at one of their lists.
-use Rattle.std.proofs.Common.{◌≡◌, ℕ, ◌+◌, true, false, List, [], ◌∷◌, ◌++◌, length, map, refl, sym, ◌∙◌, ap, ap₂, subst}
+use Rattle.std.proofs.Common.{◌≡◌, ℕ, ◌+◌, true, false, List, [], ◌∷◌, ◌++◌, length, map, refl, sym, ◌∙◌, ap, ap₂, subst, Option, Some, inl, inr, ⊎_elim}
 use Rattle.std.specs.Prelude.{Contains}
 use Rattle.std.proofs.lemmas.List.{length-map, length-append}
 use Rattle.std.proofs.lemmas.List.Elements.{All-nil, All-cons, All-contains, All-weaker}
+use Rattle.qm_base.specs.declared.error.MerkleError.{MerkleError}
+use Rattle.qm_base.specs.declared.error.MerkleError.TheVariants as merkle
 use Rattle.qm_model.specs.Operations.{Bytes, Operation, spelling}
 use Rattle.qm_model.specs.Live.{floor}
 use Rattle.qm_model.specs.Trees.{Shape, root, ops_root, inactive_peaks, leaves_from, digest_of, peaks}
@@ -11,14 +13,24 @@ use Rattle.qm_model.specs.Batches.{Commitment, Chain, IsKnown, commitment, reada
 use Rattle.qm_model.proofs.Chains.{Contains-first, Contains-more, readable-known}
 use Rattle.qm_chain.specs.Bounds.{Bounds, IsBounds, knows}
 use Rattle.qm_chain.proofs.Fits.{at-readable}
-use Rattle.qm_merkle.specs.Batches.{Layer, IsHistory}
-use Rattle.qm_store.specs.Log.{digests_from}
+use Rattle.qm_merkle.specs.Batches.{Layer, stops, IsHistory}
+use Rattle.qm_merkle.specs.Proofs.{first_lacked, Lacks}
+use Rattle.qm_store.specs.Log.{digests_from, tree_error, IsLacked}
 use Rattle.qm_store.proofs.Leaves.{leaves-spelled, digests_from-append, length-digests_from}
 use Rattle.qm_any.specs.KeptTrees.{KeptTree, IsKeptTree, leaves_of}
 
 -- a list of one has no other
 pub only-one : {A : Type 0} (x y : A) → Contains (x ∷ []) y → x ≡ y
 only-one x y found = All-contains (λ z. x ≡ z) (x ∷ []) y (All-cons (λ z. x ≡ z) x [] refl (All-nil (λ z. x ≡ z))) found
+
+-- what a tree's call says is lacked, the log's says too
+pub told-lack : {D : Type 0} (at : ℕ → Option D) (positions : List ℕ) (error : MerkleError) → Lacks at positions error → IsLacked at positions (tree_error error)
+told-lack at positions error = ⊎_elim (λ (memory : error ≡ merkle.Memory). inl (ap tree_error memory))
+    (λ (lack : (p : ℕ) × (first_lacked at positions ≡ Some p) × (error ≡ merkle.ElementPruned p)). inr (lack.0, lack.1, ap tree_error lack.2))
+
+-- with no layers there is one stop
+pub rest-stop : {D : Type 0} (leaves n : ℕ) (layers : List (Layer D)) → layers ≡ [] → Contains (stops leaves layers) n → leaves ≡ n
+rest-stop leaves n layers none reach = only-one leaves n (subst (λ l. Contains (stops leaves l) n) none reach)
 
 module _ (hash : Bytes → Bytes) (shape : Shape) where
   -- lists of the same leaves have the same leaves with more behind them

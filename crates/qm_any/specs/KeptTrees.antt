@@ -2,7 +2,9 @@
 use Rattle.std.specs.Prelude.{◌≡◌, ℕ, List, [], ◌∷◌, length, map, All, Contains, Option, Some, None}
 use Rattle.qm_model.specs.Operations.{Bytes, Operation, spelling}
 use Rattle.qm_model.specs.Trees.{Shape}
-use Rattle.qm_merkle.specs.Batches.{Layer, Batch, all_layers, IsHistory}
+use Rattle.std.specs.Option.{option_or}
+use Rattle.qm_merkle.specs.Batches.{Layer, Batch, all_layers, layers_at, IsHistory}
+use Rattle.qm_merkle.specs.Mems.{Kept, node_at}
 use Rattle.qm_store.specs.Log.{digests_from}
 
 -- a kept tree: how many leaves it has, and its layers, newest first, over a database's tree
@@ -14,6 +16,10 @@ pub record KeptTree (D : Type 0) : Type 0 where
 abbrev pub layers_of : {D : Type 0} → Option (Batch D) → List (Layer D)
 layers_of None = []
 layers_of (Some batch) = all_layers batch
+
+-- what a kept tree over a database's tree holds at a position
+abbrev pub held_at : {D : Type 0} → Shape → KeptTree D → Kept D → ℕ → Option D
+held_at shape tree mem p = option_or (layers_at shape tree.layers p) (node_at shape mem p)
 
 -- the leaves of a list of operations
 abbrev pub leaves_of : (Bytes → Bytes) → Shape → List Operation → List Bytes

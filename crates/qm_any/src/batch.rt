@@ -8,14 +8,17 @@ ghost use Rattle.qm_model.specs.Operations.{Operation, spelling};
 ghost use Rattle.qm_model.specs.Policies.{proportional};
 ghost use Rattle.qm_model.specs.Proofs.{ops_proof, pins_at};
 ghost use Rattle.qm_model.specs.Refusals.{too_long};
+ghost use Rattle.qm_model.specs.Trees as trees;
 ghost use Rattle.qm_model.specs.Writes.{read_through};
 ghost use Rattle.qm_merkle.specs.Batches.{stops};
-ghost use Rattle.qm_merkle.specs.Proofs.{proof_view};
+ghost use Rattle.qm_merkle.specs.Proofs.{proof_view, first_lacked, needed_positions};
 ghost use Rattle.qm_chain.specs.Bounds.{commitment_view, is_at, knows};
 ghost use Rattle.qm_batch.specs.Layers.{IsBase};
 ghost use Rattle.qm_batch.specs.Lent.{IsReadError};
 ghost use Rattle.qm_batch.specs.Views.{changes_view, IsPlan};
 ghost use Rattle.qm_any.specs.Databases.{IsDatabase, IsBegun, IsMade, IsLeft, bases, child_boundary, child_made, child_tips, is_on, kept_by, operations_in, stepped, unapplied};
+ghost use Rattle.qm_store.specs.Log.{IsLacked};
+ghost use Rattle.qm_any.specs.KeptTrees.{held_at};
 ghost use Rattle.qm_any.specs.Tips.{IsTaken, IsRefused};
 ghost use Rattle.qm_any.specs.Views.{entry_views, policy_view, write_views};
 
@@ -308,6 +311,8 @@ impl<F: Family, D: Digest, K: Key, V: VariableValue> MerkleizedBatch<F, D, Unord
         ensures stale { IfErr result (λ e. e ≡ Error.StaleRead → knows self.now.bounds db.old.commitment ≡ false) }
         ensures never { IfErr result (λ e. (e ≡ Error.Memory) ⊎ ((e ≡ Error.StaleRead) ⊎ ((p : ℕ) × (e ≡ Error.Merkle (MerkleError.ElementPruned p))))) }
         ensures order { IfErr result (λ e. e ≢ Error.Memory → e ≢ Error.StaleRead → knows self.now.bounds db.old.commitment ≡ true) }
+        ensures held { OnOk result (first_lacked (held_at F.shape self.now.tree db.old.log.tree) (needed_positions F.shape self.now.bounds.tip.size self.now.bounds.base.size self.now.bounds.tip.size) ≡ None) }
+        ensures lacked { IfErr result (λ e. e ≢ Error.StaleRead → IsLacked (held_at F.shape self.now.tree db.old.log.tree) (needed_positions F.shape self.now.bounds.tip.size self.now.bounds.base.size self.now.bounds.tip.size) e) }
         ensures whole { C.start db.old.log.store ≡ 0 → (list : List Operation) (chain : Chain) (tip : List Operation) → IsDatabase C.Store D.bytes H.hash F.shape db.old list → IsMade D.bytes H.hash F.shape self.now chain tip → IsKnown list chain tip
             → IfErr result (λ e. e ≡ Error.Memory) }
         ensures same { db.new ≡ db.old }
@@ -328,6 +333,8 @@ impl<F: Family, D: Digest, K: Key, V: VariableValue> MerkleizedBatch<F, D, Unord
         ensures stale { IfErr result (λ e. e ≡ Error.StaleRead → knows self.now.bounds db.old.commitment ≡ false) }
         ensures never { IfErr result (λ e. (e ≡ Error.Memory) ⊎ ((e ≡ Error.StaleRead) ⊎ ((p : ℕ) × (e ≡ Error.Merkle (MerkleError.ElementPruned p))))) }
         ensures order { IfErr result (λ e. e ≢ Error.Memory → e ≢ Error.StaleRead → knows self.now.bounds db.old.commitment ≡ true) }
+        ensures held { OnOk result (first_lacked (held_at F.shape self.now.tree db.old.log.tree) (trees.peak_positions F.shape self.now.bounds.base.size) ≡ None) }
+        ensures lacked { IfErr result (λ e. e ≢ Error.StaleRead → IsLacked (held_at F.shape self.now.tree db.old.log.tree) (trees.peak_positions F.shape self.now.bounds.base.size) e) }
         ensures whole { C.start db.old.log.store ≡ 0 → (list : List Operation) (chain : Chain) (tip : List Operation) → IsDatabase C.Store D.bytes H.hash F.shape db.old list → IsMade D.bytes H.hash F.shape self.now chain tip → IsKnown list chain tip
             → IfErr result (λ e. e ≡ Error.Memory) }
         ensures same { db.new ≡ db.old }

@@ -7,12 +7,14 @@ ghost use Rattle.qm_model.specs.Live as lives;
 ghost use Rattle.qm_model.specs.Operations.{Operation, spelling};
 ghost use Rattle.qm_model.specs.Policies.{proportional};
 ghost use Rattle.qm_model.specs.Proofs.{ops_proof, pins_at};
+ghost use Rattle.qm_model.specs.Trees as trees;
 ghost use Rattle.qm_model.specs.Trees.{ops_root};
 ghost use Rattle.qm_model.specs.Writes.{read_through, write_of, last_writes};
 ghost use Rattle.qm_merkle.specs.Batches.{stops};
-ghost use Rattle.qm_merkle.specs.Proofs.{proof_view};
+ghost use Rattle.qm_merkle.specs.Proofs.{proof_view, first_lacked, needed_positions};
 ghost use Rattle.qm_index.specs.Translated.{capped};
 ghost use Rattle.qm_store.specs.Log as logs;
+ghost use Rattle.qm_store.specs.Log.{IsLacked};
 ghost use Rattle.qm_chain.specs.Bounds.{commitment_view, is_at};
 ghost use Rattle.qm_batch.specs.Layers.{IsBase};
 ghost use Rattle.qm_batch.specs.Changes.{LeadTo};
@@ -20,7 +22,7 @@ ghost use Rattle.qm_batch.specs.Lent.{IsIndexed, IsReadError, NoneBelow};
 ghost use Rattle.qm_batch.specs.Views.{changes_view, write_view, IsPlan};
 ghost use Rattle.qm_any.specs.Databases.{Database, IsDatabase, IsLeft, IsMade, at_rest, bases, operations_in, stepped, unapplied};
 ghost use Rattle.qm_any.specs.Given.{Appended, AppendedPart, store_given};
-ghost use Rattle.qm_any.specs.KeptTrees.{IsKeptTree};
+ghost use Rattle.qm_any.specs.KeptTrees.{IsKeptTree, held_at};
 ghost use Rattle.qm_any.specs.Views.{write_views};
 
 use crate::batch::{KeptTree, Lacking, MerkleizedBatch, UnmerkleizedBatch};
@@ -327,7 +329,8 @@ impl<F: Family, C: Store, D: Digest, H: Hasher<Digest = D> + Drop, K: Key, V: Va
         ensures value { (list tip : List Operation) (older : List (List Operation)) → IsDatabase C.Store D.bytes H.hash F.shape self.old list → IsKeptTree D.bytes H.hash F.shape tree.now tip older
             → Contains (tip ∷ older) list → floor ≡ lives.floor tip
             → IfOk result (λ p. proof_view D.bytes p ≡ ops_proof H.hash F.shape tip start (length tip)) }
-        ensures never { IfErr result (λ e. (e ≡ Error.Memory) ⊎ ((p : ℕ) × (e ≡ Error.Merkle (MerkleError.ElementPruned p)))) }
+        ensures held { OnOk result (first_lacked (held_at F.shape tree.now self.old.log.tree) (needed_positions F.shape tree.now.leaves start tree.now.leaves) ≡ None) }
+        ensures cause { IfErr result (IsLacked (held_at F.shape tree.now self.old.log.tree) (needed_positions F.shape tree.now.leaves start tree.now.leaves)) }
         ensures whole { C.start self.old.log.store ≡ 0 → (list tip : List Operation) (older : List (List Operation)) → IsDatabase C.Store D.bytes H.hash F.shape self.old list → IsKeptTree D.bytes H.hash F.shape tree.now tip older
             → Contains (tip ∷ older) list → IfErr result (λ e. e ≡ Error.Memory) }
         ensures same { self.new ≡ self.old }
@@ -348,7 +351,8 @@ impl<F: Family, C: Store, D: Digest, H: Hasher<Digest = D> + Drop, K: Key, V: Va
         requires reach { Contains (stops tree.now.leaves tree.now.layers) self.old.commitment.size }
         ensures value { (list tip : List Operation) (older : List (List Operation)) → IsDatabase C.Store D.bytes H.hash F.shape self.old list → IsKeptTree D.bytes H.hash F.shape tree.now tip older
             → Contains (tip ∷ older) list → IfOk result (λ pins. map D.bytes pins.items ≡ pins_at H.hash F.shape tip count) }
-        ensures never { IfErr result (λ e. (e ≡ Error.Memory) ⊎ ((p : ℕ) × (e ≡ Error.Merkle (MerkleError.ElementPruned p)))) }
+        ensures held { OnOk result (first_lacked (held_at F.shape tree.now self.old.log.tree) (trees.peak_positions F.shape count) ≡ None) }
+        ensures cause { IfErr result (IsLacked (held_at F.shape tree.now self.old.log.tree) (trees.peak_positions F.shape count)) }
         ensures whole { C.start self.old.log.store ≡ 0 → (list tip : List Operation) (older : List (List Operation)) → IsDatabase C.Store D.bytes H.hash F.shape self.old list → IsKeptTree D.bytes H.hash F.shape tree.now tip older
             → Contains (tip ∷ older) list → IfErr result (λ e. e ≡ Error.Memory) }
         ensures same { self.new ≡ self.old }

@@ -1,16 +1,19 @@
 //! Trees that batches keep, so that a batch's root and proof hash its own operations and no others.
 
-ghost use Rattle.std.specs.Prelude.{◌≡◌, ◌⊎◌, ◌≤◌, ◌+◌, ◌^◌, ◌++◌, ◌∷◌, ℕ, [], List, Contains, length, map, IfOk, IfErr};
+ghost use Rattle.std.specs.Prelude.{◌≡◌, ◌≤◌, ◌+◌, ◌^◌, ◌++◌, ◌∷◌, ℕ, [], List, None, Contains, length, map, IfOk, IfErr, OnOk};
 ghost use Rattle.qm_model.specs.Live as lives;
 ghost use Rattle.qm_model.specs.Operations.{Operation, spelling};
-ghost use Rattle.qm_model.specs.Proofs.{ops_proof, pins_at};
+ghost use Rattle.qm_model.specs.Proofs.{ops_proof, pins_at, proof_of};
+ghost use Rattle.qm_model.specs.Trees as trees;
 ghost use Rattle.qm_model.specs.Trees.{ops_root};
 ghost use Rattle.qm_merkle.specs.Batches.{all_layers, stops, IsHistory};
-ghost use Rattle.qm_merkle.specs.Proofs.{proof_view};
-ghost use Rattle.qm_store.specs.Log.{digests_from, IsLog};
-ghost use Rattle.qm_any.specs.KeptTrees.{IsKeptTree};
+ghost use Rattle.qm_merkle.specs.Mems.{Stands, node_at};
+ghost use Rattle.qm_merkle.specs.Proofs.{proof_view, first_lacked, needed_positions};
+ghost use Rattle.qm_store.specs.Log.{digests_from, tree_error, IsLacked, IsLog};
+ghost use Rattle.qm_any.specs.KeptTrees.{IsKeptTree, held_at};
 
 use qm_base::{Digest, Error, Hasher, Location, MerkleError};
+use qm_merkle::mem::Mem;
 use qm_merkle::{Family, MerkleizedBatch, Proof};
 use qm_store::{AuthLog, Store};
 use std::alloc::{AllocError, Global};
@@ -120,7 +123,8 @@ impl<F: Family, D: Digest> KeptTree<F, D> {
         ensures value { (list tip : List Operation) (older : List (List Operation)) → IsLog C.Store F.shape D.bytes H.hash log.old (map spelling list) → IsKeptTree D.bytes H.hash F.shape self.now tip older
             → Contains (tip ∷ older) list → floor ≡ lives.floor tip
             → IfOk result (λ p. proof_view D.bytes p ≡ ops_proof H.hash F.shape tip start (length tip)) }
-        ensures never { IfErr result (λ e. (e ≡ Error.Memory) ⊎ ((p : ℕ) × (e ≡ Error.Merkle (MerkleError.ElementPruned p)))) }
+        ensures held { OnOk result (first_lacked (held_at F.shape self.now log.old.tree) (needed_positions F.shape self.now.leaves start self.now.leaves) ≡ None) }
+        ensures cause { IfErr result (IsLacked (held_at F.shape self.now log.old.tree) (needed_positions F.shape self.now.leaves start self.now.leaves)) }
         ensures whole { log.old.tree.start ≤ start → (list tip : List Operation) (older : List (List Operation)) → IsLog C.Store F.shape D.bytes H.hash log.old (map spelling list) → IsKeptTree D.bytes H.hash F.shape self.now tip older
             → Contains (tip ∷ older) list → IfErr result (λ e. e ≡ Error.Memory) }
         ensures same { log.new ≡ log.old }
@@ -128,10 +132,7 @@ impl<F: Family, D: Digest> KeptTree<F, D> {
         let inactive = F::inactive_peaks(Location::new(self.leaves), Location::new(floor));
         match &self.batch {
             Some(batch) => log.speculative_proof(alloc, batch, inactive, start, self.leaves),
-            None => {
-                let batch = log.tree_with(alloc, &Vec::new(alloc))?;
-                log.speculative_proof(alloc, &batch, inactive, start, self.leaves)
-            }
+            None => proof_at_rest(alloc, log.tree(), inactive, start),
         }
     }
 
@@ -146,17 +147,47 @@ impl<F: Family, D: Digest> KeptTree<F, D> {
         requires reach { Contains (stops self.now.leaves self.now.layers) log.old.tree.leaves }
         ensures value { (list tip : List Operation) (older : List (List Operation)) → IsLog C.Store F.shape D.bytes H.hash log.old (map spelling list) → IsKeptTree D.bytes H.hash F.shape self.now tip older
             → Contains (tip ∷ older) list → IfOk result (λ pins. map D.bytes pins.items ≡ pins_at H.hash F.shape tip count) }
-        ensures never { IfErr result (λ e. (e ≡ Error.Memory) ⊎ ((p : ℕ) × (e ≡ Error.Merkle (MerkleError.ElementPruned p)))) }
+        ensures held { OnOk result (first_lacked (held_at F.shape self.now log.old.tree) (trees.peak_positions F.shape count) ≡ None) }
+        ensures cause { IfErr result (IsLacked (held_at F.shape self.now log.old.tree) (trees.peak_positions F.shape count)) }
         ensures whole { log.old.tree.start ≤ count → (list tip : List Operation) (older : List (List Operation)) → IsLog C.Store F.shape D.bytes H.hash log.old (map spelling list) → IsKeptTree D.bytes H.hash F.shape self.now tip older
             → Contains (tip ∷ older) list → IfErr result (λ e. e ≡ Error.Memory) }
         ensures same { log.new ≡ log.old }
     {
         match &self.batch {
             Some(batch) => log.speculative_pinned_nodes(alloc, batch, count),
-            None => {
-                let batch = log.tree_with(alloc, &Vec::new(alloc))?;
-                log.speculative_pinned_nodes(alloc, &batch, count)
-            }
+            None => log.pinned_nodes_at(alloc, count),
         }
+    }
+}
+
+// The proof of the leaves from `start` on in a tree that no batch is on.
+fn proof_at_rest<F: Family, D: Digest>(
+    alloc: Global,
+    tree: &Mem<F, D>,
+    inactive: usize,
+    start: u64,
+) -> Result<Proof<D>, Error>
+    requires start { start ≤ tree.now.leaves }
+    requires inactive { inactive ≤ length (trees.peaks F.shape tree.now.leaves) }
+    ensures value { (hash : List ℕ → List ℕ) (list : List (List ℕ)) → Stands F.shape D.bytes hash tree.now list
+        → IfOk result (λ p. proof_view D.bytes p ≡ proof_of hash F.shape list inactive start tree.now.leaves) }
+    ensures held { OnOk result (first_lacked (node_at F.shape tree.now) (needed_positions F.shape tree.now.leaves start tree.now.leaves) ≡ None) }
+    ensures cause { IfErr result (IsLacked (node_at F.shape tree.now) (needed_positions F.shape tree.now.leaves start tree.now.leaves)) }
+    ensures whole { tree.now.start ≤ start → IfErr result (λ e. e ≡ Error.Memory) }
+{
+    let (_, leaves) = tree.bounds();
+    match Proof::new(alloc, tree, leaves, inactive, Location::new(start), leaves) {
+        Ok(proof) => Ok(proof),
+        Err(error) => Err(told(error)),
+    }
+}
+
+// Why a log's call failed, where its tree's did.
+fn told(error: MerkleError) -> Error
+    ensures { result ≡ tree_error error }
+{
+    match error {
+        MerkleError::Memory => Error::Memory,
+        other => Error::Merkle(other),
     }
 }

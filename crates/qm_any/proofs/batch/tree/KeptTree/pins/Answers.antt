@@ -1,9 +1,7 @@
-use Rattle.std.proofs.Common.{◌≡◌, ◌∙◌, ◌++◌, ◌∷◌, [], map, refl, sym, ap, subst, append-nil, arith, IfOk}
+use Rattle.std.proofs.Common.{◌≡◌, ◌∙◌, ◌∷◌, [], map, refl, sym, ap, subst, IfOk}
 use Rattle.std.specs.Option.{option_map}
 use Rattle.qm_model.specs.Operations.{spelling}
-use Rattle.qm_model.proofs.Chains.{Contains-first, Contains-more}
 use Rattle.qm_merkle.specs.Batches.{all_layers, IsHistory}
-use Rattle.qm_store.specs.Log.{IsLog, digests_from}
 use Rattle.qm_any.specs.KeptTrees.{layers_of, leaves_of}
 use Rattle.qm_any.proofs.Trees.{kept-among, rest-same, pins-kept}
 use Rattle.qm_any.proofs.batch.tree.KeptTree.pins.Goals as goal
@@ -34,31 +32,12 @@ returns-in-Some-clause-whole g c = λ first list tip older is kept found.
     let among = kept-among hash shape bytes c.args.self.now tip older kept list found in
     c.speculative_pinned_nodes.ensures.whole first (map spelling list) own kept.lists is history among
 
-pub returns-in_ok-batch-in-None-clause-value : goal.returns-in_ok-batch-in-None-clause-value
-returns-in_ok-batch-in-None-clause-value g c = λ list tip older is kept found.
+pub returns-in-None-clause-value : goal.returns-in-None-clause-value
+returns-in-None-clause-value g c = λ list tip older is kept found.
     let hash = g.H.Hasher.hash in
     let shape = g.F.Family.shape in
     let bytes = g.D.Digest.bytes in
-    let old = leaves_of hash shape list in
-    let new = digests_from hash shape 0 (map spelling list ++ map (λ v. v.items) c.deref-in-None.result.now) in
-    let after = subst (λ log. IsLog g.C.Store shape bytes hash log (map spelling list)) (sym c.tree_with.ensures.same) is in
-    let among = Contains-more (old ∷ []) new old (Contains-first old []) in
     let none : c.args.self.now.layers ≡ [] = sym (ap (λ t. t.layers) c.self.view_is) ∙ ap (λ o. layers_of (option_map (λ b. b.value) o)) c.in-None.is in
-    let no_items = c.deref-in-None.ensures.value ∙ c.new.ensures.items in
-    let are : new ≡ leaves_of hash shape tip =
-    ap (λ l. digests_from hash shape 0 (map spelling list ++ map (λ v. v.items) l)) no_items ∙ ap (digests_from hash shape 0) (append-nil (map spelling list)) ∙ rest-same hash shape bytes c.args.self.now tip older kept list none found in
-    subst (λ ds. IfOk c.speculative_pinned_nodes-in-None.result (λ pins. map bytes pins.items ≡ ds))
-    (pins-kept hash shape new tip c.args.count are)
-    (c.speculative_pinned_nodes-in-None.ensures.value (map spelling list) new (old ∷ []) after (c.in_ok-batch-in-None.ensures.history (map spelling list) is) among)
-
-pub returns-in_ok-batch-in-None-clause-whole : goal.returns-in_ok-batch-in-None-clause-whole
-returns-in_ok-batch-in-None-clause-whole g c = λ first list tip older is kept found.
-    let hash = g.H.Hasher.hash in
-    let shape = g.F.Family.shape in
-    let bytes = g.D.Digest.bytes in
-    let old = leaves_of hash shape list in
-    let new = digests_from hash shape 0 (map spelling list ++ map (λ v. v.items) c.deref-in-None.result.now) in
-    let after = subst (λ log. IsLog g.C.Store shape bytes hash log (map spelling list)) (sym c.tree_with.ensures.same) is in
-    let among = Contains-more (old ∷ []) new old (Contains-first old []) in
-    let start = ap (λ log. log.tree.start) c.tree_with.ensures.same in
-    c.speculative_pinned_nodes-in-None.ensures.whole (omega (arith, first, start)) (map spelling list) new (old ∷ []) after (c.in_ok-batch-in-None.ensures.history (map spelling list) is) among
+    subst (λ ds. IfOk c.pinned_nodes_at.result (λ pins. map bytes pins.items ≡ ds))
+    (pins-kept hash shape (leaves_of hash shape list) tip c.args.count (rest-same hash shape bytes c.args.self.now tip older kept list none found))
+    (c.pinned_nodes_at.ensures.value (map spelling list) is)
