@@ -262,7 +262,9 @@ fn each_failing_call_is_told(rt: HostRuntime) -> Result<(), Fail> {
             &[
                 "store fault\n",
                 "store fault\n",
+                "open 1 0 1\nbatch 1\nok\nstore fault\n",
                 "open 1 0 1\nbatch 1\nok\nmerkleized 1 1 4 2\nstore fault\n",
+                FAULT_WHEN_PROVED,
                 FAULT_WHEN_PROVED,
                 FAULT_WHEN_PROVED,
                 FAULT_WHEN_PROVED,
@@ -292,6 +294,7 @@ fn a_step_of_two_batches_appends_once(rt: HostRuntime) -> Result<(), Fail> {
     let texts = [
         "store fault\n",
         "store fault\n",
+        "open 1 0 1\nbatch 1\nok\nstore fault\n",
         FAULT_OF_ONE_STEP,
         REPLIES_ONE_STEP,
     ];
@@ -299,11 +302,11 @@ fn a_step_of_two_batches_appends_once(rt: HostRuntime) -> Result<(), Fail> {
         let input = ONE_STEP.as_bytes().to_vec(alloc)?;
         let fails = fails_at(alloc, Port::Store, call as u64)?;
         let ran = program(alloc, &WORDS, input, fails)?;
-        assert_eq!(rt; ran.status, if call < 3 { 6 } else { 0 }, "at {call}");
+        assert_eq!(rt; ran.status, if call < 4 { 6 } else { 0 }, "at {call}");
         assert_eq!(rt; ran.sink.bytes(), text.as_bytes(), "at {call}");
         let items = if call < 2 {
             0
-        } else if call == 2 {
+        } else if call < 4 {
             1
         } else {
             7
