@@ -1,6 +1,6 @@
 -- What a step makes of a list, and the merkleized batch of a plan on its parent.
-use Rattle.std.proofs.Common.{◌≡◌, ◌≢◌, ◌∙◌, ℕ, zero, suc, ◌+◌, ◌-◌, ◌≤◌, ◌<◌, ◌^◌, arith, ap, ap₂, sym, subst, refl, Bool, true, false, List, [], ◌∷◌, ◌++◌, length, take, drop, get_or, map, inl, inr, Option, Some, None, Result, option_map}
-use Rattle.std.specs.Prelude.{All, Contains, IfSome, IsSome, IfOk, is_some, nat_lt, filter_map, if◌then◌else◌, ◌==◌}
+use Rattle.std.proofs.Common.{◌≡◌, ◌≢◌, ◌∙◌, ℕ, zero, suc, ◌+◌, ◌-◌, ◌≤◌, ◌<◌, ◌^◌, arith, ap, ap₂, sym, subst, refl, Bool, true, false, List, [], ◌∷◌, ◌++◌, length, take, drop, get_or, map, inl, inr, Option, Some, None, option_map}
+use Rattle.std.specs.Prelude.{All, Contains, IfSome, is_some, nat_lt, filter_map, if◌then◌else◌, ◌==◌}
 use Rattle.std.specs.List.{cons_option, AllByRecursion as Each}
 use Rattle.std.proofs.lemmas.Bool.Decides.{nat_tests}
 use Rattle.std.proofs.lemmas.List.{take-map, take_more, take_all, take-append-le, take-append-drop, length-append, length-drop, map-append}
@@ -320,11 +320,6 @@ module _ (base : List Operation) (ws : List Write) (policy : Policy) (meta : Opt
       let short = All-from_recursion (λ op. length (spelling op) ≤ max_spelling) own (each-short own none) in
       subst (All IsUnordered) (take-append-drop (length base) tip)
       (All-append IsUnordered (take (length base) tip) own (subst (All IsUnordered) (sym begins) ordered) (λ k d within. unordered-from (get_or own k d) (plain k d within) (short k d within)))
-
--- what holds of a call's value where a store tells its items holds of it, since the store does
-pub told-ok : {X T E : Type 0} (o : Option X) (r : Result T E) (P : T → Type 0) → IsSome o → IfSome o (λ _. IfOk r P) → IfOk r P
-told-ok None r P told is = cc
-told-ok (Some x) r P told is = is
 
 -- the tips that a child keeps: its parent's own, and the first of those that the parent keeps
 pub kept-tips : {A : Type 0} (view : A → Commitment) (bounds : Bounds) (keep i : ℕ) (older kept tips : List A) → map view older ≡ bounds.ancestors → 0 < keep → keep ≤ suc (length bounds.ancestors)

@@ -1,6 +1,6 @@
 -- What reads leave of a database, and what they find.
-use Rattle.std.proofs.Common.{◌≡◌, ◌∙◌, ◌≤◌, ◌<◌, ◌+◌, ap, sym, subst, refl, ℕ, List, [], ◌∷◌, ◌++◌, length, map, take, get_or, Option, None, Some, true, false}
-use Rattle.std.specs.Prelude.{IsSome, IfSome, bytes_eq, option_map}
+use Rattle.std.proofs.Common.{◌≡◌, ◌∙◌, ◌<◌, ◌+◌, ap, sym, subst, refl, ℕ, List, [], ◌∷◌, ◌++◌, length, map, take, get_or, Option, None, Some, true, false}
+use Rattle.std.specs.Prelude.{IsSome, bytes_eq, option_map}
 use Rattle.std.proofs.lemmas.List.{map_more}
 use Rattle.std.proofs.lemmas.List.Sums.{fold_push}
 use Rattle.std.proofs.lemmas.Slice.Eq.{bytes_eq-Decides}
@@ -48,19 +48,9 @@ module _ {C D : Type 0} (members : store.Ghosts C) (bytes : D → Bytes) (hash :
         metadata = is.metadata;
       })
 
-  -- its store starts where it did and has the items that it had, and its count of faults did not fall
-  pub left-store : (old new : Database C D) → IsLeft members bytes hash shape old new
-      → (members.start new.log.store ≡ members.start old.log.store) × (members.items new.log.store ≡ members.items old.log.store) × (members.faults old.log.store ≤ members.faults new.log.store)
-  left-store old new left = ((left.read).kept.start, (left.read).kept.items, (left.read).later)
-
 -- no steps lead from a list to itself
 pub itself-base : (layers : List Layer) (list : List Operation) → layers ≡ [] → IsBase layers list list
 itself-base layers list none = subst (λ ls. IsBase ls list list) (sym none) (record { older = []; steps = tt; among = Contains-first list [] })
-
--- what holds of what a store tells
-pub told-here : {X : Type 0} (P : Type 0) (o : Option X) → IsSome o → IfSome o (λ _. P) → P
-told-here P None some p = absurd (cc)
-told-here P (Some x) some p = p
 
 -- the value of what is found of a key is its value
 pub value-found : (list : List Operation) (key : Bytes) → option_map (λ (p : ℕ × (Bytes × Bytes)). p.1.1) (update_of list key) ≡ value_of list key

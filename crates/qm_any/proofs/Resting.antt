@@ -12,7 +12,7 @@ use Rattle.qm_model.specs.Batches.{Chain, Kept, commitment, begun_on, child_of}
 use Rattle.qm_model.specs.Trees.{Shape, ops_root}
 use Rattle.qm_model.proofs.Chains.{Contains-first}
 use Rattle.qm_store.specs.declared.Store as store
-use Rattle.qm_any.specs.Databases.{Database, Made, IsDatabase, IsMade, IsBegun, IsLeft, at_rest}
+use Rattle.qm_any.specs.Databases.{Database, Made, IsDatabase, IsMade, IsBegun, at_rest}
 
 -- a step that does nothing changes no key
 still : (list : List Operation) → AreChanges [] list list
@@ -25,10 +25,6 @@ All-one : {A : Type 0} (P : A → Type 0) (x : A) → P x → All P (x ∷ [])
 All-one P x p = All-cons P x [] p (λ k d l. absurd (omega (arith, l)))
 
 module _ {C D : Type 0} (members : store.Ghosts C) (bytes : D → Bytes) (hash : Bytes → Bytes) (shape : Shape) where
-  -- a call that does nothing
-  pub left-self : (db : Database C D) → IsLeft members bytes hash shape db db
-  left-self db = record { rest = refl; read = record { stands = λ list is. is; tree = refl; kept = record { start = refl; end = refl; items = refl; head = refl }; later = omega arith } }
-
   -- the database is a batch that does nothing
   pub rest-made : (db : Database C D) (list : List Operation) → IsDatabase members bytes hash shape db list → IsMade bytes hash shape (at_rest db) (begun_on list) list
   rest-made db list is =

@@ -239,11 +239,6 @@ ok-err r x e ok err = cc
 pub at-or-past : (a b : ℕ) → (b < a → ⊥) → a ≤ b
 at-or-past a b past = omega (arith, past)
 
--- what is told of a store that tells its items
-pub told-there : {X : Type 0} (P : Type 0) (o : Option X) → IsSome o → IfSome o (λ _. P) → P
-told-there P None some p = cc
-told-there P (Some x) some p = p
-
 -- what holds of three things holds of others that are the same
 pub three : {A B C : Type 0} (T : A → B → C → Type 0) {a a2 : A} {b b2 : B} {c c2 : C} → a ≡ a2 → b ≡ b2 → c ≡ c2 → T a b c → T a2 b2 c2
 three T {a} {a2} {b} {b2} {c} {c2} p q r is = subst (λ x. T a2 b2 x) r (subst (λ x. T a2 x c) q (subst (λ x. T x b c) p is))

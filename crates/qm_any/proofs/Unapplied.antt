@@ -1,6 +1,6 @@
 -- What a list lacks of the list that layers lead to, and the loops over these.
 use Rattle.std.proofs.Common.{◌≡◌, ℕ, ◌≤◌, ◌<◌, ◌+◌, true, false, List, [], ◌∷◌, ◌++◌, refl, ap, ap₂, sym, ◌∙◌, subst, arith, append_assoc, length, take, drop, map, get_or, ⊎_elim}
-use Rattle.std.specs.Prelude.{Contains, nat_le, if◌then◌else◌, Result, Ok, Err, IfOk, IfErr, Option, Some, None, IsSome}
+use Rattle.std.specs.Prelude.{Contains, nat_le, if◌then◌else◌, Option, Some, None, IsSome}
 use Rattle.std.proofs.lemmas.Bool.Decides.{leb_tells}
 use Rattle.std.proofs.lemmas.List.{take_all, append-nil, length-append, map_more, map-append, nil_from_length}
 use Rattle.std.proofs.Math.Seq.{drop-append_seam}
@@ -134,16 +134,6 @@ lacked-behind layers tip older n leads among =
     (ap (drop (length lent)) (lacked-lists layers tip older lent leads (Contains-later tip older lent here.1)).0
     ∙ drop-append_seam lent (operations_in (unapplied (length lent) layers)))
 
--- what holds of an answer, by what is known of it
-pub ok-then : {X E : Type 0} (r : Result X E) {P Q : X → Type 0} → IfOk r P → ((x : X) → P x → Q x) → IfOk r Q
-ok-then (Ok x) p give = give x p
-ok-then (Err e) p give = tt
-
--- and of an error
-pub err-then : {X E : Type 0} (r : Result X E) {P Q : E → Type 0} → IfErr r P → ((e : E) → P e → Q e) → IfErr r Q
-err-then (Ok x) p give = tt
-err-then (Err e) p give = give e p
-
 -- what grew by all of these grew by a first part of them
 pub part-whole : {C : Type 0} (members : store.Ghosts C) (old new : C) (more : List Bytes) → HasGrown members old new more → AppendedPart members old new more
 part-whole members old new more grown = record {
@@ -154,11 +144,6 @@ part-whole members old new more grown = record {
 -- a database is another one where it has what that has, and the same log
 pub same-database : {C D : Type 0} (old db x : Database C D) → old ≡ db → x ≡ record old { log = x.log } → x.log ≡ old.log → x ≡ db
 same-database old db x is rest same = rest ∙ ap (λ l. record old { log = l }) same ∙ is
-
--- what holds of an answer by four clauses holds of it by all
-pub ok-four : {X E : Type 0} (r : Result X E) {P Q R S : X → Type 0} → IfOk r P → IfOk r Q → IfOk r R → IfOk r S → {T : X → Type 0} → ((x : X) → P x → Q x → R x → S x → T x) → IfOk r T
-ok-four (Ok x) p q r s give = give x p q r s
-ok-four (Err e) p q r s give = tt
 
 -- what grew still tells its items
 pub grown-told : {A : Type 0} (old new : Option (List A)) (more : List A) → IsSome old → Grows old new more → IsSome new

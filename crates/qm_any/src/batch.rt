@@ -69,20 +69,23 @@ impl<F: Family, D: Digest, U: Update> Model for UnmerkleizedBatch<F, D, U> {
 pub struct MerkleizedBatch<F: Family, D: Digest, U: Update> {
     bounds: Bounds<F, D>,
     steps: Vec<Rc<Layer<F, U>>>,
+    diffs: Vec<Rc<Diff<F, U::Key, U::Value>>>,
     tree: KeptTree<F, D>,
     live: u64,
     metadata: Option<U::Value>,
 }
 
 impl<F: Family, D: Digest, U: Update> Model for MerkleizedBatch<F, D, U> {
-    ghost use Rattle.std.specs.Prelude.{map, option_map};
+    ghost use Rattle.std.specs.Prelude.{◌≡◌, map, option_map};
+    ghost use Rattle.qm_batch.specs.Views.{changes_view};
     ghost use Rattle.qm_any.specs.Databases.{Made, AreAgreed};
 
     ghost Value = { Made D };
 
     ghost view = { λ b. record { bounds = b.bounds; layers = map (λ l. l.value) b.steps.items; tree = b.tree; live = b.live; metadata = option_map U.Value.bytes b.metadata } };
 
-    ghost invariant = { λ b. AreAgreed {D = D} (record { bounds = b.bounds; layers = map (λ l. l.value) b.steps.items; tree = b.tree; live = b.live; metadata = option_map U.Value.bytes b.metadata }) };
+    ghost invariant = { λ b. AreAgreed {D = D} (record { bounds = b.bounds; layers = map (λ l. l.value) b.steps.items; tree = b.tree; live = b.live; metadata = option_map U.Value.bytes b.metadata })
+        × (map (λ d. changes_view U.Key.bytes U.Value.bytes d.value) b.diffs.items ≡ map (λ l. l.changes) (map (λ l. l.value) b.steps.items)) };
 }
 
 /// What a database lacks of a batch's list.
@@ -230,11 +233,11 @@ impl<F: Family, D: Digest, K: Key, V: VariableValue> MerkleizedBatch<F, D, Unord
         )
     }
 
-    /// What the steps of the batch and of its kept ancestors do to keys, the batch's own first.
-    pub fn diffs(&self, alloc: Global) -> Result<Vec<Rc<Diff<F, K, V>>>, AllocError>
-        ensures { IfOk result (λ diffs. map (λ d. changes_view K.bytes V.bytes d.value) diffs.items ≡ map (λ l. l.changes) self.now.layers) }
+    /// What the steps of the batch and of its kept ancestors do to keys, the batch's own first. It takes no memory.
+    pub fn diffs(&self) -> &[Rc<Diff<F, K, V>>]
+        ensures { map (λ d. changes_view K.bytes V.bytes d.value) result.now ≡ map (λ l. l.changes) self.now.layers }
     {
-        diffs_of(alloc, &self.steps)
+        &self.diffs
     }
 
     /// Begins a batch on the list that this one makes. It keeps this one and all that this one keeps: it can be applied
@@ -303,19 +306,18 @@ impl<F: Family, D: Digest, K: Key, V: VariableValue> MerkleizedBatch<F, D, Unord
     pub fn proof<C: Store, H: Hasher<Digest = D> + Drop>(
         &self,
         alloc: Global,
-        db: &mut Db<F, C, D, H, Unordered<K, V>>,
+        db: &Db<F, C, D, H, Unordered<K, V>>,
     ) -> Result<Proof<D>, Error>
-        ensures proof { (list : List Operation) (chain : Chain) (tip : List Operation) → IsDatabase C.Store D.bytes H.hash F.shape db.old list → IsMade D.bytes H.hash F.shape self.now chain tip → IsKnown list chain tip
+        ensures proof { (list : List Operation) (chain : Chain) (tip : List Operation) → IsDatabase C.Store D.bytes H.hash F.shape db.now list → IsMade D.bytes H.hash F.shape self.now chain tip → IsKnown list chain tip
             → IfOk result (λ p. proof_view D.bytes p ≡ ops_proof H.hash F.shape tip (length chain.base) (length tip)) }
-        ensures readable { OnOk result (knows self.now.bounds db.old.commitment ≡ true) }
-        ensures stale { IfErr result (λ e. e ≡ Error.StaleRead → knows self.now.bounds db.old.commitment ≡ false) }
+        ensures readable { OnOk result (knows self.now.bounds db.now.commitment ≡ true) }
+        ensures stale { IfErr result (λ e. e ≡ Error.StaleRead → knows self.now.bounds db.now.commitment ≡ false) }
         ensures never { IfErr result (λ e. (e ≡ Error.Memory) ⊎ ((e ≡ Error.StaleRead) ⊎ ((p : ℕ) × (e ≡ Error.Merkle (MerkleError.ElementPruned p))))) }
-        ensures order { IfErr result (λ e. e ≢ Error.Memory → e ≢ Error.StaleRead → knows self.now.bounds db.old.commitment ≡ true) }
-        ensures held { OnOk result (first_lacked (held_at F.shape self.now.tree db.old.log.tree) (needed_positions F.shape self.now.bounds.tip.size self.now.bounds.base.size self.now.bounds.tip.size) ≡ None) }
-        ensures lacked { IfErr result (λ e. e ≢ Error.StaleRead → IsLacked (held_at F.shape self.now.tree db.old.log.tree) (needed_positions F.shape self.now.bounds.tip.size self.now.bounds.base.size self.now.bounds.tip.size) e) }
-        ensures whole { C.start db.old.log.store ≡ 0 → (list : List Operation) (chain : Chain) (tip : List Operation) → IsDatabase C.Store D.bytes H.hash F.shape db.old list → IsMade D.bytes H.hash F.shape self.now chain tip → IsKnown list chain tip
+        ensures order { IfErr result (λ e. e ≢ Error.Memory → e ≢ Error.StaleRead → knows self.now.bounds db.now.commitment ≡ true) }
+        ensures held { OnOk result (first_lacked (held_at F.shape self.now.tree db.now.log.tree) (needed_positions F.shape self.now.bounds.tip.size self.now.bounds.base.size self.now.bounds.tip.size) ≡ None) }
+        ensures lacked { IfErr result (λ e. e ≢ Error.StaleRead → IsLacked (held_at F.shape self.now.tree db.now.log.tree) (needed_positions F.shape self.now.bounds.tip.size self.now.bounds.base.size self.now.bounds.tip.size) e) }
+        ensures whole { C.start db.now.log.store ≡ 0 → (list : List Operation) (chain : Chain) (tip : List Operation) → IsDatabase C.Store D.bytes H.hash F.shape db.now list → IsMade D.bytes H.hash F.shape self.now chain tip → IsKnown list chain tip
             → IfErr result (λ e. e ≡ Error.Memory) }
-        ensures same { db.new ≡ db.old }
     {
         self.known(db.commitment())?;
         db.proof_through(alloc, &self.tree, self.floor(), self.start())
@@ -325,19 +327,18 @@ impl<F: Family, D: Digest, K: Key, V: VariableValue> MerkleizedBatch<F, D, Unord
     pub fn pinned_nodes<C: Store, H: Hasher<Digest = D> + Drop>(
         &self,
         alloc: Global,
-        db: &mut Db<F, C, D, H, Unordered<K, V>>,
+        db: &Db<F, C, D, H, Unordered<K, V>>,
     ) -> Result<Vec<D>, Error>
-        ensures pins { (list : List Operation) (chain : Chain) (tip : List Operation) → IsDatabase C.Store D.bytes H.hash F.shape db.old list → IsMade D.bytes H.hash F.shape self.now chain tip → IsKnown list chain tip
+        ensures pins { (list : List Operation) (chain : Chain) (tip : List Operation) → IsDatabase C.Store D.bytes H.hash F.shape db.now list → IsMade D.bytes H.hash F.shape self.now chain tip → IsKnown list chain tip
             → IfOk result (λ pins. map D.bytes pins.items ≡ pins_at H.hash F.shape tip (length chain.base)) }
-        ensures readable { OnOk result (knows self.now.bounds db.old.commitment ≡ true) }
-        ensures stale { IfErr result (λ e. e ≡ Error.StaleRead → knows self.now.bounds db.old.commitment ≡ false) }
+        ensures readable { OnOk result (knows self.now.bounds db.now.commitment ≡ true) }
+        ensures stale { IfErr result (λ e. e ≡ Error.StaleRead → knows self.now.bounds db.now.commitment ≡ false) }
         ensures never { IfErr result (λ e. (e ≡ Error.Memory) ⊎ ((e ≡ Error.StaleRead) ⊎ ((p : ℕ) × (e ≡ Error.Merkle (MerkleError.ElementPruned p))))) }
-        ensures order { IfErr result (λ e. e ≢ Error.Memory → e ≢ Error.StaleRead → knows self.now.bounds db.old.commitment ≡ true) }
-        ensures held { OnOk result (first_lacked (held_at F.shape self.now.tree db.old.log.tree) (trees.peak_positions F.shape self.now.bounds.base.size) ≡ None) }
-        ensures lacked { IfErr result (λ e. e ≢ Error.StaleRead → IsLacked (held_at F.shape self.now.tree db.old.log.tree) (trees.peak_positions F.shape self.now.bounds.base.size) e) }
-        ensures whole { C.start db.old.log.store ≡ 0 → (list : List Operation) (chain : Chain) (tip : List Operation) → IsDatabase C.Store D.bytes H.hash F.shape db.old list → IsMade D.bytes H.hash F.shape self.now chain tip → IsKnown list chain tip
+        ensures order { IfErr result (λ e. e ≢ Error.Memory → e ≢ Error.StaleRead → knows self.now.bounds db.now.commitment ≡ true) }
+        ensures held { OnOk result (first_lacked (held_at F.shape self.now.tree db.now.log.tree) (trees.peak_positions F.shape self.now.bounds.base.size) ≡ None) }
+        ensures lacked { IfErr result (λ e. e ≢ Error.StaleRead → IsLacked (held_at F.shape self.now.tree db.now.log.tree) (trees.peak_positions F.shape self.now.bounds.base.size) e) }
+        ensures whole { C.start db.now.log.store ≡ 0 → (list : List Operation) (chain : Chain) (tip : List Operation) → IsDatabase C.Store D.bytes H.hash F.shape db.now list → IsMade D.bytes H.hash F.shape self.now chain tip → IsKnown list chain tip
             → IfErr result (λ e. e ≡ Error.Memory) }
-        ensures same { db.new ≡ db.old }
     {
         self.known(db.commitment())?;
         db.pins_through(alloc, &self.tree, self.start())
@@ -365,6 +366,7 @@ impl<F: Family, D: Digest, K: Key, V: VariableValue> MerkleizedBatch<F, D, Unord
         let step = Rc::new(alloc, Layer::new(commitment.size, Vec::new(alloc), diff))?;
         let mut steps = Vec::new(alloc);
         steps.push(step)?;
+        let diffs = diffs_of(alloc, &steps)?;
         let bounds = Bounds {
             base: commitment,
             db: commitment,
@@ -378,6 +380,7 @@ impl<F: Family, D: Digest, K: Key, V: VariableValue> MerkleizedBatch<F, D, Unord
             MerkleizedBatch {
                 bounds,
                 steps,
+                diffs,
                 tree,
                 live,
                 metadata,
@@ -604,6 +607,7 @@ fn sealed<F: Family, D: Digest, K: Key, V: VariableValue>(
     let base = parent.bounds.tip;
     let own = Layer::new(base.size, operations, Rc::new(alloc, diff)?);
     let steps = parent.child_steps(alloc, own, keep)?;
+    let diffs = diffs_of(alloc, &steps)?;
     let bounds = Bounds {
         base,
         db: boundary,
@@ -619,6 +623,7 @@ fn sealed<F: Family, D: Digest, K: Key, V: VariableValue>(
         MerkleizedBatch {
             bounds,
             steps,
+            diffs,
             tree,
             live,
             metadata,

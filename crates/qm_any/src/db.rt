@@ -318,48 +318,46 @@ impl<F: Family, C: Store, D: Digest, H: Hasher<Digest = D> + Drop, K: Key, V: Va
 
     // The proof of the operations from `start` on in the list of a batch's tree, which has this floor.
     pub(crate) fn proof_through(
-        &mut self,
+        &self,
         alloc: Global,
         tree: &KeptTree<F, D>,
         floor: u64,
         start: u64,
     ) -> Result<Proof<D>, Error>
         requires start { start ≤ tree.now.leaves }
-        requires reach { Contains (stops tree.now.leaves tree.now.layers) self.old.commitment.size }
-        ensures value { (list tip : List Operation) (older : List (List Operation)) → IsDatabase C.Store D.bytes H.hash F.shape self.old list → IsKeptTree D.bytes H.hash F.shape tree.now tip older
+        requires reach { Contains (stops tree.now.leaves tree.now.layers) self.now.commitment.size }
+        ensures value { (list tip : List Operation) (older : List (List Operation)) → IsDatabase C.Store D.bytes H.hash F.shape self.now list → IsKeptTree D.bytes H.hash F.shape tree.now tip older
             → Contains (tip ∷ older) list → floor ≡ lives.floor tip
             → IfOk result (λ p. proof_view D.bytes p ≡ ops_proof H.hash F.shape tip start (length tip)) }
-        ensures held { OnOk result (first_lacked (held_at F.shape tree.now self.old.log.tree) (needed_positions F.shape tree.now.leaves start tree.now.leaves) ≡ None) }
-        ensures cause { IfErr result (IsLacked (held_at F.shape tree.now self.old.log.tree) (needed_positions F.shape tree.now.leaves start tree.now.leaves)) }
-        ensures whole { C.start self.old.log.store ≡ 0 → (list tip : List Operation) (older : List (List Operation)) → IsDatabase C.Store D.bytes H.hash F.shape self.old list → IsKeptTree D.bytes H.hash F.shape tree.now tip older
+        ensures held { OnOk result (first_lacked (held_at F.shape tree.now self.now.log.tree) (needed_positions F.shape tree.now.leaves start tree.now.leaves) ≡ None) }
+        ensures cause { IfErr result (IsLacked (held_at F.shape tree.now self.now.log.tree) (needed_positions F.shape tree.now.leaves start tree.now.leaves)) }
+        ensures whole { C.start self.now.log.store ≡ 0 → (list tip : List Operation) (older : List (List Operation)) → IsDatabase C.Store D.bytes H.hash F.shape self.now list → IsKeptTree D.bytes H.hash F.shape tree.now tip older
             → Contains (tip ∷ older) list → IfErr result (λ e. e ≡ Error.Memory) }
-        ensures same { self.new ≡ self.old }
     {
         // The log is kept from where its store is.
         self.log.bounds();
-        tree.proof(alloc, &mut self.log, floor, start)
+        tree.proof(alloc, &self.log, floor, start)
     }
 
     // The digests of the peaks over the first `count` operations of the list of a batch's tree.
     pub(crate) fn pins_through(
-        &mut self,
+        &self,
         alloc: Global,
         tree: &KeptTree<F, D>,
         count: u64,
     ) -> Result<Vec<D>, Error>
         requires count { count ≤ tree.now.leaves }
-        requires reach { Contains (stops tree.now.leaves tree.now.layers) self.old.commitment.size }
-        ensures value { (list tip : List Operation) (older : List (List Operation)) → IsDatabase C.Store D.bytes H.hash F.shape self.old list → IsKeptTree D.bytes H.hash F.shape tree.now tip older
+        requires reach { Contains (stops tree.now.leaves tree.now.layers) self.now.commitment.size }
+        ensures value { (list tip : List Operation) (older : List (List Operation)) → IsDatabase C.Store D.bytes H.hash F.shape self.now list → IsKeptTree D.bytes H.hash F.shape tree.now tip older
             → Contains (tip ∷ older) list → IfOk result (λ pins. map D.bytes pins.items ≡ pins_at H.hash F.shape tip count) }
-        ensures held { OnOk result (first_lacked (held_at F.shape tree.now self.old.log.tree) (trees.peak_positions F.shape count) ≡ None) }
-        ensures cause { IfErr result (IsLacked (held_at F.shape tree.now self.old.log.tree) (trees.peak_positions F.shape count)) }
-        ensures whole { C.start self.old.log.store ≡ 0 → (list tip : List Operation) (older : List (List Operation)) → IsDatabase C.Store D.bytes H.hash F.shape self.old list → IsKeptTree D.bytes H.hash F.shape tree.now tip older
+        ensures held { OnOk result (first_lacked (held_at F.shape tree.now self.now.log.tree) (trees.peak_positions F.shape count) ≡ None) }
+        ensures cause { IfErr result (IsLacked (held_at F.shape tree.now self.now.log.tree) (trees.peak_positions F.shape count)) }
+        ensures whole { C.start self.now.log.store ≡ 0 → (list tip : List Operation) (older : List (List Operation)) → IsDatabase C.Store D.bytes H.hash F.shape self.now list → IsKeptTree D.bytes H.hash F.shape tree.now tip older
             → Contains (tip ∷ older) list → IfErr result (λ e. e ≡ Error.Memory) }
-        ensures same { self.new ≡ self.old }
     {
         // The log is kept from where its store is.
         self.log.bounds();
-        tree.pins(alloc, &mut self.log, count)
+        tree.pins(alloc, &self.log, count)
     }
 
     /// The metadata of the last commit.

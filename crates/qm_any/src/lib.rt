@@ -12,6 +12,3 @@ pub mod refusal;
 pub use open::{hasher, init, initial_root};
 pub use policy::Proportional;
 pub use refusal::{Given, Refusal};
-
-#[cfg(test)]
-mod tests;

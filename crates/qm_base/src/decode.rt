@@ -11,9 +11,6 @@ use crate::operation::Operation;
 use crate::update::Unordered;
 use std::alloc::{AllocError, Global};
 
-#[cfg(test)]
-mod tests;
-
 impl<F, K: Key, V: VariableValue> Operation<F, Unordered<K, V>> {
     /// The operation of which these bytes are the spelling, if there is one: `encode` turned round.
     /// Want of memory is the only error.

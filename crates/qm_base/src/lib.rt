@@ -11,8 +11,6 @@ pub mod gate;
 pub mod location;
 pub mod operation;
 pub mod sha256;
-#[cfg(test)]
-mod tests;
 pub mod update;
 
 pub use byte_strings::{ByteKey, ByteString, ByteValue, Key, Twin, VariableValue};

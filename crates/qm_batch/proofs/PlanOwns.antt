@@ -1,6 +1,6 @@
 -- The own operations of a step: those of its writes, and the moves behind them.
-use Rattle.std.proofs.Common.{◌≡◌, ℕ, Bool, ◌+◌, ◌-◌, ◌^◌, min, cond, List, [], ◌∷◌, ◌++◌, length, length-append, map, count_by, refl, ap, ap₂, sym, ◌∙◌, subst, Option, Some, None, arith, append_assoc}
-use Rattle.std.specs.Prelude.{is_some, All, IfSome}
+use Rattle.std.proofs.Common.{◌≡◌, ℕ, Bool, ◌+◌, ◌-◌, ◌^◌, min, cond, List, [], ◌∷◌, ◌++◌, length, length-append, map, count_by, refl, ap, ap₂, sym, ◌∙◌, subst, Option, arith, append_assoc}
+use Rattle.std.specs.Prelude.{is_some, All}
 use Rattle.std.proofs.lemmas.List.{map-append, length-map}
 use Rattle.std.proofs.lemmas.List.Sums.{sum_by-cons}
 use Rattle.std.proofs.lemmas.List.Elements.{All-append}
@@ -57,11 +57,6 @@ module _ (base : List Operation) (ws : List Write) (made moves : List Touch) (li
         ∙ ap (λ n. committed (base ++ (writes ++ map operation_of walked.decisions)) n meta) are.floor
         ∙ stepped-list base ws meta e (map operation_of walked.decisions) walked refl enough refl;
   }
-
--- what is told under what was told
-pub told-then : {X : Type 0} (P Q : Type 0) (o : Option X) → IfSome o (λ _. P) → (P → IfSome o (λ _. Q)) → IfSome o (λ _. Q)
-told-then P Q None p next = tt
-told-then P Q (Some x) p next = next p
 
 -- a count by what is shown
 pub count-shown : {A X : Type 0} (p : X → Bool) (f : A → X) (xs : List A) → count_by (λ x. p (f x)) xs ≡ count_by p (map f xs)

@@ -1,6 +1,6 @@
 -- What reads of a log leave, and what a bucket's locations say.
-use Rattle.std.proofs.Common.{◌≡◌, ◌≢◌, ℕ, ◌+◌, ◌≤◌, ◌<◌, Bool, true, false, List, refl, ap, sym, ◌∙◌, subst, Option, Some, None, Result, Err, arith, map, length, get_or, take, ap₂, [], ◌∷◌, ◌++◌, inl, inr}
-use Rattle.std.specs.Prelude.{◌==◌, Contains, filter, All, IfSome, IfOk, option_map, bytes_eq, if◌then◌else◌}
+use Rattle.std.proofs.Common.{◌≡◌, ◌≢◌, ℕ, ◌+◌, ◌≤◌, ◌<◌, Bool, true, false, List, refl, ap, sym, ◌∙◌, subst, Option, Some, None, arith, map, length, get_or, take, ap₂, [], ◌∷◌, ◌++◌, inl, inr}
+use Rattle.std.specs.Prelude.{◌==◌, Contains, filter, All, IfSome, option_map, bytes_eq, if◌then◌else◌}
 use Rattle.std.proofs.lemmas.Bool.{eq-eqb}
 use Rattle.std.proofs.lemmas.List.{take_more, map-append}
 use Rattle.std.proofs.lemmas.List.Elements.{All-contains, Contains-get_or}
@@ -130,26 +130,9 @@ spelled-once bs a b one two =
 pub told : {X : Type 0} (P : Type 0) (o before : Option X) → o ≡ before → IfSome o (λ _. P) → IfSome before (λ _. P)
 told P o before same h = subst (λ x. IfSome x (λ _. P)) same h
 
-pub told-one : {X : Type 0} (P Q : Type 0) (o : Option X) → IfSome o (λ _. P) → (P → Q) → IfSome o (λ _. Q)
-told-one P Q None p next = tt
-told-one P Q (Some x) p next = next p
-
-pub told-both : {X : Type 0} (P Q R : Type 0) (o : Option X) → IfSome o (λ _. P) → IfSome o (λ _. Q) → (P → Q → R) → IfSome o (λ _. R)
-told-both P Q R None p q next = tt
-told-both P Q R (Some x) p q next = next p q
-
 -- an element that a loop comes to
 pub taken-in : (xs ys : List ℕ) (i x : ℕ) → xs ≡ ys → i < length xs → x ≡ get_or xs i x → Contains ys x
 taken-in xs ys i x same within is = subst (λ l. Contains l x) same (subst (Contains xs) (sym is) (Contains-get_or xs i x within))
-
-pub told-any : {X : Type 0} (P : Type 0) (o : Option X) → P → IfSome o (λ _. P)
-told-any P None p = tt
-told-any P (Some x) p = p
-
--- a refusal tells no value
-pub told-err : {X T E : Type 0} (P : T → Type 0) (o : Option X) (r : Result T E) (y : E) → r ≡ Err y → IfSome o (λ _. IfOk r P)
-told-err P None r y is = tt
-told-err P (Some x) r y is = rw is tt
 
 -- one more element of a list that shows what f makes of another's
 pub mapped-more : {A X Y : Type 0} (f : A → Y) (view : X → Y) (xs : List A) (i : ℕ) (d : A) (made made' : List X) (x : X) → i < length xs → d ≡ get_or xs i d →

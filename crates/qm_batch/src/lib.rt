@@ -5,8 +5,6 @@ pub mod apply;
 pub mod layer;
 pub mod plan;
 pub mod read;
-#[cfg(test)]
-mod tests;
 pub mod write;
 
 pub use apply::apply_diffs;

@@ -2,8 +2,6 @@
 #![tactic(auto)]
 
 mod bucket;
-#[cfg(test)]
-mod tests;
 pub mod translator;
 pub mod unordered;
 pub mod value;

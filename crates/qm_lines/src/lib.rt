@@ -8,8 +8,6 @@ pub mod parse;
 pub mod policy;
 pub mod ports;
 pub mod reply;
-#[cfg(test)]
-mod tests;
 pub mod text;
 pub mod whole;
 

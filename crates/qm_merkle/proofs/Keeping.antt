@@ -1,6 +1,6 @@
 -- What a tree that forgot its first leaves still holds, by itself and below layers.
 use Rattle.std.proofs.Common.{◌≡◌, ℕ, zero, suc, ◌+◌, ◌*◌, ◌/◌, ◌^◌, ◌<◌, ◌≤◌, Bool, true, false, List, [], ◌∷◌, ◌++◌, length, map, arith, ap, refl, Option, Some, None, IsSome}
-use Rattle.std.specs.Prelude.{flat_map, is_none, cond, max, min, if◌then◌else◌}
+use Rattle.std.specs.Prelude.{is_none, cond, max, min, if◌then◌else◌}
 use Rattle.std.specs.Option.{option_or}
 use Rattle.std.specs.List.{AllByRecursion as Each}
 use Rattle.qm_model.specs.Operations.{Bytes}

@@ -20,8 +20,6 @@ use std::rc::Rc;
 
 mod put;
 mod rows;
-#[cfg(test)]
-mod tests;
 
 /// The tree of a batch's list, kept from where the batch's own leaves begin, and the nodes before these that it replaces, by position.
 #[derive(Drop)]

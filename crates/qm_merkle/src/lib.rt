@@ -8,8 +8,6 @@ pub mod mem;
 pub mod mmr;
 pub mod position;
 pub mod proof;
-#[cfg(test)]
-mod tests;
 
 pub use batch::{MerkleizedBatch, UnmerkleizedBatch};
 pub use family::{Family, Node};

@@ -15,9 +15,6 @@ use qm_base::{Digest, Hasher, Location, MerkleError};
 use std::alloc::{AllocError, Global};
 use std::marker::Model;
 
-#[cfg(test)]
-mod tests;
-
 /// A tree over leaves' digests that may have forgotten its first leaves.
 #[derive(Drop)]
 pub struct Mem<F: Family, D> {

@@ -15,8 +15,6 @@ use std::alloc::Global;
 
 mod list;
 mod rebuild;
-#[cfg(test)]
-mod tests;
 
 /// A proof that elements stand at locations in a row, in a tree of so many leaves, the first of whose peaks are
 /// inactive. The digests are those of the nodes beside the locations, from left to right. Any numbers and digests

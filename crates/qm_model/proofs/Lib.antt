@@ -13,3 +13,4 @@ pub mod MmrFamily
 pub mod MmrPeaks
 pub mod Proving
 pub mod Speaking
+pub mod Results

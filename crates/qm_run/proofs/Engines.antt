@@ -38,30 +38,6 @@ use Rattle.qm_any.proofs.Known.{child-boundary, child-tips}
 use Rattle.qm_any.specs.Tips.{own_spellings, IsTaken, IsRefused}
 use Rattle.qm_any.specs.Refusals.{refusal_of}
 
--- what holds of a value, by what is known of it
-pub ok-then : {X E : Type 0} (r : Result X E) {P Q : X → Type 0} → IfOk r P → ((x : X) → P x → Q x) → IfOk r Q
-ok-then (Ok x) p give = give x p
-ok-then (Err e) p give = tt
-
--- what holds of a value for every list of a kind
-pub ok-each : {X E A : Type 0} (S : A → Type 0) (P : A → X → Type 0) (r : Result X E) → ((a : A) → S a → IfOk r (P a)) → IfOk r (λ x. (a : A) → S a → P a x)
-ok-each S P (Ok x) p = p
-ok-each S P (Err e) p = tt
-
--- what holds of an error, by what is known of it
-pub err-then : {X E : Type 0} (r : Result X E) {P Q : E → Type 0} → IfErr r P → ((e : E) → P e → Q e) → IfErr r Q
-err-then (Ok x) p give = tt
-err-then (Err e) p give = give e p
-
-pub err-both : {X E : Type 0} (r : Result X E) {P Q R : E → Type 0} → IfErr r P → IfErr r Q → ((e : E) → P e → Q e → R e) → IfErr r R
-err-both (Ok x) p q give = tt
-err-both (Err e) p q give = give e p q
-
--- what holds of an error under a premise
-pub err-when : {X E A : Type 0} (P : E → Type 0) (r : Result X E) → (A → IfErr r P) → IfErr r (λ e. A → P e)
-err-when P (Ok x) p = tt
-err-when P (Err e) p = p
-
 -- what stands for a list, under the program's root
 pub standing : (list : List Operation) → list_commitment sha256 mmr list ≡ commitment (sha256_root mmr) list
 unfolding sha256_root
@@ -175,15 +151,6 @@ module _ {C D : Type 0} (members : store.Ghosts C) (old new : Log C D) (can : Bo
   never-read (inl why) stale = absurd (cc (why.0, stale))
   never-read (inr (inl memory)) stale = absurd (cc (memory, stale))
   never-read (inr (inr told)) stale = log-kept members old new e told.1 stale
-
--- a database of a list is at its size
-pub size-of : {C : Type 0} (members : store.Ghosts C) (db : Database C Sha256Digest) (list : List Operation) → IsDatabase members digest_bytes sha256 mmr db list → db.commitment.size ≡ length list
-size-of members db list is = ap (λ c. c.size) is.commitment
-
--- what holds of an error for every list of a kind
-pub err-each : {X E A : Type 0} (S : A → Type 0) (P : A → E → Type 0) (r : Result X E) → ((a : A) → S a → IfErr r (P a)) → IfErr r (λ e. (a : A) → S a → P a e)
-err-each S P (Ok x) p = tt
-err-each S P (Err e) p = p
 
 -- what holds of a value, and of an error, for every chain of a merkleized batch
 pub ok-made : {X E : Type 0} (r : Result X E) (made : Made Sha256Digest) (P : List Operation → X → Type 0) → ((chain : Chain) (tip : List Operation) → IsMade digest_bytes sha256 mmr made chain tip → IfOk r (P tip))

@@ -8,8 +8,6 @@ mod program;
 pub mod runs;
 mod session;
 mod table;
-#[cfg(test)]
-mod tests;
 mod turns;
 
 pub use engine::{BatchSizes, Engine, Numbers};

@@ -7,8 +7,6 @@ ghost use Rattle.qm_model.specs.Causes.{IsCause, Grows, GrowsPart};
 
 mod log;
 mod mem_store;
-#[cfg(test)]
-mod tests;
 
 pub use log::{AuthLog, LogGiven, LogRefusal};
 pub use mem_store::MemStore;

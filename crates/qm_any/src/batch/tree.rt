@@ -114,20 +114,19 @@ impl<F: Family, D: Digest> KeptTree<F, D> {
     pub(crate) fn proof<C: Store, H: Hasher<Digest = D> + Drop>(
         &self,
         alloc: Global,
-        log: &mut AuthLog<F, C, D, H>,
+        log: &AuthLog<F, C, D, H>,
         floor: u64,
         start: u64,
     ) -> Result<Proof<D>, Error>
         requires start { start ≤ self.now.leaves }
-        requires reach { Contains (stops self.now.leaves self.now.layers) log.old.tree.leaves }
-        ensures value { (list tip : List Operation) (older : List (List Operation)) → IsLog C.Store F.shape D.bytes H.hash log.old (map spelling list) → IsKeptTree D.bytes H.hash F.shape self.now tip older
+        requires reach { Contains (stops self.now.leaves self.now.layers) log.now.tree.leaves }
+        ensures value { (list tip : List Operation) (older : List (List Operation)) → IsLog C.Store F.shape D.bytes H.hash log.now (map spelling list) → IsKeptTree D.bytes H.hash F.shape self.now tip older
             → Contains (tip ∷ older) list → floor ≡ lives.floor tip
             → IfOk result (λ p. proof_view D.bytes p ≡ ops_proof H.hash F.shape tip start (length tip)) }
-        ensures held { OnOk result (first_lacked (held_at F.shape self.now log.old.tree) (needed_positions F.shape self.now.leaves start self.now.leaves) ≡ None) }
-        ensures cause { IfErr result (IsLacked (held_at F.shape self.now log.old.tree) (needed_positions F.shape self.now.leaves start self.now.leaves)) }
-        ensures whole { log.old.tree.start ≤ start → (list tip : List Operation) (older : List (List Operation)) → IsLog C.Store F.shape D.bytes H.hash log.old (map spelling list) → IsKeptTree D.bytes H.hash F.shape self.now tip older
+        ensures held { OnOk result (first_lacked (held_at F.shape self.now log.now.tree) (needed_positions F.shape self.now.leaves start self.now.leaves) ≡ None) }
+        ensures cause { IfErr result (IsLacked (held_at F.shape self.now log.now.tree) (needed_positions F.shape self.now.leaves start self.now.leaves)) }
+        ensures whole { log.now.tree.start ≤ start → (list tip : List Operation) (older : List (List Operation)) → IsLog C.Store F.shape D.bytes H.hash log.now (map spelling list) → IsKeptTree D.bytes H.hash F.shape self.now tip older
             → Contains (tip ∷ older) list → IfErr result (λ e. e ≡ Error.Memory) }
-        ensures same { log.new ≡ log.old }
     {
         let inactive = F::inactive_peaks(Location::new(self.leaves), Location::new(floor));
         match &self.batch {
@@ -140,18 +139,17 @@ impl<F: Family, D: Digest> KeptTree<F, D> {
     pub(crate) fn pins<C: Store, H: Hasher<Digest = D> + Drop>(
         &self,
         alloc: Global,
-        log: &mut AuthLog<F, C, D, H>,
+        log: &AuthLog<F, C, D, H>,
         count: u64,
     ) -> Result<Vec<D>, Error>
         requires count { count ≤ self.now.leaves }
-        requires reach { Contains (stops self.now.leaves self.now.layers) log.old.tree.leaves }
-        ensures value { (list tip : List Operation) (older : List (List Operation)) → IsLog C.Store F.shape D.bytes H.hash log.old (map spelling list) → IsKeptTree D.bytes H.hash F.shape self.now tip older
+        requires reach { Contains (stops self.now.leaves self.now.layers) log.now.tree.leaves }
+        ensures value { (list tip : List Operation) (older : List (List Operation)) → IsLog C.Store F.shape D.bytes H.hash log.now (map spelling list) → IsKeptTree D.bytes H.hash F.shape self.now tip older
             → Contains (tip ∷ older) list → IfOk result (λ pins. map D.bytes pins.items ≡ pins_at H.hash F.shape tip count) }
-        ensures held { OnOk result (first_lacked (held_at F.shape self.now log.old.tree) (trees.peak_positions F.shape count) ≡ None) }
-        ensures cause { IfErr result (IsLacked (held_at F.shape self.now log.old.tree) (trees.peak_positions F.shape count)) }
-        ensures whole { log.old.tree.start ≤ count → (list tip : List Operation) (older : List (List Operation)) → IsLog C.Store F.shape D.bytes H.hash log.old (map spelling list) → IsKeptTree D.bytes H.hash F.shape self.now tip older
+        ensures held { OnOk result (first_lacked (held_at F.shape self.now log.now.tree) (trees.peak_positions F.shape count) ≡ None) }
+        ensures cause { IfErr result (IsLacked (held_at F.shape self.now log.now.tree) (trees.peak_positions F.shape count)) }
+        ensures whole { log.now.tree.start ≤ count → (list tip : List Operation) (older : List (List Operation)) → IsLog C.Store F.shape D.bytes H.hash log.now (map spelling list) → IsKeptTree D.bytes H.hash F.shape self.now tip older
             → Contains (tip ∷ older) list → IfErr result (λ e. e ≡ Error.Memory) }
-        ensures same { log.new ≡ log.old }
     {
         match &self.batch {
             Some(batch) => log.speculative_pinned_nodes(alloc, batch, count),

@@ -24,7 +24,7 @@ returns-in_err-plan-clause-refused g c = λ list chain above is made kept on.
 pub grown-requires-clause-reach : goal.grown-requires-clause-reach
 grown-requires-clause-reach g c = λ κs lives.
     let parent = c.args.parent.now in
-    let agreed = subst AreAgreed c.parent.view_is c.parent.invariant in
+    let agreed = subst AreAgreed c.parent.view_is c.parent.invariant.0 in
     let size : c.planned.new.db.commitment.size ≡ c.args.db.now.commitment.size = ap (λ d. d.commitment.size) c.in_ok-plan.ensures.left.rest in
     subst (λ (t : KeptTree g.row.D.Denot). Contains (stops t.leaves t.layers) c.planned.new.db.commitment.size) (sym (ap (λ m. m.tree) c.parent.view_is))
     (subst (Contains (stops parent.tree.leaves parent.tree.layers)) (sym size) (child-reached parent agreed c.args.keep c.args.db.now.commitment c.requires.on))
@@ -36,7 +36,7 @@ returns-in_err-tree-clause-refused g c = λ list chain above is made kept on.
 
 pub sealed-requires-clause-count : goal.sealed-requires-clause-count
 sealed-requires-clause-count g c =
-    let agreed = subst AreAgreed c.parent.view_is c.parent.invariant in
+    let agreed = subst AreAgreed c.parent.view_is c.parent.invariant.0 in
     let tree : c.parent.inside.tree.leaves ≡ c.args.parent.now.tree.leaves = ap (λ m. m.tree.leaves) c.parent.view_is in
     let own = agreed.leaves in
     let items : length c.deref.result.now ≡ length c.in_ok-plan.items.items = ap length c.deref.ensures.value in

@@ -17,11 +17,13 @@ invariant_of-new g c =
     let tree = c.args.tree in
     let root = g.D.Digest.bytes c.args.root in
     let meta = option_map value c.args.metadata in
-    let agreed = subst AreAgreed c.parent.view_is c.parent.invariant in
+    let agreed = subst AreAgreed c.parent.view_is c.parent.invariant.0 in
     let base : view (c.parent-inside.inside.0.0).tip ≡ parent.bounds.tip = ap (λ i. i.bounds.tip) c.parent-inside.view_is ∙ ap (λ m. m.bounds.tip) c.parent.view_is in
     let own : c.new-own.result ≡ record { base = parent.bounds.tip.size; operations = plan.operations; changes = plan.changes } =
     c.new-own.ensures ∙ ap₂ (λ n ds. record { base = n; operations = map (unordered_view key value) c.plan.inside.operations.items; changes = changes_view key value ds }) (ap (λ k. k.size) base) c.in_ok-new.ensures.ok
-    ∙ ap (λ p. record { base = parent.bounds.tip.size; operations = p.operations; changes = p.changes }) c.plan.view_is in
-    subst AreAgreed (sealed-child root meta parent c.args.keep plan tree _ _ _ _ _ _ _ _ base c.requires.boundary c.leaves.ensures c.requires.tips (ap (λ p. p.floor) c.plan.view_is)
-    (c.in_ok-steps.ensures ∙ ap (λ (l : Layer). l ∷ take c.args.keep parent.layers) own) refl (ap (λ p. p.live) c.plan.view_is))
-    (child-agreed parent c.args.keep c.requires.keep agreed plan tree root meta c.requires.count c.requires.few c.requires.live c.requires.stops)
+    ∙ ap (λ p. record { base = parent.bounds.tip.size; operations = p.operations; changes = p.changes }) c.plan.view_is in (
+      subst AreAgreed (sealed-child root meta parent c.args.keep plan tree _ _ _ _ _ _ _ _ base c.requires.boundary c.leaves.ensures c.requires.tips (ap (λ p. p.floor) c.plan.view_is)
+          (c.in_ok-steps.ensures ∙ ap (λ (l : Layer). l ∷ take c.args.keep parent.layers) own) refl (ap (λ p. p.live) c.plan.view_is))
+          (child-agreed parent c.args.keep c.requires.keep agreed plan tree root meta c.requires.count c.requires.few c.requires.live c.requires.stops),
+      rw c.deref.ensures.value at c.in_ok-diffs.ensures,
+    )

@@ -1,6 +1,6 @@
 use Rattle.std.proofs.Common.{◌≡◌, ◌-◌, ◌∙◌, suc, arith, map, sym, ap, Some}
+use Rattle.qm_model.proofs.Results.{told-one}
 use Rattle.qm_model.specs.Operations.{spelling}
-use Rattle.qm_batch.proofs.Reading.{told-one}
 use Rattle.qm_any.proofs.Telling.{floor-read, floor-found}
 use Rattle.qm_any.proofs.proof.floor_at_end.Goals as goal
 

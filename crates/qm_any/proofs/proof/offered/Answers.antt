@@ -1,4 +1,4 @@
-use Rattle.qm_batch.proofs.Reading.{told-one}
+use Rattle.qm_model.proofs.Results.{told-one}
 use Rattle.qm_any.proofs.Telling.{floor-ended}
 use Rattle.qm_any.proofs.proof.offered.Goals as goal
 

@@ -2,10 +2,11 @@ use Rattle.std.proofs.Common.{◌≤◌, ◌<◌, ◌+◌, ◌∙◌, arith, len
 use Rattle.std.specs.NonZero.{non_zero_u64_get}
 use Rattle.std.proofs.lemmas.List.{length-map}
 use Rattle.std.proofs.lemmas.Result.{err_from_is_err_and}
+use Rattle.qm_model.proofs.Results.{told-one}
 use Rattle.qm_model.specs.Operations.{spelling}
 use Rattle.qm_model.specs.Refusals.{proof_count, proof_refusal}
 use Rattle.qm_model.specs.Trees.{inactive_peaks}
-use Rattle.qm_batch.proofs.Reading.{read-then, told, told-one}
+use Rattle.qm_batch.proofs.Reading.{read-then, told}
 use Rattle.qm_any.proofs.Telling.{proof-spelled, part-spelled, part-unordered, memory-due, ok-err, at-or-past}
 use Rattle.qm_any.proofs.proof.proved_over.Goals as goal
 

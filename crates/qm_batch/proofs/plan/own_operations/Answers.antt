@@ -2,6 +2,7 @@ use Rattle.std.proofs.Common.{◌≡◌, ◌∙◌, ◌++◌, ◌+◌, ◌-◌, 
 use Rattle.std.specs.Prelude.{is_some}
 use Rattle.std.proofs.lemmas.List.{map-append, length-map}
 use Rattle.std.proofs.lemmas.Result.{err_from_is_err_and}
+use Rattle.qm_model.proofs.Results.{told-one, told-then}
 use Rattle.qm_base.specs.Parts.{is_update}
 use Rattle.qm_model.specs.Policies.{policies, proportional}
 use Rattle.qm_model.specs.Walk.{walk}
@@ -9,8 +10,8 @@ use Rattle.qm_model.specs.Writes.{last_writes, unordered_writes}
 use Rattle.qm_batch.specs.PlanViews.{last_view, touch_view, AreOwn}
 use Rattle.qm_batch.specs.Touches.{Touch, AreMoves}
 use Rattle.qm_batch.specs.Views.{write_view}
-use Rattle.qm_batch.proofs.PlanOwns.{are-own, count-shown, sites-last, told-then}
-use Rattle.qm_batch.proofs.Reading.{read-then, error-then, lent-then, told, told-one}
+use Rattle.qm_batch.proofs.PlanOwns.{are-own, count-shown, sites-last}
+use Rattle.qm_batch.proofs.Reading.{read-then, error-then, lent-then, told}
 use Rattle.qm_batch.proofs.plan.own_operations.Goals as goal
 
 pub returns-in_err-walked-clause-read : goal.returns-in_err-walked-clause-read

@@ -3,10 +3,11 @@ use Rattle.std.specs.Prelude.{All, option_map}
 use Rattle.std.proofs.lemmas.List.{take_all}
 use Rattle.std.proofs.lemmas.List.Elements.{All-more}
 use Rattle.std.proofs.lemmas.Result.{err_from_is_err_and}
+use Rattle.qm_model.proofs.Results.{told-both, told-one}
 use Rattle.qm_index.specs.Buckets.{bucket_at}
 use Rattle.qm_batch.specs.Changes.{only, update_at}
 use Rattle.qm_batch.specs.Views.{said_view}
-use Rattle.qm_batch.proofs.Reading.{read-then, lent-then, bucket-kept, found-live, none-live, told, told-one, told-both, taken-in}
+use Rattle.qm_batch.proofs.Reading.{read-then, lent-then, bucket-kept, found-live, none-live, told, taken-in}
 use Rattle.qm_batch.proofs.read.read_bucket.Goals as goal
 
 pub returns-in_err-update-clause-whole : goal.returns-in_err-update-clause-whole

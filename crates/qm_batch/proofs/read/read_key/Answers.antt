@@ -1,10 +1,10 @@
 use Rattle.std.proofs.Common.{◌≡◌, ◌∙◌, ap, sym, map, ℕ}
 use Rattle.std.specs.Prelude.{option_map}
+use Rattle.qm_model.proofs.Results.{told-any}
 use Rattle.qm_model.specs.Operations.{Bytes}
 use Rattle.qm_batch.specs.Changes.{nearest, update_of}
 use Rattle.qm_batch.specs.Layers.{Layer}
 use Rattle.qm_batch.specs.Views.{change_view}
-use Rattle.qm_batch.proofs.Reading.{told-any}
 use Rattle.qm_batch.proofs.Steps.{nearest-decides, lent-decides, map-twice}
 use Rattle.qm_batch.proofs.read.read_key.Goals as goal
 

@@ -2,10 +2,11 @@ use Rattle.std.proofs.Common.{◌∙◌, ap, sym, map, subst}
 use Rattle.std.specs.Prelude.{option_map}
 use Rattle.std.proofs.lemmas.List.{take_all}
 use Rattle.std.proofs.lemmas.Result.{err_from_is_err_and}
+use Rattle.qm_model.proofs.Results.{told-both, told-err, told-one}
 use Rattle.qm_batch.specs.Changes.{update_of}
 use Rattle.qm_batch.specs.Lent.{NoneBelow}
 use Rattle.qm_batch.specs.Views.{read_view}
-use Rattle.qm_batch.proofs.Reading.{read-then, lent-then, error-then, told, told-one, told-both, told-err, mapped-more}
+use Rattle.qm_batch.proofs.Reading.{read-then, lent-then, error-then, told, mapped-more}
 use Rattle.qm_batch.proofs.read.read_keys.Goals as goal
 
 pub returns-in_err-update-clause-value : goal.returns-in_err-update-clause-value

@@ -10,4 +10,4 @@ returns-clause-among g c =
     let current = commitment_view g.D.Digest.bytes c.args.current.now in
     let bounds = c.self.inside.bounds in
     ok-tested c.validate_apply_to.result (is_at current bounds.db bounds.ancestors) (Contains (bases batch.layers) current.size) c.validate_apply_to.ensures.exact
-    (λ fits. fits-among batch (subst AreAgreed c.self.view_is c.self.invariant) current (subst (λ b. is_at current b.db b.ancestors ≡ true) (ap (λ b. b.bounds) c.self.view_is) fits))
+    (λ fits. fits-among batch (subst AreAgreed c.self.view_is c.self.invariant.0) current (subst (λ b. is_at current b.db b.ancestors ≡ true) (ap (λ b. b.bounds) c.self.view_is) fits))

@@ -10,4 +10,4 @@ returns-clause-reached g c =
     let batch = c.args.self.now in
     let current = commitment_view g.D.Digest.bytes c.args.current.now in
     ok-tested c.compatible.result (knows c.self.inside.bounds current) (Contains (stops batch.tree.leaves batch.tree.layers) current.size) c.compatible.ensures.exact
-    (λ known. known-reached batch (subst AreAgreed c.self.view_is c.self.invariant) current (subst (λ b. knows b current ≡ true) (ap (λ b. b.bounds) c.self.view_is) known))
+    (λ known. known-reached batch (subst AreAgreed c.self.view_is c.self.invariant.0) current (subst (λ b. knows b current ≡ true) (ap (λ b. b.bounds) c.self.view_is) known))

@@ -14,7 +14,7 @@ returns-clause-count g c =
     let batch = c.args.self.now in
     let size = batch.bounds.tip.size in
     let layers : List Layer = batch.layers in
-    let agreed : AreAgreed batch = subst AreAgreed c.self.view_is c.self.invariant in
+    let agreed : AreAgreed batch = subst AreAgreed c.self.view_is c.self.invariant.0 in
     let among : Contains (size ∷ bases layers) n = Contains-later size (bases layers) n c.in_ok-fits.ensures.among in
     let lacked : map (λ l. l.value) c.unapplied_of-steps.result.now ≡ unapplied n layers =
     c.unapplied_of-steps.ensures ∙ ap (λ ls. unapplied n (map (λ l. l.value) ls)) c.deref.ensures.value ∙ ap (λ b. unapplied n (map (λ l. l.value) b.steps.items)) c.self-inside.view_is ∙ ap (λ b. unapplied n b.layers) c.self.view_is in

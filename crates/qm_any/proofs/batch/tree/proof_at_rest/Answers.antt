@@ -1,4 +1,4 @@
-use Rattle.std.proofs.Common.{◌≡◌, ◌∙◌, length, arith, ap, ap₂, sym, subst, le_refl}
+use Rattle.std.proofs.Common.{◌∙◌, arith, ap, ap₂, sym, subst, le_refl}
 use Rattle.std.proofs.lemmas.List.{take_all}
 use Rattle.qm_model.specs.Proofs.{proof_of}
 use Rattle.qm_merkle.specs.Mems.{node_at}

@@ -1,10 +1,11 @@
 use Rattle.std.proofs.Common.{◌≡◌, ◌∙◌, true, [], ap, sym, subst, map, drop}
 use Rattle.std.specs.Prelude.{if◌then◌else◌}
+use Rattle.qm_model.proofs.Results.{err-then, ok-four, ok-then}
 use Rattle.qm_model.specs.Operations.{spelling}
 use Rattle.qm_chain.specs.Bounds.{is_at}
 use Rattle.qm_batch.specs.Views.{changes_view}
 use Rattle.qm_any.specs.Given.{Appended, AppendedPart, store_given}
-use Rattle.qm_any.proofs.Unapplied.{applied, lacked-spelled, ok-four, ok-then, err-then}
+use Rattle.qm_any.proofs.Unapplied.{applied, lacked-spelled}
 use Rattle.qm_any.proofs.db.Db+F+C+D+H+Unordered+K+V.apply_batch.Goals as goal
 
 pub returns-in-Ok-clause-stands : goal.returns-in-Ok-clause-stands

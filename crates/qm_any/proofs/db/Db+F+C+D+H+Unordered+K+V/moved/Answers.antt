@@ -1,8 +1,9 @@
 use Rattle.std.proofs.Common.{ap, sym, subst, map}
+use Rattle.qm_model.proofs.Results.{err-then, ok-then}
 use Rattle.qm_batch.specs.Lent.{IsIndexed}
 use Rattle.qm_index.specs.Translated.{capped}
 use Rattle.qm_any.specs.Given.{AppendedPart, store_given}
-use Rattle.qm_any.proofs.Unapplied.{ok-then, err-then, part-whole, same-database}
+use Rattle.qm_any.proofs.Unapplied.{part-whole, same-database}
 use Rattle.qm_any.proofs.db.Db+F+C+D+H+Unordered+K+V.moved.Goals as goal
 
 pub returns-in-Ok-clause-index : goal.returns-in-Ok-clause-index

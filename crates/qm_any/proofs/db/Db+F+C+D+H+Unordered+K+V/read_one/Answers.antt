@@ -1,5 +1,6 @@
 use Rattle.std.proofs.Common.{◌≡◌, ◌∙◌, ap, sym, subst, ℕ, None}
 use Rattle.std.specs.Prelude.{option_map}
+use Rattle.qm_model.proofs.Results.{told-here}
 use Rattle.qm_model.specs.Operations.{Bytes}
 use Rattle.qm_model.specs.Live.{value_of}
 use Rattle.qm_model.specs.Writes.{read_through, overwritten, write_of, last_writes}
@@ -7,7 +8,7 @@ use Rattle.qm_batch.specs.Changes.{update_of}
 use Rattle.qm_batch.specs.Views.{read_view, write_view}
 use Rattle.qm_any.specs.Databases.{IsDatabase}
 use Rattle.qm_any.specs.Views.{write_views}
-use Rattle.qm_any.proofs.Reading.{told-here, value-found}
+use Rattle.qm_any.proofs.Reading.{value-found}
 use Rattle.qm_any.proofs.db.Db+F+C+D+H+Unordered+K+V.read_one.Goals.{in-Some-2, in-None}
 use Rattle.qm_any.proofs.db.Db+F+C+D+H+Unordered+K+V.read_one.Goals as goal
 

@@ -1,12 +1,12 @@
 use Rattle.std.proofs.Common.{◌∙◌, ◌-◌, ◌++◌, ap, length, arith, subst}
 use Rattle.std.specs.Prelude.{option_map}
+use Rattle.qm_model.proofs.Results.{told-any, told-one}
 use Rattle.qm_model.specs.Writes.{unordered_writes}
 use Rattle.qm_batch.specs.Touches.{IsStanding}
 use Rattle.qm_batch.specs.PlanViews.{touch_view, touch_views}
 use Rattle.qm_batch.specs.Views.{said_view}
 use Rattle.qm_batch.proofs.PlanFinds.{got-one, got-none}
 use Rattle.qm_batch.proofs.PlanMoves.{again-is, again-none, standing-moves, standing-rests, shown-operation, shown-each}
-use Rattle.qm_batch.proofs.Reading.{told-one, told-any}
 use Rattle.qm_batch.proofs.plan.walk.move_at.Goals as goal
 
 pub returns-in_ok-again-in-Some-clause-value : goal.returns-in_ok-again-in-Some-clause-value

@@ -1,8 +1,8 @@
 use Rattle.std.proofs.Common.{◌≡◌, ◌∙◌, ap, sym}
 use Rattle.std.specs.Prelude.{option_and_then}
+use Rattle.qm_model.proofs.Results.{told-any}
 use Rattle.qm_batch.specs.Changes.{said_by, update_at}
 use Rattle.qm_batch.proofs.PlanFinds.{match-some, match-none}
-use Rattle.qm_batch.proofs.Reading.{told-any}
 use Rattle.qm_batch.proofs.plan.walk.update_in_base.Goals as goal
 
 pub returns-in_ok-update_of-in-Some-clause-value : goal.returns-in_ok-update_of-in-Some-clause-value

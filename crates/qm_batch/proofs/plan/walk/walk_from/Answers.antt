@@ -1,10 +1,11 @@
 use Rattle.std.proofs.Common.{◌∙◌, ◌++◌, ◌≤◌, ◌<◌, ◌-◌, ◌^◌, ap, arith, length, map}
 use Rattle.std.specs.Prelude.{option_map}
 use Rattle.std.proofs.lemmas.Result.{err_from_is_err_and}
+use Rattle.qm_model.proofs.Results.{told-any, told-both, told-err, told-one}
 use Rattle.qm_model.specs.Writes.{unordered_writes}
 use Rattle.qm_batch.specs.PlanViews.{touch_view, touch_views}
 use Rattle.qm_batch.proofs.PlanMoves.{walk-begins, walk-next, walk-enough, walk-done, written-long, shown-left}
-use Rattle.qm_batch.proofs.Reading.{read-none, read-then, error-then, lent-then, told, told-any, told-one, told-both, told-err}
+use Rattle.qm_batch.proofs.Reading.{read-none, read-then, error-then, lent-then, told}
 use Rattle.qm_batch.proofs.plan.walk.walk_from.Goals as goal
 
 pub loop-at-init : goal.loop-at-init

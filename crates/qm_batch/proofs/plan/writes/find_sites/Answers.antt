@@ -1,9 +1,9 @@
 use Rattle.std.proofs.Common.{◌∙◌, ap, sym, map}
 use Rattle.std.specs.Prelude.{option_map}
+use Rattle.qm_model.proofs.Results.{told-one}
 use Rattle.qm_batch.specs.Changes.{update_of}
 use Rattle.qm_batch.specs.PlanViews.{site_in}
 use Rattle.qm_batch.specs.Views.{read_view, write_view}
-use Rattle.qm_batch.proofs.Reading.{told-one}
 use Rattle.qm_batch.proofs.Steps.{map-twice}
 use Rattle.qm_batch.proofs.plan.writes.find_sites.Goals as goal
 

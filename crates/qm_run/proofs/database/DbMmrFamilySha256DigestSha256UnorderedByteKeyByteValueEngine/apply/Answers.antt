@@ -1,12 +1,13 @@
-use Rattle.std.proofs.Common.{◌≡◌, ◌∙◌, ap, sym, subst, drop, map, length, [], if◌then◌else◌}
+use Rattle.std.proofs.Common.{◌∙◌, ap, sym, subst, drop, map, [], if◌then◌else◌}
 use Rattle.sha2.specs.Sha256.{sha256}
+use Rattle.qm_model.proofs.Results.{err-then, ok-then}
 use Rattle.qm_model.specs.Mmr.{mmr}
 use Rattle.qm_model.specs.Operations.{spelling}
 use Rattle.qm_any.specs.Databases.{IsDatabase, IsMade}
 use Rattle.qm_any.specs.Given.{Appended, AppendedPart, store_given}
 use Rattle.qm_chain.specs.Bounds.{is_at}
 use Rattle.qm_run.specs.Databases.{digest_bytes}
-use Rattle.qm_run.proofs.Engines.{ok-then, err-then, at-made, off-chain, appends-same, applied-ok, ok-made, err-made}
+use Rattle.qm_run.proofs.Engines.{at-made, off-chain, appends-same, applied-ok, ok-made, err-made}
 use Rattle.qm_run.proofs.database.DbMmrFamilySha256DigestSha256UnorderedByteKeyByteValueEngine.apply.Goals as goal
 
 pub returns-clause-fits : goal.returns-clause-fits

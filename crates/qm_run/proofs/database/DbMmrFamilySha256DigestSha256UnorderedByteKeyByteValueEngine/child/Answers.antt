@@ -1,11 +1,11 @@
-use Rattle.std.proofs.Common.{◌∙◌, None, Some, sym, ap, subst}
+use Rattle.std.proofs.Common.{None, Some, sym, ap, subst}
 use Rattle.sha2.specs.Sha256.{sha256}
+use Rattle.qm_model.proofs.Results.{ok-then}
 use Rattle.qm_model.specs.Mmr.{mmr}
 use Rattle.qm_model.specs.Batches.{child_of}
 use Rattle.qm_any.specs.Databases.{IsBegun}
 use Rattle.qm_any.proofs.Resting.{child-all, child-first}
 use Rattle.qm_run.specs.Databases.{digest_bytes}
-use Rattle.qm_run.proofs.Engines.{ok-then}
 use Rattle.qm_run.proofs.database.DbMmrFamilySha256DigestSha256UnorderedByteKeyByteValueEngine.child.Goals as goal
 
 pub returns-in-None : goal.returns-in-None

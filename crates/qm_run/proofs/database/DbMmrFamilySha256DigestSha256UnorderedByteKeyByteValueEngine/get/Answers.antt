@@ -1,11 +1,12 @@
 use Rattle.std.proofs.Common.{◌≡◌, ◌∙◌, map, option_map}
 use Rattle.sha2.specs.Sha256.{sha256}
+use Rattle.qm_model.proofs.Results.{err-then, ok-each}
 use Rattle.qm_model.specs.Mmr.{mmr}
 use Rattle.qm_model.specs.Live.{value_of}
 use Rattle.qm_any.specs.Databases.{IsDatabase}
 use Rattle.qm_any.proofs.Reading.{left-database}
 use Rattle.qm_run.specs.Databases.{digest_bytes}
-use Rattle.qm_run.proofs.Engines.{ok-each, err-then, log-untold, log-rose, log-kept}
+use Rattle.qm_run.proofs.Engines.{log-untold, log-rose, log-kept}
 use Rattle.qm_run.proofs.database.DbMmrFamilySha256DigestSha256UnorderedByteKeyByteValueEngine.get.Goals as goal
 
 pub returns-clause-values : goal.returns-clause-values

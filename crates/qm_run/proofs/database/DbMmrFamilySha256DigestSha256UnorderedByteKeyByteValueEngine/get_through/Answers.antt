@@ -1,13 +1,13 @@
-use Rattle.std.proofs.Common.{◌≡◌, ◌∙◌, ap, sym, subst, map, option_map}
+use Rattle.std.proofs.Common.{◌≡◌, ◌∙◌, sym, map, option_map}
 use Rattle.sha2.specs.Sha256.{sha256}
+use Rattle.qm_model.proofs.Results.{err-then, ok-then}
 use Rattle.qm_model.specs.Mmr.{mmr}
-use Rattle.qm_model.specs.Live.{value_of}
 use Rattle.qm_model.specs.Writes.{read_through}
-use Rattle.qm_any.specs.Databases.{IsDatabase, IsMade}
+use Rattle.qm_any.specs.Databases.{IsDatabase}
 use Rattle.qm_any.proofs.Reading.{left-database}
 use Rattle.qm_chain.specs.Bounds.{knows}
 use Rattle.qm_run.specs.Databases.{digest_bytes}
-use Rattle.qm_run.proofs.Engines.{ok-then, err-then, knows-readable, unknown, stale-read, fresh-read, known-read, rose-read, never-read, made-reads, begun-reads}
+use Rattle.qm_run.proofs.Engines.{knows-readable, unknown, stale-read, fresh-read, known-read, rose-read, never-read, begun-reads}
 use Rattle.qm_run.proofs.database.DbMmrFamilySha256DigestSha256UnorderedByteKeyByteValueEngine.get_through.Goals as goal
 
 pub returns-clause-readable : goal.returns-clause-readable

@@ -1,5 +1,6 @@
-use Rattle.std.proofs.Common.{◌≡◌, ◌≤◌, suc, length, ◌∙◌, ap, sym, subst, IfOk, IfErr, option_map, inl, inr, ◌⊎◌}
+use Rattle.std.proofs.Common.{◌≡◌, ◌≤◌, suc, length, ◌∙◌, ap, sym, subst, IfOk, IfErr, option_map, ◌⊎◌}
 use Rattle.sha2.specs.Sha256.{sha256}
+use Rattle.qm_model.proofs.Results.{err-both, err-then, ok-then}
 use Rattle.qm_model.specs.Mmr.{mmr}
 use Rattle.qm_model.specs.Batches.{IsOnChain}
 use Rattle.qm_model.specs.Policies.{proportional}
@@ -10,7 +11,7 @@ use Rattle.qm_any.specs.Databases.{Begun, IsDatabase, IsMade, stepped}
 use Rattle.qm_any.specs.Tips.{IsTaken, IsRefused}
 use Rattle.qm_any.proofs.Reading.{left-database}
 use Rattle.qm_run.specs.Databases.{digest_bytes}
-use Rattle.qm_run.proofs.Engines.{ok-then, err-then, err-both, on-begun, off-chain, made-ok, made-err, refused-due, only}
+use Rattle.qm_run.proofs.Engines.{on-begun, off-chain, made-ok, made-err, refused-due, only}
 use Rattle.qm_run.proofs.database.DbMmrFamilySha256DigestSha256UnorderedByteKeyByteValueEngine.merkleize.Goals as goal
 
 pub returns-clause-fits : goal.returns-clause-fits

@@ -1,12 +1,13 @@
 use Rattle.std.proofs.Common.{◌≡◌, ◌≤◌, ◌∙◌, ap, subst, map, arith, None}
 use Rattle.sha2.specs.Sha256.{sha256}
+use Rattle.qm_model.proofs.Results.{err-each, err-then, err-when, ok-each, ok-then}
 use Rattle.qm_model.specs.Mmr.{mmr}
 use Rattle.qm_model.specs.Proofs.{pins_at}
 use Rattle.qm_model.specs.Refusals.{pins_refusal}
 use Rattle.qm_any.specs.Databases.{IsDatabase}
 use Rattle.qm_any.specs.Refusals.{IsDue}
 use Rattle.qm_run.specs.Databases.{digest_bytes}
-use Rattle.qm_run.proofs.Engines.{ok-then, ok-each, err-then, err-each, err-when, pinned}
+use Rattle.qm_run.proofs.Engines.{pinned}
 use Rattle.qm_run.proofs.database.DbMmrFamilySha256DigestSha256UnorderedByteKeyByteValueEngine.pins.Goals as goal
 
 pub returns-clause-offered : goal.returns-clause-offered

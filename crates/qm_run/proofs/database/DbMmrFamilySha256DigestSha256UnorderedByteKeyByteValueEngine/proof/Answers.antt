@@ -1,7 +1,7 @@
 use Rattle.std.proofs.Common.{◌∙◌, sym, subst, length}
 use Rattle.sha2.specs.Sha256.{sha256}
 use Rattle.qm_model.specs.Mmr.{mmr}
-use Rattle.qm_any.specs.Databases.{IsDatabase, IsMade}
+use Rattle.qm_any.specs.Databases.{IsMade}
 use Rattle.qm_run.specs.Databases.{digest_bytes}
 use Rattle.qm_run.proofs.Engines.{knows-readable, unknown, proved, pinned}
 use Rattle.qm_run.proofs.database.DbMmrFamilySha256DigestSha256UnorderedByteKeyByteValueEngine.proof.Goals as goal
@@ -12,7 +12,7 @@ returns-in-Ok-pinned_nodes-clause-readable g c = λ list chain tip is batch. sym
 pub returns-in-Ok-pinned_nodes-clause-proof : goal.returns-in-Ok-pinned_nodes-clause-proof
 returns-in-Ok-pinned_nodes-clause-proof g c = λ list chain tip is batch known. (
   c.in-Ok.ensures.proof list chain tip is (subst (λ b. IsMade digest_bytes sha256 mmr b chain tip) (sym c.deref.ensures) batch) known ∙ proved tip (length chain.base) (length tip),
-  c.in-Ok-pinned_nodes.ensures.pins list chain tip (subst (λ db. IsDatabase g.C.Store digest_bytes sha256 mmr db list) (sym c.proof.ensures.same) is) (subst (λ b. IsMade digest_bytes sha256 mmr b chain tip) (sym c.deref-in-Ok.ensures) batch) known ∙ pinned tip (length chain.base),
+  c.in-Ok-pinned_nodes.ensures.pins list chain tip is (subst (λ b. IsMade digest_bytes sha256 mmr b chain tip) (sym c.deref-in-Ok.ensures) batch) known ∙ pinned tip (length chain.base),
 )
 
 pub returns-in-Err-clause-stale : goal.returns-in-Err-clause-stale

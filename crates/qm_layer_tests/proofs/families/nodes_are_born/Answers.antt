@@ -2,7 +2,7 @@ use Rattle.std.proofs.Common.{◌≡◌, ℕ, ◌≤◌, ◌^◌, refl, sym, ◌
 use Rattle.qm_model.specs.Families.{StandsAt}
 use Rattle.qm_model.specs.Trees.{end_of}
 use Rattle.qm_model.specs.Mmr.{mmr}
-use Rattle.qm_merkle.proofs.tests.nodes_are_born.Goals as goal
+use Rattle.qm_layer_tests.proofs.families.nodes_are_born.Goals as goal
 use lib.Count.{ones, ones_in}
 
 first_eight : mmr.position (record { height = 3; index = 0 }) ≡ 14

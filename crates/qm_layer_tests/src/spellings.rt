@@ -1,9 +1,7 @@
 //! Spellings, and bytes that are none.
 
-use crate::digest::{Digest, Hasher, Spelled as _};
-use crate::sha256::Sha256;
-use crate::update::Unordered;
-use crate::{ByteKey, ByteString, ByteValue, Operation};
+use qm_base::update::Unordered;
+use qm_base::{ByteKey, ByteString, ByteValue, Digest, Hasher, Operation, Sha256, Spelled as _};
 use std::alloc::{AllocError, Global};
 use std::test::Fail;
 

@@ -1,8 +1,8 @@
-// Numbers worked by hand, and digests computed by another program.
-use crate::family::Family as _;
-use crate::mmr::Family;
-use crate::*;
+//! Numbers of trees worked by hand, and digests of nodes computed by another program.
+
 use qm_base::{Digest, Location, Sha256, Sha256Digest};
+use qm_merkle::mmr::Family;
+use qm_merkle::{Family as _, Node, Position, StandardHasher};
 use std::test::Fail;
 
 #[test]

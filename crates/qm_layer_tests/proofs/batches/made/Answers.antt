@@ -3,7 +3,7 @@ use Rattle.std.specs.Prelude.{nat_lt, slice_set, ◌-◌}
 use Rattle.std.specs.Ordering.{nat_cmp}
 use Rattle.std.specs.BTreeMap.{insert_entry}
 use Rattle.qm_merkle.specs.Batches.{Draft, stops, updated}
-use Rattle.qm_merkle.proofs.batch.tests.made.Goals as goal
+use Rattle.qm_layer_tests.proofs.batches.made.Goals as goal
 
 abbrev stops_of : {D : Type 0} → Draft D → List ℕ
 stops_of draft = stops draft.base draft.layers

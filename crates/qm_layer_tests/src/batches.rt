@@ -1,23 +1,18 @@
-// Batches that stand on one another, against the definition run over the whole list of leaves.
+//! Batches that stand on one another, against the definition run over the whole list of leaves.
+
 ghost use Rattle.std.specs.Prelude.{◌≡◌, ℕ, [], Contains, IfOk, OnOk, ◌<◌, length};
 ghost use Rattle.qm_merkle.specs.Batches.{all_layers, stops};
 
-use super::{MerkleizedBatch, UnmerkleizedBatch};
-use crate::hasher::StandardHasher;
-use crate::mem::Mem;
-use crate::mmr::Family;
-use crate::position::Position;
+use crate::trees::{Tree, TreeHasher, Wrong, add_leaf};
 use qm_base::{Digest, Location, MerkleError, Sha256, Sha256Digest};
+use qm_merkle::mmr::Family;
+use qm_merkle::{MerkleizedBatch, Position, StandardHasher, UnmerkleizedBatch};
 use std::alloc::{AllocError, Global};
 use std::test::Fail;
-
-type Tree = Mem<Family, Sha256Digest>;
 
 type Draft = UnmerkleizedBatch<Family, Sha256Digest>;
 
 type Batch = MerkleizedBatch<Family, Sha256Digest>;
-
-type TreeHasher = StandardHasher<Sha256>;
 
 // A leaf's digest, another one for each number.
 fn leaf(hasher: &mut TreeHasher, number: u64) -> Sha256Digest {
@@ -65,10 +60,6 @@ fn defined(
     let count = Location::<Family>::new(leaves.len() as u64);
     Ok((nodes, hasher.root(count, 0, &peaks)))
 }
-
-// A digest is not that of the definition, or there are more leaves than a test makes.
-#[derive(Debug, Drop)]
-struct Wrong;
 
 // Looks whether there is no digest, or this one.
 fn fits(found: Option<Sha256Digest>, digest: &Sha256Digest) -> Result<(), Wrong> {
@@ -226,18 +217,12 @@ fn grown(
     hasher: &mut TreeHasher,
     count: u64,
 ) -> Result<(Tree, Vec<Sha256Digest>), Fail> {
-    let mut tree = Mem::new(alloc);
+    let mut tree = Tree::new(alloc);
     let mut list = Vec::new(alloc);
     for number in 0..count {
         let digest = leaf(hasher, number);
-        let mut draft = tree.new_batch(alloc);
-        if 1000 < draft.leaves().get() {
-            return Err(Wrong.into());
-        }
-        draft.add_leaf_digest(digest)?;
+        add_leaf(alloc, hasher, &mut tree, digest)?;
         list.push(digest)?;
-        let batch = draft.merkleize(alloc, &tree, hasher)?;
-        tree.apply_batch(&batch)?;
     }
     Ok((tree, list))
 }

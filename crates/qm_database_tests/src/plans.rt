@@ -1,9 +1,10 @@
-// That each call answers with ample memory, with keys that share their first four bytes.
+//! That each call of a batch's plan answers with ample memory, with keys that share their first four bytes.
+
 ghost use Rattle.std.specs.Prelude.{◌≡◌, IfOk, length};
 
-use super::*;
 use qm_base::update::Unordered;
 use qm_base::{ByteKey, ByteString, ByteValue, Error, Location, Operation, Sha256, Sha256Digest};
+use qm_batch::{Layer, Plan, Write, apply_diffs, plain, read_key, read_keys};
 use qm_chain::{Diff, DiffEntry};
 use qm_index::unordered::Index;
 use qm_index::{FourCap, Unordered as _};

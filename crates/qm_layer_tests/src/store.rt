@@ -1,11 +1,13 @@
-// That calls succeed, and that the faults come where they are listed; and roots that were computed by another program.
+//! That calls on stores and logs succeed, and that the faults come where they are listed; and roots that were computed by
+//! another program.
+
 ghost use Rattle.std.specs.Prelude.{◌≡◌, IfOk, length};
 
-use super::*;
 use qm_base::{Digest, Error, JournalError, Location, Sha256, Sha256Digest};
 use qm_merkle::StandardHasher;
 use qm_merkle::mmr::Family;
-use std::alloc::Global;
+use qm_store::{AuthLog, LogGiven, LogRefusal, MemStore, Store, StoreError};
+use std::alloc::{AllocError, Global};
 use std::num::NonZeroU64;
 use std::process::Abort;
 use std::test::Fail;

@@ -1,8 +1,8 @@
 //! That calls succeed, and the root of a fresh database, which was computed by another program.
 
-use crate::batch::{MerkleizedBatch, UnmerkleizedBatch};
-use crate::db::Db;
-use crate::{Proportional, hasher, init, initial_root};
+use qm_any::batch::{MerkleizedBatch, UnmerkleizedBatch};
+use qm_any::db::Db;
+use qm_any::{Proportional, hasher, init, initial_root};
 use qm_base::update::Unordered;
 use qm_base::{
     ByteKey, ByteString, ByteValue, Digest, Error, JournalError, Location, Sha256, Sha256Digest,
@@ -292,13 +292,13 @@ fn a_child_proves_its_operations(rt: HostRuntime) -> Result<(), Fail> {
         1,
         &mut db,
     )?;
-    let proof = child.proof(rt.alloc(), &mut db)?;
+    let proof = child.proof(rt.alloc(), &db)?;
     let (from, own) = child.operations();
     assert_eq!(rt; from.get(), parent.bounds().tip.size);
     let mut hasher = hasher(Sha256::new());
     assert!(rt; proof.verify(&mut hasher, own, from, &child.root()));
-    assert_eq!(rt; child.pinned_nodes(rt.alloc(), &mut db)?.len(), 1);
-    assert_eq!(rt; child.diffs(rt.alloc())?.len(), 2);
+    assert_eq!(rt; child.pinned_nodes(rt.alloc(), &db)?.len(), 1);
+    assert_eq!(rt; child.diffs().len(), 2);
     Ok(())
 }
 

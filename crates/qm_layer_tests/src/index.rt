@@ -1,9 +1,10 @@
-// That calls succeed with ample memory, and a table of cases; each generic at a concrete type.
-use super::*;
+//! That calls on an index succeed with ample memory, and a table of cases; each generic at a concrete type.
+
 use qm_base::{ByteKey, ByteString, Location};
+use qm_index::unordered::Index;
+use qm_index::{EightCap, FourCap, OneCap, OrderedTranslator, TwoCap, Unordered};
 use std::alloc::AllocError;
 use std::test::Fail;
-use unordered::Index;
 
 // What a call of the table does.
 #[derive(Drop)]

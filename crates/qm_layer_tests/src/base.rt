@@ -1,6 +1,10 @@
-// Spellings and texts written by hand, and that calls succeed.
-use super::*;
-use crate::update::{Unordered, Update};
+//! Spellings and texts written by hand, a hash of another program, and that calls succeed.
+
+use qm_base::update::{Unordered, Update};
+use qm_base::{
+    ByteKey, ByteString, ByteValue, Corrupt, Digest, Error, Gate, Hasher, JournalError, Location,
+    MerkleError, OpenGate, Operation, Sha256, Twin,
+};
 use std::alloc::{AllocError, Global};
 use std::test::Fail;
 
@@ -187,6 +191,21 @@ fn errors_have_text(rt: HostRuntime) -> Result<(), Fail> {
     }
     let text = format!(in rt.alloc(); "{}", JournalError::Store)?;
     assert_eq!(rt; text.as_str(), "Store");
+    Ok(())
+}
+
+#[test]
+fn three_bytes_are_hashed(rt: HostRuntime) -> Result<(), Fail> {
+    let mut hasher = Sha256::new();
+    hasher.start();
+    hasher.update(b"abc");
+    let digest = hasher.finish();
+    let abc = [
+        0xba, 0x78, 0x16, 0xbf, 0x8f, 0x01, 0xcf, 0xea, 0x41, 0x41, 0x40, 0xde, 0x5d, 0xae, 0x22,
+        0x23, 0xb0, 0x03, 0x61, 0xa3, 0x96, 0x17, 0x7a, 0x9c, 0xb4, 0x10, 0xff, 0x61, 0xf2, 0x00,
+        0x15, 0xad,
+    ];
+    assert_eq!(rt; digest.bytes(), abc.as_slice());
     Ok(())
 }
 

@@ -1,8 +1,8 @@
 //! Runs of the program over ports in memory.
 
-use super::*;
 use qm_base::OpenGate;
 use qm_lines::{MemSink, MemSource, Source};
+use qm_run::qmdb_main;
 use qm_store::{MemStore, Store};
 use std::alloc::{AllocError, Global};
 use std::test::Fail;

@@ -1,14 +1,11 @@
-// Proofs of every range of small trees, and the same ones changed.
-use super::{NodesOver, Proof};
-use crate::family::Family as _;
-use crate::hasher::StandardHasher;
-use crate::mem::Mem;
-use crate::mmr::Family;
+//! Proofs of every range of small trees, and the same ones changed.
+
+use crate::trees::{Tree, add_leaf};
 use qm_base::{Digest, Hasher, Location, MerkleError, Sha256, Sha256Digest};
+use qm_merkle::mmr::Family;
+use qm_merkle::{Family as _, NodesOver, Proof, StandardHasher};
 use std::alloc::{AllocError, Global};
 use std::test::Fail;
-
-type Tree = Mem<Family, Sha256Digest>;
 
 type Digests = Vec<Sha256Digest>;
 
@@ -88,7 +85,7 @@ fn ranges(rt: HostRuntime) -> Result<(), Fail> {
     let mut hasher = StandardHasher::new(Sha256::new());
     let mut listed = Sha256::new();
     listed.start();
-    let mut tree: Tree = Mem::new(alloc);
+    let mut tree = Tree::new(alloc);
     let mut elements: Vec<Vec<u8>> = Vec::new(alloc);
     let mut others: Vec<Vec<u8>> = Vec::new(alloc);
     for last in 0..12u8 {
@@ -96,7 +93,7 @@ fn ranges(rt: HostRuntime) -> Result<(), Fail> {
         assert!(rt; count.get() < 12);
         let element = Vec::from_slice(alloc, &[last])?;
         let leaf = hasher.leaf_digest_of(Family::location_to_position(count), &element);
-        tree.add_all(alloc, &mut hasher, &[leaf])?;
+        add_leaf(alloc, &mut hasher, &mut tree, leaf)?;
         elements.push(element)?;
         others.push(Vec::from_slice(alloc, &[last, last])?)?;
         let count = tree.leaves();
@@ -150,9 +147,13 @@ fn nodes_that_are_held(rt: HostRuntime) -> Result<(), Fail> {
     let alloc = rt.alloc();
     let mut hasher = StandardHasher::new(Sha256::new());
     let leaf = hasher.leaf_digest(Family::location_to_position(Location::new(0)), b"a");
-    let mut tree: Tree = Mem::new(alloc);
-    tree.add_all(alloc, &mut hasher, &[leaf, leaf, leaf])?;
+    let mut tree = Tree::new(alloc);
+    for _ in 0..3 {
+        add_leaf(alloc, &mut hasher, &mut tree, leaf)?;
+    }
     let (one, two, three) = (Location::new(1), Location::new(2), Location::new(3));
+    let (kept, past) = tree.bounds();
+    assert!(rt; kept <= two && two <= past);
     tree.prune(alloc, two)?;
     let draft = tree.new_batch(alloc);
     let batch = draft.merkleize(alloc, &tree, &mut hasher)?;

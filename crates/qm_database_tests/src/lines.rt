@@ -1,5 +1,11 @@
-use super::*;
+//! Lines and their texts written by hand, and that the ports fail where they are told.
+
 use qm_base::{ByteKey, ByteString, ByteValue, Corrupt, Digest, Sha256Digest};
+use qm_lines::{
+    ByteCommand, Command, Failed, InputError, LIMIT, Listed, LogRefused, MemSink, MemSource,
+    Refused, Reply, Sink, SinkError, Source, StdSink, StdSource, TreeRefused, parse_all,
+    parse_line, read_all, replies_text, reply_text, write_all,
+};
 use std::alloc::{AllocError, Global};
 use std::process::Abort;
 use std::test::Fail;

@@ -1,12 +1,12 @@
-//! That each call answers, at a concrete type.
+//! That each call on chains and diffs answers, at a concrete type.
 
 ghost use Rattle.std.specs.Prelude.{◌≡◌, true, ◌<◌, ◌^◌, length, IfOk};
 ghost use Rattle.qm_model.specs.Keys.{key_lt};
 
-use super::*;
 use qm_base::{
     ByteKey, ByteString, ByteValue, Commitment, Error, Hasher, Location, Sha256, Sha256Digest,
 };
+use qm_chain::{Bounds, Diff, DiffCursors, DiffEntry, DiffMerge, effective_boundary};
 use std::alloc::{AllocError, Global};
 use std::rc::Rc;
 use std::test::Fail;

@@ -1,15 +1,13 @@
-// Trees that were computed by another program.
+//! Roots of trees, which were computed by another program.
+
 ghost use Rattle.std.specs.Prelude.{◌≤◌};
 
-use super::Mem;
-use crate::family::Family as _;
-use crate::hasher::StandardHasher;
-use crate::mmr::Family;
+use crate::trees::{Tree, TreeHasher, add_leaf};
 use qm_base::{Digest, Hasher, Location, MerkleError, Sha256, Sha256Digest};
+use qm_merkle::mmr::Family;
+use qm_merkle::{Family as _, StandardHasher};
 use std::alloc::{AllocError, Global};
 use std::test::Fail;
-
-type Tree = Mem<Family, Sha256Digest>;
 
 // Of a tree of 1, 2, .. leaves, the digest of its roots in a row, with 0, 1, .. inactive peaks up to all of them; leaf k has the byte k + 1. Made by `python3 docs/roots.py`.
 const ROOTS: [&str; 40] = [
@@ -56,11 +54,7 @@ const ROOTS: [&str; 40] = [
 ];
 
 // The digest of the tree's roots in a row, as text.
-fn roots_in_a_row(
-    alloc: Global,
-    hasher: &mut StandardHasher<Sha256>,
-    tree: &Tree,
-) -> Result<String, AllocError>
+fn roots_in_a_row(alloc: Global, hasher: &mut TreeHasher, tree: &Tree) -> Result<String, AllocError>
     requires { tree.now.leaves ≤ 40 }
 {
     let peaks = Family::peaks(alloc, tree.leaves())?;
@@ -76,15 +70,16 @@ fn roots_in_a_row(
 #[test]
 fn roots(rt: HostRuntime) -> Result<(), Fail> {
     let mut hasher = StandardHasher::new(Sha256::new());
-    let mut tree: Tree = Mem::new(rt.alloc());
+    let mut tree = Tree::new(rt.alloc());
     for want in ROOTS {
-        let (kept, last) = tree.bounds();
+        let last = tree.leaves();
         assert!(rt; last.get() < 40);
         let place = Family::location_to_position(last);
         let leaf = hasher.leaf_digest(place, &[last.get() as u8 + 1]);
-        tree.add(rt.alloc(), &mut hasher, leaf)?;
+        add_leaf(rt.alloc(), &mut hasher, &mut tree, leaf)?;
         if last.get() % 8 == 6 {
-            assert!(rt; kept <= last);
+            let (kept, past) = tree.bounds();
+            assert!(rt; kept <= last && last <= past);
             tree.prune(rt.alloc(), last)?;
         }
         let text = roots_in_a_row(rt.alloc(), &mut hasher, &tree)?;
