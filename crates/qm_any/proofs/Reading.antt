@@ -11,7 +11,6 @@ use Rattle.qm_model.specs.Writes.{Write, put_write, write_of, last_writes}
 use Rattle.qm_model.proofs.Chains.{Contains-first}
 use Rattle.qm_model.proofs.LastWrites.{write_of-same, write_of-other}
 use Rattle.qm_base.specs.declared.error.Error.{Error}
-use Rattle.qm_index.specs.Translated.{capped}
 use Rattle.qm_store.specs.declared.Store as store
 use Rattle.qm_batch.specs.Changes.{update_of}
 use Rattle.qm_batch.specs.Layers.{Layer, IsBase}
@@ -36,12 +35,12 @@ module _ {C D : Type 0} (members : store.Ghosts C) (bytes : D → Bytes) (hash :
   left-error a b c e before error = error-then members shape bytes hash a.log b.log c.log e before.read error
 
   -- a database stands after reads for the list that it stood for
-  pub left-database : (old new : Database C D) (list : List Operation) → IsLeft members bytes hash shape old new → IsDatabase members bytes hash shape old list → IsDatabase members bytes hash shape new list
-  left-database old new list left is =
-      subst (λ (x : Database C D). IsDatabase members bytes hash shape x list) (sym left.rest)
+  pub left-database : (index_key : Bytes → ℕ) (old new : Database C D) (list : List Operation) → IsLeft members bytes hash shape old new → IsDatabase members bytes hash shape index_key old list → IsDatabase members bytes hash shape index_key new list
+  left-database index_key old new list left is =
+      subst (λ (x : Database C D). IsDatabase members bytes hash shape index_key x list) (sym left.rest)
       (record {
         told = subst (λ items. IsSome items) (sym ((left.read).kept.items)) is.told;
-        lent = lent-then members shape bytes hash (capped 4) old.entries old.log new.log list left.read is.lent;
+        lent = lent-then members shape bytes hash index_key old.entries old.log new.log list left.read is.lent;
         commitment = is.commitment;
         floor = is.floor;
         live = is.live;

@@ -26,8 +26,8 @@ All-one P x p = All-cons P x [] p (λ k d l. absurd (omega (arith, l)))
 
 module _ {C D : Type 0} (members : store.Ghosts C) (bytes : D → Bytes) (hash : Bytes → Bytes) (shape : Shape) where
   -- the database is a batch that does nothing
-  pub rest-made : (db : Database C D) (list : List Operation) → IsDatabase members bytes hash shape db list → IsMade bytes hash shape (at_rest db) (begun_on list) list
-  rest-made db list is =
+  pub rest-made : (index_key : Bytes → ℕ) (db : Database C D) (list : List Operation) → IsDatabase members bytes hash shape index_key db list → IsMade bytes hash shape (at_rest db) (begun_on list) list
+  rest-made index_key db list is =
       let size : db.commitment.size ≡ length list = ap (λ c. c.size) is.commitment in
       record {
         bounds = record { base = is.commitment; db = is.commitment; tip = is.commitment; ancestors = refl };

@@ -99,10 +99,10 @@ fresh-unordered : All IsUnordered fresh
 fresh-unordered = All-cons IsUnordered (commit None 0) [] (tt, omega arith) (All-nil IsUnordered)
 
 -- an empty index, a log of the fresh list and its commitment are a database of the fresh list
-pub fresh-stands : {C D : Type 0} (members : store.Ghosts C) (bytes : D → Bytes) (hash : Bytes → Bytes) (shape : Shape) (db : Database C D) (log : Log C D) (first : Commitment)
+pub fresh-stands : {C D : Type 0} (members : store.Ghosts C) (bytes : D → Bytes) (hash : Bytes → Bytes) (shape : Shape) (index_key : Bytes → ℕ) (db : Database C D) (log : Log C D) (first : Commitment)
     → db ≡ record { entries = []; log = log; commitment = first; floor = 0; live = 0; metadata = None }
-    → first ≡ record { size = 1; root = ops_root hash shape fresh } → IsSome (members.items log.store) → IsLog members shape bytes hash log (map spelling fresh) → IsDatabase members bytes hash shape db fresh
-fresh-stands members bytes hash shape db log first is committed told logged = subst (λ d. IsDatabase members bytes hash shape d fresh) (sym is) (record {
+    → first ≡ record { size = 1; root = ops_root hash shape fresh } → IsSome (members.items log.store) → IsLog members shape bytes hash log (map spelling fresh) → IsDatabase members bytes hash shape index_key db fresh
+fresh-stands members bytes hash shape index_key db log first is committed told logged = subst (λ d. IsDatabase members bytes hash shape index_key d fresh) (sym is) (record {
   told = told;
   lent = record { indexed = λ k. IsPermutation-refl []; logged = logged; unordered = fresh-unordered };
   commitment = committed;

@@ -8,7 +8,6 @@ use Rattle.qm_model.specs.Causes.{Grows}
 use Rattle.qm_model.specs.Operations.{Bytes, Operation, spelling}
 use Rattle.qm_model.specs.Batches.{Chain, IsOnChain}
 use Rattle.qm_model.specs.Trees.{Shape}
-use Rattle.qm_index.specs.Translated.{capped}
 use Rattle.qm_store.specs.declared.Store as store
 use Rattle.qm_store.specs.Log.{IsLog, HasGrown}
 use Rattle.qm_batch.specs.Changes.{Changes, LeadTo}
@@ -152,15 +151,15 @@ grown-told (Some xs) new more told grown = subst IsSome (sym grown) refl
 
 module _ {C D : Type 0} (members : store.Ghosts C) (bytes : D → Bytes) (hash : Bytes → Bytes) (shape : Shape) where
   -- a database that took what its list lacked of a batch's list stands for that
-  pub applied : (db next : Database C D) (batch : Made D) (list : List Operation) (chain : Chain) (tip : List Operation) (n : ℕ) (items : List Bytes) (changes : List Changes)
-      → IsDatabase members bytes hash shape db list → IsMade bytes hash shape batch chain tip → IsOnChain list chain → n ≡ db.commitment.size
+  pub applied : (index_key : Bytes → ℕ) (db next : Database C D) (batch : Made D) (list : List Operation) (chain : Chain) (tip : List Operation) (n : ℕ) (items : List Bytes) (changes : List Changes)
+      → IsDatabase members bytes hash shape index_key db list → IsMade bytes hash shape batch chain tip → IsOnChain list chain → n ≡ db.commitment.size
       → items ≡ map spelling (operations_in (unapplied n batch.layers)) → changes ≡ map (λ l. l.changes) (unapplied n batch.layers)
       → ((l : List Operation) → IsLog members shape bytes hash db.log (map spelling l) → IsLog members shape bytes hash next.log (map spelling l ++ items))
-      → ((l t : List Operation) → LeadTo changes l t → IsIndexed (capped 4) db.entries l → IsIndexed (capped 4) next.entries t)
+      → ((l t : List Operation) → LeadTo changes l t → IsIndexed index_key db.entries l → IsIndexed index_key next.entries t)
       → (next.commitment ≡ batch.bounds.tip) × (next.floor ≡ batch.bounds.inactivity_floor) × (next.live ≡ batch.live) × (next.metadata ≡ batch.metadata)
       → Appended members db.log.store next.log.store items
-      → IsDatabase members bytes hash shape next tip
-  applied db next batch list chain tip n items changes is made on at spelled done log index rest grown =
+      → IsDatabase members bytes hash shape index_key next tip
+  applied index_key db next batch list chain tip n items changes is made on at spelled done log index rest grown =
       let size : length list ≡ n = sym (at ∙ ap (λ k. k.size) is.commitment) in
       let lacked : IsLacked (unapplied n batch.layers) list tip = subst (λ m. IsLacked (unapplied m batch.layers) list tip) size
       (lacked-lists batch.layers tip (bases_of chain) list made.steps (Contains-later tip (bases_of chain) list (on_chain-base list chain made.linked on))) in

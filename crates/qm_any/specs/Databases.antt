@@ -9,7 +9,6 @@ use Rattle.qm_model.specs.Step.{step, unordered}
 use Rattle.qm_model.specs.Writes.{Write}
 use Rattle.qm_base.specs.Decode.{IsUnordered}
 use Rattle.qm_merkle.specs.Batches.{stops}
-use Rattle.qm_index.specs.Translated.{capped}
 use Rattle.qm_chain.specs.Bounds.{Bounds, IsBounds, is_at}
 use Rattle.qm_store.specs.declared.Store as store
 use Rattle.qm_store.specs.Log.{Log}
@@ -157,10 +156,10 @@ module _ {D : Type 0} (bytes : D → Bytes) (hash : Bytes → Bytes) (shape : Sh
     pub kept : chain.kept ≡ kept_by batch.keep above chain.base
 
 module _ {C D : Type 0} (members : store.Ghosts C) (bytes : D → Bytes) (hash : Bytes → Bytes) (shape : Shape) where
-  -- the database stands for this list, and its store tells its items
-  pub record IsDatabase (db : Database C D) (list : List Operation) : Type 0 where
+  -- the database, whose index has keys by these index keys, stands for this list, and its store tells its items
+  pub record IsDatabase (index_key : Bytes → ℕ) (db : Database C D) (list : List Operation) : Type 0 where
     pub told : IsSome (members.items db.log.store)
-    pub lent : IsLent members shape bytes hash (capped 4) db.entries db.log list
+    pub lent : IsLent members shape bytes hash index_key db.entries db.log list
     pub commitment : db.commitment ≡ list_commitment hash shape list
     pub floor : db.floor ≡ floor list
     pub live : db.live ≡ length (live list)

@@ -133,13 +133,13 @@ impl<F: Family, D: Digest, K: Key, V: VariableValue> UnmerkleizedBatch<F, D, Uno
     /// is read where the database is at a state that the batch's parent knows; the parent of a batch that was begun on a
     /// database is that database as it was. A key that no kept step touches takes one read of the log for each location
     /// in its bucket, at most.
-    pub fn get<C: Store, H: Hasher<Digest = D> + Drop>(
+    pub fn get<C: Store, I: qm_index::Unordered<Value = Location<F>>, H: Hasher<Digest = D> + Drop>(
         &self,
         alloc: Global,
         key: &K,
-        db: &mut Db<F, C, D, H, Unordered<K, V>>,
+        db: &mut Db<F, C, D, I, H, Unordered<K, V>>,
     ) -> Result<Option<V>, Error>
-        ensures value { (list : List Operation) (chain above : Chain) → IsDatabase C.Store D.bytes H.hash F.shape db.old list → IsBegun D.bytes H.hash F.shape self.now chain above → IsKnown list above chain.base
+        ensures value { (list : List Operation) (chain above : Chain) → IsDatabase C.Store D.bytes H.hash F.shape I.index_key db.old list → IsBegun D.bytes H.hash F.shape self.now chain above → IsKnown list above chain.base
             → IfOk result (λ v. option_map V.bytes v ≡ read_through chain.base self.now.writes (K.bytes key.now)) }
         ensures readable { OnOk result (knows self.now.parent.bounds db.old.commitment ≡ true) }
         ensures error { IfErr result (λ e. ((e ≡ Error.StaleRead) × (knows self.now.parent.bounds db.old.commitment ≡ false))
@@ -151,13 +151,17 @@ impl<F: Family, D: Digest, K: Key, V: VariableValue> UnmerkleizedBatch<F, D, Uno
     }
 
     /// The values of keys, in their order, as `get` reads them.
-    pub fn get_many<C: Store, H: Hasher<Digest = D> + Drop>(
+    pub fn get_many<
+        C: Store,
+        I: qm_index::Unordered<Value = Location<F>>,
+        H: Hasher<Digest = D> + Drop,
+    >(
         &self,
         alloc: Global,
         keys: &[K],
-        db: &mut Db<F, C, D, H, Unordered<K, V>>,
+        db: &mut Db<F, C, D, I, H, Unordered<K, V>>,
     ) -> Result<Vec<Option<V>>, Error>
-        ensures values { (list : List Operation) (chain above : Chain) → IsDatabase C.Store D.bytes H.hash F.shape db.old list → IsBegun D.bytes H.hash F.shape self.now chain above → IsKnown list above chain.base
+        ensures values { (list : List Operation) (chain above : Chain) → IsDatabase C.Store D.bytes H.hash F.shape I.index_key db.old list → IsBegun D.bytes H.hash F.shape self.now chain above → IsKnown list above chain.base
             → IfOk result (λ v. map (option_map V.bytes) v.items ≡ map (λ k. read_through chain.base self.now.writes (K.bytes k)) keys.now) }
         ensures readable { OnOk result (knows self.now.parent.bounds db.old.commitment ≡ true) }
         ensures error { IfErr result (λ e. ((e ≡ Error.StaleRead) × (knows self.now.parent.bounds db.old.commitment ≡ false))
@@ -173,19 +177,23 @@ impl<F: Family, D: Digest, K: Key, V: VariableValue> UnmerkleizedBatch<F, D, Uno
     /// then come the first spelling of more than 65,536 bytes, and a list of more than 2^62 operations. The batch is gone
     /// also where this is refused. k writes take k look-ups and k log k comparisons; each location that is walked over
     /// takes one read of the log, where no kept step has it; only the own operations are hashed.
-    pub fn merkleize<C: Store, H: Hasher<Digest = D> + Drop>(
+    pub fn merkleize<
+        C: Store,
+        I: qm_index::Unordered<Value = Location<F>>,
+        H: Hasher<Digest = D> + Drop,
+    >(
         self,
         alloc: Global,
-        db: &mut Db<F, C, D, H, Unordered<K, V>>,
+        db: &mut Db<F, C, D, I, H, Unordered<K, V>>,
         metadata: Option<V>,
         policy: &mut Proportional,
     ) -> Result<Rc<MerkleizedBatch<F, D, Unordered<K, V>>>, Error>
         ensures fits { OnOk result (is_on db.old.commitment self ≡ true) }
-        ensures made { (list : List Operation) (chain above : Chain) → IsDatabase C.Store D.bytes H.hash F.shape db.old list → IsBegun D.bytes H.hash F.shape self chain above → IsOnChain list chain
+        ensures made { (list : List Operation) (chain above : Chain) → IsDatabase C.Store D.bytes H.hash F.shape I.index_key db.old list → IsBegun D.bytes H.hash F.shape self chain above → IsOnChain list chain
             → IfOk result (λ b. IsMade D.bytes H.hash F.shape b.value chain (stepped chain.base self.writes (policy_view policy.old) (option_map V.bytes metadata))) }
-        ensures taken { (list : List Operation) (chain above : Chain) → IsDatabase C.Store D.bytes H.hash F.shape db.old list → IsBegun D.bytes H.hash F.shape self chain above → IsOnChain list chain
+        ensures taken { (list : List Operation) (chain above : Chain) → IsDatabase C.Store D.bytes H.hash F.shape I.index_key db.old list → IsBegun D.bytes H.hash F.shape self chain above → IsOnChain list chain
             → OnOk result (IsTaken chain.base (stepped chain.base self.writes (policy_view policy.old) (option_map V.bytes metadata))) }
-        ensures refused { (list : List Operation) (chain above : Chain) → IsDatabase C.Store D.bytes H.hash F.shape db.old list → IsBegun D.bytes H.hash F.shape self chain above → IsOnChain list chain
+        ensures refused { (list : List Operation) (chain above : Chain) → IsDatabase C.Store D.bytes H.hash F.shape I.index_key db.old list → IsBegun D.bytes H.hash F.shape self chain above → IsOnChain list chain
             → IfErr result (λ e. IsRefused chain.base (stepped chain.base self.writes (policy_view policy.old) (option_map V.bytes metadata)) e ⊎ IsReadError C.Store db.old.log db.new.log e) }
         ensures stale { IfErr result (λ e. e ≡ Error.StaleBatch → is_on db.old.commitment self ≡ false) }
         ensures order { IfErr result (λ e. e ≢ Error.Memory → e ≢ Error.StaleBatch → is_on db.old.commitment self ≡ true) }
@@ -267,13 +275,13 @@ impl<F: Family, D: Digest, K: Key, V: VariableValue> MerkleizedBatch<F, D, Unord
 
     /// The value of a key on the list that the batch makes. It is read where the database is at a state that the batch
     /// knows: its tip, its boundary, or a kept ancestor's tip.
-    pub fn get<C: Store, H: Hasher<Digest = D> + Drop>(
+    pub fn get<C: Store, I: qm_index::Unordered<Value = Location<F>>, H: Hasher<Digest = D> + Drop>(
         &self,
         alloc: Global,
         key: &K,
-        db: &mut Db<F, C, D, H, Unordered<K, V>>,
+        db: &mut Db<F, C, D, I, H, Unordered<K, V>>,
     ) -> Result<Option<V>, Error>
-        ensures value { (list : List Operation) (chain : Chain) (tip : List Operation) → IsDatabase C.Store D.bytes H.hash F.shape db.old list → IsMade D.bytes H.hash F.shape self.now chain tip → IsKnown list chain tip
+        ensures value { (list : List Operation) (chain : Chain) (tip : List Operation) → IsDatabase C.Store D.bytes H.hash F.shape I.index_key db.old list → IsMade D.bytes H.hash F.shape self.now chain tip → IsKnown list chain tip
             → IfOk result (λ v. option_map V.bytes v ≡ lives.value_of tip (K.bytes key.now)) }
         ensures readable { OnOk result (knows self.now.bounds db.old.commitment ≡ true) }
         ensures error { IfErr result (λ e. ((e ≡ Error.StaleRead) × (knows self.now.bounds db.old.commitment ≡ false))
@@ -285,13 +293,17 @@ impl<F: Family, D: Digest, K: Key, V: VariableValue> MerkleizedBatch<F, D, Unord
     }
 
     /// The values of keys, in their order, as `get` reads them.
-    pub fn get_many<C: Store, H: Hasher<Digest = D> + Drop>(
+    pub fn get_many<
+        C: Store,
+        I: qm_index::Unordered<Value = Location<F>>,
+        H: Hasher<Digest = D> + Drop,
+    >(
         &self,
         alloc: Global,
         keys: &[K],
-        db: &mut Db<F, C, D, H, Unordered<K, V>>,
+        db: &mut Db<F, C, D, I, H, Unordered<K, V>>,
     ) -> Result<Vec<Option<V>>, Error>
-        ensures values { (list : List Operation) (chain : Chain) (tip : List Operation) → IsDatabase C.Store D.bytes H.hash F.shape db.old list → IsMade D.bytes H.hash F.shape self.now chain tip → IsKnown list chain tip
+        ensures values { (list : List Operation) (chain : Chain) (tip : List Operation) → IsDatabase C.Store D.bytes H.hash F.shape I.index_key db.old list → IsMade D.bytes H.hash F.shape self.now chain tip → IsKnown list chain tip
             → IfOk result (λ v. map (option_map V.bytes) v.items ≡ map (λ k. lives.value_of tip (K.bytes k)) keys.now) }
         ensures readable { OnOk result (knows self.now.bounds db.old.commitment ≡ true) }
         ensures error { IfErr result (λ e. ((e ≡ Error.StaleRead) × (knows self.now.bounds db.old.commitment ≡ false))
@@ -303,12 +315,12 @@ impl<F: Family, D: Digest, K: Key, V: VariableValue> MerkleizedBatch<F, D, Unord
     }
 
     /// The proof of the batch's own operations in the list that it makes. It verifies against the batch's root.
-    pub fn proof<C: Store, H: Hasher<Digest = D> + Drop>(
-        &self,
-        alloc: Global,
-        db: &Db<F, C, D, H, Unordered<K, V>>,
-    ) -> Result<Proof<D>, Error>
-        ensures proof { (list : List Operation) (chain : Chain) (tip : List Operation) → IsDatabase C.Store D.bytes H.hash F.shape db.now list → IsMade D.bytes H.hash F.shape self.now chain tip → IsKnown list chain tip
+    pub fn proof<
+        C: Store,
+        I: qm_index::Unordered<Value = Location<F>>,
+        H: Hasher<Digest = D> + Drop,
+    >(&self, alloc: Global, db: &Db<F, C, D, I, H, Unordered<K, V>>) -> Result<Proof<D>, Error>
+        ensures proof { (list : List Operation) (chain : Chain) (tip : List Operation) → IsDatabase C.Store D.bytes H.hash F.shape I.index_key db.now list → IsMade D.bytes H.hash F.shape self.now chain tip → IsKnown list chain tip
             → IfOk result (λ p. proof_view D.bytes p ≡ ops_proof H.hash F.shape tip (length chain.base) (length tip)) }
         ensures readable { OnOk result (knows self.now.bounds db.now.commitment ≡ true) }
         ensures stale { IfErr result (λ e. e ≡ Error.StaleRead → knows self.now.bounds db.now.commitment ≡ false) }
@@ -316,7 +328,7 @@ impl<F: Family, D: Digest, K: Key, V: VariableValue> MerkleizedBatch<F, D, Unord
         ensures order { IfErr result (λ e. e ≢ Error.Memory → e ≢ Error.StaleRead → knows self.now.bounds db.now.commitment ≡ true) }
         ensures held { OnOk result (first_lacked (held_at F.shape self.now.tree db.now.log.tree) (needed_positions F.shape self.now.bounds.tip.size self.now.bounds.base.size self.now.bounds.tip.size) ≡ None) }
         ensures lacked { IfErr result (λ e. e ≢ Error.StaleRead → IsLacked (held_at F.shape self.now.tree db.now.log.tree) (needed_positions F.shape self.now.bounds.tip.size self.now.bounds.base.size self.now.bounds.tip.size) e) }
-        ensures whole { C.start db.now.log.store ≡ 0 → (list : List Operation) (chain : Chain) (tip : List Operation) → IsDatabase C.Store D.bytes H.hash F.shape db.now list → IsMade D.bytes H.hash F.shape self.now chain tip → IsKnown list chain tip
+        ensures whole { C.start db.now.log.store ≡ 0 → (list : List Operation) (chain : Chain) (tip : List Operation) → IsDatabase C.Store D.bytes H.hash F.shape I.index_key db.now list → IsMade D.bytes H.hash F.shape self.now chain tip → IsKnown list chain tip
             → IfErr result (λ e. e ≡ Error.Memory) }
     {
         self.known(db.commitment())?;
@@ -324,12 +336,12 @@ impl<F: Family, D: Digest, K: Key, V: VariableValue> MerkleizedBatch<F, D, Unord
     }
 
     /// The digests of the peaks over the list that the batch was made from, from left to right.
-    pub fn pinned_nodes<C: Store, H: Hasher<Digest = D> + Drop>(
-        &self,
-        alloc: Global,
-        db: &Db<F, C, D, H, Unordered<K, V>>,
-    ) -> Result<Vec<D>, Error>
-        ensures pins { (list : List Operation) (chain : Chain) (tip : List Operation) → IsDatabase C.Store D.bytes H.hash F.shape db.now list → IsMade D.bytes H.hash F.shape self.now chain tip → IsKnown list chain tip
+    pub fn pinned_nodes<
+        C: Store,
+        I: qm_index::Unordered<Value = Location<F>>,
+        H: Hasher<Digest = D> + Drop,
+    >(&self, alloc: Global, db: &Db<F, C, D, I, H, Unordered<K, V>>) -> Result<Vec<D>, Error>
+        ensures pins { (list : List Operation) (chain : Chain) (tip : List Operation) → IsDatabase C.Store D.bytes H.hash F.shape I.index_key db.now list → IsMade D.bytes H.hash F.shape self.now chain tip → IsKnown list chain tip
             → IfOk result (λ pins. map D.bytes pins.items ≡ pins_at H.hash F.shape tip (length chain.base)) }
         ensures readable { OnOk result (knows self.now.bounds db.now.commitment ≡ true) }
         ensures stale { IfErr result (λ e. e ≡ Error.StaleRead → knows self.now.bounds db.now.commitment ≡ false) }
@@ -337,7 +349,7 @@ impl<F: Family, D: Digest, K: Key, V: VariableValue> MerkleizedBatch<F, D, Unord
         ensures order { IfErr result (λ e. e ≢ Error.Memory → e ≢ Error.StaleRead → knows self.now.bounds db.now.commitment ≡ true) }
         ensures held { OnOk result (first_lacked (held_at F.shape self.now.tree db.now.log.tree) (trees.peak_positions F.shape self.now.bounds.base.size) ≡ None) }
         ensures lacked { IfErr result (λ e. e ≢ Error.StaleRead → IsLacked (held_at F.shape self.now.tree db.now.log.tree) (trees.peak_positions F.shape self.now.bounds.base.size) e) }
-        ensures whole { C.start db.now.log.store ≡ 0 → (list : List Operation) (chain : Chain) (tip : List Operation) → IsDatabase C.Store D.bytes H.hash F.shape db.now list → IsMade D.bytes H.hash F.shape self.now chain tip → IsKnown list chain tip
+        ensures whole { C.start db.now.log.store ≡ 0 → (list : List Operation) (chain : Chain) (tip : List Operation) → IsDatabase C.Store D.bytes H.hash F.shape I.index_key db.now list → IsMade D.bytes H.hash F.shape self.now chain tip → IsKnown list chain tip
             → IfErr result (λ e. e ≡ Error.Memory) }
     {
         self.known(db.commitment())?;
@@ -503,9 +515,17 @@ impl<F: Family, D: Digest, K: Key, V: VariableValue> MerkleizedBatch<F, D, Unord
 
 // The list that writes make on a batch, at a database that is at the child's boundary or one of its kept tips.
 #[allow(clippy::too_many_arguments)]
-fn made_on<F: Family, C: Store, D: Digest, H: Hasher<Digest = D> + Drop, K: Key, V: VariableValue>(
+fn made_on<
+    F: Family,
+    C: Store,
+    D: Digest,
+    I: qm_index::Unordered<Value = Location<F>>,
+    H: Hasher<Digest = D> + Drop,
+    K: Key,
+    V: VariableValue,
+>(
     alloc: Global,
-    db: &mut Db<F, C, D, H, Unordered<K, V>>,
+    db: &mut Db<F, C, D, I, H, Unordered<K, V>>,
     parent: &MerkleizedBatch<F, D, Unordered<K, V>>,
     keep: usize,
     boundary: Commitment<D>,
@@ -517,11 +537,11 @@ fn made_on<F: Family, C: Store, D: Digest, H: Hasher<Digest = D> + Drop, K: Key,
     requires boundary { commitment_view D.bytes boundary ≡ child_boundary keep parent.now.bounds }
     requires tips { map (commitment_view D.bytes) tips.items ≡ child_tips keep parent.now.bounds }
     requires on { is_at db.old.commitment (child_boundary keep parent.now.bounds) (child_tips keep parent.now.bounds) ≡ true }
-    ensures made { (list : List Operation) (chain above : Chain) → IsDatabase C.Store D.bytes H.hash F.shape db.old list → IsMade D.bytes H.hash F.shape parent.now above chain.base → chain.kept ≡ kept_by keep above chain.base → IsOnChain list chain
+    ensures made { (list : List Operation) (chain above : Chain) → IsDatabase C.Store D.bytes H.hash F.shape I.index_key db.old list → IsMade D.bytes H.hash F.shape parent.now above chain.base → chain.kept ≡ kept_by keep above chain.base → IsOnChain list chain
         → IfOk result (λ b. IsMade D.bytes H.hash F.shape b.value chain (stepped chain.base (write_views K.bytes V.bytes writes.now) proportional (option_map V.bytes metadata))) }
-    ensures taken { (list : List Operation) (chain above : Chain) → IsDatabase C.Store D.bytes H.hash F.shape db.old list → IsMade D.bytes H.hash F.shape parent.now above chain.base → chain.kept ≡ kept_by keep above chain.base → IsOnChain list chain
+    ensures taken { (list : List Operation) (chain above : Chain) → IsDatabase C.Store D.bytes H.hash F.shape I.index_key db.old list → IsMade D.bytes H.hash F.shape parent.now above chain.base → chain.kept ≡ kept_by keep above chain.base → IsOnChain list chain
         → OnOk result (IsTaken chain.base (stepped chain.base (write_views K.bytes V.bytes writes.now) proportional (option_map V.bytes metadata))) }
-    ensures refused { (list : List Operation) (chain above : Chain) → IsDatabase C.Store D.bytes H.hash F.shape db.old list → IsMade D.bytes H.hash F.shape parent.now above chain.base → chain.kept ≡ kept_by keep above chain.base → IsOnChain list chain
+    ensures refused { (list : List Operation) (chain above : Chain) → IsDatabase C.Store D.bytes H.hash F.shape I.index_key db.old list → IsMade D.bytes H.hash F.shape parent.now above chain.base → chain.kept ≡ kept_by keep above chain.base → IsOnChain list chain
         → IfErr result (λ e. IsRefused chain.base (stepped chain.base (write_views K.bytes V.bytes writes.now) proportional (option_map V.bytes metadata)) e ⊎ IsReadError C.Store db.old.log db.new.log e) }
     ensures never { IfErr result (λ e. e ≢ Error.StaleBatch) }
     ensures cause { IfErr result (λ e. e ≡ Error.Journal JournalError.Store → Rose (C.faults db.old.log.store) (C.faults db.new.log.store)) }
@@ -535,20 +555,28 @@ fn made_on<F: Family, C: Store, D: Digest, H: Hasher<Digest = D> + Drop, K: Key,
 }
 
 // What writes make of the list of a batch, and its spellings, where none is too long and the list is not.
-fn planned<F: Family, C: Store, D: Digest, H: Hasher<Digest = D> + Drop, K: Key, V: VariableValue>(
+fn planned<
+    F: Family,
+    C: Store,
+    D: Digest,
+    I: qm_index::Unordered<Value = Location<F>>,
+    H: Hasher<Digest = D> + Drop,
+    K: Key,
+    V: VariableValue,
+>(
     alloc: Global,
-    db: &mut Db<F, C, D, H, Unordered<K, V>>,
+    db: &mut Db<F, C, D, I, H, Unordered<K, V>>,
     parent: &MerkleizedBatch<F, D, Unordered<K, V>>,
     writes: &[Write<K, V>],
     metadata: Option<V>,
 ) -> Result<(Plan<F, K, V>, Vec<Vec<u8>>), Error>
-    ensures plan { (list base : List Operation) → IsDatabase C.Store D.bytes H.hash F.shape db.old list → IsBase parent.now.layers list base → parent.now.bounds.tip.size ≡ length base → parent.now.bounds.inactivity_floor ≡ lives.floor base → parent.now.live ≡ length (lives.live base)
+    ensures plan { (list base : List Operation) → IsDatabase C.Store D.bytes H.hash F.shape I.index_key db.old list → IsBase parent.now.layers list base → parent.now.bounds.tip.size ≡ length base → parent.now.bounds.inactivity_floor ≡ lives.floor base → parent.now.live ≡ length (lives.live base)
         → IfOk result (λ made. IsPlan made.0 base (stepped base (write_views K.bytes V.bytes writes.now) proportional (option_map V.bytes metadata))) }
     ensures items { IfOk result (λ made. map (λ v. v.items) made.1.items ≡ map spelling (made.0).operations) }
     ensures room { IfOk result (λ made. parent.now.bounds.tip.size + length made.1.items ≤ 2 ^ 62) }
     ensures short { IfOk result (λ made. too_long (map (λ v. v.items) made.1.items) ≡ None) }
     ensures live { IfOk result (λ made. (made.0).live ≤ parent.now.bounds.tip.size + length made.1.items) }
-    ensures refused { (list base : List Operation) → IsDatabase C.Store D.bytes H.hash F.shape db.old list → IsBase parent.now.layers list base → parent.now.bounds.tip.size ≡ length base → parent.now.bounds.inactivity_floor ≡ lives.floor base → parent.now.live ≡ length (lives.live base)
+    ensures refused { (list base : List Operation) → IsDatabase C.Store D.bytes H.hash F.shape I.index_key db.old list → IsBase parent.now.layers list base → parent.now.bounds.tip.size ≡ length base → parent.now.bounds.inactivity_floor ≡ lives.floor base → parent.now.live ≡ length (lives.live base)
         → IfErr result (λ e. IsRefused base (stepped base (write_views K.bytes V.bytes writes.now) proportional (option_map V.bytes metadata)) e ⊎ IsReadError C.Store db.old.log db.new.log e) }
     ensures never { IfErr result (λ e. e ≢ Error.StaleBatch) }
     ensures cause { IfErr result (λ e. e ≡ Error.Journal JournalError.Store → Rose (C.faults db.old.log.store) (C.faults db.new.log.store)) }

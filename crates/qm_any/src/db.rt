@@ -12,7 +12,6 @@ ghost use Rattle.qm_model.specs.Trees.{ops_root};
 ghost use Rattle.qm_model.specs.Writes.{read_through, write_of, last_writes};
 ghost use Rattle.qm_merkle.specs.Batches.{stops};
 ghost use Rattle.qm_merkle.specs.Proofs.{proof_view, first_lacked, needed_positions};
-ghost use Rattle.qm_index.specs.Translated.{capped};
 ghost use Rattle.qm_store.specs.Log as logs;
 ghost use Rattle.qm_store.specs.Log.{IsLacked};
 ghost use Rattle.qm_chain.specs.Bounds.{commitment_view, is_at};
@@ -34,8 +33,6 @@ use qm_base::{
     VariableValue,
 };
 use qm_batch::{Plan, Write, apply_diffs, plain, read_key};
-use qm_index::FourCap;
-use qm_index::unordered::Index;
 use qm_merkle::{Family, Proof};
 use qm_store::{AuthLog, LogGiven, LogRefusal, Store};
 use std::alloc::{AllocError, Global};
@@ -44,10 +41,17 @@ use std::rc::Rc;
 
 /// A database over a log of its operations and an index of where keys are live: one value for each live key, a floor
 /// below which no live update stands, and a commitment that tells its list from others. It keeps no operations in memory:
-/// a read goes from the index to the log. The index knows the first four bytes of a key.
+/// a read goes from the index to the log. What the index knows of a key its translator makes.
 #[derive(Drop)]
-pub struct Db<F: Family, C: Store, D: Digest, H, U: Update> {
-    index: Index<FourCap, Location<F>>,
+pub struct Db<
+    F: Family,
+    C: Store,
+    D: Digest,
+    I: qm_index::Unordered<Value = Location<F>>,
+    H,
+    U: Update,
+> {
+    index: I,
     pub(crate) log: AuthLog<F, C, D, H>,
     commitment: Commitment<D>,
     floor: Location<F>,
@@ -55,28 +59,37 @@ pub struct Db<F: Family, C: Store, D: Digest, H, U: Update> {
     metadata: Option<U::Value>,
 }
 
-impl<F: Family, C: Store, D: Digest, H, U: Update> Model for Db<F, C, D, H, U> {
+impl<
+    F: Family,
+    C: Store,
+    D: Digest,
+    I: qm_index::Unordered<Value = Location<F>>,
+    H,
+    U: Update,
+> Model for Db<F, C, D, I, H, U> {
     ghost use Rattle.std.specs.Prelude.{◌≡◌, ◌≤◌, option_map};
     ghost use Rattle.qm_chain.specs.Bounds.{commitment_view};
     ghost use Rattle.qm_any.specs.Databases.{Database};
 
     ghost Value = { Database C D };
 
-    ghost view = { λ db. record { entries = db.index; log = db.log; commitment = commitment_view D.bytes db.commitment; floor = db.floor; live = db.live; metadata = option_map U.Value.bytes db.metadata } };
+    ghost view = { λ db. record { entries = I.entries db.index; log = db.log; commitment = commitment_view D.bytes db.commitment; floor = db.floor; live = db.live; metadata = option_map U.Value.bytes db.metadata } };
 
     ghost invariant = { λ db. (db.commitment.size ≡ db.log.tree.leaves) × (C.end db.log.store ≡ db.log.tree.leaves) × (db.live ≤ db.commitment.size) };
 }
 
-impl<F: Family, C: Store, D: Digest, H: Hasher<Digest = D> + Drop, K: Key, V: VariableValue> Db<
-    F,
-    C,
-    D,
-    H,
-    Unordered<K, V>,
-> {
+impl<
+    F: Family,
+    C: Store,
+    D: Digest,
+    I: qm_index::Unordered<Value = Location<F>>,
+    H: Hasher<Digest = D> + Drop,
+    K: Key,
+    V: VariableValue,
+> Db<F, C, D, I, H, Unordered<K, V>> {
     // The database of an index, a log and what these stand for.
     pub(crate) fn of_parts(
-        index: Index<FourCap, Location<F>>,
+        index: I,
         log: AuthLog<F, C, D, H>,
         commitment: Commitment<D>,
         floor: Location<F>,
@@ -86,7 +99,7 @@ impl<F: Family, C: Store, D: Digest, H: Hasher<Digest = D> + Drop, K: Key, V: Va
         requires size { commitment.size ≡ log.tree.leaves }
         requires end { C.end log.store ≡ log.tree.leaves }
         requires live { live ≤ commitment.size }
-        ensures { result ≡ record { entries = index; log = log; commitment = commitment_view D.bytes commitment; floor = floor; live = live; metadata = option_map V.bytes metadata } }
+        ensures { result ≡ record { entries = I.entries index; log = log; commitment = commitment_view D.bytes commitment; floor = floor; live = live; metadata = option_map V.bytes metadata } }
     {
         Db {
             index,
@@ -143,8 +156,8 @@ impl<F: Family, C: Store, D: Digest, H: Hasher<Digest = D> + Drop, K: Key, V: Va
         alloc: Global,
         batch: &MerkleizedBatch<F, D, Unordered<K, V>>,
     ) -> Result<Self, Refusal<Self, C>>
-        ensures stands { (list : List Operation) (chain : Chain) (tip : List Operation) → IsDatabase C.Store D.bytes H.hash F.shape self list → IsMade D.bytes H.hash F.shape batch.now chain tip → IsOnChain list chain
-            → IfOk result (λ next. IsDatabase C.Store D.bytes H.hash F.shape next tip) }
+        ensures stands { (list : List Operation) (chain : Chain) (tip : List Operation) → IsDatabase C.Store D.bytes H.hash F.shape I.index_key self list → IsMade D.bytes H.hash F.shape batch.now chain tip → IsOnChain list chain
+            → IfOk result (λ next. IsDatabase C.Store D.bytes H.hash F.shape I.index_key next tip) }
         ensures fits { OnOk result (is_at self.commitment batch.now.bounds.db batch.now.bounds.ancestors ≡ true) }
         ensures grown { (chain : Chain) (tip : List Operation) → IsMade D.bytes H.hash F.shape batch.now chain tip → IfOk result (λ next. Appended C.Store self.log.store next.log.store (map spelling (drop self.commitment.size tip))) }
         ensures later { IfOk result (λ next. C.faults self.log.store ≤ C.faults next.log.store) }
@@ -170,7 +183,7 @@ impl<F: Family, C: Store, D: Digest, H: Hasher<Digest = D> + Drop, K: Key, V: Va
         requires few { lacking.tip.size ≤ 2 ^ 62 }
         requires live { lacking.live ≤ lacking.tip.size }
         ensures log { IfOk result (λ next. (list : List Operation) → logs.IsLog C.Store F.shape D.bytes H.hash self.log (map spelling list) → logs.IsLog C.Store F.shape D.bytes H.hash next.log (map spelling list ++ map (λ v. v.items) lacking.items.items)) }
-        ensures index { IfOk result (λ next. (list tip : List Operation) → LeadTo (map (λ d. changes_view K.bytes V.bytes d.value) lacking.diffs.items) list tip → IsIndexed (capped 4) self.entries list → IsIndexed (capped 4) next.entries tip) }
+        ensures index { IfOk result (λ next. (list tip : List Operation) → LeadTo (map (λ d. changes_view K.bytes V.bytes d.value) lacking.diffs.items) list tip → IsIndexed I.index_key self.entries list → IsIndexed I.index_key next.entries tip) }
         ensures rest { IfOk result (λ next. (next.commitment ≡ commitment_view D.bytes lacking.tip) × (next.floor ≡ lacking.floor) × (next.live ≡ lacking.live) × (next.metadata ≡ option_map V.bytes lacking.metadata)) }
         ensures grown { IfOk result (λ next. Appended C.Store self.log.store next.log.store (map (λ v. v.items) lacking.items.items)) }
         ensures later { IfOk result (λ next. C.faults self.log.store ≤ C.faults next.log.store) }
@@ -198,9 +211,9 @@ impl<F: Family, C: Store, D: Digest, H: Hasher<Digest = D> + Drop, K: Key, V: Va
 
     /// The value of a key, if it is live. It takes one read of the log for each location in the key's bucket, at most.
     pub fn get(&mut self, alloc: Global, key: &K) -> Result<Option<V>, Error>
-        ensures value { (list : List Operation) → IsDatabase C.Store D.bytes H.hash F.shape self.old list → IfOk result (λ v. option_map V.bytes v ≡ lives.value_of list (K.bytes key.now)) }
+        ensures value { (list : List Operation) → IsDatabase C.Store D.bytes H.hash F.shape I.index_key self.old list → IfOk result (λ v. option_map V.bytes v ≡ lives.value_of list (K.bytes key.now)) }
         ensures error { IfErr result (IsReadError C.Store self.old.log self.new.log) }
-        ensures whole { (list : List Operation) → IsDatabase C.Store D.bytes H.hash F.shape self.old list → NoneBelow self.old.log.tree.start list → IfErr result (λ e. (n : ℕ) → e ≢ Error.Journal (JournalError.ItemPruned n)) }
+        ensures whole { (list : List Operation) → IsDatabase C.Store D.bytes H.hash F.shape I.index_key self.old list → NoneBelow self.old.log.tree.start list → IfErr result (λ e. (n : ℕ) → e ≢ Error.Journal (JournalError.ItemPruned n)) }
         ensures left { IsLeft C.Store D.bytes H.hash F.shape self.old self.new }
     {
         self.read_one(alloc, &Vec::new(alloc), &Vec::new(alloc), key)
@@ -208,7 +221,7 @@ impl<F: Family, C: Store, D: Digest, H: Hasher<Digest = D> + Drop, K: Key, V: Va
 
     /// The values of keys, in their order, if they are live.
     pub fn get_many(&mut self, alloc: Global, keys: &[K]) -> Result<Vec<Option<V>>, Error>
-        ensures values { (list : List Operation) → IsDatabase C.Store D.bytes H.hash F.shape self.old list → IfOk result (λ v. map (option_map V.bytes) v.items ≡ map (λ k. lives.value_of list (K.bytes k)) keys.now) }
+        ensures values { (list : List Operation) → IsDatabase C.Store D.bytes H.hash F.shape I.index_key self.old list → IfOk result (λ v. map (option_map V.bytes) v.items ≡ map (λ k. lives.value_of list (K.bytes k)) keys.now) }
         ensures error { IfErr result (IsReadError C.Store self.old.log self.new.log) }
         ensures left { IsLeft C.Store D.bytes H.hash F.shape self.old self.new }
     {
@@ -223,10 +236,10 @@ impl<F: Family, C: Store, D: Digest, H: Hasher<Digest = D> + Drop, K: Key, V: Va
         writes: &[Write<K, V>],
         key: &K,
     ) -> Result<Option<V>, Error>
-        ensures value { (list base : List Operation) → IsDatabase C.Store D.bytes H.hash F.shape self.old list → IsBase (map (λ l. l.value) steps.now) list base
+        ensures value { (list base : List Operation) → IsDatabase C.Store D.bytes H.hash F.shape I.index_key self.old list → IsBase (map (λ l. l.value) steps.now) list base
             → IfOk result (λ v. option_map V.bytes v ≡ read_through base (write_views K.bytes V.bytes writes.now) (K.bytes key.now)) }
         ensures error { IfErr result (IsReadError C.Store self.old.log self.new.log) }
-        ensures whole { (list : List Operation) → IsDatabase C.Store D.bytes H.hash F.shape self.old list → NoneBelow self.old.log.tree.start list → IfErr result (λ e. (n : ℕ) → e ≢ Error.Journal (JournalError.ItemPruned n)) }
+        ensures whole { (list : List Operation) → IsDatabase C.Store D.bytes H.hash F.shape I.index_key self.old list → NoneBelow self.old.log.tree.start list → IfErr result (λ e. (n : ℕ) → e ≢ Error.Journal (JournalError.ItemPruned n)) }
         ensures left { IsLeft C.Store D.bytes H.hash F.shape self.old self.new }
     {
         if let Some(write) = last_write(writes, key) {
@@ -246,7 +259,7 @@ impl<F: Family, C: Store, D: Digest, H: Hasher<Digest = D> + Drop, K: Key, V: Va
         writes: &[Write<K, V>],
         keys: &[K],
     ) -> Result<Vec<Option<V>>, Error>
-        ensures values { (list base : List Operation) → IsDatabase C.Store D.bytes H.hash F.shape self.old list → IsBase (map (λ l. l.value) steps.now) list base
+        ensures values { (list base : List Operation) → IsDatabase C.Store D.bytes H.hash F.shape I.index_key self.old list → IsBase (map (λ l. l.value) steps.now) list base
             → IfOk result (λ v. map (option_map V.bytes) v.items ≡ map (λ k. read_through base (write_views K.bytes V.bytes writes.now) (K.bytes k)) keys.now) }
         ensures error { IfErr result (IsReadError C.Store self.old.log self.new.log) }
         ensures left { IsLeft C.Store D.bytes H.hash F.shape self.old self.new }
@@ -273,7 +286,7 @@ impl<F: Family, C: Store, D: Digest, H: Hasher<Digest = D> + Drop, K: Key, V: Va
     ) -> Result<Plan<F, K, V>, Error>
         requires size { size ≤ 2 ^ 62 }
         requires live { live ≤ size }
-        ensures plan { (list base : List Operation) → IsDatabase C.Store D.bytes H.hash F.shape self.old list → IsBase (map (λ l. l.value) steps.now) list base
+        ensures plan { (list base : List Operation) → IsDatabase C.Store D.bytes H.hash F.shape I.index_key self.old list → IsBase (map (λ l. l.value) steps.now) list base
             → size ≡ length base → floor ≡ lives.floor base → live ≡ length (lives.live base)
             → IfOk result (λ plan. IsPlan plan base (stepped base (write_views K.bytes V.bytes writes.now) proportional (option_map V.bytes metadata))) }
         ensures live { IfOk result (λ plan. plan.live ≤ size + length plan.operations) }
@@ -305,10 +318,10 @@ impl<F: Family, C: Store, D: Digest, H: Hasher<Digest = D> + Drop, K: Key, V: Va
         requires reach { Contains (stops tree.now.leaves tree.now.layers) self.old.commitment.size }
         ensures leaves { IfOk result (λ grown. grown.0.leaves ≡ tree.now.leaves + length items.now) }
         ensures stops { IfOk result (λ grown. stops grown.0.leaves grown.0.layers ≡ grown.0.leaves ∷ stops tree.now.leaves tree.now.layers) }
-        ensures tree { (list base tip : List Operation) (older : List (List Operation)) → IsDatabase C.Store D.bytes H.hash F.shape self.old list → IsKeptTree D.bytes H.hash F.shape tree.now base older
+        ensures tree { (list base tip : List Operation) (older : List (List Operation)) → IsDatabase C.Store D.bytes H.hash F.shape I.index_key self.old list → IsKeptTree D.bytes H.hash F.shape tree.now base older
             → Contains (base ∷ older) list → map spelling base ++ map (λ v. v.items) items.now ≡ map spelling tip
             → IfOk result (λ grown. IsKeptTree D.bytes H.hash F.shape grown.0 tip (base ∷ older)) }
-        ensures root { (list base tip : List Operation) (older : List (List Operation)) → IsDatabase C.Store D.bytes H.hash F.shape self.old list → IsKeptTree D.bytes H.hash F.shape tree.now base older
+        ensures root { (list base tip : List Operation) (older : List (List Operation)) → IsDatabase C.Store D.bytes H.hash F.shape I.index_key self.old list → IsKeptTree D.bytes H.hash F.shape tree.now base older
             → Contains (base ∷ older) list → map spelling base ++ map (λ v. v.items) items.now ≡ map spelling tip → floor ≡ lives.floor tip
             → IfOk result (λ grown. D.bytes grown.1 ≡ ops_root H.hash F.shape tip) }
         ensures same { self.new ≡ self.old }
@@ -326,12 +339,12 @@ impl<F: Family, C: Store, D: Digest, H: Hasher<Digest = D> + Drop, K: Key, V: Va
     ) -> Result<Proof<D>, Error>
         requires start { start ≤ tree.now.leaves }
         requires reach { Contains (stops tree.now.leaves tree.now.layers) self.now.commitment.size }
-        ensures value { (list tip : List Operation) (older : List (List Operation)) → IsDatabase C.Store D.bytes H.hash F.shape self.now list → IsKeptTree D.bytes H.hash F.shape tree.now tip older
+        ensures value { (list tip : List Operation) (older : List (List Operation)) → IsDatabase C.Store D.bytes H.hash F.shape I.index_key self.now list → IsKeptTree D.bytes H.hash F.shape tree.now tip older
             → Contains (tip ∷ older) list → floor ≡ lives.floor tip
             → IfOk result (λ p. proof_view D.bytes p ≡ ops_proof H.hash F.shape tip start (length tip)) }
         ensures held { OnOk result (first_lacked (held_at F.shape tree.now self.now.log.tree) (needed_positions F.shape tree.now.leaves start tree.now.leaves) ≡ None) }
         ensures cause { IfErr result (IsLacked (held_at F.shape tree.now self.now.log.tree) (needed_positions F.shape tree.now.leaves start tree.now.leaves)) }
-        ensures whole { C.start self.now.log.store ≡ 0 → (list tip : List Operation) (older : List (List Operation)) → IsDatabase C.Store D.bytes H.hash F.shape self.now list → IsKeptTree D.bytes H.hash F.shape tree.now tip older
+        ensures whole { C.start self.now.log.store ≡ 0 → (list tip : List Operation) (older : List (List Operation)) → IsDatabase C.Store D.bytes H.hash F.shape I.index_key self.now list → IsKeptTree D.bytes H.hash F.shape tree.now tip older
             → Contains (tip ∷ older) list → IfErr result (λ e. e ≡ Error.Memory) }
     {
         // The log is kept from where its store is.
@@ -348,11 +361,11 @@ impl<F: Family, C: Store, D: Digest, H: Hasher<Digest = D> + Drop, K: Key, V: Va
     ) -> Result<Vec<D>, Error>
         requires count { count ≤ tree.now.leaves }
         requires reach { Contains (stops tree.now.leaves tree.now.layers) self.now.commitment.size }
-        ensures value { (list tip : List Operation) (older : List (List Operation)) → IsDatabase C.Store D.bytes H.hash F.shape self.now list → IsKeptTree D.bytes H.hash F.shape tree.now tip older
+        ensures value { (list tip : List Operation) (older : List (List Operation)) → IsDatabase C.Store D.bytes H.hash F.shape I.index_key self.now list → IsKeptTree D.bytes H.hash F.shape tree.now tip older
             → Contains (tip ∷ older) list → IfOk result (λ pins. map D.bytes pins.items ≡ pins_at H.hash F.shape tip count) }
         ensures held { OnOk result (first_lacked (held_at F.shape tree.now self.now.log.tree) (trees.peak_positions F.shape count) ≡ None) }
         ensures cause { IfErr result (IsLacked (held_at F.shape tree.now self.now.log.tree) (trees.peak_positions F.shape count)) }
-        ensures whole { C.start self.now.log.store ≡ 0 → (list tip : List Operation) (older : List (List Operation)) → IsDatabase C.Store D.bytes H.hash F.shape self.now list → IsKeptTree D.bytes H.hash F.shape tree.now tip older
+        ensures whole { C.start self.now.log.store ≡ 0 → (list tip : List Operation) (older : List (List Operation)) → IsDatabase C.Store D.bytes H.hash F.shape I.index_key self.now list → IsKeptTree D.bytes H.hash F.shape tree.now tip older
             → Contains (tip ∷ older) list → IfErr result (λ e. e ≡ Error.Memory) }
     {
         // The log is kept from where its store is.
@@ -442,16 +455,24 @@ impl<F: Family, C: Store, D: Digest, H: Hasher<Digest = D> + Drop, K: Key, V: Va
 }
 
 // The database of a log that has what was lacking, where the index takes it too.
-fn indexed<F: Family, C: Store, D: Digest, H: Hasher<Digest = D> + Drop, K: Key, V: VariableValue>(
-    index: Index<FourCap, Location<F>>,
+fn indexed<
+    F: Family,
+    C: Store,
+    D: Digest,
+    I: qm_index::Unordered<Value = Location<F>>,
+    H: Hasher<Digest = D> + Drop,
+    K: Key,
+    V: VariableValue,
+>(
+    index: I,
     log: AuthLog<F, C, D, H>,
     lacking: Lacking<F, D, K, V>,
-) -> Result<Db<F, C, D, H, Unordered<K, V>>, Refusal<Db<F, C, D, H, Unordered<K, V>>, C>>
+) -> Result<Db<F, C, D, I, H, Unordered<K, V>>, Refusal<Db<F, C, D, I, H, Unordered<K, V>>, C>>
     requires size { lacking.tip.size ≡ log.tree.leaves }
     requires end { C.end log.store ≡ log.tree.leaves }
     requires live { lacking.live ≤ lacking.tip.size }
     ensures log { IfOk result (λ next. next.log ≡ log) }
-    ensures index { IfOk result (λ next. (list tip : List Operation) → LeadTo (map (λ d. changes_view K.bytes V.bytes d.value) lacking.diffs.items) list tip → IsIndexed (capped 4) index list → IsIndexed (capped 4) next.entries tip) }
+    ensures index { IfOk result (λ next. (list tip : List Operation) → LeadTo (map (λ d. changes_view K.bytes V.bytes d.value) lacking.diffs.items) list tip → IsIndexed I.index_key (I.entries index) list → IsIndexed I.index_key next.entries tip) }
     ensures rest { IfOk result (λ next. (next.commitment ≡ commitment_view D.bytes lacking.tip) × (next.floor ≡ lacking.floor) × (next.live ≡ lacking.live) × (next.metadata ≡ option_map V.bytes lacking.metadata)) }
     ensures back { IfErr result (λ r. (r.given ≡ Given.Store log.store) × (r.error ≡ Error.Memory)) }
 {
@@ -473,19 +494,27 @@ fn indexed<F: Family, C: Store, D: Digest, H: Hasher<Digest = D> + Drop, K: Key,
 }
 
 // What a database gives back where its log refused.
-fn given_back<F: Family, C: Store, D: Digest, H, K: Key, V: VariableValue>(
-    index: Index<FourCap, Location<F>>,
+fn given_back<
+    F: Family,
+    C: Store,
+    D: Digest,
+    I: qm_index::Unordered<Value = Location<F>>,
+    H,
+    K: Key,
+    V: VariableValue,
+>(
+    index: I,
     commitment: Commitment<D>,
     floor: Location<F>,
     live: u64,
     metadata: Option<V>,
     given: LogGiven<AuthLog<F, C, D, H>, C>,
-) -> Given<Db<F, C, D, H, Unordered<K, V>>, C>
+) -> Given<Db<F, C, D, I, H, Unordered<K, V>>, C>
     requires whole { (log : logs.Log C D) → given ≡ LogGiven.Log log → (commitment.size ≡ log.tree.leaves) × (C.end log.store ≡ log.tree.leaves) }
     requires live { live ≤ commitment.size }
     ensures store { store_given (λ db. db.log.store) result ≡ logs.store_given given }
     ensures back { (x : Database C D) → result ≡ Given.Database x → (given ≡ LogGiven.Log x.log)
-        × (x ≡ record { entries = index; log = x.log; commitment = commitment_view D.bytes commitment; floor = floor; live = live; metadata = option_map V.bytes metadata }) }
+        × (x ≡ record { entries = I.entries index; log = x.log; commitment = commitment_view D.bytes commitment; floor = floor; live = live; metadata = option_map V.bytes metadata }) }
 {
     match given {
         LogGiven::Log(log) => Given::Database(Db {

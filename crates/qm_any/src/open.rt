@@ -18,8 +18,7 @@ use qm_base::{
     Commitment, Corrupt, Digest, Error, Hasher, JournalError, Key, Location, Operation, Spelled,
     VariableValue,
 };
-use qm_index::FourCap;
-use qm_index::unordered::Index;
+use qm_index::Factory;
 use qm_merkle::{Family, StandardHasher};
 use qm_store::{AuthLog, LogGiven, Store};
 use std::alloc::{AllocError, Global};
@@ -65,15 +64,24 @@ fn root_of_one<H: Hasher>(hasher: &mut H, leaf: &H::Digest) -> H::Digest
 }
 
 /// Opens a database over an empty store: a fresh list, one commit without metadata and with floor 0, which it appends.
-/// A refusal gives back the store.
-pub fn init<F: Family, C: Store, D: Digest, H: Hasher<Digest = D> + Drop, K: Key, V: VariableValue>(
+/// The translator makes the index keys. A refusal gives back the store.
+pub fn init<
+    F: Family,
+    C: Store,
+    D: Digest,
+    I: Factory<Value = Location<F>>,
+    H: Hasher<Digest = D> + Drop,
+    K: Key,
+    V: VariableValue,
+>(
     alloc: Global,
     store: C,
     hasher: H,
-) -> Result<Db<F, C, D, H, Unordered<K, V>>, Refusal<Db<F, C, D, H, Unordered<K, V>>, C>>
+    translator: I::Translator,
+) -> Result<Db<F, C, D, I, H, Unordered<K, V>>, Refusal<Db<F, C, D, I, H, Unordered<K, V>>, C>>
     requires start { C.start store ≡ 0 }
     requires empty { C.end store ≡ 0 }
-    ensures stands { IfSome (C.items store) (λ _. IfOk result (λ db. IsDatabase C.Store D.bytes H.hash F.shape db fresh)) }
+    ensures stands { IfSome (C.items store) (λ _. IfOk result (λ db. IsDatabase C.Store D.bytes H.hash F.shape I.index_key db fresh)) }
     ensures grown { IfOk result (λ db. Appended C.Store store db.log.store (map spelling fresh)) }
     ensures later { IfOk result (λ db. C.faults store ≤ C.faults db.log.store) }
     ensures part { IfErr result (λ r. AppendedPart C.Store store (store_given (λ db. db.log.store) r.given) (map spelling fresh)) }
@@ -88,7 +96,7 @@ pub fn init<F: Family, C: Store, D: Digest, H: Hasher<Digest = D> + Drop, K: Key
         }),
         Ok(items) => match empty_log(alloc, store, hasher) {
             Err(refusal) => Err(refusal),
-            Ok(log) => begun(alloc, log, &items),
+            Ok(log) => begun(alloc, log, translator, &items),
         },
     }
 }
@@ -143,16 +151,25 @@ fn empty_log<F: Family, C: Store, D: Digest, H: Hasher<Digest = D> + Drop, X: Dr
 }
 
 // The database of a fresh list, whose spelling is put into an empty log.
-fn begun<F: Family, C: Store, D: Digest, H: Hasher<Digest = D> + Drop, K: Key, V: VariableValue>(
+fn begun<
+    F: Family,
+    C: Store,
+    D: Digest,
+    I: Factory<Value = Location<F>>,
+    H: Hasher<Digest = D> + Drop,
+    K: Key,
+    V: VariableValue,
+>(
     alloc: Global,
     log: AuthLog<F, C, D, H>,
+    translator: I::Translator,
     items: &[Vec<u8>],
-) -> Result<Db<F, C, D, H, Unordered<K, V>>, Refusal<Db<F, C, D, H, Unordered<K, V>>, C>>
+) -> Result<Db<F, C, D, I, H, Unordered<K, V>>, Refusal<Db<F, C, D, I, H, Unordered<K, V>>, C>>
     requires log { IsLog C.Store F.shape D.bytes H.hash log [] }
     requires end { C.end log.store ≡ 0 }
     requires items { map (λ v. v.items) items.now ≡ map spelling fresh }
     requires count { length items.now ≡ 1 }
-    ensures stands { IfSome (C.items log.store) (λ _. IfOk result (λ db. IsDatabase C.Store D.bytes H.hash F.shape db fresh)) }
+    ensures stands { IfSome (C.items log.store) (λ _. IfOk result (λ db. IsDatabase C.Store D.bytes H.hash F.shape I.index_key db fresh)) }
     ensures grown { IfOk result (λ db. Appended C.Store log.store db.log.store (map spelling fresh)) }
     ensures later { IfOk result (λ db. C.faults log.store ≤ C.faults db.log.store) }
     ensures part { IfErr result (λ r. AppendedPart C.Store log.store (store_given (λ db. db.log.store) r.given) (map spelling fresh)) }
@@ -170,7 +187,7 @@ fn begun<F: Family, C: Store, D: Digest, H: Hasher<Digest = D> + Drop, K: Key, V
     };
     match log.append_batch(alloc, items) {
         Ok(log) => {
-            let index = Index::new(alloc, FourCap);
+            let index = I::new(alloc, translator);
             let commitment = Commitment { size: 1, root };
             Ok(Db::of_parts(index, log, commitment, Location::new(0), 0, None))
         }

@@ -29,13 +29,15 @@ use qm_store::{AuthLog, Store};
 use std::alloc::{AllocError, Global};
 use std::num::NonZeroU64;
 
-impl<F: Family, C: Store, D: Digest, H: Hasher<Digest = D> + Drop, K: Key, V: VariableValue> Db<
-    F,
-    C,
-    D,
-    H,
-    Unordered<K, V>,
-> {
+impl<
+    F: Family,
+    C: Store,
+    D: Digest,
+    I: qm_index::Unordered<Value = Location<F>>,
+    H: Hasher<Digest = D> + Drop,
+    K: Key,
+    V: VariableValue,
+> Db<F, C, D, I, H, Unordered<K, V>> {
     /// The operations from `start` on, at most `max`, and their proof in the list of the first `size` operations, which
     /// has to end with a commit. It verifies against the root that the database had with these operations. Where the
     /// commit is no longer in the store it is refused with the size, as where none stands there.
@@ -46,14 +48,14 @@ impl<F: Family, C: Store, D: Digest, H: Hasher<Digest = D> + Drop, K: Key, V: Va
         start: Location<F>,
         max: NonZeroU64,
     ) -> Result<(Proof<D>, Vec<Entry<F, K, V>>), Error>
-        ensures offered { (list : List operations.Operation) → IsDatabase C.Store D.bytes H.hash F.shape self.old list → OnOk result (proof_refusal list size start ≡ None) }
+        ensures offered { (list : List operations.Operation) → IsDatabase C.Store D.bytes H.hash F.shape I.index_key self.old list → OnOk result (proof_refusal list size start ≡ None) }
         ensures kept { OnOk result (C.start self.old.log.store ≤ start) }
-        ensures proof { (list : List operations.Operation) → IsDatabase C.Store D.bytes H.hash F.shape self.old list
+        ensures proof { (list : List operations.Operation) → IsDatabase C.Store D.bytes H.hash F.shape I.index_key self.old list
             → IfOk result (λ shown. proof_view D.bytes shown.0 ≡ ops_proof H.hash F.shape (take size list) start (start + proof_count size start (non_zero_u64_get max))) }
-        ensures operations { (list : List operations.Operation) → IsDatabase C.Store D.bytes H.hash F.shape self.old list
+        ensures operations { (list : List operations.Operation) → IsDatabase C.Store D.bytes H.hash F.shape I.index_key self.old list
             → IfOk result (λ shown. entry_views K.bytes V.bytes shown.1.items ≡ take (proof_count size start (non_zero_u64_get max)) (drop start list)) }
-        ensures refused { C.start self.old.log.store ≤ start → C.start self.old.log.store ≤ size - 1 → (list : List operations.Operation) → IsDatabase C.Store D.bytes H.hash F.shape self.old list → IfErr result (λ e. IsDue e (proof_refusal list size start)) }
-        ensures pruned { start < C.start self.old.log.store → C.start self.old.log.store ≤ size - 1 → (list : List operations.Operation) → IsDatabase C.Store D.bytes H.hash F.shape self.old list → proof_refusal list size start ≡ None
+        ensures refused { C.start self.old.log.store ≤ start → C.start self.old.log.store ≤ size - 1 → (list : List operations.Operation) → IsDatabase C.Store D.bytes H.hash F.shape I.index_key self.old list → IfErr result (λ e. IsDue e (proof_refusal list size start)) }
+        ensures pruned { start < C.start self.old.log.store → C.start self.old.log.store ≤ size - 1 → (list : List operations.Operation) → IsDatabase C.Store D.bytes H.hash F.shape I.index_key self.old list → proof_refusal list size start ≡ None
             → IfErr result (λ e. IsDue e (Some (lines.Journal (lines.ItemPruned start)))) }
         ensures never { IfErr result (λ e. e ≢ Error.StaleBatch) }
         ensures cause { IfErr result (λ e. e ≡ Error.Journal JournalError.Store → Rose (C.faults self.old.log.store) (C.faults self.new.log.store)) }
@@ -69,13 +71,13 @@ impl<F: Family, C: Store, D: Digest, H: Hasher<Digest = D> + Drop, K: Key, V: Va
         start: Location<F>,
         max: NonZeroU64,
     ) -> Result<(Proof<D>, Vec<Entry<F, K, V>>), Error>
-        ensures offered { (list : List operations.Operation) → IsDatabase C.Store D.bytes H.hash F.shape self.old list → OnOk result (proof_refusal list (length list) start ≡ None) }
+        ensures offered { (list : List operations.Operation) → IsDatabase C.Store D.bytes H.hash F.shape I.index_key self.old list → OnOk result (proof_refusal list (length list) start ≡ None) }
         ensures kept { OnOk result (C.start self.old.log.store ≤ start) }
-        ensures proof { (list : List operations.Operation) → IsDatabase C.Store D.bytes H.hash F.shape self.old list
+        ensures proof { (list : List operations.Operation) → IsDatabase C.Store D.bytes H.hash F.shape I.index_key self.old list
             → IfOk result (λ shown. proof_view D.bytes shown.0 ≡ ops_proof H.hash F.shape list start (start + proof_count (length list) start (non_zero_u64_get max))) }
-        ensures operations { (list : List operations.Operation) → IsDatabase C.Store D.bytes H.hash F.shape self.old list
+        ensures operations { (list : List operations.Operation) → IsDatabase C.Store D.bytes H.hash F.shape I.index_key self.old list
             → IfOk result (λ shown. entry_views K.bytes V.bytes shown.1.items ≡ take (proof_count (length list) start (non_zero_u64_get max)) (drop start list)) }
-        ensures refused { C.start self.old.log.store ≤ start → (list : List operations.Operation) → C.start self.old.log.store ≤ length list - 1 → IsDatabase C.Store D.bytes H.hash F.shape self.old list → IfErr result (λ e. IsDue e (proof_refusal list (length list) start)) }
+        ensures refused { C.start self.old.log.store ≤ start → (list : List operations.Operation) → C.start self.old.log.store ≤ length list - 1 → IsDatabase C.Store D.bytes H.hash F.shape I.index_key self.old list → IfErr result (λ e. IsDue e (proof_refusal list (length list) start)) }
         ensures never { IfErr result (λ e. e ≢ Error.StaleBatch) }
         ensures cause { IfErr result (λ e. e ≡ Error.Journal JournalError.Store → Rose (C.faults self.old.log.store) (C.faults self.new.log.store)) }
         ensures left { IsLeft C.Store D.bytes H.hash F.shape self.old self.new }
@@ -87,9 +89,9 @@ impl<F: Family, C: Store, D: Digest, H: Hasher<Digest = D> + Drop, K: Key, V: Va
     /// The digests of the peaks over the first `count` operations, from left to right: what a node has to be given that
     /// starts with the operations from there on.
     pub fn pinned_nodes_at(&self, alloc: Global, count: Location<F>) -> Result<Vec<D>, Error>
-        ensures offered { (list : List operations.Operation) → IsDatabase C.Store D.bytes H.hash F.shape self.now list → OnOk result (pins_refusal list count ≡ None) }
-        ensures pins { (list : List operations.Operation) → IsDatabase C.Store D.bytes H.hash F.shape self.now list → IfOk result (λ pins. map D.bytes pins.items ≡ pins_at H.hash F.shape list count) }
-        ensures refused { C.start self.now.log.store ≤ count → (list : List operations.Operation) → IsDatabase C.Store D.bytes H.hash F.shape self.now list → IfErr result (λ e. IsDue e (pins_refusal list count)) }
+        ensures offered { (list : List operations.Operation) → IsDatabase C.Store D.bytes H.hash F.shape I.index_key self.now list → OnOk result (pins_refusal list count ≡ None) }
+        ensures pins { (list : List operations.Operation) → IsDatabase C.Store D.bytes H.hash F.shape I.index_key self.now list → IfOk result (λ pins. map D.bytes pins.items ≡ pins_at H.hash F.shape list count) }
+        ensures refused { C.start self.now.log.store ≤ count → (list : List operations.Operation) → IsDatabase C.Store D.bytes H.hash F.shape I.index_key self.now list → IfErr result (λ e. IsDue e (pins_refusal list count)) }
         ensures never { IfErr result (λ e. (e ≢ Error.StaleBatch) × (e ≢ Error.Journal JournalError.Store)) }
     {
         // The log is kept from where its store is.

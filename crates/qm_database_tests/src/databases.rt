@@ -7,6 +7,8 @@ use qm_base::update::Unordered;
 use qm_base::{
     ByteKey, ByteString, ByteValue, Digest, Error, JournalError, Location, Sha256, Sha256Digest,
 };
+use qm_index::FourCap;
+use qm_index::unordered::Index;
 use qm_merkle::mmr::Family;
 use qm_store::MemStore;
 use std::alloc::{AllocError, Global};
@@ -14,7 +16,14 @@ use std::num::NonZeroU64;
 use std::rc::Rc;
 use std::test::Fail;
 
-type Database = Db<Family, MemStore, Sha256Digest, Sha256, Unordered<ByteKey, ByteValue>>;
+type Database = Db<
+    Family,
+    MemStore,
+    Sha256Digest,
+    Index<FourCap, Location<Family>>,
+    Sha256,
+    Unordered<ByteKey, ByteValue>,
+>;
 
 type Batch = MerkleizedBatch<Family, Sha256Digest, Unordered<ByteKey, ByteValue>>;
 
@@ -23,7 +32,7 @@ type Begun = UnmerkleizedBatch<Family, Sha256Digest, Unordered<ByteKey, ByteValu
 // A fresh database over an empty store.
 fn opened(alloc: Global) -> Result<Database, Error> {
     let store = MemStore::new(alloc, Vec::new(alloc));
-    match init(alloc, store, Sha256::new()) {
+    match init(alloc, store, Sha256::new(), FourCap) {
         Ok(db) => Ok(db),
         Err(refusal) => Err(refusal.error),
     }
@@ -31,8 +40,7 @@ fn opened(alloc: Global) -> Result<Database, Error> {
 
 // The key of one byte.
 fn key(alloc: Global) -> Result<ByteKey, AllocError> {
-    let bytes = [0x6b].to_vec(alloc)?;
-    Ok(ByteKey::new(bytes))
+    ByteKey::from_bytes(alloc, &[0x6b])
 }
 
 // A value of so many zeros.
@@ -140,8 +148,7 @@ fn keys_are_read_together(rt: HostRuntime) -> Result<(), Fail> {
 
 // A key that shares its first four bytes with all others of these.
 fn numbered(alloc: Global, number: u8) -> Result<ByteKey, AllocError> {
-    let bytes = [0x6b, 0x6b, 0x6b, 0x6b, number].to_vec(alloc)?;
-    Ok(ByteKey::new(bytes))
+    ByteKey::from_bytes(alloc, &[0x6b, 0x6b, 0x6b, 0x6b, number])
 }
 
 // The batch with a value of so many zeros for the key of this number.

@@ -11,15 +11,11 @@ use std::process::Abort;
 use std::test::Fail;
 
 fn key(alloc: Global, byte: u8) -> Result<ByteKey, AllocError> {
-    let mut bytes = Vec::new(alloc);
-    bytes.push(byte)?;
-    Ok(ByteKey::new(bytes))
+    ByteKey::from_bytes(alloc, &[byte])
 }
 
 fn value(alloc: Global, byte: u8) -> Result<ByteValue, AllocError> {
-    let mut bytes = Vec::new(alloc);
-    bytes.push(byte)?;
-    Ok(ByteValue::new(bytes))
+    ByteValue::from_bytes(alloc, &[byte])
 }
 
 // A command with its keys and values as lists of numbers, or `bad`.

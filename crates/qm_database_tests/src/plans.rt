@@ -7,7 +7,7 @@ use qm_base::{ByteKey, ByteString, ByteValue, Error, Location, Operation, Sha256
 use qm_batch::{Layer, Plan, Write, apply_diffs, plain, read_key, read_keys};
 use qm_chain::{Diff, DiffEntry};
 use qm_index::unordered::Index;
-use qm_index::{FourCap, Unordered as _};
+use qm_index::{Factory as _, FourCap, Unordered as _};
 use qm_merkle::mmr::Family;
 use qm_store::{AuthLog, MemStore, Store, StoreError};
 use std::alloc::{AllocError, Global};

@@ -7,5 +7,5 @@ pub mod unordered;
 pub mod value;
 
 pub use translator::{EightCap, FourCap, OneCap, OrderedTranslator, Translator, TwoCap};
-pub use unordered::Unordered;
+pub use unordered::{Factory, Unordered};
 pub use value::IndexValue;

@@ -52,6 +52,15 @@ pub trait Unordered: Drop {
         ensures index { IsIndex (entries self.now) };
 }
 
+/// An index that can be made, over a translator that makes its index keys.
+pub trait Factory: Unordered {
+    type Translator: Translator;
+
+    /// An index without buckets. It takes no memory yet.
+    fn new(alloc: Global, translator: Self::Translator) -> Self
+        ensures { Self.entries result ≡ [] };
+}
+
 /// An index by hash. It keeps an index key and the values for each bucket, and no key.
 #[derive(Drop)]
 pub struct Index<T, V> {
@@ -71,11 +80,10 @@ impl<T, V> Model for Index<T, V> {
     ghost invariant = { λ i. IsIndex i.buckets.entries };
 }
 
-impl<T: Translator, V: IndexValue> Index<T, V> {
-    /// An index without buckets. It takes no memory yet.
-    pub fn new(alloc: Global, translator: T) -> Self
-        ensures { result ≡ [] }
-    {
+impl<T: Translator, V: IndexValue> Factory for Index<T, V> {
+    type Translator = T;
+
+    fn new(alloc: Global, translator: T) -> Self {
         Index {
             alloc,
             translator,

@@ -2,7 +2,7 @@
 
 use qm_base::{ByteKey, ByteString, Location};
 use qm_index::unordered::Index;
-use qm_index::{EightCap, FourCap, OneCap, OrderedTranslator, TwoCap, Unordered};
+use qm_index::{EightCap, Factory as _, FourCap, OneCap, OrderedTranslator, TwoCap, Unordered};
 use std::alloc::AllocError;
 use std::test::Fail;
 

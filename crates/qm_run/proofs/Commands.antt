@@ -195,13 +195,6 @@ module _ {X C B M K V D P : Type 0} (m : Meaning X C B M) (key : K → Bytes) (v
       (λ list stands in_had. subst (λ d. Turns (Reply (replies.Refused r)) (Database after) table opened (unless s d (answer list))) (sym (due_told (refusal_of error) (due list) (refused_view r) (is list stands) told))
       (λ apart. (refl, Holds-kept m x after table opened s keeps k))))
 
-  -- no reply, where the error refuses nothing on any list
-  pub get_err : (x after : X) (table : List (Slot B M)) (opened : ℕ) (error : Error) (s : State) (f : List Operation → Answer × State) → Holds m (Database x) table opened s
-      → ((list : List Operation) → m.stands x list → refusal_of error ≡ None)
-      → Turns (turn_of_error error) (Database after) table opened (with_database s s.database f)
-  get_err x after table opened error s f k none =
-      with_list m x s.had s.database s f (Turns (turn_of_error error) (Database after) table opened) k.database (λ list stands in_had. no_refusal error _ (none list stands))
-
   -- an opening over a store that is not empty, and over one that is
   pub open_refused : (held : Given X C) (table : List (Slot B M)) (opened start end : ℕ) (s : State) → Holds m held table opened s
       → start ≡ m.start (store_given m.inside held) → IfSome (m.items (store_given m.inside held)) (λ xs. m.start (store_given m.inside held) + length xs ≡ end) → (0 < start) ⊎ (0 < end)

@@ -1,17 +1,13 @@
 -- The program's database as an engine: where its batches fit and can be read, and what its refusals are.
-use Rattle.std.proofs.Common.{◌≡◌, ◌≢◌, ◌≤◌, ℕ, suc, arith, ◌^◌, ◌∙◌, ◌⊎◌, ap, ap₂, sym, subst, refl, inl, inr, List, [], ◌∷◌, length, map, drop, Option, Some, None, Bool, true, false, IfSome}
+use Rattle.std.proofs.Common.{◌≡◌, ◌≢◌, ◌≤◌, ℕ, suc, arith, ◌^◌, ◌∙◌, ◌⊎◌, ap, ap₂, sym, subst, refl, inl, inr, List, [], length, map, drop, Option, Some, None, Bool, true, false, IfSome}
 use Rattle.std.specs.Prelude.{Result, Ok, Err, IfOk, IfErr, if◌then◌else◌, option_map}
 use Rattle.std.specs.Option.{option_or}
 use Rattle.std.proofs.lemmas.Bool.{lt-ltb, le-ltb}
 use Rattle.sha2.specs.Sha256.{sha256}
 use Rattle.qm_base.specs.declared.error.Error.{Error}
 use Rattle.qm_base.specs.declared.error.Error.TheVariants as errors
-use Rattle.qm_base.specs.declared.error.JournalError.{JournalError}
 use Rattle.qm_base.specs.declared.error.JournalError.TheVariants as journal
-use Rattle.qm_base.specs.declared.error.MerkleError.{MerkleError}
-use Rattle.qm_base.specs.declared.error.MerkleError.TheVariants as merkle
 use Rattle.qm_model.specs.Operations.{Bytes, Operation, spelling}
-use Rattle.qm_model.specs.Live.{floor}
 use Rattle.qm_model.specs.Batches.{Commitment, Chain, boundary_list, IsOnChain, IsKnown, commitment, fits, readable}
 use Rattle.qm_model.specs.Causes.{Rose}
 use Rattle.qm_store.specs.declared.Store as store
@@ -33,7 +29,7 @@ use Rattle.qm_lines.specs.Views.{policy_view}
 use Rattle.qm_run.specs.Databases.{digest_bytes}
 use Rattle.qm_lines.specs.declared.policy.AnyPolicy.{AnyPolicy}
 use Rattle.qm_lines.specs.declared.policy.AnyPolicy.TheVariants.{Proportional}
-use Rattle.qm_any.specs.Databases.{Database, Begun, Made, IsDatabase, IsBegun, IsMade, IsLeft, at_rest, is_on, child_boundary, child_tips, list_commitment, stepped}
+use Rattle.qm_any.specs.Databases.{Begun, Made, IsBegun, IsMade, is_on, list_commitment, stepped}
 use Rattle.qm_any.proofs.Known.{child-boundary, child-tips}
 use Rattle.qm_any.specs.Tips.{own_spellings, IsTaken, IsRefused}
 use Rattle.qm_any.specs.Refusals.{refusal_of}

@@ -3,7 +3,6 @@ pub mod Commands
 pub mod BatchCommands
 pub mod ReadCommands
 pub mod ProofCommands
-pub mod CommandItems
 pub mod Loops
 pub mod Sayings
 pub mod Engines

@@ -1,5 +1,5 @@
 -- The commands that prove.
-use Rattle.std.proofs.Common.{◌∙◌, ◌≡◌, ◌≢◌, ℕ, ◌+◌, true, List, length, get_or, take, drop, Some, None, refl, sym, ap, ap₂, subst}
+use Rattle.std.proofs.Common.{◌∙◌, ◌≡◌, ◌≢◌, ℕ, ◌+◌, true, List, length, get_or, take, drop, Some, None, refl, sym, ap₂, subst}
 use Rattle.std.specs.Prelude.{Contains}
 use Rattle.qm_model.specs.Operations.{Bytes, Operation}
 use Rattle.qm_model.specs.Batches.{Chain, IsKnown, commitment, readable}
@@ -13,19 +13,17 @@ use Rattle.qm_base.specs.declared.error.Error.{Error}
 use Rattle.qm_base.specs.declared.error.Error.TheVariants as errors
 use Rattle.qm_lines.specs.Views.{answer_view}
 use Rattle.qm_lines.specs.declared.reply.Reply as reply
-use Rattle.qm_lines.specs.declared.reply.Reply.TheVariants as replies
-use Rattle.qm_lines.specs.declared.reply.Refused.TheVariants as refused
 use Rattle.qm_any.specs.declared.refusal.Given.{Given}
 use Rattle.qm_any.specs.declared.refusal.Given.TheVariants.{Database}
 use Rattle.qm_run.specs.declared.table.Slot.{Slot}
-use Rattle.qm_run.specs.declared.table.Slot.TheVariants.{Gone, Writing, Merkleized}
+use Rattle.qm_run.specs.declared.table.Slot.TheVariants.{Gone, Merkleized}
 use Rattle.qm_run.specs.declared.session.Turn.{Turn}
 use Rattle.qm_run.specs.declared.session.Turn.TheVariants.{Reply}
 use Rattle.qm_run.specs.Table.{merkleized_of}
 use Rattle.qm_run.specs.Turn.{turn_of_error}
 use Rattle.qm_any.specs.Refusals.{refusal_of, IsDue}
 use Rattle.qm_run.specs.Session.{Meaning, SlotIs, Holds, Answers}
-use Rattle.qm_run.proofs.Commands.{with_list, Keeps, Holds-kept, Turns, unless_err, answered, merkleized_slot}
+use Rattle.qm_run.proofs.Commands.{with_list, Holds-kept, Turns, unless_err, answered, merkleized_slot}
 use Rattle.qm_run.proofs.ReadCommands.{readable_ok, readable_err, readable_state}
 
 module _ {X C B M K V D P : Type 0} (m : Meaning X C B M) (key : K → Bytes) (value : V → Bytes) (digest : D → Bytes) (scheme : Scheme P) where
@@ -50,16 +48,6 @@ module _ {X C B M K V D P : Type 0} (m : Meaning X C B M) (key : K → Bytes) (v
       (λ list stands in_had. subst (λ due. Goal (unless s due (given list))) (sym (offered list stands))
       (ap₂ lines.Proved (is_proof list stands) (are_ops list stands), Holds-kept m x after table opened s (keeps, same_start, same_items) k))
 
-  pub pins_ok : (x : X) (table : List (Slot B M)) (opened n : ℕ) (digests : List Bytes) (s : State) → Holds m (Database x) table opened s
-      → ((list : List Operation) → m.stands x list → pins_refusal list n ≡ None)
-      → ((list : List Operation) → m.stands x list → digests ≡ scheme.pins list n)
-      → (lines.Pinned digests ≡ (machine.pins scheme s n).0) × Holds m (Database x) table opened (machine.pins scheme s n).1
-  pins_ok x table opened n digests s k offered are_digests =
-      let Goal : Answer × State → Type 0 = λ next. (lines.Pinned digests ≡ next.0) × Holds m (Database x) table opened next.1 in
-      with_list m x s.had s.database s (λ list. unless s (pins_refusal list n) (lines.Pinned (scheme.pins list n))) Goal k.database
-      (λ list stands in_had. subst (λ due. Goal (unless s due (lines.Pinned (scheme.pins list n)))) (sym (offered list stands))
-      (ap lines.Pinned (are_digests list stands), k))
-
   pub prove_err : (x after : X) (table : List (Slot B M)) (opened size start max : ℕ) (error : Error) (s : State) → Holds m (Database x) table opened s
       → ((l : List Operation) → m.stands x l → m.stands after l) → m.start (m.inside after) ≡ m.start (m.inside x) → m.items (m.inside after) ≡ m.items (m.inside x)
       → ((list : List Operation) → m.stands x list → IsDue error (proof_refusal list size start))
@@ -81,40 +69,24 @@ module _ {X C B M K V D P : Type 0} (m : Meaning X C B M) (key : K → Bytes) (v
   proof_state-in s h list (machine.merkleized chain tip) =
       readable_state m key value digest scheme s list chain tip (lines.BatchProved (scheme.proof tip (length chain.base) (length tip)) (scheme.pins tip (length chain.base)))
 
-  named_proof : (turn : Turn K V D) (x after : X) (table : List (Slot B M)) (opened h : ℕ) (s : State) → Holds m (Database x) table opened s → Keeps m x after
+  named_proof : (turn : Turn K V D) (x : X) (table : List (Slot B M)) (opened h : ℕ) (s : State) → Holds m (Database x) table opened s
       → ((list : List Operation) (named : machine.Slot) → m.stands x list → Contains s.had list → SlotIs m s.had (get_or table h Gone) named
       → Answers key value digest root turn s (proof_in scheme s h list named))
-      → Goes turn (Database after) table opened (machine.batch_proof scheme s h)
-  named_proof turn x after table opened h s k keeps told =
-      with_list m x s.had s.database s (λ list. proof_in scheme s h list (slot_at s.table h)) (Goes turn (Database after) table opened) k.database
-      (λ list stands in_had. answered m key value digest scheme turn (Database after) table opened s (proof_in scheme s h list (slot_at s.table h)) (proof_state-in s h list (slot_at s.table h))
-      (Holds-kept m x after table opened s keeps k) (told list (slot_at s.table h) stands in_had (k.slots h)))
+      → Goes turn (Database x) table opened (machine.batch_proof scheme s h)
+  named_proof turn x table opened h s k told =
+      with_list m x s.had s.database s (λ list. proof_in scheme s h list (slot_at s.table h)) (Goes turn (Database x) table opened) k.database
+      (λ list stands in_had. answered m key value digest scheme turn (Database x) table opened s (proof_in scheme s h list (slot_at s.table h)) (proof_state-in s h list (slot_at s.table h))
+      k (told list (slot_at s.table h) stands in_had (k.slots h)))
 
-  pub unproved : (x : X) (table : List (Slot B M)) (opened h : ℕ) (s : State) → Holds m (Database x) table opened s → merkleized_of (get_or table h Gone) ≡ None
-      → Goes (Reply (replies.Refused (refused.NoSuchHandle h))) (Database x) table opened (machine.batch_proof scheme s h)
-  unproved x table opened h s k none =
-      named_proof (Reply (replies.Refused (refused.NoSuchHandle h))) x x table opened h s k (λ l stands. stands, refl, refl) (λ list named stands in_had is. by list (get_or table h Gone) named is none)
-    where
-      by : (list : List Operation) (a : Slot B M) (named : machine.Slot) → SlotIs m s.had a named → merkleized_of a ≡ None
-          → Answers {K = K} {V = V} {D = D} key value digest root (Reply (replies.Refused (refused.NoSuchHandle h))) s (proof_in scheme s h list named)
-      by list Gone machine.gone is e = λ apart. refl
-      by list (Writing w) (machine.writing chain above ws) is e = λ apart. refl
-      by list Gone (machine.writing chain above ws) is e = absurd is
-      by list Gone (machine.merkleized chain tip) is e = absurd is
-      by list (Writing w) machine.gone is e = absurd is
-      by list (Writing w) (machine.merkleized chain tip) is e = absurd is
-      by list (Merkleized w) named is e = absurd (cc)
-
-  pub batch_proof_ok : (r : reply.Reply K V D) (proof : Proof) (pins : List Bytes) (x after : X) (table : List (Slot B M)) (opened h : ℕ) (batch : M) (s : State) → Holds m (Database x) table opened s
-      → ((l : List Operation) → m.stands x l → m.stands after l) → m.start (m.inside after) ≡ m.start (m.inside x) → m.items (m.inside after) ≡ m.items (m.inside x)
+  pub batch_proof_ok : (r : reply.Reply K V D) (proof : Proof) (pins : List Bytes) (x : X) (table : List (Slot B M)) (opened h : ℕ) (batch : M) (s : State) → Holds m (Database x) table opened s
       → answer_view key value digest r ≡ lines.BatchProved proof pins
       → ((list : List Operation) (chain : Chain) (tip : List Operation) → m.stands x list → m.is_merkleized batch chain tip → readable root (commitment root list) chain tip ≡ true)
       → ((list : List Operation) (chain : Chain) (tip : List Operation) → m.stands x list → m.is_merkleized batch chain tip → IsKnown list chain tip
       → (proof ≡ scheme.proof tip (length chain.base) (length tip)) × (pins ≡ scheme.pins tip (length chain.base)))
       → merkleized_of (get_or table h Gone) ≡ Some batch
-      → Goes (Reply r) (Database after) table opened (machine.batch_proof scheme s h)
-  batch_proof_ok r proof pins x after table opened h batch s k keeps start items is_view can are e =
-      named_proof (Reply r) x after table opened h s k (keeps, start, items) (λ list named stands in_had is.
+      → Goes (Reply r) (Database x) table opened (machine.batch_proof scheme s h)
+  batch_proof_ok r proof pins x table opened h batch s k is_view can are e =
+      named_proof (Reply r) x table opened h s k (λ list named stands in_had is.
       by list named stands in_had (subst (λ a. SlotIs m s.had a named) (merkleized_slot m (get_or table h Gone) batch e) is))
     where
       by : (list : List Operation) (named : machine.Slot) → m.stands x list → Contains s.had list → SlotIs m s.had (Merkleized batch) named → Answers key value digest root (Reply r) s (proof_in scheme s h list named)
@@ -124,15 +96,14 @@ module _ {X C B M K V D P : Type 0} (m : Meaning X C B M) (key : K → Bytes) (v
           readable_ok m key value digest scheme s list chain tip (lines.BatchProved proof pins) (lines.BatchProved (scheme.proof tip (length chain.base) (length tip)) (scheme.pins tip (length chain.base))) in_had is.1 is.2
           (can list chain tip stands is.0) (λ known. let facts = are list chain tip stands is.0 known in ap₂ lines.BatchProved facts.0 facts.1) apart
 
-  pub batch_proof_err : (error : Error) (x after : X) (table : List (Slot B M)) (opened h : ℕ) (batch : M) (s : State) → Holds m (Database x) table opened s
-      → ((l : List Operation) → m.stands x l → m.stands after l) → m.start (m.inside after) ≡ m.start (m.inside x) → m.items (m.inside after) ≡ m.items (m.inside x)
+  pub batch_proof_err : (error : Error) (x : X) (table : List (Slot B M)) (opened h : ℕ) (batch : M) (s : State) → Holds m (Database x) table opened s
       → (error ≡ errors.StaleRead → (list : List Operation) (chain : Chain) (tip : List Operation) → m.stands x list → m.is_merkleized batch chain tip → IsKnown list chain tip → ⊥)
       → (error ≢ errors.StaleRead → (list : List Operation) (chain : Chain) (tip : List Operation) → m.stands x list → m.is_merkleized batch chain tip → IsKnown list chain tip → refusal_of error ≡ None)
       → (error ≢ errors.StaleRead → error ≢ errors.Memory → (list : List Operation) (chain : Chain) (tip : List Operation) → m.stands x list → m.is_merkleized batch chain tip → readable root (commitment root list) chain tip ≡ true)
       → merkleized_of (get_or table h Gone) ≡ Some batch
-      → Goes (turn_of_error error) (Database after) table opened (machine.batch_proof scheme s h)
-  batch_proof_err error x after table opened h batch s k keeps start items stale none order e =
-      named_proof (turn_of_error error) x after table opened h s k (keeps, start, items) (λ list named stands in_had is.
+      → Goes (turn_of_error error) (Database x) table opened (machine.batch_proof scheme s h)
+  batch_proof_err error x table opened h batch s k stale none order e =
+      named_proof (turn_of_error error) x table opened h s k (λ list named stands in_had is.
       by list named stands in_had (subst (λ a. SlotIs m s.had a named) (merkleized_slot m (get_or table h Gone) batch e) is))
     where
       by : (list : List Operation) (named : machine.Slot) → m.stands x list → Contains s.had list → SlotIs m s.had (Merkleized batch) named → Answers key value digest root (turn_of_error error) s (proof_in scheme s h list named)

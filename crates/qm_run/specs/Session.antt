@@ -86,6 +86,10 @@ Follows m key value digest root new turn next = IfReply turn (λ r. Apart root (
 abbrev pub Obeys : {X C B M K V D : Type 0} → Meaning X C B M → (K → Bytes) → (V → Bytes) → (D → Bytes) → (List Operation → Bytes) → Session X C B M → Session X C B M → Turn K V D → (State → Answer × State) → Type 0
 Obeys m key value digest root old new turn next = (s : State) → Stands m old s → Follows m key value digest root new turn (next s)
 
+-- The same of a command that leaves the session as it is.
+abbrev pub Tells : {X C B M K V D : Type 0} → Meaning X C B M → (K → Bytes) → (V → Bytes) → (D → Bytes) → (List Operation → Bytes) → Session X C B M → Turn K V D → (State → Answer × State) → Type 0
+Tells m key value digest root session turn next = Obeys m key value digest root session session turn next
+
 -- A reply is the machine's, where the lists of this state are apart.
 abbrev pub Answers : {K V D : Type 0} → (K → Bytes) → (V → Bytes) → (D → Bytes) → (List Operation → Bytes) → Turn K V D → State → Answer × State → Type 0
 Answers key value digest root turn s next = IfReply turn (λ r. Apart root s.had → answer_view key value digest r ≡ next.0)

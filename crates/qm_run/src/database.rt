@@ -5,6 +5,7 @@ ghost use Rattle.qm_model.specs.Mmr.{mmr};
 ghost use Rattle.qm_model.specs.Roots.{sha256_root, sha256_proof, sha256_pins};
 ghost use Rattle.qm_model.specs.Step as steps;
 ghost use Rattle.sha2.specs.Sha256.{sha256};
+ghost use Rattle.qm_index.specs.Translated.{capped};
 ghost use Rattle.qm_any.specs.Databases.{IsDatabase, IsBegun, IsMade};
 ghost use Rattle.qm_any.specs.Refusals.{refusal_of};
 ghost use Rattle.qm_run.specs.Databases.{digest_bytes};
@@ -16,6 +17,8 @@ use qm_any::db::Db;
 use qm_any::{Given, Proportional, Refusal, init};
 use qm_base::update::Unordered;
 use qm_base::{ByteKey, ByteValue, Error, JournalError, Location, Sha256, Sha256Digest};
+use qm_index::FourCap;
+use qm_index::unordered::Index;
 use qm_lines::{AnyPolicy, Listed};
 use qm_merkle::{Proof, mmr};
 use qm_store::Store;
@@ -26,8 +29,11 @@ use std::rc::Rc;
 /// What its updates say.
 type Pair = Unordered<ByteKey, ByteValue>;
 
+/// Where its keys are live, by their first four bytes.
+type Places = Index<FourCap, Location<mmr::Family>>;
+
 /// The program's database over a store.
-pub type Database<C> = Db<mmr::Family, C, Sha256Digest, Sha256, Pair>;
+pub type Database<C> = Db<mmr::Family, C, Sha256Digest, Places, Sha256, Pair>;
 
 // What an opening that fails comes to: a store's head that does not match counts as want of memory.
 fn opening_error(error: Error) -> Error
@@ -40,8 +46,7 @@ fn opening_error(error: Error) -> Error
     }
 }
 
-impl<C: Store> Engine<C>
-    for Db<mmr::Family, C, Sha256Digest, Sha256, Unordered<ByteKey, ByteValue>> {
+impl<C: Store> Engine<C> for Database<C> {
     type Key = ByteKey;
 
     type Value = ByteValue;
@@ -56,7 +61,7 @@ impl<C: Store> Engine<C>
 
     ghost inside = { λ db. db.log.store };
 
-    ghost stands = { λ db list. IsDatabase C.Store digest_bytes sha256 mmr db list };
+    ghost stands = { λ db list. IsDatabase C.Store digest_bytes sha256 mmr (capped 4) db list };
 
     ghost is_batch = { λ b chain above ws. IsBegun digest_bytes sha256 mmr b chain above × (b.writes ≡ ws) };
 
@@ -73,7 +78,7 @@ impl<C: Store> Engine<C>
     ghost pins = { sha256_pins mmr };
 
     fn open(alloc: Global, store: C, _config: &()) -> Result<Self, Refusal<Self, C>> {
-        match init(alloc, store, Sha256::new()) {
+        match init(alloc, store, Sha256::new(), FourCap) {
             Ok(db) => Ok(db),
             Err(Refusal { given, error }) => Err(Refusal {
                 given,
@@ -197,7 +202,7 @@ impl<C: Store> Engine<C>
     }
 
     fn proof(
-        &mut self,
+        &self,
         alloc: Global,
         batch: &Self::Merkleized,
     ) -> Result<(Proof<Sha256Digest>, Vec<Sha256Digest>), Error> {

@@ -273,25 +273,21 @@ pub trait Engine<C: Store>: Drop + Sized {
     /// The proof of a merkleized batch's own operations in the list that it makes, and the digests of the peaks over its base
     /// list. It is refused where the database is at no state at which the batch can be read.
     fn proof(
-        &mut self,
+        &self,
         alloc: Global,
         batch: &Self::Merkleized,
     ) -> Result<(Proof<Self::Digest>, Vec<Self::Digest>), Error>
-        ensures readable { IfOk result (λ _. (list : List Operation) (chain : Chain) (tip : List Operation) → stands self.old list → is_merkleized batch.now chain tip
+        ensures readable { IfOk result (λ _. (list : List Operation) (chain : Chain) (tip : List Operation) → stands self.now list → is_merkleized batch.now chain tip
             → readable root (commitment root list) chain tip ≡ true) }
-        ensures proof { IfOk result (λ r. (list : List Operation) (chain : Chain) (tip : List Operation) → stands self.old list → is_merkleized batch.now chain tip → IsKnown list chain tip
+        ensures proof { IfOk result (λ r. (list : List Operation) (chain : Chain) (tip : List Operation) → stands self.now list → is_merkleized batch.now chain tip → IsKnown list chain tip
             → (proof_view Self.Digest.bytes r.0 ≡ proof tip (length chain.base) (length tip)) × (map Self.Digest.bytes r.1.items ≡ pins tip (length chain.base))) }
-        ensures stale { IfErr result (λ e. e ≡ Error.StaleRead → (list : List Operation) (chain : Chain) (tip : List Operation) → stands self.old list → is_merkleized batch.now chain tip
+        ensures stale { IfErr result (λ e. e ≡ Error.StaleRead → (list : List Operation) (chain : Chain) (tip : List Operation) → stands self.now list → is_merkleized batch.now chain tip
             → ¬ IsKnown list chain tip) }
-        ensures refused { IfErr result (λ e. e ≢ Error.StaleRead → C.start (inside self.old) ≡ 0
-            → (list : List Operation) (chain : Chain) (tip : List Operation) → stands self.old list → is_merkleized batch.now chain tip → IsKnown list chain tip → refusal_of e ≡ None) }
-        ensures order { IfErr result (λ e. e ≢ Error.StaleRead → e ≢ Error.Memory → (list : List Operation) (chain : Chain) (tip : List Operation) → stands self.old list → is_merkleized batch.now chain tip
+        ensures refused { IfErr result (λ e. e ≢ Error.StaleRead → C.start (inside self.now) ≡ 0
+            → (list : List Operation) (chain : Chain) (tip : List Operation) → stands self.now list → is_merkleized batch.now chain tip → IsKnown list chain tip → refusal_of e ≡ None) }
+        ensures order { IfErr result (λ e. e ≢ Error.StaleRead → e ≢ Error.Memory → (list : List Operation) (chain : Chain) (tip : List Operation) → stands self.now list → is_merkleized batch.now chain tip
             → readable root (commitment root list) chain tip ≡ true) }
-        ensures same { (list : List Operation) → stands self.old list → stands self.new list }
-        ensures store { IsUnchanged C.Store (inside self.old) (inside self.new) }
-        ensures cause { IfErr result (λ e. e ≡ Error.Journal JournalError.Store → Rose (C.faults (inside self.old)) (C.faults (inside self.new))) }
-        ensures later { C.faults (inside self.old) ≤ C.faults (inside self.new) }
-        ensures never { IfErr result (λ e. e ≢ Error.StaleBatch) };
+        ensures never { IfErr result (λ e. (e ≢ Error.StaleBatch) × (e ≢ Error.Journal JournalError.Store)) };
 
     /// Operations from `start` on, at most `max`, and their proof in the list of the database's first `size`
     /// operations, which has to end with a commit. Where the store tells its items from 0 on it is refused only as

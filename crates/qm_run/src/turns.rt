@@ -85,10 +85,11 @@ fn open<X: Engine<C>, C: Store>(
 }
 
 /// One command: the machine's turn.
+#[tactic(auto, using(crate::proofs::Commands::left_none))]
 pub fn turn<X: Engine<C>, C: Store>(
     alloc: Global,
     config: &X::Config,
-    session: Of<X, C>,
+    mut session: Of<X, C>,
     command: &Command<X::Key, X::Value, AnyPolicy>,
 ) -> (Of<X, C>, Turn<X::Key, X::Value, X::Digest>)
     requires { session.opened + 1 < 2 ^ 64 }
@@ -110,16 +111,49 @@ pub fn turn<X: Engine<C>, C: Store>(
             merkleize::<X, C>(alloc, session, *number, policy, metadata)
         }
         Command::Apply(number) => apply::<X, C>(alloc, session, *number),
-        Command::Ops(number) => ops::<X, C>(alloc, session, *number),
-        Command::Get(key, from) => read_key::<X, C>(alloc, session, key, *from),
-        Command::Many(keys, from) => read::<X, C>(alloc, session, keys, *from),
-        Command::Info => info::<X, C>(session),
-        Command::BatchInfo(number) => batch_info::<X, C>(session, *number),
-        Command::Root => root::<X, C>(alloc, session),
-        Command::BatchRoot(number) => batch_root::<X, C>(session, *number),
-        Command::BatchProof(number) => batch_proof::<X, C>(alloc, session, *number),
-        Command::Meta => meta::<X, C>(alloc, session),
-        Command::Prove(size, start, max) => prove::<X, C>(alloc, session, *size, *start, *max),
-        Command::Pins(at) => pins::<X, C>(alloc, session, *at),
+        Command::Ops(number) => {
+            let turn = ops::<X, C>(alloc, &session, *number);
+            (session, turn)
+        }
+        Command::Get(key, from) => {
+            let turn = read_key::<X, C>(alloc, &mut session, key, *from);
+            (session, turn)
+        }
+        Command::Many(keys, from) => {
+            let turn = read::<X, C>(alloc, &mut session, keys, *from);
+            (session, turn)
+        }
+        Command::Info => {
+            let turn = info::<X, C>(&session);
+            (session, turn)
+        }
+        Command::BatchInfo(number) => {
+            let turn = batch_info::<X, C>(&session, *number);
+            (session, turn)
+        }
+        Command::Root => {
+            let turn = root::<X, C>(alloc, &session);
+            (session, turn)
+        }
+        Command::BatchRoot(number) => {
+            let turn = batch_root::<X, C>(&session, *number);
+            (session, turn)
+        }
+        Command::BatchProof(number) => {
+            let turn = batch_proof::<X, C>(alloc, &session, *number);
+            (session, turn)
+        }
+        Command::Meta => {
+            let turn = meta::<X, C>(alloc, &session);
+            (session, turn)
+        }
+        Command::Prove(size, start, max) => {
+            let turn = prove::<X, C>(alloc, &mut session, *size, *start, *max);
+            (session, turn)
+        }
+        Command::Pins(at) => {
+            let turn = pins::<X, C>(alloc, &session, *at);
+            (session, turn)
+        }
     }
 }

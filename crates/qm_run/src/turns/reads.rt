@@ -1,13 +1,13 @@
 // Commands that read, list and tell.
-ghost use Rattle.std.specs.Prelude.{◌≡◌, ◌∷◌, [], List, Some, None, map, Contains, IfOk};
+ghost use Rattle.std.specs.Prelude.{◌≡◌, ◌≢◌, ◌∷◌, [], List, Some, None, map, Contains, IfOk};
 ghost use Rattle.qm_model.specs.Operations.{Operation};
 ghost use Rattle.qm_model.specs.Machine.{State};
 ghost use Rattle.qm_model.specs.Machine as machine;
 ghost use Rattle.qm_any.specs.Given.{store_given, IsUnchanged, TellsAll};
-ghost use Rattle.qm_run.specs.Session.{meaning, scheme_of, SlotIs, Answers, Obeys, Causes};
+ghost use Rattle.qm_run.specs.Session.{meaning, scheme_of, SlotIs, Answers, Obeys, Tells, Causes};
 
 use crate::engine::{BatchSizes, Engine, Numbers};
-use crate::session::{Of, Session, Turn, turn_of};
+use crate::session::{Of, Turn, turn_of};
 use crate::table::{Slot, merkleized_at, slot_at};
 use qm_any::Given;
 use qm_base::{Key, Twin};
@@ -43,118 +43,31 @@ fn read_slot<X: Engine<C>, C: Store>(
     }
 }
 
-fn read_batch<X: Engine<C>, C: Store>(
-    alloc: Global,
-    session: Of<X, C>,
-    keys: &[X::Key],
-    number: u64,
-) -> (Of<X, C>, Turn<X::Key, X::Value, X::Digest>)
-    ensures machine { Obeys (meaning X.Engine C.Store) X.Key.bytes X.Value.bytes X.Digest.bytes X.root session result.0 result.1
-        (λ s. machine.read (scheme_of X.Engine) s (map X.Key.bytes keys.now) (Some number)) }
-    ensures store { IsUnchanged C.Store (store_given X.inside session.held) (store_given X.inside result.0.held) }
-    ensures causes { Causes (C.faults (store_given X.inside session.held)) (C.faults (store_given X.inside result.0.held)) result.1 }
-    ensures opened { result.0.opened ≡ session.opened }
-{
-    let Session {
-        held,
-        table,
-        opened,
-    } = session;
-    match held {
-        Given::Store(store) => (
-            Session {
-                held: Given::Store(store),
-                table,
-                opened,
-            },
-            Turn::Reply(Reply::Refused(Refused::NoDatabase)),
-        ),
-        Given::Database(mut x) => match slot_at(&table, number) {
-            None => (
-                Session {
-                    held: Given::Database(x),
-                    table,
-                    opened,
-                },
-                Turn::Reply(Reply::Refused(Refused::NoSuchHandle(number))),
-            ),
-            Some(slot) => {
-                let turn = read_slot::<X, C>(alloc, &mut x, number, slot, keys);
-                (
-                    Session {
-                        held: Given::Database(x),
-                        table,
-                        opened,
-                    },
-                    turn,
-                )
-            }
-        },
-    }
-}
-
-fn read_database<X: Engine<C>, C: Store>(
-    alloc: Global,
-    session: Of<X, C>,
-    keys: &[X::Key],
-) -> (Of<X, C>, Turn<X::Key, X::Value, X::Digest>)
-    ensures machine { Obeys (meaning X.Engine C.Store) X.Key.bytes X.Value.bytes X.Digest.bytes X.root session result.0 result.1
-        (λ s. machine.read (scheme_of X.Engine) s (map X.Key.bytes keys.now) None) }
-    ensures store { IsUnchanged C.Store (store_given X.inside session.held) (store_given X.inside result.0.held) }
-    ensures causes { Causes (C.faults (store_given X.inside session.held)) (C.faults (store_given X.inside result.0.held)) result.1 }
-    ensures opened { result.0.opened ≡ session.opened }
-{
-    let Session {
-        held,
-        table,
-        opened,
-    } = session;
-    match held {
-        Given::Store(store) => (
-            Session {
-                held: Given::Store(store),
-                table,
-                opened,
-            },
-            Turn::Reply(Reply::Refused(Refused::NoDatabase)),
-        ),
-        Given::Database(mut x) => match x.get(alloc, keys) {
-            Ok(values) => (
-                Session {
-                    held: Given::Database(x),
-                    table,
-                    opened,
-                },
-                Turn::Reply(Reply::Read(values)),
-            ),
-            Err(error) => (
-                Session {
-                    held: Given::Database(x),
-                    table,
-                    opened,
-                },
-                turn_of(error),
-            ),
-        },
-    }
-}
-
 /// Reads the values of keys, through a batch where its number is given.
 pub fn read<X: Engine<C>, C: Store>(
     alloc: Global,
-    session: Of<X, C>,
+    session: &mut Of<X, C>,
     keys: &[X::Key],
     from: Option<u64>,
-) -> (Of<X, C>, Turn<X::Key, X::Value, X::Digest>)
-    ensures machine { Obeys (meaning X.Engine C.Store) X.Key.bytes X.Value.bytes X.Digest.bytes X.root session result.0 result.1
+) -> Turn<X::Key, X::Value, X::Digest>
+    ensures machine { Obeys (meaning X.Engine C.Store) X.Key.bytes X.Value.bytes X.Digest.bytes X.root session.old session.new result
         (λ s. machine.read (scheme_of X.Engine) s (map X.Key.bytes keys.now) from) }
-    ensures store { IsUnchanged C.Store (store_given X.inside session.held) (store_given X.inside result.0.held) }
-    ensures causes { Causes (C.faults (store_given X.inside session.held)) (C.faults (store_given X.inside result.0.held)) result.1 }
-    ensures opened { result.0.opened ≡ session.opened }
+    ensures store { IsUnchanged C.Store (store_given X.inside session.old.held) (store_given X.inside session.new.held) }
+    ensures causes { Causes (C.faults (store_given X.inside session.old.held)) (C.faults (store_given X.inside session.new.held)) result }
+    ensures opened { session.new.opened ≡ session.old.opened }
 {
+    let Given::Database(x) = &mut session.held else {
+        return Turn::Reply(Reply::Refused(Refused::NoDatabase));
+    };
     match from {
-        None => read_database::<X, C>(alloc, session, keys),
-        Some(number) => read_batch::<X, C>(alloc, session, keys, number),
+        None => match x.get(alloc, keys) {
+            Ok(values) => Turn::Reply(Reply::Read(values)),
+            Err(error) => turn_of(error),
+        },
+        Some(number) => match slot_at(&session.table, number) {
+            None => Turn::Reply(Reply::Refused(Refused::NoSuchHandle(number))),
+            Some(slot) => read_slot::<X, C>(alloc, x, number, slot, keys),
+        },
     }
 }
 
@@ -171,278 +84,129 @@ fn alone<K: Key>(alloc: Global, key: &K) -> Result<Vec<K>, AllocError>
 /// Reads the value of a key, through a batch where its number is given.
 pub fn read_key<X: Engine<C>, C: Store>(
     alloc: Global,
-    session: Of<X, C>,
+    session: &mut Of<X, C>,
     key: &X::Key,
     from: Option<u64>,
-) -> (Of<X, C>, Turn<X::Key, X::Value, X::Digest>)
-    ensures machine { Obeys (meaning X.Engine C.Store) X.Key.bytes X.Value.bytes X.Digest.bytes X.root session result.0 result.1
+) -> Turn<X::Key, X::Value, X::Digest>
+    ensures machine { Obeys (meaning X.Engine C.Store) X.Key.bytes X.Value.bytes X.Digest.bytes X.root session.old session.new result
         (λ s. machine.read (scheme_of X.Engine) s (X.Key.bytes key.now ∷ []) from) }
-    ensures store { IsUnchanged C.Store (store_given X.inside session.held) (store_given X.inside result.0.held) }
-    ensures causes { Causes (C.faults (store_given X.inside session.held)) (C.faults (store_given X.inside result.0.held)) result.1 }
-    ensures opened { result.0.opened ≡ session.opened }
+    ensures store { IsUnchanged C.Store (store_given X.inside session.old.held) (store_given X.inside session.new.held) }
+    ensures causes { Causes (C.faults (store_given X.inside session.old.held)) (C.faults (store_given X.inside session.new.held)) result }
+    ensures opened { session.new.opened ≡ session.old.opened }
 {
     match alone(alloc, key) {
-        Err(_) => (session, Turn::Memory),
+        Err(_) => Turn::Memory,
         Ok(keys) => read::<X, C>(alloc, session, &keys, from),
     }
 }
 
+/// A merkleized batch's own operations, and the size of the list that it was made from.
 pub fn ops<X: Engine<C>, C: Store>(
     alloc: Global,
-    session: Of<X, C>,
+    session: &Of<X, C>,
     number: u64,
-) -> (Of<X, C>, Turn<X::Key, X::Value, X::Digest>)
-    ensures machine { Obeys (meaning X.Engine C.Store) X.Key.bytes X.Value.bytes X.Digest.bytes X.root session result.0 result.1
+) -> Turn<X::Key, X::Value, X::Digest>
+    ensures machine { Tells (meaning X.Engine C.Store) X.Key.bytes X.Value.bytes X.Digest.bytes X.root session.now result
         (λ s. machine.ops s number) }
-    ensures store { IsUnchanged C.Store (store_given X.inside session.held) (store_given X.inside result.0.held) }
-    ensures causes { Causes (C.faults (store_given X.inside session.held)) (C.faults (store_given X.inside result.0.held)) result.1 }
-    ensures opened { result.0.opened ≡ session.opened }
+    ensures never { result ≢ Turn.StoreFault }
 {
-    let Session {
-        held,
-        table,
-        opened,
-    } = session;
-    match merkleized_at(&table, number) {
-        None => (
-            Session {
-                held,
-                table,
-                opened,
-            },
-            Turn::Reply(Reply::Refused(Refused::NoSuchHandle(number))),
-        ),
-        Some(batch) => match X::ops(alloc, batch) {
-            Err(_) => (
-                Session {
-                    held,
-                    table,
-                    opened,
-                },
-                Turn::Memory,
-            ),
-            Ok((base, operations)) => (
-                Session {
-                    held,
-                    table,
-                    opened,
-                },
-                Turn::Reply(Reply::Ops(base, operations)),
-            ),
-        },
+    let Some(batch) = merkleized_at(&session.table, number) else {
+        return Turn::Reply(Reply::Refused(Refused::NoSuchHandle(number)));
+    };
+    match X::ops(alloc, batch) {
+        Err(_) => Turn::Memory,
+        Ok((base, operations)) => Turn::Reply(Reply::Ops(base, operations)),
     }
 }
 
-pub fn info<X: Engine<C>, C: Store>(
-    session: Of<X, C>,
-) -> (Of<X, C>, Turn<X::Key, X::Value, X::Digest>)
-    ensures machine { Obeys (meaning X.Engine C.Store) X.Key.bytes X.Value.bytes X.Digest.bytes X.root session result.0 result.1
+/// The numbers of the database.
+pub fn info<X: Engine<C>, C: Store>(session: &Of<X, C>) -> Turn<X::Key, X::Value, X::Digest>
+    ensures machine { Tells (meaning X.Engine C.Store) X.Key.bytes X.Value.bytes X.Digest.bytes X.root session.now result
         (machine.info (scheme_of X.Engine)) }
-    ensures store { IsUnchanged C.Store (store_given X.inside session.held) (store_given X.inside result.0.held) }
-    ensures causes { Causes (C.faults (store_given X.inside session.held)) (C.faults (store_given X.inside result.0.held)) result.1 }
-    ensures opened { result.0.opened ≡ session.opened }
+    ensures never { result ≢ Turn.StoreFault }
 {
-    let Session {
-        held,
-        table,
-        opened,
-    } = session;
-    match held {
-        Given::Store(store) => (
-            Session {
-                held: Given::Store(store),
-                table,
-                opened,
-            },
-            Turn::Reply(Reply::Refused(Refused::NoDatabase)),
-        ),
-        Given::Database(x) => {
-            let Numbers {
-                start,
-                size,
-                floor,
-                boundary,
-                is_live,
-            } = x.info();
-            (
-                Session {
-                    held: Given::Database(x),
-                    table,
-                    opened,
-                },
-                Turn::Reply(Reply::Info(start, size, floor, boundary, is_live)),
-            )
-        }
-    }
+    let Given::Database(x) = &session.held else {
+        return Turn::Reply(Reply::Refused(Refused::NoDatabase));
+    };
+    let Numbers {
+        start,
+        size,
+        floor,
+        boundary,
+        is_live,
+    } = x.info();
+    Turn::Reply(Reply::Info(start, size, floor, boundary, is_live))
 }
 
+/// The numbers of a merkleized batch.
 pub fn batch_info<X: Engine<C>, C: Store>(
-    session: Of<X, C>,
+    session: &Of<X, C>,
     number: u64,
-) -> (Of<X, C>, Turn<X::Key, X::Value, X::Digest>)
-    ensures machine { Obeys (meaning X.Engine C.Store) X.Key.bytes X.Value.bytes X.Digest.bytes X.root session result.0 result.1
+) -> Turn<X::Key, X::Value, X::Digest>
+    ensures machine { Tells (meaning X.Engine C.Store) X.Key.bytes X.Value.bytes X.Digest.bytes X.root session.now result
         (λ s. machine.batch_info (scheme_of X.Engine) s number) }
-    ensures store { IsUnchanged C.Store (store_given X.inside session.held) (store_given X.inside result.0.held) }
-    ensures causes { Causes (C.faults (store_given X.inside session.held)) (C.faults (store_given X.inside result.0.held)) result.1 }
-    ensures opened { result.0.opened ≡ session.opened }
+    ensures never { result ≢ Turn.StoreFault }
 {
-    let Session {
-        held,
-        table,
-        opened,
-    } = session;
-    match merkleized_at(&table, number) {
-        None => (
-            Session {
-                held,
-                table,
-                opened,
-            },
-            Turn::Reply(Reply::Refused(Refused::NoSuchHandle(number))),
-        ),
-        Some(batch) => {
-            let BatchSizes {
-                base,
-                tip,
-                floor,
-                boundary,
-            } = X::sizes(batch);
-            (
-                Session {
-                    held,
-                    table,
-                    opened,
-                },
-                Turn::Reply(Reply::BatchInfo(base, tip, floor, boundary)),
-            )
-        }
-    }
+    let Some(batch) = merkleized_at(&session.table, number) else {
+        return Turn::Reply(Reply::Refused(Refused::NoSuchHandle(number)));
+    };
+    let BatchSizes {
+        base,
+        tip,
+        floor,
+        boundary,
+    } = X::sizes(batch);
+    Turn::Reply(Reply::BatchInfo(base, tip, floor, boundary))
 }
 
+/// The root of the database.
 pub fn root<X: Engine<C>, C: Store>(
     alloc: Global,
-    session: Of<X, C>,
-) -> (Of<X, C>, Turn<X::Key, X::Value, X::Digest>)
-    ensures machine { Obeys (meaning X.Engine C.Store) X.Key.bytes X.Value.bytes X.Digest.bytes X.root session result.0 result.1
+    session: &Of<X, C>,
+) -> Turn<X::Key, X::Value, X::Digest>
+    ensures machine { Tells (meaning X.Engine C.Store) X.Key.bytes X.Value.bytes X.Digest.bytes X.root session.now result
         (machine.root (scheme_of X.Engine)) }
-    ensures store { IsUnchanged C.Store (store_given X.inside session.held) (store_given X.inside result.0.held) }
-    ensures causes { Causes (C.faults (store_given X.inside session.held)) (C.faults (store_given X.inside result.0.held)) result.1 }
-    ensures opened { result.0.opened ≡ session.opened }
+    ensures never { result ≢ Turn.StoreFault }
 {
-    let Session {
-        held,
-        table,
-        opened,
-    } = session;
-    match held {
-        Given::Store(store) => (
-            Session {
-                held: Given::Store(store),
-                table,
-                opened,
-            },
-            Turn::Reply(Reply::Refused(Refused::NoDatabase)),
-        ),
-        Given::Database(x) => match x.root(alloc) {
-            Err(_) => (
-                Session {
-                    held: Given::Database(x),
-                    table,
-                    opened,
-                },
-                Turn::Memory,
-            ),
-            Ok(root) => (
-                Session {
-                    held: Given::Database(x),
-                    table,
-                    opened,
-                },
-                Turn::Reply(Reply::Root(root, root)),
-            ),
-        },
+    let Given::Database(x) = &session.held else {
+        return Turn::Reply(Reply::Refused(Refused::NoDatabase));
+    };
+    match x.root(alloc) {
+        Err(_) => Turn::Memory,
+        Ok(root) => Turn::Reply(Reply::Root(root, root)),
     }
 }
 
+/// The root of the list that a merkleized batch makes.
 pub fn batch_root<X: Engine<C>, C: Store>(
-    session: Of<X, C>,
+    session: &Of<X, C>,
     number: u64,
-) -> (Of<X, C>, Turn<X::Key, X::Value, X::Digest>)
-    ensures machine { Obeys (meaning X.Engine C.Store) X.Key.bytes X.Value.bytes X.Digest.bytes X.root session result.0 result.1
+) -> Turn<X::Key, X::Value, X::Digest>
+    ensures machine { Tells (meaning X.Engine C.Store) X.Key.bytes X.Value.bytes X.Digest.bytes X.root session.now result
         (λ s. machine.batch_root (scheme_of X.Engine) s number) }
-    ensures store { IsUnchanged C.Store (store_given X.inside session.held) (store_given X.inside result.0.held) }
-    ensures causes { Causes (C.faults (store_given X.inside session.held)) (C.faults (store_given X.inside result.0.held)) result.1 }
-    ensures opened { result.0.opened ≡ session.opened }
+    ensures never { result ≢ Turn.StoreFault }
 {
-    let Session {
-        held,
-        table,
-        opened,
-    } = session;
-    match merkleized_at(&table, number) {
-        None => (
-            Session {
-                held,
-                table,
-                opened,
-            },
-            Turn::Reply(Reply::Refused(Refused::NoSuchHandle(number))),
-        ),
-        Some(batch) => {
-            let root = X::batch_root(batch);
-            (
-                Session {
-                    held,
-                    table,
-                    opened,
-                },
-                Turn::Reply(Reply::Root(root, root)),
-            )
-        }
-    }
+    let Some(batch) = merkleized_at(&session.table, number) else {
+        return Turn::Reply(Reply::Refused(Refused::NoSuchHandle(number)));
+    };
+    let root = X::batch_root(batch);
+    Turn::Reply(Reply::Root(root, root))
 }
 
+/// The metadata of the list's last commit.
 pub fn meta<X: Engine<C>, C: Store>(
     alloc: Global,
-    session: Of<X, C>,
-) -> (Of<X, C>, Turn<X::Key, X::Value, X::Digest>)
-    ensures machine { Obeys (meaning X.Engine C.Store) X.Key.bytes X.Value.bytes X.Digest.bytes X.root session result.0 result.1
+    session: &Of<X, C>,
+) -> Turn<X::Key, X::Value, X::Digest>
+    ensures machine { Tells (meaning X.Engine C.Store) X.Key.bytes X.Value.bytes X.Digest.bytes X.root session.now result
         (machine.meta) }
-    ensures store { IsUnchanged C.Store (store_given X.inside session.held) (store_given X.inside result.0.held) }
-    ensures causes { Causes (C.faults (store_given X.inside session.held)) (C.faults (store_given X.inside result.0.held)) result.1 }
-    ensures opened { result.0.opened ≡ session.opened }
+    ensures never { result ≢ Turn.StoreFault }
 {
-    let Session {
-        held,
-        table,
-        opened,
-    } = session;
-    match held {
-        Given::Store(store) => (
-            Session {
-                held: Given::Store(store),
-                table,
-                opened,
-            },
-            Turn::Reply(Reply::Refused(Refused::NoDatabase)),
-        ),
-        Given::Database(x) => match x.metadata(alloc) {
-            Err(_) => (
-                Session {
-                    held: Given::Database(x),
-                    table,
-                    opened,
-                },
-                Turn::Memory,
-            ),
-            Ok(metadata) => (
-                Session {
-                    held: Given::Database(x),
-                    table,
-                    opened,
-                },
-                Turn::Reply(Reply::Meta(metadata)),
-            ),
-        },
+    let Given::Database(x) = &session.held else {
+        return Turn::Reply(Reply::Refused(Refused::NoDatabase));
+    };
+    match x.metadata(alloc) {
+        Err(_) => Turn::Memory,
+        Ok(metadata) => Turn::Reply(Reply::Meta(metadata)),
     }
 }

@@ -1,0 +1,27 @@
+use Rattle.std.proofs.Common.{◌∙◌, ◌+◌, ap₂, sym, take}
+use Rattle.sha2.specs.Sha256.{sha256}
+use Rattle.std.specs.Int.NonZero.{non_zero_u64_get}
+use Rattle.qm_model.specs.Mmr.{mmr}
+use Rattle.qm_model.specs.Proofs.{ops_proof}
+use Rattle.qm_model.specs.Refusals.{proof_count, proof_refusal}
+use Rattle.qm_index.specs.Translated.{capped}
+use Rattle.qm_any.proofs.Reading.{left-database}
+use Rattle.qm_run.specs.Databases.{digest_bytes}
+use Rattle.qm_run.proofs.Engines.{proved}
+use Rattle.qm_run.proofs.database.DatabaseEngine.prove.Goals as goal
+
+pub returns-clause-offered : goal.returns-clause-offered
+returns-clause-offered g c = λ list is. ap₂ (proof_refusal list) (sym c.new-size.ensures) (sym c.new-start.ensures) ∙ c.in_ok-proof.ensures.offered list is
+
+pub returns-clause-proof : goal.returns-clause-proof
+returns-clause-proof g c = λ list is.
+    let max = non_zero_u64_get c.args.max in
+    c.in_ok-proof.ensures.proof list is
+    ∙ ap₂ (λ n a. ops_proof sha256 mmr (take n list) a (a + proof_count n a max)) c.new-size.ensures c.new-start.ensures
+    ∙ proved (take c.args.size list) c.args.start (c.args.start + proof_count c.args.size c.args.start max)
+
+pub returns-in_err-operations-clause-same : goal.returns-in_err-operations-clause-same
+returns-in_err-operations-clause-same g c = λ list is. left-database g.C.Store digest_bytes sha256 mmr (capped 4) c.args.self.now c.historical_proof.new.self list c.historical_proof.ensures.left is
+
+pub returns-clause-same : goal.returns-clause-same
+returns-clause-same g c = λ list is. left-database g.C.Store digest_bytes sha256 mmr (capped 4) c.args.self.now c.historical_proof.new.self list c.historical_proof.ensures.left is
