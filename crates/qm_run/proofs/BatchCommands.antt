@@ -87,18 +87,7 @@ module _ {X C B M K V D P : Type 0} (m : Meaning X C B M) (key : K → Bytes) (v
   put_ok held table opened h w batch after s k wrote Gone b is e = absurd (cc)
   put_ok held table opened h w batch after s k wrote (Merkleized x) b is e = absurd (cc)
 
-  -- a batch number that names none: the two commands that look for one over a database
-  merkleize_none : (held : Given X C) (table : List (Slot B M)) (opened : ℕ) (h : ℕ) (policy : P) (meta : Option Bytes) (list : List Operation) (s : State) → Holds m held table opened s
-      → (a : Slot B M) (b : machine.Slot) → SlotIs m s.had a b → writing_of a ≡ None
-      → Goes (Reply (replies.Refused (refused.NoSuchHandle h))) held table opened (merkleize_in scheme s h policy meta list b)
-  merkleize_none held table opened h policy meta list s k Gone machine.gone is e = λ _. (refl, k)
-  merkleize_none held table opened h policy meta list s k (Merkleized w) (machine.merkleized chain tip) is e = λ _. (refl, k)
-  merkleize_none held table opened h policy meta list s k Gone (machine.writing chain above ws) is e = absurd is
-  merkleize_none held table opened h policy meta list s k Gone (machine.merkleized chain tip) is e = absurd is
-  merkleize_none held table opened h policy meta list s k (Merkleized w) machine.gone is e = absurd is
-  merkleize_none held table opened h policy meta list s k (Merkleized w) (machine.writing chain above ws) is e = absurd is
-  merkleize_none held table opened h policy meta list s k (Writing w) b is e = absurd (cc)
-
+  -- a batch number that names no merkleized batch
   apply_none : (held : Given X C) (table : List (Slot B M)) (opened : ℕ) (h : ℕ) (list : List Operation) (s : State) → Holds m held table opened s
       → (a : Slot B M) (b : machine.Slot) → SlotIs m s.had a b → merkleized_of a ≡ None
       → Goes (Reply (replies.Refused (refused.NoSuchHandle h))) held table opened (apply_in scheme s h list b)
@@ -109,12 +98,6 @@ module _ {X C B M K V D P : Type 0} (m : Meaning X C B M) (key : K → Bytes) (v
   apply_none held table opened h list s k (Writing w) machine.gone is e = absurd is
   apply_none held table opened h list s k (Writing w) (machine.merkleized chain tip) is e = absurd is
   apply_none held table opened h list s k (Merkleized w) b is e = absurd (cc)
-
-  pub no_batch : (x : X) (table : List (Slot B M)) (opened : ℕ) (h : ℕ) (policy : P) (meta : Option Bytes) (s : State) → Holds m (Database x) table opened s
-      → writing_of (get_or table h Gone) ≡ None → Goes (Reply (replies.Refused (refused.NoSuchHandle h))) (Database x) table opened (machine.merkleize scheme s h policy meta)
-  no_batch x table opened h policy meta s k e =
-      with_list m x s.had s.database s (λ list. merkleize_in scheme s h policy meta list (slot_at s.table h)) (Goes (Reply (replies.Refused (refused.NoSuchHandle h))) (Database x) table opened) k.database (λ list stands in_had.
-      merkleize_none (Database x) table opened h policy meta list s k (get_or table h Gone) (slot_at s.table h) (k.slots h) e)
 
   pub not_merkleized : (x : X) (table : List (Slot B M)) (opened : ℕ) (h : ℕ) (s : State) → Holds m (Database x) table opened s
       → merkleized_of (get_or table h Gone) ≡ None → Goes (Reply (replies.Refused (refused.NoSuchHandle h))) (Database x) table opened (machine.apply scheme s h)

@@ -102,13 +102,29 @@ pub fn turn<X: Engine<C>, C: Store>(
 {
     match command {
         Command::Open => open::<X, C>(alloc, config, session),
-        Command::Batch => batch::<X, C>(alloc, session),
-        Command::Child(number, keep) => child::<X, C>(alloc, session, *number, *keep),
-        Command::Tip => tip::<X, C>(alloc, session),
-        Command::Put(number, key, value) => put::<X, C>(alloc, session, *number, key, value),
-        Command::Del(number, key) => del::<X, C>(alloc, session, *number, key),
+        Command::Batch => {
+            let turn = batch::<X, C>(alloc, &mut session);
+            (session, turn)
+        }
+        Command::Child(number, keep) => {
+            let turn = child::<X, C>(alloc, &mut session, *number, *keep);
+            (session, turn)
+        }
+        Command::Tip => {
+            let turn = tip::<X, C>(alloc, &mut session);
+            (session, turn)
+        }
+        Command::Put(number, key, value) => {
+            let turn = put::<X, C>(alloc, &mut session, *number, key, value);
+            (session, turn)
+        }
+        Command::Del(number, key) => {
+            let turn = del::<X, C>(alloc, &mut session, *number, key);
+            (session, turn)
+        }
         Command::Merkleize(number, policy, metadata) => {
-            merkleize::<X, C>(alloc, session, *number, policy, metadata)
+            let turn = merkleize::<X, C>(alloc, &mut session, *number, policy, metadata);
+            (session, turn)
         }
         Command::Apply(number) => apply::<X, C>(alloc, session, *number),
         Command::Ops(number) => {

@@ -25,175 +25,77 @@ use std::alloc::{AllocError, Global};
 
 // Gives a batch the next number.
 fn started<X: Engine<C>, C: Store>(
-    session: Of<X, C>,
+    session: &mut Of<X, C>,
     slot: Slot<X::Batch, X::Merkleized>,
-) -> (Of<X, C>, Turn<X::Key, X::Value, X::Digest>)
-    ensures machine { (s : State) (new : machine.Slot) → Stands (meaning X.Engine C.Store) session s → SlotIs (meaning X.Engine C.Store) s.had slot new
-        → Follows (meaning X.Engine C.Store) X.Key.bytes X.Value.bytes X.Digest.bytes X.root result.0 result.1 (machine.started s new) }
-    ensures store { IsUnchanged C.Store (store_given X.inside session.held) (store_given X.inside result.0.held) }
-    ensures causes { Causes (C.faults (store_given X.inside session.held)) (C.faults (store_given X.inside result.0.held)) result.1 }
-    ensures opened { result.0.opened ≡ session.opened }
+) -> Turn<X::Key, X::Value, X::Digest>
+    ensures machine { (s : State) (new : machine.Slot) → Stands (meaning X.Engine C.Store) session.old s → SlotIs (meaning X.Engine C.Store) s.had slot new
+        → Follows (meaning X.Engine C.Store) X.Key.bytes X.Value.bytes X.Digest.bytes X.root session.new result (machine.started s new) }
+    ensures rest { session.new ≡ record session.old { table = session.new.table } }
+    ensures never { result ≢ Turn.StoreFault }
 {
-    let Session {
-        held,
-        mut table,
-        opened,
-    } = session;
-    let number = table.len() as u64;
-    match push_slot(&mut table, slot) {
-        Err(_) => (
-            Session {
-                held,
-                table,
-                opened,
-            },
-            Turn::Memory,
-        ),
-        Ok(()) => (
-            Session {
-                held,
-                table,
-                opened,
-            },
-            Turn::Reply(Reply::Batch(number)),
-        ),
+    let number = session.table.len() as u64;
+    match push_slot(&mut session.table, slot) {
+        Err(_) => Turn::Memory,
+        Ok(()) => Turn::Reply(Reply::Batch(number)),
     }
 }
 
+/// Begins a batch on the database, and gives it the next number.
 pub fn batch<X: Engine<C>, C: Store>(
     alloc: Global,
-    session: Of<X, C>,
-) -> (Of<X, C>, Turn<X::Key, X::Value, X::Digest>)
-    ensures machine { Obeys (meaning X.Engine C.Store) X.Key.bytes X.Value.bytes X.Digest.bytes X.root session result.0 result.1
+    session: &mut Of<X, C>,
+) -> Turn<X::Key, X::Value, X::Digest>
+    ensures machine { Obeys (meaning X.Engine C.Store) X.Key.bytes X.Value.bytes X.Digest.bytes X.root session.old session.new result
         (machine.start_batch) }
-    ensures store { IsUnchanged C.Store (store_given X.inside session.held) (store_given X.inside result.0.held) }
-    ensures causes { Causes (C.faults (store_given X.inside session.held)) (C.faults (store_given X.inside result.0.held)) result.1 }
-    ensures opened { result.0.opened ≡ session.opened }
+    ensures rest { session.new ≡ record session.old { table = session.new.table } }
+    ensures never { result ≢ Turn.StoreFault }
 {
-    let Session {
-        held,
-        table,
-        opened,
-    } = session;
-    match held {
-        Given::Store(store) => (
-            Session {
-                held: Given::Store(store),
-                table,
-                opened,
-            },
-            Turn::Reply(Reply::Refused(Refused::NoDatabase)),
-        ),
-        Given::Database(x) => match x.batch(alloc) {
-            Err(_) => (
-                Session {
-                    held: Given::Database(x),
-                    table,
-                    opened,
-                },
-                Turn::Memory,
-            ),
-            Ok(made) => started::<X, C>(
-                Session {
-                    held: Given::Database(x),
-                    table,
-                    opened,
-                },
-                Slot::Writing(made),
-            ),
-        },
+    let Given::Database(x) = &session.held else {
+        return Turn::Reply(Reply::Refused(Refused::NoDatabase));
+    };
+    match x.batch(alloc) {
+        Err(_) => Turn::Memory,
+        Ok(made) => started::<X, C>(session, Slot::Writing(made)),
     }
 }
 
+/// Begins a batch on a merkleized one, and gives it the next number.
 pub fn child<X: Engine<C>, C: Store>(
     alloc: Global,
-    session: Of<X, C>,
+    session: &mut Of<X, C>,
     number: u64,
     keep: Option<u64>,
-) -> (Of<X, C>, Turn<X::Key, X::Value, X::Digest>)
-    ensures machine { Obeys (meaning X.Engine C.Store) X.Key.bytes X.Value.bytes X.Digest.bytes X.root session result.0 result.1
+) -> Turn<X::Key, X::Value, X::Digest>
+    ensures machine { Obeys (meaning X.Engine C.Store) X.Key.bytes X.Value.bytes X.Digest.bytes X.root session.old session.new result
         (λ s. machine.child s number keep) }
-    ensures store { IsUnchanged C.Store (store_given X.inside session.held) (store_given X.inside result.0.held) }
-    ensures causes { Causes (C.faults (store_given X.inside session.held)) (C.faults (store_given X.inside result.0.held)) result.1 }
-    ensures opened { result.0.opened ≡ session.opened }
+    ensures rest { session.new ≡ record session.old { table = session.new.table } }
+    ensures never { result ≢ Turn.StoreFault }
 {
-    let Session {
-        held,
-        table,
-        opened,
-    } = session;
-    match merkleized_at(&table, number) {
-        None => (
-            Session {
-                held,
-                table,
-                opened,
-            },
-            Turn::Reply(Reply::Refused(Refused::NoSuchHandle(number))),
-        ),
-        Some(batch) => match X::child(alloc, batch, keep) {
-            Err(_) => (
-                Session {
-                    held,
-                    table,
-                    opened,
-                },
-                Turn::Memory,
-            ),
-            Ok(made) => started::<X, C>(
-                Session {
-                    held,
-                    table,
-                    opened,
-                },
-                Slot::Writing(made),
-            ),
-        },
+    let Some(batch) = merkleized_at(&session.table, number) else {
+        return Turn::Reply(Reply::Refused(Refused::NoSuchHandle(number)));
+    };
+    match X::child(alloc, batch, keep) {
+        Err(_) => Turn::Memory,
+        Ok(made) => started::<X, C>(session, Slot::Writing(made)),
     }
 }
 
+/// Takes the database as a merkleized batch, and gives it the next number.
 pub fn tip<X: Engine<C>, C: Store>(
     alloc: Global,
-    session: Of<X, C>,
-) -> (Of<X, C>, Turn<X::Key, X::Value, X::Digest>)
-    ensures machine { Obeys (meaning X.Engine C.Store) X.Key.bytes X.Value.bytes X.Digest.bytes X.root session result.0 result.1
+    session: &mut Of<X, C>,
+) -> Turn<X::Key, X::Value, X::Digest>
+    ensures machine { Obeys (meaning X.Engine C.Store) X.Key.bytes X.Value.bytes X.Digest.bytes X.root session.old session.new result
         (machine.start_tip) }
-    ensures store { IsUnchanged C.Store (store_given X.inside session.held) (store_given X.inside result.0.held) }
-    ensures causes { Causes (C.faults (store_given X.inside session.held)) (C.faults (store_given X.inside result.0.held)) result.1 }
-    ensures opened { result.0.opened ≡ session.opened }
+    ensures rest { session.new ≡ record session.old { table = session.new.table } }
+    ensures never { result ≢ Turn.StoreFault }
 {
-    let Session {
-        held,
-        table,
-        opened,
-    } = session;
-    match held {
-        Given::Store(store) => (
-            Session {
-                held: Given::Store(store),
-                table,
-                opened,
-            },
-            Turn::Reply(Reply::Refused(Refused::NoDatabase)),
-        ),
-        Given::Database(x) => match x.tip(alloc) {
-            Err(_) => (
-                Session {
-                    held: Given::Database(x),
-                    table,
-                    opened,
-                },
-                Turn::Memory,
-            ),
-            Ok(made) => started::<X, C>(
-                Session {
-                    held: Given::Database(x),
-                    table,
-                    opened,
-                },
-                Slot::Merkleized(made),
-            ),
-        },
+    let Given::Database(x) = &session.held else {
+        return Turn::Reply(Reply::Refused(Refused::NoDatabase));
+    };
+    match x.tip(alloc) {
+        Err(_) => Turn::Memory,
+        Ok(made) => started::<X, C>(session, Slot::Merkleized(made)),
     }
 }
 
@@ -212,54 +114,28 @@ fn write<X: Engine<C>, C: Store>(
     X::put(alloc, batch, key, value)
 }
 
+/// Writes a value for a key in a batch.
 pub fn put<X: Engine<C>, C: Store>(
     alloc: Global,
-    session: Of<X, C>,
+    session: &mut Of<X, C>,
     number: u64,
     key: &X::Key,
     value: &X::Value,
-) -> (Of<X, C>, Turn<X::Key, X::Value, X::Digest>)
-    ensures machine { Obeys (meaning X.Engine C.Store) X.Key.bytes X.Value.bytes X.Digest.bytes X.root session result.0 result.1
+) -> Turn<X::Key, X::Value, X::Digest>
+    ensures machine { Obeys (meaning X.Engine C.Store) X.Key.bytes X.Value.bytes X.Digest.bytes X.root session.old session.new result
         (λ s. machine.put s number (X.Key.bytes key.now) (X.Value.bytes value.now)) }
-    ensures store { IsUnchanged C.Store (store_given X.inside session.held) (store_given X.inside result.0.held) }
-    ensures causes { Causes (C.faults (store_given X.inside session.held)) (C.faults (store_given X.inside result.0.held)) result.1 }
-    ensures opened { result.0.opened ≡ session.opened }
+    ensures rest { session.new ≡ record session.old { table = session.new.table } }
+    ensures never { result ≢ Turn.StoreFault }
 {
-    let Session {
-        held,
-        mut table,
-        opened,
-    } = session;
-    match take_writing(&mut table, number) {
-        None => (
-            Session {
-                held,
-                table,
-                opened,
-            },
-            Turn::Reply(Reply::Refused(Refused::NoSuchHandle(number))),
-        ),
-        Some(batch) => match write::<X, C>(alloc, batch, key, value) {
-            Err(_) => (
-                Session {
-                    held,
-                    table,
-                    opened,
-                },
-                Turn::Memory,
-            ),
-            Ok(batch) => {
-                put_slot(&mut table, number, Slot::Writing(batch));
-                (
-                    Session {
-                        held,
-                        table,
-                        opened,
-                    },
-                    Turn::Reply(Reply::Done),
-                )
-            }
-        },
+    let Some(batch) = take_writing(&mut session.table, number) else {
+        return Turn::Reply(Reply::Refused(Refused::NoSuchHandle(number)));
+    };
+    match write::<X, C>(alloc, batch, key, value) {
+        Err(_) => Turn::Memory,
+        Ok(batch) => {
+            put_slot(&mut session.table, number, Slot::Writing(batch));
+            Turn::Reply(Reply::Done)
+        }
     }
 }
 
@@ -276,53 +152,27 @@ fn erase<X: Engine<C>, C: Store>(
     X::del(alloc, batch, key)
 }
 
+/// Deletes a key in a batch.
 pub fn del<X: Engine<C>, C: Store>(
     alloc: Global,
-    session: Of<X, C>,
+    session: &mut Of<X, C>,
     number: u64,
     key: &X::Key,
-) -> (Of<X, C>, Turn<X::Key, X::Value, X::Digest>)
-    ensures machine { Obeys (meaning X.Engine C.Store) X.Key.bytes X.Value.bytes X.Digest.bytes X.root session result.0 result.1
+) -> Turn<X::Key, X::Value, X::Digest>
+    ensures machine { Obeys (meaning X.Engine C.Store) X.Key.bytes X.Value.bytes X.Digest.bytes X.root session.old session.new result
         (λ s. machine.del s number (X.Key.bytes key.now)) }
-    ensures store { IsUnchanged C.Store (store_given X.inside session.held) (store_given X.inside result.0.held) }
-    ensures causes { Causes (C.faults (store_given X.inside session.held)) (C.faults (store_given X.inside result.0.held)) result.1 }
-    ensures opened { result.0.opened ≡ session.opened }
+    ensures rest { session.new ≡ record session.old { table = session.new.table } }
+    ensures never { result ≢ Turn.StoreFault }
 {
-    let Session {
-        held,
-        mut table,
-        opened,
-    } = session;
-    match take_writing(&mut table, number) {
-        None => (
-            Session {
-                held,
-                table,
-                opened,
-            },
-            Turn::Reply(Reply::Refused(Refused::NoSuchHandle(number))),
-        ),
-        Some(batch) => match erase::<X, C>(alloc, batch, key) {
-            Err(_) => (
-                Session {
-                    held,
-                    table,
-                    opened,
-                },
-                Turn::Memory,
-            ),
-            Ok(batch) => {
-                put_slot(&mut table, number, Slot::Writing(batch));
-                (
-                    Session {
-                        held,
-                        table,
-                        opened,
-                    },
-                    Turn::Reply(Reply::Done),
-                )
-            }
-        },
+    let Some(batch) = take_writing(&mut session.table, number) else {
+        return Turn::Reply(Reply::Refused(Refused::NoSuchHandle(number)));
+    };
+    match erase::<X, C>(alloc, batch, key) {
+        Err(_) => Turn::Memory,
+        Ok(batch) => {
+            put_slot(&mut session.table, number, Slot::Writing(batch));
+            Turn::Reply(Reply::Done)
+        }
     }
 }
 
@@ -354,65 +204,33 @@ fn merkleize_batch<X: Engine<C>, C: Store>(
     database.merkleize(alloc, batch, &mut policy, metadata)
 }
 
+/// Merkleizes a batch, which keeps its number.
 pub fn merkleize<X: Engine<C>, C: Store>(
     alloc: Global,
-    session: Of<X, C>,
+    session: &mut Of<X, C>,
     number: u64,
     policy: &AnyPolicy,
     metadata: &Option<X::Value>,
-) -> (Of<X, C>, Turn<X::Key, X::Value, X::Digest>)
-    ensures machine { Obeys (meaning X.Engine C.Store) X.Key.bytes X.Value.bytes X.Digest.bytes X.root session result.0 result.1
+) -> Turn<X::Key, X::Value, X::Digest>
+    ensures machine { Obeys (meaning X.Engine C.Store) X.Key.bytes X.Value.bytes X.Digest.bytes X.root session.old session.new result
         (λ s. machine.merkleize (scheme_of X.Engine) s number (policy_view policy.now) (option_map X.Value.bytes metadata.now)) }
-    ensures store { IsUnchanged C.Store (store_given X.inside session.held) (store_given X.inside result.0.held) }
-    ensures causes { Causes (C.faults (store_given X.inside session.held)) (C.faults (store_given X.inside result.0.held)) result.1 }
-    ensures opened { result.0.opened ≡ session.opened }
+    ensures store { IsUnchanged C.Store (store_given X.inside session.old.held) (store_given X.inside session.new.held) }
+    ensures causes { Causes (C.faults (store_given X.inside session.old.held)) (C.faults (store_given X.inside session.new.held)) result }
+    ensures opened { session.new.opened ≡ session.old.opened }
 {
-    let Session {
-        held,
-        mut table,
-        opened,
-    } = session;
-    match held {
-        Given::Store(store) => (
-            Session {
-                held: Given::Store(store),
-                table,
-                opened,
-            },
-            Turn::Reply(Reply::Refused(Refused::NoDatabase)),
-        ),
-        Given::Database(mut x) => match take_writing(&mut table, number) {
-            None => (
-                Session {
-                    held: Given::Database(x),
-                    table,
-                    opened,
-                },
-                Turn::Reply(Reply::Refused(Refused::NoSuchHandle(number))),
-            ),
-            Some(batch) => match merkleize_batch::<X, C>(alloc, &mut x, batch, policy, metadata) {
-                Err(error) => (
-                    Session {
-                        held: Given::Database(x),
-                        table,
-                        opened,
-                    },
-                    turn_of(error),
-                ),
-                Ok(batch) => {
-                    let sizes = X::sizes(&batch);
-                    put_slot(&mut table, number, Slot::Merkleized(batch));
-                    (
-                        Session {
-                            held: Given::Database(x),
-                            table,
-                            opened,
-                        },
-                        Turn::Reply(Reply::Merkleized(number, sizes.base, sizes.tip, sizes.floor)),
-                    )
-                }
-            },
-        },
+    let Given::Database(x) = &mut session.held else {
+        return Turn::Reply(Reply::Refused(Refused::NoDatabase));
+    };
+    let Some(batch) = take_writing(&mut session.table, number) else {
+        return Turn::Reply(Reply::Refused(Refused::NoSuchHandle(number)));
+    };
+    match merkleize_batch::<X, C>(alloc, x, batch, policy, metadata) {
+        Err(error) => turn_of(error),
+        Ok(batch) => {
+            let sizes = X::sizes(&batch);
+            put_slot(&mut session.table, number, Slot::Merkleized(batch));
+            Turn::Reply(Reply::Merkleized(number, sizes.base, sizes.tip, sizes.floor))
+        }
     }
 }
 
