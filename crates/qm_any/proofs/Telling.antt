@@ -186,14 +186,8 @@ proof-spelled hash shape list size inactive a b within is =
 
 -- why there is no proof, case by case
 module _ (list : List Operation) (size start : ℕ) where
-  pub refused-past : length list < size → proof_refusal list size start ≡ Some (Merkle (RangeOutOfBounds size))
-  refused-past past = ap (λ b. if b then Some (Merkle (RangeOutOfBounds size)) else end_refusal size start (floor_before list size)) (lt-ltb (length list) size past)
-
   ended : (o : Option ℕ) → size ≤ length list → o ≡ floor_before list size → proof_refusal list size start ≡ end_refusal size start o
   ended o within is = ap (λ b. if b then Some (Merkle (RangeOutOfBounds size)) else end_refusal size start (floor_before list size)) (le-ltb (length list) size within) ∙ ap (end_refusal size start) (sym is)
-
-  pub refused-end : size ≤ length list → None ≡ floor_before list size → proof_refusal list size start ≡ Some (HistoricalFloorPruned size)
-  refused-end within is = ended None within is
 
   module _ (f : ℕ) (within : size ≤ length list) (some : 0 < size) (is : Some f ≡ floor_before list size) where
     pub refused-floor : size ≤ f → proof_refusal list size start ≡ Some (DataCorrupted FloorExceedsCommit)

@@ -1,7 +1,7 @@
 //! Batches: writes that are recorded, and the list that they make.
 
 ghost use Rattle.std.specs.Prelude.{◌≡◌, ◌≢◌, ◌⊎◌, ◌≤◌, ◌+◌, ◌^◌, ◌++◌, ◌∷◌, ℕ, suc, min, [], List, None, true, false, length, map, take, drop, option_map, Contains, IfOk, IfErr, OnOk};
-ghost use Rattle.qm_model.specs.Batches.{Chain, IsKnown, IsOnChain, own_operations};
+ghost use Rattle.qm_model.specs.Batches.{Chain, IsKnown, IsOnChain, child_of, own_operations};
 ghost use Rattle.qm_model.specs.Causes.{Rose};
 ghost use Rattle.qm_model.specs.Live as lives;
 ghost use Rattle.qm_model.specs.Operations.{Operation, spelling};
@@ -254,7 +254,8 @@ impl<F: Family, D: Digest, K: Key, V: VariableValue> MerkleizedBatch<F, D, Unord
         batch: &Rc<Self>,
         alloc: Global,
     ) -> Result<UnmerkleizedBatch<F, D, Unordered<K, V>>, AllocError>
-        ensures { IfOk result (λ b. b ≡ record { parent = batch.now.value; keep = suc (length batch.now.value.bounds.ancestors); writes = [] }) }
+        ensures value { IfOk result (λ b. b ≡ record { parent = batch.now.value; keep = suc (length batch.now.value.bounds.ancestors); writes = [] }) }
+        ensures begun { (hash : List ℕ → List ℕ) (chain : Chain) (tip : List Operation) → IsMade D.bytes hash F.shape batch.now.value chain tip → IfOk result (λ b. IsBegun D.bytes hash F.shape b (child_of None chain tip) chain) }
     {
         Self::new_batch_keeping(batch, alloc, batch.bounds.ancestors.len())
     }
@@ -266,7 +267,8 @@ impl<F: Family, D: Digest, K: Key, V: VariableValue> MerkleizedBatch<F, D, Unord
         alloc: Global,
         n: usize,
     ) -> Result<UnmerkleizedBatch<F, D, Unordered<K, V>>, AllocError>
-        ensures { IfOk result (λ b. b ≡ record { parent = batch.now.value; keep = suc (min n (length batch.now.value.bounds.ancestors)); writes = [] }) }
+        ensures value { IfOk result (λ b. b ≡ record { parent = batch.now.value; keep = suc (min n (length batch.now.value.bounds.ancestors)); writes = [] }) }
+        ensures begun { (hash : List ℕ → List ℕ) (chain : Chain) (tip : List Operation) → IsMade D.bytes hash F.shape batch.now.value chain tip → IfOk result (λ b. IsBegun D.bytes hash F.shape b (child_of (Some n) chain tip) chain) }
     {
         let keep = n.min(batch.bounds.ancestors.len()) + 1;
         let parent = batch.clone()?;
@@ -429,7 +431,7 @@ impl<F: Family, D: Digest, K: Key, V: VariableValue> MerkleizedBatch<F, D, Unord
         }
     }
 
-    // The steps that a child keeps: so many, newest first.
+    // The steps of a child: its own, then so many of these, newest first.
     fn child_steps(
         &self,
         alloc: Global,

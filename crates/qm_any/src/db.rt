@@ -1,7 +1,7 @@
 //! The database.
 
 ghost use Rattle.std.specs.Prelude.{◌≡◌, ◌≢◌, ◌⊎◌, ◌≤◌, ◌+◌, ◌^◌, ◌++◌, ◌∷◌, ℕ, [], List, bytes_eq, nat_lt, true, false, length, map, drop, option_map, Contains, if◌then◌else◌, IfOk, IfErr, OnOk};
-ghost use Rattle.qm_model.specs.Batches.{Chain, IsOnChain};
+ghost use Rattle.qm_model.specs.Batches.{Chain, IsOnChain, begun_on};
 ghost use Rattle.qm_model.specs.Causes.{IsCause};
 ghost use Rattle.qm_model.specs.Live as lives;
 ghost use Rattle.qm_model.specs.Operations.{Operation, spelling};
@@ -19,7 +19,7 @@ ghost use Rattle.qm_batch.specs.Layers.{IsBase};
 ghost use Rattle.qm_batch.specs.Changes.{LeadTo};
 ghost use Rattle.qm_batch.specs.Lent.{IsIndexed, IsReadError, NoneBelow};
 ghost use Rattle.qm_batch.specs.Views.{changes_view, write_view, IsPlan};
-ghost use Rattle.qm_any.specs.Databases.{Database, IsDatabase, IsLeft, IsMade, at_rest, bases, operations_in, stepped, unapplied};
+ghost use Rattle.qm_any.specs.Databases.{Database, IsBegun, IsDatabase, IsLeft, IsMade, at_rest, bases, operations_in, stepped, unapplied};
 ghost use Rattle.qm_any.specs.Given.{Appended, AppendedPart, store_given};
 ghost use Rattle.qm_any.specs.KeptTrees.{IsKeptTree, held_at};
 ghost use Rattle.qm_any.specs.Views.{write_views};
@@ -116,7 +116,8 @@ impl<
         &self,
         alloc: Global,
     ) -> Result<UnmerkleizedBatch<F, D, Unordered<K, V>>, AllocError>
-        ensures { IfOk result (λ b. b ≡ record { parent = at_rest self.now; keep = 0; writes = [] }) }
+        ensures value { IfOk result (λ b. b ≡ record { parent = at_rest self.now; keep = 0; writes = [] }) }
+        ensures begun { (list : List Operation) → IsDatabase C.Store D.bytes H.hash F.shape I.index_key self.now list → IfOk result (λ b. IsBegun D.bytes H.hash F.shape b (begun_on list) (begun_on list)) }
     {
         let parent = self.to_batch(alloc)?;
         Ok(UnmerkleizedBatch::begun(alloc, parent, 0))
@@ -128,7 +129,8 @@ impl<
         &self,
         alloc: Global,
     ) -> Result<Rc<MerkleizedBatch<F, D, Unordered<K, V>>>, AllocError>
-        ensures { IfOk result (λ b. b.value ≡ at_rest self.now) }
+        ensures value { IfOk result (λ b. b.value ≡ at_rest self.now) }
+        ensures made { (list : List Operation) → IsDatabase C.Store D.bytes H.hash F.shape I.index_key self.now list → IfOk result (λ b. IsMade D.bytes H.hash F.shape b.value (begun_on list) list) }
     {
         // The log has at most 2^62 items.
         self.log.bounds();
@@ -150,7 +152,8 @@ impl<
 
     /// Takes the batch's tip list: it appends to the store what that lacks of it, the operations of kept ancestors that are
     /// not applied yet and the batch's own, and puts into the index what these do to keys. The database comes back as it
-    /// was where the batch is stale, and where memory lacks before the store is called; after that its store comes back.
+    /// was where the batch is stale. Where memory lacks it comes back as it was, or its store does, which may have a first
+    /// part of them; where the store failed, its store does.
     pub fn apply_batch(
         self,
         alloc: Global,

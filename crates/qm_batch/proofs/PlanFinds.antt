@@ -232,9 +232,6 @@ module _ {A : Type 0} (value : A → Layer) (layers : List A) (i : ℕ) (d : A) 
   pub found-here : (value d).base ≤ at → found_in (map value (drop i layers)) at ≡ slice_get (value d).operations (at - (value d).base)
   found-here low = found-drop ∙ ap (λ t. if t then slice_get (value d).operations (at - (value d).base) else found_in (map value (drop (i + 1) layers)) at) (le-leb (value d).base at low)
 
-  pub found-next : at < (value d).base → found_in (map value (drop (i + 1) layers)) at ≡ found_in (map value (drop i layers)) at
-  found-next high = sym (found-drop ∙ ap (λ t. if t then slice_get (value d).operations (at - (value d).base) else found_in (map value (drop (i + 1) layers)) at) (lt-leb (value d).base at high))
-
 pub got-shown : {X : Type 0} (f : X → Operation) (r : Option (Bor X)) (ops : List X) (i : ℕ) → option_copied r ≡ slice_get ops i → option_map (λ o. f o.now) r ≡ slice_get (map f ops) i
 got-shown f r ops i h = by r ∙ ap (option_map f) h ∙ sym (slice_get-map f ops i)
   where

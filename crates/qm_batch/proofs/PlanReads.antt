@@ -58,25 +58,6 @@ there-here list at k v h =
     ap₂ (λ ops n. is_there (stands_at ops k) n) (sym (split-here list at op here.1)) (sym (front-long list at op here.1))
     ∙ there-touched (take at list) k v here.0 (drop (at + 1) list) (touched k (drop (at + 1) list)) refl
 
--- a live update's key stands at its location
-pub live_said-stands : (list : List Operation) (at : ℕ) (k v : Bytes) → live_said_at list at ≡ Some (k, v) → stands_at list k ≡ Some (at, v)
-live_said-stands list at k v h = by (update_at list at) refl (sym (live_said-update list at) ∙ h)
-  where
-    by : (o : Option (Bytes × Bytes)) → update_at list at ≡ o → option_and_then (unless_touched (drop (at + 1) list)) o ≡ Some (k, v) → stands_at list k ≡ Some (at, v)
-    by None is h = cc
-    by (Some p) is h = free (touched p.0 (drop (at + 1) list)) refl h
-      where
-        free : (t : Bool) → touched p.0 (drop (at + 1) list) ≡ t → (if t then None else Some p) ≡ Some (k, v) → stands_at list k ≡ Some (at, v)
-        free true touched_later h = cc
-        free false untouched h =
-            let same : p ≡ (k, v) = same_Some p (k, v) h in
-            let here = update-here list at k v (is ∙ ap (λ x. Some x) same) in
-            let op = update k v here.0 in
-            let not_behind : touched k (drop (at + 1) list) ≡ false = ap (λ (x : Bytes × Bytes). touched x.0 (drop (at + 1) list)) (sym same) ∙ untouched in
-            ap (λ ops. stands_at ops k) (sym (split-here list at op here.1))
-            ∙ stands-untouched (take at list) k v here.0 (drop (at + 1) list) not_behind
-            ∙ ap (λ n. Some (n, v)) (front-long list at op here.1)
-
 pub slice_get-front : {X : Type 0} (xs ys : List X) (i : ℕ) → i < length xs → slice_get (xs ++ ys) i ≡ slice_get xs i
 slice_get-front [] ys i h = absurd (omega (arith, h))
 slice_get-front (x ∷ xs) ys zero h = refl

@@ -55,13 +55,6 @@ module _ {C D : Type 0} (members : store.Ghosts C) (shape : Shape) (bytes : D �
       IsLent members shape bytes hash index_key entries a list → IsLent members shape bytes hash index_key entries b list
   lent-then index_key entries a b list read is = record { indexed = is.indexed; logged = read.stands _ is.logged; unordered = is.unordered }
 
--- want of memory is no item that is gone
-pub memory-kept : (e : Error) → e ≡ errors.Memory → (n : ℕ) → e ≢ errors.Journal (journal.ItemPruned n)
-memory-kept e is n pruned = absurd (cases (sym is ∙ pruned))
-  where
-    cases : errors.Memory ≡ errors.Journal (journal.ItemPruned n) → ⊥
-    cases same = cc
-
 module _ (index_key : Bytes → ℕ) (entries : List (ℕ × List ℕ)) (list : List Operation) (indexed : IsIndexed index_key entries list) (key : Bytes) where
   abbrev here : Live → Bool
   here e = index_key e.key == index_key key

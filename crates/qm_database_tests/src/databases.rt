@@ -1,4 +1,5 @@
-//! That calls succeed, and the root of a fresh database, which was computed by another program.
+//! That calls succeed, what a batch answers at each state of its chain, and the root of a fresh database, which was computed
+//! by another program.
 
 use qm_any::batch::{MerkleizedBatch, UnmerkleizedBatch};
 use qm_any::db::Db;
@@ -6,6 +7,7 @@ use qm_any::{Proportional, hasher, init, initial_root};
 use qm_base::update::Unordered;
 use qm_base::{
     ByteKey, ByteString, ByteValue, Digest, Error, JournalError, Location, Sha256, Sha256Digest,
+    Twin,
 };
 use qm_index::FourCap;
 use qm_index::unordered::Index;
@@ -158,40 +160,50 @@ fn made(alloc: Global, batch: Begun, number: u8, db: &mut Database) -> Result<Rc
     batch.merkleize(alloc, db, None, &mut Proportional)
 }
 
-// A fresh database as a batch, so many batches each on the one before, which keep all, and one on the last of them that
-// keeps this many of what that keeps.
-fn chain(alloc: Global, older: u8, keep: u8) -> Result<(Vec<Rc<Batch>>, Rc<Batch>), Error> {
+// So many batches, each on the one before and the first on a fresh database, which keep all; none is applied.
+fn stacked(alloc: Global, count: u8) -> Result<Vec<Rc<Batch>>, Error> {
     let mut db = opened(alloc)?;
-    let mut batches = Vec::new(alloc);
     let mut parent = db.to_batch(alloc)?;
-    for number in 0..older {
+    let mut batches = Vec::new(alloc);
+    for number in 0..count {
         let child = made(alloc, Batch::new_batch(&parent, alloc)?, number, &mut db)?;
-        batches.push(parent)?;
+        let copy = child.clone()?;
+        batches.push(copy)?;
         parent = child;
     }
-    let mut db = applied(alloc, db, &parent)?;
+    Ok(batches)
+}
+
+// The batch that comes after so many of these, with the same writes. Each is made where the one before is applied, and
+// keeps so many of what that keeps; the last one keeps so many.
+fn last_of(alloc: Global, older: u8, keep_older: u8, keep: u8) -> Result<Rc<Batch>, Error> {
+    let mut db = opened(alloc)?;
+    let mut parent = db.to_batch(alloc)?;
+    for number in 0..older {
+        let batch = Batch::new_batch_keeping(&parent, alloc, usize::from(keep_older))?;
+        let child = made(alloc, batch, number, &mut db)?;
+        db = applied(alloc, db, &child)?;
+        parent = child;
+    }
     let batch = Batch::new_batch_keeping(&parent, alloc, usize::from(keep))?;
-    let last = made(alloc, batch, older, &mut db)?;
-    batches.push(parent)?;
-    Ok((batches, last))
+    made(alloc, batch, older, &mut db)
 }
 
-// The database after these batches, each after the one before.
-fn applied_in_turn(alloc: Global, db: Database, batches: &[Rc<Batch>]) -> Result<Database, Error> {
-    let mut db = db;
+// A fresh database after some of these batches, the lowest bit for the first, and how many of them its list then has.
+fn after(alloc: Global, batches: &[Rc<Batch>], choice: u8) -> Result<(Database, u8), Error> {
+    let mut db = opened(alloc)?;
+    let mut rest = choice;
+    let mut number: u8 = 0;
+    let mut state = 0;
     for batch in batches {
-        db = applied(alloc, db, batch)?;
+        number = number.saturating_add(1);
+        if rest % 2 == 1 {
+            db = applied(alloc, db, batch)?;
+            state = number;
+        }
+        rest /= 2;
     }
-    Ok(db)
-}
-
-// A database after so many batches of a chain: in one step or, where the last one is among them, in turn.
-fn after(alloc: Global, batches: &[Rc<Batch>], last: &Batch, state: u8) -> Result<Database, Error> {
-    let db = opened(alloc)?;
-    match batches.get(usize::from(state)) {
-        Some(batch) => applied(alloc, db, batch),
-        None => applied(alloc, applied_in_turn(alloc, db, batches)?, last),
-    }
+    Ok((db, state))
 }
 
 // How many bytes the value has that was read.
@@ -208,8 +220,9 @@ struct Seen {
     read: Result<Option<usize>, Error>,
     read_oldest: Result<Option<usize>, Error>,
     read_by_child: Result<Option<usize>, Error>,
+    is_proved: Result<bool, Error>,
     child: Option<Error>,
-    applied: Result<Option<usize>, Error>,
+    is_taken: Result<bool, Error>,
 }
 
 // What the last batch of a chain answers.
@@ -220,6 +233,7 @@ fn seen_of(alloc: Global, last: &Rc<Batch>, number: u8, db: Database) -> Result<
     let oldest = read(last.get(alloc, &numbered(alloc, 0)?, &mut db));
     let batch = Batch::new_batch(last, alloc)?.write(numbered(alloc, number)?, None)?;
     let through = read(batch.get(alloc, &key, &mut db));
+    let is_proved = is_proved(alloc, last, &db);
     let child = batch
         .merkleize(alloc, &mut db, None, &mut Proportional)
         .err();
@@ -227,47 +241,55 @@ fn seen_of(alloc: Global, last: &Rc<Batch>, number: u8, db: Database) -> Result<
         read: value,
         read_oldest: oldest,
         read_by_child: through,
+        is_proved,
         child,
-        applied: read_after(alloc, db, last, &key),
+        is_taken: is_taken(alloc, db, last, number),
     })
 }
 
-// The value of a key in the database after a batch.
-fn read_after(
-    alloc: Global,
-    db: Database,
-    batch: &Batch,
-    key: &ByteKey,
-) -> Result<Option<usize>, Error> {
+// Whether a batch's own operations are proved. Its peaks are there too.
+fn is_proved(alloc: Global, batch: &Batch, db: &Database) -> Result<bool, Error> {
+    batch.pinned_nodes(alloc, db)?;
+    let proof = batch.proof(alloc, db)?;
+    let (from, own) = batch.operations();
+    let mut hasher = hasher(Sha256::new());
+    Ok(proof.verify(&mut hasher, own, from, &batch.root()))
+}
+
+// Whether the database has a batch's root after it, and the value of each key of the chain up to this number.
+fn is_taken(alloc: Global, db: Database, batch: &Batch, number: u8) -> Result<bool, Error> {
     let mut db = applied(alloc, db, batch)?;
-    read(db.get(alloc, key))
+    let mut is_taken = db.root().bytes() == batch.root().bytes();
+    for older in 0..=number {
+        let value = read(db.get(alloc, &numbered(alloc, older)?))?;
+        is_taken = is_taken && value == Some(usize::from(older));
+    }
+    Ok(is_taken)
 }
 
 // What it has to answer after `state` batches of its chain: it knows the states from the base of the oldest batch that
-// it keeps on, and fits at those that are not its own.
-fn expected(older: u8, keep: u8, state: u8) -> Seen {
-    let lowest = older.saturating_sub(keep.saturating_add(1));
-    let known = lowest <= state;
-    let value = Some(usize::from(older));
+// it keeps on, and fits at those that are not its own. The first batch keeps the database that it was begun on.
+fn expected(older: u8, keep_older: u8, keep: u8, state: u8) -> Seen {
+    let kept_before = older.min(keep_older.saturating_add(1));
+    let kept = keep.min(kept_before).saturating_add(1);
+    if state < older.saturating_sub(kept) {
+        return Seen {
+            read: Err(Error::StaleRead),
+            read_oldest: Err(Error::StaleRead),
+            read_by_child: Err(Error::StaleRead),
+            is_proved: Err(Error::StaleRead),
+            child: Some(Error::StaleBatch),
+            is_taken: Err(Error::StaleBatch),
+        };
+    }
     Seen {
-        read: if known {
-            Ok(value)
-        } else {
-            Err(Error::StaleRead)
-        },
-        read_oldest: if known {
-            Ok(Some(0))
-        } else {
-            Err(Error::StaleRead)
-        },
-        read_by_child: if known {
-            Ok(None)
-        } else {
-            Err(Error::StaleRead)
-        },
-        child: if known { None } else { Some(Error::StaleBatch) },
-        applied: if known && state <= older {
-            Ok(value)
+        read: Ok(Some(usize::from(older))),
+        read_oldest: Ok(Some(0)),
+        read_by_child: Ok(None),
+        is_proved: Ok(true),
+        child: None,
+        is_taken: if state <= older {
+            Ok(true)
         } else {
             Err(Error::StaleBatch)
         },
@@ -276,16 +298,35 @@ fn expected(older: u8, keep: u8, state: u8) -> Seen {
 
 #[test]
 fn batches_know_the_states_of_their_chains(rt: HostRuntime) -> Result<(), Fail> {
+    let alloc = rt.alloc();
+    let mut choices: u8 = 1;
     for older in 0..5 {
-        for keep in 0..=older {
-            let (batches, last) = chain(rt.alloc(), older, keep)?;
-            for state in 0..older + 2 {
-                let db = after(rt.alloc(), &batches, &last, state)?;
-                let seen = seen_of(rt.alloc(), &last, older, db)?;
-                assert_eq!(rt; seen, expected(older, keep, state));
+        let batches = stacked(alloc, older)?;
+        for keep_older in 0..=older {
+            for keep in 0..=older {
+                let last = last_of(alloc, older, keep_older, keep)?;
+                for choice in 0..choices {
+                    let (db, state) = after(alloc, &batches, choice)?;
+                    let seen = seen_of(alloc, &last, older, db)?;
+                    assert_eq!(rt; seen, expected(older, keep_older, keep, state));
+                }
+                let (db, _) = after(alloc, &batches, 255)?;
+                let db = applied(alloc, db, &last)?;
+                let seen = seen_of(alloc, &last, older, db)?;
+                assert_eq!(rt; seen, expected(older, keep_older, keep, older + 1));
             }
         }
+        choices = choices.saturating_mul(2);
     }
+    Ok(())
+}
+
+#[test]
+fn bounds_have_twins(rt: HostRuntime) -> Result<(), Fail> {
+    let last = last_of(rt.alloc(), 2, 2, 2)?;
+    let twin = last.bounds().twin(rt.alloc())?;
+    assert_eq!(rt; twin.ancestors.len(), 3);
+    assert_eq!(rt; twin.tip.size, last.bounds().tip.size);
     Ok(())
 }
 

@@ -121,10 +121,6 @@ pub each_more : (o : Option (List Bytes)) {P Q : List Bytes → Type 0} → IfSo
 each_more None p h = tt
 each_more (Some x) p h = h x p
 
-pub each_input_more : (o : Option Bytes) {P Q : Bytes → Type 0} → IfSome o P → ((x : Bytes) → P x → Q x) → IfSome o Q
-each_input_more None p h = tt
-each_input_more (Some x) p h = h x p
-
 -- each of two
 pub both : (o : Option (List Bytes)) (i : Option Bytes) {P : List Bytes → Type 0} {R : Bytes → Type 0} {Q : List Bytes → Bytes → Type 0} → IfSome o P → IfSome i R → ((x : List Bytes) (y : Bytes) → P x → R y → Q x y)
     → IfSome o (λ x. IfSome i (Q x))

@@ -10,7 +10,7 @@ use Rattle.qm_run.specs.Databases.{digest_bytes}
 use Rattle.qm_run.proofs.database.DatabaseEngine.batch.Goals as goal
 
 pub returns : goal.returns
-returns g c = ok-then c.new_batch.result c.new_batch.ensures (λ b begun list is. (
+returns g c = ok-then c.new_batch.result c.new_batch.ensures.value (λ b begun list is. (
   subst (λ x. IsBegun digest_bytes sha256 mmr x (begun_on list) (begun_on list)) (sym begun) (record { parent = rest-made g.C.Store digest_bytes sha256 mmr (capped 4) c.args.self.now list is; kept = refl }),
   ap (λ x. x.writes) begun,
 ))

@@ -10,14 +10,14 @@ use Rattle.qm_run.proofs.database.DatabaseEngine.child.Goals as goal
 
 pub returns-in-None : goal.returns-in-None
 returns-in-None g c =
-    rw c.in-None.is (ok-then c.new_batch.result c.new_batch.ensures (λ b begun chain tip batch. (
+    rw c.in-None.is (ok-then c.new_batch.result c.new_batch.ensures.value (λ b begun chain tip batch. (
       subst (λ x. IsBegun digest_bytes sha256 mmr x (child_of None chain tip) chain) (sym begun) (child-all digest_bytes sha256 mmr c.args.batch.now.value chain tip batch),
       ap (λ x. x.writes) begun,
     )))
 
 pub returns-in-Some : goal.returns-in-Some
 returns-in-Some g c =
-    rw c.in-Some.is (ok-then c.new_batch_keeping.result c.new_batch_keeping.ensures (λ b begun chain tip batch. (
+    rw c.in-Some.is (ok-then c.new_batch_keeping.result c.new_batch_keeping.ensures.value (λ b begun chain tip batch. (
       subst (λ x. IsBegun digest_bytes sha256 mmr x (child_of (Some c.in-Some.n) chain tip) chain) (sym begun) (child-first digest_bytes sha256 mmr c.in-Some.n c.args.batch.now.value chain tip batch),
       ap (λ x. x.writes) begun,
     )))

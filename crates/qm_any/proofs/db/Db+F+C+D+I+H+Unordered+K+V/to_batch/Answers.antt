@@ -1,0 +1,18 @@
+use Rattle.std.proofs.Common.{arith, sym, subst}
+use Rattle.std.proofs.lemmas.Grind.{common_steps}
+use Rattle.qm_model.proofs.Results.{ok-then}
+use Rattle.qm_model.specs.Batches.{begun_on}
+use Rattle.qm_any.specs.Databases.{IsMade}
+use Rattle.qm_any.proofs.Resting.{rest-made}
+use Rattle.qm_any.proofs.db.Db+F+C+D+I+H+Unordered+K+V.to_batch.Goals as goal
+
+pub returns-clause-value : goal.returns-clause-value
+returns-clause-value g c = grind (arith, common_steps)
+
+pub returns-clause-made : goal.returns-clause-made
+returns-clause-made g c = λ list stands.
+    let bytes = g.D.Digest.bytes in
+    let hash = g.H.Hasher.hash in
+    let shape = g.F.Family.shape in
+    ok-then c.at_rest.result (returns-clause-value g c) (λ b is.
+    subst (λ x. IsMade bytes hash shape x (begun_on list) list) (sym is) (rest-made g.C.Store bytes hash shape g.I.Unordered.index_key c.args.self.now list stands))
