@@ -1,11 +1,7 @@
-//! Tests of databases and what stands above them: what no clause says of plans, batches, lines and runs.
+//! Tests of databases and what stands above them: what no clause says of batches, databases and runs.
 #![tactic(auto)]
 
 #[cfg(test)]
 mod databases;
-#[cfg(test)]
-mod lines;
-#[cfg(test)]
-mod plans;
 #[cfg(test)]
 mod runs;
