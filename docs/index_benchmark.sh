@@ -22,7 +22,7 @@ cat > "$copy/crates/qm_bench/src/main.rt" <<'PROGRAM'
 ghost use Rattle.std.specs.Prelude.{◌<◌};
 
 use qm_index::unordered::Index;
-use qm_index::{FourCap, Translator, Unordered};
+use qm_index::{Factory, FourCap, Translator, Unordered};
 use std::alloc::{AllocError, Global};
 use std::collections::HashMap;
 use std::fs;
