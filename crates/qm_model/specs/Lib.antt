@@ -14,6 +14,10 @@ pub mod Mmb
 pub mod ProofRows
 pub mod Proofs
 pub mod Roots
+pub mod Bits
+pub mod Grafted
+pub mod RangeProofs
+pub mod Checks
 pub mod Batches
 pub mod Lines
 pub mod Refusals
@@ -23,4 +27,6 @@ pub mod Text
 pub mod Rows
 pub mod TreeRows
 pub mod LineRows
+pub mod CurrentRows
+pub mod ShaRow
 pub mod RandomSteps

@@ -1,14 +1,24 @@
 //! What holds of the definitions, each as the contract of a function that does nothing.
 
-ghost use Rattle.std.specs.Prelude.{◌≡◌, ◌↔◌, ℕ, suc, ◌-◌, ◌^◌, ◌<◌, ◌≤◌, Bool, true, false, List, [], ◌∷◌, ◌++◌, length, map, take, drop, All, Option, Some, bytes_eq};
-ghost use Rattle.qm_model.specs.Operations.{Bytes, Operation, spelling};
-ghost use Rattle.qm_model.specs.Live.{live, floor, value_of};
-ghost use Rattle.qm_model.specs.Writes.{Write, last_writes, write_of, overwritten};
-ghost use Rattle.qm_model.specs.Walk.{Rules};
-ghost use Rattle.qm_model.specs.Step.{unordered, step, Made, IsGood};
+ghost use Rattle.std.specs.Prelude.{◌≡◌, ◌↔◌, ℕ, suc, ◌+◌, ◌-◌, ◌^◌, ◌<◌, ◌≤◌, Bool, true, false, if◌then◌else◌, List, [], ◌∷◌, ◌++◌, length, map, take, drop, All, IsPermutation, Option, Some, is_some, bytes_eq, replicate, slice_index_or, slice_get, ◌*◌};
+ghost use Rattle.std.specs.List.{IsDistinct};
+ghost use Rattle.std.specs.List.Sorted.{IsSortedBy, IsStrictlySortedBy};
+ghost use Rattle.std.specs.Cmp.Lexicographic.{slice_cmp};
+ghost use Rattle.std.specs.Ordering.{nat_cmp};
+ghost use Rattle.qm_model.specs.Operations.{Bytes, Operation, spelling, IsCommitEnded, update};
+ghost use Rattle.qm_model.specs.Live.{live, live_keys, floor, value_of, touched};
+ghost use Rattle.qm_model.specs.Keys.{key_lt, successor, predecessor, contains_key, without, once, by_key, between, IsNext, IsPrevious};
+ghost use Rattle.qm_model.specs.Writes.{Write, last_writes, write_of, overwritten, unordered_writes, made_inactive};
+ghost use Rattle.qm_model.specs.Walk.{Rules, Limits, walk};
+ghost use Rattle.qm_model.specs.Ordered.{ordered_writes, deleted_keys, created_keys, IsRing};
+ghost use Rattle.qm_model.specs.Step.{unordered, ordered, step, Made, IsGood, IsOrderedGood, Kind};
+ghost use Rattle.qm_model.specs.Batches.{Begins};
 ghost use Rattle.qm_model.specs.Policies.{OnlyKeeps, NeverMoves};
 ghost use Rattle.qm_model.specs.Proofs.{item_leaves, proof_of, verdict};
 ghost use Rattle.qm_model.specs.Trees.{Shape, peaks, root, leaves_from};
+ghost use Rattle.qm_model.specs.Bits.{bits};
+ghost use Rattle.qm_model.specs.Grafted.{chunk_size, chunk_of, canonical};
+ghost use Rattle.qm_model.specs.RangeProofs.{chunks_of, range_proof, range_verdict};
 
 /// A policy by its rules alone, for laws that hold of every policy.
 pub trait Ruled {
@@ -54,6 +64,127 @@ pub fn keeping_policies_keep_the_map<P: Ruled>()
         → value_of (step unordered P.rules ops ws policy meta) key ≡ overwritten (write_of (last_writes ws) key) (value_of ops key) }
 {}
 
+/// The writes of a step give each key the value of its last write, and change no other.
+pub fn writes_change_the_map()
+    ensures unordered { (ops : List Operation) (ws : List Write) (key : Bytes) → value_of (ops ++ unordered_writes ops ws) key ≡ overwritten (write_of (last_writes ws) key) (value_of ops key) }
+    ensures ordered { (ops : List Operation) (ws : List Write) (key : Bytes) → value_of (ops ++ ordered_writes ops ws) key ≡ overwritten (write_of (last_writes ws) key) (value_of ops key) }
+{}
+
+/// No key is live twice, and ordered writes change how many are by those that they create and delete.
+pub fn live_keys_are_counted()
+    ensures once { (ops : List Operation) → IsDistinct bytes_eq (live_keys ops) }
+    ensures ordered { (ops : List Operation) (ws : List Write) →
+        length (live (ops ++ ordered_writes ops ws)) + length (deleted_keys (live ops) (last_writes ws)) ≡ length (live ops) + length (created_keys (live ops) (last_writes ws)) }
+{}
+
+/// A walk decides live keys, each once.
+pub fn walks_decide_live_keys_once<P: Ruled>()
+    ensures once { (ops : List Operation) (f : ℕ) (limits : Limits) (policy : P) → IsDistinct bytes_eq (map (λ d. d.key) (walk P.rules ops f limits policy).decisions) }
+    ensures live { (ops : List Operation) (f : ℕ) (limits : Limits) (policy : P) → All (λ d. contains_key (live_keys ops) d.key ≡ true) (walk P.rules ops f limits policy).decisions }
+{}
+
+/// The map after a step is the map before with the last writes, and then what the walk decided.
+pub fn steps_change_the_map<P: Ruled>()
+    ensures unordered { (ops : List Operation) (ws : List Write) (policy : P) (meta : Option Bytes) (key : Bytes) →
+        let made = unordered_writes ops ws in
+        let walked = walk P.rules (ops ++ made) (floor ops) (P.rules.limits policy (made_inactive ops made)) policy in
+        value_of (step unordered P.rules ops ws policy meta) key ≡ overwritten (write_of walked.decisions key) (overwritten (write_of (last_writes ws) key) (value_of ops key)) }
+    ensures ordered { (ops : List Operation) (ws : List Write) (policy : P) (meta : Option Bytes) (key : Bytes) →
+        let made = ordered_writes ops ws in
+        let walked = walk P.rules (ops ++ made) (floor ops) (P.rules.limits policy (made_inactive ops made)) policy in
+        value_of (step ordered P.rules ops ws policy meta) key ≡ overwritten (write_of walked.decisions key) (overwritten (write_of (last_writes ws) key) (value_of ops key)) }
+{}
+
+/// A step of an ordered database does not lower the floor, which is a location of its list, below each live update, and its commit exactly where nothing is live.
+pub fn ordered_floors_are_kept<P: Ruled>()
+    ensures inside { (ops : List Operation) (ws : List Write) (policy : P) (meta : Option Bytes) → floor ops ≤ length ops
+        → let after = step ordered P.rules ops ws policy meta in floor after < length after }
+    ensures rise { (ops : List Operation) (ws : List Write) (policy : P) (meta : Option Bytes) → floor ops ≤ length ops
+        → floor ops ≤ floor (step ordered P.rules ops ws policy meta) }
+    ensures below { (ops : List Operation) (ws : List Write) (policy : P) (meta : Option Bytes) → IsGood ops
+        → let after = step ordered P.rules ops ws policy meta in All (λ e. floor after ≤ e.location) (live after) }
+    ensures empty { (ops : List Operation) (ws : List Write) (policy : P) (meta : Option Bytes) → IsGood ops
+        → let after = step ordered P.rules ops ws policy meta in (live after ≡ []) ↔ (suc (floor after) ≡ length after) }
+{}
+
+/// Where each live update names the next live key, each does after the writes of a step, and after the step.
+pub fn the_ring_is_kept<P: Ruled>()
+    ensures writes { (ops : List Operation) (ws : List Write) → IsRing ops → IsRing (ops ++ ordered_writes ops ws) }
+    ensures steps { (ops : List Operation) (ws : List Write) (policy : P) (meta : Option Bytes) → IsRing ops → IsRing (step ordered P.rules ops ws policy meta) }
+{}
+
+/// Each list that steps make keeps what an ordered database relies on.
+pub fn made_ordered_lists_are_good<P: Ruled>()
+    ensures { (ops : List Operation) → Made ordered P.rules ops → IsOrderedGood ops }
+{}
+
+/// Under a policy that writes each value as it is, or decides nothing, an ordered step changes the map as its writes say.
+pub fn keeping_policies_keep_the_ordered_map<P: Ruled>()
+    ensures keeps { (ops : List Operation) (ws : List Write) (policy : P) (meta : Option Bytes) (key : Bytes) → OnlyKeeps P.rules
+        → value_of (step ordered P.rules ops ws policy meta) key ≡ overwritten (write_of (last_writes ws) key) (value_of ops key) }
+    ensures holds { (ops : List Operation) (ws : List Write) (policy : P) (meta : Option Bytes) (key : Bytes) → NeverMoves P.rules
+        → value_of (step ordered P.rules ops ws policy meta) key ≡ overwritten (write_of (last_writes ws) key) (value_of ops key) }
+{}
+
+/// A beginning of a made list that ends with a commit is itself made, and its floor is not above the list's.
+pub fn beginnings_of_made_lists_are_made<P: Ruled>()
+    ensures unordered { (front ops : List Operation) → Made unordered P.rules ops → Begins front ops → IsCommitEnded front → Made unordered P.rules front × (floor front ≤ floor ops) }
+    ensures ordered { (front ops : List Operation) → Made ordered P.rules ops → Begins front ops → IsCommitEnded front → Made ordered P.rules front × (floor front ≤ floor ops) }
+{}
+
+/// So it is good.
+pub fn beginnings_of_made_lists_are_good<P: Ruled>()
+    ensures unordered { (front ops : List Operation) → Made unordered P.rules ops → Begins front ops → IsCommitEnded front → IsGood front }
+    ensures ordered { (front ops : List Operation) → Made ordered P.rules ops → Begins front ops → IsCommitEnded front → IsOrderedGood front }
+{}
+
+/// The order of keys is a strict total order, and a key comes before what it begins.
+pub fn keys_are_in_a_total_order()
+    ensures irreflexive { (a : Bytes) → key_lt a a ≡ false }
+    ensures transitive { (a b c : Bytes) → key_lt a b ≡ true → key_lt b c ≡ true → key_lt a c ≡ true }
+    ensures total { (a b : Bytes) → key_lt a b ≡ false → key_lt b a ≡ false → a ≡ b }
+    ensures prefix { (a : Bytes) (c : ℕ) (cs : Bytes) → key_lt a (a ++ c ∷ cs) ≡ true }
+{}
+
+/// The successor of a key among others is the next of them on the way up, and its predecessor the next on the way down; only among no keys is there none.
+pub fn successors_are_next()
+    ensures successor { (keys : List Bytes) (key next : Bytes) → (successor keys key ≡ Some next) ↔ IsNext keys key next }
+    ensures predecessor { (keys : List Bytes) (key previous : Bytes) → (predecessor keys key ≡ Some previous) ↔ IsPrevious keys key previous }
+    ensures some_successor { (keys : List Bytes) (key k : Bytes) → contains_key keys k ≡ true → is_some (successor keys key) ≡ true }
+    ensures some_predecessor { (keys : List Bytes) (key k : Bytes) → contains_key keys k ≡ true → is_some (predecessor keys key) ≡ true }
+    ensures turned { (keys : List Bytes) (key next : Bytes) → contains_key keys key ≡ true → contains_key keys next ≡ true → (successor keys key ≡ Some next) ↔ (predecessor keys next ≡ Some key) }
+{}
+
+/// How successors change with a new key, among the keys of two lists, and without some keys.
+pub fn successors_change_with_the_keys()
+    ensures same { (xs ys : List Bytes) (key : Bytes) → ((x : Bytes) → contains_key xs x ≡ contains_key ys x) → successor xs key ≡ successor ys key }
+    ensures new { (keys : List Bytes) (key next k : Bytes) → successor keys key ≡ Some next → successor (k ∷ keys) key ≡ Some (if between key next k then k else next) }
+    ensures both { (xs ys : List Bytes) (key next other : Bytes) → successor xs key ≡ Some next → successor ys key ≡ Some other → successor (xs ++ ys) key ≡ Some (if between key next other then other else next) }
+    ensures kept { (keys : List Bytes) (key next gone : Bytes) → successor keys key ≡ Some next → bytes_eq next gone ≡ false → successor (without (gone ∷ []) keys) key ≡ Some next }
+    ensures gone { (keys : List Bytes) (key gone next : Bytes) → successor keys key ≡ Some gone → successor keys gone ≡ Some next → bytes_eq next gone ≡ false → successor (without (gone ∷ []) keys) key ≡ Some next }
+    ensures skipped { (keys fewer : List Bytes) (key gone : Bytes) → ((x : Bytes) → contains_key fewer x ≡ true → contains_key keys x ≡ true) → successor keys key ≡ Some gone → contains_key fewer gone ≡ false → successor fewer key ≡ successor fewer gone }
+{}
+
+/// And predecessors.
+pub fn predecessors_change_with_the_keys()
+    ensures same { (xs ys : List Bytes) (key : Bytes) → ((x : Bytes) → contains_key xs x ≡ contains_key ys x) → predecessor xs key ≡ predecessor ys key }
+    ensures new { (keys : List Bytes) (key previous k : Bytes) → predecessor keys key ≡ Some previous → predecessor (k ∷ keys) key ≡ Some (if between previous key k then k else previous) }
+    ensures both { (xs ys : List Bytes) (key previous other : Bytes) → predecessor xs key ≡ Some previous → predecessor ys key ≡ Some other → predecessor (xs ++ ys) key ≡ Some (if between previous key other then other else previous) }
+    ensures kept { (keys : List Bytes) (key previous gone : Bytes) → predecessor keys key ≡ Some previous → bytes_eq previous gone ≡ false → predecessor (without (gone ∷ []) keys) key ≡ Some previous }
+    ensures gone { (keys : List Bytes) (key gone previous : Bytes) → predecessor keys key ≡ Some gone → predecessor keys gone ≡ Some previous → bytes_eq previous gone ≡ false → predecessor (without (gone ∷ []) keys) key ≡ Some previous }
+    ensures skipped { (keys fewer : List Bytes) (key gone : Bytes) → ((x : Bytes) → contains_key fewer x ≡ true → contains_key keys x ≡ true) → predecessor keys key ≡ Some gone → contains_key fewer gone ≡ false → predecessor fewer key ≡ predecessor fewer gone }
+{}
+
+/// Keys in key order are the same keys and do not fall, keys once are the same and differ, and keys that rise are known by which they are.
+pub fn keys_are_sorted_once()
+    ensures sorted { (keys : List Bytes) → IsSortedBy key_lt (by_key keys) }
+    ensures moved { (keys : List Bytes) → IsPermutation keys (by_key keys) }
+    ensures differ { (keys : List Bytes) → IsDistinct bytes_eq (once keys) }
+    ensures same { (keys : List Bytes) (key : Bytes) → contains_key (once keys) key ≡ contains_key keys key }
+    ensures rise { (keys : List Bytes) → IsDistinct bytes_eq keys → IsStrictlySortedBy (slice_cmp nat_cmp) (by_key keys) }
+    ensures known { (xs keys : List Bytes) → IsStrictlySortedBy (slice_cmp nat_cmp) xs → ((x : Bytes) → contains_key xs x ≡ contains_key keys x) → xs ≡ by_key (once keys) }
+{}
+
 /// A proof of items of a list verifies against the list's root.
 pub fn a_proof_of_a_list_verifies()
     ensures { (hash : Bytes → Bytes) (shape : Shape) (items : List Bytes) (a b inactive : ℕ) → a < b → b ≤ length items → length items ≤ 2 ^ 62 → inactive ≤ length (peaks shape (length items))
@@ -63,4 +194,24 @@ pub fn a_proof_of_a_list_verifies()
 /// The leaves of an operation list are those of the operations' spellings.
 pub fn operations_are_hashed_by_their_spellings()
     ensures { (hash : Bytes → Bytes) (shape : Shape) (i : ℕ) (ops : List Operation) → leaves_from hash shape i ops ≡ item_leaves hash shape i (map spelling ops) }
+{}
+
+/// Each bit below the floor of a list is clear, and each chunk below it is zeros.
+pub fn bits_below_the_floor_are_clear()
+    ensures bit { (ops : List Operation) (i : ℕ) → IsGood ops → i < floor ops → slice_index_or (bits ops) i false ≡ false }
+    ensures chunk { (g : ℕ) (ops : List Operation) (c : ℕ) → 3 ≤ g → IsGood ops → suc c * 2 ^ g ≤ floor ops → chunk_of g ops c ≡ replicate (chunk_size g) 0 }
+{}
+
+/// A step clears the bit of an update whose key it writes again, and that of the commit at the list's end.
+pub fn a_step_clears_what_it_supersedes<P: Ruled>()
+    ensures update { (kind : Kind) (ops : List Operation) (ws : List Write) (policy : P) (meta : Option Bytes) (i : ℕ) (key value : Bytes) (next : Option Bytes)
+        → let after = step kind P.rules ops ws policy meta in slice_get ops i ≡ Some (update key value next) → touched key (drop (length ops) after) ≡ true → slice_get (bits after) i ≡ Some false }
+    ensures commit { (kind : Kind) (ops : List Operation) (ws : List Write) (policy : P) (meta : Option Bytes) → IsCommitEnded ops
+        → slice_get (bits (step kind P.rules ops ws policy meta)) (length ops - 1) ≡ Some false }
+{}
+
+/// A range proof of a list verifies against the list's canonical root.
+pub fn a_range_proof_of_a_list_verifies()
+    ensures { (hash : Bytes → Bytes) (shape : Shape) (g : ℕ) (ops : List Operation) (a b : ℕ) → a < b → b ≤ length ops → length ops ≤ 2 ^ 62
+        → range_verdict hash shape g (take (b - a) (drop a (map spelling ops))) a (chunks_of g ops a b) (range_proof hash shape g ops a b) (canonical hash shape g ops) ≡ true }
 {}
