@@ -8,6 +8,8 @@ mod batches;
 #[cfg(test)]
 mod chain;
 #[cfg(test)]
+mod delayed;
+#[cfg(test)]
 mod families;
 #[cfg(test)]
 mod index;

@@ -1,6 +1,7 @@
 pub mod Counting
 pub mod Rooting
 pub mod MmrCalls
+pub mod MmbCalls
 pub mod Numbering
 pub mod Lookups
 pub mod Standing

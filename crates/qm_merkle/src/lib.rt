@@ -5,6 +5,7 @@ pub mod batch;
 pub mod family;
 pub mod hasher;
 pub mod mem;
+pub mod mmb;
 pub mod mmr;
 pub mod position;
 pub mod proof;

@@ -20,6 +20,8 @@ pub mod Runs
 pub mod MmrPositions
 pub mod MmrFamily
 pub mod MmrPeaks
+pub mod MmbFamily
+pub mod MmbPeaks
 pub mod Proving
 pub mod Speaking
 pub mod Results
