@@ -13,7 +13,7 @@ use Rattle.std.proofs.lemmas.List.{drop_all}
 use Rattle.std.proofs.lemmas.Option.{slice_get_within, get_or_from_slice_get}
 use Rattle.std.proofs.lemmas.Nat.{pow_pos, mod_below, div-add-mod'}
 use Rattle.qm_model.specs.Operations.{Bytes, Operation, update, delete, commit, IsCommitEnded}
-use Rattle.qm_model.specs.Forms.{spelling, variable}
+use Rattle.qm_model.specs.Forms.{Form, spelling}
 use Rattle.qm_model.specs.Live.{Live, touched, live_from, live, live_of, live_keys, floor, floor_after, metadata_after, last_metadata}
 use Rattle.qm_model.specs.Keys.{key_lt, lesser, greater, least, greatest, successor, predecessor}
 use Rattle.qm_model.specs.Trees.{Shape}
@@ -66,10 +66,10 @@ update_active ops i k v n at none =
     last true = refl
     last false = refl
 
-one_item : (ops : List Operation) (i : ℕ) (op : Operation) → slice_get ops i ≡ Some op → take 1 (drop i (map (spelling variable) ops)) ≡ spelling variable op ∷ []
-one_item [] i op at = cc
-one_item (x ∷ ops) zero op at = let same : x ≡ op = cc in ap (λ o. spelling variable o ∷ []) same
-one_item (x ∷ ops) (suc i) op at = one_item ops i op at
+one_item : (form : Form) (ops : List Operation) (i : ℕ) (op : Operation) → slice_get ops i ≡ Some op → take 1 (drop i (map (spelling form) ops)) ≡ spelling form op ∷ []
+one_item form [] i op at = cc
+one_item form (x ∷ ops) zero op at = let same : x ≡ op = cc in ap (λ o. spelling form o ∷ []) same
+one_item form (x ∷ ops) (suc i) op at = one_item form ops i op at
 
 -- Absences.
 
@@ -192,9 +192,9 @@ last_commit (update k v n ∷ y ∷ ops) d f ended = let here : length (update k
 last_commit (delete k ∷ y ∷ ops) d f ended = let here : length (delete k ∷ y ∷ ops) - 1 ≡ suc (length (y ∷ ops) - 1) = omega arith in ap (slice_get (delete k ∷ y ∷ ops)) here ∙ last_commit (y ∷ ops) d f ended
 last_commit (commit m h ∷ y ∷ ops) d f ended = let here : length (commit m h ∷ y ∷ ops) - 1 ≡ suc (length (y ∷ ops) - 1) = omega arith in ap (slice_get (commit m h ∷ y ∷ ops)) here ∙ last_commit (y ∷ ops) m h ended
 
-module _ (hash : Bytes → Bytes) (shape : Shape) (g : ℕ) (enough : 3 ≤ g) (ops : List Operation) (few : length ops ≤ 2 ^ 62) where
+module _ (hash : Bytes → Bytes) (shape : Shape) (g : ℕ) (enough : 3 ≤ g) (form : Form) (ops : List Operation) (few : length ops ≤ 2 ^ 62) where
   -- the proof of an operation that stands at an active location verifies
-  pub operation_verified : (i : ℕ) (op : Operation) → slice_get ops i ≡ Some op → slice_get (bits ops) i ≡ Some true → operation_verdict hash shape g (operation_proof hash shape g ops i) (spelling variable op) (canonical hash shape g ops) ≡ true
+  pub operation_verified : (i : ℕ) (op : Operation) → slice_get ops i ≡ Some op → slice_get (bits ops) i ≡ Some true → operation_verdict hash shape g (operation_proof hash shape g form ops i) (spelling form op) (canonical hash shape g form ops) ≡ true
   operation_verified i op at active =
       let within = slice_get_within ops i op at in
       let chunk = chunk_of g ops (i / 2 ^ g) in
@@ -204,16 +204,16 @@ module _ (hash : Bytes → Bytes) (shape : Shape) (g : ℕ) (enough : 3 ≤ g) (
       let bit : has_bit chunk (i % 2 ^ g) ≡ true = chunk_bit (chunk_size g) (bits ops) (i / 2 ^ g) (i % 2 ^ g) (omega arith)
       ∙ ap (λ j. get_or (bits ops) j false) place ∙ get_or_from_slice_get (bits ops) i true false active in
       let one : suc i - i ≡ 1 = omega arith in
-      let items : take (suc i - i) (drop i (map (spelling variable) ops)) ≡ spelling variable op ∷ [] = ap (λ n. take n (drop i (map (spelling variable) ops))) one ∙ one_item ops i op at in
+      let items : take (suc i - i) (drop i (map (spelling form) ops)) ≡ spelling form op ∷ [] = ap (λ n. take n (drop i (map (spelling form) ops))) one ∙ one_item form ops i op at in
       let count : touched_chunks g i (suc i) ≡ 1 = let same : suc i - 1 ≡ i = omega arith in ap (λ j. suc (j / 2 ^ g) - i / 2 ^ g) same ∙ omega arith in
       let chunks : chunks_of g ops i (suc i) ≡ chunk ∷ [] = ap (chunks_from (chunk_of g ops) (i / 2 ^ g)) count in
-      let range : range_verdict hash shape g (spelling variable op ∷ []) i (chunk ∷ []) (range_proof hash shape g ops i (suc i)) (canonical hash shape g ops) ≡ true =
-      ap₂ (λ is cs. range_verdict hash shape g is i cs (range_proof hash shape g ops i (suc i)) (canonical hash shape g ops)) (sym items) (sym chunks)
-      ∙ range_verified hash shape g ops i (suc i) (omega arith) (omega arith) few in
+      let range : range_verdict hash shape g (spelling form op ∷ []) i (chunk ∷ []) (range_proof hash shape g form ops i (suc i)) (canonical hash shape g form ops) ≡ true =
+      ap₂ (λ is cs. range_verdict hash shape g is i cs (range_proof hash shape g form ops i (suc i)) (canonical hash shape g form ops)) (sym items) (sym chunks)
+      ∙ range_verified hash shape g form ops i (suc i) (omega arith) (omega arith) few in
       ap₂ (λ s t. s && t) bit range
 
   -- the proof of a live update verifies
-  pub held_verified : (key : Bytes) (e : Live) → live_of (live ops) key ≡ Some e → held_check hash shape g ops e ≡ true
+  pub held_verified : (key : Bytes) (e : Live) → live_of (live ops) key ≡ Some e → held_check hash shape g form ops e ≡ true
   held_verified key e found =
       let s = found_there (Stands 0 ops) (live ops) key e (live_stand 0 ops) found in
       let here : 0 + s.0 ≡ s.0 = omega arith in
@@ -221,15 +221,15 @@ module _ (hash : Bytes → Bytes) (shape : Shape) (g : ℕ) (enough : 3 ≤ g) (
       operation_verified e.location (update e.key e.value e.next) (ap (slice_get ops) (sym at) ∙ s.2) (ap (slice_get (bits ops)) (sym at) ∙ update_active ops s.0 e.key e.value e.next s.2 s.3)
 
   -- so does the proof of operations with their chunks, and the witness of the operations root
-  pub range_checked : (a b : ℕ) → a < b → b ≤ length ops → (range_check hash shape g ops a b).1 ≡ true
-  range_checked a b some within = range_verified hash shape g ops a b some within few
+  pub range_checked : (a b : ℕ) → a < b → b ≤ length ops → (range_check hash shape g form ops a b).1 ≡ true
+  range_checked a b some within = range_verified hash shape g form ops a b some within few
 
-  pub witness_verified : witness_check hash shape g ops ≡ true
-  witness_verified = bytes_same (canonical hash shape g ops)
+  pub witness_verified : witness_check hash shape g form ops ≡ true
+  witness_verified = bytes_same (canonical hash shape g form ops)
 
   -- the proof that a key is absent from an ordered database verifies
   module _ (good : IsGood ops) (ring : IsRing ops) (x : Bytes) (absent : live_of (live ops) x ≡ None) where
-    emptied_verified : live ops ≡ [] → exclusion_verdict hash shape g (exclusion_by hash shape g ops None) x (canonical hash shape g ops) ≡ true
+    emptied_verified : live ops ≡ [] → exclusion_verdict hash shape g form (exclusion_by hash shape g form ops None) x (canonical hash shape g form ops) ≡ true
     emptied_verified none =
         let last = length ops - 1 in
         let end : suc (floor ops) ≡ length ops = good.empty_floor.0 none in
@@ -238,7 +238,7 @@ module _ (hash : Bytes → Bytes) (shape : Shape) (g : ℕ) (enough : 3 ≤ g) (
         let past : drop (suc last) ops ≡ [] = drop_all (suc last) ops (omega arith) in
         let set : slice_get (bits ops) last ≡ Some true =
         bit_of ops last (commit (last_metadata ops) (floor ops)) at ∙ ap (λ rest. Some (is_active (commit (last_metadata ops) (floor ops)) rest)) past in
-        ap (λ f. operation_verdict hash shape g (operation_proof hash shape g ops last) (spelling variable (commit (last_metadata ops) f)) (canonical hash shape g ops)) (sym here)
+        ap (λ f. operation_verdict hash shape g (operation_proof hash shape g form ops last) (spelling form (commit (last_metadata ops) f)) (canonical hash shape g form ops)) (sym here)
         ∙ operation_verified last (commit (last_metadata ops) (floor ops)) at set
 
     apart : Each (λ k. bytes_eq k x ≡ false) (live_keys ops)
@@ -254,7 +254,7 @@ module _ (hash : Bytes → Bytes) (shape : Shape) (g : ℕ) (enough : 3 ≤ g) (
             no_some : (e : Live) → Some e ≡ None → ⊥
             no_some e is = cc
 
-    spanned_verified : (e : Live) (key : Bytes) → predecessor (live_keys ops) x ≡ Some key → live_of (live ops) key ≡ Some e → exclusion_verdict hash shape g (exclusion_by hash shape g ops (Some e)) x (canonical hash shape g ops) ≡ true
+    spanned_verified : (e : Live) (key : Bytes) → predecessor (live_keys ops) x ≡ Some key → live_of (live ops) key ≡ Some e → exclusion_verdict hash shape g form (exclusion_by hash shape g form ops (Some e)) x (canonical hash shape g form ops) ≡ true
     spanned_verified e key before found = by_next e.next refl
       where
         key_is : e.key ≡ key
@@ -273,7 +273,7 @@ module _ (hash : Bytes → Bytes) (shape : Shape) (g : ℕ) (enough : 3 ≤ g) (
         key_apart : bytes_eq key x ≡ false
         key_apart = predecessor_has (λ k. bytes_eq k x ≡ false) (live_keys ops) x key apart before
 
-        held : held_check hash shape g ops e ≡ true
+        held : held_check hash shape g form ops e ≡ true
         held = held_verified key e found
 
         -- a key that has a neighbour before it has one behind it
@@ -285,17 +285,17 @@ module _ (hash : Bytes → Bytes) (shape : Shape) (g : ℕ) (enough : 3 ≤ g) (
             at None is = let none : least (k ∷ ks) ≡ None = ap (λ o. option_or o (least (k ∷ ks))) (sym is) ∙ last in cc
             at (Some m) is = let none : Some m ≡ None = ap (λ o. option_or o (least (k ∷ ks))) (sym is) ∙ last in cc
 
-        by_next : (o : Option Bytes) → e.next ≡ o → exclusion_verdict hash shape g (exclusion_by hash shape g ops (Some e)) x (canonical hash shape g ops) ≡ true
+        by_next : (o : Option Bytes) → e.next ≡ o → exclusion_verdict hash shape g form (exclusion_by hash shape g form ops (Some e)) x (canonical hash shape g form ops) ≡ true
         by_next None is = absurd (some_keys (live_keys ops) before (sym linked ∙ is))
         by_next (Some next) is =
             let span : in_span e.key next x ≡ true = ap (λ k. in_span k next x) key_is ∙ span_around_has (live_keys ops) x key next apart before (sym linked ∙ is) in
             let other : not (bytes_eq e.key x) ≡ true = ap (λ k. not (bytes_eq k x)) key_is ∙ ap not key_apart in
-            let own : operation_verdict hash shape g (operation_proof hash shape g ops e.location) (spelling variable (update e.key e.value (Some next))) (canonical hash shape g ops) ≡ true =
-            ap (λ n. operation_verdict hash shape g (operation_proof hash shape g ops e.location) (spelling variable (update e.key e.value n)) (canonical hash shape g ops)) (sym is) ∙ held in
-            ap (λ n. not (bytes_eq e.key x) && (in_span e.key (unwrap_or n []) x && operation_verdict hash shape g (operation_proof hash shape g ops e.location) (spelling variable (update e.key e.value (Some (unwrap_or n [])))) (canonical hash shape g ops))) is
+            let own : operation_verdict hash shape g (operation_proof hash shape g form ops e.location) (spelling form (update e.key e.value (Some next))) (canonical hash shape g form ops) ≡ true =
+            ap (λ n. operation_verdict hash shape g (operation_proof hash shape g form ops e.location) (spelling form (update e.key e.value n)) (canonical hash shape g form ops)) (sym is) ∙ held in
+            ap (λ n. not (bytes_eq e.key x) && (in_span e.key (unwrap_or n []) x && operation_verdict hash shape g (operation_proof hash shape g form ops e.location) (spelling form (update e.key e.value (Some (unwrap_or n [])))) (canonical hash shape g form ops))) is
             ∙ ap₂ (λ s t. s && t) other (ap₂ (λ s t. s && t) span own)
 
-    pub absent_verified : (absent_check hash shape g ops x).1 ≡ true
+    pub absent_verified : (absent_check hash shape g form ops x).1 ≡ true
     absent_verified = at (predecessor (live_keys ops) x) refl
       where
         there : (es : List Live) → Each (λ k. (e : Live) × (live_of es k ≡ Some e)) (map (λ e. e.key) es)
@@ -320,12 +320,12 @@ module _ (hash : Bytes → Bytes) (shape : Shape) (g : ℕ) (enough : 3 ≤ g) (
         rest_none None all e = e
         rest_none (Some k) all e = cc
 
-        at : (o : Option Bytes) → predecessor (live_keys ops) x ≡ o → (absent_check hash shape g ops x).1 ≡ true
+        at : (o : Option Bytes) → predecessor (live_keys ops) x ≡ o → (absent_check hash shape g form ops x).1 ≡ true
         at None is =
-            ap (λ o. exclusion_verdict hash shape g (exclusion_by hash shape g ops (option_and_then (live_of (live ops)) o)) x (canonical hash shape g ops)) is
+            ap (λ o. exclusion_verdict hash shape g form (exclusion_by hash shape g form ops (option_and_then (live_of (live ops)) o)) x (canonical hash shape g form ops)) is
             ∙ emptied_verified (no_keys (live ops) (rest_none (greatest (filter (λ k. key_lt k x) (live_keys ops))) (greatest (live_keys ops)) is))
         at (Some key) is =
             let found = predecessor_has (λ k. (e : Live) × (live_of (live ops) k ≡ Some e)) (live_keys ops) x key (there (live ops)) is in
-            ap (λ o. exclusion_verdict hash shape g (exclusion_by hash shape g ops (option_and_then (live_of (live ops)) o)) x (canonical hash shape g ops)) is
-            ∙ ap (λ o. exclusion_verdict hash shape g (exclusion_by hash shape g ops o) x (canonical hash shape g ops)) found.1
+            ap (λ o. exclusion_verdict hash shape g form (exclusion_by hash shape g form ops (option_and_then (live_of (live ops)) o)) x (canonical hash shape g form ops)) is
+            ∙ ap (λ o. exclusion_verdict hash shape g form (exclusion_by hash shape g form ops o) x (canonical hash shape g form ops)) found.1
             ∙ spanned_verified found.0 key is found.1

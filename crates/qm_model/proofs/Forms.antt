@@ -1,6 +1,6 @@
 -- The decoder and the spelling, in any form.
-use Rattle.std.proofs.Common.{◌≡◌, ℕ, zero, suc, lit<, ◌+◌, ◌-◌, ◌<◌, ◌≤◌, ◌^◌, length, take, refl, ap, sym, ◌∙◌, arith, [], ◌∷◌, ◌++◌, List, Bool, true, false, Option, Some, None, Result, Ok, Err, option_map, subst, append_assoc}
-use Rattle.std.specs.Prelude.{All, IfOk, IfSome, IfNone, nat_le, ◌==◌, ◌&&◌, max, replicate, is_some, if◌then◌else◌}
+use Rattle.std.proofs.Common.{◌≡◌, ℕ, zero, suc, lit<, ◌+◌, ◌-◌, ◌<◌, ◌≤◌, ◌^◌, length, take, refl, ap, sym, ◌∙◌, arith, [], ◌∷◌, ◌++◌, Bool, true, false, Option, Some, None, Result, Ok, Err, option_map, subst, append_assoc}
+use Rattle.std.specs.Prelude.{All, IfOk, IfSome, IfNone, nat_le, ◌==◌, max, replicate, is_some, if◌then◌else◌}
 use Rattle.std.specs.Option.{option_and_then}
 use Rattle.std.proofs.lemmas.Bool.{le-leb, leb-true, eqb-true, eq-eqb, and_parts}
 use Rattle.std.proofs.lemmas.Option.{IfSome_then, none-some, same_Some}

@@ -9,7 +9,7 @@ use Rattle.std.proofs.lemmas.List.{length-map, length-append, length-drop, lengt
 use Rattle.std.proofs.lemmas.List.Sums.{count_by-le-length}
 use Rattle.std.proofs.lemmas.Nat.{pow-add, pow_pos, mod_below, div-add-mod', mul-le}
 use Rattle.qm_model.specs.Operations.{Bytes, Operation, eight_bytes}
-use Rattle.qm_model.specs.Forms.{spelling, variable}
+use Rattle.qm_model.specs.Forms.{Form, spelling}
 use Rattle.qm_model.specs.Live.{floor}
 use Rattle.qm_model.specs.Trees.{Node, Shape, end_of, leaf, peaks, node_digest, digest, digest_of, fold_inactive, fold_right, root_of, leaves_from, ops_root, inactive_peaks}
 use Rattle.qm_model.specs.Families.{Births, IsFamily, HasPeaks, over}
@@ -413,9 +413,9 @@ module _ (shape : Shape) (births : Births) (family : IsFamily shape births) (pea
       not_zero m more = grind (arith, nat_tests)
 
 module _ (hash : Bytes → Bytes) (size : ℕ) (sized : (m : Bytes) → length (hash m) ≡ size) (shape : Shape) (births : Births) (family : IsFamily shape births) (peaked : HasPeaks shape) (leaf_born : (k : ℕ) → shape.birth (leaf k) ≡ suc k)
-    (prompt : (h i : ℕ) → shape.birth (record { height = h; index = i }) ≤ suc (suc i) * 2 ^ h) (g : ℕ) (ops : List Operation) (few : length ops ≤ 2 ^ 62) (items : List Bytes) (a : ℕ) (given : List Bytes) (range : RangeProof) (own : IsSized size g range given) where
+    (prompt : (h i : ℕ) → shape.birth (record { height = h; index = i }) ≤ suc (suc i) * 2 ^ h) (g : ℕ) (form : Form) (ops : List Operation) (few : length ops ≤ 2 ^ 62) (items : List Bytes) (a : ℕ) (given : List Bytes) (range : RangeProof) (own : IsSized size g range given) where
   abbrev list : List Bytes
-  list = map (spelling variable) ops
+  list = map (spelling form) ops
 
   abbrev chunks : ℕ → Bytes
   chunks = chunk_of g ops
@@ -424,10 +424,10 @@ module _ (hash : Bytes → Bytes) (size : ℕ) (sized : (m : Bytes) → length (
   checked = Contains (range_inputs hash shape g items a given range)
 
   abbrev rooted : Bytes → Type 0
-  rooted = Contains (canonical_inputs hash shape g ops)
+  rooted = Contains (canonical_inputs hash shape g form ops)
 
   abbrev Said : Type 0
-  Said = RangeSays g ops items a given ⊎ Collides hash (range_inputs hash shape g items a given range) (canonical_inputs hash shape g ops)
+  Said = RangeSays g form ops items a given ⊎ Collides hash (range_inputs hash shape g items a given range) (canonical_inputs hash shape g form ops)
 
   -- the numbers of a claim that fit
   module _ (some : 0 < length items) (count : length given ≡ touched_chunks g a (a + length items)) where
@@ -461,11 +461,11 @@ module _ (hash : Bytes → Bytes) (size : ℕ) (sized : (m : Bytes) → length (
     Chunk = Claim hash size sized checked rooted shape g list items a given chunks whole meeting back
 
     -- where each peak's claimed items and chunks are the list's, and so are the pending and the partial chunk, all are
-    all_said : a + length items ≤ length ops → Each Peak (peaks shape (length ops)) → Chunk (pending_chunk shape g (length ops)) → Chunk (partial_chunk (2 ^ g) (length ops)) → RangeSays g ops items a given
+    all_said : a + length items ≤ length ops → Each Peak (peaks shape (length ops)) → Chunk (pending_chunk shape g (length ops)) → Chunk (partial_chunk (2 ^ g) (length ops)) → RangeSays g form ops items a given
     all_said within peak pending partial = (stand, same)
       where
         listed : length list ≡ length ops
-        listed = length-map ops (spelling variable)
+        listed = length-map ops (spelling form)
 
         stand : take (length items) (drop a list) ≡ items
         stand =
@@ -518,7 +518,7 @@ module _ (hash : Bytes → Bytes) (size : ℕ) (sized : (m : Bytes) → length (
           Each Peak (peaks shape (length ops)) ⊎ Clash hash size sized checked rooted
       bagged size_is inactive_is fold mine bag others =
           let ps = peaks shape (length ops) in
-          let listed : length list ≡ length ops = length-map ops (spelling variable) in
+          let listed : length list ≡ length ops = length-map ops (spelling form) in
           let row : rebuilt_values hash shape g items a given ps range.proof.digests ≡ Some out = ap (λ m. rebuilt_values hash shape g items a given (peaks shape m) range.proof.digests) (sym size_is) ∙ rows in
           let digests = each_of (λ (d : Bytes). length d ≡ size) range.proof.digests own.digests in
           let long = values_row hash size sized checked rooted shape g list items a given chunks whole meeting back ps range.proof.digests out row digests in
@@ -569,17 +569,17 @@ module _ (hash : Bytes → Bytes) (size : ℕ) (sized : (m : Bytes) → length (
 
       -- a canonical root that is the list's
       rooted_said : n ≤ 2 ^ 62 → range.proof.inactive ≤ length (peaks shape n) → agrees hash shape g items a given (pending_chunk shape g n) range.pending ≡ true → agrees hash shape g items a given (partial_chunk (2 ^ g) n) range.partial ≡ true →
-          rebuilt_canonical hash shape g items a given range out ≡ canonical hash shape g ops → Said
+          rebuilt_canonical hash shape g items a given range out ≡ canonical hash shape g form ops → Said
       rooted_said small low pend_agree part_agree hashes =
           let j = range.proof.inactive in
           let m = length ops in
           let leaves = item_leaves hash shape 0 list in
-          let spelt : leaves_from hash shape variable 0 ops ≡ leaves = operations_leaves hash shape variable 0 ops in
-          let count : length leaves ≡ m = length-item_leaves hash shape 0 list ∙ length-map ops (spelling variable) in
+          let spelt : leaves_from hash shape form 0 ops ≡ leaves = operations_leaves hash shape form 0 ops in
+          let count : length leaves ≡ m = length-item_leaves hash shape 0 list ∙ length-map ops (spelling form) in
           let my_root = root_of hash n j out in
-          let their_root = grafted_root hash shape g ops in
+          let their_root = grafted_root hash shape g form ops in
           let my_ops = range.ops_root in
-          let their_ops = ops_root hash shape variable ops in
+          let their_ops = ops_root hash shape form ops in
           let their_is : their_root ≡ root_of hash m their_inactive theirs =
           ap (λ ls. root_of hash (length ls) their_inactive (map (grafted_value hash shape g ls chunks) (peaks shape (length ls)))) spelt
           ∙ ap (λ k. root_of hash k their_inactive (map (grafted_value hash shape g leaves chunks) (peaks shape k))) count in
@@ -595,7 +595,7 @@ module _ (hash : Bytes → Bytes) (size : ℕ) (sized : (m : Bytes) → length (
           let mine_two = each_split checked part_at (values ++ if_rebuilt bag o) mine_one.1 in
           let mine_three = each_split checked values (if_rebuilt bag o) mine_two.1 in
           let my_bag = subst (λ o. Each checked (if_rebuilt bag o)) rows mine_three.1 in
-          let others = each_self (canonical_inputs hash shape g ops) in
+          let others = each_self (canonical_inputs hash shape g form ops) in
           let their_pend = chunk_input hash shape g chunks (pending_chunk shape g m) in
           let their_part = chunk_input hash shape g chunks (partial_chunk (2 ^ g) m) in
           let grafted = grafted_root_inputs hash shape g list chunks their_inactive in
@@ -612,7 +612,7 @@ module _ (hash : Bytes → Bytes) (size : ℕ) (sized : (m : Bytes) → length (
           let grouped : (my_ops ++ my_root) ++ my_rest ≡ (their_ops ++ their_root) ++ their_rest =
           sym (append_assoc (my_ops ++ my_root) (pending_part range.pending) (partial_part (partial_of hash shape g n range.partial))) ∙ equal
           ∙ append_assoc (their_ops ++ their_root) (pending_part (pending_digest hash shape g ops)) (partial_part (partial_of hash shape g m (partial_digest hash shape g ops))) in
-          let ops_long : length my_ops ≡ length their_ops = own.ops_root ∙ sym (sized (eight_bytes (length (leaves_from hash shape variable 0 ops)) ++ eight_bytes (inactive_peaks shape m (floor ops)) ++ fold_right hash (fold_inactive hash (take (inactive_peaks shape m (floor ops)) (map (digest_of hash shape (leaves_from hash shape variable 0 ops)) (peaks shape (length (leaves_from hash shape variable 0 ops))))) ++ drop (inactive_peaks shape m (floor ops)) (map (digest_of hash shape (leaves_from hash shape variable 0 ops)) (peaks shape (length (leaves_from hash shape variable 0 ops))))))) in
+          let ops_long : length my_ops ≡ length their_ops = own.ops_root ∙ sym (sized (eight_bytes (length (leaves_from hash shape form 0 ops)) ++ eight_bytes (inactive_peaks shape m (floor ops)) ++ fold_right hash (fold_inactive hash (take (inactive_peaks shape m (floor ops)) (map (digest_of hash shape (leaves_from hash shape form 0 ops)) (peaks shape (length (leaves_from hash shape form 0 ops))))) ++ drop (inactive_peaks shape m (floor ops)) (map (digest_of hash shape (leaves_from hash shape form 0 ops)) (peaks shape (length (leaves_from hash shape form 0 ops))))))) in
           let roots_long : length (my_ops ++ my_root) ≡ length (their_ops ++ their_root) =
           omega (arith, length-append my_ops my_root, length-append their_ops their_root, ops_long, sized (eight_bytes n ++ eight_bytes j ++ my_fold), ap length their_is ∙ sized (eight_bytes m ++ eight_bytes their_inactive ++ their_fold)) in
           let parts = parted (my_ops ++ my_root) (their_ops ++ their_root) my_rest their_rest roots_long grouped in
@@ -638,7 +638,7 @@ module _ (hash : Bytes → Bytes) (size : ℕ) (sized : (m : Bytes) → length (
           (same_input hash size sized checked rooted (canonical_input my_ops my_root range.pending (partial_of hash shape g n range.partial)) (canonical_input their_ops their_root (pending_digest hash shape g ops) (partial_of hash shape g m (partial_digest hash shape g ops))) my_bag.0 others.0 hashes)
 
   -- a yes on a range proof
-  pub range_speaks : range_verdict hash shape g items a given range (canonical hash shape g ops) ≡ true → Said
+  pub range_speaks : range_verdict hash shape g items a given range (canonical hash shape g form ops) ≡ true → Said
   range_speaks e =
       let n = range.proof.leaves in
       let j = range.proof.inactive in
@@ -657,7 +657,7 @@ module _ (hash : Bytes → Bytes) (size : ℕ) (sized : (m : Bytes) → length (
 
       at : (o : Option (List Bytes)) → rebuilt_values hash shape g items a given (peaks shape range.proof.leaves) range.proof.digests ≡ o → range.proof.leaves ≤ 2 ^ 62 → 0 < length items → a + length items ≤ range.proof.leaves → range.proof.inactive ≤ length (peaks shape range.proof.leaves) →
           length given ≡ touched_chunks g a (a + length items) → agrees hash shape g items a given (pending_chunk shape g range.proof.leaves) range.pending ≡ true → agrees hash shape g items a given (partial_chunk (2 ^ g) range.proof.leaves) range.partial ≡ true →
-          has_canonical hash shape g items a given range (canonical hash shape g ops) o ≡ true → Said
+          has_canonical hash shape g items a given range (canonical hash shape g form ops) o ≡ true → Said
       at None rows small some within low count pending partial last = absurd (true≢false (sym last))
       at (Some out) rows small some within low count pending partial last =
-          rooted_said some count out rows within small low pending partial (same_key (rebuilt_canonical hash shape g items a given range out) (canonical hash shape g ops) last)
+          rooted_said some count out rows within small low pending partial (same_key (rebuilt_canonical hash shape g items a given range out) (canonical hash shape g form ops) last)

@@ -1,5 +1,5 @@
 -- How operations are spelled: with or without a next key, with lengths or of fixed sizes, and which operation bytes spell.
-use Rattle.std.specs.Prelude.{◌≡◌, ℕ, ◌+◌, ◌-◌, ◌<◌, ◌≤◌, ◌^◌, ◌&&◌, ◌==◌, nat_le, max, replicate, Bool, true, false, [], ◌∷◌, ◌++◌, List, length, take, drop, if◌then◌else◌, Option, Some, None, option_map, option_and_then, is_some, IfSome}
+use Rattle.std.specs.Prelude.{◌≡◌, ℕ, ◌+◌, ◌-◌, ◌<◌, ◌≤◌, ◌^◌, ◌&&◌, ◌==◌, nat_le, max, replicate, Bool, true, false, [], ◌∷◌, ◌++◌, length, take, drop, if◌then◌else◌, Option, Some, None, option_map, option_and_then, is_some, IfSome}
 use Rattle.std.specs.Int.{w32, w64, from_be_bytes}
 use Rattle.qm_model.specs.Operations.{Bytes, Operation, update, delete, commit, four_bytes, eight_bytes}
 

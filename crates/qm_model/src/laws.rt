@@ -6,7 +6,7 @@ ghost use Rattle.std.specs.List.Sorted.{IsSortedBy, IsStrictlySortedBy};
 ghost use Rattle.std.specs.Cmp.Lexicographic.{slice_cmp};
 ghost use Rattle.std.specs.Ordering.{nat_cmp};
 ghost use Rattle.qm_model.specs.Operations.{Bytes, Operation, IsCommitEnded, update};
-ghost use Rattle.qm_model.specs.Forms.{Form, IsOf, IsSpelling, spelling, decoded, variable};
+ghost use Rattle.qm_model.specs.Forms.{Form, IsOf, IsSpelling, spelling, decoded};
 ghost use Rattle.qm_model.specs.Live.{live, live_keys, floor, value_of, touched};
 ghost use Rattle.qm_model.specs.Keys.{key_lt, successor, predecessor, contains_key, without, once, by_key, between, IsNext, IsPrevious};
 ghost use Rattle.qm_model.specs.Writes.{Write, last_writes, write_of, overwritten, unordered_writes, made_inactive};
@@ -221,6 +221,6 @@ pub fn a_step_clears_what_it_supersedes<P: Ruled>()
 
 /// A range proof of a list verifies against the list's canonical root.
 pub fn a_range_proof_of_a_list_verifies()
-    ensures { (hash : Bytes → Bytes) (shape : Shape) (g : ℕ) (ops : List Operation) (a b : ℕ) → a < b → b ≤ length ops → length ops ≤ 2 ^ 62
-        → range_verdict hash shape g (take (b - a) (drop a (map (spelling variable) ops))) a (chunks_of g ops a b) (range_proof hash shape g ops a b) (canonical hash shape g ops) ≡ true }
+    ensures { (hash : Bytes → Bytes) (shape : Shape) (g : ℕ) (form : Form) (ops : List Operation) (a b : ℕ) → a < b → b ≤ length ops → length ops ≤ 2 ^ 62
+        → range_verdict hash shape g (take (b - a) (drop a (map (spelling form) ops))) a (chunks_of g ops a b) (range_proof hash shape g form ops a b) (canonical hash shape g form ops) ≡ true }
 {}

@@ -1,7 +1,6 @@
-use Rattle.std.proofs.Common.{subst, ap, sym, ◌∙◌}
+use Rattle.std.proofs.Common.{subst}
 use Rattle.std.specs.Prelude.{IfSome}
-use Rattle.std.proofs.lemmas.Option.{same_Some}
-use Rattle.qm_model.specs.Forms.{IsSpelling, decoded}
+use Rattle.qm_model.specs.Forms.{IsSpelling}
 use Rattle.qm_model.proofs.Forms.{decoded-spelling, spelling-decoded, spelling-once, AreBytes-all}
 use Rattle.qm_model.proofs.laws.spellings_are_decoded.Goals as goal
 
