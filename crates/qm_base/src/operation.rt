@@ -20,6 +20,7 @@ pub enum Operation<F, U: Update> {
     CommitFloor(Option<U::Value>, Location<F>),
 }
 
+/// The number as 4 bytes, the highest first.
 #[tactic(auto, unfolding(qm_model::specs::Operations::four_bytes))]
 pub(crate) fn four_bytes(number: u32) -> [u8; 4]
     ensures { result ≡ model.four_bytes number }
@@ -65,7 +66,7 @@ pub(crate) fn longest(ordered: bool, sizes: (u32, u32)) -> u64
     (1 + key + value + next).max(10 + value)
 }
 
-// The key's or value's bytes are short, and those of a value of its type.
+// Adds a key or a value, whose bytes are short and those of a value of its type.
 fn add_field<B: ByteString>(
     out: &mut Vec<u8>,
     size: Option<u32>,

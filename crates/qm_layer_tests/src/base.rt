@@ -3,7 +3,7 @@
 use qm_base::update::{Unordered, Update};
 use qm_base::{
     ByteKey, ByteString, ByteValue, Corrupt, Digest, Error, Gate, Hasher, JournalError, Location,
-    MerkleError, OpenGate, Operation, Sha256, Twin,
+    MerkleError, OpenGate, Operation, Sha256, Twin, VariableEncoding,
 };
 use std::alloc::{AllocError, Global};
 use std::test::Fail;
@@ -11,7 +11,9 @@ use std::test::Fail;
 #[derive(Clone, Copy, Drop, Debug, PartialEq, Eq, PartialOrd, Ord)]
 struct Family;
 
-type ByteOperation = Operation<Family, Unordered<ByteKey, ByteValue>>;
+type ByteUpdate = Unordered<ByteKey, VariableEncoding<ByteValue>>;
+
+type ByteOperation = Operation<Family, ByteUpdate>;
 
 // The spelling, through the bounds.
 fn spelling<F, U: Update>(
@@ -68,7 +70,7 @@ fn operations_tell_their_parts(rt: HostRuntime) -> Result<(), Fail> {
     let alloc = rt.alloc();
     let key = ByteKey::new(vec![in alloc; 0x6bu8]?);
     let value = ByteValue::new(vec![in alloc; 0x76u8]?);
-    let update = Unordered(key.twin(alloc)?, value.twin(alloc)?);
+    let update: ByteUpdate = Unordered(key.twin(alloc)?, value.twin(alloc)?);
     let table: [(ByteOperation, &[u8], bool, bool); 3] = [
         (Operation::Update(update), &[0x6b], true, false),
         (Operation::Delete(key.twin(alloc)?), &[0x6b], false, true),
@@ -109,8 +111,8 @@ fn updates_tell_their_parts(rt: HostRuntime) -> Result<(), Fail> {
     let alloc = rt.alloc();
     let key = ByteKey::new(vec![in alloc; 0x6bu8]?);
     let value = ByteValue::new(vec![in alloc; 0x76u8]?);
-    let first = Unordered(key.twin(alloc)?, value.twin(alloc)?);
-    let second = Unordered(key, value);
+    let first: ByteUpdate = Unordered(key.twin(alloc)?, value.twin(alloc)?);
+    let second: ByteUpdate = Unordered(key, value);
     assert!(rt; tells_its_parts(alloc, first, second, &[0x6b], &[0x76])?);
     Ok(())
 }

@@ -1,11 +1,13 @@
 //! Spellings, and bytes that are none.
 
-use qm_base::update::Unordered;
-use qm_base::{ByteKey, ByteString, ByteValue, Digest, Hasher, Operation, Sha256, Spelled as _};
+use qm_base::{
+    ByteKey, ByteString, ByteValue, Digest, FixedBytes, FixedEncoding, Hasher, Operation, Ordered,
+    Sha256, Spelled as _, Unordered, Update, VariableEncoding,
+};
 use std::alloc::{AllocError, Global};
 use std::test::Fail;
 
-type ByteOperation = Operation<(), Unordered<ByteKey, ByteValue>>;
+type ByteOperation = Operation<(), Unordered<ByteKey, VariableEncoding<ByteValue>>>;
 
 // The operation with its keys and values as lists of numbers.
 fn words(alloc: Global, operation: &ByteOperation) -> Result<String, AllocError> {
@@ -84,30 +86,82 @@ fn spellings_are_decoded(rt: HostRuntime) -> Result<(), Fail> {
     Ok(())
 }
 
+// The key of an update or a delete that the bytes spell, where they spell an operation that is spelled and fed so again.
+fn key_spelled_by<U: Update>(alloc: Global, bytes: &[u8]) -> Result<Option<Vec<u8>>, AllocError> {
+    let Some(operation) = Operation::<(), U>::decode(alloc, bytes)? else {
+        return Ok(None);
+    };
+    let mut fed = Sha256::new();
+    fed.start();
+    operation.feed(&mut fed);
+    let mut whole = Sha256::new();
+    whole.start();
+    whole.update(bytes);
+    let encoded = operation.encode(alloc)?;
+    if encoded.as_slice() != bytes || fed.finish().bytes() != whole.finish().bytes() {
+        return Ok(None);
+    }
+    match operation.key() {
+        Some(key) => Ok(Some(key.as_bytes().to_vec(alloc)?)),
+        None => Ok(Some(Vec::new(alloc))),
+    }
+}
+
 #[test]
-fn the_spelling_is_fed(rt: HostRuntime) -> Result<(), Fail> {
+fn each_kind_and_size_has_its_spellings(rt: HostRuntime) -> Result<(), Fail> {
+    type Variable = VariableEncoding<ByteValue>;
+    type Fixed = FixedEncoding<FixedBytes<4>>;
     let alloc = rt.alloc();
-    let spellings: [&[u8]; 4] = [
-        &[1, 0, 0, 0, 1, 107, 0, 0, 0, 1, 118],
-        &[2, 0, 0, 0, 2, 97, 98],
-        &[3, 0, 0, 0, 0, 0, 0, 0, 1, 2],
-        &[3, 1, 0, 0, 0, 1, 170, 0, 0, 0, 0, 0, 0, 0, 0],
+    // the bytes, and the key that they spell in an unordered and an ordered database with lengths, and in both of fixed sizes
+    let table: [(&[u8], [Option<&[u8]>; 4]); 9] = [
+        (
+            &[1, 0, 0, 0, 1, 107, 0, 0, 0, 1, 118],
+            [Some(&[107]), None, None, None],
+        ),
+        (
+            &[1, 0, 0, 0, 1, 107, 0, 0, 0, 1, 118, 0, 0, 0, 1, 108],
+            [None, Some(&[107]), None, None],
+        ),
+        (
+            &[2, 0, 0, 0, 2, 97, 98],
+            [Some(&[97, 98]), Some(&[97, 98]), None, None],
+        ),
+        (
+            &[3, 1, 0, 0, 0, 1, 170, 0, 0, 0, 0, 0, 0, 0, 0],
+            [Some(&[]), Some(&[]), None, None],
+        ),
+        (
+            &[1, 97, 98, 5, 6, 7, 8, 0, 0, 0, 0, 0, 0, 0],
+            [None, None, Some(&[97, 98]), Some(&[97, 98])],
+        ),
+        (
+            &[1, 97, 98, 5, 6, 7, 8, 99, 100, 0, 0, 0, 0, 0],
+            [None, None, None, Some(&[97, 98])],
+        ),
+        (
+            &[2, 97, 98, 0, 0, 0, 0, 0, 0, 0, 0, 0, 0, 0],
+            [None, None, Some(&[97, 98]), Some(&[97, 98])],
+        ),
+        // without the last byte of padding
+        (
+            &[2, 97, 98, 0, 0, 0, 0, 0, 0, 0, 0, 0, 0],
+            [None, None, None, None],
+        ),
+        (
+            &[3, 1, 5, 6, 7, 8, 0, 0, 0, 0, 0, 0, 1, 2],
+            [None, None, Some(&[]), Some(&[])],
+        ),
     ];
-    for bytes in spellings {
-        let operation = ByteOperation::decode(alloc, bytes)?;
-        let mut fed = Sha256::new();
-        fed.start();
-        if let Some(operation) = &operation {
-            operation.feed(&mut fed);
+    for (bytes, want) in table {
+        let found = [
+            key_spelled_by::<Unordered<ByteKey, Variable>>(alloc, bytes)?,
+            key_spelled_by::<Ordered<ByteKey, Variable>>(alloc, bytes)?,
+            key_spelled_by::<Unordered<FixedBytes<2>, Fixed>>(alloc, bytes)?,
+            key_spelled_by::<Ordered<FixedBytes<2>, Fixed>>(alloc, bytes)?,
+        ];
+        for (found, want) in found.iter().zip(want.iter()) {
+            assert_eq!(rt; found.as_ref().map(|key| key.as_slice()), *want, "at {bytes:?}");
         }
-        let mut whole = Sha256::new();
-        whole.start();
-        whole.update(bytes);
-        assert_eq!(rt;
-            fed.finish().bytes(),
-            whole.finish().bytes(),
-            "at {bytes:?}"
-        );
     }
     Ok(())
 }
