@@ -2,7 +2,8 @@
 use Rattle.std.proofs.Common.{◌≡◌, ◌≢◌, ℕ, Bool, true, false, cond, List, [], ◌∷◌, ◌++◌, length, get_or, set, map, drop, Option, Some, None, arith, refl, sym, ◌∙◌, ap, subst, length-append, IfSome, append-nil}
 use Rattle.std.specs.Prelude.{Contains}
 use Rattle.qm_model.specs.Causes.{Grows, GrowsPart}
-use Rattle.qm_model.specs.Operations.{Bytes, Operation, spelling}
+use Rattle.qm_model.specs.Operations.{Bytes, Operation}
+use Rattle.qm_model.specs.Forms.{spelling, variable}
 use Rattle.qm_model.specs.Live.{floor}
 use Rattle.qm_model.specs.Writes.{Write}
 use Rattle.qm_model.specs.Batches.{Chain, child_of, IsOnChain, Apart, commitment, fits}
@@ -110,7 +111,7 @@ module _ {X C B M K V D P : Type 0} (m : Meaning X C B M) (key : K → Bytes) (v
       → Holds m (Database x) table opened s → Contains s.had list → ((l : List Operation) → m.stands x l → m.stands after l)
       → m.start (m.inside after) ≡ m.start (m.inside x) → m.items (m.inside after) ≡ m.items (m.inside x)
       → ((chain above : Chain) (ws : List Write) → m.is_batch batch chain above ws → fits root (commitment root list) chain ≡ true)
-      → ((chain above : Chain) (ws : List Write) → m.is_batch batch chain above ws → IsOnChain list chain → let tip = step scheme.kind scheme.rules chain.base ws policy meta in (tip_refusal chain tip ≡ None) × m.is_merkleized made chain tip)
+      → ((chain above : Chain) (ws : List Write) → m.is_batch batch chain above ws → IsOnChain list chain → let tip = step scheme.kind scheme.rules chain.base ws policy meta in (tip_refusal variable chain tip ≡ None) × m.is_merkleized made chain tip)
       → ((chain : Chain) (tip : List Operation) → m.is_merkleized made chain tip → (low ≡ length chain.base) × (high ≡ length tip) × (bottom ≡ floor tip))
       → (a : Slot B M) (b : machine.Slot) → SlotIs m s.had a b → writing_of a ≡ Some batch
       → Goes (Reply (replies.Merkleized h low high bottom)) (Database after) (set (set table h Gone) h (Merkleized made)) opened (merkleize_in scheme s h policy meta list b)
@@ -118,7 +119,7 @@ module _ {X C B M K V D P : Type 0} (m : Meaning X C B M) (key : K → Bytes) (v
       let same : w ≡ batch = cc in
       let batch_is : m.is_batch batch chain above ws = subst (λ v. m.is_batch v chain above ws) same is.0 in
       let fit : fits root (commitment root list) chain ≡ true = fit_of chain above ws batch_is in
-      subst (λ t. Goal (cond t (merkleize_tip scheme s h chain tip (tip_refusal chain tip)) (refuse (with_slot s h machine.gone) lines.StaleBatch))) (sym fit) (by_due fit batch_is (tip_refusal chain tip) refl)
+      subst (λ t. Goal (cond t (merkleize_tip scheme s h chain tip (tip_refusal variable chain tip)) (refuse (with_slot s h machine.gone) lines.StaleBatch))) (sym fit) (by_due fit batch_is (tip_refusal variable chain tip) refl)
     where
       tip : List Operation
       tip = step scheme.kind scheme.rules chain.base ws policy meta
@@ -126,7 +127,7 @@ module _ {X C B M K V D P : Type 0} (m : Meaning X C B M) (key : K → Bytes) (v
       Goal : Answer × State → Type 0
       Goal next = Goes (Reply (replies.Merkleized h low high bottom)) (Database after) (set (set table h Gone) h (Merkleized made)) opened next
 
-      by_due : fits root (commitment root list) chain ≡ true → m.is_batch batch chain above ws → (due : Option lines.Refused) → tip_refusal chain tip ≡ due → Goal (merkleize_tip scheme s h chain tip due)
+      by_due : fits root (commitment root list) chain ≡ true → m.is_batch batch chain above ws → (due : Option lines.Refused) → tip_refusal variable chain tip ≡ due → Goal (merkleize_tip scheme s h chain tip due)
       by_due fit batch_is (Some r) is_due = λ apart. absurd (none_some (did chain above ws batch_is (on_chain-fits root s.had list chain apart in_had is.1 fit)).0 is_due)
       by_due fit batch_is None is_due = λ apart.
           let now = (did chain above ws batch_is (on_chain-fits root (tip ∷ s.had) list chain apart (Contains-more s.had tip list in_had) (IsAmong-more s.had tip chain is.1) fit)).1 in
@@ -156,8 +157,8 @@ module _ {X C B M K V D P : Type 0} (m : Meaning X C B M) (key : K → Bytes) (v
   stale_in x after table opened h policy meta batch s list k in_had keeps start items off (Writing w) (machine.writing chain above ws) is e =
       let same : w ≡ batch = cc in
       let batch_is : m.is_batch batch chain above ws = subst (λ v. m.is_batch v chain above ws) same is.0 in
-      choice (fits root (commitment root list) chain) (merkleize_tip scheme s h chain tip (tip_refusal chain tip)) (refuse (with_slot s h machine.gone) lines.StaleBatch) Goal
-      (λ fit. by_due fit batch_is (tip_refusal chain tip))
+      choice (fits root (commitment root list) chain) (merkleize_tip scheme s h chain tip (tip_refusal variable chain tip)) (refuse (with_slot s h machine.gone) lines.StaleBatch) Goal
+      (λ fit. by_due fit batch_is (tip_refusal variable chain tip))
       (λ fit apart. (refl, Holds-used m x after table opened h s (keeps, start, items) k))
     where
       tip : List Operation
@@ -178,14 +179,14 @@ module _ {X C B M K V D P : Type 0} (m : Meaning X C B M) (key : K → Bytes) (v
   too_large_in : (x after : X) (table : List (Slot B M)) (opened : ℕ) (h : ℕ) (policy : P) (meta : Option Bytes) (batch : B) (r : Refused) (s : State) (list : List Operation)
       → Holds m (Database x) table opened s → Contains s.had list → Keeps m x after
       → ((chain above : Chain) (ws : List Write) → m.is_batch batch chain above ws → (fits root (commitment root list) chain ≡ true)
-      × (IsOnChain list chain → tip_refusal chain (step scheme.kind scheme.rules chain.base ws policy meta) ≡ Some (refused_view r)))
+      × (IsOnChain list chain → tip_refusal variable chain (step scheme.kind scheme.rules chain.base ws policy meta) ≡ Some (refused_view r)))
       → (a : Slot B M) (b : machine.Slot) → SlotIs m s.had a b → writing_of a ≡ Some batch
       → Goes (Reply (replies.Refused r)) (Database after) (set table h Gone) opened (merkleize_in scheme s h policy meta list b)
   too_large_in x after table opened h policy meta batch r s list k in_had keeps why (Writing w) (machine.writing chain above ws) is e =
       let same : w ≡ batch = cc in
       let batch_is : m.is_batch batch chain above ws = subst (λ v. m.is_batch v chain above ws) same is.0 in
       let fit : fits root (commitment root list) chain ≡ true = (why chain above ws batch_is).0 in
-      subst (λ t. Goal (cond t (merkleize_tip scheme s h chain tip (tip_refusal chain tip)) (refuse (with_slot s h machine.gone) lines.StaleBatch))) (sym fit) (by_due fit batch_is (tip_refusal chain tip) refl)
+      subst (λ t. Goal (cond t (merkleize_tip scheme s h chain tip (tip_refusal variable chain tip)) (refuse (with_slot s h machine.gone) lines.StaleBatch))) (sym fit) (by_due fit batch_is (tip_refusal variable chain tip) refl)
     where
       tip : List Operation
       tip = step scheme.kind scheme.rules chain.base ws policy meta
@@ -193,7 +194,7 @@ module _ {X C B M K V D P : Type 0} (m : Meaning X C B M) (key : K → Bytes) (v
       Goal : Answer × State → Type 0
       Goal next = Goes (Reply (replies.Refused r)) (Database after) (set table h Gone) opened next
 
-      by_due : fits root (commitment root list) chain ≡ true → m.is_batch batch chain above ws → (due : Option lines.Refused) → tip_refusal chain tip ≡ due → Goal (merkleize_tip scheme s h chain tip due)
+      by_due : fits root (commitment root list) chain ≡ true → m.is_batch batch chain above ws → (due : Option lines.Refused) → tip_refusal variable chain tip ≡ due → Goal (merkleize_tip scheme s h chain tip due)
       by_due fit batch_is None is_due = λ apart. absurd (none_some is_due ((why chain above ws batch_is).1 (on_chain-fits root (tip ∷ s.had) list chain apart (Contains-more s.had tip list in_had) (IsAmong-more s.had tip chain is.1) fit)))
       by_due fit batch_is (Some q) is_due = λ apart. (
         ap refuses (sym ((why chain above ws batch_is).1 (on_chain-fits root s.had list chain apart in_had is.1 fit)) ∙ is_due),
@@ -208,7 +209,7 @@ module _ {X C B M K V D P : Type 0} (m : Meaning X C B M) (key : K → Bytes) (v
       → Holds m (Database x) table opened s → ((l : List Operation) → m.stands x l → m.stands after l)
       → m.start (m.inside after) ≡ m.start (m.inside x) → m.items (m.inside after) ≡ m.items (m.inside x)
       → ((list : List Operation) (chain above : Chain) (ws : List Write) → m.stands x list → m.is_batch batch chain above ws → fits root (commitment root list) chain ≡ true)
-      → ((list : List Operation) (chain above : Chain) (ws : List Write) → m.stands x list → m.is_batch batch chain above ws → IsOnChain list chain → let tip = step scheme.kind scheme.rules chain.base ws policy meta in (tip_refusal chain tip ≡ None) × m.is_merkleized made chain tip)
+      → ((list : List Operation) (chain above : Chain) (ws : List Write) → m.stands x list → m.is_batch batch chain above ws → IsOnChain list chain → let tip = step scheme.kind scheme.rules chain.base ws policy meta in (tip_refusal variable chain tip ≡ None) × m.is_merkleized made chain tip)
       → ((chain : Chain) (tip : List Operation) → m.is_merkleized made chain tip → (low ≡ length chain.base) × (high ≡ length tip) × (bottom ≡ floor tip))
       → writing_of (get_or table h Gone) ≡ Some batch
       → Goes (Reply (replies.Merkleized h low high bottom)) (Database after) (set (set table h Gone) h (Merkleized made)) opened (machine.merkleize scheme s h policy meta)
@@ -222,7 +223,7 @@ module _ {X C B M K V D P : Type 0} (m : Meaning X C B M) (key : K → Bytes) (v
       → m.start (m.inside after) ≡ m.start (m.inside x) → m.items (m.inside after) ≡ m.items (m.inside x)
       → (error ≡ errors.StaleBatch → (list : List Operation) (chain above : Chain) (ws : List Write) → m.stands x list → m.is_batch batch chain above ws → IsOnChain list chain → ⊥)
       → (error ≢ errors.StaleBatch → (list : List Operation) (chain above : Chain) (ws : List Write) → m.stands x list → m.is_batch batch chain above ws → IfSome (refusal_of error) (λ r. (fits root (commitment root list) chain ≡ true)
-      × (IsOnChain list chain → tip_refusal chain (step scheme.kind scheme.rules chain.base ws policy meta) ≡ Some r)))
+      × (IsOnChain list chain → tip_refusal variable chain (step scheme.kind scheme.rules chain.base ws policy meta) ≡ Some r)))
       → writing_of (get_or table h Gone) ≡ Some batch
       → Goes (turn_of_error error) (Database after) (set table h Gone) opened (machine.merkleize scheme s h policy meta)
   merkleize_err x after table opened h policy meta batch error s k keeps start items stale why e =
@@ -232,7 +233,7 @@ module _ {X C B M K V D P : Type 0} (m : Meaning X C B M) (key : K → Bytes) (v
       (get_or table h Gone) (slot_at s.table h) (k.slots h) e))
       (λ r other told. with_list m x s.had s.database s (λ list. merkleize_in scheme s h policy meta list (slot_at s.table h)) (Goes (Reply (replies.Refused r)) (Database after) (set table h Gone) opened) k.database
       (λ list stands in_had. too_large_in x after table opened h policy meta batch r s list k in_had (keeps, start, items)
-      (λ chain above ws is. subst (λ o. IfSome o (λ r. (fits root (commitment root list) chain ≡ true) × (IsOnChain list chain → tip_refusal chain (step scheme.kind scheme.rules chain.base ws policy meta) ≡ Some r))) told (why other list chain above ws stands is))
+      (λ chain above ws is. subst (λ o. IfSome o (λ r. (fits root (commitment root list) chain ≡ true) × (IsOnChain list chain → tip_refusal variable chain (step scheme.kind scheme.rules chain.base ws policy meta) ≡ Some r))) told (why other list chain above ws stands is))
       (get_or table h Gone) (slot_at s.table h) (k.slots h) e))
 
   -- an apply that was accepted
@@ -240,14 +241,14 @@ module _ {X C B M K V D P : Type 0} (m : Meaning X C B M) (key : K → Bytes) (v
       → Holds m (Database x) table opened s → Contains s.had list
       → ((chain : Chain) (tip : List Operation) → m.is_merkleized batch chain tip → fits root (commitment root list) chain ≡ true)
       → ((chain : Chain) (tip : List Operation) → m.is_merkleized batch chain tip → IsOnChain list chain → m.stands after tip)
-      → ((chain : Chain) (tip : List Operation) → m.is_merkleized batch chain tip → IsOnChain list chain → (m.start (m.inside after) ≡ m.start (m.inside x)) × Grows (m.items (m.inside x)) (m.items (m.inside after)) (map spelling (drop (length list) tip)))
+      → ((chain : Chain) (tip : List Operation) → m.is_merkleized batch chain tip → IsOnChain list chain → (m.start (m.inside after) ≡ m.start (m.inside x)) × Grows (m.items (m.inside x)) (m.items (m.inside after)) (map (spelling variable) (drop (length list) tip)))
       → ((l : List Operation) → m.stands after l → size ≡ length l)
       → (a : Slot B M) (b : machine.Slot) → SlotIs m s.had a b → merkleized_of a ≡ Some batch
       → Goes (Reply (replies.Applied size)) (Database after) table opened (apply_in scheme s h list b)
   applied_in x after table opened h batch size s list k in_had fit_of did grown sized (Merkleized w) (machine.merkleized chain tip) is e =
       let same : w ≡ batch = cc in
       let batch_is : m.is_merkleized batch chain tip = subst (λ v. m.is_merkleized v chain tip) same is.0 in
-      choice (fits root (commitment root list) chain) (lines.Applied (length tip), record s { database = Some tip; items = s.items ++ map spelling (drop (length list) tip) }) (refuse s lines.StaleBatch) (Goes (Reply (replies.Applied size)) (Database after) table opened)
+      choice (fits root (commitment root list) chain) (lines.Applied (length tip), record s { database = Some tip; items = s.items ++ map (spelling variable) (drop (length list) tip) }) (refuse s lines.StaleBatch) (Goes (Reply (replies.Applied size)) (Database after) table opened)
       (λ fit apart.
       let on_chain = on_chain-fits root s.had list chain apart in_had is.1 fit in
       let stood : m.stands after tip = did chain tip batch_is on_chain in
@@ -256,7 +257,7 @@ module _ {X C B M K V D P : Type 0} (m : Meaning X C B M) (key : K → Bytes) (v
         record {
           database = (stood, is.2);
           start = more.0 ∙ k.start;
-          items = subst (λ o. Grows o (m.items (m.inside after)) (map spelling (drop (length list) tip))) k.items more.1;
+          items = subst (λ o. Grows o (m.items (m.inside after)) (map (spelling variable) (drop (length list) tip))) k.items more.1;
           count = k.count;
           lengths = k.lengths;
           slots = k.slots;
@@ -277,7 +278,7 @@ module _ {X C B M K V D P : Type 0} (m : Meaning X C B M) (key : K → Bytes) (v
   unapplied_in x table opened h batch s list k in_had off (Merkleized w) (machine.merkleized chain tip) is e =
       let same : w ≡ batch = cc in
       let batch_is : m.is_merkleized batch chain tip = subst (λ v. m.is_merkleized v chain tip) same is.0 in
-      choice (fits root (commitment root list) chain) (lines.Applied (length tip), record s { database = Some tip; items = s.items ++ map spelling (drop (length list) tip) }) (refuse s lines.StaleBatch) (Goes (Reply (replies.Refused refused.StaleBatch)) (Database x) table opened)
+      choice (fits root (commitment root list) chain) (lines.Applied (length tip), record s { database = Some tip; items = s.items ++ map (spelling variable) (drop (length list) tip) }) (refuse s lines.StaleBatch) (Goes (Reply (replies.Refused refused.StaleBatch)) (Database x) table opened)
       (λ fit apart. absurd (off chain tip batch_is (on_chain-fits root s.had list chain apart in_had is.1 fit)))
       (λ unfit apart. (refl, k))
   unapplied_in x table opened h batch s list k in_had off (Merkleized w) machine.gone is e = absurd is
@@ -289,7 +290,7 @@ module _ {X C B M K V D P : Type 0} (m : Meaning X C B M) (key : K → Bytes) (v
       → Holds m (Database x) table opened s
       → ((list : List Operation) (chain : Chain) (tip : List Operation) → m.stands x list → m.is_merkleized batch chain tip → fits root (commitment root list) chain ≡ true)
       → ((list : List Operation) (chain : Chain) (tip : List Operation) → m.stands x list → m.is_merkleized batch chain tip → IsOnChain list chain → m.stands after tip)
-      → ((list : List Operation) (chain : Chain) (tip : List Operation) → m.stands x list → m.is_merkleized batch chain tip → IsOnChain list chain → (m.start (m.inside after) ≡ m.start (m.inside x)) × Grows (m.items (m.inside x)) (m.items (m.inside after)) (map spelling (drop (length list) tip)))
+      → ((list : List Operation) (chain : Chain) (tip : List Operation) → m.stands x list → m.is_merkleized batch chain tip → IsOnChain list chain → (m.start (m.inside after) ≡ m.start (m.inside x)) × Grows (m.items (m.inside x)) (m.items (m.inside after)) (map (spelling variable) (drop (length list) tip)))
       → ((l : List Operation) → m.stands after l → size ≡ length l)
       → merkleized_of (get_or table h Gone) ≡ Some batch
       → Goes (Reply (replies.Applied size)) (Database after) table opened (machine.apply scheme s h)
@@ -317,13 +318,13 @@ module _ {X C B M K V D P : Type 0} (m : Meaning X C B M) (key : K → Bytes) (v
   left_in : (x : X) (items : Option (List Bytes)) (table : List (Slot B M)) (opened : ℕ) (h : ℕ) (batch : M) (s : State) (list : List Operation)
       → Holds m (Database x) table opened s → Contains s.had list → Apart root s.had
       → ((chain : Chain) (tip : List Operation) → m.is_merkleized batch chain tip → (fits root (commitment root list) chain ≡ true → IsOnChain list chain)
-      → GrowsPart (m.items (m.inside x)) items (cond (fits root (commitment root list) chain) (map spelling (drop (length list) tip)) []))
+      → GrowsPart (m.items (m.inside x)) items (cond (fits root (commitment root list) chain) (map (spelling variable) (drop (length list) tip)) []))
       → (a : Slot B M) (b : machine.Slot) → SlotIs m s.had a b → merkleized_of a ≡ Some batch
       → IsLeft items s.items ((apply_in scheme s h list b).1).items
   left_in x items table opened h batch s list k in_had apart grown (Merkleized w) (machine.merkleized chain tip) is e =
       let same : w ≡ batch = cc in
       let batch_is : m.is_merkleized batch chain tip = subst (λ v. m.is_merkleized v chain tip) same is.0 in
-      let more : List Bytes = map spelling (drop (length list) tip) in
+      let more : List Bytes = map (spelling variable) (drop (length list) tip) in
       let part = grown chain tip batch_is (λ fit. on_chain-fits root s.had list chain apart in_had is.1 fit) in
       let there : GrowsPart (Some s.items) items (cond (fits root (commitment root list) chain) more []) = subst (λ o. GrowsPart o items (cond (fits root (commitment root list) chain) more [])) k.items part in
       by_fit (fits root (commitment root list) chain) (lines.Applied (length tip)) (record s { database = Some tip; items = s.items ++ more }) more there refl
@@ -340,7 +341,7 @@ module _ {X C B M K V D P : Type 0} (m : Meaning X C B M) (key : K → Bytes) (v
   pub apply_left : (x : X) (items : Option (List Bytes)) (table : List (Slot B M)) (opened : ℕ) (h : ℕ) (batch : M) (s : State)
       → Holds m (Database x) table opened s → Apart root s.had
       → ((list : List Operation) (chain : Chain) (tip : List Operation) → m.stands x list → m.is_merkleized batch chain tip → (fits root (commitment root list) chain ≡ true → IsOnChain list chain)
-      → GrowsPart (m.items (m.inside x)) items (cond (fits root (commitment root list) chain) (map spelling (drop (length list) tip)) []))
+      → GrowsPart (m.items (m.inside x)) items (cond (fits root (commitment root list) chain) (map (spelling variable) (drop (length list) tip)) []))
       → merkleized_of (get_or table h Gone) ≡ Some batch
       → IsLeft items s.items ((machine.apply scheme s h).1).items
   apply_left x items table opened h batch s k apart grown e =

@@ -4,7 +4,8 @@ use Rattle.std.specs.Prelude.{Contains, IsSome, is_some}
 use Rattle.std.proofs.lemmas.List.{length-set}
 use Rattle.std.proofs.Math.Seq.{drop-append_seam, take-length}
 use Rattle.qm_model.specs.Causes.{Grows, GrowsPart}
-use Rattle.qm_model.specs.Operations.{Bytes, Operation, spelling, fresh}
+use Rattle.qm_model.specs.Operations.{Bytes, Operation, fresh}
+use Rattle.qm_model.specs.Forms.{spelling, variable}
 use Rattle.qm_model.specs.Batches.{Apart}
 use Rattle.qm_model.specs.Lines.{Answer}
 use Rattle.qm_model.specs.Lines as lines
@@ -211,12 +212,12 @@ module _ {X C B M K V D P : Type 0} (m : Meaning X C B M) (key : K → Bytes) (v
 
   pub open_ok : (held : Given X C) (x : X) (table : List (Slot B M)) (opened start size end : ℕ) (s : State) → Holds m held table opened s
       → IfSome (m.items (store_given m.inside held)) (λ xs. m.start (store_given m.inside held) + length xs ≡ end) → end ≡ 0
-      → m.stands x fresh → m.start (m.inside x) ≡ m.start (store_given m.inside held) → Grows (m.items (store_given m.inside held)) (m.items (m.inside x)) (map spelling fresh)
+      → m.stands x fresh → m.start (m.inside x) ≡ m.start (store_given m.inside held) → Grows (m.items (store_given m.inside held)) (m.items (m.inside x)) (map (spelling variable) fresh)
       → start ≡ m.start (m.inside x) → ((l : List Operation) → m.stands x l → size ≡ length l)
       → Turns (Reply (replies.Opened (opened + 1) start size)) (Database x) table (opened + 1) (open_over s s.items)
   open_ok held x table opened start size end s k law none stands same_start grows is_start sized =
       let empty : s.items ≡ [] = no_items (store_given m.inside held) end s.items k.items k.start law none in
-      let there : Grows (Some s.items) (m.items (m.inside x)) (map spelling fresh) = subst (λ o. Grows o (m.items (m.inside x)) (map spelling fresh)) k.items grows in
+      let there : Grows (Some s.items) (m.items (m.inside x)) (map (spelling variable) fresh) = subst (λ o. Grows o (m.items (m.inside x)) (map (spelling variable) fresh)) k.items grows in
       subst (λ items. Turns (Reply (replies.Opened (opened + 1) start size)) (Database x) table (opened + 1) (open_over s items)) (sym empty) (λ apart. (
         rw (k.count, is_start ∙ same_start ∙ k.start, sized fresh stands) refl,
         record {
@@ -231,10 +232,10 @@ module _ {X C B M K V D P : Type 0} (m : Meaning X C B M) (key : K → Bytes) (v
 
   pub open_left : (held : Given X C) (items : Option (List Bytes)) (end : ℕ) (table : List (Slot B M)) (opened : ℕ) (s : State) → Holds m held table opened s
       → IfSome (m.items (store_given m.inside held)) (λ xs. m.start (store_given m.inside held) + length xs ≡ end) → end ≡ 0
-      → GrowsPart (m.items (store_given m.inside held)) items (map spelling fresh)
+      → GrowsPart (m.items (store_given m.inside held)) items (map (spelling variable) fresh)
       → IsLeft items s.items ((open_over s s.items).1).items
   open_left held items end table opened s k law none grows =
       let empty : s.items ≡ [] = no_items (store_given m.inside held) end s.items k.items k.start law none in
-      let there : GrowsPart (Some s.items) items (map spelling fresh) = subst (λ o. GrowsPart o items (map spelling fresh)) k.items grows in
+      let there : GrowsPart (Some s.items) items (map (spelling variable) fresh) = subst (λ o. GrowsPart o items (map (spelling variable) fresh)) k.items grows in
       let Goal : List Bytes → Type 0 = λ xs. IsLeft items xs ((open_over s xs).1).items in
-      subst Goal (sym empty) (left_part [] (map spelling fresh) items (rw empty at there))
+      subst Goal (sym empty) (left_part [] (map (spelling variable) fresh) items (rw empty at there))

@@ -7,7 +7,8 @@ use Rattle.sha2.specs.Sha256.{sha256}
 use Rattle.qm_base.specs.declared.error.Error.{Error}
 use Rattle.qm_base.specs.declared.error.Error.TheVariants as errors
 use Rattle.qm_base.specs.declared.error.JournalError.TheVariants as journal
-use Rattle.qm_model.specs.Operations.{Bytes, Operation, spelling}
+use Rattle.qm_model.specs.Operations.{Bytes, Operation}
+use Rattle.qm_model.specs.Forms.{spelling, variable}
 use Rattle.qm_model.specs.Batches.{Commitment, Chain, boundary_list, IsOnChain, IsKnown, commitment, fits, readable}
 use Rattle.qm_model.specs.Causes.{Rose}
 use Rattle.qm_store.specs.declared.Store as store
@@ -174,10 +175,10 @@ begun-reads (Err e) S begun Q given = tt
 
 -- what an apply appends, said of bounds and of lists
 pub appends-same : (list : List Operation) (chain : Chain) (tip : List Operation) (current : Commitment) (made : Made Sha256Digest) → current ≡ list_commitment sha256 mmr list → IsMade digest_bytes sha256 mmr made chain tip
-    → (if is_at current made.bounds.db made.bounds.ancestors then map spelling (drop current.size tip) else []) ≡ (if fits (sha256_root mmr) (commitment (sha256_root mmr) list) chain then map spelling (drop (length list) tip) else [])
+    → (if is_at current made.bounds.db made.bounds.ancestors then map (spelling variable) (drop current.size tip) else []) ≡ (if fits (sha256_root mmr) (commitment (sha256_root mmr) list) chain then map (spelling variable) (drop (length list) tip) else [])
 appends-same list chain tip current made is batch =
-    ap (λ b. if b then map spelling (drop current.size tip) else []) (at-made list chain tip current made is batch)
-    ∙ ap (λ (n : ℕ). if fits (sha256_root mmr) (commitment (sha256_root mmr) list) chain then map spelling (drop n tip) else []) (ap (λ c. c.size) is)
+    ap (λ b. if b then map (spelling variable) (drop current.size tip) else []) (at-made list chain tip current made is batch)
+    ∙ ap (λ (n : ℕ). if fits (sha256_root mmr) (commitment (sha256_root mmr) list) chain then map (spelling variable) (drop n tip) else []) (ap (λ c. c.size) is)
 
 -- an apply's database stands for the tip
 pub applied-ok : {X E : Type 0} (S : List Operation → Type 0) (L : Chain → List Operation → Type 0) (Q : List Operation → X → Type 0) (r : Result X E)
@@ -207,15 +208,15 @@ some-intro (Some a) P give = give a refl
 
 module _ (chain : Chain) (tip : List Operation) where
   -- why a tip is refused, where no spelling is too long
-  short : too_long (own_spellings chain.base tip) ≡ None → tip_refusal chain tip ≡ too_many (length tip)
+  short : too_long (own_spellings chain.base tip) ≡ None → tip_refusal variable chain tip ≡ too_many (length tip)
   short none = ap (λ o. option_or (option_map (λ n. Journal (ItemTooLarge n)) o) (too_many (length tip))) none
 
   -- a tip that is taken is not refused
-  pub taken-offered : IsTaken chain.base tip → tip_refusal chain tip ≡ None
+  pub taken-offered : IsTaken chain.base tip → tip_refusal variable chain tip ≡ None
   taken-offered taken = short taken.0 ∙ ap (λ b. if b then Some (Merkle (LocationOverflow (length tip))) else None) (le-ltb (2 ^ 62) (length tip) taken.1)
 
   -- what is too long of a tip is why it is refused
-  due : (e : Error) (r : Refused) → e ≢ errors.StaleBatch → IsRefused chain.base tip e → refusal_of e ≡ Some r → tip_refusal chain tip ≡ Some r
+  due : (e : Error) (r : Refused) → e ≢ errors.StaleBatch → IsRefused chain.base tip e → refusal_of e ≡ Some r → tip_refusal variable chain tip ≡ Some r
   due e r fresh (inl memory) told = absurd (none-some r (sym (ap refusal_of memory) ∙ told))
   due e r fresh (inr (inl stale)) told = absurd (fresh stale)
   due e r fresh (inr (inr (inl large))) told =
@@ -225,11 +226,11 @@ module _ (chain : Chain) (tip : List Operation) where
 
   -- a merkleize that is refused, and not as stale, is so for that where the database is on the chain
   pub refused-due : {C D : Type 0} (members : store.Ghosts C) (old new : Log C D) (P On : Type 0) (e : Error) → e ≢ errors.StaleBatch → old.tree.start ≡ 0 → (On → IsRefused chain.base tip e ⊎ IsReadError members old new e)
-      → (e ≢ errors.Memory → P) → IfSome (refusal_of e) (λ r. P × (On → tip_refusal chain tip ≡ Some r))
+      → (e ≢ errors.Memory → P) → IfSome (refusal_of e) (λ r. P × (On → tip_refusal variable chain tip ≡ Some r))
   refused-due members old new P On e fresh whole refused give =
-      some-intro (refusal_of e) (λ r. P × (On → tip_refusal chain tip ≡ Some r)) (λ r told. (give (λ memory. none-some r (sym (ap refusal_of memory) ∙ told)), λ on. either r told (refused on)))
+      some-intro (refusal_of e) (λ r. P × (On → tip_refusal variable chain tip ≡ Some r)) (λ r told. (give (λ memory. none-some r (sym (ap refusal_of memory) ∙ told)), λ on. either r told (refused on)))
     where
-      either : (r : Refused) → refusal_of e ≡ Some r → IsRefused chain.base tip e ⊎ IsReadError members old new e → tip_refusal chain tip ≡ Some r
+      either : (r : Refused) → refusal_of e ≡ Some r → IsRefused chain.base tip e ⊎ IsReadError members old new e → tip_refusal variable chain tip ≡ Some r
       either r told (inl long) = due e r fresh long told
       either r told (inr read) = absurd (none-some r (sym (log-untold members old new e whole read) ∙ told))
 
@@ -238,7 +239,7 @@ pub made-ok : {X E : Type 0} (r : Result X E) (made : X → Made Sha256Digest) (
     → ((list : List Operation) (chain above : Chain) → S list → IsBegun digest_bytes sha256 mmr begun chain above → IsOnChain list chain → IfOk r (λ x. IsMade digest_bytes sha256 mmr (made x) chain (stepped chain.base begun.writes policy meta)))
     → ((list : List Operation) (chain above : Chain) → S list → IsBegun digest_bytes sha256 mmr begun chain above → IsOnChain list chain → IfOk r (λ x. IsTaken chain.base (stepped chain.base begun.writes policy meta)))
     → IfOk r (λ x. (list : List Operation) (chain above : Chain) (ws : List Write) → S list → IsBegun digest_bytes sha256 mmr begun chain above × (begun.writes ≡ ws) → IsOnChain list chain
-    → (tip_refusal chain (stepped chain.base ws policy meta) ≡ None) × IsMade digest_bytes sha256 mmr (made x) chain (stepped chain.base ws policy meta))
+    → (tip_refusal variable chain (stepped chain.base ws policy meta) ≡ None) × IsMade digest_bytes sha256 mmr (made x) chain (stepped chain.base ws policy meta))
 made-ok (Ok x) made begun policy meta S given taken = λ list chain above ws is batch on. (
   taken-offered chain (stepped chain.base ws policy meta) (subst (λ w. IsTaken chain.base (stepped chain.base w policy meta)) batch.1 (taken list chain above is batch.0 on)),
   subst (λ w. IsMade digest_bytes sha256 mmr (made x) chain (stepped chain.base w policy meta)) batch.1 (given list chain above is batch.0 on),

@@ -15,8 +15,10 @@ use crate::listed::{listed, twin_option};
 use qm_any::batch::{MerkleizedBatch, UnmerkleizedBatch};
 use qm_any::db::Db;
 use qm_any::{Given, Proportional, Refusal, init};
-use qm_base::update::Unordered;
-use qm_base::{ByteKey, ByteValue, Error, JournalError, Location, Sha256, Sha256Digest};
+use qm_base::{
+    ByteKey, ByteValue, Error, JournalError, Location, Sha256, Sha256Digest, Unordered,
+    VariableEncoding,
+};
 use qm_index::FourCap;
 use qm_index::unordered::Index;
 use qm_lines::{AnyPolicy, Listed};
@@ -27,7 +29,7 @@ use std::num::NonZeroU64;
 use std::rc::Rc;
 
 /// What its updates say.
-type Pair = Unordered<ByteKey, ByteValue>;
+type Pair = Unordered<ByteKey, VariableEncoding<ByteValue>>;
 
 /// Where its keys are live, by their first four bytes.
 type Places = Index<FourCap, Location<mmr::Family>>;

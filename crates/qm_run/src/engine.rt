@@ -3,7 +3,8 @@
 ghost use Rattle.std.specs.Prelude.{◌≡◌, ◌≢◌, ◌≤◌, ◌+◌, ◌++◌, ◌∷◌, [], ℕ, List, Some, None, true, map, take, drop, length, nat_lt, option_map, if◌then◌else◌, IfOk, IfErr, IfSome};
 ghost use Rattle.std.specs.Int.NonZero.{non_zero_u64_get};
 ghost use Rattle.qm_model.specs.Causes.{Rose};
-ghost use Rattle.qm_model.specs.Operations.{Bytes, Operation, spelling, fresh};
+ghost use Rattle.qm_model.specs.Operations.{Bytes, Operation, fresh};
+ghost use Rattle.qm_model.specs.Forms.{spelling, variable};
 ghost use Rattle.qm_model.specs.Live.{live, floor, value_of, last_metadata};
 ghost use Rattle.qm_model.specs.Writes.{Write, read_through};
 ghost use Rattle.qm_model.specs.Step.{Kind, step};
@@ -100,8 +101,8 @@ pub trait Engine<C: Store>: Drop + Sized {
         requires start { C.start store ≡ 0 }
         requires empty { C.end store ≡ 0 }
         ensures opened { IfSome (C.items store) (λ _. IfOk result (λ x. stands x fresh)) }
-        ensures grown { IfOk result (λ x. Appended C.Store store (inside x) (map spelling fresh)) }
-        ensures kept { IfErr result (λ r. AppendedPart C.Store store (store_given inside r.given) (map spelling fresh)) }
+        ensures grown { IfOk result (λ x. Appended C.Store store (inside x) (map (spelling variable) fresh)) }
+        ensures kept { IfErr result (λ r. AppendedPart C.Store store (store_given inside r.given) (map (spelling variable) fresh)) }
         ensures cause { IfErr result (λ r. r.error ≡ Error.Journal JournalError.Store → Rose (C.faults store) (C.faults (store_given inside r.given))) }
         ensures later { C.faults store ≤ C.faults (store_after inside result) }
         ensures refused { IfErr result (λ r. refusal_of r.error ≡ None) };
@@ -165,13 +166,13 @@ pub trait Engine<C: Store>: Drop + Sized {
             → fits root (commitment root list) chain ≡ true) }
         ensures made { IfOk result (λ b. (list : List Operation) (chain above : Chain) (ws : List Write) → stands self.old list → is_batch batch chain above ws → IsOnChain list chain
             → let tip = step kind policies chain.base ws (policy_view policy.old) (option_map Self.Value.bytes metadata.now) in
-            (tip_refusal chain tip ≡ None) × is_merkleized b chain tip) }
+            (tip_refusal variable chain tip ≡ None) × is_merkleized b chain tip) }
         ensures stale { IfErr result (λ e. e ≡ Error.StaleBatch → (list : List Operation) (chain above : Chain) (ws : List Write) → stands self.old list → is_batch batch chain above ws
             → ¬ IsOnChain list chain) }
         ensures refused { IfErr result (λ e. e ≢ Error.StaleBatch → TellsAll C.Store (inside self.old)
             → (list : List Operation) (chain above : Chain) (ws : List Write) → stands self.old list → is_batch batch chain above ws
             → IfSome (refusal_of e) (λ r. (fits root (commitment root list) chain ≡ true)
-            × (IsOnChain list chain → tip_refusal chain (step kind policies chain.base ws (policy_view policy.old) (option_map Self.Value.bytes metadata.now)) ≡ Some r))) }
+            × (IsOnChain list chain → tip_refusal variable chain (step kind policies chain.base ws (policy_view policy.old) (option_map Self.Value.bytes metadata.now)) ≡ Some r))) }
         ensures same { (list : List Operation) → stands self.old list → stands self.new list }
         ensures store { IsUnchanged C.Store (inside self.old) (inside self.new) }
         ensures cause { IfErr result (λ e. e ≡ Error.Journal JournalError.Store → Rose (C.faults (inside self.old)) (C.faults (inside self.new))) }
@@ -201,12 +202,12 @@ pub trait Engine<C: Store>: Drop + Sized {
         ensures applied { IfOk result (λ next. (list : List Operation) (chain : Chain) (tip : List Operation) → stands self list → is_merkleized batch.now chain tip → IsOnChain list chain
             → stands next tip) }
         ensures grown { IfOk result (λ next. (list : List Operation) (chain : Chain) (tip : List Operation) → stands self list → is_merkleized batch.now chain tip → IsOnChain list chain
-            → Appended C.Store (inside self) (inside next) (map spelling (drop (length list) tip))) }
+            → Appended C.Store (inside self) (inside next) (map (spelling variable) (drop (length list) tip))) }
         ensures stale { IfErr result (λ r. r.error ≡ Error.StaleBatch → (r.given ≡ Given.Database self)
             × ((list : List Operation) (chain : Chain) (tip : List Operation) → stands self list → is_merkleized batch.now chain tip → ¬ IsOnChain list chain)) }
         ensures refused { IfErr result (λ r. r.error ≢ Error.StaleBatch → refusal_of r.error ≡ None) }
         ensures kept { IfErr result (λ r. (list : List Operation) (chain : Chain) (tip : List Operation) → stands self list → is_merkleized batch.now chain tip
-            → AppendedPart C.Store (inside self) (store_given inside r.given) (if fits root (commitment root list) chain then map spelling (drop (length list) tip) else [])) }
+            → AppendedPart C.Store (inside self) (store_given inside r.given) (if fits root (commitment root list) chain then map (spelling variable) (drop (length list) tip) else [])) }
         ensures back { IfErr result (λ r. (x : Self) → r.given ≡ Given.Database x → x ≡ self) }
         ensures cause { IfErr result (λ r. r.error ≡ Error.Journal JournalError.Store → Rose (C.faults (inside self)) (C.faults (store_given inside r.given))) }
         ensures later { C.faults (inside self) ≤ C.faults (store_after inside result) };

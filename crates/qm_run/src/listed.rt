@@ -1,16 +1,14 @@
 // Operations as replies list them.
 ghost use Rattle.std.specs.Prelude.{◌≡◌, IfOk, map, option_map};
 ghost use Rattle.qm_lines.specs.Views.{listed_view};
-ghost use Rattle.qm_base.specs.Views.{unordered_view};
-ghost use Rattle.qm_any.specs.Views.{entry_views};
+ghost use Rattle.qm_base.specs.Views.{operation_view, operation_views};
 
-use qm_base::update::Unordered;
-use qm_base::{Key, Operation, VariableValue};
+use qm_base::{ByteString, Operation, Update};
 use qm_lines::Listed;
 use std::alloc::{AllocError, Global};
 
 /// A copy of a value, where there is one.
-pub fn twin_option<V: VariableValue>(
+pub fn twin_option<V: ByteString>(
     alloc: Global,
     value: &Option<V>,
 ) -> Result<Option<V>, AllocError>
@@ -25,19 +23,34 @@ pub fn twin_option<V: VariableValue>(
     }
 }
 
-// The operation as a reply lists it.
-fn listed_entry<F, K: Key, V: VariableValue>(
+// An update as a reply lists it.
+fn listed_update<U: Update>(
     alloc: Global,
-    operation: &Operation<F, Unordered<K, V>>,
-) -> Result<Listed<K, V>, AllocError>
-    ensures { IfOk result (λ listed. listed_view K.bytes V.bytes listed ≡ unordered_view K.bytes V.bytes operation.now) }
+    update: &U,
+) -> Result<Listed<U::Key, U::Value>, AllocError>
+    ensures { IfOk result (λ listed. listed_view U.Key.bytes U.Value.bytes listed ≡ U.view update.now) }
+{
+    let (key, value, next) = update.parts();
+    let key = key.twin(alloc)?;
+    let value = value.twin(alloc)?;
+    match next {
+        None => Ok(Listed::Update(key, value, None)),
+        Some(next) => {
+            let next = next.twin(alloc)?;
+            Ok(Listed::Update(key, value, Some(next)))
+        }
+    }
+}
+
+// The operation as a reply lists it.
+fn listed_entry<F, U: Update>(
+    alloc: Global,
+    operation: &Operation<F, U>,
+) -> Result<Listed<U::Key, U::Value>, AllocError>
+    ensures { IfOk result (λ listed. listed_view U.Key.bytes U.Value.bytes listed ≡ operation_view U.view U.Key.bytes U.Value.bytes operation.now) }
 {
     match operation {
-        Operation::Update(update) => {
-            let key = update.0.twin(alloc)?;
-            let value = update.1.twin(alloc)?;
-            Ok(Listed::Update(key, value, None))
-        }
+        Operation::Update(update) => listed_update(alloc, update),
         Operation::Delete(key) => {
             let key = key.twin(alloc)?;
             Ok(Listed::Delete(key))
@@ -50,11 +63,11 @@ fn listed_entry<F, K: Key, V: VariableValue>(
 }
 
 /// The operations as a reply lists them.
-pub fn listed<F, K: Key, V: VariableValue>(
+pub fn listed<F, U: Update>(
     alloc: Global,
-    operations: &[Operation<F, Unordered<K, V>>],
-) -> Result<Vec<Listed<K, V>>, AllocError>
-    ensures { IfOk result (λ list. map (listed_view K.bytes V.bytes) list.items ≡ entry_views K.bytes V.bytes operations.now) }
+    operations: &[Operation<F, U>],
+) -> Result<Vec<Listed<U::Key, U::Value>>, AllocError>
+    ensures { IfOk result (λ list. map (listed_view U.Key.bytes U.Value.bytes) list.items ≡ operation_views U.view U.Key.bytes U.Value.bytes operations.now) }
 {
     let mut list = Vec::new(alloc);
     for operation in operations {

@@ -1,5 +1,6 @@
 // Commands that make, fill and apply batches.
 ghost use Rattle.std.specs.Prelude.{◌≡◌, ◌++◌, ◌∷◌, [], ◌≤◌, ◌≢◌, List, Some, None, true, option_map, IfOk, IfErr, IfSome};
+ghost use Rattle.qm_model.specs.Forms.{variable};
 ghost use Rattle.qm_model.specs.Causes.{Rose};
 ghost use Rattle.qm_model.specs.Operations.{Operation};
 ghost use Rattle.qm_model.specs.Writes.{Write};
@@ -188,13 +189,13 @@ fn merkleize_batch<X: Engine<C>, C: Store>(
         → fits X.root (commitment X.root list) chain ≡ true) }
     ensures made { IfOk result (λ b. (list : List Operation) (chain above : Chain) (ws : List Write) → X.stands database.old list → X.is_batch batch chain above ws → IsOnChain list chain
         → let tip = step X.kind policies chain.base ws (policy_view policy.now) (option_map X.Value.bytes metadata.now) in
-        (tip_refusal chain tip ≡ None) × X.is_merkleized b chain tip) }
+        (tip_refusal variable chain tip ≡ None) × X.is_merkleized b chain tip) }
     ensures stale { IfErr result (λ e. e ≡ Error.StaleBatch → (list : List Operation) (chain above : Chain) (ws : List Write) → X.stands database.old list → X.is_batch batch chain above ws
         → ¬ IsOnChain list chain) }
     ensures refused { IfErr result (λ e. e ≢ Error.StaleBatch → TellsAll C.Store (X.inside database.old)
         → (list : List Operation) (chain above : Chain) (ws : List Write) → X.stands database.old list → X.is_batch batch chain above ws
         → IfSome (refusal_of e) (λ r. (fits X.root (commitment X.root list) chain ≡ true)
-        × (IsOnChain list chain → tip_refusal chain (step X.kind policies chain.base ws (policy_view policy.now) (option_map X.Value.bytes metadata.now)) ≡ Some r))) }
+        × (IsOnChain list chain → tip_refusal variable chain (step X.kind policies chain.base ws (policy_view policy.now) (option_map X.Value.bytes metadata.now)) ≡ Some r))) }
     ensures same { (list : List Operation) → X.stands database.old list → X.stands database.new list }
     ensures store { IsUnchanged C.Store (X.inside database.old) (X.inside database.new) }
     ensures cause { IfErr result (λ e. e ≡ Error.Journal JournalError.Store → Rose (C.faults (X.inside database.old)) (C.faults (X.inside database.new))) }

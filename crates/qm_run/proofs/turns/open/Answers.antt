@@ -1,5 +1,6 @@
 use Rattle.std.proofs.Common.{◌≡◌, ◌≤◌, ◌<◌, ℕ, ◌+◌, ◌⊎◌, length, arith, IfSome, inl, inr, map}
-use Rattle.qm_model.specs.Operations.{spelling, fresh}
+use Rattle.qm_model.specs.Operations.{fresh}
+use Rattle.qm_model.specs.Forms.{spelling, variable}
 use Rattle.qm_model.specs.Policies.{Policy}
 use Rattle.qm_model.specs.Machine.{Scheme}
 use Rattle.qm_run.specs.Session.{Meaning, meaning, scheme_of}
@@ -39,7 +40,7 @@ returns-in-Ok-clause-left g c = λ s k apart.
     rw c.bounds-start.ensures.end (g.met.C.Store.told_end (store_given m.inside c.args.session.held)) in
     let grown = rw c.close-store.ensures at c.in-Ok.ensures.grown in
     open_left m g.X.Key.ByteString.bytes g.X.Value.ByteString.bytes g.X.Digest.Digest.bytes scheme c.args.session.held (m.items (m.inside c.in-Ok.x)) c.bounds-start.result.1 c.args.session.table.items c.args.session.opened s k law
-    (omega arith) (Grows-whole (m.items (store_given m.inside c.args.session.held)) (m.items (m.inside c.in-Ok.x)) (map spelling fresh) grown.items)
+    (omega arith) (Grows-whole (m.items (store_given m.inside c.args.session.held)) (m.items (m.inside c.in-Ok.x)) (map (spelling variable) fresh) grown.items)
 
 pub returns-in-Err-clause-machine : goal.returns-in-Err-clause-machine
 returns-in-Err-clause-machine g c = λ s k. rw c.turn_of.ensures (no_refusal c.in-Err.refusal.error _ c.in-Err.ensures.refused)

@@ -2,7 +2,7 @@ use Rattle.std.proofs.Common.{◌∙◌, ap, sym, subst, drop, map, [], if◌the
 use Rattle.sha2.specs.Sha256.{sha256}
 use Rattle.qm_model.proofs.Results.{err-then, ok-then}
 use Rattle.qm_model.specs.Mmr.{mmr}
-use Rattle.qm_model.specs.Operations.{spelling}
+use Rattle.qm_model.specs.Forms.{spelling, variable}
 use Rattle.qm_index.specs.Translated.{capped}
 use Rattle.qm_any.specs.Databases.{IsDatabase, IsMade}
 use Rattle.qm_any.specs.Given.{Appended, AppendedPart, store_given}
@@ -23,9 +23,9 @@ returns-clause-applied g c =
 
 pub returns-clause-grown : goal.returns-clause-grown
 returns-clause-grown g c =
-    ok-then c.apply_batch.result (ok-made c.apply_batch.result c.deref.result.now (λ tip next. Appended g.C.Store c.args.self.log.store next.log.store (map spelling (drop c.args.self.commitment.size tip))) c.apply_batch.ensures.grown)
+    ok-then c.apply_batch.result (ok-made c.apply_batch.result c.deref.result.now (λ tip next. Appended g.C.Store c.args.self.log.store next.log.store (map (spelling variable) (drop c.args.self.commitment.size tip))) c.apply_batch.ensures.grown)
     (λ next grown list chain tip is batch on.
-    subst (λ n. Appended g.C.Store c.args.self.log.store next.log.store (map spelling (drop n tip))) (ap (λ k. k.size) is.commitment) (grown chain tip (subst (λ b. IsMade digest_bytes sha256 mmr b chain tip) (sym c.deref.ensures) batch)))
+    subst (λ n. Appended g.C.Store c.args.self.log.store next.log.store (map (spelling variable) (drop n tip))) (ap (λ k. k.size) is.commitment) (grown chain tip (subst (λ b. IsMade digest_bytes sha256 mmr b chain tip) (sym c.deref.ensures) batch)))
 
 pub returns-clause-stale : goal.returns-clause-stale
 returns-clause-stale g c =
@@ -40,7 +40,7 @@ pub returns-clause-kept : goal.returns-clause-kept
 returns-clause-kept g c =
     err-then c.apply_batch.result
     (err-made c.apply_batch.result c.deref.result.now (λ tip r. AppendedPart g.C.Store c.args.self.log.store (store_given (λ db. db.log.store) r.given)
-    (if is_at c.args.self.commitment c.deref.result.now.bounds.db c.deref.result.now.bounds.ancestors then map spelling (drop c.args.self.commitment.size tip) else [])) c.apply_batch.ensures.part)
+    (if is_at c.args.self.commitment c.deref.result.now.bounds.db c.deref.result.now.bounds.ancestors then map (spelling variable) (drop c.args.self.commitment.size tip) else [])) c.apply_batch.ensures.part)
     (λ r part list chain tip is batch.
     let made = subst (λ b. IsMade digest_bytes sha256 mmr b chain tip) (sym c.deref.ensures) batch in
     subst (AppendedPart g.C.Store c.args.self.log.store (store_given (λ db. db.log.store) r.given))

@@ -1,5 +1,5 @@
 use Rattle.std.proofs.Common.{length, sym, map, drop}
-use Rattle.qm_model.specs.Operations.{spelling}
+use Rattle.qm_model.specs.Forms.{spelling, variable}
 use Rattle.qm_model.specs.Policies.{Policy}
 use Rattle.qm_model.specs.Machine.{Scheme}
 use Rattle.qm_run.specs.Session.{Meaning, meaning, scheme_of}
@@ -28,7 +28,7 @@ returns-in-Ok-clause-left g c = λ s k apart.
     apply_left m g.X.Key.ByteString.bytes g.X.Value.ByteString.bytes g.X.Digest.Digest.bytes scheme c.in-Database.x (g.C.Store.items (g.X.Engine.inside c.in-Ok.x)) c.args.session.table.items c.args.session.opened c.args.number c.in-Some.batch.now s (rw c.in-Database.is at k) apart
     (λ list chain tip stands is on.
     let fit = c.in-Ok.ensures.fits list chain tip stands is in
-    rw fit (Grows-whole (g.C.Store.items (g.X.Engine.inside c.in-Database.x)) (g.C.Store.items (g.X.Engine.inside c.in-Ok.x)) (map spelling (drop (length list) tip)) ((c.in-Ok.ensures.grown list chain tip stands is (on fit)).items)))
+    rw fit (Grows-whole (g.C.Store.items (g.X.Engine.inside c.in-Database.x)) (g.C.Store.items (g.X.Engine.inside c.in-Ok.x)) (map (spelling variable) (drop (length list) tip)) ((c.in-Ok.ensures.grown list chain tip stands is (on fit)).items)))
     (sym c.in-Some.ensures)
 
 pub returns-in-Err-clause-machine : goal.returns-in-Err-clause-machine
