@@ -160,7 +160,11 @@ fn each_kind_and_size_has_its_spellings(rt: HostRuntime) -> Result<(), Fail> {
             key_spelled_by::<Ordered<FixedBytes<2>, Fixed>>(alloc, bytes)?,
         ];
         for (found, want) in found.iter().zip(want.iter()) {
-            assert_eq!(rt; found.as_ref().map(|key| key.as_slice()), *want, "at {bytes:?}");
+            assert_eq!(rt;
+                found.as_ref().map(|key| key.as_slice()),
+                *want,
+                "at {bytes:?}"
+            );
         }
     }
     Ok(())
