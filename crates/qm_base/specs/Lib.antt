@@ -1,4 +1,3 @@
-pub mod Decode
 pub mod Parts
 pub mod Sizes
 pub mod Views

@@ -1,7 +1,9 @@
 //! Operations and their spelling.
 
-ghost use Rattle.std.specs.Prelude.{◌≡◌, ◌++◌, ◌<◌, ◌^◌, length, IfOk, OnOk, Option, option_map};
+ghost use Rattle.std.specs.Prelude.{ℕ, ◌≤◌, true, IfSome, ◌≡◌, ◌++◌, ◌<◌, ◌^◌, length, IfOk, OnOk, Option, option_map};
+ghost use Rattle.qm_model.specs.Forms as forms;
 ghost use Rattle.qm_base.specs.Parts as parts;
+ghost use Rattle.qm_base.specs.Views.{operation_view};
 ghost use Rattle.qm_base.specs.Parts.{key_of, floor_of};
 ghost use Rattle.qm_model.specs.Operations as model;
 
@@ -33,20 +35,69 @@ pub fn eight_bytes(number: u64) -> [u8; 8]
     number.to_be_bytes()
 }
 
-// Adds a length and the bytes.
-fn add_field<B: ByteString>(out: &mut Vec<u8>, field: &B) -> Result<(), AllocError>
-    ensures { OnOk result (out.new.items ≡ out.old.items ++ model.field (B.bytes field.now)) }
+/// The size of keys, where it is fixed.
+pub(crate) fn key_size(sizes: Option<(u32, u32)>) -> Option<u32>
+    ensures { result ≡ forms.key_size sizes }
+{
+    match sizes {
+        Some((key, _)) => Some(key),
+        None => None,
+    }
+}
+
+/// The size of values, where it is fixed.
+pub(crate) fn value_size(sizes: Option<(u32, u32)>) -> Option<u32>
+    ensures { result ≡ forms.value_size sizes }
+{
+    match sizes {
+        Some((_, value)) => Some(value),
+        None => None,
+    }
+}
+
+/// The length of the longest spelling, of keys and values of these sizes.
+pub(crate) fn longest(ordered: bool, sizes: (u32, u32)) -> u64
+    ensures { result ≡ forms.longest ordered sizes }
+{
+    let key = sizes.0 as u64;
+    let value = sizes.1 as u64;
+    let next = if ordered { key } else { 0 };
+    (1 + key + value + next).max(10 + value)
+}
+
+// The key's or value's bytes are short, and those of a value of its type.
+fn add_field<B: ByteString>(
+    out: &mut Vec<u8>,
+    size: Option<u32>,
+    field: &B,
+) -> Result<(), AllocError>
+    ensures spelled { OnOk result (out.new.items ≡ out.old.items ++ forms.field size (B.bytes field.now)) }
+    ensures has { B.has (B.bytes field.now) ≡ true }
+    ensures short { length (B.bytes field.now) < 2 ^ 32 }
 {
     let bytes = field.as_bytes();
-    let count = four_bytes(bytes.len() as u32);
-    out.extend_from_slice(&count)?;
-    out.extend_from_slice(bytes)?;
-    Ok(())
+    match size {
+        None => {
+            let count = four_bytes(bytes.len() as u32);
+            out.extend_from_slice(&count)?;
+            out.extend_from_slice(bytes)?;
+            Ok(())
+        }
+        Some(_) => {
+            out.extend_from_slice(bytes)?;
+            Ok(())
+        }
+    }
 }
 
 // Adds the mark of metadata, and the value where there is one.
-fn add_metadata<B: ByteString>(out: &mut Vec<u8>, metadata: &Option<B>) -> Result<(), AllocError>
-    ensures { OnOk result (out.new.items ≡ out.old.items ++ model.metadata_field (option_map B.bytes metadata.now)) }
+fn add_metadata<B: ByteString>(
+    out: &mut Vec<u8>,
+    size: Option<u32>,
+    metadata: &Option<B>,
+) -> Result<(), AllocError>
+    ensures spelled { OnOk result (out.new.items ≡ out.old.items ++ forms.metadata_field size (option_map B.bytes metadata.now)) }
+    ensures has { OnOk result (IfSome (option_map B.bytes metadata.now) (λ bs. (B.has bs ≡ true) × (length bs < 2 ^ 32))) }
 {
     match metadata {
         None => {
@@ -55,47 +106,71 @@ fn add_metadata<B: ByteString>(out: &mut Vec<u8>, metadata: &Option<B>) -> Resul
         }
         Some(value) => {
             out.push(1)?;
-            add_field(out, value)
+            add_field(out, size, value)
         }
     }
 }
 
 // Adds the fields of an update.
 fn add_update<U: Update>(out: &mut Vec<u8>, update: &U) -> Result<(), AllocError>
-    ensures { OnOk result (out.new.items ≡ out.old.items ++ model.spelling (U.view update.now)) }
+    ensures spelled { OnOk result (out.new.items ≡ out.old.items ++ forms.plain U.form.sizes (U.view update.now)) }
+    ensures of { OnOk result (forms.IsOf U.form (U.view update.now)) }
 {
     let (key, value, next) = update.parts();
+    let sizes = U::sizes();
     out.push(1)?;
-    add_field(out, key)?;
-    add_field(out, value)?;
+    add_field(out, key_size(sizes), key)?;
+    add_field(out, value_size(sizes), value)?;
     match next {
         None => Ok(()),
-        Some(next) => add_field(out, next),
+        Some(next) => add_field(out, key_size(sizes), next),
+    }
+}
+
+// Adds the padding.
+fn pad(mut out: Vec<u8>, ordered: bool, sizes: Option<(u32, u32)>) -> Result<Vec<u8>, AllocError>
+    ensures { IfOk result (λ bytes. bytes.items ≡ forms.padded ordered sizes out.items) }
+{
+    match sizes {
+        None => Ok(out),
+        Some(sizes) => {
+            let end = (longest(ordered, sizes) as usize).max(out.len());
+            out.resize(end, 0)?;
+            Ok(out)
+        }
+    }
+}
+
+// Adds the operation without padding.
+fn add_plain<F, U: Update>(out: &mut Vec<u8>, operation: &Operation<F, U>) -> Result<(), AllocError>
+    ensures spelled { OnOk result (out.new.items ≡ out.old.items ++ forms.plain U.form.sizes (operation_view U.view U.Key.bytes U.Value.bytes operation.now)) }
+    ensures of { OnOk result (IfSome (floor_of (operation_view U.view U.Key.bytes U.Value.bytes operation.now)) (λ floor. floor ≤ 2 ^ 62) → forms.IsOf U.form (operation_view U.view U.Key.bytes U.Value.bytes operation.now)) }
+{
+    let sizes = U::sizes();
+    match operation {
+        Operation::Update(update) => add_update(out, update),
+        Operation::Delete(key) => {
+            out.push(2)?;
+            add_field(out, key_size(sizes), key)
+        }
+        Operation::CommitFloor(metadata, floor) => {
+            out.push(3)?;
+            add_metadata(out, value_size(sizes), metadata)?;
+            out.extend_from_slice(&eight_bytes(floor.get()))?;
+            Ok(())
+        }
     }
 }
 
 impl<F, U: Update> Operation<F, U> {
-    ghost use Rattle.qm_base.specs.Views.{operation_view};
-
-    /// The spelling of the operation in the variable form, with which a list is stored and hashed.
-    /// Want of memory is the only error.
+    /// The spelling of the operation, with which a list is stored and hashed. Want of memory is the only error.
     pub fn encode(&self, alloc: Global) -> Result<Vec<u8>, AllocError>
-        ensures { IfOk result (λ bytes. bytes.items ≡ model.spelling (operation_view U.view U.Key.bytes U.Value.bytes self.now)) }
+        ensures of { IfOk result (λ _. IfSome (floor_of (operation_view U.view U.Key.bytes U.Value.bytes self.now)) (λ floor. floor ≤ 2 ^ 62) → forms.IsOf U.form (operation_view U.view U.Key.bytes U.Value.bytes self.now)) }
+        ensures spelled { IfOk result (λ bytes. bytes.items ≡ forms.spelling U.form (operation_view U.view U.Key.bytes U.Value.bytes self.now)) }
     {
         let mut out = Vec::new(alloc);
-        match self {
-            Operation::Update(update) => add_update(&mut out, update)?,
-            Operation::Delete(key) => {
-                out.push(2)?;
-                add_field(&mut out, key)?;
-            }
-            Operation::CommitFloor(metadata, floor) => {
-                out.push(3)?;
-                add_metadata(&mut out, metadata)?;
-                out.extend_from_slice(&eight_bytes(floor.get()))?;
-            }
-        }
-        Ok(out)
+        add_plain(&mut out, self)?;
+        pad(out, U::is_ordered(), U::sizes())
     }
 
     /// The key of an update or a delete.

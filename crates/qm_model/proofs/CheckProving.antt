@@ -12,7 +12,8 @@ use Rattle.std.proofs.lemmas.Bool.{true≢false}
 use Rattle.std.proofs.lemmas.List.{drop_all}
 use Rattle.std.proofs.lemmas.Option.{slice_get_within, get_or_from_slice_get}
 use Rattle.std.proofs.lemmas.Nat.{pow_pos, mod_below, div-add-mod'}
-use Rattle.qm_model.specs.Operations.{Bytes, Operation, update, delete, commit, spelling, IsCommitEnded}
+use Rattle.qm_model.specs.Operations.{Bytes, Operation, update, delete, commit, IsCommitEnded}
+use Rattle.qm_model.specs.Forms.{spelling, variable}
 use Rattle.qm_model.specs.Live.{Live, touched, live_from, live, live_of, live_keys, floor, floor_after, metadata_after, last_metadata}
 use Rattle.qm_model.specs.Keys.{key_lt, lesser, greater, least, greatest, successor, predecessor}
 use Rattle.qm_model.specs.Trees.{Shape}
@@ -65,9 +66,9 @@ update_active ops i k v n at none =
     last true = refl
     last false = refl
 
-one_item : (ops : List Operation) (i : ℕ) (op : Operation) → slice_get ops i ≡ Some op → take 1 (drop i (map spelling ops)) ≡ spelling op ∷ []
+one_item : (ops : List Operation) (i : ℕ) (op : Operation) → slice_get ops i ≡ Some op → take 1 (drop i (map (spelling variable) ops)) ≡ spelling variable op ∷ []
 one_item [] i op at = cc
-one_item (x ∷ ops) zero op at = let same : x ≡ op = cc in ap (λ o. spelling o ∷ []) same
+one_item (x ∷ ops) zero op at = let same : x ≡ op = cc in ap (λ o. spelling variable o ∷ []) same
 one_item (x ∷ ops) (suc i) op at = one_item ops i op at
 
 -- Absences.
@@ -193,7 +194,7 @@ last_commit (commit m h ∷ y ∷ ops) d f ended = let here : length (commit m h
 
 module _ (hash : Bytes → Bytes) (shape : Shape) (g : ℕ) (enough : 3 ≤ g) (ops : List Operation) (few : length ops ≤ 2 ^ 62) where
   -- the proof of an operation that stands at an active location verifies
-  pub operation_verified : (i : ℕ) (op : Operation) → slice_get ops i ≡ Some op → slice_get (bits ops) i ≡ Some true → operation_verdict hash shape g (operation_proof hash shape g ops i) (spelling op) (canonical hash shape g ops) ≡ true
+  pub operation_verified : (i : ℕ) (op : Operation) → slice_get ops i ≡ Some op → slice_get (bits ops) i ≡ Some true → operation_verdict hash shape g (operation_proof hash shape g ops i) (spelling variable op) (canonical hash shape g ops) ≡ true
   operation_verified i op at active =
       let within = slice_get_within ops i op at in
       let chunk = chunk_of g ops (i / 2 ^ g) in
@@ -203,10 +204,10 @@ module _ (hash : Bytes → Bytes) (shape : Shape) (g : ℕ) (enough : 3 ≤ g) (
       let bit : has_bit chunk (i % 2 ^ g) ≡ true = chunk_bit (chunk_size g) (bits ops) (i / 2 ^ g) (i % 2 ^ g) (omega arith)
       ∙ ap (λ j. get_or (bits ops) j false) place ∙ get_or_from_slice_get (bits ops) i true false active in
       let one : suc i - i ≡ 1 = omega arith in
-      let items : take (suc i - i) (drop i (map spelling ops)) ≡ spelling op ∷ [] = ap (λ n. take n (drop i (map spelling ops))) one ∙ one_item ops i op at in
+      let items : take (suc i - i) (drop i (map (spelling variable) ops)) ≡ spelling variable op ∷ [] = ap (λ n. take n (drop i (map (spelling variable) ops))) one ∙ one_item ops i op at in
       let count : touched_chunks g i (suc i) ≡ 1 = let same : suc i - 1 ≡ i = omega arith in ap (λ j. suc (j / 2 ^ g) - i / 2 ^ g) same ∙ omega arith in
       let chunks : chunks_of g ops i (suc i) ≡ chunk ∷ [] = ap (chunks_from (chunk_of g ops) (i / 2 ^ g)) count in
-      let range : range_verdict hash shape g (spelling op ∷ []) i (chunk ∷ []) (range_proof hash shape g ops i (suc i)) (canonical hash shape g ops) ≡ true =
+      let range : range_verdict hash shape g (spelling variable op ∷ []) i (chunk ∷ []) (range_proof hash shape g ops i (suc i)) (canonical hash shape g ops) ≡ true =
       ap₂ (λ is cs. range_verdict hash shape g is i cs (range_proof hash shape g ops i (suc i)) (canonical hash shape g ops)) (sym items) (sym chunks)
       ∙ range_verified hash shape g ops i (suc i) (omega arith) (omega arith) few in
       ap₂ (λ s t. s && t) bit range
@@ -237,7 +238,7 @@ module _ (hash : Bytes → Bytes) (shape : Shape) (g : ℕ) (enough : 3 ≤ g) (
         let past : drop (suc last) ops ≡ [] = drop_all (suc last) ops (omega arith) in
         let set : slice_get (bits ops) last ≡ Some true =
         bit_of ops last (commit (last_metadata ops) (floor ops)) at ∙ ap (λ rest. Some (is_active (commit (last_metadata ops) (floor ops)) rest)) past in
-        ap (λ f. operation_verdict hash shape g (operation_proof hash shape g ops last) (spelling (commit (last_metadata ops) f)) (canonical hash shape g ops)) (sym here)
+        ap (λ f. operation_verdict hash shape g (operation_proof hash shape g ops last) (spelling variable (commit (last_metadata ops) f)) (canonical hash shape g ops)) (sym here)
         ∙ operation_verified last (commit (last_metadata ops) (floor ops)) at set
 
     apart : Each (λ k. bytes_eq k x ≡ false) (live_keys ops)
@@ -289,9 +290,9 @@ module _ (hash : Bytes → Bytes) (shape : Shape) (g : ℕ) (enough : 3 ≤ g) (
         by_next (Some next) is =
             let span : in_span e.key next x ≡ true = ap (λ k. in_span k next x) key_is ∙ span_around_has (live_keys ops) x key next apart before (sym linked ∙ is) in
             let other : not (bytes_eq e.key x) ≡ true = ap (λ k. not (bytes_eq k x)) key_is ∙ ap not key_apart in
-            let own : operation_verdict hash shape g (operation_proof hash shape g ops e.location) (spelling (update e.key e.value (Some next))) (canonical hash shape g ops) ≡ true =
-            ap (λ n. operation_verdict hash shape g (operation_proof hash shape g ops e.location) (spelling (update e.key e.value n)) (canonical hash shape g ops)) (sym is) ∙ held in
-            ap (λ n. not (bytes_eq e.key x) && (in_span e.key (unwrap_or n []) x && operation_verdict hash shape g (operation_proof hash shape g ops e.location) (spelling (update e.key e.value (Some (unwrap_or n [])))) (canonical hash shape g ops))) is
+            let own : operation_verdict hash shape g (operation_proof hash shape g ops e.location) (spelling variable (update e.key e.value (Some next))) (canonical hash shape g ops) ≡ true =
+            ap (λ n. operation_verdict hash shape g (operation_proof hash shape g ops e.location) (spelling variable (update e.key e.value n)) (canonical hash shape g ops)) (sym is) ∙ held in
+            ap (λ n. not (bytes_eq e.key x) && (in_span e.key (unwrap_or n []) x && operation_verdict hash shape g (operation_proof hash shape g ops e.location) (spelling variable (update e.key e.value (Some (unwrap_or n [])))) (canonical hash shape g ops))) is
             ∙ ap₂ (λ s t. s && t) other (ap₂ (λ s t. s && t) span own)
 
     pub absent_verified : (absent_check hash shape g ops x).1 ≡ true

@@ -12,7 +12,8 @@ use Rattle.std.proofs.lemmas.Cmp.{nat_list_cmp_total, upto}
 use Rattle.std.proofs.lemmas.Bool.{true≢false}
 use Rattle.std.proofs.lemmas.List.{length-append}
 use Rattle.std.proofs.lemmas.Nat.{pow_pos, mod_below, div-add-mod', from_be_bytes-to_be_bytes_4}
-use Rattle.qm_model.specs.Operations.{Bytes, Operation, update, delete, commit, four_bytes, eight_bytes, field, optional_field, metadata_field, spelling}
+use Rattle.qm_model.specs.Operations.{Bytes, Operation, update, delete, commit, four_bytes, eight_bytes}
+use Rattle.qm_model.specs.Forms.{field, optional_field, metadata_field, spelling, variable}
 use Rattle.qm_model.specs.Live.{Live, touches, touched, live_at, live_from, live, live_of, live_keys, value_of, floor_after}
 use Rattle.qm_model.specs.Keys.{key_lt, lesser, least, successor}
 use Rattle.qm_model.specs.Ordered.{IsRing}
@@ -44,49 +45,49 @@ four_tells : (m n : ℕ) → m < 2 ^ 32 → n < 2 ^ 32 → four_bytes m ≡ four
 unfolding four_bytes
 four_tells m n low high e = sym (from_be_bytes-to_be_bytes_4 m low) ∙ ap (from_be_bytes w32) e ∙ from_be_bytes-to_be_bytes_4 n high
 
-field_tells : (a b xs ys : Bytes) → IsShort a → IsShort b → field a ++ xs ≡ field b ++ ys → (a ≡ b) × (xs ≡ ys)
+field_tells : (a b xs ys : Bytes) → IsShort a → IsShort b → field None a ++ xs ≡ field None b ++ ys → (a ≡ b) × (xs ≡ ys)
 field_tells a b xs ys low high e =
     let front : four_bytes (length a) ++ (a ++ xs) ≡ four_bytes (length b) ++ (b ++ ys) = sym (append_assoc (four_bytes (length a)) a xs) ∙ e ∙ append_assoc (four_bytes (length b)) b ys in
     let first = parted (four_bytes (length a)) (four_bytes (length b)) (a ++ xs) (b ++ ys) (length-four (length a) ∙ sym (length-four (length b))) front in
     parted a b xs ys (four_tells (length a) (length b) low high first.0) first.1
 
-field_alone : (a b : Bytes) → IsShort a → IsShort b → field a ≡ field b → a ≡ b
-field_alone a b low high e = (field_tells a b [] [] low high (append-nil (field a) ∙ e ∙ sym (append-nil (field b)))).0
+field_alone : (a b : Bytes) → IsShort a → IsShort b → field None a ≡ field None b → a ≡ b
+field_alone a b low high e = (field_tells a b [] [] low high (append-nil (field None a) ∙ e ∙ sym (append-nil (field None b)))).0
 
-field_some : (a : Bytes) → field a ≢ []
-field_some a e = let long = length-append (four_bytes (length a)) a in let four = length-four (length a) in let none : length (field a) ≡ 0 = ap length e in omega arith
+field_some : (a : Bytes) → field None a ≢ []
+field_some a e = let long = length-append (four_bytes (length a)) a in let four = length-four (length a) in let none : length (field None a) ≡ 0 = ap length e in omega arith
 
-option_tells : (m n : Option Bytes) → IsShortOption m → IsShortOption n → optional_field m ≡ optional_field n → m ≡ n
+option_tells : (m n : Option Bytes) → IsShortOption m → IsShortOption n → optional_field None m ≡ optional_field None n → m ≡ n
 option_tells None None low high e = refl
 option_tells None (Some b) low high e = absurd (field_some b (sym e))
 option_tells (Some a) None low high e = absurd (field_some a e)
 option_tells (Some a) (Some b) low high e = ap Some (field_alone a b low high e)
 
-metadata_tells : (m n : Option Bytes) (xs ys : Bytes) → IsShortOption m → IsShortOption n → metadata_field m ++ xs ≡ metadata_field n ++ ys → (m ≡ n) × (xs ≡ ys)
+metadata_tells : (m n : Option Bytes) (xs ys : Bytes) → IsShortOption m → IsShortOption n → metadata_field None m ++ xs ≡ metadata_field None n ++ ys → (m ≡ n) × (xs ≡ ys)
 metadata_tells None None xs ys low high e = let rest : xs ≡ ys = cc in (refl, rest)
 metadata_tells None (Some b) xs ys low high e = absurd (apart_heads 0 1 (omega arith) e)
 metadata_tells (Some a) None xs ys low high e = absurd (apart_heads 1 0 (omega arith) e)
 metadata_tells (Some a) (Some b) xs ys low high e =
-    let rest : field a ++ xs ≡ field b ++ ys = cc in
+    let rest : field None a ++ xs ≡ field None b ++ ys = cc in
     let parts = field_tells a b xs ys low high rest in
     (ap Some parts.0, parts.1)
 
-pub spelling_tells : (op other : Operation) → IsSpelled op → IsSpelled other → spelling op ≡ spelling other → op ≡ other
+pub spelling_tells : (op other : Operation) → IsSpelled op → IsSpelled other → spelling variable op ≡ spelling variable other → op ≡ other
 spelling_tells (update k v n) (update l w m) low high e =
-    let rest : field k ++ (field v ++ optional_field n) ≡ field l ++ (field w ++ optional_field m) = cc in
-    let first = field_tells k l (field v ++ optional_field n) (field w ++ optional_field m) low.0 high.0 rest in
-    let second = field_tells v w (optional_field n) (optional_field m) low.1 high.1 first.1 in
+    let rest : field None k ++ (field None v ++ optional_field None n) ≡ field None l ++ (field None w ++ optional_field None m) = cc in
+    let first = field_tells k l (field None v ++ optional_field None n) (field None w ++ optional_field None m) low.0 high.0 rest in
+    let second = field_tells v w (optional_field None n) (optional_field None m) low.1 high.1 first.1 in
     let third = option_tells n m low.2 high.2 second.1 in
     ap₂ (λ k v. update k v n) first.0 second.0 ∙ ap (update l w) third
 spelling_tells (update k v n) (delete l) low high e = absurd (apart_heads 1 2 (omega arith) e)
 spelling_tells (update k v n) (commit m f) low high e = absurd (apart_heads 1 3 (omega arith) e)
 spelling_tells (delete k) (update l w m) low high e = absurd (apart_heads 2 1 (omega arith) e)
-spelling_tells (delete k) (delete l) low high e = let rest : field k ≡ field l = cc in ap delete (field_alone k l low high rest)
+spelling_tells (delete k) (delete l) low high e = let rest : field None k ≡ field None l = cc in ap delete (field_alone k l low high rest)
 spelling_tells (delete k) (commit m f) low high e = absurd (apart_heads 2 3 (omega arith) e)
 spelling_tells (commit m f) (update l w n) low high e = absurd (apart_heads 3 1 (omega arith) e)
 spelling_tells (commit m f) (delete l) low high e = absurd (apart_heads 3 2 (omega arith) e)
 spelling_tells (commit m f) (commit n h) low high e =
-    let rest : metadata_field m ++ eight_bytes f ≡ metadata_field n ++ eight_bytes h = cc in
+    let rest : metadata_field None m ++ eight_bytes f ≡ metadata_field None n ++ eight_bytes h = cc in
     let parts = metadata_tells m n (eight_bytes f) (eight_bytes h) low.0 high.0 rest in
     ap₂ commit parts.0 (same_number f h low.1 high.1 parts.1)
 
@@ -152,15 +153,15 @@ each_there P [] all i op at = cc
 each_there P (x ∷ ops) all zero op at = let same : x ≡ op = cc in subst P same all.0
 each_there P (x ∷ ops) all (suc i) op at = each_there P ops all.1 i op at
 
-spelled_at : (ops : List Operation) (i : ℕ) (item : Bytes) → slice_get (map spelling ops) i ≡ Some item → (op : Operation) × (slice_get ops i ≡ Some op) × (spelling op ≡ item)
+spelled_at : (ops : List Operation) (i : ℕ) (item : Bytes) → slice_get (map (spelling variable) ops) i ≡ Some item → (op : Operation) × (slice_get ops i ≡ Some op) × (spelling variable op ≡ item)
 spelled_at [] i item at = cc
-spelled_at (x ∷ ops) zero item at = let same : spelling x ≡ item = cc in (x, refl, same)
+spelled_at (x ∷ ops) zero item at = let same : spelling variable x ≡ item = cc in (x, refl, same)
 spelled_at (x ∷ ops) (suc i) item at = spelled_at ops i item at
 
 -- an operation that stands at an active location, by the claim of its spelling
-claimed_at : (ops : List Operation) (i : ℕ) (op : Operation) → All IsSpelled ops → IsSpelled op → OperationSays ops i (spelling op) → (slice_get ops i ≡ Some op) × (is_active op (drop (suc i) ops) ≡ true)
+claimed_at : (ops : List Operation) (i : ℕ) (op : Operation) → All IsSpelled ops → IsSpelled op → OperationSays ops i (spelling variable op) → (slice_get ops i ≡ Some op) × (is_active op (drop (suc i) ops) ≡ true)
 claimed_at ops i op fit short says =
-    let found = spelled_at ops i (spelling op) says.0 in
+    let found = spelled_at ops i (spelling variable op) says.0 in
     let same = spelling_tells found.0 op (each_there IsSpelled ops (each_of IsSpelled ops fit) i found.0 found.1) short found.2 in
     let at : slice_get ops i ≡ Some op = found.1 ∙ ap Some same in
     let bit : Some (is_active op (drop (suc i) ops)) ≡ Some true = sym (bit_of ops i op at) ∙ says.1 in
@@ -361,7 +362,7 @@ module _ (hash : Bytes → Bytes) (size : ℕ) (sized : (m : Bytes) → length (
       let place : i / 2 ^ g * (8 * chunk_size g) + i % 2 ^ g ≡ i = ap (λ w. i / 2 ^ g * w + i % 2 ^ g) span ∙ div-add-mod' i (2 ^ g) in
       let bit : get_or (bits ops) i false ≡ true = ap (λ j. get_or (bits ops) j false) (sym place)
       ∙ sym (chunk_bit (chunk_size g) (bits ops) (i / 2 ^ g) (i % 2 ^ g) (omega arith)) ∙ ap (λ c. has_bit c (i % 2 ^ g)) (sym is) ∙ tests.0 in
-      inl (first_at (map spelling ops) i item says.0, set_at (bits ops) i bit))
+      inl (first_at (map (spelling variable) ops) i item says.0, set_at (bits ops) i bit))
       (λ clash. inr clash)
       (range_speaks hash size sized shape births family peaked leaf_born prompt g ops few (item ∷ []) i (proof.chunk ∷ []) proof.range own tests.1)
 
@@ -371,10 +372,10 @@ module _ (hash : Bytes → Bytes) (size : ℕ) (sized : (m : Bytes) → length (
     pub key_speaks : (proof : OperationProof) (key value : Bytes) (next : Option Bytes) → IsSpelled (update key value next) → IsSized size g proof.range (proof.chunk ∷ []) → key_verdict hash shape g proof key value next (canonical hash shape g ops) ≡ true
         → KeySays ops proof.location key value next ⊎ Collides hash (key_inputs hash shape g proof key value next) rooted
     key_speaks proof key value next short own e = ⊎_elim
-        (λ (says : OperationSays ops proof.location (spelling (update key value next))).
+        (λ (says : OperationSays ops proof.location (spelling variable (update key value next))).
         let at = claimed_at ops proof.location (update key value next) fit short says in inl (active_live ops proof.location key value next at.0 at.1))
         (λ clash. inr clash)
-        (operation_speaks proof (spelling (update key value next)) own e)
+        (operation_speaks proof (spelling variable (update key value next)) own e)
 
     -- the map says the same
     pub key_speaks_of_the_map : (proof : OperationProof) (key value : Bytes) (next : Option Bytes) → IsSpelled (update key value next) → IsSized size g proof.range (proof.chunk ∷ []) → key_verdict hash shape g proof key value next (canonical hash shape g ops) ≡ true
@@ -396,19 +397,19 @@ module _ (hash : Bytes → Bytes) (size : ℕ) (sized : (m : Bytes) → length (
     pub emptied_speaks : (proof : OperationProof) (meta : Option Bytes) (x : Bytes) → IsGood ops → IsSpelled (commit meta proof.location) → IsSized size g proof.range (proof.chunk ∷ []) → exclusion_verdict hash shape g (emptied proof meta) x (canonical hash shape g ops) ≡ true
         → AbsenceSays ops x ⊎ Collides hash (exclusion_inputs hash shape g (emptied proof meta)) rooted
     emptied_speaks proof meta x good short own e = ⊎_elim
-        (λ (says : OperationSays ops proof.location (spelling (commit meta proof.location))).
+        (λ (says : OperationSays ops proof.location (spelling variable (commit meta proof.location))).
         let at = claimed_at ops proof.location (commit meta proof.location) fit short says in
         let ends = active_commit ops 0 proof.location meta proof.location at.0 at.1 in
         let none : live ops ≡ [] = good.empty_floor.1 (ap suc ends.0 ∙ ends.1) in
         inl (ap (λ es. option_map (λ (e : Live). e.value) (live_of es x)) none))
         (λ clash. inr clash)
-        (operation_speaks proof (spelling (commit meta proof.location)) own e)
+        (operation_speaks proof (spelling variable (commit meta proof.location)) own e)
 
   -- the operations root is the list's
   pub witness_speaks : (w : Witness) (root : Bytes) → length root ≡ size → witness_verdict hash shape g w root (canonical hash shape g ops) ≡ true
-      → (root ≡ ops_root hash shape ops) ⊎ Collides hash (witness_input hash shape g w root ∷ []) rooted
+      → (root ≡ ops_root hash shape variable ops) ⊎ Collides hash (witness_input hash shape g w root ∷ []) rooted
   witness_speaks w root long e =
-      let theirs = ops_root hash shape ops in
+      let theirs = ops_root hash shape variable ops in
       let mine = canonical_input root w.grafted_root w.pending w.partial in
       let other = canonical_input theirs (grafted_root hash shape g ops) (pending_digest hash shape g ops) (partial_of hash shape g (length ops) (partial_digest hash shape g ops)) in
       let my_rest = w.grafted_root ++ (pending_part w.pending ++ partial_part w.partial) in
@@ -424,5 +425,5 @@ module _ (hash : Bytes → Bytes) (size : ℕ) (sized : (m : Bytes) → length (
       group : (o r p q : Bytes) → o ++ r ++ p ++ q ≡ o ++ (r ++ (p ++ q))
       group o r p q = append_assoc (o ++ r) p q ∙ append_assoc o r (p ++ q)
 
-      ops_root_sized : length (ops_root hash shape ops) ≡ size
+      ops_root_sized : length (ops_root hash shape variable ops) ≡ size
       ops_root_sized = sized _

@@ -1,3 +1,6 @@
+pub mod Numbers
+pub mod Options
+pub mod Forms
 pub mod LastWrites
 pub mod KeyOrder
 pub mod Pushes

@@ -5,7 +5,8 @@ use Rattle.std.proofs.lemmas.Bool.{eq-eqb, cases_lt}
 use Rattle.std.proofs.lemmas.List.{length-map}
 use Rattle.std.proofs.lemmas.List.Sums.{count_by-le-length}
 use Rattle.std.proofs.lemmas.Nat.{pow_pos, mod_below, div-add-mod', mul-le}
-use Rattle.qm_model.specs.Operations.{Bytes, Operation, spelling}
+use Rattle.qm_model.specs.Operations.{Bytes, Operation}
+use Rattle.qm_model.specs.Forms.{spelling, variable}
 use Rattle.qm_model.specs.Live.{floor}
 use Rattle.qm_model.specs.Trees.{Node, Shape, end_of, peaks, node_digest, digest, leaves_from, ops_root}
 use Rattle.qm_model.specs.Proofs.{Taken, meets, taken, item_leaves, listed, rebuilt}
@@ -116,7 +117,7 @@ agreed hash shape g items a given chunks own (Some c) =
 
 module _ (hash : Bytes → Bytes) (shape : Shape) (g : ℕ) (ops : List Operation) (a b : ℕ) (some : a < b) (within : b ≤ length ops) (few : length ops ≤ 2 ^ 62) where
   abbrev list : List Bytes
-  list = map spelling ops
+  list = map (spelling variable) ops
 
   abbrev items : List Bytes
   items = take (b - a) (drop a list)
@@ -125,7 +126,7 @@ module _ (hash : Bytes → Bytes) (shape : Shape) (g : ℕ) (ops : List Operatio
   given = chunks_of g ops a b
 
   size : length list ≡ length ops
-  size = length-map ops spelling
+  size = length-map ops (spelling variable)
 
   end : a + length items ≡ b
   end = let long = size in items_end list a b some (omega arith)
@@ -148,11 +149,11 @@ module _ (hash : Bytes → Bytes) (shape : Shape) (g : ℕ) (ops : List Operatio
   pub range_verified : range_verdict hash shape g items a given (range_proof hash shape g ops a b) (canonical hash shape g ops) ≡ true
   range_verified =
       let range = range_proof hash shape g ops a b in
-      let leaves = leaves_from hash shape 0 ops in
+      let leaves = leaves_from hash shape variable 0 ops in
       let n = length leaves in
       let row = peaks shape n in
       let inactive = grafted_inactive shape g ops in
-      let spelt : leaves ≡ item_leaves hash shape 0 list = operations_leaves hash shape 0 ops in
+      let spelt : leaves ≡ item_leaves hash shape 0 list = operations_leaves hash shape variable 0 ops in
       let long : n ≡ length ops = ap length spelt ∙ length-item_leaves hash shape 0 list ∙ size in
       let ended = end in
       let listed_long = size in
@@ -170,7 +171,7 @@ module _ (hash : Bytes → Bytes) (shape : Shape) (g : ℕ) (ops : List Operatio
       subst (λ ls. rebuilt_values hash shape g items a given row (flat_map (listed_of hash shape g ls (chunk_of g ops) a b) row) ≡ Some (map (grafted_value hash shape g ls (chunk_of g ops)) row)) (sym spelt)
       (values_listed hash shape g list items (chunk_of g ops) given a b (items_stand list a b (omega arith)) ended (omega arith) touched row) in
       let parts : rebuilt_canonical hash shape g items a given range (map (grafted_value hash shape g leaves (chunk_of g ops)) row) ≡ canonical hash shape g ops =
-      ap (λ m. hash (canonical_input (ops_root hash shape ops) (grafted_root hash shape g ops) (pending_digest hash shape g ops) (partial_of hash shape g m (partial_digest hash shape g ops)))) long in
+      ap (λ m. hash (canonical_input (ops_root hash shape variable ops) (grafted_root hash shape g ops) (pending_digest hash shape g ops) (partial_of hash shape g m (partial_digest hash shape g ops)))) long in
       let last : has_canonical hash shape g items a given range (canonical hash shape g ops) (rebuilt_values hash shape g items a given row range.proof.digests) ≡ true =
       ap (has_canonical hash shape g items a given range (canonical hash shape g ops)) rebuilt
       ∙ ap (λ d. bytes_eq d (canonical hash shape g ops)) parts ∙ bytes_same (canonical hash shape g ops) in

@@ -8,7 +8,8 @@ use Rattle.std.proofs.lemmas.Bool.Decides.{nat_tests}
 use Rattle.std.proofs.lemmas.List.{length-map, length-append, length-drop, length-take-le, get_or-drop, get_or-take, same_lists}
 use Rattle.std.proofs.lemmas.List.Sums.{count_by-le-length}
 use Rattle.std.proofs.lemmas.Nat.{pow-add, pow_pos, mod_below, div-add-mod', mul-le}
-use Rattle.qm_model.specs.Operations.{Bytes, Operation, eight_bytes, spelling}
+use Rattle.qm_model.specs.Operations.{Bytes, Operation, eight_bytes}
+use Rattle.qm_model.specs.Forms.{spelling, variable}
 use Rattle.qm_model.specs.Live.{floor}
 use Rattle.qm_model.specs.Trees.{Node, Shape, end_of, leaf, peaks, node_digest, digest, digest_of, fold_inactive, fold_right, root_of, leaves_from, ops_root, inactive_peaks}
 use Rattle.qm_model.specs.Families.{Births, IsFamily, HasPeaks, over}
@@ -414,7 +415,7 @@ module _ (shape : Shape) (births : Births) (family : IsFamily shape births) (pea
 module _ (hash : Bytes → Bytes) (size : ℕ) (sized : (m : Bytes) → length (hash m) ≡ size) (shape : Shape) (births : Births) (family : IsFamily shape births) (peaked : HasPeaks shape) (leaf_born : (k : ℕ) → shape.birth (leaf k) ≡ suc k)
     (prompt : (h i : ℕ) → shape.birth (record { height = h; index = i }) ≤ suc (suc i) * 2 ^ h) (g : ℕ) (ops : List Operation) (few : length ops ≤ 2 ^ 62) (items : List Bytes) (a : ℕ) (given : List Bytes) (range : RangeProof) (own : IsSized size g range given) where
   abbrev list : List Bytes
-  list = map spelling ops
+  list = map (spelling variable) ops
 
   abbrev chunks : ℕ → Bytes
   chunks = chunk_of g ops
@@ -464,7 +465,7 @@ module _ (hash : Bytes → Bytes) (size : ℕ) (sized : (m : Bytes) → length (
     all_said within peak pending partial = (stand, same)
       where
         listed : length list ≡ length ops
-        listed = length-map ops spelling
+        listed = length-map ops (spelling variable)
 
         stand : take (length items) (drop a list) ≡ items
         stand =
@@ -517,7 +518,7 @@ module _ (hash : Bytes → Bytes) (size : ℕ) (sized : (m : Bytes) → length (
           Each Peak (peaks shape (length ops)) ⊎ Clash hash size sized checked rooted
       bagged size_is inactive_is fold mine bag others =
           let ps = peaks shape (length ops) in
-          let listed : length list ≡ length ops = length-map ops spelling in
+          let listed : length list ≡ length ops = length-map ops (spelling variable) in
           let row : rebuilt_values hash shape g items a given ps range.proof.digests ≡ Some out = ap (λ m. rebuilt_values hash shape g items a given (peaks shape m) range.proof.digests) (sym size_is) ∙ rows in
           let digests = each_of (λ (d : Bytes). length d ≡ size) range.proof.digests own.digests in
           let long = values_row hash size sized checked rooted shape g list items a given chunks whole meeting back ps range.proof.digests out row digests in
@@ -573,12 +574,12 @@ module _ (hash : Bytes → Bytes) (size : ℕ) (sized : (m : Bytes) → length (
           let j = range.proof.inactive in
           let m = length ops in
           let leaves = item_leaves hash shape 0 list in
-          let spelt : leaves_from hash shape 0 ops ≡ leaves = operations_leaves hash shape 0 ops in
-          let count : length leaves ≡ m = length-item_leaves hash shape 0 list ∙ length-map ops spelling in
+          let spelt : leaves_from hash shape variable 0 ops ≡ leaves = operations_leaves hash shape variable 0 ops in
+          let count : length leaves ≡ m = length-item_leaves hash shape 0 list ∙ length-map ops (spelling variable) in
           let my_root = root_of hash n j out in
           let their_root = grafted_root hash shape g ops in
           let my_ops = range.ops_root in
-          let their_ops = ops_root hash shape ops in
+          let their_ops = ops_root hash shape variable ops in
           let their_is : their_root ≡ root_of hash m their_inactive theirs =
           ap (λ ls. root_of hash (length ls) their_inactive (map (grafted_value hash shape g ls chunks) (peaks shape (length ls)))) spelt
           ∙ ap (λ k. root_of hash k their_inactive (map (grafted_value hash shape g leaves chunks) (peaks shape k))) count in
@@ -611,7 +612,7 @@ module _ (hash : Bytes → Bytes) (size : ℕ) (sized : (m : Bytes) → length (
           let grouped : (my_ops ++ my_root) ++ my_rest ≡ (their_ops ++ their_root) ++ their_rest =
           sym (append_assoc (my_ops ++ my_root) (pending_part range.pending) (partial_part (partial_of hash shape g n range.partial))) ∙ equal
           ∙ append_assoc (their_ops ++ their_root) (pending_part (pending_digest hash shape g ops)) (partial_part (partial_of hash shape g m (partial_digest hash shape g ops))) in
-          let ops_long : length my_ops ≡ length their_ops = own.ops_root ∙ sym (sized (eight_bytes (length (leaves_from hash shape 0 ops)) ++ eight_bytes (inactive_peaks shape m (floor ops)) ++ fold_right hash (fold_inactive hash (take (inactive_peaks shape m (floor ops)) (map (digest_of hash shape (leaves_from hash shape 0 ops)) (peaks shape (length (leaves_from hash shape 0 ops))))) ++ drop (inactive_peaks shape m (floor ops)) (map (digest_of hash shape (leaves_from hash shape 0 ops)) (peaks shape (length (leaves_from hash shape 0 ops))))))) in
+          let ops_long : length my_ops ≡ length their_ops = own.ops_root ∙ sym (sized (eight_bytes (length (leaves_from hash shape variable 0 ops)) ++ eight_bytes (inactive_peaks shape m (floor ops)) ++ fold_right hash (fold_inactive hash (take (inactive_peaks shape m (floor ops)) (map (digest_of hash shape (leaves_from hash shape variable 0 ops)) (peaks shape (length (leaves_from hash shape variable 0 ops))))) ++ drop (inactive_peaks shape m (floor ops)) (map (digest_of hash shape (leaves_from hash shape variable 0 ops)) (peaks shape (length (leaves_from hash shape variable 0 ops))))))) in
           let roots_long : length (my_ops ++ my_root) ≡ length (their_ops ++ their_root) =
           omega (arith, length-append my_ops my_root, length-append their_ops their_root, ops_long, sized (eight_bytes n ++ eight_bytes j ++ my_fold), ap length their_is ∙ sized (eight_bytes m ++ eight_bytes their_inactive ++ their_fold)) in
           let parts = parted (my_ops ++ my_root) (their_ops ++ their_root) my_rest their_rest roots_long grouped in

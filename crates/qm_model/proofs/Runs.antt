@@ -6,6 +6,7 @@ use Rattle.qm_model.specs.Writes.{Write}
 use Rattle.qm_model.specs.Batches.{Chain, Apart, commitment, fits, readable}
 use Rattle.qm_model.specs.Lines.{Line, Open, Batch, Child, Tip, Put, Del, Merkleize, Apply, Ops, Get, Many, Info, BatchInfo, Root, BatchRoot, BatchProof, Meta, Prove, Pins, Refused, Answer}
 use Rattle.qm_model.specs.Machine.{Scheme, State, Slot, gone, writing, merkleized, turn, answers, state_after, slot_at, start_child, put_in, list_operations, with_database, open_over, unless, merkleize_tip, merkleize_in, apply_in, if_readable, read_in, read, info_in, root_in, proof_in}
+use Rattle.qm_model.specs.Forms.{variable}
 use Rattle.qm_model.specs.Refusals.{tip_refusal, proof_refusal, pins_refusal}
 use Rattle.qm_model.proofs.Chains.{Contains-more}
 
@@ -61,7 +62,7 @@ module _ {P : Type 0} (m : Scheme P) where
   merkleize_keeps s h policy meta list gone = λ x a. a
   merkleize_keeps s h policy meta list (merkleized chain tip) = λ x a. a
   merkleize_keeps s h policy meta list (writing chain parent ws) =
-      either s (fits m.root (commitment m.root list) chain) _ _ (tip_keeps s h chain _ (tip_refusal chain _)) (λ x a. a)
+      either s (fits m.root (commitment m.root list) chain) _ _ (tip_keeps s h chain _ (tip_refusal variable chain _)) (λ x a. a)
 
   apply_keeps : (s : State) (h : ℕ) (list : List Operation) (slot : Slot) → Keeps s (apply_in m s h list slot)
   apply_keeps s h list gone = λ x a. a

@@ -1,5 +1,6 @@
 pub mod Causes
 pub mod Operations
+pub mod Forms
 pub mod Live
 pub mod Keys
 pub mod Writes

@@ -4,6 +4,7 @@ use Rattle.std.specs.List.{join_with_byte}
 use Rattle.std.specs.Fmt.{digits}
 use Rattle.hex.specs.Hex.{decode_pairs, encode_with}
 use Rattle.qm_model.specs.Operations.{Bytes, Operation, update, delete, commit, four_bytes, eight_bytes}
+use Rattle.qm_model.specs.Forms.{variable}
 use Rattle.qm_model.specs.Live.{floor}
 use Rattle.qm_model.specs.Mmr.{mmr, digits_below}
 use Rattle.qm_model.specs.Proofs.{ops_proof, pins_at}
@@ -21,7 +22,7 @@ same bytes = 0x00 ∷ 0x2a ∷ []
 
 -- a root under which lists of one length collide, which these rows do not tell from a real one
 abbrev toy : Scheme Policy
-toy = record { kind = unordered; rules = policies; root = λ ops. same []; boundary = floor; proof = ops_proof same mmr; pins = pins_at same mmr }
+toy = record { kind = unordered; rules = policies; root = λ ops. same []; boundary = floor; proof = ops_proof same mmr variable; pins = pins_at same mmr variable }
 
 -- the keys and values of a list's operations, which tell its lists apart here
 abbrev said : Operation → Bytes

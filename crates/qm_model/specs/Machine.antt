@@ -1,6 +1,7 @@
 -- The machine: databases and batches are operation lists, and each command is a function of the state.
 use Rattle.std.specs.Prelude.{ℕ, ◌+◌, nat_lt, if◌then◌else◌, List, [], ◌∷◌, ◌++◌, length, map, take, drop, slice_index_or, slice_set, Option, Some, None}
-use Rattle.qm_model.specs.Operations.{Bytes, Operation, spelling, fresh}
+use Rattle.qm_model.specs.Operations.{Bytes, Operation, fresh}
+use Rattle.qm_model.specs.Forms.{spelling, variable}
 use Rattle.qm_model.specs.Live.{live, floor, value_of, last_metadata}
 use Rattle.qm_model.specs.Writes.{Write, read_through}
 use Rattle.qm_model.specs.Walk.{Rules}
@@ -66,7 +67,7 @@ with_database s (Some list) f = f list
 
 -- a fresh database, over a store without items
 abbrev pub open_over : State → List Bytes → Answer × State
-open_over s [] = (Opened (s.opened + 1) 0 1, record s { database = Some fresh; items = map spelling fresh; opened = s.opened + 1; had = fresh ∷ s.had })
+open_over s [] = (Opened (s.opened + 1) 0 1, record s { database = Some fresh; items = map (spelling variable) fresh; opened = s.opened + 1; had = fresh ∷ s.had })
 open_over s (item ∷ items) = refuse s NotOffered
 
 abbrev pub open_store : State → Answer × State
@@ -125,7 +126,7 @@ module _ {P : Type 0} (m : Scheme P) where
   merkleize_in s h policy meta list (writing chain parent ws) =
       let tip = steps.step m.kind m.rules chain.base ws policy meta in
       if fits m.root (commitment m.root list) chain
-      then merkleize_tip s h chain tip (tip_refusal chain tip)
+      then merkleize_tip s h chain tip (tip_refusal variable chain tip)
       else refuse (with_slot s h gone) StaleBatch
   merkleize_in s h policy meta list gone = refuse s (NoSuchHandle h)
   merkleize_in s h policy meta list (merkleized chain tip) = refuse s (NoSuchHandle h)
@@ -137,7 +138,7 @@ module _ {P : Type 0} (m : Scheme P) where
   abbrev pub apply_in : State → ℕ → List Operation → Slot → Answer × State
   apply_in s h list (merkleized chain tip) =
       if fits m.root (commitment m.root list) chain
-      then (Applied (length tip), record s { database = Some tip; items = s.items ++ map spelling (drop (length list) tip) })
+      then (Applied (length tip), record s { database = Some tip; items = s.items ++ map (spelling variable) (drop (length list) tip) })
       else refuse s StaleBatch
   apply_in s h list gone = refuse s (NoSuchHandle h)
   apply_in s h list (writing chain parent ws) = refuse s (NoSuchHandle h)

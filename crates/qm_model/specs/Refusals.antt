@@ -1,7 +1,8 @@
 -- Why a database refuses, by its operation list alone.
 use Rattle.std.specs.Prelude.{ℕ, zero, suc, ◌-◌, ◌^◌, min, nat_lt, if◌then◌else◌, List, [], ◌∷◌, length, map, slice_get, Option, Some, None, option_map, option_and_then}
 use Rattle.std.specs.Option.{option_or}
-use Rattle.qm_model.specs.Operations.{Bytes, Operation, update, delete, commit, spelling}
+use Rattle.qm_model.specs.Operations.{Bytes, Operation, update, delete, commit}
+use Rattle.qm_model.specs.Forms.{Form, spelling}
 use Rattle.qm_model.specs.Batches.{Chain, own_operations}
 use Rattle.qm_model.specs.Lines.{Refused, HistoricalFloorPruned, DataCorrupted, Merkle, Journal, FloorExceedsCommit, RangeOutOfBounds, LocationOverflow, ItemTooLarge}
 
@@ -19,8 +20,8 @@ abbrev pub too_many : ℕ → Option Refused
 too_many size = if nat_lt (2 ^ 62) size then Some (Merkle (LocationOverflow size)) else None
 
 -- why a batch with this tip list is not merkleized: an own operation is too long, or the list is
-abbrev pub tip_refusal : Chain → List Operation → Option Refused
-tip_refusal chain tip = option_or (option_map (λ n. Journal (ItemTooLarge n)) (too_long (map spelling (own_operations chain tip)))) (too_many (length tip))
+abbrev pub tip_refusal : Form → Chain → List Operation → Option Refused
+tip_refusal form chain tip = option_or (option_map (λ n. Journal (ItemTooLarge n)) (too_long (map (spelling form) (own_operations chain tip)))) (too_many (length tip))
 
 -- the floor of a commit
 abbrev pub commit_floor : Operation → Option ℕ

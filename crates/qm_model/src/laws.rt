@@ -5,7 +5,8 @@ ghost use Rattle.std.specs.List.{IsDistinct};
 ghost use Rattle.std.specs.List.Sorted.{IsSortedBy, IsStrictlySortedBy};
 ghost use Rattle.std.specs.Cmp.Lexicographic.{slice_cmp};
 ghost use Rattle.std.specs.Ordering.{nat_cmp};
-ghost use Rattle.qm_model.specs.Operations.{Bytes, Operation, spelling, IsCommitEnded, update};
+ghost use Rattle.qm_model.specs.Operations.{Bytes, Operation, IsCommitEnded, update};
+ghost use Rattle.qm_model.specs.Forms.{Form, IsOf, IsSpelling, spelling, decoded, variable};
 ghost use Rattle.qm_model.specs.Live.{live, live_keys, floor, value_of, touched};
 ghost use Rattle.qm_model.specs.Keys.{key_lt, successor, predecessor, contains_key, without, once, by_key, between, IsNext, IsPrevious};
 ghost use Rattle.qm_model.specs.Writes.{Write, last_writes, write_of, overwritten, unordered_writes, made_inactive};
@@ -191,9 +192,17 @@ pub fn a_proof_of_a_list_verifies()
         → let leaves = item_leaves hash shape 0 items in verdict hash shape (take (b - a) (drop a items)) a (proof_of hash shape leaves inactive a b) (root hash shape leaves inactive) ≡ true }
 {}
 
+/// Of each form an operation is what its spelling is decoded to, bytes are decoded to no operation but the one that they spell,
+/// and so two spellings that are equal are of one operation.
+pub fn spellings_are_decoded()
+    ensures spelled { (form : Form) (op : Operation) → IsOf form op → decoded form (spelling form op) ≡ Some op }
+    ensures decoded { (form : Form) (bytes : Bytes) (op : Operation) → All (λ b. b < 256) bytes → decoded form bytes ≡ Some op → IsSpelling form bytes op }
+    ensures once { (form : Form) (a b : Operation) → IsOf form a → IsOf form b → spelling form a ≡ spelling form b → a ≡ b }
+{}
+
 /// The leaves of an operation list are those of the operations' spellings.
 pub fn operations_are_hashed_by_their_spellings()
-    ensures { (hash : Bytes → Bytes) (shape : Shape) (i : ℕ) (ops : List Operation) → leaves_from hash shape i ops ≡ item_leaves hash shape i (map spelling ops) }
+    ensures { (hash : Bytes → Bytes) (shape : Shape) (form : Form) (i : ℕ) (ops : List Operation) → leaves_from hash shape form i ops ≡ item_leaves hash shape i (map (spelling form) ops) }
 {}
 
 /// Each bit below the floor of a list is clear, and each chunk below it is zeros.
@@ -213,5 +222,5 @@ pub fn a_step_clears_what_it_supersedes<P: Ruled>()
 /// A range proof of a list verifies against the list's canonical root.
 pub fn a_range_proof_of_a_list_verifies()
     ensures { (hash : Bytes → Bytes) (shape : Shape) (g : ℕ) (ops : List Operation) (a b : ℕ) → a < b → b ≤ length ops → length ops ≤ 2 ^ 62
-        → range_verdict hash shape g (take (b - a) (drop a (map spelling ops))) a (chunks_of g ops a b) (range_proof hash shape g ops a b) (canonical hash shape g ops) ≡ true }
+        → range_verdict hash shape g (take (b - a) (drop a (map (spelling variable) ops))) a (chunks_of g ops a b) (range_proof hash shape g ops a b) (canonical hash shape g ops) ≡ true }
 {}

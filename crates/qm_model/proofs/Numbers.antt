@@ -2,7 +2,7 @@
 use Rattle.std.proofs.Common.{◌≡◌, ℕ, ◌<◌, ◌^◌, length, get_or, refl, arith}
 use Rattle.std.proofs.lemmas.Nat.{be_bytes_4, be_bytes_8, from_be_bytes-to_be_bytes_4, from_be_bytes-to_be_bytes_8}
 use Rattle.qm_model.specs.Operations.{Bytes, four_bytes, eight_bytes}
-use Rattle.qm_base.specs.Decode.{number_of_four, number_of_eight}
+use Rattle.qm_model.specs.Forms.{number_of_four, number_of_eight}
 
 -- each is below 256
 abbrev pub AreBytes : Bytes → Type 0
