@@ -24,7 +24,7 @@ use self::writes::{find_sites, last_writes, written};
 use crate::layer::Layer;
 use crate::write::Write;
 use qm_base::update::{Unordered, Update};
-use qm_base::{ByteString, Digest, Error, Hasher, JournalError, Location, Operation, ValueEncoding};
+use qm_base::{ByteString, Error, Hasher, JournalError, Location, Operation, ValueEncoding};
 use qm_chain::Diff;
 use qm_merkle::Family;
 use qm_store::{AuthLog, Store};
@@ -119,14 +119,13 @@ fn own_operations<
     F: Family,
     I: qm_index::Unordered<Value = Location<F>>,
     C: Store,
-    D: Digest,
-    H: Hasher<Digest = D> + Drop,
+    H: Hasher + Drop,
     K: ByteString,
     V: ValueEncoding<K>,
 >(
     alloc: Global,
     index: &I,
-    log: &mut AuthLog<F, C, D, H>,
+    log: &mut AuthLog<F, C, H>,
     layers: &[Rc<Layer<F, Unordered<K, V>>>],
     size: u64,
     floor: u64,
@@ -135,13 +134,13 @@ fn own_operations<
 ) -> Result<Own<F, Unordered<K, V>>, Error>
     requires size { size ≤ 2 ^ 62 }
     requires live { live ≤ size }
-    ensures own { (lent base : List model.Operation) → IsLent C.Store F.shape D.bytes H.hash ⟦<Unordered<K, V> as Update>⟧.form I.index_key (I.entries index.now) log.old lent → IsBase (map (λ l. l.value) layers.now) lent base
+    ensures own { (lent base : List model.Operation) → IsLent C.Store F.shape H.Digest.bytes H.hash ⟦<Unordered<K, V> as Update>⟧.form I.index_key (I.entries index.now) log.old lent → IsBase (map (λ l. l.value) layers.now) lent base
         → size ≡ length base → floor ≡ lives.floor base → live ≡ length (lives.live base)
         → IfSome (C.items log.old.store) (λ _. IfOk result (λ own. AreOwn (unordered_touches K.bytes V.Value.bytes own.touches.items) own.live own.floor base (map (write_view K.bytes V.Value.bytes) writes.now))) }
     ensures count { IfOk result (λ own. own.live ≤ size + length own.touches.items) }
-    ensures read { IsRead C.Store F.shape D.bytes H.hash log.old log.new }
+    ensures read { IsRead C.Store F.shape H.Digest.bytes H.hash log.old log.new }
     ensures error { IfErr result (IsReadError C.Store log.old log.new) }
-    ensures whole { (lent : List model.Operation) → IsLent C.Store F.shape D.bytes H.hash ⟦<Unordered<K, V> as Update>⟧.form I.index_key (I.entries index.now) log.old lent → NoneBelow log.old.tree.start lent
+    ensures whole { (lent : List model.Operation) → IsLent C.Store F.shape H.Digest.bytes H.hash ⟦<Unordered<K, V> as Update>⟧.form I.index_key (I.entries index.now) log.old lent → NoneBelow log.old.tree.start lent
         → log.old.tree.start ≤ floor → IfErr result (λ e. (n : ℕ) → e ≢ Error.Journal (JournalError.ItemPruned n)) }
 {
     let last = last_writes(alloc, writes)?;
@@ -217,14 +216,13 @@ pub fn plain<
     F: Family,
     I: qm_index::Unordered<Value = Location<F>>,
     C: Store,
-    D: Digest,
-    H: Hasher<Digest = D> + Drop,
+    H: Hasher + Drop,
     K: ByteString,
     V: ValueEncoding<K>,
 >(
     alloc: Global,
     index: &I,
-    log: &mut AuthLog<F, C, D, H>,
+    log: &mut AuthLog<F, C, H>,
     layers: &[Rc<Layer<F, Unordered<K, V>>>],
     size: u64,
     floor: Location<F>,
@@ -234,13 +232,13 @@ pub fn plain<
 ) -> Result<Plan<F, Unordered<K, V>>, Error>
     requires size { size ≤ 2 ^ 62 }
     requires live { live ≤ size }
-    ensures plan { (lent base : List model.Operation) → IsLent C.Store F.shape D.bytes H.hash ⟦<Unordered<K, V> as Update>⟧.form I.index_key (I.entries index.now) log.old lent → IsBase (map (λ l. l.value) layers.now) lent base
+    ensures plan { (lent base : List model.Operation) → IsLent C.Store F.shape H.Digest.bytes H.hash ⟦<Unordered<K, V> as Update>⟧.form I.index_key (I.entries index.now) log.old lent → IsBase (map (λ l. l.value) layers.now) lent base
         → size ≡ length base → floor ≡ lives.floor base → live ≡ length (lives.live base)
         → IfSome (C.items log.old.store) (λ _. IfOk result (λ plan. IsPlan plan base (stepped base (map (write_view K.bytes V.Value.bytes) writes.now) (option_map V.Value.bytes metadata)))) }
     ensures live { IfOk result (λ plan. plan.live ≤ size + length plan.operations) }
-    ensures read { IsRead C.Store F.shape D.bytes H.hash log.old log.new }
+    ensures read { IsRead C.Store F.shape H.Digest.bytes H.hash log.old log.new }
     ensures error { IfErr result (IsReadError C.Store log.old log.new) }
-    ensures whole { (lent : List model.Operation) → IsLent C.Store F.shape D.bytes H.hash ⟦<Unordered<K, V> as Update>⟧.form I.index_key (I.entries index.now) log.old lent → NoneBelow log.old.tree.start lent
+    ensures whole { (lent : List model.Operation) → IsLent C.Store F.shape H.Digest.bytes H.hash ⟦<Unordered<K, V> as Update>⟧.form I.index_key (I.entries index.now) log.old lent → NoneBelow log.old.tree.start lent
         → log.old.tree.start ≤ floor → IfErr result (λ e. (n : ℕ) → e ≢ Error.Journal (JournalError.ItemPruned n)) }
 {
     match own_operations(alloc, index, log, layers, size, floor.get(), live, writes) {

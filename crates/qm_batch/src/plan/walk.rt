@@ -22,7 +22,7 @@ use super::writes::Last;
 use crate::layer::Layer;
 use crate::read::{newest, read_update, twin_update};
 use qm_base::update::{Unordered, Update};
-use qm_base::{ByteString, Digest, Error, Hasher, JournalError, Location, Operation, ValueEncoding};
+use qm_base::{ByteString, Error, Hasher, JournalError, Location, Operation, ValueEncoding};
 use qm_chain::DiffEntry;
 use qm_merkle::Family;
 use qm_store::{AuthLog, Store};
@@ -50,15 +50,15 @@ fn in_layers<F, U: Update>(layers: &[Rc<Layer<F, U>>], at: u64) -> Option<&Opera
 }
 
 // The update at a location of the base list, where there is one.
-fn update_in_base<F: Family, C: Store, D: Digest, H: Hasher<Digest = D> + Drop, U: Update>(
+fn update_in_base<F: Family, C: Store, H: Hasher + Drop, U: Update>(
     alloc: Global,
-    log: &mut AuthLog<F, C, D, H>,
+    log: &mut AuthLog<F, C, H>,
     layers: &[Rc<Layer<F, U>>],
     at: u64,
 ) -> Result<Option<U>, Error>
-    ensures value { (lent base : List model.Operation) → IsLog C.Store F.shape D.bytes H.hash log.old (map (spelling U.form) lent) → All (IsOf U.form) lent → IsBase (map (λ l. l.value) layers.now) lent base → at < length base
+    ensures value { (lent base : List model.Operation) → IsLog C.Store F.shape H.Digest.bytes H.hash log.old (map (spelling U.form) lent) → All (IsOf U.form) lent → IsBase (map (λ l. l.value) layers.now) lent base → at < length base
         → IfSome (C.items log.old.store) (λ _. IfOk result (λ update. option_map U.view update ≡ update_at base at)) }
-    ensures read { IsRead C.Store F.shape D.bytes H.hash log.old log.new }
+    ensures read { IsRead C.Store F.shape H.Digest.bytes H.hash log.old log.new }
     ensures error { IfErr result (IsReadError C.Store log.old log.new) }
     ensures pruned { log.old.tree.start ≤ at → IfErr result (λ e. (n : ℕ) → e ≢ Error.Journal (JournalError.ItemPruned n)) }
 {
@@ -111,21 +111,20 @@ fn unwritten_at<
     F: Family,
     I: qm_index::Unordered<Value = Location<F>>,
     C: Store,
-    D: Digest,
-    H: Hasher<Digest = D> + Drop,
+    H: Hasher + Drop,
     U: Update,
 >(
     alloc: Global,
     index: &I,
-    log: &mut AuthLog<F, C, D, H>,
+    log: &mut AuthLog<F, C, H>,
     layers: &[Rc<Layer<F, U>>],
     last: &Last<'_, U::Key, U::Value>,
     at: u64,
 ) -> Result<Option<U>, Error>
-    ensures value { (lent base : List model.Operation) (ws : List Write) → IsLent C.Store F.shape D.bytes H.hash U.form I.index_key (I.entries index.now) log.old lent → IsBase (map (λ l. l.value) layers.now) lent base → at < length base
+    ensures value { (lent base : List model.Operation) (ws : List Write) → IsLent C.Store F.shape H.Digest.bytes H.hash U.form I.index_key (I.entries index.now) log.old lent → IsBase (map (λ l. l.value) layers.now) lent base → at < length base
         → map (last_view U.Key.bytes U.Value.bytes) last.now.entries ≡ map keyed (last_writes ws)
         → IfSome (C.items log.old.store) (λ _. IfOk result (λ found. IsMoveAt (option_map (λ u. moved_touch (at, U.view u)) found) base (base ++ unordered_writes base ws) at)) }
-    ensures read { IsRead C.Store F.shape D.bytes H.hash log.old log.new }
+    ensures read { IsRead C.Store F.shape H.Digest.bytes H.hash log.old log.new }
     ensures error { IfErr result (IsReadError C.Store log.old log.new) }
     ensures pruned { log.old.tree.start ≤ at → IfErr result (λ e. (n : ℕ) → e ≢ Error.Journal (JournalError.ItemPruned n)) }
 {
@@ -167,23 +166,22 @@ fn move_at<
     F: Family,
     I: qm_index::Unordered<Value = Location<F>>,
     C: Store,
-    D: Digest,
-    H: Hasher<Digest = D> + Drop,
+    H: Hasher + Drop,
     U: Update,
 >(
     alloc: Global,
     index: &I,
-    log: &mut AuthLog<F, C, D, H>,
+    log: &mut AuthLog<F, C, H>,
     layers: &[Rc<Layer<F, U>>],
     last: &Last<'_, U::Key, U::Value>,
     made: &[Touch<F, U>],
     size: u64,
     at: u64,
 ) -> Result<Option<Touch<F, U>>, Error>
-    ensures value { (lent base : List model.Operation) (ws : List Write) → IsLent C.Store F.shape D.bytes H.hash U.form I.index_key (I.entries index.now) log.old lent → IsBase (map (λ l. l.value) layers.now) lent base → size ≡ length base
+    ensures value { (lent base : List model.Operation) (ws : List Write) → IsLent C.Store F.shape H.Digest.bytes H.hash U.form I.index_key (I.entries index.now) log.old lent → IsBase (map (λ l. l.value) layers.now) lent base → size ≡ length base
         → map (last_view U.Key.bytes U.Value.bytes) last.now.entries ≡ map keyed (last_writes ws) → touch_views U.view U.Key.bytes U.Value.bytes made.now ≡ written_touches base (last_writes ws)
         → IfSome (C.items log.old.store) (λ _. IfOk result (λ moved. IsMoveAt (option_map (touch_view U.view U.Key.bytes U.Value.bytes) moved) base (base ++ unordered_writes base ws) at)) }
-    ensures read { IsRead C.Store F.shape D.bytes H.hash log.old log.new }
+    ensures read { IsRead C.Store F.shape H.Digest.bytes H.hash log.old log.new }
     ensures error { IfErr result (IsReadError C.Store log.old log.new) }
     ensures pruned { log.old.tree.start ≤ at → IfErr result (λ e. (n : ℕ) → e ≢ Error.Journal (JournalError.ItemPruned n)) }
 {
@@ -227,14 +225,13 @@ pub(crate) fn walk_from<
     F: Family,
     I: qm_index::Unordered<Value = Location<F>>,
     C: Store,
-    D: Digest,
-    H: Hasher<Digest = D> + Drop,
+    H: Hasher + Drop,
     K: ByteString,
     V: ValueEncoding<K>,
 >(
     alloc: Global,
     index: &I,
-    log: &mut AuthLog<F, C, D, H>,
+    log: &mut AuthLog<F, C, H>,
     layers: &[Rc<Layer<F, Unordered<K, V>>>],
     last: &Last<'_, K, V::Value>,
     made: &[Touch<F, Unordered<K, V>>],
@@ -243,11 +240,11 @@ pub(crate) fn walk_from<
     entries: u64,
 ) -> Result<Walked<F, Unordered<K, V>>, Error>
     requires { size ≤ 2 ^ 62 }
-    ensures value { (lent base : List model.Operation) (ws : List Write) → IsLent C.Store F.shape D.bytes H.hash ⟦<Unordered<K, V> as Update>⟧.form I.index_key (I.entries index.now) log.old lent → IsBase (map (λ l. l.value) layers.now) lent base → size ≡ length base
+    ensures value { (lent base : List model.Operation) (ws : List Write) → IsLent C.Store F.shape H.Digest.bytes H.hash ⟦<Unordered<K, V> as Update>⟧.form I.index_key (I.entries index.now) log.old lent → IsBase (map (λ l. l.value) layers.now) lent base → size ≡ length base
         → map (last_view K.bytes V.Value.bytes) last.now.entries ≡ map keyed (last_writes ws) → unordered_touches K.bytes V.Value.bytes made.now ≡ written_touches base (last_writes ws)
         → IfSome (C.items log.old.store) (λ _. IfOk result (λ walked. AreMoves (unordered_touches K.bytes V.Value.bytes walked.moves.items) walked.floor base
         (walks.walk policies (base ++ unordered_writes base ws) floor (record { entries = entries; skips = 2 ^ 64 - 1 }) proportional))) }
-    ensures read { IsRead C.Store F.shape D.bytes H.hash log.old log.new }
+    ensures read { IsRead C.Store F.shape H.Digest.bytes H.hash log.old log.new }
     ensures error { IfErr result (IsReadError C.Store log.old log.new) }
     ensures pruned { log.old.tree.start ≤ floor → IfErr result (λ e. (n : ℕ) → e ≢ Error.Journal (JournalError.ItemPruned n)) }
 {

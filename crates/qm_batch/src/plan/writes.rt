@@ -18,7 +18,7 @@ use crate::read::locate;
 use crate::write::Write;
 use qm_base::update::{Unordered, Update};
 use qm_base::{
-    ByteString, Digest, Error, Hasher, JournalError, Location, Operation, Twin, ValueEncoding,
+    ByteString, Error, Hasher, JournalError, Location, Operation, Twin, ValueEncoding,
 };
 use qm_merkle::Family;
 use qm_store::{AuthLog, Store};
@@ -59,21 +59,20 @@ pub(crate) fn find_sites<
     F: Family,
     I: qm_index::Unordered<Value = Location<F>>,
     C: Store,
-    D: Digest,
-    H: Hasher<Digest = D> + Drop,
+    H: Hasher + Drop,
     U: Update,
 >(
     alloc: Global,
     index: &I,
-    log: &mut AuthLog<F, C, D, H>,
+    log: &mut AuthLog<F, C, H>,
     layers: &[Rc<Layer<F, U>>],
     last: &Last<'a, U::Key, U::Value>,
 ) -> Result<Vec<Site<'a, F, U::Key, U::Value>>, Error>
-    ensures value { (lent base : List operations.Operation) → IsLent C.Store F.shape D.bytes H.hash U.form I.index_key (I.entries index.now) log.old lent → IsBase (map (λ l. l.value) layers.now) lent base
+    ensures value { (lent base : List operations.Operation) → IsLent C.Store F.shape H.Digest.bytes H.hash U.form I.index_key (I.entries index.now) log.old lent → IsBase (map (λ l. l.value) layers.now) lent base
         → IfSome (C.items log.old.store) (λ _. IfOk result (λ sites. map (site_view U.Key.bytes U.Value.bytes) sites.items ≡ map (λ e. site_in base (write_view U.Key.bytes U.Value.bytes e.1.now)) last.now.entries)) }
-    ensures read { IsRead C.Store F.shape D.bytes H.hash log.old log.new }
+    ensures read { IsRead C.Store F.shape H.Digest.bytes H.hash log.old log.new }
     ensures error { IfErr result (IsReadError C.Store log.old log.new) }
-    ensures whole { (lent : List operations.Operation) → IsLent C.Store F.shape D.bytes H.hash U.form I.index_key (I.entries index.now) log.old lent → NoneBelow log.old.tree.start lent
+    ensures whole { (lent : List operations.Operation) → IsLent C.Store F.shape H.Digest.bytes H.hash U.form I.index_key (I.entries index.now) log.old lent → NoneBelow log.old.tree.start lent
         → IfErr result (λ e. (n : ℕ) → e ≢ Error.Journal (JournalError.ItemPruned n)) }
 {
     let mut sites = Vec::new(alloc);

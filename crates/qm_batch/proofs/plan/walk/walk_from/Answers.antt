@@ -10,7 +10,7 @@ use Rattle.qm_batch.proofs.plan.walk.walk_from.Goals as goal
 
 pub loop-at-init : goal.loop-at-init
 loop-at-init g c = record {
-  read = read-none g.C.Store g.F.Family.shape g.D.Digest.bytes g.H.Hasher.hash c.args.log.now;
+  read = read-none g.C.Store g.F.Family.shape g.H.Digest.Digest.bytes g.H.Hasher.hash c.args.log.now;
   low = omega arith;
   high = omega arith;
   value = λ lent base ws is from size last made.
@@ -34,12 +34,12 @@ returns-in_err-moved-clause-value g c = λ lent base ws is from size last made.
     told-err _ (g.C.Store.items c.args.log.now.store) c.from_residual.result exit.0 exit.1
 
 pub returns-in_err-moved-clause-read : goal.returns-in_err-moved-clause-read
-returns-in_err-moved-clause-read g c = read-then g.C.Store g.F.Family.shape g.D.Digest.bytes g.H.Hasher.hash c.args.log.now c.loop-at.log c.move_at.new.log c.loop-at.invariant.read c.move_at.ensures.read
+returns-in_err-moved-clause-read g c = read-then g.C.Store g.F.Family.shape g.H.Digest.Digest.bytes g.H.Hasher.hash c.args.log.now c.loop-at.log c.move_at.new.log c.loop-at.invariant.read c.move_at.ensures.read
 
 pub returns-in_err-moved-clause-error : goal.returns-in_err-moved-clause-error
 returns-in_err-moved-clause-error g c =
     let exit = err_from_is_err_and c.from_residual.result c.from_residual.ensures.1 in
-    rw (exit.1, exit.2) (error-then g.C.Store g.F.Family.shape g.D.Digest.bytes g.H.Hasher.hash c.args.log.now c.loop-at.log c.move_at.new.log _ c.loop-at.invariant.read c.in_err-moved.ensures.error)
+    rw (exit.1, exit.2) (error-then g.C.Store g.F.Family.shape g.H.Digest.Digest.bytes g.H.Hasher.hash c.args.log.now c.loop-at.log c.move_at.new.log _ c.loop-at.invariant.read c.in_err-moved.ensures.error)
 
 pub returns-in_err-moved-clause-pruned : goal.returns-in_err-moved-clause-pruned
 returns-in_err-moved-clause-pruned g c = λ above.
@@ -54,7 +54,7 @@ returns-in_err-entries-clause-value g c = λ lent base ws is from size last made
     told-err _ (g.C.Store.items c.args.log.now.store) c.from_residual-in_err-entries.result exit.0 exit.1
 
 pub returns-in_err-entries-clause-read : goal.returns-in_err-entries-clause-read
-returns-in_err-entries-clause-read g c = read-then g.C.Store g.F.Family.shape g.D.Digest.bytes g.H.Hasher.hash c.args.log.now c.loop-at.log c.move_at.new.log c.loop-at.invariant.read c.move_at.ensures.read
+returns-in_err-entries-clause-read g c = read-then g.C.Store g.F.Family.shape g.H.Digest.Digest.bytes g.H.Hasher.hash c.args.log.now c.loop-at.log c.move_at.new.log c.loop-at.invariant.read c.move_at.ensures.read
 
 pub loop-at-preserved : goal.loop-at-preserved
 loop-at-preserved g c =
@@ -62,7 +62,7 @@ loop-at-preserved g c =
     let read = c.loop-at.invariant.read in
     let low = c.loop-at.invariant.low in
     record {
-      read = read-then g.C.Store g.F.Family.shape g.D.Digest.bytes g.H.Hasher.hash c.args.log.now c.loop-at.log c.move_at.new.log read c.move_at.ensures.read;
+      read = read-then g.C.Store g.F.Family.shape g.H.Digest.Digest.bytes g.H.Hasher.hash c.args.log.now c.loop-at.log c.move_at.new.log read c.move_at.ensures.read;
       low = omega (arith, low);
       high = omega (arith, c.loop-at-test.true);
       value = λ lent base ws is from size last made.
@@ -71,7 +71,7 @@ loop-at-preserved g c =
           let short : length list ≤ 2 ^ 64 - 1 = omega (arith, long, size) in
           let within : c.loop-at.at < length list = omega (arith, long, size, c.loop-at-test.true) in
           let some : 0 < c.loop-at.entries = omega (arith, c.if-entries-eq0.false) in
-          let mid = lent-then g.C.Store g.F.Family.shape g.D.Digest.bytes g.H.Hasher.hash _ g.I.Unordered.index_key (g.I.Unordered.entries c.args.index.now) c.args.log.now c.loop-at.log lent read is in
+          let mid = lent-then g.C.Store g.F.Family.shape g.H.Digest.Digest.bytes g.H.Hasher.hash _ g.I.Unordered.index_key (g.I.Unordered.entries c.args.index.now) c.args.log.now c.loop-at.log lent read is in
           told-both _ _ _ (g.C.Store.items c.args.log.now.store) (c.loop-at.invariant.value lent base ws is from size last made)
           (told _ _ _ read.kept.items (c.in_ok-moved.ensures.value lent base ws mid from size last made)) (λ so_far move.
           walk-next base list (2 ^ 64 - 1) short (map view c.loop-at.moves.items) c.loop-at.at c.loop-at.entries _ so_far (map view c.add_move.new.moves.items) (option_map view c.in_ok-moved.moved) _ some within (unordered-names g.K.ByteString.bytes g.V.Value.ByteString.bytes c.in_ok-moved.moved) move

@@ -17,19 +17,19 @@ returns-in_err-at-clause-value g c = λ lent base is from.
     told-err _ (g.C.Store.items c.args.log.now.store) c.from_residual-in_err-at.result exit.0 exit.1
 
 pub returns-in_err-at-clause-read : goal.returns-in_err-at-clause-read
-returns-in_err-at-clause-read g c = read-then g.C.Store g.F.Family.shape g.D.Digest.bytes g.H.Hasher.hash c.args.log.now c.loop-write.log c.locate.new.log c.loop-write.invariant.read c.locate.ensures.read
+returns-in_err-at-clause-read g c = read-then g.C.Store g.F.Family.shape g.H.Digest.Digest.bytes g.H.Hasher.hash c.args.log.now c.loop-write.log c.locate.new.log c.loop-write.invariant.read c.locate.ensures.read
 
 pub returns-in_err-at-clause-error : goal.returns-in_err-at-clause-error
 returns-in_err-at-clause-error g c =
     let exit = err_from_is_err_and c.from_residual-in_err-at.result c.from_residual-in_err-at.ensures.1 in
-    rw (exit.1, exit.2) (error-then g.C.Store g.F.Family.shape g.D.Digest.bytes g.H.Hasher.hash c.args.log.now c.loop-write.log c.locate.new.log _ c.loop-write.invariant.read c.in_err-at.ensures.error)
+    rw (exit.1, exit.2) (error-then g.C.Store g.F.Family.shape g.H.Digest.Digest.bytes g.H.Hasher.hash c.args.log.now c.loop-write.log c.locate.new.log _ c.loop-write.invariant.read c.in_err-at.ensures.error)
 
 pub returns-in_err-at-clause-whole : goal.returns-in_err-at-clause-whole
 returns-in_err-at-clause-whole g c = λ lent is none.
     let exit = err_from_is_err_and c.from_residual-in_err-at.result c.from_residual-in_err-at.ensures.1 in
     let entries = g.I.Unordered.entries c.args.index.now in
     let read = c.loop-write.invariant.read in
-    let mid = lent-then g.C.Store g.F.Family.shape g.D.Digest.bytes g.H.Hasher.hash g.U.Update.form g.I.Unordered.index_key entries c.args.log.now c.loop-write.log lent read is in
+    let mid = lent-then g.C.Store g.F.Family.shape g.H.Digest.Digest.bytes g.H.Hasher.hash g.U.Update.form g.I.Unordered.index_key entries c.args.log.now c.loop-write.log lent read is in
     rw (exit.1, exit.2) (c.in_err-at.ensures.whole lent mid (subst (λ t. NoneBelow t.start lent) (sym read.tree) none))
 
 pub returns-in_err-push-clause-value : goal.returns-in_err-push-clause-value
@@ -38,11 +38,11 @@ returns-in_err-push-clause-value g c = λ lent base is from.
     told-err _ (g.C.Store.items c.args.log.now.store) c.from_residual-in_err-push.result exit.0 exit.1
 
 pub returns-in_err-push-clause-read : goal.returns-in_err-push-clause-read
-returns-in_err-push-clause-read g c = read-then g.C.Store g.F.Family.shape g.D.Digest.bytes g.H.Hasher.hash c.args.log.now c.loop-write.log c.locate.new.log c.loop-write.invariant.read c.locate.ensures.read
+returns-in_err-push-clause-read g c = read-then g.C.Store g.F.Family.shape g.H.Digest.Digest.bytes g.H.Hasher.hash c.args.log.now c.loop-write.log c.locate.new.log c.loop-write.invariant.read c.locate.ensures.read
 
 pub loop-write-init : goal.loop-write-init
 loop-write-init g c = record {
-  read = read-none g.C.Store g.F.Family.shape g.D.Digest.bytes g.H.Hasher.hash c.args.log.now;
+  read = read-none g.C.Store g.F.Family.shape g.H.Digest.Digest.bytes g.H.Hasher.hash c.args.log.now;
   value = λ lent base is from.
       told-any _ (g.C.Store.items c.args.log.now.store) ?;
 }
@@ -53,9 +53,9 @@ loop-write-preserved g c =
     let key = g.U.Key.ByteString.bytes in
     let value = g.U.Value.ByteString.bytes in
     record {
-      read = read-then g.C.Store g.F.Family.shape g.D.Digest.bytes g.H.Hasher.hash c.args.log.now c.loop-write.log c.locate.new.log read c.locate.ensures.read;
+      read = read-then g.C.Store g.F.Family.shape g.H.Digest.Digest.bytes g.H.Hasher.hash c.args.log.now c.loop-write.log c.locate.new.log read c.locate.ensures.read;
       value = λ lent base is from.
-          let mid = lent-then g.C.Store g.F.Family.shape g.D.Digest.bytes g.H.Hasher.hash _ g.I.Unordered.index_key (g.I.Unordered.entries c.args.index.now) c.args.log.now c.loop-write.log lent read is in
+          let mid = lent-then g.C.Store g.F.Family.shape g.H.Digest.Digest.bytes g.H.Hasher.hash _ g.I.Unordered.index_key (g.I.Unordered.entries c.args.index.now) c.args.log.now c.loop-write.log lent read is in
           told-both _ _ _ (g.C.Store.items c.args.log.now.store) (c.loop-write.invariant.value lent base is from)
           (told _ _ _ read.kept.items (c.in_ok-at.ensures.value lent base mid from)) (λ before found.
           drained-more (site_view key value) (λ w. site_in base (write_view key value w.now)) c.loop-write.sites.items c.loop-write.write-iterator (map (λ e. site_in base (write_view key value e.1.now)) c.args.last.now.entries)
