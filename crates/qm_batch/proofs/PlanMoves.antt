@@ -48,11 +48,11 @@ NamesNone (delete k) = Unit {0}
 NamesNone (commit m f) = Unit {0}
 
 -- no operation of an unordered database does
-pub unordered-names : {F K V : Type 0} (key : K → Bytes) (value : V → Bytes) (moved : Option (touch.Touch F (Unordered K V) K V)) → IfSome (option_map (unordered_touch key value) moved) (λ t. NamesNone t.operation)
+pub unordered-names : {F K E V : Type 0} (key : K → Bytes) (value : V → Bytes) (moved : Option (touch.Touch F (Unordered K E V) K V)) → IfSome (option_map (unordered_touch key value) moved) (λ t. NamesNone t.operation)
 unordered-names key value None = tt
-unordered-names {F} {K} {V} key value (Some t) = by t.operation
+unordered-names {F} {K} {E} {V} key value (Some t) = by t.operation
   where
-    by : (op : declared.Operation F (Unordered K V) K V) → NamesNone (unordered_view key value op)
+    by : (op : declared.Operation F (Unordered K E V) K V) → NamesNone (unordered_view key value op)
     by (Update u) = refl
     by (Delete k) = tt
     by (CommitFloor m f) = tt

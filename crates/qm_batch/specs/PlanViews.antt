@@ -65,20 +65,21 @@ module _ {K V : Type 0} (key : K → Bytes) (value : V → Bytes) where
   last_view e = (e.0.now, write_view key value e.1.now)
 
   -- a write with where its key stands
-  abbrev pub site_view : {F : Type 0} → site.Site F K V → Write × Option ℕ
+  abbrev pub site_view : site.Site K V → Write × Option ℕ
   site_view s = (write_view key value s.write.now, s.at)
 
+module _ {K E V : Type 0} (key : K → Bytes) (value : V → Bytes) where
   -- an update that names no next key
-  abbrev pub unordered_update : Unordered K V → Operation
+  abbrev pub unordered_update : Unordered K E V → Operation
   unordered_update u = update (key u.0) (value u.1) None
 
   -- an operation of an unordered database
-  abbrev pub unordered_view : {F : Type 0} → operation.Operation F (Unordered K V) K V → Operation
+  abbrev pub unordered_view : {F : Type 0} → operation.Operation F (Unordered K E V) K V → Operation
   unordered_view op = operation_view unordered_update key value op
 
   -- an operation of a step of one
-  abbrev pub unordered_touch : {F : Type 0} → declared.Touch F (Unordered K V) K V → Touch
+  abbrev pub unordered_touch : {F : Type 0} → declared.Touch F (Unordered K E V) K V → Touch
   unordered_touch t = touch_view unordered_update key value t
 
-  abbrev pub unordered_touches : {F : Type 0} → List (declared.Touch F (Unordered K V) K V) → List Touch
+  abbrev pub unordered_touches : {F : Type 0} → List (declared.Touch F (Unordered K E V) K V) → List Touch
   unordered_touches touches = map unordered_touch touches

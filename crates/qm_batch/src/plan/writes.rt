@@ -34,9 +34,9 @@ type ByLocation<F, U> = BTreeMap<u64, Operation<F, U>>;
 
 /// A write, and where its key's live update stands in the base list.
 #[derive(Drop)]
-pub(crate) struct Site<'a, F, K, V> {
+pub(crate) struct Site<'a, K, V> {
     write: &'a Write<K, V>,
-    at: Option<Location<F>>,
+    at: Option<u64>,
 }
 
 /// The last write of each key.
@@ -53,6 +53,16 @@ pub(crate) fn last_writes<'a, K: ByteString, V: ByteString>(
     Ok(last)
 }
 
+// The number of a location, where there is one.
+fn number_of<F>(at: Option<Location<F>>) -> Option<u64>
+    ensures { result ≡ at }
+{
+    match at {
+        Some(at) => Some(at.get()),
+        None => None,
+    }
+}
+
 /// The last writes, each with where its key stands in the base list.
 pub(crate) fn find_sites<
     'a,
@@ -67,7 +77,7 @@ pub(crate) fn find_sites<
     log: &mut AuthLog<F, C, H>,
     layers: &[Rc<Layer<F, U>>],
     last: &Last<'a, U::Key, U::Value>,
-) -> Result<Vec<Site<'a, F, U::Key, U::Value>>, Error>
+) -> Result<Vec<Site<'a, U::Key, U::Value>>, Error>
     ensures value { (lent base : List operations.Operation) → IsLent C.Store F.shape H.Digest.bytes H.hash U.form I.index_key (I.entries index.now) log.old lent → IsBase (map (λ l. l.value) layers.now) lent base
         → IfSome (C.items log.old.store) (λ _. IfOk result (λ sites. map (site_view U.Key.bytes U.Value.bytes) sites.items ≡ map (λ e. site_in base (write_view U.Key.bytes U.Value.bytes e.1.now)) last.now.entries)) }
     ensures read { IsRead C.Store F.shape H.Digest.bytes H.hash log.old log.new }
@@ -77,7 +87,7 @@ pub(crate) fn find_sites<
 {
     let mut sites = Vec::new(alloc);
     for write in last.values() {
-        let at = locate(alloc, index, log, layers, &write.key)?;
+        let at = number_of(locate(alloc, index, log, layers, &write.key)?);
         sites.push(Site { write: *write, at })?;
     }
     Ok(sites)
@@ -104,16 +114,16 @@ fn operation_of<F, K: ByteString, V: ValueEncoding<K>>(
 fn put_rewrite<F, K: ByteString, V: ValueEncoding<K>>(
     alloc: Global,
     rewrites: &mut ByLocation<F, Unordered<K, V>>,
-    site: &Site<'_, F, K, V::Value>,
+    site: &Site<'_, K, V::Value>,
 ) -> Result<(), AllocError>
     ensures live { OnOk result ((at : ℕ) → site.now.at ≡ Some at → located_views (unordered_view K.bytes V.Value.bytes) rewrites.new.entries
         ≡ insert_entry nat_cmp (located_views (unordered_view K.bytes V.Value.bytes) rewrites.old.entries) at (model.operation_of (write_view K.bytes V.Value.bytes site.now.write.now))) }
     ensures other { OnOk result (site.now.at ≡ None → rewrites.new.entries ≡ rewrites.old.entries) }
 {
-    match &site.at {
+    match site.at {
         Some(at) => {
             let operation = operation_of(alloc, site.write)?;
-            rewrites.insert(at.get(), operation)?;
+            rewrites.insert(at, operation)?;
             Ok(())
         }
         None => Ok(()),
@@ -123,7 +133,7 @@ fn put_rewrite<F, K: ByteString, V: ValueEncoding<K>>(
 // The writes to live keys, by where these stand.
 fn by_location<F, K: ByteString, V: ValueEncoding<K>>(
     alloc: Global,
-    sites: &[Site<'_, F, K, V::Value>],
+    sites: &[Site<'_, K, V::Value>],
 ) -> Result<ByLocation<F, Unordered<K, V>>, AllocError>
     ensures { IfOk result (λ rewrites. (base : List operations.Operation) (ws : List model.Write) → map (site_view K.bytes V.Value.bytes) sites.now ≡ map (site_in base) (model.last_writes ws)
         → located_views (unordered_view K.bytes V.Value.bytes) rewrites.entries ≡ filter_map (rewrite_here (model.last_writes ws)) (live base)) }
@@ -155,7 +165,7 @@ fn moved_touches<F, K: ByteString, V: ValueEncoding<K>>(
 // What a write creates: an update, where its key is not live.
 fn create_of<F, K: ByteString, V: ValueEncoding<K>>(
     alloc: Global,
-    site: &Site<'_, F, K, V::Value>,
+    site: &Site<'_, K, V::Value>,
 ) -> Result<Option<Touch<F, Unordered<K, V>>>, AllocError>
     ensures { IfOk result (λ made. (base : List operations.Operation) (w : model.Write) → site_view K.bytes V.Value.bytes site.now ≡ site_in base w
         → option_map (unordered_touch K.bytes V.Value.bytes) made ≡ option_map new_touch (model.create_of (live base) w)) }
@@ -193,7 +203,7 @@ fn push_some<F, U: Update>(
 fn add_creates<F, K: ByteString, V: ValueEncoding<K>>(
     alloc: Global,
     touches: &mut Vec<Touch<F, Unordered<K, V>>>,
-    sites: &[Site<'_, F, K, V::Value>],
+    sites: &[Site<'_, K, V::Value>],
 ) -> Result<(), AllocError>
     ensures { OnOk result ((base : List operations.Operation) (ws : List model.Write) → map (site_view K.bytes V.Value.bytes) sites.now ≡ map (site_in base) ws
         → unordered_touches K.bytes V.Value.bytes touches.new.items ≡ unordered_touches K.bytes V.Value.bytes touches.old.items ++ map new_touch (filter_map (model.create_of (live base)) ws)) }
@@ -208,7 +218,7 @@ fn add_creates<F, K: ByteString, V: ValueEncoding<K>>(
 /// The operations of the last writes.
 pub(crate) fn written<F, K: ByteString, V: ValueEncoding<K>>(
     alloc: Global,
-    sites: &[Site<'_, F, K, V::Value>],
+    sites: &[Site<'_, K, V::Value>],
 ) -> Result<Vec<Touch<F, Unordered<K, V>>>, AllocError>
     ensures { IfOk result (λ touches. (base : List operations.Operation) (ws : List model.Write) → map (site_view K.bytes V.Value.bytes) sites.now ≡ map (site_in base) (model.last_writes ws)
         → unordered_touches K.bytes V.Value.bytes touches.items ≡ written_touches base (model.last_writes ws)) }
