@@ -15,7 +15,7 @@ use Rattle.std.proofs.lemmas.List.{drop_at, take_at}
 use Rattle.std.proofs.lemmas.List.Folds.{list_any-append}
 use Rattle.std.proofs.lemmas.Map.Text.{is_eq-slice_cmp}
 use Rattle.std.proofs.lemmas.Option.{same_Some}
-use Rattle.qm_base.specs.Parts.{key_of, value_of}
+use Rattle.qm_base.specs.Parts.{is_update, key_of, value_of}
 use Rattle.qm_model.specs.Operations.{Bytes, Operation, update, delete, commit}
 use Rattle.qm_model.specs.Live.{Live, touches, touched}
 use Rattle.qm_model.proofs.Maps.{same_key}
@@ -126,6 +126,12 @@ pub update-parts : (op : Operation) (k v : Bytes) → key_of op ≡ Some k → v
 update-parts (update key value next) k v of_key of_value = (next, ap₂ (λ a b. update a b next) (same_Some key k of_key) (same_Some value v of_value))
 update-parts (delete key) k v of_key of_value = cc
 update-parts (commit m f) k v of_key of_value = cc
+
+-- and so is an update with a key
+pub update-of : (op : Operation) (k : Bytes) → is_update op ≡ true → key_of op ≡ Some k → (v : Bytes) × (n : Option Bytes) × (op ≡ update k v n)
+update-of (update key value next) k is of_key = (value, next, ap (λ a. update a value next) (same_Some key k of_key))
+update-of (delete key) k is of_key = cc
+update-of (commit m f) k is of_key = cc
 
 -- an update is noted
 pub noted-update : (base own : List Operation) (touch : Touch) (k v : Bytes) (n : Option Bytes) (old new : Bytes → Option Change) → touch.operation ≡ update k v n → IsFrom base touch →

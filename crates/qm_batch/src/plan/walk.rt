@@ -130,10 +130,11 @@ fn unwritten_at<
 {
     match update_in_base(alloc, log, layers, at)? {
         Some(update) => {
-            if last.contains_key(update.key().as_bytes()) {
+            let key = update.key();
+            if last.contains_key(key.as_bytes()) {
                 return Ok(None);
             }
-            if is_live_there(index, layers, update.key(), at) {
+            if is_live_there(index, layers, key, at) {
                 Ok(Some(update))
             } else {
                 Ok(None)

@@ -20,8 +20,8 @@ from_bytes-requires g c =
     kept-first (λ (k : Bor (List ℕ)). g.K.ByteString.has k.now ≡ true) c.loop-key.key-iterator c.next.new.self (c.in-Some.key, c.in-Some.noted)
     (rest_more (λ x. x) c.loop-key.key-iterator c.next.new.self c.next.result (c.in-Some.key, c.in-Some.noted) c.in-Some.is c.next.ensures.steps) c.loop-key.invariant.known
 
-pub new-requires-after_bounds : goal.new-requires-after_bounds
-new-requires-after_bounds g c κs within =
+pub new-requires : goal.new-requires
+new-requires g c =
     let key = g.K.ByteString.bytes in
     let value = g.V.ByteString.bytes in
     ascends-shown key value c.loop-key.entries.items c.args.notes.entries
