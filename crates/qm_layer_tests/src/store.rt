@@ -12,7 +12,7 @@ use std::num::NonZeroU64;
 use std::process::Abort;
 use std::test::Fail;
 
-type Log = AuthLog<Family, MemStore, Sha256Digest, Sha256>;
+type Log = AuthLog<Family, MemStore, Sha256>;
 
 fn two_items(alloc: Global) -> Result<Vec<Vec<u8>>, AllocError>
     ensures { IfOk result (λ v. length v.items ≡ 2) }

@@ -51,38 +51,38 @@ pub struct LogRefusal<L, C> {
 
 /// A list of items in a store, with the tree over their leaves.
 #[derive(Drop)]
-pub struct AuthLog<F: Family, C: Store, D, H> {
+pub struct AuthLog<F: Family, C: Store, H: Hasher> {
     store: C,
-    tree: Mem<F, D>,
+    tree: Mem<F, H::Digest>,
     hasher: StandardHasher<H>,
 }
 
-impl<F: Family, C: Store, D, H> Model for AuthLog<F, C, D, H> {
+impl<F: Family, C: Store, H: Hasher> Model for AuthLog<F, C, H> {
     ghost use Rattle.std.specs.Prelude.{◌≡◌, ◌≤◌};
     ghost use Rattle.qm_store.specs.Log.{Log};
 
-    ghost Value = { Log C D };
+    ghost Value = { Log C H.Digest };
 
     ghost view = { λ l. record { store = l.store; tree = l.tree } };
 
     ghost invariant = { λ l. (l.tree.start ≡ C.start l.store) × (l.tree.leaves ≤ C.end l.store) };
 }
 
-impl<F: Family, C: Store, D: Digest, H: Hasher<Digest = D> + Drop> AuthLog<F, C, D, H> {
+impl<F: Family, C: Store, H: Hasher + Drop> AuthLog<F, C, H> {
     /// The log that ends at `size`, whatever the store has past it.
     /// Each item from the store's start up to there is read once. A refusal gives back the store.
     pub fn open(alloc: Global, store: C, hasher: H, size: u64) -> Result<Self, LogRefusal<Self, C>>
         requires start { C.start store ≤ size }
         requires end { size ≤ C.end store }
         ensures stands { (list : List (List ℕ)) → length list ≡ size → IfSome (C.items store) (λ xs. IfSome (C.head store) (λ h.
-            take (size - C.start store) xs ≡ drop (C.start store) list → IsHead F.shape D.bytes H.hash (C.start store) (digests_from H.hash F.shape 0 list) h
-            → IfOk result (λ log. IsLog C.Store F.shape D.bytes H.hash log list))) }
+            take (size - C.start store) xs ≡ drop (C.start store) list → IsHead F.shape H.Digest.bytes H.hash (C.start store) (digests_from H.hash F.shape 0 list) h
+            → IfOk result (λ log. IsLog C.Store F.shape H.Digest.bytes H.hash log list))) }
         ensures start { IfOk result (λ log. log.tree.start ≡ C.start store) }
         ensures size { IfOk result (λ log. log.tree.leaves ≡ size) }
         ensures kept { IfOk result (λ log. IsKept C.Store store log.store) }
         ensures back { IfErr result (λ r. (s : C) × (r.given ≡ LogGiven.Store s) × IsKept C.Store store s × IsCause (C.faults store) (C.faults s) (r.error ≡ Error.Journal JournalError.Store)) }
-        ensures long { IfOk result (λ _. IfSome (C.head store) (λ h. length h ≡ length (trees.peaks F.shape (C.start store)) * D.SIZE)) }
-        ensures head { IfErr result (λ r. r.error ≡ Error.DataCorrupted Corrupt.HeadDoesNotMatch → IfSome (C.head store) (λ h. length h ≢ length (trees.peaks F.shape (C.start store)) * D.SIZE)) }
+        ensures long { IfOk result (λ _. IfSome (C.head store) (λ h. length h ≡ length (trees.peaks F.shape (C.start store)) * H.Digest.SIZE)) }
+        ensures head { IfErr result (λ r. r.error ≡ Error.DataCorrupted Corrupt.HeadDoesNotMatch → IfSome (C.head store) (λ h. length h ≢ length (trees.peaks F.shape (C.start store)) * H.Digest.SIZE)) }
         ensures never { IfErr result (λ r. (r.error ≡ Error.Memory) ⊎ ((r.error ≡ Error.Journal JournalError.Store) ⊎ (r.error ≡ Error.DataCorrupted Corrupt.HeadDoesNotMatch))) }
         ensures later { IfOk result (λ log. C.faults store ≤ C.faults log.store) }
     {
@@ -106,12 +106,12 @@ impl<F: Family, C: Store, D: Digest, H: Hasher<Digest = D> + Drop> AuthLog<F, C,
     pub fn append_batch(self, alloc: Global, items: &[Vec<u8>]) -> Result<Self, LogRefusal<Self, C>>
         requires room { self.tree.leaves + length items.now ≤ 2 ^ 62 }
         requires last { C.end self.store ≡ self.tree.leaves }
-        ensures stands { (list : List (List ℕ)) → IsLog C.Store F.shape D.bytes H.hash self list → IfOk result (λ log. IsLog C.Store F.shape D.bytes H.hash log (list ++ map (λ v. v.items) items.now)) }
+        ensures stands { (list : List (List ℕ)) → IsLog C.Store F.shape H.Digest.bytes H.hash self list → IfOk result (λ log. IsLog C.Store F.shape H.Digest.bytes H.hash log (list ++ map (λ v. v.items) items.now)) }
         ensures start { IfOk result (λ log. log.tree.start ≡ self.tree.start) }
         ensures size { IfOk result (λ log. log.tree.leaves ≡ self.tree.leaves + length items.now) }
         ensures grown { IfOk result (λ log. HasGrown C.Store self.store log.store (map (λ v. v.items) items.now)) }
         ensures part { IfErr result (λ r. HasGrownPart C.Store self.store (store_given r.given) (map (λ v. v.items) items.now)) }
-        ensures back { IfErr result (λ r. (log : Log C D) → r.given ≡ LogGiven.Log log → (log ≡ self) × (r.error ≡ Error.Memory)) }
+        ensures back { IfErr result (λ r. (log : Log C H.Digest) → r.given ≡ LogGiven.Log log → (log ≡ self) × (r.error ≡ Error.Memory)) }
         ensures never { IfErr result (λ r. (r.error ≡ Error.Memory) ⊎ (r.error ≡ Error.Journal JournalError.Store)) }
         ensures cause { IfErr result (λ r. IsCause (C.faults self.store) (C.faults (store_given r.given)) (r.error ≡ Error.Journal JournalError.Store)) }
         ensures later { IfOk result (λ log. C.faults self.store ≤ C.faults log.store) }
@@ -147,8 +147,8 @@ impl<F: Family, C: Store, D: Digest, H: Hasher<Digest = D> + Drop> AuthLog<F, C,
     /// Reads the item at a location.
     pub fn read(&mut self, at: u64) -> Result<Vec<u8>, Error>
         requires { at < self.old.tree.leaves }
-        ensures item { (list : List (List ℕ)) → IsLog C.Store F.shape D.bytes H.hash self.old list → IfOk result (λ v. IfSome (C.items self.old.store) (λ _. slice_get list at ≡ Some v.items)) }
-        ensures stands { (list : List (List ℕ)) → IsLog C.Store F.shape D.bytes H.hash self.old list → IsLog C.Store F.shape D.bytes H.hash self.new list }
+        ensures item { (list : List (List ℕ)) → IsLog C.Store F.shape H.Digest.bytes H.hash self.old list → IfOk result (λ v. IfSome (C.items self.old.store) (λ _. slice_get list at ≡ Some v.items)) }
+        ensures stands { (list : List (List ℕ)) → IsLog C.Store F.shape H.Digest.bytes H.hash self.old list → IsLog C.Store F.shape H.Digest.bytes H.hash self.new list }
         ensures pruned { (result ≡ Err (Error.Journal (JournalError.ItemPruned at))) ↔ (at < self.old.tree.start) }
         ensures never { IfErr result (λ e. (e ≡ Error.Memory) ⊎ ((e ≡ Error.Journal JournalError.Store) ⊎ (e ≡ Error.Journal (JournalError.ItemPruned at)))) }
         ensures tree { self.new.tree ≡ self.old.tree }
@@ -163,9 +163,9 @@ impl<F: Family, C: Store, D: Digest, H: Hasher<Digest = D> + Drop> AuthLog<F, C,
     }
 
     /// The root of the tree, the first of whose peaks are inactive.
-    pub fn root(&mut self, alloc: Global, inactive: usize) -> Result<D, AllocError>
+    pub fn root(&mut self, alloc: Global, inactive: usize) -> Result<H::Digest, AllocError>
         requires { inactive ≤ length (trees.peaks F.shape self.old.tree.leaves) }
-        ensures value { (list : List (List ℕ)) → IsLog C.Store F.shape D.bytes H.hash self.old list → IfOk result (λ d. D.bytes d ≡ trees.root H.hash F.shape (digests_from H.hash F.shape 0 list) inactive) }
+        ensures value { (list : List (List ℕ)) → IsLog C.Store F.shape H.Digest.bytes H.hash self.old list → IfOk result (λ d. H.Digest.bytes d ≡ trees.root H.hash F.shape (digests_from H.hash F.shape 0 list) inactive) }
         ensures same { self.new ≡ self.old }
     {
         self.tree.root(alloc, &mut self.hasher, inactive)
@@ -176,10 +176,10 @@ impl<F: Family, C: Store, D: Digest, H: Hasher<Digest = D> + Drop> AuthLog<F, C,
         &mut self,
         alloc: Global,
         items: &[Vec<u8>],
-    ) -> Result<MerkleizedBatch<F, D>, AllocError>
+    ) -> Result<MerkleizedBatch<F, H::Digest>, AllocError>
         requires room { self.old.tree.leaves + length items.now ≤ 2 ^ 62 }
-        ensures history { (list : List (List ℕ)) → IsLog C.Store F.shape D.bytes H.hash self.old list
-            → IfOk result (λ b. IsHistory F.shape D.bytes H.hash (all_layers b) (digests_from H.hash F.shape 0 (list ++ map (λ v. v.items) items.now) ∷ digests_from H.hash F.shape 0 list ∷ [])) }
+        ensures history { (list : List (List ℕ)) → IsLog C.Store F.shape H.Digest.bytes H.hash self.old list
+            → IfOk result (λ b. IsHistory F.shape H.Digest.bytes H.hash (all_layers b) (digests_from H.hash F.shape 0 (list ++ map (λ v. v.items) items.now) ∷ digests_from H.hash F.shape 0 list ∷ [])) }
         ensures leaves { IfOk result (λ b. b.newest.tree.leaves ≡ self.old.tree.leaves + length items.now) }
         ensures start { IfOk result (λ b. b.newest.tree.start ≡ self.old.tree.leaves) }
         ensures older { IfOk result (λ b. b.older ≡ []) }
@@ -193,21 +193,21 @@ impl<F: Family, C: Store, D: Digest, H: Hasher<Digest = D> + Drop> AuthLog<F, C,
     pub fn tree_behind(
         &mut self,
         alloc: Global,
-        batch: &MerkleizedBatch<F, D>,
+        batch: &MerkleizedBatch<F, H::Digest>,
         items: &[Vec<u8>],
-    ) -> Result<MerkleizedBatch<F, D>, AllocError>
+    ) -> Result<MerkleizedBatch<F, H::Digest>, AllocError>
         requires room { batch.now.newest.tree.leaves + length items.now ≤ 2 ^ 62 }
         requires reach { Contains (stops batch.now.newest.tree.leaves (all_layers batch.now)) self.old.tree.leaves }
-        ensures history { (list base : List (List ℕ)) (lists : List (List (List ℕ))) → IsLog C.Store F.shape D.bytes H.hash self.old list
-            → IsHistory F.shape D.bytes H.hash (all_layers batch.now) (digests_from H.hash F.shape 0 base ∷ lists) → Contains (digests_from H.hash F.shape 0 base ∷ lists) (digests_from H.hash F.shape 0 list)
-            → IfOk result (λ b. IsHistory F.shape D.bytes H.hash (all_layers b) (digests_from H.hash F.shape 0 (base ++ map (λ v. v.items) items.now) ∷ digests_from H.hash F.shape 0 base ∷ lists)) }
+        ensures history { (list base : List (List ℕ)) (lists : List (List (List ℕ))) → IsLog C.Store F.shape H.Digest.bytes H.hash self.old list
+            → IsHistory F.shape H.Digest.bytes H.hash (all_layers batch.now) (digests_from H.hash F.shape 0 base ∷ lists) → Contains (digests_from H.hash F.shape 0 base ∷ lists) (digests_from H.hash F.shape 0 list)
+            → IfOk result (λ b. IsHistory F.shape H.Digest.bytes H.hash (all_layers b) (digests_from H.hash F.shape 0 (base ++ map (λ v. v.items) items.now) ∷ digests_from H.hash F.shape 0 base ∷ lists)) }
         ensures leaves { IfOk result (λ b. b.newest.tree.leaves ≡ batch.now.newest.tree.leaves + length items.now) }
         ensures start { IfOk result (λ b. b.newest.tree.start ≡ batch.now.newest.tree.leaves) }
         ensures older { IfOk result (λ b. b.older ≡ all_layers batch.now) }
         ensures same { self.new ≡ self.old }
     {
         let size = batch.leaves().get();
-        let digests = item_digests::<F, D, H>(alloc, &mut self.hasher, size, items)?;
+        let digests = item_digests::<F, H>(alloc, &mut self.hasher, size, items)?;
         grown_behind(alloc, &self.tree, &mut self.hasher, batch, &digests)
     }
 
@@ -215,12 +215,12 @@ impl<F: Family, C: Store, D: Digest, H: Hasher<Digest = D> + Drop> AuthLog<F, C,
     pub fn speculative_root(
         &mut self,
         alloc: Global,
-        batch: &MerkleizedBatch<F, D>,
+        batch: &MerkleizedBatch<F, H::Digest>,
         inactive: usize,
-    ) -> Result<D, AllocError>
+    ) -> Result<H::Digest, AllocError>
         requires { inactive ≤ length (trees.peaks F.shape batch.now.newest.tree.leaves) }
-        ensures value { (new : List (List ℕ)) (lists : List (List (List ℕ))) → IsHistory F.shape D.bytes H.hash (all_layers batch.now) (new ∷ lists)
-            → IfOk result (λ d. D.bytes d ≡ trees.root H.hash F.shape new inactive) }
+        ensures value { (new : List (List ℕ)) (lists : List (List (List ℕ))) → IsHistory F.shape H.Digest.bytes H.hash (all_layers batch.now) (new ∷ lists)
+            → IfOk result (λ d. H.Digest.bytes d ≡ trees.root H.hash F.shape new inactive) }
         ensures same { self.new ≡ self.old }
     {
         batch.root(alloc, &mut self.hasher, inactive)
@@ -232,11 +232,11 @@ impl<F: Family, C: Store, D: Digest, H: Hasher<Digest = D> + Drop> AuthLog<F, C,
         alloc: Global,
         items: &[Vec<u8>],
         inactive: usize,
-    ) -> Result<D, AllocError>
+    ) -> Result<H::Digest, AllocError>
         requires room { self.old.tree.leaves + length items.now ≤ 2 ^ 62 }
         requires peaks { inactive ≤ length (trees.peaks F.shape (self.old.tree.leaves + length items.now)) }
-        ensures value { (list : List (List ℕ)) → IsLog C.Store F.shape D.bytes H.hash self.old list
-            → IfOk result (λ d. D.bytes d ≡ trees.root H.hash F.shape (digests_from H.hash F.shape 0 (list ++ map (λ v. v.items) items.now)) inactive) }
+        ensures value { (list : List (List ℕ)) → IsLog C.Store F.shape H.Digest.bytes H.hash self.old list
+            → IfOk result (λ d. H.Digest.bytes d ≡ trees.root H.hash F.shape (digests_from H.hash F.shape 0 (list ++ map (λ v. v.items) items.now)) inactive) }
         ensures same { self.new ≡ self.old }
     {
         let batch = grown_by_items(alloc, &self.tree, &mut self.hasher, items)?;
@@ -252,18 +252,18 @@ impl<F: Family, C: Store, D: Digest, H: Hasher<Digest = D> + Drop> AuthLog<F, C,
         inactive: usize,
         start: u64,
         max: NonZeroU64,
-    ) -> Result<(Proof<D>, Vec<Vec<u8>>), Error>
+    ) -> Result<(Proof<H::Digest>, Vec<Vec<u8>>), Error>
         requires { size ≤ self.old.tree.leaves → inactive ≤ length (trees.peaks F.shape size) }
-        ensures proof { (list : List (List ℕ)) → IsLog C.Store F.shape D.bytes H.hash self.old list
-            → IfOk result (λ shown. proof_view D.bytes shown.0 ≡ proof_of H.hash F.shape (digests_from H.hash F.shape 0 (take size list)) inactive start (start + min (non_zero_u64_get max) (size - start))) }
-        ensures items { (list : List (List ℕ)) → IsLog C.Store F.shape D.bytes H.hash self.old list
+        ensures proof { (list : List (List ℕ)) → IsLog C.Store F.shape H.Digest.bytes H.hash self.old list
+            → IfOk result (λ shown. proof_view H.Digest.bytes shown.0 ≡ proof_of H.hash F.shape (digests_from H.hash F.shape 0 (take size list)) inactive start (start + min (non_zero_u64_get max) (size - start))) }
+        ensures items { (list : List (List ℕ)) → IsLog C.Store F.shape H.Digest.bytes H.hash self.old list
             → IfOk result (λ shown. IfSome (C.items self.old.store) (λ _. map (λ v. v.items) shown.1.items ≡ take (min (non_zero_u64_get max) (size - start)) (drop start list))) }
         ensures count { IfOk result (λ shown. length shown.1.items ≡ min (non_zero_u64_get max) (size - start)) }
         ensures size { self.old.tree.leaves < size → result ≡ Err (Error.Merkle (MerkleError.RangeOutOfBounds size)) }
         ensures start { size ≤ self.old.tree.leaves → size ≤ start → result ≡ Err (Error.Merkle (MerkleError.RangeOutOfBounds start)) }
         ensures pruned { size ≤ self.old.tree.leaves → start < size → start < self.old.tree.start → result ≡ Err (Error.Journal (JournalError.ItemPruned start)) }
         ensures never { size ≤ self.old.tree.leaves → start < size → self.old.tree.start ≤ start → IfErr result (λ e. (e ≡ Error.Memory) ⊎ (e ≡ Error.Journal JournalError.Store)) }
-        ensures stands { (list : List (List ℕ)) → IsLog C.Store F.shape D.bytes H.hash self.old list → IsLog C.Store F.shape D.bytes H.hash self.new list }
+        ensures stands { (list : List (List ℕ)) → IsLog C.Store F.shape H.Digest.bytes H.hash self.old list → IsLog C.Store F.shape H.Digest.bytes H.hash self.new list }
         ensures tree { self.new.tree ≡ self.old.tree }
         ensures kept { IsKept C.Store self.old.store self.new.store }
         ensures cause { IsCause (C.faults self.old.store) (C.faults self.new.store) (IsErrOf result (Error.Journal JournalError.Store)) }
@@ -286,9 +286,9 @@ impl<F: Family, C: Store, D: Digest, H: Hasher<Digest = D> + Drop> AuthLog<F, C,
 
     /// The digests of the peaks over the first `count` items, from left to right. Where the log is kept from there or from
     /// before, it has them all.
-    pub fn pinned_nodes_at(&self, alloc: Global, count: u64) -> Result<Vec<D>, Error>
-        ensures value { (list : List (List ℕ)) → IsLog C.Store F.shape D.bytes H.hash self.now list
-            → IfOk result (λ pins. map D.bytes pins.items ≡ map (trees.digest_of H.hash F.shape (digests_from H.hash F.shape 0 list)) (trees.peaks F.shape count)) }
+    pub fn pinned_nodes_at(&self, alloc: Global, count: u64) -> Result<Vec<H::Digest>, Error>
+        ensures value { (list : List (List ℕ)) → IsLog C.Store F.shape H.Digest.bytes H.hash self.now list
+            → IfOk result (λ pins. map H.Digest.bytes pins.items ≡ map (trees.digest_of H.hash F.shape (digests_from H.hash F.shape 0 list)) (trees.peaks F.shape count)) }
         ensures range { self.now.tree.leaves < count → result ≡ Err (Error.Merkle (MerkleError.RangeOutOfBounds count)) }
         ensures held { OnOk result (first_lacked (node_at F.shape self.now.tree) (trees.peak_positions F.shape count) ≡ None) }
         ensures cause { count ≤ self.now.tree.leaves → IfErr result (IsLacked (node_at F.shape self.now.tree) (trees.peak_positions F.shape count)) }
@@ -306,21 +306,21 @@ impl<F: Family, C: Store, D: Digest, H: Hasher<Digest = D> + Drop> AuthLog<F, C,
     pub fn speculative_proof(
         &self,
         alloc: Global,
-        batch: &MerkleizedBatch<F, D>,
+        batch: &MerkleizedBatch<F, H::Digest>,
         inactive: usize,
         start: u64,
         end: u64,
-    ) -> Result<Proof<D>, Error>
+    ) -> Result<Proof<H::Digest>, Error>
         requires order { start ≤ end }
         requires within { end ≤ batch.now.newest.tree.leaves }
         requires inactive { inactive ≤ length (trees.peaks F.shape batch.now.newest.tree.leaves) }
-        ensures value { (list : List (List ℕ)) (new : List (List ℕ)) (lists : List (List (List ℕ))) → IsLog C.Store F.shape D.bytes H.hash self.now list
-            → IsHistory F.shape D.bytes H.hash (all_layers batch.now) (new ∷ lists) → Contains (new ∷ lists) (digests_from H.hash F.shape 0 list)
-            → IfOk result (λ p. proof_view D.bytes p ≡ proof_of H.hash F.shape new inactive start end) }
+        ensures value { (list : List (List ℕ)) (new : List (List ℕ)) (lists : List (List (List ℕ))) → IsLog C.Store F.shape H.Digest.bytes H.hash self.now list
+            → IsHistory F.shape H.Digest.bytes H.hash (all_layers batch.now) (new ∷ lists) → Contains (new ∷ lists) (digests_from H.hash F.shape 0 list)
+            → IfOk result (λ p. proof_view H.Digest.bytes p ≡ proof_of H.hash F.shape new inactive start end) }
         ensures held { OnOk result (first_lacked (over_at F.shape batch.now self.now.tree) (needed_positions F.shape batch.now.newest.tree.leaves start end) ≡ None) }
         ensures cause { IfErr result (IsLacked (over_at F.shape batch.now self.now.tree) (needed_positions F.shape batch.now.newest.tree.leaves start end)) }
-        ensures whole { self.now.tree.start ≤ start → (list : List (List ℕ)) (new : List (List ℕ)) (lists : List (List (List ℕ))) → IsLog C.Store F.shape D.bytes H.hash self.now list
-            → IsHistory F.shape D.bytes H.hash (all_layers batch.now) (new ∷ lists) → Contains (new ∷ lists) (digests_from H.hash F.shape 0 list)
+        ensures whole { self.now.tree.start ≤ start → (list : List (List ℕ)) (new : List (List ℕ)) (lists : List (List (List ℕ))) → IsLog C.Store F.shape H.Digest.bytes H.hash self.now list
+            → IsHistory F.shape H.Digest.bytes H.hash (all_layers batch.now) (new ∷ lists) → Contains (new ∷ lists) (digests_from H.hash F.shape 0 list)
             → IfErr result (λ e. e ≡ Error.Memory) }
     {
         shown::proof_over(alloc, batch, &self.tree, inactive, start, end)
@@ -330,17 +330,17 @@ impl<F: Family, C: Store, D: Digest, H: Hasher<Digest = D> + Drop> AuthLog<F, C,
     pub fn speculative_pinned_nodes(
         &self,
         alloc: Global,
-        batch: &MerkleizedBatch<F, D>,
+        batch: &MerkleizedBatch<F, H::Digest>,
         at: u64,
-    ) -> Result<Vec<D>, Error>
+    ) -> Result<Vec<H::Digest>, Error>
         requires within { at ≤ batch.now.newest.tree.leaves }
-        ensures value { (list : List (List ℕ)) (new : List (List ℕ)) (lists : List (List (List ℕ))) → IsLog C.Store F.shape D.bytes H.hash self.now list
-            → IsHistory F.shape D.bytes H.hash (all_layers batch.now) (new ∷ lists) → Contains (new ∷ lists) (digests_from H.hash F.shape 0 list)
-            → IfOk result (λ pins. map D.bytes pins.items ≡ map (trees.digest_of H.hash F.shape new) (trees.peaks F.shape at)) }
+        ensures value { (list : List (List ℕ)) (new : List (List ℕ)) (lists : List (List (List ℕ))) → IsLog C.Store F.shape H.Digest.bytes H.hash self.now list
+            → IsHistory F.shape H.Digest.bytes H.hash (all_layers batch.now) (new ∷ lists) → Contains (new ∷ lists) (digests_from H.hash F.shape 0 list)
+            → IfOk result (λ pins. map H.Digest.bytes pins.items ≡ map (trees.digest_of H.hash F.shape new) (trees.peaks F.shape at)) }
         ensures held { OnOk result (first_lacked (over_at F.shape batch.now self.now.tree) (trees.peak_positions F.shape at) ≡ None) }
         ensures cause { IfErr result (IsLacked (over_at F.shape batch.now self.now.tree) (trees.peak_positions F.shape at)) }
-        ensures whole { self.now.tree.start ≤ at → (list : List (List ℕ)) (new : List (List ℕ)) (lists : List (List (List ℕ))) → IsLog C.Store F.shape D.bytes H.hash self.now list
-            → IsHistory F.shape D.bytes H.hash (all_layers batch.now) (new ∷ lists) → Contains (new ∷ lists) (digests_from H.hash F.shape 0 list)
+        ensures whole { self.now.tree.start ≤ at → (list : List (List ℕ)) (new : List (List ℕ)) (lists : List (List (List ℕ))) → IsLog C.Store F.shape H.Digest.bytes H.hash self.now list
+            → IsHistory F.shape H.Digest.bytes H.hash (all_layers batch.now) (new ∷ lists) → Contains (new ∷ lists) (digests_from H.hash F.shape 0 list)
             → IfErr result (λ e. e ≡ Error.Memory) }
     {
         shown::peaks_over(alloc, batch, &self.tree, at)
@@ -367,7 +367,7 @@ impl<F: Family, C: Store, D: Digest, H: Hasher<Digest = D> + Drop> AuthLog<F, C,
     }
 
     /// The tree over the items' leaves.
-    pub fn tree(&self) -> &Mem<F, D>
+    pub fn tree(&self) -> &Mem<F, H::Digest>
         ensures { result.now ≡ self.now.tree }
     {
         &self.tree
@@ -389,28 +389,28 @@ impl<F: Family, C: Store, D: Digest, H: Hasher<Digest = D> + Drop> AuthLog<F, C,
 }
 
 // The tree of a store's items from its start up to `size`.
-fn load<F: Family, C: Store, D: Digest, H: Hasher<Digest = D>>(
+fn load<F: Family, C: Store, H: Hasher>(
     alloc: Global,
     store: &mut C,
     hasher: &mut StandardHasher<H>,
     size: u64,
-) -> Result<Mem<F, D>, Error>
+) -> Result<Mem<F, H::Digest>, Error>
     requires start { C.start store.old ≤ size }
     requires end { size ≤ C.end store.old }
     ensures stands { (list : List (List ℕ)) → length list ≡ size → IfSome (C.items store.old) (λ xs. IfSome (C.head store.old) (λ h.
-        take (size - C.start store.old) xs ≡ drop (C.start store.old) list → IsHead F.shape D.bytes H.hash (C.start store.old) (digests_from H.hash F.shape 0 list) h
-        → IfOk result (λ tree. Stands F.shape D.bytes H.hash tree (digests_from H.hash F.shape 0 list)))) }
+        take (size - C.start store.old) xs ≡ drop (C.start store.old) list → IsHead F.shape H.Digest.bytes H.hash (C.start store.old) (digests_from H.hash F.shape 0 list) h
+        → IfOk result (λ tree. Stands F.shape H.Digest.bytes H.hash tree (digests_from H.hash F.shape 0 list)))) }
     ensures start { IfOk result (λ tree. tree.start ≡ C.start store.old) }
     ensures size { IfOk result (λ tree. tree.leaves ≡ size) }
-    ensures long { IfOk result (λ _. IfSome (C.head store.old) (λ h. length h ≡ length (trees.peaks F.shape (C.start store.old)) * D.SIZE)) }
-    ensures head { IfErr result (λ e. e ≡ Error.DataCorrupted Corrupt.HeadDoesNotMatch → IfSome (C.head store.old) (λ h. length h ≢ length (trees.peaks F.shape (C.start store.old)) * D.SIZE)) }
+    ensures long { IfOk result (λ _. IfSome (C.head store.old) (λ h. length h ≡ length (trees.peaks F.shape (C.start store.old)) * H.Digest.SIZE)) }
+    ensures head { IfErr result (λ e. e ≡ Error.DataCorrupted Corrupt.HeadDoesNotMatch → IfSome (C.head store.old) (λ h. length h ≢ length (trees.peaks F.shape (C.start store.old)) * H.Digest.SIZE)) }
     ensures never { IfErr result (λ e. (e ≡ Error.Memory) ⊎ ((e ≡ Error.Journal JournalError.Store) ⊎ (e ≡ Error.DataCorrupted Corrupt.HeadDoesNotMatch))) }
     ensures kept { IsKept C.Store store.old store.new }
     ensures cause { IsCause (C.faults store.old) (C.faults store.new) (IsErrOf result (Error.Journal JournalError.Store)) }
 {
     let mut tree = pruned(alloc, store)?;
     let (start, _) = store.bounds();
-    let digests = read_digests::<F, C, D, H>(alloc, store, hasher, start, size)?;
+    let digests = read_digests::<F, C, H>(alloc, store, hasher, start, size)?;
     add_leaves(alloc, &mut tree, hasher, &digests)?;
     Ok(tree)
 }
@@ -466,19 +466,19 @@ fn pieces<D: Digest>(alloc: Global, count: usize, bytes: &[u8]) -> Result<Vec<D>
 }
 
 // The leaves' digests of a store's items from its start up to `size`.
-fn read_digests<F: Family, C: Store, D: Digest, H: Hasher<Digest = D>>(
+fn read_digests<F: Family, C: Store, H: Hasher>(
     alloc: Global,
     store: &mut C,
     hasher: &mut StandardHasher<H>,
     start: u64,
     size: u64,
-) -> Result<Vec<D>, Error>
+) -> Result<Vec<H::Digest>, Error>
     requires start { start ≡ C.start store.old }
     requires order { start ≤ size }
     requires end { size ≤ C.end store.old }
     requires few { size ≤ 2 ^ 62 }
     ensures count { IfOk result (λ v. length v.items ≡ size - start) }
-    ensures digests { IfOk result (λ v. IfSome (C.items store.old) (λ xs. map D.bytes v.items ≡ digests_from H.hash F.shape start (take (size - start) xs))) }
+    ensures digests { IfOk result (λ v. IfSome (C.items store.old) (λ xs. map H.Digest.bytes v.items ≡ digests_from H.hash F.shape start (take (size - start) xs))) }
     ensures never { IfErr result (λ e. (e ≡ Error.Memory) ⊎ (e ≡ Error.Journal JournalError.Store)) }
     ensures kept { IsKept C.Store store.old store.new }
     ensures cause { IsCause (C.faults store.old) (C.faults store.new) (IsErrOf result (Error.Journal JournalError.Store)) }
@@ -492,16 +492,16 @@ fn read_digests<F: Family, C: Store, D: Digest, H: Hasher<Digest = D>>(
 }
 
 // Adds the leaves of items to a tree.
-fn add_items<F: Family, D: Digest, H: Hasher<Digest = D>>(
+fn add_items<F: Family, H: Hasher>(
     alloc: Global,
-    tree: &mut Mem<F, D>,
+    tree: &mut Mem<F, H::Digest>,
     hasher: &mut StandardHasher<H>,
     items: &[Vec<u8>],
 ) -> Result<(), AllocError>
     requires { tree.old.leaves + length items.now ≤ 2 ^ 62 }
     ensures start { OnOk result (tree.new.start ≡ tree.old.start) }
     ensures leaves { OnOk result (tree.new.leaves ≡ tree.old.leaves + length items.now) }
-    ensures stands { (list : List (List ℕ)) → Stands F.shape D.bytes H.hash tree.old (digests_from H.hash F.shape 0 list) → OnOk result (Stands F.shape D.bytes H.hash tree.new (digests_from H.hash F.shape 0 (list ++ map (λ v. v.items) items.now))) }
+    ensures stands { (list : List (List ℕ)) → Stands F.shape H.Digest.bytes H.hash tree.old (digests_from H.hash F.shape 0 list) → OnOk result (Stands F.shape H.Digest.bytes H.hash tree.new (digests_from H.hash F.shape 0 (list ++ map (λ v. v.items) items.now))) }
     ensures err { OnErr result (tree.new ≡ tree.old) }
 {
     let batch = grown_by_items(alloc, tree, hasher, items)?;
@@ -509,14 +509,14 @@ fn add_items<F: Family, D: Digest, H: Hasher<Digest = D>>(
 }
 
 // The leaves' digests of items from a location on.
-fn item_digests<F: Family, D: Digest, H: Hasher<Digest = D>>(
+fn item_digests<F: Family, H: Hasher>(
     alloc: Global,
     hasher: &mut StandardHasher<H>,
     from: u64,
     items: &[Vec<u8>],
-) -> Result<Vec<D>, AllocError>
+) -> Result<Vec<H::Digest>, AllocError>
     requires { from + length items.now ≤ 2 ^ 62 }
-    ensures { IfOk result (λ v. map D.bytes v.items ≡ digests_from H.hash F.shape from (map (λ v. v.items) items.now)) }
+    ensures { IfOk result (λ v. map H.Digest.bytes v.items ≡ digests_from H.hash F.shape from (map (λ v. v.items) items.now)) }
 {
     let mut made = Vec::with_capacity(alloc, items.len())?;
     for (index, item) in items.iter().enumerate() {
@@ -526,16 +526,16 @@ fn item_digests<F: Family, D: Digest, H: Hasher<Digest = D>>(
 }
 
 // Adds leaves with these digests to a tree.
-fn add_leaves<F: Family, D: Digest, H: Hasher<Digest = D>>(
+fn add_leaves<F: Family, H: Hasher>(
     alloc: Global,
-    tree: &mut Mem<F, D>,
+    tree: &mut Mem<F, H::Digest>,
     hasher: &mut StandardHasher<H>,
-    digests: &[D],
+    digests: &[H::Digest],
 ) -> Result<(), AllocError>
     requires { tree.old.leaves + length digests.now ≤ 2 ^ 62 }
     ensures start { OnOk result (tree.new.start ≡ tree.old.start) }
     ensures leaves { OnOk result (tree.new.leaves ≡ tree.old.leaves + length digests.now) }
-    ensures stands { (list : List (List ℕ)) → Stands F.shape D.bytes H.hash tree.old list → OnOk result (Stands F.shape D.bytes H.hash tree.new (list ++ map D.bytes digests.now)) }
+    ensures stands { (list : List (List ℕ)) → Stands F.shape H.Digest.bytes H.hash tree.old list → OnOk result (Stands F.shape H.Digest.bytes H.hash tree.new (list ++ map H.Digest.bytes digests.now)) }
     ensures err { OnErr result (tree.new ≡ tree.old) }
 {
     let batch = grown(alloc, tree, hasher, digests)?;
@@ -543,39 +543,39 @@ fn add_leaves<F: Family, D: Digest, H: Hasher<Digest = D>>(
 }
 
 // The batch that puts the leaves of items behind a tree's own.
-fn grown_by_items<F: Family, D: Digest, H: Hasher<Digest = D>>(
+fn grown_by_items<F: Family, H: Hasher>(
     alloc: Global,
-    tree: &Mem<F, D>,
+    tree: &Mem<F, H::Digest>,
     hasher: &mut StandardHasher<H>,
     items: &[Vec<u8>],
-) -> Result<MerkleizedBatch<F, D>, AllocError>
+) -> Result<MerkleizedBatch<F, H::Digest>, AllocError>
     requires { tree.now.leaves + length items.now ≤ 2 ^ 62 }
     ensures leaves { IfOk result (λ b. b.newest.tree.leaves ≡ tree.now.leaves + length items.now) }
     ensures start { IfOk result (λ b. b.newest.tree.start ≡ tree.now.leaves) }
     ensures older { IfOk result (λ b. b.older ≡ []) }
     ensures reach { IfOk result (λ b. Contains (stops b.newest.tree.leaves (all_layers b)) tree.now.leaves) }
-    ensures history { (list : List (List ℕ)) → Stands F.shape D.bytes H.hash tree.now (digests_from H.hash F.shape 0 list)
-        → IfOk result (λ b. IsHistory F.shape D.bytes H.hash (all_layers b) (digests_from H.hash F.shape 0 (list ++ map (λ v. v.items) items.now) ∷ digests_from H.hash F.shape 0 list ∷ [])) }
+    ensures history { (list : List (List ℕ)) → Stands F.shape H.Digest.bytes H.hash tree.now (digests_from H.hash F.shape 0 list)
+        → IfOk result (λ b. IsHistory F.shape H.Digest.bytes H.hash (all_layers b) (digests_from H.hash F.shape 0 (list ++ map (λ v. v.items) items.now) ∷ digests_from H.hash F.shape 0 list ∷ [])) }
 {
     let size = tree.leaves().get();
-    let digests = item_digests::<F, D, H>(alloc, hasher, size, items)?;
+    let digests = item_digests::<F, H>(alloc, hasher, size, items)?;
     grown(alloc, tree, hasher, &digests)
 }
 
 // The batch that puts leaves with these digests behind a tree's own.
-fn grown<F: Family, D: Digest, H: Hasher<Digest = D>>(
+fn grown<F: Family, H: Hasher>(
     alloc: Global,
-    tree: &Mem<F, D>,
+    tree: &Mem<F, H::Digest>,
     hasher: &mut StandardHasher<H>,
-    digests: &[D],
-) -> Result<MerkleizedBatch<F, D>, AllocError>
+    digests: &[H::Digest],
+) -> Result<MerkleizedBatch<F, H::Digest>, AllocError>
     requires { tree.now.leaves + length digests.now ≤ 2 ^ 62 }
     ensures leaves { IfOk result (λ b. b.newest.tree.leaves ≡ tree.now.leaves + length digests.now) }
     ensures start { IfOk result (λ b. b.newest.tree.start ≡ tree.now.leaves) }
     ensures older { IfOk result (λ b. b.older ≡ []) }
     ensures reach { IfOk result (λ b. Contains (stops b.newest.tree.leaves (all_layers b)) tree.now.leaves) }
-    ensures history { (list : List (List ℕ)) → Stands F.shape D.bytes H.hash tree.now list
-        → IfOk result (λ b. IsHistory F.shape D.bytes H.hash (all_layers b) ((list ++ map D.bytes digests.now) ∷ list ∷ [])) }
+    ensures history { (list : List (List ℕ)) → Stands F.shape H.Digest.bytes H.hash tree.now list
+        → IfOk result (λ b. IsHistory F.shape H.Digest.bytes H.hash (all_layers b) ((list ++ map H.Digest.bytes digests.now) ∷ list ∷ [])) }
 {
     let mut batch = tree.new_batch(alloc);
     batch.add_leaf_digests(digests)?;
@@ -583,21 +583,21 @@ fn grown<F: Family, D: Digest, H: Hasher<Digest = D>>(
 }
 
 // The batch that puts leaves with these digests behind the list of a batch on a tree.
-fn grown_behind<F: Family, D: Digest, H: Hasher<Digest = D>>(
+fn grown_behind<F: Family, H: Hasher>(
     alloc: Global,
-    tree: &Mem<F, D>,
+    tree: &Mem<F, H::Digest>,
     hasher: &mut StandardHasher<H>,
-    batch: &MerkleizedBatch<F, D>,
-    digests: &[D],
-) -> Result<MerkleizedBatch<F, D>, AllocError>
+    batch: &MerkleizedBatch<F, H::Digest>,
+    digests: &[H::Digest],
+) -> Result<MerkleizedBatch<F, H::Digest>, AllocError>
     requires room { batch.now.newest.tree.leaves + length digests.now ≤ 2 ^ 62 }
     requires reach { Contains (stops batch.now.newest.tree.leaves (all_layers batch.now)) tree.now.leaves }
     ensures leaves { IfOk result (λ b. b.newest.tree.leaves ≡ batch.now.newest.tree.leaves + length digests.now) }
     ensures start { IfOk result (λ b. b.newest.tree.start ≡ batch.now.newest.tree.leaves) }
     ensures older { IfOk result (λ b. b.older ≡ all_layers batch.now) }
-    ensures history { (list base : List (List ℕ)) (lists : List (List (List ℕ))) → Stands F.shape D.bytes H.hash tree.now list
-        → IsHistory F.shape D.bytes H.hash (all_layers batch.now) (base ∷ lists) → Contains (base ∷ lists) list
-        → IfOk result (λ b. IsHistory F.shape D.bytes H.hash (all_layers b) ((base ++ map D.bytes digests.now) ∷ base ∷ lists)) }
+    ensures history { (list base : List (List ℕ)) (lists : List (List (List ℕ))) → Stands F.shape H.Digest.bytes H.hash tree.now list
+        → IsHistory F.shape H.Digest.bytes H.hash (all_layers batch.now) (base ∷ lists) → Contains (base ∷ lists) list
+        → IfOk result (λ b. IsHistory F.shape H.Digest.bytes H.hash (all_layers b) ((base ++ map H.Digest.bytes digests.now) ∷ base ∷ lists)) }
 {
     let mut draft = batch.new_batch(alloc)?;
     draft.add_leaf_digests(digests)?;

@@ -25,7 +25,7 @@ pub returns-clause-history : goal.returns-clause-history
 returns-clause-history g c = λ list stands.
     let hash = g.H.Hasher.hash in
     let shape = g.F.Family.shape in
-    let bytes = g.D.Digest.bytes in
+    let bytes = g.H.Digest.Digest.bytes in
     let draft = c.add_leaf_digests.new.self in
     let added = c.args.digests.now in
     let start = c.args.tree.now.start in

@@ -7,7 +7,7 @@ pub returns-clause-history : goal.returns-clause-history
 returns-clause-history g c = λ list base lists stands history found.
     let hash = g.H.Hasher.hash in
     let shape = g.F.Family.shape in
-    let bytes = g.D.Digest.bytes in
+    let bytes = g.H.Digest.Digest.bytes in
     let draft = c.add_leaf_digests.new.self in
     let added = c.args.digests.now in
     let is = c.in_ok-add_leaf_digests.ensures.ok ∙ ap (λ (d : Draft _). record d { added = d.added ++ added }) c.in_ok-draft.ensures in

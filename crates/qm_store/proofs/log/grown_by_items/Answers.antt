@@ -7,20 +7,20 @@ use Rattle.qm_store.proofs.log.grown_by_items.Goals as goal
 pub grown-requires : goal.grown-requires
 grown-requires g c =
     let count : length c.deref.result.now ≡ length c.args.items.now =
-    ap length c.deref.ensures.value ∙ digests-count g.H.Hasher.hash g.F.Family.shape g.D.Digest.bytes (λ v. v.items) c.get-size.result c.in_ok-digests.digests.items c.args.items.now c.in_ok-digests.ensures in
+    ap length c.deref.ensures.value ∙ digests-count g.H.Hasher.hash g.F.Family.shape g.H.Digest.Digest.bytes (λ v. v.items) c.get-size.result c.in_ok-digests.digests.items c.args.items.now c.in_ok-digests.ensures in
     omega (arith, count, c.requires)
 
 pub returns-clause-leaves : goal.returns-clause-leaves
 returns-clause-leaves g c =
     let count : length c.deref.result.now ≡ length c.args.items.now =
-    ap length c.deref.ensures.value ∙ digests-count g.H.Hasher.hash g.F.Family.shape g.D.Digest.bytes (λ v. v.items) c.get-size.result c.in_ok-digests.digests.items c.args.items.now c.in_ok-digests.ensures in
+    ap length c.deref.ensures.value ∙ digests-count g.H.Hasher.hash g.F.Family.shape g.H.Digest.Digest.bytes (λ v. v.items) c.get-size.result c.in_ok-digests.digests.items c.args.items.now c.in_ok-digests.ensures in
     subst (λ n. IfOk c.grown.result (λ b. b.newest.tree.leaves ≡ c.args.tree.now.leaves + n)) count c.grown.ensures.leaves
 
 pub returns-clause-history : goal.returns-clause-history
 returns-clause-history g c = λ list stands.
     let shape = g.F.Family.shape in
     let hash = g.H.Hasher.hash in
-    let bytes = g.D.Digest.bytes in
+    let bytes = g.H.Digest.Digest.bytes in
     let before = digests_from hash shape 0 list in
     let more = map (λ v. v.items) c.args.items.now in
     let start : c.get-size.result ≡ 0 + length list = omega (arith, c.get-size.ensures, c.leaves.ensures, stands.count, length-digests_from hash shape 0 list) in

@@ -7,6 +7,6 @@ pub loop-index-preserved : goal.loop-index-preserved
 loop-index-preserved g c =
     let shape = g.F.Family.shape in
     let hash = g.H.Hasher.hash in
-    ap (map g.D.Digest.bytes) c.in_ok-push.ensures.items
-    ∙ rw add-one (listed-next hash shape g.D.Digest.bytes (λ v. v.items) c.args.from c.loop-index.index c.loop-index.made.items c.leaf_digest.result c.args.items.now c.index-items-index.result c.loop-index-test.true c.index-items-index.is
+    ap (map g.H.Digest.Digest.bytes) c.in_ok-push.ensures.items
+    ∙ rw add-one (listed-next hash shape g.H.Digest.Digest.bytes (λ v. v.items) c.args.from c.loop-index.index c.loop-index.made.items c.leaf_digest.result c.args.items.now c.index-items-index.result c.loop-index-test.true c.index-items-index.is
     c.loop-index.invariant (c.leaf_digest.ensures ∙ ap (leaf_digest hash (shape.position (leaf _))) c.deref.ensures.value))

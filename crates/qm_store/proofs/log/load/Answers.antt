@@ -9,7 +9,7 @@ pub returns-clause-stands : goal.returns-clause-stands
 returns-clause-stands g c = λ list long.
     let members = g.C.Store in
     let shape = g.F.Family.shape in
-    let bytes = g.D.Digest.bytes in
+    let bytes = g.H.Digest.Digest.bytes in
     let hash = g.H.Hasher.hash in
     let n = members.start c.args.store.now in
     let before = digests_from hash shape 0 (take n list) in

@@ -8,7 +8,7 @@ use Rattle.qm_store.proofs.log.read_digests.Goals as goal
 pub loop-at-preserved : goal.loop-at-preserved
 loop-at-preserved g c =
     let members = g.C.Store in
-    let bytes = g.D.Digest.bytes in
+    let bytes = g.H.Digest.Digest.bytes in
     let hash = g.H.Hasher.hash in
     let shape = g.F.Family.shape in
     let kept = c.loop-at.invariant.kept in

@@ -7,10 +7,10 @@ pub returns-in-Ok-append-clause-stands : goal.returns-in-Ok-append-clause-stands
 returns-in-Ok-append-clause-stands g c = λ list is.
     let members = g.C.Store in
     let shape = g.F.Family.shape in
-    let bytes = g.D.Digest.bytes in
+    let bytes = g.H.Digest.Digest.bytes in
     let hash = g.H.Hasher.hash in
-    let old : Log g.row.C.Denot g.row.D.Denot = record { store = c.self.inside.store; tree = c.self.inside.tree } in
-    let new : Log g.row.C.Denot g.row.D.Denot = record { store = c.append.new.self; tree = c.add_items.new.tree } in
+    let old : Log g.row.C.Denot g.row.H-Digest.Denot = record { store = c.self.inside.store; tree = c.self.inside.tree } in
+    let new : Log g.row.C.Denot g.row.H-Digest.Denot = record { store = c.append.new.self; tree = c.add_items.new.tree } in
     let was = subst (λ l. IsLog members shape bytes hash l list) (sym c.self.view_is) is in
     let last = subst (λ l. members.«end» l.store ≡ l.tree.leaves) (sym c.self.view_is) c.requires.last in
     log-grown members shape bytes hash old new list (map (λ v. v.items) c.args.items.now) was (c.in-Ok.ensures.stands list was.tree) c.in-Ok.ensures.start c.append.ensures.same_start

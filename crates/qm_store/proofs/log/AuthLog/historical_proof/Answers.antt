@@ -19,7 +19,7 @@ returns-clause-proof g c = λ list is.
     let shape = g.F.Family.shape in
     let hash = g.H.Hasher.hash in
     let leaves = digests_from hash shape 0 list in
-    c.in_ok-proof.ensures.value hash leaves (subst (λ log. Stands shape g.D.Digest.bytes hash log.tree leaves) (sym c.self.view_is) is.tree)
+    c.in_ok-proof.ensures.value hash leaves (subst (λ log. Stands shape g.H.Digest.Digest.bytes hash log.tree leaves) (sym c.self.view_is) is.tree)
     ∙ ap₂ (λ ds m. proof_of hash shape ds c.args.inactive c.args.start (c.args.start + m)) (digests_from-take hash shape 0 c.args.size list) (shown g c)
 
 pub returns-clause-items : goal.returns-clause-items

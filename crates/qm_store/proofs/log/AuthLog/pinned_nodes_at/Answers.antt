@@ -6,7 +6,7 @@ use Rattle.qm_store.proofs.log.AuthLog.pinned_nodes_at.Goals as goal
 pub returns-clause-value : goal.returns-clause-value
 returns-clause-value g c = λ list is.
     let leaves = digests_from g.H.Hasher.hash g.F.Family.shape 0 list in
-    c.kept_peaks.ensures.value g.H.Hasher.hash leaves (subst (λ log. Stands g.F.Family.shape g.D.Digest.bytes g.H.Hasher.hash log.tree leaves) (sym c.self.view_is) is.tree)
+    c.kept_peaks.ensures.value g.H.Hasher.hash leaves (subst (λ log. Stands g.F.Family.shape g.H.Digest.Digest.bytes g.H.Hasher.hash log.tree leaves) (sym c.self.view_is) is.tree)
 
 pub returns-clause-whole : goal.returns-clause-whole
 returns-clause-whole g c = λ from within.

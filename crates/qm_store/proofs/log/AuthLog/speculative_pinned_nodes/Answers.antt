@@ -6,10 +6,10 @@ use Rattle.qm_store.proofs.log.AuthLog.speculative_pinned_nodes.Goals as goal
 pub returns-clause-value : goal.returns-clause-value
 returns-clause-value g c = λ list new lists is history found.
     let leaves = digests_from g.H.Hasher.hash g.F.Family.shape 0 list in
-    c.peaks_over.ensures.value g.H.Hasher.hash leaves new lists (subst (λ log. Stands g.F.Family.shape g.D.Digest.bytes g.H.Hasher.hash log.tree leaves) (sym c.self.view_is) is.tree) history found
+    c.peaks_over.ensures.value g.H.Hasher.hash leaves new lists (subst (λ log. Stands g.F.Family.shape g.H.Digest.Digest.bytes g.H.Hasher.hash log.tree leaves) (sym c.self.view_is) is.tree) history found
 
 pub returns-clause-whole : goal.returns-clause-whole
 returns-clause-whole g c = λ from list new lists is history found.
     let leaves = digests_from g.H.Hasher.hash g.F.Family.shape 0 list in
     c.peaks_over.ensures.whole g.H.Hasher.hash leaves new lists (subst (λ log. log.tree.start ≤ c.args.at) (sym c.self.view_is) from)
-    (subst (λ log. Stands g.F.Family.shape g.D.Digest.bytes g.H.Hasher.hash log.tree leaves) (sym c.self.view_is) is.tree) history found
+    (subst (λ log. Stands g.F.Family.shape g.H.Digest.Digest.bytes g.H.Hasher.hash log.tree leaves) (sym c.self.view_is) is.tree) history found

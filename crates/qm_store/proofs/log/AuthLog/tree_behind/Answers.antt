@@ -9,20 +9,20 @@ use Rattle.qm_store.proofs.log.AuthLog.tree_behind.Goals as goal
 pub grown_behind-requires-clause-room : goal.grown_behind-requires-clause-room
 grown_behind-requires-clause-room g c =
     let count : length c.deref.result.now ≡ length c.args.items.now =
-    ap length c.deref.ensures.value ∙ digests-count g.H.Hasher.hash g.F.Family.shape g.D.Digest.bytes (λ v. v.items) c.get-size.result c.in_ok-digests.digests.items c.args.items.now c.in_ok-digests.ensures in
+    ap length c.deref.ensures.value ∙ digests-count g.H.Hasher.hash g.F.Family.shape g.H.Digest.Digest.bytes (λ v. v.items) c.get-size.result c.in_ok-digests.digests.items c.args.items.now c.in_ok-digests.ensures in
     omega (arith, count, c.requires.room)
 
 pub returns-clause-leaves : goal.returns-clause-leaves
 returns-clause-leaves g c =
     let count : length c.deref.result.now ≡ length c.args.items.now =
-    ap length c.deref.ensures.value ∙ digests-count g.H.Hasher.hash g.F.Family.shape g.D.Digest.bytes (λ v. v.items) c.get-size.result c.in_ok-digests.digests.items c.args.items.now c.in_ok-digests.ensures in
+    ap length c.deref.ensures.value ∙ digests-count g.H.Hasher.hash g.F.Family.shape g.H.Digest.Digest.bytes (λ v. v.items) c.get-size.result c.in_ok-digests.digests.items c.args.items.now c.in_ok-digests.ensures in
     subst (λ n. IfOk c.grown_behind.result (λ b. b.newest.tree.leaves ≡ c.args.batch.now.newest.tree.leaves + n)) count c.grown_behind.ensures.leaves
 
 pub returns-clause-history : goal.returns-clause-history
 returns-clause-history g c = λ list base lists is history found.
     let shape = g.F.Family.shape in
     let hash = g.H.Hasher.hash in
-    let bytes = g.D.Digest.bytes in
+    let bytes = g.H.Digest.Digest.bytes in
     let batch = c.args.batch.now in
     let own = digests_from hash shape 0 list in
     let before = digests_from hash shape 0 base in
