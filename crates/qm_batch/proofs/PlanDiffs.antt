@@ -14,6 +14,8 @@ use Rattle.qm_model.specs.Keys.{key_lt}
 use Rattle.std.proofs.lemmas.List.{drop_at, take_at}
 use Rattle.std.proofs.lemmas.List.Folds.{list_any-append}
 use Rattle.std.proofs.lemmas.Map.Text.{is_eq-slice_cmp}
+use Rattle.std.proofs.lemmas.Option.{same_Some}
+use Rattle.qm_base.specs.Parts.{is_update, key_of, value_of}
 use Rattle.qm_model.specs.Operations.{Bytes, Operation, update, delete, commit}
 use Rattle.qm_model.specs.Live.{Live, touches, touched}
 use Rattle.qm_model.proofs.Maps.{same_key}
@@ -119,11 +121,23 @@ pub put-answers : {X : Type 0} (f : X → Change) (old new : Bytes → Option X)
 put-answers f old new k key x change is same put q =
     ap (option_map f) (put q) ∙ map-put f (bytes_eq k q) x (old q) ∙ ap₂ (λ b c. cond (bytes_eq b q) (Some c) (option_map f (old q))) same is
 
+-- an operation with a key and a value is an update
+pub update-parts : (op : Operation) (k v : Bytes) → key_of op ≡ Some k → value_of op ≡ Some v → (n : Option Bytes) × (op ≡ update k v n)
+update-parts (update key value next) k v of_key of_value = (next, ap₂ (λ a b. update a b next) (same_Some key k of_key) (same_Some value v of_value))
+update-parts (delete key) k v of_key of_value = cc
+update-parts (commit m f) k v of_key of_value = cc
+
+-- and so is an update with a key
+pub update-of : (op : Operation) (k : Bytes) → is_update op ≡ true → key_of op ≡ Some k → (v : Bytes) × (n : Option Bytes) × (op ≡ update k v n)
+update-of (update key value next) k is of_key = (value, next, ap (λ a. update a value next) (same_Some key k of_key))
+update-of (delete key) k is of_key = cc
+update-of (commit m f) k is of_key = cc
+
 -- an update is noted
-pub noted-update : (base own : List Operation) (touch : Touch) (k v : Bytes) (old new : Bytes → Option Change) → touch.operation ≡ update k v None → IsFrom base touch →
+pub noted-update : (base own : List Operation) (touch : Touch) (k v : Bytes) (n : Option Bytes) (old new : Bytes → Option Change) → touch.operation ≡ update k v n → IsFrom base touch →
     ((q : Bytes) → new q ≡ cond (bytes_eq k q) (Some (record { now = Some (length (base ++ own), v); before = touch.before })) (old q)) → ((q : Bytes) → old q ≡ change_of base (base ++ own) q) →
     (q : Bytes) → new q ≡ change_of base ((base ++ own) ++ touch.operation ∷ []) q
-noted-update base own touch k v old new is from put so_far =
+noted-update base own touch k v n old new is from put so_far =
     noted-more base own touch from k (λ q. ap (touches q) is) old new (record { now = Some (length (base ++ own), v); before = touch.before }) (sym (ap (given_at (length (base ++ own))) is)) refl put so_far
 
 -- a delete is noted

@@ -11,15 +11,16 @@ use Rattle.std.specs.Option.{option_copied}
 use Rattle.std.specs.Slice.{IsItemAt}
 use Rattle.std.proofs.lemmas.List.{drop_more}
 use Rattle.std.proofs.lemmas.Option.{same_Some, slice_get_within, slice_get-map, slice_get_past, slice_get_read}
-use Rattle.qm_model.specs.Operations.{Bytes, Operation}
+use Rattle.qm_model.specs.Operations.{Bytes, Operation, update}
 use Rattle.qm_model.specs.Live.{Live, live, live_of}
 use Rattle.qm_model.specs.Writes.{Write, write_of, last_writes, unordered_writes}
+use Rattle.qm_model.proofs.Maps.{same_key}
 use Rattle.qm_index.specs.Buckets.{bucket_at}
-use Rattle.qm_batch.specs.Changes.{stands_at, update_at, said_by}
+use Rattle.qm_batch.specs.Changes.{place_in, stands_at, update_at, update_from, said_by}
 use Rattle.qm_batch.specs.Layers.{Layer, LeadThrough, IsBase}
 use Rattle.qm_batch.specs.Lent.{IsIndexed}
 use Rattle.qm_batch.specs.PlanViews.{keyed}
-use Rattle.qm_batch.specs.Touches.{is_there, live_said_at, IsStanding}
+use Rattle.qm_batch.specs.Touches.{is_there, live_update_at, moved_touch, IsMoveAt}
 use Rattle.qm_batch.proofs.Members.{first_or_later}
 use Rattle.qm_batch.proofs.PlanWalks.{none-past}
 use Rattle.qm_batch.proofs.PlanReads.{slice_get-front, slice_get-behind, update-here, front-none, front-touched, front-gone, front-live}
@@ -107,20 +108,21 @@ match-shown f (Some x) o at_base at_lent same h = subst (λ o. MatchOption o (at
 
 -- a location is in its bucket where the key of the update there stands there
 module _ (index_key : Bytes → ℕ) (entries : List (ℕ × List ℕ)) (layers : List Layer) (lent base : List Operation) (indexed : IsIndexed index_key entries lent) (from : IsBase layers lent base)
-    (key value : Bytes) (at : ℕ) (is : update_at base at ≡ Some (key, value)) where
-  within-lent : (said : Bytes × Bytes) → update_at lent at ≡ Some said → said ≡ (key, value)
+    (key value : Bytes) (next : Option Bytes) (at : ℕ) (is : update_at base at ≡ Some (update key value next)) where
+  within-lent : (said : Operation) → update_at lent at ≡ Some said → said ≡ update key value next
   within-lent said h =
       let more = begins layers base from.older lent from.steps from.among in
-      let place = update-here lent at said.0 said.1 h in
-      let front : slice_get base at ≡ slice_get lent at = ap (λ ops. slice_get ops at) more.1 ∙ slice_get-front lent more.0 at (slice_get_within lent at _ place.1) in
-      same_Some said (key, value) (sym h ∙ sym (ap (option_and_then said_by) front) ∙ is)
+      let place = update-here lent at said h in
+      let front : slice_get base at ≡ slice_get lent at = ap (λ ops. slice_get ops at) more.1 ∙ slice_get-front lent more.0 at (slice_get_within lent at said place) in
+      same_Some said (update key value next) (sym h ∙ sym (ap (option_and_then said_by) front) ∙ is)
 
   yes-there : Contains (bucket_at entries (index_key key)) at → is_there (stands_at lent key) at ≡ true
   yes-there h =
       let e = in-bucket index_key entries lent indexed key at h in
-      let stands : update_at lent at ≡ Some ((e.0).key, (e.0).value) = ap (update_at lent) (sym e.2) ∙ live-stands lent e.0 e.1 in
-      let same = within-lent ((e.0).key, (e.0).value) stands in
-      let own : live_of (live lent) key ≡ Some e.0 = ap (λ (p : Bytes × Bytes). live_of (live lent) p.0) (sym same) ∙ live-of_key lent e.0 e.1 in
+      let stands : update_at lent at ≡ Some (update_from e.0) = ap (update_at lent) (sym e.2) ∙ live-stands lent e.0 e.1 in
+      let same : update_from e.0 ≡ update key value next = within-lent (update_from e.0) stands in
+      let of_it : (e.0).key ≡ key = cc in
+      let own : live_of (live lent) key ≡ Some e.0 = ap (live_of (live lent)) (sym of_it) ∙ live-of_key lent e.0 e.1 in
       ap (λ o. is_there (option_map (λ (e : Live). (e.location, e.value)) o) at) own ∙ eq-eqb (e.0).location at e.2
 
   there-yes : is_there (stands_at lent key) at ≡ true → Contains (bucket_at entries (index_key key)) at
@@ -192,34 +194,34 @@ live-there base key at h = by (live_of (live base) key) h
     by (Some e) h = refl
 
 -- what is left of the update at a location of the base list
-module _ (base : List Operation) (ws : List Write) (at : ℕ) (within : at < length base) (found : Option (Bytes × Bytes)) (said : found ≡ update_at base at) where
+module _ (base : List Operation) (ws : List Write) (at : ℕ) (within : at < length base) (found : Option Operation) (said : found ≡ update_at base at) where
   abbrev all : List Operation
   all = base ++ unordered_writes base ws
 
-  pub standing-none : found ≡ None → IsStanding None base all at
-  standing-none none = record { said = front-none base (unordered_writes base ws) at within (sym none ∙ said); place = tt }
+  pub standing-none : found ≡ None → IsMoveAt None base all at
+  standing-none none = record { operation = front-none base (unordered_writes base ws) at within (sym none ∙ said); from = tt }
 
-  module _ (k v : Bytes) (is : found ≡ Some (k, v)) where
-    here : update_at base at ≡ Some (k, v)
+  module _ (k v : Bytes) (n : Option Bytes) (is : found ≡ Some (update k v n)) where
+    here : update_at base at ≡ Some (update k v n)
     here = sym said ∙ is
 
     -- its key is written
-    pub standing-written : is_some (write_of (last_writes ws) k) ≡ true → IsStanding None base all at
-    standing-written written = record { said = by (is_there (stands_at base k) at) refl; place = tt }
+    pub standing-written : is_some (write_of (last_writes ws) k) ≡ true → IsMoveAt None base all at
+    standing-written written = record { operation = by (is_there (stands_at base k) at) refl; from = tt }
       where
-        by : (t : Bool) → is_there (stands_at base k) at ≡ t → None ≡ live_said_at all at
-        by true there = front-touched base (unordered_writes base ws) at within k v here (touched-live base ws k (live-there base k at there) ∙ written)
-        by false gone = front-gone base (unordered_writes base ws) at within k v here gone
+        by : (t : Bool) → is_there (stands_at base k) at ≡ t → None ≡ live_update_at all at
+        by true there = front-touched base (unordered_writes base ws) at within k v n here (touched-live base ws k (live-there base k at there) ∙ written)
+        by false gone = front-gone base (unordered_writes base ws) at within k v n here gone
 
     -- its key stands elsewhere or nowhere
-    pub standing-gone : is_there (stands_at base k) at ≡ false → IsStanding None base all at
-    standing-gone gone = record { said = front-gone base (unordered_writes base ws) at within k v here gone; place = tt }
+    pub standing-gone : is_there (stands_at base k) at ≡ false → IsMoveAt None base all at
+    standing-gone gone = record { operation = front-gone base (unordered_writes base ws) at within k v n here gone; from = tt }
 
     -- it is live, and its key is not written
-    pub standing-live : is_some (write_of (last_writes ws) k) ≡ false → is_there (stands_at base k) at ≡ true → IsStanding (Some (k, v)) base all at
+    pub standing-live : is_some (write_of (last_writes ws) k) ≡ false → is_there (stands_at base k) at ≡ true → IsMoveAt (Some (moved_touch (at, update k v n))) base all at
     standing-live unwritten there = record {
-      said = front-live base (unordered_writes base ws) at within k v here there (touched-unwritten base ws k unwritten);
-      place = place-there (stands_at base k) at there;
+      operation = front-live base (unordered_writes base ws) at within k v n here there (touched-unwritten base ws k unwritten);
+      from = λ key hit. sym (ap (place_in base) (sym (same_key k key hit)) ∙ place-there (stands_at base k) at there);
     }
 
 -- the operation at a location of a layer

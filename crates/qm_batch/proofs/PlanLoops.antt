@@ -13,7 +13,7 @@ use Rattle.qm_model.specs.Operations.{Bytes, Operation}
 use Rattle.qm_model.specs.Live.{Live, live, live_of}
 use Rattle.qm_model.specs.Writes.{Write, put_write, placed, write_of, operation_of, create_of}
 use Rattle.qm_model.proofs.LastWrites.{equal_keys, Rising}
-use Rattle.qm_batch.specs.Changes.{stands_at, update_of, place_in}
+use Rattle.qm_batch.specs.Changes.{place_in}
 use Rattle.qm_batch.specs.PlanViews.{keyed, site_in}
 use Rattle.qm_batch.specs.Touches.{Touch, operations_of, rewrite_here, new_touch}
 use Rattle.qm_batch.proofs.PlanPlaces.{one-more, none-more, live-rises}
@@ -71,30 +71,6 @@ module _ {X : Type 0} (view : X → Write) where
       ap (map shown) put ∙ put-shown es (fold put_write [] (map view (take i xs))) k x so_far (key ∙ ap (λ z. (view z).key) (sym is))
       ∙ ap (λ z. map keyed (put_write (fold put_write [] (map view (take i xs))) (view z))) (is ∙ here)
       ∙ ap (map keyed) (sym (ap (fold put_write []) (map_more view xs i d within) ∙ fold-append put_write [] (map view (take i xs)) (view (get_or xs i d) ∷ [])))
-
--- where the key stands of which an update was found
-module _ {F W : Type 0} (said : F → ℕ × (Bytes × Bytes)) (place : F → ℕ) (same_place : (f : F) → (said f).0 ≡ place f) (key : W → Bytes) (base : List Operation) where
-  place-of : (o : Option F) (k : Bytes) → option_map said o ≡ update_of base k → option_map place o ≡ place_in base k
-  place-of o k h = first o ∙ ap (option_map (λ (p : ℕ × (Bytes × Bytes)). p.0)) h ∙ second (stands_at base k)
-    where
-      first : (o : Option F) → option_map place o ≡ option_map (λ (p : ℕ × (Bytes × Bytes)). p.0) (option_map said o)
-      first None = refl
-      first (Some f) = ap (λ n. Some n) (sym (same_place f))
-
-      second : (s : Option (ℕ × Bytes)) → option_map (λ (p : ℕ × (Bytes × Bytes)). p.0) (option_map (λ (p : ℕ × Bytes). (p.0, (k, p.1))) s) ≡ option_map (λ (p : ℕ × Bytes). p.0) s
-      second None = refl
-      second (Some p) = refl
-
-  pub found-place : (found : List (Option F)) (writes : List W) (i : ℕ) (d : W) → map (option_map said) found ≡ map (λ w. update_of base (key w)) writes → i < length writes → d ≡ get_or writes i d →
-      option_and_then (option_map place) (slice_get found i) ≡ place_in base (key d)
-  found-place found writes i d same within here =
-      by (slice_get found i)
-      (sym (slice_get-map (option_map said) found i) ∙ ap (λ l. slice_get l i) same ∙ slice_get-map (λ w. update_of base (key w)) writes i
-      ∙ ap (option_map (λ w. update_of base (key w))) (slice_get_read writes (length writes) i d refl within here))
-    where
-      by : (o : Option (Option F)) → option_map (option_map said) o ≡ Some (update_of base (key d)) → option_and_then (option_map place) o ≡ place_in base (key d)
-      by None h = cc
-      by (Some f) h = place-of f (key d) (same_Some (option_map said f) (update_of base (key d)) h)
 
 each-at : {X : Type 0} (P : X → Type 0) (xs : List X) (i : ℕ) (x : X) → Each P xs → slice_get xs i ≡ Some x → P x
 each-at P [] i x each is = cc

@@ -3,12 +3,13 @@ use Rattle.std.proofs.Common.{◌≡◌, ℕ, zero, suc, ◌+◌, ◌-◌, ◌�
 use Rattle.std.specs.Prelude.{slice_get, option_map, option_and_then}
 use Rattle.std.proofs.lemmas.List.{drop_more, drop_all, length-drop}
 use Rattle.std.proofs.lemmas.Option.{same_Some, slice_get_within, get_or_from_slice_get}
-use Rattle.qm_model.specs.Operations.{Bytes, Operation}
+use Rattle.qm_model.specs.Operations.{Bytes, Operation, update}
 use Rattle.qm_model.specs.Live.{Live, live_at}
 use Rattle.qm_model.specs.Writes.{Write}
 use Rattle.qm_model.specs.Walk.{Walked, ended, noted, visited, walk_from}
 use Rattle.qm_model.specs.Policies.{Policy, policies, proportional}
-use Rattle.qm_batch.specs.Touches.{live_said_at}
+use Rattle.qm_batch.specs.Changes.{update_from}
+use Rattle.qm_batch.specs.Touches.{live_update_at}
 
 -- a walk that goes on after these decisions
 abbrev pub resumed : List Write → Walked Policy → Walked Policy
@@ -40,10 +41,6 @@ none-past (x ∷ xs) (suc i) h = omega (arith, none-past xs i h)
 -- the operation at a place, before the others
 pub drop-here : {X : Type 0} (list : List X) (at : ℕ) (op : X) → slice_get list at ≡ Some op → drop at list ≡ op ∷ drop (at + 1) list
 drop-here list at op is = drop_more list at op (slice_get_within list at op is) ∙ ap (λ z. z ∷ drop (at + 1) list) (get_or_from_slice_get list at op op is)
-
--- what a live update says
-abbrev pub said : Live → Bytes × Bytes
-said e = (e.key, e.value)
 
 module _ (list : List Operation) (m : ℕ) (short : length list ≤ m) where
   -- the walk from a location on
@@ -80,41 +77,41 @@ module _ (list : List Operation) (m : ℕ) (short : length list ≤ m) where
       ∙ ap (noted u.key (Some u.value)) (at_next at e (suc s) within (omega arith))
 
   -- where nothing is live the walk goes on
-  pub walked-past : (at e : ℕ) (before : List Write) (all : Walked Policy) → 0 < e → at < length list → live_said_at list at ≡ None →
+  pub walked-past : (at e : ℕ) (before : List Write) (all : Walked Policy) → 0 < e → at < length list → live_update_at list at ≡ None →
       resumed before (left at e) ≡ all → resumed before (left (at + 1) e) ≡ all
   walked-past at zero before all some within none so_far = absurd (omega arith)
   walked-past at (suc e) before all some within none so_far = by m refl (slice_get list at) refl none
     where
-      by : (n : ℕ) → m ≡ n → (o : Option Operation) → slice_get list at ≡ o → option_and_then (λ op. option_map said (live_at at op (drop (at + 1) list))) o ≡ None → resumed before (left (at + 1) (suc e)) ≡ all
+      by : (n : ℕ) → m ≡ n → (o : Option Operation) → slice_get list at ≡ o → option_and_then (λ op. option_map update_from (live_at at op (drop (at + 1) list))) o ≡ None → resumed before (left (at + 1) (suc e)) ≡ all
       by zero is o place none = absurd (omega arith)
       by (suc s) is None place none = absurd (omega (arith, none-past list at place))
       by (suc s) is (Some op) place none = here (live_at at op (drop (at + 1) list)) refl none
         where
-          here : (u : Option Live) → live_at at op (drop (at + 1) list) ≡ u → option_map said u ≡ None → resumed before (left (at + 1) (suc e)) ≡ all
+          here : (u : Option Live) → live_at at op (drop (at + 1) list) ≡ u → option_map update_from u ≡ None → resumed before (left (at + 1) (suc e)) ≡ all
           here None live none = ap (resumed before) (sym (past op at e s is place live)) ∙ so_far
           here (Some u) live none = cc
 
   -- a live update is moved
-  pub walked-over : (at e : ℕ) (k v : Bytes) (before : List Write) (all : Walked Policy) → 0 < e → live_said_at list at ≡ Some (k, v) →
+  pub walked-over : (at e : ℕ) (k v : Bytes) (n : Option Bytes) (before : List Write) (all : Walked Policy) → 0 < e → live_update_at list at ≡ Some (update k v n) →
       resumed before (left at e) ≡ all → resumed (before ++ record { key = k; value = Some v } ∷ []) (left (at + 1) (e - 1)) ≡ all
-  walked-over at zero k v before all some one so_far = absurd (omega arith)
-  walked-over at (suc e) k v before all some one so_far = by m refl (slice_get list at) refl one
+  walked-over at zero k v n before all some one so_far = absurd (omega arith)
+  walked-over at (suc e) k v n before all some one so_far = by m refl (slice_get list at) refl one
     where
       less : suc e - 1 ≡ e
       less = omega arith
 
-      by : (n : ℕ) → m ≡ n → (o : Option Operation) → slice_get list at ≡ o → option_and_then (λ op. option_map said (live_at at op (drop (at + 1) list))) o ≡ Some (k, v) →
+      by : (s : ℕ) → m ≡ s → (o : Option Operation) → slice_get list at ≡ o → option_and_then (λ op. option_map update_from (live_at at op (drop (at + 1) list))) o ≡ Some (update k v n) →
           resumed (before ++ record { key = k; value = Some v } ∷ []) (left (at + 1) (suc e - 1)) ≡ all
-      by n is None place one = cc
+      by s is None place one = cc
       by zero is (Some op) place one = absurd (omega (arith, slice_get_within list at op place))
       by (suc s) is (Some op) place one = here (live_at at op (drop (at + 1) list)) refl one
         where
-          here : (u : Option Live) → live_at at op (drop (at + 1) list) ≡ u → option_map said u ≡ Some (k, v) → resumed (before ++ record { key = k; value = Some v } ∷ []) (left (at + 1) (suc e - 1)) ≡ all
+          here : (u : Option Live) → live_at at op (drop (at + 1) list) ≡ u → option_map update_from u ≡ Some (update k v n) → resumed (before ++ record { key = k; value = Some v } ∷ []) (left (at + 1) (suc e - 1)) ≡ all
           here None live one = cc
           here (Some u) live one =
-              let pair : said u ≡ (k, v) = same_Some (said u) (k, v) one in
-              let key : u.key ≡ k = ap (λ (p : Bytes × Bytes). p.0) pair in
-              let value : u.value ≡ v = ap (λ (p : Bytes × Bytes). p.1) pair in
+              let same : update_from u ≡ update k v n = same_Some (update_from u) (update k v n) one in
+              let key : u.key ≡ k = cc in
+              let value : u.value ≡ v = cc in
               let next = left (at + 1) e in
               ap (λ n. resumed (before ++ record { key = k; value = Some v } ∷ []) (left (at + 1) n)) less
               ∙ ap (λ ds. record next { decisions = ds }) (append_assoc before (record { key = k; value = Some v } ∷ []) next.decisions)

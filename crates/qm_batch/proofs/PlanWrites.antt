@@ -15,7 +15,7 @@ use Rattle.qm_model.specs.Writes.{Write, write_of, last_writes, operation_of, re
 use Rattle.qm_model.proofs.LastWrites.{bytes_same, write_of-key, Rising, last_writes-Rising}
 use Rattle.qm_model.proofs.Maps.{same_key, value_of-append}
 use Rattle.qm_batch.specs.Changes.{update_at}
-use Rattle.qm_batch.proofs.PlanLists.{live-append}
+use Rattle.qm_batch.proofs.Appends.{live-append}
 use Rattle.qm_batch.proofs.PlanReads.{unless_touched}
 use Rattle.qm_batch.proofs.Searches.{apart-above}
 use Rattle.qm_batch.proofs.Standing.{AreApart, live-apart, live-of_key}
@@ -200,7 +200,7 @@ live-once i (commit m f ∷ rest) once =
 -- and each of its updates is live
 pub said-once : (ops : List Operation) (i : ℕ) → Once ops → option_and_then (unless_touched (drop (i + 1) ops)) (update_at ops i) ≡ update_at ops i
 said-once [] i once = refl
-said-once (update k v n ∷ rest) zero once = ap (λ t. if t then None else Some (k, v)) (once.0 k (bytes_same k))
+said-once (update k v n ∷ rest) zero once = ap (λ t. if t then None else Some (update k v n)) (once.0 k (bytes_same k))
 said-once (delete k ∷ rest) zero once = refl
 said-once (commit m f ∷ rest) zero once = refl
 said-once (op ∷ rest) (suc i) once =

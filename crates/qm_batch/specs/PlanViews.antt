@@ -1,14 +1,17 @@
 -- The program's parts of a plan over byte strings.
-use Rattle.std.specs.Prelude.{◌≡◌, ℕ, List, ◌++◌, length, map, All, Option, option_map}
+use Rattle.std.specs.Prelude.{◌≡◌, ℕ, Bool, false, List, ◌++◌, length, map, All, Option, None, option_map}
 use Rattle.std.specs.BTreeMap.{BTreeMap, get_by}
 use Rattle.std.specs.Cmp.Lexicographic.{slice_cmp}
 use Rattle.std.specs.Ordering.{nat_cmp}
 use denote.Ref.{Bor}
-use Rattle.qm_model.specs.Operations.{Bytes, Operation}
+use Rattle.qm_model.specs.Operations.{Bytes, Operation, update}
+use Rattle.qm_model.specs.Forms.{Form}
 use Rattle.qm_model.specs.Live.{live}
 use Rattle.qm_model.specs.Step.{committed}
 use Rattle.qm_model.specs.Writes.{Write}
-use Rattle.qm_base.specs.Views.{unordered_view}
+use Rattle.qm_base.specs.Views.{operation_view}
+use Rattle.qm_base.specs.declared.operation.Operation as operation
+use Rattle.qm_base.specs.declared.update.Unordered.{Unordered}
 use Rattle.qm_batch.specs.declared.write.Write as written
 use Rattle.qm_batch.specs.declared.plan.touch.Touch as declared
 use Rattle.qm_batch.specs.declared.plan.writes.Site as site
@@ -39,15 +42,24 @@ pub record AreOwn (touches : List Touch) (keys end : ℕ) (base : List Operation
   pub count : keys ≡ length (live (base ++ operations_of touches))
   pub list : (meta : Option Bytes) → committed (base ++ operations_of touches) end meta ≡ stepped base ws meta
 
-module _ {K V : Type 0} (key : K → Bytes) (value : V → Bytes) where
+module _ {U K V : Type 0} (update_view : U → Operation) (key : K → Bytes) (value : V → Bytes) where
   -- an operation of a step
-  abbrev pub touch_view : {F : Type 0} → declared.Touch F K V → Touch
-  touch_view t = record { operation = unordered_view key value t.operation; before = t.before }
+  abbrev pub touch_view : {F : Type 0} → declared.Touch F U K V → Touch
+  touch_view t = record { operation = operation_view update_view key value t.operation; before = t.before }
 
   -- a list of them
-  abbrev pub touch_views : {F : Type 0} → List (declared.Touch F K V) → List Touch
+  abbrev pub touch_views : {F : Type 0} → List (declared.Touch F U K V) → List Touch
   touch_views touches = map touch_view touches
 
+-- how operations of an unordered database are spelled
+abbrev pub unordered_form : (Bytes → Bool) → (Bytes → Bool) → Option (ℕ × ℕ) → Form
+unordered_form is_key is_value sizes = record { ordered = false; sizes = sizes; is_key = is_key; is_value = is_value }
+
+-- operations by location
+abbrev pub located_views : {O : Type 0} → (O → Operation) → List (ℕ × O) → List (ℕ × Operation)
+located_views view entries = map (λ e. (e.0, view e.1)) entries
+
+module _ {K V : Type 0} (key : K → Bytes) (value : V → Bytes) where
   -- an entry of the last writes by key
   abbrev pub last_view : Bor Bytes × Bor (written.Write K V) → Bytes × Write
   last_view e = (e.0.now, write_view key value e.1.now)
@@ -55,3 +67,19 @@ module _ {K V : Type 0} (key : K → Bytes) (value : V → Bytes) where
   -- a write with where its key stands
   abbrev pub site_view : site.Site K V → Write × Option ℕ
   site_view s = (write_view key value s.write.now, s.at)
+
+module _ {K E V : Type 0} (key : K → Bytes) (value : V → Bytes) where
+  -- an update that names no next key
+  abbrev pub unordered_update : Unordered K E V → Operation
+  unordered_update u = update (key u.0) (value u.1) None
+
+  -- an operation of an unordered database
+  abbrev pub unordered_view : {F : Type 0} → operation.Operation F (Unordered K E V) K V → Operation
+  unordered_view op = operation_view unordered_update key value op
+
+  -- an operation of a step of one
+  abbrev pub unordered_touch : {F : Type 0} → declared.Touch F (Unordered K E V) K V → Touch
+  unordered_touch t = touch_view unordered_update key value t
+
+  abbrev pub unordered_touches : {F : Type 0} → List (declared.Touch F (Unordered K E V) K V) → List Touch
+  unordered_touches touches = map unordered_touch touches

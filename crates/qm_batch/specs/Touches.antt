@@ -1,25 +1,20 @@
 -- The own operations of a step, and the live updates that it goes by.
 use Rattle.std.specs.Prelude.{◌≡◌, ℕ, ◌+◌, ◌==◌, Bool, true, false, IfSome, List, ◌++◌, map, filter_map, drop, slice_get, All, Option, Some, None, option_map, option_and_then}
-use Rattle.qm_model.specs.Operations.{Bytes, Operation, update}
+use Rattle.qm_model.specs.Operations.{Bytes, Operation}
 use Rattle.qm_model.specs.Live.{Live, live, live_at, touches}
 use Rattle.qm_model.specs.Policies.{Policy}
 use Rattle.qm_model.specs.Walk.{Walked}
 use Rattle.qm_model.specs.Writes.{Write, operation_of, rewrite_of, create_of}
-use Rattle.qm_batch.specs.Changes.{place_in}
+use Rattle.qm_batch.specs.Changes.{place_in, update_from}
 
--- key and value of the live update at a location
-abbrev pub live_said_at : List Operation → ℕ → Option (Bytes × Bytes)
-live_said_at list at = option_and_then (λ op. option_map (λ e. (e.key, e.value)) (live_at at op (drop (at + 1) list))) (slice_get list at)
+-- the live update at a location
+abbrev pub live_update_at : List Operation → ℕ → Option Operation
+live_update_at list at = option_and_then (λ op. option_map update_from (live_at at op (drop (at + 1) list))) (slice_get list at)
 
 -- whether a key stands at this location
 abbrev pub is_there : Option (ℕ × Bytes) → ℕ → Bool
 is_there None at = false
 is_there (Some p) at = p.0 == at
-
--- what was found is the live update at a location of a list, and its key stands there in the base list
-pub record IsStanding (found : Option (Bytes × Bytes)) (base list : List Operation) (at : ℕ) : Type 0 where
-  pub said : found ≡ live_said_at list at
-  pub place : IfSome found (λ p. place_in base p.0 ≡ Some at)
 
 -- an operation of a step, and where its key's live update stood before
 pub record Touch : Type 0 where
@@ -35,7 +30,7 @@ IsFrom base t = (key : Bytes) → touches key t.operation ≡ true → t.before 
 
 -- this moves the live update at a location of a list, where one is there
 pub record IsMoveAt (moved : Option Touch) (base list : List Operation) (at : ℕ) : Type 0 where
-  pub operation : option_map (λ t. t.operation) moved ≡ option_map (λ p. update p.0 p.1 None) (live_said_at list at)
+  pub operation : option_map (λ t. t.operation) moved ≡ live_update_at list at
   pub from : IfSome moved (IsFrom base)
 
 -- what writes do to a live update, with its location

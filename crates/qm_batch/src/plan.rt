@@ -2,13 +2,13 @@
 
 ghost use Rattle.std.specs.Prelude.{◌≡◌, ◌≢◌, ◌≤◌, ◌^◌, ◌++◌, ◌+◌, ◌-◌, ◌==◌, ℕ, List, length, map, count_by, option_map, is_some, All, IfSome, IfOk, IfErr, OnOk, if◌then◌else◌};
 ghost use Rattle.qm_base.specs.Parts as parts;
-ghost use Rattle.qm_base.specs.Views.{unordered_view};
+ghost use Rattle.qm_base.specs.Views.{operation_view};
 ghost use Rattle.qm_model.specs.Live as lives;
 ghost use Rattle.qm_model.specs.Operations as model;
 ghost use Rattle.qm_model.specs.Step.{committed};
 ghost use Rattle.qm_batch.specs.Layers.{IsBase};
 ghost use Rattle.qm_batch.specs.Lent.{IsLent, IsRead, IsReadError, NoneBelow};
-ghost use Rattle.qm_batch.specs.PlanViews.{touch_views, AreOwn};
+ghost use Rattle.qm_batch.specs.PlanViews.{touch_views, unordered_touches, AreOwn};
 ghost use Rattle.qm_batch.specs.Touches.{IsFrom, operations_of};
 ghost use Rattle.qm_batch.specs.Views.{write_view, IsPlan, stepped};
 
@@ -23,8 +23,8 @@ use self::walk::walk_from;
 use self::writes::{find_sites, last_writes, written};
 use crate::layer::Layer;
 use crate::write::Write;
-use qm_base::update::Unordered;
-use qm_base::{Digest, Error, Hasher, JournalError, Key, Location, Operation, VariableValue};
+use qm_base::update::{Unordered, Update};
+use qm_base::{ByteString, Error, Hasher, JournalError, Location, Operation, ValueEncoding};
 use qm_chain::Diff;
 use qm_merkle::Family;
 use qm_store::{AuthLog, Store};
@@ -34,37 +34,36 @@ use std::rc::Rc;
 
 /// What a batch makes of its base list.
 #[derive(Drop)]
-pub struct Plan<F, K: Key, V: VariableValue> {
+pub struct Plan<F, U: Update> {
     /// What stands behind the base list.
-    pub operations: Vec<Operation<F, Unordered<K, V>>>,
+    pub operations: Vec<Operation<F, U>>,
     /// What the operations do to keys.
-    pub diff: Diff<F, K, V>,
+    pub diff: Diff<F, U::Key, U::Value>,
     /// The floor of the list with them.
     pub floor: Location<F>,
     /// How many keys are live in it.
     pub live: u64,
 }
 
-impl<F, K: Key, V: VariableValue> Model for Plan<F, K, V> {
-    ghost use Rattle.std.specs.Prelude.{map};
-    ghost use Rattle.qm_base.specs.Views.{unordered_view};
+impl<F, U: Update> Model for Plan<F, U> {
+    ghost use Rattle.qm_base.specs.Views.{operation_views};
     ghost use Rattle.qm_batch.specs.Views.{Plan, changes_view};
 
     ghost Value = { Plan };
 
-    ghost view = { λ p. record { operations = map (unordered_view K.bytes V.bytes) p.operations.items; changes = changes_view K.bytes V.bytes p.diff; floor = p.floor; live = p.live } };
+    ghost view = { λ p. record { operations = operation_views U.view U.Key.bytes U.Value.bytes p.operations.items; changes = changes_view U.Key.bytes U.Value.bytes p.diff; floor = p.floor; live = p.live } };
 }
 
 /// The own operations of a step without its commit, how many keys they leave live, and where the walk ended.
 #[derive(Drop)]
-struct Own<F, K: Key, V: VariableValue> {
-    touches: Vec<Touch<F, K, V>>,
+struct Own<F, U: Update> {
+    touches: Vec<Touch<F, U>>,
     live: u64,
     floor: u64,
 }
 
 // How many of the operations are of keys that stood in the base list.
-fn stood<F, K: Key, V: VariableValue>(touches: &[Touch<F, K, V>]) -> usize
+fn stood<F, U: Update>(touches: &[Touch<F, U>]) -> usize
     ensures count { result ≡ count_by (λ t. is_some t.before) touches.now }
     ensures bound { result ≤ length touches.now }
 {
@@ -77,21 +76,14 @@ fn stood<F, K: Key, V: VariableValue>(touches: &[Touch<F, K, V>]) -> usize
     count
 }
 
-// Whether the operation is an update.
-fn is_update<F, K: Key, V: VariableValue>(operation: &Operation<F, Unordered<K, V>>) -> bool
-    ensures { result ≡ parts.is_update (unordered_view K.bytes V.bytes operation.now) }
-{
-    matches!(operation, Operation::Update(_))
-}
-
 // How many of the operations are updates.
-fn updated<F, K: Key, V: VariableValue>(touches: &[Touch<F, K, V>]) -> usize
-    ensures count { result ≡ count_by (λ t. parts.is_update (unordered_view K.bytes V.bytes t.operation)) touches.now }
+fn updated<F, U: Update>(touches: &[Touch<F, U>]) -> usize
+    ensures count { result ≡ count_by (λ t. parts.is_update (operation_view U.view U.Key.bytes U.Value.bytes t.operation)) touches.now }
     ensures bound { result ≤ length touches.now }
 {
     let mut count = 0;
     for touch in touches {
-        if is_update(&touch.operation) {
+        if touch.operation.is_update() {
             count += 1;
         }
     }
@@ -99,18 +91,18 @@ fn updated<F, K: Key, V: VariableValue>(touches: &[Touch<F, K, V>]) -> usize
 }
 
 // How many keys are live behind the operations of writes, where so many were live before them.
-fn live_behind<F, K: Key, V: VariableValue>(touches: &[Touch<F, K, V>], live: u64) -> u64
+fn live_behind<F, U: Update>(touches: &[Touch<F, U>], live: u64) -> u64
     requires { live ≤ 2 ^ 62 }
-    ensures value { result ≡ live - count_by (λ t. is_some t.before) touches.now + count_by (λ t. parts.is_update (unordered_view K.bytes V.bytes t.operation)) touches.now }
+    ensures value { result ≡ live - count_by (λ t. is_some t.before) touches.now + count_by (λ t. parts.is_update (operation_view U.view U.Key.bytes U.Value.bytes t.operation)) touches.now }
     ensures bound { result ≤ live + length touches.now }
 {
     live.saturating_sub(stood(touches) as u64) + updated(touches) as u64
 }
 
 // Moves the second list to the end of the first.
-fn append<F, K: Key, V: VariableValue>(
-    touches: &mut Vec<Touch<F, K, V>>,
-    more: Vec<Touch<F, K, V>>,
+fn append<F, U: Update>(
+    touches: &mut Vec<Touch<F, U>>,
+    more: Vec<Touch<F, U>>,
 ) -> Result<(), AllocError>
     ensures { OnOk result (touches.new.items ≡ touches.old.items ++ more.items) }
 {
@@ -127,29 +119,28 @@ fn own_operations<
     F: Family,
     I: qm_index::Unordered<Value = Location<F>>,
     C: Store,
-    D: Digest,
-    H: Hasher<Digest = D> + Drop,
-    K: Key,
-    V: VariableValue,
+    H: Hasher + Drop,
+    K: ByteString,
+    V: ValueEncoding<K>,
 >(
     alloc: Global,
     index: &I,
-    log: &mut AuthLog<F, C, D, H>,
+    log: &mut AuthLog<F, C, H>,
     layers: &[Rc<Layer<F, Unordered<K, V>>>],
     size: u64,
     floor: u64,
     live: u64,
-    writes: &[Write<K, V>],
-) -> Result<Own<F, K, V>, Error>
+    writes: &[Write<K, V::Value>],
+) -> Result<Own<F, Unordered<K, V>>, Error>
     requires size { size ≤ 2 ^ 62 }
     requires live { live ≤ size }
-    ensures own { (lent base : List model.Operation) → IsLent C.Store F.shape D.bytes H.hash I.index_key (I.entries index.now) log.old lent → IsBase (map (λ l. l.value) layers.now) lent base
+    ensures own { (lent base : List model.Operation) → IsLent C.Store F.shape H.Digest.bytes H.hash ⟦<Unordered<K, V> as Update>⟧.form I.index_key (I.entries index.now) log.old lent → IsBase (map (λ l. l.value) layers.now) lent base
         → size ≡ length base → floor ≡ lives.floor base → live ≡ length (lives.live base)
-        → IfSome (C.items log.old.store) (λ _. IfOk result (λ own. AreOwn (touch_views K.bytes V.bytes own.touches.items) own.live own.floor base (map (write_view K.bytes V.bytes) writes.now))) }
+        → IfSome (C.items log.old.store) (λ _. IfOk result (λ own. AreOwn (unordered_touches K.bytes V.Value.bytes own.touches.items) own.live own.floor base (map (write_view K.bytes V.Value.bytes) writes.now))) }
     ensures count { IfOk result (λ own. own.live ≤ size + length own.touches.items) }
-    ensures read { IsRead C.Store F.shape D.bytes H.hash log.old log.new }
+    ensures read { IsRead C.Store F.shape H.Digest.bytes H.hash log.old log.new }
     ensures error { IfErr result (IsReadError C.Store log.old log.new) }
-    ensures whole { (lent : List model.Operation) → IsLent C.Store F.shape D.bytes H.hash I.index_key (I.entries index.now) log.old lent → NoneBelow log.old.tree.start lent
+    ensures whole { (lent : List model.Operation) → IsLent C.Store F.shape H.Digest.bytes H.hash ⟦<Unordered<K, V> as Update>⟧.form I.index_key (I.entries index.now) log.old lent → NoneBelow log.old.tree.start lent
         → log.old.tree.start ≤ floor → IfErr result (λ e. (n : ℕ) → e ≢ Error.Journal (JournalError.ItemPruned n)) }
 {
     let last = last_writes(alloc, writes)?;
@@ -177,10 +168,10 @@ fn commit_floor(live: u64, at: u64, end: u64) -> u64
 }
 
 // The operations alone.
-fn operations_in<F, K: Key, V: VariableValue>(
+fn operations_in<F, U: Update>(
     alloc: Global,
-    touches: Vec<Touch<F, K, V>>,
-) -> Result<Vec<Operation<F, Unordered<K, V>>>, AllocError>
+    touches: Vec<Touch<F, U>>,
+) -> Result<Vec<Operation<F, U>>, AllocError>
     ensures { IfOk result (λ operations. operations.items ≡ map (λ t. t.operation) touches.items) }
 {
     let mut operations = Vec::new(alloc);
@@ -191,18 +182,18 @@ fn operations_in<F, K: Key, V: VariableValue>(
 }
 
 // The plan of own operations, with a commit behind them.
-fn planned<F, K: Key, V: VariableValue>(
+fn planned<F, U: Update>(
     alloc: Global,
     size: u64,
-    own: Own<F, K, V>,
-    metadata: Option<V>,
-) -> Result<Plan<F, K, V>, AllocError>
+    own: Own<F, U>,
+    metadata: Option<U::Value>,
+) -> Result<Plan<F, U>, AllocError>
     requires { size ≤ 2 ^ 62 }
     ensures count { IfOk result (λ plan. length plan.operations ≡ length own.touches.items + 1) }
     ensures live { IfOk result (λ plan. plan.live ≡ own.live) }
-    ensures plan { IfOk result (λ plan. (base : List model.Operation) → size ≡ length base → All (IsFrom base) (touch_views K.bytes V.bytes own.touches.items)
-        → own.live ≡ length (lives.live (base ++ operations_of (touch_views K.bytes V.bytes own.touches.items)))
-        → IsPlan plan base (committed (base ++ operations_of (touch_views K.bytes V.bytes own.touches.items)) own.floor (option_map V.bytes metadata))) }
+    ensures plan { IfOk result (λ plan. (base : List model.Operation) → size ≡ length base → All (IsFrom base) (touch_views U.view U.Key.bytes U.Value.bytes own.touches.items)
+        → own.live ≡ length (lives.live (base ++ operations_of (touch_views U.view U.Key.bytes U.Value.bytes own.touches.items)))
+        → IsPlan plan base (committed (base ++ operations_of (touch_views U.view U.Key.bytes U.Value.bytes own.touches.items)) own.floor (option_map U.Value.bytes metadata))) }
 {
     let diff = diff_of_touches(alloc, size, &own.touches)?;
     let floor = commit_floor(own.live, size + own.touches.len() as u64, own.floor);
@@ -225,30 +216,29 @@ pub fn plain<
     F: Family,
     I: qm_index::Unordered<Value = Location<F>>,
     C: Store,
-    D: Digest,
-    H: Hasher<Digest = D> + Drop,
-    K: Key,
-    V: VariableValue,
+    H: Hasher + Drop,
+    K: ByteString,
+    V: ValueEncoding<K>,
 >(
     alloc: Global,
     index: &I,
-    log: &mut AuthLog<F, C, D, H>,
+    log: &mut AuthLog<F, C, H>,
     layers: &[Rc<Layer<F, Unordered<K, V>>>],
     size: u64,
     floor: Location<F>,
     live: u64,
-    writes: &[Write<K, V>],
-    metadata: Option<V>,
-) -> Result<Plan<F, K, V>, Error>
+    writes: &[Write<K, V::Value>],
+    metadata: Option<V::Value>,
+) -> Result<Plan<F, Unordered<K, V>>, Error>
     requires size { size ≤ 2 ^ 62 }
     requires live { live ≤ size }
-    ensures plan { (lent base : List model.Operation) → IsLent C.Store F.shape D.bytes H.hash I.index_key (I.entries index.now) log.old lent → IsBase (map (λ l. l.value) layers.now) lent base
+    ensures plan { (lent base : List model.Operation) → IsLent C.Store F.shape H.Digest.bytes H.hash ⟦<Unordered<K, V> as Update>⟧.form I.index_key (I.entries index.now) log.old lent → IsBase (map (λ l. l.value) layers.now) lent base
         → size ≡ length base → floor ≡ lives.floor base → live ≡ length (lives.live base)
-        → IfSome (C.items log.old.store) (λ _. IfOk result (λ plan. IsPlan plan base (stepped base (map (write_view K.bytes V.bytes) writes.now) (option_map V.bytes metadata)))) }
+        → IfSome (C.items log.old.store) (λ _. IfOk result (λ plan. IsPlan plan base (stepped base (map (write_view K.bytes V.Value.bytes) writes.now) (option_map V.Value.bytes metadata)))) }
     ensures live { IfOk result (λ plan. plan.live ≤ size + length plan.operations) }
-    ensures read { IsRead C.Store F.shape D.bytes H.hash log.old log.new }
+    ensures read { IsRead C.Store F.shape H.Digest.bytes H.hash log.old log.new }
     ensures error { IfErr result (IsReadError C.Store log.old log.new) }
-    ensures whole { (lent : List model.Operation) → IsLent C.Store F.shape D.bytes H.hash I.index_key (I.entries index.now) log.old lent → NoneBelow log.old.tree.start lent
+    ensures whole { (lent : List model.Operation) → IsLent C.Store F.shape H.Digest.bytes H.hash ⟦<Unordered<K, V> as Update>⟧.form I.index_key (I.entries index.now) log.old lent → NoneBelow log.old.tree.start lent
         → log.old.tree.start ≤ floor → IfErr result (λ e. (n : ℕ) → e ≢ Error.Journal (JournalError.ItemPruned n)) }
 {
     match own_operations(alloc, index, log, layers, size, floor.get(), live, writes) {

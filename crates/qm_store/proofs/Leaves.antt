@@ -5,7 +5,8 @@ use Rattle.std.specs.List.{concat}
 use Rattle.std.proofs.Math.Seq.{take-append_seam, drop-append_seam}
 use Rattle.std.proofs.lemmas.List.{map-append, take-append-drop, length-take-le, length-map, take-map}
 use Rattle.std.proofs.lemmas.List.Folds.{concat-append}
-use Rattle.qm_model.specs.Operations.{Bytes, Operation, spelling}
+use Rattle.qm_model.specs.Operations.{Bytes, Operation}
+use Rattle.qm_model.specs.Forms.{Form, spelling}
 use Rattle.qm_model.specs.Trees.{Shape, leaf, leaf_digest, leaves_from}
 use Rattle.qm_store.specs.Log.{digests_from}
 
@@ -36,9 +37,9 @@ slice_get-mapped value (y ∷ xs) (suc k) x lt is = slice_get-mapped value xs k 
 
 module _ (hash : Bytes → Bytes) (shape : Shape) where
   -- a list of operations has the leaves of its spellings
-  pub leaves-spelled : (i : ℕ) (ops : List Operation) → leaves_from hash shape i ops ≡ digests_from hash shape i (map spelling ops)
-  leaves-spelled i [] = refl
-  leaves-spelled i (op ∷ rest) = ap (λ ds. leaf_digest hash (shape.position (leaf i)) (spelling op) ∷ ds) (leaves-spelled (suc i) rest)
+  pub leaves-spelled : (form : Form) (i : ℕ) (ops : List Operation) → leaves_from hash shape form i ops ≡ digests_from hash shape i (map (spelling form) ops)
+  leaves-spelled form i [] = refl
+  leaves-spelled form i (op ∷ rest) = ap (λ ds. leaf_digest hash (shape.position (leaf i)) (spelling form op) ∷ ds) (leaves-spelled form (suc i) rest)
 
   pub length-digests_from : (i : ℕ) (items : List Bytes) → length (digests_from hash shape i items) ≡ length items
   length-digests_from i [] = refl

@@ -1,6 +1,6 @@
 //! What the own operations of a step do to keys.
 
-ghost use Rattle.std.specs.Prelude.{◌≡◌, ◌≤◌, ◌<◌, ◌^◌, ◌++◌, ◌∷◌, [], ℕ, List, length, map, All, IfOk, OnOk};
+ghost use Rattle.std.specs.Prelude.{◌≡◌, ◌≤◌, ◌^◌, ◌++◌, ◌∷◌, [], List, length, map, true, All, IfOk, OnOk};
 ghost use Rattle.qm_model.specs.Operations as model;
 ghost use Rattle.qm_batch.specs.Changes.{AreChanges};
 ghost use Rattle.qm_batch.specs.PlanViews.{touch_view, touch_views, noted_view, IsNoted};
@@ -8,7 +8,8 @@ ghost use Rattle.qm_batch.specs.Touches.{IsFrom, operations_of};
 ghost use Rattle.qm_batch.specs.Views.{change_view, changes_view};
 
 use super::touch::Touch;
-use qm_base::{ByteString, Key, Location, Operation, Twin, VariableValue};
+use qm_base::update::Update;
+use qm_base::{ByteString, Location, Operation, Twin};
 use qm_chain::{Diff, DiffEntry};
 use std::alloc::{AllocError, Global};
 use std::collections::BTreeMap;
@@ -22,22 +23,22 @@ struct Noted<'a, V> {
 }
 
 // Notes what the operation at a location does to its key.
-fn note<'a, F, K: Key, V: VariableValue>(
-    notes: &mut BTreeMap<&'a [u8], Noted<'a, V>>,
+fn note<'a, F, U: Update>(
+    notes: &mut BTreeMap<&'a [u8], Noted<'a, U::Value>>,
     at: u64,
-    touch: &'a Touch<F, K, V>,
+    touch: &'a Touch<F, U>,
 ) -> Result<(), AllocError>
-    ensures noted { OnOk result ((base own : List model.Operation) → at ≡ length (base ++ own) → IsFrom base (touch_view K.bytes V.bytes touch.now) → IsNoted V.bytes notes.old base (base ++ own)
-        → IsNoted V.bytes notes.new base ((base ++ own) ++ (touch_view K.bytes V.bytes touch.now).operation ∷ [])) }
-    ensures short { OnOk result (All (λ e. length e.0.now < 2 ^ 32) notes.old.entries → All (λ e. length e.0.now < 2 ^ 32) notes.new.entries) }
+    ensures noted { OnOk result ((base own : List model.Operation) → at ≡ length (base ++ own) → IsFrom base (touch_view U.view U.Key.bytes U.Value.bytes touch.now) → IsNoted U.Value.bytes notes.old base (base ++ own)
+        → IsNoted U.Value.bytes notes.new base ((base ++ own) ++ (touch_view U.view U.Key.bytes U.Value.bytes touch.now).operation ∷ [])) }
+    ensures known { OnOk result (All (λ e. U.Key.has e.0.now ≡ true) notes.old.entries → All (λ e. U.Key.has e.0.now ≡ true) notes.new.entries) }
 {
     match &touch.operation {
         Operation::Update(update) => {
             let noted = Noted {
-                now: Some((at, &update.1)),
+                now: Some((at, update.value())),
                 before: touch.before,
             };
-            notes.insert(update.0.as_bytes(), noted)?;
+            notes.insert(update.key().as_bytes(), noted)?;
             Ok(())
         }
         Operation::Delete(key) => {
@@ -53,15 +54,15 @@ fn note<'a, F, K: Key, V: VariableValue>(
 }
 
 // What the operations behind a base list of this size do to keys.
-fn notes_of<'a, F, K: Key, V: VariableValue>(
+fn notes_of<'a, F, U: Update>(
     alloc: Global,
     size: u64,
-    touches: &'a [Touch<F, K, V>],
-) -> Result<BTreeMap<&'a [u8], Noted<'a, V>>, AllocError>
+    touches: &'a [Touch<F, U>],
+) -> Result<BTreeMap<&'a [u8], Noted<'a, U::Value>>, AllocError>
     requires { size ≤ 2 ^ 62 }
-    ensures noted { IfOk result (λ notes. (base : List model.Operation) → size ≡ length base → All (IsFrom base) (touch_views K.bytes V.bytes touches.now)
-        → IsNoted V.bytes notes base (base ++ operations_of (touch_views K.bytes V.bytes touches.now))) }
-    ensures short { IfOk result (λ notes. All (λ e. length e.0.now < 2 ^ 32) notes.entries) }
+    ensures noted { IfOk result (λ notes. (base : List model.Operation) → size ≡ length base → All (IsFrom base) (touch_views U.view U.Key.bytes U.Value.bytes touches.now)
+        → IsNoted U.Value.bytes notes base (base ++ operations_of (touch_views U.view U.Key.bytes U.Value.bytes touches.now))) }
+    ensures known { IfOk result (λ notes. All (λ e. U.Key.has e.0.now ≡ true) notes.entries) }
 {
     let mut notes = BTreeMap::new(alloc);
     for (i, touch) in touches.iter().enumerate() {
@@ -81,7 +82,7 @@ fn location_of<F>(at: Option<u64>) -> Option<Location<F>>
 }
 
 // The entry of a diff for what is noted of a key.
-fn entry_of<F, V: VariableValue>(
+fn entry_of<F, V: ByteString>(
     alloc: Global,
     noted: Noted<'_, V>,
 ) -> Result<DiffEntry<F, V>, AllocError>
@@ -103,11 +104,11 @@ fn entry_of<F, V: VariableValue>(
 }
 
 // The diff of what is noted.
-fn diff_of<F, K: Key, V: VariableValue>(
+fn diff_of<F, K: ByteString, V: ByteString>(
     alloc: Global,
     notes: BTreeMap<&[u8], Noted<'_, V>>,
 ) -> Result<Diff<F, K, V>, AllocError>
-    requires { All (λ e. length e.0.now < 2 ^ 32) notes.entries }
+    requires { All (λ e. K.has e.0.now ≡ true) notes.entries }
     ensures { IfOk result (λ diff. changes_view K.bytes V.bytes diff ≡ map (λ e. (e.0.now, noted_view V.bytes e.1)) notes.entry.entries) }
 {
     let mut entries = Vec::new(alloc);
@@ -120,14 +121,14 @@ fn diff_of<F, K: Key, V: VariableValue>(
 }
 
 /// What the operations behind a base list of this size do to keys.
-pub(crate) fn diff_of_touches<F, K: Key, V: VariableValue>(
+pub(crate) fn diff_of_touches<F, U: Update>(
     alloc: Global,
     size: u64,
-    touches: &[Touch<F, K, V>],
-) -> Result<Diff<F, K, V>, AllocError>
+    touches: &[Touch<F, U>],
+) -> Result<Diff<F, U::Key, U::Value>, AllocError>
     requires { size ≤ 2 ^ 62 }
-    ensures { IfOk result (λ diff. (base : List model.Operation) → size ≡ length base → All (IsFrom base) (touch_views K.bytes V.bytes touches.now)
-        → AreChanges (changes_view K.bytes V.bytes diff) base (base ++ operations_of (touch_views K.bytes V.bytes touches.now))) }
+    ensures { IfOk result (λ diff. (base : List model.Operation) → size ≡ length base → All (IsFrom base) (touch_views U.view U.Key.bytes U.Value.bytes touches.now)
+        → AreChanges (changes_view U.Key.bytes U.Value.bytes diff) base (base ++ operations_of (touch_views U.view U.Key.bytes U.Value.bytes touches.now))) }
 {
     let notes = notes_of(alloc, size, touches)?;
     let diff = diff_of(alloc, notes)?;

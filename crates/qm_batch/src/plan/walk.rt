@@ -1,11 +1,11 @@
 //! The walk from the floor, over a base list and the operations of writes behind it.
 
-ghost use Rattle.std.specs.Prelude.{◌≡◌, ◌≢◌, ◌≤◌, ◌<◌, ◌-◌, ◌^◌, ◌++◌, ◌==◌, ℕ, List, length, map, None, option_map, slice_get, All, IfSome, IfOk, IfErr, MatchOption, OnOk, option_to_list, is_some, if◌then◌else◌};
+ghost use Rattle.std.specs.Prelude.{◌≡◌, ◌≢◌, ◌≤◌, ◌<◌, ◌-◌, ◌^◌, ◌++◌, ◌==◌, ℕ, List, length, map, Option, option_map, slice_get, All, IfSome, IfOk, IfErr, MatchOption, OnOk, Some, option_to_list, is_some, if◌then◌else◌};
 ghost use Rattle.std.specs.List.{list_any};
-ghost use Rattle.qm_base.specs.Decode.{IsUnordered};
-ghost use Rattle.qm_base.specs.Views.{unordered_view};
+ghost use Rattle.qm_base.specs.Views.{operation_view};
+ghost use Rattle.qm_model.specs.Forms.{IsOf, spelling};
 ghost use Rattle.qm_model.specs.Operations as model;
-ghost use Rattle.qm_model.specs.Operations.{spelling, update};
+ghost use Rattle.qm_model.specs.Operations.{update};
 ghost use Rattle.qm_model.specs.Policies.{policies, proportional};
 ghost use Rattle.qm_model.specs.Walk as walks;
 ghost use Rattle.qm_model.specs.Writes.{last_writes, unordered_writes, Write};
@@ -13,18 +13,16 @@ ghost use Rattle.qm_batch.specs.Changes.{said_by, stands_at, update_at};
 ghost use Rattle.qm_store.specs.Log.{IsLog};
 ghost use Rattle.qm_batch.specs.Layers.{IsBase};
 ghost use Rattle.qm_batch.specs.Lent.{IsIndexed, IsLent, IsRead, IsReadError};
-ghost use Rattle.qm_batch.specs.PlanViews.{keyed, last_view, touch_view, touch_views};
-ghost use Rattle.qm_batch.specs.Touches.{is_there, written_touches, AreMoves, IsMoveAt, IsStanding};
-ghost use Rattle.qm_batch.specs.Views.{change_view, said_view};
+ghost use Rattle.qm_batch.specs.PlanViews.{keyed, last_view, touch_view, touch_views, unordered_touches};
+ghost use Rattle.qm_batch.specs.Touches.{is_there, moved_touch, written_touches, AreMoves, IsMoveAt};
+ghost use Rattle.qm_batch.specs.Views.{change_view};
 
 use super::touch::Touch;
 use super::writes::Last;
 use crate::layer::Layer;
-use crate::read::{newest, read_update};
-use qm_base::update::Unordered;
-use qm_base::{
-    ByteString, Digest, Error, Hasher, JournalError, Key, Location, Operation, Twin, VariableValue,
-};
+use crate::read::{newest, read_update, twin_update};
+use qm_base::update::{Unordered, Update};
+use qm_base::{ByteString, Error, Hasher, JournalError, Location, Operation, ValueEncoding};
 use qm_chain::DiffEntry;
 use qm_merkle::Family;
 use qm_store::{AuthLog, Store};
@@ -33,18 +31,15 @@ use std::rc::Rc;
 
 /// What a walk moves, and where it ended.
 #[derive(Drop)]
-pub(crate) struct Walked<F, K: Key, V: VariableValue> {
-    pub(crate) moves: Vec<Touch<F, K, V>>,
+pub(crate) struct Walked<F, U: Update> {
+    pub(crate) moves: Vec<Touch<F, U>>,
     pub(crate) floor: u64,
 }
 
 // The operation at a location of the base list, where a layer has it; else the list that is lent has the same there.
-fn in_layers<F, K: Key, V: VariableValue>(
-    layers: &[Rc<Layer<F, Unordered<K, V>>>],
-    at: u64,
-) -> Option<&Operation<F, Unordered<K, V>>>
+fn in_layers<F, U: Update>(layers: &[Rc<Layer<F, U>>], at: u64) -> Option<&Operation<F, U>>
     ensures { (lent base : List model.Operation) → IsBase (map (λ l. l.value) layers.now) lent base → at < length base
-        → MatchOption result (slice_get base at ≡ slice_get lent at) (λ op. slice_get base at ≡ Some (unordered_view K.bytes V.bytes op.now)) }
+        → MatchOption result (slice_get base at ≡ slice_get lent at) (λ op. slice_get base at ≡ Some (operation_view U.view U.Key.bytes U.Value.bytes op.now)) }
 {
     for layer in layers {
         if layer.base() <= at {
@@ -54,56 +49,21 @@ fn in_layers<F, K: Key, V: VariableValue>(
     None
 }
 
-// A copy of an update.
-fn twin_update<K: Key, V: VariableValue>(
-    alloc: Global,
-    update: &Unordered<K, V>,
-) -> Result<Unordered<K, V>, AllocError>
-    ensures { IfOk result (λ copy. copy ≡ update.now) }
-{
-    let key = update.0.twin(alloc)?;
-    let value = update.1.twin(alloc)?;
-    Ok(Unordered(key, value))
-}
-
-// The update that an operation is.
-fn update_of<F, K: Key, V: VariableValue>(
-    alloc: Global,
-    operation: &Operation<F, Unordered<K, V>>,
-) -> Result<Option<Unordered<K, V>>, AllocError>
-    ensures { IfOk result (λ update. option_map (said_view K.bytes V.bytes) update ≡ said_by (unordered_view K.bytes V.bytes operation.now)) }
-{
-    match operation {
-        Operation::Update(update) => {
-            let update = twin_update(alloc, update)?;
-            Ok(Some(update))
-        }
-        _ => Ok(None),
-    }
-}
-
 // The update at a location of the base list, where there is one.
-fn update_in_base<
-    F: Family,
-    C: Store,
-    D: Digest,
-    H: Hasher<Digest = D> + Drop,
-    K: Key,
-    V: VariableValue,
->(
+fn update_in_base<F: Family, C: Store, H: Hasher + Drop, U: Update>(
     alloc: Global,
-    log: &mut AuthLog<F, C, D, H>,
-    layers: &[Rc<Layer<F, Unordered<K, V>>>],
+    log: &mut AuthLog<F, C, H>,
+    layers: &[Rc<Layer<F, U>>],
     at: u64,
-) -> Result<Option<Unordered<K, V>>, Error>
-    ensures value { (lent base : List model.Operation) → IsLog C.Store F.shape D.bytes H.hash log.old (map spelling lent) → All IsUnordered lent → IsBase (map (λ l. l.value) layers.now) lent base → at < length base
-        → IfSome (C.items log.old.store) (λ _. IfOk result (λ update. option_map (said_view K.bytes V.bytes) update ≡ update_at base at)) }
-    ensures read { IsRead C.Store F.shape D.bytes H.hash log.old log.new }
+) -> Result<Option<U>, Error>
+    ensures value { (lent base : List model.Operation) → IsLog C.Store F.shape H.Digest.bytes H.hash log.old (map (spelling U.form) lent) → All (IsOf U.form) lent → IsBase (map (λ l. l.value) layers.now) lent base → at < length base
+        → IfSome (C.items log.old.store) (λ _. IfOk result (λ update. option_map U.view update ≡ update_at base at)) }
+    ensures read { IsRead C.Store F.shape H.Digest.bytes H.hash log.old log.new }
     ensures error { IfErr result (IsReadError C.Store log.old log.new) }
     ensures pruned { log.old.tree.start ≤ at → IfErr result (λ e. (n : ℕ) → e ≢ Error.Journal (JournalError.ItemPruned n)) }
 {
     match in_layers(layers, at) {
-        Some(operation) => Ok(update_of(alloc, operation)?),
+        Some(operation) => Ok(twin_update(alloc, operation)?),
         None => read_update(alloc, log, at),
     }
 }
@@ -131,17 +91,17 @@ fn is_among<F>(locations: &[Location<F>], at: u64) -> bool
 }
 
 // Whether the key of the update at this location of the base list has its live update there.
-fn is_live_there<F, I: qm_index::Unordered<Value = Location<F>>, K: Key, V: VariableValue>(
+fn is_live_there<F, I: qm_index::Unordered<Value = Location<F>>, U: Update>(
     index: &I,
-    layers: &[Rc<Layer<F, Unordered<K, V>>>],
-    key: &K,
+    layers: &[Rc<Layer<F, U>>],
+    key: &U::Key,
     at: u64,
 ) -> bool
-    ensures { (lent base : List model.Operation) (value : model.Bytes) → IsIndexed I.index_key (I.entries index.now) lent → IsBase (map (λ l. l.value) layers.now) lent base → update_at base at ≡ Some (K.bytes key.now, value)
-        → result ≡ is_there (stands_at base (K.bytes key.now)) at }
+    ensures { (lent base : List model.Operation) (value : model.Bytes) (next : Option model.Bytes) → IsIndexed I.index_key (I.entries index.now) lent → IsBase (map (λ l. l.value) layers.now) lent base
+        → update_at base at ≡ Some (update (U.Key.bytes key.now) value next) → result ≡ is_there (stands_at base (U.Key.bytes key.now)) at }
 {
     match newest(layers, key.as_bytes()) {
-        Some(entry) => is_left_at(entry, at),
+        Some((_, entry)) => is_left_at(entry, at),
         None => is_among(index.bucket(key.as_bytes()), at),
     }
 }
@@ -151,31 +111,30 @@ fn unwritten_at<
     F: Family,
     I: qm_index::Unordered<Value = Location<F>>,
     C: Store,
-    D: Digest,
-    H: Hasher<Digest = D> + Drop,
-    K: Key,
-    V: VariableValue,
+    H: Hasher + Drop,
+    U: Update,
 >(
     alloc: Global,
     index: &I,
-    log: &mut AuthLog<F, C, D, H>,
-    layers: &[Rc<Layer<F, Unordered<K, V>>>],
-    last: &Last<'_, K, V>,
+    log: &mut AuthLog<F, C, H>,
+    layers: &[Rc<Layer<F, U>>],
+    last: &Last<'_, U::Key, U::Value>,
     at: u64,
-) -> Result<Option<Unordered<K, V>>, Error>
-    ensures value { (lent base : List model.Operation) (ws : List Write) → IsLent C.Store F.shape D.bytes H.hash I.index_key (I.entries index.now) log.old lent → IsBase (map (λ l. l.value) layers.now) lent base → at < length base
-        → map (last_view K.bytes V.bytes) last.now.entries ≡ map keyed (last_writes ws)
-        → IfSome (C.items log.old.store) (λ _. IfOk result (λ update. IsStanding (option_map (said_view K.bytes V.bytes) update) base (base ++ unordered_writes base ws) at)) }
-    ensures read { IsRead C.Store F.shape D.bytes H.hash log.old log.new }
+) -> Result<Option<U>, Error>
+    ensures value { (lent base : List model.Operation) (ws : List Write) → IsLent C.Store F.shape H.Digest.bytes H.hash U.form I.index_key (I.entries index.now) log.old lent → IsBase (map (λ l. l.value) layers.now) lent base → at < length base
+        → map (last_view U.Key.bytes U.Value.bytes) last.now.entries ≡ map keyed (last_writes ws)
+        → IfSome (C.items log.old.store) (λ _. IfOk result (λ found. IsMoveAt (option_map (λ u. moved_touch (at, U.view u)) found) base (base ++ unordered_writes base ws) at)) }
+    ensures read { IsRead C.Store F.shape H.Digest.bytes H.hash log.old log.new }
     ensures error { IfErr result (IsReadError C.Store log.old log.new) }
     ensures pruned { log.old.tree.start ≤ at → IfErr result (λ e. (n : ℕ) → e ≢ Error.Journal (JournalError.ItemPruned n)) }
 {
     match update_in_base(alloc, log, layers, at)? {
         Some(update) => {
-            if last.contains_key(update.0.as_bytes()) {
+            let key = update.key();
+            if last.contains_key(key.as_bytes()) {
                 return Ok(None);
             }
-            if is_live_there(index, layers, &update.0, at) {
+            if is_live_there(index, layers, key, at) {
                 Ok(Some(update))
             } else {
                 Ok(None)
@@ -186,14 +145,14 @@ fn unwritten_at<
 }
 
 // The move of the update that an operation of writes is.
-fn again<F, K: Key, V: VariableValue>(
+fn again<F, U: Update>(
     alloc: Global,
-    touch: &Touch<F, K, V>,
-) -> Result<Option<Touch<F, K, V>>, AllocError>
-    ensures operation { IfOk result (λ moved. option_map (λ t. unordered_view K.bytes V.bytes t.operation) moved ≡ option_map (λ p. update p.0 p.1 None) (said_by (unordered_view K.bytes V.bytes touch.now.operation))) }
+    touch: &Touch<F, U>,
+) -> Result<Option<Touch<F, U>>, AllocError>
+    ensures operation { IfOk result (λ moved. option_map (λ t. operation_view U.view U.Key.bytes U.Value.bytes t.operation) moved ≡ said_by (operation_view U.view U.Key.bytes U.Value.bytes touch.now.operation)) }
     ensures before { IfOk result (λ moved. IfSome moved (λ t. t.before ≡ touch.now.before)) }
 {
-    match update_of(alloc, &touch.operation)? {
+    match twin_update(alloc, &touch.operation)? {
         Some(update) => Ok(Some(Touch {
             operation: Operation::Update(update),
             before: touch.before,
@@ -208,24 +167,22 @@ fn move_at<
     F: Family,
     I: qm_index::Unordered<Value = Location<F>>,
     C: Store,
-    D: Digest,
-    H: Hasher<Digest = D> + Drop,
-    K: Key,
-    V: VariableValue,
+    H: Hasher + Drop,
+    U: Update,
 >(
     alloc: Global,
     index: &I,
-    log: &mut AuthLog<F, C, D, H>,
-    layers: &[Rc<Layer<F, Unordered<K, V>>>],
-    last: &Last<'_, K, V>,
-    made: &[Touch<F, K, V>],
+    log: &mut AuthLog<F, C, H>,
+    layers: &[Rc<Layer<F, U>>],
+    last: &Last<'_, U::Key, U::Value>,
+    made: &[Touch<F, U>],
     size: u64,
     at: u64,
-) -> Result<Option<Touch<F, K, V>>, Error>
-    ensures value { (lent base : List model.Operation) (ws : List Write) → IsLent C.Store F.shape D.bytes H.hash I.index_key (I.entries index.now) log.old lent → IsBase (map (λ l. l.value) layers.now) lent base → size ≡ length base
-        → map (last_view K.bytes V.bytes) last.now.entries ≡ map keyed (last_writes ws) → touch_views K.bytes V.bytes made.now ≡ written_touches base (last_writes ws)
-        → IfSome (C.items log.old.store) (λ _. IfOk result (λ moved. IsMoveAt (option_map (touch_view K.bytes V.bytes) moved) base (base ++ unordered_writes base ws) at)) }
-    ensures read { IsRead C.Store F.shape D.bytes H.hash log.old log.new }
+) -> Result<Option<Touch<F, U>>, Error>
+    ensures value { (lent base : List model.Operation) (ws : List Write) → IsLent C.Store F.shape H.Digest.bytes H.hash U.form I.index_key (I.entries index.now) log.old lent → IsBase (map (λ l. l.value) layers.now) lent base → size ≡ length base
+        → map (last_view U.Key.bytes U.Value.bytes) last.now.entries ≡ map keyed (last_writes ws) → touch_views U.view U.Key.bytes U.Value.bytes made.now ≡ written_touches base (last_writes ws)
+        → IfSome (C.items log.old.store) (λ _. IfOk result (λ moved. IsMoveAt (option_map (touch_view U.view U.Key.bytes U.Value.bytes) moved) base (base ++ unordered_writes base ws) at)) }
+    ensures read { IsRead C.Store F.shape H.Digest.bytes H.hash log.old log.new }
     ensures error { IfErr result (IsReadError C.Store log.old log.new) }
     ensures pruned { log.old.tree.start ≤ at → IfErr result (λ e. (n : ℕ) → e ≢ Error.Journal (JournalError.ItemPruned n)) }
 {
@@ -245,13 +202,13 @@ fn move_at<
 }
 
 // Adds the move, where there is one, and tells how many more there may be.
-fn add_move<F, K: Key, V: VariableValue>(
-    moves: &mut Vec<Touch<F, K, V>>,
-    moved: Option<Touch<F, K, V>>,
+fn add_move<F, U: Update>(
+    moves: &mut Vec<Touch<F, U>>,
+    moved: Option<Touch<F, U>>,
     entries: u64,
 ) -> Result<u64, AllocError>
     requires { 0 < entries }
-    ensures moves { OnOk result (touch_views K.bytes V.bytes moves.new.items ≡ touch_views K.bytes V.bytes moves.old.items ++ option_to_list (option_map (touch_view K.bytes V.bytes) moved)) }
+    ensures moves { OnOk result (touch_views U.view U.Key.bytes U.Value.bytes moves.new.items ≡ touch_views U.view U.Key.bytes U.Value.bytes moves.old.items ++ option_to_list (option_map (touch_view U.view U.Key.bytes U.Value.bytes) moved)) }
     ensures left { IfOk result (λ left. left ≡ (if is_some moved then entries - 1 else entries)) }
 {
     match moved {
@@ -269,27 +226,26 @@ pub(crate) fn walk_from<
     F: Family,
     I: qm_index::Unordered<Value = Location<F>>,
     C: Store,
-    D: Digest,
-    H: Hasher<Digest = D> + Drop,
-    K: Key,
-    V: VariableValue,
+    H: Hasher + Drop,
+    K: ByteString,
+    V: ValueEncoding<K>,
 >(
     alloc: Global,
     index: &I,
-    log: &mut AuthLog<F, C, D, H>,
+    log: &mut AuthLog<F, C, H>,
     layers: &[Rc<Layer<F, Unordered<K, V>>>],
-    last: &Last<'_, K, V>,
-    made: &[Touch<F, K, V>],
+    last: &Last<'_, K, V::Value>,
+    made: &[Touch<F, Unordered<K, V>>],
     size: u64,
     floor: u64,
     entries: u64,
-) -> Result<Walked<F, K, V>, Error>
+) -> Result<Walked<F, Unordered<K, V>>, Error>
     requires { size ≤ 2 ^ 62 }
-    ensures value { (lent base : List model.Operation) (ws : List Write) → IsLent C.Store F.shape D.bytes H.hash I.index_key (I.entries index.now) log.old lent → IsBase (map (λ l. l.value) layers.now) lent base → size ≡ length base
-        → map (last_view K.bytes V.bytes) last.now.entries ≡ map keyed (last_writes ws) → touch_views K.bytes V.bytes made.now ≡ written_touches base (last_writes ws)
-        → IfSome (C.items log.old.store) (λ _. IfOk result (λ walked. AreMoves (touch_views K.bytes V.bytes walked.moves.items) walked.floor base
+    ensures value { (lent base : List model.Operation) (ws : List Write) → IsLent C.Store F.shape H.Digest.bytes H.hash ⟦<Unordered<K, V> as Update>⟧.form I.index_key (I.entries index.now) log.old lent → IsBase (map (λ l. l.value) layers.now) lent base → size ≡ length base
+        → map (last_view K.bytes V.Value.bytes) last.now.entries ≡ map keyed (last_writes ws) → unordered_touches K.bytes V.Value.bytes made.now ≡ written_touches base (last_writes ws)
+        → IfSome (C.items log.old.store) (λ _. IfOk result (λ walked. AreMoves (unordered_touches K.bytes V.Value.bytes walked.moves.items) walked.floor base
         (walks.walk policies (base ++ unordered_writes base ws) floor (record { entries = entries; skips = 2 ^ 64 - 1 }) proportional))) }
-    ensures read { IsRead C.Store F.shape D.bytes H.hash log.old log.new }
+    ensures read { IsRead C.Store F.shape H.Digest.bytes H.hash log.old log.new }
     ensures error { IfErr result (IsReadError C.Store log.old log.new) }
     ensures pruned { log.old.tree.start ≤ floor → IfErr result (λ e. (n : ℕ) → e ≢ Error.Journal (JournalError.ItemPruned n)) }
 {

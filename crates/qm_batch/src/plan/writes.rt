@@ -1,26 +1,24 @@
 //! What writes put behind a base list: the writes to live keys by location, then the creates by key.
 
-ghost use Rattle.std.specs.Prelude.{◌≡◌, ◌≢◌, ◌++◌, ℕ, List, map, filter_map, slice_get, Some, None, option_map, option_and_then, option_to_list, IfSome, IfOk, IfErr, OnOk};
+ghost use Rattle.std.specs.Prelude.{◌≡◌, ◌≢◌, ◌++◌, ℕ, List, map, filter_map, Some, None, option_map, option_to_list, IfSome, IfOk, IfErr, OnOk};
 ghost use Rattle.std.specs.BTreeMap.{insert_entry};
 ghost use Rattle.std.specs.Ordering.{nat_cmp};
-ghost use Rattle.qm_base.specs.Views.{unordered_view};
 ghost use Rattle.qm_model.specs.Live.{live};
 ghost use Rattle.qm_model.specs.Operations as operations;
 ghost use Rattle.qm_model.specs.Writes as model;
-ghost use Rattle.qm_batch.specs.Changes.{update_of};
 ghost use Rattle.qm_batch.specs.Layers.{IsBase};
 ghost use Rattle.qm_batch.specs.Lent.{IsLent, IsRead, IsReadError, NoneBelow};
-ghost use Rattle.qm_batch.specs.PlanViews.{keyed, last_view, site_in, site_view, touch_view, touch_views};
+ghost use Rattle.qm_batch.specs.PlanViews.{keyed, last_view, located_views, site_in, site_view, touch_view, touch_views, unordered_touch, unordered_touches, unordered_view};
 ghost use Rattle.qm_batch.specs.Touches.{rewrite_here, moved_touch, new_touch, written_touches};
-ghost use Rattle.qm_batch.specs.Views.{read_view, write_view};
+ghost use Rattle.qm_batch.specs.Views.{write_view};
 
 use super::touch::Touch;
 use crate::layer::Layer;
-use crate::read::read_keys;
+use crate::read::locate;
 use crate::write::Write;
-use qm_base::update::Unordered;
+use qm_base::update::{Unordered, Update};
 use qm_base::{
-    ByteString, Digest, Error, Hasher, JournalError, Key, Location, Operation, Twin, VariableValue,
+    ByteString, Error, Hasher, JournalError, Location, Operation, Twin, ValueEncoding,
 };
 use qm_merkle::Family;
 use qm_store::{AuthLog, Store};
@@ -31,6 +29,9 @@ use std::rc::Rc;
 /// The last write of each key, by key.
 pub(crate) type Last<'a, K, V> = BTreeMap<&'a [u8], &'a Write<K, V>>;
 
+/// Operations by the location where their keys' live updates stand.
+type ByLocation<F, U> = BTreeMap<u64, Operation<F, U>>;
+
 /// A write, and where its key's live update stands in the base list.
 #[derive(Drop)]
 pub(crate) struct Site<'a, K, V> {
@@ -39,7 +40,7 @@ pub(crate) struct Site<'a, K, V> {
 }
 
 /// The last write of each key.
-pub(crate) fn last_writes<'a, K: Key, V: VariableValue>(
+pub(crate) fn last_writes<'a, K: ByteString, V: ByteString>(
     alloc: Global,
     writes: &'a [Write<K, V>],
 ) -> Result<Last<'a, K, V>, AllocError>
@@ -52,63 +53,14 @@ pub(crate) fn last_writes<'a, K: Key, V: VariableValue>(
     Ok(last)
 }
 
-// The writes, by key.
-fn in_order<'a, K: Key, V: VariableValue>(
-    alloc: Global,
-    last: &Last<'a, K, V>,
-) -> Result<Vec<&'a Write<K, V>>, AllocError>
-    ensures { IfOk result (λ writes. map (λ w. write_view K.bytes V.bytes w.now) writes.items ≡ map (λ e. write_view K.bytes V.bytes e.1.now) last.now.entries) }
+// The number of a location, where there is one.
+fn number_of<F>(at: Option<Location<F>>) -> Option<u64>
+    ensures { result ≡ at }
 {
-    let mut writes = Vec::new(alloc);
-    for write in last.values() {
-        writes.push(*write)?;
+    match at {
+        Some(at) => Some(at.get()),
+        None => None,
     }
-    Ok(writes)
-}
-
-// The keys of the writes.
-fn keys_of<K: Key, V: VariableValue>(
-    alloc: Global,
-    writes: &[&Write<K, V>],
-) -> Result<Vec<K>, AllocError>
-    ensures { IfOk result (λ keys. map K.bytes keys.items ≡ map (λ w. K.bytes w.now.key) writes.now) }
-{
-    let mut keys = Vec::new(alloc);
-    for write in writes {
-        let key = write.key.twin(alloc)?;
-        keys.push(key)?;
-    }
-    Ok(keys)
-}
-
-// Where the update stands that was found for the key at this place.
-fn place_at<F, K: Key, V: VariableValue>(
-    found: &[Option<(Location<F>, Unordered<K, V>)>],
-    at: usize,
-) -> Option<u64>
-    ensures { result ≡ option_and_then (option_map (λ p. p.0)) (slice_get found.now at) }
-{
-    match found.get(at) {
-        Some(Some((location, _))) => Some(location.get()),
-        _ => None,
-    }
-}
-
-// The writes, each with where its key stands.
-fn sites_of<'a, F, K: Key, V: VariableValue>(
-    alloc: Global,
-    writes: &[&'a Write<K, V>],
-    found: &[Option<(Location<F>, Unordered<K, V>)>],
-) -> Result<Vec<Site<'a, K, V>>, AllocError>
-    ensures { IfOk result (λ sites. (base : List operations.Operation) → map (option_map (read_view K.bytes V.bytes)) found.now ≡ map (λ w. update_of base (K.bytes w.now.key)) writes.now
-        → map (site_view K.bytes V.bytes) sites.items ≡ map (λ w. site_in base (write_view K.bytes V.bytes w.now)) writes.now) }
-{
-    let mut sites = Vec::new(alloc);
-    for (i, write) in writes.iter().enumerate() {
-        let at = place_at(found, i);
-        sites.push(Site { write: *write, at })?;
-    }
-    Ok(sites)
 }
 
 /// The last writes, each with where its key stands in the base list.
@@ -117,37 +69,36 @@ pub(crate) fn find_sites<
     F: Family,
     I: qm_index::Unordered<Value = Location<F>>,
     C: Store,
-    D: Digest,
-    H: Hasher<Digest = D> + Drop,
-    K: Key,
-    V: VariableValue,
+    H: Hasher + Drop,
+    U: Update,
 >(
     alloc: Global,
     index: &I,
-    log: &mut AuthLog<F, C, D, H>,
-    layers: &[Rc<Layer<F, Unordered<K, V>>>],
-    last: &Last<'a, K, V>,
-) -> Result<Vec<Site<'a, K, V>>, Error>
-    ensures value { (lent base : List operations.Operation) → IsLent C.Store F.shape D.bytes H.hash I.index_key (I.entries index.now) log.old lent → IsBase (map (λ l. l.value) layers.now) lent base
-        → IfSome (C.items log.old.store) (λ _. IfOk result (λ sites. map (site_view K.bytes V.bytes) sites.items ≡ map (λ e. site_in base (write_view K.bytes V.bytes e.1.now)) last.now.entries)) }
-    ensures read { IsRead C.Store F.shape D.bytes H.hash log.old log.new }
+    log: &mut AuthLog<F, C, H>,
+    layers: &[Rc<Layer<F, U>>],
+    last: &Last<'a, U::Key, U::Value>,
+) -> Result<Vec<Site<'a, U::Key, U::Value>>, Error>
+    ensures value { (lent base : List operations.Operation) → IsLent C.Store F.shape H.Digest.bytes H.hash U.form I.index_key (I.entries index.now) log.old lent → IsBase (map (λ l. l.value) layers.now) lent base
+        → IfSome (C.items log.old.store) (λ _. IfOk result (λ sites. map (site_view U.Key.bytes U.Value.bytes) sites.items ≡ map (λ e. site_in base (write_view U.Key.bytes U.Value.bytes e.1.now)) last.now.entries)) }
+    ensures read { IsRead C.Store F.shape H.Digest.bytes H.hash log.old log.new }
     ensures error { IfErr result (IsReadError C.Store log.old log.new) }
-    ensures whole { (lent : List operations.Operation) → IsLent C.Store F.shape D.bytes H.hash I.index_key (I.entries index.now) log.old lent → NoneBelow log.old.tree.start lent
+    ensures whole { (lent : List operations.Operation) → IsLent C.Store F.shape H.Digest.bytes H.hash U.form I.index_key (I.entries index.now) log.old lent → NoneBelow log.old.tree.start lent
         → IfErr result (λ e. (n : ℕ) → e ≢ Error.Journal (JournalError.ItemPruned n)) }
 {
-    let writes = in_order(alloc, last)?;
-    let keys = keys_of(alloc, &writes)?;
-    let found = read_keys(alloc, index, log, layers, &keys)?;
-    let sites = sites_of(alloc, &writes, &found)?;
+    let mut sites = Vec::new(alloc);
+    for write in last.values() {
+        let at = number_of(locate(alloc, index, log, layers, &write.key)?);
+        sites.push(Site { write: *write, at })?;
+    }
     Ok(sites)
 }
 
 // The operation that a write puts.
-fn operation_of<F, K: Key, V: VariableValue>(
+fn operation_of<F, K: ByteString, V: ValueEncoding<K>>(
     alloc: Global,
-    write: &Write<K, V>,
+    write: &Write<K, V::Value>,
 ) -> Result<Operation<F, Unordered<K, V>>, AllocError>
-    ensures { IfOk result (λ operation. unordered_view K.bytes V.bytes operation ≡ model.operation_of (write_view K.bytes V.bytes write.now)) }
+    ensures { IfOk result (λ operation. unordered_view K.bytes V.Value.bytes operation ≡ model.operation_of (write_view K.bytes V.Value.bytes write.now)) }
 {
     let key = write.key.twin(alloc)?;
     match &write.value {
@@ -160,13 +111,13 @@ fn operation_of<F, K: Key, V: VariableValue>(
 }
 
 // Puts what a write does to a live key in its place by location.
-fn put_rewrite<F, K: Key, V: VariableValue>(
+fn put_rewrite<F, K: ByteString, V: ValueEncoding<K>>(
     alloc: Global,
-    rewrites: &mut BTreeMap<u64, Operation<F, Unordered<K, V>>>,
-    site: &Site<'_, K, V>,
+    rewrites: &mut ByLocation<F, Unordered<K, V>>,
+    site: &Site<'_, K, V::Value>,
 ) -> Result<(), AllocError>
-    ensures live { OnOk result ((at : ℕ) → site.now.at ≡ Some at → map (λ e. (e.0, unordered_view K.bytes V.bytes e.1)) rewrites.new.entries
-        ≡ insert_entry nat_cmp (map (λ e. (e.0, unordered_view K.bytes V.bytes e.1)) rewrites.old.entries) at (model.operation_of (write_view K.bytes V.bytes site.now.write.now))) }
+    ensures live { OnOk result ((at : ℕ) → site.now.at ≡ Some at → located_views (unordered_view K.bytes V.Value.bytes) rewrites.new.entries
+        ≡ insert_entry nat_cmp (located_views (unordered_view K.bytes V.Value.bytes) rewrites.old.entries) at (model.operation_of (write_view K.bytes V.Value.bytes site.now.write.now))) }
     ensures other { OnOk result (site.now.at ≡ None → rewrites.new.entries ≡ rewrites.old.entries) }
 {
     match site.at {
@@ -180,12 +131,12 @@ fn put_rewrite<F, K: Key, V: VariableValue>(
 }
 
 // The writes to live keys, by where these stand.
-fn by_location<F, K: Key, V: VariableValue>(
+fn by_location<F, K: ByteString, V: ValueEncoding<K>>(
     alloc: Global,
-    sites: &[Site<'_, K, V>],
-) -> Result<BTreeMap<u64, Operation<F, Unordered<K, V>>>, AllocError>
-    ensures { IfOk result (λ rewrites. (base : List operations.Operation) (ws : List model.Write) → map (site_view K.bytes V.bytes) sites.now ≡ map (site_in base) (model.last_writes ws)
-        → map (λ e. (e.0, unordered_view K.bytes V.bytes e.1)) rewrites.entries ≡ filter_map (rewrite_here (model.last_writes ws)) (live base)) }
+    sites: &[Site<'_, K, V::Value>],
+) -> Result<ByLocation<F, Unordered<K, V>>, AllocError>
+    ensures { IfOk result (λ rewrites. (base : List operations.Operation) (ws : List model.Write) → map (site_view K.bytes V.Value.bytes) sites.now ≡ map (site_in base) (model.last_writes ws)
+        → located_views (unordered_view K.bytes V.Value.bytes) rewrites.entries ≡ filter_map (rewrite_here (model.last_writes ws)) (live base)) }
 {
     let mut rewrites = BTreeMap::new(alloc);
     for site in sites {
@@ -195,11 +146,11 @@ fn by_location<F, K: Key, V: VariableValue>(
 }
 
 // The operations by location, each of a key that stood there.
-fn moved_touches<F, K: Key, V: VariableValue>(
+fn moved_touches<F, K: ByteString, V: ValueEncoding<K>>(
     alloc: Global,
-    rewrites: BTreeMap<u64, Operation<F, Unordered<K, V>>>,
-) -> Result<Vec<Touch<F, K, V>>, AllocError>
-    ensures { IfOk result (λ touches. touch_views K.bytes V.bytes touches.items ≡ map (λ e. moved_touch (e.0, unordered_view K.bytes V.bytes e.1)) rewrites.entries) }
+    rewrites: ByLocation<F, Unordered<K, V>>,
+) -> Result<Vec<Touch<F, Unordered<K, V>>>, AllocError>
+    ensures { IfOk result (λ touches. unordered_touches K.bytes V.Value.bytes touches.items ≡ map (λ e. moved_touch (e.0, unordered_view K.bytes V.Value.bytes e.1)) rewrites.entries) }
 {
     let mut touches = Vec::new(alloc);
     for (at, operation) in rewrites {
@@ -212,12 +163,12 @@ fn moved_touches<F, K: Key, V: VariableValue>(
 }
 
 // What a write creates: an update, where its key is not live.
-fn create_of<F, K: Key, V: VariableValue>(
+fn create_of<F, K: ByteString, V: ValueEncoding<K>>(
     alloc: Global,
-    site: &Site<'_, K, V>,
-) -> Result<Option<Touch<F, K, V>>, AllocError>
-    ensures { IfOk result (λ made. (base : List operations.Operation) (w : model.Write) → site_view K.bytes V.bytes site.now ≡ site_in base w
-        → option_map (touch_view K.bytes V.bytes) made ≡ option_map new_touch (model.create_of (live base) w)) }
+    site: &Site<'_, K, V::Value>,
+) -> Result<Option<Touch<F, Unordered<K, V>>>, AllocError>
+    ensures { IfOk result (λ made. (base : List operations.Operation) (w : model.Write) → site_view K.bytes V.Value.bytes site.now ≡ site_in base w
+        → option_map (unordered_touch K.bytes V.Value.bytes) made ≡ option_map new_touch (model.create_of (live base) w)) }
 {
     if site.at.is_some() {
         return Ok(None);
@@ -233,11 +184,11 @@ fn create_of<F, K: Key, V: VariableValue>(
 }
 
 // Adds the operation, where there is one.
-fn push_some<F, K: Key, V: VariableValue>(
-    touches: &mut Vec<Touch<F, K, V>>,
-    touch: Option<Touch<F, K, V>>,
+fn push_some<F, U: Update>(
+    touches: &mut Vec<Touch<F, U>>,
+    touch: Option<Touch<F, U>>,
 ) -> Result<(), AllocError>
-    ensures { OnOk result (touch_views K.bytes V.bytes touches.new.items ≡ touch_views K.bytes V.bytes touches.old.items ++ option_to_list (option_map (touch_view K.bytes V.bytes) touch)) }
+    ensures { OnOk result (touch_views U.view U.Key.bytes U.Value.bytes touches.new.items ≡ touch_views U.view U.Key.bytes U.Value.bytes touches.old.items ++ option_to_list (option_map (touch_view U.view U.Key.bytes U.Value.bytes) touch)) }
 {
     match touch {
         Some(touch) => {
@@ -249,13 +200,13 @@ fn push_some<F, K: Key, V: VariableValue>(
 }
 
 // Adds what the writes create, in their order.
-fn add_creates<F, K: Key, V: VariableValue>(
+fn add_creates<F, K: ByteString, V: ValueEncoding<K>>(
     alloc: Global,
-    touches: &mut Vec<Touch<F, K, V>>,
-    sites: &[Site<'_, K, V>],
+    touches: &mut Vec<Touch<F, Unordered<K, V>>>,
+    sites: &[Site<'_, K, V::Value>],
 ) -> Result<(), AllocError>
-    ensures { OnOk result ((base : List operations.Operation) (ws : List model.Write) → map (site_view K.bytes V.bytes) sites.now ≡ map (site_in base) ws
-        → touch_views K.bytes V.bytes touches.new.items ≡ touch_views K.bytes V.bytes touches.old.items ++ map new_touch (filter_map (model.create_of (live base)) ws)) }
+    ensures { OnOk result ((base : List operations.Operation) (ws : List model.Write) → map (site_view K.bytes V.Value.bytes) sites.now ≡ map (site_in base) ws
+        → unordered_touches K.bytes V.Value.bytes touches.new.items ≡ unordered_touches K.bytes V.Value.bytes touches.old.items ++ map new_touch (filter_map (model.create_of (live base)) ws)) }
 {
     for site in sites {
         let touch = create_of(alloc, site)?;
@@ -265,12 +216,12 @@ fn add_creates<F, K: Key, V: VariableValue>(
 }
 
 /// The operations of the last writes.
-pub(crate) fn written<F, K: Key, V: VariableValue>(
+pub(crate) fn written<F, K: ByteString, V: ValueEncoding<K>>(
     alloc: Global,
-    sites: &[Site<'_, K, V>],
-) -> Result<Vec<Touch<F, K, V>>, AllocError>
-    ensures { IfOk result (λ touches. (base : List operations.Operation) (ws : List model.Write) → map (site_view K.bytes V.bytes) sites.now ≡ map (site_in base) (model.last_writes ws)
-        → touch_views K.bytes V.bytes touches.items ≡ written_touches base (model.last_writes ws)) }
+    sites: &[Site<'_, K, V::Value>],
+) -> Result<Vec<Touch<F, Unordered<K, V>>>, AllocError>
+    ensures { IfOk result (λ touches. (base : List operations.Operation) (ws : List model.Write) → map (site_view K.bytes V.Value.bytes) sites.now ≡ map (site_in base) (model.last_writes ws)
+        → unordered_touches K.bytes V.Value.bytes touches.items ≡ written_touches base (model.last_writes ws)) }
 {
     let rewrites = by_location(alloc, sites)?;
     let mut touches = moved_touches(alloc, rewrites)?;

@@ -7,7 +7,7 @@ use Rattle.qm_base.specs.Parts.{is_update}
 use Rattle.qm_model.specs.Policies.{policies, proportional}
 use Rattle.qm_model.specs.Walk.{walk}
 use Rattle.qm_model.specs.Writes.{last_writes, unordered_writes}
-use Rattle.qm_batch.specs.PlanViews.{last_view, touch_view, AreOwn}
+use Rattle.qm_batch.specs.PlanViews.{last_view, unordered_touch, AreOwn}
 use Rattle.qm_batch.specs.Touches.{Touch, AreMoves}
 use Rattle.qm_batch.specs.Views.{write_view}
 use Rattle.qm_batch.proofs.PlanOwns.{are-own, count-shown, sites-last}
@@ -15,12 +15,12 @@ use Rattle.qm_batch.proofs.Reading.{read-then, error-then, lent-then, told}
 use Rattle.qm_batch.proofs.plan.own_operations.Goals as goal
 
 pub returns-in_err-walked-clause-read : goal.returns-in_err-walked-clause-read
-returns-in_err-walked-clause-read g c = read-then g.C.Store g.F.Family.shape g.D.Digest.bytes g.H.Hasher.hash c.args.log.now c.find_sites.new.log c.walk_from.new.log c.find_sites.ensures.read c.walk_from.ensures.read
+returns-in_err-walked-clause-read g c = read-then g.C.Store g.F.Family.shape g.H.Digest.Digest.bytes g.H.Hasher.hash c.args.log.now c.find_sites.new.log c.walk_from.new.log c.find_sites.ensures.read c.walk_from.ensures.read
 
 pub returns-in_err-walked-clause-error : goal.returns-in_err-walked-clause-error
 returns-in_err-walked-clause-error g c =
     let exit = err_from_is_err_and c.from_residual-in_err-walked.result c.from_residual-in_err-walked.ensures.1 in
-    rw (exit.1, exit.2) (error-then g.C.Store g.F.Family.shape g.D.Digest.bytes g.H.Hasher.hash c.args.log.now c.find_sites.new.log c.walk_from.new.log _ c.find_sites.ensures.read c.in_err-walked.ensures.error)
+    rw (exit.1, exit.2) (error-then g.C.Store g.F.Family.shape g.H.Digest.Digest.bytes g.H.Hasher.hash c.args.log.now c.find_sites.new.log c.walk_from.new.log _ c.find_sites.ensures.read c.in_err-walked.ensures.error)
 
 pub returns-in_err-walked-clause-whole : goal.returns-in_err-walked-clause-whole
 returns-in_err-walked-clause-whole g c = λ lent is none above.
@@ -29,20 +29,20 @@ returns-in_err-walked-clause-whole g c = λ lent is none above.
     rw (exit.1, exit.2) (c.in_err-walked.ensures.pruned (omega (arith, same, above)))
 
 pub returns-in_err-append-clause-read : goal.returns-in_err-append-clause-read
-returns-in_err-append-clause-read g c = read-then g.C.Store g.F.Family.shape g.D.Digest.bytes g.H.Hasher.hash c.args.log.now c.find_sites.new.log c.walk_from.new.log c.find_sites.ensures.read c.walk_from.ensures.read
+returns-in_err-append-clause-read g c = read-then g.C.Store g.F.Family.shape g.H.Digest.Digest.bytes g.H.Hasher.hash c.args.log.now c.find_sites.new.log c.walk_from.new.log c.find_sites.ensures.read c.walk_from.ensures.read
 
 pub returns-clause-read : goal.returns-clause-read
-returns-clause-read g c = read-then g.C.Store g.F.Family.shape g.D.Digest.bytes g.H.Hasher.hash c.args.log.now c.find_sites.new.log c.walk_from.new.log c.find_sites.ensures.read c.walk_from.ensures.read
+returns-clause-read g c = read-then g.C.Store g.F.Family.shape g.H.Digest.Digest.bytes g.H.Hasher.hash c.args.log.now c.find_sites.new.log c.walk_from.new.log c.find_sites.ensures.read c.walk_from.ensures.read
 
 pub returns-clause-own : goal.returns-clause-own
 returns-clause-own g c = λ lent base is from size floor all.
     let key = g.K.ByteString.bytes in
-    let value = g.V.ByteString.bytes in
-    let view = touch_view key value in
+    let value = g.V.Value.ByteString.bytes in
+    let view = unordered_touch key value in
     let ws = map (write_view key value) c.args.writes.now in
     let items = g.C.Store.items c.args.log.now.store in
     let read = c.find_sites.ensures.read in
-    let mid = lent-then g.C.Store g.F.Family.shape g.D.Digest.bytes g.H.Hasher.hash g.I.Unordered.index_key (g.I.Unordered.entries c.args.index.now) c.args.log.now c.find_sites.new.log lent read is in
+    let mid = lent-then g.C.Store g.F.Family.shape g.H.Digest.Digest.bytes g.H.Hasher.hash _ g.I.Unordered.index_key (g.I.Unordered.entries c.args.index.now) c.args.log.now c.find_sites.new.log lent read is in
     let touches = c.in_ok-touches.touches.items in
     let behind = c.live_behind-behind.result in
     let entries = c.saturating_add-entries.result in

@@ -1,6 +1,6 @@
 use Rattle.std.proofs.Common.{◌≡◌, ◌∙◌, ◌+◌, arith, ◌++◌, ◌∷◌, [], length, ap, sym, map, subst, refl, List, ℕ}
 use Rattle.std.specs.Prelude.{option_map, ◌==◌, if◌then◌else◌}
-use Rattle.qm_base.specs.Views.{unordered_view}
+use Rattle.qm_base.specs.Views.{operation_view}
 use Rattle.qm_model.specs.Operations.{Operation, commit}
 use Rattle.qm_model.specs.Step.{committed}
 use Rattle.qm_batch.specs.PlanViews.{touch_view, touch_views}
@@ -12,20 +12,20 @@ use Rattle.qm_batch.proofs.plan.planned.Goals as goal
 
 pub returns-clause-plan : goal.returns-clause-plan
 returns-clause-plan g c = λ base size from count.
-    let key = g.K.ByteString.bytes in
-    let value = g.V.ByteString.bytes in
-    let view = touch_view key value in
+    let key = g.U.Key.ByteString.bytes in
+    let value = g.U.Value.ByteString.bytes in
+    let view = touch_view g.U.Update.view key value in
     let touches = c.args.own.touches.items in
-    let own = operations_of (touch_views key value touches) in
+    let own = operations_of (touch_views g.U.Update.view key value touches) in
     let meta = option_map value c.args.metadata in
     let place = c.commit_floor-floor.result in
     let changes = changes_view key value c.in_ok-diff.diff in
     let long : c.args.size + c.len.result ≡ length (base ++ own) = omega (arith, c.len.ensures, c.args.own.touches.ok.0, own-length view base touches c.args.size size) in
     let at : place ≡ (if c.args.own.live == 0 then length (base ++ own) else c.args.own.floor) =
     c.commit_floor-floor.ensures ∙ ap (λ n. if c.args.own.live == 0 then n else c.args.own.floor) long in
-    let operations : map (unordered_view key value) c.push.new.self.items ≡ own ++ commit meta place ∷ [] =
-    operations-push (unordered_view key value) view (λ t. t.operation) (λ t. refl) touches c.in_ok-operations.operations.items c.push.new.self.items _ (commit meta place) c.in_ok-operations.ensures c.in_ok-push.ensures.items (ap (commit meta) c.new.ensures) in
+    let operations : map (operation_view g.U.Update.view key value) c.push.new.self.items ≡ own ++ commit meta place ∷ [] =
+    operations-push (operation_view g.U.Update.view key value) view (λ t. t.operation) (λ t. refl) touches c.in_ok-operations.operations.items c.push.new.self.items _ (commit meta place) c.in_ok-operations.ensures c.in_ok-push.ensures.items (ap (commit meta) c.new.ensures) in
     let are = rw c.deref.ensures.value at (c.in_ok-diff.ensures base size) in
-    subst (λ (n : ℕ). IsPlan (record { operations = map (unordered_view key value) c.push.new.self.items; changes = changes; floor = n; live = c.args.own.live }) base (committed (base ++ own) c.args.own.floor meta)) (sym c.new-2.ensures)
+    subst (λ (n : ℕ). IsPlan (record { operations = map (operation_view g.U.Update.view key value) c.push.new.self.items; changes = changes; floor = n; live = c.args.own.live }) base (committed (base ++ own) c.args.own.floor meta)) (sym c.new-2.ensures)
     (subst (λ (ops : List Operation). IsPlan (record { operations = ops; changes = changes; floor = place; live = c.args.own.live }) base (committed (base ++ own) c.args.own.floor meta)) (sym operations)
     (own-plan base own changes c.args.own.live place c.args.own.floor meta count at (are from)))

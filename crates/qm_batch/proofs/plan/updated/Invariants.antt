@@ -1,7 +1,7 @@
 use Rattle.std.proofs.Common.{◌≡◌, ◌≤◌, take, count_by}
 use Rattle.qm_base.specs.Parts as parts
-use Rattle.qm_base.specs.Views.{unordered_view}
+use Rattle.qm_base.specs.Views.{operation_view}
 use Rattle.qm_batch.proofs.plan.updated.Given as goal
 
 abbrev pub invariant-loop-touch : goal.invariant-loop-touch
-invariant-loop-touch g l = (l.count ≡ count_by (λ t. parts.is_update (unordered_view g.K.ByteString.bytes g.V.ByteString.bytes t.operation)) (take l.touch-index l.touches)) × (l.count ≤ l.touch-index)
+invariant-loop-touch g l = (l.count ≡ count_by (λ t. parts.is_update (operation_view g.U.Update.view g.U.Key.ByteString.bytes g.U.Value.ByteString.bytes t.operation)) (take l.touch-index l.touches)) × (l.count ≤ l.touch-index)

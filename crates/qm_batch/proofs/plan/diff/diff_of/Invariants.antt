@@ -1,9 +1,9 @@
-use Rattle.std.proofs.Common.{◌≡◌, ◌<◌, ◌^◌, ◌++◌, length, map, All}
+use Rattle.std.proofs.Common.{◌≡◌, ◌++◌, true, map, All}
 use Rattle.qm_batch.proofs.PlanEntries.{entry_shown, note_shown}
 use Rattle.qm_batch.proofs.plan.diff.diff_of.Given as goal
 
 abbrev pub invariant-loop-key : goal.invariant-loop-key
 invariant-loop-key g l = record {
   value : map (entry_shown g.K.ByteString.bytes g.V.ByteString.bytes) l.entries.items ++ map (note_shown g.V.ByteString.bytes) l.key-iterator ≡ map (note_shown g.V.ByteString.bytes) l.fn.notes.entries;
-  short : All (λ e. length e.0.now < 2 ^ 32) l.key-iterator;
+  known : All (λ e. g.K.ByteString.has e.0.now ≡ true) l.key-iterator;
 }

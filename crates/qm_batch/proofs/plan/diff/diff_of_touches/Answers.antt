@@ -5,6 +5,6 @@ use Rattle.qm_batch.proofs.plan.diff.diff_of_touches.Goals as goal
 
 pub returns : goal.returns
 returns g c = λ base size from.
-    let key = g.K.ByteString.bytes in
-    let value = g.V.ByteString.bytes in
-    listed-changes (noted_view value) c.in_ok-notes.notes.entries _ base (operations_of (touch_views key value c.args.touches.now)) c.in_ok-diff.ensures (c.in_ok-notes.ensures.noted base size from)
+    let key = g.U.Key.ByteString.bytes in
+    let value = g.U.Value.ByteString.bytes in
+    listed-changes (noted_view value) c.in_ok-notes.notes.entries _ base (operations_of (touch_views g.U.Update.view key value c.args.touches.now)) c.in_ok-diff.ensures (c.in_ok-notes.ensures.noted base size from)

@@ -1,4 +1,4 @@
-use Rattle.std.proofs.Common.{◌∙◌, ◌++◌, ◌<◌, ◌^◌, sym, ap, arith, take, map, length, Bor, List, ℕ}
+use Rattle.std.proofs.Common.{◌≡◌, ◌∙◌, ◌++◌, true, sym, ap, arith, take, map, length, Bor, List, ℕ}
 use Rattle.std.specs.Prelude.{option_map}
 use Rattle.std.specs.Map.{lookup}
 use Rattle.std.specs.Cmp.Lexicographic.{slice_cmp}
@@ -14,24 +14,24 @@ use Rattle.qm_batch.proofs.plan.diff.notes_of.Goals as goal
 pub loop-i-init : goal.loop-i-init
 loop-i-init g c = record {
   noted = λ base is from q.
-      ap (λ es. option_map (noted_view g.V.ByteString.bytes) (lookup (λ k. is_eq (slice_cmp nat_cmp q k.now)) es)) c.new-notes.ensures.empty
+      ap (λ es. option_map (noted_view g.U.Value.ByteString.bytes) (lookup (λ k. is_eq (slice_cmp nat_cmp q k.now)) es)) c.new-notes.ensures.empty
       ∙ no-change base q ∙ ap (λ ops. change_of base ops q) (sym (append-nil base));
-  short = none-kept (λ (k : Bor (List ℕ)). length k.now < 2 ^ 32) c.new-notes.result.entries c.new-notes.ensures.empty;
+  known = none-kept (λ (k : Bor (List ℕ)). g.U.Key.ByteString.has k.now ≡ true) c.new-notes.result.entries c.new-notes.ensures.empty;
 }
 
 pub loop-i-preserved : goal.loop-i-preserved
 loop-i-preserved g c = record {
   noted = λ base is from q.
-      let view = touch_view g.K.ByteString.bytes g.V.ByteString.bytes in
+      let view = touch_view g.U.Update.view g.U.Key.ByteString.bytes g.U.Value.ByteString.bytes in
       let touches = c.args.touches.now in
       let i = c.loop-i.i in
       c.in_ok-note.ensures.noted base (operations_of (map view (take i touches))) (own-long view base touches i c.args.size is (omega (arith, c.loop-i-test.true)))
       (all-mapped (IsFrom base) view touches i c.index-touches-i.result from c.loop-i-test.true c.index-touches-i.is) (c.loop-i.invariant.noted base is from) q
       ∙ ap (λ ops. change_of base ops q) (own-more view base touches i c.index-touches-i.result c.loop-i-test.true c.index-touches-i.is);
-  short = c.in_ok-note.ensures.short c.loop-i.invariant.short;
+  known = c.in_ok-note.ensures.known c.loop-i.invariant.known;
 }
 
 pub returns-clause-noted : goal.returns-clause-noted
 returns-clause-noted g c = λ base is from q.
-    let view = touch_view g.K.ByteString.bytes g.V.ByteString.bytes in
+    let view = touch_view g.U.Update.view g.U.Key.ByteString.bytes g.U.Value.ByteString.bytes in
     c.loop-i.invariant.noted base is from q ∙ ap (λ ts. change_of base (base ++ operations_of (map view ts)) q) (take_all c.loop-i.i c.args.touches.now c.loop-i-test.false)

@@ -1,4 +1,4 @@
-use Rattle.std.proofs.Common.{◌≡◌, ◌<◌, ◌^◌, ◌++◌, List, length, take, All}
+use Rattle.std.proofs.Common.{◌≡◌, ◌++◌, true, List, length, take, All}
 use Rattle.qm_model.specs.Operations.{Operation}
 use Rattle.qm_batch.specs.PlanViews.{touch_views, IsNoted}
 use Rattle.qm_batch.specs.Touches.{IsFrom, operations_of}
@@ -6,8 +6,8 @@ use Rattle.qm_batch.proofs.plan.diff.notes_of.Given as goal
 
 abbrev pub invariant-loop-i : goal.invariant-loop-i
 invariant-loop-i g l =
-    let views = touch_views g.K.ByteString.bytes g.V.ByteString.bytes in
+    let views = touch_views g.U.Update.view g.U.Key.ByteString.bytes g.U.Value.ByteString.bytes in
     record {
-      noted : (base : List Operation) → l.size ≡ length base → All (IsFrom base) (views l.touches) → IsNoted g.V.ByteString.bytes l.notes base (base ++ operations_of (views (take l.i l.touches)));
-      short : All (λ e. length e.0.now < 2 ^ 32) l.notes.entries;
+      noted : (base : List Operation) → l.size ≡ length base → All (IsFrom base) (views l.touches) → IsNoted g.U.Value.ByteString.bytes l.notes base (base ++ operations_of (views (take l.i l.touches)));
+      known : All (λ e. g.U.Key.ByteString.has e.0.now ≡ true) l.notes.entries;
     }

@@ -1,14 +1,14 @@
 use Rattle.std.proofs.Common.{◌≡◌, ◌∙◌, ◌-◌, ◌≤◌, ap, ap₂, sym, map, subst}
 use Rattle.std.specs.Prelude.{slice_get}
 use Rattle.std.proofs.lemmas.List.{drop_all}
-use Rattle.qm_base.specs.Views.{unordered_view}
+use Rattle.qm_base.specs.Views.{operation_view}
 use Rattle.qm_batch.specs.Layers.{Layer}
 use Rattle.qm_batch.proofs.PlanFinds.{found_in, found-base, found-here, match-shown, match-none, got, got-shown}
 use Rattle.qm_batch.proofs.plan.walk.in_layers.Goals as goal
 
 pub returns-then-base-at : goal.returns-then-base-at
 returns-then-base-at g c = λ lent base from within.
-    let view = unordered_view g.K.ByteString.bytes g.V.ByteString.bytes in
+    let view = operation_view g.U.Update.view g.U.Key.ByteString.bytes g.U.Value.ByteString.bytes in
     let layers = map (λ l. l.value) c.args.layers.now in
     let layer : Layer = c.layer-item.result.value in
     let first : c.base.result ≡ layer.base = c.base.ensures ∙ ap (λ (l : Layer). l.base) c.deref.ensures in

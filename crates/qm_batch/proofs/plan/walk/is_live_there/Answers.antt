@@ -10,25 +10,25 @@ use Rattle.qm_batch.proofs.Steps.{nearest-decides, lent-decides, map-twice}
 use Rattle.qm_batch.proofs.plan.walk.is_live_there.Goals as goal
 
 pub returns-in-Some : goal.returns-in-Some
-returns-in-Some g c = λ lent base value indexed from is.
-    let key = g.K.ByteString.bytes c.args.key.now in
+returns-in-Some g c = λ lent base value next indexed from is.
+    let key = g.U.Key.ByteString.bytes c.args.key.now in
     let layers = map (λ l. l.value) c.args.layers.now in
-    c.is_left_at.ensures g.V.ByteString.bytes ∙ ap (λ o. is_there o c.args.at)
-    (sym (nearest-decides layers lent base from key (change_view g.V.ByteString.bytes c.in-Some.entry.now)
-    (ap (option_map (λ e. change_view g.V.ByteString.bytes e.now)) (sym c.in-Some.is) ∙ c.newest.ensures
+    c.is_left_at.ensures g.U.Value.ByteString.bytes ∙ ap (λ o. is_there o c.args.at)
+    (sym (nearest-decides layers lent base from key (change_view g.U.Value.ByteString.bytes c.in-Some.entry.now)
+    (ap (option_map (λ p. change_view g.U.Value.ByteString.bytes p.1.now)) (sym c.in-Some.is) ∙ c.newest.ensures.value
     ∙ ap (nearest (map (λ l. (l.value).changes) c.args.layers.now)) c.as_bytes.ensures.value
     ∙ ap (λ ds. nearest ds key) (sym (map-twice (λ (l : Layer). l.changes) (λ l. l.value) c.args.layers.now)))))
 
 pub returns-in-None : goal.returns-in-None
-returns-in-None g c = λ lent base value indexed from is.
-    let key = g.K.ByteString.bytes c.args.key.now in
+returns-in-None g c = λ lent base value next indexed from is.
+    let key = g.U.Key.ByteString.bytes c.args.key.now in
     let entries = g.I.Unordered.entries c.args.index.now in
     let layers = map (λ l. l.value) c.args.layers.now in
     c.is_among.ensures
-    ∙ bucket-there g.I.Unordered.index_key entries layers lent base indexed from key value c.args.at is c.bucket.result.now
+    ∙ bucket-there g.I.Unordered.index_key entries layers lent base indexed from key value next c.args.at is c.bucket.result.now
     (c.bucket.ensures.value ∙ ap (λ k. bucket_at entries (g.I.Unordered.index_key k)) c.as_bytes-in-None.ensures.value)
     ∙ ap (λ o. is_there o c.args.at)
     (sym (lent-decides layers lent base from key
-    (ap (option_map (λ e. change_view g.V.ByteString.bytes e.now)) (sym c.in-None.is) ∙ c.newest.ensures
+    (ap (option_map (λ p. change_view g.U.Value.ByteString.bytes p.1.now)) (sym c.in-None.is) ∙ c.newest.ensures.value
     ∙ ap (nearest (map (λ l. (l.value).changes) c.args.layers.now)) c.as_bytes.ensures.value
     ∙ ap (λ ds. nearest ds key) (sym (map-twice (λ (l : Layer). l.changes) (λ l. l.value) c.args.layers.now)))))

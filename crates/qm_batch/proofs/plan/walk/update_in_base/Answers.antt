@@ -5,10 +5,10 @@ use Rattle.qm_batch.specs.Changes.{said_by, update_at}
 use Rattle.qm_batch.proofs.PlanFinds.{match-some, match-none}
 use Rattle.qm_batch.proofs.plan.walk.update_in_base.Goals as goal
 
-pub returns-in_ok-update_of-in-Some-clause-value : goal.returns-in_ok-update_of-in-Some-clause-value
-returns-in_ok-update_of-in-Some-clause-value g c = λ lent base logged unordered from within.
+pub returns-in_ok-twin_update-in-Some-clause-value : goal.returns-in_ok-twin_update-in-Some-clause-value
+returns-in_ok-twin_update-in-Some-clause-value g c = λ lent base logged unordered from within.
     told-any _ (g.C.Store.items c.args.log.now.store)
-    (c.in_ok-update_of-in-Some.ensures ∙ sym (ap (option_and_then said_by) (match-some c.in_layers.result c.in-Some.operation _ _ c.in-Some.is (c.in_layers.ensures lent base from within))))
+    (c.in_ok-twin_update-in-Some.ensures ∙ sym (ap (option_and_then said_by) (match-some c.in_layers.result c.in-Some.operation _ _ c.in-Some.is (c.in_layers.ensures lent base from within))))
 
 pub returns-in-None-clause-value : goal.returns-in-None-clause-value
 returns-in-None-clause-value g c = λ lent base logged unordered from within.

@@ -3,25 +3,25 @@ use Rattle.std.specs.Prelude.{option_map}
 use Rattle.std.proofs.lemmas.Result.{err_from_is_err_and}
 use Rattle.qm_model.proofs.Results.{told-any, told-both, told-err, told-one}
 use Rattle.qm_model.specs.Writes.{unordered_writes}
-use Rattle.qm_batch.specs.PlanViews.{touch_view, touch_views}
-use Rattle.qm_batch.proofs.PlanMoves.{walk-begins, walk-next, walk-enough, walk-done, written-long, shown-left}
+use Rattle.qm_batch.specs.PlanViews.{unordered_touch, unordered_touches}
+use Rattle.qm_batch.proofs.PlanMoves.{unordered-names, walk-begins, walk-next, walk-enough, walk-done, written-long, shown-left}
 use Rattle.qm_batch.proofs.Reading.{read-none, read-then, error-then, lent-then, told}
 use Rattle.qm_batch.proofs.plan.walk.walk_from.Goals as goal
 
 pub loop-at-init : goal.loop-at-init
 loop-at-init g c = record {
-  read = read-none g.C.Store g.F.Family.shape g.D.Digest.bytes g.H.Hasher.hash c.args.log.now;
+  read = read-none g.C.Store g.F.Family.shape g.H.Digest.Digest.bytes g.H.Hasher.hash c.args.log.now;
   low = omega arith;
   high = omega arith;
   value = λ lent base ws is from size last made.
       told-any _ (g.C.Store.items c.args.log.now.store)
-      (walk-begins base (base ++ unordered_writes base ws) (2 ^ 64 - 1) (touch_views g.K.ByteString.bytes g.V.ByteString.bytes c.new-moves.result.items) c.args.floor c.args.entries
-      (ap (map (touch_view g.K.ByteString.bytes g.V.ByteString.bytes)) c.new-moves.ensures.items));
+      (walk-begins base (base ++ unordered_writes base ws) (2 ^ 64 - 1) (unordered_touches g.K.ByteString.bytes g.V.Value.ByteString.bytes c.new-moves.result.items) c.args.floor c.args.entries
+      (ap (map (unordered_touch g.K.ByteString.bytes g.V.Value.ByteString.bytes)) c.new-moves.ensures.items));
 }
 
 pub returns-then-entries-eq0-clause-value : goal.returns-then-entries-eq0-clause-value
 returns-then-entries-eq0-clause-value g c = λ lent base ws is from size last made.
-    let view = touch_view g.K.ByteString.bytes g.V.ByteString.bytes in
+    let view = unordered_touch g.K.ByteString.bytes g.V.Value.ByteString.bytes in
     let list = base ++ unordered_writes base ws in
     let long = written-long view base ws c.args.made.now made in
     let short : length list ≤ 2 ^ 64 - 1 = omega (arith, long, size) in
@@ -34,12 +34,12 @@ returns-in_err-moved-clause-value g c = λ lent base ws is from size last made.
     told-err _ (g.C.Store.items c.args.log.now.store) c.from_residual.result exit.0 exit.1
 
 pub returns-in_err-moved-clause-read : goal.returns-in_err-moved-clause-read
-returns-in_err-moved-clause-read g c = read-then g.C.Store g.F.Family.shape g.D.Digest.bytes g.H.Hasher.hash c.args.log.now c.loop-at.log c.move_at.new.log c.loop-at.invariant.read c.move_at.ensures.read
+returns-in_err-moved-clause-read g c = read-then g.C.Store g.F.Family.shape g.H.Digest.Digest.bytes g.H.Hasher.hash c.args.log.now c.loop-at.log c.move_at.new.log c.loop-at.invariant.read c.move_at.ensures.read
 
 pub returns-in_err-moved-clause-error : goal.returns-in_err-moved-clause-error
 returns-in_err-moved-clause-error g c =
     let exit = err_from_is_err_and c.from_residual.result c.from_residual.ensures.1 in
-    rw (exit.1, exit.2) (error-then g.C.Store g.F.Family.shape g.D.Digest.bytes g.H.Hasher.hash c.args.log.now c.loop-at.log c.move_at.new.log _ c.loop-at.invariant.read c.in_err-moved.ensures.error)
+    rw (exit.1, exit.2) (error-then g.C.Store g.F.Family.shape g.H.Digest.Digest.bytes g.H.Hasher.hash c.args.log.now c.loop-at.log c.move_at.new.log _ c.loop-at.invariant.read c.in_err-moved.ensures.error)
 
 pub returns-in_err-moved-clause-pruned : goal.returns-in_err-moved-clause-pruned
 returns-in_err-moved-clause-pruned g c = λ above.
@@ -54,15 +54,15 @@ returns-in_err-entries-clause-value g c = λ lent base ws is from size last made
     told-err _ (g.C.Store.items c.args.log.now.store) c.from_residual-in_err-entries.result exit.0 exit.1
 
 pub returns-in_err-entries-clause-read : goal.returns-in_err-entries-clause-read
-returns-in_err-entries-clause-read g c = read-then g.C.Store g.F.Family.shape g.D.Digest.bytes g.H.Hasher.hash c.args.log.now c.loop-at.log c.move_at.new.log c.loop-at.invariant.read c.move_at.ensures.read
+returns-in_err-entries-clause-read g c = read-then g.C.Store g.F.Family.shape g.H.Digest.Digest.bytes g.H.Hasher.hash c.args.log.now c.loop-at.log c.move_at.new.log c.loop-at.invariant.read c.move_at.ensures.read
 
 pub loop-at-preserved : goal.loop-at-preserved
 loop-at-preserved g c =
-    let view = touch_view g.K.ByteString.bytes g.V.ByteString.bytes in
+    let view = unordered_touch g.K.ByteString.bytes g.V.Value.ByteString.bytes in
     let read = c.loop-at.invariant.read in
     let low = c.loop-at.invariant.low in
     record {
-      read = read-then g.C.Store g.F.Family.shape g.D.Digest.bytes g.H.Hasher.hash c.args.log.now c.loop-at.log c.move_at.new.log read c.move_at.ensures.read;
+      read = read-then g.C.Store g.F.Family.shape g.H.Digest.Digest.bytes g.H.Hasher.hash c.args.log.now c.loop-at.log c.move_at.new.log read c.move_at.ensures.read;
       low = omega (arith, low);
       high = omega (arith, c.loop-at-test.true);
       value = λ lent base ws is from size last made.
@@ -71,16 +71,16 @@ loop-at-preserved g c =
           let short : length list ≤ 2 ^ 64 - 1 = omega (arith, long, size) in
           let within : c.loop-at.at < length list = omega (arith, long, size, c.loop-at-test.true) in
           let some : 0 < c.loop-at.entries = omega (arith, c.if-entries-eq0.false) in
-          let mid = lent-then g.C.Store g.F.Family.shape g.D.Digest.bytes g.H.Hasher.hash g.I.Unordered.index_key (g.I.Unordered.entries c.args.index.now) c.args.log.now c.loop-at.log lent read is in
+          let mid = lent-then g.C.Store g.F.Family.shape g.H.Digest.Digest.bytes g.H.Hasher.hash _ g.I.Unordered.index_key (g.I.Unordered.entries c.args.index.now) c.args.log.now c.loop-at.log lent read is in
           told-both _ _ _ (g.C.Store.items c.args.log.now.store) (c.loop-at.invariant.value lent base ws is from size last made)
           (told _ _ _ read.kept.items (c.in_ok-moved.ensures.value lent base ws mid from size last made)) (λ so_far move.
-          walk-next base list (2 ^ 64 - 1) short (map view c.loop-at.moves.items) c.loop-at.at c.loop-at.entries _ so_far (map view c.add_move.new.moves.items) (option_map view c.in_ok-moved.moved) _ some within move
+          walk-next base list (2 ^ 64 - 1) short (map view c.loop-at.moves.items) c.loop-at.at c.loop-at.entries _ so_far (map view c.add_move.new.moves.items) (option_map view c.in_ok-moved.moved) _ some within (unordered-names g.K.ByteString.bytes g.V.Value.ByteString.bytes c.in_ok-moved.moved) move
           c.in_ok-entries.ensures.moves (shown-left view c.in_ok-moved.moved c.loop-at.entries _ c.in_ok-entries.ensures.left));
     }
 
 pub returns-clause-value : goal.returns-clause-value
 returns-clause-value g c = λ lent base ws is from size last made.
-    let view = touch_view g.K.ByteString.bytes g.V.ByteString.bytes in
+    let view = unordered_touch g.K.ByteString.bytes g.V.Value.ByteString.bytes in
     let list = base ++ unordered_writes base ws in
     let long = written-long view base ws c.args.made.now made in
     let short : length list ≤ 2 ^ 64 - 1 = omega (arith, long, size) in

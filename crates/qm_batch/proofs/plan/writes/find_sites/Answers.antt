@@ -1,24 +1,76 @@
-use Rattle.std.proofs.Common.{◌∙◌, ap, sym, map}
-use Rattle.std.specs.Prelude.{option_map}
-use Rattle.qm_model.proofs.Results.{told-one}
-use Rattle.qm_batch.specs.Changes.{update_of}
-use Rattle.qm_batch.specs.PlanViews.{site_in}
-use Rattle.qm_batch.specs.Views.{read_view, write_view}
+use Rattle.std.proofs.Common.{◌∙◌, ◌++◌, ap, ap₂, sym, map, subst}
+use Rattle.std.specs.Map.Iter.{deref}
+use Rattle.std.proofs.lemmas.Map.Iter.{rest_more, rest_all}
+use Rattle.std.proofs.lemmas.Result.{err_from_is_err_and}
+use Rattle.qm_model.proofs.Results.{told-any, told-both, told-err, told-one}
+use Rattle.qm_batch.specs.Lent.{NoneBelow}
+use Rattle.qm_batch.specs.PlanViews.{site_in, site_view}
+use Rattle.qm_batch.specs.Views.{write_view}
+use Rattle.qm_batch.proofs.PlanLoops.{drained-more, drained-all}
+use Rattle.qm_batch.proofs.Reading.{read-none, read-then, lent-then, error-then, told}
 use Rattle.qm_batch.proofs.Steps.{map-twice}
 use Rattle.qm_batch.proofs.plan.writes.find_sites.Goals as goal
 
+pub returns-in_err-locate-clause-value : goal.returns-in_err-locate-clause-value
+returns-in_err-locate-clause-value g c = λ lent base is from.
+    let exit = err_from_is_err_and c.from_residual.result c.from_residual.ensures.1 in
+    told-err _ (g.C.Store.items c.args.log.now.store) c.from_residual.result exit.0 exit.1
+
+pub returns-in_err-locate-clause-read : goal.returns-in_err-locate-clause-read
+returns-in_err-locate-clause-read g c = read-then g.C.Store g.F.Family.shape g.H.Digest.Digest.bytes g.H.Hasher.hash c.args.log.now c.loop-write.log c.locate.new.log c.loop-write.invariant.read c.locate.ensures.read
+
+pub returns-in_err-locate-clause-error : goal.returns-in_err-locate-clause-error
+returns-in_err-locate-clause-error g c =
+    let exit = err_from_is_err_and c.from_residual.result c.from_residual.ensures.1 in
+    rw (exit.1, exit.2) (error-then g.C.Store g.F.Family.shape g.H.Digest.Digest.bytes g.H.Hasher.hash c.args.log.now c.loop-write.log c.locate.new.log _ c.loop-write.invariant.read c.in_err-locate.ensures.error)
+
+pub returns-in_err-locate-clause-whole : goal.returns-in_err-locate-clause-whole
+returns-in_err-locate-clause-whole g c = λ lent is none.
+    let exit = err_from_is_err_and c.from_residual.result c.from_residual.ensures.1 in
+    let entries = g.I.Unordered.entries c.args.index.now in
+    let read = c.loop-write.invariant.read in
+    let mid = lent-then g.C.Store g.F.Family.shape g.H.Digest.Digest.bytes g.H.Hasher.hash g.U.Update.form g.I.Unordered.index_key entries c.args.log.now c.loop-write.log lent read is in
+    rw (exit.1, exit.2) (c.in_err-locate.ensures.whole lent mid (subst (λ t. NoneBelow t.start lent) (sym read.tree) none))
+
+pub returns-in_err-push-clause-value : goal.returns-in_err-push-clause-value
+returns-in_err-push-clause-value g c = λ lent base is from.
+    let exit = err_from_is_err_and c.from_residual-in_err-push.result c.from_residual-in_err-push.ensures.1 in
+    told-err _ (g.C.Store.items c.args.log.now.store) c.from_residual-in_err-push.result exit.0 exit.1
+
+pub returns-in_err-push-clause-read : goal.returns-in_err-push-clause-read
+returns-in_err-push-clause-read g c = read-then g.C.Store g.F.Family.shape g.H.Digest.Digest.bytes g.H.Hasher.hash c.args.log.now c.loop-write.log c.locate.new.log c.loop-write.invariant.read c.locate.ensures.read
+
+pub loop-write-init : goal.loop-write-init
+loop-write-init g c = record {
+  read = read-none g.C.Store g.F.Family.shape g.H.Digest.Digest.bytes g.H.Hasher.hash c.args.log.now;
+  value = λ lent base is from.
+      let key = g.U.Key.ByteString.bytes in
+      let value = g.U.Value.ByteString.bytes in
+      told-any _ (g.C.Store.items c.args.log.now.store)
+      (ap₂ (λ sites ws. map (site_view key value) sites ++ map (λ w. site_in base (write_view key value w.now)) ws) c.new-sites.ensures.items (c.into_iter-write-iterator.ensures.into_iter_gives ∙ c.values-write-items.ensures.rest)
+      ∙ map-twice (λ w. site_in base (write_view key value w.now)) (λ e. e.1) c.args.last.now.entries);
+}
+
+pub loop-write-preserved : goal.loop-write-preserved
+loop-write-preserved g c =
+    let read = c.loop-write.invariant.read in
+    let key = g.U.Key.ByteString.bytes in
+    let value = g.U.Value.ByteString.bytes in
+    record {
+      read = read-then g.C.Store g.F.Family.shape g.H.Digest.Digest.bytes g.H.Hasher.hash c.args.log.now c.loop-write.log c.locate.new.log read c.locate.ensures.read;
+      value = λ lent base is from.
+          let mid = lent-then g.C.Store g.F.Family.shape g.H.Digest.Digest.bytes g.H.Hasher.hash _ g.I.Unordered.index_key (g.I.Unordered.entries c.args.index.now) c.args.log.now c.loop-write.log lent read is in
+          told-both _ _ _ (g.C.Store.items c.args.log.now.store) (c.loop-write.invariant.value lent base is from)
+          (told _ _ _ read.kept.items (c.in_ok-locate.ensures.value lent base mid from)) (λ before found.
+          drained-more (site_view key value) (λ w. site_in base (write_view key value w.now)) c.loop-write.sites.items c.loop-write.write-iterator (map (λ e. site_in base (write_view key value e.1.now)) c.args.last.now.entries)
+          c.push.new.self.items c.next.new.self _ c.in-Some.write.now
+          (rest_more deref c.loop-write.write-iterator c.next.new.self c.next.result c.in-Some.write c.in-Some.is c.next.ensures.steps) c.in_ok-push.ensures.items (ap (λ o. (write_view key value c.in-Some.write.now.now, o)) (c.number_of-at.ensures ∙ found)) before);
+    }
+
 pub returns-clause-value : goal.returns-clause-value
 returns-clause-value g c = λ lent base is from.
-    let key = g.K.ByteString.bytes in
-    let value = g.V.ByteString.bytes in
-    told-one _ _ (g.C.Store.items c.args.log.now.store) (c.in_ok-found.ensures.value lent base is from) (λ found.
-    c.in_ok-sites.ensures base
-    (ap (map (option_map (read_view key value))) c.deref-4.ensures.value ∙ found
-    ∙ ap (map (λ k. update_of base (key k))) c.deref-2.ensures.value ∙ sym (map-twice (update_of base) key c.in_ok-keys.keys.items)
-    ∙ ap (map (update_of base)) (c.in_ok-keys.ensures ∙ ap (map (λ w. key w.now.key)) c.deref.ensures.value)
-    ∙ map-twice (update_of base) (λ w. key w.now.key) c.in_ok-writes.writes.items
-    ∙ sym (ap (map (λ w. update_of base (key w.now.key))) c.deref-3.ensures.value))
-    ∙ ap (map (λ w. site_in base (write_view key value w.now))) c.deref-3.ensures.value
-    ∙ sym (map-twice (site_in base) (λ w. write_view key value w.now) c.in_ok-writes.writes.items)
-    ∙ ap (map (site_in base)) c.in_ok-writes.ensures
-    ∙ map-twice (site_in base) (λ e. write_view key value e.1.now) c.args.last.now.entries)
+    let key = g.U.Key.ByteString.bytes in
+    let value = g.U.Value.ByteString.bytes in
+    told-one _ _ (g.C.Store.items c.args.log.now.store) (c.loop-write.invariant.value lent base is from) (λ all.
+    drained-all (site_view key value) (λ w. site_in base (write_view key value w.now)) c.loop-write.sites.items c.loop-write.write-iterator (map (λ e. site_in base (write_view key value e.1.now)) c.args.last.now.entries)
+    (rest_all deref c.loop-write.write-iterator c.next.new.self c.next.result c.in-None.is c.next.ensures.steps) all)

@@ -1,12 +1,12 @@
 use Rattle.std.proofs.Common.{◌≡◌, ◌++◌, map}
-use Rattle.qm_base.specs.Views.{unordered_view}
-use Rattle.qm_batch.specs.PlanViews.{touch_view}
+use Rattle.qm_batch.specs.PlanViews.{unordered_view}
+use Rattle.qm_batch.specs.PlanViews.{unordered_touch}
 use Rattle.qm_batch.specs.Touches.{moved_touch}
 use Rattle.qm_batch.proofs.plan.writes.moved_touches.Given as goal
 
 abbrev pub invariant-loop-at : goal.invariant-loop-at
 invariant-loop-at g l =
     let key = g.K.ByteString.bytes in
-    let value = g.V.ByteString.bytes in
-    map (touch_view key value) l.touches.items ++ map (λ e. moved_touch (e.0, unordered_view key value e.1)) l.at-iterator
+    let value = g.V.Value.ByteString.bytes in
+    map (unordered_touch key value) l.touches.items ++ map (λ e. moved_touch (e.0, unordered_view key value e.1)) l.at-iterator
     ≡ map (λ e. moved_touch (e.0, unordered_view key value e.1)) l.fn.rewrites.entries
