@@ -4,9 +4,9 @@ use Rattle.std.specs.Prelude.{Contains}
 use Rattle.std.proofs.lemmas.List.{length-map}
 use Rattle.qm_model.specs.Operations.{Bytes, Operation}
 use Rattle.qm_model.specs.Batches.{Commitment, Chain, Kept, IsKnown, IsOnChain, boundary_list, oldest_base, commitment}
-use Rattle.qm_model.specs.Trees.{Shape, ops_root}
 use Rattle.qm_model.proofs.Chains.{Contains-first, Contains-more}
 use Rattle.qm_batch.specs.Layers.{IsBase}
+use Rattle.qm_any.specs.Layouts.{Hashing, list_root}
 use Rattle.qm_any.specs.Databases.{Made, IsMade, AreLinked, bases_of, kept_by, child_boundary, child_tips, list_commitment}
 
 -- what a list's first elements contain, it contains
@@ -77,13 +77,13 @@ module _ (root : List Operation → Bytes) where
   tips-at [] (suc n) last few = absurd (omega arith)
   tips-at (k ∷ ks) (suc n) last few = ap (λ rest. commitment root k.tip ∷ rest) (tips-at ks n last (omega arith))
 
-module _ {D : Type 0} (bytes : D → Bytes) (hash : Bytes → Bytes) (shape : Shape) where
+module _ {D : Type 0} {hashing : Hashing D} where
   -- a list that a merkleized batch knows is one on the way to its tip
-  pub made-base : (batch : Made D) (list : List Operation) (chain : Chain) (tip : List Operation) → IsMade bytes hash shape batch chain tip → IsKnown list chain tip → IsBase batch.layers list tip
+  pub made-base : (batch : Made D) (list : List Operation) (chain : Chain) (tip : List Operation) → IsMade hashing batch chain tip → IsKnown list chain tip → IsBase batch.layers list tip
   made-base batch list chain tip made known = record { older = bases_of chain; steps = made.steps; among = known-base list chain tip made.linked known }
 
   -- a list on the chain of a child is one on the way to the parent's tip
-  pub child-base : (parent : Made D) (keep : ℕ) (list : List Operation) (chain above : Chain) → IsMade bytes hash shape parent above chain.base → chain.kept ≡ kept_by keep above chain.base → IsOnChain list chain
+  pub child-base : (parent : Made D) (keep : ℕ) (list : List Operation) (chain above : Chain) → IsMade hashing parent above chain.base → chain.kept ≡ kept_by keep above chain.base → IsOnChain list chain
       → IsBase parent.layers list chain.base
   child-base parent keep list chain above made kept on =
       let linked = subst (AreLinked chain.base) (sym kept) (child-linked keep above chain.base made.linked) in
@@ -95,25 +95,25 @@ module _ {D : Type 0} (bytes : D → Bytes) (hash : Bytes → Bytes) (shape : Sh
       }
 
   -- so many are no more than the chain keeps
-  kept-few : (parent : Made D) (n : ℕ) (above : Chain) (tip : List Operation) → suc n ≤ suc (length parent.bounds.ancestors) → IsMade bytes hash shape parent above tip → n ≤ length above.kept
+  kept-few : (parent : Made D) (n : ℕ) (above : Chain) (tip : List Operation) → suc n ≤ suc (length parent.bounds.ancestors) → IsMade hashing parent above tip → n ≤ length above.kept
   kept-few parent n above tip few made =
-      let count : length parent.bounds.ancestors ≡ length above.kept = ap length made.bounds.ancestors ∙ length-map above.kept (λ (k : Kept). commitment (ops_root hash shape) k.tip) in
+      let count : length parent.bounds.ancestors ≡ length above.kept = ap length made.bounds.ancestors ∙ length-map above.kept (λ (k : Kept). commitment (list_root hashing) k.tip) in
       omega (arith, few, count)
 
   -- what stands for the boundary of a child's chain, and for its kept tips
-  pub child-boundary : (parent : Made D) (keep : ℕ) (chain above : Chain) → keep ≤ suc (length parent.bounds.ancestors) → IsMade bytes hash shape parent above chain.base → chain.kept ≡ kept_by keep above chain.base
-      → child_boundary keep parent.bounds ≡ list_commitment hash shape (boundary_list chain)
-  child-boundary parent zero chain above few made kept = made.bounds.tip ∙ ap (λ ks. list_commitment hash shape (oldest_base chain.base ks)) (sym kept)
+  pub child-boundary : (parent : Made D) (keep : ℕ) (chain above : Chain) → keep ≤ suc (length parent.bounds.ancestors) → IsMade hashing parent above chain.base → chain.kept ≡ kept_by keep above chain.base
+      → child_boundary keep parent.bounds ≡ list_commitment hashing (boundary_list chain)
+  child-boundary parent zero chain above few made kept = made.bounds.tip ∙ ap (λ ks. list_commitment hashing (oldest_base chain.base ks)) (sym kept)
   child-boundary parent (suc n) chain above few made kept =
       ap₂ (λ tips db. get_or (tips ++ db ∷ []) n parent.bounds.db) made.bounds.ancestors made.bounds.db
-      ∙ boundary-at (ops_root hash shape) above.base above.kept n parent.bounds.db made.linked (kept-few parent n above chain.base few made)
-      ∙ ap (λ ks. list_commitment hash shape (oldest_base chain.base ks)) (sym kept)
+      ∙ boundary-at (list_root hashing) above.base above.kept n parent.bounds.db made.linked (kept-few parent n above chain.base few made)
+      ∙ ap (λ ks. list_commitment hashing (oldest_base chain.base ks)) (sym kept)
 
-  pub child-tips : (parent : Made D) (keep : ℕ) (chain above : Chain) → keep ≤ suc (length parent.bounds.ancestors) → IsMade bytes hash shape parent above chain.base → chain.kept ≡ kept_by keep above chain.base
-      → child_tips keep parent.bounds ≡ map (λ (k : Kept). list_commitment hash shape k.tip) chain.kept
-  child-tips parent zero chain above few made kept = ap (map (λ (k : Kept). list_commitment hash shape k.tip)) (sym kept)
+  pub child-tips : (parent : Made D) (keep : ℕ) (chain above : Chain) → keep ≤ suc (length parent.bounds.ancestors) → IsMade hashing parent above chain.base → chain.kept ≡ kept_by keep above chain.base
+      → child_tips keep parent.bounds ≡ map (λ (k : Kept). list_commitment hashing k.tip) chain.kept
+  child-tips parent zero chain above few made kept = ap (map (λ (k : Kept). list_commitment hashing k.tip)) (sym kept)
   child-tips parent (suc n) chain above few made kept =
       ap₂ (λ tip rest. tip ∷ rest) made.bounds.tip
       (ap₂ (λ tips db. take n (tips ++ db ∷ [])) made.bounds.ancestors made.bounds.db
-      ∙ tips-at (ops_root hash shape) above.kept n (list_commitment hash shape (boundary_list above)) (kept-few parent n above chain.base few made))
-      ∙ ap (map (λ (k : Kept). list_commitment hash shape k.tip)) (sym kept)
+      ∙ tips-at (list_root hashing) above.kept n (list_commitment hashing (boundary_list above)) (kept-few parent n above chain.base few made))
+      ∙ ap (map (λ (k : Kept). list_commitment hashing k.tip)) (sym kept)

@@ -5,16 +5,15 @@ use Rattle.std.specs.List.{cons_option, AllByRecursion as Each}
 use Rattle.std.proofs.lemmas.Bool.Decides.{nat_tests}
 use Rattle.std.proofs.lemmas.List.{take-map, take_more, take_all, take-append-le, take-append-drop, length-append, length-drop, map-append}
 use Rattle.std.proofs.lemmas.List.Elements.{All-cons, All-nil, All-take, All-drop, All-append, All-weaker, All-from_recursion, recursion_from_All, Contains-append_right}
-use Rattle.qm_model.specs.Operations.{Bytes, Operation, update, delete, commit, spelling, field, four_bytes, eight_bytes, optional_field}
+use Rattle.qm_model.specs.Forms.{Form, IsOf, spelling}
+use Rattle.qm_model.specs.Operations.{Bytes, Operation, update, delete, commit}
 use Rattle.qm_model.specs.Batches.{Commitment, Chain, Kept}
 use Rattle.qm_model.specs.Live.{live, live_of, floor, floor_after, last_metadata, metadata_after}
 use Rattle.qm_model.specs.Policies.{Policy, policies}
-use Rattle.qm_model.specs.Refusals.{too_long, max_spelling}
-use Rattle.qm_model.specs.Trees.{Shape, ops_root}
+use Rattle.qm_model.specs.Refusals.{too_long}
 use Rattle.qm_model.specs.Writes.{Write, write_of, last_writes, operation_of, rewrite_of, create_of, unordered_writes}
 use Rattle.qm_model.proofs.Steps.{walked, moved, walked-walks}
 use Rattle.qm_model.proofs.Walks.{walks_within}
-use Rattle.qm_base.specs.Decode.{IsUnordered}
 use Rattle.qm_base.specs.declared.error.Error.{Error}
 use Rattle.qm_base.specs.declared.error.Error.TheVariants as errors
 use Rattle.qm_base.specs.declared.error.JournalError.TheVariants as journal
@@ -23,8 +22,9 @@ use Rattle.qm_chain.specs.Bounds.{Bounds}
 use Rattle.qm_batch.specs.Layers.{Layer, LeadThrough}
 use Rattle.qm_batch.specs.Views.{Plan, IsPlan}
 use Rattle.qm_any.specs.Databases.{Made, AreAgreed, AreJoined, AreLinked, IsMade, bases, bases_of, states, child_boundary, child_made, child_tips, kept_by, stepped}
+use Rattle.qm_any.specs.Layouts.{Hashing, list_root}
 use Rattle.qm_any.specs.KeptTrees.{KeptTree, IsKeptTree, leaves_of}
-use Rattle.qm_any.specs.Tips.{own_spellings, IsTooLong}
+use Rattle.qm_any.specs.Tips.{own_spellings, IsLow, IsTooLong}
 use Rattle.qm_any.proofs.Known.{child-linked, child-bases, child-boundary, child-tips}
 
 -- what a list has is in it with one more element before it
@@ -152,12 +152,12 @@ pub plan-length : (plan : Plan) (base tip : List Operation) → IsPlan plan base
 plan-length plan base tip is = sym (length-append base plan.operations) ∙ ap length (sym (plan-behind plan base tip is))
 
 -- and their spellings
-pub plan-spelled : (plan : Plan) (base tip : List Operation) (items : List Bytes) → IsPlan plan base tip → items ≡ map spelling plan.operations → map spelling base ++ items ≡ map spelling tip
-plan-spelled plan base tip items is spelt =
-    ap (λ xs. map spelling base ++ xs) spelt ∙ sym (map-append spelling base plan.operations) ∙ ap (map spelling) (sym (plan-behind plan base tip is))
+pub plan-spelled : (form : Form) (plan : Plan) (base tip : List Operation) (items : List Bytes) → IsPlan plan base tip → items ≡ map (spelling form) plan.operations → map (spelling form) base ++ items ≡ map (spelling form) tip
+plan-spelled form plan base tip items is spelt =
+    ap (λ xs. map (spelling form) base ++ xs) spelt ∙ sym (map-append (spelling form) base plan.operations) ∙ ap (map (spelling form)) (sym (plan-behind plan base tip is))
 
-module _ {D : Type 0} (bytes : D → Bytes) (hash : Bytes → Bytes) (shape : Shape) (parent : Made D) (keep : ℕ) (chain above : Chain)
-    (few : keep ≤ suc (length parent.bounds.ancestors)) (made : IsMade bytes hash shape parent above chain.base) (kept : chain.kept ≡ kept_by keep above chain.base) where
+module _ {D : Type 0} {hashing : Hashing D} (parent : Made D) (keep : ℕ) (chain above : Chain)
+    (few : keep ≤ suc (length parent.bounds.ancestors)) (made : IsMade hashing parent above chain.base) (kept : chain.kept ≡ kept_by keep above chain.base) where
   -- a child's steps start from the first lists from which the parent's start, behind its own
   child-older : map (λ (k : Kept). k.base) chain.kept ≡ take keep (bases_of above)
   child-older = ap (map (λ (k : Kept). k.base)) kept ∙ child-bases keep above chain.base
@@ -167,16 +167,16 @@ module _ {D : Type 0} (bytes : D → Bytes) (hash : Bytes → Bytes) (shape : Sh
   child-among list has = contains-whole (suc keep) (chain.base ∷ bases_of above) list (subst (λ ls. Contains (chain.base ∷ ls) list) child-older has)
 
   -- a plan on the parent's list makes a batch of the child's chain
-  pub child-is_made : (plan : Plan) (tree : KeptTree D) (root : Bytes) (meta : Option Bytes) (tip : List Operation) → IsPlan plan chain.base tip → IsKeptTree bytes hash shape tree tip (chain.base ∷ bases_of above)
-      → root ≡ ops_root hash shape tip → meta ≡ last_metadata tip → All IsUnordered tip → IsMade bytes hash shape (child_made parent keep plan tree root meta) chain tip
-  child-is_made plan tree root meta tip is grown standing last ordered =
-      let goes : List Operation → Type 0 = λ l. Contains (leaves_of hash shape tip ∷ grown.lists) (leaves_of hash shape l) in
+  pub child-is_made : (plan : Plan) (tree : KeptTree D) (root : Bytes) (meta : Option Bytes) (tip : List Operation) → IsPlan plan chain.base tip → IsKeptTree hashing tree tip (chain.base ∷ bases_of above)
+      → root ≡ list_root hashing tip → meta ≡ last_metadata tip → All (IsOf hashing.form) tip → IsMade hashing (child_made parent keep plan tree root meta) chain tip
+  child-is_made plan tree root meta tip is grown standing last all =
+      let goes : List Operation → Type 0 = λ l. Contains (leaves_of hashing tip ∷ grown.lists) (leaves_of hashing l) in
       record {
         bounds = record {
           base = made.bounds.tip;
-          db = child-boundary bytes hash shape parent keep chain above few made kept;
+          db = child-boundary parent keep chain above few made kept;
           tip = ap₂ (λ (size : ℕ) (r : Bytes). record { size = size; root = r }) grown.leaves standing;
-          ancestors = child-tips bytes hash shape parent keep chain above few made kept;
+          ancestors = child-tips parent keep chain above few made kept;
         };
         lowest = is.floor;
         live = is.live;
@@ -192,87 +192,56 @@ module _ {D : Type 0} (bytes : D → Bytes) (hash : Bytes → Bytes) (shape : Sh
           history = grown.history;
           through = subst (λ ls. All goes (chain.base ∷ ls)) (sym child-older) (All-take goes (suc keep) (chain.base ∷ bases_of above) grown.through);
         };
-        unordered = ordered;
+        of = all;
       }
 
--- an operation without a next key, and with a floor of at most 2 ^ 62
-abbrev pub IsPlain : Operation → Type 0
-IsPlain (update key value next) = next ≡ None
-IsPlain (delete key) = Unit {0}
-IsPlain (commit meta low) = low ≤ 2 ^ 62
+-- an operation of a form has a low floor
+low-from : (form : Form) (op : Operation) → IsOf form op → IsLow op
+low-from form (update key value next) is = tt
+low-from form (delete key) is = tt
+low-from form (commit meta low) is = is.1
 
-plain-from : (op : Operation) → IsUnordered op → IsPlain op
-plain-from (update key value next) is = is.2
-plain-from (delete key) is = tt
-plain-from (commit meta low) is = is.1
+low-operation : (key : Bytes) (value : Option Bytes) → IsLow (operation_of (record { key = key; value = value }))
+low-operation key None = tt
+low-operation key (Some value) = tt
 
--- what is plain, and spelled in at most 65,536 bytes, is an operation of an unordered database
-short-field : (bs more : Bytes) → length (field bs ++ more) ≤ max_spelling → length bs ≤ max_spelling
-short-field bs more short = omega (arith, length-append (four_bytes (length bs) ++ bs) more, length-append (four_bytes (length bs)) bs)
+-- moves have low floors, as they have none
+low-moves : (ds : List Write) → Each IsLow (map operation_of ds)
+low-moves [] = tt
+low-moves (w ∷ ds) = (low-operation w.key w.value, low-moves ds)
 
-unordered-from : (op : Operation) → IsPlain op → length (spelling op) ≤ max_spelling → IsUnordered op
-unordered-from (update key value next) plain short =
-    let first = short-field key (field value ++ optional_field next) (omega arith) in
-    let second = short-field value (optional_field next) (omega (arith, length-append (field key) (field value ++ optional_field next))) in
-    (omega arith, omega arith, plain)
-unordered-from (delete key) plain short = omega (arith, length-append (four_bytes (length key)) key)
-unordered-from (commit None low) plain short = (tt, plain)
-unordered-from (commit (Some value) low) plain short = (omega (arith, short-field value (eight_bytes low) (omega arith)), plain)
+low-cons : (o : Option Operation) (ops : List Operation) → IfSome o IsLow → Each IsLow ops → Each IsLow (cons_option o ops)
+low-cons None ops here later = later
+low-cons (Some op) ops here later = (here, later)
 
--- where none of the spellings is too long, each is short
-each-short : (ops : List Operation) → too_long (map spelling ops) ≡ None → Each (λ op. length (spelling op) ≤ max_spelling) ops
-each-short [] none = tt
-each-short (op ∷ ops) none = by (nat_lt max_spelling (length (spelling op))) refl none (each-short ops)
-  where
-    by : (t : Bool) → nat_lt max_spelling (length (spelling op)) ≡ t → (if t then Some (length (spelling op)) else too_long (map spelling ops)) ≡ None
-        → (too_long (map spelling ops) ≡ None → Each (λ op. length (spelling op) ≤ max_spelling) ops) → (length (spelling op) ≤ max_spelling) × Each (λ op. length (spelling op) ≤ max_spelling) ops
-    by true is none later = cc
-    by false is none later = (within (length (spelling op)) is, later none)
-      where
-        within : (n : ℕ) → nat_lt max_spelling n ≡ false → n ≤ max_spelling
-        within n is = grind (arith, nat_tests)
+low-kept : {X : Type 0} (h : X → Option Operation) → ((x : X) → IfSome (h x) IsLow) → (xs : List X) → Each IsLow (filter_map h xs)
+low-kept h low [] = tt
+low-kept h low (x ∷ xs) = low-cons (h x) (filter_map h xs) (low x) (low-kept h low xs)
 
-plain-operation : (key : Bytes) (value : Option Bytes) → IsPlain (operation_of (record { key = key; value = value }))
-plain-operation key None = tt
-plain-operation key (Some value) = refl
+low-write : (o : Option Write) → IfSome (option_map operation_of o) IsLow
+low-write None = tt
+low-write (Some w) = low-operation w.key w.value
 
--- moves are plain
-plain-moves : (ds : List Write) → Each IsPlain (map operation_of ds)
-plain-moves [] = tt
-plain-moves (w ∷ ds) = (plain-operation w.key w.value, plain-moves ds)
-
-plain-cons : (o : Option Operation) (ops : List Operation) → IfSome o IsPlain → Each IsPlain ops → Each IsPlain (cons_option o ops)
-plain-cons None ops here later = later
-plain-cons (Some op) ops here later = (here, later)
-
-plain-kept : {X : Type 0} (h : X → Option Operation) → ((x : X) → IfSome (h x) IsPlain) → (xs : List X) → Each IsPlain (filter_map h xs)
-plain-kept h plain [] = tt
-plain-kept h plain (x ∷ xs) = plain-cons (h x) (filter_map h xs) (plain x) (plain-kept h plain xs)
-
-plain-write : (o : Option Write) → IfSome (option_map operation_of o) IsPlain
-plain-write None = tt
-plain-write (Some w) = plain-operation w.key w.value
-
-plain-create : (key : Bytes) (stood : Bool) (o : Option Bytes) → IfSome (if stood then None else option_map (λ value. update key value None) o) IsPlain
-plain-create key true o = tt
-plain-create key false None = tt
-plain-create key false (Some value) = refl
+low-create : (key : Bytes) (stood : Bool) (o : Option Bytes) → IfSome (if stood then None else option_map (λ value. update key value None) o) IsLow
+low-create key true o = tt
+low-create key false None = tt
+low-create key false (Some value) = tt
 
 -- so are the operations of writes
-plain-writes : (base : List Operation) (ws : List Write) → All IsPlain (unordered_writes base ws)
-plain-writes base ws =
+low-writes : (base : List Operation) (ws : List Write) → All IsLow (unordered_writes base ws)
+low-writes base ws =
     let last = last_writes ws in
     let found = live base in
-    All-append IsPlain (filter_map (rewrite_of last) found) (filter_map (create_of found) last)
-    (All-from_recursion IsPlain (filter_map (rewrite_of last) found) (plain-kept (rewrite_of last) (λ e. plain-write (write_of last e.key)) found))
-    (All-from_recursion IsPlain (filter_map (create_of found) last) (plain-kept (create_of found) (λ w. plain-create w.key (is_some (live_of found w.key)) w.value) last))
+    All-append IsLow (filter_map (rewrite_of last) found) (filter_map (create_of found) last)
+    (All-from_recursion IsLow (filter_map (rewrite_of last) found) (low-kept (rewrite_of last) (λ e. low-write (write_of last e.key)) found))
+    (All-from_recursion IsLow (filter_map (create_of found) last) (low-kept (create_of found) (λ w. low-create w.key (is_some (live_of found w.key)) w.value) last))
 
--- the floor of plain operations is at most 2 ^ 62
-low-floor : (low : ℕ) (ops : List Operation) → low ≤ 2 ^ 62 → Each IsPlain ops → floor_after low ops ≤ 2 ^ 62
-low-floor low [] few plain = few
-low-floor low (update key value next ∷ ops) few plain = low-floor low ops few plain.1
-low-floor low (delete key ∷ ops) few plain = low-floor low ops few plain.1
-low-floor low (commit meta next ∷ ops) few plain = low-floor next ops plain.0 plain.1
+-- the floor of operations with low floors is low
+low-floor : (low : ℕ) (ops : List Operation) → low ≤ 2 ^ 62 → Each IsLow ops → floor_after low ops ≤ 2 ^ 62
+low-floor low [] few lows = few
+low-floor low (update key value next ∷ ops) few lows = low-floor low ops few lows.1
+low-floor low (delete key ∷ ops) few lows = low-floor low ops few lows.1
+low-floor low (commit meta next ∷ ops) few lows = low-floor next ops lows.0 lows.1
 
 -- the metadata of a list is that of a commit at its end
 last-commit : (before : Option Bytes) (ops : List Operation) (meta : Option Bytes) (low : ℕ) → metadata_after before (ops ++ commit meta low ∷ []) ≡ meta
@@ -289,37 +258,35 @@ module _ (base : List Operation) (ws : List Write) (policy : Policy) (meta : Opt
       let list = moved policies base ws policy meta in
       sym (last-commit None list meta (if length (live list) == 0 then length list else (walked policies base ws policy meta).floor))
 
-  stepped-plain : All IsUnordered base → length (stepped base ws policy meta) ≤ 2 ^ 62 → All IsPlain (stepped base ws policy meta)
-  stepped-plain ordered few =
+  stepped-low : All IsLow base → length (stepped base ws policy meta) ≤ 2 ^ 62 → All IsLow (stepped base ws policy meta)
+  stepped-low lows few =
       let made = unordered_writes base ws in
       let walk = walked policies base ws policy meta in
       let list = moved policies base ws policy meta in
-      let plain = All-weaker IsUnordered IsPlain plain-from base ordered in
-      let below = low-floor 0 base (omega arith) (recursion_from_All IsPlain base plain) in
+      let below = low-floor 0 base (omega arith) (recursion_from_All IsLow base lows) in
       let within = walks_within policies (walked-walks policies base ws policy meta) in
       let count = length-append list (commit meta (if length (live list) == 0 then length list else walk.floor) ∷ []) in
       let size : length list ≤ 2 ^ 62 = omega (arith, few, count) in
       let first : length (base ++ made) ≤ 2 ^ 62 = omega (arith, size, length-append (base ++ made) (map operation_of walk.decisions)) in
       let end : walk.floor ≤ 2 ^ 62 = omega (arith, within.1, length-drop (floor base) (base ++ made), first, below) in
-      All-append IsPlain list (commit meta (if length (live list) == 0 then length list else walk.floor) ∷ [])
-      (All-append IsPlain (base ++ made) (map operation_of walk.decisions) (All-append IsPlain base made plain (plain-writes base ws))
-      (All-from_recursion IsPlain (map operation_of walk.decisions) (plain-moves walk.decisions)))
-      (All-cons IsPlain (commit meta (if length (live list) == 0 then length list else walk.floor)) [] (by (length (live list) == 0) (length list) walk.floor size end) (All-nil IsPlain))
+      All-append IsLow list (commit meta (if length (live list) == 0 then length list else walk.floor) ∷ [])
+      (All-append IsLow (base ++ made) (map operation_of walk.decisions) (All-append IsLow base made lows (low-writes base ws))
+      (All-from_recursion IsLow (map operation_of walk.decisions) (low-moves walk.decisions)))
+      (All-cons IsLow (commit meta (if length (live list) == 0 then length list else walk.floor)) [] (by (length (live list) == 0) (length list) walk.floor size end) (All-nil IsLow))
     where
       by : (t : Bool) (n f : ℕ) → n ≤ 2 ^ 62 → f ≤ 2 ^ 62 → (if t then n else f) ≤ 2 ^ 62
       by true n f one other = one
       by false n f one other = other
 
-  -- it is one of an unordered database, if no own spelling is too long and the list is not
-  pub stepped-unordered : All IsUnordered base → take (length base) (stepped base ws policy meta) ≡ base → too_long (own_spellings base (stepped base ws policy meta)) ≡ None
-      → length (stepped base ws policy meta) ≤ 2 ^ 62 → All IsUnordered (stepped base ws policy meta)
-  stepped-unordered ordered begins none few =
+  -- it is of the form of its base list, where operations with low floors behind that are and it is not too long
+  pub stepped-of : (form : Form) (own : List Operation) → All (IsOf form) base → take (length base) (stepped base ws policy meta) ≡ base → own ≡ drop (length base) (stepped base ws policy meta)
+      → (All IsLow own → All (IsOf form) own) → length (stepped base ws policy meta) ≤ 2 ^ 62 → All (IsOf form) (stepped base ws policy meta)
+  stepped-of form own all begins is of few =
       let tip = stepped base ws policy meta in
-      let own = drop (length base) tip in
-      let plain = All-drop IsPlain (length base) tip (stepped-plain ordered few) in
-      let short = All-from_recursion (λ op. length (spelling op) ≤ max_spelling) own (each-short own none) in
-      subst (All IsUnordered) (take-append-drop (length base) tip)
-      (All-append IsUnordered (take (length base) tip) own (subst (All IsUnordered) (sym begins) ordered) (λ k d within. unordered-from (get_or own k d) (plain k d within) (short k d within)))
+      let lows = All-drop IsLow (length base) tip (stepped-low (All-weaker (IsOf form) IsLow (low-from form) base all) few) in
+      subst (All (IsOf form)) (take-append-drop (length base) tip)
+      (All-append (IsOf form) (take (length base) tip) (drop (length base) tip) (subst (All (IsOf form)) (sym begins) all)
+      (subst (All (IsOf form)) is (of (subst (All IsLow) (sym is) lows))))
 
 -- the tips that a child keeps: its parent's own, and the first of those that the parent keeps
 pub kept-tips : {A : Type 0} (view : A → Commitment) (bounds : Bounds) (keep i : ℕ) (older kept tips : List A) → map view older ≡ bounds.ancestors → 0 < keep → keep ≤ suc (length bounds.ancestors)
@@ -343,7 +310,7 @@ too_long-cause spelt size e (inl long) fault = absurd (cc (long.2, fault))
 too_long-cause spelt size e (inr many) fault = absurd (cc (many.2, fault))
 
 -- an error that tells what is too long of the operations of a plan tells it of the own operations of its list
-pub plan-refused : (plan : Plan) (base tip : List Operation) (items : List Bytes) (size : ℕ) (e : Error) → IsPlan plan base tip → items ≡ map spelling plan.operations → size ≡ length base + length plan.operations
-    → IsTooLong items size e → IsTooLong (own_spellings base tip) (length tip) e
-plan-refused plan base tip items size e is spelt count long =
-    subst (λ n. IsTooLong (own_spellings base tip) n e) (count ∙ plan-length plan base tip is) (subst (λ xs. IsTooLong xs size e) (spelt ∙ ap (map spelling) is.operations) long)
+pub plan-refused : (form : Form) (plan : Plan) (base tip : List Operation) (items : List Bytes) (size : ℕ) (e : Error) → IsPlan plan base tip → items ≡ map (spelling form) plan.operations → size ≡ length base + length plan.operations
+    → IsTooLong items size e → IsTooLong (own_spellings form base tip) (length tip) e
+plan-refused form plan base tip items size e is spelt count long =
+    subst (λ n. IsTooLong (own_spellings form base tip) n e) (count ∙ plan-length plan base tip is) (subst (λ xs. IsTooLong xs size e) (spelt ∙ ap (map (spelling form)) is.operations) long)

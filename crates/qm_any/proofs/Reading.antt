@@ -1,61 +1,63 @@
 -- What reads leave of a database, and what they find.
 use Rattle.std.proofs.Common.{◌≡◌, ◌∙◌, ◌<◌, ◌+◌, ap, sym, subst, refl, ℕ, List, [], ◌∷◌, ◌++◌, length, map, take, get_or, Option, None, Some, true, false}
-use Rattle.std.specs.Prelude.{IsSome, bytes_eq, option_map}
+use Rattle.std.specs.Prelude.{IsSome, bytes_eq, option_map, option_and_then}
 use Rattle.std.proofs.lemmas.List.{map_more}
 use Rattle.std.proofs.lemmas.List.Sums.{fold_push}
 use Rattle.std.proofs.lemmas.Slice.Eq.{bytes_eq-Decides}
 use Rattle.qm_model.specs.Operations.{Bytes, Operation}
 use Rattle.qm_model.specs.Live.{Live, live, live_of, value_of}
-use Rattle.qm_model.specs.Trees.{Shape}
 use Rattle.qm_model.specs.Writes.{Write, put_write, write_of, last_writes}
 use Rattle.qm_model.proofs.Chains.{Contains-first}
 use Rattle.qm_model.proofs.LastWrites.{write_of-same, write_of-other}
+use Rattle.qm_base.specs.Parts as parts
 use Rattle.qm_base.specs.declared.error.Error.{Error}
 use Rattle.qm_store.specs.declared.Store as store
-use Rattle.qm_batch.specs.Changes.{update_of}
+use Rattle.qm_batch.specs.Changes.{update_of, located}
 use Rattle.qm_batch.specs.Layers.{Layer, IsBase}
 use Rattle.qm_batch.specs.Lent.{IsReadError}
 use Rattle.qm_batch.proofs.Reading.{read-none, read-then, error-then, lent-then}
+use Rattle.qm_any.specs.Layouts.{Hashing, Layout}
 use Rattle.qm_any.specs.Databases.{Database, IsDatabase, IsLeft}
 
-module _ {C D : Type 0} (members : store.Ghosts C) (bytes : D → Bytes) (hash : Bytes → Bytes) (shape : Shape) where
+module _ {C D : Type 0} (members : store.Ghosts C) (hashing : Hashing D) where
   -- no read leaves a database as it was
-  pub left-none : (a : Database C D) → IsLeft members bytes hash shape a a
-  left-none a = record { rest = refl; read = read-none members shape bytes hash a.log }
+  pub left-none : (a : Database C D) → IsLeft members hashing a a
+  left-none a = record { rest = refl; read = read-none members hashing.shape hashing.bytes hashing.hash a.log }
 
   -- and reads after reads do
-  pub left-then : (a b c : Database C D) → IsLeft members bytes hash shape a b → IsLeft members bytes hash shape b c → IsLeft members bytes hash shape a c
+  pub left-then : (a b c : Database C D) → IsLeft members hashing a b → IsLeft members hashing b c → IsLeft members hashing a c
   left-then a b c before after = record {
     rest = after.rest ∙ ap (λ (x : Database C D). record x { log = c.log }) before.rest;
-    read = read-then members shape bytes hash a.log b.log c.log before.read after.read;
+    read = read-then members hashing.shape hashing.bytes hashing.hash a.log b.log c.log before.read after.read;
   }
 
   -- an error after reads
-  pub left-error : (a b c : Database C D) (e : Error) → IsLeft members bytes hash shape a b → IsReadError members b.log c.log e → IsReadError members a.log c.log e
-  left-error a b c e before error = error-then members shape bytes hash a.log b.log c.log e before.read error
+  pub left-error : (a b c : Database C D) (e : Error) → IsLeft members hashing a b → IsReadError members b.log c.log e → IsReadError members a.log c.log e
+  left-error a b c e before error = error-then members hashing.shape hashing.bytes hashing.hash a.log b.log c.log e before.read error
 
-  -- a database stands after reads for the list that it stood for
-  pub left-database : (index_key : Bytes → ℕ) (old new : Database C D) (list : List Operation) → IsLeft members bytes hash shape old new → IsDatabase members bytes hash shape index_key old list → IsDatabase members bytes hash shape index_key new list
-  left-database index_key old new list left is =
-      subst (λ (x : Database C D). IsDatabase members bytes hash shape index_key x list) (sym left.rest)
-      (record {
-        told = subst (λ items. IsSome items) (sym ((left.read).kept.items)) is.told;
-        lent = lent-then members shape bytes hash index_key old.entries old.log new.log list left.read is.lent;
-        commitment = is.commitment;
-        floor = is.floor;
-        live = is.live;
-        metadata = is.metadata;
-      })
+-- a database stands after reads for the list that it stood for
+pub left-database : {C D : Type 0} (members : store.Ghosts C) (layout : Layout D) (old new : Database C D) (list : List Operation) → IsLeft members layout.hashing old new → IsDatabase members layout old list → IsDatabase members layout new list
+left-database members layout old new list left is =
+    let by = layout.hashing in
+    subst (λ x. IsDatabase members layout x list) (sym left.rest)
+    (record {
+      told = subst (λ items. IsSome items) (sym ((left.read).kept.items)) is.told;
+      lent = lent-then members by.shape by.bytes by.hash by.form layout.index_key old.entries old.log new.log list left.read is.lent;
+      commitment = is.commitment;
+      floor = is.floor;
+      live = is.live;
+      metadata = is.metadata;
+    })
 
 -- no steps lead from a list to itself
 pub itself-base : (layers : List Layer) (list : List Operation) → layers ≡ [] → IsBase layers list list
 itself-base layers list none = subst (λ ls. IsBase ls list list) (sym none) (record { older = []; steps = tt; among = Contains-first list [] })
 
--- the value of what is found of a key is its value
-pub value-found : (list : List Operation) (key : Bytes) → option_map (λ (p : ℕ × (Bytes × Bytes)). p.1.1) (update_of list key) ≡ value_of list key
+-- the value of an update that is found of a key is its value
+pub value-found : (list : List Operation) (key : Bytes) → option_and_then (λ (p : ℕ × Operation). parts.value_of p.1) (update_of list key) ≡ value_of list key
 value-found list key = by (live_of (live list) key)
   where
-    by : (o : Option Live) → option_map (λ (p : ℕ × (Bytes × Bytes)). p.1.1) (option_map (λ (p : ℕ × Bytes). (p.0, (key, p.1))) (option_map (λ (e : Live). (e.location, e.value)) o)) ≡ option_map (λ (e : Live). e.value) o
+    by : (o : Option Live) → option_and_then (λ (p : ℕ × Operation). parts.value_of p.1) (option_map located o) ≡ option_map (λ (e : Live). e.value) o
     by None = refl
     by (Some e) = refl
 

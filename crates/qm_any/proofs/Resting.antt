@@ -9,9 +9,9 @@ use Rattle.qm_batch.specs.Changes.{AreChanges, stands_at, place_in}
 use Rattle.qm_any.specs.KeptTrees.{leaves_of}
 use Rattle.qm_model.specs.Operations.{Bytes, Operation}
 use Rattle.qm_model.specs.Batches.{Chain, Kept, commitment, begun_on, child_of}
-use Rattle.qm_model.specs.Trees.{Shape, ops_root}
 use Rattle.qm_model.proofs.Chains.{Contains-first}
 use Rattle.qm_store.specs.declared.Store as store
+use Rattle.qm_any.specs.Layouts.{Hashing, Layout, list_root}
 use Rattle.qm_any.specs.Databases.{Database, Made, IsDatabase, IsMade, IsBegun, at_rest}
 
 -- a step that does nothing changes no key
@@ -24,10 +24,10 @@ still list = record {
 All-one : {A : Type 0} (P : A → Type 0) (x : A) → P x → All P (x ∷ [])
 All-one P x p = All-cons P x [] p (λ k d l. absurd (omega (arith, l)))
 
-module _ {C D : Type 0} (members : store.Ghosts C) (bytes : D → Bytes) (hash : Bytes → Bytes) (shape : Shape) where
+module _ {C D : Type 0} {members : store.Ghosts C} {layout : Layout D} where
   -- the database is a batch that does nothing
-  pub rest-made : (index_key : Bytes → ℕ) (db : Database C D) (list : List Operation) → IsDatabase members bytes hash shape index_key db list → IsMade bytes hash shape (at_rest db) (begun_on list) list
-  rest-made index_key db list is =
+  pub rest-made : (db : Database C D) (list : List Operation) → IsDatabase members layout db list → IsMade layout.hashing (at_rest db) (begun_on list) list
+  rest-made db list is =
       let size : db.commitment.size ≡ length list = ap (λ c. c.size) is.commitment in
       record {
         bounds = record { base = is.commitment; db = is.commitment; tip = is.commitment; ancestors = refl };
@@ -36,25 +36,25 @@ module _ {C D : Type 0} (members : store.Ghosts C) (bytes : D → Bytes) (hash :
         metadata = is.metadata;
         linked = tt;
         steps = (record { size = size; list = sym (append-nil list); changes = still list }, tt);
-        tree = record { leaves = size; lists = []; history = tt; through = All-one (λ l. Contains (leaves_of hash shape list ∷ []) (leaves_of hash shape l)) list (Contains-first (leaves_of hash shape list) []) };
-        unordered = is.lent.unordered;
+        tree = record { leaves = size; lists = []; history = tt; through = All-one (λ l. Contains (leaves_of layout.hashing list ∷ []) (leaves_of layout.hashing l)) list (Contains-first (leaves_of layout.hashing list) []) };
+        of = is.lent.of;
       }
 
-module _ {D : Type 0} (bytes : D → Bytes) (hash : Bytes → Bytes) (shape : Shape) where
-  kept-count : (made : Made D) (chain : Chain) (tip : List Operation) → IsMade bytes hash shape made chain tip → length made.bounds.ancestors ≡ length chain.kept
-  kept-count made chain tip is = ap length is.bounds.ancestors ∙ length-map chain.kept (λ (k : Kept). commitment (ops_root hash shape) k.tip)
+module _ {D : Type 0} {hashing : Hashing D} where
+  kept-count : (made : Made D) (chain : Chain) (tip : List Operation) → IsMade hashing made chain tip → length made.bounds.ancestors ≡ length chain.kept
+  kept-count made chain tip is = ap length is.bounds.ancestors ∙ length-map chain.kept (λ (k : Kept). commitment (list_root hashing) k.tip)
 
   -- a child of a batch that keeps all that this keeps
-  pub child-all : (made : Made D) (chain : Chain) (tip : List Operation) → IsMade bytes hash shape made chain tip
-      → IsBegun bytes hash shape (record { parent = made; keep = suc (length made.bounds.ancestors); writes = [] }) (child_of None chain tip) chain
+  pub child-all : (made : Made D) (chain : Chain) (tip : List Operation) → IsMade hashing made chain tip
+      → IsBegun hashing (record { parent = made; keep = suc (length made.bounds.ancestors); writes = [] }) (child_of None chain tip) chain
   child-all made chain tip is = record {
     parent = is;
     kept = ap (λ older. record { base = chain.base; tip = tip } ∷ older) (sym (take_all (length made.bounds.ancestors) chain.kept (omega (arith, kept-count made chain tip is))));
   }
 
   -- one that keeps the first of these
-  pub child-first : (n : ℕ) (made : Made D) (chain : Chain) (tip : List Operation) → IsMade bytes hash shape made chain tip
-      → IsBegun bytes hash shape (record { parent = made; keep = suc (min n (length made.bounds.ancestors)); writes = [] }) (child_of (Some n) chain tip) chain
+  pub child-first : (n : ℕ) (made : Made D) (chain : Chain) (tip : List Operation) → IsMade hashing made chain tip
+      → IsBegun hashing (record { parent = made; keep = suc (min n (length made.bounds.ancestors)); writes = [] }) (child_of (Some n) chain tip) chain
   child-first n made chain tip is = record {
     parent = is;
     kept = ap (λ older. record { base = chain.base; tip = tip } ∷ older) (sym (ap (λ c. take (min n c) chain.kept) (kept-count made chain tip is) ∙ take_min n chain.kept));

@@ -10,12 +10,13 @@ use Rattle.qm_model.specs.Causes.{Grows}
 use Rattle.qm_model.specs.Lines as lines
 use Rattle.qm_model.specs.Lines.{HistoricalFloorPruned, DataCorrupted, Merkle, FloorExceedsCommit, RangeOutOfBounds}
 use Rattle.qm_model.specs.Live.{floor, floor_after}
-use Rattle.qm_model.specs.Operations.{Bytes, Operation, update, delete, commit, spelling, fresh}
+use Rattle.qm_model.specs.Forms.{Form, IsOf, IsSpelling, spelling}
+use Rattle.qm_model.specs.Operations.{Bytes, Operation, update, delete, commit, fresh}
 use Rattle.qm_model.specs.Proofs.{Proof, proof_of, ops_proof}
 use Rattle.qm_model.specs.Refusals.{commit_floor, floor_before, end_refusal, proof_refusal, proof_count}
 use Rattle.qm_model.specs.Trees.{Shape, Node, leaf, end_of, peaks, row_from, digest_of, leaf_digest, root_of, root, ops_root, inactive_peaks}
+use Rattle.qm_model.proofs.Forms.{IsSpelling-once}
 use Rattle.qm_model.specs.Families.{Births, IsFamily, HasPeaks, over}
-use Rattle.qm_base.specs.Decode.{IsUnordered, IsSpelling}
 use Rattle.qm_base.specs.Parts.{floor_of}
 use Rattle.qm_base.specs.declared.error.Error.{Error}
 use Rattle.qm_base.specs.declared.error.Error.TheVariants as errors
@@ -25,7 +26,7 @@ use Rattle.qm_merkle.proofs.Standing.{peaks-none, stands-new}
 use Rattle.qm_store.specs.declared.Store as store
 use Rattle.qm_store.specs.Log.{Log, IsLog, digests_from}
 use Rattle.qm_store.proofs.Leaves.{leaves-spelled}
-use Rattle.qm_batch.proofs.Reading.{spelled-once}
+use Rattle.qm_any.specs.Layouts.{Layout, list_root}
 use Rattle.qm_any.specs.Databases.{Database, IsDatabase}
 use Rattle.qm_any.specs.Refusals.{IsDue}
 
@@ -62,9 +63,9 @@ module _ (shape : Shape) (births : Births) (family : IsFamily shape births) (pea
       row-one (shape.heights 1) (peaked.born 1 (omega arith)) (peaked.all 1 (leaf 0) (omega arith) low high)
 
   -- the root over the first commit's leaf is that of a fresh list
-  pub fresh-rooted : (hash : Bytes → Bytes) (digest : Bytes) → digest ≡ leaf_digest hash (shape.position (leaf 0)) (spelling (commit None 0)) → root_of hash 1 0 (digest ∷ []) ≡ ops_root hash shape fresh
-  fresh-rooted hash digest is =
-      let d = leaf_digest hash (shape.position (leaf 0)) (spelling (commit None 0)) in
+  pub fresh-rooted : (hash : Bytes → Bytes) (form : Form) (digest : Bytes) → digest ≡ leaf_digest hash (shape.position (leaf 0)) (spelling form (commit None 0)) → root_of hash 1 0 (digest ∷ []) ≡ ops_root hash shape form fresh
+  fresh-rooted hash form digest is =
+      let d = leaf_digest hash (shape.position (leaf 0)) (spelling form (commit None 0)) in
       ap (λ x. root_of hash 1 0 (x ∷ [])) is
       ∙ sym (ap (λ ps. root_of hash 1 (count_by (λ p. nat_le (end_of p) 0) ps) (map (digest_of hash shape (d ∷ [])) ps)) peaks-one)
 
@@ -84,27 +85,28 @@ log-none members shape births family peaked bytes hash log whole start leaves fi
     nothing (Some xs) = refl
 
 -- the root over a list's spellings is its operations root
-pub root-spelled : (hash : Bytes → Bytes) (shape : Shape) (list : List Bytes) (ops : List Operation) (inactive : ℕ) → list ≡ map spelling ops → inactive ≡ inactive_peaks shape (length ops) (floor ops)
-    → root hash shape (digests_from hash shape 0 list) inactive ≡ ops_root hash shape ops
-root-spelled hash shape list ops inactive spelled is =
-    ap₂ (root hash shape) (ap (digests_from hash shape 0) spelled ∙ sym (leaves-spelled hash shape 0 ops)) is
+pub root-spelled : (hash : Bytes → Bytes) (shape : Shape) (form : Form) (list : List Bytes) (ops : List Operation) (inactive : ℕ) → list ≡ map (spelling form) ops → inactive ≡ inactive_peaks shape (length ops) (floor ops)
+    → root hash shape (digests_from hash shape 0 list) inactive ≡ ops_root hash shape form ops
+root-spelled hash shape form list ops inactive spelled is =
+    ap₂ (root hash shape) (ap (digests_from hash shape 0) spelled ∙ sym (leaves-spelled hash shape form 0 ops)) is
 
 -- a store that told its items still does when these have grown
 pub grown-told : {A : Type 0} (o new : Option (List A)) (more : List A) (P : Type 0) → Grows o new more → (IsSome new → P) → IfSome o (λ _. P)
 grown-told None new more P grows give = tt
 grown-told (Some xs) new more P grows give = give (subst IsSome (sym grows) refl)
 
--- an operation of a fresh list is one of an unordered database
-fresh-unordered : All IsUnordered fresh
-fresh-unordered = All-cons IsUnordered (commit None 0) [] (tt, omega arith) (All-nil IsUnordered)
+-- an operation of a fresh list is one of each form
+fresh-of : (form : Form) → All (IsOf form) fresh
+fresh-of form = All-cons (IsOf form) (commit None 0) [] (tt, omega arith) (All-nil (IsOf form))
 
 -- an empty index, a log of the fresh list and its commitment are a database of the fresh list
-pub fresh-stands : {C D : Type 0} (members : store.Ghosts C) (bytes : D → Bytes) (hash : Bytes → Bytes) (shape : Shape) (index_key : Bytes → ℕ) (db : Database C D) (log : Log C D) (first : Commitment)
+pub fresh-stands : {C D : Type 0} (members : store.Ghosts C) (layout : Layout D) (db : Database C D) (log : Log C D) (first : Commitment)
     → db ≡ record { entries = []; log = log; commitment = first; floor = 0; live = 0; metadata = None }
-    → first ≡ record { size = 1; root = ops_root hash shape fresh } → IsSome (members.items log.store) → IsLog members shape bytes hash log (map spelling fresh) → IsDatabase members bytes hash shape index_key db fresh
-fresh-stands members bytes hash shape index_key db log first is committed told logged = subst (λ d. IsDatabase members bytes hash shape index_key d fresh) (sym is) (record {
+    → first ≡ record { size = 1; root = list_root layout.hashing fresh } → IsSome (members.items log.store)
+    → IsLog members layout.hashing.shape layout.hashing.bytes layout.hashing.hash log (map (spelling layout.hashing.form) fresh) → IsDatabase members layout db fresh
+fresh-stands members layout db log first is committed told logged = subst (λ d. IsDatabase members layout d fresh) (sym is) (record {
   told = told;
-  lent = record { indexed = λ k. IsPermutation-refl []; logged = logged; unordered = fresh-unordered };
+  lent = record { indexed = λ k. IsPermutation-refl []; logged = logged; of = fresh-of layout.hashing.form };
   commitment = committed;
   floor = refl;
   live = refl;
@@ -132,18 +134,18 @@ floor-ended list zero f is = cc
 floor-ended list (suc i) f is = sym (floor-commit 0 list i f is)
 
 -- the bytes at a location among a list's spellings spell its operation there
-spelled-there : (list : List Operation) (i : ℕ) (bs : Bytes) → All IsUnordered list → slice_get (map spelling list) i ≡ Some bs → (op : Operation) × (slice_get list i ≡ Some op) × IsSpelling bs op
-spelled-there [] i bs all is = cc
-spelled-there (op ∷ rest) zero bs all is =
-    let same : spelling op ≡ bs = cc in
-    (op, refl, record { unordered = All-head IsUnordered op rest all; spelled = same })
-spelled-there (op ∷ rest) (suc i) bs all is = spelled-there rest i bs (All-tail IsUnordered op rest all) is
+spelled-there : (form : Form) (list : List Operation) (i : ℕ) (bs : Bytes) → All (IsOf form) list → slice_get (map (spelling form) list) i ≡ Some bs → (op : Operation) × (slice_get list i ≡ Some op) × IsSpelling form bs op
+spelled-there form [] i bs all is = cc
+spelled-there form (op ∷ rest) zero bs all is =
+    let same : spelling form op ≡ bs = cc in
+    (op, refl, record { of = All-head (IsOf form) op rest all; spelled = same })
+spelled-there form (op ∷ rest) (suc i) bs all is = spelled-there form rest i bs (All-tail (IsOf form) op rest all) is
 
 -- the bytes before the end of the first operations tell their floor
-pub floor-read : (list : List Operation) (size i : ℕ) (bs : Bytes) (f : Option ℕ) → size ≡ suc i → All IsUnordered list → slice_get (map spelling list) i ≡ Some bs
-    → ((op : Operation) → IsSpelling bs op → f ≡ commit_floor op) → f ≡ floor_before list size
-floor-read list size i bs f after all is told =
-    let there = spelled-there list i bs all is in
+pub floor-read : (form : Form) (list : List Operation) (size i : ℕ) (bs : Bytes) (f : Option ℕ) → size ≡ suc i → All (IsOf form) list → slice_get (map (spelling form) list) i ≡ Some bs
+    → ((op : Operation) → IsSpelling form bs op → f ≡ commit_floor op) → f ≡ floor_before list size
+floor-read form list size i bs f after all is told =
+    let there = spelled-there form list i bs all is in
     told there.0 there.2 ∙ ap (option_and_then commit_floor) (sym there.1) ∙ ap (floor_before list) (sym after)
 
 -- a floor that is told is the one that stands there
@@ -152,36 +154,36 @@ floor-found None g is = tt
 floor-found (Some floor) g is = sym is
 
 -- the item at a location spells the operation there
-pub item-spells : {V : Type 0} (bytes : V → Bytes) (items : List V) (list : List Operation) (i : ℕ) (item : V) (d : Operation) → i < length items → item ≡ get_or items i item → map bytes items ≡ map spelling list
-    → All IsUnordered list → IsSpelling (bytes item) (get_or list i d)
-item-spells bytes items list i item d within is spelled all =
-    let long : length items ≡ length list = sym (length-map items bytes) ∙ ap length spelled ∙ length-map list spelling in
+pub item-spells : {V : Type 0} (form : Form) (bytes : V → Bytes) (items : List V) (list : List Operation) (i : ℕ) (item : V) (d : Operation) → i < length items → item ≡ get_or items i item → map bytes items ≡ map (spelling form) list
+    → All (IsOf form) list → IsSpelling form (bytes item) (get_or list i d)
+item-spells form bytes items list i item d within is spelled all =
+    let long : length items ≡ length list = sym (length-map items bytes) ∙ ap length spelled ∙ length-map list (spelling form) in
     let inside : i < length list = omega (arith, within, long) in
-    let there : spelling (get_or list i d) ≡ bytes item =
-    sym (get_or-map spelling list i d (bytes item) inside) ∙ ap (λ l. get_or l i (bytes item)) (sym spelled) ∙ get_or-map bytes items i item (bytes item) within ∙ ap bytes (sym is) in
-    record { unordered = all i d inside; spelled = there }
+    let there : spelling form (get_or list i d) ≡ bytes item =
+    sym (get_or-map (spelling form) list i d (bytes item) inside) ∙ ap (λ l. get_or l i (bytes item)) (sym spelled) ∙ get_or-map bytes items i item (bytes item) within ∙ ap bytes (sym is) in
+    record { of = all i d inside; spelled = there }
 
 -- one more item that is decoded
-pub decoded-more : {X V : Type 0} (view : X → Operation) (bytes : V → Bytes) (items : List V) (list : List Operation) (i : ℕ) (item : V) (made made2 : List X) (x : X) → i < length items → item ≡ get_or items i item
-    → map bytes items ≡ map spelling list → All IsUnordered list → made2 ≡ made ++ x ∷ [] → IsSpelling (bytes item) (view x) → map view made ≡ take i list → map view made2 ≡ take (i + 1) list
-decoded-more view bytes items list i item made made2 x within is spelled all pushed spells so_far =
-    let long : length items ≡ length list = sym (length-map items bytes) ∙ ap length spelled ∙ length-map list spelling in
+pub decoded-more : {X V : Type 0} (form : Form) (view : X → Operation) (bytes : V → Bytes) (items : List V) (list : List Operation) (i : ℕ) (item : V) (made made2 : List X) (x : X) → i < length items → item ≡ get_or items i item
+    → map bytes items ≡ map (spelling form) list → All (IsOf form) list → made2 ≡ made ++ x ∷ [] → IsSpelling form (bytes item) (view x) → map view made ≡ take i list → map view made2 ≡ take (i + 1) list
+decoded-more form view bytes items list i item made made2 x within is spelled all pushed spells so_far =
+    let long : length items ≡ length list = sym (length-map items bytes) ∙ ap length spelled ∙ length-map list (spelling form) in
     let inside : i < length list = omega (arith, within, long) in
-    let there : view x ≡ get_or list i (view x) = spelled-once (bytes item) (view x) (get_or list i (view x)) spells (item-spells bytes items list i item (view x) within is spelled all) in
+    let there : view x ≡ get_or list i (view x) = IsSpelling-once form (bytes item) (view x) (get_or list i (view x)) spells (item-spells form bytes items list i item (view x) within is spelled all) in
     ap (map view) pushed ∙ map-append view made (x ∷ []) ∙ ap₂ (λ ys y. ys ++ y ∷ []) so_far there ∙ sym (take_more list i (view x) inside)
 
 -- all items are decoded
-pub decoded-all : {X V : Type 0} (view : X → Operation) (bytes : V → Bytes) (items : List V) (list : List Operation) (i : ℕ) (made : List X) → length items ≤ i → map bytes items ≡ map spelling list → map view made ≡ take i list → map view made ≡ list
-decoded-all view bytes items list i made past spelled is =
-    let long : length items ≡ length list = sym (length-map items bytes) ∙ ap length spelled ∙ length-map list spelling in
+pub decoded-all : {X V : Type 0} (form : Form) (view : X → Operation) (bytes : V → Bytes) (items : List V) (list : List Operation) (i : ℕ) (made : List X) → length items ≤ i → map bytes items ≡ map (spelling form) list → map view made ≡ take i list → map view made ≡ list
+decoded-all form view bytes items list i made past spelled is =
+    let long : length items ≡ length list = sym (length-map items bytes) ∙ ap length spelled ∙ length-map list (spelling form) in
     is ∙ take_all i list (omega (arith, past, long))
 
 -- the proof over the spellings of the first operations is theirs
-pub proof-spelled : (hash : Bytes → Bytes) (shape : Shape) (list : List Operation) (size inactive a b : ℕ) → size ≤ length list → inactive ≡ inactive_peaks shape size (floor (take size list))
-    → proof_of hash shape (digests_from hash shape 0 (take size (map spelling list))) inactive a b ≡ ops_proof hash shape (take size list) a b
-proof-spelled hash shape list size inactive a b within is =
+pub proof-spelled : (hash : Bytes → Bytes) (shape : Shape) (form : Form) (list : List Operation) (size inactive a b : ℕ) → size ≤ length list → inactive ≡ inactive_peaks shape size (floor (take size list))
+    → proof_of hash shape (digests_from hash shape 0 (take size (map (spelling form) list))) inactive a b ≡ ops_proof hash shape form (take size list) a b
+proof-spelled hash shape form list size inactive a b within is =
     ap₂ (λ leaves n. proof_of hash shape leaves n a b)
-    (ap (digests_from hash shape 0) (take-map spelling size list) ∙ sym (leaves-spelled hash shape 0 (take size list)))
+    (ap (digests_from hash shape 0) (take-map (spelling form) size list) ∙ sym (leaves-spelled hash shape form 0 (take size list)))
     (is ∙ ap (λ n. inactive_peaks shape n (floor (take size list))) (sym (length-take-le size list within)))
 
 -- why there is no proof, case by case
@@ -207,19 +209,19 @@ module _ (list : List Operation) (size start : ℕ) where
     offered-there low before = in_floor low ∙ ap (λ b. if b then None else Some (Merkle (RangeOutOfBounds start))) (lt-ltb start size before)
 
 -- the proof in all operations is the list's
-pub proof-whole : {X E : Type 0} (r : Result X E) (hash : Bytes → Bytes) (shape : Shape) (list : List Operation) (view : X → Proof) (n a m : ℕ) → n ≡ length list
-    → IfOk r (λ x. view x ≡ ops_proof hash shape (take n list) a (a + proof_count n a m)) → IfOk r (λ x. view x ≡ ops_proof hash shape list a (a + proof_count (length list) a m))
-proof-whole (Err e) hash shape list view n a m all is = tt
-proof-whole (Ok x) hash shape list view n a m all is =
-    is ∙ ap (λ k. ops_proof hash shape (take k list) a (a + proof_count k a m)) all
-    ∙ ap (λ l. ops_proof hash shape l a (a + proof_count (length list) a m)) (take_all (length list) list (omega arith))
+pub proof-whole : {X E : Type 0} (r : Result X E) (hash : Bytes → Bytes) (shape : Shape) (form : Form) (list : List Operation) (view : X → Proof) (n a m : ℕ) → n ≡ length list
+    → IfOk r (λ x. view x ≡ ops_proof hash shape form (take n list) a (a + proof_count n a m)) → IfOk r (λ x. view x ≡ ops_proof hash shape form list a (a + proof_count (length list) a m))
+proof-whole (Err e) hash shape form list view n a m all is = tt
+proof-whole (Ok x) hash shape form list view n a m all is =
+    is ∙ ap (λ k. ops_proof hash shape form (take k list) a (a + proof_count k a m)) all
+    ∙ ap (λ l. ops_proof hash shape form l a (a + proof_count (length list) a m)) (take_all (length list) list (omega arith))
 
 -- the spellings of a part of a list
-pub part-spelled : (list : List Operation) (a n : ℕ) → take n (drop a (map spelling list)) ≡ map spelling (take n (drop a list))
-part-spelled list a n = ap (take n) (drop-map spelling a list) ∙ take-map spelling n (drop a list)
+pub part-spelled : (form : Form) (list : List Operation) (a n : ℕ) → take n (drop a (map (spelling form) list)) ≡ map (spelling form) (take n (drop a list))
+part-spelled form list a n = ap (take n) (drop-map (spelling form) a list) ∙ take-map (spelling form) n (drop a list)
 
-pub part-unordered : (list : List Operation) (a n : ℕ) → All IsUnordered list → All IsUnordered (take n (drop a list))
-part-unordered list a n all = All-take IsUnordered n (drop a list) (All-drop IsUnordered a list all)
+pub part-of : (form : Form) (list : List Operation) (a n : ℕ) → All (IsOf form) list → All (IsOf form) (take n (drop a list))
+part-of form list a n all = All-take (IsOf form) n (drop a list) (All-drop (IsOf form) a list all)
 
 -- want of memory is due to nothing
 pub memory-due : {X : Type 0} (r : Result X Error) (y e : Error) (due : Option lines.Refused) → r ≡ Err y → y ≡ e → e ≡ errors.Memory → IfErr r (λ e. IsDue e due)

@@ -1,19 +1,21 @@
 -- What a list lacks of the list that layers lead to, and the loops over these.
 use Rattle.std.proofs.Common.{◌≡◌, ℕ, ◌≤◌, ◌<◌, ◌+◌, true, false, List, [], ◌∷◌, ◌++◌, refl, ap, ap₂, sym, ◌∙◌, subst, arith, append_assoc, length, take, drop, map, get_or, ⊎_elim}
-use Rattle.std.specs.Prelude.{Contains, nat_le, if◌then◌else◌, Option, Some, None, IsSome}
+use Rattle.std.specs.Prelude.{All, Contains, nat_le, if◌then◌else◌, Option, Some, None, IsSome}
 use Rattle.std.proofs.lemmas.Bool.Decides.{leb_tells}
 use Rattle.std.proofs.lemmas.List.{take_all, append-nil, length-append, map_more, map-append, nil_from_length}
-use Rattle.std.proofs.Math.Seq.{drop-append_seam}
+use Rattle.std.proofs.lemmas.List.Elements.{All-nil, All-cons, All-head, All-append, All-take, All-drop}
+use Rattle.std.proofs.Math.Seq.{take-append_seam, drop-append_seam}
 use Rattle.qm_model.specs.Causes.{Grows}
-use Rattle.qm_model.specs.Operations.{Bytes, Operation, spelling}
+use Rattle.qm_model.specs.Forms.{spelling}
+use Rattle.qm_model.specs.Operations.{Bytes, Operation}
 use Rattle.qm_model.specs.Batches.{Chain, IsOnChain}
-use Rattle.qm_model.specs.Trees.{Shape}
 use Rattle.qm_store.specs.declared.Store as store
 use Rattle.qm_store.specs.Log.{IsLog, HasGrown}
 use Rattle.qm_batch.specs.Changes.{Changes, LeadTo}
 use Rattle.qm_batch.specs.Lent.{IsIndexed}
 use Rattle.qm_batch.specs.Layers.{Layer, LeadThrough}
 use Rattle.qm_batch.proofs.Members.{first_or_later, Contains-first, Contains-later}
+use Rattle.qm_any.specs.Layouts.{Layout}
 use Rattle.qm_any.specs.Given.{Appended, AppendedPart}
 use Rattle.qm_any.specs.Databases.{Database, Made, IsDatabase, IsMade, bases_of, unapplied, operations_in, bases, AreJoined}
 use Rattle.qm_any.proofs.Known.{on_chain-base}
@@ -26,6 +28,25 @@ mapped-behind h f view first xs i d made more x within here pushed shown so_far 
     ∙ ap₂ (λ ys y. ys ++ y ∷ []) so_far (shown ∙ ap (λ z. h (f z)) here)
     ∙ append_assoc first (map h (map f (take i xs))) (h (f (get_or xs i d)) ∷ [])
     ∙ ap (λ ys. first ++ ys) (sym (ap (map h) (map_more f xs i d within) ∙ map-append h (map f (take i xs)) (f (get_or xs i d) ∷ [])))
+
+-- all of nothing
+pub all-none : {Y : Type 0} {P : Type 0} (Q : Y → Type 0) → P → All Q []
+all-none Q p = All-nil Q
+
+-- what follows of all so far follows of one more
+pub all-behind : {A Y : Type 0} (f : A → Y) (P Q : Y → Type 0) (xs : List A) (i : ℕ) (d : A) → i < length xs → d ≡ get_or xs i d → (P (f d) → Q (f d)) → (All P (map f (take i xs)) → All Q (map f (take i xs)))
+    → All P (map f (take (i + 1) xs)) → All Q (map f (take (i + 1) xs))
+all-behind f P Q xs i d within here one so_far all =
+    let front = map f (take i xs) in
+    let more : map f (take (i + 1) xs) ≡ front ++ f d ∷ [] = map_more f xs i d within ∙ ap (λ x. front ++ f x ∷ []) (sym here) in
+    let parts : All P (front ++ f d ∷ []) = subst (All P) more all in
+    let first : All P front = subst (All P) (take-append_seam front (f d ∷ [])) (All-take P (length front) (front ++ f d ∷ []) parts) in
+    let last : All P (f d ∷ []) = subst (All P) (drop-append_seam front (f d ∷ [])) (All-drop P (length front) (front ++ f d ∷ []) parts) in
+    subst (All Q) (sym more) (All-append Q front (f d ∷ []) (so_far first) (All-cons Q (f d) [] (one (All-head P (f d) [] last)) (All-nil Q)))
+
+-- and of all of a list that was gone through
+pub all-whole : {A Y : Type 0} (f : A → Y) (P Q : Y → Type 0) (xs : List A) (i : ℕ) → length xs ≤ i → (All P (map f (take i xs)) → All Q (map f (take i xs))) → All P (map f xs) → All Q (map f xs)
+all-whole f P Q xs i past so_far = subst (λ ys. All P (map f ys) → All Q (map f ys)) (take_all i xs past) so_far
 
 -- the newest layer is lacking where it starts from the list's end or later, and nothing is where it starts before
 pub unapplied-more : (n : ℕ) (layer : Layer) (layers : List Layer) → nat_le n layer.base ≡ true → unapplied n (layer ∷ layers) ≡ layer ∷ unapplied n layers
@@ -149,28 +170,28 @@ pub grown-told : {A : Type 0} (old new : Option (List A)) (more : List A) → Is
 grown-told None new more told grown = let none : false ≡ true = told in cc
 grown-told (Some xs) new more told grown = subst IsSome (sym grown) refl
 
-module _ {C D : Type 0} (members : store.Ghosts C) (bytes : D → Bytes) (hash : Bytes → Bytes) (shape : Shape) where
+module _ {C D : Type 0} (members : store.Ghosts C) (layout : Layout D) where
   -- a database that took what its list lacked of a batch's list stands for that
-  pub applied : (index_key : Bytes → ℕ) (db next : Database C D) (batch : Made D) (list : List Operation) (chain : Chain) (tip : List Operation) (n : ℕ) (items : List Bytes) (changes : List Changes)
-      → IsDatabase members bytes hash shape index_key db list → IsMade bytes hash shape batch chain tip → IsOnChain list chain → n ≡ db.commitment.size
-      → items ≡ map spelling (operations_in (unapplied n batch.layers)) → changes ≡ map (λ l. l.changes) (unapplied n batch.layers)
-      → ((l : List Operation) → IsLog members shape bytes hash db.log (map spelling l) → IsLog members shape bytes hash next.log (map spelling l ++ items))
-      → ((l t : List Operation) → LeadTo changes l t → IsIndexed index_key db.entries l → IsIndexed index_key next.entries t)
+  pub applied : (db next : Database C D) (batch : Made D) (list : List Operation) (chain : Chain) (tip : List Operation) (n : ℕ) (items : List Bytes) (changes : List Changes)
+      → IsDatabase members layout db list → IsMade layout.hashing batch chain tip → IsOnChain list chain → n ≡ db.commitment.size
+      → items ≡ map (spelling layout.hashing.form) (operations_in (unapplied n batch.layers)) → changes ≡ map (λ l. l.changes) (unapplied n batch.layers)
+      → ((l : List Operation) → IsLog members layout.hashing.shape layout.hashing.bytes layout.hashing.hash db.log (map (spelling layout.hashing.form) l) → IsLog members layout.hashing.shape layout.hashing.bytes layout.hashing.hash next.log (map (spelling layout.hashing.form) l ++ items))
+      → ((l t : List Operation) → LeadTo changes l t → IsIndexed layout.index_key db.entries l → IsIndexed layout.index_key next.entries t)
       → (next.commitment ≡ batch.bounds.tip) × (next.floor ≡ batch.bounds.inactivity_floor) × (next.live ≡ batch.live) × (next.metadata ≡ batch.metadata)
       → Appended members db.log.store next.log.store items
-      → IsDatabase members bytes hash shape index_key next tip
-  applied index_key db next batch list chain tip n items changes is made on at spelled done log index rest grown =
+      → IsDatabase members layout next tip
+  applied db next batch list chain tip n items changes is made on at spelled done log index rest grown =
       let size : length list ≡ n = sym (at ∙ ap (λ k. k.size) is.commitment) in
       let lacked : IsLacked (unapplied n batch.layers) list tip = subst (λ m. IsLacked (unapplied m batch.layers) list tip) size
       (lacked-lists batch.layers tip (bases_of chain) list made.steps (Contains-later tip (bases_of chain) list (on_chain-base list chain made.linked on))) in
-      let all : map spelling list ++ items ≡ map spelling tip =
-      ap (λ xs. map spelling list ++ xs) spelled ∙ sym (map-append spelling list (operations_in (unapplied n batch.layers))) ∙ ap (map spelling) (sym lacked.0) in
+      let all : map (spelling layout.hashing.form) list ++ items ≡ map (spelling layout.hashing.form) tip =
+      ap (λ xs. map (spelling layout.hashing.form) list ++ xs) spelled ∙ sym (map-append (spelling layout.hashing.form) list (operations_in (unapplied n batch.layers))) ∙ ap (map (spelling layout.hashing.form)) (sym lacked.0) in
       record {
         told = grown-told (members.items db.log.store) (members.items next.log.store) items is.told grown.items;
         lent = record {
           indexed = index list tip (subst (λ cs. LeadTo cs list tip) (sym done) lacked.1) is.lent.indexed;
-          logged = subst (IsLog members shape bytes hash next.log) all (log list is.lent.logged);
-          unordered = made.unordered;
+          logged = subst (IsLog members layout.hashing.shape layout.hashing.bytes layout.hashing.hash next.log) all (log list is.lent.logged);
+          of = made.of;
         };
         commitment = rest.0 ∙ made.bounds.tip;
         floor = rest.1 ∙ made.lowest;
@@ -179,7 +200,7 @@ module _ {C D : Type 0} (members : store.Ghosts C) (bytes : D → Bytes) (hash :
       }
 
   -- what a database lacks of a batch's list is what lies behind its size
-  pub lacked-spelled : (batch : Made D) (chain : Chain) (tip : List Operation) (n m : ℕ) (items : List Bytes) → IsMade bytes hash shape batch chain tip → n ≡ m → Contains (bases batch.layers) n
-      → items ≡ map spelling (operations_in (unapplied n batch.layers)) → items ≡ map spelling (drop m tip)
+  pub lacked-spelled : (batch : Made D) (chain : Chain) (tip : List Operation) (n m : ℕ) (items : List Bytes) → IsMade layout.hashing batch chain tip → n ≡ m → Contains (bases batch.layers) n
+      → items ≡ map (spelling layout.hashing.form) (operations_in (unapplied n batch.layers)) → items ≡ map (spelling layout.hashing.form) (drop m tip)
   lacked-spelled batch chain tip n m items made same among spelled =
-      spelled ∙ ap (map spelling) (sym (lacked-behind batch.layers tip (bases_of chain) n made.steps among)) ∙ ap (λ k. map spelling (drop k tip)) same
+      spelled ∙ ap (map (spelling layout.hashing.form)) (sym (lacked-behind batch.layers tip (bases_of chain) n made.steps among)) ∙ ap (λ k. map (spelling layout.hashing.form) (drop k tip)) same

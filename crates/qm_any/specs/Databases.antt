@@ -2,12 +2,11 @@
 use Rattle.std.specs.Prelude.{◌≡◌, ◌≤◌, ◌^◌, ℕ, ◌+◌, nat_le, if◌then◌else◌, Bool, List, [], ◌∷◌, ◌++◌, length, map, take, get_or, All, Contains, Option, IsSome, ⊤}
 use Rattle.qm_model.specs.Operations.{Bytes, Operation}
 use Rattle.qm_model.specs.Batches.{Commitment, Kept, Chain, commitment}
-use Rattle.qm_model.specs.Trees.{Shape, ops_root}
+use Rattle.qm_model.specs.Forms.{IsOf}
 use Rattle.qm_model.specs.Live.{live, floor, last_metadata}
 use Rattle.qm_model.specs.Policies.{Policy, policies}
 use Rattle.qm_model.specs.Step.{step, unordered}
 use Rattle.qm_model.specs.Writes.{Write}
-use Rattle.qm_base.specs.Decode.{IsUnordered}
 use Rattle.qm_merkle.specs.Batches.{stops}
 use Rattle.qm_chain.specs.Bounds.{Bounds, IsBounds, is_at}
 use Rattle.qm_store.specs.declared.Store as store
@@ -16,6 +15,7 @@ use Rattle.qm_batch.specs.Layers.{Layer, LeadThrough}
 use Rattle.qm_batch.specs.Lent.{IsLent, IsRead}
 use Rattle.qm_batch.specs.Views.{Plan}
 use Rattle.qm_any.specs.KeptTrees.{KeptTree, IsKeptTree}
+use Rattle.qm_any.specs.Layouts.{Hashing, Layout, list_root}
 
 -- a database: the locations of live keys by index key, its log, what stands for its list, and this list's floor, count
 -- of live keys and metadata
@@ -117,7 +117,7 @@ child_made parent keep plan tree root meta = record {
   metadata = meta;
 }
 
--- what a batch's writes make of its base list, under a policy, with this metadata
+-- what a batch's writes make of its base list in an unordered database, under a policy, with this metadata
 abbrev pub stepped : List Operation → List Write → Policy → Option Bytes → List Operation
 stepped base ws policy meta = step unordered policies base ws policy meta
 
@@ -135,37 +135,37 @@ abbrev pub kept_by : ℕ → Chain → List Operation → List Kept
 kept_by keep parent tip = take keep (record { base = parent.base; tip = tip } ∷ parent.kept)
 
 -- what stands for a list: its size and its operations root
-abbrev pub list_commitment : (Bytes → Bytes) → Shape → List Operation → Commitment
-list_commitment hash shape list = commitment (ops_root hash shape) list
+abbrev pub list_commitment : {D : Type 0} → Hashing D → List Operation → Commitment
+list_commitment hashing list = commitment (list_root hashing) list
 
-module _ {D : Type 0} (bytes : D → Bytes) (hash : Bytes → Bytes) (shape : Shape) where
+module _ {D : Type 0} (hashing : Hashing D) where
   -- the batch is of this chain, and makes this list
   pub record IsMade (batch : Made D) (chain : Chain) (tip : List Operation) : Type 0 where
-    pub bounds : IsBounds (ops_root hash shape) batch.bounds chain tip
+    pub bounds : IsBounds (list_root hashing) batch.bounds chain tip
     pub lowest : batch.bounds.inactivity_floor ≡ floor tip
     pub live : batch.live ≡ length (live tip)
     pub metadata : batch.metadata ≡ last_metadata tip
     pub linked : AreLinked chain.base chain.kept
     pub steps : LeadThrough batch.layers tip (bases_of chain)
-    pub tree : IsKeptTree bytes hash shape batch.tree tip (bases_of chain)
-    pub unordered : All IsUnordered tip
+    pub tree : IsKeptTree hashing batch.tree tip (bases_of chain)
+    pub of : All (IsOf hashing.form) tip
 
   -- the batch is of this chain, and its parent of that one
   pub record IsBegun (batch : Begun D) (chain above : Chain) : Type 0 where
     pub parent : IsMade batch.parent above chain.base
     pub kept : chain.kept ≡ kept_by batch.keep above chain.base
 
-module _ {C D : Type 0} (members : store.Ghosts C) (bytes : D → Bytes) (hash : Bytes → Bytes) (shape : Shape) where
-  -- the database, whose index has keys by these index keys, stands for this list, and its store tells its items
-  pub record IsDatabase (index_key : Bytes → ℕ) (db : Database C D) (list : List Operation) : Type 0 where
+module _ {C D : Type 0} (members : store.Ghosts C) where
+  -- the database, of this layout, stands for this list, and its store tells its items
+  pub record IsDatabase (layout : Layout D) (db : Database C D) (list : List Operation) : Type 0 where
     pub told : IsSome (members.items db.log.store)
-    pub lent : IsLent members shape bytes hash index_key db.entries db.log list
-    pub commitment : db.commitment ≡ list_commitment hash shape list
+    pub lent : IsLent members layout.hashing.shape layout.hashing.bytes layout.hashing.hash layout.hashing.form layout.index_key db.entries db.log list
+    pub commitment : db.commitment ≡ list_commitment layout.hashing list
     pub floor : db.floor ≡ floor list
     pub live : db.live ≡ length (live list)
     pub metadata : db.metadata ≡ last_metadata list
 
   -- reads left the database as it was, but for its store's count of faults, which did not fall
-  pub record IsLeft (old new : Database C D) : Type 0 where
+  pub record IsLeft (hashing : Hashing D) (old new : Database C D) : Type 0 where
     pub rest : new ≡ record old { log = new.log }
-    pub read : IsRead members shape bytes hash old.log new.log
+    pub read : IsRead members hashing.shape hashing.bytes hashing.hash old.log new.log

@@ -1,10 +1,11 @@
 //! Batches: writes that are recorded, and the list that they make.
 
-ghost use Rattle.std.specs.Prelude.{◌≡◌, ◌≢◌, ◌⊎◌, ◌≤◌, ◌+◌, ◌^◌, ◌++◌, ◌∷◌, ℕ, suc, min, [], List, None, true, false, length, map, take, drop, option_map, Contains, IfOk, IfErr, OnOk};
+ghost use Rattle.std.specs.Prelude.{◌≡◌, ◌≢◌, ◌⊎◌, ◌≤◌, ◌+◌, ◌^◌, ◌++◌, ◌∷◌, ℕ, suc, min, [], List, None, true, false, length, map, take, drop, option_map, All, Contains, IfOk, IfErr, OnOk};
 ghost use Rattle.qm_model.specs.Batches.{Chain, IsKnown, IsOnChain, child_of, own_operations};
 ghost use Rattle.qm_model.specs.Causes.{Rose};
 ghost use Rattle.qm_model.specs.Live as lives;
-ghost use Rattle.qm_model.specs.Operations.{Operation, spelling};
+ghost use Rattle.qm_model.specs.Forms.{IsOf, spelling};
+ghost use Rattle.qm_model.specs.Operations.{Operation};
 ghost use Rattle.qm_model.specs.Policies.{proportional};
 ghost use Rattle.qm_model.specs.Proofs.{ops_proof, pins_at};
 ghost use Rattle.qm_model.specs.Refusals.{too_long};
@@ -19,17 +20,20 @@ ghost use Rattle.qm_batch.specs.Views.{changes_view, IsPlan};
 ghost use Rattle.qm_any.specs.Databases.{IsDatabase, IsBegun, IsMade, IsLeft, bases, child_boundary, child_made, child_tips, is_on, kept_by, operations_in, stepped, unapplied};
 ghost use Rattle.qm_store.specs.Log.{IsLacked};
 ghost use Rattle.qm_any.specs.KeptTrees.{held_at};
-ghost use Rattle.qm_any.specs.Tips.{IsTaken, IsRefused};
-ghost use Rattle.qm_any.specs.Views.{entry_views, policy_view, write_views};
+ghost use Rattle.qm_any.specs.Tips.{IsLow, IsTaken, IsRefused};
+ghost use Rattle.qm_base.specs.Views.{operation_views};
+ghost use Rattle.qm_any.specs.Layouts.{Hashing};
+ghost use Rattle.qm_any.specs.Views.{policy_view, write_views};
 
-use crate::db::Db;
+use crate::db::{Db, LaidOut};
 use crate::operations::{
-    Entry, Step, diffs_of, refuse, spelled, spelled_steps, twin_option, unapplied_of,
+    Step, diffs_of, refuse, spelled, spelled_steps, twin_option, unapplied_of,
 };
 use crate::policy::Proportional;
 use qm_base::update::{Unordered, Update};
 use qm_base::{
-    Commitment, Digest, Error, Hasher, JournalError, Key, Location, MerkleError, VariableValue,
+    ByteString, Commitment, Digest, Error, Hasher, JournalError, Location, MerkleError,
+    ValueEncoding,
 };
 use qm_batch::{Layer, Plan, Write};
 use qm_chain::{Bounds, Diff, validate_batch_applicable};
@@ -90,23 +94,23 @@ impl<F: Family, D: Digest, U: Update> Model for MerkleizedBatch<F, D, U> {
 
 /// What a database lacks of a batch's list.
 #[derive(Drop)]
-pub(crate) struct Lacking<F, D, K: Key, V: VariableValue> {
+pub(crate) struct Lacking<F, D, U: Update> {
     /// The spellings of the operations that it lacks.
     pub(crate) items: Vec<Vec<u8>>,
     /// What these do to keys, by steps, newest first.
-    pub(crate) diffs: Vec<Rc<Diff<F, K, V>>>,
+    pub(crate) diffs: Vec<Rc<Diff<F, U::Key, U::Value>>>,
     /// What stands for the list.
     pub(crate) tip: Commitment<D>,
     pub(crate) floor: Location<F>,
     pub(crate) live: u64,
-    pub(crate) metadata: Option<V>,
+    pub(crate) metadata: Option<U::Value>,
 }
 
-impl<F: Family, D: Digest, K: Key, V: VariableValue> UnmerkleizedBatch<F, D, Unordered<K, V>> {
+impl<F: Family, D: Digest, U: Update> UnmerkleizedBatch<F, D, U> {
     // A batch on the list of a merkleized one, with no writes yet, that keeps so many ancestors, the parent first.
     pub(crate) fn begun(
         alloc: Global,
-        parent: Rc<MerkleizedBatch<F, D, Unordered<K, V>>>,
+        parent: Rc<MerkleizedBatch<F, D, U>>,
         keep: usize,
     ) -> Self
         requires { keep ≤ suc (length parent.value.bounds.ancestors) }
@@ -121,8 +125,8 @@ impl<F: Family, D: Digest, K: Key, V: VariableValue> UnmerkleizedBatch<F, D, Uno
 
     /// Records a write: a value for the key, or its end. The last write of a key counts. Where memory lacks the batch
     /// is gone.
-    pub fn write(self, key: K, value: Option<V>) -> Result<Self, AllocError>
-        ensures { IfOk result (λ b. b ≡ record self { writes = self.writes ++ record { key = K.bytes key; value = option_map V.bytes value } ∷ [] }) }
+    pub fn write(self, key: U::Key, value: Option<U::Value>) -> Result<Self, AllocError>
+        ensures { IfOk result (λ b. b ≡ record self { writes = self.writes ++ record { key = U.Key.bytes key; value = option_map U.Value.bytes value } ∷ [] }) }
     {
         let mut batch = self;
         batch.writes.push(Write { key, value })?;
@@ -136,15 +140,15 @@ impl<F: Family, D: Digest, K: Key, V: VariableValue> UnmerkleizedBatch<F, D, Uno
     pub fn get<C: Store, I: qm_index::Unordered<Value = Location<F>>, H: Hasher<Digest = D> + Drop>(
         &self,
         alloc: Global,
-        key: &K,
-        db: &mut Db<F, C, D, I, H, Unordered<K, V>>,
-    ) -> Result<Option<V>, Error>
-        ensures value { (list : List Operation) (chain above : Chain) → IsDatabase C.Store D.bytes H.hash F.shape I.index_key db.old list → IsBegun D.bytes H.hash F.shape self.now chain above → IsKnown list above chain.base
-            → IfOk result (λ v. option_map V.bytes v ≡ read_through chain.base self.now.writes (K.bytes key.now)) }
+        key: &U::Key,
+        db: &mut Db<F, C, I, H, U>,
+    ) -> Result<Option<U::Value>, Error>
+        ensures value { (list : List Operation) (chain above : Chain) → IsDatabase C.Store ⟦<Db<F, C, I, H, U> as LaidOut>⟧.layout db.old list → IsBegun ⟦<Db<F, C, I, H, U> as LaidOut>⟧.layout.hashing self.now chain above → IsKnown list above chain.base
+            → IfOk result (λ v. option_map U.Value.bytes v ≡ read_through chain.base self.now.writes (U.Key.bytes key.now)) }
         ensures readable { OnOk result (knows self.now.parent.bounds db.old.commitment ≡ true) }
         ensures error { IfErr result (λ e. ((e ≡ Error.StaleRead) × (knows self.now.parent.bounds db.old.commitment ≡ false))
             ⊎ ((e ≡ Error.Memory) ⊎ ((knows self.now.parent.bounds db.old.commitment ≡ true) × IsReadError C.Store db.old.log db.new.log e))) }
-        ensures left { IsLeft C.Store D.bytes H.hash F.shape db.old db.new }
+        ensures left { IsLeft C.Store ⟦<Db<F, C, I, H, U> as LaidOut>⟧.layout.hashing db.old db.new }
     {
         self.parent.bounds.compatible(db.commitment())?;
         db.read_one(alloc, &self.parent.steps, &self.writes, key)
@@ -158,20 +162,22 @@ impl<F: Family, D: Digest, K: Key, V: VariableValue> UnmerkleizedBatch<F, D, Uno
     >(
         &self,
         alloc: Global,
-        keys: &[K],
-        db: &mut Db<F, C, D, I, H, Unordered<K, V>>,
-    ) -> Result<Vec<Option<V>>, Error>
-        ensures values { (list : List Operation) (chain above : Chain) → IsDatabase C.Store D.bytes H.hash F.shape I.index_key db.old list → IsBegun D.bytes H.hash F.shape self.now chain above → IsKnown list above chain.base
-            → IfOk result (λ v. map (option_map V.bytes) v.items ≡ map (λ k. read_through chain.base self.now.writes (K.bytes k)) keys.now) }
+        keys: &[U::Key],
+        db: &mut Db<F, C, I, H, U>,
+    ) -> Result<Vec<Option<U::Value>>, Error>
+        ensures values { (list : List Operation) (chain above : Chain) → IsDatabase C.Store ⟦<Db<F, C, I, H, U> as LaidOut>⟧.layout db.old list → IsBegun ⟦<Db<F, C, I, H, U> as LaidOut>⟧.layout.hashing self.now chain above → IsKnown list above chain.base
+            → IfOk result (λ v. map (option_map U.Value.bytes) v.items ≡ map (λ k. read_through chain.base self.now.writes (U.Key.bytes k)) keys.now) }
         ensures readable { OnOk result (knows self.now.parent.bounds db.old.commitment ≡ true) }
         ensures error { IfErr result (λ e. ((e ≡ Error.StaleRead) × (knows self.now.parent.bounds db.old.commitment ≡ false))
             ⊎ ((e ≡ Error.Memory) ⊎ ((knows self.now.parent.bounds db.old.commitment ≡ true) × IsReadError C.Store db.old.log db.new.log e))) }
-        ensures left { IsLeft C.Store D.bytes H.hash F.shape db.old db.new }
+        ensures left { IsLeft C.Store ⟦<Db<F, C, I, H, U> as LaidOut>⟧.layout.hashing db.old db.new }
     {
         self.parent.bounds.compatible(db.commitment())?;
         db.read_all(alloc, &self.parent.steps, &self.writes, keys)
     }
+}
 
+impl<F: Family, D: Digest, K: ByteString, V: ValueEncoding<K>> UnmerkleizedBatch<F, D, Unordered<K, V>> {
     /// Makes the list of the batch: its writes on its base list, then what the policy moves, then a commit with the
     /// metadata. The database is at the batch's boundary or at a kept ancestor's tip, else the batch is refused as stale;
     /// then come the first spelling of more than 65,536 bytes, and a list of more than 2^62 operations. The batch is gone
@@ -184,21 +190,21 @@ impl<F: Family, D: Digest, K: Key, V: VariableValue> UnmerkleizedBatch<F, D, Uno
     >(
         self,
         alloc: Global,
-        db: &mut Db<F, C, D, I, H, Unordered<K, V>>,
-        metadata: Option<V>,
+        db: &mut Db<F, C, I, H, Unordered<K, V>>,
+        metadata: Option<V::Value>,
         policy: &mut Proportional,
     ) -> Result<Rc<MerkleizedBatch<F, D, Unordered<K, V>>>, Error>
         ensures fits { OnOk result (is_on db.old.commitment self ≡ true) }
-        ensures made { (list : List Operation) (chain above : Chain) → IsDatabase C.Store D.bytes H.hash F.shape I.index_key db.old list → IsBegun D.bytes H.hash F.shape self chain above → IsOnChain list chain
-            → IfOk result (λ b. IsMade D.bytes H.hash F.shape b.value chain (stepped chain.base self.writes (policy_view policy.old) (option_map V.bytes metadata))) }
-        ensures taken { (list : List Operation) (chain above : Chain) → IsDatabase C.Store D.bytes H.hash F.shape I.index_key db.old list → IsBegun D.bytes H.hash F.shape self chain above → IsOnChain list chain
-            → OnOk result (IsTaken chain.base (stepped chain.base self.writes (policy_view policy.old) (option_map V.bytes metadata))) }
-        ensures refused { (list : List Operation) (chain above : Chain) → IsDatabase C.Store D.bytes H.hash F.shape I.index_key db.old list → IsBegun D.bytes H.hash F.shape self chain above → IsOnChain list chain
-            → IfErr result (λ e. IsRefused chain.base (stepped chain.base self.writes (policy_view policy.old) (option_map V.bytes metadata)) e ⊎ IsReadError C.Store db.old.log db.new.log e) }
+        ensures made { (list : List Operation) (chain above : Chain) → IsDatabase C.Store ⟦<Db<F, C, I, H, Unordered<K, V>> as LaidOut>⟧.layout db.old list → IsBegun ⟦<Db<F, C, I, H, Unordered<K, V>> as LaidOut>⟧.layout.hashing self chain above → IsOnChain list chain
+            → IfOk result (λ b. IsMade ⟦<Db<F, C, I, H, Unordered<K, V>> as LaidOut>⟧.layout.hashing b.value chain (stepped chain.base self.writes (policy_view policy.old) (option_map V.Value.bytes metadata))) }
+        ensures taken { (list : List Operation) (chain above : Chain) → IsDatabase C.Store ⟦<Db<F, C, I, H, Unordered<K, V>> as LaidOut>⟧.layout db.old list → IsBegun ⟦<Db<F, C, I, H, Unordered<K, V>> as LaidOut>⟧.layout.hashing self chain above → IsOnChain list chain
+            → OnOk result (IsTaken ⟦<Unordered<K, V> as Update>⟧.form chain.base (stepped chain.base self.writes (policy_view policy.old) (option_map V.Value.bytes metadata))) }
+        ensures refused { (list : List Operation) (chain above : Chain) → IsDatabase C.Store ⟦<Db<F, C, I, H, Unordered<K, V>> as LaidOut>⟧.layout db.old list → IsBegun ⟦<Db<F, C, I, H, Unordered<K, V>> as LaidOut>⟧.layout.hashing self chain above → IsOnChain list chain
+            → IfErr result (λ e. IsRefused ⟦<Unordered<K, V> as Update>⟧.form chain.base (stepped chain.base self.writes (policy_view policy.old) (option_map V.Value.bytes metadata)) e ⊎ IsReadError C.Store db.old.log db.new.log e) }
         ensures stale { IfErr result (λ e. e ≡ Error.StaleBatch → is_on db.old.commitment self ≡ false) }
         ensures order { IfErr result (λ e. e ≢ Error.Memory → e ≢ Error.StaleBatch → is_on db.old.commitment self ≡ true) }
         ensures cause { IfErr result (λ e. e ≡ Error.Journal JournalError.Store → Rose (C.faults db.old.log.store) (C.faults db.new.log.store)) }
-        ensures left { IsLeft C.Store D.bytes H.hash F.shape db.old db.new }
+        ensures left { IsLeft C.Store ⟦<Db<F, C, I, H, Unordered<K, V>> as LaidOut>⟧.layout.hashing db.old db.new }
     {
         let UnmerkleizedBatch {
             parent,
@@ -214,7 +220,7 @@ impl<F: Family, D: Digest, K: Key, V: VariableValue> UnmerkleizedBatch<F, D, Uno
     }
 }
 
-impl<F: Family, D: Digest, K: Key, V: VariableValue> MerkleizedBatch<F, D, Unordered<K, V>> {
+impl<F: Family, D: Digest, U: Update> MerkleizedBatch<F, D, U> {
     /// The operations root of the list that the batch makes.
     pub fn root(&self) -> D
         ensures { D.bytes result ≡ self.now.bounds.tip.root }
@@ -230,9 +236,9 @@ impl<F: Family, D: Digest, K: Key, V: VariableValue> MerkleizedBatch<F, D, Unord
     }
 
     /// Where the batch's own operations begin, and these.
-    pub fn operations(&self) -> (Location<F>, &[Entry<F, K, V>])
+    pub fn operations(&self) -> (Location<F>, &[qm_base::Operation<F, U>])
         ensures base { result.0 ≡ self.now.bounds.base.size }
-        ensures own { (hash : List ℕ → List ℕ) (chain : Chain) (tip : List Operation) → IsMade D.bytes hash F.shape self.now chain tip → entry_views K.bytes V.bytes result.1.now ≡ own_operations chain tip }
+        ensures own { (hashing : Hashing D) (chain : Chain) (tip : List Operation) → IsMade hashing self.now chain tip → operation_views U.view U.Key.bytes U.Value.bytes result.1.now ≡ own_operations chain tip }
         ensures count { result.0 + length result.1.now ≡ self.now.bounds.tip.size }
     {
         (
@@ -242,8 +248,8 @@ impl<F: Family, D: Digest, K: Key, V: VariableValue> MerkleizedBatch<F, D, Unord
     }
 
     /// What the steps of the batch and of its kept ancestors do to keys, the batch's own first. It takes no memory.
-    pub fn diffs(&self) -> &[Rc<Diff<F, K, V>>]
-        ensures { map (λ d. changes_view K.bytes V.bytes d.value) result.now ≡ map (λ l. l.changes) self.now.layers }
+    pub fn diffs(&self) -> &[Rc<Diff<F, U::Key, U::Value>>]
+        ensures { map (λ d. changes_view U.Key.bytes U.Value.bytes d.value) result.now ≡ map (λ l. l.changes) self.now.layers }
     {
         &self.diffs
     }
@@ -253,9 +259,9 @@ impl<F: Family, D: Digest, K: Key, V: VariableValue> MerkleizedBatch<F, D, Unord
     pub fn new_batch(
         batch: &Rc<Self>,
         alloc: Global,
-    ) -> Result<UnmerkleizedBatch<F, D, Unordered<K, V>>, AllocError>
+    ) -> Result<UnmerkleizedBatch<F, D, U>, AllocError>
         ensures value { IfOk result (λ b. b ≡ record { parent = batch.now.value; keep = suc (length batch.now.value.bounds.ancestors); writes = [] }) }
-        ensures begun { (hash : List ℕ → List ℕ) (chain : Chain) (tip : List Operation) → IsMade D.bytes hash F.shape batch.now.value chain tip → IfOk result (λ b. IsBegun D.bytes hash F.shape b (child_of None chain tip) chain) }
+        ensures begun { (hashing : Hashing D) (chain : Chain) (tip : List Operation) → IsMade hashing batch.now.value chain tip → IfOk result (λ b. IsBegun hashing b (child_of None chain tip) chain) }
     {
         Self::new_batch_keeping(batch, alloc, batch.bounds.ancestors.len())
     }
@@ -266,9 +272,9 @@ impl<F: Family, D: Digest, K: Key, V: VariableValue> MerkleizedBatch<F, D, Unord
         batch: &Rc<Self>,
         alloc: Global,
         n: usize,
-    ) -> Result<UnmerkleizedBatch<F, D, Unordered<K, V>>, AllocError>
+    ) -> Result<UnmerkleizedBatch<F, D, U>, AllocError>
         ensures value { IfOk result (λ b. b ≡ record { parent = batch.now.value; keep = suc (min n (length batch.now.value.bounds.ancestors)); writes = [] }) }
-        ensures begun { (hash : List ℕ → List ℕ) (chain : Chain) (tip : List Operation) → IsMade D.bytes hash F.shape batch.now.value chain tip → IfOk result (λ b. IsBegun D.bytes hash F.shape b (child_of (Some n) chain tip) chain) }
+        ensures begun { (hashing : Hashing D) (chain : Chain) (tip : List Operation) → IsMade hashing batch.now.value chain tip → IfOk result (λ b. IsBegun hashing b (child_of (Some n) chain tip) chain) }
     {
         let keep = n.min(batch.bounds.ancestors.len()) + 1;
         let parent = batch.clone()?;
@@ -280,15 +286,15 @@ impl<F: Family, D: Digest, K: Key, V: VariableValue> MerkleizedBatch<F, D, Unord
     pub fn get<C: Store, I: qm_index::Unordered<Value = Location<F>>, H: Hasher<Digest = D> + Drop>(
         &self,
         alloc: Global,
-        key: &K,
-        db: &mut Db<F, C, D, I, H, Unordered<K, V>>,
-    ) -> Result<Option<V>, Error>
-        ensures value { (list : List Operation) (chain : Chain) (tip : List Operation) → IsDatabase C.Store D.bytes H.hash F.shape I.index_key db.old list → IsMade D.bytes H.hash F.shape self.now chain tip → IsKnown list chain tip
-            → IfOk result (λ v. option_map V.bytes v ≡ lives.value_of tip (K.bytes key.now)) }
+        key: &U::Key,
+        db: &mut Db<F, C, I, H, U>,
+    ) -> Result<Option<U::Value>, Error>
+        ensures value { (list : List Operation) (chain : Chain) (tip : List Operation) → IsDatabase C.Store ⟦<Db<F, C, I, H, U> as LaidOut>⟧.layout db.old list → IsMade ⟦<Db<F, C, I, H, U> as LaidOut>⟧.layout.hashing self.now chain tip → IsKnown list chain tip
+            → IfOk result (λ v. option_map U.Value.bytes v ≡ lives.value_of tip (U.Key.bytes key.now)) }
         ensures readable { OnOk result (knows self.now.bounds db.old.commitment ≡ true) }
         ensures error { IfErr result (λ e. ((e ≡ Error.StaleRead) × (knows self.now.bounds db.old.commitment ≡ false))
             ⊎ ((e ≡ Error.Memory) ⊎ ((knows self.now.bounds db.old.commitment ≡ true) × IsReadError C.Store db.old.log db.new.log e))) }
-        ensures left { IsLeft C.Store D.bytes H.hash F.shape db.old db.new }
+        ensures left { IsLeft C.Store ⟦<Db<F, C, I, H, U> as LaidOut>⟧.layout.hashing db.old db.new }
     {
         self.bounds.compatible(db.commitment())?;
         db.read_one(alloc, &self.steps, &Vec::new(alloc), key)
@@ -302,15 +308,15 @@ impl<F: Family, D: Digest, K: Key, V: VariableValue> MerkleizedBatch<F, D, Unord
     >(
         &self,
         alloc: Global,
-        keys: &[K],
-        db: &mut Db<F, C, D, I, H, Unordered<K, V>>,
-    ) -> Result<Vec<Option<V>>, Error>
-        ensures values { (list : List Operation) (chain : Chain) (tip : List Operation) → IsDatabase C.Store D.bytes H.hash F.shape I.index_key db.old list → IsMade D.bytes H.hash F.shape self.now chain tip → IsKnown list chain tip
-            → IfOk result (λ v. map (option_map V.bytes) v.items ≡ map (λ k. lives.value_of tip (K.bytes k)) keys.now) }
+        keys: &[U::Key],
+        db: &mut Db<F, C, I, H, U>,
+    ) -> Result<Vec<Option<U::Value>>, Error>
+        ensures values { (list : List Operation) (chain : Chain) (tip : List Operation) → IsDatabase C.Store ⟦<Db<F, C, I, H, U> as LaidOut>⟧.layout db.old list → IsMade ⟦<Db<F, C, I, H, U> as LaidOut>⟧.layout.hashing self.now chain tip → IsKnown list chain tip
+            → IfOk result (λ v. map (option_map U.Value.bytes) v.items ≡ map (λ k. lives.value_of tip (U.Key.bytes k)) keys.now) }
         ensures readable { OnOk result (knows self.now.bounds db.old.commitment ≡ true) }
         ensures error { IfErr result (λ e. ((e ≡ Error.StaleRead) × (knows self.now.bounds db.old.commitment ≡ false))
             ⊎ ((e ≡ Error.Memory) ⊎ ((knows self.now.bounds db.old.commitment ≡ true) × IsReadError C.Store db.old.log db.new.log e))) }
-        ensures left { IsLeft C.Store D.bytes H.hash F.shape db.old db.new }
+        ensures left { IsLeft C.Store ⟦<Db<F, C, I, H, U> as LaidOut>⟧.layout.hashing db.old db.new }
     {
         self.bounds.compatible(db.commitment())?;
         db.read_all(alloc, &self.steps, &Vec::new(alloc), keys)
@@ -321,16 +327,16 @@ impl<F: Family, D: Digest, K: Key, V: VariableValue> MerkleizedBatch<F, D, Unord
         C: Store,
         I: qm_index::Unordered<Value = Location<F>>,
         H: Hasher<Digest = D> + Drop,
-    >(&self, alloc: Global, db: &Db<F, C, D, I, H, Unordered<K, V>>) -> Result<Proof<D>, Error>
-        ensures proof { (list : List Operation) (chain : Chain) (tip : List Operation) → IsDatabase C.Store D.bytes H.hash F.shape I.index_key db.now list → IsMade D.bytes H.hash F.shape self.now chain tip → IsKnown list chain tip
-            → IfOk result (λ p. proof_view D.bytes p ≡ ops_proof H.hash F.shape tip (length chain.base) (length tip)) }
+    >(&self, alloc: Global, db: &Db<F, C, I, H, U>) -> Result<Proof<D>, Error>
+        ensures proof { (list : List Operation) (chain : Chain) (tip : List Operation) → IsDatabase C.Store ⟦<Db<F, C, I, H, U> as LaidOut>⟧.layout db.now list → IsMade ⟦<Db<F, C, I, H, U> as LaidOut>⟧.layout.hashing self.now chain tip → IsKnown list chain tip
+            → IfOk result (λ p. proof_view D.bytes p ≡ ops_proof H.hash F.shape U.form tip (length chain.base) (length tip)) }
         ensures readable { OnOk result (knows self.now.bounds db.now.commitment ≡ true) }
         ensures stale { IfErr result (λ e. e ≡ Error.StaleRead → knows self.now.bounds db.now.commitment ≡ false) }
         ensures never { IfErr result (λ e. (e ≡ Error.Memory) ⊎ ((e ≡ Error.StaleRead) ⊎ ((p : ℕ) × (e ≡ Error.Merkle (MerkleError.ElementPruned p))))) }
         ensures order { IfErr result (λ e. e ≢ Error.Memory → e ≢ Error.StaleRead → knows self.now.bounds db.now.commitment ≡ true) }
         ensures held { OnOk result (first_lacked (held_at F.shape self.now.tree db.now.log.tree) (needed_positions F.shape self.now.bounds.tip.size self.now.bounds.base.size self.now.bounds.tip.size) ≡ None) }
         ensures lacked { IfErr result (λ e. e ≢ Error.StaleRead → IsLacked (held_at F.shape self.now.tree db.now.log.tree) (needed_positions F.shape self.now.bounds.tip.size self.now.bounds.base.size self.now.bounds.tip.size) e) }
-        ensures whole { C.start db.now.log.store ≡ 0 → (list : List Operation) (chain : Chain) (tip : List Operation) → IsDatabase C.Store D.bytes H.hash F.shape I.index_key db.now list → IsMade D.bytes H.hash F.shape self.now chain tip → IsKnown list chain tip
+        ensures whole { C.start db.now.log.store ≡ 0 → (list : List Operation) (chain : Chain) (tip : List Operation) → IsDatabase C.Store ⟦<Db<F, C, I, H, U> as LaidOut>⟧.layout db.now list → IsMade ⟦<Db<F, C, I, H, U> as LaidOut>⟧.layout.hashing self.now chain tip → IsKnown list chain tip
             → IfErr result (λ e. e ≡ Error.Memory) }
     {
         self.known(db.commitment())?;
@@ -342,16 +348,16 @@ impl<F: Family, D: Digest, K: Key, V: VariableValue> MerkleizedBatch<F, D, Unord
         C: Store,
         I: qm_index::Unordered<Value = Location<F>>,
         H: Hasher<Digest = D> + Drop,
-    >(&self, alloc: Global, db: &Db<F, C, D, I, H, Unordered<K, V>>) -> Result<Vec<D>, Error>
-        ensures pins { (list : List Operation) (chain : Chain) (tip : List Operation) → IsDatabase C.Store D.bytes H.hash F.shape I.index_key db.now list → IsMade D.bytes H.hash F.shape self.now chain tip → IsKnown list chain tip
-            → IfOk result (λ pins. map D.bytes pins.items ≡ pins_at H.hash F.shape tip (length chain.base)) }
+    >(&self, alloc: Global, db: &Db<F, C, I, H, U>) -> Result<Vec<D>, Error>
+        ensures pins { (list : List Operation) (chain : Chain) (tip : List Operation) → IsDatabase C.Store ⟦<Db<F, C, I, H, U> as LaidOut>⟧.layout db.now list → IsMade ⟦<Db<F, C, I, H, U> as LaidOut>⟧.layout.hashing self.now chain tip → IsKnown list chain tip
+            → IfOk result (λ pins. map D.bytes pins.items ≡ pins_at H.hash F.shape U.form tip (length chain.base)) }
         ensures readable { OnOk result (knows self.now.bounds db.now.commitment ≡ true) }
         ensures stale { IfErr result (λ e. e ≡ Error.StaleRead → knows self.now.bounds db.now.commitment ≡ false) }
         ensures never { IfErr result (λ e. (e ≡ Error.Memory) ⊎ ((e ≡ Error.StaleRead) ⊎ ((p : ℕ) × (e ≡ Error.Merkle (MerkleError.ElementPruned p))))) }
         ensures order { IfErr result (λ e. e ≢ Error.Memory → e ≢ Error.StaleRead → knows self.now.bounds db.now.commitment ≡ true) }
         ensures held { OnOk result (first_lacked (held_at F.shape self.now.tree db.now.log.tree) (trees.peak_positions F.shape self.now.bounds.base.size) ≡ None) }
         ensures lacked { IfErr result (λ e. e ≢ Error.StaleRead → IsLacked (held_at F.shape self.now.tree db.now.log.tree) (trees.peak_positions F.shape self.now.bounds.base.size) e) }
-        ensures whole { C.start db.now.log.store ≡ 0 → (list : List Operation) (chain : Chain) (tip : List Operation) → IsDatabase C.Store D.bytes H.hash F.shape I.index_key db.now list → IsMade D.bytes H.hash F.shape self.now chain tip → IsKnown list chain tip
+        ensures whole { C.start db.now.log.store ≡ 0 → (list : List Operation) (chain : Chain) (tip : List Operation) → IsDatabase C.Store ⟦<Db<F, C, I, H, U> as LaidOut>⟧.layout db.now list → IsMade ⟦<Db<F, C, I, H, U> as LaidOut>⟧.layout.hashing self.now chain tip → IsKnown list chain tip
             → IfErr result (λ e. e ≡ Error.Memory) }
     {
         self.known(db.commitment())?;
@@ -364,7 +370,7 @@ impl<F: Family, D: Digest, K: Key, V: VariableValue> MerkleizedBatch<F, D, Unord
         commitment: Commitment<D>,
         floor: Location<F>,
         live: u64,
-        metadata: Option<V>,
+        metadata: Option<U::Value>,
     ) -> Result<Rc<Self>, AllocError>
         requires few { commitment.size ≤ 2 ^ 62 }
         requires live { live ≤ commitment.size }
@@ -373,7 +379,7 @@ impl<F: Family, D: Digest, K: Key, V: VariableValue> MerkleizedBatch<F, D, Unord
           layers = record { base = commitment.size; operations = []; changes = [] } ∷ [];
           tree = record { leaves = commitment.size; layers = [] };
           live = live;
-          metadata = option_map V.bytes metadata;
+          metadata = option_map U.Value.bytes metadata;
         }) }
     {
         let diff = Rc::new(alloc, Diff::new(Vec::new(alloc)))?;
@@ -435,9 +441,9 @@ impl<F: Family, D: Digest, K: Key, V: VariableValue> MerkleizedBatch<F, D, Unord
     fn child_steps(
         &self,
         alloc: Global,
-        own: Layer<F, Unordered<K, V>>,
+        own: Layer<F, U>,
         keep: usize,
-    ) -> Result<Vec<Step<F, K, V>>, AllocError>
+    ) -> Result<Vec<Step<F, U>>, AllocError>
         requires { keep ≤ suc (length self.now.bounds.ancestors) }
         ensures { IfOk result (λ steps. map (λ l. l.value) steps.items ≡ own ∷ take keep self.now.layers) }
     {
@@ -489,10 +495,10 @@ impl<F: Family, D: Digest, K: Key, V: VariableValue> MerkleizedBatch<F, D, Unord
         &self,
         alloc: Global,
         current: &Commitment<D>,
-    ) -> Result<Lacking<F, D, K, V>, Error>
-        ensures items { IfOk result (λ lack. map (λ v. v.items) lack.items.items ≡ map spelling (operations_in (unapplied current.now.size self.now.layers))) }
-        ensures diffs { IfOk result (λ lack. map (λ d. changes_view K.bytes V.bytes d.value) lack.diffs.items ≡ map (λ l. l.changes) (unapplied current.now.size self.now.layers)) }
-        ensures rest { IfOk result (λ lack. (commitment_view D.bytes lack.tip ≡ self.now.bounds.tip) × (lack.floor ≡ self.now.bounds.inactivity_floor) × (lack.live ≡ self.now.live) × (option_map V.bytes lack.metadata ≡ self.now.metadata)) }
+    ) -> Result<Lacking<F, D, U>, Error>
+        ensures items { IfOk result (λ lack. map (λ v. v.items) lack.items.items ≡ map (spelling U.form) (operations_in (unapplied current.now.size self.now.layers))) }
+        ensures diffs { IfOk result (λ lack. map (λ d. changes_view U.Key.bytes U.Value.bytes d.value) lack.diffs.items ≡ map (λ l. l.changes) (unapplied current.now.size self.now.layers)) }
+        ensures rest { IfOk result (λ lack. (commitment_view D.bytes lack.tip ≡ self.now.bounds.tip) × (lack.floor ≡ self.now.bounds.inactivity_floor) × (lack.live ≡ self.now.live) × (option_map U.Value.bytes lack.metadata ≡ self.now.metadata)) }
         ensures count { IfOk result (λ lack. current.now.size + length lack.items.items ≡ lack.tip.size) }
         ensures few { IfOk result (λ lack. (lack.tip.size ≤ 2 ^ 62) × (lack.live ≤ lack.tip.size)) }
         ensures among { OnOk result (Contains (bases self.now.layers) current.now.size) }
@@ -523,31 +529,31 @@ fn made_on<
     D: Digest,
     I: qm_index::Unordered<Value = Location<F>>,
     H: Hasher<Digest = D> + Drop,
-    K: Key,
-    V: VariableValue,
+    K: ByteString,
+    V: ValueEncoding<K>,
 >(
     alloc: Global,
-    db: &mut Db<F, C, D, I, H, Unordered<K, V>>,
+    db: &mut Db<F, C, I, H, Unordered<K, V>>,
     parent: &MerkleizedBatch<F, D, Unordered<K, V>>,
     keep: usize,
     boundary: Commitment<D>,
     tips: Vec<Commitment<D>>,
-    writes: &[Write<K, V>],
-    metadata: Option<V>,
+    writes: &[Write<K, V::Value>],
+    metadata: Option<V::Value>,
 ) -> Result<Rc<MerkleizedBatch<F, D, Unordered<K, V>>>, Error>
     requires keep { keep ≤ suc (length parent.now.bounds.ancestors) }
     requires boundary { commitment_view D.bytes boundary ≡ child_boundary keep parent.now.bounds }
     requires tips { map (commitment_view D.bytes) tips.items ≡ child_tips keep parent.now.bounds }
     requires on { is_at db.old.commitment (child_boundary keep parent.now.bounds) (child_tips keep parent.now.bounds) ≡ true }
-    ensures made { (list : List Operation) (chain above : Chain) → IsDatabase C.Store D.bytes H.hash F.shape I.index_key db.old list → IsMade D.bytes H.hash F.shape parent.now above chain.base → chain.kept ≡ kept_by keep above chain.base → IsOnChain list chain
-        → IfOk result (λ b. IsMade D.bytes H.hash F.shape b.value chain (stepped chain.base (write_views K.bytes V.bytes writes.now) proportional (option_map V.bytes metadata))) }
-    ensures taken { (list : List Operation) (chain above : Chain) → IsDatabase C.Store D.bytes H.hash F.shape I.index_key db.old list → IsMade D.bytes H.hash F.shape parent.now above chain.base → chain.kept ≡ kept_by keep above chain.base → IsOnChain list chain
-        → OnOk result (IsTaken chain.base (stepped chain.base (write_views K.bytes V.bytes writes.now) proportional (option_map V.bytes metadata))) }
-    ensures refused { (list : List Operation) (chain above : Chain) → IsDatabase C.Store D.bytes H.hash F.shape I.index_key db.old list → IsMade D.bytes H.hash F.shape parent.now above chain.base → chain.kept ≡ kept_by keep above chain.base → IsOnChain list chain
-        → IfErr result (λ e. IsRefused chain.base (stepped chain.base (write_views K.bytes V.bytes writes.now) proportional (option_map V.bytes metadata)) e ⊎ IsReadError C.Store db.old.log db.new.log e) }
+    ensures made { (list : List Operation) (chain above : Chain) → IsDatabase C.Store ⟦<Db<F, C, I, H, Unordered<K, V>> as LaidOut>⟧.layout db.old list → IsMade ⟦<Db<F, C, I, H, Unordered<K, V>> as LaidOut>⟧.layout.hashing parent.now above chain.base → chain.kept ≡ kept_by keep above chain.base → IsOnChain list chain
+        → IfOk result (λ b. IsMade ⟦<Db<F, C, I, H, Unordered<K, V>> as LaidOut>⟧.layout.hashing b.value chain (stepped chain.base (write_views K.bytes V.Value.bytes writes.now) proportional (option_map V.Value.bytes metadata))) }
+    ensures taken { (list : List Operation) (chain above : Chain) → IsDatabase C.Store ⟦<Db<F, C, I, H, Unordered<K, V>> as LaidOut>⟧.layout db.old list → IsMade ⟦<Db<F, C, I, H, Unordered<K, V>> as LaidOut>⟧.layout.hashing parent.now above chain.base → chain.kept ≡ kept_by keep above chain.base → IsOnChain list chain
+        → OnOk result (IsTaken ⟦<Unordered<K, V> as Update>⟧.form chain.base (stepped chain.base (write_views K.bytes V.Value.bytes writes.now) proportional (option_map V.Value.bytes metadata))) }
+    ensures refused { (list : List Operation) (chain above : Chain) → IsDatabase C.Store ⟦<Db<F, C, I, H, Unordered<K, V>> as LaidOut>⟧.layout db.old list → IsMade ⟦<Db<F, C, I, H, Unordered<K, V>> as LaidOut>⟧.layout.hashing parent.now above chain.base → chain.kept ≡ kept_by keep above chain.base → IsOnChain list chain
+        → IfErr result (λ e. IsRefused ⟦<Unordered<K, V> as Update>⟧.form chain.base (stepped chain.base (write_views K.bytes V.Value.bytes writes.now) proportional (option_map V.Value.bytes metadata)) e ⊎ IsReadError C.Store db.old.log db.new.log e) }
     ensures never { IfErr result (λ e. e ≢ Error.StaleBatch) }
     ensures cause { IfErr result (λ e. e ≡ Error.Journal JournalError.Store → Rose (C.faults db.old.log.store) (C.faults db.new.log.store)) }
-    ensures left { IsLeft C.Store D.bytes H.hash F.shape db.old db.new }
+    ensures left { IsLeft C.Store ⟦<Db<F, C, I, H, Unordered<K, V>> as LaidOut>⟧.layout.hashing db.old db.new }
 {
     let copy = twin_option(alloc, &metadata)?;
     let (plan, items) = planned(alloc, db, parent, writes, metadata)?;
@@ -563,26 +569,27 @@ fn planned<
     D: Digest,
     I: qm_index::Unordered<Value = Location<F>>,
     H: Hasher<Digest = D> + Drop,
-    K: Key,
-    V: VariableValue,
+    K: ByteString,
+    V: ValueEncoding<K>,
 >(
     alloc: Global,
-    db: &mut Db<F, C, D, I, H, Unordered<K, V>>,
+    db: &mut Db<F, C, I, H, Unordered<K, V>>,
     parent: &MerkleizedBatch<F, D, Unordered<K, V>>,
-    writes: &[Write<K, V>],
-    metadata: Option<V>,
-) -> Result<(Plan<F, K, V>, Vec<Vec<u8>>), Error>
-    ensures plan { (list base : List Operation) → IsDatabase C.Store D.bytes H.hash F.shape I.index_key db.old list → IsBase parent.now.layers list base → parent.now.bounds.tip.size ≡ length base → parent.now.bounds.inactivity_floor ≡ lives.floor base → parent.now.live ≡ length (lives.live base)
-        → IfOk result (λ made. IsPlan made.0 base (stepped base (write_views K.bytes V.bytes writes.now) proportional (option_map V.bytes metadata))) }
-    ensures items { IfOk result (λ made. map (λ v. v.items) made.1.items ≡ map spelling (made.0).operations) }
+    writes: &[Write<K, V::Value>],
+    metadata: Option<V::Value>,
+) -> Result<(Plan<F, Unordered<K, V>>, Vec<Vec<u8>>), Error>
+    ensures plan { (list base : List Operation) → IsDatabase C.Store ⟦<Db<F, C, I, H, Unordered<K, V>> as LaidOut>⟧.layout db.old list → IsBase parent.now.layers list base → parent.now.bounds.tip.size ≡ length base → parent.now.bounds.inactivity_floor ≡ lives.floor base → parent.now.live ≡ length (lives.live base)
+        → IfOk result (λ made. IsPlan made.0 base (stepped base (write_views K.bytes V.Value.bytes writes.now) proportional (option_map V.Value.bytes metadata))) }
+    ensures items { IfOk result (λ made. map (λ v. v.items) made.1.items ≡ map (spelling ⟦<Unordered<K, V> as Update>⟧.form) (made.0).operations) }
+    ensures of { IfOk result (λ made. All IsLow (made.0).operations → All (IsOf ⟦<Unordered<K, V> as Update>⟧.form) (made.0).operations) }
     ensures room { IfOk result (λ made. parent.now.bounds.tip.size + length made.1.items ≤ 2 ^ 62) }
     ensures short { IfOk result (λ made. too_long (map (λ v. v.items) made.1.items) ≡ None) }
     ensures live { IfOk result (λ made. (made.0).live ≤ parent.now.bounds.tip.size + length made.1.items) }
-    ensures refused { (list base : List Operation) → IsDatabase C.Store D.bytes H.hash F.shape I.index_key db.old list → IsBase parent.now.layers list base → parent.now.bounds.tip.size ≡ length base → parent.now.bounds.inactivity_floor ≡ lives.floor base → parent.now.live ≡ length (lives.live base)
-        → IfErr result (λ e. IsRefused base (stepped base (write_views K.bytes V.bytes writes.now) proportional (option_map V.bytes metadata)) e ⊎ IsReadError C.Store db.old.log db.new.log e) }
+    ensures refused { (list base : List Operation) → IsDatabase C.Store ⟦<Db<F, C, I, H, Unordered<K, V>> as LaidOut>⟧.layout db.old list → IsBase parent.now.layers list base → parent.now.bounds.tip.size ≡ length base → parent.now.bounds.inactivity_floor ≡ lives.floor base → parent.now.live ≡ length (lives.live base)
+        → IfErr result (λ e. IsRefused ⟦<Unordered<K, V> as Update>⟧.form base (stepped base (write_views K.bytes V.Value.bytes writes.now) proportional (option_map V.Value.bytes metadata)) e ⊎ IsReadError C.Store db.old.log db.new.log e) }
     ensures never { IfErr result (λ e. e ≢ Error.StaleBatch) }
     ensures cause { IfErr result (λ e. e ≡ Error.Journal JournalError.Store → Rose (C.faults db.old.log.store) (C.faults db.new.log.store)) }
-    ensures left { IsLeft C.Store D.bytes H.hash F.shape db.old db.new }
+    ensures left { IsLeft C.Store ⟦<Db<F, C, I, H, Unordered<K, V>> as LaidOut>⟧.layout.hashing db.old db.new }
 {
     let Bounds {
         tip,
@@ -608,17 +615,17 @@ fn planned<
 
 // The merkleized batch of a plan on its parent, which keeps so many ancestors.
 #[allow(clippy::too_many_arguments)]
-fn sealed<F: Family, D: Digest, K: Key, V: VariableValue>(
+fn sealed<F: Family, D: Digest, U: Update>(
     alloc: Global,
-    parent: &MerkleizedBatch<F, D, Unordered<K, V>>,
+    parent: &MerkleizedBatch<F, D, U>,
     keep: usize,
     boundary: Commitment<D>,
     tips: Vec<Commitment<D>>,
-    plan: Plan<F, K, V>,
+    plan: Plan<F, U>,
     tree: KeptTree<F, D>,
     root: D,
-    metadata: Option<V>,
-) -> Result<Rc<MerkleizedBatch<F, D, Unordered<K, V>>>, AllocError>
+    metadata: Option<U::Value>,
+) -> Result<Rc<MerkleizedBatch<F, D, U>>, AllocError>
     requires keep { keep ≤ suc (length parent.now.bounds.ancestors) }
     requires boundary { commitment_view D.bytes boundary ≡ child_boundary keep parent.now.bounds }
     requires tips { map (commitment_view D.bytes) tips.items ≡ child_tips keep parent.now.bounds }
@@ -626,7 +633,7 @@ fn sealed<F: Family, D: Digest, K: Key, V: VariableValue>(
     requires few { tree.leaves ≤ 2 ^ 62 }
     requires live { plan.live ≤ tree.leaves }
     requires stops { stops tree.leaves tree.layers ≡ tree.leaves ∷ stops parent.now.tree.leaves parent.now.tree.layers }
-    ensures { IfOk result (λ b. b.value ≡ child_made parent.now keep plan tree (D.bytes root) (option_map V.bytes metadata)) }
+    ensures { IfOk result (λ b. b.value ≡ child_made parent.now keep plan tree (D.bytes root) (option_map U.Value.bytes metadata)) }
 {
     let Plan {
         operations,

@@ -4,7 +4,8 @@ ghost use Rattle.std.specs.Prelude.{◌≡◌, ◌≢◌, ◌⊎◌, ◌≤◌, 
 ghost use Rattle.qm_model.specs.Batches.{Chain, IsOnChain, begun_on};
 ghost use Rattle.qm_model.specs.Causes.{IsCause};
 ghost use Rattle.qm_model.specs.Live as lives;
-ghost use Rattle.qm_model.specs.Operations.{Operation, spelling};
+ghost use Rattle.qm_model.specs.Forms.{spelling};
+ghost use Rattle.qm_model.specs.Operations.{Operation};
 ghost use Rattle.qm_model.specs.Policies.{proportional};
 ghost use Rattle.qm_model.specs.Proofs.{ops_proof, pins_at};
 ghost use Rattle.qm_model.specs.Trees as trees;
@@ -29,8 +30,8 @@ use crate::operations::{Step, twin_option};
 use crate::refusal::{Given, Refusal};
 use qm_base::update::{Unordered, Update};
 use qm_base::{
-    ByteString, Commitment, Digest, Error, Hasher, JournalError, Key, Location, MerkleError,
-    VariableValue,
+    ByteString, Commitment, Digest, Error, Hasher, JournalError, Location, MerkleError,
+    ValueEncoding,
 };
 use qm_batch::{Plan, Write, apply_diffs, plain, read_key};
 use qm_merkle::{Family, Proof};
@@ -46,14 +47,13 @@ use std::rc::Rc;
 pub struct Db<
     F: Family,
     C: Store,
-    D: Digest,
     I: qm_index::Unordered<Value = Location<F>>,
-    H,
+    H: Hasher,
     U: Update,
 > {
     index: I,
-    pub(crate) log: AuthLog<F, C, D, H>,
-    commitment: Commitment<D>,
+    pub(crate) log: AuthLog<F, C, H>,
+    commitment: Commitment<H::Digest>,
     floor: Location<F>,
     live: u64,
     metadata: Option<U::Value>,
@@ -62,44 +62,64 @@ pub struct Db<
 impl<
     F: Family,
     C: Store,
-    D: Digest,
     I: qm_index::Unordered<Value = Location<F>>,
-    H,
+    H: Hasher,
     U: Update,
-> Model for Db<F, C, D, I, H, U> {
+> Model for Db<F, C, I, H, U> {
     ghost use Rattle.std.specs.Prelude.{◌≡◌, ◌≤◌, option_map};
     ghost use Rattle.qm_chain.specs.Bounds.{commitment_view};
     ghost use Rattle.qm_any.specs.Databases.{Database};
 
-    ghost Value = { Database C D };
+    ghost Value = { Database C H.Digest };
 
-    ghost view = { λ db. record { entries = I.entries db.index; log = db.log; commitment = commitment_view D.bytes db.commitment; floor = db.floor; live = db.live; metadata = option_map U.Value.bytes db.metadata } };
+    ghost view = { λ db. record { entries = I.entries db.index; log = db.log; commitment = commitment_view H.Digest.bytes db.commitment; floor = db.floor; live = db.live; metadata = option_map U.Value.bytes db.metadata } };
 
     ghost invariant = { λ db. (db.commitment.size ≡ db.log.tree.leaves) × (C.end db.log.store ≡ db.log.tree.leaves) × (db.live ≤ db.commitment.size) };
+}
+
+/// How the lists of a database are hashed and indexed, by its type.
+pub trait LaidOut {
+    ghost use Rattle.qm_any.specs.Layouts.{Layout};
+
+    type Digest;
+
+    ghost layout: { Layout Self.Digest };
 }
 
 impl<
     F: Family,
     C: Store,
-    D: Digest,
     I: qm_index::Unordered<Value = Location<F>>,
-    H: Hasher<Digest = D> + Drop,
-    K: Key,
-    V: VariableValue,
-> Db<F, C, D, I, H, Unordered<K, V>> {
+    H: Hasher,
+    U: Update,
+> LaidOut for Db<F, C, I, H, U> {
+    ghost use Rattle.qm_any.specs.Layouts.{layout_of};
+
+    type Digest = H::Digest;
+
+    ghost layout = { layout_of H.Digest.Digest H.Hasher F.Family U.Update I.Unordered };
+}
+
+impl<
+    F: Family,
+    C: Store,
+    I: qm_index::Unordered<Value = Location<F>>,
+    H: Hasher + Drop,
+    U: Update,
+> Db<F, C, I, H, U> {
     // The database of an index, a log and what these stand for.
     pub(crate) fn of_parts(
         index: I,
-        log: AuthLog<F, C, D, H>,
-        commitment: Commitment<D>,
+        log: AuthLog<F, C, H>,
+        commitment: Commitment<H::Digest>,
         floor: Location<F>,
         live: u64,
-        metadata: Option<V>,
+        metadata: Option<U::Value>,
     ) -> Self
         requires size { commitment.size ≡ log.tree.leaves }
         requires end { C.end log.store ≡ log.tree.leaves }
         requires live { live ≤ commitment.size }
-        ensures { result ≡ record { entries = I.entries index; log = log; commitment = commitment_view D.bytes commitment; floor = floor; live = live; metadata = option_map V.bytes metadata } }
+        ensures { result ≡ record { entries = I.entries index; log = log; commitment = commitment_view H.Digest.bytes commitment; floor = floor; live = live; metadata = option_map U.Value.bytes metadata } }
     {
         Db {
             index,
@@ -115,9 +135,9 @@ impl<
     pub fn new_batch(
         &self,
         alloc: Global,
-    ) -> Result<UnmerkleizedBatch<F, D, Unordered<K, V>>, AllocError>
+    ) -> Result<UnmerkleizedBatch<F, H::Digest, U>, AllocError>
         ensures value { IfOk result (λ b. b ≡ record { parent = at_rest self.now; keep = 0; writes = [] }) }
-        ensures begun { (list : List Operation) → IsDatabase C.Store D.bytes H.hash F.shape I.index_key self.now list → IfOk result (λ b. IsBegun D.bytes H.hash F.shape b (begun_on list) (begun_on list)) }
+        ensures begun { (list : List Operation) → IsDatabase C.Store ⟦<Self as LaidOut>⟧.layout self.now list → IfOk result (λ b. IsBegun ⟦<Self as LaidOut>⟧.layout.hashing b (begun_on list) (begun_on list)) }
     {
         let parent = self.to_batch(alloc)?;
         Ok(UnmerkleizedBatch::begun(alloc, parent, 0))
@@ -128,9 +148,9 @@ impl<
     pub fn to_batch(
         &self,
         alloc: Global,
-    ) -> Result<Rc<MerkleizedBatch<F, D, Unordered<K, V>>>, AllocError>
+    ) -> Result<Rc<MerkleizedBatch<F, H::Digest, U>>, AllocError>
         ensures value { IfOk result (λ b. b.value ≡ at_rest self.now) }
-        ensures made { (list : List Operation) → IsDatabase C.Store D.bytes H.hash F.shape I.index_key self.now list → IfOk result (λ b. IsMade D.bytes H.hash F.shape b.value (begun_on list) list) }
+        ensures made { (list : List Operation) → IsDatabase C.Store ⟦<Self as LaidOut>⟧.layout self.now list → IfOk result (λ b. IsMade ⟦<Self as LaidOut>⟧.layout.hashing b.value (begun_on list) list) }
     {
         // The log has at most 2^62 items.
         self.log.bounds();
@@ -142,7 +162,7 @@ impl<
     /// Whether the batch can be applied: the database is at its boundary or at a kept ancestor's tip. It takes no memory.
     pub fn validate_batch(
         &self,
-        batch: &MerkleizedBatch<F, D, Unordered<K, V>>,
+        batch: &MerkleizedBatch<F, H::Digest, U>,
     ) -> Result<(), Error>
         ensures fits { OnOk result (is_at self.now.commitment batch.now.bounds.db batch.now.bounds.ancestors ≡ true) }
         ensures stale { IfErr result (λ e. (e ≡ Error.StaleBatch) × (is_at self.now.commitment batch.now.bounds.db batch.now.bounds.ancestors ≡ false)) }
@@ -157,17 +177,17 @@ impl<
     pub fn apply_batch(
         self,
         alloc: Global,
-        batch: &MerkleizedBatch<F, D, Unordered<K, V>>,
+        batch: &MerkleizedBatch<F, H::Digest, U>,
     ) -> Result<Self, Refusal<Self, C>>
-        ensures stands { (list : List Operation) (chain : Chain) (tip : List Operation) → IsDatabase C.Store D.bytes H.hash F.shape I.index_key self list → IsMade D.bytes H.hash F.shape batch.now chain tip → IsOnChain list chain
-            → IfOk result (λ next. IsDatabase C.Store D.bytes H.hash F.shape I.index_key next tip) }
+        ensures stands { (list : List Operation) (chain : Chain) (tip : List Operation) → IsDatabase C.Store ⟦<Self as LaidOut>⟧.layout self list → IsMade ⟦<Self as LaidOut>⟧.layout.hashing batch.now chain tip → IsOnChain list chain
+            → IfOk result (λ next. IsDatabase C.Store ⟦<Self as LaidOut>⟧.layout next tip) }
         ensures fits { OnOk result (is_at self.commitment batch.now.bounds.db batch.now.bounds.ancestors ≡ true) }
-        ensures grown { (chain : Chain) (tip : List Operation) → IsMade D.bytes H.hash F.shape batch.now chain tip → IfOk result (λ next. Appended C.Store self.log.store next.log.store (map spelling (drop self.commitment.size tip))) }
+        ensures grown { (chain : Chain) (tip : List Operation) → IsMade ⟦<Self as LaidOut>⟧.layout.hashing batch.now chain tip → IfOk result (λ next. Appended C.Store self.log.store next.log.store (map (spelling U.form) (drop self.commitment.size tip))) }
         ensures later { IfOk result (λ next. C.faults self.log.store ≤ C.faults next.log.store) }
         ensures stale { IfErr result (λ r. r.error ≡ Error.StaleBatch → (r.given ≡ Given.Database self) × (is_at self.commitment batch.now.bounds.db batch.now.bounds.ancestors ≡ false)) }
-        ensures part { (chain : Chain) (tip : List Operation) → IsMade D.bytes H.hash F.shape batch.now chain tip → IfErr result (λ r. AppendedPart C.Store self.log.store (store_given (λ db. db.log.store) r.given)
-            (if is_at self.commitment batch.now.bounds.db batch.now.bounds.ancestors then map spelling (drop self.commitment.size tip) else [])) }
-        ensures back { IfErr result (λ r. (x : Database C D) → r.given ≡ Given.Database x → (x ≡ self) × ((r.error ≡ Error.StaleBatch) ⊎ (r.error ≡ Error.Memory))) }
+        ensures part { (chain : Chain) (tip : List Operation) → IsMade ⟦<Self as LaidOut>⟧.layout.hashing batch.now chain tip → IfErr result (λ r. AppendedPart C.Store self.log.store (store_given (λ db. db.log.store) r.given)
+            (if is_at self.commitment batch.now.bounds.db batch.now.bounds.ancestors then map (spelling U.form) (drop self.commitment.size tip) else [])) }
+        ensures back { IfErr result (λ r. (x : Database C H.Digest) → r.given ≡ Given.Database x → (x ≡ self) × ((r.error ≡ Error.StaleBatch) ⊎ (r.error ≡ Error.Memory))) }
         ensures causes { IfErr result (λ r. (r.error ≡ Error.StaleBatch) ⊎ ((r.error ≡ Error.Memory) ⊎ (r.error ≡ Error.Journal JournalError.Store))) }
         ensures cause { IfErr result (λ r. IsCause (C.faults self.log.store) (C.faults (store_given (λ db. db.log.store) r.given)) (r.error ≡ Error.Journal JournalError.Store)) }
     {
@@ -181,17 +201,17 @@ impl<
     }
 
     // The database with what it lacked of a list.
-    fn moved(self, alloc: Global, lacking: Lacking<F, D, K, V>) -> Result<Self, Refusal<Self, C>>
+    fn moved(self, alloc: Global, lacking: Lacking<F, H::Digest, U>) -> Result<Self, Refusal<Self, C>>
         requires count { self.commitment.size + length lacking.items.items ≡ lacking.tip.size }
         requires few { lacking.tip.size ≤ 2 ^ 62 }
         requires live { lacking.live ≤ lacking.tip.size }
-        ensures log { IfOk result (λ next. (list : List Operation) → logs.IsLog C.Store F.shape D.bytes H.hash self.log (map spelling list) → logs.IsLog C.Store F.shape D.bytes H.hash next.log (map spelling list ++ map (λ v. v.items) lacking.items.items)) }
-        ensures index { IfOk result (λ next. (list tip : List Operation) → LeadTo (map (λ d. changes_view K.bytes V.bytes d.value) lacking.diffs.items) list tip → IsIndexed I.index_key self.entries list → IsIndexed I.index_key next.entries tip) }
-        ensures rest { IfOk result (λ next. (next.commitment ≡ commitment_view D.bytes lacking.tip) × (next.floor ≡ lacking.floor) × (next.live ≡ lacking.live) × (next.metadata ≡ option_map V.bytes lacking.metadata)) }
+        ensures log { IfOk result (λ next. (list : List Operation) → logs.IsLog C.Store F.shape H.Digest.bytes H.hash self.log (map (spelling U.form) list) → logs.IsLog C.Store F.shape H.Digest.bytes H.hash next.log (map (spelling U.form) list ++ map (λ v. v.items) lacking.items.items)) }
+        ensures index { IfOk result (λ next. (list tip : List Operation) → LeadTo (map (λ d. changes_view U.Key.bytes U.Value.bytes d.value) lacking.diffs.items) list tip → IsIndexed I.index_key self.entries list → IsIndexed I.index_key next.entries tip) }
+        ensures rest { IfOk result (λ next. (next.commitment ≡ commitment_view H.Digest.bytes lacking.tip) × (next.floor ≡ lacking.floor) × (next.live ≡ lacking.live) × (next.metadata ≡ option_map U.Value.bytes lacking.metadata)) }
         ensures grown { IfOk result (λ next. Appended C.Store self.log.store next.log.store (map (λ v. v.items) lacking.items.items)) }
         ensures later { IfOk result (λ next. C.faults self.log.store ≤ C.faults next.log.store) }
         ensures part { IfErr result (λ r. AppendedPart C.Store self.log.store (store_given (λ db. db.log.store) r.given) (map (λ v. v.items) lacking.items.items)) }
-        ensures back { IfErr result (λ r. (x : Database C D) → r.given ≡ Given.Database x → (x ≡ self) × (r.error ≡ Error.Memory)) }
+        ensures back { IfErr result (λ r. (x : Database C H.Digest) → r.given ≡ Given.Database x → (x ≡ self) × (r.error ≡ Error.Memory)) }
         ensures causes { IfErr result (λ r. (r.error ≡ Error.Memory) ⊎ (r.error ≡ Error.Journal JournalError.Store)) }
         ensures cause { IfErr result (λ r. IsCause (C.faults self.log.store) (C.faults (store_given (λ db. db.log.store) r.given)) (r.error ≡ Error.Journal JournalError.Store)) }
     {
@@ -213,20 +233,20 @@ impl<
     }
 
     /// The value of a key, if it is live. It takes one read of the log for each location in the key's bucket, at most.
-    pub fn get(&mut self, alloc: Global, key: &K) -> Result<Option<V>, Error>
-        ensures value { (list : List Operation) → IsDatabase C.Store D.bytes H.hash F.shape I.index_key self.old list → IfOk result (λ v. option_map V.bytes v ≡ lives.value_of list (K.bytes key.now)) }
+    pub fn get(&mut self, alloc: Global, key: &U::Key) -> Result<Option<U::Value>, Error>
+        ensures value { (list : List Operation) → IsDatabase C.Store ⟦<Self as LaidOut>⟧.layout self.old list → IfOk result (λ v. option_map U.Value.bytes v ≡ lives.value_of list (U.Key.bytes key.now)) }
         ensures error { IfErr result (IsReadError C.Store self.old.log self.new.log) }
-        ensures whole { (list : List Operation) → IsDatabase C.Store D.bytes H.hash F.shape I.index_key self.old list → NoneBelow self.old.log.tree.start list → IfErr result (λ e. (n : ℕ) → e ≢ Error.Journal (JournalError.ItemPruned n)) }
-        ensures left { IsLeft C.Store D.bytes H.hash F.shape self.old self.new }
+        ensures whole { (list : List Operation) → IsDatabase C.Store ⟦<Self as LaidOut>⟧.layout self.old list → NoneBelow self.old.log.tree.start list → IfErr result (λ e. (n : ℕ) → e ≢ Error.Journal (JournalError.ItemPruned n)) }
+        ensures left { IsLeft C.Store ⟦<Self as LaidOut>⟧.layout.hashing self.old self.new }
     {
         self.read_one(alloc, &Vec::new(alloc), &Vec::new(alloc), key)
     }
 
     /// The values of keys, in their order, if they are live.
-    pub fn get_many(&mut self, alloc: Global, keys: &[K]) -> Result<Vec<Option<V>>, Error>
-        ensures values { (list : List Operation) → IsDatabase C.Store D.bytes H.hash F.shape I.index_key self.old list → IfOk result (λ v. map (option_map V.bytes) v.items ≡ map (λ k. lives.value_of list (K.bytes k)) keys.now) }
+    pub fn get_many(&mut self, alloc: Global, keys: &[U::Key]) -> Result<Vec<Option<U::Value>>, Error>
+        ensures values { (list : List Operation) → IsDatabase C.Store ⟦<Self as LaidOut>⟧.layout self.old list → IfOk result (λ v. map (option_map U.Value.bytes) v.items ≡ map (λ k. lives.value_of list (U.Key.bytes k)) keys.now) }
         ensures error { IfErr result (IsReadError C.Store self.old.log self.new.log) }
-        ensures left { IsLeft C.Store D.bytes H.hash F.shape self.old self.new }
+        ensures left { IsLeft C.Store ⟦<Self as LaidOut>⟧.layout.hashing self.old self.new }
     {
         self.read_all(alloc, &Vec::new(alloc), &Vec::new(alloc), keys)
     }
@@ -235,21 +255,21 @@ impl<
     pub(crate) fn read_one(
         &mut self,
         alloc: Global,
-        steps: &[Step<F, K, V>],
-        writes: &[Write<K, V>],
-        key: &K,
-    ) -> Result<Option<V>, Error>
-        ensures value { (list base : List Operation) → IsDatabase C.Store D.bytes H.hash F.shape I.index_key self.old list → IsBase (map (λ l. l.value) steps.now) list base
-            → IfOk result (λ v. option_map V.bytes v ≡ read_through base (write_views K.bytes V.bytes writes.now) (K.bytes key.now)) }
+        steps: &[Step<F, U>],
+        writes: &[Write<U::Key, U::Value>],
+        key: &U::Key,
+    ) -> Result<Option<U::Value>, Error>
+        ensures value { (list base : List Operation) → IsDatabase C.Store ⟦<Self as LaidOut>⟧.layout self.old list → IsBase (map (λ l. l.value) steps.now) list base
+            → IfOk result (λ v. option_map U.Value.bytes v ≡ read_through base (write_views U.Key.bytes U.Value.bytes writes.now) (U.Key.bytes key.now)) }
         ensures error { IfErr result (IsReadError C.Store self.old.log self.new.log) }
-        ensures whole { (list : List Operation) → IsDatabase C.Store D.bytes H.hash F.shape I.index_key self.old list → NoneBelow self.old.log.tree.start list → IfErr result (λ e. (n : ℕ) → e ≢ Error.Journal (JournalError.ItemPruned n)) }
-        ensures left { IsLeft C.Store D.bytes H.hash F.shape self.old self.new }
+        ensures whole { (list : List Operation) → IsDatabase C.Store ⟦<Self as LaidOut>⟧.layout self.old list → NoneBelow self.old.log.tree.start list → IfErr result (λ e. (n : ℕ) → e ≢ Error.Journal (JournalError.ItemPruned n)) }
+        ensures left { IsLeft C.Store ⟦<Self as LaidOut>⟧.layout.hashing self.old self.new }
     {
         if let Some(write) = last_write(writes, key) {
             return Ok(twin_option(alloc, &write.value)?);
         }
         match read_key(alloc, &self.index, &mut self.log, steps, key)? {
-            Some((_, update)) => Ok(Some(update.1)),
+            Some((_, update)) => Ok(Some(update.into_value())),
             None => Ok(None),
         }
     }
@@ -258,14 +278,14 @@ impl<
     pub(crate) fn read_all(
         &mut self,
         alloc: Global,
-        steps: &[Step<F, K, V>],
-        writes: &[Write<K, V>],
-        keys: &[K],
-    ) -> Result<Vec<Option<V>>, Error>
-        ensures values { (list base : List Operation) → IsDatabase C.Store D.bytes H.hash F.shape I.index_key self.old list → IsBase (map (λ l. l.value) steps.now) list base
-            → IfOk result (λ v. map (option_map V.bytes) v.items ≡ map (λ k. read_through base (write_views K.bytes V.bytes writes.now) (K.bytes k)) keys.now) }
+        steps: &[Step<F, U>],
+        writes: &[Write<U::Key, U::Value>],
+        keys: &[U::Key],
+    ) -> Result<Vec<Option<U::Value>>, Error>
+        ensures values { (list base : List Operation) → IsDatabase C.Store ⟦<Self as LaidOut>⟧.layout self.old list → IsBase (map (λ l. l.value) steps.now) list base
+            → IfOk result (λ v. map (option_map U.Value.bytes) v.items ≡ map (λ k. read_through base (write_views U.Key.bytes U.Value.bytes writes.now) (U.Key.bytes k)) keys.now) }
         ensures error { IfErr result (IsReadError C.Store self.old.log self.new.log) }
-        ensures left { IsLeft C.Store D.bytes H.hash F.shape self.old self.new }
+        ensures left { IsLeft C.Store ⟦<Self as LaidOut>⟧.layout.hashing self.old self.new }
     {
         let mut values = Vec::new(alloc);
         for key in keys {
@@ -275,58 +295,24 @@ impl<
         Ok(values)
     }
 
-    // What writes and metadata make of the base list of a batch of these steps.
-    #[allow(clippy::too_many_arguments)]
-    pub(crate) fn plan(
-        &mut self,
-        alloc: Global,
-        steps: &[Step<F, K, V>],
-        size: u64,
-        floor: Location<F>,
-        live: u64,
-        writes: &[Write<K, V>],
-        metadata: Option<V>,
-    ) -> Result<Plan<F, K, V>, Error>
-        requires size { size ≤ 2 ^ 62 }
-        requires live { live ≤ size }
-        ensures plan { (list base : List Operation) → IsDatabase C.Store D.bytes H.hash F.shape I.index_key self.old list → IsBase (map (λ l. l.value) steps.now) list base
-            → size ≡ length base → floor ≡ lives.floor base → live ≡ length (lives.live base)
-            → IfOk result (λ plan. IsPlan plan base (stepped base (write_views K.bytes V.bytes writes.now) proportional (option_map V.bytes metadata))) }
-        ensures live { IfOk result (λ plan. plan.live ≤ size + length plan.operations) }
-        ensures error { IfErr result (IsReadError C.Store self.old.log self.new.log) }
-        ensures left { IsLeft C.Store D.bytes H.hash F.shape self.old self.new }
-    {
-        plain(
-            alloc,
-            &self.index,
-            &mut self.log,
-            steps,
-            size,
-            floor,
-            live,
-            writes,
-            metadata,
-        )
-    }
-
     // A batch's tree with the leaves of these items behind it, and the root of its list with this floor.
     pub(crate) fn grown(
         &mut self,
         alloc: Global,
-        tree: &KeptTree<F, D>,
+        tree: &KeptTree<F, H::Digest>,
         items: &[Vec<u8>],
         floor: u64,
-    ) -> Result<(KeptTree<F, D>, D), AllocError>
+    ) -> Result<(KeptTree<F, H::Digest>, H::Digest), AllocError>
         requires room { tree.now.leaves + length items.now ≤ 2 ^ 62 }
         requires reach { Contains (stops tree.now.leaves tree.now.layers) self.old.commitment.size }
         ensures leaves { IfOk result (λ grown. grown.0.leaves ≡ tree.now.leaves + length items.now) }
         ensures stops { IfOk result (λ grown. stops grown.0.leaves grown.0.layers ≡ grown.0.leaves ∷ stops tree.now.leaves tree.now.layers) }
-        ensures tree { (list base tip : List Operation) (older : List (List Operation)) → IsDatabase C.Store D.bytes H.hash F.shape I.index_key self.old list → IsKeptTree D.bytes H.hash F.shape tree.now base older
-            → Contains (base ∷ older) list → map spelling base ++ map (λ v. v.items) items.now ≡ map spelling tip
-            → IfOk result (λ grown. IsKeptTree D.bytes H.hash F.shape grown.0 tip (base ∷ older)) }
-        ensures root { (list base tip : List Operation) (older : List (List Operation)) → IsDatabase C.Store D.bytes H.hash F.shape I.index_key self.old list → IsKeptTree D.bytes H.hash F.shape tree.now base older
-            → Contains (base ∷ older) list → map spelling base ++ map (λ v. v.items) items.now ≡ map spelling tip → floor ≡ lives.floor tip
-            → IfOk result (λ grown. D.bytes grown.1 ≡ ops_root H.hash F.shape tip) }
+        ensures tree { (list base tip : List Operation) (older : List (List Operation)) → IsDatabase C.Store ⟦<Self as LaidOut>⟧.layout self.old list → IsKeptTree ⟦<Self as LaidOut>⟧.layout.hashing tree.now base older
+            → Contains (base ∷ older) list → map (spelling U.form) base ++ map (λ v. v.items) items.now ≡ map (spelling U.form) tip
+            → IfOk result (λ grown. IsKeptTree ⟦<Self as LaidOut>⟧.layout.hashing grown.0 tip (base ∷ older)) }
+        ensures root { (list base tip : List Operation) (older : List (List Operation)) → IsDatabase C.Store ⟦<Self as LaidOut>⟧.layout self.old list → IsKeptTree ⟦<Self as LaidOut>⟧.layout.hashing tree.now base older
+            → Contains (base ∷ older) list → map (spelling U.form) base ++ map (λ v. v.items) items.now ≡ map (spelling U.form) tip → floor ≡ lives.floor tip
+            → IfOk result (λ grown. H.Digest.bytes grown.1 ≡ ops_root H.hash F.shape U.form tip) }
         ensures same { self.new ≡ self.old }
     {
         tree.grown(alloc, &mut self.log, items, floor)
@@ -336,18 +322,18 @@ impl<
     pub(crate) fn proof_through(
         &self,
         alloc: Global,
-        tree: &KeptTree<F, D>,
+        tree: &KeptTree<F, H::Digest>,
         floor: u64,
         start: u64,
-    ) -> Result<Proof<D>, Error>
+    ) -> Result<Proof<H::Digest>, Error>
         requires start { start ≤ tree.now.leaves }
         requires reach { Contains (stops tree.now.leaves tree.now.layers) self.now.commitment.size }
-        ensures value { (list tip : List Operation) (older : List (List Operation)) → IsDatabase C.Store D.bytes H.hash F.shape I.index_key self.now list → IsKeptTree D.bytes H.hash F.shape tree.now tip older
+        ensures value { (list tip : List Operation) (older : List (List Operation)) → IsDatabase C.Store ⟦<Self as LaidOut>⟧.layout self.now list → IsKeptTree ⟦<Self as LaidOut>⟧.layout.hashing tree.now tip older
             → Contains (tip ∷ older) list → floor ≡ lives.floor tip
-            → IfOk result (λ p. proof_view D.bytes p ≡ ops_proof H.hash F.shape tip start (length tip)) }
+            → IfOk result (λ p. proof_view H.Digest.bytes p ≡ ops_proof H.hash F.shape U.form tip start (length tip)) }
         ensures held { OnOk result (first_lacked (held_at F.shape tree.now self.now.log.tree) (needed_positions F.shape tree.now.leaves start tree.now.leaves) ≡ None) }
         ensures cause { IfErr result (IsLacked (held_at F.shape tree.now self.now.log.tree) (needed_positions F.shape tree.now.leaves start tree.now.leaves)) }
-        ensures whole { C.start self.now.log.store ≡ 0 → (list tip : List Operation) (older : List (List Operation)) → IsDatabase C.Store D.bytes H.hash F.shape I.index_key self.now list → IsKeptTree D.bytes H.hash F.shape tree.now tip older
+        ensures whole { C.start self.now.log.store ≡ 0 → (list tip : List Operation) (older : List (List Operation)) → IsDatabase C.Store ⟦<Self as LaidOut>⟧.layout self.now list → IsKeptTree ⟦<Self as LaidOut>⟧.layout.hashing tree.now tip older
             → Contains (tip ∷ older) list → IfErr result (λ e. e ≡ Error.Memory) }
     {
         // The log is kept from where its store is.
@@ -359,16 +345,16 @@ impl<
     pub(crate) fn pins_through(
         &self,
         alloc: Global,
-        tree: &KeptTree<F, D>,
+        tree: &KeptTree<F, H::Digest>,
         count: u64,
-    ) -> Result<Vec<D>, Error>
+    ) -> Result<Vec<H::Digest>, Error>
         requires count { count ≤ tree.now.leaves }
         requires reach { Contains (stops tree.now.leaves tree.now.layers) self.now.commitment.size }
-        ensures value { (list tip : List Operation) (older : List (List Operation)) → IsDatabase C.Store D.bytes H.hash F.shape I.index_key self.now list → IsKeptTree D.bytes H.hash F.shape tree.now tip older
-            → Contains (tip ∷ older) list → IfOk result (λ pins. map D.bytes pins.items ≡ pins_at H.hash F.shape tip count) }
+        ensures value { (list tip : List Operation) (older : List (List Operation)) → IsDatabase C.Store ⟦<Self as LaidOut>⟧.layout self.now list → IsKeptTree ⟦<Self as LaidOut>⟧.layout.hashing tree.now tip older
+            → Contains (tip ∷ older) list → IfOk result (λ pins. map H.Digest.bytes pins.items ≡ pins_at H.hash F.shape U.form tip count) }
         ensures held { OnOk result (first_lacked (held_at F.shape tree.now self.now.log.tree) (trees.peak_positions F.shape count) ≡ None) }
         ensures cause { IfErr result (IsLacked (held_at F.shape tree.now self.now.log.tree) (trees.peak_positions F.shape count)) }
-        ensures whole { C.start self.now.log.store ≡ 0 → (list tip : List Operation) (older : List (List Operation)) → IsDatabase C.Store D.bytes H.hash F.shape I.index_key self.now list → IsKeptTree D.bytes H.hash F.shape tree.now tip older
+        ensures whole { C.start self.now.log.store ≡ 0 → (list tip : List Operation) (older : List (List Operation)) → IsDatabase C.Store ⟦<Self as LaidOut>⟧.layout self.now list → IsKeptTree ⟦<Self as LaidOut>⟧.layout.hashing tree.now tip older
             → Contains (tip ∷ older) list → IfErr result (λ e. e ≡ Error.Memory) }
     {
         // The log is kept from where its store is.
@@ -377,15 +363,15 @@ impl<
     }
 
     /// The metadata of the last commit.
-    pub fn get_metadata(&self, alloc: Global) -> Result<Option<V>, AllocError>
-        ensures { IfOk result (λ v. option_map V.bytes v ≡ self.now.metadata) }
+    pub fn get_metadata(&self, alloc: Global) -> Result<Option<U::Value>, AllocError>
+        ensures { IfOk result (λ v. option_map U.Value.bytes v ≡ self.now.metadata) }
     {
         twin_option(alloc, &self.metadata)
     }
 
     /// The operations root of the list.
-    pub fn root(&self) -> D
-        ensures { D.bytes result ≡ self.now.commitment.root }
+    pub fn root(&self) -> H::Digest
+        ensures { H.Digest.bytes result ≡ self.now.commitment.root }
     {
         self.commitment.root
     }
@@ -435,8 +421,8 @@ impl<
     }
 
     // Size and root of the list.
-    pub(crate) fn commitment(&self) -> &Commitment<D>
-        ensures value { commitment_view D.bytes result.now ≡ self.now.commitment }
+    pub(crate) fn commitment(&self) -> &Commitment<H::Digest>
+        ensures value { commitment_view H.Digest.bytes result.now ≡ self.now.commitment }
         ensures size { result.now.size ≡ self.now.commitment.size }
     {
         &self.commitment
@@ -457,26 +443,67 @@ impl<
     }
 }
 
+impl<
+    F: Family,
+    C: Store,
+    I: qm_index::Unordered<Value = Location<F>>,
+    H: Hasher + Drop,
+    K: ByteString,
+    V: ValueEncoding<K>,
+> Db<F, C, I, H, Unordered<K, V>> {
+    // What writes and metadata make of the base list of a batch of these steps.
+    #[allow(clippy::too_many_arguments)]
+    pub(crate) fn plan(
+        &mut self,
+        alloc: Global,
+        steps: &[Step<F, Unordered<K, V>>],
+        size: u64,
+        floor: Location<F>,
+        live: u64,
+        writes: &[Write<K, V::Value>],
+        metadata: Option<V::Value>,
+    ) -> Result<Plan<F, Unordered<K, V>>, Error>
+        requires size { size ≤ 2 ^ 62 }
+        requires live { live ≤ size }
+        ensures plan { (list base : List Operation) → IsDatabase C.Store ⟦<Self as LaidOut>⟧.layout self.old list → IsBase (map (λ l. l.value) steps.now) list base
+            → size ≡ length base → floor ≡ lives.floor base → live ≡ length (lives.live base)
+            → IfOk result (λ plan. IsPlan plan base (stepped base (write_views K.bytes V.Value.bytes writes.now) proportional (option_map V.Value.bytes metadata))) }
+        ensures live { IfOk result (λ plan. plan.live ≤ size + length plan.operations) }
+        ensures error { IfErr result (IsReadError C.Store self.old.log self.new.log) }
+        ensures left { IsLeft C.Store ⟦<Self as LaidOut>⟧.layout.hashing self.old self.new }
+    {
+        plain(
+            alloc,
+            &self.index,
+            &mut self.log,
+            steps,
+            size,
+            floor,
+            live,
+            writes,
+            metadata,
+        )
+    }
+}
+
 // The database of a log that has what was lacking, where the index takes it too.
 fn indexed<
     F: Family,
     C: Store,
-    D: Digest,
     I: qm_index::Unordered<Value = Location<F>>,
-    H: Hasher<Digest = D> + Drop,
-    K: Key,
-    V: VariableValue,
+    H: Hasher + Drop,
+    U: Update,
 >(
     index: I,
-    log: AuthLog<F, C, D, H>,
-    lacking: Lacking<F, D, K, V>,
-) -> Result<Db<F, C, D, I, H, Unordered<K, V>>, Refusal<Db<F, C, D, I, H, Unordered<K, V>>, C>>
+    log: AuthLog<F, C, H>,
+    lacking: Lacking<F, H::Digest, U>,
+) -> Result<Db<F, C, I, H, U>, Refusal<Db<F, C, I, H, U>, C>>
     requires size { lacking.tip.size ≡ log.tree.leaves }
     requires end { C.end log.store ≡ log.tree.leaves }
     requires live { lacking.live ≤ lacking.tip.size }
     ensures log { IfOk result (λ next. next.log ≡ log) }
-    ensures index { IfOk result (λ next. (list tip : List Operation) → LeadTo (map (λ d. changes_view K.bytes V.bytes d.value) lacking.diffs.items) list tip → IsIndexed I.index_key (I.entries index) list → IsIndexed I.index_key next.entries tip) }
-    ensures rest { IfOk result (λ next. (next.commitment ≡ commitment_view D.bytes lacking.tip) × (next.floor ≡ lacking.floor) × (next.live ≡ lacking.live) × (next.metadata ≡ option_map V.bytes lacking.metadata)) }
+    ensures index { IfOk result (λ next. (list tip : List Operation) → LeadTo (map (λ d. changes_view U.Key.bytes U.Value.bytes d.value) lacking.diffs.items) list tip → IsIndexed I.index_key (I.entries index) list → IsIndexed I.index_key next.entries tip) }
+    ensures rest { IfOk result (λ next. (next.commitment ≡ commitment_view H.Digest.bytes lacking.tip) × (next.floor ≡ lacking.floor) × (next.live ≡ lacking.live) × (next.metadata ≡ option_map U.Value.bytes lacking.metadata)) }
     ensures back { IfErr result (λ r. (r.given ≡ Given.Store log.store) × (r.error ≡ Error.Memory)) }
 {
     let mut index = index;
@@ -500,24 +527,22 @@ fn indexed<
 fn given_back<
     F: Family,
     C: Store,
-    D: Digest,
     I: qm_index::Unordered<Value = Location<F>>,
-    H,
-    K: Key,
-    V: VariableValue,
+    H: Hasher,
+    U: Update,
 >(
     index: I,
-    commitment: Commitment<D>,
+    commitment: Commitment<H::Digest>,
     floor: Location<F>,
     live: u64,
-    metadata: Option<V>,
-    given: LogGiven<AuthLog<F, C, D, H>, C>,
-) -> Given<Db<F, C, D, I, H, Unordered<K, V>>, C>
-    requires whole { (log : logs.Log C D) → given ≡ LogGiven.Log log → (commitment.size ≡ log.tree.leaves) × (C.end log.store ≡ log.tree.leaves) }
+    metadata: Option<U::Value>,
+    given: LogGiven<AuthLog<F, C, H>, C>,
+) -> Given<Db<F, C, I, H, U>, C>
+    requires whole { (log : logs.Log C H.Digest) → given ≡ LogGiven.Log log → (commitment.size ≡ log.tree.leaves) × (C.end log.store ≡ log.tree.leaves) }
     requires live { live ≤ commitment.size }
     ensures store { store_given (λ db. db.log.store) result ≡ logs.store_given given }
-    ensures back { (x : Database C D) → result ≡ Given.Database x → (given ≡ LogGiven.Log x.log)
-        × (x ≡ record { entries = I.entries index; log = x.log; commitment = commitment_view D.bytes commitment; floor = floor; live = live; metadata = option_map V.bytes metadata }) }
+    ensures back { (x : Database C H.Digest) → result ≡ Given.Database x → (given ≡ LogGiven.Log x.log)
+        × (x ≡ record { entries = I.entries index; log = x.log; commitment = commitment_view H.Digest.bytes commitment; floor = floor; live = live; metadata = option_map U.Value.bytes metadata }) }
 {
     match given {
         LogGiven::Log(log) => Given::Database(Db {
@@ -533,14 +558,14 @@ fn given_back<
 }
 
 // Whether the write is to the key.
-fn is_to<K: Key, V: VariableValue>(write: &Write<K, V>, key: &K) -> bool
+fn is_to<K: ByteString, V: ByteString>(write: &Write<K, V>, key: &K) -> bool
     ensures { result ≡ bytes_eq (write_view K.bytes V.bytes write.now).key (K.bytes key.now) }
 {
     write.key.as_bytes() == key.as_bytes()
 }
 
 // The last write of a key.
-fn last_write<'a, K: Key, V: VariableValue>(
+fn last_write<'a, K: ByteString, V: ByteString>(
     writes: &'a [Write<K, V>],
     key: &K,
 ) -> Option<&'a Write<K, V>>

@@ -2,21 +2,21 @@
 
 ghost use Rattle.std.specs.Prelude.{◌≡◌, ◌≢◌, ◌⊎◌, ◌≤◌, ◌∷◌, [], length, map, IfSome, IfOk, IfErr};
 ghost use Rattle.qm_model.specs.Causes.{IsCause};
-ghost use Rattle.qm_model.specs.Operations.{spelling, fresh};
+ghost use Rattle.qm_model.specs.Forms.{spelling};
+ghost use Rattle.qm_model.specs.Operations.{fresh};
 ghost use Rattle.qm_model.specs.Trees as trees;
 ghost use Rattle.qm_store.specs.Log as logs;
 ghost use Rattle.qm_store.specs.Log.{IsLog};
 ghost use Rattle.qm_any.specs.Databases.{Database, IsDatabase};
 ghost use Rattle.qm_any.specs.Given.{Appended, AppendedPart, store_given};
 
-use crate::db::Db;
-use crate::operations::{Entry, spelled};
+use crate::db::{Db, LaidOut};
+use crate::operations::spelled;
 use crate::refusal::{Given, Refusal};
 use qm_base::operation::eight_bytes;
-use qm_base::update::{Unordered, Update};
+use qm_base::update::Update;
 use qm_base::{
-    Commitment, Corrupt, Digest, Error, Hasher, JournalError, Key, Location, Operation, Spelled,
-    VariableValue,
+    Commitment, Corrupt, Digest, Error, Hasher, JournalError, Location, Operation, Spelled,
 };
 use qm_index::Factory;
 use qm_merkle::{Family, StandardHasher};
@@ -32,7 +32,7 @@ pub fn hasher<H: Hasher>(inner: H) -> StandardHasher<H>
 
 /// The operations root of a fresh database: of a list of one commit without metadata and with floor 0. It takes no memory.
 pub fn initial_root<F: Family, H: Hasher + Drop, U: Update>(inner: H) -> H::Digest
-    ensures { H.Digest.bytes result ≡ trees.ops_root H.hash F.shape fresh }
+    ensures { H.Digest.bytes result ≡ trees.ops_root H.hash F.shape U.form fresh }
 {
     let mut hasher = inner;
     let first: Operation<F, U> = Operation::CommitFloor(None, Location::new(0));
@@ -68,28 +68,26 @@ fn root_of_one<H: Hasher>(hasher: &mut H, leaf: &H::Digest) -> H::Digest
 pub fn init<
     F: Family,
     C: Store,
-    D: Digest,
     I: Factory<Value = Location<F>>,
-    H: Hasher<Digest = D> + Drop,
-    K: Key,
-    V: VariableValue,
+    H: Hasher + Drop,
+    U: Update,
 >(
     alloc: Global,
     store: C,
     hasher: H,
     translator: I::Translator,
-) -> Result<Db<F, C, D, I, H, Unordered<K, V>>, Refusal<Db<F, C, D, I, H, Unordered<K, V>>, C>>
+) -> Result<Db<F, C, I, H, U>, Refusal<Db<F, C, I, H, U>, C>>
     requires start { C.start store ≡ 0 }
     requires empty { C.end store ≡ 0 }
-    ensures stands { IfSome (C.items store) (λ _. IfOk result (λ db. IsDatabase C.Store D.bytes H.hash F.shape I.index_key db fresh)) }
-    ensures grown { IfOk result (λ db. Appended C.Store store db.log.store (map spelling fresh)) }
+    ensures stands { IfSome (C.items store) (λ _. IfOk result (λ db. IsDatabase C.Store ⟦<Db<F, C, I, H, U> as LaidOut>⟧.layout db fresh)) }
+    ensures grown { IfOk result (λ db. Appended C.Store store db.log.store (map (spelling U.form) fresh)) }
     ensures later { IfOk result (λ db. C.faults store ≤ C.faults db.log.store) }
-    ensures part { IfErr result (λ r. AppendedPart C.Store store (store_given (λ db. db.log.store) r.given) (map spelling fresh)) }
-    ensures back { IfErr result (λ r. (x : Database C D) → r.given ≢ Given.Database x) }
+    ensures part { IfErr result (λ r. AppendedPart C.Store store (store_given (λ db. db.log.store) r.given) (map (spelling U.form) fresh)) }
+    ensures back { IfErr result (λ r. (x : Database C H.Digest) → r.given ≢ Given.Database x) }
     ensures causes { IfErr result (λ r. (r.error ≡ Error.Memory) ⊎ ((r.error ≡ Error.Journal JournalError.Store) ⊎ (r.error ≡ Error.DataCorrupted Corrupt.HeadDoesNotMatch))) }
     ensures cause { IfErr result (λ r. IsCause (C.faults store) (C.faults (store_given (λ db. db.log.store) r.given)) (r.error ≡ Error.Journal JournalError.Store)) }
 {
-    match fresh_items::<F, K, V>(alloc) {
+    match fresh_items::<F, U>(alloc) {
         Err(_) => Err(Refusal {
             given: Given::Store(store),
             error: Error::Memory,
@@ -102,18 +100,18 @@ pub fn init<
 }
 
 // The spelling of the commit of a fresh list.
-fn fresh_items<F, K: Key, V: VariableValue>(alloc: Global) -> Result<Vec<Vec<u8>>, AllocError>
-    ensures items { IfOk result (λ items. map (λ v. v.items) items.items ≡ map spelling fresh) }
+fn fresh_items<F, U: Update>(alloc: Global) -> Result<Vec<Vec<u8>>, AllocError>
+    ensures items { IfOk result (λ items. map (λ v. v.items) items.items ≡ map (spelling U.form) fresh) }
     ensures count { IfOk result (λ items. length items.items ≡ 1) }
 {
-    let mut list: Vec<Entry<F, K, V>> = Vec::new(alloc);
+    let mut list: Vec<Operation<F, U>> = Vec::new(alloc);
     list.push(Operation::CommitFloor(None, Location::new(0)))?;
     spelled(alloc, &list)
 }
 
 // The store that a log gave back.
-fn store_of<F: Family, C: Store, D: Digest, H: Hasher<Digest = D> + Drop>(
-    given: LogGiven<AuthLog<F, C, D, H>, C>,
+fn store_of<F: Family, C: Store, H: Hasher + Drop>(
+    given: LogGiven<AuthLog<F, C, H>, C>,
 ) -> C
     ensures { result ≡ logs.store_given given }
 {
@@ -124,14 +122,14 @@ fn store_of<F: Family, C: Store, D: Digest, H: Hasher<Digest = D> + Drop>(
 }
 
 // An empty log over an empty store.
-fn empty_log<F: Family, C: Store, D: Digest, H: Hasher<Digest = D> + Drop, X: Drop>(
+fn empty_log<F: Family, C: Store, H: Hasher + Drop, X: Drop>(
     alloc: Global,
     store: C,
     hasher: H,
-) -> Result<AuthLog<F, C, D, H>, Refusal<X, C>>
+) -> Result<AuthLog<F, C, H>, Refusal<X, C>>
     requires start { C.start store ≡ 0 }
     requires empty { C.end store ≡ 0 }
-    ensures stands { IfOk result (λ log. IsLog C.Store F.shape D.bytes H.hash log []) }
+    ensures stands { IfOk result (λ log. IsLog C.Store F.shape H.Digest.bytes H.hash log []) }
     ensures kept { IfOk result (λ log. logs.IsKept C.Store store log.store) }
     ensures later { IfOk result (λ log. C.faults store ≤ C.faults log.store) }
     ensures back { IfErr result (λ r. (s : C) × (r.given ≡ Given.Store s) × logs.IsKept C.Store store s × IsCause (C.faults store) (C.faults s) (r.error ≡ Error.Journal JournalError.Store)) }
@@ -154,26 +152,24 @@ fn empty_log<F: Family, C: Store, D: Digest, H: Hasher<Digest = D> + Drop, X: Dr
 fn begun<
     F: Family,
     C: Store,
-    D: Digest,
     I: Factory<Value = Location<F>>,
-    H: Hasher<Digest = D> + Drop,
-    K: Key,
-    V: VariableValue,
+    H: Hasher + Drop,
+    U: Update,
 >(
     alloc: Global,
-    log: AuthLog<F, C, D, H>,
+    log: AuthLog<F, C, H>,
     translator: I::Translator,
     items: &[Vec<u8>],
-) -> Result<Db<F, C, D, I, H, Unordered<K, V>>, Refusal<Db<F, C, D, I, H, Unordered<K, V>>, C>>
-    requires log { IsLog C.Store F.shape D.bytes H.hash log [] }
+) -> Result<Db<F, C, I, H, U>, Refusal<Db<F, C, I, H, U>, C>>
+    requires log { IsLog C.Store F.shape H.Digest.bytes H.hash log [] }
     requires end { C.end log.store ≡ 0 }
-    requires items { map (λ v. v.items) items.now ≡ map spelling fresh }
+    requires items { map (λ v. v.items) items.now ≡ map (spelling U.form) fresh }
     requires count { length items.now ≡ 1 }
-    ensures stands { IfSome (C.items log.store) (λ _. IfOk result (λ db. IsDatabase C.Store D.bytes H.hash F.shape I.index_key db fresh)) }
-    ensures grown { IfOk result (λ db. Appended C.Store log.store db.log.store (map spelling fresh)) }
+    ensures stands { IfSome (C.items log.store) (λ _. IfOk result (λ db. IsDatabase C.Store ⟦<Db<F, C, I, H, U> as LaidOut>⟧.layout db fresh)) }
+    ensures grown { IfOk result (λ db. Appended C.Store log.store db.log.store (map (spelling U.form) fresh)) }
     ensures later { IfOk result (λ db. C.faults log.store ≤ C.faults db.log.store) }
-    ensures part { IfErr result (λ r. AppendedPart C.Store log.store (store_given (λ db. db.log.store) r.given) (map spelling fresh)) }
-    ensures back { IfErr result (λ r. (x : Database C D) → r.given ≢ Given.Database x) }
+    ensures part { IfErr result (λ r. AppendedPart C.Store log.store (store_given (λ db. db.log.store) r.given) (map (spelling U.form) fresh)) }
+    ensures back { IfErr result (λ r. (x : Database C H.Digest) → r.given ≢ Given.Database x) }
     ensures causes { IfErr result (λ r. (r.error ≡ Error.Memory) ⊎ (r.error ≡ Error.Journal JournalError.Store)) }
     ensures cause { IfErr result (λ r. IsCause (C.faults log.store) (C.faults (store_given (λ db. db.log.store) r.given)) (r.error ≡ Error.Journal JournalError.Store)) }
 {

@@ -1,25 +1,22 @@
 //! Operations of a database, and what batches put behind its list.
 
-ghost use Rattle.std.specs.Prelude.{◌≡◌, ◌⊎◌, ◌≤◌, ◌^◌, ◌++◌, ℕ, None, length, map, option_map, IfOk, IfErr, OnOk};
-ghost use Rattle.qm_model.specs.Operations.{spelling};
+ghost use Rattle.std.specs.Prelude.{◌≡◌, ◌⊎◌, ◌≤◌, ◌^◌, ◌++◌, ℕ, None, length, map, option_map, All, IfOk, IfErr, OnOk};
+ghost use Rattle.qm_model.specs.Forms.{IsOf, spelling};
 ghost use Rattle.qm_model.specs.Refusals.{too_long};
 ghost use Rattle.qm_any.specs.Databases.{unapplied, operations_in};
-ghost use Rattle.qm_any.specs.Tips.{IsTooLong};
-ghost use Rattle.qm_any.specs.Views.{entry_views};
+ghost use Rattle.qm_any.specs.Tips.{IsLow, IsTooLong};
+ghost use Rattle.qm_base.specs.Views.{operation_views};
 ghost use Rattle.qm_batch.specs.Views.{changes_view};
 
-use qm_base::update::Unordered;
-use qm_base::{ByteString, Error, JournalError, Key, MerkleError, Operation, VariableValue};
+use qm_base::update::Update;
+use qm_base::{ByteString, Error, JournalError, MerkleError, Operation};
 use qm_batch::Layer;
 use qm_chain::Diff;
 use std::alloc::{AllocError, Global};
 use std::rc::Rc;
 
-/// An operation of an unordered database.
-pub(crate) type Entry<F, K, V> = Operation<F, Unordered<K, V>>;
-
 /// A kept step of a list.
-pub(crate) type Step<F, K, V> = Rc<Layer<F, Unordered<K, V>>>;
+pub(crate) type Step<F, U> = Rc<Layer<F, U>>;
 
 /// How many operations a list has at most.
 const MAX_OPERATIONS: u64 = 1 << 62;
@@ -44,12 +41,13 @@ pub(crate) fn twin_option<B: ByteString>(
 }
 
 // Puts the spelling of each operation behind the items.
-fn spell<F, K: Key, V: VariableValue>(
+fn spell<F, U: Update>(
     alloc: Global,
-    operations: &[Entry<F, K, V>],
+    operations: &[Operation<F, U>],
     items: &mut Vec<Vec<u8>>,
 ) -> Result<(), AllocError>
-    ensures { OnOk result (map (λ v. v.items) items.new.items ≡ map (λ v. v.items) items.old.items ++ map spelling (entry_views K.bytes V.bytes operations.now)) }
+    ensures of { OnOk result (All IsLow (operation_views U.view U.Key.bytes U.Value.bytes operations.now) → All (IsOf U.form) (operation_views U.view U.Key.bytes U.Value.bytes operations.now)) }
+    ensures items { OnOk result (map (λ v. v.items) items.new.items ≡ map (λ v. v.items) items.old.items ++ map (spelling U.form) (operation_views U.view U.Key.bytes U.Value.bytes operations.now)) }
 {
     for operation in operations {
         let item = operation.encode(alloc)?;
@@ -59,11 +57,12 @@ fn spell<F, K: Key, V: VariableValue>(
 }
 
 /// The spellings of operations.
-pub(crate) fn spelled<F, K: Key, V: VariableValue>(
+pub(crate) fn spelled<F, U: Update>(
     alloc: Global,
-    operations: &[Entry<F, K, V>],
+    operations: &[Operation<F, U>],
 ) -> Result<Vec<Vec<u8>>, AllocError>
-    ensures { IfOk result (λ items. map (λ v. v.items) items.items ≡ map spelling (entry_views K.bytes V.bytes operations.now)) }
+    ensures of { IfOk result (λ _. All IsLow (operation_views U.view U.Key.bytes U.Value.bytes operations.now) → All (IsOf U.form) (operation_views U.view U.Key.bytes U.Value.bytes operations.now)) }
+    ensures items { IfOk result (λ items. map (λ v. v.items) items.items ≡ map (spelling U.form) (operation_views U.view U.Key.bytes U.Value.bytes operations.now)) }
 {
     let mut items = Vec::new(alloc);
     spell(alloc, operations, &mut items)?;
@@ -87,10 +86,10 @@ pub(crate) fn refuse(items: &[Vec<u8>], size: u64) -> Result<(), Error>
 }
 
 /// The newest of the steps, up to the one that starts where a list of this size ends.
-pub(crate) fn unapplied_of<F, K: Key, V: VariableValue>(
-    steps: &[Step<F, K, V>],
+pub(crate) fn unapplied_of<F, U: Update>(
+    steps: &[Step<F, U>],
     size: u64,
-) -> &[Step<F, K, V>]
+) -> &[Step<F, U>]
     ensures { map (λ l. l.value) result.now ≡ unapplied size (map (λ l. l.value) steps.now) }
 {
     for at in 0..steps.len() {
@@ -103,11 +102,11 @@ pub(crate) fn unapplied_of<F, K: Key, V: VariableValue>(
 }
 
 /// The spellings of what steps, newest first, put behind a list.
-pub(crate) fn spelled_steps<F, K: Key, V: VariableValue>(
+pub(crate) fn spelled_steps<F, U: Update>(
     alloc: Global,
-    steps: &[Step<F, K, V>],
+    steps: &[Step<F, U>],
 ) -> Result<Vec<Vec<u8>>, AllocError>
-    ensures { IfOk result (λ items. map (λ v. v.items) items.items ≡ map spelling (operations_in (map (λ l. l.value) steps.now))) }
+    ensures { IfOk result (λ items. map (λ v. v.items) items.items ≡ map (spelling U.form) (operations_in (map (λ l. l.value) steps.now))) }
 {
     let mut items = Vec::new(alloc);
     for at in (0..steps.len()).rev() {
@@ -117,11 +116,11 @@ pub(crate) fn spelled_steps<F, K: Key, V: VariableValue>(
 }
 
 /// The diffs of steps.
-pub(crate) fn diffs_of<F, K: Key, V: VariableValue>(
+pub(crate) fn diffs_of<F, U: Update>(
     alloc: Global,
-    steps: &[Step<F, K, V>],
-) -> Result<Vec<Rc<Diff<F, K, V>>>, AllocError>
-    ensures { IfOk result (λ diffs. map (λ d. changes_view K.bytes V.bytes d.value) diffs.items ≡ map (λ l. l.changes) (map (λ l. l.value) steps.now)) }
+    steps: &[Step<F, U>],
+) -> Result<Vec<Rc<Diff<F, U::Key, U::Value>>>, AllocError>
+    ensures { IfOk result (λ diffs. map (λ d. changes_view U.Key.bytes U.Value.bytes d.value) diffs.items ≡ map (λ l. l.changes) (map (λ l. l.value) steps.now)) }
 {
     let mut diffs = Vec::new(alloc);
     for step in steps {

@@ -2,12 +2,12 @@
 
 ghost use Rattle.std.specs.Prelude.{◌≡◌, ◌≢◌, ◌⊎◌, ◌≤◌, ◌<◌, ◌+◌, ◌-◌, List, None, Some, IfSome, All, length, map, take, drop, IfOk, IfErr, OnOk};
 ghost use Rattle.std.specs.NonZero.{non_zero_u64_get};
-ghost use Rattle.qm_base.specs.Decode.{IsUnordered, IsSpelling};
+ghost use Rattle.qm_model.specs.Forms.{IsOf, IsSpelling, spelling};
+ghost use Rattle.qm_base.specs.Views.{operation_views};
 ghost use Rattle.qm_model.specs.Causes.{Rose};
 ghost use Rattle.qm_model.specs.Lines as lines;
 ghost use Rattle.qm_model.specs.Live as lives;
 ghost use Rattle.qm_model.specs.Operations as operations;
-ghost use Rattle.qm_model.specs.Operations.{spelling};
 ghost use Rattle.qm_model.specs.Proofs.{ops_proof, pins_at};
 ghost use Rattle.qm_model.specs.Refusals.{commit_floor, floor_before, proof_refusal, proof_count, pins_refusal};
 ghost use Rattle.qm_merkle.specs.Proofs.{proof_view};
@@ -15,14 +15,11 @@ ghost use Rattle.qm_batch.specs.Lent.{IsRead};
 ghost use Rattle.qm_store.specs.Log.{IsLog};
 ghost use Rattle.qm_any.specs.Databases.{IsDatabase, IsLeft};
 ghost use Rattle.qm_any.specs.Refusals.{IsDue};
-ghost use Rattle.qm_any.specs.Views.{entry_views};
 
-use crate::db::Db;
-use crate::operations::Entry;
-use qm_base::update::Unordered;
+use crate::db::{Db, LaidOut};
+use qm_base::update::Update;
 use qm_base::{
-    Corrupt, Digest, Error, Hasher, JournalError, Key, Location, MerkleError, Operation,
-    VariableValue,
+    Corrupt, Digest, Error, Hasher, JournalError, Location, MerkleError, Operation,
 };
 use qm_merkle::{Family, Proof};
 use qm_store::{AuthLog, Store};
@@ -32,12 +29,10 @@ use std::num::NonZeroU64;
 impl<
     F: Family,
     C: Store,
-    D: Digest,
     I: qm_index::Unordered<Value = Location<F>>,
-    H: Hasher<Digest = D> + Drop,
-    K: Key,
-    V: VariableValue,
-> Db<F, C, D, I, H, Unordered<K, V>> {
+    H: Hasher + Drop,
+    U: Update,
+> Db<F, C, I, H, U> {
     /// The operations from `start` on, at most `max`, and their proof in the list of the first `size` operations, which
     /// has to end with a commit. It verifies against the root that the database had with these operations. Where the
     /// commit is no longer in the store it is refused with the size, as where none stands there.
@@ -47,19 +42,19 @@ impl<
         size: Location<F>,
         start: Location<F>,
         max: NonZeroU64,
-    ) -> Result<(Proof<D>, Vec<Entry<F, K, V>>), Error>
-        ensures offered { (list : List operations.Operation) → IsDatabase C.Store D.bytes H.hash F.shape I.index_key self.old list → OnOk result (proof_refusal list size start ≡ None) }
+    ) -> Result<(Proof<H::Digest>, Vec<Operation<F, U>>), Error>
+        ensures offered { (list : List operations.Operation) → IsDatabase C.Store ⟦<Self as LaidOut>⟧.layout self.old list → OnOk result (proof_refusal list size start ≡ None) }
         ensures kept { OnOk result (C.start self.old.log.store ≤ start) }
-        ensures proof { (list : List operations.Operation) → IsDatabase C.Store D.bytes H.hash F.shape I.index_key self.old list
-            → IfOk result (λ shown. proof_view D.bytes shown.0 ≡ ops_proof H.hash F.shape (take size list) start (start + proof_count size start (non_zero_u64_get max))) }
-        ensures operations { (list : List operations.Operation) → IsDatabase C.Store D.bytes H.hash F.shape I.index_key self.old list
-            → IfOk result (λ shown. entry_views K.bytes V.bytes shown.1.items ≡ take (proof_count size start (non_zero_u64_get max)) (drop start list)) }
-        ensures refused { C.start self.old.log.store ≤ start → C.start self.old.log.store ≤ size - 1 → (list : List operations.Operation) → IsDatabase C.Store D.bytes H.hash F.shape I.index_key self.old list → IfErr result (λ e. IsDue e (proof_refusal list size start)) }
-        ensures pruned { start < C.start self.old.log.store → C.start self.old.log.store ≤ size - 1 → (list : List operations.Operation) → IsDatabase C.Store D.bytes H.hash F.shape I.index_key self.old list → proof_refusal list size start ≡ None
+        ensures proof { (list : List operations.Operation) → IsDatabase C.Store ⟦<Self as LaidOut>⟧.layout self.old list
+            → IfOk result (λ shown. proof_view H.Digest.bytes shown.0 ≡ ops_proof H.hash F.shape U.form (take size list) start (start + proof_count size start (non_zero_u64_get max))) }
+        ensures operations { (list : List operations.Operation) → IsDatabase C.Store ⟦<Self as LaidOut>⟧.layout self.old list
+            → IfOk result (λ shown. operation_views U.view U.Key.bytes U.Value.bytes shown.1.items ≡ take (proof_count size start (non_zero_u64_get max)) (drop start list)) }
+        ensures refused { C.start self.old.log.store ≤ start → C.start self.old.log.store ≤ size - 1 → (list : List operations.Operation) → IsDatabase C.Store ⟦<Self as LaidOut>⟧.layout self.old list → IfErr result (λ e. IsDue e (proof_refusal list size start)) }
+        ensures pruned { start < C.start self.old.log.store → C.start self.old.log.store ≤ size - 1 → (list : List operations.Operation) → IsDatabase C.Store ⟦<Self as LaidOut>⟧.layout self.old list → proof_refusal list size start ≡ None
             → IfErr result (λ e. IsDue e (Some (lines.Journal (lines.ItemPruned start)))) }
         ensures never { IfErr result (λ e. e ≢ Error.StaleBatch) }
         ensures cause { IfErr result (λ e. e ≡ Error.Journal JournalError.Store → Rose (C.faults self.old.log.store) (C.faults self.new.log.store)) }
-        ensures left { IsLeft C.Store D.bytes H.hash F.shape self.old self.new }
+        ensures left { IsLeft C.Store ⟦<Self as LaidOut>⟧.layout.hashing self.old self.new }
     {
         proved_over(alloc, &mut self.log, size.get(), start.get(), max)
     }
@@ -70,17 +65,17 @@ impl<
         alloc: Global,
         start: Location<F>,
         max: NonZeroU64,
-    ) -> Result<(Proof<D>, Vec<Entry<F, K, V>>), Error>
-        ensures offered { (list : List operations.Operation) → IsDatabase C.Store D.bytes H.hash F.shape I.index_key self.old list → OnOk result (proof_refusal list (length list) start ≡ None) }
+    ) -> Result<(Proof<H::Digest>, Vec<Operation<F, U>>), Error>
+        ensures offered { (list : List operations.Operation) → IsDatabase C.Store ⟦<Self as LaidOut>⟧.layout self.old list → OnOk result (proof_refusal list (length list) start ≡ None) }
         ensures kept { OnOk result (C.start self.old.log.store ≤ start) }
-        ensures proof { (list : List operations.Operation) → IsDatabase C.Store D.bytes H.hash F.shape I.index_key self.old list
-            → IfOk result (λ shown. proof_view D.bytes shown.0 ≡ ops_proof H.hash F.shape list start (start + proof_count (length list) start (non_zero_u64_get max))) }
-        ensures operations { (list : List operations.Operation) → IsDatabase C.Store D.bytes H.hash F.shape I.index_key self.old list
-            → IfOk result (λ shown. entry_views K.bytes V.bytes shown.1.items ≡ take (proof_count (length list) start (non_zero_u64_get max)) (drop start list)) }
-        ensures refused { C.start self.old.log.store ≤ start → (list : List operations.Operation) → C.start self.old.log.store ≤ length list - 1 → IsDatabase C.Store D.bytes H.hash F.shape I.index_key self.old list → IfErr result (λ e. IsDue e (proof_refusal list (length list) start)) }
+        ensures proof { (list : List operations.Operation) → IsDatabase C.Store ⟦<Self as LaidOut>⟧.layout self.old list
+            → IfOk result (λ shown. proof_view H.Digest.bytes shown.0 ≡ ops_proof H.hash F.shape U.form list start (start + proof_count (length list) start (non_zero_u64_get max))) }
+        ensures operations { (list : List operations.Operation) → IsDatabase C.Store ⟦<Self as LaidOut>⟧.layout self.old list
+            → IfOk result (λ shown. operation_views U.view U.Key.bytes U.Value.bytes shown.1.items ≡ take (proof_count (length list) start (non_zero_u64_get max)) (drop start list)) }
+        ensures refused { C.start self.old.log.store ≤ start → (list : List operations.Operation) → C.start self.old.log.store ≤ length list - 1 → IsDatabase C.Store ⟦<Self as LaidOut>⟧.layout self.old list → IfErr result (λ e. IsDue e (proof_refusal list (length list) start)) }
         ensures never { IfErr result (λ e. e ≢ Error.StaleBatch) }
         ensures cause { IfErr result (λ e. e ≡ Error.Journal JournalError.Store → Rose (C.faults self.old.log.store) (C.faults self.new.log.store)) }
-        ensures left { IsLeft C.Store D.bytes H.hash F.shape self.old self.new }
+        ensures left { IsLeft C.Store ⟦<Self as LaidOut>⟧.layout.hashing self.old self.new }
     {
         let size = self.size();
         self.historical_proof(alloc, size, start, max)
@@ -88,10 +83,10 @@ impl<
 
     /// The digests of the peaks over the first `count` operations, from left to right: what a node has to be given that
     /// starts with the operations from there on.
-    pub fn pinned_nodes_at(&self, alloc: Global, count: Location<F>) -> Result<Vec<D>, Error>
-        ensures offered { (list : List operations.Operation) → IsDatabase C.Store D.bytes H.hash F.shape I.index_key self.now list → OnOk result (pins_refusal list count ≡ None) }
-        ensures pins { (list : List operations.Operation) → IsDatabase C.Store D.bytes H.hash F.shape I.index_key self.now list → IfOk result (λ pins. map D.bytes pins.items ≡ pins_at H.hash F.shape list count) }
-        ensures refused { C.start self.now.log.store ≤ count → (list : List operations.Operation) → IsDatabase C.Store D.bytes H.hash F.shape I.index_key self.now list → IfErr result (λ e. IsDue e (pins_refusal list count)) }
+    pub fn pinned_nodes_at(&self, alloc: Global, count: Location<F>) -> Result<Vec<H::Digest>, Error>
+        ensures offered { (list : List operations.Operation) → IsDatabase C.Store ⟦<Self as LaidOut>⟧.layout self.now list → OnOk result (pins_refusal list count ≡ None) }
+        ensures pins { (list : List operations.Operation) → IsDatabase C.Store ⟦<Self as LaidOut>⟧.layout self.now list → IfOk result (λ pins. map H.Digest.bytes pins.items ≡ pins_at H.hash F.shape U.form list count) }
+        ensures refused { C.start self.now.log.store ≤ count → (list : List operations.Operation) → IsDatabase C.Store ⟦<Self as LaidOut>⟧.layout self.now list → IfErr result (λ e. IsDue e (pins_refusal list count)) }
         ensures never { IfErr result (λ e. (e ≢ Error.StaleBatch) × (e ≢ Error.Journal JournalError.Store)) }
     {
         // The log is kept from where its store is.
@@ -104,34 +99,32 @@ impl<
 fn proved_over<
     F: Family,
     C: Store,
-    D: Digest,
-    H: Hasher<Digest = D> + Drop,
-    K: Key,
-    V: VariableValue,
+    H: Hasher + Drop,
+    U: Update,
 >(
     alloc: Global,
-    log: &mut AuthLog<F, C, D, H>,
+    log: &mut AuthLog<F, C, H>,
     size: u64,
     start: u64,
     max: NonZeroU64,
-) -> Result<(Proof<D>, Vec<Entry<F, K, V>>), Error>
-    ensures offered { (list : List operations.Operation) → IsLog C.Store F.shape D.bytes H.hash log.old (map spelling list) → All IsUnordered list → IfSome (C.items log.old.store) (λ _. OnOk result (proof_refusal list size start ≡ None)) }
+) -> Result<(Proof<H::Digest>, Vec<Operation<F, U>>), Error>
+    ensures offered { (list : List operations.Operation) → IsLog C.Store F.shape H.Digest.bytes H.hash log.old (map (spelling U.form) list) → All (IsOf U.form) list → IfSome (C.items log.old.store) (λ _. OnOk result (proof_refusal list size start ≡ None)) }
     ensures kept { OnOk result (C.start log.old.store ≤ start) }
-    ensures proof { (list : List operations.Operation) → IsLog C.Store F.shape D.bytes H.hash log.old (map spelling list) → All IsUnordered list
-        → IfSome (C.items log.old.store) (λ _. IfOk result (λ shown. proof_view D.bytes shown.0 ≡ ops_proof H.hash F.shape (take size list) start (start + proof_count size start (non_zero_u64_get max)))) }
-    ensures operations { (list : List operations.Operation) → IsLog C.Store F.shape D.bytes H.hash log.old (map spelling list) → All IsUnordered list
-        → IfSome (C.items log.old.store) (λ _. IfOk result (λ shown. entry_views K.bytes V.bytes shown.1.items ≡ take (proof_count size start (non_zero_u64_get max)) (drop start list))) }
-    ensures refused { C.start log.old.store ≤ start → C.start log.old.store ≤ size - 1 → (list : List operations.Operation) → IsLog C.Store F.shape D.bytes H.hash log.old (map spelling list) → All IsUnordered list
+    ensures proof { (list : List operations.Operation) → IsLog C.Store F.shape H.Digest.bytes H.hash log.old (map (spelling U.form) list) → All (IsOf U.form) list
+        → IfSome (C.items log.old.store) (λ _. IfOk result (λ shown. proof_view H.Digest.bytes shown.0 ≡ ops_proof H.hash F.shape U.form (take size list) start (start + proof_count size start (non_zero_u64_get max)))) }
+    ensures operations { (list : List operations.Operation) → IsLog C.Store F.shape H.Digest.bytes H.hash log.old (map (spelling U.form) list) → All (IsOf U.form) list
+        → IfSome (C.items log.old.store) (λ _. IfOk result (λ shown. operation_views U.view U.Key.bytes U.Value.bytes shown.1.items ≡ take (proof_count size start (non_zero_u64_get max)) (drop start list))) }
+    ensures refused { C.start log.old.store ≤ start → C.start log.old.store ≤ size - 1 → (list : List operations.Operation) → IsLog C.Store F.shape H.Digest.bytes H.hash log.old (map (spelling U.form) list) → All (IsOf U.form) list
         → IfSome (C.items log.old.store) (λ _. IfErr result (λ e. IsDue e (proof_refusal list size start))) }
-    ensures pruned { start < C.start log.old.store → C.start log.old.store ≤ size - 1 → (list : List operations.Operation) → IsLog C.Store F.shape D.bytes H.hash log.old (map spelling list) → All IsUnordered list → proof_refusal list size start ≡ None
+    ensures pruned { start < C.start log.old.store → C.start log.old.store ≤ size - 1 → (list : List operations.Operation) → IsLog C.Store F.shape H.Digest.bytes H.hash log.old (map (spelling U.form) list) → All (IsOf U.form) list → proof_refusal list size start ≡ None
         → IfSome (C.items log.old.store) (λ _. IfErr result (λ e. IsDue e (Some (lines.Journal (lines.ItemPruned start))))) }
     ensures never { IfErr result (λ e. e ≢ Error.StaleBatch) }
     ensures cause { IfErr result (λ e. e ≡ Error.Journal JournalError.Store → Rose (C.faults log.old.store) (C.faults log.new.store)) }
-    ensures read { IsRead C.Store F.shape D.bytes H.hash log.old log.new }
+    ensures read { IsRead C.Store F.shape H.Digest.bytes H.hash log.old log.new }
 {
     // The log has at most 2^62 items, and is kept from where its store is.
     log.bounds();
-    let floor = offered::<F, C, D, H, K, V>(alloc, log, size, start)?;
+    let floor = offered::<F, C, H, U>(alloc, log, size, start)?;
     let inactive = F::inactive_peaks(Location::new(size), Location::new(floor));
     let (proof, items) = log.historical_proof(alloc, size, inactive, start, max)?;
     let operations = decoded(alloc, &items)?;
@@ -139,25 +132,25 @@ fn proved_over<
 }
 
 // The floor of a log's first `size` operations, or why nothing from `start` on is proved in them.
-fn offered<F: Family, C: Store, D: Digest, H: Hasher<Digest = D> + Drop, K: Key, V: VariableValue>(
+fn offered<F: Family, C: Store, H: Hasher + Drop, U: Update>(
     alloc: Global,
-    log: &mut AuthLog<F, C, D, H>,
+    log: &mut AuthLog<F, C, H>,
     size: u64,
     start: u64,
 ) -> Result<u64, Error>
-    ensures offered { (list : List operations.Operation) → IsLog C.Store F.shape D.bytes H.hash log.old (map spelling list) → All IsUnordered list → IfSome (C.items log.old.store) (λ _. OnOk result (proof_refusal list size start ≡ None)) }
+    ensures offered { (list : List operations.Operation) → IsLog C.Store F.shape H.Digest.bytes H.hash log.old (map (spelling U.form) list) → All (IsOf U.form) list → IfSome (C.items log.old.store) (λ _. OnOk result (proof_refusal list size start ≡ None)) }
     ensures within { OnOk result ((size ≤ log.old.tree.leaves) × (start < size)) }
-    ensures floor { (list : List operations.Operation) → IsLog C.Store F.shape D.bytes H.hash log.old (map spelling list) → All IsUnordered list → IfSome (C.items log.old.store) (λ _. IfOk result (λ f. f ≡ lives.floor (take size list))) }
-    ensures refused { C.start log.old.store ≤ size - 1 → (list : List operations.Operation) → IsLog C.Store F.shape D.bytes H.hash log.old (map spelling list) → All IsUnordered list
+    ensures floor { (list : List operations.Operation) → IsLog C.Store F.shape H.Digest.bytes H.hash log.old (map (spelling U.form) list) → All (IsOf U.form) list → IfSome (C.items log.old.store) (λ _. IfOk result (λ f. f ≡ lives.floor (take size list))) }
+    ensures refused { C.start log.old.store ≤ size - 1 → (list : List operations.Operation) → IsLog C.Store F.shape H.Digest.bytes H.hash log.old (map (spelling U.form) list) → All (IsOf U.form) list
         → IfSome (C.items log.old.store) (λ _. IfErr result (λ e. IsDue e (proof_refusal list size start))) }
     ensures never { IfErr result (λ e. e ≢ Error.StaleBatch) }
     ensures cause { IfErr result (λ e. e ≡ Error.Journal JournalError.Store → Rose (C.faults log.old.store) (C.faults log.new.store)) }
-    ensures read { IsRead C.Store F.shape D.bytes H.hash log.old log.new }
+    ensures read { IsRead C.Store F.shape H.Digest.bytes H.hash log.old log.new }
 {
     if log.size() < size {
         return Err(Error::Merkle(MerkleError::RangeOutOfBounds(size)));
     }
-    match floor_at_end::<F, C, D, H, K, V>(alloc, log, size)? {
+    match floor_at_end::<F, C, H, U>(alloc, log, size)? {
         None => Err(Error::HistoricalFloorPruned(size)),
         Some(floor) if floor >= size => Err(Error::DataCorrupted(Corrupt::FloorExceedsCommit)),
         Some(_) if start >= size => Err(Error::Merkle(MerkleError::RangeOutOfBounds(start))),
@@ -169,36 +162,34 @@ fn offered<F: Family, C: Store, D: Digest, H: Hasher<Digest = D> + Drop, K: Key,
 fn floor_at_end<
     F: Family,
     C: Store,
-    D: Digest,
-    H: Hasher<Digest = D> + Drop,
-    K: Key,
-    V: VariableValue,
->(alloc: Global, log: &mut AuthLog<F, C, D, H>, size: u64) -> Result<Option<u64>, Error>
+    H: Hasher + Drop,
+    U: Update,
+>(alloc: Global, log: &mut AuthLog<F, C, H>, size: u64) -> Result<Option<u64>, Error>
     requires { size ≤ log.old.tree.leaves }
-    ensures floor { C.start log.old.store ≤ size - 1 → (list : List operations.Operation) → IsLog C.Store F.shape D.bytes H.hash log.old (map spelling list) → All IsUnordered list
+    ensures floor { C.start log.old.store ≤ size - 1 → (list : List operations.Operation) → IsLog C.Store F.shape H.Digest.bytes H.hash log.old (map (spelling U.form) list) → All (IsOf U.form) list
         → IfSome (C.items log.old.store) (λ _. IfOk result (λ f. f ≡ floor_before list size)) }
-    ensures found { (list : List operations.Operation) → IsLog C.Store F.shape D.bytes H.hash log.old (map spelling list) → All IsUnordered list
+    ensures found { (list : List operations.Operation) → IsLog C.Store F.shape H.Digest.bytes H.hash log.old (map (spelling U.form) list) → All (IsOf U.form) list
         → IfSome (C.items log.old.store) (λ _. IfOk result (λ f. IfSome f (λ floor. floor_before list size ≡ Some floor))) }
     ensures some { IfOk result (λ f. IfSome f (λ _. 0 < size)) }
     ensures never { IfErr result (λ e. (e ≡ Error.Memory) ⊎ ((e ≡ Error.Journal JournalError.Store) × Rose (C.faults log.old.store) (C.faults log.new.store))) }
-    ensures read { IsRead C.Store F.shape D.bytes H.hash log.old log.new }
+    ensures read { IsRead C.Store F.shape H.Digest.bytes H.hash log.old log.new }
 {
     let (first, _) = log.bounds();
     if size == 0 || size <= first {
         return Ok(None);
     }
     let item = log.read(size - 1)?;
-    Ok(commit_floor_in::<F, K, V>(alloc, &item)?)
+    Ok(commit_floor_in::<F, U>(alloc, &item)?)
 }
 
 // The floor of the commit that the bytes spell, if they spell one.
-fn commit_floor_in<F, K: Key, V: VariableValue>(
+fn commit_floor_in<F, U: Update>(
     alloc: Global,
     item: &[u8],
 ) -> Result<Option<u64>, AllocError>
-    ensures { (op : operations.Operation) → IsSpelling item.now op → IfOk result (λ f. f ≡ commit_floor op) }
+    ensures { (op : operations.Operation) → IsSpelling U.form item.now op → IfOk result (λ f. f ≡ commit_floor op) }
 {
-    let operation: Option<Entry<F, K, V>> = Operation::decode(alloc, item)?;
+    let operation: Option<Operation<F, U>> = Operation::decode(alloc, item)?;
     match &operation {
         Some(operation) => match operation.has_floor() {
             Some(floor) => Ok(Some(floor.get())),
@@ -209,12 +200,12 @@ fn commit_floor_in<F, K: Key, V: VariableValue>(
 }
 
 // The operations that the items spell. That one spells none is told as corruption.
-fn decoded<F, K: Key, V: VariableValue>(
+fn decoded<F, U: Update>(
     alloc: Global,
     items: &[Vec<u8>],
-) -> Result<Vec<Entry<F, K, V>>, Error>
-    ensures value { (list : List operations.Operation) → All IsUnordered list → map (λ v. v.items) items.now ≡ map spelling list → IfOk result (λ made. entry_views K.bytes V.bytes made.items ≡ list) }
-    ensures whole { (list : List operations.Operation) → All IsUnordered list → map (λ v. v.items) items.now ≡ map spelling list → IfErr result (λ e. e ≡ Error.Memory) }
+) -> Result<Vec<Operation<F, U>>, Error>
+    ensures value { (list : List operations.Operation) → All (IsOf U.form) list → map (λ v. v.items) items.now ≡ map (spelling U.form) list → IfOk result (λ made. operation_views U.view U.Key.bytes U.Value.bytes made.items ≡ list) }
+    ensures whole { (list : List operations.Operation) → All (IsOf U.form) list → map (λ v. v.items) items.now ≡ map (spelling U.form) list → IfErr result (λ e. e ≡ Error.Memory) }
     ensures never { IfErr result (λ e. (e ≡ Error.Memory) ⊎ (e ≡ Error.DataCorrupted Corrupt.ItemDoesNotDecode)) }
 {
     let mut made = Vec::new(alloc);

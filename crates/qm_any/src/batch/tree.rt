@@ -2,7 +2,8 @@
 
 ghost use Rattle.std.specs.Prelude.{◌≡◌, ◌≤◌, ◌+◌, ◌^◌, ◌++◌, ◌∷◌, ℕ, [], List, None, Contains, length, map, IfOk, IfErr, OnOk};
 ghost use Rattle.qm_model.specs.Live as lives;
-ghost use Rattle.qm_model.specs.Operations.{Operation, spelling};
+ghost use Rattle.qm_model.specs.Forms.{Form, spelling};
+ghost use Rattle.qm_model.specs.Operations.{Operation};
 ghost use Rattle.qm_model.specs.Proofs.{ops_proof, pins_at, proof_of};
 ghost use Rattle.qm_model.specs.Trees as trees;
 ghost use Rattle.qm_model.specs.Trees.{ops_root};
@@ -11,6 +12,7 @@ ghost use Rattle.qm_merkle.specs.Mems.{Stands, node_at};
 ghost use Rattle.qm_merkle.specs.Proofs.{proof_view, first_lacked, needed_positions};
 ghost use Rattle.qm_store.specs.Log.{digests_from, tree_error, IsLacked, IsLog};
 ghost use Rattle.qm_any.specs.KeptTrees.{IsKeptTree, held_at};
+ghost use Rattle.qm_any.specs.Layouts.{hashing_with};
 
 use qm_base::{Digest, Error, Hasher, Location, MerkleError};
 use qm_merkle::mem::Mem;
@@ -62,7 +64,7 @@ impl<F: Family, D: Digest> KeptTree<F, D> {
     pub(crate) fn grown<C: Store, H: Hasher<Digest = D> + Drop>(
         &self,
         alloc: Global,
-        log: &mut AuthLog<F, C, D, H>,
+        log: &mut AuthLog<F, C, H>,
         items: &[Vec<u8>],
         floor: u64,
     ) -> Result<(KeptTree<F, D>, D), AllocError>
@@ -70,12 +72,12 @@ impl<F: Family, D: Digest> KeptTree<F, D> {
         requires reach { Contains (stops self.now.leaves self.now.layers) log.old.tree.leaves }
         ensures leaves { IfOk result (λ grown. grown.0.leaves ≡ self.now.leaves + length items.now) }
         ensures stops { IfOk result (λ grown. stops grown.0.leaves grown.0.layers ≡ grown.0.leaves ∷ stops self.now.leaves self.now.layers) }
-        ensures tree { (list base tip : List Operation) (older : List (List Operation)) → IsLog C.Store F.shape D.bytes H.hash log.old (map spelling list) → IsKeptTree D.bytes H.hash F.shape self.now base older
-            → Contains (base ∷ older) list → map spelling base ++ map (λ v. v.items) items.now ≡ map spelling tip
-            → IfOk result (λ grown. IsKeptTree D.bytes H.hash F.shape grown.0 tip (base ∷ older)) }
-        ensures root { (list base tip : List Operation) (older : List (List Operation)) → IsLog C.Store F.shape D.bytes H.hash log.old (map spelling list) → IsKeptTree D.bytes H.hash F.shape self.now base older
-            → Contains (base ∷ older) list → map spelling base ++ map (λ v. v.items) items.now ≡ map spelling tip → floor ≡ lives.floor tip
-            → IfOk result (λ grown. D.bytes grown.1 ≡ ops_root H.hash F.shape tip) }
+        ensures tree { (form : Form) (list base tip : List Operation) (older : List (List Operation)) → IsLog C.Store F.shape D.bytes H.hash log.old (map (spelling form) list) → IsKeptTree (hashing_with D.bytes H.hash F.shape form) self.now base older
+            → Contains (base ∷ older) list → map (spelling form) base ++ map (λ v. v.items) items.now ≡ map (spelling form) tip
+            → IfOk result (λ grown. IsKeptTree (hashing_with D.bytes H.hash F.shape form) grown.0 tip (base ∷ older)) }
+        ensures root { (form : Form) (list base tip : List Operation) (older : List (List Operation)) → IsLog C.Store F.shape D.bytes H.hash log.old (map (spelling form) list) → IsKeptTree (hashing_with D.bytes H.hash F.shape form) self.now base older
+            → Contains (base ∷ older) list → map (spelling form) base ++ map (λ v. v.items) items.now ≡ map (spelling form) tip → floor ≡ lives.floor tip
+            → IfOk result (λ grown. D.bytes grown.1 ≡ ops_root H.hash F.shape form tip) }
         ensures same { log.new ≡ log.old }
     {
         let leaves = self.leaves + items.len() as u64;
@@ -90,7 +92,7 @@ impl<F: Family, D: Digest> KeptTree<F, D> {
     fn batch_behind<C: Store, H: Hasher<Digest = D> + Drop>(
         &self,
         alloc: Global,
-        log: &mut AuthLog<F, C, D, H>,
+        log: &mut AuthLog<F, C, H>,
         items: &[Vec<u8>],
     ) -> Result<MerkleizedBatch<F, D>, AllocError>
         requires room { self.now.leaves + length items.now ≤ 2 ^ 62 }
@@ -114,18 +116,18 @@ impl<F: Family, D: Digest> KeptTree<F, D> {
     pub(crate) fn proof<C: Store, H: Hasher<Digest = D> + Drop>(
         &self,
         alloc: Global,
-        log: &AuthLog<F, C, D, H>,
+        log: &AuthLog<F, C, H>,
         floor: u64,
         start: u64,
     ) -> Result<Proof<D>, Error>
         requires start { start ≤ self.now.leaves }
         requires reach { Contains (stops self.now.leaves self.now.layers) log.now.tree.leaves }
-        ensures value { (list tip : List Operation) (older : List (List Operation)) → IsLog C.Store F.shape D.bytes H.hash log.now (map spelling list) → IsKeptTree D.bytes H.hash F.shape self.now tip older
+        ensures value { (form : Form) (list tip : List Operation) (older : List (List Operation)) → IsLog C.Store F.shape D.bytes H.hash log.now (map (spelling form) list) → IsKeptTree (hashing_with D.bytes H.hash F.shape form) self.now tip older
             → Contains (tip ∷ older) list → floor ≡ lives.floor tip
-            → IfOk result (λ p. proof_view D.bytes p ≡ ops_proof H.hash F.shape tip start (length tip)) }
+            → IfOk result (λ p. proof_view D.bytes p ≡ ops_proof H.hash F.shape form tip start (length tip)) }
         ensures held { OnOk result (first_lacked (held_at F.shape self.now log.now.tree) (needed_positions F.shape self.now.leaves start self.now.leaves) ≡ None) }
         ensures cause { IfErr result (IsLacked (held_at F.shape self.now log.now.tree) (needed_positions F.shape self.now.leaves start self.now.leaves)) }
-        ensures whole { log.now.tree.start ≤ start → (list tip : List Operation) (older : List (List Operation)) → IsLog C.Store F.shape D.bytes H.hash log.now (map spelling list) → IsKeptTree D.bytes H.hash F.shape self.now tip older
+        ensures whole { log.now.tree.start ≤ start → (form : Form) (list tip : List Operation) (older : List (List Operation)) → IsLog C.Store F.shape D.bytes H.hash log.now (map (spelling form) list) → IsKeptTree (hashing_with D.bytes H.hash F.shape form) self.now tip older
             → Contains (tip ∷ older) list → IfErr result (λ e. e ≡ Error.Memory) }
     {
         let inactive = F::inactive_peaks(Location::new(self.leaves), Location::new(floor));
@@ -139,16 +141,16 @@ impl<F: Family, D: Digest> KeptTree<F, D> {
     pub(crate) fn pins<C: Store, H: Hasher<Digest = D> + Drop>(
         &self,
         alloc: Global,
-        log: &AuthLog<F, C, D, H>,
+        log: &AuthLog<F, C, H>,
         count: u64,
     ) -> Result<Vec<D>, Error>
         requires count { count ≤ self.now.leaves }
         requires reach { Contains (stops self.now.leaves self.now.layers) log.now.tree.leaves }
-        ensures value { (list tip : List Operation) (older : List (List Operation)) → IsLog C.Store F.shape D.bytes H.hash log.now (map spelling list) → IsKeptTree D.bytes H.hash F.shape self.now tip older
-            → Contains (tip ∷ older) list → IfOk result (λ pins. map D.bytes pins.items ≡ pins_at H.hash F.shape tip count) }
+        ensures value { (form : Form) (list tip : List Operation) (older : List (List Operation)) → IsLog C.Store F.shape D.bytes H.hash log.now (map (spelling form) list) → IsKeptTree (hashing_with D.bytes H.hash F.shape form) self.now tip older
+            → Contains (tip ∷ older) list → IfOk result (λ pins. map D.bytes pins.items ≡ pins_at H.hash F.shape form tip count) }
         ensures held { OnOk result (first_lacked (held_at F.shape self.now log.now.tree) (trees.peak_positions F.shape count) ≡ None) }
         ensures cause { IfErr result (IsLacked (held_at F.shape self.now log.now.tree) (trees.peak_positions F.shape count)) }
-        ensures whole { log.now.tree.start ≤ count → (list tip : List Operation) (older : List (List Operation)) → IsLog C.Store F.shape D.bytes H.hash log.now (map spelling list) → IsKeptTree D.bytes H.hash F.shape self.now tip older
+        ensures whole { log.now.tree.start ≤ count → (form : Form) (list tip : List Operation) (older : List (List Operation)) → IsLog C.Store F.shape D.bytes H.hash log.now (map (spelling form) list) → IsKeptTree (hashing_with D.bytes H.hash F.shape form) self.now tip older
             → Contains (tip ∷ older) list → IfErr result (λ e. e ≡ Error.Memory) }
     {
         match &self.batch {

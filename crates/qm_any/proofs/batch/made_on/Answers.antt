@@ -2,27 +2,29 @@ use Rattle.std.proofs.Common.{◌≡◌, ◌≤◌, ◌^◌, ◌∙◌, None, ap
 use Rattle.std.specs.Prelude.{Contains}
 use Rattle.std.proofs.lemmas.List.{length-map}
 use Rattle.std.proofs.lemmas.Result.{err_from_is_err_and}
-use Rattle.qm_model.specs.Operations.{spelling}
+use Rattle.qm_model.specs.Forms.{spelling}
 use Rattle.qm_model.specs.Policies.{proportional}
 use Rattle.qm_model.specs.Refusals.{too_long}
 use Rattle.qm_merkle.specs.Batches.{stops}
+use Rattle.qm_batch.specs.PlanViews.{unordered_form}
+use Rattle.qm_any.specs.Layouts.{hashing_with}
 use Rattle.qm_any.specs.Databases.{AreAgreed, AreLinked, IsMade, bases_of, child_made, stepped}
 use Rattle.qm_any.specs.KeptTrees.{KeptTree, IsKeptTree}
 use Rattle.qm_any.specs.Views.{write_views}
 use Rattle.qm_any.proofs.Agreed.{child-reached}
 use Rattle.qm_any.proofs.Known.{on_chain-base, child-base, child-linked}
-use Rattle.qm_any.proofs.Making.{child-among, child-is_made, plan-length, plan-spelled, stepped-metadata, stepped-unordered}
+use Rattle.qm_any.proofs.Making.{child-among, child-is_made, plan-length, plan-spelled, stepped-metadata, stepped-of}
 use Rattle.qm_any.proofs.Reading.{left-database}
 use Rattle.qm_any.proofs.batch.made_on.Goals as goal
 
 pub returns-in_err-plan-clause-refused : goal.returns-in_err-plan-clause-refused
 returns-in_err-plan-clause-refused g c = λ list chain above is made kept on.
     let exit = err_from_is_err_and c.from_residual-in_err-plan.result c.from_residual-in_err-plan.ensures.1 in
-    let from = child-base g.D.Digest.bytes g.H.Hasher.hash g.F.Family.shape c.args.parent.now c.args.keep list chain above made kept on in
+    let from = child-base c.args.parent.now c.args.keep list chain above made kept on in
     rw (exit.1, exit.2) (c.in_err-plan.ensures.refused list chain.base is from (ap (λ k. k.size) made.bounds.tip) made.lowest made.live)
 
 pub grown-requires-clause-reach : goal.grown-requires-clause-reach
-grown-requires-clause-reach g c = λ κs lives.
+grown-requires-clause-reach g c =
     let parent = c.args.parent.now in
     let agreed = subst AreAgreed c.parent.view_is c.parent.invariant.0 in
     let size : c.planned.new.db.commitment.size ≡ c.args.db.now.commitment.size = ap (λ d. d.commitment.size) c.in_ok-plan.ensures.left.rest in
@@ -40,54 +42,54 @@ sealed-requires-clause-count g c =
     let tree : c.parent.inside.tree.leaves ≡ c.args.parent.now.tree.leaves = ap (λ m. m.tree.leaves) c.parent.view_is in
     let own = agreed.leaves in
     let items : length c.deref.result.now ≡ length c.in_ok-plan.items.items = ap length c.deref.ensures.value in
-    let count : length c.in_ok-plan.items.items ≡ length c.in_ok-plan.plan.operations = sym (length-map c.in_ok-plan.items.items (λ v. v.items)) ∙ ap length c.in_ok-plan.ensures.items ∙ length-map c.in_ok-plan.plan.operations spelling in
+    let count : length c.in_ok-plan.items.items ≡ length c.in_ok-plan.plan.operations = sym (length-map c.in_ok-plan.items.items (λ v. v.items)) ∙ ap length c.in_ok-plan.ensures.items ∙ length-map c.in_ok-plan.plan.operations (spelling (unordered_form g.K.ByteString.has g.V.Value.ByteString.has g.V.ValueEncoding.fixed)) in
     let grown = c.in_ok-tree.ensures.leaves in
     omega (arith, grown, tree, own, items, count)
 
 pub returns-clause-made : goal.returns-clause-made
 returns-clause-made g c = λ list chain above is made kept on.
     let bytes = g.D.Digest.bytes in
-    let hash = g.H.Hasher.hash in
-    let shape = g.F.Family.shape in
+    let form = (unordered_form g.K.ByteString.has g.V.Value.ByteString.has g.V.ValueEncoding.fixed) in
+    let hashing = hashing_with bytes g.H.Hasher.hash g.F.Family.shape form in
     let parent = c.args.parent.now in
     let base = chain.base in
-    let ws = write_views g.K.ByteString.bytes g.V.ByteString.bytes c.args.writes.now in
-    let meta = option_map g.V.ByteString.bytes c.args.metadata in
+    let ws = write_views g.K.ByteString.bytes g.V.Value.ByteString.bytes c.args.writes.now in
+    let meta = option_map g.V.Value.ByteString.bytes c.args.metadata in
     let tip = stepped base ws proportional meta in
     let items = map (λ v. v.items) c.in_ok-plan.items.items in
     let size = ap (λ k. k.size) made.bounds.tip in
-    let from = child-base bytes hash shape parent c.args.keep list chain above made kept on in
+    let from = child-base parent c.args.keep list chain above made kept on in
     let plan = c.in_ok-plan.ensures.plan list base is from size made.lowest made.live in
-    let short = subst (λ xs. too_long xs ≡ None) (c.in_ok-plan.ensures.items ∙ ap (map spelling) plan.operations) c.in_ok-plan.ensures.short in
-    let count : length c.in_ok-plan.items.items ≡ length c.in_ok-plan.plan.operations = sym (length-map c.in_ok-plan.items.items (λ v. v.items)) ∙ ap length c.in_ok-plan.ensures.items ∙ length-map c.in_ok-plan.plan.operations spelling in
+    let short = subst (λ xs. too_long xs ≡ None) (c.in_ok-plan.ensures.items ∙ ap (map (spelling (unordered_form g.K.ByteString.has g.V.Value.ByteString.has g.V.ValueEncoding.fixed))) plan.operations) c.in_ok-plan.ensures.short in
+    let count : length c.in_ok-plan.items.items ≡ length c.in_ok-plan.plan.operations = sym (length-map c.in_ok-plan.items.items (λ v. v.items)) ∙ ap length c.in_ok-plan.ensures.items ∙ length-map c.in_ok-plan.plan.operations (spelling (unordered_form g.K.ByteString.has g.V.Value.ByteString.has g.V.ValueEncoding.fixed)) in
     let room = c.in_ok-plan.ensures.room in
     let few : length tip ≤ 2 ^ 62 = omega (arith, room, size, count, plan-length c.in_ok-plan.plan base tip plan) in
-    let stands = left-database g.C.Store bytes hash shape g.I.Unordered.index_key c.args.db.now c.planned.new.db list c.in_ok-plan.ensures.left is in
+    let stands = left-database g.C.Store (record { hashing = hashing; index_key = g.I.Unordered.index_key }) c.args.db.now c.planned.new.db list c.in_ok-plan.ensures.left is in
     let linked = subst (AreLinked base) (sym kept) (child-linked c.args.keep above base made.linked) in
-    let among = child-among bytes hash shape parent c.args.keep chain above c.requires.keep made kept list (on_chain-base list chain linked on) in
-    let spelled = plan-spelled c.in_ok-plan.plan base tip (map (λ v. v.items) c.deref.result.now) plan (ap (map (λ v. v.items)) c.deref.ensures.value ∙ c.in_ok-plan.ensures.items) in
-    let kept_tree = subst (λ t. IsKeptTree bytes hash shape t base (bases_of above)) (sym (ap (λ m. m.tree) c.parent.view_is)) made.tree in
+    let among = child-among parent c.args.keep chain above c.requires.keep made kept list (on_chain-base list chain linked on) in
+    let spelled = plan-spelled form c.in_ok-plan.plan base tip (map (λ v. v.items) c.deref.result.now) plan (ap (map (λ v. v.items)) c.deref.ensures.value ∙ c.in_ok-plan.ensures.items) in
+    let kept_tree = subst (λ t. IsKeptTree hashing t base (bases_of above)) (sym (ap (λ m. m.tree) c.parent.view_is)) made.tree in
     let low = c.get.ensures ∙ ap (λ p. p.floor) c.plan.view_is ∙ plan.floor in
     let tree = c.in_ok-tree.ensures.tree list base tip (bases_of above) stands kept_tree among spelled in
     let root = c.in_ok-tree.ensures.root list base tip (bases_of above) stands kept_tree among spelled low in
-    let ordered = stepped-unordered base ws proportional meta made.unordered plan.changes.begins short few in
-    subst (λ b. IsMade bytes hash shape b chain tip) (sym (c.in_ok-batch.ensures ∙ ap (λ m. child_made parent c.args.keep c.in_ok-plan.plan c.in_ok-tree.tree (bytes c.in_ok-tree.root) (option_map g.V.ByteString.bytes m)) c.in_ok-copy.ensures))
-    (child-is_made bytes hash shape parent c.args.keep chain above c.requires.keep made kept c.in_ok-plan.plan c.in_ok-tree.tree (bytes c.in_ok-tree.root) meta tip plan tree root (stepped-metadata base ws proportional meta) ordered)
+    let all = stepped-of base ws proportional meta form c.in_ok-plan.plan.operations made.of plan.changes.begins plan.operations c.in_ok-plan.ensures.of few in
+    subst (λ b. IsMade hashing b chain tip) (sym (c.in_ok-batch.ensures ∙ ap (λ m. child_made parent c.args.keep c.in_ok-plan.plan c.in_ok-tree.tree (bytes c.in_ok-tree.root) (option_map g.V.Value.ByteString.bytes m)) c.in_ok-copy.ensures))
+    (child-is_made parent c.args.keep chain above c.requires.keep made kept c.in_ok-plan.plan c.in_ok-tree.tree (bytes c.in_ok-tree.root) meta tip plan tree root (stepped-metadata base ws proportional meta) all)
 
 pub returns-clause-taken : goal.returns-clause-taken
 returns-clause-taken g c = λ list chain above is made kept on.
     let bytes = g.D.Digest.bytes in
-    let hash = g.H.Hasher.hash in
-    let shape = g.F.Family.shape in
+    let form = (unordered_form g.K.ByteString.has g.V.Value.ByteString.has g.V.ValueEncoding.fixed) in
+    let hashing = hashing_with bytes g.H.Hasher.hash g.F.Family.shape form in
     let base = chain.base in
-    let ws = write_views g.K.ByteString.bytes g.V.ByteString.bytes c.args.writes.now in
-    let meta = option_map g.V.ByteString.bytes c.args.metadata in
+    let ws = write_views g.K.ByteString.bytes g.V.Value.ByteString.bytes c.args.writes.now in
+    let meta = option_map g.V.Value.ByteString.bytes c.args.metadata in
     let tip = stepped base ws proportional meta in
     let size = ap (λ k. k.size) made.bounds.tip in
-    let from = child-base bytes hash shape c.args.parent.now c.args.keep list chain above made kept on in
+    let from = child-base c.args.parent.now c.args.keep list chain above made kept on in
     let plan = c.in_ok-plan.ensures.plan list base is from size made.lowest made.live in
-    let count : length c.in_ok-plan.items.items ≡ length c.in_ok-plan.plan.operations = sym (length-map c.in_ok-plan.items.items (λ v. v.items)) ∙ ap length c.in_ok-plan.ensures.items ∙ length-map c.in_ok-plan.plan.operations spelling in
+    let count : length c.in_ok-plan.items.items ≡ length c.in_ok-plan.plan.operations = sym (length-map c.in_ok-plan.items.items (λ v. v.items)) ∙ ap length c.in_ok-plan.ensures.items ∙ length-map c.in_ok-plan.plan.operations (spelling (unordered_form g.K.ByteString.has g.V.Value.ByteString.has g.V.ValueEncoding.fixed)) in
     let room = c.in_ok-plan.ensures.room in (
-      subst (λ xs. too_long xs ≡ None) (c.in_ok-plan.ensures.items ∙ ap (map spelling) plan.operations) c.in_ok-plan.ensures.short,
+      subst (λ xs. too_long xs ≡ None) (c.in_ok-plan.ensures.items ∙ ap (map (spelling (unordered_form g.K.ByteString.has g.V.Value.ByteString.has g.V.ValueEncoding.fixed))) plan.operations) c.in_ok-plan.ensures.short,
       omega (arith, room, size, count, plan-length c.in_ok-plan.plan base tip plan),
     )

@@ -1,5 +1,5 @@
 use Rattle.std.proofs.Common.{◌≡◌, ◌∙◌, ◌∷◌, ap, ap₂, subst, refl, map, take, option_map}
-use Rattle.qm_base.specs.Views.{unordered_view}
+use Rattle.qm_base.specs.Views.{operation_views}
 use Rattle.qm_chain.specs.Bounds.{commitment_view}
 use Rattle.qm_batch.specs.Layers.{Layer}
 use Rattle.qm_batch.specs.Views.{changes_view}
@@ -9,8 +9,8 @@ use Rattle.qm_any.proofs.batch.sealed.Goals as goal
 
 pub invariant_of-new : goal.invariant_of-new
 invariant_of-new g c =
-    let key = g.K.ByteString.bytes in
-    let value = g.V.ByteString.bytes in
+    let key = g.U.Key.ByteString.bytes in
+    let value = g.U.Value.ByteString.bytes in
     let view = commitment_view g.D.Digest.bytes in
     let parent = c.args.parent.now in
     let plan = c.args.plan in
@@ -20,7 +20,7 @@ invariant_of-new g c =
     let agreed = subst AreAgreed c.parent.view_is c.parent.invariant.0 in
     let base : view (c.parent-inside.inside.0.0).tip ≡ parent.bounds.tip = ap (λ i. i.bounds.tip) c.parent-inside.view_is ∙ ap (λ m. m.bounds.tip) c.parent.view_is in
     let own : c.new-own.result ≡ record { base = parent.bounds.tip.size; operations = plan.operations; changes = plan.changes } =
-    c.new-own.ensures ∙ ap₂ (λ n ds. record { base = n; operations = map (unordered_view key value) c.plan.inside.operations.items; changes = changes_view key value ds }) (ap (λ k. k.size) base) c.in_ok-new.ensures.ok
+    c.new-own.ensures ∙ ap₂ (λ n ds. record { base = n; operations = operation_views g.U.Update.view key value c.plan.inside.operations.items; changes = changes_view key value ds }) (ap (λ k. k.size) base) c.in_ok-new.ensures.ok
     ∙ ap (λ p. record { base = parent.bounds.tip.size; operations = p.operations; changes = p.changes }) c.plan.view_is in (
       subst AreAgreed (sealed-child root meta parent c.args.keep plan tree _ _ _ _ _ _ _ _ base c.requires.boundary c.leaves.ensures c.requires.tips (ap (λ p. p.floor) c.plan.view_is)
           (c.in_ok-steps.ensures ∙ ap (λ (l : Layer). l ∷ take c.args.keep parent.layers) own) refl (ap (λ p. p.live) c.plan.view_is))

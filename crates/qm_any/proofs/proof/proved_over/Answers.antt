@@ -3,11 +3,11 @@ use Rattle.std.specs.NonZero.{non_zero_u64_get}
 use Rattle.std.proofs.lemmas.List.{length-map}
 use Rattle.std.proofs.lemmas.Result.{err_from_is_err_and}
 use Rattle.qm_model.proofs.Results.{told-one}
-use Rattle.qm_model.specs.Operations.{spelling}
+use Rattle.qm_model.specs.Forms.{spelling}
 use Rattle.qm_model.specs.Refusals.{proof_count, proof_refusal}
 use Rattle.qm_model.specs.Trees.{inactive_peaks}
 use Rattle.qm_batch.proofs.Reading.{read-then, told}
-use Rattle.qm_any.proofs.Telling.{proof-spelled, part-spelled, part-unordered, memory-due, ok-err, at-or-past}
+use Rattle.qm_any.proofs.Telling.{proof-spelled, part-spelled, part-of, memory-due, ok-err, at-or-past}
 use Rattle.qm_any.proofs.proof.proved_over.Goals as goal
 
 pub inactive_peaks-inactive-requires : goal.inactive_peaks-inactive-requires
@@ -19,9 +19,9 @@ returns-in_err-operations-clause-refused g c = λ kept ended list is all.
     let start = c.args.start in
     let count = proof_count c.args.size start (non_zero_u64_get c.args.max) in
     let read = c.offered.ensures.read in
-    told-one _ _ (g.C.Store.items c.args.log.now.store) (told _ _ _ read.kept.items (c.in_ok-proof.ensures.items (map spelling list) (read.stands (map spelling list) is))) (λ shown.
+    told-one _ _ (g.C.Store.items c.args.log.now.store) (told _ _ _ read.kept.items (c.in_ok-proof.ensures.items (map (spelling g.U.Update.form) list) (read.stands (map (spelling g.U.Update.form) list) is))) (λ shown.
     memory-due c.from_residual-in_err-operations.result exit.0 _ (proof_refusal list c.args.size start) exit.1 exit.2
-    (c.in_err-operations.ensures.whole (take count (drop start list)) (part-unordered list start count all) (ap (map (λ v. v.items)) c.deref.ensures.value ∙ shown ∙ part-spelled list start count)))
+    (c.in_err-operations.ensures.whole (take count (drop start list)) (part-of g.U.Update.form list start count all) (ap (map (λ v. v.items)) c.deref.ensures.value ∙ shown ∙ part-spelled g.U.Update.form list start count)))
 
 pub returns-clause-kept : goal.returns-clause-kept
 returns-clause-kept g c = at-or-past _ c.args.start (λ low.
@@ -34,10 +34,10 @@ returns-clause-kept g c = at-or-past _ c.args.start (λ low.
 pub returns-clause-proof : goal.returns-clause-proof
 returns-clause-proof g c = λ list is all.
     let shape = g.F.Family.shape in
-    let within : c.args.size ≤ length list = omega (arith, c.in_ok-floor.ensures.within.0, is.size, length-map list spelling) in
+    let within : c.args.size ≤ length list = omega (arith, c.in_ok-floor.ensures.within.0, is.size, length-map list (spelling g.U.Update.form)) in
     told-one _ _ (g.C.Store.items c.args.log.now.store) (c.in_ok-floor.ensures.floor list is all) (λ floor.
-    c.in_ok-proof.ensures.proof (map spelling list) ((c.offered.ensures.read).stands (map spelling list) is)
-    ∙ proof-spelled g.H.Hasher.hash shape list c.args.size c.inactive_peaks-inactive.result c.args.start (c.args.start + proof_count c.args.size c.args.start (non_zero_u64_get c.args.max)) within
+    c.in_ok-proof.ensures.proof (map (spelling g.U.Update.form) list) ((c.offered.ensures.read).stands (map (spelling g.U.Update.form) list) is)
+    ∙ proof-spelled g.H.Hasher.hash shape g.U.Update.form list c.args.size c.inactive_peaks-inactive.result c.args.start (c.args.start + proof_count c.args.size c.args.start (non_zero_u64_get c.args.max)) within
     (c.inactive_peaks-inactive.ensures ∙ ap₂ (inactive_peaks shape) c.new.ensures (c.new-2.ensures ∙ floor)))
 
 pub returns-clause-operations : goal.returns-clause-operations
@@ -45,11 +45,11 @@ returns-clause-operations g c = λ list is all.
     let start = c.args.start in
     let count = proof_count c.args.size start (non_zero_u64_get c.args.max) in
     let read = c.offered.ensures.read in
-    told-one _ _ (g.C.Store.items c.args.log.now.store) (told _ _ _ read.kept.items (c.in_ok-proof.ensures.items (map spelling list) (read.stands (map spelling list) is))) (λ shown.
-    c.in_ok-operations.ensures.value (take count (drop start list)) (part-unordered list start count all) (ap (map (λ v. v.items)) c.deref.ensures.value ∙ shown ∙ part-spelled list start count))
+    told-one _ _ (g.C.Store.items c.args.log.now.store) (told _ _ _ read.kept.items (c.in_ok-proof.ensures.items (map (spelling g.U.Update.form) list) (read.stands (map (spelling g.U.Update.form) list) is))) (λ shown.
+    c.in_ok-operations.ensures.value (take count (drop start list)) (part-of g.U.Update.form list start count all) (ap (map (λ v. v.items)) c.deref.ensures.value ∙ shown ∙ part-spelled g.U.Update.form list start count))
 
 pub returns-clause-read : goal.returns-clause-read
 returns-clause-read g c =
     let after = c.historical_proof.ensures in
-    read-then g.C.Store g.F.Family.shape g.D.Digest.bytes g.H.Hasher.hash c.args.log.now c.offered.new.log c.historical_proof.new.self c.offered.ensures.read
+    read-then g.C.Store g.F.Family.shape g.H.Digest.Digest.bytes g.H.Hasher.hash c.args.log.now c.offered.new.log c.historical_proof.new.self c.offered.ensures.read
     (record { stands = after.stands; tree = after.tree; kept = after.kept; later = after.cause.later })

@@ -3,39 +3,38 @@ use Rattle.std.specs.Prelude.{IfOk, IfErr, OnOk, ◌⊎◌}
 use Rattle.qm_model.specs.Policies.{proportional}
 use Rattle.qm_batch.specs.Lent.{IsReadError}
 use Rattle.qm_batch.specs.Views.{write_view}
+use Rattle.qm_any.specs.Layouts.{hashing_with}
+use Rattle.qm_batch.specs.PlanViews.{unordered_form}
 use Rattle.qm_any.specs.Databases.{IsMade, kept_by, stepped}
 use Rattle.qm_any.specs.Tips.{IsTaken, IsRefused}
 use Rattle.qm_any.proofs.batch.UnmerkleizedBatch+F+D+Unordered+K+V.merkleize.Goals as goal
 
 pub returns-in-Ok-clause-made : goal.returns-in-Ok-clause-made
 returns-in-Ok-clause-made g c = λ list chain above is begun on.
-    let bytes = g.D.Digest.bytes in
-    let hash = g.H.Hasher.hash in
-    let shape = g.F.Family.shape in
-    let writes = ap (map (write_view g.K.ByteString.bytes g.V.ByteString.bytes)) c.deref-in-Ok-2.ensures.value ∙ ap (λ b. b.writes) c.self.view_is in
+    let form = (unordered_form g.K.ByteString.has g.V.Value.ByteString.has g.V.ValueEncoding.fixed) in
+    let hashing = hashing_with g.D.Digest.bytes g.H.Hasher.hash g.F.Family.shape form in
+    let writes = ap (map (write_view g.K.ByteString.bytes g.V.Value.ByteString.bytes)) c.deref-in-Ok-2.ensures.value ∙ ap (λ b. b.writes) c.self.view_is in
     let parent = c.deref-in-Ok.ensures ∙ ap (λ b. b.parent) c.self.view_is in
     let keep = ap (λ b. b.keep) c.self.view_is in
-    subst (λ ws. IfOk c.made_on.result (λ b. IsMade bytes hash shape b.value chain (stepped chain.base ws proportional (option_map g.V.ByteString.bytes c.args.metadata)))) writes
-    (c.made_on.ensures.made list chain above is (subst (λ p. IsMade bytes hash shape p above chain.base) (sym parent) begun.parent) (begun.kept ∙ ap (λ k. kept_by k above chain.base) (sym keep)) on)
+    subst (λ ws. IfOk c.made_on.result (λ b. IsMade hashing b.value chain (stepped chain.base ws proportional (option_map g.V.Value.ByteString.bytes c.args.metadata)))) writes
+    (c.made_on.ensures.made list chain above is (subst (λ p. IsMade hashing p above chain.base) (sym parent) begun.parent) (begun.kept ∙ ap (λ k. kept_by k above chain.base) (sym keep)) on)
 
 pub returns-in-Ok-clause-taken : goal.returns-in-Ok-clause-taken
 returns-in-Ok-clause-taken g c = λ list chain above is begun on.
-    let bytes = g.D.Digest.bytes in
-    let hash = g.H.Hasher.hash in
-    let shape = g.F.Family.shape in
-    let writes = ap (map (write_view g.K.ByteString.bytes g.V.ByteString.bytes)) c.deref-in-Ok-2.ensures.value ∙ ap (λ b. b.writes) c.self.view_is in
+    let form = (unordered_form g.K.ByteString.has g.V.Value.ByteString.has g.V.ValueEncoding.fixed) in
+    let hashing = hashing_with g.D.Digest.bytes g.H.Hasher.hash g.F.Family.shape form in
+    let writes = ap (map (write_view g.K.ByteString.bytes g.V.Value.ByteString.bytes)) c.deref-in-Ok-2.ensures.value ∙ ap (λ b. b.writes) c.self.view_is in
     let parent = c.deref-in-Ok.ensures ∙ ap (λ b. b.parent) c.self.view_is in
     let keep = ap (λ b. b.keep) c.self.view_is in
-    subst (λ ws. OnOk c.made_on.result (IsTaken chain.base (stepped chain.base ws proportional (option_map g.V.ByteString.bytes c.args.metadata)))) writes
-    (c.made_on.ensures.taken list chain above is (subst (λ p. IsMade bytes hash shape p above chain.base) (sym parent) begun.parent) (begun.kept ∙ ap (λ k. kept_by k above chain.base) (sym keep)) on)
+    subst (λ ws. OnOk c.made_on.result (IsTaken form chain.base (stepped chain.base ws proportional (option_map g.V.Value.ByteString.bytes c.args.metadata)))) writes
+    (c.made_on.ensures.taken list chain above is (subst (λ p. IsMade hashing p above chain.base) (sym parent) begun.parent) (begun.kept ∙ ap (λ k. kept_by k above chain.base) (sym keep)) on)
 
 pub returns-in-Ok-clause-refused : goal.returns-in-Ok-clause-refused
 returns-in-Ok-clause-refused g c = λ list chain above is begun on.
-    let bytes = g.D.Digest.bytes in
-    let hash = g.H.Hasher.hash in
-    let shape = g.F.Family.shape in
-    let writes = ap (map (write_view g.K.ByteString.bytes g.V.ByteString.bytes)) c.deref-in-Ok-2.ensures.value ∙ ap (λ b. b.writes) c.self.view_is in
+    let form = (unordered_form g.K.ByteString.has g.V.Value.ByteString.has g.V.ValueEncoding.fixed) in
+    let hashing = hashing_with g.D.Digest.bytes g.H.Hasher.hash g.F.Family.shape form in
+    let writes = ap (map (write_view g.K.ByteString.bytes g.V.Value.ByteString.bytes)) c.deref-in-Ok-2.ensures.value ∙ ap (λ b. b.writes) c.self.view_is in
     let parent = c.deref-in-Ok.ensures ∙ ap (λ b. b.parent) c.self.view_is in
     let keep = ap (λ b. b.keep) c.self.view_is in
-    subst (λ ws. IfErr c.made_on.result (λ e. IsRefused chain.base (stepped chain.base ws proportional (option_map g.V.ByteString.bytes c.args.metadata)) e ⊎ IsReadError g.C.Store c.args.db.now.log c.made_on.new.db.log e)) writes
-    (c.made_on.ensures.refused list chain above is (subst (λ p. IsMade bytes hash shape p above chain.base) (sym parent) begun.parent) (begun.kept ∙ ap (λ k. kept_by k above chain.base) (sym keep)) on)
+    subst (λ ws. IfErr c.made_on.result (λ e. IsRefused form chain.base (stepped chain.base ws proportional (option_map g.V.Value.ByteString.bytes c.args.metadata)) e ⊎ IsReadError g.C.Store c.args.db.now.log c.made_on.new.db.log e)) writes
+    (c.made_on.ensures.refused list chain above is (subst (λ p. IsMade hashing p above chain.base) (sym parent) begun.parent) (begun.kept ∙ ap (λ k. kept_by k above chain.base) (sym keep)) on)

@@ -1,9 +1,0 @@
-use Rattle.std.proofs.Common.{subst, sym}
-use Rattle.qm_model.proofs.Results.{told-here}
-use Rattle.qm_any.specs.Databases.{IsDatabase}
-use Rattle.qm_any.proofs.db.Db+F+C+D+I+H+Unordered+K+V.plan.Goals as goal
-
-pub returns-clause-plan : goal.returns-clause-plan
-returns-clause-plan g c = λ list base is from size low count.
-    let at = subst (λ db. IsDatabase g.C.Store g.D.Digest.bytes g.H.Hasher.hash g.F.Family.shape g.I.Unordered.index_key db list) (sym c.self.view_is) is in
-    told-here _ (g.C.Store.items c.self.inside.log.store) at.told (c.plain.ensures.plan list base at.lent from size low count)

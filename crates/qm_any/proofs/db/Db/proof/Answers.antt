@@ -1,0 +1,10 @@
+use Rattle.std.proofs.Common.{◌∙◌, ap}
+use Rattle.std.specs.NonZero.{non_zero_u64_get}
+use Rattle.qm_merkle.specs.Proofs.{proof_view}
+use Rattle.qm_any.proofs.Telling.{proof-whole}
+use Rattle.qm_any.proofs.db.Db.proof.Goals as goal
+
+pub returns-clause-proof : goal.returns-clause-proof
+returns-clause-proof g c = λ list is.
+    proof-whole c.historical_proof.result g.H.Hasher.hash g.F.Family.shape g.U.Update.form list (λ shown. proof_view g.H.Digest.Digest.bytes shown.0) c.size-size.result c.args.start (non_zero_u64_get c.args.max)
+    (c.size-size.ensures ∙ ap (λ k. k.size) is.commitment) (c.historical_proof.ensures.proof list is)

@@ -1,0 +1,34 @@
+use Rattle.std.proofs.Common.{◌≡◌, ◌∙◌, ap, sym, subst, ℕ, Option, None}
+use Rattle.std.specs.Prelude.{option_map, option_and_then}
+use Rattle.qm_model.proofs.Results.{told-here}
+use Rattle.qm_base.specs.Parts as parts
+use Rattle.qm_model.specs.Operations.{Bytes, Operation}
+use Rattle.qm_model.specs.Live.{value_of}
+use Rattle.qm_model.specs.Writes.{read_through, overwritten, write_of, last_writes}
+use Rattle.qm_batch.specs.Changes.{update_of}
+use Rattle.qm_batch.specs.Views.{read_view, write_view}
+use Rattle.qm_any.specs.Layouts.{layout_of}
+use Rattle.qm_any.specs.Databases.{IsDatabase}
+use Rattle.qm_any.specs.Views.{write_views}
+use Rattle.qm_any.proofs.Reading.{value-found}
+use Rattle.qm_any.proofs.db.Db.read_one.Goals.{in-Some-2, in-None}
+use Rattle.qm_any.proofs.db.Db.read_one.Goals as goal
+
+pub returns-clause-value : goal.returns-clause-value
+returns-clause-value g c = λ list base stands from.
+    let key = g.U.Key.ByteString.bytes in
+    let value = g.U.Value.ByteString.bytes in
+    let at = key c.args.key.now in
+    let writes = write_views key value c.args.writes.now in
+    let unwritten : write_of (last_writes writes) at ≡ None = sym c.last_write.ensures ∙ ap (option_map (λ w. write_view key value w.now)) c.in_default.is in
+    let inside = subst (λ db. IsDatabase g.C.Store (layout_of g.H.Digest.Digest g.H.Hasher g.F.Family g.U.Update g.I.Unordered) db list) (sym c.self.view_is) stands in
+    let view = read_view g.U.Update.view in
+    let said : ℕ × Operation → Option Bytes = λ p. parts.value_of p.1 in
+    let found : option_map view c.in_ok-update.field-0 ≡ update_of base at =
+    told-here _ (g.C.Store.items ((c.self.inside).log).store) inside.told (c.in_ok-update.ensures.value list base inside.lent from) in
+    let shown : option_and_then said (option_map view c.in_ok-update.field-0) ≡ read_through base writes at =
+    ap (option_and_then said) found ∙ value-found base at ∙ sym (ap (λ w. overwritten w (value_of base at)) unwritten) in
+    elim c.match-branch-3.branch [
+      | in-Some-2 w ↦ rw w.result-is (sym w.into_value.ensures ∙ ap (λ o. option_and_then said (option_map view o)) (sym w.in-Some-2.is) ∙ shown)
+      | in-None w ↦ rw w.result-is (ap (λ o. option_and_then said (option_map view o)) (sym w.in-None.is) ∙ shown)
+    ]
