@@ -1,5 +1,5 @@
 -- The program's database as an engine: where its batches fit and can be read, and what its refusals are.
-use Rattle.std.proofs.Common.{◌≡◌, ◌≢◌, ◌≤◌, ℕ, suc, arith, ◌^◌, ◌∙◌, ◌⊎◌, ap, ap₂, sym, subst, refl, inl, inr, List, [], length, map, drop, Option, Some, None, Bool, true, false, IfSome}
+use Rattle.std.proofs.Common.{◌≡◌, ◌≢◌, ◌≤◌, ℕ, suc, arith, ◌^◌, ◌∙◌, ◌⊎◌, ap, ap₂, sym, subst, refl, inl, inr, List, [], ◌∷◌, length, map, drop, Option, Some, None, Bool, true, false, IfSome}
 use Rattle.std.specs.Prelude.{Result, Ok, Err, IfOk, IfErr, if◌then◌else◌, option_map}
 use Rattle.std.specs.Option.{option_or}
 use Rattle.std.proofs.lemmas.Bool.{lt-ltb, le-ltb}
@@ -18,8 +18,9 @@ use Rattle.qm_model.specs.Lines.{Refused, Journal, ItemTooLarge, Merkle, Locatio
 use Rattle.qm_model.specs.Mmr.{mmr}
 use Rattle.qm_model.specs.Refusals.{tip_refusal, too_long, too_many}
 use Rattle.qm_model.specs.Roots.{sha256_root, sha256_proof, sha256_pins}
-use Rattle.qm_model.specs.Trees.{ops_root}
-use Rattle.qm_model.specs.Proofs.{ops_proof, pins_at}
+use Rattle.qm_model.specs.Trees.{leaf, peaks, inactive_peaks, leaf_digest, digest_of, root, leaves_from}
+use Rattle.qm_model.specs.Live.{floor}
+use Rattle.qm_model.specs.Proofs.{ops_proof, pins_at, proof_of}
 use Rattle.qm_model.specs.Policies.{Policy, proportional}
 use Rattle.qm_model.specs.Writes.{Write}
 use Rattle.qm_model.proofs.Chains.{fits-on_chain, readable-known}
@@ -27,59 +28,69 @@ use Rattle.qm_chain.specs.Bounds.{Bounds, IsBounds, is_at, knows}
 use Rattle.qm_chain.proofs.Fits.{at-fits, at-readable}
 use Rattle.qm_base.specs.declared.sha256.Sha256Digest.{Sha256Digest}
 use Rattle.qm_lines.specs.Views.{policy_view}
-use Rattle.qm_run.specs.Databases.{digest_bytes}
+use Rattle.qm_run.specs.Databases.{form, hashing}
 use Rattle.qm_lines.specs.declared.policy.AnyPolicy.{AnyPolicy}
 use Rattle.qm_lines.specs.declared.policy.AnyPolicy.TheVariants.{Proportional}
 use Rattle.qm_any.specs.Databases.{Begun, Made, IsBegun, IsMade, is_on, list_commitment, stepped}
+use Rattle.qm_any.specs.Layouts.{list_root}
 use Rattle.qm_any.proofs.Known.{child-boundary, child-tips}
 use Rattle.qm_any.specs.Tips.{own_spellings, IsTaken, IsRefused}
 use Rattle.qm_any.specs.Refusals.{refusal_of}
 
--- what stands for a list, under the program's root
-pub standing : (list : List Operation) → list_commitment sha256 mmr list ≡ commitment (sha256_root mmr) list
-unfolding sha256_root
-standing list = refl
+-- the program's form spells operations as the machine does
+leaves-same : (i : ℕ) (ops : List Operation) → leaves_from sha256 mmr form i ops ≡ leaves_from sha256 mmr variable i ops
+leaves-same i [] = refl
+leaves-same i (op ∷ ops) = ap (λ ds. leaf_digest sha256 (mmr.position (leaf i)) (spelling variable op) ∷ ds) (leaves-same (suc i) ops)
 
-fits-same : (list : List Operation) (chain : Chain) → fits (ops_root sha256 mmr) (list_commitment sha256 mmr list) chain ≡ fits (sha256_root mmr) (commitment (sha256_root mmr) list) chain
+root-same : (list : List Operation) → list_root hashing list ≡ sha256_root mmr list
 unfolding sha256_root
-fits-same list chain = refl
+root-same list = ap (λ ls. root sha256 mmr ls (inactive_peaks mmr (length list) (floor list))) (leaves-same 0 list)
+
+roots-same : list_root hashing ≡ sha256_root mmr
+roots-same = λ i list. root-same list i
+
+-- what stands for a list, under the program's root
+pub standing : (list : List Operation) → list_commitment hashing list ≡ commitment (sha256_root mmr) list
+standing list = ap (λ r. commitment r list) roots-same
+
+fits-same : (list : List Operation) (chain : Chain) → fits (list_root hashing) (list_commitment hashing list) chain ≡ fits (sha256_root mmr) (commitment (sha256_root mmr) list) chain
+fits-same list chain = ap (λ r. fits r (commitment r list) chain) roots-same
 
 readable-same : (list : List Operation) (chain : Chain) (tip : List Operation)
-    → readable (ops_root sha256 mmr) (list_commitment sha256 mmr list) chain tip ≡ readable (sha256_root mmr) (commitment (sha256_root mmr) list) chain tip
-unfolding sha256_root
-readable-same list chain tip = refl
+    → readable (list_root hashing) (list_commitment hashing list) chain tip ≡ readable (sha256_root mmr) (commitment (sha256_root mmr) list) chain tip
+readable-same list chain tip = ap (λ r. readable r (commitment r list) chain tip) roots-same
 
 -- a merkleized batch fits where its bounds say so
-pub at-made : (list : List Operation) (chain : Chain) (tip : List Operation) (current : Commitment) (made : Made Sha256Digest) → current ≡ list_commitment sha256 mmr list → IsMade digest_bytes sha256 mmr made chain tip
+pub at-made : (list : List Operation) (chain : Chain) (tip : List Operation) (current : Commitment) (made : Made Sha256Digest) → current ≡ list_commitment hashing list → IsMade hashing made chain tip
     → is_at current made.bounds.db made.bounds.ancestors ≡ fits (sha256_root mmr) (commitment (sha256_root mmr) list) chain
 at-made list chain tip current made is batch =
-    ap (λ c. is_at c made.bounds.db made.bounds.ancestors) is ∙ at-fits (ops_root sha256 mmr) made.bounds chain tip (list_commitment sha256 mmr list) batch.bounds ∙ fits-same list chain
+    ap (λ c. is_at c made.bounds.db made.bounds.ancestors) is ∙ at-fits (list_root hashing) made.bounds chain tip (list_commitment hashing list) batch.bounds ∙ fits-same list chain
 
 -- the bounds of a chain
 abbrev bounds_of : Chain → Bounds
 bounds_of chain = record {
-  base = list_commitment sha256 mmr chain.base;
-  db = list_commitment sha256 mmr (boundary_list chain);
-  tip = list_commitment sha256 mmr chain.base;
-  ancestors = map (λ k. list_commitment sha256 mmr k.tip) chain.kept;
+  base = list_commitment hashing chain.base;
+  db = list_commitment hashing (boundary_list chain);
+  tip = list_commitment hashing chain.base;
+  ancestors = map (λ k. list_commitment hashing k.tip) chain.kept;
   inactivity_floor = 0;
 }
 
 -- a batch does where the states that it keeps of its parent say so
-pub on-begun : (list : List Operation) (chain above : Chain) (current : Commitment) (begun : Begun Sha256Digest) → begun.keep ≤ suc (length begun.parent.bounds.ancestors) → current ≡ list_commitment sha256 mmr list
-    → IsBegun digest_bytes sha256 mmr begun chain above → is_on current begun ≡ fits (sha256_root mmr) (commitment (sha256_root mmr) list) chain
+pub on-begun : (list : List Operation) (chain above : Chain) (current : Commitment) (begun : Begun Sha256Digest) → begun.keep ≤ suc (length begun.parent.bounds.ancestors) → current ≡ list_commitment hashing list
+    → IsBegun hashing begun chain above → is_on current begun ≡ fits (sha256_root mmr) (commitment (sha256_root mmr) list) chain
 on-begun list chain above current begun few is batch =
     ap (λ c. is_on c begun) is
-    ∙ ap₂ (is_at (list_commitment sha256 mmr list)) (child-boundary digest_bytes sha256 mmr begun.parent begun.keep chain above few batch.parent batch.kept)
-    (child-tips digest_bytes sha256 mmr begun.parent begun.keep chain above few batch.parent batch.kept)
-    ∙ at-fits (ops_root sha256 mmr) (bounds_of chain) chain chain.base (list_commitment sha256 mmr list) (record { base = refl; db = refl; tip = refl; ancestors = refl })
+    ∙ ap₂ (is_at (list_commitment hashing list)) (child-boundary hashing begun.parent begun.keep chain above few batch.parent batch.kept)
+    (child-tips hashing begun.parent begun.keep chain above few batch.parent batch.kept)
+    ∙ at-fits (list_root hashing) (bounds_of chain) chain chain.base (list_commitment hashing list) (record { base = refl; db = refl; tip = refl; ancestors = refl })
     ∙ fits-same list chain
 
 -- what bounds know is where a batch of them can be read
-pub knows-readable : (list : List Operation) (chain : Chain) (tip : List Operation) (current : Commitment) (bounds : Bounds) → current ≡ list_commitment sha256 mmr list → IsBounds (ops_root sha256 mmr) bounds chain tip
+pub knows-readable : (list : List Operation) (chain : Chain) (tip : List Operation) (current : Commitment) (bounds : Bounds) → current ≡ list_commitment hashing list → IsBounds (list_root hashing) bounds chain tip
     → knows bounds current ≡ readable (sha256_root mmr) (commitment (sha256_root mmr) list) chain tip
 knows-readable list chain tip current bounds is of =
-    ap (knows bounds) is ∙ at-readable (ops_root sha256 mmr) bounds chain tip (list_commitment sha256 mmr list) of ∙ readable-same list chain tip
+    ap (knows bounds) is ∙ at-readable (list_root hashing) bounds chain tip (list_commitment hashing list) of ∙ readable-same list chain tip
 
 apart : true ≡ false → ⊥
 apart is = cc
@@ -150,13 +161,13 @@ module _ {C D : Type 0} (members : store.Ghosts C) (old new : Log C D) (can : Bo
   never-read (inr (inr told)) stale = log-kept members old new e told.1 stale
 
 -- what holds of a value, and of an error, for every chain of a merkleized batch
-pub ok-made : {X E : Type 0} (r : Result X E) (made : Made Sha256Digest) (P : List Operation → X → Type 0) → ((chain : Chain) (tip : List Operation) → IsMade digest_bytes sha256 mmr made chain tip → IfOk r (P tip))
-    → IfOk r (λ x. (chain : Chain) (tip : List Operation) → IsMade digest_bytes sha256 mmr made chain tip → P tip x)
+pub ok-made : {X E : Type 0} (r : Result X E) (made : Made Sha256Digest) (P : List Operation → X → Type 0) → ((chain : Chain) (tip : List Operation) → IsMade hashing made chain tip → IfOk r (P tip))
+    → IfOk r (λ x. (chain : Chain) (tip : List Operation) → IsMade hashing made chain tip → P tip x)
 ok-made (Ok x) made P given = given
 ok-made (Err e) made P given = tt
 
-pub err-made : {X E : Type 0} (r : Result X E) (made : Made Sha256Digest) (P : List Operation → E → Type 0) → ((chain : Chain) (tip : List Operation) → IsMade digest_bytes sha256 mmr made chain tip → IfErr r (P tip))
-    → IfErr r (λ e. (chain : Chain) (tip : List Operation) → IsMade digest_bytes sha256 mmr made chain tip → P tip e)
+pub err-made : {X E : Type 0} (r : Result X E) (made : Made Sha256Digest) (P : List Operation → E → Type 0) → ((chain : Chain) (tip : List Operation) → IsMade hashing made chain tip → IfErr r (P tip))
+    → IfErr r (λ e. (chain : Chain) (tip : List Operation) → IsMade hashing made chain tip → P tip e)
 err-made (Ok x) made P given = tt
 err-made (Err e) made P given = given
 
@@ -168,13 +179,13 @@ made-reads (Ok x) S L Q given = given
 made-reads (Err e) S L Q given = tt
 
 pub begun-reads : {X E : Type 0} (r : Result X E) (S : List Operation → Type 0) (begun : Begun Sha256Digest) (Q : X → List Operation → List Write → Type 0)
-    → ((list : List Operation) (chain above : Chain) → S list → IsBegun digest_bytes sha256 mmr begun chain above → IsKnown list above chain.base → IfOk r (λ x. Q x chain.base begun.writes))
-    → IfOk r (λ x. (list : List Operation) (chain above : Chain) (ws : List Write) → S list → IsBegun digest_bytes sha256 mmr begun chain above × (begun.writes ≡ ws) → IsKnown list above chain.base → Q x chain.base ws)
+    → ((list : List Operation) (chain above : Chain) → S list → IsBegun hashing begun chain above → IsKnown list above chain.base → IfOk r (λ x. Q x chain.base begun.writes))
+    → IfOk r (λ x. (list : List Operation) (chain above : Chain) (ws : List Write) → S list → IsBegun hashing begun chain above × (begun.writes ≡ ws) → IsKnown list above chain.base → Q x chain.base ws)
 begun-reads (Ok x) S begun Q given = λ list chain above ws is batch known. subst (Q x chain.base) batch.1 (given list chain above is batch.0 known)
 begun-reads (Err e) S begun Q given = tt
 
 -- what an apply appends, said of bounds and of lists
-pub appends-same : (list : List Operation) (chain : Chain) (tip : List Operation) (current : Commitment) (made : Made Sha256Digest) → current ≡ list_commitment sha256 mmr list → IsMade digest_bytes sha256 mmr made chain tip
+pub appends-same : (list : List Operation) (chain : Chain) (tip : List Operation) (current : Commitment) (made : Made Sha256Digest) → current ≡ list_commitment hashing list → IsMade hashing made chain tip
     → (if is_at current made.bounds.db made.bounds.ancestors then map (spelling variable) (drop current.size tip) else []) ≡ (if fits (sha256_root mmr) (commitment (sha256_root mmr) list) chain then map (spelling variable) (drop (length list) tip) else [])
 appends-same list chain tip current made is batch =
     ap (λ b. if b then map (spelling variable) (drop current.size tip) else []) (at-made list chain tip current made is batch)
@@ -191,13 +202,13 @@ applied-ok S L Q (Err e) given = tt
 pub only : (p : AnyPolicy) → policy_view p ≡ proportional
 only Proportional = refl
 
-pub proved : (ops : List Operation) (a b : ℕ) → ops_proof sha256 mmr ops a b ≡ sha256_proof mmr ops a b
+pub proved : (ops : List Operation) (a b : ℕ) → ops_proof sha256 mmr form ops a b ≡ sha256_proof mmr ops a b
 unfolding sha256_proof
-proved ops a b = refl
+proved ops a b = ap (λ ls. proof_of sha256 mmr ls (inactive_peaks mmr (length ops) (floor ops)) a b) (leaves-same 0 ops)
 
-pub pinned : (ops : List Operation) (n : ℕ) → pins_at sha256 mmr ops n ≡ sha256_pins mmr ops n
+pub pinned : (ops : List Operation) (n : ℕ) → pins_at sha256 mmr form ops n ≡ sha256_pins mmr ops n
 unfolding sha256_pins
-pinned ops n = refl
+pinned ops n = ap (λ ls. map (digest_of sha256 mmr ls) (peaks mmr n)) (leaves-same 0 ops)
 
 none-some : (r : Refused) → None ≡ Some r → ⊥
 none-some r is = cc
@@ -208,15 +219,15 @@ some-intro (Some a) P give = give a refl
 
 module _ (chain : Chain) (tip : List Operation) where
   -- why a tip is refused, where no spelling is too long
-  short : too_long (own_spellings chain.base tip) ≡ None → tip_refusal variable chain tip ≡ too_many (length tip)
+  short : too_long (own_spellings form chain.base tip) ≡ None → tip_refusal variable chain tip ≡ too_many (length tip)
   short none = ap (λ o. option_or (option_map (λ n. Journal (ItemTooLarge n)) o) (too_many (length tip))) none
 
   -- a tip that is taken is not refused
-  pub taken-offered : IsTaken chain.base tip → tip_refusal variable chain tip ≡ None
+  pub taken-offered : IsTaken form chain.base tip → tip_refusal variable chain tip ≡ None
   taken-offered taken = short taken.0 ∙ ap (λ b. if b then Some (Merkle (LocationOverflow (length tip))) else None) (le-ltb (2 ^ 62) (length tip) taken.1)
 
   -- what is too long of a tip is why it is refused
-  due : (e : Error) (r : Refused) → e ≢ errors.StaleBatch → IsRefused chain.base tip e → refusal_of e ≡ Some r → tip_refusal variable chain tip ≡ Some r
+  due : (e : Error) (r : Refused) → e ≢ errors.StaleBatch → IsRefused form chain.base tip e → refusal_of e ≡ Some r → tip_refusal variable chain tip ≡ Some r
   due e r fresh (inl memory) told = absurd (none-some r (sym (ap refusal_of memory) ∙ told))
   due e r fresh (inr (inl stale)) told = absurd (fresh stale)
   due e r fresh (inr (inr (inl large))) told =
@@ -225,32 +236,32 @@ module _ (chain : Chain) (tip : List Operation) where
       short many.0 ∙ ap (λ b. if b then Some (Merkle (LocationOverflow (length tip))) else None) (lt-ltb (2 ^ 62) (length tip) many.1) ∙ sym (ap refusal_of many.2) ∙ told
 
   -- a merkleize that is refused, and not as stale, is so for that where the database is on the chain
-  pub refused-due : {C D : Type 0} (members : store.Ghosts C) (old new : Log C D) (P On : Type 0) (e : Error) → e ≢ errors.StaleBatch → old.tree.start ≡ 0 → (On → IsRefused chain.base tip e ⊎ IsReadError members old new e)
+  pub refused-due : {C D : Type 0} (members : store.Ghosts C) (old new : Log C D) (P On : Type 0) (e : Error) → e ≢ errors.StaleBatch → old.tree.start ≡ 0 → (On → IsRefused form chain.base tip e ⊎ IsReadError members old new e)
       → (e ≢ errors.Memory → P) → IfSome (refusal_of e) (λ r. P × (On → tip_refusal variable chain tip ≡ Some r))
   refused-due members old new P On e fresh whole refused give =
       some-intro (refusal_of e) (λ r. P × (On → tip_refusal variable chain tip ≡ Some r)) (λ r told. (give (λ memory. none-some r (sym (ap refusal_of memory) ∙ told)), λ on. either r told (refused on)))
     where
-      either : (r : Refused) → refusal_of e ≡ Some r → IsRefused chain.base tip e ⊎ IsReadError members old new e → tip_refusal variable chain tip ≡ Some r
+      either : (r : Refused) → refusal_of e ≡ Some r → IsRefused form chain.base tip e ⊎ IsReadError members old new e → tip_refusal variable chain tip ≡ Some r
       either r told (inl long) = due e r fresh long told
       either r told (inr read) = absurd (none-some r (sym (log-untold members old new e whole read) ∙ told))
 
 -- a merkleize's batch makes a tip that is not refused
 pub made-ok : {X E : Type 0} (r : Result X E) (made : X → Made Sha256Digest) (begun : Begun Sha256Digest) (policy : Policy) (meta : Option Bytes) (S : List Operation → Type 0)
-    → ((list : List Operation) (chain above : Chain) → S list → IsBegun digest_bytes sha256 mmr begun chain above → IsOnChain list chain → IfOk r (λ x. IsMade digest_bytes sha256 mmr (made x) chain (stepped chain.base begun.writes policy meta)))
-    → ((list : List Operation) (chain above : Chain) → S list → IsBegun digest_bytes sha256 mmr begun chain above → IsOnChain list chain → IfOk r (λ x. IsTaken chain.base (stepped chain.base begun.writes policy meta)))
-    → IfOk r (λ x. (list : List Operation) (chain above : Chain) (ws : List Write) → S list → IsBegun digest_bytes sha256 mmr begun chain above × (begun.writes ≡ ws) → IsOnChain list chain
-    → (tip_refusal variable chain (stepped chain.base ws policy meta) ≡ None) × IsMade digest_bytes sha256 mmr (made x) chain (stepped chain.base ws policy meta))
+    → ((list : List Operation) (chain above : Chain) → S list → IsBegun hashing begun chain above → IsOnChain list chain → IfOk r (λ x. IsMade hashing (made x) chain (stepped chain.base begun.writes policy meta)))
+    → ((list : List Operation) (chain above : Chain) → S list → IsBegun hashing begun chain above → IsOnChain list chain → IfOk r (λ x. IsTaken form chain.base (stepped chain.base begun.writes policy meta)))
+    → IfOk r (λ x. (list : List Operation) (chain above : Chain) (ws : List Write) → S list → IsBegun hashing begun chain above × (begun.writes ≡ ws) → IsOnChain list chain
+    → (tip_refusal variable chain (stepped chain.base ws policy meta) ≡ None) × IsMade hashing (made x) chain (stepped chain.base ws policy meta))
 made-ok (Ok x) made begun policy meta S given taken = λ list chain above ws is batch on. (
-  taken-offered chain (stepped chain.base ws policy meta) (subst (λ w. IsTaken chain.base (stepped chain.base w policy meta)) batch.1 (taken list chain above is batch.0 on)),
-  subst (λ w. IsMade digest_bytes sha256 mmr (made x) chain (stepped chain.base w policy meta)) batch.1 (given list chain above is batch.0 on),
+  taken-offered chain (stepped chain.base ws policy meta) (subst (λ w. IsTaken form chain.base (stepped chain.base w policy meta)) batch.1 (taken list chain above is batch.0 on)),
+  subst (λ w. IsMade hashing (made x) chain (stepped chain.base w policy meta)) batch.1 (given list chain above is batch.0 on),
 )
 made-ok (Err e) made begun policy meta S given taken = tt
 
 -- and one that fails is refused, or failed at the log
 pub made-err : {X : Type 0} (r : Result X Error) (begun : Begun Sha256Digest) (policy : Policy) (meta : Option Bytes) (R : Error → Type 0) (S : List Operation → Type 0)
-    → ((list : List Operation) (chain above : Chain) → S list → IsBegun digest_bytes sha256 mmr begun chain above → IsOnChain list chain → IfErr r (λ e. IsRefused chain.base (stepped chain.base begun.writes policy meta) e ⊎ R e))
-    → IfErr r (λ e. (list : List Operation) (chain above : Chain) (ws : List Write) → S list → IsBegun digest_bytes sha256 mmr begun chain above × (begun.writes ≡ ws) → IsOnChain list chain
-    → IsRefused chain.base (stepped chain.base ws policy meta) e ⊎ R e)
+    → ((list : List Operation) (chain above : Chain) → S list → IsBegun hashing begun chain above → IsOnChain list chain → IfErr r (λ e. IsRefused form chain.base (stepped chain.base begun.writes policy meta) e ⊎ R e))
+    → IfErr r (λ e. (list : List Operation) (chain above : Chain) (ws : List Write) → S list → IsBegun hashing begun chain above × (begun.writes ≡ ws) → IsOnChain list chain
+    → IsRefused form chain.base (stepped chain.base ws policy meta) e ⊎ R e)
 made-err (Ok x) begun policy meta R S given = tt
 made-err (Err e) begun policy meta R S given = λ list chain above ws is batch on.
-    subst (λ w. IsRefused chain.base (stepped chain.base w policy meta) e ⊎ R e) batch.1 (given list chain above is batch.0 on)
+    subst (λ w. IsRefused form chain.base (stepped chain.base w policy meta) e ⊎ R e) batch.1 (given list chain above is batch.0 on)

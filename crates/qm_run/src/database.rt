@@ -4,11 +4,9 @@ ghost use Rattle.qm_model.specs.Live as lives;
 ghost use Rattle.qm_model.specs.Mmr.{mmr};
 ghost use Rattle.qm_model.specs.Roots.{sha256_root, sha256_proof, sha256_pins};
 ghost use Rattle.qm_model.specs.Step as steps;
-ghost use Rattle.sha2.specs.Sha256.{sha256};
-ghost use Rattle.qm_index.specs.Translated.{capped};
 ghost use Rattle.qm_any.specs.Databases.{IsDatabase, IsBegun, IsMade};
 ghost use Rattle.qm_any.specs.Refusals.{refusal_of};
-ghost use Rattle.qm_run.specs.Databases.{digest_bytes};
+ghost use Rattle.qm_run.specs.Databases.{hashing, layout};
 
 use crate::engine::{BatchSizes, Engine, Numbers};
 use crate::listed::{listed, twin_option};
@@ -35,7 +33,7 @@ type Pair = Unordered<ByteKey, VariableEncoding<ByteValue>>;
 type Places = Index<FourCap, Location<mmr::Family>>;
 
 /// The program's database over a store.
-pub type Database<C> = Db<mmr::Family, C, Sha256Digest, Places, Sha256, Pair>;
+pub type Database<C> = Db<mmr::Family, C, Places, Sha256, Pair>;
 
 // What an opening that fails comes to: a store's head that does not match counts as want of memory.
 fn opening_error(error: Error) -> Error
@@ -63,11 +61,11 @@ impl<C: Store> Engine<C> for Database<C> {
 
     ghost inside = { λ db. db.log.store };
 
-    ghost stands = { λ db list. IsDatabase C.Store digest_bytes sha256 mmr (capped 4) db list };
+    ghost stands = { λ db list. IsDatabase C.Store layout db list };
 
-    ghost is_batch = { λ b chain above ws. IsBegun digest_bytes sha256 mmr b chain above × (b.writes ≡ ws) };
+    ghost is_batch = { λ b chain above ws. IsBegun hashing b chain above × (b.writes ≡ ws) };
 
-    ghost is_merkleized = { λ b chain tip. IsMade digest_bytes sha256 mmr b.value chain tip };
+    ghost is_merkleized = { λ b chain tip. IsMade hashing b.value chain tip };
 
     ghost kind = { steps.unordered };
 

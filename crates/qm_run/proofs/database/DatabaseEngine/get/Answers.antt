@@ -3,18 +3,17 @@ use Rattle.sha2.specs.Sha256.{sha256}
 use Rattle.qm_model.proofs.Results.{err-then, ok-each}
 use Rattle.qm_model.specs.Mmr.{mmr}
 use Rattle.qm_model.specs.Live.{value_of}
-use Rattle.qm_index.specs.Translated.{capped}
 use Rattle.qm_any.specs.Databases.{IsDatabase}
 use Rattle.qm_any.proofs.Reading.{left-database}
-use Rattle.qm_run.specs.Databases.{digest_bytes}
+use Rattle.qm_run.specs.Databases.{layout}
 use Rattle.qm_run.proofs.Engines.{log-untold, log-rose, log-kept}
 use Rattle.qm_run.proofs.database.DatabaseEngine.get.Goals as goal
 
 pub returns-clause-values : goal.returns-clause-values
-returns-clause-values g c = ok-each (IsDatabase g.C.Store digest_bytes sha256 mmr (capped 4) c.args.self.now) (λ list v. map (option_map (λ x. x)) v.items ≡ map (λ k. value_of list k) c.args.keys.now) c.get_many.result c.get_many.ensures.values
+returns-clause-values g c = ok-each (IsDatabase g.C.Store layout c.args.self.now) (λ list v. map (option_map (λ x. x)) v.items ≡ map (λ k. value_of list k) c.args.keys.now) c.get_many.result c.get_many.ensures.values
 
 pub returns-clause-same : goal.returns-clause-same
-returns-clause-same g c = λ list is. left-database g.C.Store digest_bytes sha256 mmr (capped 4) c.args.self.now c.get_many.new.self list c.get_many.ensures.left is
+returns-clause-same g c = λ list is. left-database g.C.Store layout c.args.self.now c.get_many.new.self list c.get_many.ensures.left is
 
 pub returns-clause-cause : goal.returns-clause-cause
 returns-clause-cause g c = err-then c.get_many.result c.get_many.ensures.error (λ e why fault. log-rose g.C.Store c.args.self.now.log c.get_many.new.self.log e why fault)

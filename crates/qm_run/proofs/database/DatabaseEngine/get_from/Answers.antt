@@ -3,28 +3,27 @@ use Rattle.sha2.specs.Sha256.{sha256}
 use Rattle.qm_model.proofs.Results.{err-then, ok-then}
 use Rattle.qm_model.specs.Mmr.{mmr}
 use Rattle.qm_model.specs.Live.{value_of}
-use Rattle.qm_index.specs.Translated.{capped}
 use Rattle.qm_any.specs.Databases.{IsDatabase, IsMade}
 use Rattle.qm_any.proofs.Reading.{left-database}
 use Rattle.qm_chain.specs.Bounds.{knows}
-use Rattle.qm_run.specs.Databases.{digest_bytes}
+use Rattle.qm_run.specs.Databases.{hashing, layout}
 use Rattle.qm_run.proofs.Engines.{knows-readable, unknown, stale-read, fresh-read, known-read, rose-read, never-read, made-reads}
 use Rattle.qm_run.proofs.database.DatabaseEngine.get_from.Goals as goal
 
 pub returns-clause-readable : goal.returns-clause-readable
 returns-clause-readable g c =
     ok-then c.get_many.result c.get_many.ensures.readable
-    (λ values can list chain tip is batch. sym (knows-readable list chain tip c.args.self.now.commitment c.deref.result.now.bounds is.commitment ((subst (λ b. IsMade digest_bytes sha256 mmr b chain tip) (sym c.deref.ensures) batch).bounds)) ∙ can)
+    (λ values can list chain tip is batch. sym (knows-readable list chain tip c.args.self.now.commitment c.deref.result.now.bounds is.commitment ((subst (λ b. IsMade hashing b chain tip) (sym c.deref.ensures) batch).bounds)) ∙ can)
 
 pub returns-clause-values : goal.returns-clause-values
 returns-clause-values g c =
-    made-reads c.get_many.result (IsDatabase g.C.Store digest_bytes sha256 mmr (capped 4) c.args.self.now) (IsMade digest_bytes sha256 mmr c.args.batch.now.value) (λ v tip. map (option_map (λ x. x)) v.items ≡ map (λ k. value_of tip k) c.args.keys.now)
-    (λ list chain tip is batch known. c.get_many.ensures.values list chain tip is (subst (λ b. IsMade digest_bytes sha256 mmr b chain tip) (sym c.deref.ensures) batch) known)
+    made-reads c.get_many.result (IsDatabase g.C.Store layout c.args.self.now) (IsMade hashing c.args.batch.now.value) (λ v tip. map (option_map (λ x. x)) v.items ≡ map (λ k. value_of tip k) c.args.keys.now)
+    (λ list chain tip is batch known. c.get_many.ensures.values list chain tip is (subst (λ b. IsMade hashing b chain tip) (sym c.deref.ensures) batch) known)
 
 pub returns-clause-stale : goal.returns-clause-stale
 returns-clause-stale g c =
     err-then c.get_many.result c.get_many.ensures.error
-    (λ e why stale list chain tip is batch. unknown list chain tip (sym (knows-readable list chain tip c.args.self.now.commitment c.deref.result.now.bounds is.commitment ((subst (λ b. IsMade digest_bytes sha256 mmr b chain tip) (sym c.deref.ensures) batch).bounds)) ∙ stale-read g.C.Store c.args.self.now.log c.get_many.new.db.log (knows c.deref.result.now.bounds c.args.self.now.commitment) e why stale))
+    (λ e why stale list chain tip is batch. unknown list chain tip (sym (knows-readable list chain tip c.args.self.now.commitment c.deref.result.now.bounds is.commitment ((subst (λ b. IsMade hashing b chain tip) (sym c.deref.ensures) batch).bounds)) ∙ stale-read g.C.Store c.args.self.now.log c.get_many.new.db.log (knows c.deref.result.now.bounds c.args.self.now.commitment) e why stale))
 
 pub returns-clause-refused : goal.returns-clause-refused
 returns-clause-refused g c =
@@ -34,10 +33,10 @@ returns-clause-refused g c =
 pub returns-clause-order : goal.returns-clause-order
 returns-clause-order g c =
     err-then c.get_many.result c.get_many.ensures.error
-    (λ e why fresh other list chain tip is batch. sym (knows-readable list chain tip c.args.self.now.commitment c.deref.result.now.bounds is.commitment ((subst (λ b. IsMade digest_bytes sha256 mmr b chain tip) (sym c.deref.ensures) batch).bounds)) ∙ known-read g.C.Store c.args.self.now.log c.get_many.new.db.log (knows c.deref.result.now.bounds c.args.self.now.commitment) e why fresh other)
+    (λ e why fresh other list chain tip is batch. sym (knows-readable list chain tip c.args.self.now.commitment c.deref.result.now.bounds is.commitment ((subst (λ b. IsMade hashing b chain tip) (sym c.deref.ensures) batch).bounds)) ∙ known-read g.C.Store c.args.self.now.log c.get_many.new.db.log (knows c.deref.result.now.bounds c.args.self.now.commitment) e why fresh other)
 
 pub returns-clause-same : goal.returns-clause-same
-returns-clause-same g c = λ list is. left-database g.C.Store digest_bytes sha256 mmr (capped 4) c.args.self.now c.get_many.new.db list c.get_many.ensures.left is
+returns-clause-same g c = λ list is. left-database g.C.Store layout c.args.self.now c.get_many.new.db list c.get_many.ensures.left is
 
 pub returns-clause-cause : goal.returns-clause-cause
 returns-clause-cause g c = err-then c.get_many.result c.get_many.ensures.error (λ e why fault. rose-read g.C.Store c.args.self.now.log c.get_many.new.db.log (knows c.deref.result.now.bounds c.args.self.now.commitment) e why fault)

@@ -3,11 +3,10 @@ use Rattle.sha2.specs.Sha256.{sha256}
 use Rattle.qm_model.proofs.Results.{err-then, ok-then}
 use Rattle.qm_model.specs.Mmr.{mmr}
 use Rattle.qm_model.specs.Writes.{read_through}
-use Rattle.qm_index.specs.Translated.{capped}
 use Rattle.qm_any.specs.Databases.{IsDatabase}
 use Rattle.qm_any.proofs.Reading.{left-database}
 use Rattle.qm_chain.specs.Bounds.{knows}
-use Rattle.qm_run.specs.Databases.{digest_bytes}
+use Rattle.qm_run.specs.Databases.{layout}
 use Rattle.qm_run.proofs.Engines.{knows-readable, unknown, stale-read, fresh-read, known-read, rose-read, never-read, begun-reads}
 use Rattle.qm_run.proofs.database.DatabaseEngine.get_through.Goals as goal
 
@@ -18,7 +17,7 @@ returns-clause-readable g c =
 
 pub returns-clause-values : goal.returns-clause-values
 returns-clause-values g c =
-    begun-reads c.get_many.result (IsDatabase g.C.Store digest_bytes sha256 mmr (capped 4) c.args.self.now) c.args.batch.now (λ v base ws. map (option_map (λ x. x)) v.items ≡ map (λ k. read_through base ws k) c.args.keys.now) c.get_many.ensures.values
+    begun-reads c.get_many.result (IsDatabase g.C.Store layout c.args.self.now) c.args.batch.now (λ v base ws. map (option_map (λ x. x)) v.items ≡ map (λ k. read_through base ws k) c.args.keys.now) c.get_many.ensures.values
 
 pub returns-clause-stale : goal.returns-clause-stale
 returns-clause-stale g c =
@@ -36,7 +35,7 @@ returns-clause-order g c =
     (λ e why fresh other list chain above ws is batch. sym (knows-readable list above chain.base c.args.self.now.commitment c.args.batch.now.parent.bounds is.commitment batch.0.parent.bounds) ∙ known-read g.C.Store c.args.self.now.log c.get_many.new.db.log (knows c.args.batch.now.parent.bounds c.args.self.now.commitment) e why fresh other)
 
 pub returns-clause-same : goal.returns-clause-same
-returns-clause-same g c = λ list is. left-database g.C.Store digest_bytes sha256 mmr (capped 4) c.args.self.now c.get_many.new.db list c.get_many.ensures.left is
+returns-clause-same g c = λ list is. left-database g.C.Store layout c.args.self.now c.get_many.new.db list c.get_many.ensures.left is
 
 pub returns-clause-cause : goal.returns-clause-cause
 returns-clause-cause g c = err-then c.get_many.result c.get_many.ensures.error (λ e why fault. rose-read g.C.Store c.args.self.now.log c.get_many.new.db.log (knows c.args.batch.now.parent.bounds c.args.self.now.commitment) e why fault)

@@ -7,11 +7,10 @@ use Rattle.qm_model.specs.Policies.{proportional}
 use Rattle.qm_batch.specs.Lent.{IsReadError}
 use Rattle.qm_lines.specs.Views.{policy_view}
 use Rattle.qm_base.specs.declared.sha256.Sha256Digest.{Sha256Digest}
-use Rattle.qm_index.specs.Translated.{capped}
 use Rattle.qm_any.specs.Databases.{Begun, IsDatabase, IsMade, stepped}
 use Rattle.qm_any.specs.Tips.{IsTaken, IsRefused}
 use Rattle.qm_any.proofs.Reading.{left-database}
-use Rattle.qm_run.specs.Databases.{digest_bytes}
+use Rattle.qm_run.specs.Databases.{form, hashing, layout}
 use Rattle.qm_run.proofs.Engines.{on-begun, off-chain, made-ok, made-err, refused-due, only}
 use Rattle.qm_run.proofs.database.DatabaseEngine.merkleize.Goals as goal
 
@@ -27,13 +26,13 @@ returns-clause-made g c =
     let made = option_map (λ v. v) c.in_ok-metadata.metadata in
     let same : made ≡ meta = ap (option_map (λ v. v)) c.in_ok-metadata.ensures in
     let one : proportional ≡ policy = sym (only c.args.policy.now) in
-    made-ok c.merkleize.result (λ b. b.value) c.args.batch policy meta (IsDatabase g.C.Store digest_bytes sha256 mmr (capped 4) c.args.self.now)
+    made-ok c.merkleize.result (λ b. b.value) c.args.batch policy meta (IsDatabase g.C.Store layout c.args.self.now)
     (λ list chain above is begun on.
-    subst (λ m. IfOk c.merkleize.result (λ b. IsMade digest_bytes sha256 mmr b.value chain (stepped chain.base c.args.batch.writes policy m))) same
-    (subst (λ p. IfOk c.merkleize.result (λ b. IsMade digest_bytes sha256 mmr b.value chain (stepped chain.base c.args.batch.writes p made))) one (c.merkleize.ensures.made list chain above is begun on)))
+    subst (λ m. IfOk c.merkleize.result (λ b. IsMade hashing b.value chain (stepped chain.base c.args.batch.writes policy m))) same
+    (subst (λ p. IfOk c.merkleize.result (λ b. IsMade hashing b.value chain (stepped chain.base c.args.batch.writes p made))) one (c.merkleize.ensures.made list chain above is begun on)))
     (λ list chain above is begun on.
-    subst (λ m. IfOk c.merkleize.result (λ b. IsTaken chain.base (stepped chain.base c.args.batch.writes policy m))) same
-    (subst (λ p. IfOk c.merkleize.result (λ b. IsTaken chain.base (stepped chain.base c.args.batch.writes p made))) one (c.merkleize.ensures.taken list chain above is begun on)))
+    subst (λ m. IfOk c.merkleize.result (λ b. IsTaken form chain.base (stepped chain.base c.args.batch.writes policy m))) same
+    (subst (λ p. IfOk c.merkleize.result (λ b. IsTaken form chain.base (stepped chain.base c.args.batch.writes p made))) one (c.merkleize.ensures.taken list chain above is begun on)))
 
 pub returns-clause-stale : goal.returns-clause-stale
 returns-clause-stale g c =
@@ -49,14 +48,14 @@ returns-clause-refused g c =
     let one : proportional ≡ policy = sym (only c.args.policy.now) in
     let read = IsReadError g.C.Store c.args.self.now.log c.merkleize.new.db.log in
     err-both c.merkleize.result
-    (made-err c.merkleize.result c.args.batch policy meta read (IsDatabase g.C.Store digest_bytes sha256 mmr (capped 4) c.args.self.now)
+    (made-err c.merkleize.result c.args.batch policy meta read (IsDatabase g.C.Store layout c.args.self.now)
     (λ list chain above is begun on.
-    subst (λ m. IfErr c.merkleize.result (λ e. IsRefused chain.base (stepped chain.base c.args.batch.writes policy m) e ⊎ read e)) same
-    (subst (λ p. IfErr c.merkleize.result (λ e. IsRefused chain.base (stepped chain.base c.args.batch.writes p made) e ⊎ read e)) one (c.merkleize.ensures.refused list chain above is begun on))))
+    subst (λ m. IfErr c.merkleize.result (λ e. IsRefused form chain.base (stepped chain.base c.args.batch.writes policy m) e ⊎ read e)) same
+    (subst (λ p. IfErr c.merkleize.result (λ e. IsRefused form chain.base (stepped chain.base c.args.batch.writes p made) e ⊎ read e)) one (c.merkleize.ensures.refused list chain above is begun on))))
     c.merkleize.ensures.order
     (λ e refused order fresh tells list chain above ws is batch.
     refused-due chain (stepped chain.base ws policy meta) g.C.Store c.args.self.now.log c.merkleize.new.db.log _ (IsOnChain list chain) e fresh (is.lent.logged.start ∙ tells.0) (refused list chain above ws is batch)
     (λ memory. sym (on-begun list chain above c.args.self.now.commitment c.args.batch (subst (λ (b : Begun Sha256Digest). b.keep ≤ suc (length b.parent.bounds.ancestors)) c.batch.view_is c.batch.invariant) is.commitment batch.0) ∙ order memory fresh))
 
 pub returns-clause-same : goal.returns-clause-same
-returns-clause-same g c = λ list is. left-database g.C.Store digest_bytes sha256 mmr (capped 4) c.args.self.now c.merkleize.new.db list c.merkleize.ensures.left is
+returns-clause-same g c = λ list is. left-database g.C.Store layout c.args.self.now c.merkleize.new.db list c.merkleize.ensures.left is

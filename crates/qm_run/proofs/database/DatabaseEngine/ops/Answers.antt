@@ -2,12 +2,12 @@ use Rattle.std.proofs.Common.{◌∙◌, ap, subst, sym}
 use Rattle.sha2.specs.Sha256.{sha256}
 use Rattle.qm_model.specs.Mmr.{mmr}
 use Rattle.qm_any.specs.Databases.{IsMade}
-use Rattle.qm_run.specs.Databases.{digest_bytes}
+use Rattle.qm_run.specs.Databases.{hashing}
 use Rattle.qm_run.proofs.database.DatabaseEngine.ops.Goals as goal
 
 pub returns : goal.returns
 returns g c = λ chain tip batch.
-    let made = subst (λ b. IsMade digest_bytes sha256 mmr b chain tip) (sym c.deref.ensures) batch in (
+    let made = subst (λ b. IsMade hashing b chain tip) (sym c.deref.ensures) batch in (
       c.get.ensures ∙ c.operations-base.ensures.base ∙ ap (λ k. k.size) made.bounds.base,
       c.in_ok-own.ensures ∙ c.operations-base.ensures.own sha256 chain tip made,
     )

@@ -4,9 +4,8 @@ use Rattle.std.specs.Int.NonZero.{non_zero_u64_get}
 use Rattle.qm_model.specs.Mmr.{mmr}
 use Rattle.qm_model.specs.Proofs.{ops_proof}
 use Rattle.qm_model.specs.Refusals.{proof_count, proof_refusal}
-use Rattle.qm_index.specs.Translated.{capped}
 use Rattle.qm_any.proofs.Reading.{left-database}
-use Rattle.qm_run.specs.Databases.{digest_bytes}
+use Rattle.qm_run.specs.Databases.{layout}
 use Rattle.qm_run.proofs.Engines.{proved}
 use Rattle.qm_run.proofs.database.DatabaseEngine.prove.Goals as goal
 
@@ -21,7 +20,7 @@ returns-clause-proof g c = λ list is.
     ∙ proved (take c.args.size list) c.args.start (c.args.start + proof_count c.args.size c.args.start max)
 
 pub returns-in_err-operations-clause-same : goal.returns-in_err-operations-clause-same
-returns-in_err-operations-clause-same g c = λ list is. left-database g.C.Store digest_bytes sha256 mmr (capped 4) c.args.self.now c.historical_proof.new.self list c.historical_proof.ensures.left is
+returns-in_err-operations-clause-same g c = λ list is. left-database g.C.Store layout c.args.self.now c.historical_proof.new.self list c.historical_proof.ensures.left is
 
 pub returns-clause-same : goal.returns-clause-same
-returns-clause-same g c = λ list is. left-database g.C.Store digest_bytes sha256 mmr (capped 4) c.args.self.now c.historical_proof.new.self list c.historical_proof.ensures.left is
+returns-clause-same g c = λ list is. left-database g.C.Store layout c.args.self.now c.historical_proof.new.self list c.historical_proof.ensures.left is
