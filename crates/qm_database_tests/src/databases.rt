@@ -4,10 +4,9 @@
 use qm_any::batch::{MerkleizedBatch, UnmerkleizedBatch};
 use qm_any::db::Db;
 use qm_any::{Proportional, hasher, init, initial_root};
-use qm_base::update::Unordered;
 use qm_base::{
     ByteKey, ByteString, ByteValue, Digest, Error, JournalError, Location, Sha256, Sha256Digest,
-    Twin,
+    Twin, Unordered, VariableEncoding,
 };
 use qm_index::FourCap;
 use qm_index::unordered::Index;
@@ -18,18 +17,13 @@ use std::num::NonZeroU64;
 use std::rc::Rc;
 use std::test::Fail;
 
-type Database = Db<
-    Family,
-    MemStore,
-    Sha256Digest,
-    Index<FourCap, Location<Family>>,
-    Sha256,
-    Unordered<ByteKey, ByteValue>,
->;
+type Pair = Unordered<ByteKey, VariableEncoding<ByteValue>>;
 
-type Batch = MerkleizedBatch<Family, Sha256Digest, Unordered<ByteKey, ByteValue>>;
+type Database = Db<Family, MemStore, Index<FourCap, Location<Family>>, Sha256, Pair>;
 
-type Begun = UnmerkleizedBatch<Family, Sha256Digest, Unordered<ByteKey, ByteValue>>;
+type Batch = MerkleizedBatch<Family, Sha256Digest, Pair>;
+
+type Begun = UnmerkleizedBatch<Family, Sha256Digest, Pair>;
 
 // A fresh database over an empty store.
 fn opened(alloc: Global) -> Result<Database, Error> {
@@ -365,7 +359,7 @@ fn long_spellings_are_refused(rt: HostRuntime) -> Result<(), Fail> {
 #[test]
 fn the_root_of_a_fresh_database(rt: HostRuntime) -> Result<(), Fail> {
     let db = opened(rt.alloc())?;
-    let root = initial_root::<Family, Sha256, Unordered<ByteKey, ByteValue>>(Sha256::new());
+    let root = initial_root::<Family, Sha256, Pair>(Sha256::new());
     assert!(rt; db.root().bytes() == root.bytes());
     assert!(rt;
         root.bytes()
