@@ -71,9 +71,11 @@ module _ {K E : Type 0} (bytes : K → Bytes) where
         let lower : key_lt k (bytes m.0) ≡ true = ap is_lt (nat_list_cmp_total.antisymm k (bytes m.0) ∙ ap ordering_reverse above) in
         let later : Each (λ e. key_lt (bytes m.0) (bytes e.0) ≡ true) behind = each_keys bytes (λ j. key_lt (bytes m.0) j ≡ true) behind (back_ascends front (m ∷ behind) ascends).0 in
         let none : entry_of bytes (m ∷ behind) k ≡ None =
-        none_where bytes (m ∷ behind) k
-        (eq_back k (bytes m.0) (apart k (bytes m.0) lower), each_weaker (λ e. key_lt (bytes m.0) (bytes e.0) ≡ true) (λ e. bytes_eq (bytes e.0) k ≡ false)
-        (λ e h. eq_back k (bytes e.0) (apart k (bytes e.0) (lt_on k (bytes m.0) (bytes e.0) lower h))) behind later) in (
+        none_where bytes (m ∷ behind) k (
+          eq_back k (bytes m.0) (apart k (bytes m.0) lower),
+          each_weaker (λ e. key_lt (bytes m.0) (bytes e.0) ≡ true) (λ e. bytes_eq (bytes e.0) k ≡ false)
+              (λ e h. eq_back k (bytes e.0) (apart k (bytes e.0) (lt_on k (bytes m.0) (bytes e.0) lower h))) behind later,
+        ) in (
           ascending_from (keys_of bytes front) (front_ascends front (m ∷ behind) ascends),
           sym (either_half ∙ ap (option_or (entry_of bytes front k)) none ∙ or_none (entry_of bytes front k)),
         )

@@ -8,10 +8,7 @@ use qm_lines::Listed;
 use std::alloc::{AllocError, Global};
 
 /// A copy of a value, where there is one.
-pub fn twin_option<V: ByteString>(
-    alloc: Global,
-    value: &Option<V>,
-) -> Result<Option<V>, AllocError>
+pub fn twin_option<V: ByteString>(alloc: Global, value: &Option<V>) -> Result<Option<V>, AllocError>
     ensures { IfOk result (λ copy. copy ≡ value.now) }
 {
     match value {

@@ -17,9 +17,7 @@ use crate::layer::Layer;
 use crate::read::locate;
 use crate::write::Write;
 use qm_base::update::{Unordered, Update};
-use qm_base::{
-    ByteString, Error, Hasher, JournalError, Location, Operation, Twin, ValueEncoding,
-};
+use qm_base::{ByteString, Error, Hasher, JournalError, Location, Operation, Twin, ValueEncoding};
 use qm_merkle::Family;
 use qm_store::{AuthLog, Store};
 use std::alloc::{AllocError, Global};
