@@ -11,6 +11,7 @@ pub mod Histories
 pub mod Drafting
 pub mod Rows
 pub mod Putting
+pub mod Since
 pub mod Halving
 pub mod Listing
 pub mod Folding

@@ -18,8 +18,7 @@ use Rattle.qm_model.specs.Operations.{Bytes}
 use Rattle.qm_model.specs.Trees.{Shape, Node, peaks, peak_positions, digest_of}
 use Rattle.qm_model.specs.Families.{Births, IsFamily, HasPeaks}
 use Rattle.qm_merkle.specs.Mems.{Kept, IsWhole, Stands, Gives, node_at}
-use Rattle.qm_merkle.specs.Batches.{Layer, Batch, all_layers, AreLinked, IsHistory, stops, found_at, layer_at, layers_at}
-use Rattle.qm_merkle.specs.Putting.{lacked}
+use Rattle.qm_merkle.specs.Batches.{Layer, Batch, all_layers, AreLinked, IsHistory, stops, layers_since, found_at, layer_at, layers_at}
 use Rattle.qm_merkle.proofs.Numbering.{stands_past}
 use Rattle.qm_merkle.proofs.Lookups.{node_at-past}
 use Rattle.qm_merkle.proofs.Growth.{slice_get-left, slice_get-right}
@@ -93,28 +92,28 @@ module _ {D : Type 0} where
     }
 
   -- the newest layer begins at the leaves or later, or before
-  lacked-here : (leaves : ℕ) (layer : Layer D) (older : List (Layer D)) → leaves ≤ layer.tree.start → lacked leaves (layer ∷ older) ≡ layer ∷ lacked leaves older
-  lacked-here leaves layer older from = ap (λ b. if b then layer ∷ lacked leaves older else []) (le-leb _ _ from)
+  pub since-here : (leaves : ℕ) (layer : Layer D) (older : List (Layer D)) → leaves ≤ layer.tree.start → layers_since leaves (layer ∷ older) ≡ layer ∷ layers_since leaves older
+  since-here leaves layer older from = ap (λ b. if b then layer ∷ layers_since leaves older else []) (le-leb _ _ from)
 
-  lacked-past : (leaves : ℕ) (layer : Layer D) (older : List (Layer D)) → layer.tree.start < leaves → lacked leaves (layer ∷ older) ≡ []
-  lacked-past leaves layer older before = ⊎_elim
+  pub since-past : (leaves : ℕ) (layer : Layer D) (older : List (Layer D)) → layer.tree.start < leaves → layers_since leaves (layer ∷ older) ≡ []
+  since-past leaves layer older before = ⊎_elim
       (λ (high : (nat_le leaves layer.tree.start ≡ true) × (leaves ≤ layer.tree.start)). absurd (omega arith))
-      (λ (low : (nat_le leaves layer.tree.start ≡ false) × (layer.tree.start < leaves)). ap (λ b. if b then layer ∷ lacked leaves older else []) low.0)
+      (λ (low : (nat_le leaves layer.tree.start ≡ false) × (layer.tree.start < leaves)). ap (λ b. if b then layer ∷ layers_since leaves older else []) low.0)
       (leb_tells leaves layer.tree.start)
 
   module _ {R : Type 0} (value : R → Layer D) (leaves : ℕ) where
     -- of these layers, the first that begins before the leaves, and one that does not
-    pub lacked-none : (xs : List R) (i : ℕ) (x : R) → i < length xs → x ≡ get_or xs i x → (value x).tree.start < leaves →
-        take i (map value xs) ≡ take i (map value xs) ++ lacked leaves (drop i (map value xs))
-    lacked-none [] i x lt is before = absurd (omega arith)
-    lacked-none (y ∷ xs) zero x lt is before = sym (lacked-past leaves (value y) (map value xs) (subst (λ z. (value z).tree.start < leaves) is before))
-    lacked-none (y ∷ xs) (suc i) x lt is before = ap (λ zs. value y ∷ zs) (lacked-none xs i x (omega arith) is before)
+    pub since-none : (xs : List R) (i : ℕ) (x : R) → i < length xs → x ≡ get_or xs i x → (value x).tree.start < leaves →
+        take i (map value xs) ≡ take i (map value xs) ++ layers_since leaves (drop i (map value xs))
+    since-none [] i x lt is before = absurd (omega arith)
+    since-none (y ∷ xs) zero x lt is before = sym (since-past leaves (value y) (map value xs) (subst (λ z. (value z).tree.start < leaves) is before))
+    since-none (y ∷ xs) (suc i) x lt is before = ap (λ zs. value y ∷ zs) (since-none xs i x (omega arith) is before)
 
-    pub lacked-next : (xs : List R) (i : ℕ) (x : R) → i < length xs → x ≡ get_or xs i x → leaves ≤ (value x).tree.start →
-        take (suc i) (map value xs) ++ lacked leaves (drop (suc i) (map value xs)) ≡ take i (map value xs) ++ lacked leaves (drop i (map value xs))
-    lacked-next [] i x lt is from = absurd (omega arith)
-    lacked-next (y ∷ xs) zero x lt is from = sym (lacked-here leaves (value y) (map value xs) (subst (λ z. leaves ≤ (value z).tree.start) is from))
-    lacked-next (y ∷ xs) (suc i) x lt is from = ap (λ zs. value y ∷ zs) (lacked-next xs i x (omega arith) is from)
+    pub since-next : (xs : List R) (i : ℕ) (x : R) → i < length xs → x ≡ get_or xs i x → leaves ≤ (value x).tree.start →
+        take (suc i) (map value xs) ++ layers_since leaves (drop (suc i) (map value xs)) ≡ take i (map value xs) ++ layers_since leaves (drop i (map value xs))
+    since-next [] i x lt is from = absurd (omega arith)
+    since-next (y ∷ xs) zero x lt is from = sym (since-here leaves (value y) (map value xs) (subst (λ z. leaves ≤ (value z).tree.start) is from))
+    since-next (y ∷ xs) (suc i) x lt is from = ap (λ zs. value y ∷ zs) (since-next xs i x (omega arith) is from)
 
 -- all the elements, written anew
 pub written : {X : Type 0} (xs ys : List X) (n : ℕ) → length xs ≡ length ys → n ≡ length ys → take n (xs ++ drop (length xs) ys) ≡ xs
@@ -170,18 +169,18 @@ module _ (shape : Shape) {D : Type 0} where
   AreChained leaves [] = ⊤
   AreChained leaves (layer ∷ older) = IsWhole shape layer.tree × (layer.tree.start ≡ top_of leaves older) × AreChained leaves older
 
-  pub chained : (leaves n : ℕ) (layers : List (Layer D)) → AreLinked shape n layers → Contains (stops n layers) leaves → AreChained leaves (lacked leaves layers) × (top_of leaves (lacked leaves layers) ≡ n)
+  pub chained : (leaves n : ℕ) (layers : List (Layer D)) → AreLinked shape n layers → Contains (stops n layers) leaves → AreChained leaves (layers_since leaves layers) × (top_of leaves (layers_since leaves layers) ≡ n)
   chained leaves n [] linked found = (tt, ⊎_elim (λ (here : n ≡ leaves). sym here) (λ (no : Contains [] leaves). absurd (omega (arith, no.1))) (first_or_other n [] leaves found))
   chained leaves n (layer ∷ older) linked found = ⊎_elim
       (λ (before : layer.tree.start < leaves).
-      let none = lacked-past leaves layer older before in
+      let none = since-past leaves layer older before in
       let top : leaves ≡ n = ⊎_elim
       (λ (here : n ≡ leaves). sym here)
       (λ (more : Contains (stops layer.tree.start older) leaves). absurd (omega (arith, stops-below layer.tree.start older leaves linked.2 more)))
       (first_or_other n (stops layer.tree.start older) leaves found) in
       (subst (AreChained leaves) (sym none) tt, ap (top_of leaves) none ∙ top))
       (λ (from : leaves ≤ layer.tree.start).
-      let is = lacked-here leaves layer older from in
+      let is = since-here leaves layer older from in
       let reach : Contains (stops layer.tree.start older) leaves = ⊎_elim
       (λ (here : n ≡ leaves).
       let same : layer.tree.start ≡ leaves = omega (arith, linked.0, linked.1.order) in
@@ -227,20 +226,20 @@ module _ (shape : Shape) {D : Type 0} where
         chain = here.2;
       }
 
-  pub lacked-at : {R : Type 0} (value : R → Layer D) (leaves : ℕ) (xs : List R) (k : ℕ) (x : R) → k < length (lacked leaves (map value xs)) → x ≡ get_or xs k x →
-      drop k (lacked leaves (map value xs)) ≡ value x ∷ drop (suc k) (lacked leaves (map value xs))
-  lacked-at value leaves [] k x lt at = absurd (omega arith)
-  lacked-at value leaves (y ∷ xs) zero x lt at = ⊎_elim
-      (λ (before : (value y).tree.start < leaves). absurd (omega (arith, ap length (lacked-past leaves (value y) (map value xs) before))))
+  pub since-at : {R : Type 0} (value : R → Layer D) (leaves : ℕ) (xs : List R) (k : ℕ) (x : R) → k < length (layers_since leaves (map value xs)) → x ≡ get_or xs k x →
+      drop k (layers_since leaves (map value xs)) ≡ value x ∷ drop (suc k) (layers_since leaves (map value xs))
+  since-at value leaves [] k x lt at = absurd (omega arith)
+  since-at value leaves (y ∷ xs) zero x lt at = ⊎_elim
+      (λ (before : (value y).tree.start < leaves). absurd (omega (arith, ap length (since-past leaves (value y) (map value xs) before))))
       (λ (from : leaves ≤ (value y).tree.start).
-      let is = lacked-here leaves (value y) (map value xs) from in
-      is ∙ ap (λ z. value z ∷ lacked leaves (map value xs)) (sym at) ∙ sym (ap (λ zs. value x ∷ drop 1 zs) is))
+      let is = since-here leaves (value y) (map value xs) from in
+      is ∙ ap (λ z. value z ∷ layers_since leaves (map value xs)) (sym at) ∙ sym (ap (λ zs. value x ∷ drop 1 zs) is))
       (cases_lt (value y).tree.start leaves)
-  lacked-at value leaves (y ∷ xs) (suc k) x lt at = ⊎_elim
-      (λ (before : (value y).tree.start < leaves). absurd (omega (arith, ap length (lacked-past leaves (value y) (map value xs) before))))
+  since-at value leaves (y ∷ xs) (suc k) x lt at = ⊎_elim
+      (λ (before : (value y).tree.start < leaves). absurd (omega (arith, ap length (since-past leaves (value y) (map value xs) before))))
       (λ (from : leaves ≤ (value y).tree.start).
-      let is = lacked-here leaves (value y) (map value xs) from in
-      ap (drop (suc k)) is ∙ lacked-at value leaves xs k x (omega (arith, ap length is)) at ∙ sym (ap (λ zs. value x ∷ drop (suc (suc k)) zs) is))
+      let is = since-here leaves (value y) (map value xs) from in
+      ap (drop (suc k)) is ∙ since-at value leaves xs k x (omega (arith, ap length is)) at ∙ sym (ap (λ zs. value x ∷ drop (suc (suc k)) zs) is))
       (cases_lt (value y).tree.start leaves)
 
   -- pins and nodes of a tree of so many leaves, before and after layers are put in
@@ -271,25 +270,25 @@ module _ (shape : Shape) {D : Type 0} where
     reach = subst (λ b. Contains (stops b.newest.tree.leaves (all_layers b)) leaves) (sym view) stop
 
     -- the newest layer is the last to be put in
-    pub newest_next : (layer : Layer D) → layer ≡ newest → leaves ≤ layer.tree.start → IsNext leaves (lacked leaves (newest ∷ map value xs)) (lacked leaves (map value xs)) layer
+    pub newest_next : (layer : Layer D) → layer ≡ newest → leaves ≤ layer.tree.start → IsNext leaves (layers_since leaves (newest ∷ map value xs)) (layers_since leaves (map value xs)) layer
     newest_next layer same from =
         let from_here : leaves ≤ newest.tree.start = omega (arith, ap (λ l. l.tree.start) same) in
-        is_next leaves (lacked leaves (newest ∷ map value xs)) (lacked leaves (map value xs)) layer (chained leaves newest.tree.leaves (newest ∷ map value xs) linked reach).0
-        (lacked-here leaves newest (map value xs) from_here ∙ ap (λ l. l ∷ lacked leaves (map value xs)) (sym same))
+        is_next leaves (layers_since leaves (newest ∷ map value xs)) (layers_since leaves (map value xs)) layer (chained leaves newest.tree.leaves (newest ∷ map value xs) linked reach).0
+        (since-here leaves newest (map value xs) from_here ∙ ap (λ l. l ∷ layers_since leaves (map value xs)) (sym same))
 
     -- and the one at k comes before
-    pub older_next : (k : ℕ) (x : R) (layer : Layer D) → leaves ≤ newest.tree.start → k < length (lacked leaves (map value xs)) → x ≡ get_or xs k x → layer ≡ value x →
-        IsNext leaves (drop k (lacked leaves (map value xs))) (drop (suc k) (lacked leaves (map value xs))) layer × (layer.tree.leaves ≤ newest.tree.leaves)
+    pub older_next : (k : ℕ) (x : R) (layer : Layer D) → leaves ≤ newest.tree.start → k < length (layers_since leaves (map value xs)) → x ≡ get_or xs k x → layer ≡ value x →
+        IsNext leaves (drop k (layers_since leaves (map value xs))) (drop (suc k) (layers_since leaves (map value xs))) layer × (layer.tree.leaves ≤ newest.tree.leaves)
     older_next k x layer from lt at same =
         let newest_is = newest_next newest refl from in
-        let layers = lacked leaves (map value xs) in
+        let layers = layers_since leaves (map value xs) in
         let next = is_next leaves (drop k layers) (drop (suc k) layers) layer (chained-drop leaves layers k newest_is.chain)
-        (lacked-at value leaves xs k x lt at ∙ ap (λ l. l ∷ drop (suc k) layers) (sym same)) in
+        (since-at value leaves xs k x lt at ∙ ap (λ l. l ∷ drop (suc k) layers) (sym same)) in
         (next, omega (arith, next.high, top-drop leaves layers k newest_is.chain, newest_is.start, newest_is.whole.order))
 
     -- where none is to be put in, the leaves are the newest's
     pub none_next : newest.tree.start < leaves → leaves ≡ newest.tree.leaves
-    none_next before = sym (ap (top_of leaves) (lacked-past leaves newest (map value xs) before)) ∙ (chained leaves newest.tree.leaves (newest ∷ map value xs) linked reach).1
+    none_next before = sym (ap (top_of leaves) (since-past leaves newest (map value xs) before)) ∙ (chained leaves newest.tree.leaves (newest ∷ map value xs) linked reach).1
 
   pub same_put : (leaves : ℕ) (layers : List (Layer D)) (nodes : List D) (qs ps : List ℕ) (s t : ℕ) (ds es xs ys us vs : List D) → qs ≡ ps → s ≡ t → ds ≡ es → xs ≡ ys → us ≡ vs →
       ArePut leaves qs s ds xs layers us nodes → ArePut leaves ps t es ys layers vs nodes
@@ -302,7 +301,7 @@ module _ (shape : Shape) {D : Type 0} where
 
 -- with the layers that a tree lacks, its nodes have their new digests
 module _ (shape : Shape) (births : Births) (family : IsFamily shape births) (peaked : HasPeaks shape) {D : Type 0} (bytes : D → Bytes) (hash : Bytes → Bytes) where
-  lists-below : (n : ℕ) (layers : List (Layer D)) (new : List Bytes) (lists : List (List Bytes)) (list : List Bytes) → AreLinked shape n layers → IsHistory shape bytes hash layers (new ∷ lists) → Contains (new ∷ lists) list → length list ≤ length new
+  pub lists-below : (n : ℕ) (layers : List (Layer D)) (new : List Bytes) (lists : List (List Bytes)) (list : List Bytes) → AreLinked shape n layers → IsHistory shape bytes hash layers (new ∷ lists) → Contains (new ∷ lists) list → length list ≤ length new
   lists-below n [] new [] list linked history found =
       ⊎_elim (λ (here : new ≡ list). omega (arith, ap length here)) (λ (no : Contains [] list). absurd (omega (arith, no.1))) (first_or_other new [] list found)
   lists-below n [] new (more ∷ lists) list linked history found = absurd history
@@ -316,7 +315,7 @@ module _ (shape : Shape) (births : Births) (family : IsFamily shape births) (pea
   -- those layers lead from lists of which the tree's is one
   pub record HasPast (leaves : ℕ) (layers : List (Layer D)) (new : List Bytes) (lists : List (List Bytes)) : Type 0 where
     pub past : List (List Bytes)
-    pub history : IsHistory shape bytes hash (lacked leaves layers) (new ∷ past)
+    pub history : IsHistory shape bytes hash (layers_since leaves layers) (new ∷ past)
     pub has : (n : ℕ) (list : List Bytes) → AreLinked shape n layers → leaves ≡ length list → Contains (new ∷ lists) list → Contains (new ∷ past) list
 
   has_past : (leaves : ℕ) (layers : List (Layer D)) (new : List Bytes) (lists : List (List Bytes)) → IsHistory shape bytes hash layers (new ∷ lists) → HasPast leaves layers new lists
@@ -326,7 +325,7 @@ module _ (shape : Shape) (births : Births) (family : IsFamily shape births) (pea
   has_past leaves (layer ∷ older) new (old ∷ lists) history = ⊎_elim
       (λ (before : layer.tree.start < leaves). record {
         past = [];
-        history = subst (λ ls. IsHistory shape bytes hash ls (new ∷ [])) (sym (lacked-past leaves layer older before)) tt;
+        history = subst (λ ls. IsHistory shape bytes hash ls (new ∷ [])) (sym (since-past leaves layer older before)) tt;
         has = λ n list linked is found. ⊎_elim
             (λ (here : new ≡ list). (0, omega arith, here))
             (λ (more : Contains (old ∷ lists) list). absurd (omega (arith, lists-below layer.tree.start older old lists list linked.2 history.1 more, history.0.start)))
@@ -336,7 +335,7 @@ module _ (shape : Shape) (births : Births) (family : IsFamily shape births) (pea
       let rest = has_past leaves older old lists history.1 in
       record {
         past = old ∷ rest.past;
-        history = subst (λ ls. IsHistory shape bytes hash ls (new ∷ old ∷ rest.past)) (sym (lacked-here leaves layer older from)) (history.0, rest.history);
+        history = subst (λ ls. IsHistory shape bytes hash ls (new ∷ old ∷ rest.past)) (sym (since-here leaves layer older from)) (history.0, rest.history);
         has = λ n list linked is found. ⊎_elim
             (λ (here : new ≡ list). (0, omega arith, here))
             (λ (more : Contains (old ∷ lists) list).
@@ -353,11 +352,11 @@ module _ (shape : Shape) (births : Births) (family : IsFamily shape births) (pea
   module _ (kept : Kept D) (whole : IsWhole shape kept) (n : ℕ) (layers : List (Layer D)) (linked : AreLinked shape n layers) (new : List Bytes) (lists : List (List Bytes)) (list : List Bytes)
       (history : IsHistory shape bytes hash layers (new ∷ lists)) (found : Contains (new ∷ lists) list) (stands : Stands shape bytes hash kept list) where
     now_at : (x : Node) (o : Option D) → shape.birth x ≤ length new → (shape.birth x ≤ kept.leaves → Gives bytes o (digest_of hash shape list x)) →
-        Gives bytes (option_or (layers_at shape (lacked kept.leaves layers) (shape.position x)) o) (digest_of hash shape new x)
+        Gives bytes (option_or (layers_at shape (layers_since kept.leaves layers) (shape.position x)) o) (digest_of hash shape new x)
     now_at x o born old =
         let past = has_past kept.leaves layers new lists history in
-        read (layers_at shape (lacked kept.leaves layers) (shape.position x))
-        (layers_lead shape births family bytes hash (lacked kept.leaves layers) list new past.past past.history (past.has n list linked stands.count found) x born)
+        read (layers_at shape (layers_since kept.leaves layers) (shape.position x))
+        (layers_lead shape births family bytes hash (layers_since kept.leaves layers) list new past.past past.history (past.has n list linked stands.count found) x born)
       where
         read : (put : Option D) → MatchOption put ((shape.birth x ≤ length list) × (digest_of hash shape list x ≡ digest_of hash shape new x)) (λ d. bytes d ≡ digest_of hash shape new x) →
             Gives bytes (option_or put o) (digest_of hash shape new x)
@@ -365,7 +364,7 @@ module _ (shape : Shape) (births : Births) (family : IsFamily shape births) (pea
         read (Some d) match = ap Some match
 
     pins_now : (xs : List Node) (ds es : List D) → map bytes ds ≡ map (digest_of hash shape list) xs → length es ≡ length ds → All (λ x. shape.birth x ≤ length new) xs →
-        ((i p : ℕ) → slice_get (map shape.position xs) i ≡ Some p → slice_get es i ≡ option_or (layers_at shape (lacked kept.leaves layers) p) (slice_get ds i)) → map bytes es ≡ map (digest_of hash shape new) xs
+        ((i p : ℕ) → slice_get (map shape.position xs) i ≡ Some p → slice_get es i ≡ option_or (layers_at shape (layers_since kept.leaves layers) p) (slice_get ds i)) → map bytes es ≡ map (digest_of hash shape new) xs
     pins_now [] [] [] same long born at = refl
     pins_now [] [] (e ∷ es) same long born at = absurd (omega arith)
     pins_now [] (d ∷ ds) es same long born at = cc
@@ -379,7 +378,7 @@ module _ (shape : Shape) (births : Births) (family : IsFamily shape births) (pea
         ap₂ (λ a b. a ∷ b) (same_Some (bytes e) (digest_of hash shape new x) is) (pins_now xs ds es tail (omega arith) (λ k y lt. born (suc k) y (omega arith)) (λ i p here. at (suc i) p here))
 
     pub stands-put : (next : Kept D) → next.start ≡ kept.start → next.leaves ≡ length new → kept.leaves ≤ next.leaves →
-        ArePut shape kept.leaves (peak_positions shape kept.start) (shape.size kept.start) kept.pins kept.nodes (lacked kept.leaves layers) next.pins next.nodes → Stands shape bytes hash next new
+        ArePut shape kept.leaves (peak_positions shape kept.start) (shape.size kept.start) kept.pins kept.nodes (layers_since kept.leaves layers) next.pins next.nodes → Stands shape bytes hash next new
     stands-put next start leaves more put = record {
       count = leaves;
       pins = pins_now (peaks shape kept.start) kept.pins next.pins stands.pins put.pinned
@@ -392,6 +391,6 @@ module _ (shape : Shape) (births : Births) (family : IsFamily shape births) (pea
           let i = shape.position x - shape.size kept.start in
           let at : shape.size kept.start + i ≡ shape.position x = omega arith in
           ap (option_map bytes) (node_at-past shape next (shape.position x) past_next ∙ ap (λ m. slice_get next.nodes (shape.position x - shape.size m)) start
-          ∙ put.nodes_at i ∙ ap₂ (λ p o. option_or (layers_at shape (lacked kept.leaves layers) p) o) at (sym (node_at-past shape kept (shape.position x) past)))
+          ∙ put.nodes_at i ∙ ap₂ (λ p o. option_or (layers_at shape (layers_since kept.leaves layers) p) o) at (sym (node_at-past shape kept (shape.position x) past)))
           ∙ now_at x (node_at shape kept (shape.position x)) (omega arith) (λ early. stands.nodes x new_late early);
     }

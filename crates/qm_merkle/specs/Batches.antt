@@ -1,5 +1,5 @@
 -- Batches over a tree in memory: what a layer adds and replaces, the lists that layers lead through, and what a draft makes of a list.
-use Rattle.std.specs.Prelude.{◌≡◌, ◌⊎◌, ◌↔◌, ◌≤◌, ◌<◌, ℕ, zero, suc, ◌+◌, ◌-◌, ◌*◌, List, [], ◌∷◌, ◌++◌, length, map, Option, None, IsSome, IfSome, Contains, MatchOption, slice_get, slice_set, nat_le, nat_lt, if◌then◌else◌, ⊤}
+use Rattle.std.specs.Prelude.{◌≡◌, ◌⊎◌, ◌↔◌, ◌≤◌, ◌<◌, ℕ, zero, suc, ◌+◌, ◌-◌, ◌*◌, List, [], ◌∷◌, ◌++◌, length, map, filter, Option, None, IsSome, IfSome, Contains, MatchOption, slice_get, slice_set, nat_le, nat_lt, if◌then◌else◌, ⊤}
 use Rattle.std.specs.Option.{option_or, unwrap_or, option_map}
 use Rattle.std.specs.Ordering.{nat_cmp}
 use Rattle.std.specs.Map.{lookup}
@@ -31,6 +31,19 @@ layers_at shape (layer ∷ older) p = option_or (layer_at shape layer p) (layers
 abbrev pub stops : {D : Type 0} → ℕ → List (Layer D) → List ℕ
 stops leaves [] = leaves ∷ []
 stops leaves (layer ∷ older) = leaves ∷ stops layer.tree.start older
+
+-- of layers, the newest first, those that begin at so many leaves or later
+abbrev pub layers_since : {D : Type 0} → ℕ → List (Layer D) → List (Layer D)
+layers_since leaves [] = []
+layers_since leaves (layer ∷ older) = if nat_le leaves layer.tree.start then layer ∷ layers_since leaves older else []
+
+-- of their stops, those at so many leaves or more
+abbrev pub stops_since : ℕ → List ℕ → List ℕ
+stops_since leaves stops = filter (nat_le leaves) stops
+
+-- of lists, those with so many leaves or more
+abbrev pub lists_since : {X : Type 0} → ℕ → List (List X) → List (List X)
+lists_since leaves lists = filter (λ list. nat_le leaves (length list)) lists
 
 -- each layer's tree is whole, and begins where the older layer ends
 abbrev pub AreLinked : {D : Type 0} → Shape → ℕ → List (Layer D) → Type 0

@@ -1,4 +1,3 @@
 pub mod Batches
 pub mod Mems
 pub mod Proofs
-pub mod Putting

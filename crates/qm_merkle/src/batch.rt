@@ -6,7 +6,7 @@ ghost use Rattle.std.specs.Ordering.{nat_cmp};
 ghost use Rattle.std.specs.BTreeMap.{insert_entry};
 ghost use Rattle.qm_model.specs.Trees as trees;
 ghost use Rattle.qm_merkle.specs.Mems.{Kept, IsWhole, Stands, node_at, more};
-ghost use Rattle.qm_merkle.specs.Batches.{Layer as Part, Draft, Batch, found_at, layer_at, layers_at, all_layers, stops, Leads, IsHistory, leaves_of, replaced_from, drafted, updated, IsOver, made_at, AreThere, AreRead, AreRight, HaveOver};
+ghost use Rattle.qm_merkle.specs.Batches.{Layer as Part, Draft, Batch, found_at, layer_at, layers_at, all_layers, stops, layers_since, stops_since, lists_since, Leads, IsHistory, leaves_of, replaced_from, drafted, updated, IsOver, made_at, AreThere, AreRead, AreRight, HaveOver};
 
 use crate::family::Family;
 use crate::hasher::StandardHasher;
@@ -252,6 +252,47 @@ impl<F: Family, D: Digest> MerkleizedBatch<F, D> {
         })
     }
 
+    /// A batch that stands on this one, but on no layer that begins before so many leaves: what those add and replace is then
+    /// looked for in the tree below, which has to stand at this number of leaves or past it.
+    pub fn new_batch_since(
+        &self,
+        alloc: Global,
+        leaves: Location<F>,
+    ) -> Result<UnmerkleizedBatch<F, D>, AllocError>
+        requires { leaves ≤ self.now.newest.tree.leaves }
+        ensures draft { IfOk result (λ b. b ≡ record { start = self.now.start; base = self.now.newest.tree.leaves; layers = layers_since leaves (all_layers self.now); replaced = []; added = [] }) }
+        ensures stops { IfOk result (λ b. stops b.base b.layers ≡ stops_since leaves (stops self.now.newest.tree.leaves (all_layers self.now))) }
+        ensures history { (hash : List ℕ → List ℕ) (lists : List (List (List ℕ))) → IsHistory F.shape D.bytes hash (all_layers self.now) lists → IfOk result (λ b. IsHistory F.shape D.bytes hash b.layers (lists_since leaves lists)) }
+    {
+        Ok(UnmerkleizedBatch {
+            start: self.start,
+            base: self.leaves(),
+            layers: self.layers_since(alloc, leaves)?,
+            replaced: BTreeMap::new(alloc),
+            added: Vec::new(alloc),
+        })
+    }
+
+    // The layers of the batch that begin at so many leaves or later, the newest first.
+    fn layers_since(
+        &self,
+        alloc: Global,
+        leaves: Location<F>,
+    ) -> Result<Vec<Rc<Layer<F, D>>>, AllocError>
+        ensures { IfOk result (λ v. map (λ r. r.value) v.items ≡ layers_since leaves (all_layers self.now)) }
+    {
+        let mut layers = Vec::new(alloc);
+        if self.newest.base().get() < leaves.get() {
+            return Ok(layers);
+        }
+        layers.push(self.newest.clone()?)?;
+        let (since, _) = self.older.split_at(put::count_since(&self.older, leaves));
+        for layer in since {
+            layers.push(layer.clone()?)?;
+        }
+        Ok(layers)
+    }
+
     // The layers of the batch, the newest first.
     fn layers(&self) -> Result<Vec<Rc<Layer<F, D>>>, AllocError>
         ensures { IfOk result (λ v. map (λ r. r.value) v.items ≡ all_layers self.now) }
@@ -265,6 +306,7 @@ impl<F: Family, D: Digest> MerkleizedBatch<F, D> {
     pub fn leaves(&self) -> Location<F>
         ensures count { result ≡ self.now.newest.tree.leaves }
         ensures few { result ≤ 2 ^ 62 }
+        ensures most { All (λ n. n ≤ result) (stops self.now.newest.tree.leaves (all_layers self.now)) }
     {
         self.newest.tree.leaves()
     }

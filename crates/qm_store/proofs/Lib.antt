@@ -2,3 +2,4 @@ pub mod Leaves
 pub mod Trees
 pub mod Stores
 pub mod Shown
+pub mod Kept

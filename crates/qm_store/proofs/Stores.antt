@@ -1,13 +1,13 @@
 -- What stores keep, and what holds of what they tell.
-use Rattle.std.proofs.Common.{◌≡◌, ◌∙◌, ◌≤◌, ◌+◌, ◌-◌, ◌++◌, ℕ, List, length, take, drop, ap, sym, subst, refl, arith, append-nil, Option, Some, None, IfSome}
+use Rattle.std.proofs.Common.{◌≡◌, ◌∙◌, ◌≤◌, ◌+◌, ◌-◌, ◌++◌, ℕ, List, length, take, drop, ap, sym, subst, refl, arith, append-nil, Option, Some, None, IfSome, Result, Ok, Err, IfOk}
 use Rattle.std.proofs.lemmas.List.{take_all, drop-append-le, length-append}
 use Rattle.qm_model.specs.Operations.{Bytes}
 use Rattle.qm_model.specs.Trees.{Shape}
-use Rattle.qm_merkle.specs.Mems.{Stands}
+use Rattle.qm_merkle.specs.Mems.{Kept, Stands}
 use Rattle.qm_model.specs.Causes.{Grows}
 use Rattle.qm_store.specs.declared.Store as store
 use Rattle.qm_store.proofs.Leaves.{length-digests_from}
-use Rattle.qm_store.specs.Log.{Log, IsLog, IsKept, HasGrownPart, digests_from}
+use Rattle.qm_store.specs.Log.{Log, IsLog, IsKept, HasGrown, HasGrownPart, digests_from}
 
 -- what holds of both
 pub both : {X : Type 0} (o : Option X) {P Q R : X → Type 0} → IfSome o P → IfSome o Q → ((x : X) → P x → Q x → R x) → IfSome o R
@@ -61,3 +61,13 @@ log-grown members shape bytes hash old new list more is tree start first grows u
       (rest-grown (members.items old.store) (members.items new.store) old.tree.start (members.«end» old.store) list more (omega (arith, is.start, is.size)) (last ∙ is.size) is.items
       (subst (λ n. IfSome (members.items old.store) (λ xs. n + length xs ≡ members.«end» old.store)) (sym is.start) all) grows untold);
 }
+
+-- a log of a store that has grown, and of a tree that has its leaves
+pub log-stored : {C D E : Type 0} (members : store.Ghosts C) (shape : Shape) (bytes : D → Bytes) (hash : Bytes → Bytes) (old : Log C D) (tree : Kept D) (made : Result (Log C D) E) (list more : List Bytes) → IsLog members shape bytes hash old list →
+    Stands shape bytes hash tree (digests_from hash shape 0 (list ++ more)) → tree.start ≡ old.tree.start → IfOk made (λ log. log.tree ≡ tree) → IfOk made (λ log. HasGrown members old.store log.store more) →
+    IfOk made (λ log. members.items old.store ≡ None → members.items log.store ≡ None) → IfSome (members.items old.store) (λ xs. members.start old.store + length xs ≡ members.«end» old.store) →
+    members.«end» old.store ≡ old.tree.leaves → members.start old.store ≤ members.«end» old.store → IfOk made (λ log. IsLog members shape bytes hash log (list ++ more))
+log-stored members shape bytes hash old tree (Ok log) list more is stands start same grown untold all last order =
+    log-grown members shape bytes hash old log list more is (subst (λ t. Stands shape bytes hash t (digests_from hash shape 0 (list ++ more))) (sym same) stands) (ap (λ t. t.start) same ∙ start)
+    grown.start grown.items untold all last order
+log-stored members shape bytes hash old tree (Err e) list more is stands start same grown untold all last order = tt

@@ -5,9 +5,11 @@ ghost use Rattle.std.specs.Prelude.{◌≡◌, ℕ, ◌+◌, ◌-◌, ◌^◌, �
 ghost use Rattle.std.specs.Prelude.{Option, Some, None, IfSome, IfOk, OnOk, OnErr, IsErrOf};
 ghost use Rattle.qm_model.specs.Causes.{IsCause, Grows, GrowsPart};
 
+mod kept_tree;
 mod log;
 mod mem_store;
 
+pub use kept_tree::KeptTree;
 pub use log::{AuthLog, LogGiven, LogRefusal};
 pub use mem_store::MemStore;
 use std::alloc::{AllocError, AllocFailed};

@@ -8,19 +8,20 @@ ghost use Rattle.qm_model.specs.Causes.{IsCause, Rose, Grows, GrowsPart};
 ghost use Rattle.qm_model.specs.Trees as trees;
 ghost use Rattle.qm_model.specs.Proofs.{proof_of};
 ghost use Rattle.qm_merkle.specs.Mems.{Stands, node_at};
-ghost use Rattle.qm_merkle.specs.Batches.{all_layers, stops, IsHistory};
+ghost use Rattle.qm_merkle.specs.Batches.{all_layers, layers_since, stops, stops_since, lists_since, IsHistory};
 ghost use Rattle.qm_merkle.specs.Proofs.{proof_view, needed_positions, first_lacked, over_at};
+ghost use Rattle.qm_store.specs.KeptTrees.{IsKeptTree};
 ghost use Rattle.qm_store.specs.Log.{Log, digests_from, IsHead, IsLog, IsKept, HasGrown, HasGrownPart, store_given, IsLacked};
 
-use crate::{Store, StoreError};
+use crate::{KeptTree, Store, StoreError};
 use qm_base::{Corrupt, Digest, Error, Hasher, JournalError, Location, MerkleError};
 use qm_merkle::mem::Mem;
-use qm_merkle::{Family, MerkleizedBatch, Position, Proof, StandardHasher};
+use qm_merkle::{Family, MerkleizedBatch, Position, Proof, StandardHasher, UnmerkleizedBatch};
 use std::alloc::{AllocError, Global};
 use std::marker::Model;
 use std::num::NonZeroU64;
 
-mod shown;
+pub(crate) mod shown;
 
 impl From<StoreError> for Error {
     ghost use Rattle.qm_store.specs.Log.{log_error};
@@ -117,26 +118,56 @@ impl<F: Family, C: Store, H: Hasher + Drop> AuthLog<F, C, H> {
         ensures later { IfOk result (λ log. C.faults self.store ≤ C.faults log.store) }
     {
         let AuthLog {
-            mut store,
+            store,
             mut tree,
             mut hasher,
         } = self;
         match add_items(alloc, &mut tree, &mut hasher, items) {
-            Ok(()) => match store.append(items) {
-                Ok(()) => Ok(AuthLog {
-                    store,
-                    tree,
-                    hasher,
-                }),
-                Err(error) => Err(LogRefusal {
-                    given: LogGiven::Store(store),
-                    error: Error::from(error),
-                }),
-            },
+            Ok(()) => stored(store, tree, hasher, items),
             Err(_) => Err(LogRefusal {
                 given: LogGiven::Log(AuthLog {
                     store,
                     tree,
+                    hasher,
+                }),
+                error: Error::Memory,
+            }),
+        }
+    }
+
+    /// Puts these behind the last item, and behind the last leaf the leaves that a tree has for them: nothing is hashed. Where
+    /// memory lacks before the store is called, the log is given back as it was, and else the store.
+    pub fn append_tree(
+        self,
+        items: &[Vec<u8>],
+        tree: &KeptTree<F, H::Digest>,
+    ) -> Result<Self, LogRefusal<Self, C>>
+        requires last { C.end self.store ≡ self.tree.leaves }
+        requires reach { Contains (stops tree.now.leaves tree.now.layers) self.tree.leaves }
+        requires count { tree.now.leaves ≡ self.tree.leaves + length items.now }
+        ensures stands { (list : List (List ℕ)) (older : List (List (List ℕ))) → IsLog C.Store F.shape H.Digest.bytes H.hash self list
+            → IsKeptTree H.Digest.bytes H.hash F.shape tree.now (list ++ map (λ v. v.items) items.now) older → Contains ((list ++ map (λ v. v.items) items.now) ∷ older) list
+            → IfOk result (λ log. IsLog C.Store F.shape H.Digest.bytes H.hash log (list ++ map (λ v. v.items) items.now)) }
+        ensures start { IfOk result (λ log. log.tree.start ≡ self.tree.start) }
+        ensures size { IfOk result (λ log. log.tree.leaves ≡ self.tree.leaves + length items.now) }
+        ensures grown { IfOk result (λ log. HasGrown C.Store self.store log.store (map (λ v. v.items) items.now)) }
+        ensures part { IfErr result (λ r. HasGrownPart C.Store self.store (store_given r.given) (map (λ v. v.items) items.now)) }
+        ensures back { IfErr result (λ r. (log : Log C H.Digest) → r.given ≡ LogGiven.Log log → (log ≡ self) × (r.error ≡ Error.Memory)) }
+        ensures never { IfErr result (λ r. (r.error ≡ Error.Memory) ⊎ (r.error ≡ Error.Journal JournalError.Store)) }
+        ensures cause { IfErr result (λ r. IsCause (C.faults self.store) (C.faults (store_given r.given)) (r.error ≡ Error.Journal JournalError.Store)) }
+        ensures later { IfOk result (λ log. C.faults self.store ≤ C.faults log.store) }
+    {
+        let AuthLog {
+            store,
+            tree: mut grown,
+            hasher,
+        } = self;
+        match tree.put_into(&mut grown) {
+            Ok(()) => stored(store, grown, hasher, items),
+            Err(_) => Err(LogRefusal {
+                given: LogGiven::Log(AuthLog {
+                    store,
+                    tree: grown,
                     hasher,
                 }),
                 error: Error::Memory,
@@ -208,7 +239,35 @@ impl<F: Family, C: Store, H: Hasher + Drop> AuthLog<F, C, H> {
     {
         let size = batch.leaves().get();
         let digests = item_digests::<F, H>(alloc, &mut self.hasher, size, items)?;
-        grown_behind(alloc, &self.tree, &mut self.hasher, batch, &digests)
+        let draft = batch.new_batch(alloc)?;
+        grown_behind(alloc, &self.tree, &mut self.hasher, draft, &digests)
+    }
+
+    // The tree as these items leave it, behind the list of a batch on this tree, of whose layers it keeps those that begin at
+    // a boundary or past it. Only the items' leaves, and the nodes over these, are hashed.
+    pub(crate) fn tree_since(
+        &mut self,
+        alloc: Global,
+        batch: &MerkleizedBatch<F, H::Digest>,
+        boundary: u64,
+        items: &[Vec<u8>],
+    ) -> Result<MerkleizedBatch<F, H::Digest>, AllocError>
+        requires room { batch.now.newest.tree.leaves + length items.now ≤ 2 ^ 62 }
+        requires reach { Contains (stops batch.now.newest.tree.leaves (all_layers batch.now)) self.old.tree.leaves }
+        requires boundary { boundary ≤ self.old.tree.leaves }
+        ensures history { (list base : List (List ℕ)) (lists : List (List (List ℕ))) → IsLog C.Store F.shape H.Digest.bytes H.hash self.old list
+            → IsHistory F.shape H.Digest.bytes H.hash (all_layers batch.now) (digests_from H.hash F.shape 0 base ∷ lists) → Contains (digests_from H.hash F.shape 0 base ∷ lists) (digests_from H.hash F.shape 0 list)
+            → IfOk result (λ b. IsHistory F.shape H.Digest.bytes H.hash (all_layers b) (digests_from H.hash F.shape 0 (base ++ map (λ v. v.items) items.now) ∷ lists_since boundary (digests_from H.hash F.shape 0 base ∷ lists))) }
+        ensures leaves { IfOk result (λ b. b.newest.tree.leaves ≡ batch.now.newest.tree.leaves + length items.now) }
+        ensures start { IfOk result (λ b. b.newest.tree.start ≡ batch.now.newest.tree.leaves) }
+        ensures older { IfOk result (λ b. b.older ≡ layers_since boundary (all_layers batch.now)) }
+        ensures stops { IfOk result (λ b. stops b.newest.tree.start b.older ≡ stops_since boundary (stops batch.now.newest.tree.leaves (all_layers batch.now))) }
+        ensures same { self.new ≡ self.old }
+    {
+        let size = batch.leaves().get();
+        let digests = item_digests::<F, H>(alloc, &mut self.hasher, size, items)?;
+        let draft = batch.new_batch_since(alloc, Location::new(boundary))?;
+        grown_behind(alloc, &self.tree, &mut self.hasher, draft, &digests)
     }
 
     /// The root of the tree as a batch leaves it, the first of whose peaks are inactive.
@@ -385,6 +444,37 @@ impl<F: Family, C: Store, H: Hasher + Drop> AuthLog<F, C, H> {
         ensures { result ≡ self.store }
     {
         self.store
+    }
+}
+
+// The log of a store that gets these items, whose leaves its tree has already.
+fn stored<F: Family, C: Store, H: Hasher + Drop>(
+    store: C,
+    tree: Mem<F, H::Digest>,
+    hasher: StandardHasher<H>,
+    items: &[Vec<u8>],
+) -> Result<AuthLog<F, C, H>, LogRefusal<AuthLog<F, C, H>, C>>
+    requires start { tree.start ≡ C.start store }
+    requires size { tree.leaves ≡ C.end store + length items.now }
+    requires room { tree.leaves ≤ 2 ^ 62 }
+    ensures tree { IfOk result (λ log. log.tree ≡ tree) }
+    ensures grown { IfOk result (λ log. HasGrown C.Store store log.store (map (λ v. v.items) items.now)) }
+    ensures untold { IfOk result (λ log. C.items store ≡ None → C.items log.store ≡ None) }
+    ensures later { IfOk result (λ log. C.faults store ≤ C.faults log.store) }
+    ensures back { IfErr result (λ r. (s : C) × (r.given ≡ LogGiven.Store s) × HasGrownPart C.Store store s (map (λ v. v.items) items.now) × IsCause (C.faults store) (C.faults s) (r.error ≡ Error.Journal JournalError.Store)) }
+    ensures never { IfErr result (λ r. (r.error ≡ Error.Memory) ⊎ (r.error ≡ Error.Journal JournalError.Store)) }
+{
+    let mut store = store;
+    match store.append(items) {
+        Ok(()) => Ok(AuthLog {
+            store,
+            tree,
+            hasher,
+        }),
+        Err(error) => Err(LogRefusal {
+            given: LogGiven::Store(store),
+            error: Error::from(error),
+        }),
     }
 }
 
@@ -582,24 +672,26 @@ fn grown<F: Family, H: Hasher>(
     batch.merkleize(alloc, tree, hasher)
 }
 
-// The batch that puts leaves with these digests behind the list of a batch on a tree.
+// The batch that puts leaves with these digests behind the list that a draft over a tree stands on.
 fn grown_behind<F: Family, H: Hasher>(
     alloc: Global,
     tree: &Mem<F, H::Digest>,
     hasher: &mut StandardHasher<H>,
-    batch: &MerkleizedBatch<F, H::Digest>,
+    draft: UnmerkleizedBatch<F, H::Digest>,
     digests: &[H::Digest],
 ) -> Result<MerkleizedBatch<F, H::Digest>, AllocError>
-    requires room { batch.now.newest.tree.leaves + length digests.now ≤ 2 ^ 62 }
-    requires reach { Contains (stops batch.now.newest.tree.leaves (all_layers batch.now)) tree.now.leaves }
-    ensures leaves { IfOk result (λ b. b.newest.tree.leaves ≡ batch.now.newest.tree.leaves + length digests.now) }
-    ensures start { IfOk result (λ b. b.newest.tree.start ≡ batch.now.newest.tree.leaves) }
-    ensures older { IfOk result (λ b. b.older ≡ all_layers batch.now) }
+    requires none { draft.replaced ≡ [] }
+    requires fresh { draft.added ≡ [] }
+    requires room { draft.base + length digests.now ≤ 2 ^ 62 }
+    requires reach { Contains (stops draft.base draft.layers) tree.now.leaves }
+    ensures leaves { IfOk result (λ b. b.newest.tree.leaves ≡ draft.base + length digests.now) }
+    ensures start { IfOk result (λ b. b.newest.tree.start ≡ draft.base) }
+    ensures older { IfOk result (λ b. b.older ≡ draft.layers) }
     ensures history { (list base : List (List ℕ)) (lists : List (List (List ℕ))) → Stands F.shape H.Digest.bytes H.hash tree.now list
-        → IsHistory F.shape H.Digest.bytes H.hash (all_layers batch.now) (base ∷ lists) → Contains (base ∷ lists) list
+        → IsHistory F.shape H.Digest.bytes H.hash draft.layers (base ∷ lists) → Contains (base ∷ lists) list
         → IfOk result (λ b. IsHistory F.shape H.Digest.bytes H.hash (all_layers b) ((base ++ map H.Digest.bytes digests.now) ∷ base ∷ lists)) }
 {
-    let mut draft = batch.new_batch(alloc)?;
+    let mut draft = draft;
     draft.add_leaf_digests(digests)?;
     draft.merkleize(alloc, tree, hasher)
 }

@@ -5,8 +5,7 @@ ghost use Rattle.std.specs.Option.{option_or};
 ghost use Rattle.std.specs.Vec.{vec_capacity};
 ghost use Rattle.qm_model.specs.Trees as trees;
 ghost use Rattle.qm_merkle.specs.Mems.{IsWhole};
-ghost use Rattle.qm_merkle.specs.Batches.{found_at, layer_at, layers_at, all_layers, stops, AreLinked};
-ghost use Rattle.qm_merkle.specs.Putting.{lacked};
+ghost use Rattle.qm_merkle.specs.Batches.{found_at, layer_at, layers_at, all_layers, layers_since, stops, AreLinked};
 
 use super::{Layer, MerkleizedBatch};
 use crate::family::Family;
@@ -41,14 +40,14 @@ impl<F: Family, D: Digest> MerkleizedBatch<F, D> {
         requires size { size + length nodes.old.items ≡ trees.Shape.size F.shape leaves }
         requires room { trees.Shape.size F.shape self.now.newest.tree.leaves ≤ size + vec_capacity nodes.old }
         ensures length { length pins.new ≡ length pins.old }
-        ensures pins { (i p : ℕ) → slice_get positions.now i ≡ Some p → slice_get pins.new i ≡ option_or (layers_at F.shape (lacked leaves (all_layers self.now)) p) (slice_get pins.old i) }
+        ensures pins { (i p : ℕ) → slice_get positions.now i ≡ Some p → slice_get pins.new i ≡ option_or (layers_at F.shape (layers_since leaves (all_layers self.now)) p) (slice_get pins.old i) }
         ensures size { size + length nodes.new.items ≡ trees.Shape.size F.shape self.now.newest.tree.leaves }
-        ensures nodes { (i : ℕ) → slice_get nodes.new.items i ≡ option_or (layers_at F.shape (lacked leaves (all_layers self.now)) (size + i)) (slice_get nodes.old.items i) }
+        ensures nodes { (i : ℕ) → slice_get nodes.new.items i ≡ option_or (layers_at F.shape (layers_since leaves (all_layers self.now)) (size + i)) (slice_get nodes.old.items i) }
     {
         if self.newest.base().get() < leaves.get() {
             return;
         }
-        let mut count = lacking(&self.older, leaves);
+        let mut count = count_since(&self.older, leaves);
         while count > 0 {
             count -= 1;
             self.older[count].put(positions, pins, size, nodes);
@@ -58,9 +57,12 @@ impl<F: Family, D: Digest> MerkleizedBatch<F, D> {
 }
 
 // How many layers, from the newest on, begin at so many leaves or later.
-fn lacking<F: Family, D: Digest>(layers: &[Rc<Layer<F, D>>], leaves: Location<F>) -> usize
+pub(super) fn count_since<F: Family, D: Digest>(
+    layers: &[Rc<Layer<F, D>>],
+    leaves: Location<F>,
+) -> usize
     ensures within { result ≤ length layers.now }
-    ensures lacked { take result (map (λ r. r.value) layers.now) ≡ lacked leaves (map (λ r. r.value) layers.now) }
+    ensures since { take result (map (λ r. r.value) layers.now) ≡ layers_since leaves (map (λ r. r.value) layers.now) }
 {
     let mut count = 0;
     for layer in layers {

@@ -16,8 +16,8 @@ use qm_merkle::mem::Mem;
 use qm_merkle::{Family, MerkleizedBatch, Nodes, NodesOver, Position, Proof};
 use std::alloc::Global;
 
-// The proof of leaves that a tree is kept from, or that are behind these.
-pub(super) fn kept_proof<F: Family, D: Digest>(
+// The proof of leaves, in the tree of its first leaves.
+pub(crate) fn kept_proof<F: Family, D: Digest>(
     alloc: Global,
     tree: &Mem<F, D>,
     size: u64,
@@ -25,13 +25,14 @@ pub(super) fn kept_proof<F: Family, D: Digest>(
     start: u64,
     end: u64,
 ) -> Result<Proof<D>, Error>
-    requires from { tree.now.start ≤ start }
-    requires some { start < end }
+    requires order { start ≤ end }
     requires within { end ≤ size }
     requires size { size ≤ tree.now.leaves }
     requires inactive { inactive ≤ length (trees.peaks F.shape size) }
     ensures value { (hash : List ℕ → List ℕ) (list : List (List ℕ)) → Stands F.shape D.bytes hash tree.now list → IfOk result (λ p. proof_view D.bytes p ≡ proof_of hash F.shape (take size list) inactive start end) }
-    ensures memory { IfErr result (λ e. e ≡ Error.Memory) }
+    ensures held { OnOk result (first_lacked (node_at F.shape tree.now) (needed_positions F.shape size start end) ≡ None) }
+    ensures cause { IfErr result (IsLacked (node_at F.shape tree.now) (needed_positions F.shape size start end)) }
+    ensures whole { tree.now.start ≤ start → IfErr result (λ e. e ≡ Error.Memory) }
 {
     let (_, leaves) = tree.bounds();
     prove!(size <= leaves.get());

@@ -10,7 +10,7 @@ returns-clause-history g c = λ list base lists stands history found.
     let bytes = g.H.Digest.Digest.bytes in
     let draft = c.add_leaf_digests.new.self in
     let added = c.args.digests.now in
-    let is = c.in_ok-add_leaf_digests.ensures.ok ∙ ap (λ (d : Draft _). record d { added = d.added ++ added }) c.in_ok-draft.ensures in
+    let is = c.in_ok-add_leaf_digests.ensures.ok in
     subst (λ ds. IfOk c.merkleize.result (λ b. IsHistory shape bytes hash (all_layers b) (ds ∷ base ∷ lists)))
-    (drafted-added bytes draft base added (ap (λ (d : Draft _). d.replaced) is) (ap (λ (d : Draft _). d.added) is))
+    (drafted-added bytes draft base added (ap (λ (d : Draft _). d.replaced) is ∙ c.requires.none) (ap (λ (d : Draft _). d.added) is ∙ ap (λ ds. ds ++ added) c.requires.fresh))
     (c.merkleize.ensures.history list base lists (subst (λ (d : Draft _). IsHistory shape bytes hash d.layers (base ∷ lists)) (sym is) history) found stands)

@@ -1,8 +1,7 @@
 use Rattle.std.proofs.Common.{◌≡◌, ◌≤◌, ◌<◌, ◌∙◌, ◌-◌, ◌∷◌, suc, map, drop, ap, sym, subst, arith}
 use Rattle.std.specs.Prelude.{slice_get}
 use Rattle.std.specs.Option.{option_or}
-use Rattle.qm_merkle.specs.Batches.{all_layers, layers_at}
-use Rattle.qm_merkle.specs.Putting.{lacked}
+use Rattle.qm_merkle.specs.Batches.{all_layers, layers_at, layers_since}
 use Rattle.qm_merkle.proofs.Numbering.{sizes}
 use Rattle.qm_merkle.proofs.Putting.{ArePut, top_of, one_put, none_next, newest_next, older_next}
 use Rattle.qm_merkle.proofs.batch.MerkleizedBatch.put.Goals as goal
@@ -16,8 +15,8 @@ put-requires g c =
     from (omega (arith, c.loop-count.invariant.within)) c.index.ensures c.deref-in-loop-count.ensures in
     let last : suc (c.loop-count.count - 1) ≡ c.loop-count.count = omega arith in
     let put = c.loop-count.invariant.put in
-    let start : layer.tree.start ≡ top_of shape c.args.leaves (drop c.loop-count.count (lacked c.args.leaves (map (λ r. r.value) c.self.inside.older.items))) =
-    turn.0.start ∙ ap (λ k. top_of shape c.args.leaves (drop k (lacked c.args.leaves (map (λ r. r.value) c.self.inside.older.items)))) last in
+    let start : layer.tree.start ≡ top_of shape c.args.leaves (drop c.loop-count.count (layers_since c.args.leaves (map (λ r. r.value) c.self.inside.older.items))) =
+    turn.0.start ∙ ap (λ k. top_of shape c.args.leaves (drop k (layers_since c.args.leaves (map (λ r. r.value) c.self.inside.older.items)))) last in
     record {
       whole = turn.0.whole;
       pins = put.pinned ∙ c.requires.pins;
@@ -34,7 +33,7 @@ loop-count-preserved g c =
     let turn = older_next shape (λ r. r.value) c.self.inside.start c.self.inside.newest.value c.self.inside.older.items c.args.self.now c.self.view_is c.args.leaves c.self.invariant.1 c.requires.reach (c.loop-count.count - 1) c.index.result.now layer
     from (omega (arith, c.loop-count.invariant.within)) c.index.ensures c.deref-in-loop-count.ensures in
     let last : suc (c.loop-count.count - 1) ≡ c.loop-count.count = omega arith in
-    let layers = lacked c.args.leaves (map (λ r. r.value) c.self.inside.older.items) in
+    let layers = layers_since c.args.leaves (map (λ r. r.value) c.self.inside.older.items) in
     record {
       within = omega (arith, c.loop-count.invariant.within);
       put = one_put shape c.args.leaves c.args.positions.now c.args.size c.args.pins.now c.args.nodes.now.items (drop (c.loop-count.count - 1) layers) (drop c.loop-count.count layers) layer
@@ -50,7 +49,7 @@ put-requires-2 g c =
     let from : c.args.leaves ≤ layer.tree.start = omega (arith, c.if-get.false, c.get.ensures, c.base.ensures.start, c.get-2.ensures, ap (λ l. l.tree.start) c.deref.ensures, ap (λ l. l.tree.start) c.deref-3.ensures) in
     let turn = newest_next shape (λ r. r.value) c.self.inside.start c.self.inside.newest.value c.self.inside.older.items c.args.self.now c.self.view_is c.args.leaves c.self.invariant.1 c.requires.reach layer c.deref-3.ensures from in
     let none : c.loop-count.count ≡ 0 = omega arith in
-    let layers = lacked c.args.leaves (map (λ r. r.value) c.self.inside.older.items) in
+    let layers = layers_since c.args.leaves (map (λ r. r.value) c.self.inside.older.items) in
     let put = subst (λ k. ArePut shape c.args.leaves c.args.positions.now c.args.size c.args.pins.now c.args.nodes.now.items (drop k layers) c.loop-count.pins c.loop-count.nodes.items) none c.loop-count.invariant.put in
     record {
       whole = turn.whole;
@@ -73,8 +72,8 @@ returns-clause-pins g c = λ i p at.
     let from : c.args.leaves ≤ layer.tree.start = omega (arith, c.if-get.false, c.get.ensures, c.base.ensures.start, c.get-2.ensures, ap (λ l. l.tree.start) c.deref.ensures, ap (λ l. l.tree.start) c.deref-3.ensures) in
     let turn = newest_next shape (λ r. r.value) c.self.inside.start c.self.inside.newest.value c.self.inside.older.items c.args.self.now c.self.view_is c.args.leaves c.self.invariant.1 c.requires.reach layer c.deref-3.ensures from in
     let none : c.loop-count.count ≡ 0 = omega arith in
-    let layers = lacked c.args.leaves (map (λ r. r.value) c.self.inside.older.items) in
+    let layers = layers_since c.args.leaves (map (λ r. r.value) c.self.inside.older.items) in
     let put = subst (λ k. ArePut shape c.args.leaves c.args.positions.now c.args.size c.args.pins.now c.args.nodes.now.items (drop k layers) c.loop-count.pins c.loop-count.nodes.items) none c.loop-count.invariant.put in
-    (one_put shape c.args.leaves c.args.positions.now c.args.size c.args.pins.now c.args.nodes.now.items (lacked c.args.leaves (c.self.inside.newest.value ∷ map (λ r. r.value) c.self.inside.older.items)) layers layer
+    (one_put shape c.args.leaves c.args.positions.now c.args.size c.args.pins.now c.args.nodes.now.items (layers_since c.args.leaves (c.self.inside.newest.value ∷ map (λ r. r.value) c.self.inside.older.items)) layers layer
     c.loop-count.pins c.loop-count.nodes.items c.put-2.new.pins c.put-2.new.nodes.items turn.is put c.put-2.ensures.length c.put-2.ensures.size c.put-2.ensures.pins c.put-2.ensures.nodes).pins_at i p at
-    ∙ ap (λ b. option_or (layers_at shape (lacked c.args.leaves (all_layers b)) p) (slice_get c.args.pins.now i)) c.self.view_is
+    ∙ ap (λ b. option_or (layers_at shape (layers_since c.args.leaves (all_layers b)) p) (slice_get c.args.pins.now i)) c.self.view_is

@@ -2,8 +2,7 @@ use Rattle.std.proofs.Common.{◌≡◌, ◌∙◌, ◌++◌, Contains, length, 
 use Rattle.std.proofs.lemmas.List.Elements.{Contains-get_or}
 use Rattle.qm_model.specs.Trees.{peak_positions}
 use Rattle.qm_merkle.specs.Mems.{Kept, Stands}
-use Rattle.qm_merkle.specs.Batches.{all_layers, stops}
-use Rattle.qm_merkle.specs.Putting.{lacked}
+use Rattle.qm_merkle.specs.Batches.{all_layers, stops, layers_since}
 use Rattle.qm_merkle.proofs.Lookups.{pins_below}
 use Rattle.qm_merkle.proofs.Putting.{ArePut, chained, stops-below, written, same_put, history-count, stands-put}
 use Rattle.qm_merkle.proofs.mem.Mem.apply_batch.Given
@@ -44,7 +43,7 @@ returns-clause-stands g c = λ hash list new lists history found stands.
     let batch = c.args.batch.now in
     let bytes = g.D.Digest.bytes in
     let kept : Kept g.row.D.Denot = record { start = c.self.inside.start; leaves = c.self.inside.leaves; pins = c.self.inside.pins.items; nodes = c.self.inside.nodes.items } in
-    let lack = lacked kept.leaves (all_layers batch) in
+    let lack = layers_since kept.leaves (all_layers batch) in
     let top = chained shape kept.leaves batch.newest.tree.leaves (all_layers batch) c.room.ensures.linked (reach g c) in
     let below = stops-below shape batch.newest.tree.leaves (all_layers batch) kept.leaves c.room.ensures.linked (reach g c) in
     let put : ArePut shape kept.leaves c.deref.result.now c.get-size.result c.deref_mut.result.now c.reserve.new.self.items lack c.put.new.pins c.put.new.nodes.items = record {

@@ -1,20 +1,19 @@
 use Rattle.std.proofs.Common.{◌≡◌, map, ap, sym, subst}
 use Rattle.qm_store.specs.Log.{Log, IsLog, HasGrownPart}
-use Rattle.qm_store.proofs.Stores.{grown-none, log-grown}
+use Rattle.qm_store.proofs.Stores.{grown-none, log-stored}
 use Rattle.qm_store.proofs.log.AuthLog.append_batch.Goals as goal
 
-pub returns-in-Ok-append-clause-stands : goal.returns-in-Ok-append-clause-stands
-returns-in-Ok-append-clause-stands g c = λ list is.
+pub returns-in-Ok-clause-stands : goal.returns-in-Ok-clause-stands
+returns-in-Ok-clause-stands g c = λ list is.
     let members = g.C.Store in
     let shape = g.F.Family.shape in
     let bytes = g.H.Digest.Digest.bytes in
     let hash = g.H.Hasher.hash in
     let old : Log g.row.C.Denot g.row.H-Digest.Denot = record { store = c.self.inside.store; tree = c.self.inside.tree } in
-    let new : Log g.row.C.Denot g.row.H-Digest.Denot = record { store = c.append.new.self; tree = c.add_items.new.tree } in
     let was = subst (λ l. IsLog members shape bytes hash l list) (sym c.self.view_is) is in
     let last = subst (λ l. members.«end» l.store ≡ l.tree.leaves) (sym c.self.view_is) c.requires.last in
-    log-grown members shape bytes hash old new list (map (λ v. v.items) c.args.items.now) was (c.in-Ok.ensures.stands list was.tree) c.in-Ok.ensures.start c.append.ensures.same_start
-    c.in-Ok-append.ensures.ok c.append.ensures.untold (g.met.C.Store.told_end old.store) last (g.met.C.Store.ordered old.store)
+    log-stored members shape bytes hash old c.add_items.new.tree c.stored.result list (map (λ v. v.items) c.args.items.now) was (c.in-Ok.ensures.stands list was.tree) c.in-Ok.ensures.start
+    c.stored.ensures.tree c.stored.ensures.grown c.stored.ensures.untold (g.met.C.Store.told_end old.store) last (g.met.C.Store.ordered old.store)
 
 pub returns-in-Err-clause-part : goal.returns-in-Err-clause-part
 returns-in-Err-clause-part g c =

@@ -15,11 +15,11 @@ returns-clause-value g c = λ hash list stands.
     c.proof_from.ensures.value hash list (omega (arith, stands.count, c.requires.size))
     (tree_tells shape g.F.Family.births g.met.F.Family.numbered g.met.F.Family.peaked g.D.Digest.bytes hash c.args.tree.now list stands)
 
-pub returns-clause-memory : goal.returns-clause-memory
-returns-clause-memory g c =
+pub returns-clause-whole : goal.returns-clause-whole
+returns-clause-whole g c = λ from.
     let shape = g.F.Family.shape in
     let tree = c.args.tree.now in
     let none = needed_kept shape g.F.Family.births g.met.F.Family.numbered g.met.F.Family.peaked tree c.bounds-leaves.ensures.whole c.args.size c.args.start c.args.end
-    c.requires.from (omega (arith, c.requires.some, c.requires.within)) c.requires.size in
+    from (omega (arith, c.requires.order, c.requires.within)) c.requires.size in
     IfErr-weaker c.proof_from.result (IsLacked (node_at shape tree) (needed_positions shape c.args.size c.args.start c.args.end)) (λ e. e ≡ errors.Memory)
     (λ e lack. only_memory (node_at shape tree) (needed_positions shape c.args.size c.args.start c.args.end) e none lack) c.proof_from.ensures.cause

@@ -1,0 +1,87 @@
+-- The trees that batches keep, over a log at one of their lists.
+use Rattle.std.proofs.Common.{◌≡◌, ℕ, ◌≤◌, ◌+◌, List, [], ◌∷◌, ◌++◌, length, map, refl, sym, ◌∙◌, ap, ap₂, subst, arith, Contains, All}
+use Rattle.std.proofs.lemmas.List.{length-map, length-append}
+use Rattle.std.proofs.lemmas.List.Elements.{All-nil, All-cons, All-contains, All-weaker}
+use Rattle.qm_model.specs.Operations.{Bytes}
+use Rattle.qm_model.specs.Trees.{Shape}
+use Rattle.qm_model.proofs.Chains.{Contains-first, Contains-more}
+use Rattle.qm_merkle.specs.Batches.{Layer, stops, lists_since, IsHistory}
+use Rattle.qm_merkle.proofs.Since.{list-since, lists-since, first-since}
+use Rattle.qm_store.specs.Log.{digests_from}
+use Rattle.qm_store.specs.KeptTrees.{KeptTree, IsKeptTree, leaves_of}
+use Rattle.qm_store.proofs.Leaves.{digests_from-append, length-digests_from}
+
+-- a list of one has no other
+pub only-one : {A : Type 0} (x y : A) → Contains (x ∷ []) y → x ≡ y
+only-one x y found = All-contains (λ z. x ≡ z) (x ∷ []) y (All-cons (λ z. x ≡ z) x [] refl (All-nil (λ z. x ≡ z))) found
+
+-- with no layers there is one stop
+pub rest-stop : {D : Type 0} (leaves n : ℕ) (layers : List (Layer D)) → layers ≡ [] → Contains (stops leaves layers) n → leaves ≡ n
+rest-stop leaves n layers none reach = only-one leaves n (subst (λ l. Contains (stops leaves l) n) none reach)
+
+module _ (hash : Bytes → Bytes) (shape : Shape) where
+  -- lists of the same leaves have the same leaves with more behind them
+  behind-same : (xs ys more : List Bytes) → digests_from hash shape 0 xs ≡ digests_from hash shape 0 ys → digests_from hash shape 0 (xs ++ more) ≡ digests_from hash shape 0 (ys ++ more)
+  behind-same xs ys more same =
+      let long : length xs ≡ length ys = sym (length-digests_from hash shape 0 xs) ∙ ap length same ∙ length-digests_from hash shape 0 ys in
+      digests_from-append hash shape 0 xs more ∙ ap₂ (λ ds n. ds ++ digests_from hash shape (0 + n) more) same long ∙ sym (digests_from-append hash shape 0 ys more)
+
+  module _ {D : Type 0} (bytes : D → Bytes) where
+    -- where there are no layers there is one list
+    one-list : (leaves : List Bytes) (lists : List (List Bytes)) → IsHistory {D = D} shape bytes hash [] (leaves ∷ lists) → lists ≡ []
+    one-list leaves [] history = refl
+    one-list leaves (more ∷ lists) history = absurd history
+
+    -- so the tree of a list in it is the only one, and grows as that of any other list of the same leaves
+    pub rest-grown : (layers : List (Layer D)) (list base more : List Bytes) (lists : List (List Bytes)) (boundary : ℕ) → layers ≡ [] → boundary ≤ length list → IsHistory shape bytes hash layers (leaves_of hash shape base ∷ lists)
+        → Contains (leaves_of hash shape base ∷ lists) (leaves_of hash shape list)
+        → (leaves_of hash shape (list ++ more) ∷ leaves_of hash shape list ∷ []) ≡ (leaves_of hash shape (base ++ more) ∷ lists_since boundary (leaves_of hash shape base ∷ lists))
+    rest-grown layers list base more lists boundary none within history found =
+        let own = leaves_of hash shape base in
+        let alone = one-list own lists (subst (λ l. IsHistory shape bytes hash l (own ∷ lists)) none history) in
+        let are : own ≡ leaves_of hash shape list = only-one own (leaves_of hash shape list) (subst (λ l. Contains (own ∷ l) (leaves_of hash shape list)) alone found) in
+        let long : boundary ≤ length own = omega (arith, within, ap length are, length-digests_from hash shape 0 list) in
+        ap₂ (λ d l. d ∷ l) (behind-same list base more (sym are)) (ap (λ d. d ∷ []) (sym are) ∙ sym (first-since boundary own [] long) ∙ ap (λ l. lists_since boundary (own ∷ l)) (sym alone))
+
+    module _ (tree : KeptTree D) (list : List Bytes) (older : List (List Bytes)) (kept : IsKeptTree bytes hash shape tree list older) where
+      -- the layers lead through the leaves of each of the lists
+      pub kept-among : (log : List Bytes) → Contains (list ∷ older) log → Contains (leaves_of hash shape list ∷ kept.lists) (leaves_of hash shape log)
+      kept-among log found =
+          let own = leaves_of hash shape list in
+          let among : List Bytes → Type 0 = λ l. Contains (own ∷ kept.lists) (leaves_of hash shape l) in
+          All-contains among (list ∷ older) log (All-cons among list older (Contains-first own kept.lists) kept.through) found
+
+      -- of a tree at rest all lists have the same leaves
+      pub rest-same : (log : List Bytes) → tree.layers ≡ [] → Contains (list ∷ older) log → leaves_of hash shape log ≡ leaves_of hash shape list
+      rest-same log none found =
+          let own = leaves_of hash shape list in
+          let alone = one-list own kept.lists (subst (λ l. IsHistory shape bytes hash l (own ∷ kept.lists)) none kept.history) in
+          sym (only-one own (leaves_of hash shape log) (subst (λ l. Contains (own ∷ l) (leaves_of hash shape log)) alone (kept-among log found)))
+
+      -- a tree that leads through fewer lists
+      pub kept-fewer : (fewer : List (List Bytes)) → All (Contains older) fewer → IsKeptTree bytes hash shape tree list fewer
+      kept-fewer fewer among =
+          let through : List Bytes → Type 0 = λ l. Contains (leaves_of hash shape list ∷ kept.lists) (leaves_of hash shape l) in
+          record {
+            leaves = kept.leaves;
+            lists = kept.lists;
+            history = kept.history;
+            through = All-weaker (Contains older) through (λ l found. All-contains through older l kept.through found) fewer among;
+          }
+
+      -- the tree with items' leaves behind it, that leads through the lists of as many items as a boundary or more
+      pub kept-grown : (next : KeptTree D) (more : List Bytes) (boundary : ℕ) → next.leaves ≡ tree.leaves + length more
+          → IsHistory shape bytes hash next.layers (leaves_of hash shape (list ++ more) ∷ lists_since boundary (leaves_of hash shape list ∷ kept.lists))
+          → IsKeptTree bytes hash shape next (list ++ more) (lists_since boundary (list ∷ older))
+      kept-grown next more boundary long history =
+          let own = leaves_of hash shape list in
+          let new = leaves_of hash shape (list ++ more) in
+          let rest = lists_since boundary (own ∷ kept.lists) in
+          record {
+            leaves = omega (arith, long, kept.leaves, length-append list more);
+            lists = rest;
+            history = history;
+            through = lists-since boundary (λ l. Contains (new ∷ rest) (leaves_of hash shape l)) (list ∷ older)
+                (λ l found within. Contains-more rest new (leaves_of hash shape l)
+                (list-since boundary (own ∷ kept.lists) (leaves_of hash shape l) (kept-among l found) (omega (arith, within, length-digests_from hash shape 0 l))));
+          }

@@ -1,0 +1,26 @@
+use Rattle.std.proofs.Common.{◌≡◌, ◌++◌, map, ap, sym, subst}
+use Rattle.qm_store.specs.Log.{Log, IsLog, HasGrownPart}
+use Rattle.qm_store.specs.KeptTrees.{leaves_of}
+use Rattle.qm_store.proofs.Kept.{kept-among}
+use Rattle.qm_store.proofs.Stores.{grown-none, log-stored}
+use Rattle.qm_store.proofs.log.AuthLog.append_tree.Goals as goal
+
+pub returns-in-Ok-clause-stands : goal.returns-in-Ok-clause-stands
+returns-in-Ok-clause-stands g c = λ list older is kept found.
+    let members = g.C.Store in
+    let shape = g.F.Family.shape in
+    let bytes = g.H.Digest.Digest.bytes in
+    let hash = g.H.Hasher.hash in
+    let old : Log g.row.C.Denot g.row.H-Digest.Denot = record { store = c.self.inside.store; tree = c.self.inside.tree } in
+    let more = map (λ v. v.items) c.args.items.now in
+    let was = subst (λ l. IsLog members shape bytes hash l list) (sym c.self.view_is) is in
+    let last = subst (λ l. members.«end» l.store ≡ l.tree.leaves) (sym c.self.view_is) c.requires.last in
+    let among = kept-among hash shape bytes c.args.tree.now (list ++ more) older kept list found in
+    let stands = c.in-Ok.ensures.stands hash (leaves_of hash shape list) (leaves_of hash shape (list ++ more)) kept.lists kept.history among was.tree in
+    log-stored members shape bytes hash old c.put_into.new.tree c.stored.result list more was stands c.in-Ok.ensures.start
+    c.stored.ensures.tree c.stored.ensures.grown c.stored.ensures.untold (g.met.C.Store.told_end old.store) last (g.met.C.Store.ordered old.store)
+
+pub returns-in-Err-clause-part : goal.returns-in-Err-clause-part
+returns-in-Err-clause-part g c =
+    let more = map (λ v. v.items) c.args.items.now in
+    subst (λ s. HasGrownPart g.C.Store s c.self.inside.store more) (ap (λ l. l.store) c.self.view_is) (grown-none g.C.Store c.self.inside.store more)
