@@ -9,6 +9,12 @@ use Rattle.qm_batch.specs.Layers.{IsBase}
 use Rattle.qm_any.specs.Layouts.{Hashing, list_root}
 use Rattle.qm_any.specs.Databases.{Made, IsMade, AreLinked, bases_of, kept_by, child_boundary, child_tips, list_commitment}
 
+-- what a list has, the images have
+pub contains-mapped : {X Y : Type 0} (f : X → Y) (xs : List X) (x : X) → Contains xs x → Contains (map f xs) (f x)
+contains-mapped f [] x has = absurd (omega (arith, has.1))
+contains-mapped f (y ∷ xs) x (zero, within, is) = (0, omega arith, ap f is)
+contains-mapped f (y ∷ xs) x (suc k, within, is) = Contains-more (map f xs) (f y) (f x) (contains-mapped f xs x (k, omega arith, is))
+
 -- what a list's first elements contain, it contains
 take-contains : {A : Type 0} (n : ℕ) (xs : List A) (x : A) → Contains (take n xs) x → Contains xs x
 take-contains zero xs x (i, within, is) = absurd (omega arith)

@@ -16,7 +16,7 @@ invariant_of-new g c =
     let plan = c.args.plan in
     let tree = c.args.tree in
     let root = g.D.Digest.bytes c.args.root in
-    let meta = option_map value c.args.metadata in
+    let meta = option_map (λ m. value m.value) c.args.metadata in
     let agreed = subst AreAgreed c.parent.view_is c.parent.invariant.0 in
     let base : view (c.parent-inside.inside.0.0).tip ≡ parent.bounds.tip = ap (λ i. i.bounds.tip) c.parent-inside.view_is ∙ ap (λ m. m.bounds.tip) c.parent.view_is in
     let own : c.new-own.result ≡ record { base = parent.bounds.tip.size; operations = plan.operations; changes = plan.changes } =

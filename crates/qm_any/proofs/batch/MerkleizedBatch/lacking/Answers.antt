@@ -17,7 +17,7 @@ returns-clause-count g c =
     let agreed : AreAgreed batch = subst AreAgreed c.self.view_is c.self.invariant.0 in
     let among : Contains (size ∷ bases layers) n = Contains-later size (bases layers) n c.in_ok-fits.ensures.among in
     let lacked : map (λ l. l.value) c.unapplied_of-steps.result.now ≡ unapplied n layers =
-    c.unapplied_of-steps.ensures ∙ ap (λ ls. unapplied n (map (λ l. l.value) ls)) c.deref.ensures.value ∙ ap (λ b. unapplied n (map (λ l. l.value) b.steps.items)) c.self-inside.view_is ∙ ap (λ b. unapplied n b.layers) c.self.view_is in
+    c.unapplied_of-steps.ensures.value ∙ ap (λ ls. unapplied n (map (λ l. l.value) ls)) c.deref.ensures.value ∙ ap (λ b. unapplied n (map (λ l. l.value) b.steps.items)) c.self-inside.view_is ∙ ap (λ b. unapplied n b.layers) c.self.view_is in
     let count : length c.in_ok-items.items.items ≡ length (operations_in (unapplied n layers)) =
     sym (length-map c.in_ok-items.items.items (λ v. v.items)) ∙ ap length c.in_ok-items.ensures ∙ length-map (operations_in (map (λ l. l.value) c.unapplied_of-steps.result.now)) (spelling g.U.Update.form) ∙ ap (λ ls. length (operations_in ls)) lacked in
-    ap (λ k. n + k) count ∙ joined-counts size n layers agreed.joined among ∙ sym (ap (λ b. b.bounds.tip.size) c.self-inside.view_is ∙ ap (λ b. b.bounds.tip.size) c.self.view_is)
+    ap (λ k. n + k) count ∙ joined-counts size n layers agreed.joined among
