@@ -17,7 +17,7 @@ use Rattle.qm_model.specs.Writes.{Write, write_of, last_writes, unordered_writes
 use Rattle.qm_model.proofs.Maps.{same_key}
 use Rattle.qm_index.specs.Buckets.{bucket_at}
 use Rattle.qm_batch.specs.Changes.{place_in, stands_at, update_at, update_from, said_by}
-use Rattle.qm_batch.specs.Layers.{Layer, LeadThrough, IsBase}
+use Rattle.qm_batch.specs.Layers.{Layer, LeadThrough, LeadOver}
 use Rattle.qm_batch.specs.Lent.{IsIndexed}
 use Rattle.qm_batch.specs.PlanViews.{keyed}
 use Rattle.qm_batch.specs.Touches.{is_there, live_update_at, moved_touch, IsMoveAt}
@@ -107,7 +107,7 @@ match-shown f None o at_base at_lent same h = subst (λ o. MatchOption o (at_bas
 match-shown f (Some x) o at_base at_lent same h = subst (λ o. MatchOption o (at_base ≡ at_lent) (λ op. at_base ≡ Some op)) (sym same) h
 
 -- a location is in its bucket where the key of the update there stands there
-module _ (index_key : Bytes → ℕ) (entries : List (ℕ × List ℕ)) (layers : List Layer) (lent base : List Operation) (indexed : IsIndexed index_key entries lent) (from : IsBase layers lent base)
+module _ (index_key : Bytes → ℕ) (entries : List (ℕ × List ℕ)) (layers : List Layer) (lent base : List Operation) (indexed : IsIndexed index_key entries lent) (from : LeadOver layers lent base)
     (key value : Bytes) (next : Option Bytes) (at : ℕ) (is : update_at base at ≡ Some (update key value next)) where
   within-lent : (said : Operation) → update_at lent at ≡ Some said → said ≡ update key value next
   within-lent said h =

@@ -2,12 +2,14 @@
 #![tactic(auto)]
 
 pub mod apply;
+pub mod base;
 pub mod layer;
 pub mod plan;
 pub mod read;
 pub mod write;
 
 pub use apply::apply_diffs;
+pub use base::Base;
 pub use layer::Layer;
 pub use plan::{Plan, plain};
 pub use read::{read_key, read_keys};

@@ -6,7 +6,7 @@ ghost use Rattle.qm_base.specs.Views.{operation_view};
 ghost use Rattle.qm_model.specs.Live as lives;
 ghost use Rattle.qm_model.specs.Operations as model;
 ghost use Rattle.qm_model.specs.Step.{committed};
-ghost use Rattle.qm_batch.specs.Layers.{IsBase};
+ghost use Rattle.qm_batch.specs.Bases.{base_view, IsBase};
 ghost use Rattle.qm_batch.specs.Lent.{IsLent, IsRead, IsReadError, NoneBelow};
 ghost use Rattle.qm_batch.specs.PlanViews.{touch_views, unordered_touches, AreOwn};
 ghost use Rattle.qm_batch.specs.Touches.{IsFrom, operations_of};
@@ -21,7 +21,7 @@ use self::diff::diff_of_touches;
 use self::touch::Touch;
 use self::walk::walk_from;
 use self::writes::{find_sites, last_writes, written};
-use crate::layer::Layer;
+use crate::base::Base;
 use crate::write::Write;
 use qm_base::update::{Unordered, Update};
 use qm_base::{ByteString, Error, Hasher, JournalError, Location, Operation, ValueEncoding};
@@ -30,7 +30,6 @@ use qm_merkle::Family;
 use qm_store::{AuthLog, Store};
 use std::alloc::{AllocError, Global};
 use std::marker::Model;
-use std::rc::Rc;
 
 /// What a batch makes of its base list.
 #[derive(Drop)]
@@ -114,7 +113,6 @@ fn append<F, U: Update>(
 
 // The own operations of a step, found over its base list: those of the writes, and the moves of a walk that may move
 // one live update more than the writes made inactive.
-#[allow(clippy::too_many_arguments)]
 fn own_operations<
     F: Family,
     I: qm_index::Unordered<Value = Location<F>>,
@@ -126,32 +124,26 @@ fn own_operations<
     alloc: Global,
     index: &I,
     log: &mut AuthLog<F, C, H>,
-    layers: &[Rc<Layer<F, Unordered<K, V>>>],
-    size: u64,
-    floor: u64,
-    live: u64,
+    base: &Base<'_, F, Unordered<K, V>>,
     writes: &[Write<K, V::Value>],
 ) -> Result<Own<F, Unordered<K, V>>, Error>
-    requires size { size ≤ 2 ^ 62 }
-    requires live { live ≤ size }
-    ensures own { (lent base : List model.Operation) → IsLent C.Store F.shape H.Digest.bytes H.hash ⟦<Unordered<K, V> as Update>⟧.form I.index_key (I.entries index.now) log.old lent → IsBase (map (λ l. l.value) layers.now) lent base
-        → size ≡ length base → floor ≡ lives.floor base → live ≡ length (lives.live base)
-        → IfSome (C.items log.old.store) (λ _. IfOk result (λ own. AreOwn (unordered_touches K.bytes V.Value.bytes own.touches.items) own.live own.floor base (map (write_view K.bytes V.Value.bytes) writes.now))) }
-    ensures count { IfOk result (λ own. own.live ≤ size + length own.touches.items) }
+    requires size { base.now.size ≤ 2 ^ 62 }
+    requires live { base.now.live ≤ base.now.size }
+    ensures own { (lent list : List model.Operation) → IsLent C.Store F.shape H.Digest.bytes H.hash ⟦<Unordered<K, V> as Update>⟧.form I.index_key (I.entries index.now) log.old lent → IsBase (base_view base.now) lent list
+        → IfSome (C.items log.old.store) (λ _. IfOk result (λ own. AreOwn (unordered_touches K.bytes V.Value.bytes own.touches.items) own.live own.floor list (map (write_view K.bytes V.Value.bytes) writes.now))) }
+    ensures count { IfOk result (λ own. own.live ≤ base.now.size + length own.touches.items) }
     ensures read { IsRead C.Store F.shape H.Digest.bytes H.hash log.old log.new }
     ensures error { IfErr result (IsReadError C.Store log.old log.new) }
     ensures whole { (lent : List model.Operation) → IsLent C.Store F.shape H.Digest.bytes H.hash ⟦<Unordered<K, V> as Update>⟧.form I.index_key (I.entries index.now) log.old lent → NoneBelow log.old.tree.start lent
-        → log.old.tree.start ≤ floor → IfErr result (λ e. (n : ℕ) → e ≢ Error.Journal (JournalError.ItemPruned n)) }
+        → log.old.tree.start ≤ base.now.floor → IfErr result (λ e. (n : ℕ) → e ≢ Error.Journal (JournalError.ItemPruned n)) }
 {
     let last = last_writes(alloc, writes)?;
-    let sites = find_sites(alloc, index, log, layers, &last)?;
+    let sites = find_sites(alloc, index, log, base.layers, &last)?;
     let mut touches = written(alloc, &sites)?;
-    let behind = live_behind(&touches, live);
-    let inactive = (touches.len() as u64 + live).saturating_sub(behind);
+    let behind = live_behind(&touches, base.live);
+    let inactive = (touches.len() as u64 + base.live).saturating_sub(behind);
     let entries = inactive.saturating_add(1);
-    let walked = walk_from(
-        alloc, index, log, layers, &last, &touches, size, floor, entries,
-    )?;
+    let walked = walk_from(alloc, index, log, base, &last, &touches, entries)?;
     append(&mut touches, walked.moves)?;
     Ok(Own {
         touches,
@@ -209,9 +201,8 @@ fn planned<F, U: Update>(
 
 /// What writes and metadata make of the base list of a batch: the operations of the writes, then the live updates that
 /// are moved, one more than the writes made inactive, then a commit. Index and log are lent for the base list or a list
-/// on the way to it; `size`, `floor` and `live` are the base list's size, floor and count of live keys. Each write takes
-/// one look-up; each location that is walked over takes one read, where no layer has it.
-#[allow(clippy::too_many_arguments)]
+/// on the way to it. Each write takes one look-up; each location that is walked over takes one read, where no layer has
+/// it.
 pub fn plain<
     F: Family,
     I: qm_index::Unordered<Value = Location<F>>,
@@ -223,26 +214,22 @@ pub fn plain<
     alloc: Global,
     index: &I,
     log: &mut AuthLog<F, C, H>,
-    layers: &[Rc<Layer<F, Unordered<K, V>>>],
-    size: u64,
-    floor: Location<F>,
-    live: u64,
+    base: &Base<'_, F, Unordered<K, V>>,
     writes: &[Write<K, V::Value>],
     metadata: Option<V::Value>,
 ) -> Result<Plan<F, Unordered<K, V>>, Error>
-    requires size { size ≤ 2 ^ 62 }
-    requires live { live ≤ size }
-    ensures plan { (lent base : List model.Operation) → IsLent C.Store F.shape H.Digest.bytes H.hash ⟦<Unordered<K, V> as Update>⟧.form I.index_key (I.entries index.now) log.old lent → IsBase (map (λ l. l.value) layers.now) lent base
-        → size ≡ length base → floor ≡ lives.floor base → live ≡ length (lives.live base)
-        → IfSome (C.items log.old.store) (λ _. IfOk result (λ plan. IsPlan plan base (stepped base (map (write_view K.bytes V.Value.bytes) writes.now) (option_map V.Value.bytes metadata)))) }
-    ensures live { IfOk result (λ plan. plan.live ≤ size + length plan.operations) }
+    requires size { base.now.size ≤ 2 ^ 62 }
+    requires live { base.now.live ≤ base.now.size }
+    ensures plan { (lent list : List model.Operation) → IsLent C.Store F.shape H.Digest.bytes H.hash ⟦<Unordered<K, V> as Update>⟧.form I.index_key (I.entries index.now) log.old lent → IsBase (base_view base.now) lent list
+        → IfSome (C.items log.old.store) (λ _. IfOk result (λ plan. IsPlan plan list (stepped list (map (write_view K.bytes V.Value.bytes) writes.now) (option_map V.Value.bytes metadata)))) }
+    ensures live { IfOk result (λ plan. plan.live ≤ base.now.size + length plan.operations) }
     ensures read { IsRead C.Store F.shape H.Digest.bytes H.hash log.old log.new }
     ensures error { IfErr result (IsReadError C.Store log.old log.new) }
     ensures whole { (lent : List model.Operation) → IsLent C.Store F.shape H.Digest.bytes H.hash ⟦<Unordered<K, V> as Update>⟧.form I.index_key (I.entries index.now) log.old lent → NoneBelow log.old.tree.start lent
-        → log.old.tree.start ≤ floor → IfErr result (λ e. (n : ℕ) → e ≢ Error.Journal (JournalError.ItemPruned n)) }
+        → log.old.tree.start ≤ base.now.floor → IfErr result (λ e. (n : ℕ) → e ≢ Error.Journal (JournalError.ItemPruned n)) }
 {
-    match own_operations(alloc, index, log, layers, size, floor.get(), live, writes) {
-        Ok(own) => Ok(planned(alloc, size, own, metadata)?),
+    match own_operations(alloc, index, log, base, writes) {
+        Ok(own) => Ok(planned(alloc, base.size, own, metadata)?),
         Err(error) => Err(error),
     }
 }

@@ -11,7 +11,8 @@ ghost use Rattle.qm_model.specs.Walk as walks;
 ghost use Rattle.qm_model.specs.Writes.{last_writes, unordered_writes, Write};
 ghost use Rattle.qm_batch.specs.Changes.{said_by, stands_at, update_at};
 ghost use Rattle.qm_store.specs.Log.{IsLog};
-ghost use Rattle.qm_batch.specs.Layers.{IsBase};
+ghost use Rattle.qm_batch.specs.Bases.{base_view, IsBase};
+ghost use Rattle.qm_batch.specs.Layers.{LeadOver};
 ghost use Rattle.qm_batch.specs.Lent.{IsIndexed, IsLent, IsRead, IsReadError};
 ghost use Rattle.qm_batch.specs.PlanViews.{keyed, last_view, touch_view, touch_views, unordered_touches};
 ghost use Rattle.qm_batch.specs.Touches.{is_there, moved_touch, written_touches, AreMoves, IsMoveAt};
@@ -19,6 +20,7 @@ ghost use Rattle.qm_batch.specs.Views.{change_view};
 
 use super::touch::Touch;
 use super::writes::Last;
+use crate::base::Base;
 use crate::layer::Layer;
 use crate::read::{newest, read_update, twin_update};
 use qm_base::update::{Unordered, Update};
@@ -38,7 +40,7 @@ pub(crate) struct Walked<F, U: Update> {
 
 // The operation at a location of the base list, where a layer has it; else the list that is lent has the same there.
 fn in_layers<F, U: Update>(layers: &[Rc<Layer<F, U>>], at: u64) -> Option<&Operation<F, U>>
-    ensures { (lent base : List model.Operation) → IsBase (map (λ l. l.value) layers.now) lent base → at < length base
+    ensures { (lent base : List model.Operation) → LeadOver (map (λ l. l.value) layers.now) lent base → at < length base
         → MatchOption result (slice_get base at ≡ slice_get lent at) (λ op. slice_get base at ≡ Some (operation_view U.view U.Key.bytes U.Value.bytes op.now)) }
 {
     for layer in layers {
@@ -56,7 +58,7 @@ fn update_in_base<F: Family, C: Store, H: Hasher + Drop, U: Update>(
     layers: &[Rc<Layer<F, U>>],
     at: u64,
 ) -> Result<Option<U>, Error>
-    ensures value { (lent base : List model.Operation) → IsLog C.Store F.shape H.Digest.bytes H.hash log.old (map (spelling U.form) lent) → All (IsOf U.form) lent → IsBase (map (λ l. l.value) layers.now) lent base → at < length base
+    ensures value { (lent base : List model.Operation) → IsLog C.Store F.shape H.Digest.bytes H.hash log.old (map (spelling U.form) lent) → All (IsOf U.form) lent → LeadOver (map (λ l. l.value) layers.now) lent base → at < length base
         → IfSome (C.items log.old.store) (λ _. IfOk result (λ update. option_map U.view update ≡ update_at base at)) }
     ensures read { IsRead C.Store F.shape H.Digest.bytes H.hash log.old log.new }
     ensures error { IfErr result (IsReadError C.Store log.old log.new) }
@@ -97,7 +99,7 @@ fn is_live_there<F, I: qm_index::Unordered<Value = Location<F>>, U: Update>(
     key: &U::Key,
     at: u64,
 ) -> bool
-    ensures { (lent base : List model.Operation) (value : model.Bytes) (next : Option model.Bytes) → IsIndexed I.index_key (I.entries index.now) lent → IsBase (map (λ l. l.value) layers.now) lent base
+    ensures { (lent base : List model.Operation) (value : model.Bytes) (next : Option model.Bytes) → IsIndexed I.index_key (I.entries index.now) lent → LeadOver (map (λ l. l.value) layers.now) lent base
         → update_at base at ≡ Some (update (U.Key.bytes key.now) value next) → result ≡ is_there (stands_at base (U.Key.bytes key.now)) at }
 {
     match newest(layers, key.as_bytes()) {
@@ -121,7 +123,7 @@ fn unwritten_at<
     last: &Last<'_, U::Key, U::Value>,
     at: u64,
 ) -> Result<Option<U>, Error>
-    ensures value { (lent base : List model.Operation) (ws : List Write) → IsLent C.Store F.shape H.Digest.bytes H.hash U.form I.index_key (I.entries index.now) log.old lent → IsBase (map (λ l. l.value) layers.now) lent base → at < length base
+    ensures value { (lent base : List model.Operation) (ws : List Write) → IsLent C.Store F.shape H.Digest.bytes H.hash U.form I.index_key (I.entries index.now) log.old lent → LeadOver (map (λ l. l.value) layers.now) lent base → at < length base
         → map (last_view U.Key.bytes U.Value.bytes) last.now.entries ≡ map keyed (last_writes ws)
         → IfSome (C.items log.old.store) (λ _. IfOk result (λ found. IsMoveAt (option_map (λ u. moved_touch (at, U.view u)) found) base (base ++ unordered_writes base ws) at)) }
     ensures read { IsRead C.Store F.shape H.Digest.bytes H.hash log.old log.new }
@@ -162,7 +164,6 @@ fn again<F, U: Update>(
 }
 
 // The move of the live update at a location of the base list and the operations of writes behind it.
-#[allow(clippy::too_many_arguments)]
 fn move_at<
     F: Family,
     I: qm_index::Unordered<Value = Location<F>>,
@@ -173,26 +174,25 @@ fn move_at<
     alloc: Global,
     index: &I,
     log: &mut AuthLog<F, C, H>,
-    layers: &[Rc<Layer<F, U>>],
+    base: &Base<'_, F, U>,
     last: &Last<'_, U::Key, U::Value>,
     made: &[Touch<F, U>],
-    size: u64,
     at: u64,
 ) -> Result<Option<Touch<F, U>>, Error>
-    ensures value { (lent base : List model.Operation) (ws : List Write) → IsLent C.Store F.shape H.Digest.bytes H.hash U.form I.index_key (I.entries index.now) log.old lent → IsBase (map (λ l. l.value) layers.now) lent base → size ≡ length base
-        → map (last_view U.Key.bytes U.Value.bytes) last.now.entries ≡ map keyed (last_writes ws) → touch_views U.view U.Key.bytes U.Value.bytes made.now ≡ written_touches base (last_writes ws)
-        → IfSome (C.items log.old.store) (λ _. IfOk result (λ moved. IsMoveAt (option_map (touch_view U.view U.Key.bytes U.Value.bytes) moved) base (base ++ unordered_writes base ws) at)) }
+    ensures value { (lent list : List model.Operation) (ws : List Write) → IsLent C.Store F.shape H.Digest.bytes H.hash U.form I.index_key (I.entries index.now) log.old lent → IsBase (base_view base.now) lent list
+        → map (last_view U.Key.bytes U.Value.bytes) last.now.entries ≡ map keyed (last_writes ws) → touch_views U.view U.Key.bytes U.Value.bytes made.now ≡ written_touches list (last_writes ws)
+        → IfSome (C.items log.old.store) (λ _. IfOk result (λ moved. IsMoveAt (option_map (touch_view U.view U.Key.bytes U.Value.bytes) moved) list (list ++ unordered_writes list ws) at)) }
     ensures read { IsRead C.Store F.shape H.Digest.bytes H.hash log.old log.new }
     ensures error { IfErr result (IsReadError C.Store log.old log.new) }
     ensures pruned { log.old.tree.start ≤ at → IfErr result (λ e. (n : ℕ) → e ≢ Error.Journal (JournalError.ItemPruned n)) }
 {
-    if size <= at {
-        return match made.get((at - size) as usize) {
+    if base.size <= at {
+        return match made.get((at - base.size) as usize) {
             Some(touch) => Ok(again(alloc, touch)?),
             None => Ok(None),
         };
     }
-    match unwritten_at(alloc, index, log, layers, last, at)? {
+    match unwritten_at(alloc, index, log, base.layers, last, at)? {
         Some(update) => Ok(Some(Touch {
             operation: Operation::Update(update),
             before: Some(at),
@@ -221,7 +221,6 @@ fn add_move<F, U: Update>(
 }
 
 /// Walks from the floor on, to the end of the operations of writes at most, and moves so many live updates at most.
-#[allow(clippy::too_many_arguments)]
 pub(crate) fn walk_from<
     F: Family,
     I: qm_index::Unordered<Value = Location<F>>,
@@ -233,30 +232,29 @@ pub(crate) fn walk_from<
     alloc: Global,
     index: &I,
     log: &mut AuthLog<F, C, H>,
-    layers: &[Rc<Layer<F, Unordered<K, V>>>],
+    base: &Base<'_, F, Unordered<K, V>>,
     last: &Last<'_, K, V::Value>,
     made: &[Touch<F, Unordered<K, V>>],
-    size: u64,
-    floor: u64,
     entries: u64,
 ) -> Result<Walked<F, Unordered<K, V>>, Error>
-    requires { size ≤ 2 ^ 62 }
-    ensures value { (lent base : List model.Operation) (ws : List Write) → IsLent C.Store F.shape H.Digest.bytes H.hash ⟦<Unordered<K, V> as Update>⟧.form I.index_key (I.entries index.now) log.old lent → IsBase (map (λ l. l.value) layers.now) lent base → size ≡ length base
-        → map (last_view K.bytes V.Value.bytes) last.now.entries ≡ map keyed (last_writes ws) → unordered_touches K.bytes V.Value.bytes made.now ≡ written_touches base (last_writes ws)
-        → IfSome (C.items log.old.store) (λ _. IfOk result (λ walked. AreMoves (unordered_touches K.bytes V.Value.bytes walked.moves.items) walked.floor base
-        (walks.walk policies (base ++ unordered_writes base ws) floor (record { entries = entries; skips = 2 ^ 64 - 1 }) proportional))) }
+    requires { base.now.size ≤ 2 ^ 62 }
+    ensures value { (lent list : List model.Operation) (ws : List Write) → IsLent C.Store F.shape H.Digest.bytes H.hash ⟦<Unordered<K, V> as Update>⟧.form I.index_key (I.entries index.now) log.old lent → IsBase (base_view base.now) lent list
+        → map (last_view K.bytes V.Value.bytes) last.now.entries ≡ map keyed (last_writes ws) → unordered_touches K.bytes V.Value.bytes made.now ≡ written_touches list (last_writes ws)
+        → IfSome (C.items log.old.store) (λ _. IfOk result (λ walked. AreMoves (unordered_touches K.bytes V.Value.bytes walked.moves.items) walked.floor list
+        (walks.walk policies (list ++ unordered_writes list ws) base.now.floor (record { entries = entries; skips = 2 ^ 64 - 1 }) proportional))) }
     ensures read { IsRead C.Store F.shape H.Digest.bytes H.hash log.old log.new }
     ensures error { IfErr result (IsReadError C.Store log.old log.new) }
-    ensures pruned { log.old.tree.start ≤ floor → IfErr result (λ e. (n : ℕ) → e ≢ Error.Journal (JournalError.ItemPruned n)) }
+    ensures pruned { log.old.tree.start ≤ base.now.floor → IfErr result (λ e. (n : ℕ) → e ≢ Error.Journal (JournalError.ItemPruned n)) }
 {
-    let end = size + made.len() as u64;
+    let floor = base.floor.get();
+    let end = base.size + made.len() as u64;
     let mut entries = entries;
     let mut moves = Vec::new(alloc);
     for at in floor..end {
         if entries == 0 {
             return Ok(Walked { moves, floor: at });
         }
-        let moved = move_at(alloc, index, log, layers, last, made, size, at)?;
+        let moved = move_at(alloc, index, log, base, last, made, at)?;
         entries = add_move(&mut moves, moved, entries)?;
     }
     Ok(Walked {

@@ -6,7 +6,7 @@ ghost use Rattle.std.specs.Ordering.{nat_cmp};
 ghost use Rattle.qm_model.specs.Live.{live};
 ghost use Rattle.qm_model.specs.Operations as operations;
 ghost use Rattle.qm_model.specs.Writes as model;
-ghost use Rattle.qm_batch.specs.Layers.{IsBase};
+ghost use Rattle.qm_batch.specs.Layers.{LeadOver};
 ghost use Rattle.qm_batch.specs.Lent.{IsLent, IsRead, IsReadError, NoneBelow};
 ghost use Rattle.qm_batch.specs.PlanViews.{keyed, last_view, located_views, site_in, site_view, touch_view, touch_views, unordered_touch, unordered_touches, unordered_view};
 ghost use Rattle.qm_batch.specs.Touches.{rewrite_here, moved_touch, new_touch, written_touches};
@@ -78,7 +78,7 @@ pub(crate) fn find_sites<
     layers: &[Rc<Layer<F, U>>],
     last: &Last<'a, U::Key, U::Value>,
 ) -> Result<Vec<Site<'a, U::Key, U::Value>>, Error>
-    ensures value { (lent base : List operations.Operation) → IsLent C.Store F.shape H.Digest.bytes H.hash U.form I.index_key (I.entries index.now) log.old lent → IsBase (map (λ l. l.value) layers.now) lent base
+    ensures value { (lent base : List operations.Operation) → IsLent C.Store F.shape H.Digest.bytes H.hash U.form I.index_key (I.entries index.now) log.old lent → LeadOver (map (λ l. l.value) layers.now) lent base
         → IfSome (C.items log.old.store) (λ _. IfOk result (λ sites. map (site_view U.Key.bytes U.Value.bytes) sites.items ≡ map (λ e. site_in base (write_view U.Key.bytes U.Value.bytes e.1.now)) last.now.entries)) }
     ensures read { IsRead C.Store F.shape H.Digest.bytes H.hash log.old log.new }
     ensures error { IfErr result (IsReadError C.Store log.old log.new) }

@@ -35,7 +35,7 @@ pub returns-clause-read : goal.returns-clause-read
 returns-clause-read g c = read-then g.C.Store g.F.Family.shape g.H.Digest.Digest.bytes g.H.Hasher.hash c.args.log.now c.find_sites.new.log c.walk_from.new.log c.find_sites.ensures.read c.walk_from.ensures.read
 
 pub returns-clause-own : goal.returns-clause-own
-returns-clause-own g c = λ lent base is from size floor all.
+returns-clause-own g c = λ lent base is from.
     let key = g.K.ByteString.bytes in
     let value = g.V.Value.ByteString.bytes in
     let view = unordered_touch key value in
@@ -50,13 +50,13 @@ returns-clause-own g c = λ lent base is from size floor all.
     ap (count_by (λ t. is_some t.before)) c.deref-2.ensures.value ∙ count-shown (λ (t : Touch). is_some t.before) view touches in
     let new : count_by (λ t. is_update (view t).operation) c.deref-2.result.now ≡ count_by (λ (t : Touch). is_update t.operation) (map view touches) =
     ap (count_by (λ t. is_update (view t).operation)) c.deref-2.ensures.value ∙ count-shown (λ (t : Touch). is_update t.operation) view touches in
-    let count : behind ≡ c.args.live - count_by (λ (t : Touch). is_some t.before) (map view touches) + count_by (λ (t : Touch). is_update t.operation) (map view touches) =
-    c.live_behind-behind.ensures.value ∙ ap₂ (λ a b. c.args.live - a + b) stood new in
-    let limit : entries ≡ min (length (map view touches) + c.args.live - behind + 1) (2 ^ 64 - 1) =
+    let count : behind ≡ c.args.base.now.live - count_by (λ (t : Touch). is_some t.before) (map view touches) + count_by (λ (t : Touch). is_update t.operation) (map view touches) =
+    c.live_behind-behind.ensures.value ∙ ap₂ (λ a b. c.args.base.now.live - a + b) stood new in
+    let limit : entries ≡ min (length (map view touches) + c.args.base.now.live - behind + 1) (2 ^ 64 - 1) =
     omega (arith, c.saturating_add-entries.ensures, c.saturating_sub-inactive.ensures, c.len.ensures, c.in_ok-touches.touches.ok.0, length-map touches view) in
-    told-then _ _ items (c.in_ok-sites.ensures.value lent base is from) (λ sites.
+    told-then _ _ items (c.in_ok-sites.ensures.value lent base is from.leads) (λ sites.
     let made = c.in_ok-touches.ensures base ws (ap (map _) c.deref.ensures.value ∙ sites ∙ sites-last (last_view key value) base c.in_ok-last.last.entries (last_writes ws) c.in_ok-last.ensures) in
-    told-one _ _ items (told _ _ _ read.kept.items (c.in_ok-walked.ensures.value lent base ws mid from size c.in_ok-last.ensures (ap (map view) c.deref-3.ensures.value ∙ made))) (λ are.
+    told-one _ _ items (told _ _ _ read.kept.items (c.in_ok-walked.ensures.value lent base ws mid from c.in_ok-last.ensures (ap (map view) c.deref-3.ensures.value ∙ made))) (λ are.
     subst (λ (ts : List Touch). AreOwn ts behind c.in_ok-walked.walked.floor base ws) (sym (ap (map view) c.in_ok-append.ensures ∙ map-append view touches c.in_ok-walked.walked.moves.items))
-    (are-own base ws (map view touches) (map view c.in_ok-walked.walked.moves.items) c.args.live behind c.in_ok-walked.walked.floor entries made all count limit
-    (subst (λ n. AreMoves (map view c.in_ok-walked.walked.moves.items) c.in_ok-walked.walked.floor base (walk policies (base ++ unordered_writes base ws) n (record { entries = entries; skips = 2 ^ 64 - 1 }) proportional)) floor are))))
+    (are-own base ws (map view touches) (map view c.in_ok-walked.walked.moves.items) c.args.base.now.live behind c.in_ok-walked.walked.floor entries made from.live count limit
+    (subst (λ n. AreMoves (map view c.in_ok-walked.walked.moves.items) c.in_ok-walked.walked.floor base (walk policies (base ++ unordered_writes base ws) n (record { entries = entries; skips = 2 ^ 64 - 1 }) proportional)) from.floor are))))

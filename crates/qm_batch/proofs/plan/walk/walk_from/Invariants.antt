@@ -4,7 +4,7 @@ use Rattle.qm_model.specs.Operations.{Operation}
 use Rattle.qm_model.specs.Policies.{policies, proportional}
 use Rattle.qm_model.specs.Walk as walks
 use Rattle.qm_model.specs.Writes.{Write, last_writes, unordered_writes}
-use Rattle.qm_batch.specs.Layers.{IsBase}
+use Rattle.qm_batch.specs.Bases.{base_view, IsBase}
 use Rattle.qm_batch.specs.Lent.{IsLent, IsRead}
 use Rattle.qm_batch.specs.PlanViews.{keyed, last_view, unordered_form, unordered_touches}
 use Rattle.qm_batch.specs.Touches.{written_touches}
@@ -17,10 +17,10 @@ invariant-loop-at g l =
     let value = g.V.Value.ByteString.bytes in
     record {
       read : IsRead g.C.Store g.F.Family.shape g.H.Digest.Digest.bytes g.H.Hasher.hash l.initial.log l.log;
-      low : l.floor ≤ l.at;
-      high : l.at ≤ max l.floor (l.size + length l.made);
+      low : l.base.floor ≤ l.at;
+      high : l.at ≤ max l.base.floor (l.base.size + length l.made);
       value : (lent base : List Operation) (ws : List Write) → IsLent g.C.Store g.F.Family.shape g.H.Digest.Digest.bytes g.H.Hasher.hash (unordered_form g.K.ByteString.has g.V.Value.ByteString.has g.V.ValueEncoding.fixed) g.I.Unordered.index_key (g.I.Unordered.entries l.index) l.initial.log lent →
-          IsBase (map (λ l. l.value) l.layers) lent base → l.size ≡ length base → map (last_view key value) l.last.entries ≡ map keyed (last_writes ws) → unordered_touches key value l.made ≡ written_touches base (last_writes ws) →
+          IsBase (base_view l.base) lent base → map (last_view key value) l.last.entries ≡ map keyed (last_writes ws) → unordered_touches key value l.made ≡ written_touches base (last_writes ws) →
           IfSome (g.C.Store.items l.initial.log.store) (λ _. IsWalking base (base ++ unordered_writes base ws) (2 ^ 64 - 1) (unordered_touches key value l.moves.items) l.at l.entries
-          (walks.walk policies (base ++ unordered_writes base ws) l.floor (record { entries = l.fn.entries; skips = 2 ^ 64 - 1 }) proportional));
+          (walks.walk policies (base ++ unordered_writes base ws) l.base.floor (record { entries = l.fn.entries; skips = 2 ^ 64 - 1 }) proportional));
     }
