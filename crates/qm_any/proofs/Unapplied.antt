@@ -5,10 +5,13 @@ use Rattle.std.proofs.lemmas.Bool.Decides.{leb_tells}
 use Rattle.std.proofs.lemmas.List.{take-map, take_all, append-nil, length-append, map_more, map-append, nil_from_length}
 use Rattle.std.proofs.lemmas.List.Elements.{All-nil, All-cons, All-head, All-append, All-take, All-drop}
 use Rattle.std.proofs.Math.Seq.{take-append_seam, drop-append_seam}
-use Rattle.qm_model.specs.Causes.{Grows}
+use Rattle.qm_model.specs.Causes.{Grows, IsCause}
 use Rattle.qm_model.specs.Forms.{spelling}
 use Rattle.qm_model.specs.Operations.{Bytes, Operation}
 use Rattle.qm_model.specs.Batches.{Chain, IsOnChain}
+use Rattle.qm_base.specs.declared.error.Error.{Error}
+use Rattle.qm_base.specs.declared.error.Error.TheVariants as errors
+use Rattle.qm_base.specs.declared.error.JournalError.TheVariants as journal
 use Rattle.qm_store.specs.declared.Store as store
 use Rattle.qm_store.specs.Log.{IsLog, HasGrown}
 use Rattle.qm_batch.specs.Changes.{Changes, LeadTo}
@@ -50,8 +53,8 @@ pub all-whole : {A Y : Type 0} (f : A → Y) (P Q : Y → Type 0) (xs : List A) 
 all-whole f P Q xs i past so_far = subst (λ ys. All P (map f ys) → All Q (map f ys)) (take_all i xs past) so_far
 
 -- the first of what is seen alike are seen alike
-pub diffs-first : {X Y Z : Type 0} (view : X → Z) (f : Y → Z) (xs : List X) (ys part : List Y) (k : ℕ) → map view xs ≡ map f ys → part ≡ take k ys → map view (take k xs) ≡ map f part
-diffs-first view f xs ys part k same first = sym (take-map view k xs) ∙ ap (take k) same ∙ take-map f k ys ∙ ap (map f) (sym first)
+pub diffs-first : {X Y V Z : Type 0} (view : X → Z) (value : Y → V) (f : V → Z) (xs : List X) (ys part : List Y) (k : ℕ) → map view xs ≡ map f (map value ys) → part ≡ take k ys → map view (take k xs) ≡ map f (map value part)
+diffs-first view value f xs ys part k same first = sym (take-map view k xs) ∙ ap (take k) same ∙ take-map f k (map value ys) ∙ ap (map f) (take-map value k ys ∙ ap (map value) (sym first))
 
 -- the newest layer is lacking where it starts from the list's end or later, and nothing is where it starts before
 pub unapplied-more : (n : ℕ) (layer : Layer) (layers : List Layer) → nat_le n layer.base ≡ true → unapplied n (layer ∷ layers) ≡ layer ∷ unapplied n layers
@@ -158,6 +161,14 @@ lacked-behind layers tip older n leads among =
     subst (λ m. drop m tip ≡ operations_in (unapplied m layers)) here.2
     (ap (drop (length lent)) (lacked-lists layers tip older lent leads (Contains-later tip older lent here.1)).0
     ∙ drop-append_seam lent (operations_in (unapplied (length lent) layers)))
+
+-- a store whose items grew starts where it did
+pub appended : {C : Type 0} (members : store.Ghosts C) (old new : C) (more : List Bytes) → HasGrown members old new more → Appended members old new more
+appended members old new more grown = record { start = grown.start; items = grown.items }
+
+-- want of memory is no fault
+pub memory-cause : (before now : ℕ) (e : Error) → before ≤ now → e ≡ errors.Memory → IsCause before now (e ≡ errors.Journal journal.Store)
+memory-cause before now e later is = record { later = later; failed = λ fault. absurd (cc (is, fault)) }
 
 -- what grew by all of these grew by a first part of them
 pub part-whole : {C : Type 0} (members : store.Ghosts C) (old new : C) (more : List Bytes) → HasGrown members old new more → AppendedPart members old new more

@@ -11,6 +11,7 @@ use Rattle.qm_merkle.specs.Batches.{stops}
 use Rattle.qm_chain.specs.Bounds.{Bounds, IsBounds, is_at}
 use Rattle.qm_store.specs.declared.Store as store
 use Rattle.qm_store.specs.Log.{Log}
+use Rattle.qm_batch.specs.Bases.{Base}
 use Rattle.qm_batch.specs.Layers.{Layer, LeadThrough}
 use Rattle.qm_batch.specs.Lent.{IsLent, IsRead}
 use Rattle.qm_batch.specs.Views.{Plan}
@@ -41,6 +42,10 @@ pub record Begun (D : Type 0) : Type 0 where
   pub parent : Made D
   pub keep : ℕ
   pub writes : List Write
+
+-- what a merkleized batch knows of the list that it makes
+abbrev pub base_of : {D : Type 0} → Made D → Base
+base_of batch = record { layers = batch.layers; size = batch.bounds.tip.size; floor = batch.bounds.inactivity_floor; live = batch.live }
 
 -- the bounds of a database as a batch, which keeps no ancestor and does nothing
 abbrev pub bounds_at_rest : {C D : Type 0} → Database C D → Bounds

@@ -14,10 +14,10 @@ ghost use Rattle.qm_model.specs.Writes.{read_through};
 ghost use Rattle.qm_merkle.specs.Batches.{stops, stops_since};
 ghost use Rattle.qm_merkle.specs.Proofs.{proof_view, first_lacked, needed_positions};
 ghost use Rattle.qm_chain.specs.Bounds.{commitment_view, is_at, knows};
-ghost use Rattle.qm_batch.specs.Layers.{IsBase};
+ghost use Rattle.qm_batch.specs.Bases.{IsBase, base_view};
 ghost use Rattle.qm_batch.specs.Lent.{IsReadError};
 ghost use Rattle.qm_batch.specs.Views.{changes_view, IsPlan};
-ghost use Rattle.qm_any.specs.Databases.{IsDatabase, IsBegun, IsMade, IsLeft, bases, child_boundary, child_made, child_tips, is_on, kept_by, operations_in, stepped, unapplied};
+ghost use Rattle.qm_any.specs.Databases.{IsDatabase, IsBegun, IsMade, IsLeft, base_of, bases, child_boundary, child_made, child_tips, is_on, kept_by, operations_in, stepped, unapplied};
 ghost use Rattle.qm_store.specs.Log.{IsLacked};
 ghost use Rattle.qm_store.specs.KeptTrees.{held_at};
 ghost use Rattle.qm_any.specs.Tips.{IsLow, IsTaken, IsRefused};
@@ -27,7 +27,7 @@ ghost use Rattle.qm_any.specs.Views.{policy_view, write_views};
 
 use crate::db::{Db, LaidOut};
 use crate::operations::{
-    Step, diffs_of, refuse, shared, spelled, spelled_steps, twin_option, unapplied_of,
+    Step, diffs_of, refuse, share, shared, spelled, spelled_steps, twin_option, unapplied_of,
 };
 use crate::policy::Proportional;
 use qm_base::update::{Unordered, Update};
@@ -35,7 +35,7 @@ use qm_base::{
     ByteString, Commitment, Digest, Error, Hasher, JournalError, Location, MerkleError,
     ValueEncoding,
 };
-use qm_batch::{Layer, Plan, Write};
+use qm_batch::{Base, Layer, Plan, Write};
 use qm_chain::{Bounds, Diff, validate_batch_applicable};
 use qm_merkle::{Family, Proof};
 use qm_store::{KeptTree, Store};
@@ -86,6 +86,17 @@ impl<F: Family, D: Digest, U: Update> Model for MerkleizedBatch<F, D, U> {
 
     ghost invariant = { λ b. AreAgreed {D = D} (record { bounds = b.bounds; layers = map (λ l. l.value) b.steps.items; tree = b.tree; live = b.live; metadata = option_map (λ m. U.Value.bytes m.value) b.metadata })
         × (map (λ d. changes_view U.Key.bytes U.Value.bytes d.value) b.diffs.items ≡ map (λ l. l.changes) (map (λ l. l.value) b.steps.items)) };
+}
+
+/// What a database lacks of a batch's list.
+#[derive(Drop)]
+pub(crate) struct Lacking<'a, F, U: Update> {
+    /// The spellings of the operations that it lacks.
+    pub(crate) items: Vec<Vec<u8>>,
+    /// What these do to keys, by steps, newest first.
+    pub(crate) diffs: &'a [Rc<Diff<F, U::Key, U::Value>>],
+    /// The metadata of the list.
+    pub(crate) metadata: Option<Rc<U::Value>>,
 }
 
 impl<F: Family, D: Digest, U: Update> UnmerkleizedBatch<F, D, U> {
@@ -440,6 +451,20 @@ impl<F: Family, D: Digest, U: Update> MerkleizedBatch<F, D, U> {
         Ok(steps)
     }
 
+    // What is known of the list that the batch makes.
+    fn base(&self) -> Base<'_, F, U>
+        ensures value { base_view result ≡ base_of self.now }
+        ensures size { result.size ≤ 2 ^ 62 }
+        ensures live { result.live ≤ result.size }
+    {
+        Base {
+            layers: &self.steps,
+            size: self.bounds.tip.size,
+            floor: Location::new(self.bounds.inactivity_floor.get()),
+            live: self.live,
+        }
+    }
+
     // Whether the batch can be read at this state of a database, which is then one of those that its steps lead through.
     fn known(&self, current: &Commitment<D>) -> Result<(), Error>
         ensures readable { OnOk result (knows self.now.bounds (commitment_view D.bytes current.now) ≡ true) }
@@ -474,12 +499,12 @@ impl<F: Family, D: Digest, U: Update> MerkleizedBatch<F, D, U> {
         self.bounds.inactivity_floor.get()
     }
 
-    // The spellings of what a database at this state lacks of the list, and what that does to keys, by steps, newest first,
-    // where the batch can be applied to it.
-    pub(crate) fn lacking(&self, alloc: Global, current: &Commitment<D>) -> Result<(Vec<Vec<u8>>, &[Rc<Diff<F, U::Key, U::Value>>]), Error>
-        ensures items { IfOk result (λ lack. map (λ v. v.items) lack.0.items ≡ map (spelling U.form) (operations_in (unapplied current.now.size self.now.layers))) }
-        ensures diffs { IfOk result (λ lack. map (λ d. changes_view U.Key.bytes U.Value.bytes d.value) lack.1.now ≡ map (λ l. l.changes) (unapplied current.now.size self.now.layers)) }
-        ensures count { IfOk result (λ lack. current.now.size + length lack.0.items ≡ self.now.bounds.tip.size) }
+    // What a database at this state lacks of the list, where the batch can be applied to it.
+    pub(crate) fn lacking(&self, alloc: Global, current: &Commitment<D>) -> Result<Lacking<'_, F, U>, Error>
+        ensures items { IfOk result (λ lack. map (λ v. v.items) lack.items.items ≡ map (spelling U.form) (operations_in (unapplied current.now.size self.now.layers))) }
+        ensures diffs { IfOk result (λ lack. map (λ d. changes_view U.Key.bytes U.Value.bytes d.value) lack.diffs.now ≡ map (λ l. l.changes) (unapplied current.now.size self.now.layers)) }
+        ensures metadata { IfOk result (λ lack. option_map (λ m. U.Value.bytes m.value) lack.metadata ≡ self.now.metadata) }
+        ensures count { IfOk result (λ lack. current.now.size + length lack.items.items ≡ self.now.bounds.tip.size) }
         ensures among { OnOk result (Contains (bases self.now.layers) current.now.size) }
         ensures reached { OnOk result (Contains (stops self.now.tree.leaves self.now.tree.layers) current.now.size) }
         ensures fits { OnOk result (is_at (commitment_view D.bytes current.now) self.now.bounds.db self.now.bounds.ancestors ≡ true) }
@@ -489,7 +514,12 @@ impl<F: Family, D: Digest, U: Update> MerkleizedBatch<F, D, U> {
         let steps = unapplied_of(&self.steps, current.size);
         let items = spelled_steps(alloc, steps)?;
         let (diffs, _) = self.diffs.split_at(steps.len());
-        Ok((items, diffs))
+        let metadata = share(&self.metadata)?;
+        Ok(Lacking {
+            items,
+            diffs,
+            metadata,
+        })
     }
 }
 
@@ -552,36 +582,23 @@ fn planned<
     writes: &[Write<K, V::Value>],
     metadata: Option<V::Value>,
 ) -> Result<(Plan<F, Unordered<K, V>>, Vec<Vec<u8>>), Error>
-    ensures plan { (list base : List Operation) → IsDatabase C.Store ⟦<Db<F, C, I, H, Unordered<K, V>> as LaidOut>⟧.layout db.old list → IsBase parent.now.layers list base → parent.now.bounds.tip.size ≡ length base → parent.now.bounds.inactivity_floor ≡ lives.floor base → parent.now.live ≡ length (lives.live base)
+    ensures plan { (list base : List Operation) → IsDatabase C.Store ⟦<Db<F, C, I, H, Unordered<K, V>> as LaidOut>⟧.layout db.old list → IsBase (base_of parent.now) list base
         → IfOk result (λ made. IsPlan made.0 base (stepped base (write_views K.bytes V.Value.bytes writes.now) proportional (option_map V.Value.bytes metadata))) }
     ensures items { IfOk result (λ made. map (λ v. v.items) made.1.items ≡ map (spelling ⟦<Unordered<K, V> as Update>⟧.form) (made.0).operations) }
     ensures of { IfOk result (λ made. All IsLow (made.0).operations → All (IsOf ⟦<Unordered<K, V> as Update>⟧.form) (made.0).operations) }
     ensures room { IfOk result (λ made. parent.now.bounds.tip.size + length made.1.items ≤ 2 ^ 62) }
     ensures short { IfOk result (λ made. too_long (map (λ v. v.items) made.1.items) ≡ None) }
     ensures live { IfOk result (λ made. (made.0).live ≤ parent.now.bounds.tip.size + length made.1.items) }
-    ensures refused { (list base : List Operation) → IsDatabase C.Store ⟦<Db<F, C, I, H, Unordered<K, V>> as LaidOut>⟧.layout db.old list → IsBase parent.now.layers list base → parent.now.bounds.tip.size ≡ length base → parent.now.bounds.inactivity_floor ≡ lives.floor base → parent.now.live ≡ length (lives.live base)
+    ensures refused { (list base : List Operation) → IsDatabase C.Store ⟦<Db<F, C, I, H, Unordered<K, V>> as LaidOut>⟧.layout db.old list → IsBase (base_of parent.now) list base
         → IfErr result (λ e. IsRefused ⟦<Unordered<K, V> as Update>⟧.form base (stepped base (write_views K.bytes V.Value.bytes writes.now) proportional (option_map V.Value.bytes metadata)) e ⊎ IsReadError C.Store db.old.log db.new.log e) }
     ensures never { IfErr result (λ e. e ≢ Error.StaleBatch) }
     ensures cause { IfErr result (λ e. e ≡ Error.Journal JournalError.Store → Rose (C.faults db.old.log.store) (C.faults db.new.log.store)) }
     ensures left { IsLeft C.Store ⟦<Db<F, C, I, H, Unordered<K, V>> as LaidOut>⟧.layout.hashing db.old db.new }
 {
-    let Bounds {
-        tip,
-        inactivity_floor,
-        ..
-    } = &parent.bounds;
-    let floor = Location::new(inactivity_floor.get());
-    let plan = db.plan(
-        alloc,
-        &parent.steps,
-        tip.size,
-        floor,
-        parent.live,
-        writes,
-        metadata,
-    )?;
+    let base = parent.base();
+    let plan = db.plan(alloc, &base, writes, metadata)?;
     let items = spelled(alloc, &plan.operations)?;
-    match refuse(&items, tip.size + items.len() as u64) {
+    match refuse(&items, base.size + items.len() as u64) {
         Ok(()) => Ok((plan, items)),
         Err(error) => Err(error),
     }

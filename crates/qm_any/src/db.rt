@@ -16,7 +16,8 @@ ghost use Rattle.qm_merkle.specs.Proofs.{proof_view, first_lacked, needed_positi
 ghost use Rattle.qm_store.specs.Log as logs;
 ghost use Rattle.qm_store.specs.Log.{IsLacked};
 ghost use Rattle.qm_chain.specs.Bounds.{commitment_view, is_at};
-ghost use Rattle.qm_batch.specs.Layers.{IsBase};
+ghost use Rattle.qm_batch.specs.Bases.{IsBase, base_view};
+ghost use Rattle.qm_batch.specs.Layers.{LeadOver};
 ghost use Rattle.qm_batch.specs.Changes.{LeadTo};
 ghost use Rattle.qm_batch.specs.Lent.{IsIndexed, IsReadError, NoneBelow};
 ghost use Rattle.qm_batch.specs.Views.{changes_view, write_view, IsPlan};
@@ -25,7 +26,7 @@ ghost use Rattle.qm_any.specs.Given.{Appended, AppendedPart, store_given};
 ghost use Rattle.qm_store.specs.KeptTrees.{IsKeptTree, held_at};
 ghost use Rattle.qm_any.specs.Views.{write_views};
 
-use crate::batch::{MerkleizedBatch, UnmerkleizedBatch};
+use crate::batch::{Lacking, MerkleizedBatch, UnmerkleizedBatch};
 use crate::operations::{Step, copy_of, share, twin_option};
 use crate::refusal::{Given, Refusal};
 use qm_base::update::{Unordered, Update};
@@ -33,8 +34,8 @@ use qm_base::{
     ByteString, Commitment, Digest, Error, Hasher, JournalError, Location, MerkleError,
     ValueEncoding,
 };
+use qm_batch::{Base, Plan, Write, apply_diffs, plain, read_key};
 use qm_chain::Diff;
-use qm_batch::{Plan, Write, apply_diffs, plain, read_key};
 use qm_merkle::{Family, Proof};
 use qm_store::{AuthLog, KeptTree, LogGiven, LogRefusal, Store};
 use std::alloc::{AllocError, Global};
@@ -197,38 +198,30 @@ impl<
                 given: Given::Database(self),
                 error,
             }),
-            Ok((items, diffs)) => self.moved(&items, diffs, batch),
+            Ok(lacking) => self.moved(lacking, batch),
         }
     }
 
-    // The database with a batch's list, of which it lacked these items; the diffs are what these do to keys, by steps,
-    // newest first. The batch's tree has their leaves, so nothing is hashed.
+    // The database with a batch's list, of which it lacked this. The batch's tree has the leaves, so nothing is hashed.
     fn moved(
         self,
-        items: &[Vec<u8>],
-        diffs: &[Rc<Diff<F, U::Key, U::Value>>],
+        lacking: Lacking<'_, F, U>,
         batch: &MerkleizedBatch<F, H::Digest, U>,
     ) -> Result<Self, Refusal<Self, C>>
-        requires count { self.commitment.size + length items.now ≡ batch.now.bounds.tip.size }
+        requires count { self.commitment.size + length lacking.items.items ≡ batch.now.bounds.tip.size }
         requires reach { Contains (stops batch.now.tree.leaves batch.now.tree.layers) self.commitment.size }
         ensures log { IfOk result (λ next. (list : List (List ℕ)) (older : List (List (List ℕ))) → logs.IsLog C.Store F.shape H.Digest.bytes H.hash self.log list
-            → IsKeptTree H.Digest.bytes H.hash F.shape batch.now.tree (list ++ map (λ v. v.items) items.now) older → Contains ((list ++ map (λ v. v.items) items.now) ∷ older) list
-            → logs.IsLog C.Store F.shape H.Digest.bytes H.hash next.log (list ++ map (λ v. v.items) items.now)) }
-        ensures index { IfOk result (λ next. (list tip : List Operation) → LeadTo (map (λ d. changes_view U.Key.bytes U.Value.bytes d.value) diffs.now) list tip → IsIndexed I.index_key self.entries list → IsIndexed I.index_key next.entries tip) }
-        ensures rest { IfOk result (λ next. (next.commitment ≡ batch.now.bounds.tip) × (next.floor ≡ batch.now.bounds.inactivity_floor) × (next.live ≡ batch.now.live) × (next.metadata ≡ batch.now.metadata)) }
-        ensures grown { IfOk result (λ next. Appended C.Store self.log.store next.log.store (map (λ v. v.items) items.now)) }
+            → IsKeptTree H.Digest.bytes H.hash F.shape batch.now.tree (list ++ map (λ v. v.items) lacking.entry.items.items) older → Contains ((list ++ map (λ v. v.items) lacking.entry.items.items) ∷ older) list
+            → logs.IsLog C.Store F.shape H.Digest.bytes H.hash next.log (list ++ map (λ v. v.items) lacking.entry.items.items)) }
+        ensures index { IfOk result (λ next. (list tip : List Operation) → LeadTo (map (λ d. changes_view U.Key.bytes U.Value.bytes d.value) lacking.entry.diffs.now) list tip → IsIndexed I.index_key self.entries list → IsIndexed I.index_key next.entries tip) }
+        ensures rest { IfOk result (λ next. (next.commitment ≡ batch.now.bounds.tip) × (next.floor ≡ batch.now.bounds.inactivity_floor) × (next.live ≡ batch.now.live) × (next.metadata ≡ option_map (λ m. U.Value.bytes m.value) lacking.entry.metadata)) }
+        ensures grown { IfOk result (λ next. Appended C.Store self.log.store next.log.store (map (λ v. v.items) lacking.entry.items.items)) }
         ensures later { IfOk result (λ next. C.faults self.log.store ≤ C.faults next.log.store) }
-        ensures part { IfErr result (λ r. AppendedPart C.Store self.log.store (store_given (λ db. db.log.store) r.given) (map (λ v. v.items) items.now)) }
+        ensures part { IfErr result (λ r. AppendedPart C.Store self.log.store (store_given (λ db. db.log.store) r.given) (map (λ v. v.items) lacking.entry.items.items)) }
         ensures back { IfErr result (λ r. (x : Database C H.Digest) → r.given ≡ Given.Database x → (x ≡ self) × (r.error ≡ Error.Memory)) }
         ensures causes { IfErr result (λ r. (r.error ≡ Error.Memory) ⊎ (r.error ≡ Error.Journal JournalError.Store)) }
         ensures cause { IfErr result (λ r. IsCause (C.faults self.log.store) (C.faults (store_given (λ db. db.log.store) r.given)) (r.error ≡ Error.Journal JournalError.Store)) }
     {
-        let Ok(shared) = share(&batch.metadata) else {
-            return Err(Refusal {
-                given: Given::Database(self),
-                error: Error::Memory,
-            });
-        };
         let Db {
             index,
             log,
@@ -237,8 +230,8 @@ impl<
             live,
             metadata,
         } = self;
-        match log.append_tree(items, &batch.tree) {
-            Ok(log) => indexed(index, log, diffs, batch, shared),
+        match log.append_tree(&lacking.items, &batch.tree) {
+            Ok(log) => indexed(index, log, lacking.diffs, batch, lacking.metadata),
             Err(LogRefusal { given, error }) => Err(Refusal {
                 given: given_back(index, commitment, floor, live, metadata, given),
                 error,
@@ -273,7 +266,7 @@ impl<
         writes: &[Write<U::Key, U::Value>],
         key: &U::Key,
     ) -> Result<Option<U::Value>, Error>
-        ensures value { (list base : List Operation) → IsDatabase C.Store ⟦<Self as LaidOut>⟧.layout self.old list → IsBase (map (λ l. l.value) steps.now) list base
+        ensures value { (list base : List Operation) → IsDatabase C.Store ⟦<Self as LaidOut>⟧.layout self.old list → LeadOver (map (λ l. l.value) steps.now) list base
             → IfOk result (λ v. option_map U.Value.bytes v ≡ read_through base (write_views U.Key.bytes U.Value.bytes writes.now) (U.Key.bytes key.now)) }
         ensures error { IfErr result (IsReadError C.Store self.old.log self.new.log) }
         ensures whole { (list : List Operation) → IsDatabase C.Store ⟦<Self as LaidOut>⟧.layout self.old list → NoneBelow self.old.log.tree.start list → IfErr result (λ e. (n : ℕ) → e ≢ Error.Journal (JournalError.ItemPruned n)) }
@@ -296,7 +289,7 @@ impl<
         writes: &[Write<U::Key, U::Value>],
         keys: &[U::Key],
     ) -> Result<Vec<Option<U::Value>>, Error>
-        ensures values { (list base : List Operation) → IsDatabase C.Store ⟦<Self as LaidOut>⟧.layout self.old list → IsBase (map (λ l. l.value) steps.now) list base
+        ensures values { (list base : List Operation) → IsDatabase C.Store ⟦<Self as LaidOut>⟧.layout self.old list → LeadOver (map (λ l. l.value) steps.now) list base
             → IfOk result (λ v. map (option_map U.Value.bytes) v.items ≡ map (λ k. read_through base (write_views U.Key.bytes U.Value.bytes writes.now) (U.Key.bytes k)) keys.now) }
         ensures error { IfErr result (IsReadError C.Store self.old.log self.new.log) }
         ensures left { IsLeft C.Store ⟦<Self as LaidOut>⟧.layout.hashing self.old self.new }
@@ -344,6 +337,7 @@ impl<
         start: u64,
     ) -> Result<Proof<H::Digest>, Error>
         requires start { start ≤ tree.now.leaves }
+        requires few { tree.now.leaves ≤ 2 ^ 62 }
         requires reach { Contains (stops tree.now.leaves tree.now.layers) self.now.commitment.size }
         ensures value { (list tip : List Operation) (older : List (List Operation)) → IsDatabase C.Store ⟦<Self as LaidOut>⟧.layout self.now list → IsTree ⟦<Self as LaidOut>⟧.layout.hashing tree.now tip older
             → Contains (tip ∷ older) list → floor ≡ lives.floor tip
@@ -470,38 +464,23 @@ impl<
     K: ByteString,
     V: ValueEncoding<K>,
 > Db<F, C, I, H, Unordered<K, V>> {
-    // What writes and metadata make of the base list of a batch of these steps.
-    #[allow(clippy::too_many_arguments)]
+    // What writes and metadata make of a base list.
     pub(crate) fn plan(
         &mut self,
         alloc: Global,
-        steps: &[Step<F, Unordered<K, V>>],
-        size: u64,
-        floor: Location<F>,
-        live: u64,
+        base: &Base<'_, F, Unordered<K, V>>,
         writes: &[Write<K, V::Value>],
         metadata: Option<V::Value>,
     ) -> Result<Plan<F, Unordered<K, V>>, Error>
-        requires size { size ≤ 2 ^ 62 }
-        requires live { live ≤ size }
-        ensures plan { (list base : List Operation) → IsDatabase C.Store ⟦<Self as LaidOut>⟧.layout self.old list → IsBase (map (λ l. l.value) steps.now) list base
-            → size ≡ length base → floor ≡ lives.floor base → live ≡ length (lives.live base)
-            → IfOk result (λ plan. IsPlan plan base (stepped base (write_views K.bytes V.Value.bytes writes.now) proportional (option_map V.Value.bytes metadata))) }
-        ensures live { IfOk result (λ plan. plan.live ≤ size + length plan.operations) }
+        requires size { base.now.size ≤ 2 ^ 62 }
+        requires live { base.now.live ≤ base.now.size }
+        ensures plan { (list known : List Operation) → IsDatabase C.Store ⟦<Self as LaidOut>⟧.layout self.old list → IsBase (base_view base.now) list known
+            → IfOk result (λ plan. IsPlan plan known (stepped known (write_views K.bytes V.Value.bytes writes.now) proportional (option_map V.Value.bytes metadata))) }
+        ensures live { IfOk result (λ plan. plan.live ≤ base.now.size + length plan.operations) }
         ensures error { IfErr result (IsReadError C.Store self.old.log self.new.log) }
         ensures left { IsLeft C.Store ⟦<Self as LaidOut>⟧.layout.hashing self.old self.new }
     {
-        plain(
-            alloc,
-            &self.index,
-            &mut self.log,
-            steps,
-            size,
-            floor,
-            live,
-            writes,
-            metadata,
-        )
+        plain(alloc, &self.index, &mut self.log, base, writes, metadata)
     }
 }
 

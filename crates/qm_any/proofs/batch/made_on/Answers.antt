@@ -1,4 +1,4 @@
-use Rattle.std.proofs.Common.{◌≡◌, ◌≤◌, ◌^◌, ◌∙◌, None, ap, sym, subst, refl, map, length, arith, inl, option_map}
+use Rattle.std.proofs.Common.{◌∷◌, ◌++◌, ◌≡◌, ◌≤◌, ◌^◌, ◌∙◌, None, ap, sym, subst, refl, map, length, arith, inl, option_map}
 use Rattle.std.specs.Prelude.{Contains}
 use Rattle.std.proofs.lemmas.List.{length-map}
 use Rattle.std.proofs.lemmas.Result.{err_from_is_err_and}
@@ -22,7 +22,7 @@ pub returns-in_err-plan-clause-refused : goal.returns-in_err-plan-clause-refused
 returns-in_err-plan-clause-refused g c = λ list chain above is made kept on.
     let exit = err_from_is_err_and c.from_residual-in_err-plan.result c.from_residual-in_err-plan.ensures.1 in
     let from = child-base c.args.parent.now c.args.keep list chain above made kept on in
-    rw (exit.1, exit.2) (c.in_err-plan.ensures.refused list chain.base is from (ap (λ k. k.size) made.bounds.tip) made.lowest made.live)
+    rw (exit.1, exit.2) (c.in_err-plan.ensures.refused list chain.base is from)
 
 pub grown-requires-clause-reach : goal.grown-requires-clause-reach
 grown-requires-clause-reach g c =
@@ -68,7 +68,7 @@ returns-clause-made g c = λ list chain above is made kept on.
     let items = map (λ v. v.items) c.in_ok-plan.items.items in
     let size = ap (λ k. k.size) made.bounds.tip in
     let from = child-base parent c.args.keep list chain above made kept on in
-    let plan = c.in_ok-plan.ensures.plan list base is from size made.lowest made.live in
+    let plan = c.in_ok-plan.ensures.plan list base is from in
     let short = subst (λ xs. too_long xs ≡ None) (c.in_ok-plan.ensures.items ∙ ap (map (spelling (unordered_form g.K.ByteString.has g.V.Value.ByteString.has g.V.ValueEncoding.fixed))) plan.operations) c.in_ok-plan.ensures.short in
     let count : length c.in_ok-plan.items.items ≡ length c.in_ok-plan.plan.operations = sym (length-map c.in_ok-plan.items.items (λ v. v.items)) ∙ ap length c.in_ok-plan.ensures.items ∙ length-map c.in_ok-plan.plan.operations (spelling (unordered_form g.K.ByteString.has g.V.Value.ByteString.has g.V.ValueEncoding.fixed)) in
     let room = c.in_ok-plan.ensures.room in
@@ -100,7 +100,7 @@ returns-clause-taken g c = λ list chain above is made kept on.
     let tip = stepped base ws proportional meta in
     let size = ap (λ k. k.size) made.bounds.tip in
     let from = child-base c.args.parent.now c.args.keep list chain above made kept on in
-    let plan = c.in_ok-plan.ensures.plan list base is from size made.lowest made.live in
+    let plan = c.in_ok-plan.ensures.plan list base is from in
     let count : length c.in_ok-plan.items.items ≡ length c.in_ok-plan.plan.operations = sym (length-map c.in_ok-plan.items.items (λ v. v.items)) ∙ ap length c.in_ok-plan.ensures.items ∙ length-map c.in_ok-plan.plan.operations (spelling (unordered_form g.K.ByteString.has g.V.Value.ByteString.has g.V.ValueEncoding.fixed)) in
     let room = c.in_ok-plan.ensures.room in (
       subst (λ xs. too_long xs ≡ None) (c.in_ok-plan.ensures.items ∙ ap (map (spelling (unordered_form g.K.ByteString.has g.V.Value.ByteString.has g.V.ValueEncoding.fixed))) plan.operations) c.in_ok-plan.ensures.short,

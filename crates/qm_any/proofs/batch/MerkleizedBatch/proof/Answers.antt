@@ -1,13 +1,18 @@
-use Rattle.std.proofs.Common.{◌≡◌, ◌∙◌, length, ap, sym, subst, IfOk}
+use Rattle.std.proofs.Common.{arith, ◌≡◌, ◌∙◌, length, ap, sym, subst, IfOk}
 use Rattle.qm_model.specs.Proofs.{ops_proof}
 use Rattle.qm_model.specs.Trees.{ops_root}
 use Rattle.qm_merkle.specs.Proofs.{proof_view}
 use Rattle.qm_chain.specs.Bounds.{commitment_view}
 use Rattle.qm_any.specs.Layouts.{hashing_of, list_root}
-use Rattle.qm_any.specs.Databases.{IsTree, bases_of}
+use Rattle.qm_any.specs.Databases.{AreAgreed, IsTree, bases_of}
 use Rattle.qm_any.proofs.Known.{known-base}
 use Rattle.qm_any.proofs.Trees.{known-read}
 use Rattle.qm_any.proofs.batch.MerkleizedBatch.proof.Goals as goal
+
+pub proof_through-requires-clause-few : goal.proof_through-requires-clause-few
+proof_through-requires-clause-few g c =
+    let agreed = subst AreAgreed c.self.view_is c.self.invariant.0 in
+    omega (arith, agreed.few, agreed.leaves, ap (λ b. b.tree.leaves) c.self.view_is)
 
 pub returns-clause-proof : goal.returns-clause-proof
 returns-clause-proof g c = λ list chain tip is made known.
