@@ -1,7 +1,8 @@
 -- What the numbers of a merkleized batch say of the states of a database that it knows.
-use Rattle.std.proofs.Common.{◌≡◌, ◌≤◌, ◌⊎◌, ℕ, zero, suc, Bool, true, false, ◌||◌, List, [], ◌∷◌, ◌++◌, length, map, take, get_or, All, Contains, inl, inr, ⊎_elim, refl, sym, ap, subst, arith, rules}
+use Rattle.std.proofs.Common.{◌≡◌, ◌≤◌, ◌<◌, ◌+◌, ◌∙◌, ◌⊎◌, ℕ, zero, suc, Bool, true, false, ◌||◌, List, [], ◌∷◌, ◌++◌, length, map, take, drop, get_or, All, Contains, inl, inr, ⊎_elim, refl, sym, ap, subst, arith, rules}
 use Rattle.std.specs.Prelude.{Result, Ok, Err, OnOk, is_ok}
 use Rattle.std.specs.List.{list_any}
+use Rattle.std.proofs.lemmas.List.{take-map, take_more, length-append, map-append}
 use Rattle.std.proofs.lemmas.List.Elements.{All-nil, All-cons, All-head, All-tail, All-take, All-weaker, All-contains, All-contains_itself, Contains-append_left, Contains-push}
 use Rattle.std.proofs.lemmas.List.Folds.{Any-from_list_any}
 use Rattle.qm_model.specs.Batches.{Commitment, same}
@@ -41,6 +42,23 @@ first-within (layer ∷ layers) size base own joined =
     let first : layer.base ≡ base = ap (λ l. get_or l 0 0) own in
     omega (arith, first, joined.0)
 
+-- no list on the way is shorter than the one from which the oldest of joined layers starts
+pub joined-above : (layers : List Layer) (size low : ℕ) (front : List ℕ) → AreJoined size layers → size ∷ bases layers ≡ front ++ low ∷ [] → All (λ n. low ≤ n) (size ∷ bases layers)
+joined-above [] size low [] joined is =
+    let same : size ≡ low = ap (λ l. get_or l 0 0) is in
+    All-cons (λ n. low ≤ n) size [] (omega (arith, same)) (All-nil (λ n. low ≤ n))
+joined-above [] size low (f ∷ front) joined is = absurd (omega (arith, ap length is, length-append front (low ∷ [])))
+joined-above (layer ∷ layers) size low [] joined is = absurd (omega (arith, ap length is))
+joined-above (layer ∷ layers) size low (f ∷ front) joined is =
+    let rest = joined-above layers layer.base low front joined.1 (ap (drop 1) is) in
+    All-cons (λ n. low ≤ n) size (bases (layer ∷ layers)) (omega (arith, joined.0, All-head (λ n. low ≤ n) layer.base (bases layers) rest)) rest
+
+-- the first of joined layers are joined
+pub joined-first : (keep size : ℕ) (layers : List Layer) → AreJoined size layers → AreJoined size (take keep layers)
+joined-first zero size layers joined = tt
+joined-first (suc keep) size [] joined = tt
+joined-first (suc keep) size (layer ∷ layers) joined = (joined.0, joined-first keep layer.base layers joined.1)
+
 -- states whose sizes are among these
 module _ (sizes : List ℕ) (current : Commitment) where
   -- one that is the same as one of them has its size among these
@@ -76,6 +94,12 @@ module _ {D : Type 0} (batch : Made D) (agreed : AreAgreed batch) where
       ended-among sizes current batch.bounds.db batch.bounds.ancestors
       (All-mapped (λ c. c.size) (Contains sizes) ended (subst (All (Contains sizes)) agreed.starts (All-contains_itself sizes))) fits
 
+  -- so its tree stops there
+  pub fits-reached : (current : Commitment) → is_at current batch.bounds.db batch.bounds.ancestors ≡ true → Contains (stops batch.tree.leaves batch.tree.layers) current.size
+  fits-reached current fits =
+      let stop : ℕ → Type 0 = Contains (stops batch.tree.leaves batch.tree.layers) in
+      All-contains stop (bases batch.layers) current.size (All-tail stop batch.bounds.tip.size (bases batch.layers) agreed.reached) (fits-among current fits)
+
   -- one that it knows is where its tree stops
   pub known-reached : (current : Commitment) → knows batch.bounds current ≡ true → Contains (stops batch.tree.leaves batch.tree.layers) current.size
   known-reached current known =
@@ -94,6 +118,38 @@ module _ {D : Type 0} (batch : Made D) (agreed : AreAgreed batch) where
       let all = states batch.bounds in
       let oldest : among batch.bounds.db = All-contains among all batch.bounds.db states-reached (Contains-push (batch.bounds.tip ∷ batch.bounds.ancestors) batch.bounds.db) in
       at-among sizes current (child_boundary keep batch.bounds) (child_tips keep batch.bounds) (All-at among all keep batch.bounds.db states-reached oldest) (All-take among keep all states-reached) on
+
+  -- the steps that a child keeps, behind its own, start where the states end at which it can be applied
+  pub child-starts : (keep : ℕ) → keep ≤ suc (length batch.bounds.ancestors)
+      → batch.bounds.tip.size ∷ bases (take keep batch.layers) ≡ map (λ c. c.size) (child_tips keep batch.bounds) ++ (child_boundary keep batch.bounds).size ∷ []
+  child-starts keep few =
+      let size : Commitment → ℕ = λ c. c.size in
+      let all = states batch.bounds in
+      let within : keep < length all = omega (arith, few, length-append batch.bounds.ancestors (batch.bounds.db ∷ [])) in
+      let one : suc keep ≡ keep + 1 = omega arith in
+      ap (λ ns. batch.bounds.tip.size ∷ ns) (sym (take-map (λ (l : Layer). l.base) keep batch.layers))
+      ∙ ap (λ ns. batch.bounds.tip.size ∷ take keep ns) agreed.starts
+      ∙ take-map size (suc keep) all
+      ∙ ap (λ n. map size (take n all)) one
+      ∙ ap (map size) (take_more all keep batch.bounds.db within)
+      ∙ map-append size (child_tips keep batch.bounds) (child_boundary keep batch.bounds ∷ [])
+
+  -- none of these is below the child's boundary
+  pub child-bases-above : (keep : ℕ) → keep ≤ suc (length batch.bounds.ancestors) → All (λ n. (child_boundary keep batch.bounds).size ≤ n) (batch.bounds.tip.size ∷ bases (take keep batch.layers))
+  child-bases-above keep few =
+      joined-above (take keep batch.layers) batch.bounds.tip.size (child_boundary keep batch.bounds).size (map (λ (k : Commitment). k.size) (child_tips keep batch.bounds))
+      (joined-first keep batch.bounds.tip.size batch.layers agreed.joined) (child-starts keep few)
+
+  -- nor is a state at which the child can be made
+  pub child-above : (keep : ℕ) (current : Commitment) → keep ≤ suc (length batch.bounds.ancestors) → is_at current (child_boundary keep batch.bounds) (child_tips keep batch.bounds) ≡ true → (child_boundary keep batch.bounds).size ≤ current.size
+  child-above keep current few on =
+      let low = (child_boundary keep batch.bounds).size in
+      let sizes = batch.bounds.tip.size ∷ bases (take keep batch.layers) in
+      let tips = child_tips keep batch.bounds in
+      let ended = tips ++ child_boundary keep batch.bounds ∷ [] in
+      let starts : map (λ (k : Commitment). k.size) ended ≡ sizes = map-append (λ (k : Commitment). k.size) tips (child_boundary keep batch.bounds ∷ []) ∙ sym (child-starts keep few) in
+      All-contains (λ n. low ≤ n) sizes current.size (child-bases-above keep few)
+      (ended-among sizes current (child_boundary keep batch.bounds) tips (All-mapped (λ c. c.size) (Contains sizes) ended (subst (All (Contains sizes)) (sym starts) (All-contains_itself sizes))) on)
 
   -- the own operations begin within the tree
   pub start-within : batch.bounds.base.size ≤ batch.tree.leaves

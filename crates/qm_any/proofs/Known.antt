@@ -5,9 +5,16 @@ use Rattle.std.proofs.lemmas.List.{length-map}
 use Rattle.qm_model.specs.Operations.{Bytes, Operation}
 use Rattle.qm_model.specs.Batches.{Commitment, Chain, Kept, IsKnown, IsOnChain, boundary_list, oldest_base, commitment}
 use Rattle.qm_model.proofs.Chains.{Contains-first, Contains-more}
-use Rattle.qm_batch.specs.Layers.{IsBase}
+use Rattle.qm_batch.specs.Bases.{IsBase}
+use Rattle.qm_batch.specs.Layers.{LeadOver}
 use Rattle.qm_any.specs.Layouts.{Hashing, list_root}
-use Rattle.qm_any.specs.Databases.{Made, IsMade, AreLinked, bases_of, kept_by, child_boundary, child_tips, list_commitment}
+use Rattle.qm_any.specs.Databases.{Made, IsMade, base_of, AreLinked, bases_of, kept_by, child_boundary, child_tips, list_commitment}
+
+-- what a list has, the images have
+pub contains-mapped : {X Y : Type 0} (f : X → Y) (xs : List X) (x : X) → Contains xs x → Contains (map f xs) (f x)
+contains-mapped f [] x has = absurd (omega (arith, has.1))
+contains-mapped f (y ∷ xs) x (zero, within, is) = (0, omega arith, ap f is)
+contains-mapped f (y ∷ xs) x (suc k, within, is) = Contains-more (map f xs) (f y) (f x) (contains-mapped f xs x (k, omega arith, is))
 
 -- what a list's first elements contain, it contains
 take-contains : {A : Type 0} (n : ℕ) (xs : List A) (x : A) → Contains (take n xs) x → Contains xs x
@@ -79,19 +86,24 @@ module _ (root : List Operation → Bytes) where
 
 module _ {D : Type 0} {hashing : Hashing D} where
   -- a list that a merkleized batch knows is one on the way to its tip
-  pub made-base : (batch : Made D) (list : List Operation) (chain : Chain) (tip : List Operation) → IsMade hashing batch chain tip → IsKnown list chain tip → IsBase batch.layers list tip
+  pub made-base : (batch : Made D) (list : List Operation) (chain : Chain) (tip : List Operation) → IsMade hashing batch chain tip → IsKnown list chain tip → LeadOver batch.layers list tip
   made-base batch list chain tip made known = record { older = bases_of chain; steps = made.steps; among = known-base list chain tip made.linked known }
 
-  -- a list on the chain of a child is one on the way to the parent's tip
+  -- the parent of a child knows its base list, to which its steps lead over a list on the child's chain
   pub child-base : (parent : Made D) (keep : ℕ) (list : List Operation) (chain above : Chain) → IsMade hashing parent above chain.base → chain.kept ≡ kept_by keep above chain.base → IsOnChain list chain
-      → IsBase parent.layers list chain.base
+      → IsBase (base_of parent) list chain.base
   child-base parent keep list chain above made kept on =
       let linked = subst (AreLinked chain.base) (sym kept) (child-linked keep above chain.base made.linked) in
       let bases = ap (map (λ (k : Kept). k.base)) kept ∙ child-bases keep above chain.base in
       record {
-        older = bases_of above;
-        steps = made.steps;
-        among = more-contains chain.base keep (bases_of above) list (subst (λ bs. Contains (chain.base ∷ bs) list) bases (on_chain-base list chain linked on));
+        leads = record {
+          older = bases_of above;
+          steps = made.steps;
+          among = more-contains chain.base keep (bases_of above) list (subst (λ bs. Contains (chain.base ∷ bs) list) bases (on_chain-base list chain linked on));
+        };
+        size = ap (λ k. k.size) made.bounds.tip;
+        floor = made.lowest;
+        live = made.live;
       }
 
   -- so many are no more than the chain keeps

@@ -1,13 +1,13 @@
 -- What a step makes of a list, and the merkleized batch of a plan on its parent.
-use Rattle.std.proofs.Common.{◌≡◌, ◌≢◌, ◌∙◌, ℕ, zero, suc, ◌+◌, ◌-◌, ◌≤◌, ◌<◌, ◌^◌, arith, ap, ap₂, sym, subst, refl, Bool, true, false, List, [], ◌∷◌, ◌++◌, length, take, drop, get_or, map, inl, inr, Option, Some, None, option_map}
-use Rattle.std.specs.Prelude.{All, Contains, IfSome, is_some, nat_lt, filter_map, if◌then◌else◌, ◌==◌}
+use Rattle.std.proofs.Common.{◌≡◌, ◌≢◌, ◌∙◌, ℕ, zero, suc, ◌+◌, ◌-◌, ◌≤◌, ◌<◌, ◌^◌, arith, ap, ap₂, sym, subst, refl, Bool, true, false, List, [], ◌∷◌, ◌++◌, length, take, drop, get_or, map, inl, inr, ⊎_elim, Option, Some, None, option_map}
+use Rattle.std.specs.Prelude.{All, Contains, IfSome, is_some, nat_le, filter_map, if◌then◌else◌, ◌==◌}
 use Rattle.std.specs.List.{cons_option, AllByRecursion as Each}
-use Rattle.std.proofs.lemmas.Bool.Decides.{nat_tests}
-use Rattle.std.proofs.lemmas.List.{take-map, take_more, take_all, take-append-le, take-append-drop, length-append, length-drop, map-append}
-use Rattle.std.proofs.lemmas.List.Elements.{All-cons, All-nil, All-take, All-drop, All-append, All-weaker, All-from_recursion, recursion_from_All, Contains-append_right}
+use Rattle.std.proofs.lemmas.Bool.Decides.{leb_tells}
+use Rattle.std.proofs.lemmas.List.{take-map, take_more, take_all, take-append-le, take-append-drop, length-append, length-drop, length-map, map-append}
+use Rattle.std.proofs.lemmas.List.Elements.{All-cons, All-nil, All-head, All-tail, All-contains, All-take, All-drop, All-append, All-weaker, All-from_recursion, recursion_from_All, Contains-append_right}
 use Rattle.qm_model.specs.Forms.{Form, IsOf, spelling}
 use Rattle.qm_model.specs.Operations.{Bytes, Operation, update, delete, commit}
-use Rattle.qm_model.specs.Batches.{Commitment, Chain, Kept}
+use Rattle.qm_model.specs.Batches.{Commitment, Chain, Kept, oldest_base}
 use Rattle.qm_model.specs.Live.{live, live_of, floor, floor_after, last_metadata, metadata_after}
 use Rattle.qm_model.specs.Policies.{Policy, policies}
 use Rattle.qm_model.specs.Refusals.{too_long}
@@ -17,15 +17,18 @@ use Rattle.qm_model.proofs.Walks.{walks_within}
 use Rattle.qm_base.specs.declared.error.Error.{Error}
 use Rattle.qm_base.specs.declared.error.Error.TheVariants as errors
 use Rattle.qm_base.specs.declared.error.JournalError.TheVariants as journal
-use Rattle.qm_merkle.specs.Batches.{stops}
+use Rattle.qm_merkle.specs.Batches.{stops, stops_since, lists_since}
+use Rattle.qm_merkle.proofs.Since.{stop-since, list-since}
+use Rattle.qm_store.specs.KeptTrees.{KeptTree, IsKeptTree}
+use Rattle.qm_store.proofs.Kept.{kept-fewer}
 use Rattle.qm_chain.specs.Bounds.{Bounds}
 use Rattle.qm_batch.specs.Layers.{Layer, LeadThrough}
 use Rattle.qm_batch.specs.Views.{Plan, IsPlan}
-use Rattle.qm_any.specs.Databases.{Made, AreAgreed, AreJoined, AreLinked, IsMade, bases, bases_of, states, child_boundary, child_made, child_tips, kept_by, stepped}
-use Rattle.qm_any.specs.Layouts.{Hashing, list_root}
-use Rattle.qm_any.specs.KeptTrees.{KeptTree, IsKeptTree, leaves_of}
+use Rattle.qm_any.specs.Databases.{Made, AreAgreed, AreLinked, IsMade, IsTree, bases, bases_of, child_boundary, child_made, child_tips, kept_by, stepped}
+use Rattle.qm_any.proofs.Agreed.{child-starts, child-bases-above, joined-first}
+use Rattle.qm_any.specs.Layouts.{Hashing, list_root, spellings}
 use Rattle.qm_any.specs.Tips.{own_spellings, IsLow, IsTooLong}
-use Rattle.qm_any.proofs.Known.{child-linked, child-bases, child-boundary, child-tips}
+use Rattle.qm_any.proofs.Known.{contains-mapped, child-linked, child-bases, child-boundary, child-tips}
 
 -- what a list has is in it with one more element before it
 contains-behind : {X : Type 0} (y x : X) (xs : List X) → Contains xs x → Contains (y ∷ xs) x
@@ -42,12 +45,6 @@ contains-whole (suc n) [] x has = absurd (omega (arith, has.1))
 contains-whole (suc n) (y ∷ xs) x (zero, within, is) = (0, omega arith, is)
 contains-whole (suc n) (y ∷ xs) x (suc k, within, is) = contains-behind y x xs (contains-whole n xs x (k, omega arith, is))
 
--- what lies between steps stays joined where only the newest are kept
-joined-first : (keep size : ℕ) (layers : List Layer) → AreJoined size layers → AreJoined size (take keep layers)
-joined-first zero size layers joined = tt
-joined-first (suc keep) size [] joined = tt
-joined-first (suc keep) size (layer ∷ layers) joined = (joined.0, joined-first keep layer.base layers joined.1)
-
 -- the newest steps lead to the same list
 leads-first : (keep : ℕ) (layers : List Layer) (list : List Operation) (older : List (List Operation)) → LeadThrough layers list older → LeadThrough (take keep layers) list (take keep older)
 leads-first zero layers list older leads = tt
@@ -55,6 +52,22 @@ leads-first (suc keep) [] list [] leads = tt
 leads-first (suc keep) [] list (base ∷ older) leads = absurd leads
 leads-first (suc keep) (layer ∷ layers) list [] leads = absurd leads
 leads-first (suc keep) (layer ∷ layers) list (base ∷ older) leads = (leads.0, leads-first keep layers base older leads.1)
+
+-- no list that steps lead through is shorter than the one from which the oldest starts
+leads-above : (layers : List Layer) (base : List Operation) (kept : List Kept) → LeadThrough layers base (map (λ (k : Kept). k.base) kept)
+    → All (λ (l : List Operation). length (oldest_base base kept) ≤ length l) (base ∷ map (λ (k : Kept). k.base) kept)
+leads-above layers base [] leads = All-cons (λ (l : List Operation). length base ≤ length l) base [] (omega arith) (All-nil (λ (l : List Operation). length base ≤ length l))
+leads-above [] base (k ∷ ks) leads = absurd leads
+leads-above (layer ∷ layers) base (k ∷ ks) leads =
+    let high : List Operation → Type 0 = λ l. length (oldest_base k.base ks) ≤ length l in
+    let rest = leads-above layers k.base ks leads.1 in
+    let first = All-head high k.base (map (λ (k : Kept). k.base) ks) rest in
+    All-cons high base (map (λ (k : Kept). k.base) (k ∷ ks)) (omega (arith, first, ap length leads.0.list, length-append k.base layer.operations)) rest
+
+-- what holds of the image of each element
+all-mapped : {X Y : Type 0} (f : X → Y) (P : Y → Type 0) (xs : List X) → ((x : X) → Contains xs x → P (f x)) → All P (map f xs)
+all-mapped f P [] holds = All-nil P
+all-mapped f P (x ∷ xs) holds = All-cons P (f x) (map f xs) (holds x (contains-first x xs)) (all-mapped f P xs (λ y has. holds y (contains-behind x y xs has)))
 
 module _ {D : Type 0} (stands : Commitment) (low count : ℕ) (meta : Option Bytes) where
   -- a batch that is applied where it stands
@@ -81,39 +94,51 @@ module _ {D : Type 0} (stands : Commitment) (low count : ℕ) (meta : Option Byt
         joined = (omega arith, tt);
         leaves = refl;
         reached = All-cons (Contains at) stands.size at stop (All-cons (Contains at) stands.size [] stop (All-nil (Contains at)));
+        above = All-cons (λ n. stands.size ≤ n) stands.size [] (omega arith) (All-nil (λ n. stands.size ≤ n));
       })))
 
-module _ {D : Type 0} (parent : Made D) (keep : ℕ) (few : keep ≤ suc (length parent.bounds.ancestors)) (agreed : AreAgreed parent) where
-  -- the steps that a child keeps, behind its own, start where the states end at which it can be applied
-  child-starts : parent.bounds.tip.size ∷ bases (take keep parent.layers) ≡ map (λ c. c.size) (child_tips keep parent.bounds ++ child_boundary keep parent.bounds ∷ [])
-  child-starts =
-      let size : Commitment → ℕ = λ c. c.size in
-      let all = states parent.bounds in
-      let within : keep < length all = omega (arith, few, length-append parent.bounds.ancestors (parent.bounds.db ∷ [])) in
-      let one : suc keep ≡ keep + 1 = omega arith in
-      ap (λ ns. parent.bounds.tip.size ∷ ns) (sym (take-map (λ (l : Layer). l.base) keep parent.layers))
-      ∙ ap (λ ns. parent.bounds.tip.size ∷ take keep ns) agreed.starts
-      ∙ take-map size (suc keep) all
-      ∙ ap (λ n. map size (take n all)) one
-      ∙ ap (map size) (take_more all keep parent.bounds.db within)
+-- of stops, those at so many leaves or more are no fewer
+since-above : (low : ℕ) (ns : List ℕ) → All (λ n. low ≤ n) (stops_since low ns)
+since-above low [] = All-nil (λ n. low ≤ n)
+since-above low (n ∷ ns) = ⊎_elim
+    (λ (high : (nat_le low n ≡ true) × (low ≤ n)).
+    subst (All (λ n. low ≤ n)) (sym (ap (λ b. if b then n ∷ stops_since low ns else stops_since low ns) high.0)) (All-cons (λ n. low ≤ n) n (stops_since low ns) high.1 (since-above low ns)))
+    (λ (less : (nat_le low n ≡ false) × (n < low)).
+    subst (All (λ n. low ≤ n)) (sym (ap (λ b. if b then n ∷ stops_since low ns else stops_since low ns) less.0)) (since-above low ns))
+    (leb_tells low n)
 
+-- those among the stops, and not below, are among these
+all-since : (low : ℕ) (older ns : List ℕ) → All (Contains older) ns → All (λ n. low ≤ n) ns → All (Contains (stops_since low older)) ns
+all-since low older [] among above = All-nil (Contains (stops_since low older))
+all-since low older (n ∷ ns) among above =
+    All-cons (Contains (stops_since low older)) n ns
+    (stop-since low older n (All-head (Contains older) n ns among) (All-head (λ n. low ≤ n) n ns above))
+    (all-since low older ns (All-tail (Contains older) n ns among) (All-tail (λ n. low ≤ n) n ns above))
+
+module _ {D : Type 0} (parent : Made D) (keep : ℕ) (few : keep ≤ suc (length parent.bounds.ancestors)) (agreed : AreAgreed parent) where
   -- the numbers of a child agree
   pub child-agreed : (plan : Plan) (tree : KeptTree D) (root : Bytes) (meta : Option Bytes) → parent.bounds.tip.size + length plan.operations ≡ tree.leaves → tree.leaves ≤ 2 ^ 62 → plan.live ≤ tree.leaves
-      → stops tree.leaves tree.layers ≡ tree.leaves ∷ stops parent.tree.leaves parent.tree.layers → AreAgreed (child_made parent keep plan tree root meta)
+      → stops tree.leaves tree.layers ≡ tree.leaves ∷ stops_since (child_boundary keep parent.bounds).size (stops parent.tree.leaves parent.tree.layers) → AreAgreed (child_made parent keep plan tree root meta)
   child-agreed plan tree root meta count room live through =
+      let low = (child_boundary keep parent.bounds).size in
       let older = stops parent.tree.leaves parent.tree.layers in
+      let since = stops_since low older in
+      let sizes = parent.bounds.tip.size ∷ bases (take keep parent.layers) in
       let reached = All-take (Contains older) (suc keep) (parent.bounds.tip.size ∷ bases parent.layers) agreed.reached in
       let kept = subst (λ ns. All (Contains older) (parent.bounds.tip.size ∷ ns)) (take-map (λ (l : Layer). l.base) keep parent.layers) reached in
+      let high = child-bases-above parent agreed keep few in
+      let last = All-head (λ n. low ≤ n) parent.bounds.tip.size (bases (take keep parent.layers)) high in
       record {
         few = room;
         live = live;
         own = refl;
-        starts = child-starts;
+        starts = child-starts parent agreed keep few ∙ sym (map-append (λ (k : Commitment). k.size) (child_tips keep parent.bounds) (child_boundary keep parent.bounds ∷ []));
         joined = (count, joined-first keep parent.bounds.tip.size parent.layers agreed.joined);
         leaves = refl;
-        reached = subst (λ ns. All (Contains ns) (tree.leaves ∷ parent.bounds.tip.size ∷ bases (take keep parent.layers))) (sym through)
-            (All-cons (Contains (tree.leaves ∷ older)) tree.leaves (parent.bounds.tip.size ∷ bases (take keep parent.layers)) (contains-first tree.leaves older)
-            (All-weaker (Contains older) (Contains (tree.leaves ∷ older)) (λ n has. contains-behind tree.leaves n older has) (parent.bounds.tip.size ∷ bases (take keep parent.layers)) kept));
+        reached = subst (λ ns. All (Contains ns) (tree.leaves ∷ sizes)) (sym through)
+            (All-cons (Contains (tree.leaves ∷ since)) tree.leaves sizes (contains-first tree.leaves since)
+            (All-weaker (Contains since) (Contains (tree.leaves ∷ since)) (λ n has. contains-behind tree.leaves n since has) sizes (all-since low older sizes kept high)));
+        above = subst (All (λ n. low ≤ n)) (sym through) (All-cons (λ n. low ≤ n) tree.leaves since (omega (arith, last, count)) (since-above low older));
       }
 
 module _ {D : Type 0} (root : Bytes) (meta : Option Bytes) where
@@ -166,16 +191,37 @@ module _ {D : Type 0} {hashing : Hashing D} (parent : Made D) (keep : ℕ) (chai
   pub child-among : (list : List Operation) → Contains (bases_of chain) list → Contains (chain.base ∷ bases_of above) list
   child-among list has = contains-whole (suc keep) (chain.base ∷ bases_of above) list (subst (λ ls. Contains (chain.base ∷ ls) list) child-older has)
 
+  -- none of the lists from which a child's steps start is shorter than its boundary's
+  bases-above : All (λ (l : List Operation). (child_boundary keep parent.bounds).size ≤ length l) (bases_of chain)
+  bases-above =
+      let size : (child_boundary keep parent.bounds).size ≡ length (oldest_base chain.base chain.kept) = ap (λ c. c.size) (child-boundary parent keep chain above few made kept) in
+      let leads : LeadThrough (take keep parent.layers) chain.base (map (λ (k : Kept). k.base) chain.kept) =
+      subst (LeadThrough (take keep parent.layers) chain.base) (sym child-older) (leads-first keep parent.layers chain.base (bases_of above) made.steps) in
+      subst (λ n. All (λ (l : List Operation). n ≤ length l) (bases_of chain)) (sym size) (leads-above (take keep parent.layers) chain.base chain.kept leads)
+
+  -- the tree that leads through the lists of the parent, from the child's boundary on, leads through the child's
+  child-tree : (tree : KeptTree D) (tip : List Operation)
+      → IsKeptTree hashing.bytes hashing.hash hashing.shape tree (spellings hashing tip) (lists_since (child_boundary keep parent.bounds).size (map (spellings hashing) (chain.base ∷ bases_of above))) → IsTree hashing tree tip (bases_of chain)
+  child-tree tree tip grown =
+      let low = (child_boundary keep parent.bounds).size in
+      let all = map (spellings hashing) (chain.base ∷ bases_of above) in
+      kept-fewer hashing.hash hashing.shape hashing.bytes tree (spellings hashing tip) (lists_since low all) grown (map (spellings hashing) (bases_of chain))
+      (all-mapped (spellings hashing) (Contains (lists_since low all)) (bases_of chain)
+      (λ l found. list-since low all (spellings hashing l)
+      (contains-mapped (spellings hashing) (chain.base ∷ bases_of above) l
+      (contains-whole (suc keep) (chain.base ∷ bases_of above) l (subst (λ ls. Contains (chain.base ∷ ls) l) child-older found)))
+      (omega (arith, All-contains (λ (l : List Operation). low ≤ length l) (bases_of chain) l bases-above found, length-map l (spelling hashing.form)))))
+
   -- a plan on the parent's list makes a batch of the child's chain
-  pub child-is_made : (plan : Plan) (tree : KeptTree D) (root : Bytes) (meta : Option Bytes) (tip : List Operation) → IsPlan plan chain.base tip → IsKeptTree hashing tree tip (chain.base ∷ bases_of above)
+  pub child-is_made : (plan : Plan) (tree : KeptTree D) (root : Bytes) (meta : Option Bytes) (tip : List Operation) → IsPlan plan chain.base tip
+      → IsKeptTree hashing.bytes hashing.hash hashing.shape tree (spellings hashing tip) (lists_since (child_boundary keep parent.bounds).size (map (spellings hashing) (chain.base ∷ bases_of above)))
       → root ≡ list_root hashing tip → meta ≡ last_metadata tip → All (IsOf hashing.form) tip → IsMade hashing (child_made parent keep plan tree root meta) chain tip
   child-is_made plan tree root meta tip is grown standing last all =
-      let goes : List Operation → Type 0 = λ l. Contains (leaves_of hashing tip ∷ grown.lists) (leaves_of hashing l) in
       record {
         bounds = record {
           base = made.bounds.tip;
           db = child-boundary parent keep chain above few made kept;
-          tip = ap₂ (λ (size : ℕ) (r : Bytes). record { size = size; root = r }) grown.leaves standing;
+          tip = ap₂ (λ (size : ℕ) (r : Bytes). record { size = size; root = r }) (grown.leaves ∙ length-map tip (spelling hashing.form)) standing;
           ancestors = child-tips parent keep chain above few made kept;
         };
         lowest = is.floor;
@@ -186,12 +232,7 @@ module _ {D : Type 0} {hashing : Hashing D} (parent : Made D) (keep : ℕ) (chai
           record { size = ap (λ c. c.size) made.bounds.tip; list = plan-behind plan chain.base tip is; changes = is.changes },
           subst (LeadThrough (take keep parent.layers) chain.base) (sym child-older) (leads-first keep parent.layers chain.base (bases_of above) made.steps),
         );
-        tree = record {
-          leaves = grown.leaves;
-          lists = grown.lists;
-          history = grown.history;
-          through = subst (λ ls. All goes (chain.base ∷ ls)) (sym child-older) (All-take goes (suc keep) (chain.base ∷ bases_of above) grown.through);
-        };
+        tree = child-tree tree tip grown;
         of = all;
       }
 

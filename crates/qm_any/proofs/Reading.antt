@@ -13,7 +13,7 @@ use Rattle.qm_base.specs.Parts as parts
 use Rattle.qm_base.specs.declared.error.Error.{Error}
 use Rattle.qm_store.specs.declared.Store as store
 use Rattle.qm_batch.specs.Changes.{update_of, located}
-use Rattle.qm_batch.specs.Layers.{Layer, IsBase}
+use Rattle.qm_batch.specs.Layers.{Layer, LeadOver}
 use Rattle.qm_batch.specs.Lent.{IsReadError}
 use Rattle.qm_batch.proofs.Reading.{read-none, read-then, error-then, lent-then}
 use Rattle.qm_any.specs.Layouts.{Hashing, Layout}
@@ -50,8 +50,8 @@ left-database members layout old new list left is =
     })
 
 -- no steps lead from a list to itself
-pub itself-base : (layers : List Layer) (list : List Operation) → layers ≡ [] → IsBase layers list list
-itself-base layers list none = subst (λ ls. IsBase ls list list) (sym none) (record { older = []; steps = tt; among = Contains-first list [] })
+pub itself-base : (layers : List Layer) (list : List Operation) → layers ≡ [] → LeadOver layers list list
+itself-base layers list none = subst (λ ls. LeadOver ls list list) (sym none) (record { older = []; steps = tt; among = Contains-first list [] })
 
 -- the value of an update that is found of a key is its value
 pub value-found : (list : List Operation) (key : Bytes) → option_and_then (λ (p : ℕ × Operation). parts.value_of p.1) (update_of list key) ≡ value_of list key

@@ -6,12 +6,13 @@ use Rattle.std.proofs.lemmas.List.{append-nil, take_all, take_min, length-map}
 use Rattle.std.proofs.lemmas.List.Elements.{All-cons}
 use Rattle.qm_model.specs.Live.{touched}
 use Rattle.qm_batch.specs.Changes.{AreChanges, stands_at, place_in}
-use Rattle.qm_any.specs.KeptTrees.{leaves_of}
+use Rattle.qm_model.specs.Forms.{spelling}
+use Rattle.qm_store.specs.KeptTrees.{leaves_of}
 use Rattle.qm_model.specs.Operations.{Bytes, Operation}
 use Rattle.qm_model.specs.Batches.{Chain, Kept, commitment, begun_on, child_of}
 use Rattle.qm_model.proofs.Chains.{Contains-first}
 use Rattle.qm_store.specs.declared.Store as store
-use Rattle.qm_any.specs.Layouts.{Hashing, Layout, list_root}
+use Rattle.qm_any.specs.Layouts.{Hashing, Layout, list_root, spellings}
 use Rattle.qm_any.specs.Databases.{Database, Made, IsDatabase, IsMade, IsBegun, at_rest}
 
 -- a step that does nothing changes no key
@@ -28,6 +29,8 @@ module _ {C D : Type 0} {members : store.Ghosts C} {layout : Layout D} where
   -- the database is a batch that does nothing
   pub rest-made : (db : Database C D) (list : List Operation) → IsDatabase members layout db list → IsMade layout.hashing (at_rest db) (begun_on list) list
   rest-made db list is =
+      let by = layout.hashing in
+      let own = spellings by list in
       let size : db.commitment.size ≡ length list = ap (λ c. c.size) is.commitment in
       record {
         bounds = record { base = is.commitment; db = is.commitment; tip = is.commitment; ancestors = refl };
@@ -36,7 +39,12 @@ module _ {C D : Type 0} {members : store.Ghosts C} {layout : Layout D} where
         metadata = is.metadata;
         linked = tt;
         steps = (record { size = size; list = sym (append-nil list); changes = still list }, tt);
-        tree = record { leaves = size; lists = []; history = tt; through = All-one (λ l. Contains (leaves_of layout.hashing list ∷ []) (leaves_of layout.hashing l)) list (Contains-first (leaves_of layout.hashing list) []) };
+        tree = record {
+          leaves = size ∙ sym (length-map list (spelling by.form));
+          lists = [];
+          history = tt;
+          through = All-one (λ l. Contains (leaves_of by.hash by.shape own ∷ []) (leaves_of by.hash by.shape l)) own (Contains-first (leaves_of by.hash by.shape own) []);
+        };
         of = is.lent.of;
       }
 

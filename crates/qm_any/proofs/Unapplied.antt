@@ -2,23 +2,27 @@
 use Rattle.std.proofs.Common.{◌≡◌, ℕ, ◌≤◌, ◌<◌, ◌+◌, true, false, List, [], ◌∷◌, ◌++◌, refl, ap, ap₂, sym, ◌∙◌, subst, arith, append_assoc, length, take, drop, map, get_or, ⊎_elim}
 use Rattle.std.specs.Prelude.{All, Contains, nat_le, if◌then◌else◌, Option, Some, None, IsSome}
 use Rattle.std.proofs.lemmas.Bool.Decides.{leb_tells}
-use Rattle.std.proofs.lemmas.List.{take_all, append-nil, length-append, map_more, map-append, nil_from_length}
+use Rattle.std.proofs.lemmas.List.{take-map, take_all, append-nil, length-append, map_more, map-append, nil_from_length}
 use Rattle.std.proofs.lemmas.List.Elements.{All-nil, All-cons, All-head, All-append, All-take, All-drop}
 use Rattle.std.proofs.Math.Seq.{take-append_seam, drop-append_seam}
-use Rattle.qm_model.specs.Causes.{Grows}
+use Rattle.qm_model.specs.Causes.{Grows, IsCause}
 use Rattle.qm_model.specs.Forms.{spelling}
 use Rattle.qm_model.specs.Operations.{Bytes, Operation}
 use Rattle.qm_model.specs.Batches.{Chain, IsOnChain}
+use Rattle.qm_base.specs.declared.error.Error.{Error}
+use Rattle.qm_base.specs.declared.error.Error.TheVariants as errors
+use Rattle.qm_base.specs.declared.error.JournalError.TheVariants as journal
 use Rattle.qm_store.specs.declared.Store as store
 use Rattle.qm_store.specs.Log.{IsLog, HasGrown}
 use Rattle.qm_batch.specs.Changes.{Changes, LeadTo}
 use Rattle.qm_batch.specs.Lent.{IsIndexed}
 use Rattle.qm_batch.specs.Layers.{Layer, LeadThrough}
 use Rattle.qm_batch.proofs.Members.{first_or_later, Contains-first, Contains-later}
-use Rattle.qm_any.specs.Layouts.{Layout}
+use Rattle.qm_store.specs.KeptTrees.{IsKeptTree}
+use Rattle.qm_any.specs.Layouts.{Layout, spellings}
 use Rattle.qm_any.specs.Given.{Appended, AppendedPart}
 use Rattle.qm_any.specs.Databases.{Database, Made, IsDatabase, IsMade, bases_of, unapplied, operations_in, bases, AreJoined}
-use Rattle.qm_any.proofs.Known.{on_chain-base}
+use Rattle.qm_any.proofs.Known.{contains-mapped, on_chain-base}
 
 -- one more behind a list is what h makes of one more of another's elements
 pub mapped-behind : {A B X Y : Type 0} (h : B → Y) (f : A → B) (view : X → Y) (first : List Y) (xs : List A) (i : ℕ) (d : A) (made more : List X) (x : X) → i < length xs → d ≡ get_or xs i d
@@ -47,6 +51,10 @@ all-behind f P Q xs i d within here one so_far all =
 -- and of all of a list that was gone through
 pub all-whole : {A Y : Type 0} (f : A → Y) (P Q : Y → Type 0) (xs : List A) (i : ℕ) → length xs ≤ i → (All P (map f (take i xs)) → All Q (map f (take i xs))) → All P (map f xs) → All Q (map f xs)
 all-whole f P Q xs i past so_far = subst (λ ys. All P (map f ys) → All Q (map f ys)) (take_all i xs past) so_far
+
+-- the first of what is seen alike are seen alike
+pub diffs-first : {X Y V Z : Type 0} (view : X → Z) (value : Y → V) (f : V → Z) (xs : List X) (ys part : List Y) (k : ℕ) → map view xs ≡ map f (map value ys) → part ≡ take k ys → map view (take k xs) ≡ map f (map value part)
+diffs-first view value f xs ys part k same first = sym (take-map view k xs) ∙ ap (take k) same ∙ take-map f k (map value ys) ∙ ap (map f) (take-map value k ys ∙ ap (map value) (sym first))
 
 -- the newest layer is lacking where it starts from the list's end or later, and nothing is where it starts before
 pub unapplied-more : (n : ℕ) (layer : Layer) (layers : List Layer) → nat_le n layer.base ≡ true → unapplied n (layer ∷ layers) ≡ layer ∷ unapplied n layers
@@ -154,6 +162,14 @@ lacked-behind layers tip older n leads among =
     (ap (drop (length lent)) (lacked-lists layers tip older lent leads (Contains-later tip older lent here.1)).0
     ∙ drop-append_seam lent (operations_in (unapplied (length lent) layers)))
 
+-- a store whose items grew starts where it did
+pub appended : {C : Type 0} (members : store.Ghosts C) (old new : C) (more : List Bytes) → HasGrown members old new more → Appended members old new more
+appended members old new more grown = record { start = grown.start; items = grown.items }
+
+-- want of memory is no fault
+pub memory-cause : (before now : ℕ) (e : Error) → before ≤ now → e ≡ errors.Memory → IsCause before now (e ≡ errors.Journal journal.Store)
+memory-cause before now e later is = record { later = later; failed = λ fault. absurd (cc (is, fault)) }
+
 -- what grew by all of these grew by a first part of them
 pub part-whole : {C : Type 0} (members : store.Ghosts C) (old new : C) (more : List Bytes) → HasGrown members old new more → AppendedPart members old new more
 part-whole members old new more grown = record {
@@ -175,7 +191,8 @@ module _ {C D : Type 0} (members : store.Ghosts C) (layout : Layout D) where
   pub applied : (db next : Database C D) (batch : Made D) (list : List Operation) (chain : Chain) (tip : List Operation) (n : ℕ) (items : List Bytes) (changes : List Changes)
       → IsDatabase members layout db list → IsMade layout.hashing batch chain tip → IsOnChain list chain → n ≡ db.commitment.size
       → items ≡ map (spelling layout.hashing.form) (operations_in (unapplied n batch.layers)) → changes ≡ map (λ l. l.changes) (unapplied n batch.layers)
-      → ((l : List Operation) → IsLog members layout.hashing.shape layout.hashing.bytes layout.hashing.hash db.log (map (spelling layout.hashing.form) l) → IsLog members layout.hashing.shape layout.hashing.bytes layout.hashing.hash next.log (map (spelling layout.hashing.form) l ++ items))
+      → ((l : List Bytes) (older : List (List Bytes)) → IsLog members layout.hashing.shape layout.hashing.bytes layout.hashing.hash db.log l
+      → IsKeptTree layout.hashing.bytes layout.hashing.hash layout.hashing.shape batch.tree (l ++ items) older → Contains ((l ++ items) ∷ older) l → IsLog members layout.hashing.shape layout.hashing.bytes layout.hashing.hash next.log (l ++ items))
       → ((l t : List Operation) → LeadTo changes l t → IsIndexed layout.index_key db.entries l → IsIndexed layout.index_key next.entries t)
       → (next.commitment ≡ batch.bounds.tip) × (next.floor ≡ batch.bounds.inactivity_floor) × (next.live ≡ batch.live) × (next.metadata ≡ batch.metadata)
       → Appended members db.log.store next.log.store items
@@ -184,13 +201,18 @@ module _ {C D : Type 0} (members : store.Ghosts C) (layout : Layout D) where
       let size : length list ≡ n = sym (at ∙ ap (λ k. k.size) is.commitment) in
       let lacked : IsLacked (unapplied n batch.layers) list tip = subst (λ m. IsLacked (unapplied m batch.layers) list tip) size
       (lacked-lists batch.layers tip (bases_of chain) list made.steps (Contains-later tip (bases_of chain) list (on_chain-base list chain made.linked on))) in
+      let spelled_list = spellings layout.hashing in
+      let older = map spelled_list (bases_of chain) in
+      let among = contains-mapped spelled_list (bases_of chain) list (on_chain-base list chain made.linked on) in
       let all : map (spelling layout.hashing.form) list ++ items ≡ map (spelling layout.hashing.form) tip =
       ap (λ xs. map (spelling layout.hashing.form) list ++ xs) spelled ∙ sym (map-append (spelling layout.hashing.form) list (operations_in (unapplied n batch.layers))) ∙ ap (map (spelling layout.hashing.form)) (sym lacked.0) in
       record {
         told = grown-told (members.items db.log.store) (members.items next.log.store) items is.told grown.items;
         lent = record {
           indexed = index list tip (subst (λ cs. LeadTo cs list tip) (sym done) lacked.1) is.lent.indexed;
-          logged = subst (IsLog members layout.hashing.shape layout.hashing.bytes layout.hashing.hash next.log) all (log list is.lent.logged);
+          logged = subst (IsLog members layout.hashing.shape layout.hashing.bytes layout.hashing.hash next.log) all (log (spelled_list list) older is.lent.logged
+              (subst (λ xs. IsKeptTree layout.hashing.bytes layout.hashing.hash layout.hashing.shape batch.tree xs older) (sym all) made.tree)
+              (Contains-later (spelled_list list ++ items) older (spelled_list list) among));
           of = made.of;
         };
         commitment = rest.0 ∙ made.bounds.tip;

@@ -11,11 +11,12 @@ use Rattle.qm_merkle.specs.Batches.{stops}
 use Rattle.qm_chain.specs.Bounds.{Bounds, IsBounds, is_at}
 use Rattle.qm_store.specs.declared.Store as store
 use Rattle.qm_store.specs.Log.{Log}
+use Rattle.qm_batch.specs.Bases.{Base}
 use Rattle.qm_batch.specs.Layers.{Layer, LeadThrough}
 use Rattle.qm_batch.specs.Lent.{IsLent, IsRead}
 use Rattle.qm_batch.specs.Views.{Plan}
-use Rattle.qm_any.specs.KeptTrees.{KeptTree, IsKeptTree}
-use Rattle.qm_any.specs.Layouts.{Hashing, Layout, list_root}
+use Rattle.qm_store.specs.KeptTrees.{KeptTree, IsKeptTree}
+use Rattle.qm_any.specs.Layouts.{Hashing, Layout, list_root, spellings}
 
 -- a database: the locations of live keys by index key, its log, what stands for its list, and this list's floor, count
 -- of live keys and metadata
@@ -41,6 +42,10 @@ pub record Begun (D : Type 0) : Type 0 where
   pub parent : Made D
   pub keep : ℕ
   pub writes : List Write
+
+-- what a merkleized batch knows of the list that it makes
+abbrev pub base_of : {D : Type 0} → Made D → Base
+base_of batch = record { layers = batch.layers; size = batch.bounds.tip.size; floor = batch.bounds.inactivity_floor; live = batch.live }
 
 -- the bounds of a database as a batch, which keeps no ancestor and does nothing
 abbrev pub bounds_at_rest : {C D : Type 0} → Database C D → Bounds
@@ -91,7 +96,7 @@ AreJoined size [] = ⊤
 AreJoined size (layer ∷ layers) = (layer.base + length layer.operations ≡ size) × AreJoined layer.base layers
 
 -- the numbers of a merkleized batch agree: the first of its layers is its own, the layers start where its kept ancestors
--- and its boundary end, and its tree goes through all of these
+-- and its boundary end, and its tree goes through all of these and keeps nothing below the boundary
 pub record AreAgreed {D : Type 0} (batch : Made D) : Type 0 where
   pub few : batch.bounds.tip.size ≤ 2 ^ 62
   pub live : batch.live ≤ batch.bounds.tip.size
@@ -100,6 +105,7 @@ pub record AreAgreed {D : Type 0} (batch : Made D) : Type 0 where
   pub joined : AreJoined batch.bounds.tip.size batch.layers
   pub leaves : batch.tree.leaves ≡ batch.bounds.tip.size
   pub reached : All (Contains (stops batch.tree.leaves batch.tree.layers)) (batch.bounds.tip.size ∷ bases batch.layers)
+  pub above : All (λ n. batch.bounds.db.size ≤ n) (stops batch.tree.leaves batch.tree.layers)
 
 -- the batch that a plan makes on its parent: it keeps so many ancestors, the parent first
 abbrev pub child_made : {D : Type 0} → Made D → ℕ → Plan → KeptTree D → Bytes → Option Bytes → Made D
@@ -139,6 +145,10 @@ abbrev pub list_commitment : {D : Type 0} → Hashing D → List Operation → C
 list_commitment hashing list = commitment (list_root hashing) list
 
 module _ {D : Type 0} (hashing : Hashing D) where
+  -- the tree is that of the list, and leads to it through each of the older lists
+  abbrev pub IsTree : KeptTree D → List Operation → List (List Operation) → Type 0
+  IsTree tree list older = IsKeptTree hashing.bytes hashing.hash hashing.shape tree (spellings hashing list) (map (spellings hashing) older)
+
   -- the batch is of this chain, and makes this list
   pub record IsMade (batch : Made D) (chain : Chain) (tip : List Operation) : Type 0 where
     pub bounds : IsBounds (list_root hashing) batch.bounds chain tip
@@ -147,7 +157,7 @@ module _ {D : Type 0} (hashing : Hashing D) where
     pub metadata : batch.metadata ≡ last_metadata tip
     pub linked : AreLinked chain.base chain.kept
     pub steps : LeadThrough batch.layers tip (bases_of chain)
-    pub tree : IsKeptTree hashing batch.tree tip (bases_of chain)
+    pub tree : IsTree batch.tree tip (bases_of chain)
     pub of : All (IsOf hashing.form) tip
 
   -- the batch is of this chain, and its parent of that one

@@ -1,7 +1,7 @@
 -- How the lists of a database are spelled, hashed and indexed.
-use Rattle.std.specs.Prelude.{ℕ, List}
+use Rattle.std.specs.Prelude.{ℕ, List, map}
 use Rattle.qm_model.specs.Operations.{Bytes, Operation}
-use Rattle.qm_model.specs.Forms.{Form}
+use Rattle.qm_model.specs.Forms.{Form, spelling}
 use Rattle.qm_model.specs.Trees.{Shape, ops_root}
 use Rattle.qm_base.specs.declared.digest.Digest as digest
 use Rattle.qm_base.specs.declared.digest.Hasher as hasher
@@ -20,6 +20,10 @@ pub record Hashing (D : Type 0) : Type 0 where
 pub record Layout (D : Type 0) : Type 0 where
   pub hashing : Hashing D
   pub index_key : Bytes → ℕ
+
+-- the spellings of a list
+abbrev pub spellings : {D : Type 0} → Hashing D → List Operation → List Bytes
+spellings hashing list = map (spelling hashing.form) list
 
 -- the operations root of a list
 abbrev pub list_root : {D : Type 0} → Hashing D → List Operation → Bytes

@@ -1,6 +1,5 @@
 pub mod Given
 pub mod Layouts
-pub mod KeptTrees
 pub mod Databases
 pub mod Tips
 pub mod Refusals

@@ -11,15 +11,15 @@ ghost use Rattle.qm_model.specs.Proofs.{ops_proof, pins_at};
 ghost use Rattle.qm_model.specs.Refusals.{too_long};
 ghost use Rattle.qm_model.specs.Trees as trees;
 ghost use Rattle.qm_model.specs.Writes.{read_through};
-ghost use Rattle.qm_merkle.specs.Batches.{stops};
+ghost use Rattle.qm_merkle.specs.Batches.{stops, stops_since};
 ghost use Rattle.qm_merkle.specs.Proofs.{proof_view, first_lacked, needed_positions};
 ghost use Rattle.qm_chain.specs.Bounds.{commitment_view, is_at, knows};
-ghost use Rattle.qm_batch.specs.Layers.{IsBase};
+ghost use Rattle.qm_batch.specs.Bases.{IsBase, base_view};
 ghost use Rattle.qm_batch.specs.Lent.{IsReadError};
 ghost use Rattle.qm_batch.specs.Views.{changes_view, IsPlan};
-ghost use Rattle.qm_any.specs.Databases.{IsDatabase, IsBegun, IsMade, IsLeft, bases, child_boundary, child_made, child_tips, is_on, kept_by, operations_in, stepped, unapplied};
+ghost use Rattle.qm_any.specs.Databases.{IsDatabase, IsBegun, IsMade, IsLeft, base_of, bases, child_boundary, child_made, child_tips, is_on, kept_by, operations_in, stepped, unapplied};
 ghost use Rattle.qm_store.specs.Log.{IsLacked};
-ghost use Rattle.qm_any.specs.KeptTrees.{held_at};
+ghost use Rattle.qm_store.specs.KeptTrees.{held_at};
 ghost use Rattle.qm_any.specs.Tips.{IsLow, IsTaken, IsRefused};
 ghost use Rattle.qm_base.specs.Views.{operation_views};
 ghost use Rattle.qm_any.specs.Layouts.{Hashing};
@@ -27,7 +27,7 @@ ghost use Rattle.qm_any.specs.Views.{policy_view, write_views};
 
 use crate::db::{Db, LaidOut};
 use crate::operations::{
-    Step, diffs_of, refuse, spelled, spelled_steps, twin_option, unapplied_of,
+    Step, diffs_of, refuse, share, shared, spelled, spelled_steps, twin_option, unapplied_of,
 };
 use crate::policy::Proportional;
 use qm_base::update::{Unordered, Update};
@@ -35,17 +35,13 @@ use qm_base::{
     ByteString, Commitment, Digest, Error, Hasher, JournalError, Location, MerkleError,
     ValueEncoding,
 };
-use qm_batch::{Layer, Plan, Write};
+use qm_batch::{Base, Layer, Plan, Write};
 use qm_chain::{Bounds, Diff, validate_batch_applicable};
 use qm_merkle::{Family, Proof};
-use qm_store::Store;
+use qm_store::{KeptTree, Store};
 use std::alloc::{AllocError, Global};
 use std::marker::Model;
 use std::rc::Rc;
-
-mod tree;
-
-pub(crate) use tree::KeptTree;
 
 /// A batch: writes that are recorded on a list, which is a database's or a merkleized batch's.
 #[derive(Drop)]
@@ -71,12 +67,12 @@ impl<F: Family, D: Digest, U: Update> Model for UnmerkleizedBatch<F, D, U> {
 /// that it knows.
 #[derive(Drop)]
 pub struct MerkleizedBatch<F: Family, D: Digest, U: Update> {
-    bounds: Bounds<F, D>,
+    pub(crate) bounds: Bounds<F, D>,
     steps: Vec<Rc<Layer<F, U>>>,
     diffs: Vec<Rc<Diff<F, U::Key, U::Value>>>,
-    tree: KeptTree<F, D>,
-    live: u64,
-    metadata: Option<U::Value>,
+    pub(crate) tree: KeptTree<F, D>,
+    pub(crate) live: u64,
+    pub(crate) metadata: Option<Rc<U::Value>>,
 }
 
 impl<F: Family, D: Digest, U: Update> Model for MerkleizedBatch<F, D, U> {
@@ -86,24 +82,21 @@ impl<F: Family, D: Digest, U: Update> Model for MerkleizedBatch<F, D, U> {
 
     ghost Value = { Made D };
 
-    ghost view = { λ b. record { bounds = b.bounds; layers = map (λ l. l.value) b.steps.items; tree = b.tree; live = b.live; metadata = option_map U.Value.bytes b.metadata } };
+    ghost view = { λ b. record { bounds = b.bounds; layers = map (λ l. l.value) b.steps.items; tree = b.tree; live = b.live; metadata = option_map (λ m. U.Value.bytes m.value) b.metadata } };
 
-    ghost invariant = { λ b. AreAgreed {D = D} (record { bounds = b.bounds; layers = map (λ l. l.value) b.steps.items; tree = b.tree; live = b.live; metadata = option_map U.Value.bytes b.metadata })
+    ghost invariant = { λ b. AreAgreed {D = D} (record { bounds = b.bounds; layers = map (λ l. l.value) b.steps.items; tree = b.tree; live = b.live; metadata = option_map (λ m. U.Value.bytes m.value) b.metadata })
         × (map (λ d. changes_view U.Key.bytes U.Value.bytes d.value) b.diffs.items ≡ map (λ l. l.changes) (map (λ l. l.value) b.steps.items)) };
 }
 
 /// What a database lacks of a batch's list.
 #[derive(Drop)]
-pub(crate) struct Lacking<F, D, U: Update> {
+pub(crate) struct Lacking<'a, F, U: Update> {
     /// The spellings of the operations that it lacks.
     pub(crate) items: Vec<Vec<u8>>,
     /// What these do to keys, by steps, newest first.
-    pub(crate) diffs: Vec<Rc<Diff<F, U::Key, U::Value>>>,
-    /// What stands for the list.
-    pub(crate) tip: Commitment<D>,
-    pub(crate) floor: Location<F>,
-    pub(crate) live: u64,
-    pub(crate) metadata: Option<U::Value>,
+    pub(crate) diffs: &'a [Rc<Diff<F, U::Key, U::Value>>],
+    /// The metadata of the list.
+    pub(crate) metadata: Option<Rc<U::Value>>,
 }
 
 impl<F: Family, D: Digest, U: Update> UnmerkleizedBatch<F, D, U> {
@@ -201,6 +194,7 @@ impl<F: Family, D: Digest, K: ByteString, V: ValueEncoding<K>> UnmerkleizedBatch
             → OnOk result (IsTaken ⟦<Unordered<K, V> as Update>⟧.form chain.base (stepped chain.base self.writes (policy_view policy.old) (option_map V.Value.bytes metadata))) }
         ensures refused { (list : List Operation) (chain above : Chain) → IsDatabase C.Store ⟦<Db<F, C, I, H, Unordered<K, V>> as LaidOut>⟧.layout db.old list → IsBegun ⟦<Db<F, C, I, H, Unordered<K, V>> as LaidOut>⟧.layout.hashing self chain above → IsOnChain list chain
             → IfErr result (λ e. IsRefused ⟦<Unordered<K, V> as Update>⟧.form chain.base (stepped chain.base self.writes (policy_view policy.old) (option_map V.Value.bytes metadata)) e ⊎ IsReadError C.Store db.old.log db.new.log e) }
+        ensures above { IfOk result (λ b. All (λ n. b.value.bounds.db.size ≤ n) (stops b.value.tree.leaves b.value.tree.layers)) }
         ensures stale { IfErr result (λ e. e ≡ Error.StaleBatch → is_on db.old.commitment self ≡ false) }
         ensures order { IfErr result (λ e. e ≢ Error.Memory → e ≢ Error.StaleBatch → is_on db.old.commitment self ≡ true) }
         ensures cause { IfErr result (λ e. e ≡ Error.Journal JournalError.Store → Rose (C.faults db.old.log.store) (C.faults db.new.log.store)) }
@@ -370,7 +364,7 @@ impl<F: Family, D: Digest, U: Update> MerkleizedBatch<F, D, U> {
         commitment: Commitment<D>,
         floor: Location<F>,
         live: u64,
-        metadata: Option<U::Value>,
+        metadata: Option<Rc<U::Value>>,
     ) -> Result<Rc<Self>, AllocError>
         requires few { commitment.size ≤ 2 ^ 62 }
         requires live { live ≤ commitment.size }
@@ -379,7 +373,7 @@ impl<F: Family, D: Digest, U: Update> MerkleizedBatch<F, D, U> {
           layers = record { base = commitment.size; operations = []; changes = [] } ∷ [];
           tree = record { leaves = commitment.size; layers = [] };
           live = live;
-          metadata = option_map U.Value.bytes metadata;
+          metadata = option_map (λ m. U.Value.bytes m.value) metadata;
         }) }
     {
         let diff = Rc::new(alloc, Diff::new(Vec::new(alloc)))?;
@@ -457,6 +451,20 @@ impl<F: Family, D: Digest, U: Update> MerkleizedBatch<F, D, U> {
         Ok(steps)
     }
 
+    // What is known of the list that the batch makes.
+    fn base(&self) -> Base<'_, F, U>
+        ensures value { base_view result ≡ base_of self.now }
+        ensures size { result.size ≤ 2 ^ 62 }
+        ensures live { result.live ≤ result.size }
+    {
+        Base {
+            layers: &self.steps,
+            size: self.bounds.tip.size,
+            floor: Location::new(self.bounds.inactivity_floor.get()),
+            live: self.live,
+        }
+    }
+
     // Whether the batch can be read at this state of a database, which is then one of those that its steps lead through.
     fn known(&self, current: &Commitment<D>) -> Result<(), Error>
         ensures readable { OnOk result (knows self.now.bounds (commitment_view D.bytes current.now) ≡ true) }
@@ -471,6 +479,7 @@ impl<F: Family, D: Digest, U: Update> MerkleizedBatch<F, D, U> {
         ensures fits { OnOk result (is_at (commitment_view D.bytes current.now) self.now.bounds.db self.now.bounds.ancestors ≡ true) }
         ensures stale { IfErr result (λ e. (e ≡ Error.StaleBatch) × (is_at (commitment_view D.bytes current.now) self.now.bounds.db self.now.bounds.ancestors ≡ false)) }
         ensures among { OnOk result (Contains (bases self.now.layers) current.now.size) }
+        ensures reached { OnOk result (Contains (stops self.now.tree.leaves self.now.tree.layers) current.now.size) }
     {
         self.bounds.validate_apply_to(current)
     }
@@ -491,31 +500,24 @@ impl<F: Family, D: Digest, U: Update> MerkleizedBatch<F, D, U> {
     }
 
     // What a database at this state lacks of the list, where the batch can be applied to it.
-    pub(crate) fn lacking(
-        &self,
-        alloc: Global,
-        current: &Commitment<D>,
-    ) -> Result<Lacking<F, D, U>, Error>
+    pub(crate) fn lacking(&self, alloc: Global, current: &Commitment<D>) -> Result<Lacking<'_, F, U>, Error>
         ensures items { IfOk result (λ lack. map (λ v. v.items) lack.items.items ≡ map (spelling U.form) (operations_in (unapplied current.now.size self.now.layers))) }
-        ensures diffs { IfOk result (λ lack. map (λ d. changes_view U.Key.bytes U.Value.bytes d.value) lack.diffs.items ≡ map (λ l. l.changes) (unapplied current.now.size self.now.layers)) }
-        ensures rest { IfOk result (λ lack. (commitment_view D.bytes lack.tip ≡ self.now.bounds.tip) × (lack.floor ≡ self.now.bounds.inactivity_floor) × (lack.live ≡ self.now.live) × (option_map U.Value.bytes lack.metadata ≡ self.now.metadata)) }
-        ensures count { IfOk result (λ lack. current.now.size + length lack.items.items ≡ lack.tip.size) }
-        ensures few { IfOk result (λ lack. (lack.tip.size ≤ 2 ^ 62) × (lack.live ≤ lack.tip.size)) }
+        ensures diffs { IfOk result (λ lack. map (λ d. changes_view U.Key.bytes U.Value.bytes d.value) lack.diffs.now ≡ map (λ l. l.changes) (unapplied current.now.size self.now.layers)) }
+        ensures metadata { IfOk result (λ lack. option_map (λ m. U.Value.bytes m.value) lack.metadata ≡ self.now.metadata) }
+        ensures count { IfOk result (λ lack. current.now.size + length lack.items.items ≡ self.now.bounds.tip.size) }
         ensures among { OnOk result (Contains (bases self.now.layers) current.now.size) }
+        ensures reached { OnOk result (Contains (stops self.now.tree.leaves self.now.tree.layers) current.now.size) }
         ensures fits { OnOk result (is_at (commitment_view D.bytes current.now) self.now.bounds.db self.now.bounds.ancestors ≡ true) }
         ensures stale { IfErr result (λ e. (e ≡ Error.Memory) ⊎ ((e ≡ Error.StaleBatch) × (is_at (commitment_view D.bytes current.now) self.now.bounds.db self.now.bounds.ancestors ≡ false))) }
     {
         self.fits(current)?;
         let steps = unapplied_of(&self.steps, current.size);
         let items = spelled_steps(alloc, steps)?;
-        let diffs = diffs_of(alloc, steps)?;
-        let metadata = twin_option(alloc, &self.metadata)?;
+        let (diffs, _) = self.diffs.split_at(steps.len());
+        let metadata = share(&self.metadata)?;
         Ok(Lacking {
             items,
             diffs,
-            tip: self.bounds.tip,
-            floor: Location::new(self.bounds.inactivity_floor.get()),
-            live: self.live,
             metadata,
         })
     }
@@ -551,13 +553,15 @@ fn made_on<
         → OnOk result (IsTaken ⟦<Unordered<K, V> as Update>⟧.form chain.base (stepped chain.base (write_views K.bytes V.Value.bytes writes.now) proportional (option_map V.Value.bytes metadata))) }
     ensures refused { (list : List Operation) (chain above : Chain) → IsDatabase C.Store ⟦<Db<F, C, I, H, Unordered<K, V>> as LaidOut>⟧.layout db.old list → IsMade ⟦<Db<F, C, I, H, Unordered<K, V>> as LaidOut>⟧.layout.hashing parent.now above chain.base → chain.kept ≡ kept_by keep above chain.base → IsOnChain list chain
         → IfErr result (λ e. IsRefused ⟦<Unordered<K, V> as Update>⟧.form chain.base (stepped chain.base (write_views K.bytes V.Value.bytes writes.now) proportional (option_map V.Value.bytes metadata)) e ⊎ IsReadError C.Store db.old.log db.new.log e) }
+    ensures above { IfOk result (λ b. All (λ n. b.value.bounds.db.size ≤ n) (stops b.value.tree.leaves b.value.tree.layers)) }
     ensures never { IfErr result (λ e. e ≢ Error.StaleBatch) }
     ensures cause { IfErr result (λ e. e ≡ Error.Journal JournalError.Store → Rose (C.faults db.old.log.store) (C.faults db.new.log.store)) }
     ensures left { IsLeft C.Store ⟦<Db<F, C, I, H, Unordered<K, V>> as LaidOut>⟧.layout.hashing db.old db.new }
 {
-    let copy = twin_option(alloc, &metadata)?;
+    let copy = shared(alloc, twin_option(alloc, &metadata)?)?;
     let (plan, items) = planned(alloc, db, parent, writes, metadata)?;
-    let (tree, root) = db.grown(alloc, &parent.tree, &items, plan.floor.get())?;
+    let floor = plan.floor.get();
+    let (tree, root) = db.grown(alloc, &parent.tree, &items, floor, boundary.size)?;
     let batch = sealed(alloc, parent, keep, boundary, tips, plan, tree, root, copy)?;
     Ok(batch)
 }
@@ -578,36 +582,23 @@ fn planned<
     writes: &[Write<K, V::Value>],
     metadata: Option<V::Value>,
 ) -> Result<(Plan<F, Unordered<K, V>>, Vec<Vec<u8>>), Error>
-    ensures plan { (list base : List Operation) → IsDatabase C.Store ⟦<Db<F, C, I, H, Unordered<K, V>> as LaidOut>⟧.layout db.old list → IsBase parent.now.layers list base → parent.now.bounds.tip.size ≡ length base → parent.now.bounds.inactivity_floor ≡ lives.floor base → parent.now.live ≡ length (lives.live base)
+    ensures plan { (list base : List Operation) → IsDatabase C.Store ⟦<Db<F, C, I, H, Unordered<K, V>> as LaidOut>⟧.layout db.old list → IsBase (base_of parent.now) list base
         → IfOk result (λ made. IsPlan made.0 base (stepped base (write_views K.bytes V.Value.bytes writes.now) proportional (option_map V.Value.bytes metadata))) }
     ensures items { IfOk result (λ made. map (λ v. v.items) made.1.items ≡ map (spelling ⟦<Unordered<K, V> as Update>⟧.form) (made.0).operations) }
     ensures of { IfOk result (λ made. All IsLow (made.0).operations → All (IsOf ⟦<Unordered<K, V> as Update>⟧.form) (made.0).operations) }
     ensures room { IfOk result (λ made. parent.now.bounds.tip.size + length made.1.items ≤ 2 ^ 62) }
     ensures short { IfOk result (λ made. too_long (map (λ v. v.items) made.1.items) ≡ None) }
     ensures live { IfOk result (λ made. (made.0).live ≤ parent.now.bounds.tip.size + length made.1.items) }
-    ensures refused { (list base : List Operation) → IsDatabase C.Store ⟦<Db<F, C, I, H, Unordered<K, V>> as LaidOut>⟧.layout db.old list → IsBase parent.now.layers list base → parent.now.bounds.tip.size ≡ length base → parent.now.bounds.inactivity_floor ≡ lives.floor base → parent.now.live ≡ length (lives.live base)
+    ensures refused { (list base : List Operation) → IsDatabase C.Store ⟦<Db<F, C, I, H, Unordered<K, V>> as LaidOut>⟧.layout db.old list → IsBase (base_of parent.now) list base
         → IfErr result (λ e. IsRefused ⟦<Unordered<K, V> as Update>⟧.form base (stepped base (write_views K.bytes V.Value.bytes writes.now) proportional (option_map V.Value.bytes metadata)) e ⊎ IsReadError C.Store db.old.log db.new.log e) }
     ensures never { IfErr result (λ e. e ≢ Error.StaleBatch) }
     ensures cause { IfErr result (λ e. e ≡ Error.Journal JournalError.Store → Rose (C.faults db.old.log.store) (C.faults db.new.log.store)) }
     ensures left { IsLeft C.Store ⟦<Db<F, C, I, H, Unordered<K, V>> as LaidOut>⟧.layout.hashing db.old db.new }
 {
-    let Bounds {
-        tip,
-        inactivity_floor,
-        ..
-    } = &parent.bounds;
-    let floor = Location::new(inactivity_floor.get());
-    let plan = db.plan(
-        alloc,
-        &parent.steps,
-        tip.size,
-        floor,
-        parent.live,
-        writes,
-        metadata,
-    )?;
+    let base = parent.base();
+    let plan = db.plan(alloc, &base, writes, metadata)?;
     let items = spelled(alloc, &plan.operations)?;
-    match refuse(&items, tip.size + items.len() as u64) {
+    match refuse(&items, base.size + items.len() as u64) {
         Ok(()) => Ok((plan, items)),
         Err(error) => Err(error),
     }
@@ -624,7 +615,7 @@ fn sealed<F: Family, D: Digest, U: Update>(
     plan: Plan<F, U>,
     tree: KeptTree<F, D>,
     root: D,
-    metadata: Option<U::Value>,
+    metadata: Option<Rc<U::Value>>,
 ) -> Result<Rc<MerkleizedBatch<F, D, U>>, AllocError>
     requires keep { keep ≤ suc (length parent.now.bounds.ancestors) }
     requires boundary { commitment_view D.bytes boundary ≡ child_boundary keep parent.now.bounds }
@@ -632,8 +623,9 @@ fn sealed<F: Family, D: Digest, U: Update>(
     requires count { parent.now.bounds.tip.size + length plan.operations ≡ tree.leaves }
     requires few { tree.leaves ≤ 2 ^ 62 }
     requires live { plan.live ≤ tree.leaves }
-    requires stops { stops tree.leaves tree.layers ≡ tree.leaves ∷ stops parent.now.tree.leaves parent.now.tree.layers }
-    ensures { IfOk result (λ b. b.value ≡ child_made parent.now keep plan tree (D.bytes root) (option_map U.Value.bytes metadata)) }
+    requires stops { stops tree.leaves tree.layers ≡ tree.leaves ∷ stops_since (child_boundary keep parent.now.bounds).size (stops parent.now.tree.leaves parent.now.tree.layers) }
+    ensures value { IfOk result (λ b. b.value ≡ child_made parent.now keep plan tree (D.bytes root) (option_map (λ m. U.Value.bytes m.value) metadata)) }
+    ensures above { IfOk result (λ b. All (λ n. b.value.bounds.db.size ≤ n) (stops b.value.tree.leaves b.value.tree.layers)) }
 {
     let Plan {
         operations,

@@ -11,31 +11,33 @@ ghost use Rattle.qm_model.specs.Proofs.{ops_proof, pins_at};
 ghost use Rattle.qm_model.specs.Trees as trees;
 ghost use Rattle.qm_model.specs.Trees.{ops_root};
 ghost use Rattle.qm_model.specs.Writes.{read_through, write_of, last_writes};
-ghost use Rattle.qm_merkle.specs.Batches.{stops};
+ghost use Rattle.qm_merkle.specs.Batches.{stops, stops_since, lists_since};
 ghost use Rattle.qm_merkle.specs.Proofs.{proof_view, first_lacked, needed_positions};
 ghost use Rattle.qm_store.specs.Log as logs;
 ghost use Rattle.qm_store.specs.Log.{IsLacked};
 ghost use Rattle.qm_chain.specs.Bounds.{commitment_view, is_at};
-ghost use Rattle.qm_batch.specs.Layers.{IsBase};
+ghost use Rattle.qm_batch.specs.Bases.{IsBase, base_view};
+ghost use Rattle.qm_batch.specs.Layers.{LeadOver};
 ghost use Rattle.qm_batch.specs.Changes.{LeadTo};
 ghost use Rattle.qm_batch.specs.Lent.{IsIndexed, IsReadError, NoneBelow};
 ghost use Rattle.qm_batch.specs.Views.{changes_view, write_view, IsPlan};
-ghost use Rattle.qm_any.specs.Databases.{Database, IsBegun, IsDatabase, IsLeft, IsMade, at_rest, bases, operations_in, stepped, unapplied};
+ghost use Rattle.qm_any.specs.Databases.{Database, IsBegun, IsDatabase, IsLeft, IsMade, IsTree, at_rest, stepped};
 ghost use Rattle.qm_any.specs.Given.{Appended, AppendedPart, store_given};
-ghost use Rattle.qm_any.specs.KeptTrees.{IsKeptTree, held_at};
+ghost use Rattle.qm_store.specs.KeptTrees.{IsKeptTree, held_at};
 ghost use Rattle.qm_any.specs.Views.{write_views};
 
-use crate::batch::{KeptTree, Lacking, MerkleizedBatch, UnmerkleizedBatch};
-use crate::operations::{Step, twin_option};
+use crate::batch::{Lacking, MerkleizedBatch, UnmerkleizedBatch};
+use crate::operations::{Step, copy_of, share, twin_option};
 use crate::refusal::{Given, Refusal};
 use qm_base::update::{Unordered, Update};
 use qm_base::{
     ByteString, Commitment, Digest, Error, Hasher, JournalError, Location, MerkleError,
     ValueEncoding,
 };
-use qm_batch::{Plan, Write, apply_diffs, plain, read_key};
+use qm_batch::{Base, Plan, Write, apply_diffs, plain, read_key};
+use qm_chain::Diff;
 use qm_merkle::{Family, Proof};
-use qm_store::{AuthLog, LogGiven, LogRefusal, Store};
+use qm_store::{AuthLog, KeptTree, LogGiven, LogRefusal, Store};
 use std::alloc::{AllocError, Global};
 use std::marker::Model;
 use std::rc::Rc;
@@ -56,7 +58,7 @@ pub struct Db<
     commitment: Commitment<H::Digest>,
     floor: Location<F>,
     live: u64,
-    metadata: Option<U::Value>,
+    metadata: Option<Rc<U::Value>>,
 }
 
 impl<
@@ -72,7 +74,7 @@ impl<
 
     ghost Value = { Database C H.Digest };
 
-    ghost view = { λ db. record { entries = I.entries db.index; log = db.log; commitment = commitment_view H.Digest.bytes db.commitment; floor = db.floor; live = db.live; metadata = option_map U.Value.bytes db.metadata } };
+    ghost view = { λ db. record { entries = I.entries db.index; log = db.log; commitment = commitment_view H.Digest.bytes db.commitment; floor = db.floor; live = db.live; metadata = option_map (λ m. U.Value.bytes m.value) db.metadata } };
 
     ghost invariant = { λ db. (db.commitment.size ≡ db.log.tree.leaves) × (C.end db.log.store ≡ db.log.tree.leaves) × (db.live ≤ db.commitment.size) };
 }
@@ -114,12 +116,12 @@ impl<
         commitment: Commitment<H::Digest>,
         floor: Location<F>,
         live: u64,
-        metadata: Option<U::Value>,
+        metadata: Option<Rc<U::Value>>,
     ) -> Self
         requires size { commitment.size ≡ log.tree.leaves }
         requires end { C.end log.store ≡ log.tree.leaves }
         requires live { live ≤ commitment.size }
-        ensures { result ≡ record { entries = I.entries index; log = log; commitment = commitment_view H.Digest.bytes commitment; floor = floor; live = live; metadata = option_map U.Value.bytes metadata } }
+        ensures { result ≡ record { entries = I.entries index; log = log; commitment = commitment_view H.Digest.bytes commitment; floor = floor; live = live; metadata = option_map (λ m. U.Value.bytes m.value) metadata } }
     {
         Db {
             index,
@@ -154,7 +156,7 @@ impl<
     {
         // The log has at most 2^62 items.
         self.log.bounds();
-        let metadata = twin_option(alloc, &self.metadata)?;
+        let metadata = share(&self.metadata)?;
         let floor = Location::new(self.floor.get());
         MerkleizedBatch::at_rest(alloc, self.commitment, floor, self.live, metadata)
     }
@@ -196,21 +198,26 @@ impl<
                 given: Given::Database(self),
                 error,
             }),
-            Ok(lacking) => self.moved(alloc, lacking),
+            Ok(lacking) => self.moved(lacking, batch),
         }
     }
 
-    // The database with what it lacked of a list.
-    fn moved(self, alloc: Global, lacking: Lacking<F, H::Digest, U>) -> Result<Self, Refusal<Self, C>>
-        requires count { self.commitment.size + length lacking.items.items ≡ lacking.tip.size }
-        requires few { lacking.tip.size ≤ 2 ^ 62 }
-        requires live { lacking.live ≤ lacking.tip.size }
-        ensures log { IfOk result (λ next. (list : List Operation) → logs.IsLog C.Store F.shape H.Digest.bytes H.hash self.log (map (spelling U.form) list) → logs.IsLog C.Store F.shape H.Digest.bytes H.hash next.log (map (spelling U.form) list ++ map (λ v. v.items) lacking.items.items)) }
-        ensures index { IfOk result (λ next. (list tip : List Operation) → LeadTo (map (λ d. changes_view U.Key.bytes U.Value.bytes d.value) lacking.diffs.items) list tip → IsIndexed I.index_key self.entries list → IsIndexed I.index_key next.entries tip) }
-        ensures rest { IfOk result (λ next. (next.commitment ≡ commitment_view H.Digest.bytes lacking.tip) × (next.floor ≡ lacking.floor) × (next.live ≡ lacking.live) × (next.metadata ≡ option_map U.Value.bytes lacking.metadata)) }
-        ensures grown { IfOk result (λ next. Appended C.Store self.log.store next.log.store (map (λ v. v.items) lacking.items.items)) }
+    // The database with a batch's list, of which it lacked this. The batch's tree has the leaves, so nothing is hashed.
+    fn moved(
+        self,
+        lacking: Lacking<'_, F, U>,
+        batch: &MerkleizedBatch<F, H::Digest, U>,
+    ) -> Result<Self, Refusal<Self, C>>
+        requires count { self.commitment.size + length lacking.items.items ≡ batch.now.bounds.tip.size }
+        requires reach { Contains (stops batch.now.tree.leaves batch.now.tree.layers) self.commitment.size }
+        ensures log { IfOk result (λ next. (list : List (List ℕ)) (older : List (List (List ℕ))) → logs.IsLog C.Store F.shape H.Digest.bytes H.hash self.log list
+            → IsKeptTree H.Digest.bytes H.hash F.shape batch.now.tree (list ++ map (λ v. v.items) lacking.entry.items.items) older → Contains ((list ++ map (λ v. v.items) lacking.entry.items.items) ∷ older) list
+            → logs.IsLog C.Store F.shape H.Digest.bytes H.hash next.log (list ++ map (λ v. v.items) lacking.entry.items.items)) }
+        ensures index { IfOk result (λ next. (list tip : List Operation) → LeadTo (map (λ d. changes_view U.Key.bytes U.Value.bytes d.value) lacking.entry.diffs.now) list tip → IsIndexed I.index_key self.entries list → IsIndexed I.index_key next.entries tip) }
+        ensures rest { IfOk result (λ next. (next.commitment ≡ batch.now.bounds.tip) × (next.floor ≡ batch.now.bounds.inactivity_floor) × (next.live ≡ batch.now.live) × (next.metadata ≡ option_map (λ m. U.Value.bytes m.value) lacking.entry.metadata)) }
+        ensures grown { IfOk result (λ next. Appended C.Store self.log.store next.log.store (map (λ v. v.items) lacking.entry.items.items)) }
         ensures later { IfOk result (λ next. C.faults self.log.store ≤ C.faults next.log.store) }
-        ensures part { IfErr result (λ r. AppendedPart C.Store self.log.store (store_given (λ db. db.log.store) r.given) (map (λ v. v.items) lacking.items.items)) }
+        ensures part { IfErr result (λ r. AppendedPart C.Store self.log.store (store_given (λ db. db.log.store) r.given) (map (λ v. v.items) lacking.entry.items.items)) }
         ensures back { IfErr result (λ r. (x : Database C H.Digest) → r.given ≡ Given.Database x → (x ≡ self) × (r.error ≡ Error.Memory)) }
         ensures causes { IfErr result (λ r. (r.error ≡ Error.Memory) ⊎ (r.error ≡ Error.Journal JournalError.Store)) }
         ensures cause { IfErr result (λ r. IsCause (C.faults self.log.store) (C.faults (store_given (λ db. db.log.store) r.given)) (r.error ≡ Error.Journal JournalError.Store)) }
@@ -223,8 +230,8 @@ impl<
             live,
             metadata,
         } = self;
-        match log.append_batch(alloc, &lacking.items) {
-            Ok(log) => indexed(index, log, lacking),
+        match log.append_tree(&lacking.items, &batch.tree) {
+            Ok(log) => indexed(index, log, lacking.diffs, batch, lacking.metadata),
             Err(LogRefusal { given, error }) => Err(Refusal {
                 given: given_back(index, commitment, floor, live, metadata, given),
                 error,
@@ -259,7 +266,7 @@ impl<
         writes: &[Write<U::Key, U::Value>],
         key: &U::Key,
     ) -> Result<Option<U::Value>, Error>
-        ensures value { (list base : List Operation) → IsDatabase C.Store ⟦<Self as LaidOut>⟧.layout self.old list → IsBase (map (λ l. l.value) steps.now) list base
+        ensures value { (list base : List Operation) → IsDatabase C.Store ⟦<Self as LaidOut>⟧.layout self.old list → LeadOver (map (λ l. l.value) steps.now) list base
             → IfOk result (λ v. option_map U.Value.bytes v ≡ read_through base (write_views U.Key.bytes U.Value.bytes writes.now) (U.Key.bytes key.now)) }
         ensures error { IfErr result (IsReadError C.Store self.old.log self.new.log) }
         ensures whole { (list : List Operation) → IsDatabase C.Store ⟦<Self as LaidOut>⟧.layout self.old list → NoneBelow self.old.log.tree.start list → IfErr result (λ e. (n : ℕ) → e ≢ Error.Journal (JournalError.ItemPruned n)) }
@@ -282,7 +289,7 @@ impl<
         writes: &[Write<U::Key, U::Value>],
         keys: &[U::Key],
     ) -> Result<Vec<Option<U::Value>>, Error>
-        ensures values { (list base : List Operation) → IsDatabase C.Store ⟦<Self as LaidOut>⟧.layout self.old list → IsBase (map (λ l. l.value) steps.now) list base
+        ensures values { (list base : List Operation) → IsDatabase C.Store ⟦<Self as LaidOut>⟧.layout self.old list → LeadOver (map (λ l. l.value) steps.now) list base
             → IfOk result (λ v. map (option_map U.Value.bytes) v.items ≡ map (λ k. read_through base (write_views U.Key.bytes U.Value.bytes writes.now) (U.Key.bytes k)) keys.now) }
         ensures error { IfErr result (IsReadError C.Store self.old.log self.new.log) }
         ensures left { IsLeft C.Store ⟦<Self as LaidOut>⟧.layout.hashing self.old self.new }
@@ -295,27 +302,30 @@ impl<
         Ok(values)
     }
 
-    // A batch's tree with the leaves of these items behind it, and the root of its list with this floor.
+    // A batch's tree with the leaves of these items behind it, and the root of its list with this floor. It keeps nothing
+    // of what led to lists of fewer operations than the boundary's.
     pub(crate) fn grown(
         &mut self,
         alloc: Global,
         tree: &KeptTree<F, H::Digest>,
         items: &[Vec<u8>],
         floor: u64,
+        boundary: u64,
     ) -> Result<(KeptTree<F, H::Digest>, H::Digest), AllocError>
         requires room { tree.now.leaves + length items.now ≤ 2 ^ 62 }
         requires reach { Contains (stops tree.now.leaves tree.now.layers) self.old.commitment.size }
+        requires boundary { boundary ≤ self.old.commitment.size }
         ensures leaves { IfOk result (λ grown. grown.0.leaves ≡ tree.now.leaves + length items.now) }
-        ensures stops { IfOk result (λ grown. stops grown.0.leaves grown.0.layers ≡ grown.0.leaves ∷ stops tree.now.leaves tree.now.layers) }
-        ensures tree { (list base tip : List Operation) (older : List (List Operation)) → IsDatabase C.Store ⟦<Self as LaidOut>⟧.layout self.old list → IsKeptTree ⟦<Self as LaidOut>⟧.layout.hashing tree.now base older
-            → Contains (base ∷ older) list → map (spelling U.form) base ++ map (λ v. v.items) items.now ≡ map (spelling U.form) tip
-            → IfOk result (λ grown. IsKeptTree ⟦<Self as LaidOut>⟧.layout.hashing grown.0 tip (base ∷ older)) }
-        ensures root { (list base tip : List Operation) (older : List (List Operation)) → IsDatabase C.Store ⟦<Self as LaidOut>⟧.layout self.old list → IsKeptTree ⟦<Self as LaidOut>⟧.layout.hashing tree.now base older
-            → Contains (base ∷ older) list → map (spelling U.form) base ++ map (λ v. v.items) items.now ≡ map (spelling U.form) tip → floor ≡ lives.floor tip
-            → IfOk result (λ grown. H.Digest.bytes grown.1 ≡ ops_root H.hash F.shape U.form tip) }
+        ensures stops { IfOk result (λ grown. stops grown.0.leaves grown.0.layers ≡ grown.0.leaves ∷ stops_since boundary (stops tree.now.leaves tree.now.layers)) }
+        ensures tree { (list base : List Operation) (older : List (List Operation)) → IsDatabase C.Store ⟦<Self as LaidOut>⟧.layout self.old list → IsTree ⟦<Self as LaidOut>⟧.layout.hashing tree.now base older → Contains (base ∷ older) list
+            → IfOk result (λ grown. IsKeptTree H.Digest.bytes H.hash F.shape grown.0 (map (spelling U.form) base ++ map (λ v. v.items) items.now) (lists_since boundary (map (map (spelling U.form)) (base ∷ older)))) }
+        ensures root { (list base tip : List Operation) (older : List (List Operation)) → IsDatabase C.Store ⟦<Self as LaidOut>⟧.layout self.old list → IsTree ⟦<Self as LaidOut>⟧.layout.hashing tree.now base older → Contains (base ∷ older) list
+            → map (spelling U.form) base ++ map (λ v. v.items) items.now ≡ map (spelling U.form) tip → floor ≡ lives.floor tip → IfOk result (λ grown. H.Digest.bytes grown.1 ≡ ops_root H.hash F.shape U.form tip) }
         ensures same { self.new ≡ self.old }
     {
-        tree.grown(alloc, &mut self.log, items, floor)
+        let leaves = tree.leaves() + items.len() as u64;
+        let inactive = F::inactive_peaks(Location::new(leaves), Location::new(floor));
+        tree.grown(alloc, &mut self.log, items, inactive, boundary)
     }
 
     // The proof of the operations from `start` on in the list of a batch's tree, which has this floor.
@@ -327,18 +337,21 @@ impl<
         start: u64,
     ) -> Result<Proof<H::Digest>, Error>
         requires start { start ≤ tree.now.leaves }
+        requires few { tree.now.leaves ≤ 2 ^ 62 }
         requires reach { Contains (stops tree.now.leaves tree.now.layers) self.now.commitment.size }
-        ensures value { (list tip : List Operation) (older : List (List Operation)) → IsDatabase C.Store ⟦<Self as LaidOut>⟧.layout self.now list → IsKeptTree ⟦<Self as LaidOut>⟧.layout.hashing tree.now tip older
+        ensures value { (list tip : List Operation) (older : List (List Operation)) → IsDatabase C.Store ⟦<Self as LaidOut>⟧.layout self.now list → IsTree ⟦<Self as LaidOut>⟧.layout.hashing tree.now tip older
             → Contains (tip ∷ older) list → floor ≡ lives.floor tip
             → IfOk result (λ p. proof_view H.Digest.bytes p ≡ ops_proof H.hash F.shape U.form tip start (length tip)) }
         ensures held { OnOk result (first_lacked (held_at F.shape tree.now self.now.log.tree) (needed_positions F.shape tree.now.leaves start tree.now.leaves) ≡ None) }
         ensures cause { IfErr result (IsLacked (held_at F.shape tree.now self.now.log.tree) (needed_positions F.shape tree.now.leaves start tree.now.leaves)) }
-        ensures whole { C.start self.now.log.store ≡ 0 → (list tip : List Operation) (older : List (List Operation)) → IsDatabase C.Store ⟦<Self as LaidOut>⟧.layout self.now list → IsKeptTree ⟦<Self as LaidOut>⟧.layout.hashing tree.now tip older
+        ensures whole { C.start self.now.log.store ≡ 0 → (list tip : List Operation) (older : List (List Operation)) → IsDatabase C.Store ⟦<Self as LaidOut>⟧.layout self.now list → IsTree ⟦<Self as LaidOut>⟧.layout.hashing tree.now tip older
             → Contains (tip ∷ older) list → IfErr result (λ e. e ≡ Error.Memory) }
     {
         // The log is kept from where its store is.
         self.log.bounds();
-        tree.proof(alloc, &self.log, floor, start)
+        let leaves = tree.leaves();
+        let inactive = F::inactive_peaks(Location::new(leaves), Location::new(floor));
+        tree.proof(alloc, &self.log, inactive, start, leaves)
     }
 
     // The digests of the peaks over the first `count` operations of the list of a batch's tree.
@@ -350,11 +363,11 @@ impl<
     ) -> Result<Vec<H::Digest>, Error>
         requires count { count ≤ tree.now.leaves }
         requires reach { Contains (stops tree.now.leaves tree.now.layers) self.now.commitment.size }
-        ensures value { (list tip : List Operation) (older : List (List Operation)) → IsDatabase C.Store ⟦<Self as LaidOut>⟧.layout self.now list → IsKeptTree ⟦<Self as LaidOut>⟧.layout.hashing tree.now tip older
+        ensures value { (list tip : List Operation) (older : List (List Operation)) → IsDatabase C.Store ⟦<Self as LaidOut>⟧.layout self.now list → IsTree ⟦<Self as LaidOut>⟧.layout.hashing tree.now tip older
             → Contains (tip ∷ older) list → IfOk result (λ pins. map H.Digest.bytes pins.items ≡ pins_at H.hash F.shape U.form tip count) }
         ensures held { OnOk result (first_lacked (held_at F.shape tree.now self.now.log.tree) (trees.peak_positions F.shape count) ≡ None) }
         ensures cause { IfErr result (IsLacked (held_at F.shape tree.now self.now.log.tree) (trees.peak_positions F.shape count)) }
-        ensures whole { C.start self.now.log.store ≡ 0 → (list tip : List Operation) (older : List (List Operation)) → IsDatabase C.Store ⟦<Self as LaidOut>⟧.layout self.now list → IsKeptTree ⟦<Self as LaidOut>⟧.layout.hashing tree.now tip older
+        ensures whole { C.start self.now.log.store ≡ 0 → (list tip : List Operation) (older : List (List Operation)) → IsDatabase C.Store ⟦<Self as LaidOut>⟧.layout self.now list → IsTree ⟦<Self as LaidOut>⟧.layout.hashing tree.now tip older
             → Contains (tip ∷ older) list → IfErr result (λ e. e ≡ Error.Memory) }
     {
         // The log is kept from where its store is.
@@ -366,7 +379,7 @@ impl<
     pub fn get_metadata(&self, alloc: Global) -> Result<Option<U::Value>, AllocError>
         ensures { IfOk result (λ v. option_map U.Value.bytes v ≡ self.now.metadata) }
     {
-        twin_option(alloc, &self.metadata)
+        copy_of(alloc, &self.metadata)
     }
 
     /// The operations root of the list.
@@ -451,42 +464,27 @@ impl<
     K: ByteString,
     V: ValueEncoding<K>,
 > Db<F, C, I, H, Unordered<K, V>> {
-    // What writes and metadata make of the base list of a batch of these steps.
-    #[allow(clippy::too_many_arguments)]
+    // What writes and metadata make of a base list.
     pub(crate) fn plan(
         &mut self,
         alloc: Global,
-        steps: &[Step<F, Unordered<K, V>>],
-        size: u64,
-        floor: Location<F>,
-        live: u64,
+        base: &Base<'_, F, Unordered<K, V>>,
         writes: &[Write<K, V::Value>],
         metadata: Option<V::Value>,
     ) -> Result<Plan<F, Unordered<K, V>>, Error>
-        requires size { size ≤ 2 ^ 62 }
-        requires live { live ≤ size }
-        ensures plan { (list base : List Operation) → IsDatabase C.Store ⟦<Self as LaidOut>⟧.layout self.old list → IsBase (map (λ l. l.value) steps.now) list base
-            → size ≡ length base → floor ≡ lives.floor base → live ≡ length (lives.live base)
-            → IfOk result (λ plan. IsPlan plan base (stepped base (write_views K.bytes V.Value.bytes writes.now) proportional (option_map V.Value.bytes metadata))) }
-        ensures live { IfOk result (λ plan. plan.live ≤ size + length plan.operations) }
+        requires size { base.now.size ≤ 2 ^ 62 }
+        requires live { base.now.live ≤ base.now.size }
+        ensures plan { (list known : List Operation) → IsDatabase C.Store ⟦<Self as LaidOut>⟧.layout self.old list → IsBase (base_view base.now) list known
+            → IfOk result (λ plan. IsPlan plan known (stepped known (write_views K.bytes V.Value.bytes writes.now) proportional (option_map V.Value.bytes metadata))) }
+        ensures live { IfOk result (λ plan. plan.live ≤ base.now.size + length plan.operations) }
         ensures error { IfErr result (IsReadError C.Store self.old.log self.new.log) }
         ensures left { IsLeft C.Store ⟦<Self as LaidOut>⟧.layout.hashing self.old self.new }
     {
-        plain(
-            alloc,
-            &self.index,
-            &mut self.log,
-            steps,
-            size,
-            floor,
-            live,
-            writes,
-            metadata,
-        )
+        plain(alloc, &self.index, &mut self.log, base, writes, metadata)
     }
 }
 
-// The database of a log that has what was lacking, where the index takes it too.
+// The database of a log that has a batch's list, where the index takes it too.
 fn indexed<
     F: Family,
     C: Store,
@@ -496,25 +494,26 @@ fn indexed<
 >(
     index: I,
     log: AuthLog<F, C, H>,
-    lacking: Lacking<F, H::Digest, U>,
+    diffs: &[Rc<Diff<F, U::Key, U::Value>>],
+    batch: &MerkleizedBatch<F, H::Digest, U>,
+    metadata: Option<Rc<U::Value>>,
 ) -> Result<Db<F, C, I, H, U>, Refusal<Db<F, C, I, H, U>, C>>
-    requires size { lacking.tip.size ≡ log.tree.leaves }
+    requires size { batch.now.bounds.tip.size ≡ log.tree.leaves }
     requires end { C.end log.store ≡ log.tree.leaves }
-    requires live { lacking.live ≤ lacking.tip.size }
     ensures log { IfOk result (λ next. next.log ≡ log) }
-    ensures index { IfOk result (λ next. (list tip : List Operation) → LeadTo (map (λ d. changes_view U.Key.bytes U.Value.bytes d.value) lacking.diffs.items) list tip → IsIndexed I.index_key (I.entries index) list → IsIndexed I.index_key next.entries tip) }
-    ensures rest { IfOk result (λ next. (next.commitment ≡ commitment_view H.Digest.bytes lacking.tip) × (next.floor ≡ lacking.floor) × (next.live ≡ lacking.live) × (next.metadata ≡ option_map U.Value.bytes lacking.metadata)) }
+    ensures index { IfOk result (λ next. (list tip : List Operation) → LeadTo (map (λ d. changes_view U.Key.bytes U.Value.bytes d.value) diffs.now) list tip → IsIndexed I.index_key (I.entries index) list → IsIndexed I.index_key next.entries tip) }
+    ensures rest { IfOk result (λ next. (next.commitment ≡ batch.now.bounds.tip) × (next.floor ≡ batch.now.bounds.inactivity_floor) × (next.live ≡ batch.now.live) × (next.metadata ≡ option_map (λ m. U.Value.bytes m.value) metadata)) }
     ensures back { IfErr result (λ r. (r.given ≡ Given.Store log.store) × (r.error ≡ Error.Memory)) }
 {
     let mut index = index;
-    match apply_diffs(&mut index, &lacking.diffs) {
+    match apply_diffs(&mut index, diffs) {
         Ok(()) => Ok(Db {
             index,
             log,
-            commitment: lacking.tip,
-            floor: lacking.floor,
-            live: lacking.live,
-            metadata: lacking.metadata,
+            commitment: batch.bounds.tip,
+            floor: Location::new(batch.bounds.inactivity_floor.get()),
+            live: batch.live,
+            metadata,
         }),
         Err(_) => Err(Refusal {
             given: Given::Store(log.close()),
@@ -535,14 +534,14 @@ fn given_back<
     commitment: Commitment<H::Digest>,
     floor: Location<F>,
     live: u64,
-    metadata: Option<U::Value>,
+    metadata: Option<Rc<U::Value>>,
     given: LogGiven<AuthLog<F, C, H>, C>,
 ) -> Given<Db<F, C, I, H, U>, C>
     requires whole { (log : logs.Log C H.Digest) → given ≡ LogGiven.Log log → (commitment.size ≡ log.tree.leaves) × (C.end log.store ≡ log.tree.leaves) }
     requires live { live ≤ commitment.size }
     ensures store { store_given (λ db. db.log.store) result ≡ logs.store_given given }
     ensures back { (x : Database C H.Digest) → result ≡ Given.Database x → (given ≡ LogGiven.Log x.log)
-        × (x ≡ record { entries = I.entries index; log = x.log; commitment = commitment_view H.Digest.bytes commitment; floor = floor; live = live; metadata = option_map U.Value.bytes metadata }) }
+        × (x ≡ record { entries = I.entries index; log = x.log; commitment = commitment_view H.Digest.bytes commitment; floor = floor; live = live; metadata = option_map (λ m. U.Value.bytes m.value) metadata }) }
 {
     match given {
         LogGiven::Log(log) => Given::Database(Db {

@@ -1,6 +1,6 @@
 //! Operations of a database, and what batches put behind its list.
 
-ghost use Rattle.std.specs.Prelude.{◌≡◌, ◌⊎◌, ◌≤◌, ◌^◌, ◌++◌, ℕ, None, length, map, option_map, All, IfOk, IfErr, OnOk};
+ghost use Rattle.std.specs.Prelude.{◌≡◌, ◌⊎◌, ◌≤◌, ◌^◌, ◌++◌, ℕ, None, length, map, take, option_map, All, IfOk, IfErr, OnOk};
 ghost use Rattle.qm_model.specs.Forms.{IsOf, spelling};
 ghost use Rattle.qm_model.specs.Refusals.{too_long};
 ghost use Rattle.qm_any.specs.Databases.{unapplied, operations_in};
@@ -37,6 +37,48 @@ pub(crate) fn twin_option<B: ByteString>(
             let copy = value.twin(alloc)?;
             Ok(Some(copy))
         }
+    }
+}
+
+/// A copy of a shared value, where there is one.
+pub(crate) fn copy_of<B: ByteString>(
+    alloc: Global,
+    value: &Option<Rc<B>>,
+) -> Result<Option<B>, AllocError>
+    ensures { IfOk result (λ copy. option_map B.bytes copy ≡ option_map (λ b. B.bytes b.value) value.now) }
+{
+    match value {
+        None => Ok(None),
+        Some(value) => {
+            let copy = value.twin(alloc)?;
+            Ok(Some(copy))
+        }
+    }
+}
+
+/// The value, shared with whoever has it.
+pub(crate) fn share<B: ByteString>(value: &Option<Rc<B>>) -> Result<Option<Rc<B>>, AllocError>
+    ensures { IfOk result (λ shared. option_map (λ b. B.bytes b.value) shared ≡ option_map (λ b. B.bytes b.value) value.now) }
+{
+    match value {
+        None => Ok(None),
+        Some(value) => {
+            let shared = value.clone()?;
+            Ok(Some(shared))
+        }
+    }
+}
+
+/// A value that can be shared.
+pub(crate) fn shared<B: ByteString>(
+    alloc: Global,
+    value: Option<B>,
+) -> Result<Option<Rc<B>>, AllocError>
+    ensures { IfOk result (λ shared. option_map (λ b. B.bytes b.value) shared ≡ option_map B.bytes value) }
+{
+    match value {
+        None => Ok(None),
+        Some(value) => Ok(Some(Rc::new(alloc, value)?)),
     }
 }
 
@@ -90,7 +132,9 @@ pub(crate) fn unapplied_of<F, U: Update>(
     steps: &[Step<F, U>],
     size: u64,
 ) -> &[Step<F, U>]
-    ensures { map (λ l. l.value) result.now ≡ unapplied size (map (λ l. l.value) steps.now) }
+    ensures value { map (λ l. l.value) result.now ≡ unapplied size (map (λ l. l.value) steps.now) }
+    ensures first { result.now ≡ take (length result.now) steps.now }
+    ensures few { length result.now ≤ length steps.now }
 {
     for at in 0..steps.len() {
         if steps[at].base() < size {

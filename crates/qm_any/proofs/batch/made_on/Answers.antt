@@ -1,4 +1,4 @@
-use Rattle.std.proofs.Common.{◌≡◌, ◌≤◌, ◌^◌, ◌∙◌, None, ap, sym, subst, refl, map, length, arith, inl, option_map}
+use Rattle.std.proofs.Common.{◌∷◌, ◌++◌, ◌≡◌, ◌≤◌, ◌^◌, ◌∙◌, None, ap, sym, subst, refl, map, length, arith, inl, option_map}
 use Rattle.std.specs.Prelude.{Contains}
 use Rattle.std.proofs.lemmas.List.{length-map}
 use Rattle.std.proofs.lemmas.Result.{err_from_is_err_and}
@@ -7,11 +7,12 @@ use Rattle.qm_model.specs.Policies.{proportional}
 use Rattle.qm_model.specs.Refusals.{too_long}
 use Rattle.qm_merkle.specs.Batches.{stops}
 use Rattle.qm_batch.specs.PlanViews.{unordered_form}
-use Rattle.qm_any.specs.Layouts.{hashing_with}
-use Rattle.qm_any.specs.Databases.{AreAgreed, AreLinked, IsMade, bases_of, child_made, stepped}
-use Rattle.qm_any.specs.KeptTrees.{KeptTree, IsKeptTree}
+use Rattle.qm_any.specs.Layouts.{hashing_with, spellings}
+use Rattle.qm_any.specs.Databases.{AreAgreed, AreLinked, IsMade, IsTree, bases_of, child_boundary, child_made, stepped}
+use Rattle.qm_merkle.specs.Batches.{lists_since}
+use Rattle.qm_store.specs.KeptTrees.{KeptTree, IsKeptTree}
 use Rattle.qm_any.specs.Views.{write_views}
-use Rattle.qm_any.proofs.Agreed.{child-reached}
+use Rattle.qm_any.proofs.Agreed.{child-reached, child-above}
 use Rattle.qm_any.proofs.Known.{on_chain-base, child-base, child-linked}
 use Rattle.qm_any.proofs.Making.{child-among, child-is_made, plan-length, plan-spelled, stepped-metadata, stepped-of}
 use Rattle.qm_any.proofs.Reading.{left-database}
@@ -21,7 +22,7 @@ pub returns-in_err-plan-clause-refused : goal.returns-in_err-plan-clause-refused
 returns-in_err-plan-clause-refused g c = λ list chain above is made kept on.
     let exit = err_from_is_err_and c.from_residual-in_err-plan.result c.from_residual-in_err-plan.ensures.1 in
     let from = child-base c.args.parent.now c.args.keep list chain above made kept on in
-    rw (exit.1, exit.2) (c.in_err-plan.ensures.refused list chain.base is from (ap (λ k. k.size) made.bounds.tip) made.lowest made.live)
+    rw (exit.1, exit.2) (c.in_err-plan.ensures.refused list chain.base is from)
 
 pub grown-requires-clause-reach : goal.grown-requires-clause-reach
 grown-requires-clause-reach g c =
@@ -30,6 +31,14 @@ grown-requires-clause-reach g c =
     let size : c.planned.new.db.commitment.size ≡ c.args.db.now.commitment.size = ap (λ d. d.commitment.size) c.in_ok-plan.ensures.left.rest in
     subst (λ (t : KeptTree g.row.D.Denot). Contains (stops t.leaves t.layers) c.planned.new.db.commitment.size) (sym (ap (λ m. m.tree) c.parent.view_is))
     (subst (Contains (stops parent.tree.leaves parent.tree.layers)) (sym size) (child-reached parent agreed c.args.keep c.args.db.now.commitment c.requires.on))
+
+pub grown-requires-clause-boundary : goal.grown-requires-clause-boundary
+grown-requires-clause-boundary g c =
+    let parent = c.args.parent.now in
+    let agreed = subst AreAgreed c.parent.view_is c.parent.invariant.0 in
+    let size : c.planned.new.db.commitment.size ≡ c.args.db.now.commitment.size = ap (λ d. d.commitment.size) c.in_ok-plan.ensures.left.rest in
+    let low : c.args.boundary.size ≡ (child_boundary c.args.keep parent.bounds).size = ap (λ k. k.size) c.requires.boundary in
+    omega (arith, size, low, child-above parent agreed c.args.keep c.args.db.now.commitment c.requires.keep c.requires.on)
 
 pub returns-in_err-tree-clause-refused : goal.returns-in_err-tree-clause-refused
 returns-in_err-tree-clause-refused g c = λ list chain above is made kept on.
@@ -59,7 +68,7 @@ returns-clause-made g c = λ list chain above is made kept on.
     let items = map (λ v. v.items) c.in_ok-plan.items.items in
     let size = ap (λ k. k.size) made.bounds.tip in
     let from = child-base parent c.args.keep list chain above made kept on in
-    let plan = c.in_ok-plan.ensures.plan list base is from size made.lowest made.live in
+    let plan = c.in_ok-plan.ensures.plan list base is from in
     let short = subst (λ xs. too_long xs ≡ None) (c.in_ok-plan.ensures.items ∙ ap (map (spelling (unordered_form g.K.ByteString.has g.V.Value.ByteString.has g.V.ValueEncoding.fixed))) plan.operations) c.in_ok-plan.ensures.short in
     let count : length c.in_ok-plan.items.items ≡ length c.in_ok-plan.plan.operations = sym (length-map c.in_ok-plan.items.items (λ v. v.items)) ∙ ap length c.in_ok-plan.ensures.items ∙ length-map c.in_ok-plan.plan.operations (spelling (unordered_form g.K.ByteString.has g.V.Value.ByteString.has g.V.ValueEncoding.fixed)) in
     let room = c.in_ok-plan.ensures.room in
@@ -68,12 +77,16 @@ returns-clause-made g c = λ list chain above is made kept on.
     let linked = subst (AreLinked base) (sym kept) (child-linked c.args.keep above base made.linked) in
     let among = child-among parent c.args.keep chain above c.requires.keep made kept list (on_chain-base list chain linked on) in
     let spelled = plan-spelled form c.in_ok-plan.plan base tip (map (λ v. v.items) c.deref.result.now) plan (ap (map (λ v. v.items)) c.deref.ensures.value ∙ c.in_ok-plan.ensures.items) in
-    let kept_tree = subst (λ t. IsKeptTree hashing t base (bases_of above)) (sym (ap (λ m. m.tree) c.parent.view_is)) made.tree in
-    let low = c.get.ensures ∙ ap (λ p. p.floor) c.plan.view_is ∙ plan.floor in
-    let tree = c.in_ok-tree.ensures.tree list base tip (bases_of above) stands kept_tree among spelled in
+    let kept_tree = subst (λ t. IsTree hashing t base (bases_of above)) (sym (ap (λ m. m.tree) c.parent.view_is)) made.tree in
+    let boundary = ap (λ k. k.size) c.requires.boundary in
+    let low = c.get-floor.ensures ∙ ap (λ p. p.floor) c.plan.view_is ∙ plan.floor in
+    let tree = subst (λ xs. IsKeptTree bytes g.H.Hasher.hash g.F.Family.shape c.in_ok-tree.tree xs (lists_since (child_boundary c.args.keep parent.bounds).size (map (spellings hashing) (base ∷ bases_of above)))) spelled
+    (subst (λ n. IsKeptTree bytes g.H.Hasher.hash g.F.Family.shape c.in_ok-tree.tree (spellings hashing base ++ map (λ v. v.items) c.deref.result.now) (lists_since n (map (spellings hashing) (base ∷ bases_of above)))) boundary
+    (c.in_ok-tree.ensures.tree list base (bases_of above) stands kept_tree among)) in
     let root = c.in_ok-tree.ensures.root list base tip (bases_of above) stands kept_tree among spelled low in
+    let metadata = c.in_ok-copy.ensures ∙ ap (option_map g.V.Value.ByteString.bytes) c.in_ok-twin_option.ensures in
     let all = stepped-of base ws proportional meta form c.in_ok-plan.plan.operations made.of plan.changes.begins plan.operations c.in_ok-plan.ensures.of few in
-    subst (λ b. IsMade hashing b chain tip) (sym (c.in_ok-batch.ensures ∙ ap (λ m. child_made parent c.args.keep c.in_ok-plan.plan c.in_ok-tree.tree (bytes c.in_ok-tree.root) (option_map g.V.Value.ByteString.bytes m)) c.in_ok-copy.ensures))
+    subst (λ b. IsMade hashing b chain tip) (sym (c.in_ok-batch.ensures.value ∙ ap (λ m. child_made parent c.args.keep c.in_ok-plan.plan c.in_ok-tree.tree (bytes c.in_ok-tree.root) m) metadata))
     (child-is_made parent c.args.keep chain above c.requires.keep made kept c.in_ok-plan.plan c.in_ok-tree.tree (bytes c.in_ok-tree.root) meta tip plan tree root (stepped-metadata base ws proportional meta) all)
 
 pub returns-clause-taken : goal.returns-clause-taken
@@ -87,7 +100,7 @@ returns-clause-taken g c = λ list chain above is made kept on.
     let tip = stepped base ws proportional meta in
     let size = ap (λ k. k.size) made.bounds.tip in
     let from = child-base c.args.parent.now c.args.keep list chain above made kept on in
-    let plan = c.in_ok-plan.ensures.plan list base is from size made.lowest made.live in
+    let plan = c.in_ok-plan.ensures.plan list base is from in
     let count : length c.in_ok-plan.items.items ≡ length c.in_ok-plan.plan.operations = sym (length-map c.in_ok-plan.items.items (λ v. v.items)) ∙ ap length c.in_ok-plan.ensures.items ∙ length-map c.in_ok-plan.plan.operations (spelling (unordered_form g.K.ByteString.has g.V.Value.ByteString.has g.V.ValueEncoding.fixed)) in
     let room = c.in_ok-plan.ensures.room in (
       subst (λ xs. too_long xs ≡ None) (c.in_ok-plan.ensures.items ∙ ap (map (spelling (unordered_form g.K.ByteString.has g.V.Value.ByteString.has g.V.ValueEncoding.fixed))) plan.operations) c.in_ok-plan.ensures.short,

@@ -1,9 +1,10 @@
-use Rattle.std.proofs.Common.{◌≡◌, ◌∙◌, ◌∷◌, ap, ap₂, subst, refl, map, take, option_map}
+use Rattle.std.proofs.Common.{◌≤◌, All, sym, rules, ◌≡◌, ◌∙◌, ◌∷◌, ap, ap₂, subst, refl, map, take, option_map}
 use Rattle.qm_base.specs.Views.{operation_views}
+use Rattle.qm_merkle.specs.Batches.{stops}
 use Rattle.qm_chain.specs.Bounds.{commitment_view}
 use Rattle.qm_batch.specs.Layers.{Layer}
 use Rattle.qm_batch.specs.Views.{changes_view}
-use Rattle.qm_any.specs.Databases.{AreAgreed}
+use Rattle.qm_any.specs.Databases.{Made, AreAgreed}
 use Rattle.qm_any.proofs.Making.{child-agreed, sealed-child}
 use Rattle.qm_any.proofs.batch.sealed.Goals as goal
 
@@ -16,7 +17,7 @@ invariant_of-new g c =
     let plan = c.args.plan in
     let tree = c.args.tree in
     let root = g.D.Digest.bytes c.args.root in
-    let meta = option_map value c.args.metadata in
+    let meta = option_map (λ m. value m.value) c.args.metadata in
     let agreed = subst AreAgreed c.parent.view_is c.parent.invariant.0 in
     let base : view (c.parent-inside.inside.0.0).tip ≡ parent.bounds.tip = ap (λ i. i.bounds.tip) c.parent-inside.view_is ∙ ap (λ m. m.bounds.tip) c.parent.view_is in
     let own : c.new-own.result ≡ record { base = parent.bounds.tip.size; operations = plan.operations; changes = plan.changes } =
@@ -27,3 +28,15 @@ invariant_of-new g c =
           (child-agreed parent c.args.keep c.requires.keep agreed plan tree root meta c.requires.count c.requires.few c.requires.live c.requires.stops),
       rw c.deref.ensures.value at c.in_ok-diffs.ensures,
     )
+
+pub returns-clause-value : goal.returns-clause-value
+returns-clause-value g c = search rules
+
+pub returns-clause-above : goal.returns-clause-above
+returns-clause-above g c =
+    let parent = c.args.parent.now in
+    let agreed = subst AreAgreed c.parent.view_is c.parent.invariant.0 in
+    let root = g.D.Digest.bytes c.args.root in
+    let meta = option_map (λ m. g.U.Value.ByteString.bytes m.value) c.args.metadata in
+    let made = child-agreed parent c.args.keep c.requires.keep agreed c.args.plan c.args.tree root meta c.requires.count c.requires.few c.requires.live c.requires.stops in
+    subst (λ (b : Made g.row.D.Denot). All (λ n. b.bounds.db.size ≤ n) (stops b.tree.leaves b.tree.layers)) (sym (returns-clause-value g c)) made.above

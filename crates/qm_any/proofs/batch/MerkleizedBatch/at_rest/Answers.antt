@@ -14,7 +14,7 @@ invariant_of-new g c =
     let step : c.in_ok-step.step.value ≡ record { base = c.args.commitment.size; operations = []; changes = [] } =
     c.in_ok-step.ensures.ok ∙ c.new-5.ensures ∙ ap₂ (λ ops ds. record { base = c.args.commitment.size; operations = operation_views g.U.Update.view key value ops; changes = changes_view key value ds }) c.new-4.ensures.items
     (c.in_ok-diff.ensures.ok ∙ c.new-2.ensures ∙ c.new.ensures.items) in (
-      rest-agreed stands c.args.floor c.args.live (option_map value c.args.metadata) _ _ c.at_rest-tree.result
+      rest-agreed stands c.args.floor c.args.live (option_map (λ m. value m.value) c.args.metadata) _ _ c.at_rest-tree.result
           (ap (map (commitment_view g.D.Digest.bytes)) c.new-7.ensures.items)
           (ap (map (λ l. l.value)) (c.in_ok-push.ensures.items ∙ ap (λ ls. ls ++ c.in_ok-step.step ∷ []) c.new-steps.ensures.items) ∙ ap (λ (l : Layer). l ∷ []) step)
           c.at_rest-tree.ensures c.requires.few c.requires.live,

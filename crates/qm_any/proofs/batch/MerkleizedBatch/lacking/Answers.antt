@@ -1,11 +1,12 @@
-use Rattle.std.proofs.Common.{◌≡◌, ◌∙◌, ◌∷◌, ◌+◌, List, length, map, ap, sym, subst}
+use Rattle.std.proofs.Common.{◌≡◌, ◌∙◌, ◌∷◌, ◌+◌, List, length, map, take, ap, sym, subst}
 use Rattle.std.specs.Prelude.{Contains}
 use Rattle.std.proofs.lemmas.List.{length-map}
 use Rattle.qm_model.specs.Forms.{spelling}
 use Rattle.qm_batch.specs.Layers.{Layer}
+use Rattle.qm_batch.specs.Views.{changes_view}
 use Rattle.qm_batch.proofs.Members.{Contains-later}
 use Rattle.qm_any.specs.Databases.{AreAgreed, bases, unapplied, operations_in}
-use Rattle.qm_any.proofs.Unapplied.{joined-counts}
+use Rattle.qm_any.proofs.Unapplied.{joined-counts, diffs-first}
 use Rattle.qm_any.proofs.batch.MerkleizedBatch.lacking.Goals as goal
 
 pub returns-clause-count : goal.returns-clause-count
@@ -17,7 +18,18 @@ returns-clause-count g c =
     let agreed : AreAgreed batch = subst AreAgreed c.self.view_is c.self.invariant.0 in
     let among : Contains (size ∷ bases layers) n = Contains-later size (bases layers) n c.in_ok-fits.ensures.among in
     let lacked : map (λ l. l.value) c.unapplied_of-steps.result.now ≡ unapplied n layers =
-    c.unapplied_of-steps.ensures ∙ ap (λ ls. unapplied n (map (λ l. l.value) ls)) c.deref.ensures.value ∙ ap (λ b. unapplied n (map (λ l. l.value) b.steps.items)) c.self-inside.view_is ∙ ap (λ b. unapplied n b.layers) c.self.view_is in
+    c.unapplied_of-steps.ensures.value ∙ ap (λ ls. unapplied n (map (λ l. l.value) ls)) c.deref.ensures.value ∙ ap (λ b. unapplied n b.layers) c.self.view_is in
     let count : length c.in_ok-items.items.items ≡ length (operations_in (unapplied n layers)) =
     sym (length-map c.in_ok-items.items.items (λ v. v.items)) ∙ ap length c.in_ok-items.ensures ∙ length-map (operations_in (map (λ l. l.value) c.unapplied_of-steps.result.now)) (spelling g.U.Update.form) ∙ ap (λ ls. length (operations_in ls)) lacked in
-    ap (λ k. n + k) count ∙ joined-counts size n layers agreed.joined among ∙ sym (ap (λ b. b.bounds.tip.size) c.self-inside.view_is ∙ ap (λ b. b.bounds.tip.size) c.self.view_is)
+    ap (λ k. n + k) count ∙ joined-counts size n layers agreed.joined among
+
+pub returns-clause-diffs : goal.returns-clause-diffs
+returns-clause-diffs g c =
+    let n = c.args.current.now.size in
+    let layers : List Layer = c.args.self.now.layers in
+    let steps = c.unapplied_of-steps.result.now in
+    let lacked : map (λ l. l.value) steps ≡ unapplied n layers =
+    c.unapplied_of-steps.ensures.value ∙ ap (λ ls. unapplied n (map (λ l. l.value) ls)) c.deref.ensures.value ∙ ap (λ b. unapplied n b.layers) c.self.view_is in
+    ap (map (λ d. changes_view g.U.Key.ByteString.bytes g.U.Value.ByteString.bytes d.value)) (c.split_at.ensures.front ∙ ap (take (length steps)) c.deref-2.ensures.value)
+    ∙ diffs-first (λ d. changes_view g.U.Key.ByteString.bytes g.U.Value.ByteString.bytes d.value) (λ l. l.value) (λ (l : Layer). l.changes) c.self.inside.diffs.items c.self.inside.steps.items steps (length steps) c.self.invariant.1 (c.unapplied_of-steps.ensures.first ∙ ap (take (length steps)) c.deref.ensures.value)
+    ∙ ap (map (λ (l : Layer). l.changes)) lacked

@@ -1,9 +1,49 @@
-use Rattle.std.proofs.Common.{ap, sym, subst, map}
+use Rattle.std.proofs.Common.{◌≡◌, ◌≤◌, ◌∙◌, ◌∷◌, ◌++◌, ℕ, List, Contains, ap, sym, subst, refl, map}
 use Rattle.qm_model.proofs.Results.{err-then, ok-then}
+use Rattle.qm_model.specs.Operations.{Bytes}
+use Rattle.qm_store.specs.KeptTrees.{KeptTree, IsKeptTree}
+use Rattle.qm_store.specs.Log.{Log, IsLog}
 use Rattle.qm_batch.specs.Lent.{IsIndexed}
-use Rattle.qm_any.specs.Given.{AppendedPart, store_given}
-use Rattle.qm_any.proofs.Unapplied.{part-whole, same-database}
+use Rattle.qm_any.specs.Given.{Appended, AppendedPart, store_given}
+use Rattle.qm_any.proofs.Telling.{three}
+use Rattle.qm_any.proofs.Unapplied.{appended, part-whole, same-database, memory-cause}
 use Rattle.qm_any.proofs.db.Db.moved.Goals as goal
+
+pub given_back-requires-clause-whole : goal.given_back-requires-clause-whole
+given_back-requires-clause-whole g c = λ log given.
+    let was = (c.in-Err.ensures.back log given).0 in
+    let leaves = sym (ap (λ l. l.tree.leaves) was) in
+    (c.self.invariant.0 ∙ leaves, ap (λ l. g.C.Store.«end» l.store) was ∙ c.self.invariant.1 ∙ leaves)
+
+pub returns-in-Ok-clause-log : goal.returns-in-Ok-clause-log
+returns-in-Ok-clause-log g c =
+    ok-then c.indexed.result c.indexed.ensures.log (λ next is. λ list older was.
+    let members = g.C.Store in
+    let shape = g.F.Family.shape in
+    let bytes = g.H.Digest.Digest.bytes in
+    let hash = g.H.Hasher.hash in
+    let from = subst (λ l. IsLog members shape bytes hash l list) (sym (ap (λ db. db.log) c.self.view_is)) was in
+    three (λ (xs : List Bytes) (t : KeptTree g.row.H-Digest.Denot) (l : Log g.row.C.Denot g.row.H-Digest.Denot). IsKeptTree bytes hash shape t (list ++ xs) older → Contains ((list ++ xs) ∷ older) list → IsLog members shape bytes hash l (list ++ xs))
+    (ap (map (λ v. v.items)) c.deref.ensures.value) (ap (λ b. b.tree) c.batch.view_is) (sym is) (c.in-Ok.ensures.stands list older from))
+
+pub returns-in-Ok-clause-grown : goal.returns-in-Ok-clause-grown
+returns-in-Ok-clause-grown g c =
+    ok-then c.indexed.result c.indexed.ensures.log (λ next is.
+    three (λ (a b : g.row.C.Denot) (xs : List Bytes). Appended g.C.Store a b xs) (ap (λ db. db.log.store) c.self.view_is) (sym (ap (λ l. l.store) is)) (ap (map (λ v. v.items)) c.deref.ensures.value)
+    (appended g.C.Store c.self.inside.log.store c.in-Ok.log.store (map (λ v. v.items) c.deref.result.now) c.in-Ok.ensures.grown))
+
+pub returns-in-Ok-clause-later : goal.returns-in-Ok-clause-later
+returns-in-Ok-clause-later g c =
+    let here : g.C.Store.faults c.self.inside.log.store ≡ g.C.Store.faults c.self.inside.log.store = refl in
+    ok-then c.indexed.result c.indexed.ensures.log (λ next is.
+    three (λ (a b : g.row.C.Denot) (n : ℕ). g.C.Store.faults a ≤ g.C.Store.faults b) (ap (λ db. db.log.store) c.self.view_is) (sym (ap (λ l. l.store) is)) here c.in-Ok.ensures.later)
+
+pub returns-in-Ok-clause-cause : goal.returns-in-Ok-clause-cause
+returns-in-Ok-clause-cause g c =
+    err-then c.indexed.result c.indexed.ensures.back (λ r back.
+    memory-cause (g.C.Store.faults c.args.self.log.store) (g.C.Store.faults (store_given (λ db. db.log.store) r.given)) r.error
+    (subst (λ s. g.C.Store.faults s ≤ g.C.Store.faults (store_given (λ db. db.log.store) r.given)) (ap (λ db. db.log.store) c.self.view_is)
+    (subst (λ given. g.C.Store.faults c.self.inside.log.store ≤ g.C.Store.faults (store_given (λ db. db.log.store) given)) (sym back.0) c.in-Ok.ensures.later)) back.1)
 
 pub returns-in-Ok-clause-index : goal.returns-in-Ok-clause-index
 returns-in-Ok-clause-index g c =
