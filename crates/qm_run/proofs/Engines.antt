@@ -81,8 +81,8 @@ pub on-begun : (list : List Operation) (chain above : Chain) (current : Commitme
     → IsBegun hashing begun chain above → is_on current begun ≡ fits (sha256_root mmr) (commitment (sha256_root mmr) list) chain
 on-begun list chain above current begun few is batch =
     ap (λ c. is_on c begun) is
-    ∙ ap₂ (is_at (list_commitment hashing list)) (child-boundary hashing begun.parent begun.keep chain above few batch.parent batch.kept)
-    (child-tips hashing begun.parent begun.keep chain above few batch.parent batch.kept)
+    ∙ ap₂ (is_at (list_commitment hashing list)) (child-boundary begun.parent begun.keep chain above few batch.parent batch.kept)
+    (child-tips begun.parent begun.keep chain above few batch.parent batch.kept)
     ∙ at-fits (list_root hashing) (bounds_of chain) chain chain.base (list_commitment hashing list) (record { base = refl; db = refl; tip = refl; ancestors = refl })
     ∙ fits-same list chain
 

@@ -3,7 +3,7 @@ ghost use Rattle.std.specs.Prelude.{◌≡◌, IfOk, map, option_map};
 ghost use Rattle.qm_lines.specs.Views.{listed_view};
 ghost use Rattle.qm_base.specs.Views.{operation_view, operation_views};
 
-use qm_base::{ByteString, Operation, Update};
+use qm_base::{ByteString, Operation, Twin, Update};
 use qm_lines::Listed;
 use std::alloc::{AllocError, Global};
 

@@ -9,5 +9,5 @@ pub returns : goal.returns
 returns g c = λ chain tip batch.
     let made = subst (λ b. IsMade hashing b chain tip) (sym c.deref.ensures) batch in (
       c.get.ensures ∙ c.operations-base.ensures.base ∙ ap (λ k. k.size) made.bounds.base,
-      c.in_ok-own.ensures ∙ c.operations-base.ensures.own sha256 chain tip made,
+      c.in_ok-own.ensures ∙ c.operations-base.ensures.own hashing chain tip made,
     )

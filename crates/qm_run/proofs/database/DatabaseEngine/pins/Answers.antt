@@ -6,7 +6,7 @@ use Rattle.qm_model.specs.Proofs.{pins_at}
 use Rattle.qm_model.specs.Refusals.{pins_refusal}
 use Rattle.qm_any.specs.Databases.{IsDatabase}
 use Rattle.qm_any.specs.Refusals.{IsDue}
-use Rattle.qm_run.specs.Databases.{digest_bytes, layout}
+use Rattle.qm_run.specs.Databases.{digest_bytes, form, layout}
 use Rattle.qm_run.proofs.Engines.{pinned}
 use Rattle.qm_run.proofs.database.DatabaseEngine.pins.Goals as goal
 
@@ -17,8 +17,8 @@ returns-clause-offered g c =
 
 pub returns-clause-digests : goal.returns-clause-digests
 returns-clause-digests g c =
-    ok-then c.pinned_nodes_at.result (ok-each (IsDatabase g.C.Store layout c.args.self.now) (λ list pins. map digest_bytes pins.items ≡ pins_at sha256 mmr list c.new.result) c.pinned_nodes_at.result c.pinned_nodes_at.ensures.pins)
-    (λ digests told list is. told list is ∙ ap (pins_at sha256 mmr list) c.new.ensures ∙ pinned list c.args.at)
+    ok-then c.pinned_nodes_at.result (ok-each (IsDatabase g.C.Store layout c.args.self.now) (λ list pins. map digest_bytes pins.items ≡ pins_at sha256 mmr form list c.new.result) c.pinned_nodes_at.result c.pinned_nodes_at.ensures.pins)
+    (λ digests told list is. told list is ∙ ap (pins_at sha256 mmr form list) c.new.ensures ∙ pinned list c.args.at)
 
 pub returns-clause-refused : goal.returns-clause-refused
 returns-clause-refused g c =

@@ -5,7 +5,7 @@ use Rattle.qm_model.specs.Mmr.{mmr}
 use Rattle.qm_model.specs.Proofs.{ops_proof}
 use Rattle.qm_model.specs.Refusals.{proof_count, proof_refusal}
 use Rattle.qm_any.proofs.Reading.{left-database}
-use Rattle.qm_run.specs.Databases.{layout}
+use Rattle.qm_run.specs.Databases.{form, layout}
 use Rattle.qm_run.proofs.Engines.{proved}
 use Rattle.qm_run.proofs.database.DatabaseEngine.prove.Goals as goal
 
@@ -16,7 +16,7 @@ pub returns-clause-proof : goal.returns-clause-proof
 returns-clause-proof g c = λ list is.
     let max = non_zero_u64_get c.args.max in
     c.in_ok-proof.ensures.proof list is
-    ∙ ap₂ (λ n a. ops_proof sha256 mmr (take n list) a (a + proof_count n a max)) c.new-size.ensures c.new-start.ensures
+    ∙ ap₂ (λ n a. ops_proof sha256 mmr form (take n list) a (a + proof_count n a max)) c.new-size.ensures c.new-start.ensures
     ∙ proved (take c.args.size list) c.args.start (c.args.start + proof_count c.args.size c.args.start max)
 
 pub returns-in_err-operations-clause-same : goal.returns-in_err-operations-clause-same
