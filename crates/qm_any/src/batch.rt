@@ -101,11 +101,7 @@ pub(crate) struct Lacking<'a, F, U: Update> {
 
 impl<F: Family, D: Digest, U: Update> UnmerkleizedBatch<F, D, U> {
     // A batch on the list of a merkleized one, with no writes yet, that keeps so many ancestors, the parent first.
-    pub(crate) fn begun(
-        alloc: Global,
-        parent: Rc<MerkleizedBatch<F, D, U>>,
-        keep: usize,
-    ) -> Self
+    pub(crate) fn begun(alloc: Global, parent: Rc<MerkleizedBatch<F, D, U>>, keep: usize) -> Self
         requires { keep ≤ suc (length parent.value.bounds.ancestors) }
         ensures { result ≡ record { parent = parent.value; keep = keep; writes = [] } }
     {
@@ -170,7 +166,11 @@ impl<F: Family, D: Digest, U: Update> UnmerkleizedBatch<F, D, U> {
     }
 }
 
-impl<F: Family, D: Digest, K: ByteString, V: ValueEncoding<K>> UnmerkleizedBatch<F, D, Unordered<K, V>> {
+impl<F: Family, D: Digest, K: ByteString, V: ValueEncoding<K>> UnmerkleizedBatch<
+    F,
+    D,
+    Unordered<K, V>,
+> {
     /// Makes the list of the batch: its writes on its base list, then what the policy moves, then a commit with the
     /// metadata. The database is at the batch's boundary or at a kept ancestor's tip, else the batch is refused as stale;
     /// then come the first spelling of more than 65,536 bytes, and a list of more than 2^62 operations. The batch is gone
@@ -500,7 +500,11 @@ impl<F: Family, D: Digest, U: Update> MerkleizedBatch<F, D, U> {
     }
 
     // What a database at this state lacks of the list, where the batch can be applied to it.
-    pub(crate) fn lacking(&self, alloc: Global, current: &Commitment<D>) -> Result<Lacking<'_, F, U>, Error>
+    pub(crate) fn lacking(
+        &self,
+        alloc: Global,
+        current: &Commitment<D>,
+    ) -> Result<Lacking<'_, F, U>, Error>
         ensures items { IfOk result (λ lack. map (λ v. v.items) lack.items.items ≡ map (spelling U.form) (operations_in (unapplied current.now.size self.now.layers))) }
         ensures diffs { IfOk result (λ lack. map (λ d. changes_view U.Key.bytes U.Value.bytes d.value) lack.diffs.now ≡ map (λ l. l.changes) (unapplied current.now.size self.now.layers)) }
         ensures metadata { IfOk result (λ lack. option_map (λ m. U.Value.bytes m.value) lack.metadata ≡ self.now.metadata) }

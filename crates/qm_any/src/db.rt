@@ -61,13 +61,8 @@ pub struct Db<
     metadata: Option<Rc<U::Value>>,
 }
 
-impl<
-    F: Family,
-    C: Store,
-    I: qm_index::Unordered<Value = Location<F>>,
-    H: Hasher,
-    U: Update,
-> Model for Db<F, C, I, H, U> {
+impl<F: Family, C: Store, I: qm_index::Unordered<Value = Location<F>>, H: Hasher, U: Update> Model
+    for Db<F, C, I, H, U> {
     ghost use Rattle.std.specs.Prelude.{◌≡◌, ◌≤◌, option_map};
     ghost use Rattle.qm_chain.specs.Bounds.{commitment_view};
     ghost use Rattle.qm_any.specs.Databases.{Database};
@@ -88,13 +83,8 @@ pub trait LaidOut {
     ghost layout: { Layout Self.Digest };
 }
 
-impl<
-    F: Family,
-    C: Store,
-    I: qm_index::Unordered<Value = Location<F>>,
-    H: Hasher,
-    U: Update,
-> LaidOut for Db<F, C, I, H, U> {
+impl<F: Family, C: Store, I: qm_index::Unordered<Value = Location<F>>, H: Hasher, U: Update> LaidOut
+    for Db<F, C, I, H, U> {
     ghost use Rattle.qm_any.specs.Layouts.{layout_of};
 
     type Digest = H::Digest;
@@ -134,10 +124,7 @@ impl<
     }
 
     /// Begins a batch on the database as it is.
-    pub fn new_batch(
-        &self,
-        alloc: Global,
-    ) -> Result<UnmerkleizedBatch<F, H::Digest, U>, AllocError>
+    pub fn new_batch(&self, alloc: Global) -> Result<UnmerkleizedBatch<F, H::Digest, U>, AllocError>
         ensures value { IfOk result (λ b. b ≡ record { parent = at_rest self.now; keep = 0; writes = [] }) }
         ensures begun { (list : List Operation) → IsDatabase C.Store ⟦<Self as LaidOut>⟧.layout self.now list → IfOk result (λ b. IsBegun ⟦<Self as LaidOut>⟧.layout.hashing b (begun_on list) (begun_on list)) }
     {
@@ -162,10 +149,7 @@ impl<
     }
 
     /// Whether the batch can be applied: the database is at its boundary or at a kept ancestor's tip. It takes no memory.
-    pub fn validate_batch(
-        &self,
-        batch: &MerkleizedBatch<F, H::Digest, U>,
-    ) -> Result<(), Error>
+    pub fn validate_batch(&self, batch: &MerkleizedBatch<F, H::Digest, U>) -> Result<(), Error>
         ensures fits { OnOk result (is_at self.now.commitment batch.now.bounds.db batch.now.bounds.ancestors ≡ true) }
         ensures stale { IfErr result (λ e. (e ≡ Error.StaleBatch) × (is_at self.now.commitment batch.now.bounds.db batch.now.bounds.ancestors ≡ false)) }
     {
@@ -250,7 +234,11 @@ impl<
     }
 
     /// The values of keys, in their order, if they are live.
-    pub fn get_many(&mut self, alloc: Global, keys: &[U::Key]) -> Result<Vec<Option<U::Value>>, Error>
+    pub fn get_many(
+        &mut self,
+        alloc: Global,
+        keys: &[U::Key],
+    ) -> Result<Vec<Option<U::Value>>, Error>
         ensures values { (list : List Operation) → IsDatabase C.Store ⟦<Self as LaidOut>⟧.layout self.old list → IfOk result (λ v. map (option_map U.Value.bytes) v.items ≡ map (λ k. lives.value_of list (U.Key.bytes k)) keys.now) }
         ensures error { IfErr result (IsReadError C.Store self.old.log self.new.log) }
         ensures left { IsLeft C.Store ⟦<Self as LaidOut>⟧.layout.hashing self.old self.new }

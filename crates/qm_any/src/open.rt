@@ -65,13 +65,7 @@ fn root_of_one<H: Hasher>(hasher: &mut H, leaf: &H::Digest) -> H::Digest
 
 /// Opens a database over an empty store: a fresh list, one commit without metadata and with floor 0, which it appends.
 /// The translator makes the index keys. A refusal gives back the store.
-pub fn init<
-    F: Family,
-    C: Store,
-    I: Factory<Value = Location<F>>,
-    H: Hasher + Drop,
-    U: Update,
->(
+pub fn init<F: Family, C: Store, I: Factory<Value = Location<F>>, H: Hasher + Drop, U: Update>(
     alloc: Global,
     store: C,
     hasher: H,
@@ -110,9 +104,7 @@ fn fresh_items<F, U: Update>(alloc: Global) -> Result<Vec<Vec<u8>>, AllocError>
 }
 
 // The store that a log gave back.
-fn store_of<F: Family, C: Store, H: Hasher + Drop>(
-    given: LogGiven<AuthLog<F, C, H>, C>,
-) -> C
+fn store_of<F: Family, C: Store, H: Hasher + Drop>(given: LogGiven<AuthLog<F, C, H>, C>) -> C
     ensures { result ≡ logs.store_given given }
 {
     match given {
@@ -149,13 +141,7 @@ fn empty_log<F: Family, C: Store, H: Hasher + Drop, X: Drop>(
 }
 
 // The database of a fresh list, whose spelling is put into an empty log.
-fn begun<
-    F: Family,
-    C: Store,
-    I: Factory<Value = Location<F>>,
-    H: Hasher + Drop,
-    U: Update,
->(
+fn begun<F: Family, C: Store, I: Factory<Value = Location<F>>, H: Hasher + Drop, U: Update>(
     alloc: Global,
     log: AuthLog<F, C, H>,
     translator: I::Translator,

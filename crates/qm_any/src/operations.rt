@@ -128,10 +128,7 @@ pub(crate) fn refuse(items: &[Vec<u8>], size: u64) -> Result<(), Error>
 }
 
 /// The newest of the steps, up to the one that starts where a list of this size ends.
-pub(crate) fn unapplied_of<F, U: Update>(
-    steps: &[Step<F, U>],
-    size: u64,
-) -> &[Step<F, U>]
+pub(crate) fn unapplied_of<F, U: Update>(steps: &[Step<F, U>], size: u64) -> &[Step<F, U>]
     ensures value { map (λ l. l.value) result.now ≡ unapplied size (map (λ l. l.value) steps.now) }
     ensures first { result.now ≡ take (length result.now) steps.now }
     ensures few { length result.now ≤ length steps.now }

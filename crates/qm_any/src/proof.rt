@@ -18,9 +18,7 @@ ghost use Rattle.qm_any.specs.Refusals.{IsDue};
 
 use crate::db::{Db, LaidOut};
 use qm_base::update::Update;
-use qm_base::{
-    Corrupt, Digest, Error, Hasher, JournalError, Location, MerkleError, Operation,
-};
+use qm_base::{Corrupt, Digest, Error, Hasher, JournalError, Location, MerkleError, Operation};
 use qm_merkle::{Family, Proof};
 use qm_store::{AuthLog, Store};
 use std::alloc::{AllocError, Global};
@@ -83,7 +81,11 @@ impl<
 
     /// The digests of the peaks over the first `count` operations, from left to right: what a node has to be given that
     /// starts with the operations from there on.
-    pub fn pinned_nodes_at(&self, alloc: Global, count: Location<F>) -> Result<Vec<H::Digest>, Error>
+    pub fn pinned_nodes_at(
+        &self,
+        alloc: Global,
+        count: Location<F>,
+    ) -> Result<Vec<H::Digest>, Error>
         ensures offered { (list : List operations.Operation) → IsDatabase C.Store ⟦<Self as LaidOut>⟧.layout self.now list → OnOk result (pins_refusal list count ≡ None) }
         ensures pins { (list : List operations.Operation) → IsDatabase C.Store ⟦<Self as LaidOut>⟧.layout self.now list → IfOk result (λ pins. map H.Digest.bytes pins.items ≡ pins_at H.hash F.shape U.form list count) }
         ensures refused { C.start self.now.log.store ≤ count → (list : List operations.Operation) → IsDatabase C.Store ⟦<Self as LaidOut>⟧.layout self.now list → IfErr result (λ e. IsDue e (pins_refusal list count)) }
@@ -96,12 +98,7 @@ impl<
 }
 
 // Operations of a log's list, and their proof in the list of the first `size` of them.
-fn proved_over<
-    F: Family,
-    C: Store,
-    H: Hasher + Drop,
-    U: Update,
->(
+fn proved_over<F: Family, C: Store, H: Hasher + Drop, U: Update>(
     alloc: Global,
     log: &mut AuthLog<F, C, H>,
     size: u64,
@@ -159,12 +156,11 @@ fn offered<F: Family, C: Store, H: Hasher + Drop, U: Update>(
 }
 
 // The floor of the commit at the end of a log's first `size` operations, if one stands there and the store has it.
-fn floor_at_end<
-    F: Family,
-    C: Store,
-    H: Hasher + Drop,
-    U: Update,
->(alloc: Global, log: &mut AuthLog<F, C, H>, size: u64) -> Result<Option<u64>, Error>
+fn floor_at_end<F: Family, C: Store, H: Hasher + Drop, U: Update>(
+    alloc: Global,
+    log: &mut AuthLog<F, C, H>,
+    size: u64,
+) -> Result<Option<u64>, Error>
     requires { size ≤ log.old.tree.leaves }
     ensures floor { C.start log.old.store ≤ size - 1 → (list : List operations.Operation) → IsLog C.Store F.shape H.Digest.bytes H.hash log.old (map (spelling U.form) list) → All (IsOf U.form) list
         → IfSome (C.items log.old.store) (λ _. IfOk result (λ f. f ≡ floor_before list size)) }
@@ -183,10 +179,7 @@ fn floor_at_end<
 }
 
 // The floor of the commit that the bytes spell, if they spell one.
-fn commit_floor_in<F, U: Update>(
-    alloc: Global,
-    item: &[u8],
-) -> Result<Option<u64>, AllocError>
+fn commit_floor_in<F, U: Update>(alloc: Global, item: &[u8]) -> Result<Option<u64>, AllocError>
     ensures { (op : operations.Operation) → IsSpelling U.form item.now op → IfOk result (λ f. f ≡ commit_floor op) }
 {
     let operation: Option<Operation<F, U>> = Operation::decode(alloc, item)?;
@@ -200,10 +193,7 @@ fn commit_floor_in<F, U: Update>(
 }
 
 // The operations that the items spell. That one spells none is told as corruption.
-fn decoded<F, U: Update>(
-    alloc: Global,
-    items: &[Vec<u8>],
-) -> Result<Vec<Operation<F, U>>, Error>
+fn decoded<F, U: Update>(alloc: Global, items: &[Vec<u8>]) -> Result<Vec<Operation<F, U>>, Error>
     ensures value { (list : List operations.Operation) → All (IsOf U.form) list → map (λ v. v.items) items.now ≡ map (spelling U.form) list → IfOk result (λ made. operation_views U.view U.Key.bytes U.Value.bytes made.items ≡ list) }
     ensures whole { (list : List operations.Operation) → All (IsOf U.form) list → map (λ v. v.items) items.now ≡ map (spelling U.form) list → IfErr result (λ e. e ≡ Error.Memory) }
     ensures never { IfErr result (λ e. (e ≡ Error.Memory) ⊎ (e ≡ Error.DataCorrupted Corrupt.ItemDoesNotDecode)) }
