@@ -23,8 +23,9 @@ use Rattle.qm_batch.specs.Changes.{Change, Changes, change_in, change_of, stands
 use Rattle.qm_batch.specs.Touches.{Touch, IsFrom}
 use Rattle.qm_batch.proofs.Appends.{live_of-append}
 use Rattle.qm_batch.proofs.PlanLists.{last_of, stands-untouched}
-use Rattle.qm_batch.proofs.PlanWrites.{bytes-turned}
-use Rattle.qm_batch.proofs.Searches.{change_in-cons}
+use Rattle.qm_batch.proofs.Basics.{bytes-turned}
+use Rattle.qm_batch.proofs.Entries.{change_in-cons}
+use Rattle.std.proofs.Math.Bool.{or-false, or-true}
 
 -- the live update that an operation at this location leaves its key
 abbrev pub given_at : ℕ → Operation → Option (ℕ × Bytes)
@@ -51,27 +52,19 @@ module _ (base own : List Operation) (q : Bytes) where
   touched-more : (op : Operation) (t : Bool) → touches q op ≡ t → touched q (drop (length base) (list ++ op ∷ [])) ≡ (touched q own || (t || false))
   touched-more op t h = ap (touched q) (more-behind op) ∙ list_any-append (touches q) own (op ∷ []) ∙ ap (λ b. touched q own || (b || false)) h
 
-  or-last : (a : Bool) → (a || true) ≡ true
-  or-last true = refl
-  or-last false = refl
-
-  or-none : (a : Bool) → (a || false) ≡ a
-  or-none true = refl
-  or-none false = refl
-
   -- what a step with one more operation does to a key
   pub change-push : (op : Operation) → change_of base (list ++ op ∷ []) q ≡ (if touches q op then Some (record { now = given_at (length list) op; before = place_in base q }) else change_of base list q)
   change-push op = by (touches q op) refl
     where
       by : (t : Bool) → touches q op ≡ t → change_of base (list ++ op ∷ []) q ≡ (if t then Some (record { now = given_at (length list) op; before = place_in base q }) else change_of base list q)
       by true is =
-          ap₂ (λ (b : Bool) (o : Option (ℕ × Bytes)). ◌if◌then◌ b o) (touched-more op true is ∙ or-last (touched q own)) (given-last op is)
+          ap₂ (λ (b : Bool) (o : Option (ℕ × Bytes)). ◌if◌then◌ b o) (touched-more op true is ∙ or-true (touched q own)) (given-last op is)
         where
           ◌if◌then◌ : Bool → Option (ℕ × Bytes) → Option Change
           ◌if◌then◌ b o = if b then Some (record { now = o; before = place_in base q }) else None
       by false is =
           ap₂ (λ (b : Bool) (o : Option Live). if b then Some (record { now = option_map (λ (e : Live). (e.location, e.value)) o; before = place_in base q }) else None)
-          (touched-more op false is ∙ or-none (touched q own) ∙ ap (touched q) (sym own-behind)) (live_of-append list (op ∷ []) q (ap (λ b. b || false) is))
+          (touched-more op false is ∙ or-false (touched q own) ∙ ap (touched q) (sym own-behind)) (live_of-append list (op ∷ []) q (ap (λ b. b || false) is))
 
 -- a map's answer to a key, shown as a change
 module _ {K X : Type 0} (key : K → Bytes) (shown : X → Change) where

@@ -21,12 +21,13 @@ use Rattle.qm_batch.specs.Layers.{Layer, LeadThrough, LeadOver}
 use Rattle.qm_batch.specs.Lent.{IsIndexed}
 use Rattle.qm_batch.specs.PlanViews.{keyed}
 use Rattle.qm_batch.specs.Touches.{is_there, live_update_at, moved_touch, IsMoveAt}
-use Rattle.qm_batch.proofs.Members.{first_or_later}
+use Rattle.qm_batch.proofs.Members.{Contains-first, first_or_later}
 use Rattle.qm_batch.proofs.PlanWalks.{none-past}
 use Rattle.qm_batch.proofs.PlanReads.{slice_get-front, slice_get-behind, update-here, front-none, front-touched, front-gone, front-live}
-use Rattle.qm_batch.proofs.PlanWrites.{bytes-turned, touched-live, touched-unwritten}
+use Rattle.qm_batch.proofs.PlanWrites.{touched-live, touched-unwritten}
 use Rattle.qm_batch.proofs.Reading.{in-bucket, own-bucket}
 use Rattle.qm_batch.proofs.Standing.{live-stands, live-of_key}
+use Rattle.qm_batch.proofs.Basics.{bytes-turned, or-later}
 
 -- the operation at a location, where a layer has it
 abbrev pub found_in : List Layer → ℕ → Option Operation
@@ -98,7 +99,7 @@ found-base (layer ∷ layers) tip (base ∷ older) lent at leads among within =
         low = below is
 
         either : (tip ≡ lent) ⊎ Contains (base ∷ older) lent → MatchOption (found_in layers at) (slice_get tip at ≡ slice_get lent at) (λ op. slice_get tip at ≡ Some op)
-        either (inl same) = lower low base (sym (here low) ∙ ap (λ ops. slice_get ops at) same) (found_in layers at) (next base (0, omega arith, refl) low)
+        either (inl same) = lower low base (sym (here low) ∙ ap (λ ops. slice_get ops at) same) (found_in layers at) (next base (Contains-first base older) low)
         either (inr within_it) = lower low lent refl (found_in layers at) (next lent within_it low)
 
 -- a result that shows it
@@ -144,10 +145,6 @@ module _ (index_key : Bytes → ℕ) (entries : List (ℕ × List ℕ)) (layers 
   in-any [] h = let none = h.1 in absurd (omega (arith, none))
   in-any (x ∷ xs) h = by (first_or_later x xs at h) (in-any xs)
     where
-      or-later : (a b : Bool) → b ≡ true → (a || b) ≡ true
-      or-later true b h = refl
-      or-later false b h = h
-
       by : (x ≡ at) ⊎ Contains xs at → (Contains xs at → list_any (λ x. x == at) xs ≡ true) → list_any (λ x. x == at) (x ∷ xs) ≡ true
       by (inl same) later = ap (λ t. t || list_any (λ x. x == at) xs) (eq-eqb x at same)
       by (inr within) later = or-later (x == at) (list_any (λ x. x == at) xs) (later within)

@@ -4,7 +4,7 @@ use Rattle.std.specs.Prelude.{filter_map, fold, slice_get, option_map, option_an
 use Rattle.std.specs.BTreeMap.{insert_entry}
 use Rattle.std.specs.List.{cons_option, AllByRecursion as Each}
 use Rattle.std.specs.Cmp.Lexicographic.{slice_cmp}
-use Rattle.std.specs.Ordering.{nat_cmp, match_ordering}
+use Rattle.std.specs.Ordering.{nat_cmp, is_lt, match_ordering}
 use Rattle.std.proofs.lemmas.List.{take_all, take_more, map-append, map_more, length-map, length-take, get_or-map}
 use Rattle.std.proofs.lemmas.List.Sums.{fold-append}
 use Rattle.std.proofs.lemmas.List.Elements.{filter_map-append, All-nil, All-cons, All-head, All-tail, All-same}
@@ -17,7 +17,7 @@ use Rattle.qm_batch.specs.Changes.{place_in}
 use Rattle.qm_batch.specs.PlanViews.{keyed, site_in}
 use Rattle.qm_batch.specs.Touches.{Touch, operations_of, rewrite_here, new_touch}
 use Rattle.qm_batch.proofs.PlanPlaces.{one-more, none-more, live-rises}
-use Rattle.qm_batch.proofs.Searches.{apart-below}
+use Rattle.qm_chain.proofs.KeyOrder.{apart}
 use Rattle.qm_batch.proofs.Standing.{live-apart}
 
 -- a write put into a map by key is put among the last writes
@@ -82,7 +82,7 @@ first-of : (us : List Write) (i : ℕ) (w : Write) → Rising us → slice_get u
 first-of [] i w rising is = cc
 first-of (u ∷ us) zero w rising is = refl
 first-of (u ∷ us) (suc i) w rising is =
-    ap (λ t. cond t (Some u) (write_of (take i us) w.key)) (apart-below u.key w.key (each-at (λ x. slice_cmp nat_cmp u.key x.key ≡ Less) us i w rising.0 is)) ∙ first-of us i w rising.1 is
+    ap (λ t. cond t (Some u) (write_of (take i us) w.key)) (apart u.key w.key (ap is_lt (each-at (λ x. slice_cmp nat_cmp u.key x.key ≡ Less) us i w rising.0 is))) ∙ first-of us i w rising.1 is
 
 module _ {A : Type 0} (view : A → Write × Option ℕ) (base : List Operation) (us : List Write) (sites : List A) (are : map view sites ≡ map (site_in base) us) (i : ℕ) (d : A)
     (within : i < length sites) (here : d ≡ get_or sites i d) where

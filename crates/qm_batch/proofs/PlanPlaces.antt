@@ -17,8 +17,9 @@ use Rattle.qm_model.proofs.Maps.{same_key}
 use Rattle.qm_model.proofs.Pushes.{Within, live_from-within, Each-weaker}
 use Rattle.qm_batch.specs.Changes.{place_in}
 use Rattle.qm_batch.specs.Touches.{Touch, operations_of, IsFrom, rewrite_here, moved_touch, new_touch, written_touches}
-use Rattle.qm_batch.proofs.PlanWrites.{touches-operation, bytes-turned}
+use Rattle.qm_batch.proofs.PlanWrites.{touches-operation}
 use Rattle.qm_batch.proofs.Standing.{AreApart, live-of_key}
+use Rattle.qm_batch.proofs.Basics.{bytes-turned, or-none}
 
 -- entries ascend by location
 abbrev pub Rises : List Live → Type 0
@@ -40,10 +41,6 @@ live-rises i (commit m f ∷ rest) = live-rises (suc i) rest
 
 write_of-push : (ws : List Write) (w : Write) (key : Bytes) → write_of (ws ++ w ∷ []) key ≡ option_or (write_of ws key) (cond (bytes_eq w.key key) (Some w) None)
 write_of-push ws w key = find-append (λ (u : Write). bytes_eq u.key key) ws (w ∷ [])
-
-or-none : {X : Type 0} (o : Option X) → option_or o None ≡ o
-or-none None = refl
-or-none (Some x) = refl
 
 -- a write to another key does nothing to an entry
 other-key : (ws : List Write) (w : Write) (e : Live) → bytes_eq w.key e.key ≡ false → rewrite_here (ws ++ w ∷ []) e ≡ rewrite_here ws e

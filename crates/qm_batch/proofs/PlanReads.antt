@@ -10,6 +10,7 @@ use Rattle.qm_batch.specs.Changes.{stands_at, update_at, update_from, said_by}
 use Rattle.qm_batch.specs.Touches.{live_update_at, is_there}
 use Rattle.qm_batch.proofs.PlanLists.{stands-untouched, there-touched}
 use Rattle.qm_batch.proofs.PlanWalks.{drop-here}
+use Rattle.std.proofs.Math.Bool.{or-true}
 
 -- an update, where nothing behind touches its key
 abbrev pub unless_touched : List Operation → Operation → Option Operation
@@ -85,12 +86,8 @@ module _ (base made : List Operation) (at : ℕ) where
           front-said ∙ ap (option_and_then (unless_touched (drop (at + 1) base ++ made))) is
           ∙ ap (λ t. if t then None else Some (update k v n)) (list_any-append (touches k) (drop (at + 1) base) made)
 
-      or_made : (a : Bool) → (a || true) ≡ true
-      or_made true = refl
-      or_made false = refl
-
       pub front-touched : touched k made ≡ true → None ≡ live_update_at (base ++ made) at
-      front-touched h = sym (front-is ∙ ap (λ t. if t then None else Some (update k v n)) (ap (λ b. touched k (drop (at + 1) base) || b) h ∙ or_made (touched k (drop (at + 1) base))))
+      front-touched h = sym (front-is ∙ ap (λ t. if t then None else Some (update k v n)) (ap (λ b. touched k (drop (at + 1) base) || b) h ∙ or-true (touched k (drop (at + 1) base))))
 
       not-back : (t : Bool) → not t ≡ false → t ≡ true
       not-back true h = refl

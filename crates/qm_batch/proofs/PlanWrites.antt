@@ -3,7 +3,7 @@ use Rattle.std.proofs.Common.{◌≡◌, ℕ, zero, suc, ◌+◌, Bool, true, fa
 use Rattle.std.specs.Prelude.{not, filter, filter_map, option_map, option_and_then, bytes_eq, is_some, if◌then◌else◌, Contains}
 use Rattle.std.specs.List.{cons_option, list_any, AllByRecursion as Each}
 use Rattle.std.specs.Cmp.Lexicographic.{slice_cmp}
-use Rattle.std.specs.Ordering.{nat_cmp}
+use Rattle.std.specs.Ordering.{nat_cmp, is_lt}
 use Rattle.std.specs.declared.cmp.Ordering.TheVariants.{Less}
 use Rattle.std.proofs.lemmas.List.Folds.{list_any-append}
 use Rattle.std.proofs.lemmas.List.Sums.{sum_by-cons}
@@ -17,25 +17,14 @@ use Rattle.qm_model.proofs.Maps.{same_key, value_of-append}
 use Rattle.qm_batch.specs.Changes.{update_at}
 use Rattle.qm_batch.proofs.Appends.{live-append}
 use Rattle.qm_batch.proofs.PlanReads.{unless_touched}
-use Rattle.qm_batch.proofs.Searches.{apart-above}
 use Rattle.qm_batch.proofs.Standing.{AreApart, live-apart, live-of_key}
+use Rattle.qm_batch.proofs.Basics.{bytes-turned, or-later}
+use Rattle.qm_chain.proofs.KeyOrder.{apart, eq_back}
+use Rattle.std.proofs.Math.Bool.{or-false}
 
 and-false : (a : Bool) → (a && false) ≡ false
 and-false true = refl
 and-false false = refl
-
-or-false : (a : Bool) → (a || false) ≡ a
-or-false true = refl
-or-false false = refl
-
-pub bytes-turned : (a b : Bytes) → bytes_eq a b ≡ bytes_eq b a
-bytes-turned a b = by (bytes_eq a b) refl (bytes_eq b a) refl
-  where
-    by : (s : Bool) → bytes_eq a b ≡ s → (t : Bool) → bytes_eq b a ≡ t → s ≡ t
-    by true one true two = refl
-    by true one false two = sym (sym two ∙ ap (bytes_eq b) (same_key a b one) ∙ bytes_same b)
-    by false one true two = sym one ∙ ap (bytes_eq a) (same_key b a two) ∙ bytes_same a
-    by false one false two = refl
 
 -- an operation of a write touches its key alone
 pub touches-operation : (w : Write) (key : Bytes) → touches key (operation_of w) ≡ bytes_eq w.key key
@@ -99,10 +88,6 @@ once-append (x ∷ xs) ys first second apart = (
   λ key here. list_any-append (touches key) xs ys ∙ ap₂ (λ a b. a || b) (first.0 key here) (apart key (ap (λ b. b || touched key xs) here)),
   once-append xs ys first.1 second (λ key later. apart key (or-later (touches key x) (touched key xs) later)),
 )
-  where
-    or-later : (a b : Bool) → b ≡ true → (a || b) ≡ true
-    or-later true b h = refl
-    or-later false b h = h
 
 -- no entry has a key that is apart from all
 apart-none : (key : Bytes) (es : List Live) → Each (λ u. bytes_eq key u.key ≡ false) es → live_of es key ≡ None
@@ -124,7 +109,7 @@ once-rewrites ws (e ∷ es) apart = by (write_of ws e.key) refl (once-rewrites w
 
 none-given : (key : Bytes) (ws : List Write) → Each (λ u. slice_cmp nat_cmp key u.key ≡ Less) ws → list_any (gives key) ws ≡ false
 none-given key [] h = refl
-none-given key (w ∷ ws) h = ap₂ (λ a b. (a && is_some w.value) || b) (apart-above key w.key h.0) (none-given key ws h.1)
+none-given key (w ∷ ws) h = ap₂ (λ a b. (a && is_some w.value) || b) (eq_back key w.key (apart key w.key (ap is_lt h.0))) (none-given key ws h.1)
 
 once-creates : (es : List Live) (ws : List Write) → Rising ws → Once (filter_map (create_of es) ws)
 once-creates es [] rising = tt

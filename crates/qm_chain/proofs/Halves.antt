@@ -1,5 +1,5 @@
--- The entry of a key, looked for by halves.
-use Rattle.std.proofs.Common.{◌≡◌, ◌∙◌, ap, sym, subst, refl, true, false, cond, List, [], ◌∷◌, ◌++◌, Option, Some, None}
+-- The entry of a key among entries that ascend, looked for by halves or by its place.
+use Rattle.std.proofs.Common.{◌≡◌, ◌∙◌, ap, sym, subst, ℕ, ◌+◌, ◌<◌, length, get_or, take, drop, true, false, cond, List, [], ◌∷◌, ◌++◌, Some, None}
 use Rattle.std.specs.Prelude.{bytes_eq}
 use Rattle.std.specs.List.{AllByRecursion as Each}
 use Rattle.std.specs.Option.{option_or}
@@ -7,6 +7,7 @@ use Rattle.std.specs.Cmp.Lexicographic.{slice_cmp}
 use Rattle.std.specs.Ordering.{nat_cmp, is_lt, is_eq, ordering_reverse}
 use Rattle.std.specs.declared.cmp.Ordering.TheVariants.{Less, Equal, Greater}
 use Rattle.std.proofs.lemmas.Cmp.{nat_list_cmp_total}
+use Rattle.std.proofs.lemmas.List.{drop_more, take-append-drop}
 use Rattle.std.proofs.lemmas.List.Folds.{find-append}
 use Rattle.std.proofs.lemmas.Map.Text.{is_eq-slice_cmp}
 use Rattle.std.proofs.lemmas.Slice.Eq.{bytes_eq-Decides}
@@ -14,12 +15,8 @@ use Rattle.qm_model.specs.Operations.{Bytes}
 use Rattle.qm_model.specs.Keys.{key_lt}
 use Rattle.qm_chain.specs.Ascending.{IsAscending}
 use Rattle.qm_chain.specs.Merges.{keys_of, entry_of}
-use Rattle.qm_chain.proofs.KeyOrder.{Ascends, ascends_from, ascending_from, each_weaker, lt_on, apart, eq_back}
-use Rattle.qm_chain.proofs.Merging.{none_where, each_keys}
-
-or-none : {X : Type 0} (o : Option X) → option_or o None ≡ o
-or-none None = refl
-or-none (Some x) = refl
+use Rattle.qm_chain.proofs.KeyOrder.{Ascends, ascends_from, ascending_from, each_weaker, lt_on, apart, eq_back, same_key}
+use Rattle.qm_chain.proofs.Merging.{none_where, each_keys, or_none}
 
 module _ {K E : Type 0} (bytes : K → Bytes) where
   -- the entries in front of one are below it
@@ -78,7 +75,7 @@ module _ {K E : Type 0} (bytes : K → Bytes) where
         (eq_back k (bytes m.0) (apart k (bytes m.0) lower), each_weaker (λ e. key_lt (bytes m.0) (bytes e.0) ≡ true) (λ e. bytes_eq (bytes e.0) k ≡ false)
         (λ e h. eq_back k (bytes e.0) (apart k (bytes e.0) (lt_on k (bytes m.0) (bytes e.0) lower h))) behind later) in (
           ascending_from (keys_of bytes front) (front_ascends front (m ∷ behind) ascends),
-          sym (either_half ∙ ap (option_or (entry_of bytes front k)) none ∙ or-none (entry_of bytes front k)),
+          sym (either_half ∙ ap (option_or (entry_of bytes front k)) none ∙ or_none (entry_of bytes front k)),
         )
 
     -- or it is that of the middle
@@ -89,3 +86,23 @@ module _ {K E : Type 0} (bytes : K → Bytes) where
       where
         equal_apart : (a : Bytes) → key_lt a (bytes m.0) ≡ true → bytes_eq a k ≡ false
         equal_apart a h = apart a k (subst (λ j. key_lt a j ≡ true) ((bytes_eq-Decides (bytes m.0) k).0 (sym (is_eq-slice_cmp (bytes m.0) k) ∙ ap is_eq equal)) h)
+
+  -- the entry at a place: its key is new there, and it is that of its key
+  module _ (es : List (K × E)) (i : ℕ) (d : K × E) (within : i < length es) (ascending : IsAscending (keys_of bytes es)) where
+    abbrev here : K × E
+    here = get_or es i d
+
+    split : take i es ++ here ∷ drop (i + 1) es ≡ es
+    split = ap (λ back. take i es ++ back) (sym (drop_more es i d within)) ∙ take-append-drop i es
+
+    pub entry_new : entry_of bytes (take i es) (bytes here.0) ≡ None
+    entry_new =
+        none_where bytes (take i es) (bytes here.0)
+        (each_weaker (λ e. key_lt (bytes e.0) (bytes here.0) ≡ true) (λ e. bytes_eq (bytes e.0) (bytes here.0) ≡ false) (λ e h. apart (bytes e.0) (bytes here.0) h) (take i es)
+        (front_below (take i es) (drop (i + 1) es) here (subst (λ xs. Ascends (keys_of bytes xs)) (sym split) (ascends_from (keys_of bytes es) ascending))))
+
+    pub entry_here : entry_of bytes es (bytes here.0) ≡ Some here
+    entry_here =
+        ap (λ xs. entry_of bytes xs (bytes here.0)) (sym split) ∙ find-append (λ (e : K × E). bytes_eq (bytes e.0) (bytes here.0)) (take i es) (here ∷ drop (i + 1) es)
+        ∙ ap (λ o. option_or o (entry_of bytes (here ∷ drop (i + 1) es) (bytes here.0))) entry_new
+        ∙ ap (λ t. cond t (Some here) (entry_of bytes (drop (i + 1) es) (bytes here.0))) (same_key (bytes here.0))
