@@ -1,12 +1,12 @@
 //! That calls on stores and logs succeed, and that the faults come where they are listed; and roots that were computed by
 //! another program.
 
-ghost use Rattle.std.specs.Prelude.{◌≡◌, IfOk, length};
+ghost use Rattle.std.specs.Prelude.{◌≡◌, ◌+◌, IfOk, length};
 
 use qm_base::{Digest, Error, JournalError, Location, Sha256, Sha256Digest};
 use qm_merkle::StandardHasher;
 use qm_merkle::mmr::Family;
-use qm_store::{AuthLog, LogGiven, LogRefusal, MemStore, Store, StoreError};
+use qm_store::{AuthLog, KeptTree, LogGiven, LogRefusal, MemStore, Store, StoreError};
 use std::alloc::{AllocError, Global};
 use std::num::NonZeroU64;
 use std::process::Abort;
@@ -231,6 +231,61 @@ fn root_in_steps(alloc: Global, log: &mut Log, more: &[Vec<u8>]) -> Result<Sha25
     let below = log.tree_with(alloc, first)?;
     let batch = log.tree_behind(alloc, &below, rest)?;
     log.speculative_root(alloc, &batch, 0)
+}
+
+#[test]
+fn a_log_takes_what_trees_hashed(rt: HostRuntime) -> Result<(), Fail> {
+    let store = five(rt.alloc(), 100)?;
+    let more = last_items(rt.alloc())?;
+    match Log::open(rt.alloc(), store, Sha256::new(), 5) {
+        Ok(mut log) => {
+            let at_once = log.root_with(rt.alloc(), &more, 0)?;
+            match grown_by_trees(rt.alloc(), log, &more) {
+                Ok((mut log, in_steps)) => {
+                    assert_eq!(rt; in_steps.bytes(), at_once.bytes());
+                    assert_eq!(rt; log.root(rt.alloc(), 0)?.bytes(), at_once.bytes());
+                    assert_eq!(rt; log.read(7)?.as_slice(), [8].as_slice());
+                }
+                Err(refusal) => assert_eq!(rt; refused(refusal), (Error::Memory, None)),
+            }
+        }
+        Err(refusal) => assert_eq!(rt; refused(refusal), (Error::Memory, None)),
+    }
+    Ok(())
+}
+
+// A log of five items with three more: it takes the first from a tree, and then the rest from one that stands on that and
+// keeps nothing of it.
+fn grown_by_trees(
+    alloc: Global,
+    log: Log,
+    more: &[Vec<u8>],
+) -> Result<(Log, Sha256Digest), LogRefusal<Log, MemStore>>
+    requires five { log.tree.leaves ≡ 5 }
+    requires last { log.store.start + length log.store.items ≡ 5 }
+    requires three { length more.now ≡ 3 }
+    ensures { IfOk result (λ grown. (grown.0).tree.leaves ≡ 8) }
+{
+    let (first, rest) = more.split_at(1);
+    let mut log = log;
+    match KeptTree::at_rest(5).grown(alloc, &mut log, first, 0, 5) {
+        Ok((below, _)) => {
+            let mut log = log.append_tree(first, &below)?;
+            match below.grown(alloc, &mut log, rest, 0, 6) {
+                Ok((tree, root)) => Ok((log.append_tree(rest, &tree)?, root)),
+                Err(_) => Err(out_of_memory(log)),
+            }
+        }
+        Err(_) => Err(out_of_memory(log)),
+    }
+}
+
+// The refusal of a call that lacked memory.
+fn out_of_memory(log: Log) -> LogRefusal<Log, MemStore> {
+    LogRefusal {
+        given: LogGiven::Log(log),
+        error: Error::Memory,
+    }
 }
 
 #[test]

@@ -53,15 +53,6 @@ module _ (hash : Bytes → Bytes) (shape : Shape) (items : List Bytes) (a : ℕ)
   folded_before d (Some []) some = absurd (omega (arith, some [] refl))
   folded_before d (Some (q ∷ rest)) some = refl
 
-  -- digests behind one of which none is inactive
-  pub onto_rest : (d : Bytes) (n : ℕ) (o : Option (List Bytes)) → n ≡ 0 → ((out : List Bytes) → o ≡ Some out → 0 < length out) → option_map (folded_onto hash d n) o ≡ option_map (λ x. hash (d ++ x)) (option_map (fold_right hash) o)
-  onto_rest d n o none some = ap (λ k. option_map (folded_onto hash d k) o) none ∙ at o some
-    where
-      at : (o : Option (List Bytes)) → ((out : List Bytes) → o ≡ Some out → 0 < length out) → option_map (folded_onto hash d 0) o ≡ option_map (λ x. hash (d ++ x)) (option_map (fold_right hash) o)
-      at None some = refl
-      at (Some []) some = absurd (omega (arith, some [] refl))
-      at (Some (q ∷ rest)) some = refl
-
   -- an inactive digest more
   pub onto_next : (x d : Bytes) (m n : ℕ) (o : Option (List Bytes)) → m ≡ suc n → option_map (folded_onto hash x m) (option_map (λ rest. d ∷ rest) o) ≡ option_map (folded_onto hash (hash (x ++ d)) n) o
   onto_next x d m n o is =
@@ -73,18 +64,6 @@ module _ (hash : Bytes → Bytes) (shape : Shape) (items : List Bytes) (a : ℕ)
   folded_first d m n o is =
       ap (λ k. option_map (folded hash k) (option_map (λ rest. d ∷ rest) o)) is
       ∙ mapped_twice (folded hash (suc n)) (λ rest. d ∷ rest) (folded_onto hash d n) (λ rest. refl) o
-
-  -- no inactive digest
-  pub folded_none : (m : ℕ) (o : Option (List Bytes)) → m ≡ 0 → option_map (folded hash m) o ≡ option_map (fold_right hash) o
-  folded_none m o is = ap (λ k. option_map (folded hash k) o) is
-
-  -- of no peaks there is a row of no digests, if all are used
-  pub rows_used : (ds : List Bytes) → ds ≡ [] → rows [] ds ≡ Some []
-  rows_used ds is = ap (rows []) is
-
-  pub rows_left : (ds : List Bytes) → 0 < length ds → rows [] ds ≡ None
-  rows_left [] left = absurd (omega arith)
-  rows_left (d ∷ ds) left = refl
 
   -- the steps of the folds, where a peak is the first of those that are left
   module _ (qs : List Node) (p : Node) (ps : List Node) (ds : List Bytes) (is : qs ≡ p ∷ ps) where
@@ -122,11 +101,6 @@ module _ (hash : Bytes → Bytes) (shape : Shape) (items : List Bytes) (a : ℕ)
       at [] [] last all part = all refl
       at [] (d ∷ ds) last all part = part (omega arith)
       at (q ∷ qs) ds last all part = absurd (omega arith)
-
-  -- the inactive peaks are folded, and others are left
-  pub onto_others : (qs : List Node) (ds : List Bytes) (x : Bytes) (n : ℕ) (o out : Option Bytes) → 0 < length qs → n ≡ 0 → o ≡ option_map (fold_right hash) (rows qs ds) → out ≡ option_map (λ y. hash (x ++ y)) o → out ≡ option_map (folded_onto hash x n) (rows qs ds)
-  onto_others qs ds x n o out more none folded is_out =
-      is_out ∙ ap (option_map (λ y. hash (x ++ y))) folded ∙ sym (onto_rest x n (rows qs ds) none (each qs ds more))
 
   -- the verdict, where the numbers fit and the proof has a root
   pub verdict_is : (proof : Proof) (d expected : Bytes) → proof.leaves ≤ 2 ^ 62 → 0 < length items → a + length items ≤ proof.leaves → proof.inactive ≤ length (peaks shape proof.leaves) →

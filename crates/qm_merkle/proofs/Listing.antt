@@ -9,9 +9,6 @@ use Rattle.qm_base.specs.declared.error.MerkleError.TheVariants.{Memory, Element
 use Rattle.qm_merkle.specs.Proofs.{first_lacked, Lacks}
 
 module _ {D : Type 0} (at : ℕ → Option D) where
-  pub lacked_one : (p : ℕ) → at p ≡ None → first_lacked at (p ∷ []) ≡ Some p
-  lacked_one p none = ap (λ o. cond (is_none o) (Some p) None) none
-
   pub lacked_first : (xs ys : List ℕ) (p : ℕ) → first_lacked at xs ≡ Some p → first_lacked at (xs ++ ys) ≡ Some p
   lacked_first xs ys p is = find-append (λ q. is_none (at q)) xs ys ∙ ap (λ o. option_or o (first_lacked at ys)) is
 

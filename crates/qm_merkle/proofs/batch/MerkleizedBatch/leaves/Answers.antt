@@ -1,4 +1,4 @@
-use Rattle.std.proofs.Common.{◌≤◌, ◌∙◌, ap, get_or, subst, arith}
+use Rattle.std.proofs.Common.{◌∙◌, ap, get_or, subst, arith}
 use Rattle.std.proofs.lemmas.List.Elements.{Contains-get_or}
 use Rattle.qm_merkle.specs.Batches.{AreLinked, all_layers, stops}
 use Rattle.qm_merkle.proofs.Putting.{stops-below}

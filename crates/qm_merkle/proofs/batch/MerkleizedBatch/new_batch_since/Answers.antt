@@ -1,6 +1,6 @@
 use Rattle.std.proofs.Common.{◌≡◌, ◌∙◌, ◌<◌, All, length, arith, ap, sym, subst}
 use Rattle.std.proofs.lemmas.List.Elements.{All-nil}
-use Rattle.qm_merkle.specs.Batches.{Draft, AreLinked, IsHistory, all_layers, stops, layers_since, lists_since}
+use Rattle.qm_merkle.specs.Batches.{AreLinked, IsHistory, all_layers, stops, layers_since, lists_since}
 use Rattle.qm_merkle.proofs.Since.{linked-since, stops-since, batch-since}
 use Rattle.qm_merkle.proofs.batch.MerkleizedBatch.new_batch_since.Goals as goal
 

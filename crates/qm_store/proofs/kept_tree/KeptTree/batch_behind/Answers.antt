@@ -1,4 +1,4 @@
-use Rattle.std.proofs.Common.{◌≡◌, ◌≤◌, ◌∙◌, ◌∷◌, [], map, ap, sym, subst, arith, IfOk}
+use Rattle.std.proofs.Common.{◌≡◌, ◌∙◌, ◌∷◌, [], map, ap, sym, subst, arith, IfOk}
 use Rattle.qm_merkle.specs.Batches.{all_layers, IsHistory}
 use Rattle.qm_store.specs.KeptTrees.{layers_of, leaves_of}
 use Rattle.qm_store.proofs.Kept.{rest-grown}
