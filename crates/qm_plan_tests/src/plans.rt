@@ -1,7 +1,7 @@
 //! That each call of a batch's plan answers with ample memory, with keys that share their first four bytes, in both
 //! spellings, and that reads answer for each kind of update.
 
-ghost use Rattle.std.specs.Prelude.{◌≡◌, IfOk, length};
+ghost use Rattle.std.specs.Prelude.{◌≡◌, ◌∷◌, [], IfOk, length};
 
 use qm_base::{
     ByteKey, ByteString, ByteValue, Error, FixedBytes, FixedEncoding, Location, Operation, Ordered,
@@ -171,7 +171,9 @@ fn index<U: Sample>(alloc: Global) -> Result<Locations, AllocError> {
 }
 
 // One thing alone.
-fn alone<T: Drop>(alloc: Global, one: T) -> Result<Vec<T>, AllocError> {
+fn alone<T: Drop>(alloc: Global, one: T) -> Result<Vec<T>, AllocError>
+    ensures { IfOk result (λ all. all.items ≡ one ∷ []) }
+{
     let mut all = Vec::new(alloc);
     all.push(one)?;
     Ok(all)
