@@ -163,13 +163,37 @@ fn add_plain<F, U: Update>(out: &mut Vec<u8>, operation: &Operation<F, U>) -> Re
     }
 }
 
+// How many bytes the spelling of an update has at most, without padding.
+fn update_room<U: Update>(update: &U) -> usize {
+    let (key, value, next) = update.parts();
+    let next = match next {
+        None => 0,
+        Some(next) => 4 + next.as_bytes().len(),
+    };
+    9 + key.as_bytes().len() + value.as_bytes().len() + next
+}
+
+// How many bytes the spelling of an operation has at most.
+fn room<F, U: Update>(operation: &Operation<F, U>) -> usize {
+    let plain = match operation {
+        Operation::Update(update) => update_room(update),
+        Operation::Delete(key) => 5 + key.as_bytes().len(),
+        Operation::CommitFloor(None, _) => 10,
+        Operation::CommitFloor(Some(value), _) => 14 + value.as_bytes().len(),
+    };
+    match U::sizes() {
+        None => plain,
+        Some(sizes) => plain.max(longest(U::is_ordered(), sizes) as usize),
+    }
+}
+
 impl<F, U: Update> Operation<F, U> {
     /// The spelling of the operation, with which a list is stored and hashed. Want of memory is the only error.
     pub fn encode(&self, alloc: Global) -> Result<Vec<u8>, AllocError>
         ensures of { IfOk result (λ _. IfSome (floor_of (operation_view U.view U.Key.bytes U.Value.bytes self.now)) (λ floor. floor ≤ 2 ^ 62) → forms.IsOf U.form (operation_view U.view U.Key.bytes U.Value.bytes self.now)) }
         ensures spelled { IfOk result (λ bytes. bytes.items ≡ forms.spelling U.form (operation_view U.view U.Key.bytes U.Value.bytes self.now)) }
     {
-        let mut out = Vec::new(alloc);
+        let mut out = Vec::with_capacity(alloc, room(self))?;
         add_plain(&mut out, self)?;
         pad(out, U::is_ordered(), U::sizes())
     }

@@ -11,7 +11,7 @@ ghost use Rattle.qm_lines.specs.Views.{policy_view};
 use crate::command::Command;
 use crate::policy::AnyPolicy;
 use hex::FromHexError;
-use qm_base::{ByteKey, ByteValue};
+use qm_base::{ByteKey, ByteString, ByteValue};
 use std::alloc::{AllocError, Global};
 use std::marker::Model;
 use std::num::NonZeroU64;
@@ -86,7 +86,7 @@ fn key(alloc: Global, word: &[u8]) -> Result<Option<ByteKey>, AllocError>
 {
     match bytes_within(alloc, word, 1, 32)? {
         None => Ok(None),
-        Some(bytes) => Ok(Some(ByteKey::new(bytes))),
+        Some(bytes) => Ok(Some(ByteKey::from_bytes(alloc, &bytes)?)),
     }
 }
 
@@ -98,7 +98,7 @@ fn value(alloc: Global, word: &[u8]) -> Result<Option<ByteValue>, AllocError>
     }
     match bytes_within(alloc, word, 1, 64)? {
         None => Ok(None),
-        Some(bytes) => Ok(Some(ByteValue::new(bytes))),
+        Some(bytes) => Ok(Some(ByteValue::from_bytes(alloc, &bytes)?)),
     }
 }
 
