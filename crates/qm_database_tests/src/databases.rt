@@ -5,8 +5,8 @@ use qm_any::batch::{MerkleizedBatch, UnmerkleizedBatch};
 use qm_any::db::Db;
 use qm_any::{Proportional, hasher, init, initial_root};
 use qm_base::{
-    ByteKey, ByteString, ByteValue, Digest, Error, JournalError, Location, Sha256, Sha256Digest,
-    Twin, Unordered, VariableEncoding,
+    ByteKey, ByteString, ByteValue, Digest, Error, FixedBytes, FixedEncoding, JournalError,
+    Location, Sha256, Sha256Digest, Twin, Unordered, VariableEncoding,
 };
 use qm_index::FourCap;
 use qm_index::unordered::Index;
@@ -20,6 +20,11 @@ use std::test::Fail;
 type Pair = Unordered<ByteKey, VariableEncoding<ByteValue>>;
 
 type Database = Db<Family, MemStore, Index<FourCap, Location<Family>>, Sha256, Pair>;
+
+// Keys of four bytes, values of eight, and spellings of one length.
+type FixedPair = Unordered<FixedBytes<4>, FixedEncoding<FixedBytes<8>>>;
+
+type FixedDatabase = Db<Family, MemStore, Index<FourCap, Location<Family>>, Sha256, FixedPair>;
 
 type Batch = MerkleizedBatch<Family, Sha256Digest, Pair>;
 
@@ -365,6 +370,35 @@ fn the_root_of_a_fresh_database(rt: HostRuntime) -> Result<(), Fail> {
         root.bytes()
             .starts_with(&[0x8e, 0xd6, 0x39, 0x75, 0x39, 0x2a, 0x90, 0x39])
     );
+    Ok(())
+}
+
+#[test]
+fn a_database_of_fixed_sizes(rt: HostRuntime) -> Result<(), Fail> {
+    let alloc = rt.alloc();
+    let store = MemStore::new(alloc, Vec::new(alloc));
+    let mut db: FixedDatabase = match init(alloc, store, Sha256::new(), FourCap) {
+        Ok(db) => db,
+        Err(refusal) => return Err(refusal.error.into()),
+    };
+    let key: FixedBytes<4> = FixedBytes::from_bytes(alloc, &[1, 2, 3, 4])?;
+    let value = FixedBytes::from_bytes(alloc, &[10, 11, 12, 13, 14, 15, 16, 17])?;
+    let batch = db.new_batch(alloc)?.write(key.twin(alloc)?, Some(value))?;
+    let batch = batch.merkleize(alloc, &mut db, None, &mut Proportional)?;
+    let mut db = match db.apply_batch(alloc, &batch) {
+        Ok(db) => db,
+        Err(refusal) => return Err(refusal.error.into()),
+    };
+    // computed by another program
+    assert!(rt;
+        db.root()
+            .bytes()
+            .starts_with(&[0x30, 0x7d, 0x67, 0x34, 0x8f, 0x10, 0x75, 0x9f])
+    );
+    match db.get(alloc, &key)? {
+        Some(value) => assert_eq!(rt; value.as_bytes()[7], 17),
+        None => assert!(rt; false),
+    }
     Ok(())
 }
 
