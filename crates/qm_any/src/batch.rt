@@ -12,7 +12,7 @@ ghost use Rattle.qm_model.specs.Refusals.{too_long};
 ghost use Rattle.qm_model.specs.Trees as trees;
 ghost use Rattle.qm_model.specs.Writes.{read_through};
 ghost use Rattle.qm_merkle.specs.Batches.{stops, stops_since};
-ghost use Rattle.qm_merkle.specs.Proofs.{proof_view, first_lacked, needed_positions};
+ghost use Rattle.qm_proofs.specs.Proofs.{proof_view, first_lacked, needed_positions};
 ghost use Rattle.qm_chain.specs.Bounds.{commitment_view, is_at, knows};
 ghost use Rattle.qm_batch.specs.Bases.{IsBase, base_view};
 ghost use Rattle.qm_batch.specs.Lent.{IsReadError};
@@ -37,7 +37,8 @@ use qm_base::{
 };
 use qm_batch::{Base, Layer, Plan, Write};
 use qm_chain::{Bounds, Diff, validate_batch_applicable};
-use qm_merkle::{Family, Proof};
+use qm_merkle::Family;
+use qm_proofs::Proof;
 use qm_store::{KeptTree, Store};
 use std::alloc::{AllocError, Global};
 use std::marker::Model;

@@ -12,7 +12,7 @@ ghost use Rattle.qm_model.specs.Trees as trees;
 ghost use Rattle.qm_model.specs.Trees.{ops_root};
 ghost use Rattle.qm_model.specs.Writes.{read_through, write_of, last_writes};
 ghost use Rattle.qm_merkle.specs.Batches.{stops, stops_since, lists_since};
-ghost use Rattle.qm_merkle.specs.Proofs.{proof_view, first_lacked, needed_positions};
+ghost use Rattle.qm_proofs.specs.Proofs.{proof_view, first_lacked, needed_positions};
 ghost use Rattle.qm_store.specs.Log as logs;
 ghost use Rattle.qm_store.specs.Log.{IsLacked};
 ghost use Rattle.qm_chain.specs.Bounds.{commitment_view, is_at};
@@ -36,7 +36,8 @@ use qm_base::{
 };
 use qm_batch::{Base, Plan, Write, apply_diffs, plain, read_key};
 use qm_chain::Diff;
-use qm_merkle::{Family, Proof};
+use qm_merkle::Family;
+use qm_proofs::Proof;
 use qm_store::{AuthLog, KeptTree, LogGiven, LogRefusal, Store};
 use std::alloc::{AllocError, Global};
 use std::marker::Model;

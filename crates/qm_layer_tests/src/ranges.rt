@@ -3,7 +3,8 @@
 use crate::trees::{Tree, add_leaf};
 use qm_base::{Digest, Hasher, Location, MerkleError, Sha256, Sha256Digest};
 use qm_merkle::mmr::Family;
-use qm_merkle::{Family as _, NodesOver, Proof, StandardHasher};
+use qm_merkle::{Family as _, StandardHasher};
+use qm_proofs::{NodesOver, Proof};
 use std::alloc::{AllocError, Global};
 use std::test::Fail;
 

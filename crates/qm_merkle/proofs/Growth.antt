@@ -23,6 +23,23 @@ height_within x within = ⊎_elim (λ (low : x.height < 63). low)
 pub index_within : (x : Node) → end_of x ≤ 2 ^ 62 → x.index < 2 ^ 62
 index_within x within = omega (arith, mul-le-mul_left (suc x.index) (pow_pos x.height))
 
+-- the left half ends no later than the node, nor does the right one
+pub left_within : (x l : Node) → l ≡ left_of x → 0 < x.height → end_of l ≤ end_of x
+left_within x l is high =
+    let h = x.height - 1 in
+    let wide : 2 ^ x.height ≡ 2 ^ h * 2 = ap (λ k. 2 ^ k) (omega arith) ∙ pow-suc 2 h in
+    let whole : suc x.index * 2 ^ x.height ≡ suc x.index * (2 ^ h * 2) = ap (λ k. suc x.index * k) wide in
+    let half : end_of l ≡ suc (2 * x.index) * 2 ^ h = ap end_of is in
+    omega arith
+
+pub right_within : (x r : Node) → r ≡ right_of x → 0 < x.height → end_of r ≤ end_of x
+right_within x r is high =
+    let h = x.height - 1 in
+    let wide : 2 ^ x.height ≡ 2 ^ h * 2 = ap (λ k. 2 ^ k) (omega arith) ∙ pow-suc 2 h in
+    let whole : suc x.index * 2 ^ x.height ≡ suc x.index * (2 ^ h * 2) = ap (λ k. suc x.index * k) wide in
+    let half : end_of r ≡ suc (2 * x.index + 1) * 2 ^ h = ap end_of is in
+    omega arith
+
 pub slice_get-left : {X : Type 0} (xs ys : List X) (i : ℕ) → i < length xs → slice_get (xs ++ ys) i ≡ slice_get xs i
 slice_get-left [] ys i lt = absurd (omega arith)
 slice_get-left (z ∷ xs) ys zero lt = refl

@@ -12,8 +12,3 @@ pub mod Drafting
 pub mod Rows
 pub mod Putting
 pub mod Since
-pub mod Halving
-pub mod Listing
-pub mod Folding
-pub mod Telling
-pub mod Keeping

@@ -318,8 +318,8 @@ impl<F: Family, D: Digest> MerkleizedBatch<F, D> {
         self.newest.digest(position)
     }
 
-    // The digest of the node at this position, if the batch or those that it stands on add or replace it.
-    pub(crate) fn find_node(&self, position: Position<F>) -> Option<D>
+    /// The digest of the node at this position, if this batch or one of those that it stands on adds or replaces it.
+    pub fn find_node(&self, position: Position<F>) -> Option<D>
         ensures { result ≡ layers_at F.shape (all_layers self.now) position }
     {
         if let Some(digest) = self.newest.digest(position) {

@@ -3,6 +3,7 @@
 ghost use Rattle.std.specs.Prelude.{◌≡◌, ℕ, ◌+◌, ◌*◌, ◌<◌, ◌≤◌, ◌^◌, length, slice_get, Some, IfOk};
 ghost use Rattle.qm_model.specs.Trees as trees;
 ghost use Rattle.qm_model.specs.Families.{Births, IsFamily, HasPeaks, StandsAt};
+ghost use Rattle.qm_merkle.specs.Mems.{left_of, right_of};
 
 use crate::position::Position;
 use qm_base::Location;
@@ -115,4 +116,26 @@ pub trait Family: Copy {
     ghost numbered: { IsFamily shape births };
 
     ghost peaked: { HasPeaks shape };
+}
+
+/// The two nodes under a node, the left one first.
+pub fn halves(node: Node) -> (Node, Node)
+    requires high { 0 < node.height }
+    requires within { trees.end_of node ≤ 2 ^ 62 }
+    ensures left { result.0 ≡ left_of node }
+    ensures right { result.1 ≡ right_of node }
+    ensures below { (result.0.height < node.height) × (result.1.height < node.height) }
+    ensures inside { (trees.end_of result.0 ≤ 2 ^ 62) × (trees.end_of result.1 ≤ 2 ^ 62) }
+{
+    let height = node.height() - 1;
+    let index = 2 * node.index();
+    (Node::new(height, index), Node::new(height, index + 1))
+}
+
+/// Where a node stands.
+pub fn place<F: Family>(node: Node) -> Position<F>
+    requires { trees.end_of node ≤ 2 ^ 62 }
+    ensures { result ≡ trees.Shape.position F.shape node }
+{
+    F::subtree_root_position(Location::new(node.index() << node.height()), node.height())
 }

@@ -107,8 +107,8 @@ impl<H: Hasher> StandardHasher<H> {
         self.sealed(leaves, inactive, folded.bytes())
     }
 
-    // The digest of two digests in a row.
-    pub(crate) fn pair_digest(&mut self, left: &H::Digest, right: &H::Digest) -> H::Digest
+    /// The digest of two digests in a row.
+    pub fn pair_digest(&mut self, left: &H::Digest, right: &H::Digest) -> H::Digest
         ensures digest { H.Digest.bytes result ≡ H.hash (H.Digest.bytes left.now ++ H.Digest.bytes right.now) }
         ensures made { self.new ≡ more self.old 1 }
     {
@@ -145,13 +145,8 @@ impl<H: Hasher> StandardHasher<H> {
         folded
     }
 
-    // The digest of the two numbers and the folded peaks.
-    pub(crate) fn sealed<F>(
-        &mut self,
-        leaves: Location<F>,
-        inactive: usize,
-        folded: &[u8],
-    ) -> H::Digest
+    /// The digest of two numbers, of leaves and of inactive peaks, and what the peaks fold to: a root.
+    pub fn sealed<F>(&mut self, leaves: Location<F>, inactive: usize, folded: &[u8]) -> H::Digest
         ensures digest { H.Digest.bytes result ≡ H.hash (operations.eight_bytes leaves ++ operations.eight_bytes inactive ++ folded.now) }
         ensures made { self.new ≡ more self.old 1 }
     {

@@ -1,4 +1,4 @@
-//! Families of trees, the hashing of their nodes, and trees.
+//! Families of trees, the hashing of their nodes, trees in memory, and their batches.
 #![tactic(auto)]
 
 pub mod batch;
@@ -8,10 +8,8 @@ pub mod mem;
 pub mod mmb;
 pub mod mmr;
 pub mod position;
-pub mod proof;
 
 pub use batch::{MerkleizedBatch, UnmerkleizedBatch};
 pub use family::{Family, Node};
 pub use hasher::StandardHasher;
 pub use position::Position;
-pub use proof::{Nodes, NodesOver, Proof};

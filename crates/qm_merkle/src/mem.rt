@@ -3,12 +3,12 @@
 ghost use Rattle.std.specs.Prelude.{◌≡◌, ℕ, suc, List, [], ◌∷◌, ◌++◌, All, Contains, IsSome, ◌↔◌, Some, IfOk, IfErr, OnOk, OnErr, ◌⊎◌, slice_index, ◌<◌, ◌≤◌, ◌^◌, ◌+◌, ◌-◌, length, slice_get, map, max};
 ghost use Rattle.std.specs.Vec.{vec_capacity};
 ghost use Rattle.qm_model.specs.Trees as trees;
-ghost use Rattle.qm_merkle.specs.Mems.{IsWhole, Stands, Holds, AreBorn, left_of, right_of, node_at, pin_at, more};
+ghost use Rattle.qm_merkle.specs.Mems.{IsWhole, Stands, Holds, AreBorn, node_at, pin_at, more};
 ghost use Rattle.qm_merkle.specs.Batches.{all_layers, stops, IsHistory};
 ghost use Rattle.qm_model.specs.Families.{Births, IsHeld, over};
 
 use crate::batch::{MerkleizedBatch, UnmerkleizedBatch};
-use crate::family::{Family, Node};
+use crate::family::{Family, Node, halves, place};
 use crate::hasher::StandardHasher;
 use crate::position::Position;
 use qm_base::{Digest, Hasher, Location, MerkleError};
@@ -362,28 +362,6 @@ fn leaves_past<F: Family>(start: Location<F>, nodes: u64) -> Location<F>
         }
     }
     Location::new(low)
-}
-
-// The two nodes under a node.
-pub(crate) fn halves(node: Node) -> (Node, Node)
-    requires high { 0 < node.height }
-    requires within { trees.end_of node ≤ 2 ^ 62 }
-    ensures left { result.0 ≡ left_of node }
-    ensures right { result.1 ≡ right_of node }
-    ensures below { (result.0.height < node.height) × (result.1.height < node.height) }
-    ensures inside { (trees.end_of result.0 ≤ 2 ^ 62) × (trees.end_of result.1 ≤ 2 ^ 62) }
-{
-    let height = node.height() - 1;
-    let index = 2 * node.index();
-    (Node::new(height, index), Node::new(height, index + 1))
-}
-
-// Where a node stands.
-pub(crate) fn place<F: Family>(node: Node) -> Position<F>
-    requires { trees.end_of node ≤ 2 ^ 62 }
-    ensures { result ≡ trees.Shape.position F.shape node }
-{
-    F::subtree_root_position(Location::new(node.index() << node.height()), node.height())
 }
 
 // The digest that goes with a position.

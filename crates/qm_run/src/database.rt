@@ -20,7 +20,8 @@ use qm_base::{
 use qm_index::FourCap;
 use qm_index::unordered::Index;
 use qm_lines::{AnyPolicy, Listed};
-use qm_merkle::{Proof, mmr};
+use qm_merkle::mmr;
+use qm_proofs::Proof;
 use qm_store::Store;
 use std::alloc::{AllocError, Global};
 use std::num::NonZeroU64;

@@ -13,14 +13,14 @@ ghost use Rattle.qm_model.specs.Batches.{Chain, begun_on, child_of, IsOnChain, I
 ghost use Rattle.qm_model.specs.Proofs as proofs;
 ghost use Rattle.qm_model.specs.Refusals.{tip_refusal, proof_refusal, proof_count, pins_refusal};
 ghost use Rattle.qm_lines.specs.Views.{policy_view, listed_view};
-ghost use Rattle.qm_merkle.specs.Proofs.{proof_view};
+ghost use Rattle.qm_proofs.specs.Proofs.{proof_view};
 ghost use Rattle.qm_any.specs.Given.{store_given, store_after, Appended, AppendedPart, IsUnchanged, TellsAll};
 ghost use Rattle.qm_any.specs.Refusals.{refusal_of, IsDue};
 
 use qm_any::{Given, Refusal};
 use qm_base::{Digest, Error, JournalError, Key, VariableValue};
 use qm_lines::{AnyPolicy, Listed};
-use qm_merkle::Proof;
+use qm_proofs::Proof;
 use qm_store::Store;
 use std::alloc::{AllocError, Global};
 use std::num::NonZeroU64;

@@ -9,11 +9,11 @@ use Rattle.qm_model.specs.Trees.{Shape, Node, digest_of}
 use Rattle.qm_model.specs.Families.{Births, IsFamily, HasPeaks}
 use Rattle.qm_merkle.specs.Mems.{Kept, IsWhole, Stands}
 use Rattle.qm_merkle.specs.Batches.{Batch, all_layers, IsHistory, AreThere}
-use Rattle.qm_merkle.specs.Proofs.{first_lacked, over_at, Tells}
+use Rattle.qm_proofs.specs.Proofs.{first_lacked, over_at, Tells}
 use Rattle.qm_merkle.proofs.Putting.{history-count}
 use Rattle.qm_merkle.proofs.Histories.{seen}
-use Rattle.qm_merkle.proofs.Telling.{layers_tell}
-use Rattle.qm_merkle.proofs.Keeping.{read_there}
+use Rattle.qm_proofs.proofs.Telling.{layers_tell}
+use Rattle.qm_proofs.proofs.Keeping.{read_there}
 use Rattle.qm_store.specs.Log.{IsLacked}
 
 -- digests that are told of nodes are the list's

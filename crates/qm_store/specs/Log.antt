@@ -10,7 +10,7 @@ use Rattle.qm_base.specs.declared.error.JournalError.TheVariants as journal
 use Rattle.qm_base.specs.declared.error.MerkleError.{MerkleError}
 use Rattle.qm_base.specs.declared.error.MerkleError.TheVariants as merkle
 use Rattle.qm_merkle.specs.Mems.{Kept, Stands}
-use Rattle.qm_merkle.specs.Proofs.{first_lacked}
+use Rattle.qm_proofs.specs.Proofs.{first_lacked}
 use Rattle.qm_store.specs.declared.Store as store
 use Rattle.qm_store.specs.declared.StoreError.{StoreError}
 use Rattle.qm_store.specs.declared.StoreError.TheVariants as stores

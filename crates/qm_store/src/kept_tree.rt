@@ -5,7 +5,7 @@ ghost use Rattle.qm_model.specs.Proofs.{proof_of};
 ghost use Rattle.qm_model.specs.Trees as trees;
 ghost use Rattle.qm_merkle.specs.Batches.{all_layers, layers_since, stops, stops_since, lists_since, IsHistory};
 ghost use Rattle.qm_merkle.specs.Mems.{Stands};
-ghost use Rattle.qm_merkle.specs.Proofs.{proof_view, first_lacked, needed_positions};
+ghost use Rattle.qm_proofs.specs.Proofs.{proof_view, first_lacked, needed_positions};
 ghost use Rattle.qm_store.specs.Log.{digests_from, IsLacked, IsLog};
 ghost use Rattle.qm_store.specs.KeptTrees.{IsKeptTree, held_at, leaves_of};
 
@@ -13,7 +13,8 @@ use crate::Store;
 use crate::log::{AuthLog, shown};
 use qm_base::{Digest, Error, Hasher};
 use qm_merkle::mem::Mem;
-use qm_merkle::{Family, MerkleizedBatch, Proof};
+use qm_merkle::{Family, MerkleizedBatch};
+use qm_proofs::Proof;
 use std::alloc::{AllocError, Global};
 use std::marker::Model;
 

@@ -9,14 +9,15 @@ ghost use Rattle.qm_model.specs.Trees as trees;
 ghost use Rattle.qm_model.specs.Proofs.{proof_of};
 ghost use Rattle.qm_merkle.specs.Mems.{Stands, node_at};
 ghost use Rattle.qm_merkle.specs.Batches.{all_layers, layers_since, stops, stops_since, lists_since, IsHistory};
-ghost use Rattle.qm_merkle.specs.Proofs.{proof_view, needed_positions, first_lacked, over_at};
+ghost use Rattle.qm_proofs.specs.Proofs.{proof_view, needed_positions, first_lacked, over_at};
 ghost use Rattle.qm_store.specs.KeptTrees.{IsKeptTree};
 ghost use Rattle.qm_store.specs.Log.{Log, digests_from, IsHead, IsLog, IsKept, HasGrown, HasGrownPart, store_given, IsLacked};
 
 use crate::{KeptTree, Store, StoreError};
 use qm_base::{Corrupt, Digest, Error, Hasher, JournalError, Location, MerkleError};
 use qm_merkle::mem::Mem;
-use qm_merkle::{Family, MerkleizedBatch, Position, Proof, StandardHasher, UnmerkleizedBatch};
+use qm_merkle::{Family, MerkleizedBatch, Position, StandardHasher, UnmerkleizedBatch};
+use qm_proofs::Proof;
 use std::alloc::{AllocError, Global};
 use std::marker::Model;
 use std::num::NonZeroU64;

@@ -8,9 +8,9 @@ ghost use Rattle.qm_merkle.specs.Batches.{found_at, replaced_from, IsOver, AreTh
 ghost use Rattle.qm_merkle.specs.Mems.{more};
 
 use super::UnmerkleizedBatch;
-use crate::family::{Family, Node};
+use crate::family::{Family, Node, halves, place};
 use crate::hasher::StandardHasher;
-use crate::mem::{Mem, halves, place};
+use crate::mem::Mem;
 use qm_base::{Digest, Hasher, Location};
 use std::alloc::{AllocError, Global};
 use std::collections::BTreeMap;

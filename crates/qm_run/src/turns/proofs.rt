@@ -10,7 +10,7 @@ use crate::session::{Of, Turn, turn_of};
 use crate::table::merkleized_at;
 use qm_any::Given;
 use qm_lines::{Refused, Reply};
-use qm_merkle::Proof;
+use qm_proofs::Proof;
 use qm_store::Store;
 use std::alloc::Global;
 use std::num::NonZeroU64;

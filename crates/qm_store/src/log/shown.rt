@@ -7,13 +7,14 @@ ghost use Rattle.qm_model.specs.Trees as trees;
 ghost use Rattle.qm_model.specs.Proofs.{proof_of};
 ghost use Rattle.qm_merkle.specs.Mems.{Stands, node_at};
 ghost use Rattle.qm_merkle.specs.Batches.{all_layers, IsHistory};
-ghost use Rattle.qm_merkle.specs.Proofs.{proof_view, needed_positions, first_lacked, over_at, Tells};
+ghost use Rattle.qm_proofs.specs.Proofs.{proof_view, needed_positions, first_lacked, over_at, Tells};
 ghost use Rattle.qm_store.specs.Log.{IsKept, IsLacked, tree_error};
 
 use crate::Store;
 use qm_base::{Digest, Error, JournalError, Location, MerkleError};
 use qm_merkle::mem::Mem;
-use qm_merkle::{Family, MerkleizedBatch, Nodes, NodesOver, Position, Proof};
+use qm_merkle::{Family, MerkleizedBatch, Position};
+use qm_proofs::{Nodes, NodesOver, Proof};
 use std::alloc::Global;
 
 // The proof of leaves, in the tree of its first leaves.

@@ -4,7 +4,7 @@ use Rattle.qm_model.proofs.Results.{told-here}
 use Rattle.qm_model.specs.Forms.{spelling}
 use Rattle.qm_model.specs.Proofs.{ops_proof}
 use Rattle.qm_model.specs.Refusals.{proof_count}
-use Rattle.qm_merkle.specs.Proofs.{proof_view}
+use Rattle.qm_proofs.specs.Proofs.{proof_view}
 use Rattle.qm_store.specs.Log.{IsLog}
 use Rattle.qm_any.proofs.Telling.{three}
 use Rattle.qm_any.proofs.db.Db.historical_proof.Goals as goal

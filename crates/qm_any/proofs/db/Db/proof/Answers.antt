@@ -1,6 +1,6 @@
 use Rattle.std.proofs.Common.{◌∙◌, ap}
 use Rattle.std.specs.NonZero.{non_zero_u64_get}
-use Rattle.qm_merkle.specs.Proofs.{proof_view}
+use Rattle.qm_proofs.specs.Proofs.{proof_view}
 use Rattle.qm_any.proofs.Telling.{proof-whole}
 use Rattle.qm_any.proofs.db.Db.proof.Goals as goal
 

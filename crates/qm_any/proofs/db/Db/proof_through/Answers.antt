@@ -2,7 +2,7 @@ use Rattle.std.proofs.Common.{◌≡◌, ◌∙◌, ◌∷◌, length, map, ap, 
 use Rattle.std.proofs.lemmas.List.{length-map}
 use Rattle.qm_model.specs.Forms.{spelling}
 use Rattle.qm_model.specs.Trees.{inactive_peaks}
-use Rattle.qm_merkle.specs.Proofs.{proof_view}
+use Rattle.qm_proofs.specs.Proofs.{proof_view}
 use Rattle.qm_store.specs.Log.{IsLog}
 use Rattle.qm_any.specs.Layouts.{hashing_of, spellings}
 use Rattle.qm_any.proofs.Known.{contains-mapped}

@@ -2,7 +2,7 @@ use Rattle.std.proofs.Common.{map, sym, refl}
 use Rattle.qm_model.specs.Policies.{Policy}
 use Rattle.qm_model.specs.Machine.{Scheme}
 use Rattle.qm_lines.specs.declared.reply.Reply.TheVariants.{BatchProof}
-use Rattle.qm_merkle.specs.Proofs.{proof_view}
+use Rattle.qm_proofs.specs.Proofs.{proof_view}
 use Rattle.qm_run.specs.Session.{Meaning, meaning, scheme_of}
 use Rattle.qm_run.proofs.ProofCommands.{batch_proof_ok, batch_proof_err}
 use Rattle.qm_run.proofs.turns.proofs.batch_proof.Goals as goal

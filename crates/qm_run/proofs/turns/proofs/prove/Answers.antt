@@ -4,7 +4,7 @@ use Rattle.qm_model.specs.Machine.{Scheme}
 use Rattle.qm_run.specs.Session.{Meaning, meaning, scheme_of}
 use Rattle.std.specs.Int.NonZero.{non_zero_u64_get}
 use Rattle.qm_lines.specs.Views.{listed_view}
-use Rattle.qm_merkle.specs.Proofs.{proof_view}
+use Rattle.qm_proofs.specs.Proofs.{proof_view}
 use Rattle.qm_any.specs.declared.refusal.Given.TheVariants.{Database}
 use Rattle.qm_run.proofs.Commands.{Holds-told}
 use Rattle.qm_run.proofs.ProofCommands.{prove_ok, prove_err}

@@ -3,7 +3,7 @@ use Rattle.std.proofs.lemmas.List.{take_all}
 use Rattle.qm_model.specs.Proofs.{proof_of}
 use Rattle.qm_merkle.specs.Batches.{all_layers, IsHistory}
 use Rattle.qm_merkle.specs.Mems.{Stands}
-use Rattle.qm_merkle.specs.Proofs.{proof_view}
+use Rattle.qm_proofs.specs.Proofs.{proof_view}
 use Rattle.qm_store.specs.KeptTrees.{layers_of, leaves_of}
 use Rattle.qm_store.proofs.Leaves.{length-digests_from}
 use Rattle.qm_store.proofs.Kept.{kept-among, rest-same}

@@ -1,7 +1,7 @@
 use Rattle.std.proofs.Common.{◌∙◌, inr, map, ap, sym, subst}
 use Rattle.std.proofs.lemmas.List.{take_all}
 use Rattle.std.proofs.lemmas.Result.{err_from_is_err_and}
-use Rattle.qm_merkle.proofs.Listing.{none_lacked}
+use Rattle.qm_proofs.proofs.Listing.{none_lacked}
 use Rattle.qm_store.specs.Log.{IsLacked}
 use Rattle.qm_store.proofs.Shown.{lacked_at}
 use Rattle.qm_store.proofs.log.shown.digests_at.Goals as goal

@@ -3,8 +3,8 @@ use Rattle.std.proofs.lemmas.Result.{IfErr-weaker}
 use Rattle.qm_base.specs.declared.error.Error.TheVariants as errors
 use Rattle.qm_model.specs.Trees.{peak_positions}
 use Rattle.qm_merkle.specs.Mems.{node_at}
-use Rattle.qm_merkle.proofs.Keeping.{peaks_kept}
-use Rattle.qm_merkle.proofs.Telling.{tree_tells}
+use Rattle.qm_proofs.proofs.Keeping.{peaks_kept}
+use Rattle.qm_proofs.proofs.Telling.{tree_tells}
 use Rattle.qm_store.specs.Log.{IsLacked}
 use Rattle.qm_store.proofs.Shown.{only_memory}
 use Rattle.qm_store.proofs.log.shown.kept_peaks.Goals as goal

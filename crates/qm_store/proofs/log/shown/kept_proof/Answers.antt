@@ -2,9 +2,9 @@ use Rattle.std.proofs.Common.{◌≡◌, arith}
 use Rattle.std.proofs.lemmas.Result.{IfErr-weaker}
 use Rattle.qm_base.specs.declared.error.Error.TheVariants as errors
 use Rattle.qm_merkle.specs.Mems.{node_at}
-use Rattle.qm_merkle.specs.Proofs.{needed_positions}
-use Rattle.qm_merkle.proofs.Telling.{tree_tells}
-use Rattle.qm_merkle.proofs.Keeping.{needed_kept}
+use Rattle.qm_proofs.specs.Proofs.{needed_positions}
+use Rattle.qm_proofs.proofs.Telling.{tree_tells}
+use Rattle.qm_proofs.proofs.Keeping.{needed_kept}
 use Rattle.qm_store.specs.Log.{IsLacked}
 use Rattle.qm_store.proofs.Shown.{only_memory}
 use Rattle.qm_store.proofs.log.shown.kept_proof.Goals as goal

@@ -1,7 +1,7 @@
 use Rattle.std.proofs.Common.{◌≡◌, ◌∙◌, Some, None, OnOk, IfErr, map, arith, ap, subst}
 use Rattle.std.proofs.lemmas.Result.{IfOk-weaker}
 use Rattle.qm_model.specs.Trees.{digest_of, peaks, peak_positions}
-use Rattle.qm_merkle.specs.Proofs.{first_lacked}
+use Rattle.qm_proofs.specs.Proofs.{first_lacked}
 use Rattle.qm_store.specs.Log.{IsLacked}
 use Rattle.qm_store.proofs.Shown.{told_row}
 use Rattle.qm_store.proofs.log.shown.peak_digests.Goals as goal

@@ -3,8 +3,8 @@ use Rattle.std.proofs.lemmas.Result.{IfErr-weaker}
 use Rattle.qm_base.specs.declared.error.Error.TheVariants as errors
 use Rattle.qm_model.specs.Trees.{peak_positions}
 use Rattle.qm_merkle.specs.Batches.{all_layers}
-use Rattle.qm_merkle.specs.Proofs.{over_at}
-use Rattle.qm_merkle.proofs.Keeping.{peaks_seen}
+use Rattle.qm_proofs.specs.Proofs.{over_at}
+use Rattle.qm_proofs.proofs.Keeping.{peaks_seen}
 use Rattle.qm_store.specs.Log.{IsLacked}
 use Rattle.qm_store.proofs.Shown.{over_count, over_tells, over_there, only_memory}
 use Rattle.qm_store.proofs.log.shown.peaks_over.Goals as goal

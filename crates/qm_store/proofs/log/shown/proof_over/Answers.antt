@@ -4,8 +4,8 @@ use Rattle.std.proofs.lemmas.Result.{IfErr-weaker}
 use Rattle.qm_base.specs.declared.error.Error.TheVariants as errors
 use Rattle.qm_model.specs.Proofs.{proof_of}
 use Rattle.qm_merkle.specs.Batches.{all_layers}
-use Rattle.qm_merkle.specs.Proofs.{proof_view, needed_positions, over_at}
-use Rattle.qm_merkle.proofs.Keeping.{needed_seen}
+use Rattle.qm_proofs.specs.Proofs.{proof_view, needed_positions, over_at}
+use Rattle.qm_proofs.proofs.Keeping.{needed_seen}
 use Rattle.qm_store.specs.Log.{IsLacked}
 use Rattle.qm_store.proofs.Shown.{over_count, over_tells, over_there, only_memory}
 use Rattle.qm_store.proofs.log.shown.proof_over.Goals as goal

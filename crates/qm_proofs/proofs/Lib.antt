@@ -1,0 +1,5 @@
+pub mod Halving
+pub mod Listing
+pub mod Folding
+pub mod Telling
+pub mod Keeping

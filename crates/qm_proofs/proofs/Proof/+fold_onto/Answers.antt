@@ -1,0 +1,61 @@
+use Rattle.std.proofs.Common.{◌≡◌, ◌+◌, ◌-◌, ◌∙◌, ◌∷◌, length, map, drop, arith, ap, sym, Some, ℕ}
+use Rattle.std.specs.Prelude.{slice_get, option_map}
+use Rattle.std.proofs.lemmas.List.{length-map, length-drop}
+use Rattle.qm_model.specs.Trees.{Node, peaks}
+use Rattle.qm_proofs.proofs.Halving.{drop_next, peak_within}
+use Rattle.qm_proofs.proofs.Folding.{folded_onto, none_behind, onto_last, onto_step}
+use Rattle.qm_proofs.proofs.Proof.+fold_onto.Given
+use Rattle.qm_proofs.proofs.Proof.+fold_onto.Goals as goal
+
+-- the peaks that are left begin with this one
+left : (g : Given.Over) (m n k : ℕ) (p : Node) → m ≡ n → slice_get (peaks g.F.Family.shape m) k ≡ Some p → drop k (peaks g.F.Family.shape n) ≡ p ∷ drop (k + 1) (peaks g.F.Family.shape n)
+left g m n k p same is = drop_next (peaks g.F.Family.shape n) k p (ap (λ i. slice_get (peaks g.F.Family.shape i) k) (sym same) ∙ is)
+
+pub rebuild-requires-clause-end : goal.rebuild-requires-clause-end
+rebuild-requires-clause-end g t c =
+    omega (arith, c.new-leaves.ensures, c.requires.few, peak_within g.F.Family.shape g.F.Family.births g.met.F.Family.numbered g.met.F.Family.peaked c.new-leaves.result c.args.number c.peak-peak.result (omega (arith, c.new-leaves.ensures, c.requires.few)) c.peak-peak.ensures)
+
+pub returns-then-number-peak_count : goal.returns-then-number-peak_count
+returns-then-number-peak_count g t c =
+    let hash = g.H.Hasher.hash in
+    let shape = g.F.Family.shape in
+    let items = map g.E.Spelled.spelling c.args.elements.now in
+    let n = c.args.self.now.leaves in
+    let k = c.args.number in
+    let digests = c.args.self.now.digests.items in
+    let rest = drop c.args.used digests in
+    let count = ap (λ m. length (peaks shape m)) c.new-leaves.ensures in
+    onto_last hash shape items c.args.start (drop k (peaks shape n)) (map g.D.Digest.bytes rest) (g.D.Digest.bytes c.args.folded) (c.args.self.now.inactive_peaks - k) (option_map g.D.Digest.bytes c.all_used.result)
+    (omega (arith, length-drop k (peaks shape n), c.peak_count.ensures, count, c.if-number-peak_count.true))
+    (omega (arith, c.requires.inactive, c.peak_count.ensures, count, c.if-number-peak_count.true))
+    (λ all. ap (option_map g.D.Digest.bytes) (c.all_used.ensures.all (omega (arith, all, length-map rest g.D.Digest.bytes, length-drop c.args.used digests, c.requires.used))))
+    (λ some. ap (option_map g.D.Digest.bytes) (c.all_used.ensures.part (omega (arith, some, length-map rest g.D.Digest.bytes, length-drop c.args.used digests))))
+
+pub returns-in_err-digest : goal.returns-in_err-digest
+returns-in_err-digest g t c =
+    let hash = g.H.Hasher.hash in
+    let shape = g.F.Family.shape in
+    let items = map g.E.Spelled.spelling c.args.elements.now in
+    let n = c.args.self.now.leaves in
+    let k = c.args.number in
+    let p = c.peak-peak.result in
+    let ds = map g.D.Digest.bytes (drop c.args.used c.args.self.now.digests.items) in
+    rw c.from_residual-in_err-digest.ensures
+    (none_behind hash shape items c.args.start (drop k (peaks shape n)) p (drop (k + 1) (peaks shape n)) ds (left g _ n k p c.new-leaves.ensures c.peak-peak.ensures)
+    (folded_onto hash (g.D.Digest.bytes c.args.folded) (c.args.self.now.inactive_peaks - k)) c.in_err-digest.ensures.digest)
+
+pub returns : goal.returns
+returns g t c =
+    let hash = g.H.Hasher.hash in
+    let shape = g.F.Family.shape in
+    let items = map g.E.Spelled.spelling c.args.elements.now in
+    let n = c.args.self.now.leaves in
+    let k = c.args.number in
+    let p = c.peak-peak.result in
+    let digests = c.args.self.now.digests.items in
+    let ds = map g.D.Digest.bytes (drop c.args.used digests) in
+    c.fold_onto.ensures
+    ∙ onto_step hash shape items c.args.start (drop k (peaks shape n)) p (drop (k + 1) (peaks shape n)) ds (left g _ n k p c.new-leaves.ensures c.peak-peak.ensures)
+    (g.D.Digest.bytes c.in_ok-digest.digest, map g.D.Digest.bytes (drop c.in_ok-digest.used digests)) c.in_ok-digest.ensures.digest
+    (g.D.Digest.bytes c.args.folded) (g.D.Digest.bytes c.pair_digest-folded.result) (c.args.self.now.inactive_peaks - k) (c.args.self.now.inactive_peaks - (k + 1))
+    (omega (arith, c.requires.number, c.if-number-self.false)) c.pair_digest-folded.ensures.digest

@@ -1,0 +1,71 @@
+use Rattle.std.proofs.Common.{◌≡◌, ◌+◌, ◌<◌, ◌∙◌, ◌∷◌, length, map, drop, arith, ap, sym, refl, Some, None, ℕ}
+use Rattle.std.specs.Prelude.{slice_get, option_map}
+use Rattle.std.proofs.lemmas.List.{length-map, length-drop}
+use Rattle.qm_model.specs.Trees.{Node, peaks, fold_right}
+use Rattle.qm_proofs.proofs.Halving.{drop_next}
+use Rattle.qm_proofs.proofs.Folding.{none_behind, right_last, right_more}
+use Rattle.qm_proofs.proofs.Proof.+fold_right.Given
+use Rattle.qm_proofs.proofs.Proof.+fold_right.Goals as goal
+
+-- the peaks that are left begin with this one
+left : (g : Given.Over) (m n k : ℕ) (p : Node) → m ≡ n → slice_get (peaks g.F.Family.shape m) k ≡ Some p → drop k (peaks g.F.Family.shape n) ≡ p ∷ drop (k + 1) (peaks g.F.Family.shape n)
+left g m n k p same is = drop_next (peaks g.F.Family.shape n) k p (ap (λ i. slice_get (peaks g.F.Family.shape i) k) (sym same) ∙ is)
+
+pub returns-in_err-digest : goal.returns-in_err-digest
+returns-in_err-digest g t c =
+    let hash = g.H.Hasher.hash in
+    let shape = g.F.Family.shape in
+    let items = map g.E.Spelled.spelling c.args.elements.now in
+    let n = c.args.self.now.leaves in
+    let k = c.args.number in
+    let p = c.peak-peak.result in
+    let ds = map g.D.Digest.bytes (drop c.args.used c.args.self.now.digests.items) in
+    rw c.from_residual.ensures
+    (none_behind hash shape items c.args.start (drop k (peaks shape n)) p (drop (k + 1) (peaks shape n)) ds (left g _ n k p c.new-leaves.ensures c.peak-peak.ensures) (fold_right hash) c.in_err-digest.ensures.digest)
+
+pub returns-then-number-count : goal.returns-then-number-count
+returns-then-number-count g t c =
+    let hash = g.H.Hasher.hash in
+    let shape = g.F.Family.shape in
+    let items = map g.E.Spelled.spelling c.args.elements.now in
+    let n = c.args.self.now.leaves in
+    let k = c.args.number in
+    let p = c.peak-peak.result in
+    let digests = c.args.self.now.digests.items in
+    let ds = map g.D.Digest.bytes (drop c.args.used digests) in
+    let rest = drop c.in_ok-digest.used digests in
+    right_last hash shape items c.args.start (drop k (peaks shape n)) p (drop (k + 1) (peaks shape n)) ds (left g _ n k p c.new-leaves.ensures c.peak-peak.ensures)
+    (g.D.Digest.bytes c.in_ok-digest.digest, map g.D.Digest.bytes rest) c.in_ok-digest.ensures.digest (option_map g.D.Digest.bytes c.all_used.result)
+    (omega (arith, length-drop (k + 1) (peaks shape n), c.peak_count-count.ensures, ap (λ m. length (peaks shape m)) c.new-leaves.ensures, c.if-number-count.true))
+    (λ all. ap (option_map g.D.Digest.bytes) (c.all_used.ensures.all (omega (arith, all, length-map rest g.D.Digest.bytes, length-drop c.in_ok-digest.used digests, c.in_ok-digest.ensures.used))))
+    (λ some. ap (option_map g.D.Digest.bytes) (c.all_used.ensures.part (omega (arith, some, length-map rest g.D.Digest.bytes, length-drop c.in_ok-digest.used digests))))
+
+pub returns-in_err-rest : goal.returns-in_err-rest
+returns-in_err-rest g t c =
+    let hash = g.H.Hasher.hash in
+    let shape = g.F.Family.shape in
+    let items = map g.E.Spelled.spelling c.args.elements.now in
+    let n = c.args.self.now.leaves in
+    let k = c.args.number in
+    let p = c.peak-peak.result in
+    let digests = c.args.self.now.digests.items in
+    let ds = map g.D.Digest.bytes (drop c.args.used digests) in
+    let more : 0 < length (drop (k + 1) (peaks shape n)) = omega (arith, length-drop (k + 1) (peaks shape n), c.peak_count-count.ensures, ap (λ m. length (peaks shape m)) c.new-leaves.ensures, c.if-number-count.false, c.requires.number) in
+    rw c.from_residual-in_err-rest.ensures
+    (right_more hash shape items c.args.start (drop k (peaks shape n)) p (drop (k + 1) (peaks shape n)) ds (left g _ n k p c.new-leaves.ensures c.peak-peak.ensures)
+    (g.D.Digest.bytes c.in_ok-digest.digest, map g.D.Digest.bytes (drop c.in_ok-digest.used digests)) c.in_ok-digest.ensures.digest None None more c.in_err-rest.ensures refl)
+
+pub returns : goal.returns
+returns g t c =
+    let hash = g.H.Hasher.hash in
+    let shape = g.F.Family.shape in
+    let items = map g.E.Spelled.spelling c.args.elements.now in
+    let n = c.args.self.now.leaves in
+    let k = c.args.number in
+    let p = c.peak-peak.result in
+    let digests = c.args.self.now.digests.items in
+    let ds = map g.D.Digest.bytes (drop c.args.used digests) in
+    let more : 0 < length (drop (k + 1) (peaks shape n)) = omega (arith, length-drop (k + 1) (peaks shape n), c.peak_count-count.ensures, ap (λ m. length (peaks shape m)) c.new-leaves.ensures, c.if-number-count.false, c.requires.number) in
+    right_more hash shape items c.args.start (drop k (peaks shape n)) p (drop (k + 1) (peaks shape n)) ds (left g _ n k p c.new-leaves.ensures c.peak-peak.ensures)
+    (g.D.Digest.bytes c.in_ok-digest.digest, map g.D.Digest.bytes (drop c.in_ok-digest.used digests)) c.in_ok-digest.ensures.digest
+    (Some (g.D.Digest.bytes c.in_ok-rest.rest)) (Some (g.D.Digest.bytes c.pair_digest.result)) more c.in_ok-rest.ensures (ap Some c.pair_digest.ensures.digest)
