@@ -3,6 +3,8 @@
 ghost use Rattle.std.specs.Prelude.{◌≡◌, ◌<◌, ◌≤◌, ◌^◌, true, length, is_some, IfOk, IfNone, IfSome, option_map};
 ghost use Rattle.qm_model.specs.Forms as model;
 ghost use Rattle.qm_model.specs.Forms.{IsKey, IsValue, IsSpelling};
+ghost use Rattle.qm_base.specs.Parts as parts;
+ghost use Rattle.qm_base.specs.Parts.{update_key};
 ghost use Rattle.qm_base.specs.Views.{operation_view};
 
 use crate::byte_strings::ByteString;
@@ -19,6 +21,14 @@ impl<F, U: Update> Operation<F, U> {
         ensures none { IfOk result (λ found. IfNone found ((op : _) → ¬ IsSpelling U.form bytes.now op)) }
     {
         decoded(alloc, bytes)
+    }
+
+    /// The key of an update, lent from its spelling. It copies nothing and takes no memory. Of bytes that are no
+    /// operation's spelling it says nothing.
+    pub fn update_key(bytes: &[u8]) -> Option<&[u8]>
+        ensures { (op : _) → IsSpelling U.form bytes.now op → option_map (λ key. key.now) result ≡ update_key op }
+    {
+        read_update_key::<U>(bytes)
     }
 }
 
@@ -79,6 +89,19 @@ fn read_value<U: Update>(bytes: &[u8]) -> Option<(&[u8], &[u8])>
         Some((value, rest))
     } else {
         None
+    }
+}
+
+// The key behind the tag of updates.
+fn read_update_key<U: Update>(bytes: &[u8]) -> Option<&[u8]>
+    ensures { option_map (λ key. key.now) result ≡ parts.read_update_key U.form bytes.now }
+{
+    match bytes.split_first()? {
+        (1, rest) => {
+            let (key, _) = read_key::<U>(rest)?;
+            Some(key)
+        }
+        _ => None,
     }
 }
 
