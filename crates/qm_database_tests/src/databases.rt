@@ -98,7 +98,7 @@ fn a_database_tells_its_numbers(rt: HostRuntime) -> Result<(), Fail> {
     assert_eq!(rt; db.inactivity_floor_loc().get(), 2);
     assert_eq!(rt; db.sync_boundary().get(), 2);
     assert_eq!(rt; db.strategy(), 1);
-    assert_eq!(rt; db.store().items().len(), 4);
+    assert_eq!(rt; db.store().len(), 4);
     Ok(())
 }
 

@@ -107,9 +107,9 @@ fn one_put(rt: HostRuntime) -> Result<(), Fail> {
         &[1, 0, 0, 0, 1, 0x6b, 0, 0, 0, 1, 0x76],
         &[3, 0, 0, 0, 0, 0, 0, 0, 0, 2],
     ];
-    assert_eq!(rt; ran.store.items().len(), wanted.len());
-    for (item, want) in ran.store.items().iter().zip(wanted) {
-        assert_eq!(rt; item.as_slice(), want);
+    assert_eq!(rt; ran.store.len(), wanted.len());
+    for (at, want) in wanted.iter().enumerate() {
+        assert_eq!(rt; ran.store.item(at), *want);
     }
     Ok(())
 }
@@ -311,7 +311,7 @@ fn a_step_of_two_batches_appends_once(rt: HostRuntime) -> Result<(), Fail> {
         } else {
             7
         };
-        assert_eq!(rt; ran.store.items().len(), items, "at {call}");
+        assert_eq!(rt; ran.store.len(), items, "at {call}");
     }
     Ok(())
 }

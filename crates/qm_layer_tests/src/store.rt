@@ -59,7 +59,9 @@ fn fails_at_the_listed_calls(rt: HostRuntime) -> Result<(), Fail> {
     assert_eq!(rt; store.faults(), 2);
     assert_eq!(rt; store.bounds(), (0, 2));
     assert_eq!(rt; store.read(1)?.as_slice(), [3].as_slice());
-    assert_eq!(rt; store.items().len(), 2);
+    assert_eq!(rt; store.len(), 2);
+    assert!(rt; !store.is_empty());
+    assert_eq!(rt; store.item(1), [3].as_slice());
     Ok(())
 }
 

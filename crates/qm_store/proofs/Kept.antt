@@ -51,6 +51,11 @@ module _ (hash : Bytes → Bytes) (shape : Shape) where
           let among : List Bytes → Type 0 = λ l. Contains (own ∷ kept.lists) (leaves_of hash shape l) in
           All-contains among (list ∷ older) log (All-cons among list older (Contains-first own kept.lists) kept.through) found
 
+      -- its layers lead to its leaves, and through those of each of the lists
+      pub kept-through : (layers : List (Layer D)) → tree.layers ≡ layers → (log : List Bytes) → Contains (list ∷ older) log
+          → IsHistory shape bytes hash layers (leaves_of hash shape list ∷ kept.lists) × Contains (leaves_of hash shape list ∷ kept.lists) (leaves_of hash shape log)
+      kept-through layers are log found = (subst (λ l. IsHistory shape bytes hash l (leaves_of hash shape list ∷ kept.lists)) are kept.history, kept-among log found)
+
       -- of a tree at rest all lists have the same leaves
       pub rest-same : (log : List Bytes) → tree.layers ≡ [] → Contains (list ∷ older) log → leaves_of hash shape log ≡ leaves_of hash shape list
       rest-same log none found =

@@ -3,3 +3,4 @@ pub mod Trees
 pub mod Stores
 pub mod Shown
 pub mod Kept
+pub mod Cuts

@@ -1,13 +1,19 @@
 -- What stores keep, and what holds of what they tell.
-use Rattle.std.proofs.Common.{◌≡◌, ◌∙◌, ◌≤◌, ◌+◌, ◌-◌, ◌++◌, ℕ, List, length, take, drop, ap, sym, subst, refl, arith, append-nil, Option, Some, None, IfSome, Result, Ok, Err, IfOk}
+use Rattle.std.proofs.Common.{◌≡◌, ◌⊎◌, ◌∙◌, ◌≤◌, ◌+◌, ◌-◌, ◌++◌, ℕ, List, length, take, drop, ap, sym, subst, refl, inl, inr, arith, append-nil, Option, Some, None, IfSome, Result, Ok, Err, IfOk}
+use Rattle.std.specs.Prelude.{IsErrOf}
 use Rattle.std.proofs.lemmas.List.{take_all, drop-append-le, length-append}
 use Rattle.qm_model.specs.Operations.{Bytes}
 use Rattle.qm_model.specs.Trees.{Shape}
 use Rattle.qm_merkle.specs.Mems.{Kept, Stands}
-use Rattle.qm_model.specs.Causes.{Grows}
+use Rattle.qm_model.specs.Causes.{IsCause, Grows}
+use Rattle.qm_base.specs.declared.error.Error.TheVariants as errors
+use Rattle.qm_base.specs.declared.error.JournalError.TheVariants as journal
 use Rattle.qm_store.specs.declared.Store as store
+use Rattle.qm_store.specs.declared.StoreError.{StoreError}
+use Rattle.qm_store.specs.declared.StoreError.TheVariants as stores
+use Rattle.qm_store.specs.declared.log.LogGiven.TheVariants as given
 use Rattle.qm_store.proofs.Leaves.{length-digests_from}
-use Rattle.qm_store.specs.Log.{Log, IsLog, IsKept, HasGrown, HasGrownPart, digests_from}
+use Rattle.qm_store.specs.Log.{Log, IsLog, IsKept, HasGrown, HasGrownPart, IsRefused, digests_from, log_error}
 
 -- what holds of both
 pub both : {X : Type 0} (o : Option X) {P Q R : X → Type 0} → IfSome o P → IfSome o Q → ((x : X) → P x → Q x → R x) → IfSome o R
@@ -23,19 +29,41 @@ kept-then members a b c before after = record {
   head = after.head ∙ before.head;
 }
 
--- a store has grown by a first part of nothing
-pub grown-none : {C : Type 0} (members : store.Ghosts C) (c : C) (more : List Bytes) → HasGrownPart members c c more
-grown-none members c more = record {
-  start = refl;
-  from = omega arith;
-  within = omega arith;
-  items = (0, none (members.items c));
-  head = refl;
+-- a log that is given back as it was, for want of memory
+pub refused-whole : {C D : Type 0} (members : store.Ghosts C) (old log : Log C D) (more : List Bytes) → log ≡ old → IsRefused members old more (given.Log log) errors.Memory
+refused-whole members old log more same = record {
+  part = subst (λ l. HasGrownPart members old.store l.store more) (sym same) (record {
+    start = refl;
+    from = omega arith;
+    within = omega arith;
+    items = (0, none (members.items old.store));
+    head = refl;
+  });
+  back = λ other is. (cc, refl);
+  never = inl refl;
+  cause = subst (λ l. IsCause (members.faults old.store) (members.faults l.store) (errors.Memory ≡ errors.Journal journal.Store)) (sym same) (record { later = omega arith; failed = λ never. absurd cc });
 }
   where
     none : (o : Option (List Bytes)) → Grows o o (take 0 more)
     none None = tt
     none (Some xs) = ap Some (sym (append-nil xs))
+
+-- a log whose store refused these
+pub refused-stored : {C D T : Type 0} (members : store.Ghosts C) (old : Log C D) (s new : C) (more : List Bytes) (error : StoreError) → old.store ≡ s → HasGrownPart members s new more → IsCause (members.faults s) (members.faults new) (IsErrOf {T = T} (Err error) stores.Failed)
+    → IsRefused members old more (given.Store new) (log_error error)
+refused-stored members old s new more error is part cause = record {
+  part = subst (λ c. HasGrownPart members c new more) (sym is) part;
+  back = λ log same. absurd cc;
+  never = elim error as (λ e. (log_error e ≡ errors.Memory) ⊎ (log_error e ≡ errors.Journal journal.Store)) [ stores.Memory ↦ inl refl | stores.Failed ↦ inr refl ];
+  cause = record {
+    later = rw is cause.later;
+    failed = λ fault. rw is (cause.failed (ap Err (failed error fault)));
+  };
+}
+  where
+    failed : (e : StoreError) → log_error e ≡ errors.Journal journal.Store → e ≡ stores.Failed
+    failed stores.Memory fault = absurd cc
+    failed stores.Failed fault = refl
 
 -- a store that ends with a list has the rest of a longer one when it has grown
 rest-grown : (o new : Option (List Bytes)) (start end : ℕ) (list more : List Bytes) → start ≤ length list → end ≡ length list → IfSome o (λ xs. take (length list - start) xs ≡ drop start list) →

@@ -1,7 +1,7 @@
 -- Logs: the leaves of items, the head of a store, and what a log stands for.
 use Rattle.std.specs.Prelude.{◌≡◌, ◌⊎◌, ◌≤◌, ℕ, suc, ◌+◌, ◌-◌, List, [], ◌∷◌, length, take, drop, map, Option, Some, IfSome}
 use Rattle.std.specs.List.{concat}
-use Rattle.qm_model.specs.Causes.{Grows, GrowsPart}
+use Rattle.qm_model.specs.Causes.{IsCause, Grows, GrowsPart}
 use Rattle.qm_model.specs.Operations.{Bytes}
 use Rattle.qm_model.specs.Trees.{Shape, leaf, peaks, leaf_digest, digest_of}
 use Rattle.qm_base.specs.declared.error.Error.{Error}
@@ -71,6 +71,13 @@ log_error stores.Failed = errors.Journal journal.Store
 abbrev pub store_given : {C D : Type 0} → LogGiven (Log C D) C → C
 store_given (given.Log log) = log.store
 store_given (given.Store store) = store
+
+-- what an append of these to a log leaves where it is refused: the log as it was, where memory lacked before its store was called, and else its store
+pub record IsRefused {C D : Type 0} (members : store.Ghosts C) (old : Log C D) (more : List Bytes) (left : LogGiven (Log C D) C) (error : Error) : Type 0 where
+  pub part : HasGrownPart members old.store (store_given left) more
+  pub back : (log : Log C D) → left ≡ given.Log log → (log ≡ old) × (error ≡ errors.Memory)
+  pub never : (error ≡ errors.Memory) ⊎ (error ≡ errors.Journal journal.Store)
+  pub cause : IsCause (members.faults old.store) (members.faults (store_given left)) (error ≡ errors.Journal journal.Store)
 
 -- why a log's call failed, where its tree's did
 abbrev pub tree_error : MerkleError → Error

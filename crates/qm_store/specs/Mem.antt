@@ -1,5 +1,5 @@
 -- What a store in memory tells of itself.
-use Rattle.std.specs.Prelude.{ℕ, ◌+◌, ◌-◌, ◌^◌, min, List, ◌++◌}
+use Rattle.std.specs.Prelude.{◌≡◌, ◌≤◌, ℕ, ◌+◌, ◌-◌, ◌^◌, min, List, [], ◌∷◌, ◌++◌, slice_range}
 
 -- where its items start, its head, the items, the numbers of the calls that fail, and how many calls and faults there were
 pub record Mem : Type 0 where
@@ -25,3 +25,13 @@ failed s = record s { calls = one_more s.calls; faults = one_more s.faults }
 -- the store after a call that put these behind its items
 abbrev pub grown : Mem → List (List ℕ) → Mem
 grown s more = record s { calls = one_more s.calls; items = s.items ++ more }
+
+-- the items in a buffer from a place on, each up to its end
+abbrev pub cut : ℕ → List ℕ → List ℕ → List (List ℕ)
+cut from [] bytes = []
+cut from (to ∷ ends) bytes = slice_range bytes from to ∷ cut to ends bytes
+
+-- the ends rise from a place on, up to the last place
+abbrev pub AreEnds : ℕ → List ℕ → ℕ → Type 0
+AreEnds from [] last = from ≡ last
+AreEnds from (to ∷ ends) last = (from ≤ to) × AreEnds to ends last

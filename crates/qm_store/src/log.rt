@@ -11,7 +11,7 @@ ghost use Rattle.qm_merkle.specs.Mems.{Stands, node_at};
 ghost use Rattle.qm_merkle.specs.Batches.{all_layers, layers_since, stops, stops_since, lists_since, IsHistory};
 ghost use Rattle.qm_proofs.specs.Proofs.{proof_view, needed_positions, first_lacked, over_at};
 ghost use Rattle.qm_store.specs.KeptTrees.{IsKeptTree};
-ghost use Rattle.qm_store.specs.Log.{Log, digests_from, IsHead, IsLog, IsKept, HasGrown, HasGrownPart, store_given, IsLacked};
+ghost use Rattle.qm_store.specs.Log.{Log, digests_from, IsHead, IsLog, IsKept, HasGrown, IsRefused, IsLacked};
 
 use crate::{KeptTree, Store, StoreError};
 use qm_base::{Corrupt, Digest, Error, Hasher, JournalError, Location, MerkleError};
@@ -112,10 +112,7 @@ impl<F: Family, C: Store, H: Hasher + Drop> AuthLog<F, C, H> {
         ensures start { IfOk result (λ log. log.tree.start ≡ self.tree.start) }
         ensures size { IfOk result (λ log. log.tree.leaves ≡ self.tree.leaves + length items.now) }
         ensures grown { IfOk result (λ log. HasGrown C.Store self.store log.store (map (λ v. v.items) items.now)) }
-        ensures part { IfErr result (λ r. HasGrownPart C.Store self.store (store_given r.given) (map (λ v. v.items) items.now)) }
-        ensures back { IfErr result (λ r. (log : Log C H.Digest) → r.given ≡ LogGiven.Log log → (log ≡ self) × (r.error ≡ Error.Memory)) }
-        ensures never { IfErr result (λ r. (r.error ≡ Error.Memory) ⊎ (r.error ≡ Error.Journal JournalError.Store)) }
-        ensures cause { IfErr result (λ r. IsCause (C.faults self.store) (C.faults (store_given r.given)) (r.error ≡ Error.Journal JournalError.Store)) }
+        ensures refused { IfErr result (λ r. IsRefused C.Store self (map (λ v. v.items) items.now) r.given r.error) }
         ensures later { IfOk result (λ log. C.faults self.store ≤ C.faults log.store) }
     {
         let AuthLog {
@@ -152,10 +149,7 @@ impl<F: Family, C: Store, H: Hasher + Drop> AuthLog<F, C, H> {
         ensures start { IfOk result (λ log. log.tree.start ≡ self.tree.start) }
         ensures size { IfOk result (λ log. log.tree.leaves ≡ self.tree.leaves + length items.now) }
         ensures grown { IfOk result (λ log. HasGrown C.Store self.store log.store (map (λ v. v.items) items.now)) }
-        ensures part { IfErr result (λ r. HasGrownPart C.Store self.store (store_given r.given) (map (λ v. v.items) items.now)) }
-        ensures back { IfErr result (λ r. (log : Log C H.Digest) → r.given ≡ LogGiven.Log log → (log ≡ self) × (r.error ≡ Error.Memory)) }
-        ensures never { IfErr result (λ r. (r.error ≡ Error.Memory) ⊎ (r.error ≡ Error.Journal JournalError.Store)) }
-        ensures cause { IfErr result (λ r. IsCause (C.faults self.store) (C.faults (store_given r.given)) (r.error ≡ Error.Journal JournalError.Store)) }
+        ensures refused { IfErr result (λ r. IsRefused C.Store self (map (λ v. v.items) items.now) r.given r.error) }
         ensures later { IfOk result (λ log. C.faults self.store ≤ C.faults log.store) }
     {
         let AuthLog {
@@ -462,8 +456,7 @@ fn stored<F: Family, C: Store, H: Hasher + Drop>(
     ensures grown { IfOk result (λ log. HasGrown C.Store store log.store (map (λ v. v.items) items.now)) }
     ensures untold { IfOk result (λ log. C.items store ≡ None → C.items log.store ≡ None) }
     ensures later { IfOk result (λ log. C.faults store ≤ C.faults log.store) }
-    ensures back { IfErr result (λ r. (s : C) × (r.given ≡ LogGiven.Store s) × HasGrownPart C.Store store s (map (λ v. v.items) items.now) × IsCause (C.faults store) (C.faults s) (r.error ≡ Error.Journal JournalError.Store)) }
-    ensures never { IfErr result (λ r. (r.error ≡ Error.Memory) ⊎ (r.error ≡ Error.Journal JournalError.Store)) }
+    ensures refused { IfErr result (λ r. (log : Log C H.Digest) → log.store ≡ store → IsRefused C.Store log (map (λ v. v.items) items.now) r.given r.error) }
 {
     let mut store = store;
     match store.append(items) {

@@ -1,13 +1,14 @@
 // A store in memory, which fails exactly at the listed calls.
 ghost use Rattle.std.specs.Prelude.{◌≡◌, ◌≢◌, ℕ, ◌+◌, ◌-◌, ◌^◌, ◌<◌, ◌≤◌, ◌↔◌, List, [], ◌++◌, length, map, take, slice_get, Contains};
-ghost use Rattle.std.specs.Prelude.{Some, IfSome, IfOk, OnOk, OnErr, IsErrOf};
+ghost use Rattle.std.specs.Prelude.{IsTrue, Some, IfSome, IfOk, OnOk, OnErr, IsErrOf};
 ghost use Rattle.std.proofs.Common.{refl};
 ghost use Rattle.std.proofs.Math.Nat.{le-add_right};
 ghost use Rattle.qm_model.specs.Causes.{IsCause, Grows, GrowsPart};
 ghost use Rattle.qm_store.specs.Mem.{Mem, called, failed, grown};
 
+use crate::items::Items;
 use crate::{Store, StoreError};
-use std::alloc::{AllocError, Global};
+use std::alloc::Global;
 use std::marker::Model;
 
 /// A store in memory. Its calls of `read`, `head` and `append` are numbered from 0 on, and those fail
@@ -17,7 +18,7 @@ pub struct MemStore {
     alloc: Global,
     first: u64,
     head: Vec<u8>,
-    kept: Vec<Vec<u8>>,
+    kept: Items,
     listed: Vec<u64>,
     called: u64,
     failed: u64,
@@ -29,9 +30,9 @@ impl Model for MemStore {
 
     ghost Value = { Mem };
 
-    ghost view = { λ s. record { start = s.first; head = s.head.items; items = map (λ v. v.items) s.kept.items; fail = s.listed.items; calls = s.called; faults = s.failed } };
+    ghost view = { λ s. record { start = s.first; head = s.head.items; items = s.kept; fail = s.listed.items; calls = s.called; faults = s.failed } };
 
-    ghost invariant = { λ s. s.first + length s.kept.items ≤ 2 ^ 62 };
+    ghost invariant = { λ s. s.first + length s.kept ≤ 2 ^ 62 };
 }
 
 impl MemStore {
@@ -51,18 +52,33 @@ impl MemStore {
             alloc,
             first: start,
             head: Vec::new(alloc),
-            kept: Vec::new(alloc),
+            kept: Items::new(alloc),
             listed: fail,
             called: 0,
             failed: 0,
         }
     }
 
-    /// The items from the start on.
-    pub fn items(&self) -> &[Vec<u8>]
-        ensures { map (λ v. v.items) result.now ≡ self.now.items }
+    /// How many items it has.
+    pub fn len(&self) -> usize
+        ensures { result ≡ length self.now.items }
     {
-        &self.kept
+        self.kept.len()
+    }
+
+    /// Whether it has no item.
+    pub fn is_empty(&self) -> bool
+        ensures { IsTrue result ↔ (length self.now.items ≡ 0) }
+    {
+        self.kept.len() == 0
+    }
+
+    /// An item, by how many are before it.
+    pub fn item(&self, at: usize) -> &[u8]
+        requires { at < length self.now.items }
+        ensures { slice_get self.now.items at ≡ Some result.now }
+    {
+        self.kept.item(at)
     }
 
     // Counts a call, which fails where it is listed.
@@ -81,17 +97,6 @@ impl MemStore {
         }
         Ok(())
     }
-}
-
-// Puts copies behind what is there. After an error a first part of them is there.
-fn put_all(alloc: Global, kept: &mut Vec<Vec<u8>>, added: &[Vec<u8>]) -> Result<(), AllocError>
-    ensures ok { OnOk result (map (λ v. v.items) kept.new.items ≡ map (λ v. v.items) kept.old.items ++ map (λ v. v.items) added.now) }
-    ensures err { OnErr result ((n : ℕ) × (map (λ v. v.items) kept.new.items ≡ map (λ v. v.items) kept.old.items ++ map (λ v. v.items) (take n added.now))) }
-{
-    for item in added {
-        kept.push(item.as_slice().to_vec(alloc)?)?;
-    }
-    Ok(())
 }
 
 impl Store for MemStore {
@@ -132,8 +137,8 @@ impl Store for MemStore {
         ensures other { result ≢ Err StoreError.Failed → self.new ≡ called self.old }
     {
         self.call()?;
-        let item = &self.kept[(at - self.first) as usize];
-        Ok(item.as_slice().to_vec(self.alloc)?)
+        let item = self.kept.item((at - self.first) as usize);
+        Ok(item.to_vec(self.alloc)?)
     }
 
     fn head(&mut self) -> Result<Vec<u8>, StoreError>
@@ -166,7 +171,7 @@ impl Store for MemStore {
             → (n : ℕ) × (self.new ≡ grown self.old (take n (map (λ v. v.items) added.now))) }
     {
         self.call()?;
-        put_all(self.alloc, &mut self.kept, added)?;
+        self.kept.append(added)?;
         Ok(())
     }
 }

@@ -11,7 +11,7 @@ use Rattle.qm_any.proofs.db.Db.moved.Goals as goal
 
 pub given_back-requires-clause-whole : goal.given_back-requires-clause-whole
 given_back-requires-clause-whole g c = λ log given.
-    let was = (c.in-Err.ensures.back log given).0 in
+    let was = (c.in-Err.ensures.refused.back log given).0 in
     let leaves = sym (ap (λ l. l.tree.leaves) was) in
     (c.self.invariant.0 ∙ leaves, ap (λ l. g.C.Store.«end» l.store) was ∙ c.self.invariant.1 ∙ leaves)
 
@@ -62,5 +62,5 @@ returns-in-Ok-clause-part g c =
 pub returns-in-Err-clause-back : goal.returns-in-Err-clause-back
 returns-in-Err-clause-back g c = λ x given.
     let at = c.given_back.ensures.back x given in
-    let was = c.in-Err.ensures.back x.log at.0 in
+    let was = c.in-Err.ensures.refused.back x.log at.0 in
     (same-database _ c.args.self x c.self.view_is at.1 was.0, was.1)

@@ -1,31 +1,25 @@
 use Rattle.std.proofs.Common.{◌≡◌, ◌∙◌, ◌∷◌, [], map, sym, ap, subst, IfOk}
 use Rattle.qm_model.specs.Trees.{digest_of, peaks}
-use Rattle.qm_merkle.specs.Batches.{all_layers, IsHistory}
+use Rattle.qm_merkle.specs.Batches.{all_layers}
 use Rattle.qm_store.specs.KeptTrees.{layers_of, leaves_of}
-use Rattle.qm_store.proofs.Kept.{kept-among, rest-same}
+use Rattle.qm_store.proofs.Kept.{kept-through, rest-same}
 use Rattle.qm_store.proofs.kept_tree.KeptTree.pins.Goals as goal
 
 pub returns-in-Some-clause-value : goal.returns-in-Some-clause-value
 returns-in-Some-clause-value g c = λ list tip older is kept found.
     let hash = g.H.Hasher.hash in
     let shape = g.F.Family.shape in
-    let bytes = g.D.Digest.bytes in
-    let own = leaves_of hash shape tip in
     let layers : c.args.self.now.layers ≡ all_layers c.in-Some.batch = sym (ap (λ t. t.layers) c.self.view_is) ∙ ap layers_of c.in-Some.is in
-    let history = subst (λ l. IsHistory shape bytes hash l (own ∷ kept.lists)) layers kept.history in
-    let among = kept-among hash shape bytes c.args.self.now tip older kept list found in
-    c.speculative_pinned_nodes.ensures.value list own kept.lists is history among
+    let through = kept-through hash shape g.D.Digest.bytes c.args.self.now tip older kept (all_layers c.in-Some.batch) layers list found in
+    c.speculative_pinned_nodes.ensures.value list (leaves_of hash shape tip) kept.lists is through.0 through.1
 
 pub returns-in-Some-clause-whole : goal.returns-in-Some-clause-whole
 returns-in-Some-clause-whole g c = λ first list tip older is kept found.
     let hash = g.H.Hasher.hash in
     let shape = g.F.Family.shape in
-    let bytes = g.D.Digest.bytes in
-    let own = leaves_of hash shape tip in
     let layers : c.args.self.now.layers ≡ all_layers c.in-Some.batch = sym (ap (λ t. t.layers) c.self.view_is) ∙ ap layers_of c.in-Some.is in
-    let history = subst (λ l. IsHistory shape bytes hash l (own ∷ kept.lists)) layers kept.history in
-    let among = kept-among hash shape bytes c.args.self.now tip older kept list found in
-    c.speculative_pinned_nodes.ensures.whole first list own kept.lists is history among
+    let through = kept-through hash shape g.D.Digest.bytes c.args.self.now tip older kept (all_layers c.in-Some.batch) layers list found in
+    c.speculative_pinned_nodes.ensures.whole first list (leaves_of hash shape tip) kept.lists is through.0 through.1
 
 pub returns-in-None-clause-value : goal.returns-in-None-clause-value
 returns-in-None-clause-value g c = λ list tip older is kept found.

@@ -1,8 +1,9 @@
-use Rattle.std.proofs.Common.{◌≡◌, ◌++◌, map, ap, sym, subst}
-use Rattle.qm_store.specs.Log.{Log, IsLog, HasGrownPart}
+use Rattle.std.proofs.Common.{◌≡◌, ◌∙◌, ◌++◌, map, ap, sym, subst}
+use Rattle.qm_model.proofs.Results.{err-then}
+use Rattle.qm_store.specs.Log.{Log, IsLog}
 use Rattle.qm_store.specs.KeptTrees.{leaves_of}
 use Rattle.qm_store.proofs.Kept.{kept-among}
-use Rattle.qm_store.proofs.Stores.{grown-none, log-stored}
+use Rattle.qm_store.proofs.Stores.{refused-whole, log-stored}
 use Rattle.qm_store.proofs.log.AuthLog.append_tree.Goals as goal
 
 pub returns-in-Ok-clause-stands : goal.returns-in-Ok-clause-stands
@@ -20,7 +21,11 @@ returns-in-Ok-clause-stands g c = λ list older is kept found.
     log-stored members shape bytes hash old c.put_into.new.tree c.stored.result list more was stands c.in-Ok.ensures.start
     c.stored.ensures.tree c.stored.ensures.grown c.stored.ensures.untold (g.met.C.Store.told_end old.store) last (g.met.C.Store.ordered old.store)
 
-pub returns-in-Err-clause-part : goal.returns-in-Err-clause-part
-returns-in-Err-clause-part g c =
-    let more = map (λ v. v.items) c.args.items.now in
-    subst (λ s. HasGrownPart g.C.Store s c.self.inside.store more) (ap (λ l. l.store) c.self.view_is) (grown-none g.C.Store c.self.inside.store more)
+pub returns-in-Ok-clause-refused : goal.returns-in-Ok-clause-refused
+returns-in-Ok-clause-refused g c =
+    err-then c.stored.result c.stored.ensures.refused (λ r refused. refused c.args.self (sym (ap (λ l. l.store) c.self.view_is)))
+
+pub returns-in-Err-clause-refused : goal.returns-in-Err-clause-refused
+returns-in-Err-clause-refused g c =
+    let same = ap (λ t. record { store = c.self.inside.store; tree = t }) c.in-Err.ensures.err ∙ c.self.view_is in
+    refused-whole g.C.Store c.args.self _ (map (λ v. v.items) c.args.items.now) same
