@@ -246,12 +246,12 @@ impl<F: Family, D: Digest> Mem<F, D> {
         Ok(found)
     }
 
-    // Adds a leaf, with the nodes that are born with it.
+    // Adds a leaf, with the nodes that are born with it, which are made in the buffer.
     fn add<H: Hasher<Digest = D>>(
         &mut self,
-        alloc: Global,
         hasher: &mut StandardHasher<H>,
         leaf: D,
+        buffer: &mut Vec<D>,
     ) -> Result<(), AllocError>
         requires { self.old.leaves < 2 ^ 62 }
         ensures bounds { OnOk result ((self.new.start ≡ self.old.start) × (self.new.leaves ≡ self.old.leaves + 1)) }
@@ -259,8 +259,8 @@ impl<F: Family, D: Digest> Mem<F, D> {
         ensures made { OnOk result (hasher.new ≡ more hasher.old (trees.Shape.size F.shape (self.old.leaves + 1) - trees.Shape.size F.shape self.old.leaves - 1)) }
         ensures err { OnErr result (self.new ≡ self.old) }
     {
-        let made = self.births(alloc, hasher, leaf)?;
-        self.nodes.extend_from_slice(&made)?;
+        self.births(hasher, leaf, buffer)?;
+        self.nodes.extend_from_slice(buffer)?;
         self.leaves = Location::new(self.leaves.get() + 1);
         Ok(())
     }
@@ -277,31 +277,45 @@ impl<F: Family, D: Digest> Mem<F, D> {
         ensures stands { (list : List (List ℕ)) → Stands F.shape D.bytes H.hash self.old list → OnOk result (Stands F.shape D.bytes H.hash self.new (list ++ map D.bytes leaves.now)) }
         ensures made { OnOk result (hasher.new ≡ more hasher.old (trees.Shape.size F.shape self.new.leaves - trees.Shape.size F.shape self.old.leaves - length leaves.now)) }
     {
+        self.make_room(leaves.len() as u64)?;
+        let mut buffer = Vec::new(alloc);
         for leaf in leaves {
-            self.add(alloc, hasher, *leaf)?;
+            self.add(hasher, *leaf, &mut buffer)?;
         }
         Ok(())
     }
 
-    // The nodes that are born with a leaf.
+    // Takes the room that the nodes of so many more leaves need.
+    fn make_room(&mut self, more: u64) -> Result<(), AllocError>
+        requires { self.old.leaves + more ≤ 2 ^ 62 }
+        ensures { self.new ≡ self.old }
+    {
+        let leaves = Location::new(self.leaves.get() + more);
+        let size = F::location_to_position(leaves).get();
+        let room = size - F::location_to_position(self.leaves).get();
+        self.nodes.reserve(room as usize)
+    }
+
+    // Makes the nodes that are born with a leaf in the buffer, in place of what it has.
     fn births<H: Hasher<Digest = D>>(
         &self,
-        alloc: Global,
         hasher: &mut StandardHasher<H>,
         leaf: D,
-    ) -> Result<Vec<D>, AllocError>
+        buffer: &mut Vec<D>,
+    ) -> Result<(), AllocError>
         requires { self.now.leaves < 2 ^ 62 }
-        ensures count { IfOk result (λ v. length v.items ≡ Births.count F.births self.now.leaves) }
-        ensures born { (leaves : List (List ℕ)) → Stands F.shape D.bytes H.hash self.now leaves → IfOk result (λ v. AreBorn F.shape F.births D.bytes H.hash self.now.leaves (leaves ++ D.bytes leaf ∷ []) v.items) }
-        ensures made { IfOk result (λ v. hasher.new ≡ more hasher.old (length v.items - 1)) }
+        ensures count { OnOk result (length buffer.new.items ≡ Births.count F.births self.now.leaves) }
+        ensures born { (leaves : List (List ℕ)) → Stands F.shape D.bytes H.hash self.now leaves → OnOk result (AreBorn F.shape F.births D.bytes H.hash self.now.leaves (leaves ++ D.bytes leaf ∷ []) buffer.new.items) }
+        ensures made { OnOk result (hasher.new ≡ more hasher.old (length buffer.new.items - 1)) }
     {
         let count = F::birth_count(self.leaves);
-        let mut made = Vec::with_capacity(alloc, count as usize)?;
-        made.push(leaf)?;
+        buffer.clear();
+        buffer.push(leaf)?;
         for number in 1..count {
-            made.push(self.parent(hasher, &made, number))?;
+            let digest = self.parent(hasher, buffer, number);
+            buffer.push(digest)?;
         }
-        Ok(made)
+        Ok(())
     }
 
     // The digest of the next node that is born with a leaf, over two halves that are there.

@@ -5,8 +5,8 @@ use Rattle.qm_merkle.proofs.mem.Mem.births.Given as goal
 
 abbrev pub invariant-loop-number : goal.invariant-loop-number
 invariant-loop-number g l = record {
-  count : length l.made.items ≡ l.number;
+  count : length l.buffer.items ≡ l.number;
   born : (leaves : List Bytes) → Stands g.F.Family.shape g.D.Digest.bytes g.H.Hasher.hash l.self leaves →
-      AreBorn g.F.Family.shape g.F.Family.births g.D.Digest.bytes g.H.Hasher.hash l.self.leaves (leaves ++ g.D.Digest.bytes l.fn.leaf ∷ []) l.made.items;
+      AreBorn g.F.Family.shape g.F.Family.births g.D.Digest.bytes g.H.Hasher.hash l.self.leaves (leaves ++ g.D.Digest.bytes l.fn.leaf ∷ []) l.buffer.items;
   made : l.hasher ≡ more l.fn.hasher (l.number - 1);
 }

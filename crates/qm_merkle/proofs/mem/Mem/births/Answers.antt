@@ -1,0 +1,38 @@
+use Rattle.std.proofs.Common.{◌≡◌, ◌+◌, ◌++◌, ◌<◌, ◌≤◌, ◌∷◌, ◌∙◌, [], ℕ, List, Option, Some, length, arith, ap, sym, ⊎_elim, subst}
+use Rattle.std.specs.Prelude.{slice_get}
+use Rattle.std.proofs.lemmas.Bool.{cases_lt}
+use Rattle.std.proofs.lemmas.List.{length-append}
+use Rattle.qm_model.specs.Trees.{digest_of}
+use Rattle.qm_merkle.specs.Mems.{Gives, AreBorn}
+use Rattle.qm_merkle.proofs.Growth.{slice_get-left, slice_get-right}
+use Rattle.qm_merkle.proofs.mem.Mem.births.Goals as goal
+
+-- each of a row and the next
+each_next : {D : Type 0} (P : ℕ → Option D → Type 0) (xs ys : List D) (d : D) (n : ℕ) → length xs ≡ n → ys ≡ xs ++ d ∷ [] → length ys ≡ n + 1 → ((k : ℕ) → k < length xs → P k (slice_get xs k)) → P n (slice_get (d ∷ []) 0) → (k : ℕ) → k < length ys → P k (slice_get ys k)
+each_next P xs ys d n count is long all last k lt = ⊎_elim
+    (λ (old : k < length xs). subst (P k) (sym (ap (λ zs. slice_get zs k) is ∙ slice_get-left xs (d ∷ []) k old)) (all k old))
+    (λ (new : length xs ≤ k).
+    let same : n ≡ k = omega arith in
+    let at : length xs + 0 ≡ n = omega arith in
+    subst (λ j. P j (slice_get ys j)) same (subst (P n) (sym (ap (λ zs. slice_get zs n) is ∙ ap (slice_get (xs ++ d ∷ [])) (sym at) ∙ slice_get-right xs (d ∷ []) 0)) last))
+    (cases_lt k (length xs))
+
+pub loop-number-preserved : goal.loop-number-preserved
+loop-number-preserved g c =
+    let shape = g.F.Family.shape in
+    let births = g.F.Family.births in
+    let bytes = g.D.Digest.bytes in
+    let hash = g.H.Hasher.hash in
+    let n = c.args.self.now.leaves in
+    let made = c.loop-number.buffer.items in
+    let d = c.parent-digest.result in
+    let more_made : c.push-in-loop-number.new.self.items ≡ made ++ d ∷ [] = c.in_ok-push-2.ensures.items in
+    let count : length c.push-in-loop-number.new.self.items ≡ c.loop-number.number + 1 = omega (arith, ap length more_made, length-append made (d ∷ []), c.loop-number.invariant.count) in record {
+      count = count;
+      born = λ leaves stands.
+          let list = leaves ++ bytes c.args.leaf ∷ [] in
+          let before = c.loop-number.invariant.born leaves stands in
+          let last = c.parent-digest.ensures.digest leaves c.args.leaf stands (subst (AreBorn shape births bytes hash n list) (sym c.deref.ensures.value) before) in
+          each_next (λ k found. Gives bytes found (digest_of hash shape list (births.born n k))) made c.push-in-loop-number.new.self.items d c.loop-number.number c.loop-number.invariant.count more_made count before (ap Some last);
+      made = omega (arith, c.parent-digest.ensures.made, c.loop-number.invariant.made, c.loop-number.auto.number);
+    }
