@@ -1,9 +1,8 @@
-use Rattle.std.proofs.Common.{◌≡◌, ◌∙◌, ◌∷◌, [], ◌++◌, refl, length, get_or, sym, ap, arith, vec_len}
+use Rattle.std.proofs.Common.{◌≡◌, ◌∙◌, ◌∷◌, [], ◌++◌, refl, length, ap, arith, vec_len}
 use Rattle.std.proofs.lemmas.List.{length-append}
 use Rattle.std.proofs.lemmas.Grind.{common_steps}
 use Rattle.std.proofs.lemmas.List.Sums.{sum_by-drop_more}
 use Rattle.std.proofs.lemmas.Slice.{pushed}
-use Rattle.qm_store.specs.Mem.{cut}
 use Rattle.qm_store.proofs.Cuts.{ends-push, cut-push}
 use Rattle.qm_store.proofs.items.put_all.Goals as goal
 

@@ -1,4 +1,4 @@
-use Rattle.std.proofs.Common.{◌≡◌, ◌∙◌, ◌∷◌, [], map, sym, ap, subst, IfOk}
+use Rattle.std.proofs.Common.{◌≡◌, ◌∙◌, [], map, sym, ap, subst, IfOk}
 use Rattle.qm_model.specs.Trees.{digest_of, peaks}
 use Rattle.qm_merkle.specs.Batches.{all_layers}
 use Rattle.qm_store.specs.KeptTrees.{layers_of, leaves_of}
