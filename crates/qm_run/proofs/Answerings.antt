@@ -19,8 +19,8 @@ use Rattle.qm_run.proofs.Loops.{loop_step, left_in, after_all}
 abbrev with_line : Bytes → Answer → Bytes
 with_line text answer = text ++ (reply_line answer ++ 10 ∷ [])
 
-text_of-push : (as : List Answer) (a : Answer) → text_of (as ++ a ∷ []) ≡ with_line (text_of as) a
-text_of-push as a = sym (flat_map_more (λ r. reply_line r ++ 10 ∷ []) [] as a)
+text_of-push : (given : List Answer) (a : Answer) → text_of (given ++ a ∷ []) ≡ with_line (text_of given) a
+text_of-push given a = sym (flat_map_more (λ r. reply_line r ++ 10 ∷ []) [] given a)
 
 -- the next line of an input
 module _ (input rest line behind : Bytes) (k : ℕ) (at : IsAt input rest k) (found : lines_of rest ≡ line ∷ lines_of behind) where
@@ -44,7 +44,7 @@ module _ (input rest line behind : Bytes) (k : ℕ) (at : IsAt input rest k) (fo
         → (Apart m.root (after m items (commands_in input) k).had → Before (after m items (commands_in input) k))
         → ((s : State) → Before s → Apart m.root s.had → IsLeft left s.items (after_line m s o).items)
         → Apart m.root (after m items (commands_in input) k).had → IsLeft left (after m items (commands_in input) k).items (after m items (commands_in input) (suc k)).items
-    line_left None e left Before so_far leaves apart =
+    line_left None e left Before so_far leaves = λ apart.
         let s : State = after m items (commands_in input) k in
         subst (IsLeft left s.items) (sym (after_all m items (commands_in input) k (omega (arith, (at_bad input rest line behind k at found e).0)))) (leaves s (so_far apart) apart)
     line_left (Some c) e left Before so_far leaves =

@@ -23,7 +23,7 @@ module _ {P : Type 0} (m : Scheme P) (items : List Bytes) (lines : List (Line P)
   after_more i line h here = take_more lines i line h ∙ ap (λ x. take i lines ++ x ∷ []) (sym here)
 
   -- What is told of the answers grows by one.
-  pub loop_step : {T : Type 0} (told : List Answer → T) (more : T → Answer → T) → ((as : List Answer) (a : Answer) → told (as ++ a ∷ []) ≡ more (told as) a)
+  pub loop_step : {T : Type 0} (told : List Answer → T) (more : T → Answer → T) → ((given : List Answer) (a : Answer) → told (given ++ a ∷ []) ≡ more (told given) a)
       → (i : ℕ) (line : Line P) (old new : T) (Before After : State → Type 0) → i < length lines → line ≡ get_or lines i line
       → (Apart m.root (after m items lines i).had → (old ≡ told (answers m (initial items) (take i lines))) × Before (after m items lines i))
       → ((s : State) → Before s → Apart m.root ((turn m s line).1).had → (new ≡ more old (turn m s line).0) × After (turn m s line).1)

@@ -45,21 +45,22 @@ module _ (items : List Bytes) (input : Bytes) (rose : Type 0) where
     items_left = λ _. left_none items (state items input 1).items (Some items) refl;
   })
 
+  -- what an ending says of the first k commands: those before a bad line or the end are all
+  abbrev pub IsWhole : ℕ → Ending → Type 0
+  IsWhole k Done = (k ≡ count items input) × (bad_in input ≡ None)
+  IsWhole k BadLine = (k ≡ count items input) × (bad_in input ≡ Some (k + 1))
+  IsWhole k Memory = Unit {0}
+  IsWhole k StoreFault = rose
+
+  pub is_whole : (k : ℕ) (ending : Ending) → (ending ≡ Done → (k ≡ count items input) × (bad_in input ≡ None)) → (ending ≡ BadLine → (k ≡ count items input) × (bad_in input ≡ Some (k + 1)))
+      → (ending ≡ StoreFault → rose) → IsWhole k ending
+  is_whole k Done done bad fault = done refl
+  is_whole k BadLine done bad fault = bad refl
+  is_whole k Memory done bad fault = tt
+  is_whole k StoreFault done bad fault = fault refl
+
   module _ (text : Bytes) (k : ℕ) (left : Option (List Bytes)) (answered : IsAnswered scheme items (commands_in input) k text left) where
-    -- of all commands, where the next line is bad or there is none
-    abbrev pub IsWhole : Ending → Type 0
-    IsWhole Done = (k ≡ count items input) × (bad_in input ≡ None)
-    IsWhole BadLine = (k ≡ count items input) × (bad_in input ≡ Some (k + 1))
-    IsWhole Memory = Unit {0}
-    IsWhole StoreFault = rose
-
-    pub is_whole : (ending : Ending) → (ending ≡ Done → (k ≡ count items input) × (bad_in input ≡ None)) → (ending ≡ BadLine → (k ≡ count items input) × (bad_in input ≡ Some (k + 1))) → (ending ≡ StoreFault → rose) → IsWhole ending
-    is_whole Done done bad fault = done refl
-    is_whole BadLine done bad fault = bad refl
-    is_whole Memory done bad fault = tt
-    is_whole StoreFault done bad fault = fault refl
-
-    pub partial : (ending : Ending) → IsWhole ending → (n : ℕ) → IsPartial items input rose (take n (text ++ tail_text ending k)) left k
+    pub partial : (ending : Ending) → IsWhole k ending → (n : ℕ) → IsPartial items input rose (take n (text ++ tail_text ending k)) left k
     partial Done is n = record { few = answered.few; part = λ apart. inl (n, rw append-nil (ap (take n) (answered.same apart))); items_left = answered.left }
     partial BadLine is n = record { few = answered.few; part = λ apart. inr (inr (k + 1, is.1, is.0, (n, ap (λ t. take n (t ++ bad_text (k + 1))) (answered.same apart)))); items_left = answered.left }
     partial Memory is n = record { few = answered.few; part = λ apart. inl (n, rw append-nil (ap (take n) (answered.same apart))); items_left = answered.left }
@@ -73,7 +74,7 @@ module _ (items : List Bytes) (input : Bytes) (rose : Type 0) where
         let at_end : IsLeftAt items input left n = subst (IsLeftAt items input left) e (answered.left apart_here) in
         (answered.same apart_here ∙ ap (model_text items input) e, left_whole left (state items input n).items (subst (IsLeft left (state items input n).items) (after_all scheme items (commands_in input) n (omega arith)) at_end))
 
-    pub whole : (ending : Ending) → IsWhole ending → Says items input (tail_status ending) rose (text ++ tail_text ending k) left
+    pub whole : (ending : Ending) → IsWhole k ending → Says items input (tail_status ending) rose (text ++ tail_text ending k) left
     whole Done is = record {
       all = λ _. (is.1, λ apart. let f = finished is.0 apart in (append-nil text ∙ f.0, f.1));
       bad = λ e. absurd (omega arith);
