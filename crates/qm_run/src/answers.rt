@@ -21,7 +21,7 @@ use qm_store::Store;
 use std::alloc::{AllocError, Global};
 
 /// Why no further line is answered.
-#[derive(Clone, Copy, Debug, PartialEq, Eq)]
+#[derive(Clone, Copy)]
 pub enum Ending {
     /// Every line has its answer.
     Done,
