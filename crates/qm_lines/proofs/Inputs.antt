@@ -1,5 +1,5 @@
 -- The lines of an input, one after the other, and the commands that they are.
-use Rattle.std.proofs.Common.{◌≡◌, ◌≢◌, ◌+◌, ◌-◌, ◌<◌, ◌≤◌, ℕ, Bool, true, false, cond, ◌==◌, List, [], ◌∷◌, ◌++◌, take, drop, length, length-append, length-take, length-drop, get_or, Option, Some, None, refl, sym, ◌∙◌, ap, subst, arith}
+use Rattle.std.proofs.Common.{◌≡◌, ◌≢◌, ◌+◌, ◌-◌, ◌<◌, ◌≤◌, ℕ, Bool, true, false, cond, ◌==◌, [], ◌∷◌, ◌++◌, take, drop, length, length-append, length-take, length-drop, get_or, Some, None, refl, sym, ◌∙◌, ap, subst, arith}
 use Rattle.std.specs.List.{All, slice_split}
 use Rattle.std.proofs.lemmas.List.{get_or-append-add, get_or-take, take-append-drop, drop_more}
 use Rattle.std.proofs.lemmas.Bool.Decides.{nat_tests}

@@ -1,4 +1,4 @@
-use Rattle.std.proofs.Common.{◌≡◌, ◌≤◌, ◌-◌, ◌+◌, ℕ, List, [], ◌∷◌, length, take, drop, ◌∙◌, ap, sym, subst, arith, rules}
+use Rattle.std.proofs.Common.{◌≤◌, ◌+◌, ◌∷◌, length, take, ◌∙◌, ap, sym, arith, rules}
 use Rattle.std.proofs.lemmas.List.{take_rest, drop_all}
 use Rattle.qm_model.specs.Operations.{Bytes}
 use Rattle.qm_model.specs.Grammar.{lines_of}
