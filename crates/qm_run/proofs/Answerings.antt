@@ -1,5 +1,5 @@
 -- The loop over the lines of an input: one line more, and its ends.
-use Rattle.std.proofs.Common.{◌≡◌, ◌≤◌, ℕ, suc, ◌+◌, List, [], ◌∷◌, ◌++◌, length, take, Option, Some, None, IfSome, arith, refl, sym, ◌∙◌, ap, subst}
+use Rattle.std.proofs.Common.{◌≡◌, ◌≤◌, ℕ, suc, ◌+◌, List, [], ◌∷◌, ◌++◌, length, take, Option, Some, None, IfSome, arith, refl, sym, subst}
 use Rattle.std.specs.Prelude.{IsSome}
 use Rattle.std.proofs.lemmas.List.{flat_map_more}
 use Rattle.qm_model.specs.Operations.{Bytes}
@@ -7,7 +7,7 @@ use Rattle.qm_model.specs.Batches.{Apart}
 use Rattle.qm_model.specs.Policies.{Policy}
 use Rattle.qm_model.specs.Lines.{Line, Answer}
 use Rattle.qm_model.specs.Machine.{Scheme, State, initial, turn, answers}
-use Rattle.qm_model.specs.Grammar.{lines_of, line_of, commands_in, bad_in}
+use Rattle.qm_model.specs.Grammar.{lines_of, line_of, commands_in}
 use Rattle.qm_model.specs.Text.{reply_line, text_of}
 use Rattle.qm_lines.proofs.Inputs.{IsAt, at_within, at_command, at_more, at_bad}
 use Rattle.qm_run.specs.Session.{IsLeft}

@@ -1,10 +1,10 @@
-use Rattle.std.proofs.Common.{◌≡◌, ◌+◌, length, arith, refl, ◌∙◌, ap, Some}
+use Rattle.std.proofs.Common.{◌≡◌, arith, refl, ◌∙◌, ap, Some}
 use Rattle.qm_model.specs.Policies.{Policy}
 use Rattle.qm_model.specs.Machine.{Scheme}
-use Rattle.qm_model.specs.Grammar.{line_of, lines_of, commands_in}
-use Rattle.qm_lines.proofs.Inputs.{at_start, at_end, at_bad}
+use Rattle.qm_model.specs.Grammar.{line_of}
+use Rattle.qm_lines.proofs.Inputs.{at_end, at_bad}
 use Rattle.qm_run.specs.Session.{Meaning, meaning, scheme_of, Holds}
-use Rattle.qm_run.proofs.Loops.{each, Rose-wider}
+use Rattle.qm_run.proofs.Loops.{each}
 use Rattle.qm_run.proofs.Answerings.{at_next, line_step, answered_in, answered_at}
 use Rattle.qm_run.proofs.answers.answer_lines.Goals as goal
 

@@ -1,4 +1,4 @@
-use Rattle.std.proofs.Common.{◌≡◌, ◌≤◌, ◌+◌, ℕ, List, Some, take, length}
+use Rattle.std.proofs.Common.{◌≡◌, ◌≤◌, ◌+◌, List, Some, take, length}
 use Rattle.qm_model.specs.Operations.{Bytes}
 use Rattle.qm_model.specs.Batches.{Apart}
 use Rattle.qm_model.specs.Grammar.{commands_in}
