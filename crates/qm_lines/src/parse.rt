@@ -1,6 +1,6 @@
 //! Lines to commands.
 
-ghost use Rattle.std.specs.Prelude.{◌≡◌, ◌==◌, ◌<◌, length, map, IfOk, option_map};
+ghost use Rattle.std.specs.Prelude.{◌≡◌, ◌≢◌, ◌==◌, ◌+◌, ◌<◌, ◌≤◌, ℕ, ◌∷◌, [], slice_index, length, map, IfOk, IfNone, IfSome, option_map};
 ghost use Rattle.std.specs.Int.NonZero.{non_zero_u64_get};
 ghost use Rattle.std.specs.List.{slice_split};
 ghost use Rattle.hex.specs.Hex.{decode_of};
@@ -403,51 +403,31 @@ pub fn parse_line(alloc: Global, line: &[u8]) -> Result<Option<ByteCommand>, All
     of_words(alloc, &words)
 }
 
-fn without_feed(input: &[u8]) -> &[u8]
-    requires { 0 < length input.now }
-    ensures { result.now ≡ grammar.without_feed input.now }
+// How many bytes come before the first line feed, or at all.
+fn line_length(input: &[u8]) -> usize
+    ensures within { result ≤ length input.now }
+    ensures before { (k : ℕ) → k < result → slice_index input.now k ≢ 10 }
+    ensures found { result < length input.now → slice_index input.now result ≡ 10 }
 {
-    let last = input.len() - 1;
-    if input[last] == b'\n' {
-        &input[..last]
-    } else {
-        input
-    }
+    input
+        .iter()
+        .position(|byte| *byte == b'\n')
+        .unwrap_or(input.len())
 }
 
-fn split_lines(alloc: Global, input: &[u8]) -> Result<Vec<&[u8]>, AllocError>
-    ensures { IfOk result (λ lines.
-        map (λ line. line.now) lines.items ≡ slice_split (λ c. c == 10) input.now) }
-{
-    input.split(|c| *c == b'\n').collect(alloc)
-}
-
-// The lines of an input, each without its line feed.
-fn lines(alloc: Global, input: &[u8]) -> Result<Vec<&[u8]>, AllocError>
-    ensures { IfOk result (λ lines. map (λ line. line.now) lines.items ≡ grammar.lines_of input.now) }
+/// The first line of an input, without its line feed, and what is behind it. An empty input has none.
+pub fn next_line(input: &[u8]) -> Option<(&[u8], &[u8])>
+    ensures none { IfNone result (grammar.lines_of input.now ≡ []) }
+    ensures some { IfSome result (λ found. grammar.lines_of input.now ≡ found.0.now ∷ grammar.lines_of found.1.now) }
+    ensures shorter { IfSome result (λ found. length found.1.now < length input.now) }
 {
     if input.is_empty() {
-        return Ok(Vec::new(alloc));
+        return None;
     }
-    split_lines(alloc, without_feed(input))
-}
-
-/// The commands of an input up to the first line that is none, and that line's number, counted from 1.
-/// Want of memory is the only error.
-pub fn parse_all(alloc: Global, input: &[u8]) -> Result<(Vec<ByteCommand>, Option<u64>), AllocError>
-    ensures commands { IfOk result (λ parsed.
-        map byte_line parsed.0.items ≡ grammar.commands_in input.now) }
-    ensures bad { IfOk result (λ parsed. parsed.1 ≡ grammar.bad_in input.now) }
-{
-    let lines = lines(alloc, input)?;
-    let mut commands = Vec::new(alloc);
-    let mut number = 1;
-    for line in &lines {
-        let Some(command) = parse_line(alloc, line)? else {
-            return Ok((commands, Some(number)));
-        };
-        commands.push(command)?;
-        number += 1;
+    let end = line_length(input);
+    if end < input.len() {
+        Some((&input[..end], &input[end + 1..]))
+    } else {
+        Some((input, &input[end..]))
     }
-    Ok((commands, None))
 }

@@ -230,20 +230,3 @@ pub fn reply_text<K: Key, V: VariableValue, D: Digest>(
 {
     Ok(line_text(alloc, reply)?.into_bytes())
 }
-
-/// The text of replies, one line each. Want of memory is the only error.
-pub fn replies_text<K: Key, V: VariableValue, D: Digest>(
-    alloc: Global,
-    replies: &[Reply<K, V, D>],
-) -> Result<Vec<u8>, AllocError>
-    ensures { IfOk result (λ text.
-        text.items ≡ texts.text_of (map (answer_view K.bytes V.bytes D.bytes) replies.now)) }
-{
-    let mut out = Vec::new(alloc);
-    for reply in replies {
-        let text = line_text(alloc, reply)?;
-        out.extend_from_slice(text.as_bytes())?;
-        out.push(b'\n')?;
-    }
-    Ok(out)
-}

@@ -4,5 +4,6 @@ pub mod BatchCommands
 pub mod ReadCommands
 pub mod ProofCommands
 pub mod Loops
+pub mod Answerings
 pub mod Sayings
 pub mod Engines

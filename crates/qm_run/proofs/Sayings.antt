@@ -1,21 +1,18 @@
--- What each status says, from what the run gave.
-use Rattle.std.proofs.Common.{◌≡◌, ◌⊎◌, ℕ, suc, List, [], ◌++◌, length, take, Option, Some, None, arith, refl, sym, ◌∙◌, ap, subst, inl, inr, append-nil, IfSome}
+-- What each status says, from what the lines' answering gave.
+use Rattle.std.proofs.Common.{◌≡◌, ◌⊎◌, ◌+◌, ℕ, List, [], ◌++◌, length, take, Option, Some, None, arith, refl, sym, ◌∙◌, ap, subst, inl, inr, append-nil, IfSome}
 use Rattle.std.proofs.lemmas.List.{take_all}
 use Rattle.std.proofs.Math.Seq.{take-nil, drop-length}
 use Rattle.qm_model.specs.Causes.{Grows, GrowsPart}
 use Rattle.qm_model.specs.Operations.{Bytes}
-use Rattle.qm_model.specs.Policies.{Policy}
-use Rattle.qm_model.specs.Lines.{Line, Answer}
-use Rattle.qm_model.specs.Machine.{initial, state_after}
 use Rattle.qm_model.specs.Grammar.{commands_in, bad_in}
-use Rattle.qm_model.specs.Text.{text_of}
 use Rattle.qm_run.specs.Session.{IsLeft}
-use Rattle.qm_run.specs.Runs.{IsRun}
+use Rattle.qm_run.specs.Answered.{IsAnswered}
 use Rattle.qm_run.specs.Program.{scheme, count, state, model_text, IsApart, IsLeftAt, bad_text, fault_text, IsPartial, Says}
 use Rattle.qm_run.specs.Endings.{tail_text, tail_status}
-use Rattle.qm_run.specs.declared.runs.End.{End}
-use Rattle.qm_run.specs.declared.runs.End.TheVariants.{Done, Memory, StoreFault}
+use Rattle.qm_run.specs.declared.answers.Ending.{Ending}
+use Rattle.qm_run.specs.declared.answers.Ending.TheVariants.{Done, BadLine, Memory, StoreFault}
 use Rattle.qm_run.proofs.Commands.{left_none}
+use Rattle.qm_run.proofs.Loops.{after_all}
 
 -- where nothing is appended any more, all is left
 left_whole : (left : Option (List Bytes)) (items : List Bytes) → IsLeft left items items → left ≡ Some items
@@ -48,50 +45,56 @@ module _ (items : List Bytes) (input : Bytes) (rose : Type 0) where
     items_left = λ _. left_none items (state items input 1).items (Some items) refl;
   })
 
-  module _ (given : List Answer) (left : Option (List Bytes)) (run : IsRun scheme items (commands_in input) given left) where
-    text_is : IsApart items input (length given) → text_of given ≡ model_text items input (length given)
-    text_is apart = ap text_of (run.same apart)
+  -- what an ending says of the first k commands: those before a bad line or the end are all
+  abbrev pub IsWhole : ℕ → Ending → Type 0
+  IsWhole k Done = (k ≡ count items input) × (bad_in input ≡ None)
+  IsWhole k BadLine = (k ≡ count items input) × (bad_in input ≡ Some (k + 1))
+  IsWhole k Memory = Unit {0}
+  IsWhole k StoreFault = rose
 
-    pub partial : (end : End) (bad : Option ℕ) → bad ≡ bad_in input → (end ≡ Done → length given ≡ count items input) → (end ≡ StoreFault → rose) → (n : ℕ)
-        → IsPartial items input rose (take n (text_of given ++ tail_text end bad)) left (length given)
-    partial Done None e done fault n = record { few = run.few; part = λ apart. inl (n, rw append-nil (ap (take n) (text_is apart))); items_left = run.left }
-    partial Done (Some b) e done fault n = record { few = run.few; part = λ apart. inr (inr (b, sym e, done refl, (n, ap (λ t. take n (t ++ bad_text b)) (text_is apart)))); items_left = run.left }
-    partial Memory bad e done fault n = record { few = run.few; part = λ apart. inl (n, rw append-nil (ap (take n) (text_is apart))); items_left = run.left }
-    partial StoreFault bad e done fault n = record { few = run.few; part = λ apart. inr (inl (fault refl, (n, ap (λ t. take n (t ++ fault_text)) (text_is apart)))); items_left = run.left }
+  pub is_whole : (k : ℕ) (ending : Ending) → (ending ≡ Done → (k ≡ count items input) × (bad_in input ≡ None)) → (ending ≡ BadLine → (k ≡ count items input) × (bad_in input ≡ Some (k + 1)))
+      → (ending ≡ StoreFault → rose) → IsWhole k ending
+  is_whole k Done done bad fault = done refl
+  is_whole k BadLine done bad fault = bad refl
+  is_whole k Memory done bad fault = tt
+  is_whole k StoreFault done bad fault = fault refl
+
+  module _ (text : Bytes) (k : ℕ) (left : Option (List Bytes)) (answered : IsAnswered scheme items (commands_in input) k text left) where
+    pub partial : (ending : Ending) → IsWhole k ending → (n : ℕ) → IsPartial items input rose (take n (text ++ tail_text ending k)) left k
+    partial Done is n = record { few = answered.few; part = λ apart. inl (n, rw append-nil (ap (take n) (answered.same apart))); items_left = answered.left }
+    partial BadLine is n = record { few = answered.few; part = λ apart. inr (inr (k + 1, is.1, is.0, (n, ap (λ t. take n (t ++ bad_text (k + 1))) (answered.same apart)))); items_left = answered.left }
+    partial Memory is n = record { few = answered.few; part = λ apart. inl (n, rw append-nil (ap (take n) (answered.same apart))); items_left = answered.left }
+    partial StoreFault is n = record { few = answered.few; part = λ apart. inr (inl (is, (n, ap (λ t. take n (t ++ fault_text)) (answered.same apart)))); items_left = answered.left }
 
     -- all commands answered: the text, and the items
-    finished : length given ≡ count items input → IsApart items input (count items input) → (text_of given ≡ model_text items input (count items input)) × (left ≡ Some (state items input (count items input)).items)
+    finished : k ≡ count items input → IsApart items input (count items input) → (text ≡ model_text items input (count items input)) × (left ≡ Some (state items input (count items input)).items)
     finished e apart =
         let n : ℕ = count items input in
-        let apart_here : IsApart items input (length given) = subst (IsApart items input) (sym e) apart in
-        let at_end : IsLeftAt items input left n = subst (IsLeftAt items input left) e (run.left apart_here) in
-        let same_state : (state items input (suc n)).items ≡ (state items input n).items =
-        ap (λ (lines : List (Line Policy)). (state_after scheme (initial items) lines).items)
-        (take_all (suc n) (commands_in input) (omega arith) ∙ sym (take_all n (commands_in input) (omega arith))) in
-        (text_is apart_here ∙ ap (model_text items input) e, left_whole left (state items input n).items (subst (IsLeft left (state items input n).items) same_state at_end))
+        let apart_here : IsApart items input k = subst (IsApart items input) (sym e) apart in
+        let at_end : IsLeftAt items input left n = subst (IsLeftAt items input left) e (answered.left apart_here) in
+        (answered.same apart_here ∙ ap (model_text items input) e, left_whole left (state items input n).items (subst (IsLeft left (state items input n).items) (after_all scheme items (commands_in input) n (omega arith)) at_end))
 
-    pub whole : (end : End) (bad : Option ℕ) → bad ≡ bad_in input → (end ≡ Done → length given ≡ count items input) → (end ≡ StoreFault → rose)
-        → Says items input (tail_status end bad) rose (text_of given ++ tail_text end bad) left
-    whole Done None e done fault = record {
-      all = λ _. (sym e, λ apart. let f = finished (done refl) apart in (append-nil (text_of given) ∙ f.0, f.1));
+    pub whole : (ending : Ending) → IsWhole k ending → Says items input (tail_status ending) rose (text ++ tail_text ending k) left
+    whole Done is = record {
+      all = λ _. (is.1, λ apart. let f = finished is.0 apart in (append-nil text ∙ f.0, f.1));
       bad = λ e. absurd (omega arith);
       fault = λ e. absurd (omega arith);
       part = λ e. absurd (grind (arith, e));
       nothing = λ e. absurd (grind (arith, e));
     }
-    whole Done (Some b) e done fault = record {
+    whole BadLine is = record {
       all = λ e. absurd (omega arith);
-      bad = λ _. (b, sym e, λ apart. let f = finished (done refl) apart in (ap (λ t. t ++ bad_text b) f.0, f.1));
+      bad = λ _. (k + 1, is.1, λ apart. let f = finished is.0 apart in (ap (λ t. t ++ bad_text (k + 1)) f.0, f.1));
       fault = λ e. absurd (omega arith);
       part = λ e. absurd (grind (arith, e));
       nothing = λ e. absurd (grind (arith, e));
     }
-    whole Memory bad e done fault = says_part 5 (text_of given ++ []) left (length given) (inr refl)
-        (subst (λ w. IsPartial items input rose w left (length given)) (take_all (length (text_of given ++ [])) (text_of given ++ []) (omega arith)) (partial Memory bad e done fault (length (text_of given ++ []))))
-    whole StoreFault bad e done fault = record {
+    whole Memory is = says_part 5 (text ++ []) left k (inr refl)
+        (subst (λ w. IsPartial items input rose w left k) (take_all (length (text ++ [])) (text ++ []) (omega arith)) (partial Memory is (length (text ++ []))))
+    whole StoreFault is = record {
       all = λ e. absurd (omega arith);
       bad = λ e. absurd (omega arith);
-      fault = λ _. (length given, run.few, λ apart. (ap (λ t. t ++ fault_text) (text_is apart), run.left apart));
+      fault = λ _. (k, answered.few, λ apart. (ap (λ t. t ++ fault_text) (answered.same apart), answered.left apart));
       part = λ e. absurd (grind (arith, e));
       nothing = λ e. absurd (grind (arith, e));
     }

@@ -1,18 +1,19 @@
--- What follows the replies, and the status when all is written.
-use Rattle.std.specs.Prelude.{ℕ, [], Option, None, Some}
+-- What follows the answers, and the status when all is written.
+use Rattle.std.specs.Prelude.{ℕ, ◌+◌, []}
 use Rattle.qm_model.specs.Operations.{Bytes}
 use Rattle.qm_run.specs.Program.{bad_text, fault_text}
-use Rattle.qm_run.specs.declared.runs.End.{End}
-use Rattle.qm_run.specs.declared.runs.End.TheVariants.{Done, Memory, StoreFault}
+use Rattle.qm_run.specs.declared.answers.Ending.{Ending}
+use Rattle.qm_run.specs.declared.answers.Ending.TheVariants.{Done, BadLine, Memory, StoreFault}
 
-abbrev pub tail_text : End → Option ℕ → Bytes
-tail_text Done None = []
-tail_text Done (Some n) = bad_text n
-tail_text Memory bad = []
-tail_text StoreFault bad = fault_text
+-- so many lines were answered before
+abbrev pub tail_text : Ending → ℕ → Bytes
+tail_text Done answered = []
+tail_text BadLine answered = bad_text (answered + 1)
+tail_text Memory answered = []
+tail_text StoreFault answered = fault_text
 
-abbrev pub tail_status : End → Option ℕ → ℕ
-tail_status Done None = 0
-tail_status Done (Some n) = 2
-tail_status Memory bad = 5
-tail_status StoreFault bad = 6
+abbrev pub tail_status : Ending → ℕ
+tail_status Done = 0
+tail_status BadLine = 2
+tail_status Memory = 5
+tail_status StoreFault = 6

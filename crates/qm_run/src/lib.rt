@@ -1,6 +1,7 @@
 //! The engine, the run of a list of commands, and the program's top call.
 #![tactic(auto)]
 
+mod answers;
 mod database;
 pub mod engine;
 mod listed;

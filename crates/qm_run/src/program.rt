@@ -1,21 +1,17 @@
 //! The program's top call.
 
-ghost use Rattle.std.specs.Prelude.{◌≡◌, ◌↔◌, ◌≤◌, ◌<◌, ◌++◌, ◌⊎◌, ℕ, List, [], false, true, Option, Some, None, IfOk, IfSome, IsSome, IsErrOf, ◌&&◌, codes, length, map, bytes_eq};
+ghost use Rattle.std.specs.Prelude.{◌≡◌, ◌↔◌, ◌≤◌, ◌<◌, ◌+◌, ◌++◌, ◌^◌, ◌⊎◌, ℕ, List, [], false, true, Option, Some, None, IfOk, IfSome, IsSome, IsErrOf, ◌&&◌, codes, length, map, bytes_eq};
 ghost use Rattle.std.specs.String.{string_bytes};
 ghost use Rattle.qm_model.specs.Causes.{Rose};
 ghost use Rattle.qm_model.specs.Operations.{Bytes};
 ghost use Rattle.qm_model.specs.Grammar.{bad_in};
-ghost use Rattle.qm_model.specs.Text.{text_of};
-ghost use Rattle.qm_lines.specs.Views.{answer_view};
 ghost use Rattle.qm_run.specs.Program.{are_words, Says, bad_text};
 ghost use Rattle.qm_run.specs.Endings.{tail_text, tail_status};
 
+use crate::answers::{Answered, Ending, answer_lines};
 use crate::database::Database;
-use crate::runs::{End, Outcome, run};
-use qm_base::{Digest, Gate, Key, VariableValue};
-use qm_lines::{
-    InputError, LIMIT, Reply, Sink, SinkError, Source, parse_all, read_all, replies_text, write_all,
-};
+use qm_base::Gate;
+use qm_lines::{InputError, LIMIT, Sink, SinkError, Source, read_all, write_all};
 use qm_store::Store;
 use std::alloc::{AllocError, Global};
 
@@ -47,49 +43,46 @@ fn bad_line_text(alloc: Global, number: u64) -> Result<String, AllocError>
     format!(in alloc; "bad line {number}\n")
 }
 
-// What follows the replies.
-fn tail(alloc: Global, end: End, bad: Option<u64>) -> Result<String, AllocError>
-    ensures { IfOk result (λ text. string_bytes text ≡ tail_text end bad) }
+// What follows the answers, of which there are so many.
+fn tail(alloc: Global, ending: Ending, answered: u64) -> Result<String, AllocError>
+    requires { answered + 1 < 2 ^ 64 }
+    ensures { IfOk result (λ text. string_bytes text ≡ tail_text ending answered) }
 {
-    match end {
-        End::Done => match bad {
-            None => Ok(String::new(alloc)),
-            Some(number) => bad_line_text(alloc, number),
-        },
-        End::Memory => Ok(String::new(alloc)),
-        End::StoreFault => String::from_str(alloc, "store fault\n"),
+    match ending {
+        Ending::Done => Ok(String::new(alloc)),
+        Ending::BadLine => bad_line_text(alloc, answered + 1),
+        Ending::Memory => Err(AllocError),
+        Ending::StoreFault => String::from_str(alloc, "store fault\n"),
     }
 }
 
-fn status_of(end: End, bad: Option<u64>) -> u8
-    ensures { result ≡ tail_status end bad }
+fn status_of(ending: Ending) -> u8
+    ensures { result ≡ tail_status ending }
 {
-    match end {
-        End::Done => match bad {
-            None => 0,
-            Some(_) => 2,
-        },
-        End::Memory => 5,
-        End::StoreFault => 6,
+    match ending {
+        Ending::Done => 0,
+        Ending::BadLine => 2,
+        Ending::Memory => 5,
+        Ending::StoreFault => 6,
     }
 }
 
-// The replies and what follows them.
-fn whole_text<K: Key, V: VariableValue, D: Digest>(
+// The answers and what follows them. Where memory lacked for an answer, there is no text.
+fn with_tail(
     alloc: Global,
-    replies: &[Reply<K, V, D>],
-    end: End,
-    bad: Option<u64>,
+    mut text: Vec<u8>,
+    ending: Ending,
+    answered: u64,
 ) -> Result<Vec<u8>, AllocError>
-    ensures { IfOk result (λ text. text.items ≡ text_of (map (answer_view K.bytes V.bytes D.bytes) replies.now) ++ tail_text end bad) }
+    requires { answered + 1 < 2 ^ 64 }
+    ensures { IfOk result (λ whole. whole.items ≡ text.items ++ tail_text ending answered) }
 {
-    let mut text = replies_text(alloc, replies)?;
-    let tail = tail(alloc, end, bad)?;
+    let tail = tail(alloc, ending, answered)?;
     text.extend_from_slice(tail.as_bytes())?;
     Ok(text)
 }
 
-// Runs the commands of an input, and writes the text.
+// Answers the lines of an input, and writes the text.
 fn serve<C: Store, K: Sink, G: Gate>(
     alloc: Global,
     input: &[u8],
@@ -107,21 +100,18 @@ fn serve<C: Store, K: Sink, G: Gate>(
     ensures good { result.0 ≡ 0 → bad_in input.now ≡ None }
     ensures later { (K.faults sink.old ≤ K.faults sink.new) × (C.faults store ≤ C.faults result.1) }
 {
-    let (commands, bad) = match parse_all(alloc, input) {
-        Ok(parsed) => parsed,
-        Err(_) => return (5, store),
-    };
-    let Outcome {
-        replies,
-        end,
+    let Answered {
+        text,
+        answered,
+        ending,
         store,
-    } = run::<Database<C>, C, G>(alloc, store, (), &commands, gate);
-    let text = match whole_text(alloc, &replies, end, bad) {
+    } = answer_lines::<Database<C>, C, G>(alloc, store, (), input, gate);
+    let text = match with_tail(alloc, text, ending, answered) {
         Ok(text) => text,
         Err(_) => return (5, store),
     };
     match write_all(sink, &text) {
-        Ok(()) => (status_of(end, bad), store),
+        Ok(()) => (status_of(ending), store),
         Err(SinkError::Failed) => (4, store),
         Err(SinkError::Memory) => (5, store),
     }

@@ -84,7 +84,7 @@ fn step<X: Engine<C>, C: Store>(
 }
 
 // A session with a closed store, and no batch.
-fn begin<X: Engine<C>, C: Store>(alloc: Global, store: C) -> Result<Of<X, C>, C>
+pub(crate) fn begin<X: Engine<C>, C: Store>(alloc: Global, store: C) -> Result<Of<X, C>, C>
     ensures session { IfOk result (λ session. (items : List Bytes) → C.items store ≡ Some items → C.start store ≡ 0 → Stands (meaning X.Engine C.Store) session (machine.initial items)) }
     ensures store { IfOk result (λ session. store_given X.inside session.held ≡ store) }
     ensures opened { IfOk result (λ session. session.opened ≡ 0) }

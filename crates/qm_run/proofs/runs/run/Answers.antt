@@ -1,4 +1,4 @@
-use Rattle.std.proofs.Common.{◌≡◌, ◌+◌, length, map, arith, ◌∙◌, ap, Some}
+use Rattle.std.proofs.Common.{◌≡◌, ◌+◌, ◌++◌, ◌∷◌, [], length, map, arith, refl, ◌∙◌, ap, Some}
 use Rattle.std.proofs.lemmas.List.{length-map}
 use Rattle.qm_model.specs.Policies.{Policy}
 use Rattle.qm_model.specs.Machine.{Scheme}
@@ -51,7 +51,7 @@ loop-command-preserved g c =
       count = grown ∙ ap (λ n. n + 1) c.loop-command.invariant.count;
       opened = omega arith;
       later = omega arith;
-      machine = λ items is start. loop_step scheme items (map f c.args.commands.now) i (f c.command-item.result) (map a c.loop-command.replies.items) (map a c.step-next.new.replies.items)
+      machine = λ items is start. loop_step scheme items (map f c.args.commands.now) (λ given. given) (λ given answer. given ++ answer ∷ []) (λ given answer. refl) i (f c.command-item.result) (map a c.loop-command.replies.items) (map a c.step-next.new.replies.items)
           (λ s. Holds m c.loop-command.session.held c.loop-command.session.table.items c.loop-command.session.opened s)
           (λ s. Holds m c.step-next.result.0.held c.step-next.result.0.table.items c.step-next.result.0.opened s)
           (rw (length-map c.args.commands.now f) c.loop-command-test.true)
