@@ -26,6 +26,7 @@ use Rattle.qm_merkle.proofs.Standing.{peaks-none, stands-new}
 use Rattle.qm_store.specs.declared.Store as store
 use Rattle.qm_store.specs.Log.{Log, IsLog, digests_from}
 use Rattle.qm_store.proofs.Leaves.{leaves-spelled}
+use Rattle.qm_batch.proofs.Spellings.{spelled-there}
 use Rattle.qm_any.specs.Layouts.{Layout, list_root}
 use Rattle.qm_any.specs.Databases.{Database, IsDatabase}
 use Rattle.qm_any.specs.Refusals.{IsDue}
@@ -132,14 +133,6 @@ floor-commit g (commit m x ∷ rest) (suc i) f is = floor-commit x rest i f is
 pub floor-ended : (list : List Operation) (size f : ℕ) → floor_before list size ≡ Some f → f ≡ floor (take size list)
 floor-ended list zero f is = cc
 floor-ended list (suc i) f is = sym (floor-commit 0 list i f is)
-
--- the bytes at a location among a list's spellings spell its operation there
-spelled-there : (form : Form) (list : List Operation) (i : ℕ) (bs : Bytes) → All (IsOf form) list → slice_get (map (spelling form) list) i ≡ Some bs → (op : Operation) × (slice_get list i ≡ Some op) × IsSpelling form bs op
-spelled-there form [] i bs all is = cc
-spelled-there form (op ∷ rest) zero bs all is =
-    let same : spelling form op ≡ bs = cc in
-    (op, refl, record { of = All-head (IsOf form) op rest all; spelled = same })
-spelled-there form (op ∷ rest) (suc i) bs all is = spelled-there form rest i bs (All-tail (IsOf form) op rest all) is
 
 -- the bytes before the end of the first operations tell their floor
 pub floor-read : (form : Form) (list : List Operation) (size i : ℕ) (bs : Bytes) (f : Option ℕ) → size ≡ suc i → All (IsOf form) list → slice_get (map (spelling form) list) i ≡ Some bs

@@ -35,7 +35,7 @@ use qm_base::{
     ByteString, Commitment, Digest, Error, Hasher, JournalError, Location, MerkleError,
     ValueEncoding,
 };
-use qm_batch::{Base, Layer, Plan, Write};
+use qm_batch::{Base, Layer, Plan, Write, Writes};
 use qm_chain::{Bounds, Diff, validate_batch_applicable};
 use qm_merkle::Family;
 use qm_proofs::Proof;
@@ -49,17 +49,16 @@ use std::rc::Rc;
 pub struct UnmerkleizedBatch<F: Family, D: Digest, U: Update> {
     parent: Rc<MerkleizedBatch<F, D, U>>,
     keep: usize,
-    writes: Vec<Write<U::Key, U::Value>>,
+    writes: Writes<U::Key, U::Value>,
 }
 
 impl<F: Family, D: Digest, U: Update> Model for UnmerkleizedBatch<F, D, U> {
-    ghost use Rattle.std.specs.Prelude.{◌≤◌, suc, length, map};
-    ghost use Rattle.qm_batch.specs.Views.{write_view};
+    ghost use Rattle.std.specs.Prelude.{◌≤◌, suc, length};
     ghost use Rattle.qm_any.specs.Databases.{Begun};
 
     ghost Value = { Begun D };
 
-    ghost view = { λ b. record { parent = b.parent.value; keep = b.keep; writes = map (write_view U.Key.bytes U.Value.bytes) b.writes.items } };
+    ghost view = { λ b. record { parent = b.parent.value; keep = b.keep; writes = b.writes } };
 
     ghost invariant = { λ b. b.keep ≤ suc (length b.parent.value.bounds.ancestors) };
 }
@@ -109,7 +108,7 @@ impl<F: Family, D: Digest, U: Update> UnmerkleizedBatch<F, D, U> {
         UnmerkleizedBatch {
             parent,
             keep,
-            writes: Vec::new(alloc),
+            writes: Writes::new(alloc),
         }
     }
 
@@ -118,9 +117,17 @@ impl<F: Family, D: Digest, U: Update> UnmerkleizedBatch<F, D, U> {
     pub fn write(self, key: U::Key, value: Option<U::Value>) -> Result<Self, AllocError>
         ensures { IfOk result (λ b. b ≡ record self { writes = self.writes ++ record { key = U.Key.bytes key; value = option_map U.Value.bytes value } ∷ [] }) }
     {
-        let mut batch = self;
-        batch.writes.push(Write { key, value })?;
-        Ok(batch)
+        let UnmerkleizedBatch {
+            parent,
+            keep,
+            writes,
+        } = self;
+        let writes = writes.push(key, value)?;
+        Ok(UnmerkleizedBatch {
+            parent,
+            keep,
+            writes,
+        })
     }
 
     /// The value of a key as the batch has it: that of its last write or, where it has none, the one on its base list. It
@@ -210,7 +217,7 @@ impl<F: Family, D: Digest, K: ByteString, V: ValueEncoding<K>> UnmerkleizedBatch
         let boundary = parent.child_boundary(keep);
         match validate_batch_applicable(db.commitment(), &boundary, &tips) {
             Err(error) => Err(error),
-            Ok(()) => made_on(alloc, db, &parent, keep, boundary, tips, &writes, metadata),
+            Ok(()) => made_on(alloc, db, &parent, keep, boundary, tips, writes.as_slice(), metadata),
         }
     }
 }
@@ -292,7 +299,7 @@ impl<F: Family, D: Digest, U: Update> MerkleizedBatch<F, D, U> {
         ensures left { IsLeft C.Store ⟦<Db<F, C, I, H, U> as LaidOut>⟧.layout.hashing db.old db.new }
     {
         self.bounds.compatible(db.commitment())?;
-        db.read_one(alloc, &self.steps, &Vec::new(alloc), key)
+        db.read_one(alloc, &self.steps, &Writes::new(alloc), key)
     }
 
     /// The values of keys, in their order, as `get` reads them.
@@ -314,7 +321,7 @@ impl<F: Family, D: Digest, U: Update> MerkleizedBatch<F, D, U> {
         ensures left { IsLeft C.Store ⟦<Db<F, C, I, H, U> as LaidOut>⟧.layout.hashing db.old db.new }
     {
         self.bounds.compatible(db.commitment())?;
-        db.read_all(alloc, &self.steps, &Vec::new(alloc), keys)
+        db.read_all(alloc, &self.steps, &Writes::new(alloc), keys)
     }
 
     /// The proof of the batch's own operations in the list that it makes. It verifies against the batch's root.

@@ -1,6 +1,6 @@
 //! The database.
 
-ghost use Rattle.std.specs.Prelude.{◌≡◌, ◌≢◌, ◌⊎◌, ◌≤◌, ◌+◌, ◌^◌, ◌++◌, ◌∷◌, ℕ, [], List, bytes_eq, nat_lt, true, false, length, map, drop, option_map, Contains, if◌then◌else◌, IfOk, IfErr, OnOk};
+ghost use Rattle.std.specs.Prelude.{◌≡◌, ◌≢◌, ◌⊎◌, ◌≤◌, ◌+◌, ◌^◌, ◌++◌, ◌∷◌, ℕ, [], List, nat_lt, true, false, length, map, drop, option_map, Contains, if◌then◌else◌, IfOk, IfErr, OnOk};
 ghost use Rattle.qm_model.specs.Batches.{Chain, IsOnChain, begun_on};
 ghost use Rattle.qm_model.specs.Causes.{IsCause};
 ghost use Rattle.qm_model.specs.Live as lives;
@@ -10,7 +10,7 @@ ghost use Rattle.qm_model.specs.Policies.{proportional};
 ghost use Rattle.qm_model.specs.Proofs.{ops_proof, pins_at};
 ghost use Rattle.qm_model.specs.Trees as trees;
 ghost use Rattle.qm_model.specs.Trees.{ops_root};
-ghost use Rattle.qm_model.specs.Writes.{read_through, write_of, last_writes};
+ghost use Rattle.qm_model.specs.Writes.{read_through};
 ghost use Rattle.qm_merkle.specs.Batches.{stops, stops_since, lists_since};
 ghost use Rattle.qm_proofs.specs.Proofs.{proof_view, first_lacked, needed_positions};
 ghost use Rattle.qm_store.specs.Log as logs;
@@ -20,7 +20,7 @@ ghost use Rattle.qm_batch.specs.Bases.{IsBase, base_view};
 ghost use Rattle.qm_batch.specs.Layers.{LeadOver};
 ghost use Rattle.qm_batch.specs.Changes.{LeadTo};
 ghost use Rattle.qm_batch.specs.Lent.{IsIndexed, IsReadError, NoneBelow};
-ghost use Rattle.qm_batch.specs.Views.{changes_view, write_view, IsPlan};
+ghost use Rattle.qm_batch.specs.Views.{changes_view, IsPlan};
 ghost use Rattle.qm_any.specs.Databases.{Database, IsBegun, IsDatabase, IsLeft, IsMade, IsTree, at_rest, stepped};
 ghost use Rattle.qm_any.specs.Given.{Appended, AppendedPart, store_given};
 ghost use Rattle.qm_store.specs.KeptTrees.{IsKeptTree, held_at};
@@ -34,7 +34,7 @@ use qm_base::{
     ByteString, Commitment, Digest, Error, Hasher, JournalError, Location, MerkleError,
     ValueEncoding,
 };
-use qm_batch::{Base, Plan, Write, apply_diffs, plain, read_key};
+use qm_batch::{Base, Plan, Write, Writes, apply_diffs, plain, read_key};
 use qm_chain::Diff;
 use qm_merkle::Family;
 use qm_proofs::Proof;
@@ -231,7 +231,7 @@ impl<
         ensures whole { (list : List Operation) → IsDatabase C.Store ⟦<Self as LaidOut>⟧.layout self.old list → NoneBelow self.old.log.tree.start list → IfErr result (λ e. (n : ℕ) → e ≢ Error.Journal (JournalError.ItemPruned n)) }
         ensures left { IsLeft C.Store ⟦<Self as LaidOut>⟧.layout.hashing self.old self.new }
     {
-        self.read_one(alloc, &Vec::new(alloc), &Vec::new(alloc), key)
+        self.read_one(alloc, &Vec::new(alloc), &Writes::new(alloc), key)
     }
 
     /// The values of keys, in their order, if they are live.
@@ -244,7 +244,7 @@ impl<
         ensures error { IfErr result (IsReadError C.Store self.old.log self.new.log) }
         ensures left { IsLeft C.Store ⟦<Self as LaidOut>⟧.layout.hashing self.old self.new }
     {
-        self.read_all(alloc, &Vec::new(alloc), &Vec::new(alloc), keys)
+        self.read_all(alloc, &Vec::new(alloc), &Writes::new(alloc), keys)
     }
 
     // The value of a key: that of its last write or, where it has none, the one on the base list of a batch of these steps.
@@ -252,16 +252,16 @@ impl<
         &mut self,
         alloc: Global,
         steps: &[Step<F, U>],
-        writes: &[Write<U::Key, U::Value>],
+        writes: &Writes<U::Key, U::Value>,
         key: &U::Key,
     ) -> Result<Option<U::Value>, Error>
         ensures value { (list base : List Operation) → IsDatabase C.Store ⟦<Self as LaidOut>⟧.layout self.old list → LeadOver (map (λ l. l.value) steps.now) list base
-            → IfOk result (λ v. option_map U.Value.bytes v ≡ read_through base (write_views U.Key.bytes U.Value.bytes writes.now) (U.Key.bytes key.now)) }
+            → IfOk result (λ v. option_map U.Value.bytes v ≡ read_through base writes.now (U.Key.bytes key.now)) }
         ensures error { IfErr result (IsReadError C.Store self.old.log self.new.log) }
         ensures whole { (list : List Operation) → IsDatabase C.Store ⟦<Self as LaidOut>⟧.layout self.old list → NoneBelow self.old.log.tree.start list → IfErr result (λ e. (n : ℕ) → e ≢ Error.Journal (JournalError.ItemPruned n)) }
         ensures left { IsLeft C.Store ⟦<Self as LaidOut>⟧.layout.hashing self.old self.new }
     {
-        if let Some(write) = last_write(writes, key) {
+        if let Some(write) = writes.last(key.as_bytes()) {
             return Ok(twin_option(alloc, &write.value)?);
         }
         match read_key(alloc, &self.index, &mut self.log, steps, key)? {
@@ -275,11 +275,11 @@ impl<
         &mut self,
         alloc: Global,
         steps: &[Step<F, U>],
-        writes: &[Write<U::Key, U::Value>],
+        writes: &Writes<U::Key, U::Value>,
         keys: &[U::Key],
     ) -> Result<Vec<Option<U::Value>>, Error>
         ensures values { (list base : List Operation) → IsDatabase C.Store ⟦<Self as LaidOut>⟧.layout self.old list → LeadOver (map (λ l. l.value) steps.now) list base
-            → IfOk result (λ v. map (option_map U.Value.bytes) v.items ≡ map (λ k. read_through base (write_views U.Key.bytes U.Value.bytes writes.now) (U.Key.bytes k)) keys.now) }
+            → IfOk result (λ v. map (option_map U.Value.bytes) v.items ≡ map (λ k. read_through base writes.now (U.Key.bytes k)) keys.now) }
         ensures error { IfErr result (IsReadError C.Store self.old.log self.new.log) }
         ensures left { IsLeft C.Store ⟦<Self as LaidOut>⟧.layout.hashing self.old self.new }
     {
@@ -543,27 +543,4 @@ fn given_back<
         }),
         LogGiven::Store(store) => Given::Store(store),
     }
-}
-
-// Whether the write is to the key.
-fn is_to<K: ByteString, V: ByteString>(write: &Write<K, V>, key: &K) -> bool
-    ensures { result ≡ bytes_eq (write_view K.bytes V.bytes write.now).key (K.bytes key.now) }
-{
-    write.key.as_bytes() == key.as_bytes()
-}
-
-// The last write of a key.
-fn last_write<'a, K: ByteString, V: ByteString>(
-    writes: &'a [Write<K, V>],
-    key: &K,
-) -> Option<&'a Write<K, V>>
-    ensures { option_map (λ w. write_view K.bytes V.bytes w.now) result ≡ write_of (last_writes (write_views K.bytes V.bytes writes.now)) (K.bytes key.now) }
-{
-    let mut found = None;
-    for write in writes {
-        if is_to(write, key) {
-            found = Some(write);
-        }
-    }
-    found
 }

@@ -16,6 +16,7 @@ use Rattle.qm_model.specs.Live.{Live, live, live_of}
 use Rattle.qm_model.specs.Writes.{Write, write_of, last_writes, unordered_writes}
 use Rattle.qm_model.proofs.Maps.{same_key}
 use Rattle.qm_index.specs.Buckets.{bucket_at}
+use Rattle.qm_base.specs.Parts.{update_key}
 use Rattle.qm_batch.specs.Changes.{place_in, stands_at, update_at, update_from, said_by}
 use Rattle.qm_batch.specs.Layers.{Layer, LeadThrough, LeadOver}
 use Rattle.qm_batch.specs.Lent.{IsIndexed}
@@ -25,6 +26,8 @@ use Rattle.qm_batch.proofs.Members.{Contains-first, first_or_later}
 use Rattle.qm_batch.proofs.PlanWalks.{none-past}
 use Rattle.qm_batch.proofs.PlanReads.{slice_get-front, slice_get-behind, update-here, front-none, front-touched, front-gone, front-live}
 use Rattle.qm_batch.proofs.PlanWrites.{touched-live, touched-unwritten}
+use Rattle.qm_batch.proofs.Spellings.{keyed-update, keyless-said}
+use Rattle.qm_batch.proofs.WritesByKey.{looked-up}
 use Rattle.qm_batch.proofs.Reading.{in-bucket, own-bucket}
 use Rattle.qm_batch.proofs.Standing.{live-stands, live-of_key}
 use Rattle.qm_batch.proofs.Basics.{bytes-turned, or-later}
@@ -159,25 +162,15 @@ module _ (index_key : Bytes → ℕ) (entries : List (ℕ × List ℕ)) (layers 
       by false one true two = sym one ∙ in-any bucket (subst (λ xs. Contains xs at) (sym is_bucket) (there-yes two))
 
 -- a map of the last writes has a key where it is written
-module _ {X : Type 0} (view : X → Write) where
-  pub has-key : (es : List (Bor Bytes × Bor X)) (us : List Write) (q : Bytes) → map (λ e. (e.0.now, view e.1.now)) es ≡ map keyed us → is_some (lookup (λ k. is_eq (slice_cmp nat_cmp q k.now)) es) ≡ is_some (write_of us q)
-  has-key [] [] q same = refl
-  has-key [] (u ∷ us) q same = cc
-  has-key (e ∷ es) [] q same = cc
-  has-key (e ∷ es) (u ∷ us) q same =
-      ap (λ t. is_some (cond t (Some e.1) (lookup (λ k. is_eq (slice_cmp nat_cmp q k.now)) es)))
-      (is_eq-slice_cmp q e.0.now ∙ ap (bytes_eq q) (ap (λ (p : Bytes × Write). p.0) head) ∙ bytes-turned q u.key)
-      ∙ by (bytes_eq u.key q) (has-key es us q tail)
-    where
-      head : (e.0.now, view e.1.now) ≡ keyed u
-      head = cc
-
-      tail : map (λ e. (e.0.now, view e.1.now)) es ≡ map keyed us
-      tail = cc
-
-      by : (t : Bool) → is_some (lookup (λ k. is_eq (slice_cmp nat_cmp q k.now)) es) ≡ is_some (write_of us q) → is_some (cond t (Some e.1) (lookup (λ k. is_eq (slice_cmp nat_cmp q k.now)) es)) ≡ is_some (cond t (Some u) (write_of us q))
-      by true later = refl
-      by false later = later
+pub has-key : {X : Type 0} (view : X → Write) (es : List (Bor Bytes × Bor X)) (us : List Write) (q : Bytes) → map (λ e. (e.0.now, view e.1.now)) es ≡ map keyed us → is_some (lookup (λ k. is_eq (slice_cmp nat_cmp q k.now)) es) ≡ is_some (write_of us q)
+has-key view es us q same =
+    by (lookup (λ k. is_eq (slice_cmp nat_cmp q k.now)) es) (write_of us q) (looked-up (λ (b : Bor Bytes). b.now) (λ (b : Bor _). view b.now) (λ w. w) es us q same)
+  where
+    by : (o : Option (Bor _)) (w : Option Write) → option_map (λ (b : Bor _). view b.now) o ≡ option_map (λ w. w) w → is_some o ≡ is_some w
+    by None None h = refl
+    by None (Some w) h = cc
+    by (Some x) None h = cc
+    by (Some x) (Some w) h = refl
 
 place-there : (o : Option (ℕ × Bytes)) (at : ℕ) → is_there o at ≡ true → option_map (λ (p : ℕ × Bytes). p.0) o ≡ Some at
 place-there None at h = absurd (true≢false (sym h))
@@ -203,7 +196,7 @@ module _ (base : List Operation) (ws : List Write) (at : ℕ) (within : at < len
     here = sym said ∙ is
 
     -- its key is written
-    pub standing-written : is_some (write_of (last_writes ws) k) ≡ true → IsMoveAt None base all at
+    standing-written : is_some (write_of (last_writes ws) k) ≡ true → IsMoveAt None base all at
     standing-written written = record { operation = by (is_there (stands_at base k) at) refl; from = tt }
       where
         by : (t : Bool) → is_there (stands_at base k) at ≡ t → None ≡ live_update_at all at
@@ -211,15 +204,64 @@ module _ (base : List Operation) (ws : List Write) (at : ℕ) (within : at < len
         by false gone = front-gone base (unordered_writes base ws) at within k v n here gone
 
     -- its key stands elsewhere or nowhere
-    pub standing-gone : is_there (stands_at base k) at ≡ false → IsMoveAt None base all at
+    standing-gone : is_there (stands_at base k) at ≡ false → IsMoveAt None base all at
     standing-gone gone = record { operation = front-gone base (unordered_writes base ws) at within k v n here gone; from = tt }
 
     -- it is live, and its key is not written
-    pub standing-live : is_some (write_of (last_writes ws) k) ≡ false → is_there (stands_at base k) at ≡ true → IsMoveAt (Some (moved_touch (at, update k v n))) base all at
+    standing-live : is_some (write_of (last_writes ws) k) ≡ false → is_there (stands_at base k) at ≡ true → IsMoveAt (Some (moved_touch (at, update k v n))) base all at
     standing-live unwritten there = record {
       operation = front-live base (unordered_writes base ws) at within k v n here there (touched-unwritten base ws k unwritten);
       from = λ key hit. sym (ap (place_in base) (sym (same_key k key hit)) ∙ place-there (stands_at base k) at there);
     }
+
+-- what a walk moves of the operation at a location of the base list
+module _ (base : List Operation) (ws : List Write) (at : ℕ) (op : Operation) (there : slice_get base at ≡ Some op) where
+  abbrev IsMoved : Option Operation → Type 0
+  IsMoved o = IsMoveAt (option_map (λ said. moved_touch (at, said)) o) base (base ++ unordered_writes base ws) at
+
+  at_within : at < length base
+  at_within = slice_get_within base at op there
+
+  says_it : said_by op ≡ update_at base at
+  says_it = sym (ap (option_and_then said_by) there)
+
+  -- it is no update
+  pub moved-keyless : update_key op ≡ None → IsMoved None
+  moved-keyless none = standing-none base ws at at_within (said_by op) says_it (keyless-said op none)
+
+  -- its key is written
+  pub moved-written : (k : Bytes) → update_key op ≡ Some k → is_some (write_of (last_writes ws) k) ≡ true → IsMoved None
+  moved-written k own written =
+      let parts = keyed-update op k own in
+      standing-written base ws at at_within (said_by op) says_it k parts.0 parts.1 (ap said_by parts.2) written
+
+  -- its key is not, and it is live or not
+  pub moved-live : (k : Bytes) → update_key op ≡ Some k → is_some (write_of (last_writes ws) k) ≡ false → (live_there : Bool) →
+      ((v : Bytes) (n : Option Bytes) → update_at base at ≡ Some (update k v n) → live_there ≡ is_there (stands_at base k) at) → IsMoved (if live_there then said_by op else None)
+  moved-live k own unwritten live_there tells = by live_there (tells parts.0 parts.1 (sym says_it ∙ is_it))
+    where
+      parts : (v : Bytes) × (n : Option Bytes) × (op ≡ update k v n)
+      parts = keyed-update op k own
+
+      is_it : said_by op ≡ Some (update k parts.0 parts.1)
+      is_it = ap said_by parts.2
+
+      by : (t : Bool) → t ≡ is_there (stands_at base k) at → IsMoved (if t then said_by op else None)
+      by true h = subst IsMoved (sym is_it) (standing-live base ws at at_within (said_by op) says_it k parts.0 parts.1 is_it unwritten (sym h))
+      by false h = standing-gone base ws at at_within (said_by op) says_it k parts.0 parts.1 is_it (sym h)
+
+  -- the update that is found is what moves
+  pub moved-found : {U : Type 0} (view : U → Operation) (found : Option U) (t : Bool) → t ≡ true → option_map view found ≡ said_by op → IsMoved (if t then said_by op else None) →
+      IsMoveAt (option_map (λ u. moved_touch (at, view u)) found) base (base ++ unordered_writes base ws) at
+  moved-found view found t moves shown moved = by found (subst IsMoved (sym shown) (subst (λ t. IsMoved (if t then said_by op else None)) moves moved))
+    where
+      by : (o : Option _) → IsMoved (option_map view o) → IsMoveAt (option_map (λ u. moved_touch (at, view u)) o) base (base ++ unordered_writes base ws) at
+      by None h = h
+      by (Some u) h = h
+
+  -- else nothing does
+  pub moved-not : (t : Bool) → t ≡ false → IsMoved (if t then said_by op else None) → IsMoved None
+  moved-not t stays moved = subst (λ t. IsMoved (if t then said_by op else None)) stays moved
 
 -- the operation at a location of a layer
 module _ {A : Type 0} (value : A → Layer) (layers : List A) (i : ℕ) (d : A) (at : ℕ) (within : i < length layers) (is : d ≡ get_or layers i d) where
@@ -231,7 +273,7 @@ module _ {A : Type 0} (value : A → Layer) (layers : List A) (i : ℕ) (d : A) 
   pub found-here : (value d).base ≤ at → found_in (map value (drop i layers)) at ≡ slice_get (value d).operations (at - (value d).base)
   found-here low = found-drop ∙ ap (λ t. if t then slice_get (value d).operations (at - (value d).base) else found_in (map value (drop (i + 1) layers)) at) (le-leb (value d).base at low)
 
-pub got-shown : {X : Type 0} (f : X → Operation) (r : Option (Bor X)) (ops : List X) (i : ℕ) → option_copied r ≡ slice_get ops i → option_map (λ o. f o.now) r ≡ slice_get (map f ops) i
+pub got-shown : {X Y : Type 0} (f : X → Y) (r : Option (Bor X)) (ops : List X) (i : ℕ) → option_copied r ≡ slice_get ops i → option_map (λ o. f o.now) r ≡ slice_get (map f ops) i
 got-shown f r ops i h = by r ∙ ap (option_map f) h ∙ sym (slice_get-map f ops i)
   where
     by : (r : Option (Bor _)) → option_map (λ o. f o.now) r ≡ option_map f (option_copied r)

@@ -16,11 +16,12 @@ use Rattle.qm_model.proofs.LastWrites.{equal_keys, Rising}
 use Rattle.qm_batch.specs.Changes.{place_in}
 use Rattle.qm_batch.specs.PlanViews.{keyed, site_in}
 use Rattle.qm_batch.specs.Touches.{Touch, operations_of, rewrite_here, new_touch}
+use Rattle.qm_batch.proofs.WritesByKey.{put-shown}
 use Rattle.qm_batch.proofs.PlanPlaces.{one-more, none-more, live-rises}
 use Rattle.qm_chain.proofs.KeyOrder.{apart}
 use Rattle.qm_batch.proofs.Standing.{live-apart}
 
--- a write put into a map by key is put among the last writes
+-- a map from keys to writes, lent
 module _ {X : Type 0} (view : X → Write) where
   abbrev pub shown : Bor Bytes × Bor X → Bytes × Write
   shown e = (e.0.now, view e.1.now)
@@ -28,47 +29,11 @@ module _ {X : Type 0} (view : X → Write) where
   abbrev key_cmp : Bor Bytes → Bor Bytes → Ordering
   key_cmp a b = slice_cmp nat_cmp a.now b.now
 
-  put-shown : (es : List (Bor Bytes × Bor X)) (us : List Write) (k : Bor Bytes) (x : Bor X) → map shown es ≡ map keyed us → k.now ≡ (view x.now).key →
-      map shown (insert_entry key_cmp es k x) ≡ map keyed (put_write us (view x.now))
-  put-shown [] [] k x same key = ap (λ b. (b, view x.now) ∷ []) key
-  put-shown [] (u ∷ us) k x same key = cc
-  put-shown (e ∷ es) [] k x same key = cc
-  put-shown (e ∷ es) (u ∷ us) k x same key =
-      by (key_cmp k e.0) refl (put-shown es us k x tail key)
-    where
-      w : Write
-      w = view x.now
-
-      head : shown e ≡ keyed u
-      head = cc
-
-      tail : map shown es ≡ map keyed us
-      tail = cc
-
-      place : e.0.now ≡ u.key
-      place = ap (λ (p : Bytes × Write). p.0) head
-
-      turned : slice_cmp nat_cmp w.key u.key ≡ key_cmp k e.0
-      turned = ap₂ (slice_cmp nat_cmp) (sym key) (sym place)
-
-      by : (o : Ordering) → key_cmp k e.0 ≡ o → map shown (insert_entry key_cmp es k x) ≡ map keyed (put_write us w) →
-          map shown (match_ordering (key_cmp k e.0) ((k, x) ∷ e ∷ es) ((e.0, x) ∷ es) (e ∷ insert_entry key_cmp es k x)) ≡ map keyed (placed (slice_cmp nat_cmp w.key u.key) w u us (put_write us w))
-      by o is later =
-          ap (λ o. map shown (match_ordering o ((k, x) ∷ e ∷ es) ((e.0, x) ∷ es) (e ∷ insert_entry key_cmp es k x))) is
-          ∙ each o is later
-          ∙ ap (λ o. map keyed (placed o w u us (put_write us w))) (sym (turned ∙ is))
-        where
-          each : (o : Ordering) → key_cmp k e.0 ≡ o → map shown (insert_entry key_cmp es k x) ≡ map keyed (put_write us w) →
-              map shown (match_ordering o ((k, x) ∷ e ∷ es) ((e.0, x) ∷ es) (e ∷ insert_entry key_cmp es k x)) ≡ map keyed (placed o w u us (put_write us w))
-          each Less is later = ap₂ (λ b rest. (b, w) ∷ rest) key same
-          each Equal is later = ap₂ (λ b rest. (b, w) ∷ rest) (sym (equal_keys k.now e.0.now is) ∙ key) tail
-          each Greater is later = ap₂ (λ p rest. p ∷ rest) head later
-
   -- one write more of a list
   pub put-more : (es new : List (Bor Bytes × Bor X)) (xs : List X) (i : ℕ) (d : X) (k : Bor Bytes) (x : Bor X) → i < length xs → d ≡ get_or xs i d → x.now ≡ d → k.now ≡ (view d).key →
       new ≡ insert_entry key_cmp es k x → map shown es ≡ map keyed (fold put_write [] (map view (take i xs))) → map shown new ≡ map keyed (fold put_write [] (map view (take (i + 1) xs)))
   put-more es new xs i d k x within here is key put so_far =
-      ap (map shown) put ∙ put-shown es (fold put_write [] (map view (take i xs))) k x so_far (key ∙ ap (λ z. (view z).key) (sym is))
+      ap (map shown) put ∙ put-shown (λ (b : Bor Bytes). b.now) (λ (b : Bor X). view b.now) (λ w. w) es (fold put_write [] (map view (take i xs))) k x (view x.now) so_far (key ∙ ap (λ z. (view z).key) (sym is)) refl
       ∙ ap (λ z. map keyed (put_write (fold put_write [] (map view (take i xs))) (view z))) (is ∙ here)
       ∙ ap (map keyed) (sym (ap (fold put_write []) (map_more view xs i d within) ∙ fold-append put_write [] (map view (take i xs)) (view (get_or xs i d) ∷ [])))
 

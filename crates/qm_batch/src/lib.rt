@@ -7,6 +7,7 @@ pub mod layer;
 pub mod plan;
 pub mod read;
 pub mod write;
+pub mod writes;
 
 pub use apply::apply_diffs;
 pub use base::Base;
@@ -14,3 +15,4 @@ pub use layer::Layer;
 pub use plan::{Plan, plain};
 pub use read::{read_key, read_keys};
 pub use write::Write;
+pub use writes::Writes;

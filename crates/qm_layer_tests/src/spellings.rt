@@ -86,7 +86,8 @@ fn spellings_are_decoded(rt: HostRuntime) -> Result<(), Fail> {
     Ok(())
 }
 
-// The key of an update or a delete that the bytes spell, where they spell an operation that is spelled and fed so again.
+// The key of an update or a delete that the bytes spell, where they spell an operation that is spelled and fed so again;
+// that of an update as it is lent from them.
 fn key_spelled_by<U: Update>(alloc: Global, bytes: &[u8]) -> Result<Option<Vec<u8>>, AllocError> {
     let Some(operation) = Operation::<(), U>::decode(alloc, bytes)? else {
         return Ok(None);
@@ -101,8 +102,12 @@ fn key_spelled_by<U: Update>(alloc: Global, bytes: &[u8]) -> Result<Option<Vec<u
     if encoded.as_slice() != bytes || fed.finish().bytes() != whole.finish().bytes() {
         return Ok(None);
     }
+    let lent = Operation::<(), U>::update_key(bytes);
+    if lent.is_some() != operation.is_update() {
+        return Ok(None);
+    }
     match operation.key() {
-        Some(key) => Ok(Some(key.as_bytes().to_vec(alloc)?)),
+        Some(key) => Ok(Some(lent.unwrap_or(key.as_bytes()).to_vec(alloc)?)),
         None => Ok(Some(Vec::new(alloc))),
     }
 }

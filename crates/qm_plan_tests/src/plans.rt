@@ -7,7 +7,7 @@ use qm_base::{
     ByteKey, ByteString, ByteValue, Error, FixedBytes, FixedEncoding, Location, Operation, Ordered,
     Sha256, Unordered, Update, ValueEncoding, VariableEncoding,
 };
-use qm_batch::{Base, Layer, Plan, Write, apply_diffs, plain, read_key, read_keys};
+use qm_batch::{Base, Layer, Plan, Writes, apply_diffs, plain, read_key, read_keys};
 use qm_chain::{Diff, DiffEntry};
 use qm_index::unordered::Index;
 use qm_index::{Factory as _, FourCap, Unordered as _};
@@ -352,29 +352,30 @@ fn steps_are_put_in_oldest_first(rt: HostRuntime) -> Result<(), Fail> {
     Ok(())
 }
 
-// A write to the key.
-fn write<K: SampleKey, X: SampleValue>(
-    alloc: Global,
-    last: u8,
-    byte: Option<u8>,
-) -> Result<Write<K, X>, AllocError> {
-    let value = match byte {
-        Some(byte) => Some(X::sample(alloc, byte)?),
-        None => None,
-    };
-    Ok(Write {
-        key: K::sample(alloc, last)?,
-        value,
-    })
+// Writes that delete the second key and write a third twice.
+fn writes<K: SampleKey, X: SampleValue>(alloc: Global) -> Result<Writes<K, X>, AllocError> {
+    Writes::new(alloc)
+        .push(K::sample(alloc, 3)?, Some(X::sample(alloc, 50)?))?
+        .push(K::sample(alloc, 2)?, None)?
+        .push(K::sample(alloc, 3)?, Some(X::sample(alloc, 60)?))
 }
 
-// Writes that delete the second key and write a third twice.
-fn writes<K: SampleKey, X: SampleValue>(alloc: Global) -> Result<Vec<Write<K, X>>, AllocError> {
-    let mut writes = Vec::new(alloc);
-    writes.push(write(alloc, 3, Some(50))?)?;
-    writes.push(write(alloc, 2, None)?)?;
-    writes.push(write(alloc, 3, Some(60))?)?;
-    Ok(writes)
+// What the last write of a key puts there, where one is of the key.
+fn last_byte<K: ByteString, X: ByteString>(writes: &Writes<K, X>, last: u8) -> Option<Option<u8>> {
+    let write = writes.last(&[1, 2, 3, 4, last])?;
+    match &write.value {
+        Some(value) => Some(value.as_bytes().first().copied()),
+        None => Some(None),
+    }
+}
+
+#[test]
+fn the_last_write_of_a_key_is_found(rt: HostRuntime) -> Result<(), Fail> {
+    let writes = writes::<ByteKey, ByteValue>(rt.alloc())?;
+    assert_eq!(rt; last_byte(&writes, 1), None);
+    assert_eq!(rt; last_byte(&writes, 2), Some(None));
+    assert_eq!(rt; last_byte(&writes, 3), Some(Some(60)));
+    Ok(())
 }
 
 // What a batch of these writes makes.
@@ -389,7 +390,14 @@ fn planned<K: SampleKey, X: SampleValue, V: ValueEncoding<K, Value = X>>(
         floor: Location::new(0),
         live: 2,
     };
-    plain(alloc, &from.index, &mut from.log, &base, &writes, None)
+    plain(
+        alloc,
+        &from.index,
+        &mut from.log,
+        &base,
+        writes.as_slice(),
+        None,
+    )
 }
 
 fn spelled<U: Update>(

@@ -1,16 +1,15 @@
 //! The walk from the floor, over a base list and the operations of writes behind it.
 
-ghost use Rattle.std.specs.Prelude.{◌≡◌, ◌≢◌, ◌≤◌, ◌<◌, ◌-◌, ◌^◌, ◌++◌, ◌==◌, ℕ, List, length, map, Option, option_map, slice_get, All, IfSome, IfOk, IfErr, MatchOption, OnOk, Some, option_to_list, is_some, if◌then◌else◌};
+ghost use Rattle.std.specs.Prelude.{◌≡◌, ◌≢◌, ◌≤◌, ◌<◌, ◌-◌, ◌^◌, ◌++◌, ◌==◌, ℕ, List, length, map, Option, option_map, slice_get, IfSome, IfOk, IfErr, MatchOption, OnOk, None, Some, option_to_list, is_some, if◌then◌else◌};
 ghost use Rattle.std.specs.List.{list_any};
+ghost use Rattle.qm_base.specs.Parts.{update_key};
 ghost use Rattle.qm_base.specs.Views.{operation_view};
-ghost use Rattle.qm_model.specs.Forms.{IsOf, spelling};
 ghost use Rattle.qm_model.specs.Operations as model;
 ghost use Rattle.qm_model.specs.Operations.{update};
 ghost use Rattle.qm_model.specs.Policies.{policies, proportional};
 ghost use Rattle.qm_model.specs.Walk as walks;
 ghost use Rattle.qm_model.specs.Writes.{last_writes, unordered_writes, Write};
 ghost use Rattle.qm_batch.specs.Changes.{said_by, stands_at, update_at};
-ghost use Rattle.qm_store.specs.Log.{IsLog};
 ghost use Rattle.qm_batch.specs.Bases.{base_view, IsBase};
 ghost use Rattle.qm_batch.specs.Layers.{LeadOver};
 ghost use Rattle.qm_batch.specs.Lent.{IsIndexed, IsLent, IsRead, IsReadError};
@@ -22,7 +21,7 @@ use super::touch::Touch;
 use super::writes::Last;
 use crate::base::Base;
 use crate::layer::Layer;
-use crate::read::{newest, read_update, twin_update};
+use crate::read::{newest, read_item, twin_update, update_in};
 use qm_base::update::{Unordered, Update};
 use qm_base::{ByteString, Error, Hasher, JournalError, Location, Operation, ValueEncoding};
 use qm_chain::DiffEntry;
@@ -51,25 +50,6 @@ fn in_layers<F, U: Update>(layers: &[Rc<Layer<F, U>>], at: u64) -> Option<&Opera
     None
 }
 
-// The update at a location of the base list, where there is one.
-fn update_in_base<F: Family, C: Store, H: Hasher + Drop, U: Update>(
-    alloc: Global,
-    log: &mut AuthLog<F, C, H>,
-    layers: &[Rc<Layer<F, U>>],
-    at: u64,
-) -> Result<Option<U>, Error>
-    ensures value { (lent base : List model.Operation) → IsLog C.Store F.shape H.Digest.bytes H.hash log.old (map (spelling U.form) lent) → All (IsOf U.form) lent → LeadOver (map (λ l. l.value) layers.now) lent base → at < length base
-        → IfSome (C.items log.old.store) (λ _. IfOk result (λ update. option_map U.view update ≡ update_at base at)) }
-    ensures read { IsRead C.Store F.shape H.Digest.bytes H.hash log.old log.new }
-    ensures error { IfErr result (IsReadError C.Store log.old log.new) }
-    ensures pruned { log.old.tree.start ≤ at → IfErr result (λ e. (n : ℕ) → e ≢ Error.Journal (JournalError.ItemPruned n)) }
-{
-    match in_layers(layers, at) {
-        Some(operation) => Ok(twin_update(alloc, operation)?),
-        None => read_update(alloc, log, at),
-    }
-}
-
 // Whether the entry of a diff leaves its key a live update at this location.
 fn is_left_at<F, V>(entry: &DiffEntry<F, V>, at: u64) -> bool
     ensures { (value : V → model.Bytes) → result ≡ is_there (change_view value entry.now).now at }
@@ -96,19 +76,53 @@ fn is_among<F>(locations: &[Location<F>], at: u64) -> bool
 fn is_live_there<F, I: qm_index::Unordered<Value = Location<F>>, U: Update>(
     index: &I,
     layers: &[Rc<Layer<F, U>>],
-    key: &U::Key,
+    key: &[u8],
     at: u64,
 ) -> bool
     ensures { (lent base : List model.Operation) (value : model.Bytes) (next : Option model.Bytes) → IsIndexed I.index_key (I.entries index.now) lent → LeadOver (map (λ l. l.value) layers.now) lent base
-        → update_at base at ≡ Some (update (U.Key.bytes key.now) value next) → result ≡ is_there (stands_at base (U.Key.bytes key.now)) at }
+        → update_at base at ≡ Some (update key.now value next) → result ≡ is_there (stands_at base key.now) at }
 {
-    match newest(layers, key.as_bytes()) {
+    match newest(layers, key) {
         Some((_, entry)) => is_left_at(entry, at),
-        None => is_among(index.bucket(key.as_bytes()), at),
+        None => is_among(index.bucket(key), at),
     }
 }
 
-// The live update at a location of the base list whose key is not written.
+// The key of the update that an operation is.
+fn key_of_update<F, U: Update>(operation: &Operation<F, U>) -> Option<&[u8]>
+    ensures { option_map (λ key. key.now) result ≡ update_key (operation_view U.view U.Key.bytes U.Value.bytes operation.now) }
+{
+    match operation {
+        Operation::Update(update) => Some(update.key().as_bytes()),
+        Operation::Delete(_) | Operation::CommitFloor(_, _) => None,
+    }
+}
+
+// Whether a walk moves the operation at this location of the base list: an update of this key that is live there, where
+// its key is not written.
+fn is_moved<F, I: qm_index::Unordered<Value = Location<F>>, U: Update>(
+    index: &I,
+    layers: &[Rc<Layer<F, U>>],
+    last: &Last<'_, U::Key, U::Value>,
+    key: Option<&[u8]>,
+    at: u64,
+) -> bool
+    ensures { (lent base : List model.Operation) (ws : List Write) (op : model.Operation) → IsIndexed I.index_key (I.entries index.now) lent → LeadOver (map (λ l. l.value) layers.now) lent base
+        → map (last_view U.Key.bytes U.Value.bytes) last.now.entries ≡ map keyed (last_writes ws) → slice_get base at ≡ Some op → option_map (λ k. k.now) key.entry ≡ update_key op
+        → IsMoveAt (option_map (λ said. moved_touch (at, said)) (if result then said_by op else None)) base (base ++ unordered_writes base ws) at }
+{
+    match key {
+        Some(key) => {
+            if last.contains_key(key) {
+                return false;
+            }
+            is_live_there(index, layers, key, at)
+        }
+        None => false,
+    }
+}
+
+// The live update at a location of the base list whose key is not written. Another operation is not copied.
 fn unwritten_at<
     F: Family,
     I: qm_index::Unordered<Value = Location<F>>,
@@ -130,19 +144,20 @@ fn unwritten_at<
     ensures error { IfErr result (IsReadError C.Store log.old log.new) }
     ensures pruned { log.old.tree.start ≤ at → IfErr result (λ e. (n : ℕ) → e ≢ Error.Journal (JournalError.ItemPruned n)) }
 {
-    match update_in_base(alloc, log, layers, at)? {
-        Some(update) => {
-            let key = update.key();
-            if last.contains_key(key.as_bytes()) {
-                return Ok(None);
-            }
-            if is_live_there(index, layers, key, at) {
-                Ok(Some(update))
-            } else {
-                Ok(None)
-            }
-        }
-        None => Ok(None),
+    if let Some(operation) = in_layers(layers, at) {
+        return if is_moved(index, layers, last, key_of_update(operation), at) {
+            Ok(twin_update(alloc, operation)?)
+        } else {
+            Ok(None)
+        };
+    }
+    let Some(item) = read_item(log, at)? else {
+        return Ok(None);
+    };
+    if is_moved(index, layers, last, Operation::<F, U>::update_key(&item), at) {
+        Ok(update_in(alloc, &item)?)
+    } else {
+        Ok(None)
     }
 }
 

@@ -2,7 +2,6 @@ use Rattle.std.proofs.Common.{◌≡◌, ◌∙◌, ap, subst, sym, map}
 use Rattle.std.specs.Prelude.{option_map, IfOk}
 use Rattle.qm_batch.specs.Layers.{LeadOver}
 use Rattle.qm_model.specs.Writes.{read_through}
-use Rattle.qm_any.specs.Views.{write_views}
 use Rattle.qm_any.proofs.Known.{made-base}
 use Rattle.qm_any.proofs.batch.MerkleizedBatch.get.Goals as goal
 
@@ -12,5 +11,5 @@ returns-clause-value g c = λ list chain tip stands made known.
     let value = g.U.Value.ByteString.bytes in
     let layers = ap (map (λ l. l.value)) c.deref.ensures.value ∙ ap (λ b. b.layers) c.self.view_is in
     let base = subst (λ ls. LeadOver ls list tip) (sym layers) (made-base c.args.self.now list chain tip made known) in
-    subst (λ ws. IfOk c.read_one.result (λ v. option_map value v ≡ read_through tip (write_views key value ws) (key c.args.key.now))) (c.deref-2.ensures.value ∙ c.new.ensures.items)
+    subst (λ ws. IfOk c.read_one.result (λ v. option_map value v ≡ read_through tip ws (key c.args.key.now))) c.new.ensures
     (c.read_one.ensures.value list tip stands base)

@@ -2,7 +2,6 @@ use Rattle.std.proofs.Common.{◌≡◌, ◌∙◌, ap, subst, sym, map}
 use Rattle.std.specs.Prelude.{option_map, IfOk}
 use Rattle.qm_model.specs.Writes.{read_through}
 use Rattle.qm_batch.specs.Layers.{LeadOver}
-use Rattle.qm_any.specs.Views.{write_views}
 use Rattle.qm_any.proofs.Known.{made-base}
 use Rattle.qm_any.proofs.batch.UnmerkleizedBatch.get.Goals as goal
 
@@ -15,5 +14,5 @@ returns-clause-value g c = λ list chain above stands begun known.
     let base = subst (λ ls. LeadOver ls list chain.base) (sym layers)
     (made-base (c.args.self.now).parent list above chain.base begun.parent known) in
     subst (λ ws. IfOk c.read_one.result (λ v. option_map value v ≡ read_through chain.base ws (key c.args.key.now)))
-    (ap (write_views key value) c.deref-4.ensures.value ∙ ap (λ b. b.writes) c.self.view_is)
+    (ap (λ b. b.writes) c.self.view_is)
     (c.read_one.ensures.value list chain.base stands base)

@@ -2,7 +2,6 @@ use Rattle.std.proofs.Common.{◌≡◌, ◌∙◌, ap, subst, sym, map}
 use Rattle.std.specs.Prelude.{option_map, IfOk}
 use Rattle.qm_model.specs.Writes.{read_through}
 use Rattle.qm_batch.specs.Layers.{LeadOver}
-use Rattle.qm_any.specs.Views.{write_views}
 use Rattle.qm_any.proofs.Known.{made-base}
 use Rattle.qm_any.proofs.batch.UnmerkleizedBatch.get_many.Goals as goal
 
@@ -15,5 +14,5 @@ returns-clause-values g c = λ list chain above stands begun known.
     let base = subst (λ ls. LeadOver ls list chain.base) (sym layers)
     (made-base (c.args.self.now).parent list above chain.base begun.parent known) in
     subst (λ ws. IfOk c.read_all.result (λ v. map (option_map value) v.items ≡ map (λ k. read_through chain.base ws (key k)) c.args.keys.now))
-    (ap (write_views key value) c.deref-4.ensures.value ∙ ap (λ b. b.writes) c.self.view_is)
+    (ap (λ b. b.writes) c.self.view_is)
     (c.read_all.ensures.values list chain.base stands base)

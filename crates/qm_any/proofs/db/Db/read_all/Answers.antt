@@ -5,7 +5,6 @@ use Rattle.std.proofs.lemmas.Result.{err_from_is_err_and}
 use Rattle.qm_model.specs.Writes.{read_through}
 use Rattle.qm_batch.proofs.Reading.{mapped-more}
 use Rattle.qm_any.specs.Layouts.{hashing_of, layout_of}
-use Rattle.qm_any.specs.Views.{write_views}
 use Rattle.qm_any.proofs.Reading.{left-none, left-then, left-error, left-database}
 use Rattle.qm_any.proofs.db.Db.read_all.Goals as goal
 
@@ -34,7 +33,7 @@ loop-key-preserved g c =
       left = left-then g.C.Store (hashing_of g.H.Digest.Digest g.H.Hasher g.F.Family g.U.Update) c.args.self.now c.loop-key.self c.read_one.new.self c.loop-key.invariant.left c.read_one.ensures.left;
       values = λ list base stands from.
           let mid = left-database g.C.Store (layout_of g.H.Digest.Digest g.H.Hasher g.F.Family g.U.Update g.I.Unordered) c.args.self.now c.loop-key.self list c.loop-key.invariant.left stands in
-          mapped-more (λ k. read_through base (write_views key value c.args.writes.now) (key k)) (option_map value) c.args.keys.now c.loop-key.key-index c.key-item.result
+          mapped-more (λ k. read_through base c.args.writes.now (key k)) (option_map value) c.args.keys.now c.loop-key.key-index c.key-item.result
           c.loop-key.values.items c.push.new.self.items c.in_ok-value.value c.loop-key-test.true c.key-item.is c.in_ok-push.ensures.items
           (c.in_ok-value.ensures.value list base mid from) (c.loop-key.invariant.values list base stands from);
     }
@@ -43,7 +42,7 @@ pub returns-clause-values : goal.returns-clause-values
 returns-clause-values g c = λ list base stands from.
     let key = g.U.Key.ByteString.bytes in
     c.loop-key.invariant.values list base stands from
-    ∙ ap (map (λ k. read_through base (write_views key g.U.Value.ByteString.bytes c.args.writes.now) (key k))) (take_all c.loop-key.key-index c.args.keys.now c.loop-key-test.false)
+    ∙ ap (map (λ k. read_through base c.args.writes.now (key k))) (take_all c.loop-key.key-index c.args.keys.now c.loop-key-test.false)
 
 pub returns-clause-left : goal.returns-clause-left
 returns-clause-left g c = c.loop-key.invariant.left

@@ -5,7 +5,6 @@ use Rattle.qm_model.specs.Writes.{read_through}
 use Rattle.qm_batch.specs.Layers.{LeadOver}
 use Rattle.qm_any.specs.Layouts.{hashing_of, layout_of}
 use Rattle.qm_any.specs.Databases.{IsDatabase, IsLeft}
-use Rattle.qm_any.specs.Views.{write_views}
 use Rattle.qm_any.proofs.db.Db.read_all.Given as goal
 
 -- the database as reads left it, and the values of the keys so far
@@ -16,5 +15,5 @@ invariant-loop-key g l =
     record {
       left : IsLeft g.C.Store (hashing_of g.H.Digest.Digest g.H.Hasher g.F.Family g.U.Update) l.initial.self l.self;
       values : (list base : List Operation) → IsDatabase g.C.Store (layout_of g.H.Digest.Digest g.H.Hasher g.F.Family g.U.Update g.I.Unordered) l.initial.self list → LeadOver (map (λ l. l.value) l.steps) list base
-          → map (option_map value) l.values.items ≡ map (λ k. read_through base (write_views key value l.writes) (key k)) (take l.key-index l.keys);
+          → map (option_map value) l.values.items ≡ map (λ k. read_through base l.writes (key k)) (take l.key-index l.keys);
     }

@@ -9,7 +9,6 @@ use Rattle.qm_batch.specs.Changes.{update_of}
 use Rattle.qm_batch.specs.Views.{read_view, write_view}
 use Rattle.qm_any.specs.Layouts.{layout_of}
 use Rattle.qm_any.specs.Databases.{IsDatabase}
-use Rattle.qm_any.specs.Views.{write_views}
 use Rattle.qm_any.proofs.Reading.{value-found}
 use Rattle.qm_any.proofs.db.Db.read_one.Goals.{in-Some-2, in-None}
 use Rattle.qm_any.proofs.db.Db.read_one.Goals as goal
@@ -19,8 +18,8 @@ returns-clause-value g c = λ list base stands from.
     let key = g.U.Key.ByteString.bytes in
     let value = g.U.Value.ByteString.bytes in
     let at = key c.args.key.now in
-    let writes = write_views key value c.args.writes.now in
-    let unwritten : write_of (last_writes writes) at ≡ None = sym c.last_write.ensures ∙ ap (option_map (λ w. write_view key value w.now)) c.in_default.is in
+    let writes = c.args.writes.now in
+    let unwritten : write_of (last_writes writes) at ≡ None = ap (write_of (last_writes writes)) (sym c.as_bytes.ensures.value) ∙ sym c.last.ensures ∙ ap (option_map (λ w. write_view key value w.now)) c.in_default.is in
     let inside = subst (λ db. IsDatabase g.C.Store (layout_of g.H.Digest.Digest g.H.Hasher g.F.Family g.U.Update g.I.Unordered) db list) (sym c.self.view_is) stands in
     let view = read_view g.U.Update.view in
     let said : ℕ × Operation → Option Bytes = λ p. parts.value_of p.1 in

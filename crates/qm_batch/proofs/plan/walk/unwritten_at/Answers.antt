@@ -1,47 +1,55 @@
-use Rattle.std.proofs.Common.{◌≡◌, ◌∙◌, ◌++◌, Some, ap, sym, subst}
-use Rattle.std.specs.Prelude.{option_map, is_some}
-use Rattle.qm_model.proofs.Results.{told-one}
-use Rattle.qm_model.specs.Operations.{update}
-use Rattle.qm_model.specs.Writes.{write_of, last_writes, unordered_writes}
-use Rattle.qm_batch.specs.Touches.{moved_touch, IsMoveAt}
-use Rattle.qm_batch.specs.Views.{write_view}
-use Rattle.qm_batch.proofs.PlanDiffs.{update-of}
-use Rattle.qm_batch.proofs.PlanFinds.{has-key, standing-none, standing-written, standing-gone, standing-live}
+use Rattle.std.proofs.Common.{◌∙◌, None, ap, sym, subst, refl, map}
+use Rattle.std.specs.Prelude.{option_map, option_and_then}
+use Rattle.qm_model.specs.Forms.{IsSpelling, spelling}
+use Rattle.qm_model.proofs.Results.{told-any, told-one}
+use Rattle.qm_base.specs.Views.{operation_view}
+use Rattle.qm_batch.specs.Changes.{said_by}
+use Rattle.qm_batch.proofs.PlanFinds.{match-some, match-none, standing-none, moved-found, moved-not}
+use Rattle.qm_batch.proofs.Spellings.{spelled-there, unspelled-there}
 use Rattle.qm_batch.proofs.plan.walk.unwritten_at.Goals as goal
 
-pub returns-then-contains_key-clause-value : goal.returns-then-contains_key-clause-value
-returns-then-contains_key-clause-value g c = λ lent base ws is from within same.
-    let key = g.U.Key.ByteString.bytes in
-    let view = g.U.Update.view in
-    let found = option_map view c.in_ok-update.field-0 in
-    let parts = update-of (view c.in-Some.update) (key c.key-key.result.now) (g.met.U.Update.updates c.in-Some.update) c.key-key.ensures in
-    let is_it : found ≡ Some (update (key c.key-key.result.now) parts.0 parts.1) = ap (option_map view) c.in-Some.is ∙ ap (λ op. Some op) parts.2 in
-    told-one _ _ (g.C.Store.items c.args.log.now.store) (c.in_ok-update.ensures.value lent base is.logged is.of from within) (λ said.
-    standing-written base ws c.args.at within found said (key c.key-key.result.now) parts.0 parts.1 is_it (sym (ap (λ q. is_some (write_of (last_writes ws) q)) c.as_bytes.ensures.value) ∙ sym (has-key (write_view key g.U.Value.ByteString.bytes) c.args.last.now.entries (last_writes ws) c.as_bytes.result.now same) ∙ sym c.contains_key.ensures ∙ c.if-contains_key.true))
+pub returns-in_ok-twin_update-clause-value : goal.returns-in_ok-twin_update-clause-value
+returns-in_ok-twin_update-clause-value g c = λ lent base ws is from within last.
+    let op = operation_view g.U.Update.view g.U.Key.ByteString.bytes g.U.Value.ByteString.bytes c.in-Some.operation.now in
+    let there = match-some c.in_layers.result c.in-Some.operation _ _ c.in-Some.is (c.in_layers.ensures lent base from within) in
+    told-any _ (g.C.Store.items c.args.log.now.store)
+    (moved-found base ws c.args.at op there g.U.Update.view c.in_ok-twin_update.field-0 c.is_moved.result c.if-is_moved.true c.in_ok-twin_update.ensures
+    (c.is_moved.ensures lent base ws op is.indexed from last there c.key_of_update.ensures))
 
-pub returns-then-is_live_there-clause-value : goal.returns-then-is_live_there-clause-value
-returns-then-is_live_there-clause-value g c = λ lent base ws is from within same.
-    let key = g.U.Key.ByteString.bytes in
-    let view = g.U.Update.view in
-    let found = option_map view c.in_ok-update.field-0 in
-    let parts = update-of (view c.in-Some.update) (key c.key-key.result.now) (g.met.U.Update.updates c.in-Some.update) c.key-key.ensures in
-    let is_it : found ≡ Some (update (key c.key-key.result.now) parts.0 parts.1) = ap (option_map view) c.in-Some.is ∙ ap (λ op. Some op) parts.2 in
-    told-one _ _ (g.C.Store.items c.args.log.now.store) (c.in_ok-update.ensures.value lent base is.logged is.of from within) (λ said.
-    subst (λ op. IsMoveAt (Some (moved_touch (c.args.at, op))) base (base ++ unordered_writes base ws) c.args.at) (sym parts.2)
-    (standing-live base ws c.args.at within found said (key c.key-key.result.now) parts.0 parts.1 is_it (sym (ap (λ q. is_some (write_of (last_writes ws) q)) c.as_bytes.ensures.value) ∙ sym (has-key (write_view key g.U.Value.ByteString.bytes) c.args.last.now.entries (last_writes ws) c.as_bytes.result.now same) ∙ sym c.contains_key.ensures ∙ c.if-contains_key.false) (sym (c.is_live_there.ensures lent base parts.0 parts.1 is.indexed from (sym said ∙ is_it)) ∙ c.if-is_live_there.true)))
+pub returns-else-is_moved-clause-value : goal.returns-else-is_moved-clause-value
+returns-else-is_moved-clause-value g c = λ lent base ws is from within last.
+    let op = operation_view g.U.Update.view g.U.Key.ByteString.bytes g.U.Value.ByteString.bytes c.in-Some.operation.now in
+    let there = match-some c.in_layers.result c.in-Some.operation _ _ c.in-Some.is (c.in_layers.ensures lent base from within) in
+    told-any _ (g.C.Store.items c.args.log.now.store)
+    (moved-not base ws c.args.at op there c.is_moved.result c.if-is_moved.false (c.is_moved.ensures lent base ws op is.indexed from last there c.key_of_update.ensures))
 
-pub returns-else-is_live_there-clause-value : goal.returns-else-is_live_there-clause-value
-returns-else-is_live_there-clause-value g c = λ lent base ws is from within same.
-    let key = g.U.Key.ByteString.bytes in
-    let view = g.U.Update.view in
-    let found = option_map view c.in_ok-update.field-0 in
-    let parts = update-of (view c.in-Some.update) (key c.key-key.result.now) (g.met.U.Update.updates c.in-Some.update) c.key-key.ensures in
-    let is_it : found ≡ Some (update (key c.key-key.result.now) parts.0 parts.1) = ap (option_map view) c.in-Some.is ∙ ap (λ op. Some op) parts.2 in
-    told-one _ _ (g.C.Store.items c.args.log.now.store) (c.in_ok-update.ensures.value lent base is.logged is.of from within) (λ said.
-    standing-gone base ws c.args.at within found said (key c.key-key.result.now) parts.0 parts.1 is_it (sym (c.is_live_there.ensures lent base parts.0 parts.1 is.indexed from (sym said ∙ is_it)) ∙ c.if-is_live_there.false))
+pub returns-in_default-2-clause-value : goal.returns-in_default-2-clause-value
+returns-in_default-2-clause-value g c = λ lent base ws is from within last.
+    let form = g.U.Update.form in
+    told-one _ _ (g.C.Store.items c.args.log.now.store) (c.in_ok-item.ensures.value (map (spelling form) lent) is.logged) (λ said.
+    let none = unspelled-there form lent c.args.at (sym said ∙ ap (option_map (λ v. v.items)) c.in_default-2.is) in
+    let same = match-none c.in_layers.result _ _ c.in_default.is (c.in_layers.ensures lent base from within) in
+    standing-none base ws c.args.at within None (sym (ap (option_and_then said_by) (same ∙ none))) refl)
 
-pub returns-in-None-clause-value : goal.returns-in-None-clause-value
-returns-in-None-clause-value g c = λ lent base ws is from within same.
-    let view = g.U.Update.view in
-    told-one _ _ (g.C.Store.items c.args.log.now.store) (c.in_ok-update.ensures.value lent base is.logged is.of from within) (λ said.
-    standing-none base ws c.args.at within (option_map view c.in_ok-update.field-0) said (ap (option_map view) c.in-None.is))
+pub returns-then-is_moved-2-clause-value : goal.returns-then-is_moved-2-clause-value
+returns-then-is_moved-2-clause-value g c = λ lent base ws is from within last.
+    let form = g.U.Update.form in
+    let same = match-none c.in_layers.result _ _ c.in_default.is (c.in_layers.ensures lent base from within) in
+    told-one _ _ (g.C.Store.items c.args.log.now.store) (c.in_ok-item.ensures.value (map (spelling form) lent) is.logged) (λ said.
+    let spelled = spelled-there form lent c.args.at c.in-Some-2.item.items is.of (sym said ∙ ap (option_map (λ v. v.items)) c.in-Some-2.is) in
+    let op = spelled.0 in
+    let there = same ∙ spelled.1 in
+    let lent_key = c.update_key.ensures op (subst (λ bs. IsSpelling form bs op) (sym c.deref.ensures.value) spelled.2) in
+    let found = c.in_ok-update_in.ensures op (subst (λ bs. IsSpelling form bs op) (sym c.deref-then-is_moved-2.ensures.value) spelled.2) in
+    moved-found base ws c.args.at op there g.U.Update.view c.in_ok-update_in.field-0 c.is_moved-2.result c.if-is_moved-2.true found (c.is_moved-2.ensures lent base ws op is.indexed from last there lent_key))
+
+pub returns-clause-value : goal.returns-clause-value
+returns-clause-value g c = λ lent base ws is from within last.
+    let form = g.U.Update.form in
+    let same = match-none c.in_layers.result _ _ c.in_default.is (c.in_layers.ensures lent base from within) in
+    told-one _ _ (g.C.Store.items c.args.log.now.store) (c.in_ok-item.ensures.value (map (spelling form) lent) is.logged) (λ said.
+    let spelled = spelled-there form lent c.args.at c.in-Some-2.item.items is.of (sym said ∙ ap (option_map (λ v. v.items)) c.in-Some-2.is) in
+    let op = spelled.0 in
+    let there = same ∙ spelled.1 in
+    let lent_key = c.update_key.ensures op (subst (λ bs. IsSpelling form bs op) (sym c.deref.ensures.value) spelled.2) in
+    moved-not base ws c.args.at op there c.is_moved-2.result c.if-is_moved-2.false (c.is_moved-2.ensures lent base ws op is.indexed from last there lent_key))

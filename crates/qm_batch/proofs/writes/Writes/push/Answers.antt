@@ -1,0 +1,17 @@
+use Rattle.std.proofs.Common.{◌∙◌, ◌∷◌, [], ℕ, Vec, Global, ap, sym, subst, arith, map}
+use Rattle.std.proofs.lemmas.List.{length-map, map-append}
+use Rattle.qm_batch.specs.Views.{write_view}
+use Rattle.qm_batch.specs.Written.{ArePlaces}
+use Rattle.qm_batch.proofs.WritesByKey.{places-more}
+use Rattle.qm_batch.proofs.writes.Writes.push.Goals as goal
+
+pub invariant_of-result : goal.invariant_of-result
+invariant_of-result g c =
+    let view = write_view g.K.ByteString.bytes g.V.ByteString.bytes in
+    let list = (c.self.inside.list).items in
+    let counted = c.len.ensures in
+    let same = length-map list view in
+    let ok = (c.self.inside.list).ok in
+    subst (ArePlaces (λ (v : Vec ℕ Global). v.items) c.insert.new.self.entries) (sym (ap (map view) c.in_ok-push.ensures.items ∙ map-append view list (_ ∷ [])))
+    (places-more (λ (v : Vec ℕ Global). v.items) (c.self.inside.places).entries c.insert.new.self.entries (map view list) _ c.in_ok-bytes.bytes c.len.result c.self.invariant c.in_ok-bytes.ensures
+    (omega (arith, counted, same, ok)) c.in_ok-insert.ensures.entries)
