@@ -49,9 +49,8 @@ fn tail(alloc: Global, ending: Ending, answered: u64) -> Result<String, AllocErr
     ensures { IfOk result (λ text. string_bytes text ≡ tail_text ending answered) }
 {
     match ending {
-        Ending::Done => Ok(String::new(alloc)),
+        Ending::Done | Ending::Memory => Ok(String::new(alloc)),
         Ending::BadLine => bad_line_text(alloc, answered + 1),
-        Ending::Memory => Err(AllocError),
         Ending::StoreFault => String::from_str(alloc, "store fault\n"),
     }
 }
@@ -67,7 +66,7 @@ fn status_of(ending: Ending) -> u8
     }
 }
 
-// The answers and what follows them. Where memory lacked for an answer, there is no text.
+// The answers and what follows them.
 fn with_tail(
     alloc: Global,
     mut text: Vec<u8>,
