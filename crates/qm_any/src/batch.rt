@@ -216,7 +216,16 @@ impl<F: Family, D: Digest, K: ByteString, V: ValueEncoding<K>> UnmerkleizedBatch
         let boundary = parent.child_boundary(keep);
         match validate_batch_applicable(db.commitment(), &boundary, &tips) {
             Err(error) => Err(error),
-            Ok(()) => made_on(alloc, db, &parent, keep, boundary, tips, writes.as_slice(), metadata),
+            Ok(()) => made_on(
+                alloc,
+                db,
+                &parent,
+                keep,
+                boundary,
+                tips,
+                writes.as_slice(),
+                metadata,
+            ),
         }
     }
 }

@@ -154,7 +154,13 @@ fn unwritten_at<
     let Some(item) = read_item(log, at)? else {
         return Ok(None);
     };
-    if is_moved(index, layers, last, Operation::<F, U>::update_key(&item), at) {
+    if is_moved(
+        index,
+        layers,
+        last,
+        Operation::<F, U>::update_key(&item),
+        at,
+    ) {
         Ok(update_in(alloc, &item)?)
     } else {
         Ok(None)

@@ -1,4 +1,4 @@
-use Rattle.std.proofs.Common.{◌∙◌, ap, sym, subst, map, option_map}
+use Rattle.std.proofs.Common.{◌∙◌, ap, sym, subst, option_map}
 use Rattle.std.specs.Prelude.{IfOk, IfErr, OnOk, ◌⊎◌}
 use Rattle.qm_model.specs.Policies.{proportional}
 use Rattle.qm_batch.specs.Lent.{IsReadError}
