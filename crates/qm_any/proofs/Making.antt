@@ -1,16 +1,15 @@
 -- What a step makes of a list, and the merkleized batch of a plan on its parent.
-use Rattle.std.proofs.Common.{◌≡◌, ◌≢◌, ◌∙◌, ℕ, zero, suc, ◌+◌, ◌-◌, ◌≤◌, ◌<◌, ◌^◌, arith, ap, ap₂, sym, subst, refl, Bool, true, false, List, [], ◌∷◌, ◌++◌, length, take, drop, get_or, map, inl, inr, ⊎_elim, Option, Some, None, option_map}
+use Rattle.std.proofs.Common.{◌≡◌, ◌≢◌, ◌∙◌, ℕ, zero, suc, ◌+◌, ◌-◌, ◌≤◌, ◌<◌, ◌^◌, arith, ap, ap₂, sym, subst, refl, Bool, true, false, List, [], ◌∷◌, ◌++◌, length, take, drop, map, inl, inr, ⊎_elim, Option, Some, None, option_map}
 use Rattle.std.specs.Prelude.{All, Contains, IfSome, is_some, nat_le, filter_map, if◌then◌else◌, ◌==◌}
 use Rattle.std.specs.List.{cons_option, AllByRecursion as Each}
 use Rattle.std.proofs.lemmas.Bool.Decides.{leb_tells}
-use Rattle.std.proofs.lemmas.List.{take-map, take_more, take_all, take-append-le, take-append-drop, length-append, length-drop, length-map, map-append}
+use Rattle.std.proofs.lemmas.List.{take-map, take_all, take-append-le, take-append-drop, length-append, length-drop, length-map, map-append}
 use Rattle.std.proofs.lemmas.List.Elements.{All-cons, All-nil, All-head, All-tail, All-contains, All-take, All-drop, All-append, All-weaker, All-from_recursion, recursion_from_All, Contains-append_right}
 use Rattle.qm_model.specs.Forms.{Form, IsOf, spelling}
 use Rattle.qm_model.specs.Operations.{Bytes, Operation, update, delete, commit}
 use Rattle.qm_model.specs.Batches.{Commitment, Chain, Kept, oldest_base}
 use Rattle.qm_model.specs.Live.{live, live_of, floor, floor_after, last_metadata, metadata_after}
 use Rattle.qm_model.specs.Policies.{Policy, policies}
-use Rattle.qm_model.specs.Refusals.{too_long}
 use Rattle.qm_model.specs.Writes.{Write, write_of, last_writes, operation_of, rewrite_of, create_of, unordered_writes}
 use Rattle.qm_model.proofs.Steps.{walked, moved, walked-walks}
 use Rattle.qm_model.proofs.Walks.{walks_within}

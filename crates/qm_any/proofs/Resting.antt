@@ -8,7 +8,7 @@ use Rattle.qm_model.specs.Live.{touched}
 use Rattle.qm_batch.specs.Changes.{AreChanges, stands_at, place_in}
 use Rattle.qm_model.specs.Forms.{spelling}
 use Rattle.qm_store.specs.KeptTrees.{leaves_of}
-use Rattle.qm_model.specs.Operations.{Bytes, Operation}
+use Rattle.qm_model.specs.Operations.{Operation}
 use Rattle.qm_model.specs.Batches.{Chain, Kept, commitment, begun_on, child_of}
 use Rattle.qm_model.proofs.Chains.{Contains-first}
 use Rattle.qm_store.specs.declared.Store as store

@@ -217,7 +217,16 @@ impl<F: Family, D: Digest, K: ByteString, V: ValueEncoding<K>> UnmerkleizedBatch
         let boundary = parent.child_boundary(keep);
         match validate_batch_applicable(db.commitment(), &boundary, &tips) {
             Err(error) => Err(error),
-            Ok(()) => made_on(alloc, db, &parent, keep, boundary, tips, writes.as_slice(), metadata),
+            Ok(()) => made_on(
+                alloc,
+                db,
+                &parent,
+                keep,
+                boundary,
+                tips,
+                writes.as_slice(),
+                metadata,
+            ),
         }
     }
 }
@@ -299,7 +308,8 @@ impl<F: Family, D: Digest, U: Update> MerkleizedBatch<F, D, U> {
         ensures left { IsLeft C.Store ⟦<Db<F, C, I, H, U> as LaidOut>⟧.layout.hashing db.old db.new }
     {
         self.bounds.compatible(db.commitment())?;
-        db.read_one(alloc, &self.steps, &Writes::new(alloc), key)
+        let writes = Writes::new(alloc);
+        db.read_one(alloc, &self.steps, &writes, key)
     }
 
     /// The values of keys, in their order, as `get` reads them.
@@ -321,7 +331,8 @@ impl<F: Family, D: Digest, U: Update> MerkleizedBatch<F, D, U> {
         ensures left { IsLeft C.Store ⟦<Db<F, C, I, H, U> as LaidOut>⟧.layout.hashing db.old db.new }
     {
         self.bounds.compatible(db.commitment())?;
-        db.read_all(alloc, &self.steps, &Writes::new(alloc), keys)
+        let writes = Writes::new(alloc);
+        db.read_all(alloc, &self.steps, &writes, keys)
     }
 
     /// The proof of the batch's own operations in the list that it makes. It verifies against the batch's root.

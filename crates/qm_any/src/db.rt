@@ -231,7 +231,8 @@ impl<
         ensures whole { (list : List Operation) → IsDatabase C.Store ⟦<Self as LaidOut>⟧.layout self.old list → NoneBelow self.old.log.tree.start list → IfErr result (λ e. (n : ℕ) → e ≢ Error.Journal (JournalError.ItemPruned n)) }
         ensures left { IsLeft C.Store ⟦<Self as LaidOut>⟧.layout.hashing self.old self.new }
     {
-        self.read_one(alloc, &Vec::new(alloc), &Writes::new(alloc), key)
+        let writes = Writes::new(alloc);
+        self.read_one(alloc, &Vec::new(alloc), &writes, key)
     }
 
     /// The values of keys, in their order, if they are live.
@@ -244,7 +245,8 @@ impl<
         ensures error { IfErr result (IsReadError C.Store self.old.log self.new.log) }
         ensures left { IsLeft C.Store ⟦<Self as LaidOut>⟧.layout.hashing self.old self.new }
     {
-        self.read_all(alloc, &Vec::new(alloc), &Writes::new(alloc), keys)
+        let writes = Writes::new(alloc);
+        self.read_all(alloc, &Vec::new(alloc), &writes, keys)
     }
 
     // The value of a key: that of its last write or, where it has none, the one on the base list of a batch of these steps.

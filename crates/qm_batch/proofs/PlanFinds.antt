@@ -1,12 +1,11 @@
 -- Where the operations of a base list are found, and where its keys stand.
-use Rattle.std.proofs.Common.{◌≡◌, ℕ, suc, ◌+◌, ◌-◌, ◌≤◌, ◌<◌, Bool, true, false, cond, List, [], ◌∷◌, ◌++◌, length, map, drop, get_or, refl, ap, sym, ◌∙◌, subst, Option, Some, None, arith, ◌||◌, ◌⊎◌, inl, inr, append_assoc, append-nil, length-append, true≢false, Bor, leb}
-use Rattle.std.specs.Prelude.{◌==◌, Contains, slice_get, option_map, option_and_then, MatchOption, bytes_eq, is_some, if◌then◌else◌}
+use Rattle.std.proofs.Common.{◌≡◌, ℕ, suc, ◌+◌, ◌-◌, ◌≤◌, ◌<◌, Bool, true, false, List, [], ◌∷◌, ◌++◌, length, map, drop, get_or, refl, ap, sym, ◌∙◌, subst, Option, Some, None, arith, ◌||◌, ◌⊎◌, inl, inr, append_assoc, append-nil, length-append, true≢false, Bor, leb}
+use Rattle.std.specs.Prelude.{◌==◌, Contains, slice_get, option_map, option_and_then, MatchOption, is_some, if◌then◌else◌}
 use Rattle.std.specs.List.{list_any}
 use Rattle.std.specs.Map.{lookup}
 use Rattle.std.specs.Cmp.Lexicographic.{slice_cmp}
 use Rattle.std.specs.Ordering.{nat_cmp, is_eq}
-use Rattle.std.proofs.lemmas.Bool.{eqb-true, eq-eqb, leb-true, cases_lt, le-leb, lt-leb}
-use Rattle.std.proofs.lemmas.Map.Text.{is_eq-slice_cmp}
+use Rattle.std.proofs.lemmas.Bool.{eqb-true, eq-eqb, leb-true, cases_lt, le-leb}
 use Rattle.std.specs.Option.{option_copied}
 use Rattle.std.specs.Slice.{IsItemAt}
 use Rattle.std.proofs.lemmas.List.{drop_more}
@@ -30,7 +29,7 @@ use Rattle.qm_batch.proofs.Spellings.{keyed-update, keyless-said}
 use Rattle.qm_batch.proofs.WritesByKey.{looked-up}
 use Rattle.qm_batch.proofs.Reading.{in-bucket, own-bucket}
 use Rattle.qm_batch.proofs.Standing.{live-stands, live-of_key}
-use Rattle.qm_batch.proofs.Basics.{bytes-turned, or-later}
+use Rattle.qm_batch.proofs.Basics.{or-later}
 
 -- the operation at a location, where a layer has it
 abbrev pub found_in : List Layer → ℕ → Option Operation

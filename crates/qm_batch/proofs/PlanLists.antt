@@ -1,15 +1,12 @@
 -- The live updates of a list with more operations at its end.
-use Rattle.std.proofs.Common.{◌≡◌, ℕ, suc, ◌+◌, ◌≤◌, Bool, true, false, cond, List, [], ◌∷◌, ◌++◌, length, refl, ap, sym, ◌∙◌, Option, Some, None, arith, ◌||◌}
-use Rattle.std.specs.Prelude.{◌==◌, not, filter, find, option_map, bytes_eq, if◌then◌else◌}
-use Rattle.std.specs.Option.{option_or}
+use Rattle.std.proofs.Common.{◌≡◌, ℕ, suc, ◌≤◌, Bool, true, false, cond, List, ◌∷◌, ◌++◌, length, refl, ap, ◌∙◌, Option, Some, None, arith, ◌||◌}
+use Rattle.std.specs.Prelude.{◌==◌, not, option_map, if◌then◌else◌}
 use Rattle.std.specs.List.{cons_option, AllByRecursion as Each}
 use Rattle.std.proofs.lemmas.Bool.{eq-eqb, eqb-true}
-use Rattle.std.proofs.lemmas.List.Folds.{find-append, list_any-append}
 use Rattle.std.proofs.lemmas.List.Elements.{All-contains, All-from_recursion}
-use Rattle.qm_model.specs.Operations.{Bytes, Operation, update, delete, commit}
+use Rattle.qm_model.specs.Operations.{Bytes, Operation, update}
 use Rattle.qm_model.specs.Live.{Live, live, live_from, live_of, touches, touched}
 use Rattle.qm_model.proofs.LastWrites.{bytes_same}
-use Rattle.qm_model.proofs.Maps.{same_key}
 use Rattle.qm_model.proofs.Pushes.{Within, live_from-within}
 use Rattle.qm_batch.specs.Changes.{stands_at}
 use Rattle.qm_batch.specs.Touches.{is_there}

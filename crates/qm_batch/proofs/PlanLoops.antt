@@ -1,6 +1,6 @@
 -- Steps of the loops that make a plan.
 use Rattle.std.proofs.Common.{◌≡◌, ℕ, zero, suc, ◌+◌, ◌≤◌, ◌<◌, cond, List, [], ◌∷◌, ◌++◌, length, length-append, take, map, get_or, refl, ap, ap₂, sym, ◌∙◌, subst, Option, Some, None, arith, Ordering, Less, Equal, Greater, Bor, append_assoc, append-nil}
-use Rattle.std.specs.Prelude.{filter_map, fold, slice_get, option_map, option_and_then, option_to_list, All}
+use Rattle.std.specs.Prelude.{filter_map, fold, slice_get, option_map, option_to_list, All}
 use Rattle.std.specs.BTreeMap.{insert_entry}
 use Rattle.std.specs.List.{cons_option, AllByRecursion as Each}
 use Rattle.std.specs.Cmp.Lexicographic.{slice_cmp}
@@ -11,8 +11,8 @@ use Rattle.std.proofs.lemmas.List.Elements.{filter_map-append, All-nil, All-cons
 use Rattle.std.proofs.lemmas.Option.{same_Some, slice_get-map, slice_get_read, get_or_from_slice_get, slice_get_within}
 use Rattle.qm_model.specs.Operations.{Bytes, Operation}
 use Rattle.qm_model.specs.Live.{Live, live, live_of}
-use Rattle.qm_model.specs.Writes.{Write, put_write, placed, write_of, operation_of, create_of}
-use Rattle.qm_model.proofs.LastWrites.{equal_keys, Rising}
+use Rattle.qm_model.specs.Writes.{Write, put_write, write_of, operation_of, create_of}
+use Rattle.qm_model.proofs.LastWrites.{Rising}
 use Rattle.qm_batch.specs.Changes.{place_in}
 use Rattle.qm_batch.specs.PlanViews.{keyed, site_in}
 use Rattle.qm_batch.specs.Touches.{Touch, operations_of, rewrite_here, new_touch}

@@ -8,7 +8,7 @@ use Rattle.qm_model.specs.Operations.{Bytes, Operation, update, delete, commit}
 use Rattle.qm_model.specs.Live.{live_at, touches, touched}
 use Rattle.qm_batch.specs.Changes.{stands_at, update_at, update_from, said_by}
 use Rattle.qm_batch.specs.Touches.{live_update_at, is_there}
-use Rattle.qm_batch.proofs.PlanLists.{stands-untouched, there-touched}
+use Rattle.qm_batch.proofs.PlanLists.{there-touched}
 use Rattle.qm_batch.proofs.PlanWalks.{drop-here}
 use Rattle.std.proofs.Math.Bool.{or-true}
 

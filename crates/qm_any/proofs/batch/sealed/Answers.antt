@@ -1,4 +1,4 @@
-use Rattle.std.proofs.Common.{◌≤◌, All, sym, rules, ◌≡◌, ◌∙◌, ◌∷◌, ap, ap₂, subst, refl, map, take, option_map}
+use Rattle.std.proofs.Common.{◌≤◌, All, sym, rules, ◌≡◌, ◌∙◌, ◌∷◌, ap, ap₂, subst, refl, take, option_map}
 use Rattle.qm_base.specs.Views.{operation_views}
 use Rattle.qm_merkle.specs.Batches.{stops}
 use Rattle.qm_chain.specs.Bounds.{commitment_view}

@@ -11,5 +11,5 @@ returns-clause-values g c = λ list chain tip stands made known.
     let value = g.U.Value.ByteString.bytes in
     let layers = ap (map (λ l. l.value)) c.deref.ensures.value ∙ ap (λ b. b.layers) c.self.view_is in
     let base = subst (λ ls. LeadOver ls list tip) (sym layers) (made-base c.args.self.now list chain tip made known) in
-    subst (λ ws. IfOk c.read_all.result (λ v. map (option_map value) v.items ≡ map (λ k. read_through tip ws (key k)) c.args.keys.now)) c.new.ensures
+    subst (λ ws. IfOk c.read_all.result (λ v. map (option_map value) v.items ≡ map (λ k. read_through tip ws (key k)) c.args.keys.now)) c.new-writes.ensures
     (c.read_all.ensures.values list tip stands base)

@@ -1,6 +1,5 @@
 use Rattle.std.proofs.Common.{◌≡◌, ◌∙◌, map, ap, sym, subst, IfOk}
 use Rattle.qm_model.specs.Proofs.{pins_at}
-use Rattle.qm_model.specs.Trees.{ops_root}
 use Rattle.qm_chain.specs.Bounds.{commitment_view}
 use Rattle.qm_any.specs.Layouts.{hashing_of, list_root}
 use Rattle.qm_any.specs.Databases.{IsTree, bases_of}

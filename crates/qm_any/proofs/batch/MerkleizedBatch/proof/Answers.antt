@@ -1,6 +1,5 @@
 use Rattle.std.proofs.Common.{arith, ◌≡◌, ◌∙◌, length, ap, sym, subst, IfOk}
 use Rattle.qm_model.specs.Proofs.{ops_proof}
-use Rattle.qm_model.specs.Trees.{ops_root}
 use Rattle.qm_proofs.specs.Proofs.{proof_view}
 use Rattle.qm_chain.specs.Bounds.{commitment_view}
 use Rattle.qm_any.specs.Layouts.{hashing_of, list_root}

@@ -1,4 +1,4 @@
-use Rattle.std.proofs.Common.{◌∙◌, ap, sym, subst, map, option_map}
+use Rattle.std.proofs.Common.{◌∙◌, ap, sym, subst, option_map}
 use Rattle.std.specs.Prelude.{IfOk, IfErr, OnOk, ◌⊎◌}
 use Rattle.qm_model.specs.Policies.{proportional}
 use Rattle.qm_batch.specs.Lent.{IsReadError}
@@ -12,7 +12,7 @@ pub returns-in-Ok-clause-made : goal.returns-in-Ok-clause-made
 returns-in-Ok-clause-made g c = λ list chain above is begun on.
     let form = (unordered_form g.K.ByteString.has g.V.Value.ByteString.has g.V.ValueEncoding.fixed) in
     let hashing = hashing_with g.D.Digest.bytes g.H.Hasher.hash g.F.Family.shape form in
-    let writes = c.as_slice-in-Ok.ensures ∙ ap (λ b. b.writes) c.self.view_is in
+    let writes = c.as_slice.ensures ∙ ap (λ b. b.writes) c.self.view_is in
     let parent = c.deref-in-Ok.ensures ∙ ap (λ b. b.parent) c.self.view_is in
     let keep = ap (λ b. b.keep) c.self.view_is in
     subst (λ ws. IfOk c.made_on.result (λ b. IsMade hashing b.value chain (stepped chain.base ws proportional (option_map g.V.Value.ByteString.bytes c.args.metadata)))) writes
@@ -22,7 +22,7 @@ pub returns-in-Ok-clause-taken : goal.returns-in-Ok-clause-taken
 returns-in-Ok-clause-taken g c = λ list chain above is begun on.
     let form = (unordered_form g.K.ByteString.has g.V.Value.ByteString.has g.V.ValueEncoding.fixed) in
     let hashing = hashing_with g.D.Digest.bytes g.H.Hasher.hash g.F.Family.shape form in
-    let writes = c.as_slice-in-Ok.ensures ∙ ap (λ b. b.writes) c.self.view_is in
+    let writes = c.as_slice.ensures ∙ ap (λ b. b.writes) c.self.view_is in
     let parent = c.deref-in-Ok.ensures ∙ ap (λ b. b.parent) c.self.view_is in
     let keep = ap (λ b. b.keep) c.self.view_is in
     subst (λ ws. OnOk c.made_on.result (IsTaken form chain.base (stepped chain.base ws proportional (option_map g.V.Value.ByteString.bytes c.args.metadata)))) writes
@@ -32,7 +32,7 @@ pub returns-in-Ok-clause-refused : goal.returns-in-Ok-clause-refused
 returns-in-Ok-clause-refused g c = λ list chain above is begun on.
     let form = (unordered_form g.K.ByteString.has g.V.Value.ByteString.has g.V.ValueEncoding.fixed) in
     let hashing = hashing_with g.D.Digest.bytes g.H.Hasher.hash g.F.Family.shape form in
-    let writes = c.as_slice-in-Ok.ensures ∙ ap (λ b. b.writes) c.self.view_is in
+    let writes = c.as_slice.ensures ∙ ap (λ b. b.writes) c.self.view_is in
     let parent = c.deref-in-Ok.ensures ∙ ap (λ b. b.parent) c.self.view_is in
     let keep = ap (λ b. b.keep) c.self.view_is in
     subst (λ ws. IfErr c.made_on.result (λ e. IsRefused form chain.base (stepped chain.base ws proportional (option_map g.V.Value.ByteString.bytes c.args.metadata)) e ⊎ IsReadError g.C.Store c.args.db.now.log c.made_on.new.db.log e)) writes
