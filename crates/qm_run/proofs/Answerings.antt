@@ -1,5 +1,5 @@
 -- The loop over the lines of an input: one line more, and its ends.
-use Rattle.std.proofs.Common.{◌≡◌, ◌≤◌, ℕ, suc, ◌+◌, List, [], ◌∷◌, ◌++◌, length, take, Option, Some, None, IfSome, arith, refl, sym, subst}
+use Rattle.std.proofs.Common.{◌≡◌, ◌≤◌, ◌<◌, ℕ, suc, ◌+◌, List, [], ◌∷◌, ◌++◌, length, take, Option, Some, None, IfSome, arith, refl, sym, subst}
 use Rattle.std.specs.Prelude.{IsSome}
 use Rattle.std.proofs.lemmas.List.{flat_map_more}
 use Rattle.qm_model.specs.Operations.{Bytes}
@@ -27,6 +27,11 @@ module _ (input rest line behind : Bytes) (k : ℕ) (at : IsAt input rest k) (fo
   pub at_next : (o : Option (Line Policy)) → line_of line ≡ o → IsSome o → IsAt input behind (k + 1)
   at_next None e some = absurd (cc some)
   at_next (Some c) e some = at_more input rest line behind k at found c e
+
+  -- it is a command, and the first k are not all
+  pub at_short : (o : Option (Line Policy)) → line_of line ≡ o → IsSome o → k < length (commands_in input)
+  at_short None e some = absurd (cc some)
+  at_short (Some c) e some = at_within input rest line behind k at found c e
 
   module _ (m : Scheme Policy) (items : List Bytes) where
     -- it was answered

@@ -1,5 +1,5 @@
 -- What each status says, from what the lines' answering gave.
-use Rattle.std.proofs.Common.{◌≡◌, ◌⊎◌, ◌+◌, ℕ, List, [], ◌++◌, length, take, Option, Some, None, arith, refl, sym, ◌∙◌, ap, subst, inl, inr, append-nil, IfSome}
+use Rattle.std.proofs.Common.{◌≡◌, ◌⊎◌, ◌+◌, ◌<◌, ℕ, List, [], ◌++◌, length, take, Option, Some, None, arith, refl, sym, ◌∙◌, ap, subst, inl, inr, append-nil, IfSome}
 use Rattle.std.proofs.lemmas.List.{take_all}
 use Rattle.std.proofs.Math.Seq.{take-nil, drop-length}
 use Rattle.qm_model.specs.Causes.{Grows, GrowsPart}
@@ -45,26 +45,26 @@ module _ (items : List Bytes) (input : Bytes) (rose : Type 0) where
     items_left = λ _. left_none items (state items input 1).items (Some items) refl;
   })
 
-  -- what an ending says of the first k commands: those before a bad line or the end are all
+  -- what an ending says of the first k commands: those before a bad line or the end are all, those before a fault are not
   abbrev pub IsWhole : ℕ → Ending → Type 0
   IsWhole k Done = (k ≡ count items input) × (bad_in input ≡ None)
   IsWhole k BadLine = (k ≡ count items input) × (bad_in input ≡ Some (k + 1))
   IsWhole k Memory = Unit {0}
-  IsWhole k StoreFault = rose
+  IsWhole k StoreFault = rose × (k < count items input)
 
   pub is_whole : (k : ℕ) (ending : Ending) → (ending ≡ Done → (k ≡ count items input) × (bad_in input ≡ None)) → (ending ≡ BadLine → (k ≡ count items input) × (bad_in input ≡ Some (k + 1)))
-      → (ending ≡ StoreFault → rose) → IsWhole k ending
-  is_whole k Done done bad fault = done refl
-  is_whole k BadLine done bad fault = bad refl
-  is_whole k Memory done bad fault = tt
-  is_whole k StoreFault done bad fault = fault refl
+      → (ending ≡ StoreFault → rose) → (ending ≡ StoreFault → k < count items input) → IsWhole k ending
+  is_whole k Done done bad fault short = done refl
+  is_whole k BadLine done bad fault short = bad refl
+  is_whole k Memory done bad fault short = tt
+  is_whole k StoreFault done bad fault short = (fault refl, short refl)
 
   module _ (text : Bytes) (k : ℕ) (left : Option (List Bytes)) (answered : IsAnswered scheme items (commands_in input) k text left) where
     pub partial : (ending : Ending) → IsWhole k ending → (n : ℕ) → IsPartial items input rose (take n (text ++ tail_text ending k)) left k
     partial Done is n = record { few = answered.few; part = λ apart. inl (n, rw append-nil (ap (take n) (answered.same apart))); items_left = answered.left }
     partial BadLine is n = record { few = answered.few; part = λ apart. inr (inr (k + 1, is.1, is.0, (n, ap (λ t. take n (t ++ bad_text (k + 1))) (answered.same apart)))); items_left = answered.left }
     partial Memory is n = record { few = answered.few; part = λ apart. inl (n, rw append-nil (ap (take n) (answered.same apart))); items_left = answered.left }
-    partial StoreFault is n = record { few = answered.few; part = λ apart. inr (inl (is, (n, ap (λ t. take n (t ++ fault_text)) (answered.same apart)))); items_left = answered.left }
+    partial StoreFault is n = record { few = answered.few; part = λ apart. inr (inl (is.0, (n, ap (λ t. take n (t ++ fault_text)) (answered.same apart)))); items_left = answered.left }
 
     -- all commands answered: the text, and the items
     finished : k ≡ count items input → IsApart items input (count items input) → (text ≡ model_text items input (count items input)) × (left ≡ Some (state items input (count items input)).items)
@@ -94,7 +94,7 @@ module _ (items : List Bytes) (input : Bytes) (rose : Type 0) where
     whole StoreFault is = record {
       all = λ e. absurd (omega arith);
       bad = λ e. absurd (omega arith);
-      fault = λ _. (k, answered.few, λ apart. (ap (λ t. t ++ fault_text) (answered.same apart), answered.left apart));
+      fault = λ _. (k, is.1, λ apart. (ap (λ t. t ++ fault_text) (answered.same apart), answered.left apart));
       part = λ e. absurd (grind (arith, e));
       nothing = λ e. absurd (grind (arith, e));
     }

@@ -1,5 +1,5 @@
 -- What the program may answer, write and leave.
-use Rattle.std.specs.Prelude.{◌≡◌, ◌≤◌, ◌⊎◌, ℕ, suc, Bool, false, ◌&&◌, List, [], ◌∷◌, ◌++◌, length, take, codes, Option, None, Some, bytes_eq, decimal}
+use Rattle.std.specs.Prelude.{◌≡◌, ◌≤◌, ◌<◌, ◌⊎◌, ℕ, suc, Bool, false, ◌&&◌, List, [], ◌∷◌, ◌++◌, length, take, codes, Option, None, Some, bytes_eq, decimal}
 use Rattle.qm_model.specs.Operations.{Bytes}
 use Rattle.qm_model.specs.Live.{floor}
 use Rattle.qm_model.specs.Policies.{Policy, policies}
@@ -73,8 +73,8 @@ module _ (items : List Bytes) (input : Bytes) where
     pub all : status ≡ 0 → (bad_in input ≡ None) × (IsApart count → (written ≡ model_text count) × (left ≡ Some (state count).items))
     -- a bad line
     pub bad : status ≡ 2 → (n : ℕ) × (bad_in input ≡ Some n) × (IsApart count → (written ≡ model_text count ++ bad_text n) × (left ≡ Some (state count).items))
-    -- the store failed
-    pub fault : status ≡ 6 → (k : ℕ) × (k ≤ count) × (IsApart k → (written ≡ model_text k ++ fault_text) × IsLeftAt left k)
+    -- the store failed, and a command has no reply
+    pub fault : status ≡ 6 → (k : ℕ) × (k < count) × (IsApart k → (written ≡ model_text k ++ fault_text) × IsLeftAt left k)
     -- the sink failed, or memory did
     pub part : (status ≡ 4) ⊎ (status ≡ 5) → (k : ℕ) × IsPartial rose written left k
     -- nothing was done

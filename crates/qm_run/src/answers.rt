@@ -107,6 +107,7 @@ fn answer_line<X: Engine<C, Key = ByteKey, Value = ByteValue>, C: Store>(
     ensures kept { OnSome result.1 (text.new.items ≡ text.old.items) }
     ensures command { IfNone result.1 (IsSome (line_of line.now)) }
     ensures bad { result.1 ≡ Some Ending.BadLine → line_of line.now ≡ None }
+    ensures fault_command { result.1 ≡ Some Ending.StoreFault → IsSome (line_of line.now) }
     ensures not_done { IfSome result.1 (λ e. e ≢ Ending.Done) }
     ensures later { C.faults (store_given X.inside session.held) ≤ C.faults (store_given X.inside result.0.held) }
     ensures fault { result.1 ≡ Some Ending.StoreFault → Rose (C.faults (store_given X.inside session.held)) (C.faults (store_given X.inside result.0.held)) }
@@ -133,6 +134,7 @@ pub fn answer_lines<X: Engine<C, Key = ByteKey, Value = ByteValue>, C: Store, G:
         IsAnswered (scheme_of X.Engine) items (commands_in input.now) result.answered result.text.items (C.items result.store)) }
     ensures done { result.ending ≡ Ending.Done → (result.answered ≡ length (commands_in input.now)) × (bad_in input.now ≡ None) }
     ensures bad { result.ending ≡ Ending.BadLine → (result.answered ≡ length (commands_in input.now)) × (bad_in input.now ≡ Some (result.answered + 1)) }
+    ensures short { result.ending ≡ Ending.StoreFault → result.answered < length (commands_in input.now) }
     ensures bound { result.answered ≤ length input.now }
     ensures later { C.faults store ≤ C.faults result.store }
     ensures fault { result.ending ≡ Ending.StoreFault → Rose (C.faults store) (C.faults result.store) }

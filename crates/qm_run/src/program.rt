@@ -1,6 +1,7 @@
 //! The program's top call.
 
 ghost use Rattle.std.specs.Prelude.{◌≡◌, ◌↔◌, ◌≤◌, ◌<◌, ◌+◌, ◌++◌, ◌^◌, ◌⊎◌, ℕ, List, [], false, true, Option, Some, None, IfOk, IfSome, IsSome, IsErrOf, ◌&&◌, codes, length, map, bytes_eq};
+ghost use Rattle.std.specs.Io.KnownBytes.{IsAtEnd};
 ghost use Rattle.std.specs.String.{string_bytes};
 ghost use Rattle.qm_model.specs.Causes.{Rose};
 ghost use Rattle.qm_model.specs.Operations.{Bytes};
@@ -145,6 +146,9 @@ pub fn qmdb_main<C: Store, S: Source, K: Sink, G: Gate>(
     ensures read { result.0 ≡ 3 → Rose (S.faults source.old) (S.faults source.new) }
     ensures write { result.0 ≡ 4 → Rose (K.faults sink.old) (K.faults sink.new) }
     ensures store { result.0 ≡ 6 → Rose (C.faults store) (C.faults result.1) }
+    ensures ended { (result.0 ≡ 0) ⊎ ((result.0 ≡ 2) ⊎ ((result.0 ≡ 4) ⊎ (result.0 ≡ 6))) → IsAtEnd (S.left source.new) }
+    ensures good { IfSome (S.left source.old) (λ input. result.0 ≡ 0 → bad_in input ≡ None) }
+    ensures bad_line { IfSome (S.left source.old) (λ input. result.0 ≡ 2 → IsSome (bad_in input)) }
     ensures long { result.0 ≡ 7 → IfSome (S.left source.old) (λ input. LIMIT < length input) }
     ensures long_only { IfSome (S.left source.old) (λ input. LIMIT < length input → (result.0 ≡ 1) ⊎ ((result.0 ≡ 3) ⊎ ((result.0 ≡ 5) ⊎ (result.0 ≡ 7)))) }
     ensures codes { result.0 ≤ 7 }

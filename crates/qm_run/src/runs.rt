@@ -113,6 +113,7 @@ pub fn run<X: Engine<C>, C: Store, G: Gate>(
     ensures machine { C.start store ≡ 0 → IfSome (C.items store) (λ items. IsRun (scheme_of X.Engine) items
         (map (line_view X.Key.bytes X.Value.bytes policy_view) commands.now) (map (answer_view X.Key.bytes X.Value.bytes X.Digest.bytes) result.replies.items) (C.items result.store)) }
     ensures done { result.end ≡ End.Done → length result.replies.items ≡ length commands.now }
+    ensures short { result.end ≡ End.StoreFault → length result.replies.items < length commands.now }
     ensures later { C.faults store ≤ C.faults result.store }
     ensures fault { result.end ≡ End.StoreFault → Rose (C.faults store) (C.faults result.store) }
 {

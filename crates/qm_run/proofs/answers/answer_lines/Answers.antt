@@ -5,7 +5,7 @@ use Rattle.qm_model.specs.Grammar.{line_of}
 use Rattle.qm_lines.proofs.Inputs.{at_end, at_bad}
 use Rattle.qm_run.specs.Session.{Meaning, meaning, scheme_of, Holds}
 use Rattle.qm_run.proofs.Loops.{each}
-use Rattle.qm_run.proofs.Answerings.{at_next, line_step, answered_in, answered_at}
+use Rattle.qm_run.proofs.Answerings.{at_next, at_short, line_step, answered_in, answered_at}
 use Rattle.qm_run.proofs.answers.answer_lines.Goals as goal
 
 pub returns-in-Some-ended-clause-machine : goal.returns-in-Some-ended-clause-machine
@@ -24,6 +24,11 @@ pub returns-in-Some-ended-clause-bad : goal.returns-in-Some-ended-clause-bad
 returns-in-Some-ended-clause-bad g c = λ e.
     at_bad c.args.input.now c.loop-line.rest.now c.in-Some.line.now c.in-Some.behind.now c.loop-line.answered c.loop-line.invariant.at c.in-Some.ensures.some
     (c.answer_line-next.ensures.bad (c.in-Some-ended.is ∙ ap Some e))
+
+pub returns-in-Some-ended-clause-short : goal.returns-in-Some-ended-clause-short
+returns-in-Some-ended-clause-short g c = λ e.
+    at_short c.args.input.now c.loop-line.rest.now c.in-Some.line.now c.in-Some.behind.now c.loop-line.answered c.loop-line.invariant.at c.in-Some.ensures.some
+    (line_of c.in-Some.line.now) refl (c.answer_line-next.ensures.fault_command (c.in-Some-ended.is ∙ ap Some e))
 
 pub loop-line-preserved : goal.loop-line-preserved
 loop-line-preserved g c =

@@ -14,7 +14,7 @@ returns-in-Err-clause-headline g c = λ start.
     let text = c.answer_lines-text.result.text.items in
     let k : ℕ = c.answer_lines-text.result.answered in
     each_more (g.C.Store.items c.args.store) (c.answer_lines-text.ensures.machine start) (λ items answered.
-    let is : IsWhole items input rose k ending = is_whole items input rose k ending c.answer_lines-text.ensures.done c.answer_lines-text.ensures.bad c.answer_lines-text.ensures.fault in
+    let is : IsWhole items input rose k ending = is_whole items input rose k ending c.answer_lines-text.ensures.done c.answer_lines-text.ensures.bad c.answer_lines-text.ensures.fault c.answer_lines-text.ensures.short in
     unchanged items input 5 rose left (g.K.Sink.text c.args.sink.now)
     (says_part items input rose 5 [] left k (inr refl) (partial items input rose text k left answered ending is 0)))
 
@@ -28,7 +28,7 @@ returns-in-Ok-write_all-clause-headline g c = λ start.
     let k : ℕ = c.answer_lines-text.result.answered in
     let told : c.deref.result.now ≡ text ++ tail_text ending k = c.deref.ensures.value ∙ c.in-Ok.ensures in
     each_more (g.C.Store.items c.args.store) (c.answer_lines-text.ensures.machine start) (λ items answered.
-    let is : IsWhole items input rose k ending = is_whole items input rose k ending c.answer_lines-text.ensures.done c.answer_lines-text.ensures.bad c.answer_lines-text.ensures.fault in
+    let is : IsWhole items input rose k ending = is_whole items input rose k ending c.answer_lines-text.ensures.done c.answer_lines-text.ensures.bad c.answer_lines-text.ensures.fault c.answer_lines-text.ensures.short in
     subst (λ s. Told items input s rose left (g.K.Sink.text c.args.sink.now) (g.K.Sink.text c.write_all.new.sink)) (sym c.status_of.ensures)
     (grown items input (tail_status ending) rose left (g.K.Sink.text c.args.sink.now) (g.K.Sink.text c.write_all.new.sink) (text ++ tail_text ending k)
     (subst (Grows (g.K.Sink.text c.args.sink.now) (g.K.Sink.text c.write_all.new.sink)) told c.in-Ok-write_all.ensures.ok)
@@ -44,7 +44,7 @@ returns-in-Err-Failed-clause-headline g c = λ start.
     let k : ℕ = c.answer_lines-text.result.answered in
     let told : c.deref.result.now ≡ text ++ tail_text ending k = c.deref.ensures.value ∙ c.in-Ok.ensures in
     each_more (g.C.Store.items c.args.store) (c.answer_lines-text.ensures.machine start) (λ items answered.
-    let is : IsWhole items input rose k ending = is_whole items input rose k ending c.answer_lines-text.ensures.done c.answer_lines-text.ensures.bad c.answer_lines-text.ensures.fault in
+    let is : IsWhole items input rose k ending = is_whole items input rose k ending c.answer_lines-text.ensures.done c.answer_lines-text.ensures.bad c.answer_lines-text.ensures.fault c.answer_lines-text.ensures.short in
     grown_part items input 4 rose left (g.K.Sink.text c.args.sink.now) (g.K.Sink.text c.write_all.new.sink) (text ++ tail_text ending k)
     (subst (GrowsPart (g.K.Sink.text c.args.sink.now) (g.K.Sink.text c.write_all.new.sink)) told c.in-Err-Failed.ensures.err)
     (λ n. says_part items input rose 4 (take n (text ++ tail_text ending k)) left k (inl refl) (partial items input rose text k left answered ending is n)))
@@ -59,7 +59,7 @@ returns-clause-headline g c = λ start.
     let k : ℕ = c.answer_lines-text.result.answered in
     let told : c.deref.result.now ≡ text ++ tail_text ending k = c.deref.ensures.value ∙ c.in-Ok.ensures in
     each_more (g.C.Store.items c.args.store) (c.answer_lines-text.ensures.machine start) (λ items answered.
-    let is : IsWhole items input rose k ending = is_whole items input rose k ending c.answer_lines-text.ensures.done c.answer_lines-text.ensures.bad c.answer_lines-text.ensures.fault in
+    let is : IsWhole items input rose k ending = is_whole items input rose k ending c.answer_lines-text.ensures.done c.answer_lines-text.ensures.bad c.answer_lines-text.ensures.fault c.answer_lines-text.ensures.short in
     grown_part items input 5 rose left (g.K.Sink.text c.args.sink.now) (g.K.Sink.text c.write_all.new.sink) (text ++ tail_text ending k)
     (subst (GrowsPart (g.K.Sink.text c.args.sink.now) (g.K.Sink.text c.write_all.new.sink)) told c.in-Err-Memory.ensures.err)
     (λ n. says_part items input rose 5 (take n (text ++ tail_text ending k)) left k (inr refl) (partial items input rose text k left answered ending is n)))
