@@ -64,7 +64,7 @@ module _ (items : List Bytes) (input : Bytes) (rose : Type 0) where
     partial Done is n = record { few = answered.few; part = λ apart. inl (n, rw append-nil (ap (take n) (answered.same apart))); items_left = answered.left }
     partial BadLine is n = record { few = answered.few; part = λ apart. inr (inr (k + 1, is.1, is.0, (n, ap (λ t. take n (t ++ bad_text (k + 1))) (answered.same apart)))); items_left = answered.left }
     partial Memory is n = record { few = answered.few; part = λ apart. inl (n, rw append-nil (ap (take n) (answered.same apart))); items_left = answered.left }
-    partial StoreFault is n = record { few = answered.few; part = λ apart. inr (inl (is.0, (n, ap (λ t. take n (t ++ fault_text)) (answered.same apart)))); items_left = answered.left }
+    partial StoreFault is n = record { few = answered.few; part = λ apart. inr (inl (is.0, is.1, (n, ap (λ t. take n (t ++ fault_text)) (answered.same apart)))); items_left = answered.left }
 
     -- all commands answered: the text, and the items
     finished : k ≡ count items input → IsApart items input (count items input) → (text ≡ model_text items input (count items input)) × (left ≡ Some (state items input (count items input)).items)

@@ -58,12 +58,12 @@ module _ (items : List Bytes) (input : Bytes) where
   abbrev pub IsLeftAt : Option (List Bytes) → ℕ → Type 0
   IsLeftAt left k = IsLeft left (state k).items (state (suc k)).items
 
-  -- k commands answered: a first part of their replies; of these and the fault, where the store's count rose; of
+  -- k commands answered: a first part of their replies; of these and the fault, where the store's count rose and not all are answered; of
   -- these and the bad line, where there is one behind them
   pub record IsPartial (rose : Type 0) (written : Bytes) (left : Option (List Bytes)) (k : ℕ) : Type 0 where
     pub few : k ≤ count
     pub part : IsApart k → IsPartOf written (model_text k)
-        ⊎ (rose × IsPartOf written (model_text k ++ fault_text)
+        ⊎ (rose × (k < count) × IsPartOf written (model_text k ++ fault_text)
         ⊎ ((n : ℕ) × (bad_in input ≡ Some n) × (k ≡ count) × IsPartOf written (model_text k ++ bad_text n)))
     pub items_left : IsApart k → IsLeftAt left k
 
