@@ -7,8 +7,8 @@ use Rattle.std.proofs.lemmas.List.Elements.{All-cons, All-nil, All-take, All-dro
 use Rattle.std.proofs.lemmas.List.Sorted.{IsPermutation-refl}
 use Rattle.qm_model.specs.Batches.{Commitment}
 use Rattle.qm_model.specs.Causes.{Grows}
-use Rattle.qm_model.specs.Lines as lines
-use Rattle.qm_model.specs.Lines.{HistoricalFloorPruned, DataCorrupted, Merkle, FloorExceedsCommit, RangeOutOfBounds}
+use Rattle.qm_model.specs.Refused as refusals
+use Rattle.qm_model.specs.Refused.{HistoricalFloorPruned, DataCorrupted, Merkle, FloorExceedsCommit, RangeOutOfBounds}
 use Rattle.qm_model.specs.Live.{floor, floor_after}
 use Rattle.qm_model.specs.Forms.{Form, IsOf, IsSpelling, spelling}
 use Rattle.qm_model.specs.Operations.{Bytes, Operation, update, delete, commit, fresh}
@@ -29,7 +29,7 @@ use Rattle.qm_store.proofs.Leaves.{leaves-spelled}
 use Rattle.qm_batch.proofs.Spellings.{spelled-there}
 use Rattle.qm_any.specs.Layouts.{Layout, list_root}
 use Rattle.qm_any.specs.Databases.{Database, IsDatabase}
-use Rattle.qm_any.specs.Refusals.{IsDue}
+use Rattle.qm_store.specs.Refusals.{IsDue}
 
 -- a node of two leaves or more ends past the first leaf
 wide : (i h : ℕ) → 2 ≤ suc i * 2 ^ suc h
@@ -217,7 +217,7 @@ pub part-of : (form : Form) (list : List Operation) (a n : ℕ) → All (IsOf fo
 part-of form list a n all = All-take (IsOf form) n (drop a list) (All-drop (IsOf form) a list all)
 
 -- want of memory is due to nothing
-pub memory-due : {X : Type 0} (r : Result X Error) (y e : Error) (due : Option lines.Refused) → r ≡ Err y → y ≡ e → e ≡ errors.Memory → IfErr r (λ e. IsDue e due)
+pub memory-due : {X : Type 0} (r : Result X Error) (y e : Error) (due : Option refusals.Refused) → r ≡ Err y → y ≡ e → e ≡ errors.Memory → IfErr r (λ e. IsDue e due)
 memory-due r y e due is from memory = subst (λ x. IfErr x (λ e. IsDue e due)) (sym (is ∙ ap Err (from ∙ memory))) tt
 
 -- a call that answered was not refused

@@ -1,6 +1,4 @@
-pub mod Given
 pub mod Layouts
 pub mod Databases
 pub mod Tips
-pub mod Refusals
 pub mod Views

@@ -22,13 +22,12 @@ ghost use Rattle.qm_batch.specs.Changes.{LeadTo};
 ghost use Rattle.qm_batch.specs.Lent.{IsIndexed, IsReadError, NoneBelow};
 ghost use Rattle.qm_batch.specs.Views.{changes_view, IsPlan};
 ghost use Rattle.qm_any.specs.Databases.{Database, IsBegun, IsDatabase, IsLeft, IsMade, IsTree, at_rest, stepped};
-ghost use Rattle.qm_any.specs.Given.{Appended, AppendedPart, store_given};
+ghost use Rattle.qm_store.specs.Given.{Appended, AppendedPart, store_given};
 ghost use Rattle.qm_store.specs.KeptTrees.{IsKeptTree, held_at};
 ghost use Rattle.qm_any.specs.Views.{write_views};
 
 use crate::batch::{Lacking, MerkleizedBatch, UnmerkleizedBatch};
 use crate::operations::{Step, copy_of, share, twin_option};
-use crate::refusal::{Given, Refusal};
 use qm_base::update::{Unordered, Update};
 use qm_base::{
     ByteString, Commitment, Digest, Error, Hasher, JournalError, Location, MerkleError,
@@ -38,7 +37,7 @@ use qm_batch::{Base, Plan, Write, Writes, apply_diffs, plain, read_key};
 use qm_chain::Diff;
 use qm_merkle::Family;
 use qm_proofs::Proof;
-use qm_store::{AuthLog, KeptTree, LogGiven, LogRefusal, Store};
+use qm_store::{AuthLog, Given, KeptTree, LogGiven, LogRefusal, Refusal, Store};
 use std::alloc::{AllocError, Global};
 use std::marker::Model;
 use std::rc::Rc;

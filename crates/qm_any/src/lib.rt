@@ -7,8 +7,6 @@ mod open;
 mod operations;
 pub mod policy;
 pub mod proof;
-pub mod refusal;
 
 pub use open::{hasher, init, initial_root};
 pub use policy::Proportional;
-pub use refusal::{Given, Refusal};

@@ -8,11 +8,10 @@ ghost use Rattle.qm_model.specs.Trees as trees;
 ghost use Rattle.qm_store.specs.Log as logs;
 ghost use Rattle.qm_store.specs.Log.{IsLog};
 ghost use Rattle.qm_any.specs.Databases.{Database, IsDatabase};
-ghost use Rattle.qm_any.specs.Given.{Appended, AppendedPart, store_given};
+ghost use Rattle.qm_store.specs.Given.{Appended, AppendedPart, store_given};
 
 use crate::db::{Db, LaidOut};
 use crate::operations::spelled;
-use crate::refusal::{Given, Refusal};
 use qm_base::operation::eight_bytes;
 use qm_base::update::Update;
 use qm_base::{
@@ -20,7 +19,7 @@ use qm_base::{
 };
 use qm_index::Factory;
 use qm_merkle::{Family, StandardHasher};
-use qm_store::{AuthLog, LogGiven, Store};
+use qm_store::{AuthLog, Given, LogGiven, Refusal, Store};
 use std::alloc::{AllocError, Global};
 
 /// The hasher of operations roots and proofs over a hasher of messages.

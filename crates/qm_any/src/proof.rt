@@ -5,7 +5,7 @@ ghost use Rattle.std.specs.NonZero.{non_zero_u64_get};
 ghost use Rattle.qm_model.specs.Forms.{IsOf, IsSpelling, spelling};
 ghost use Rattle.qm_base.specs.Views.{operation_views};
 ghost use Rattle.qm_model.specs.Causes.{Rose};
-ghost use Rattle.qm_model.specs.Lines as lines;
+ghost use Rattle.qm_model.specs.Refused as refusals;
 ghost use Rattle.qm_model.specs.Live as lives;
 ghost use Rattle.qm_model.specs.Operations as operations;
 ghost use Rattle.qm_model.specs.Proofs.{ops_proof, pins_at};
@@ -14,7 +14,7 @@ ghost use Rattle.qm_proofs.specs.Proofs.{proof_view};
 ghost use Rattle.qm_batch.specs.Lent.{IsRead};
 ghost use Rattle.qm_store.specs.Log.{IsLog};
 ghost use Rattle.qm_any.specs.Databases.{IsDatabase, IsLeft};
-ghost use Rattle.qm_any.specs.Refusals.{IsDue};
+ghost use Rattle.qm_store.specs.Refusals.{IsDue};
 
 use crate::db::{Db, LaidOut};
 use qm_base::update::Update;
@@ -50,7 +50,7 @@ impl<
             → IfOk result (λ shown. operation_views U.view U.Key.bytes U.Value.bytes shown.1.items ≡ take (proof_count size start (non_zero_u64_get max)) (drop start list)) }
         ensures refused { C.start self.old.log.store ≤ start → C.start self.old.log.store ≤ size - 1 → (list : List operations.Operation) → IsDatabase C.Store ⟦<Self as LaidOut>⟧.layout self.old list → IfErr result (λ e. IsDue e (proof_refusal list size start)) }
         ensures pruned { start < C.start self.old.log.store → C.start self.old.log.store ≤ size - 1 → (list : List operations.Operation) → IsDatabase C.Store ⟦<Self as LaidOut>⟧.layout self.old list → proof_refusal list size start ≡ None
-            → IfErr result (λ e. IsDue e (Some (lines.Journal (lines.ItemPruned start)))) }
+            → IfErr result (λ e. IsDue e (Some (refusals.Journal (refusals.ItemPruned start)))) }
         ensures never { IfErr result (λ e. e ≢ Error.StaleBatch) }
         ensures cause { IfErr result (λ e. e ≡ Error.Journal JournalError.Store → Rose (C.faults self.old.log.store) (C.faults self.new.log.store)) }
         ensures left { IsLeft C.Store ⟦<Self as LaidOut>⟧.layout.hashing self.old self.new }
@@ -115,7 +115,7 @@ fn proved_over<F: Family, C: Store, H: Hasher + Drop, U: Update>(
     ensures refused { C.start log.old.store ≤ start → C.start log.old.store ≤ size - 1 → (list : List operations.Operation) → IsLog C.Store F.shape H.Digest.bytes H.hash log.old (map (spelling U.form) list) → All (IsOf U.form) list
         → IfSome (C.items log.old.store) (λ _. IfErr result (λ e. IsDue e (proof_refusal list size start))) }
     ensures pruned { start < C.start log.old.store → C.start log.old.store ≤ size - 1 → (list : List operations.Operation) → IsLog C.Store F.shape H.Digest.bytes H.hash log.old (map (spelling U.form) list) → All (IsOf U.form) list → proof_refusal list size start ≡ None
-        → IfSome (C.items log.old.store) (λ _. IfErr result (λ e. IsDue e (Some (lines.Journal (lines.ItemPruned start))))) }
+        → IfSome (C.items log.old.store) (λ _. IfErr result (λ e. IsDue e (Some (refusals.Journal (refusals.ItemPruned start))))) }
     ensures never { IfErr result (λ e. e ≢ Error.StaleBatch) }
     ensures cause { IfErr result (λ e. e ≡ Error.Journal JournalError.Store → Rose (C.faults log.old.store) (C.faults log.new.store)) }
     ensures read { IsRead C.Store F.shape H.Digest.bytes H.hash log.old log.new }

@@ -8,8 +8,8 @@ use Rattle.std.proofs.lemmas.List.Splits.{slice_split_none, slice_split_at}
 use Rattle.std.proofs.Math.Seq.{get_or-append_seam, take-append-add, take-append_seam}
 use Rattle.qm_model.specs.Operations.{Bytes}
 use Rattle.qm_model.specs.Policies.{Policy}
-use Rattle.qm_model.specs.Lines.{Line}
-use Rattle.qm_model.specs.Grammar.{lines_of, without_feed, line_of, commands_of, bad_from, onto, bad_here}
+use Rattle.qm_machine.specs.Lines.{Line}
+use Rattle.qm_machine.specs.Grammar.{lines_of, without_feed, line_of, commands_of, bad_from, onto, bad_here}
 
 some_lines : (input : Bytes) → 0 < length input → lines_of input ≡ slice_split (λ b. b == 10) (without_feed input)
 some_lines [] h = absurd (omega arith)

@@ -3,7 +3,7 @@ use Rattle.std.proofs.Common.{◌≡◌, ◌+◌, ◌<◌, ◌≤◌, ℕ, List,
 use Rattle.std.specs.Borrow.{Bor}
 use Rattle.std.proofs.lemmas.List.{drop_more, get_or-map, length-map}
 use Rattle.qm_model.specs.Operations.{Bytes}
-use Rattle.qm_model.specs.Grammar.{of_few}
+use Rattle.qm_machine.specs.Grammar.{of_few}
 
 -- only one to four words can be a line that reads no keys
 pub no_line : (word : Bytes) (refs : List (Bor Bytes)) → 4 ≤ length refs → None ≡ of_few word (map (λ (x : Bor Bytes). x.now) refs)

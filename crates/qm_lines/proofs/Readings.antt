@@ -4,7 +4,7 @@ use Rattle.std.specs.Prelude.{option_and_then}
 use Rattle.std.specs.Borrow.{Bor}
 use Rattle.std.proofs.lemmas.List.{map-append}
 use Rattle.qm_model.specs.Operations.{Bytes}
-use Rattle.qm_model.specs.Grammar.{Reading, key_of, with_key, last_reading, reading_of}
+use Rattle.qm_machine.specs.Grammar.{Reading, key_of, with_key, last_reading, reading_of}
 use Rattle.qm_lines.specs.Parsed.{keys_of, with_keys}
 use Rattle.qm_lines.proofs.Lines.{opened}
 

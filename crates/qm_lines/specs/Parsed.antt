@@ -2,8 +2,8 @@
 use Rattle.std.specs.Prelude.{List, [], ◌∷◌, ◌++◌, Option, Some, option_map, option_and_then}
 use Rattle.qm_model.specs.Operations.{Bytes}
 use Rattle.qm_model.specs.Policies.{Policy}
-use Rattle.qm_model.specs.Lines.{Line}
-use Rattle.qm_model.specs.Grammar.{key_of, Reading}
+use Rattle.qm_machine.specs.Lines.{Line}
+use Rattle.qm_machine.specs.Grammar.{key_of, Reading}
 use Rattle.qm_lines.specs.declared.policy.AnyPolicy.{AnyPolicy}
 use Rattle.qm_lines.specs.declared.command.Command.{Command}
 use Rattle.qm_lines.specs.Views.{policy_view, line_view}

@@ -3,7 +3,8 @@ use Rattle.std.specs.Prelude.{map, option_map}
 use Rattle.std.specs.Int.NonZero.{non_zero_u64_get}
 use Rattle.qm_model.specs.Operations.{Bytes, Operation, update, delete, commit}
 use Rattle.qm_model.specs.Policies.{Policy, proportional}
-use Rattle.qm_model.specs.Lines as lines
+use Rattle.qm_machine.specs.Lines as lines
+use Rattle.qm_model.specs.Refused as refusals
 use Rattle.qm_base.specs.Views.{corrupt_view}
 use Rattle.qm_lines.specs.declared.policy.AnyPolicy.{AnyPolicy}
 use Rattle.qm_lines.specs.declared.policy.AnyPolicy.TheVariants.{Proportional}
@@ -23,26 +24,26 @@ use Rattle.qm_lines.specs.declared.reply.Reply.TheVariants as replies
 abbrev pub policy_view : AnyPolicy → Policy
 policy_view Proportional = proportional
 
-abbrev pub tree_view : TreeRefused → lines.TreeRefused
-tree_view (tree.RangeOutOfBounds n) = lines.RangeOutOfBounds n
-tree_view (tree.ElementPruned n) = lines.ElementPruned n
-tree_view (tree.MissingNode n) = lines.MissingNode n
-tree_view (tree.LocationOverflow n) = lines.LocationOverflow n
+abbrev pub tree_view : TreeRefused → refusals.TreeRefused
+tree_view (tree.RangeOutOfBounds n) = refusals.RangeOutOfBounds n
+tree_view (tree.ElementPruned n) = refusals.ElementPruned n
+tree_view (tree.MissingNode n) = refusals.MissingNode n
+tree_view (tree.LocationOverflow n) = refusals.LocationOverflow n
 
-abbrev pub log_view : LogRefused → lines.LogRefused
-log_view (log.ItemPruned n) = lines.ItemPruned n
-log_view (log.ItemTooLarge n) = lines.ItemTooLarge n
+abbrev pub log_view : LogRefused → refusals.LogRefused
+log_view (log.ItemPruned n) = refusals.ItemPruned n
+log_view (log.ItemTooLarge n) = refusals.ItemTooLarge n
 
-abbrev pub refused_view : Refused → lines.Refused
-refused_view refused.NotOffered = lines.NotOffered
-refused_view refused.NoDatabase = lines.NoDatabase
-refused_view (refused.NoSuchHandle h) = lines.NoSuchHandle h
-refused_view refused.StaleBatch = lines.StaleBatch
-refused_view refused.StaleRead = lines.StaleRead
-refused_view (refused.HistoricalFloorPruned n) = lines.HistoricalFloorPruned n
-refused_view (refused.DataCorrupted c) = lines.DataCorrupted (corrupt_view c)
-refused_view (refused.Merkle e) = lines.Merkle (tree_view e)
-refused_view (refused.Journal e) = lines.Journal (log_view e)
+abbrev pub refused_view : Refused → refusals.Refused
+refused_view refused.NotOffered = refusals.NotOffered
+refused_view refused.NoDatabase = refusals.NoDatabase
+refused_view (refused.NoSuchHandle h) = refusals.NoSuchHandle h
+refused_view refused.StaleBatch = refusals.StaleBatch
+refused_view refused.StaleRead = refusals.StaleRead
+refused_view (refused.HistoricalFloorPruned n) = refusals.HistoricalFloorPruned n
+refused_view (refused.DataCorrupted c) = refusals.DataCorrupted (corrupt_view c)
+refused_view (refused.Merkle e) = refusals.Merkle (tree_view e)
+refused_view (refused.Journal e) = refusals.Journal (log_view e)
 
 module _ {K V : Type 0} (key : K → Bytes) (value : V → Bytes) where
   abbrev pub line_view : {P Q : Type 0} → (P → Q) → Command K V P → lines.Line Q

@@ -4,7 +4,7 @@ ghost use Rattle.std.specs.Prelude.{◌≡◌, ◌≢◌, ◌==◌, ◌+◌, ◌
 ghost use Rattle.std.specs.Int.NonZero.{non_zero_u64_get};
 ghost use Rattle.std.specs.List.{slice_split};
 ghost use Rattle.hex.specs.Hex.{decode_of};
-ghost use Rattle.qm_model.specs.Grammar as grammar;
+ghost use Rattle.qm_machine.specs.Grammar as grammar;
 ghost use Rattle.qm_lines.specs.Parsed.{byte_line, keys_of, with_keys};
 ghost use Rattle.qm_lines.specs.Views.{policy_view};
 

@@ -2,7 +2,7 @@
 
 ghost use Rattle.std.specs.Prelude.{◌≡◌, map, IfOk, option_map};
 ghost use Rattle.std.specs.String.{string_bytes};
-ghost use Rattle.qm_model.specs.Text as texts;
+ghost use Rattle.qm_machine.specs.Text as texts;
 ghost use Rattle.qm_lines.specs.Views.{tree_view, log_view, refused_view, listed_view, answer_view};
 
 use crate::reply::{Listed, LogRefused, Refused, Reply, TreeRefused};

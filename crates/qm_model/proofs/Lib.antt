@@ -19,7 +19,6 @@ pub mod KeySorts
 pub mod LiveCounts
 pub mod Prefixes
 pub mod Chains
-pub mod Runs
 pub mod MmrPositions
 pub mod MmrFamily
 pub mod MmrPeaks

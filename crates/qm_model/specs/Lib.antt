@@ -20,14 +20,10 @@ pub mod Grafted
 pub mod RangeProofs
 pub mod Checks
 pub mod Batches
-pub mod Lines
+pub mod Refused
 pub mod Refusals
-pub mod Machine
-pub mod Grammar
-pub mod Text
 pub mod Rows
 pub mod TreeRows
-pub mod LineRows
 pub mod CurrentRows
 pub mod ShaRow
 pub mod RandomSteps

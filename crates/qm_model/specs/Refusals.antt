@@ -4,7 +4,7 @@ use Rattle.std.specs.Option.{option_or}
 use Rattle.qm_model.specs.Operations.{Bytes, Operation, update, delete, commit}
 use Rattle.qm_model.specs.Forms.{Form, spelling}
 use Rattle.qm_model.specs.Batches.{Chain, own_operations}
-use Rattle.qm_model.specs.Lines.{Refused, HistoricalFloorPruned, DataCorrupted, Merkle, Journal, FloorExceedsCommit, RangeOutOfBounds, LocationOverflow, ItemTooLarge}
+use Rattle.qm_model.specs.Refused.{Refused, HistoricalFloorPruned, DataCorrupted, Merkle, Journal, FloorExceedsCommit, RangeOutOfBounds, LocationOverflow, ItemPruned, ItemTooLarge}
 
 -- the most bytes of a spelling
 abbrev pub max_spelling : ℕ
@@ -34,17 +34,28 @@ abbrev pub floor_before : List Operation → ℕ → Option ℕ
 floor_before list zero = None
 floor_before list (suc i) = option_and_then commit_floor (slice_get list i)
 
--- why there is no proof from `start` on of the first `size` operations, at whose end stands a commit of this floor
-abbrev pub end_refusal : ℕ → ℕ → Option ℕ → Option Refused
-end_refusal size start None = Some (HistoricalFloorPruned size)
-end_refusal size start (Some f) =
-    if nat_lt (size - 1) f then Some (DataCorrupted FloorExceedsCommit)
-    else (if nat_lt start size then None else Some (Merkle (RangeOutOfBounds start)))
+-- an item below the start of a log, which has those from there on
+abbrev pub item_refusal : ℕ → ℕ → Option Refused
+item_refusal kept i = if nat_lt i kept then Some (Journal (ItemPruned i)) else None
 
--- why there is no proof of operations from `start` on in the list's first `size` operations
-abbrev pub proof_refusal : List Operation → ℕ → ℕ → Option Refused
-proof_refusal list size start =
-    if nat_lt (length list) size then Some (Merkle (RangeOutOfBounds size)) else end_refusal size start (floor_before list size)
+-- the last of the first n items
+abbrev pub last_refusal : ℕ → ℕ → Option Refused
+last_refusal kept zero = None
+last_refusal kept (suc i) = item_refusal kept i
+
+-- why there is no proof from `start` on of the first `size` operations, at whose end stands a commit of this floor
+abbrev pub end_refusal : ℕ → ℕ → ℕ → Option ℕ → Option Refused
+end_refusal kept size start None = Some (HistoricalFloorPruned size)
+end_refusal kept size start (Some f) =
+    if nat_lt (size - 1) f then Some (DataCorrupted FloorExceedsCommit)
+    else (if nat_lt start size then item_refusal kept start else Some (Merkle (RangeOutOfBounds start)))
+
+-- why there is no proof of operations from `start` on in the list's first `size` operations, over a log that has the items
+-- from `kept` on
+abbrev pub proof_refusal : ℕ → List Operation → ℕ → ℕ → Option Refused
+proof_refusal kept list size start =
+    if nat_lt (length list) size then Some (Merkle (RangeOutOfBounds size))
+    else option_or (last_refusal kept size) (end_refusal kept size start (floor_before list size))
 
 -- how many operations a proof has from `start` on, of `max` at most
 abbrev pub proof_count : ℕ → ℕ → ℕ → ℕ

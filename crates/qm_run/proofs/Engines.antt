@@ -14,7 +14,7 @@ use Rattle.qm_model.specs.Causes.{Rose}
 use Rattle.qm_store.specs.declared.Store as store
 use Rattle.qm_store.specs.Log.{Log}
 use Rattle.qm_batch.specs.Lent.{IsReadError}
-use Rattle.qm_model.specs.Lines.{Refused, Journal, ItemTooLarge, Merkle, LocationOverflow}
+use Rattle.qm_model.specs.Refused.{Refused, Journal, ItemTooLarge, Merkle, LocationOverflow}
 use Rattle.qm_model.specs.Mmr.{mmr}
 use Rattle.qm_model.specs.Refusals.{tip_refusal, too_long, too_many}
 use Rattle.qm_model.specs.Roots.{sha256_root, sha256_proof, sha256_pins}
@@ -35,7 +35,7 @@ use Rattle.qm_any.specs.Databases.{Begun, Made, IsBegun, IsMade, is_on, list_com
 use Rattle.qm_any.specs.Layouts.{list_root}
 use Rattle.qm_any.proofs.Known.{child-boundary, child-tips}
 use Rattle.qm_any.specs.Tips.{own_spellings, IsTaken, IsRefused}
-use Rattle.qm_any.specs.Refusals.{refusal_of}
+use Rattle.qm_store.specs.Refusals.{refusal_of}
 
 -- the program's form spells operations as the machine does
 leaves-same : (i : ℕ) (ops : List Operation) → leaves_from sha256 mmr form i ops ≡ leaves_from sha256 mmr variable i ops

@@ -1,9 +1,2 @@
-pub mod Tables
-pub mod Commands
-pub mod BatchCommands
-pub mod ReadCommands
-pub mod ProofCommands
-pub mod Loops
-pub mod Answerings
 pub mod Sayings
 pub mod Engines

@@ -4,15 +4,15 @@ use Rattle.std.proofs.lemmas.List.{take_all}
 use Rattle.std.proofs.Math.Seq.{take-nil, drop-length}
 use Rattle.qm_model.specs.Causes.{Grows, GrowsPart}
 use Rattle.qm_model.specs.Operations.{Bytes}
-use Rattle.qm_model.specs.Grammar.{commands_in, bad_in}
-use Rattle.qm_run.specs.Session.{IsLeft}
-use Rattle.qm_run.specs.Answered.{IsAnswered}
+use Rattle.qm_machine.specs.Grammar.{commands_in, bad_in}
+use Rattle.qm_engine.specs.Session.{IsLeft}
+use Rattle.qm_engine.specs.Answered.{IsAnswered}
 use Rattle.qm_run.specs.Program.{scheme, count, state, model_text, IsApart, IsLeftAt, bad_text, fault_text, IsPartial, Says}
 use Rattle.qm_run.specs.Endings.{tail_text, tail_status}
-use Rattle.qm_run.specs.declared.answers.Ending.{Ending}
-use Rattle.qm_run.specs.declared.answers.Ending.TheVariants.{Done, BadLine, Memory, StoreFault}
-use Rattle.qm_run.proofs.Commands.{left_none}
-use Rattle.qm_run.proofs.Loops.{after_all}
+use Rattle.qm_engine.specs.declared.answers.Ending.{Ending}
+use Rattle.qm_engine.specs.declared.answers.Ending.TheVariants.{Done, BadLine, Memory, StoreFault}
+use Rattle.qm_engine.proofs.Commands.{left_none}
+use Rattle.qm_engine.proofs.Loops.{after_all}
 
 -- where nothing is appended any more, all is left
 left_whole : (left : Option (List Bytes)) (items : List Bytes) → IsLeft left items items → left ≡ Some items

@@ -2,8 +2,8 @@
 use Rattle.std.specs.Prelude.{ℕ, ◌+◌, []}
 use Rattle.qm_model.specs.Operations.{Bytes}
 use Rattle.qm_run.specs.Program.{bad_text, fault_text}
-use Rattle.qm_run.specs.declared.answers.Ending.{Ending}
-use Rattle.qm_run.specs.declared.answers.Ending.TheVariants.{Done, BadLine, Memory, StoreFault}
+use Rattle.qm_engine.specs.declared.answers.Ending.{Ending}
+use Rattle.qm_engine.specs.declared.answers.Ending.TheVariants.{Done, BadLine, Memory, StoreFault}
 
 -- so many lines were answered before
 abbrev pub tail_text : Ending → ℕ → Bytes

@@ -7,11 +7,11 @@ use Rattle.qm_model.specs.Step.{unordered}
 use Rattle.qm_model.specs.Mmr.{mmr}
 use Rattle.qm_model.specs.Roots.{sha256_root, sha256_proof, sha256_pins}
 use Rattle.qm_model.specs.Batches.{Apart}
-use Rattle.qm_model.specs.Machine.{Scheme, State, initial, answers}
-use Rattle.qm_model.specs.Grammar.{commands_in, bad_in}
-use Rattle.qm_model.specs.Text.{text_of}
-use Rattle.qm_run.specs.Session.{IsLeft}
-use Rattle.qm_run.specs.Runs.{after}
+use Rattle.qm_machine.specs.Machine.{Scheme, State, initial, answers}
+use Rattle.qm_machine.specs.Grammar.{commands_in, bad_in}
+use Rattle.qm_machine.specs.Text.{text_of}
+use Rattle.qm_engine.specs.Session.{IsLeft}
+use Rattle.qm_engine.specs.Runs.{after}
 
 -- the words of the command line: run any unordered mmr
 abbrev pub are_words : List Bytes → Bool

@@ -5,24 +5,24 @@ ghost use Rattle.qm_model.specs.Mmr.{mmr};
 ghost use Rattle.qm_model.specs.Roots.{sha256_root, sha256_proof, sha256_pins};
 ghost use Rattle.qm_model.specs.Step as steps;
 ghost use Rattle.qm_any.specs.Databases.{IsDatabase, IsBegun, IsMade};
-ghost use Rattle.qm_any.specs.Refusals.{refusal_of};
+ghost use Rattle.qm_store.specs.Refusals.{refusal_of};
 ghost use Rattle.qm_run.specs.Databases.{hashing, layout};
 
-use crate::engine::{BatchSizes, Engine, Numbers};
 use crate::listed::{listed, twin_option};
 use qm_any::batch::{MerkleizedBatch, UnmerkleizedBatch};
 use qm_any::db::Db;
-use qm_any::{Given, Proportional, Refusal, init};
+use qm_any::{Proportional, init};
 use qm_base::{
     ByteKey, ByteValue, Error, JournalError, Location, Sha256, Sha256Digest, Unordered,
     VariableEncoding,
 };
+use qm_engine::{BatchSizes, Engine, Numbers};
 use qm_index::FourCap;
 use qm_index::unordered::Index;
 use qm_lines::{AnyPolicy, Listed};
 use qm_merkle::mmr;
 use qm_proofs::Proof;
-use qm_store::Store;
+use qm_store::{Refusal, Store};
 use std::alloc::{AllocError, Global};
 use std::num::NonZeroU64;
 use std::rc::Rc;

@@ -5,13 +5,13 @@ ghost use Rattle.std.specs.Io.KnownBytes.{IsAtEnd};
 ghost use Rattle.std.specs.String.{string_bytes};
 ghost use Rattle.qm_model.specs.Causes.{Rose};
 ghost use Rattle.qm_model.specs.Operations.{Bytes};
-ghost use Rattle.qm_model.specs.Grammar.{bad_in};
+ghost use Rattle.qm_machine.specs.Grammar.{bad_in};
 ghost use Rattle.qm_run.specs.Program.{are_words, Says, bad_text};
 ghost use Rattle.qm_run.specs.Endings.{tail_text, tail_status};
 
-use crate::answers::{Answered, Ending, answer_lines};
 use crate::database::Database;
 use qm_base::Gate;
+use qm_engine::{Answered, Ending, answer_lines};
 use qm_lines::{InputError, LIMIT, Sink, SinkError, Source, read_all, write_all};
 use qm_store::Store;
 use std::alloc::{AllocError, Global};

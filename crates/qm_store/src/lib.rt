@@ -9,10 +9,12 @@ mod items;
 mod kept_tree;
 mod log;
 mod mem_store;
+mod refusal;
 
 pub use kept_tree::KeptTree;
 pub use log::{AuthLog, LogGiven, LogRefusal};
 pub use mem_store::MemStore;
+pub use refusal::{Given, Refusal};
 use std::alloc::{AllocError, AllocFailed};
 use thiserror::Error;
 

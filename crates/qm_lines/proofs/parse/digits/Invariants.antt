@@ -1,5 +1,5 @@
 use Rattle.std.proofs.Common.{◌≡◌, drop}
-use Rattle.qm_model.specs.Grammar.{digits_from}
+use Rattle.qm_machine.specs.Grammar.{digits_from}
 use Rattle.qm_lines.proofs.parse.digits.Given as goal
 
 abbrev pub invariant-loop-digit : goal.invariant-loop-digit

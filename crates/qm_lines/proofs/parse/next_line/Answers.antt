@@ -1,7 +1,7 @@
 use Rattle.std.proofs.Common.{◌≤◌, ◌+◌, ◌∷◌, length, take, ◌∙◌, ap, sym, arith, rules}
 use Rattle.std.proofs.lemmas.List.{take_rest, drop_all}
 use Rattle.qm_model.specs.Operations.{Bytes}
-use Rattle.qm_model.specs.Grammar.{lines_of}
+use Rattle.qm_machine.specs.Grammar.{lines_of}
 use Rattle.qm_lines.proofs.Inputs.{one_line, first_line}
 use Rattle.qm_lines.proofs.parse.next_line.Goals as goal
 

@@ -1,6 +1,6 @@
 use Rattle.std.proofs.Common.{◌≡◌, map, take}
 use Rattle.std.specs.String.{string_bytes}
-use Rattle.qm_model.specs.Text as texts
+use Rattle.qm_machine.specs.Text as texts
 use Rattle.qm_lines.proofs.text.digests_text.Given as goal
 
 abbrev pub invariant-loop-digest : goal.invariant-loop-digest

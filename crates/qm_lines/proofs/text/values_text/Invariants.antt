@@ -1,6 +1,6 @@
 use Rattle.std.proofs.Common.{◌≡◌, map, take, option_map}
 use Rattle.std.specs.String.{string_bytes}
-use Rattle.qm_model.specs.Text as texts
+use Rattle.qm_machine.specs.Text as texts
 use Rattle.qm_lines.proofs.text.values_text.Given as goal
 
 abbrev pub invariant-loop-value : goal.invariant-loop-value

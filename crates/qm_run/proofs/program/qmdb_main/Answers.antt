@@ -2,7 +2,7 @@ use Rattle.std.proofs.Common.{◌≡◌, ◌++◌, Some, refl, ◌∙◌, subst,
 use Rattle.qm_model.specs.Causes.{Rose}
 use Rattle.qm_model.specs.Operations.{Bytes}
 use Rattle.qm_run.specs.Program.{Says}
-use Rattle.qm_run.proofs.Loops.{each}
+use Rattle.qm_engine.proofs.Loops.{each}
 use Rattle.qm_run.proofs.Sayings.{says_nothing, says_unstarted, unchanged, each_input, both}
 use Rattle.qm_run.proofs.program.qmdb_main.Goals as goal
 

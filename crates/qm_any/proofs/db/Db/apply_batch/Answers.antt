@@ -6,7 +6,7 @@ use Rattle.qm_merkle.specs.Batches.{stops}
 use Rattle.qm_chain.specs.Bounds.{is_at}
 use Rattle.qm_batch.specs.Views.{changes_view}
 use Rattle.qm_any.specs.Layouts.{layout_of}
-use Rattle.qm_any.specs.Given.{Appended, AppendedPart, store_given}
+use Rattle.qm_store.specs.Given.{Appended, AppendedPart, store_given}
 use Rattle.qm_any.proofs.Unapplied.{applied, lacked-spelled}
 use Rattle.qm_any.proofs.db.Db.apply_batch.Goals as goal
 

@@ -4,7 +4,7 @@ use Rattle.qm_model.specs.Operations.{Bytes}
 use Rattle.qm_store.specs.KeptTrees.{KeptTree, IsKeptTree}
 use Rattle.qm_store.specs.Log.{Log, IsLog}
 use Rattle.qm_batch.specs.Lent.{IsIndexed}
-use Rattle.qm_any.specs.Given.{Appended, AppendedPart, store_given}
+use Rattle.qm_store.specs.Given.{Appended, AppendedPart, store_given}
 use Rattle.qm_any.proofs.Telling.{three}
 use Rattle.qm_any.proofs.Unapplied.{appended, part-whole, same-database, memory-cause}
 use Rattle.qm_any.proofs.db.Db.moved.Goals as goal

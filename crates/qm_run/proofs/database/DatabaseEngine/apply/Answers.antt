@@ -4,7 +4,7 @@ use Rattle.qm_model.proofs.Results.{err-then, ok-then}
 use Rattle.qm_model.specs.Mmr.{mmr}
 use Rattle.qm_model.specs.Forms.{spelling, variable}
 use Rattle.qm_any.specs.Databases.{IsDatabase, IsMade}
-use Rattle.qm_any.specs.Given.{Appended, AppendedPart, store_given}
+use Rattle.qm_store.specs.Given.{Appended, AppendedPart, store_given}
 use Rattle.qm_chain.specs.Bounds.{is_at}
 use Rattle.qm_run.specs.Databases.{hashing, layout}
 use Rattle.qm_run.proofs.Engines.{at-made, off-chain, appends-same, applied-ok, ok-made, err-made}

@@ -5,7 +5,7 @@ use Rattle.qm_model.specs.Mmr.{mmr}
 use Rattle.qm_model.specs.Proofs.{pins_at}
 use Rattle.qm_model.specs.Refusals.{pins_refusal}
 use Rattle.qm_any.specs.Databases.{IsDatabase}
-use Rattle.qm_any.specs.Refusals.{IsDue}
+use Rattle.qm_store.specs.Refusals.{IsDue}
 use Rattle.qm_run.specs.Databases.{digest_bytes, form, layout}
 use Rattle.qm_run.proofs.Engines.{pinned}
 use Rattle.qm_run.proofs.database.DatabaseEngine.pins.Goals as goal

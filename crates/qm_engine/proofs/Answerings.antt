@@ -1,0 +1,77 @@
+-- The loop over the lines of an input: one line more, and its ends.
+use Rattle.std.proofs.Common.{◌≡◌, ◌≤◌, ◌<◌, ℕ, suc, ◌+◌, List, [], ◌∷◌, ◌++◌, length, take, Option, Some, None, IfSome, arith, refl, sym, subst}
+use Rattle.std.specs.Prelude.{IsSome}
+use Rattle.std.proofs.lemmas.List.{flat_map_more}
+use Rattle.qm_model.specs.Operations.{Bytes}
+use Rattle.qm_model.specs.Batches.{Apart}
+use Rattle.qm_model.specs.Policies.{Policy}
+use Rattle.qm_machine.specs.Lines.{Line, Answer}
+use Rattle.qm_machine.specs.Machine.{Scheme, State, initial, turn, answers}
+use Rattle.qm_machine.specs.Grammar.{lines_of, line_of, commands_in}
+use Rattle.qm_machine.specs.Text.{reply_line, text_of}
+use Rattle.qm_lines.proofs.Inputs.{IsAt, at_within, at_command, at_more, at_bad}
+use Rattle.qm_engine.specs.Session.{IsLeft}
+use Rattle.qm_engine.specs.Runs.{after}
+use Rattle.qm_engine.specs.Answered.{after_line, IsAnswered}
+use Rattle.qm_engine.proofs.Commands.{left_none}
+use Rattle.qm_engine.proofs.Loops.{loop_step, left_in, after_all}
+
+abbrev with_line : Bytes → Answer → Bytes
+with_line text answer = text ++ (reply_line answer ++ 10 ∷ [])
+
+text_of-push : (given : List Answer) (a : Answer) → text_of (given ++ a ∷ []) ≡ with_line (text_of given) a
+text_of-push given a = sym (flat_map_more (λ r. reply_line r ++ 10 ∷ []) [] given a)
+
+-- the next line of an input
+module _ (input rest line behind : Bytes) (k : ℕ) (at : IsAt input rest k) (found : lines_of rest ≡ line ∷ lines_of behind) where
+  pub at_next : (o : Option (Line Policy)) → line_of line ≡ o → IsSome o → IsAt input behind (k + 1)
+  at_next None e some = absurd (cc some)
+  at_next (Some c) e some = at_more input rest line behind k at found c e
+
+  -- it is a command, and the first k are not all
+  pub at_short : (o : Option (Line Policy)) → line_of line ≡ o → IsSome o → k < length (commands_in input)
+  at_short None e some = absurd (cc some)
+  at_short (Some c) e some = at_within input rest line behind k at found c e
+
+  module _ (m : Scheme Policy) (items : List Bytes) where
+    -- it was answered
+    pub line_step : (o : Option (Line Policy)) → line_of line ≡ o → IsSome o → (old new : Bytes) (Before After : State → Type 0)
+        → (Apart m.root (after m items (commands_in input) k).had → (old ≡ text_of (answers m (initial items) (take k (commands_in input)))) × Before (after m items (commands_in input) k))
+        → ((s : State) → Before s → IfSome o (λ c. Apart m.root ((turn m s c).1).had → (new ≡ with_line old (turn m s c).0) × After (turn m s c).1))
+        → Apart m.root (after m items (commands_in input) (k + 1)).had → (new ≡ text_of (answers m (initial items) (take (k + 1) (commands_in input)))) × After (after m items (commands_in input) (k + 1))
+    line_step None e some old new Before After so_far one = absurd (cc some)
+    line_step (Some c) e some old new Before After so_far one =
+        loop_step m items (commands_in input) text_of with_line text_of-push k c old new Before After
+        (at_within input rest line behind k at found c e) (at_command input rest line behind k at found c e) so_far one
+
+    -- what is left where the loop ended at it
+    line_left : (o : Option (Line Policy)) → line_of line ≡ o → (left : Option (List Bytes)) (Before : State → Type 0)
+        → (Apart m.root (after m items (commands_in input) k).had → Before (after m items (commands_in input) k))
+        → ((s : State) → Before s → Apart m.root s.had → IsLeft left s.items (after_line m s o).items)
+        → Apart m.root (after m items (commands_in input) k).had → IsLeft left (after m items (commands_in input) k).items (after m items (commands_in input) (suc k)).items
+    line_left None e left Before so_far leaves = λ apart.
+        let s : State = after m items (commands_in input) k in
+        subst (IsLeft left s.items) (sym (after_all m items (commands_in input) k (omega (arith, (at_bad input rest line behind k at found e).0)))) (leaves s (so_far apart) apart)
+    line_left (Some c) e left Before so_far leaves =
+        left_in m items (commands_in input) k c left Before (at_within input rest line behind k at found c e) (at_command input rest line behind k at found c e) so_far leaves
+
+    -- the loop ended at it
+    pub answered_in : (text : Bytes) (left : Option (List Bytes)) (Before : State → Type 0)
+        → (Apart m.root (after m items (commands_in input) k).had → (text ≡ text_of (answers m (initial items) (take k (commands_in input)))) × Before (after m items (commands_in input) k))
+        → ((s : State) → Before s → Apart m.root s.had → IsLeft left s.items (after_line m s (line_of line)).items)
+        → IsAnswered m items (commands_in input) k text left
+    answered_in text left Before so_far leaves = record {
+      few = at.few;
+      same = λ apart. (so_far apart).0;
+      left = line_left (line_of line) refl left Before (λ apart. (so_far apart).1) leaves;
+    }
+
+-- the loop ended behind the last line, or before the first
+pub answered_at : (m : Scheme Policy) (items : List Bytes) (input : Bytes) (k : ℕ) (text : Bytes) (left : Option (List Bytes)) → k ≤ length (commands_in input)
+    → (Apart m.root (after m items (commands_in input) k).had → (text ≡ text_of (answers m (initial items) (take k (commands_in input)))) × (left ≡ Some (after m items (commands_in input) k).items))
+    → IsAnswered m items (commands_in input) k text left
+answered_at m items input k text left few so_far = record {
+  few = few;
+  same = λ apart. (so_far apart).0;
+  left = λ apart. left_none (after m items (commands_in input) k).items (after m items (commands_in input) (suc k)).items left (so_far apart).1;
+}

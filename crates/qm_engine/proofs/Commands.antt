@@ -1,0 +1,242 @@
+-- Each command over what a run holds, as lemmas over plain values: what all of them use, and the opening.
+use Rattle.std.proofs.Common.{◌≡◌, ◌≢◌, ℕ, ◌+◌, ◌<◌, Bool, true, false, cond, List, [], ◌∷◌, ◌++◌, length, get_or, set, map, Option, Some, None, arith, refl, sym, ◌∙◌, ap, subst, IfSome, append-nil, ◌⊎◌}
+use Rattle.std.specs.Prelude.{Contains, IsSome, is_some}
+use Rattle.std.proofs.lemmas.List.{length-set}
+use Rattle.std.proofs.Math.Seq.{drop-append_seam, take-length}
+use Rattle.qm_model.specs.Causes.{Grows, GrowsPart}
+use Rattle.qm_model.specs.Operations.{Bytes, Operation, fresh}
+use Rattle.qm_model.specs.Forms.{spelling, variable}
+use Rattle.qm_model.specs.Batches.{Apart}
+use Rattle.qm_machine.specs.Lines.{Answer}
+use Rattle.qm_machine.specs.Lines as lines
+use Rattle.qm_model.specs.Refused as refusals
+use Rattle.qm_machine.specs.Machine.{Scheme, State, slot_at, with_slot, with_database, unless, open_over}
+use Rattle.qm_machine.specs.Machine as machine
+use Rattle.qm_model.proofs.Chains.{Contains-more, Contains-first, IsAmong-more}
+use Rattle.qm_base.specs.declared.error.JournalError.TheVariants as journal
+use Rattle.qm_base.specs.declared.error.MerkleError.TheVariants as merkle
+use Rattle.qm_base.specs.declared.error.Error.{Error}
+use Rattle.qm_base.specs.declared.error.Error.TheVariants as errors
+use Rattle.qm_lines.specs.Views.{answer_view, refused_view}
+use Rattle.qm_lines.specs.declared.reply.Reply as reply
+use Rattle.qm_lines.specs.declared.reply.Reply.TheVariants as replies
+use Rattle.qm_lines.specs.declared.reply.TreeRefused.TheVariants as tree
+use Rattle.qm_lines.specs.declared.reply.LogRefused.TheVariants as log
+use Rattle.qm_lines.specs.declared.reply.Refused.{Refused}
+use Rattle.qm_lines.specs.declared.reply.Refused.TheVariants as refused
+use Rattle.qm_store.specs.declared.refusal.Given.{Given}
+use Rattle.qm_store.specs.declared.refusal.Given.TheVariants.{Database, Store}
+use Rattle.qm_engine.specs.declared.table.Slot.{Slot}
+use Rattle.qm_engine.specs.declared.table.Slot.TheVariants.{Gone, Writing, Merkleized}
+use Rattle.qm_engine.specs.declared.session.Turn.{Turn}
+use Rattle.qm_engine.specs.declared.session.Turn.TheVariants.{Reply, Memory, StoreFault}
+use Rattle.qm_engine.specs.Table.{merkleized_of}
+use Rattle.qm_engine.specs.Turn.{turn_of_error}
+use Rattle.qm_store.specs.Refusals.{refusal_of, IsDue}
+use Rattle.qm_store.specs.Given.{store_given}
+use Rattle.qm_engine.specs.Session.{Meaning, HeldIs, SlotIs, Holds, IfReply, IsLeft, Answers}
+use Rattle.qm_engine.proofs.Tables.{set_at}
+
+-- what holds of both sides of a choice
+pub choice : {A : Type 0} (t : Bool) (p q : A) (Q : A → Type 0) → (t ≡ true → Q p) → (t ≡ false → Q q) → Q (cond t p q)
+choice true p q Q a b = a refl
+choice false p q Q a b = b refl
+
+pub none_some : {A : Type 0} {o : Option A} {x : A} → o ≡ None → o ≡ Some x → ⊥
+none_some none some = absurd (cc)
+
+-- an error tells no other refusal than is due
+pub due_told : {A : Type 0} (o due : Option A) (r : A) → IfSome o (λ x. due ≡ Some x) → o ≡ Some r → due ≡ Some r
+due_told o due r is told = subst (λ p. IfSome p (λ x. due ≡ Some x)) told is
+
+-- what holds where a thing is told holds of one that is
+pub some_then : {A P : Type 0} (told : Option A) (x : A) → told ≡ Some x → IfSome told (λ _. P) → P
+some_then None x is p = absurd (cc is)
+some_then (Some y) x is p = p
+
+-- all of what is due is a first part of it
+pub Grows-whole : {A : Type 0} (old new : Option (List A)) (more : List A) → Grows old new more → GrowsPart old new more
+Grows-whole old new more grows = (length more, subst (Grows old new) (sym (take-length more)) grows)
+
+-- a first part of what is due, and nothing of it
+pub left_part : (before more : List Bytes) (items : Option (List Bytes)) → GrowsPart (Some before) items more → IsLeft items before (before ++ more)
+left_part before more items grows = record { count = grows.0; same = rw (drop-append_seam before more) grows.1 }
+
+pub left_none : (before after : List Bytes) (items : Option (List Bytes)) → items ≡ Some before → IsLeft items before after
+left_none before after items is = record { count = 0; same = rw append-nil is }
+
+-- the answer that refuses so
+abbrev pub refuses : Option refusals.Refused → Answer
+refuses None = lines.Refuses refusals.StaleBatch
+refuses (Some r) = lines.Refuses r
+
+-- an error that tells a refusal other than a stale batch
+abbrev pub Refusing : {K V D : Type 0} → Error → (reply.Reply K V D → Type 0) → Type 0
+Refusing error Q = (r : Refused) → error ≢ errors.StaleBatch → refusal_of error ≡ Some (refused_view r) → Q (replies.Refused r)
+
+-- what an error comes to is a refusal, or no reply
+pub by_error : {K V D : Type 0} (error : Error) (Q : reply.Reply K V D → Type 0) → (error ≡ errors.StaleBatch → Q (replies.Refused refused.StaleBatch)) → Refusing error Q → IfReply (turn_of_error error) Q
+by_error errors.Memory Q stale other = tt
+by_error errors.StaleBatch Q stale other = stale refl
+by_error errors.StaleRead Q stale other = other refused.StaleRead (λ e. absurd (cc)) refl
+by_error (errors.HistoricalFloorPruned n) Q stale other = other (refused.HistoricalFloorPruned n) (λ e. absurd (cc)) refl
+by_error (errors.DataCorrupted c) Q stale other = other (refused.DataCorrupted c) (λ e. absurd (cc)) refl
+by_error (errors.Merkle merkle.Memory) Q stale other = tt
+by_error (errors.Merkle (merkle.RangeOutOfBounds n)) Q stale other = other (refused.Merkle (tree.RangeOutOfBounds n)) (λ e. absurd (cc)) refl
+by_error (errors.Merkle (merkle.ElementPruned n)) Q stale other = other (refused.Merkle (tree.ElementPruned n)) (λ e. absurd (cc)) refl
+by_error (errors.Merkle (merkle.MissingNode n)) Q stale other = other (refused.Merkle (tree.MissingNode n)) (λ e. absurd (cc)) refl
+by_error (errors.Merkle (merkle.LocationOverflow n)) Q stale other = other (refused.Merkle (tree.LocationOverflow n)) (λ e. absurd (cc)) refl
+by_error (errors.Journal journal.Store) Q stale other = tt
+by_error (errors.Journal (journal.ItemPruned n)) Q stale other = other (refused.Journal (log.ItemPruned n)) (λ e. absurd (cc)) refl
+by_error (errors.Journal (journal.ItemTooLarge n)) Q stale other = other (refused.Journal (log.ItemTooLarge n)) (λ e. absurd (cc)) refl
+
+-- the same, whichever refusal it is
+pub by_refusal : {K V D : Type 0} (error : Error) (Q : reply.Reply K V D → Type 0) → ((r : Refused) → refusal_of error ≡ Some (refused_view r) → Q (replies.Refused r)) → IfReply (turn_of_error error) Q
+by_refusal error Q each = by_error error Q (λ e. each refused.StaleBatch (ap refusal_of e)) (λ r other told. each r told)
+
+-- an error that refuses nothing has no reply
+pub no_refusal : {K V D : Type 0} (error : Error) (Q : reply.Reply K V D → Type 0) → refusal_of error ≡ None → IfReply (turn_of_error error) Q
+no_refusal error Q none = by_refusal error Q (λ r told. absurd (none_some none told))
+
+module _ {X C B M : Type 0} (m : Meaning X C B M) where
+  pub HeldIs-more : (had : List (List Operation)) (new : List Operation) (held : Given X C) (d : Option (List Operation)) → HeldIs m had held d → HeldIs m (new ∷ had) held d
+  HeldIs-more had new (Database x) (Some list) h = (h.0, Contains-more had new list h.1)
+  HeldIs-more had new (Database x) None h = absurd h
+  HeldIs-more had new (Store c) (Some list) h = absurd h
+  HeldIs-more had new (Store c) None h = tt
+
+  pub SlotIs-more : (had : List (List Operation)) (new : List Operation) (a : Slot B M) (b : machine.Slot) → SlotIs m had a b → SlotIs m (new ∷ had) a b
+  SlotIs-more had new Gone machine.gone h = tt
+  SlotIs-more had new Gone (machine.writing chain above ws) h = absurd h
+  SlotIs-more had new Gone (machine.merkleized chain tip) h = absurd h
+  SlotIs-more had new (Writing b) machine.gone h = absurd h
+  SlotIs-more had new (Writing b) (machine.writing chain above ws) h = (h.0, IsAmong-more had new chain h.1, IsAmong-more had new above h.2)
+  SlotIs-more had new (Writing b) (machine.merkleized chain tip) h = absurd h
+  SlotIs-more had new (Merkleized b) machine.gone h = absurd h
+  SlotIs-more had new (Merkleized b) (machine.writing chain above ws) h = absurd h
+  SlotIs-more had new (Merkleized b) (machine.merkleized chain tip) h = (h.0, IsAmong-more had new chain h.1, Contains-more had new tip h.2)
+
+  -- a database is open where one is held
+  pub with_list : (x : X) (had : List (List Operation)) (d : Option (List Operation)) (s : State) (f : List Operation → Answer × State) (Q : Answer × State → Type 0)
+      → HeldIs m had (Database x) d → ((list : List Operation) → m.stands x list → Contains had list → Q (f list)) → Q (with_database s d f)
+  with_list x had None s f Q h each = absurd h
+  with_list x had (Some list) s f Q h each = each list h.0 h.1
+
+  -- another database that stands for the same lists
+  pub HeldIs-kept : (x after : X) (had : List (List Operation)) (d : Option (List Operation)) → ((list : List Operation) → m.stands x list → m.stands after list) → HeldIs m had (Database x) d → HeldIs m had (Database after) d
+  HeldIs-kept x after had None keeps h = absurd h
+  HeldIs-kept x after had (Some list) keeps h = (keeps list h.0, h.1)
+
+  -- the same places, with one set
+  pub slots_set : (table : List (Slot B M)) (s : State) (h : ℕ) (new : Slot B M) (slot : machine.Slot) → length table ≡ length s.table → ((i : ℕ) → SlotIs m s.had (get_or table i Gone) (slot_at s.table i))
+      → SlotIs m s.had new slot → (i : ℕ) → SlotIs m s.had (get_or (set table h new) i Gone) (slot_at (set s.table h slot) i)
+  slots_set table s h new slot e each is = set_at (SlotIs m s.had) Gone machine.gone tt table s.table h new slot e each is
+
+  pub lengths_set : (table : List (Slot B M)) (s : State) (h : ℕ) (new : Slot B M) (slot : machine.Slot) → length table ≡ length s.table → length (set table h new) ≡ length (set s.table h slot)
+  lengths_set table s h new slot e = length-set table h new ∙ e ∙ sym (length-set s.table h slot)
+
+  -- a store that starts at 0 and tells its items
+  pub Holds-told : (held : Given X C) (table : List (Slot B M)) (opened : ℕ) (s : State) → Holds m held table opened s → (m.start (store_given m.inside held) ≡ 0) × IsSome (m.items (store_given m.inside held))
+  Holds-told held table opened s k = (k.start, ap is_some k.items)
+
+  -- a database that stands for the same lists, over what the store had
+  abbrev pub Keeps : X → X → Type 0
+  Keeps x after = ((l : List Operation) → m.stands x l → m.stands after l) × (m.start (m.inside after) ≡ m.start (m.inside x)) × (m.items (m.inside after) ≡ m.items (m.inside x))
+
+  pub Holds-kept : (x after : X) (table : List (Slot B M)) (opened : ℕ) (s : State) → Keeps x after → Holds m (Database x) table opened s → Holds m (Database after) table opened s
+  Holds-kept x after table opened s keeps k = record {
+    database = HeldIs-kept x after s.had s.database keeps.0 k.database;
+    start = keeps.1 ∙ k.start;
+    items = keeps.2 ∙ k.items;
+    count = k.count;
+    lengths = k.lengths;
+    slots = k.slots;
+  }
+
+  -- and whose batch number h is used up
+  pub Holds-used : (x after : X) (table : List (Slot B M)) (opened : ℕ) (h : ℕ) (s : State) → Keeps x after → Holds m (Database x) table opened s → Holds m (Database after) (set table h Gone) opened (with_slot s h machine.gone)
+  Holds-used x after table opened h s keeps k = record {
+    database = HeldIs-kept x after s.had s.database keeps.0 k.database;
+    start = keeps.1 ∙ k.start;
+    items = keeps.2 ∙ k.items;
+    count = k.count;
+    lengths = lengths_set table s h Gone machine.gone k.lengths;
+    slots = slots_set table s h Gone machine.gone k.lengths k.slots tt;
+  }
+
+  pub merkleized_slot : (a : Slot B M) (batch : M) → merkleized_of a ≡ Some batch → a ≡ Merkleized batch
+  merkleized_slot Gone batch e = absurd (cc)
+  merkleized_slot (Writing b) batch e = absurd (cc)
+  merkleized_slot (Merkleized b) batch e = ap Merkleized (cc)
+
+module _ {X C B M K V D P : Type 0} (m : Meaning X C B M) (key : K → Bytes) (value : V → Bytes) (digest : D → Bytes) (scheme : Scheme P) where
+  abbrev root : List Operation → Bytes
+  root = scheme.root
+
+  abbrev pub Turns : Turn K V D → Given X C → List (Slot B M) → ℕ → Answer × State → Type 0
+  Turns turn held table opened next = IfReply turn (λ r. Apart root (next.1).had → (answer_view key value digest r ≡ next.0) × Holds m held table opened next.1)
+
+  -- an answer that leaves the state as it is
+  pub stays : (held : Given X C) (table : List (Slot B M)) (opened : ℕ) (s : State) (answer : Answer) (next : Answer × State) → next.1 ≡ s → Holds m held table opened s
+      → (Apart root s.had → answer ≡ next.0) → Apart root (next.1).had → (answer ≡ next.0) × Holds m held table opened next.1
+  stays held table opened s answer next same k is =
+      subst (λ t. Apart root t.had → (answer ≡ next.0) × Holds m held table opened t) (sym same) (λ apart. (is apart, k))
+
+  pub answered : (turn : Turn K V D) (held : Given X C) (table : List (Slot B M)) (opened : ℕ) (s : State) (next : Answer × State) → next.1 ≡ s → Holds m held table opened s
+      → Answers key value digest root turn s next → Turns turn held table opened next
+  answered (Reply r) held table opened s next same k is = stays held table opened s (answer_view key value digest r) next same k is
+  answered Memory held table opened s next same k is = tt
+  answered StoreFault held table opened s next same k is = tt
+
+  -- an error of a call that changes nothing
+  pub unless_err : (x after : X) (table : List (Slot B M)) (opened : ℕ) (error : Error) (s : State) (due : List Operation → Option refusals.Refused) (answer : List Operation → Answer)
+      → Holds m (Database x) table opened s → Keeps m x after → ((list : List Operation) → m.stands x list → IsDue error (due list))
+      → Turns (turn_of_error error) (Database after) table opened (with_database s s.database (λ list. unless s (due list) (answer list)))
+  unless_err x after table opened error s due answer k keeps is =
+      by_refusal error _ (λ r told. with_list m x s.had s.database s (λ list. unless s (due list) (answer list)) (Turns (Reply (replies.Refused r)) (Database after) table opened) k.database
+      (λ list stands in_had. subst (λ d. Turns (Reply (replies.Refused r)) (Database after) table opened (unless s d (answer list))) (sym (due_told (refusal_of error) (due list) (refused_view r) (is list stands) told))
+      (λ apart. (refl, Holds-kept m x after table opened s keeps k))))
+
+  -- an opening over a store that is not empty, and over one that is
+  pub open_refused : (held : Given X C) (table : List (Slot B M)) (opened start end : ℕ) (s : State) → Holds m held table opened s
+      → start ≡ m.start (store_given m.inside held) → IfSome (m.items (store_given m.inside held)) (λ xs. m.start (store_given m.inside held) + length xs ≡ end) → (0 < start) ⊎ (0 < end)
+      → Turns (Reply (replies.Refused refused.NotOffered)) held table opened (open_over s s.items)
+  open_refused held table opened start end s k is_start law above = by s.items k.items
+    where
+      by : (items : List Bytes) → m.items (store_given m.inside held) ≡ Some items → Turns (Reply (replies.Refused refused.NotOffered)) held table opened (open_over s items)
+      by [] is = let counted = rw is at law in absurd (let zero_start = k.start in grind (arith, above, is_start, zero_start, counted))
+      by (i ∷ items) is = λ apart. (refl, k)
+
+  no_items : (c : C) (end : ℕ) (items : List Bytes) → m.items c ≡ Some items → m.start c ≡ 0 → IfSome (m.items c) (λ xs. m.start c + length xs ≡ end) → end ≡ 0 → items ≡ []
+  no_items c end [] is start law none = refl
+  no_items c end (i ∷ items) is start law none = let counted = rw is at law in absurd (omega (arith, counted, start, none))
+
+  pub open_ok : (held : Given X C) (x : X) (table : List (Slot B M)) (opened start size end : ℕ) (s : State) → Holds m held table opened s
+      → IfSome (m.items (store_given m.inside held)) (λ xs. m.start (store_given m.inside held) + length xs ≡ end) → end ≡ 0
+      → m.stands x fresh → m.start (m.inside x) ≡ m.start (store_given m.inside held) → Grows (m.items (store_given m.inside held)) (m.items (m.inside x)) (map (spelling variable) fresh)
+      → start ≡ m.start (m.inside x) → ((l : List Operation) → m.stands x l → size ≡ length l)
+      → Turns (Reply (replies.Opened (opened + 1) start size)) (Database x) table (opened + 1) (open_over s s.items)
+  open_ok held x table opened start size end s k law none stands same_start grows is_start sized =
+      let empty : s.items ≡ [] = no_items (store_given m.inside held) end s.items k.items k.start law none in
+      let there : Grows (Some s.items) (m.items (m.inside x)) (map (spelling variable) fresh) = subst (λ o. Grows o (m.items (m.inside x)) (map (spelling variable) fresh)) k.items grows in
+      subst (λ items. Turns (Reply (replies.Opened (opened + 1) start size)) (Database x) table (opened + 1) (open_over s items)) (sym empty) (λ apart. (
+        rw (k.count, is_start ∙ same_start ∙ k.start, sized fresh stands) refl,
+        record {
+          database = (stands, Contains-first fresh s.had);
+          start = same_start ∙ k.start;
+          items = rw empty at there;
+          count = ap (λ n. n + 1) k.count;
+          lengths = k.lengths;
+          slots = λ h. SlotIs-more m s.had fresh (get_or table h Gone) (slot_at s.table h) (k.slots h);
+        },
+      ))
+
+  pub open_left : (held : Given X C) (items : Option (List Bytes)) (end : ℕ) (table : List (Slot B M)) (opened : ℕ) (s : State) → Holds m held table opened s
+      → IfSome (m.items (store_given m.inside held)) (λ xs. m.start (store_given m.inside held) + length xs ≡ end) → end ≡ 0
+      → GrowsPart (m.items (store_given m.inside held)) items (map (spelling variable) fresh)
+      → IsLeft items s.items ((open_over s s.items).1).items
+  open_left held items end table opened s k law none grows =
+      let empty : s.items ≡ [] = no_items (store_given m.inside held) end s.items k.items k.start law none in
+      let there : GrowsPart (Some s.items) items (map (spelling variable) fresh) = subst (λ o. GrowsPart o items (map (spelling variable) fresh)) k.items grows in
+      let Goal : List Bytes → Type 0 = λ xs. IsLeft items xs ((open_over s xs).1).items in
+      subst Goal (sym empty) (left_part [] (map (spelling variable) fresh) items (rw empty at there))

@@ -1,0 +1,8 @@
+use Rattle.std.proofs.Common.{◌∷◌, [], ◌++◌, ap, ◌∙◌}
+use Rattle.qm_machine.specs.Text.{reply_line}
+use Rattle.qm_run.proofs.answers.answer.Goals as goal
+
+pub returns-in-Ok-clause-machine : goal.returns-in-Ok-clause-machine
+returns-in-Ok-clause-machine g c = λ s k apart.
+    let answered = (rw c.in-Reply.is at (c.turn-session.ensures.machine s k)) apart in
+    (c.in-Ok.ensures.ok ∙ ap (λ a. c.args.text.now.items ++ (reply_line a ++ 10 ∷ [])) answered.0, answered.1)

@@ -1,0 +1,5 @@
+pub mod Table
+pub mod Turn
+pub mod Session
+pub mod Runs
+pub mod Answered

@@ -1,0 +1,110 @@
+-- What a run holds, and the state of the machine that it stands for.
+use Rattle.std.specs.Prelude.{◌≡◌, ◌≤◌, ℕ, List, ◌++◌, take, drop, length, Contains, Option, Some, None, slice_index_or}
+use Rattle.qm_model.specs.Causes.{Rose}
+use Rattle.qm_model.specs.Operations.{Bytes, Operation}
+use Rattle.qm_model.specs.Writes.{Write}
+use Rattle.qm_model.specs.Batches.{Chain, IsAmong, Apart}
+use Rattle.qm_machine.specs.Lines.{Answer}
+use Rattle.qm_model.specs.Policies.{Policy, policies}
+use Rattle.qm_machine.specs.Machine.{Scheme, State, slot_at}
+use Rattle.qm_machine.specs.Machine as machine
+use Rattle.qm_lines.specs.Views.{answer_view}
+use Rattle.qm_lines.specs.declared.reply.Reply as reply
+use Rattle.qm_store.specs.declared.Store as store
+use Rattle.qm_engine.specs.declared.engine.Engine as engine
+use Rattle.qm_store.specs.declared.refusal.Given.{Given}
+use Rattle.qm_store.specs.declared.refusal.Given.TheVariants.{Database, Store}
+use Rattle.qm_engine.specs.declared.table.Slot.{Slot}
+use Rattle.qm_engine.specs.declared.table.Slot.TheVariants.{Gone, Writing, Merkleized}
+use Rattle.qm_engine.specs.declared.session.Session.{Session}
+use Rattle.qm_engine.specs.declared.session.Turn.{Turn}
+use Rattle.qm_engine.specs.declared.session.Turn.TheVariants.{Reply, Memory, StoreFault}
+use Rattle.qm_store.specs.Given.{store_given}
+
+-- what the engine's values stand for, over its store
+pub record Meaning (X C B M : Type 0) : Type 1 where
+  pub inside : X → C
+  pub start : C → ℕ
+  pub items : C → Option (List Bytes)
+  pub stands : X → List Operation → Type 0
+  pub is_batch : B → Chain → Chain → List Write → Type 0
+  pub is_merkleized : M → Chain → List Operation → Type 0
+
+-- that of a bound on an engine and on its store
+abbrev pub meaning : {X C K V D F B M : Type 0} → engine.Ghosts X C K V D F B M → store.Ghosts C → Meaning X C B M
+meaning x c = record { inside = x.inside; start = c.start; items = c.items; stands = x.stands; is_batch = x.is_batch; is_merkleized = x.is_merkleized }
+
+-- the machine of an engine: its kind, root, boundary, proofs and pins, under the policies
+abbrev pub scheme_of : {X C K V D F B M : Type 0} → engine.Ghosts X C K V D F B M → Scheme Policy
+scheme_of x = record { kind = x.kind; rules = policies; root = x.root; boundary = x.boundary; proof = x.proof; pins = x.pins }
+
+module _ {X C B M : Type 0} (m : Meaning X C B M) where
+  -- the database stands for the machine's list, one of those that the run has had; without one there is a store alone
+  abbrev pub HeldIs : List (List Operation) → Given X C → Option (List Operation) → Type 0
+  HeldIs had (Database x) (Some list) = m.stands x list × Contains had list
+  HeldIs had (Database x) None = ⊥
+  HeldIs had (Store c) (Some list) = ⊥
+  HeldIs had (Store c) None = Unit {0}
+
+  -- a batch stands for the machine's batch of its number
+  abbrev pub SlotIs : List (List Operation) → Slot B M → machine.Slot → Type 0
+  SlotIs had Gone machine.gone = Unit {0}
+  SlotIs had Gone (machine.writing chain above ws) = ⊥
+  SlotIs had Gone (machine.merkleized chain tip) = ⊥
+  SlotIs had (Writing b) machine.gone = ⊥
+  SlotIs had (Writing b) (machine.writing chain above ws) = m.is_batch b chain above ws × IsAmong had chain × IsAmong had above
+  SlotIs had (Writing b) (machine.merkleized chain tip) = ⊥
+  SlotIs had (Merkleized b) machine.gone = ⊥
+  SlotIs had (Merkleized b) (machine.writing chain above ws) = ⊥
+  SlotIs had (Merkleized b) (machine.merkleized chain tip) = m.is_merkleized b chain tip × IsAmong had chain × Contains had tip
+
+  -- what is held stands for this state
+  pub record Holds (held : Given X C) (table : List (Slot B M)) (opened : ℕ) (s : State) : Type 0 where
+    pub database : HeldIs s.had held s.database
+    pub start : m.start (store_given m.inside held) ≡ 0
+    pub items : m.items (store_given m.inside held) ≡ Some s.items
+    pub count : opened ≡ s.opened
+    pub lengths : length table ≡ length s.table
+    pub slots : (h : ℕ) → SlotIs s.had (slice_index_or table h Gone) (slot_at s.table h)
+
+  -- a session stands for this state
+  abbrev pub Stands : Session X C B M → State → Type 0
+  Stands session s = Holds session.held session.table.items session.opened s
+
+-- P of the reply, where the turn gave one
+abbrev pub IfReply : {K V D : Type 0} → Turn K V D → (reply.Reply K V D → Type 0) → Type 0
+IfReply (Reply r) P = P r
+IfReply Memory P = Unit {0}
+IfReply StoreFault P = Unit {0}
+
+-- A turn does what the machine does: a reply is the machine's, and the session stands for its next state, where that
+-- run's lists are apart.
+abbrev pub Follows : {X C B M K V D : Type 0} → Meaning X C B M → (K → Bytes) → (V → Bytes) → (D → Bytes) → (List Operation → Bytes) → Session X C B M → Turn K V D → Answer × State → Type 0
+Follows m key value digest root new turn next = IfReply turn (λ r. Apart root (next.1).had → (answer_view key value digest r ≡ next.0) × Stands m new next.1)
+
+-- A command does so from each state that the session stood for.
+abbrev pub Obeys : {X C B M K V D : Type 0} → Meaning X C B M → (K → Bytes) → (V → Bytes) → (D → Bytes) → (List Operation → Bytes) → Session X C B M → Session X C B M → Turn K V D → (State → Answer × State) → Type 0
+Obeys m key value digest root old new turn next = (s : State) → Stands m old s → Follows m key value digest root new turn (next s)
+
+-- The same of a command that leaves the session as it is.
+abbrev pub Tells : {X C B M K V D : Type 0} → Meaning X C B M → (K → Bytes) → (V → Bytes) → (D → Bytes) → (List Operation → Bytes) → Session X C B M → Turn K V D → (State → Answer × State) → Type 0
+Tells m key value digest root session turn next = Obeys m key value digest root session session turn next
+
+-- A reply is the machine's, where the lists of this state are apart.
+abbrev pub Answers : {K V D : Type 0} → (K → Bytes) → (V → Bytes) → (D → Bytes) → (List Operation → Bytes) → Turn K V D → State → Answer × State → Type 0
+Answers key value digest root turn s next = IfReply turn (λ r. Apart root s.had → answer_view key value digest r ≡ next.0)
+
+-- The items are those before a command, or with a first part of what it appends.
+pub record IsLeft (items : Option (List Bytes)) (before after : List Bytes) : Type 0 where
+  pub count : ℕ
+  pub same : items ≡ Some (before ++ take count (drop (length before) after))
+
+-- However a command ends, the store has the items before it and a first part of what it appends.
+abbrev pub Leaves : {X C B M : Type 0} → Meaning X C B M → (List Operation → Bytes) → Session X C B M → Session X C B M → (State → Answer × State) → Type 0
+Leaves m root old new next =
+    (s : State) → Stands m old s → Apart root s.had → IsLeft (m.items (store_given m.inside new.held)) s.items ((next s).1).items
+
+-- the store's count has not fallen, and it rose where a fault is told
+pub record Causes {K V D : Type 0} (before now : ℕ) (turn : Turn K V D) : Type 0 where
+  pub later : before ≤ now
+  pub fault : turn ≡ StoreFault → Rose before now

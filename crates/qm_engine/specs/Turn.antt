@@ -1,0 +1,34 @@
+-- What an error of a call comes to.
+use Rattle.qm_base.specs.declared.error.JournalError.{JournalError}
+use Rattle.qm_base.specs.declared.error.JournalError.TheVariants as journal
+use Rattle.qm_base.specs.declared.error.MerkleError.{MerkleError}
+use Rattle.qm_base.specs.declared.error.MerkleError.TheVariants as merkle
+use Rattle.qm_base.specs.declared.error.Error.{Error}
+use Rattle.qm_base.specs.declared.error.Error.TheVariants as errors
+use Rattle.qm_lines.specs.declared.reply.Reply.TheVariants.{Refused}
+use Rattle.qm_lines.specs.declared.reply.TreeRefused.TheVariants as tree
+use Rattle.qm_lines.specs.declared.reply.LogRefused.TheVariants as log
+use Rattle.qm_lines.specs.declared.reply.Refused.TheVariants as refused
+use Rattle.qm_engine.specs.declared.session.Turn.{Turn}
+use Rattle.qm_engine.specs.declared.session.Turn.TheVariants.{Reply, Memory, StoreFault}
+
+abbrev pub turn_of_tree : {K V D : Type 0} → MerkleError → Turn K V D
+turn_of_tree merkle.Memory = Memory
+turn_of_tree (merkle.RangeOutOfBounds n) = Reply (Refused (refused.Merkle (tree.RangeOutOfBounds n)))
+turn_of_tree (merkle.ElementPruned n) = Reply (Refused (refused.Merkle (tree.ElementPruned n)))
+turn_of_tree (merkle.MissingNode n) = Reply (Refused (refused.Merkle (tree.MissingNode n)))
+turn_of_tree (merkle.LocationOverflow n) = Reply (Refused (refused.Merkle (tree.LocationOverflow n)))
+
+abbrev pub turn_of_log : {K V D : Type 0} → JournalError → Turn K V D
+turn_of_log journal.Store = StoreFault
+turn_of_log (journal.ItemPruned n) = Reply (Refused (refused.Journal (log.ItemPruned n)))
+turn_of_log (journal.ItemTooLarge n) = Reply (Refused (refused.Journal (log.ItemTooLarge n)))
+
+abbrev pub turn_of_error : {K V D : Type 0} → Error → Turn K V D
+turn_of_error errors.Memory = Memory
+turn_of_error errors.StaleBatch = Reply (Refused refused.StaleBatch)
+turn_of_error errors.StaleRead = Reply (Refused refused.StaleRead)
+turn_of_error (errors.HistoricalFloorPruned n) = Reply (Refused (refused.HistoricalFloorPruned n))
+turn_of_error (errors.DataCorrupted c) = Reply (Refused (refused.DataCorrupted c))
+turn_of_error (errors.Merkle e) = turn_of_tree e
+turn_of_error (errors.Journal e) = turn_of_log e

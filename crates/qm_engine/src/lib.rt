@@ -1,0 +1,13 @@
+//! What a database offers to a run, and the runs of commands over any that offers it.
+#![tactic(auto)]
+
+pub mod answers;
+pub mod engine;
+pub mod runs;
+mod session;
+mod table;
+mod turns;
+
+pub use answers::{Answered, Ending, answer_lines};
+pub use engine::{BatchSizes, Engine, Numbers};
+pub use runs::{End, Outcome, run};

@@ -1,0 +1,146 @@
+//! A run of a list of commands.
+
+ghost use Rattle.std.specs.Prelude.{◌≡◌, ◌≢◌, ◌+◌, ◌++◌, ◌∷◌, [], ◌^◌, ◌<◌, ◌≤◌, ℕ, List, Option, Some, None, IfNone, IfSome, IfOk, IfErr, OnSome, OnOk, OnErr, length, map};
+ghost use Rattle.qm_model.specs.Causes.{Rose};
+ghost use Rattle.qm_model.specs.Operations.{Bytes};
+ghost use Rattle.qm_model.specs.Batches.{Apart};
+ghost use Rattle.qm_machine.specs.Machine as machine;
+ghost use Rattle.qm_lines.specs.Views.{policy_view, line_view, answer_view};
+ghost use Rattle.qm_store.specs.Given.{store_given};
+ghost use Rattle.qm_engine.specs.Session.{meaning, scheme_of, Stands, Leaves};
+ghost use Rattle.qm_engine.specs.Runs.{IsRun};
+
+use crate::engine::Engine;
+use crate::session::{Of, Session, Turn, close};
+use crate::table::{Slot, push_slot};
+use crate::turns::turn;
+use qm_base::Gate;
+use qm_lines::{AnyPolicy, Command, Reply};
+use qm_store::{Given, Store};
+use std::alloc::{AllocError, Global};
+
+/// Why a run ended.
+#[derive(Clone, Copy, Debug, PartialEq, Eq)]
+pub enum End {
+    /// Every command has its reply.
+    Done,
+    /// There was no memory for the next command or its reply.
+    Memory,
+    /// The store failed in the next command.
+    StoreFault,
+}
+
+/// What a run gives: a reply to each command before the end, why it ended, and the store.
+#[derive(Drop)]
+pub struct Outcome<X: Engine<C>, C: Store> {
+    pub replies: Vec<Reply<X::Key, X::Value, X::Digest>>,
+    pub end: End,
+    pub store: C,
+}
+
+fn push_reply<K: Drop, V: Drop, D: Drop>(
+    replies: &mut Vec<Reply<K, V, D>>,
+    reply: Reply<K, V, D>,
+) -> Result<(), AllocError>
+    ensures ok { OnOk result (replies.new.items ≡ replies.old.items ++ reply ∷ []) }
+    ensures err { OnErr result (replies.new.items ≡ replies.old.items) }
+{
+    replies.push(reply)?;
+    Ok(())
+}
+
+// One command, whose reply goes last. An end tells why there is none.
+fn step<X: Engine<C>, C: Store>(
+    alloc: Global,
+    config: &X::Config,
+    session: Of<X, C>,
+    replies: &mut Vec<Reply<X::Key, X::Value, X::Digest>>,
+    command: &Command<X::Key, X::Value, AnyPolicy>,
+) -> (Of<X, C>, Option<End>)
+    requires { session.opened + 1 < 2 ^ 64 }
+    ensures machine { (s : machine.State) → Stands (meaning X.Engine C.Store) session s → IfNone result.1
+        (let next = machine.turn (scheme_of X.Engine) s (line_view X.Key.bytes X.Value.bytes policy_view command.now) in
+        Apart X.root next.1.had → (map (answer_view X.Key.bytes X.Value.bytes X.Digest.bytes) replies.new.items ≡ map (answer_view X.Key.bytes X.Value.bytes X.Digest.bytes) replies.old.items ++ next.0 ∷ [])
+        × Stands (meaning X.Engine C.Store) result.0 next.1) }
+    ensures left { Leaves (meaning X.Engine C.Store) X.root session result.0
+        (λ s. machine.turn (scheme_of X.Engine) s (line_view X.Key.bytes X.Value.bytes policy_view command.now)) }
+    ensures grown { IfNone result.1 (length replies.new.items ≡ length replies.old.items + 1) }
+    ensures kept { OnSome result.1 (replies.new.items ≡ replies.old.items) }
+    ensures not_done { IfSome result.1 (λ e. e ≢ End.Done) }
+    ensures later { C.faults (store_given X.inside session.held) ≤ C.faults (store_given X.inside result.0.held) }
+    ensures fault { result.1 ≡ Some End.StoreFault → Rose (C.faults (store_given X.inside session.held)) (C.faults (store_given X.inside result.0.held)) }
+    ensures opened { result.0.opened ≤ session.opened + 1 }
+{
+    let (session, turn) = turn::<X, C>(alloc, config, session, command);
+    match turn {
+        Turn::Memory => (session, Some(End::Memory)),
+        Turn::StoreFault => (session, Some(End::StoreFault)),
+        Turn::Reply(reply) => match push_reply(replies, reply) {
+            Ok(()) => (session, None),
+            Err(_) => (session, Some(End::Memory)),
+        },
+    }
+}
+
+// A session with a closed store, and no batch.
+pub(crate) fn begin<X: Engine<C>, C: Store>(alloc: Global, store: C) -> Result<Of<X, C>, C>
+    ensures session { IfOk result (λ session. (items : List Bytes) → C.items store ≡ Some items → C.start store ≡ 0 → Stands (meaning X.Engine C.Store) session (machine.initial items)) }
+    ensures store { IfOk result (λ session. store_given X.inside session.held ≡ store) }
+    ensures opened { IfOk result (λ session. session.opened ≡ 0) }
+    ensures back { IfErr result (λ c. c ≡ store) }
+{
+    let mut table = Vec::new(alloc);
+    match push_slot(&mut table, Slot::Gone) {
+        Err(_) => Err(store),
+        Ok(()) => Ok(Session {
+            held: Given::Store(store),
+            table,
+            opened: 0,
+        }),
+    }
+}
+
+/// Runs the commands over the store, from no database, up to their end or to the first for which memory or the
+/// store fails. Accepted openings are numbered from 1, batches too. The gate holds the workers of an opening.
+pub fn run<X: Engine<C>, C: Store, G: Gate>(
+    alloc: Global,
+    store: C,
+    config: X::Config,
+    commands: &[Command<X::Key, X::Value, AnyPolicy>],
+    _gate: &G,
+) -> Outcome<X, C>
+    ensures machine { C.start store ≡ 0 → IfSome (C.items store) (λ items. IsRun (scheme_of X.Engine) items
+        (map (line_view X.Key.bytes X.Value.bytes policy_view) commands.now) (map (answer_view X.Key.bytes X.Value.bytes X.Digest.bytes) result.replies.items) (C.items result.store)) }
+    ensures done { result.end ≡ End.Done → length result.replies.items ≡ length commands.now }
+    ensures short { result.end ≡ End.StoreFault → length result.replies.items < length commands.now }
+    ensures later { C.faults store ≤ C.faults result.store }
+    ensures fault { result.end ≡ End.StoreFault → Rose (C.faults store) (C.faults result.store) }
+{
+    let mut replies = Vec::new(alloc);
+    let mut session = match begin::<X, C>(alloc, store) {
+        Ok(session) => session,
+        Err(store) => {
+            return Outcome {
+                replies,
+                end: End::Memory,
+                store,
+            };
+        }
+    };
+    for command in commands {
+        let (next, ended) = step::<X, C>(alloc, &config, session, &mut replies, command);
+        session = next;
+        if let Some(end) = ended {
+            return Outcome {
+                replies,
+                end,
+                store: close::<X, C>(session.held),
+            };
+        }
+    }
+    Outcome {
+        replies,
+        end: End::Done,
+        store: close::<X, C>(session.held),
+    }
+}

@@ -1,0 +1,80 @@
+// What a run holds between two commands.
+ghost use Rattle.std.specs.Prelude.{◌≡◌};
+ghost use Rattle.qm_store.specs.Given.{store_given};
+ghost use Rattle.qm_engine.specs.Turn.{turn_of_tree, turn_of_log, turn_of_error};
+
+use crate::engine::Engine;
+use crate::table::Slot;
+use qm_base::{Error, JournalError, MerkleError};
+use qm_lines::{LogRefused, Refused, Reply, TreeRefused};
+use qm_store::{Given, Store};
+
+/// The database or its store, the batches, and how many openings were accepted.
+#[derive(Drop)]
+pub struct Session<X, C, B, M> {
+    pub held: Given<X, C>,
+    pub table: Vec<Slot<B, M>>,
+    pub opened: u64,
+}
+
+pub type Of<X, C> = Session<X, C, <X as Engine<C>>::Batch, <X as Engine<C>>::Merkleized>;
+
+/// What a command comes to: a reply, or why the run ends.
+#[derive(Drop)]
+pub enum Turn<K, V, D> {
+    Reply(Reply<K, V, D>),
+    Memory,
+    StoreFault,
+}
+
+// What an error of a tree comes to.
+fn turn_of_tree<K: Drop, V: Drop, D: Drop>(error: MerkleError) -> Turn<K, V, D>
+    ensures { result ≡ turn_of_tree error }
+{
+    let refused = match error {
+        MerkleError::Memory => return Turn::Memory,
+        MerkleError::RangeOutOfBounds(at) => TreeRefused::RangeOutOfBounds(at),
+        MerkleError::ElementPruned(position) => TreeRefused::ElementPruned(position),
+        MerkleError::MissingNode(position) => TreeRefused::MissingNode(position),
+        MerkleError::LocationOverflow(count) => TreeRefused::LocationOverflow(count),
+    };
+    Turn::Reply(Reply::Refused(Refused::Merkle(refused)))
+}
+
+// What an error of a log comes to.
+fn turn_of_log<K: Drop, V: Drop, D: Drop>(error: JournalError) -> Turn<K, V, D>
+    ensures { result ≡ turn_of_log error }
+{
+    let refused = match error {
+        JournalError::Store => return Turn::StoreFault,
+        JournalError::ItemPruned(location) => LogRefused::ItemPruned(location),
+        JournalError::ItemTooLarge(length) => LogRefused::ItemTooLarge(length),
+    };
+    Turn::Reply(Reply::Refused(Refused::Journal(refused)))
+}
+
+/// What an error of a call comes to: a refusal, or the end of the run.
+pub fn turn_of<K: Drop, V: Drop, D: Drop>(error: Error) -> Turn<K, V, D>
+    ensures { result ≡ turn_of_error error }
+{
+    let refused = match error {
+        Error::Memory => return Turn::Memory,
+        Error::Merkle(error) => return turn_of_tree(error),
+        Error::Journal(error) => return turn_of_log(error),
+        Error::StaleBatch => Refused::StaleBatch,
+        Error::StaleRead => Refused::StaleRead,
+        Error::HistoricalFloorPruned(size) => Refused::HistoricalFloorPruned(size),
+        Error::DataCorrupted(corrupt) => Refused::DataCorrupted(corrupt),
+    };
+    Turn::Reply(Reply::Refused(refused))
+}
+
+/// The store that is held, by itself or inside the database.
+pub fn close<X: Engine<C>, C: Store>(held: Given<X, C>) -> C
+    ensures { result ≡ store_given X.inside held }
+{
+    match held {
+        Given::Database(x) => x.close(),
+        Given::Store(store) => store,
+    }
+}

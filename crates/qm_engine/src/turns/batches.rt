@@ -1,0 +1,295 @@
+// Commands that make, fill and apply batches.
+ghost use Rattle.std.specs.Prelude.{◌≡◌, ◌++◌, ◌∷◌, [], ◌≤◌, ◌≢◌, List, Some, None, true, option_map, IfOk, IfErr, IfSome};
+ghost use Rattle.qm_model.specs.Forms.{variable};
+ghost use Rattle.qm_model.specs.Causes.{Rose};
+ghost use Rattle.qm_model.specs.Operations.{Operation};
+ghost use Rattle.qm_model.specs.Writes.{Write};
+ghost use Rattle.qm_model.specs.Step.{step};
+ghost use Rattle.qm_model.specs.Batches.{Chain, IsOnChain, commitment, fits};
+ghost use Rattle.qm_model.specs.Policies.{policies};
+ghost use Rattle.qm_model.specs.Refusals.{tip_refusal};
+ghost use Rattle.qm_machine.specs.Machine.{State};
+ghost use Rattle.qm_machine.specs.Machine as machine;
+ghost use Rattle.qm_lines.specs.Views.{policy_view};
+ghost use Rattle.qm_store.specs.Given.{store_given, IsUnchanged, TellsAll};
+ghost use Rattle.qm_store.specs.Refusals.{refusal_of};
+ghost use Rattle.qm_engine.specs.Session.{meaning, scheme_of, SlotIs, Stands, Follows, Obeys, Leaves, Causes};
+
+use crate::engine::Engine;
+use crate::session::{Of, Session, Turn, turn_of};
+use crate::table::{Slot, merkleized_at, push_slot, put_slot, take_writing};
+use qm_base::{Error, JournalError, Twin};
+use qm_lines::{AnyPolicy, Refused, Reply};
+use qm_store::{Given, Store};
+use std::alloc::{AllocError, Global};
+
+// Gives a batch the next number.
+fn started<X: Engine<C>, C: Store>(
+    session: &mut Of<X, C>,
+    slot: Slot<X::Batch, X::Merkleized>,
+) -> Turn<X::Key, X::Value, X::Digest>
+    ensures machine { (s : State) (new : machine.Slot) → Stands (meaning X.Engine C.Store) session.old s → SlotIs (meaning X.Engine C.Store) s.had slot new
+        → Follows (meaning X.Engine C.Store) X.Key.bytes X.Value.bytes X.Digest.bytes X.root session.new result (machine.started s new) }
+    ensures rest { session.new ≡ record session.old { table = session.new.table } }
+    ensures never { result ≢ Turn.StoreFault }
+{
+    let number = session.table.len() as u64;
+    match push_slot(&mut session.table, slot) {
+        Err(_) => Turn::Memory,
+        Ok(()) => Turn::Reply(Reply::Batch(number)),
+    }
+}
+
+/// Begins a batch on the database, and gives it the next number.
+pub fn batch<X: Engine<C>, C: Store>(
+    alloc: Global,
+    session: &mut Of<X, C>,
+) -> Turn<X::Key, X::Value, X::Digest>
+    ensures machine { Obeys (meaning X.Engine C.Store) X.Key.bytes X.Value.bytes X.Digest.bytes X.root session.old session.new result
+        (machine.start_batch) }
+    ensures rest { session.new ≡ record session.old { table = session.new.table } }
+    ensures never { result ≢ Turn.StoreFault }
+{
+    let Given::Database(x) = &session.held else {
+        return Turn::Reply(Reply::Refused(Refused::NoDatabase));
+    };
+    match x.batch(alloc) {
+        Err(_) => Turn::Memory,
+        Ok(made) => started::<X, C>(session, Slot::Writing(made)),
+    }
+}
+
+/// Begins a batch on a merkleized one, and gives it the next number.
+pub fn child<X: Engine<C>, C: Store>(
+    alloc: Global,
+    session: &mut Of<X, C>,
+    number: u64,
+    keep: Option<u64>,
+) -> Turn<X::Key, X::Value, X::Digest>
+    ensures machine { Obeys (meaning X.Engine C.Store) X.Key.bytes X.Value.bytes X.Digest.bytes X.root session.old session.new result
+        (λ s. machine.child s number keep) }
+    ensures rest { session.new ≡ record session.old { table = session.new.table } }
+    ensures never { result ≢ Turn.StoreFault }
+{
+    let Some(batch) = merkleized_at(&session.table, number) else {
+        return Turn::Reply(Reply::Refused(Refused::NoSuchHandle(number)));
+    };
+    match X::child(alloc, batch, keep) {
+        Err(_) => Turn::Memory,
+        Ok(made) => started::<X, C>(session, Slot::Writing(made)),
+    }
+}
+
+/// Takes the database as a merkleized batch, and gives it the next number.
+pub fn tip<X: Engine<C>, C: Store>(
+    alloc: Global,
+    session: &mut Of<X, C>,
+) -> Turn<X::Key, X::Value, X::Digest>
+    ensures machine { Obeys (meaning X.Engine C.Store) X.Key.bytes X.Value.bytes X.Digest.bytes X.root session.old session.new result
+        (machine.start_tip) }
+    ensures rest { session.new ≡ record session.old { table = session.new.table } }
+    ensures never { result ≢ Turn.StoreFault }
+{
+    let Given::Database(x) = &session.held else {
+        return Turn::Reply(Reply::Refused(Refused::NoDatabase));
+    };
+    match x.tip(alloc) {
+        Err(_) => Turn::Memory,
+        Ok(made) => started::<X, C>(session, Slot::Merkleized(made)),
+    }
+}
+
+// Writes copies of key and value.
+fn write<X: Engine<C>, C: Store>(
+    alloc: Global,
+    batch: X::Batch,
+    key: &X::Key,
+    value: &X::Value,
+) -> Result<X::Batch, AllocError>
+    ensures { IfOk result (λ b. (chain above : Chain) (ws : List Write) → X.is_batch batch chain above ws
+        → X.is_batch b chain above (ws ++ record { key = X.Key.bytes key.now; value = Some (X.Value.bytes value.now) } ∷ [])) }
+{
+    let key = key.twin(alloc)?;
+    let value = value.twin(alloc)?;
+    X::put(alloc, batch, key, value)
+}
+
+/// Writes a value for a key in a batch.
+pub fn put<X: Engine<C>, C: Store>(
+    alloc: Global,
+    session: &mut Of<X, C>,
+    number: u64,
+    key: &X::Key,
+    value: &X::Value,
+) -> Turn<X::Key, X::Value, X::Digest>
+    ensures machine { Obeys (meaning X.Engine C.Store) X.Key.bytes X.Value.bytes X.Digest.bytes X.root session.old session.new result
+        (λ s. machine.put s number (X.Key.bytes key.now) (X.Value.bytes value.now)) }
+    ensures rest { session.new ≡ record session.old { table = session.new.table } }
+    ensures never { result ≢ Turn.StoreFault }
+{
+    let Some(batch) = take_writing(&mut session.table, number) else {
+        return Turn::Reply(Reply::Refused(Refused::NoSuchHandle(number)));
+    };
+    match write::<X, C>(alloc, batch, key, value) {
+        Err(_) => Turn::Memory,
+        Ok(batch) => {
+            put_slot(&mut session.table, number, Slot::Writing(batch));
+            Turn::Reply(Reply::Done)
+        }
+    }
+}
+
+// Deletes a copy of the key.
+fn erase<X: Engine<C>, C: Store>(
+    alloc: Global,
+    batch: X::Batch,
+    key: &X::Key,
+) -> Result<X::Batch, AllocError>
+    ensures { IfOk result (λ b. (chain above : Chain) (ws : List Write) → X.is_batch batch chain above ws
+        → X.is_batch b chain above (ws ++ record { key = X.Key.bytes key.now; value = None } ∷ [])) }
+{
+    let key = key.twin(alloc)?;
+    X::del(alloc, batch, key)
+}
+
+/// Deletes a key in a batch.
+pub fn del<X: Engine<C>, C: Store>(
+    alloc: Global,
+    session: &mut Of<X, C>,
+    number: u64,
+    key: &X::Key,
+) -> Turn<X::Key, X::Value, X::Digest>
+    ensures machine { Obeys (meaning X.Engine C.Store) X.Key.bytes X.Value.bytes X.Digest.bytes X.root session.old session.new result
+        (λ s. machine.del s number (X.Key.bytes key.now)) }
+    ensures rest { session.new ≡ record session.old { table = session.new.table } }
+    ensures never { result ≢ Turn.StoreFault }
+{
+    let Some(batch) = take_writing(&mut session.table, number) else {
+        return Turn::Reply(Reply::Refused(Refused::NoSuchHandle(number)));
+    };
+    match erase::<X, C>(alloc, batch, key) {
+        Err(_) => Turn::Memory,
+        Ok(batch) => {
+            put_slot(&mut session.table, number, Slot::Writing(batch));
+            Turn::Reply(Reply::Done)
+        }
+    }
+}
+
+// Merkleizes under a twin of the policy.
+fn merkleize_batch<X: Engine<C>, C: Store>(
+    alloc: Global,
+    database: &mut X,
+    batch: X::Batch,
+    policy: &AnyPolicy,
+    metadata: &Option<X::Value>,
+) -> Result<X::Merkleized, Error>
+    ensures fits { IfOk result (λ b. (list : List Operation) (chain above : Chain) (ws : List Write) → X.stands database.old list → X.is_batch batch chain above ws
+        → fits X.root (commitment X.root list) chain ≡ true) }
+    ensures made { IfOk result (λ b. (list : List Operation) (chain above : Chain) (ws : List Write) → X.stands database.old list → X.is_batch batch chain above ws → IsOnChain list chain
+        → let tip = step X.kind policies chain.base ws (policy_view policy.now) (option_map X.Value.bytes metadata.now) in
+        (tip_refusal variable chain tip ≡ None) × X.is_merkleized b chain tip) }
+    ensures stale { IfErr result (λ e. e ≡ Error.StaleBatch → (list : List Operation) (chain above : Chain) (ws : List Write) → X.stands database.old list → X.is_batch batch chain above ws
+        → ¬ IsOnChain list chain) }
+    ensures refused { IfErr result (λ e. e ≢ Error.StaleBatch → TellsAll C.Store (X.inside database.old)
+        → (list : List Operation) (chain above : Chain) (ws : List Write) → X.stands database.old list → X.is_batch batch chain above ws
+        → IfSome (refusal_of e) (λ r. (fits X.root (commitment X.root list) chain ≡ true)
+        × (IsOnChain list chain → tip_refusal variable chain (step X.kind policies chain.base ws (policy_view policy.now) (option_map X.Value.bytes metadata.now)) ≡ Some r))) }
+    ensures same { (list : List Operation) → X.stands database.old list → X.stands database.new list }
+    ensures store { IsUnchanged C.Store (X.inside database.old) (X.inside database.new) }
+    ensures cause { IfErr result (λ e. e ≡ Error.Journal JournalError.Store → Rose (C.faults (X.inside database.old)) (C.faults (X.inside database.new))) }
+    ensures later { C.faults (X.inside database.old) ≤ C.faults (X.inside database.new) }
+{
+    let mut policy = policy.twin(alloc)?;
+    database.merkleize(alloc, batch, &mut policy, metadata)
+}
+
+/// Merkleizes a batch, which keeps its number.
+pub fn merkleize<X: Engine<C>, C: Store>(
+    alloc: Global,
+    session: &mut Of<X, C>,
+    number: u64,
+    policy: &AnyPolicy,
+    metadata: &Option<X::Value>,
+) -> Turn<X::Key, X::Value, X::Digest>
+    ensures machine { Obeys (meaning X.Engine C.Store) X.Key.bytes X.Value.bytes X.Digest.bytes X.root session.old session.new result
+        (λ s. machine.merkleize (scheme_of X.Engine) s number (policy_view policy.now) (option_map X.Value.bytes metadata.now)) }
+    ensures store { IsUnchanged C.Store (store_given X.inside session.old.held) (store_given X.inside session.new.held) }
+    ensures causes { Causes (C.faults (store_given X.inside session.old.held)) (C.faults (store_given X.inside session.new.held)) result }
+    ensures opened { session.new.opened ≡ session.old.opened }
+{
+    let Given::Database(x) = &mut session.held else {
+        return Turn::Reply(Reply::Refused(Refused::NoDatabase));
+    };
+    let Some(batch) = take_writing(&mut session.table, number) else {
+        return Turn::Reply(Reply::Refused(Refused::NoSuchHandle(number)));
+    };
+    match merkleize_batch::<X, C>(alloc, x, batch, policy, metadata) {
+        Err(error) => turn_of(error),
+        Ok(batch) => {
+            let sizes = X::sizes(&batch);
+            put_slot(&mut session.table, number, Slot::Merkleized(batch));
+            Turn::Reply(Reply::Merkleized(number, sizes.base, sizes.tip, sizes.floor))
+        }
+    }
+}
+
+pub fn apply<X: Engine<C>, C: Store>(
+    alloc: Global,
+    session: Of<X, C>,
+    number: u64,
+) -> (Of<X, C>, Turn<X::Key, X::Value, X::Digest>)
+    ensures machine { Obeys (meaning X.Engine C.Store) X.Key.bytes X.Value.bytes X.Digest.bytes X.root session result.0 result.1
+        (λ s. machine.apply (scheme_of X.Engine) s number) }
+    ensures left { Leaves (meaning X.Engine C.Store) X.root session result.0
+        (λ s. machine.apply (scheme_of X.Engine) s number) }
+    ensures causes { Causes (C.faults (store_given X.inside session.held)) (C.faults (store_given X.inside result.0.held)) result.1 }
+    ensures opened { result.0.opened ≡ session.opened }
+{
+    let Session {
+        held,
+        table,
+        opened,
+    } = session;
+    match held {
+        Given::Store(store) => (
+            Session {
+                held: Given::Store(store),
+                table,
+                opened,
+            },
+            Turn::Reply(Reply::Refused(Refused::NoDatabase)),
+        ),
+        Given::Database(x) => match merkleized_at(&table, number) {
+            None => (
+                Session {
+                    held: Given::Database(x),
+                    table,
+                    opened,
+                },
+                Turn::Reply(Reply::Refused(Refused::NoSuchHandle(number))),
+            ),
+            Some(batch) => match x.apply(alloc, batch) {
+                Ok(x) => {
+                    let numbers = x.info();
+                    (
+                        Session {
+                            held: Given::Database(x),
+                            table,
+                            opened,
+                        },
+                        Turn::Reply(Reply::Applied(numbers.size)),
+                    )
+                }
+                Err(refusal) => (
+                    Session {
+                        held: refusal.given,
+                        table,
+                        opened,
+                    },
+                    turn_of(refusal.error),
+                ),
+            },
+        },
+    }
+}

@@ -1,0 +1,211 @@
+// Commands that read, list and tell.
+ghost use Rattle.std.specs.Prelude.{◌≡◌, ◌≢◌, ◌∷◌, [], List, Some, None, map, Contains, IfOk};
+ghost use Rattle.qm_model.specs.Operations.{Operation};
+ghost use Rattle.qm_machine.specs.Machine.{State};
+ghost use Rattle.qm_machine.specs.Machine as machine;
+ghost use Rattle.qm_store.specs.Given.{store_given, IsUnchanged, TellsAll};
+ghost use Rattle.qm_engine.specs.Session.{meaning, scheme_of, SlotIs, Answers, Obeys, Tells, Causes};
+
+use crate::engine::{BatchSizes, Engine, Numbers};
+use crate::session::{Of, Turn, turn_of};
+use crate::table::{Slot, merkleized_at, slot_at};
+use qm_base::{Key, Twin};
+use qm_lines::{Refused, Reply};
+use qm_store::{Given, Store};
+use std::alloc::{AllocError, Global};
+
+// Reads the values of keys through what a batch number names.
+fn read_slot<X: Engine<C>, C: Store>(
+    alloc: Global,
+    database: &mut X,
+    number: u64,
+    slot: &Slot<X::Batch, X::Merkleized>,
+    keys: &[X::Key],
+) -> Turn<X::Key, X::Value, X::Digest>
+    ensures machine { (s : State) (list : List Operation) (named : machine.Slot) → TellsAll C.Store (X.inside database.old) → X.stands database.old list → Contains s.had list
+        → SlotIs (meaning X.Engine C.Store) s.had slot.now named
+        → Answers X.Key.bytes X.Value.bytes X.Digest.bytes X.root result s (machine.read_in (scheme_of X.Engine) s number (map X.Key.bytes keys.now) list named) }
+    ensures same { (list : List Operation) → X.stands database.old list → X.stands database.new list }
+    ensures store { IsUnchanged C.Store (X.inside database.old) (X.inside database.new) }
+    ensures causes { Causes (C.faults (X.inside database.old)) (C.faults (X.inside database.new)) result }
+{
+    match slot {
+        Slot::Gone => Turn::Reply(Reply::Refused(Refused::NoSuchHandle(number))),
+        Slot::Writing(batch) => match database.get_through(alloc, batch, keys) {
+            Ok(values) => Turn::Reply(Reply::Read(values)),
+            Err(error) => turn_of(error),
+        },
+        Slot::Merkleized(batch) => match database.get_from(alloc, batch, keys) {
+            Ok(values) => Turn::Reply(Reply::Read(values)),
+            Err(error) => turn_of(error),
+        },
+    }
+}
+
+/// Reads the values of keys, through a batch where its number is given.
+pub fn read<X: Engine<C>, C: Store>(
+    alloc: Global,
+    session: &mut Of<X, C>,
+    keys: &[X::Key],
+    from: Option<u64>,
+) -> Turn<X::Key, X::Value, X::Digest>
+    ensures machine { Obeys (meaning X.Engine C.Store) X.Key.bytes X.Value.bytes X.Digest.bytes X.root session.old session.new result
+        (λ s. machine.read (scheme_of X.Engine) s (map X.Key.bytes keys.now) from) }
+    ensures store { IsUnchanged C.Store (store_given X.inside session.old.held) (store_given X.inside session.new.held) }
+    ensures causes { Causes (C.faults (store_given X.inside session.old.held)) (C.faults (store_given X.inside session.new.held)) result }
+    ensures opened { session.new.opened ≡ session.old.opened }
+{
+    let Given::Database(x) = &mut session.held else {
+        return Turn::Reply(Reply::Refused(Refused::NoDatabase));
+    };
+    match from {
+        None => match x.get(alloc, keys) {
+            Ok(values) => Turn::Reply(Reply::Read(values)),
+            Err(error) => turn_of(error),
+        },
+        Some(number) => match slot_at(&session.table, number) {
+            None => Turn::Reply(Reply::Refused(Refused::NoSuchHandle(number))),
+            Some(slot) => read_slot::<X, C>(alloc, x, number, slot, keys),
+        },
+    }
+}
+
+// A copy of the key, alone.
+fn alone<K: Key>(alloc: Global, key: &K) -> Result<Vec<K>, AllocError>
+    ensures { IfOk result (λ keys. keys.items ≡ key.now ∷ []) }
+{
+    let key = key.twin(alloc)?;
+    let mut keys = Vec::new(alloc);
+    keys.push(key)?;
+    Ok(keys)
+}
+
+/// Reads the value of a key, through a batch where its number is given.
+pub fn read_key<X: Engine<C>, C: Store>(
+    alloc: Global,
+    session: &mut Of<X, C>,
+    key: &X::Key,
+    from: Option<u64>,
+) -> Turn<X::Key, X::Value, X::Digest>
+    ensures machine { Obeys (meaning X.Engine C.Store) X.Key.bytes X.Value.bytes X.Digest.bytes X.root session.old session.new result
+        (λ s. machine.read (scheme_of X.Engine) s (X.Key.bytes key.now ∷ []) from) }
+    ensures store { IsUnchanged C.Store (store_given X.inside session.old.held) (store_given X.inside session.new.held) }
+    ensures causes { Causes (C.faults (store_given X.inside session.old.held)) (C.faults (store_given X.inside session.new.held)) result }
+    ensures opened { session.new.opened ≡ session.old.opened }
+{
+    match alone(alloc, key) {
+        Err(_) => Turn::Memory,
+        Ok(keys) => read::<X, C>(alloc, session, &keys, from),
+    }
+}
+
+/// A merkleized batch's own operations, and the size of the list that it was made from.
+pub fn ops<X: Engine<C>, C: Store>(
+    alloc: Global,
+    session: &Of<X, C>,
+    number: u64,
+) -> Turn<X::Key, X::Value, X::Digest>
+    ensures machine { Tells (meaning X.Engine C.Store) X.Key.bytes X.Value.bytes X.Digest.bytes X.root session.now result
+        (λ s. machine.ops s number) }
+    ensures never { result ≢ Turn.StoreFault }
+{
+    let Some(batch) = merkleized_at(&session.table, number) else {
+        return Turn::Reply(Reply::Refused(Refused::NoSuchHandle(number)));
+    };
+    match X::ops(alloc, batch) {
+        Err(_) => Turn::Memory,
+        Ok((base, operations)) => Turn::Reply(Reply::Ops(base, operations)),
+    }
+}
+
+/// The numbers of the database.
+pub fn info<X: Engine<C>, C: Store>(session: &Of<X, C>) -> Turn<X::Key, X::Value, X::Digest>
+    ensures machine { Tells (meaning X.Engine C.Store) X.Key.bytes X.Value.bytes X.Digest.bytes X.root session.now result
+        (machine.info (scheme_of X.Engine)) }
+    ensures never { result ≢ Turn.StoreFault }
+{
+    let Given::Database(x) = &session.held else {
+        return Turn::Reply(Reply::Refused(Refused::NoDatabase));
+    };
+    let Numbers {
+        start,
+        size,
+        floor,
+        boundary,
+        is_live,
+    } = x.info();
+    Turn::Reply(Reply::Info(start, size, floor, boundary, is_live))
+}
+
+/// The numbers of a merkleized batch.
+pub fn batch_info<X: Engine<C>, C: Store>(
+    session: &Of<X, C>,
+    number: u64,
+) -> Turn<X::Key, X::Value, X::Digest>
+    ensures machine { Tells (meaning X.Engine C.Store) X.Key.bytes X.Value.bytes X.Digest.bytes X.root session.now result
+        (λ s. machine.batch_info (scheme_of X.Engine) s number) }
+    ensures never { result ≢ Turn.StoreFault }
+{
+    let Some(batch) = merkleized_at(&session.table, number) else {
+        return Turn::Reply(Reply::Refused(Refused::NoSuchHandle(number)));
+    };
+    let BatchSizes {
+        base,
+        tip,
+        floor,
+        boundary,
+    } = X::sizes(batch);
+    Turn::Reply(Reply::BatchInfo(base, tip, floor, boundary))
+}
+
+/// The root of the database.
+pub fn root<X: Engine<C>, C: Store>(
+    alloc: Global,
+    session: &Of<X, C>,
+) -> Turn<X::Key, X::Value, X::Digest>
+    ensures machine { Tells (meaning X.Engine C.Store) X.Key.bytes X.Value.bytes X.Digest.bytes X.root session.now result
+        (machine.root (scheme_of X.Engine)) }
+    ensures never { result ≢ Turn.StoreFault }
+{
+    let Given::Database(x) = &session.held else {
+        return Turn::Reply(Reply::Refused(Refused::NoDatabase));
+    };
+    match x.root(alloc) {
+        Err(_) => Turn::Memory,
+        Ok(root) => Turn::Reply(Reply::Root(root, root)),
+    }
+}
+
+/// The root of the list that a merkleized batch makes.
+pub fn batch_root<X: Engine<C>, C: Store>(
+    session: &Of<X, C>,
+    number: u64,
+) -> Turn<X::Key, X::Value, X::Digest>
+    ensures machine { Tells (meaning X.Engine C.Store) X.Key.bytes X.Value.bytes X.Digest.bytes X.root session.now result
+        (λ s. machine.batch_root (scheme_of X.Engine) s number) }
+    ensures never { result ≢ Turn.StoreFault }
+{
+    let Some(batch) = merkleized_at(&session.table, number) else {
+        return Turn::Reply(Reply::Refused(Refused::NoSuchHandle(number)));
+    };
+    let root = X::batch_root(batch);
+    Turn::Reply(Reply::Root(root, root))
+}
+
+/// The metadata of the list's last commit.
+pub fn meta<X: Engine<C>, C: Store>(
+    alloc: Global,
+    session: &Of<X, C>,
+) -> Turn<X::Key, X::Value, X::Digest>
+    ensures machine { Tells (meaning X.Engine C.Store) X.Key.bytes X.Value.bytes X.Digest.bytes X.root session.now result
+        (machine.meta) }
+    ensures never { result ≢ Turn.StoreFault }
+{
+    let Given::Database(x) = &session.held else {
+        return Turn::Reply(Reply::Refused(Refused::NoDatabase));
+    };
+    match x.metadata(alloc) {
+        Err(_) => Turn::Memory,
+        Ok(metadata) => Turn::Reply(Reply::Meta(metadata)),
+    }
+}

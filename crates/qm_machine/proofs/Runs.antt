@@ -1,0 +1,123 @@
+-- Runs of the machine: one command more, and lists that a run has had stay so.
+use Rattle.std.proofs.Common.{◌≡◌, ℕ, Bool, true, false, cond, List, [], ◌∷◌, ◌++◌, Option, Some, None, refl, ap}
+use Rattle.std.specs.Prelude.{Contains}
+use Rattle.qm_model.specs.Operations.{Bytes, Operation, fresh}
+use Rattle.qm_model.specs.Writes.{Write}
+use Rattle.qm_model.specs.Batches.{Chain, Apart, commitment, fits, readable}
+use Rattle.qm_machine.specs.Lines.{Line, Open, Batch, Child, Tip, Put, Del, Merkleize, Apply, Ops, Get, Many, Info, BatchInfo, Root, BatchRoot, BatchProof, Meta, Prove, Pins, Answer}
+use Rattle.qm_model.specs.Refused.{Refused}
+use Rattle.qm_machine.specs.Machine.{Scheme, State, Slot, gone, writing, merkleized, turn, answers, state_after, slot_at, start_child, put_in, list_operations, with_database, opening_refusal, open_unless, unless, merkleize_tip, merkleize_in, apply_in, if_readable, read_in, read, info_in, root_in, proof_in}
+use Rattle.qm_model.specs.Forms.{variable}
+use Rattle.qm_model.specs.Refusals.{tip_refusal, proof_refusal, pins_refusal}
+use Rattle.qm_model.proofs.Chains.{Contains-more}
+
+pub state_after-push : {P : Type 0} (m : Scheme P) (s : State) (lines : List (Line P)) (line : Line P) → state_after m s (lines ++ line ∷ []) ≡ (turn m (state_after m s lines) line).1
+state_after-push m s [] line = refl
+state_after-push m s (l ∷ lines) line = state_after-push m (turn m s l).1 lines line
+
+pub answers-push : {P : Type 0} (m : Scheme P) (s : State) (lines : List (Line P)) (line : Line P) → answers m s (lines ++ line ∷ []) ≡ answers m s lines ++ (turn m (state_after m s lines) line).0 ∷ []
+answers-push m s [] line = refl
+answers-push m s (l ∷ lines) line = ap (λ r. (turn m s l).0 ∷ r) (answers-push m (turn m s l).1 lines line)
+
+-- what an answer leaves keeps each list that was had
+abbrev Keeps : State → Answer × State → Type 0
+Keeps s next = (x : List Operation) → Contains s.had x → Contains (next.1).had x
+
+either : (s : State) (t : Bool) (p q : Answer × State) → Keeps s p → Keeps s q → Keeps s (cond t p q)
+either s true p q a b = a
+either s false p q a b = b
+
+with_list : (s : State) (d : Option (List Operation)) (f : List Operation → Answer × State) → ((list : List Operation) → Keeps s (f list)) → Keeps s (with_database s d f)
+with_list s None f h = λ x a. a
+with_list s (Some list) f h = h list
+
+opened : (s : State) (r : Option Refused) → Keeps s (open_unless s r)
+opened s None = λ x a. Contains-more s.had fresh x a
+opened s (Some r) = λ x a. a
+
+put_keeps : (s : State) (h : ℕ) (w : Write) (slot : Slot) → Keeps s (put_in s h w slot)
+put_keeps s h w gone = λ x a. a
+put_keeps s h w (writing chain parent ws) = λ x a. a
+put_keeps s h w (merkleized chain tip) = λ x a. a
+
+listed_keeps : (s : State) (h : ℕ) (slot : Slot) → Keeps s (list_operations s h slot)
+listed_keeps s h gone = λ x a. a
+listed_keeps s h (writing chain parent ws) = λ x a. a
+listed_keeps s h (merkleized chain tip) = λ x a. a
+
+child_keeps : (s : State) (h : ℕ) (keep : Option ℕ) (slot : Slot) → Keeps s (start_child s h keep slot)
+child_keeps s h keep gone = λ x a. a
+child_keeps s h keep (writing chain parent ws) = λ x a. a
+child_keeps s h keep (merkleized chain tip) = λ x a. a
+
+unless_keeps : (s : State) (due : Option Refused) (answer : Answer) → Keeps s (unless s due answer)
+unless_keeps s None answer = λ x a. a
+unless_keeps s (Some r) answer = λ x a. a
+
+module _ {P : Type 0} (m : Scheme P) where
+  tip_keeps : (s : State) (h : ℕ) (chain : Chain) (tip : List Operation) (due : Option Refused) → Keeps s (merkleize_tip m s h chain tip due)
+  tip_keeps s h chain tip None = λ x a. Contains-more s.had tip x a
+  tip_keeps s h chain tip (Some r) = λ x a. a
+
+  merkleize_keeps : (s : State) (h : ℕ) (policy : P) (meta : Option Bytes) (list : List Operation) (slot : Slot) → Keeps s (merkleize_in m s h policy meta list slot)
+  merkleize_keeps s h policy meta list gone = λ x a. a
+  merkleize_keeps s h policy meta list (merkleized chain tip) = λ x a. a
+  merkleize_keeps s h policy meta list (writing chain parent ws) =
+      either s (fits m.root (commitment m.root list) chain) _ _ (tip_keeps s h chain _ (tip_refusal variable chain _)) (λ x a. a)
+
+  apply_keeps : (s : State) (h : ℕ) (list : List Operation) (slot : Slot) → Keeps s (apply_in m s h list slot)
+  apply_keeps s h list gone = λ x a. a
+  apply_keeps s h list (writing chain parent ws) = λ x a. a
+  apply_keeps s h list (merkleized chain tip) = either s (fits m.root (commitment m.root list) chain) _ _ (λ x a. a) (λ x a. a)
+
+  readable_keeps : (s : State) (list : List Operation) (chain : Chain) (tip : List Operation) (answer : Answer) → Keeps s (if_readable m s list chain tip answer)
+  readable_keeps s list chain tip answer = either s (readable m.root (commitment m.root list) chain tip) _ _ (λ x a. a) (λ x a. a)
+
+  read_in_keeps : (s : State) (h : ℕ) (keys : List Bytes) (list : List Operation) (slot : Slot) → Keeps s (read_in m s h keys list slot)
+  read_in_keeps s h keys list gone = λ x a. a
+  read_in_keeps s h keys list (writing chain parent ws) = readable_keeps s list parent chain.base _
+  read_in_keeps s h keys list (merkleized chain tip) = readable_keeps s list chain tip _
+
+  read_keeps : (s : State) (keys : List Bytes) (from : Option ℕ) → Keeps s (read m s keys from)
+  read_keeps s keys None = with_list s s.database _ (λ list x a. a)
+  read_keeps s keys (Some h) = with_list s s.database _ (λ list. read_in_keeps s h keys list (slot_at s.table h))
+
+  info_keeps : (s : State) (h : ℕ) (slot : Slot) → Keeps s (info_in m s h slot)
+  info_keeps s h gone = λ x a. a
+  info_keeps s h (writing chain parent ws) = λ x a. a
+  info_keeps s h (merkleized chain tip) = λ x a. a
+
+  root_keeps : (s : State) (h : ℕ) (slot : Slot) → Keeps s (root_in m s h slot)
+  root_keeps s h gone = λ x a. a
+  root_keeps s h (writing chain parent ws) = λ x a. a
+  root_keeps s h (merkleized chain tip) = λ x a. a
+
+  proof_keeps : (s : State) (h : ℕ) (list : List Operation) (slot : Slot) → Keeps s (proof_in m s h list slot)
+  proof_keeps s h list gone = λ x a. a
+  proof_keeps s h list (writing chain parent ws) = λ x a. a
+  proof_keeps s h list (merkleized chain tip) = readable_keeps s list chain tip _
+
+  turn_keeps : (s : State) (line : Line P) → Keeps s (turn m s line)
+  turn_keeps s Open = opened s (opening_refusal s.store)
+  turn_keeps s Batch = with_list s s.database _ (λ list x a. a)
+  turn_keeps s (Child h keep) = child_keeps s h keep (slot_at s.table h)
+  turn_keeps s Tip = with_list s s.database _ (λ list x a. a)
+  turn_keeps s (Put h key value) = put_keeps s h _ (slot_at s.table h)
+  turn_keeps s (Del h key) = put_keeps s h _ (slot_at s.table h)
+  turn_keeps s (Merkleize h policy meta) = with_list s s.database _ (λ list. merkleize_keeps s h policy meta list (slot_at s.table h))
+  turn_keeps s (Apply h) = with_list s s.database _ (λ list. apply_keeps s h list (slot_at s.table h))
+  turn_keeps s (Ops h) = listed_keeps s h (slot_at s.table h)
+  turn_keeps s (Get key from) = read_keeps s (key ∷ []) from
+  turn_keeps s (Many keys from) = read_keeps s keys from
+  turn_keeps s Info = with_list s s.database _ (λ list x a. a)
+  turn_keeps s (BatchInfo h) = info_keeps s h (slot_at s.table h)
+  turn_keeps s Root = with_list s s.database _ (λ list x a. a)
+  turn_keeps s (BatchRoot h) = root_keeps s h (slot_at s.table h)
+  turn_keeps s (BatchProof h) = with_list s s.database _ (λ list. proof_keeps s h list (slot_at s.table h))
+  turn_keeps s Meta = with_list s s.database _ (λ list x a. a)
+  turn_keeps s (Prove size start max) = with_list s s.database _ (λ list. unless_keeps s (proof_refusal s.store.start list size start) _)
+  turn_keeps s (Pins n) = with_list s s.database _ (λ list. unless_keeps s (pins_refusal list n) _)
+
+  -- what a longer run keeps apart, a shorter one does
+  pub Apart-before : (s : State) (line : Line P) → Apart m.root ((turn m s line).1).had → Apart m.root s.had
+  Apart-before s line apart = λ a b in_a in_b e. apart a b (turn_keeps s line a in_a) (turn_keeps s line b in_b) e

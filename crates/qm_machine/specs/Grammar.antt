@@ -1,0 +1,186 @@
+-- The grammar of lines: words between single spaces.
+use Rattle.std.specs.Prelude.{ℕ, ◌+◌, ◌-◌, ◌*◌, ◌^◌, ◌==◌, ◌&&◌, nat_lt, nat_le, slice_index, take, drop, Bool, true, false, if◌then◌else◌, List, [], ◌∷◌, length, codes, Option, None, Some, Result, Ok, Err, option_map, option_and_then, bytes_eq}
+use Rattle.std.specs.List.{slice_split}
+use Rattle.std.specs.Char.{is_ascii_digit}
+use Rattle.hex.specs.Hex.{decode_of}
+use Rattle.hex.specs.declared.error.FromHexError.{FromHexError}
+use Rattle.qm_model.specs.Operations.{Bytes}
+use Rattle.qm_model.specs.Policies.{Policy, proportional}
+use Rattle.qm_machine.specs.Lines.{Line, Open, Batch, Child, Tip, Put, Del, Merkleize, Apply, Ops, Get, Many, Info, BatchInfo, Root, BatchRoot, BatchProof, Meta, Prove, Pins}
+
+-- the number with one decimal digit more, below 2 ^ 64
+abbrev pub next_digit : ℕ → ℕ → Option ℕ
+next_digit n c = let next = 10 * n + (c - 48) in if is_ascii_digit c && nat_lt next (2 ^ 64) then Some next else None
+
+abbrev pub digits_from : ℕ → Bytes → Option ℕ
+digits_from n [] = Some n
+digits_from n (c ∷ cs) = option_and_then (λ m. digits_from m cs) (next_digit n c)
+
+-- no digit at all, or a zero before others
+abbrev pub is_padded : Bytes → Bool
+is_padded [] = true
+is_padded (c ∷ []) = false
+is_padded (c ∷ d ∷ cs) = c == 48
+
+-- a decimal number below 2 ^ 64 without leading zeros
+abbrev pub number_of : Bytes → Option ℕ
+number_of word = if is_padded word then None else digits_from 0 word
+
+-- as many bytes as lie between the bounds
+abbrev pub within : ℕ → ℕ → Result Bytes FromHexError → Option Bytes
+within low high (Ok bytes) = if nat_le low (length bytes) && nat_le (length bytes) high then Some bytes else None
+within low high (Err e) = None
+
+-- 1 to 32 bytes in hexadecimal digits of either case
+abbrev pub key_of : Bytes → Option Bytes
+key_of word = within 1 32 (decode_of word)
+
+-- a dash for no bytes, or 1 to 64 bytes
+abbrev pub value_of : Bytes → Option Bytes
+value_of word = if bytes_eq word (codes "-") then Some [] else within 1 64 (decode_of word)
+
+abbrev pub policy_of : Bytes → Option Policy
+policy_of word = if bytes_eq word (codes "prop") then Some proportional else None
+
+abbrev pub metadata_of : Bytes → Option (Option Bytes)
+metadata_of word = if bytes_eq word (codes "none") then Some None else option_map (λ v. Some v) (value_of word)
+
+-- the number behind a word and an equals sign
+abbrev pub named_number : Bytes → Bytes → Option ℕ
+named_number name word =
+    if bytes_eq (take (length name) word) name then number_of (drop (length name) word) else None
+
+-- what is read: keys, and the batch through which they are
+abbrev pub Reading : Type 0
+Reading = List Bytes × Option ℕ
+
+-- a last word: the batch, or a key
+abbrev pub batch_or_key : Option ℕ → Bytes → Option Reading
+batch_or_key (Some h) word = Some ([], Some h)
+batch_or_key None word = option_map (λ k. (k ∷ [], None)) (key_of word)
+
+abbrev pub last_reading : Bytes → Option Reading
+last_reading word = batch_or_key (named_number (codes "from=") word) word
+
+abbrev pub with_key : Bytes → Reading → Reading
+with_key key (keys, from) = (key ∷ keys, from)
+
+-- keys, at whose end a batch may stand
+abbrev pub reading_of : List Bytes → Option Reading
+reading_of [] = None
+reading_of (w ∷ []) = last_reading w
+reading_of (w ∷ v ∷ ws) = option_and_then (λ k. option_map (with_key k) (reading_of (v ∷ ws))) (key_of w)
+
+-- the commands that read
+abbrev pub get_of : Reading → Option (Line Policy)
+get_of ([], from) = None
+get_of (k ∷ [], from) = Some (Get k from)
+get_of (k ∷ l ∷ ks, from) = None
+
+abbrev pub many_of : Reading → Option (Line Policy)
+many_of ([], from) = None
+many_of (k ∷ ks, from) = Some (Many (k ∷ ks) from)
+
+-- the other commands, of one to four words
+abbrev pub of_one : Bytes → Option (Line Policy)
+of_one w =
+    if bytes_eq w (codes "open") then Some Open
+    else (if bytes_eq w (codes "batch") then Some Batch
+    else (if bytes_eq w (codes "tip") then Some Tip
+    else (if bytes_eq w (codes "info") then Some Info
+    else (if bytes_eq w (codes "root") then Some Root
+    else (if bytes_eq w (codes "meta") then Some Meta else None)))))
+
+abbrev pub of_two : Bytes → Bytes → Option (Line Policy)
+of_two w a =
+    if bytes_eq w (codes "apply") then option_map (λ h. Apply h) (number_of a)
+    else (if bytes_eq w (codes "ops") then option_map (λ h. Ops h) (number_of a)
+    else (if bytes_eq w (codes "child") then option_map (λ h. Child h None) (number_of a)
+    else (if bytes_eq w (codes "info") then option_map (λ h. BatchInfo h) (number_of a)
+    else (if bytes_eq w (codes "root") then option_map (λ h. BatchRoot h) (number_of a)
+    else (if bytes_eq w (codes "proof") then option_map (λ h. BatchProof h) (number_of a)
+    else (if bytes_eq w (codes "pins") then option_map (λ n. Pins n) (number_of a) else None))))))
+
+abbrev pub del_of : Bytes → Bytes → Option (Line Policy)
+del_of a b = option_and_then (λ h. option_map (λ k. Del h k) (key_of b)) (number_of a)
+
+abbrev pub keeping_of : Bytes → Bytes → Option (Line Policy)
+keeping_of a b = option_and_then (λ h. option_map (λ n. Child h (Some n)) (named_number (codes "keep=") b)) (number_of a)
+
+abbrev pub of_three : Bytes → Bytes → Bytes → Option (Line Policy)
+of_three w a b =
+    if bytes_eq w (codes "del") then del_of a b
+    else (if bytes_eq w (codes "child") then keeping_of a b else None)
+
+abbrev pub put_of : Bytes → Bytes → Bytes → Option (Line Policy)
+put_of a b c = option_and_then (λ h. option_and_then (λ k. option_map (λ v. Put h k v) (value_of c)) (key_of b)) (number_of a)
+
+abbrev pub merkleize_of : Bytes → Bytes → Bytes → Option (Line Policy)
+merkleize_of a b c = option_and_then (λ h. option_and_then (λ p. option_map (λ meta. Merkleize h p meta) (metadata_of c)) (policy_of b)) (number_of a)
+
+-- a number that is at least 1
+abbrev pub positive : ℕ → Option ℕ
+positive n = if n == 0 then None else Some n
+
+abbrev pub positive_of : Bytes → Option ℕ
+positive_of word = option_and_then positive (number_of word)
+
+abbrev pub prove_of : Bytes → Bytes → Bytes → Option (Line Policy)
+prove_of a b c = option_and_then (λ size. option_and_then (λ start. option_map (λ max. Prove size start max) (positive_of c)) (number_of b)) (number_of a)
+
+abbrev pub of_four : Bytes → Bytes → Bytes → Bytes → Option (Line Policy)
+of_four w a b c =
+    if bytes_eq w (codes "put") then put_of a b c
+    else (if bytes_eq w (codes "merkleize") then merkleize_of a b c
+    else (if bytes_eq w (codes "prove") then prove_of a b c else None))
+
+abbrev pub of_few : Bytes → List Bytes → Option (Line Policy)
+of_few w [] = of_one w
+of_few w (a ∷ []) = of_two w a
+of_few w (a ∷ b ∷ []) = of_three w a b
+of_few w (a ∷ b ∷ c ∷ []) = of_four w a b c
+of_few w (a ∷ b ∷ c ∷ d ∷ ws) = None
+
+abbrev pub of_words : List Bytes → Option (Line Policy)
+of_words [] = None
+of_words (w ∷ ws) =
+    if bytes_eq w (codes "get") then option_and_then get_of (reading_of ws)
+    else (if bytes_eq w (codes "many") then option_and_then many_of (reading_of ws) else of_few w ws)
+
+-- the command that a line is, if it is one
+abbrev pub line_of : Bytes → Option (Line Policy)
+line_of line = of_words (slice_split (λ c. c == 32) line)
+
+-- an input without a line feed at its end
+abbrev pub without_feed : Bytes → Bytes
+without_feed input = if slice_index input (length input - 1) == 10 then take (length input - 1) input else input
+
+-- the lines of an input: each ends with a line feed, which the last may lack
+abbrev pub lines_of : Bytes → List Bytes
+lines_of [] = []
+lines_of (c ∷ cs) = slice_split (λ b. b == 10) (without_feed (c ∷ cs))
+
+abbrev pub onto : Option (Line Policy) → List (Line Policy) → List (Line Policy)
+onto None rest = []
+onto (Some c) rest = c ∷ rest
+
+-- the commands up to the first line that is none
+abbrev pub commands_of : List Bytes → List (Line Policy)
+commands_of [] = []
+commands_of (line ∷ lines) = onto (line_of line) (commands_of lines)
+
+abbrev pub bad_here : ℕ → Option (Line Policy) → Option ℕ → Option ℕ
+bad_here n None later = Some n
+bad_here n (Some c) later = later
+
+-- the number of the first line that is none, where they are numbered from n on
+abbrev pub bad_from : ℕ → List Bytes → Option ℕ
+bad_from n [] = None
+bad_from n (line ∷ lines) = bad_here n (line_of line) (bad_from (n + 1) lines)
+
+-- of an input: its commands up to the first bad line, and that line's number
+abbrev pub commands_in : Bytes → List (Line Policy)
+commands_in input = commands_of (lines_of input)
+
+abbrev pub bad_in : Bytes → Option ℕ
+bad_in input = bad_from 1 (lines_of input)

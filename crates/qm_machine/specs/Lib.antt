@@ -1,0 +1,5 @@
+pub mod Lines
+pub mod Machine
+pub mod Grammar
+pub mod Text
+pub mod LineRows

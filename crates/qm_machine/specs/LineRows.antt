@@ -1,0 +1,222 @@
+-- Worked scripts, from bytes to bytes.
+use Rattle.std.specs.Prelude.{◌≡◌, ◌+◌, ◌^◌, ◌++◌, List, [], ◌∷◌, Some, None, refl, codes, flat_map}
+use Rattle.std.specs.List.{join_with_byte}
+use Rattle.std.specs.Fmt.{digits}
+use Rattle.hex.specs.Hex.{decode_pairs, encode_with}
+use Rattle.qm_model.specs.Operations.{Bytes, Operation, update, delete, commit, four_bytes, eight_bytes}
+use Rattle.qm_model.specs.Forms.{variable}
+use Rattle.qm_model.specs.Live.{floor}
+use Rattle.qm_model.specs.Mmr.{mmr, digits_below}
+use Rattle.qm_model.specs.Proofs.{ops_proof, pins_at}
+use Rattle.qm_model.specs.Policies.{Policy, policies, proportional}
+use Rattle.qm_model.specs.Step.{unordered}
+use Rattle.qm_machine.specs.Lines.{Child, Put, Del, Merkleize, Get, Many, Prove, Pins}
+use Rattle.qm_model.specs.Refused.{Merkle, LocationOverflow}
+use Rattle.qm_model.specs.Refusals.{too_many}
+use Rattle.qm_machine.specs.Machine.{Scheme, Stored, empty, initial, answers}
+use Rattle.qm_machine.specs.Grammar.{line_of, commands_in, bad_in}
+use Rattle.qm_machine.specs.Text.{text_of}
+
+-- a hash that is the same of all bytes
+abbrev same : Bytes → Bytes
+same bytes = 0x00 ∷ 0x2a ∷ []
+
+-- a root under which lists of one length collide, which these rows do not tell from a real one
+abbrev toy : Scheme Policy
+toy = record { kind = unordered; rules = policies; root = λ ops. same []; boundary = floor; proof = ops_proof same mmr variable; pins = pins_at same mmr variable }
+
+-- the keys and values of a list's operations, which tell its lists apart here
+abbrev said : Operation → Bytes
+said (update k v n) = k ++ v
+said (delete k) = k
+said (commit m f) = []
+
+abbrev telling : Scheme Policy
+telling = record toy { root = λ ops. flat_map said ops }
+
+abbrev lines : List Bytes → Bytes
+lines ls = join_with_byte 10 ls ++ 10 ∷ []
+
+abbrev text : Bytes → Bytes
+text input = text_of (answers toy (initial empty) (commands_in input))
+
+abbrev forked : Bytes → Bytes
+forked input = text_of (answers telling (initial empty) (commands_in input))
+
+-- over a store
+abbrev over : Stored → Bytes → Bytes
+over stored input = text_of (answers toy (initial stored) (commands_in input))
+
+-- stores that start above 0, that have an item, and that have a head where nothing was pruned
+start_text : over (record empty { start = 2 }) (lines (codes "open" ∷ codes "info" ∷ [])) ≡ lines (codes "refused NotOffered" ∷ codes "refused NoDatabase" ∷ [])
+start_text = refl
+
+item_text : over (record empty { items = [] ∷ [] }) (lines (codes "open" ∷ [])) ≡ lines (codes "refused NotOffered" ∷ [])
+item_text = refl
+
+head_text : over (record empty { head = 7 ∷ [] }) (lines (codes "open" ∷ [])) ≡ lines (codes "refused DataCorrupted head does not match the start" ∷ [])
+head_text = refl
+
+-- one put, read back
+one_put_text : text (lines (codes "open" ∷ codes "batch" ∷ codes "put 1 6b 76" ∷ codes "merkleize 1 prop none" ∷ codes "apply 1" ∷ codes "ops 1" ∷ codes "get 6b" ∷ codes "info" ∷ []))
+    ≡ lines (codes "open 1 0 1" ∷ codes "batch 1" ∷ codes "ok" ∷ codes "merkleized 1 1 4 2" ∷ codes "applied 4" ∷ codes "ops 1 U:6b=76 U:6b=76 C:none@2" ∷ codes "read 76" ∷ codes "info 0 4 2 2 live" ∷ [])
+unfolding decode_pairs encode_with digits four_bytes eight_bytes
+one_put_text = refl
+
+-- the root and the operations root, in lower case
+root_text : text (lines (codes "open" ∷ codes "root" ∷ [])) ≡ lines (codes "open 1 0 1" ∷ codes "root 002a 002a" ∷ [])
+unfolding encode_with digits
+root_text = refl
+
+-- a batch that the database has left behind, its number used up, and a second opening
+stale_text : text (lines (codes "open" ∷ codes "batch" ∷ codes "batch" ∷ codes "put 1 61 01" ∷ codes "merkleize 1 prop none" ∷ codes "apply 1" ∷ codes "merkleize 2 prop none" ∷ codes "apply 2" ∷ codes "open" ∷ []))
+    ≡ lines (codes "open 1 0 1" ∷ codes "batch 1" ∷ codes "batch 2" ∷ codes "ok" ∷ codes "merkleized 1 1 4 2" ∷ codes "applied 4" ∷ codes "refused StaleBatch" ∷ codes "refused NoSuchHandle 2" ∷ codes "refused NotOffered" ∷ [])
+unfolding decode_pairs encode_with digits four_bytes eight_bytes
+stale_text = refl
+
+-- one put, then its key deleted
+put_and_delete_text : text (lines (codes "open" ∷ codes "batch" ∷ codes "put 1 6b 76" ∷ codes "merkleize 1 prop none" ∷ codes "apply 1" ∷ codes "batch" ∷ codes "del 2 6b" ∷ codes "merkleize 2 prop none" ∷ codes "ops 2" ∷ codes "apply 2" ∷ codes "get 6b" ∷ []))
+    ≡ lines (codes "open 1 0 1" ∷ codes "batch 1" ∷ codes "ok" ∷ codes "merkleized 1 1 4 2" ∷ codes "applied 4" ∷ codes "batch 2" ∷ codes "ok" ∷ codes "merkleized 2 4 6 5" ∷ codes "ops 4 D:6b C:none@5" ∷ codes "applied 6" ∷ codes "read none" ∷ [])
+unfolding decode_pairs encode_with digits four_bytes eight_bytes
+put_and_delete_text = refl
+
+-- a delete of an absent key, metadata with and without bytes, and writes to a batch that is merkleized or none
+metadata_text : text (lines (codes "open" ∷ codes "meta" ∷ codes "batch" ∷ codes "del 1 6b" ∷ codes "merkleize 1 prop aAbb" ∷ codes "ops 1" ∷ codes "apply 1" ∷ codes "meta" ∷ codes "batch" ∷ codes "merkleize 2 prop -" ∷ codes "meta" ∷ codes "apply 2" ∷ codes "meta" ∷ codes "del 2 6b" ∷ codes "del 9 6b" ∷ []))
+    ≡ lines (codes "open 1 0 1" ∷ codes "meta none" ∷ codes "batch 1" ∷ codes "ok" ∷ codes "merkleized 1 1 2 1" ∷ codes "ops 1 C:aabb@1" ∷ codes "applied 2" ∷ codes "meta aabb" ∷ codes "batch 2" ∷ codes "merkleized 2 2 3 2" ∷ codes "meta aabb" ∷ codes "applied 3" ∷ codes "meta -" ∷ codes "refused NoSuchHandle 2" ∷ codes "refused NoSuchHandle 9" ∷ [])
+unfolding decode_pairs encode_with digits four_bytes eight_bytes
+metadata_text = refl
+
+-- a delete of an absent key alone
+absent_text : text (lines (codes "open" ∷ codes "batch" ∷ codes "del 1 6b" ∷ codes "merkleize 1 prop none" ∷ codes "ops 1" ∷ codes "apply 1" ∷ []))
+    ≡ lines (codes "open 1 0 1" ∷ codes "batch 1" ∷ codes "ok" ∷ codes "merkleized 1 1 2 1" ∷ codes "ops 1 C:none@1" ∷ codes "applied 2" ∷ [])
+unfolding decode_pairs encode_with digits four_bytes eight_bytes
+absent_text = refl
+
+-- no database, and no line
+closed_text : text (lines (codes "info" ∷ codes "ops 1" ∷ codes "merkleize 1 prop none" ∷ codes "del 1 6b" ∷ codes "root" ∷ codes "meta" ∷ []))
+    ≡ lines (codes "refused NoDatabase" ∷ codes "refused NoSuchHandle 1" ∷ codes "refused NoDatabase" ∷ codes "refused NoSuchHandle 1" ∷ codes "refused NoDatabase" ∷ codes "refused NoDatabase" ∷ [])
+unfolding decode_pairs digits
+closed_text = refl
+
+-- proofs and pins, and their refusals
+proved_text : text (lines (codes "open" ∷ codes "batch" ∷ codes "put 1 6b 76" ∷ codes "merkleize 1 prop none" ∷ codes "apply 1" ∷ codes "prove 4 0 9" ∷ codes "prove 4 1 2" ∷ codes "prove 1 0 1" ∷ codes "prove 3 0 1" ∷ codes "prove 0 0 1" ∷ codes "prove 5 0 1" ∷ codes "prove 4 4 1" ∷ codes "pins 0" ∷ codes "pins 3" ∷ codes "pins 4" ∷ codes "pins 5" ∷ codes "meta" ∷ []))
+    ≡ lines (codes "open 1 0 1" ∷ codes "batch 1" ∷ codes "ok" ∷ codes "merkleized 1 1 4 2" ∷ codes "applied 4" ∷ codes "proof 4 0 / C:none@0 U:6b=76 U:6b=76 C:none@2" ∷ codes "proof 4 0 002a 002a / U:6b=76 U:6b=76" ∷ codes "proof 1 0 / C:none@0" ∷ codes "refused HistoricalFloorPruned 3" ∷ codes "refused HistoricalFloorPruned 0" ∷ codes "refused Merkle RangeOutOfBounds 5" ∷ codes "refused Merkle RangeOutOfBounds 4" ∷ codes "pins" ∷ codes "pins 002a 002a" ∷ codes "pins 002a" ∷ codes "refused Merkle RangeOutOfBounds 5" ∷ codes "meta none" ∷ [])
+unfolding decode_pairs encode_with digits digits_below four_bytes eight_bytes
+proved_text = refl
+
+-- proofs and pins of no database
+unproved_text : text (lines (codes "prove 1 0 1" ∷ codes "pins 0" ∷ [])) ≡ lines (codes "refused NoDatabase" ∷ codes "refused NoDatabase" ∷ [])
+unproved_text = refl
+
+-- two batches of one database: the second is stale once the first is applied
+siblings_text : forked (lines (codes "open" ∷ codes "batch" ∷ codes "put 1 61 01" ∷ codes "batch" ∷ codes "put 2 61 02" ∷ codes "merkleize 1 prop none" ∷ codes "merkleize 2 prop none" ∷ codes "get 61 from=1" ∷ codes "apply 1" ∷ codes "apply 2" ∷ codes "get 61 from=2" ∷ codes "get 61 from=1" ∷ codes "many 61 62 from=1" ∷ codes "get 61" ∷ []))
+    ≡ lines (codes "open 1 0 1" ∷ codes "batch 1" ∷ codes "ok" ∷ codes "batch 2" ∷ codes "ok" ∷ codes "merkleized 1 1 4 2" ∷ codes "merkleized 2 1 4 2" ∷ codes "read 01" ∷ codes "applied 4" ∷ codes "refused StaleBatch" ∷ codes "refused StaleRead" ∷ codes "read 01" ∷ codes "read 01 none" ∷ codes "read 01" ∷ [])
+unfolding decode_pairs encode_with digits digits_below four_bytes eight_bytes
+siblings_text = refl
+
+-- a child applied in one step, its parent after it, and the database as a batch
+one_step_text : forked (lines (codes "open" ∷ codes "batch" ∷ codes "put 1 61 01" ∷ codes "merkleize 1 prop none" ∷ codes "child 1" ∷ codes "put 2 62 02" ∷ codes "get 61 from=2" ∷ codes "merkleize 2 prop none" ∷ codes "ops 2" ∷ codes "apply 2" ∷ codes "apply 1" ∷ codes "tip" ∷ codes "ops 3" ∷ codes "apply 3" ∷ codes "info 2" ∷ codes "get 62 from=1" ∷ []))
+    ≡ lines (codes "open 1 0 1" ∷ codes "batch 1" ∷ codes "ok" ∷ codes "merkleized 1 1 4 2" ∷ codes "batch 2" ∷ codes "ok" ∷ codes "read 01" ∷ codes "merkleized 2 4 7 3" ∷ codes "ops 4 U:62=02 U:61=01 C:none@3" ∷ codes "applied 7" ∷ codes "refused StaleBatch" ∷ codes "batch 3" ∷ codes "ops 7" ∷ codes "applied 7" ∷ codes "info 4 7 3 3" ∷ codes "refused StaleRead" ∷ [])
+unfolding decode_pairs encode_with digits digits_below four_bytes eight_bytes
+one_step_text = refl
+
+-- a child that keeps its parent alone fits once the parent's parent is applied
+kept_text : forked (lines (codes "open" ∷ codes "batch" ∷ codes "put 1 61 01" ∷ codes "merkleize 1 prop none" ∷ codes "child 1" ∷ codes "put 2 62 02" ∷ codes "merkleize 2 prop none" ∷ codes "child 2 keep=0" ∷ codes "get 62 from=3" ∷ codes "merkleize 3 prop none" ∷ codes "put 3 63 03" ∷ codes "apply 1" ∷ codes "child 2 keep=0" ∷ codes "put 4 63 03" ∷ codes "merkleize 4 prop none" ∷ codes "apply 4" ∷ []))
+    ≡ lines (codes "open 1 0 1" ∷ codes "batch 1" ∷ codes "ok" ∷ codes "merkleized 1 1 4 2" ∷ codes "batch 2" ∷ codes "ok" ∷ codes "merkleized 2 4 7 3" ∷ codes "batch 3" ∷ codes "read 02" ∷ codes "refused StaleBatch" ∷ codes "refused NoSuchHandle 3" ∷ codes "applied 4" ∷ codes "batch 4" ∷ codes "ok" ∷ codes "merkleized 4 7 10 5" ∷ codes "applied 10" ∷ [])
+unfolding decode_pairs encode_with digits digits_below four_bytes eight_bytes
+kept_text = refl
+
+-- a batch's proof, numbers and root before it is applied, and what a number does not name
+batch_proof_text : forked (lines (codes "open" ∷ codes "batch" ∷ codes "put 1 6b 76" ∷ codes "child 1" ∷ codes "proof 1" ∷ codes "merkleize 1 prop none" ∷ codes "proof 1" ∷ codes "info 1" ∷ codes "root 1" ∷ codes "proof 2" ∷ codes "info 2" ∷ codes "root 2" ∷ codes "child 2" ∷ codes "get 6b from=2" ∷ []))
+    ≡ lines (codes "open 1 0 1" ∷ codes "batch 1" ∷ codes "ok" ∷ codes "refused NoSuchHandle 1" ∷ codes "refused NoSuchHandle 1" ∷ codes "merkleized 1 1 4 2" ∷ codes "proof 4 0 002a / 002a" ∷ codes "info 1 4 2 2" ∷ codes "root 6b766b76 6b766b76" ∷ codes "refused NoSuchHandle 2" ∷ codes "refused NoSuchHandle 2" ∷ codes "refused NoSuchHandle 2" ∷ codes "refused NoSuchHandle 2" ∷ codes "refused NoSuchHandle 2" ∷ [])
+unfolding decode_pairs encode_with digits digits_below four_bytes eight_bytes
+batch_proof_text = refl
+
+-- without a database
+no_database_text : forked (lines (codes "tip" ∷ codes "get 6b" ∷ codes "many 6b" ∷ codes "get 6b from=1" ∷ codes "proof 1" ∷ codes "child 1 keep=2" ∷ codes "info 1" ∷ codes "root 1" ∷ []))
+    ≡ lines (codes "refused NoDatabase" ∷ codes "refused NoDatabase" ∷ codes "refused NoDatabase" ∷ codes "refused NoDatabase" ∷ codes "refused NoDatabase" ∷ codes "refused NoSuchHandle 1" ∷ codes "refused NoSuchHandle 1" ∷ codes "refused NoSuchHandle 1" ∷ [])
+unfolding decode_pairs encode_with digits digits_below four_bytes eight_bytes
+no_database_text = refl
+
+bad_second : bad_in (codes "open" ++ 10 ∷ codes "put 1 6") ≡ Some 2
+unfolding decode_pairs
+bad_second = refl
+
+-- a list of as many operations as there may be, and of one more
+largest_list : too_many (2 ^ 62) ≡ None
+largest_list = refl
+
+too_large_list : too_many (2 ^ 62 + 1) ≡ Some (Merkle (LocationOverflow (2 ^ 62 + 1)))
+too_large_list = refl
+
+no_lines : bad_in [] ≡ None
+no_lines = refl
+
+-- Single lines.
+
+upper_case : line_of (codes "put 12 6B -") ≡ Some (Put 12 (0x6b ∷ []) [])
+unfolding decode_pairs
+upper_case = refl
+
+empty_metadata : line_of (codes "merkleize 1 prop -") ≡ Some (Merkleize 1 proportional (Some []))
+unfolding decode_pairs
+empty_metadata = refl
+
+deleted : line_of (codes "del 0 6B00") ≡ Some (Del 0 (0x6b ∷ 0 ∷ []))
+unfolding decode_pairs
+deleted = refl
+
+deleted_value : line_of (codes "del 1 6b 76") ≡ None
+deleted_value = refl
+
+largest_number : line_of (codes "merkleize 18446744073709551615 prop none") ≡ Some (Merkleize 18446744073709551615 proportional None)
+largest_number = refl
+
+too_large : line_of (codes "apply 18446744073709551616") ≡ None
+too_large = refl
+
+leading_zero : line_of (codes "apply 01") ≡ None
+leading_zero = refl
+
+proved : line_of (codes "prove 4 0 9") ≡ Some (Prove 4 0 9)
+proved = refl
+
+proved_none : line_of (codes "prove 4 0 0") ≡ None
+proved_none = refl
+
+pinned : line_of (codes "pins 0") ≡ Some (Pins 0)
+pinned = refl
+
+two_spaces : line_of (codes "apply  1") ≡ None
+two_spaces = refl
+
+empty_line : line_of [] ≡ None
+empty_line = refl
+
+child_keeping : line_of (codes "child 7 keep=0") ≡ Some (Child 7 (Some 0))
+child_keeping = refl
+
+child_keeping_all : line_of (codes "child 7") ≡ Some (Child 7 None)
+child_keeping_all = refl
+
+child_keeping_nothing : line_of (codes "child 7 keep=") ≡ None
+child_keeping_nothing = refl
+
+read_from : line_of (codes "get 6b from=3") ≡ Some (Get (0x6b ∷ []) (Some 3))
+unfolding decode_pairs
+read_from = refl
+
+read_two : line_of (codes "get 6b 6c") ≡ None
+unfolding decode_pairs
+read_two = refl
+
+read_many : line_of (codes "many 6b 6c 6b from=0") ≡ Some (Many ((0x6b ∷ []) ∷ (0x6c ∷ []) ∷ (0x6b ∷ []) ∷ []) (Some 0))
+unfolding decode_pairs
+read_many = refl
+
+read_no_key : line_of (codes "many from=3") ≡ None
+read_no_key = refl
+
+from_in_the_middle : line_of (codes "many 6b from=3 6b") ≡ None
+unfolding decode_pairs
+from_in_the_middle = refl

@@ -1,0 +1,59 @@
+-- Commands and replies over byte strings, with policies of a type P.
+use Rattle.std.specs.Prelude.{ℕ, Bool, List, Option}
+use Rattle.qm_model.specs.Operations.{Bytes, Operation}
+use Rattle.qm_model.specs.Proofs.{Proof}
+use Rattle.qm_model.specs.Refused.{Refused}
+
+-- what a line asks for; a batch goes by its number
+pub data Line (P : Type 0) : Type 0 where
+  Open : Line P
+  Batch : Line P
+  -- a child of a merkleized batch, which keeps so many of its kept ancestors, or all
+  Child : ℕ → Option ℕ → Line P
+  -- the database as a merkleized batch
+  Tip : Line P
+  Put : ℕ → Bytes → Bytes → Line P
+  Del : ℕ → Bytes → Line P
+  Merkleize : ℕ → P → Option Bytes → Line P
+  Apply : ℕ → Line P
+  Ops : ℕ → Line P
+  -- keys, through the database or a batch
+  Get : Bytes → Option ℕ → Line P
+  Many : List Bytes → Option ℕ → Line P
+  Info : Line P
+  BatchInfo : ℕ → Line P
+  Root : Line P
+  BatchRoot : ℕ → Line P
+  BatchProof : ℕ → Line P
+  Meta : Line P
+  -- size, start, and how many operations at most
+  Prove : ℕ → ℕ → ℕ → Line P
+  Pins : ℕ → Line P
+
+-- what a command answers
+pub data Answer : Type 0 where
+  -- the opening's number, start and size
+  Opened : ℕ → ℕ → ℕ → Answer
+  -- the batch's number
+  Started : ℕ → Answer
+  Done : Answer
+  -- the batch's number, the sizes of its base and of its tip, and its floor
+  Merkleized : ℕ → ℕ → ℕ → ℕ → Answer
+  -- the size
+  Applied : ℕ → Answer
+  -- the size of the base, and a batch's own operations
+  Listed : ℕ → List Operation → Answer
+  Read : List (Option Bytes) → Answer
+  -- start, size, floor and boundary, and whether a key is live
+  Told : ℕ → ℕ → ℕ → ℕ → Bool → Answer
+  -- of a batch: the sizes of its base and of its tip, its floor and its boundary
+  BatchTold : ℕ → ℕ → ℕ → ℕ → Answer
+  -- the root and the operations root
+  Rooted : Bytes → Bytes → Answer
+  Metadata : Option Bytes → Answer
+  -- a proof, and the operations that it proves
+  Proved : Proof → List Operation → Answer
+  -- a proof of a batch's own operations, and the pins at its base
+  BatchProved : Proof → List Bytes → Answer
+  Pinned : List Bytes → Answer
+  Refuses : Refused → Answer

@@ -1,0 +1,256 @@
+-- The machine: databases and batches are operation lists, and each command is a function of the state.
+use Rattle.std.specs.Prelude.{ℕ, ◌+◌, nat_lt, if◌then◌else◌, List, [], ◌∷◌, ◌++◌, length, map, take, drop, slice_index_or, slice_set, Option, Some, None}
+use Rattle.qm_model.specs.Operations.{Bytes, Operation, fresh}
+use Rattle.qm_model.specs.Forms.{spelling, variable}
+use Rattle.qm_model.specs.Live.{live, floor, value_of, last_metadata}
+use Rattle.qm_model.specs.Writes.{Write, read_through}
+use Rattle.qm_model.specs.Walk.{Rules}
+use Rattle.qm_model.specs.Step.{Kind}
+use Rattle.qm_model.specs.Step as steps
+use Rattle.qm_model.specs.Proofs.{Proof}
+use Rattle.qm_model.specs.Batches.{Chain, begun_on, child_of, commitment, fits, readable, own_operations}
+use Rattle.qm_machine.specs.Lines.{Line, Open, Batch, Child, Tip, Put, Del, Merkleize, Apply, Ops, Get, Many, Info, BatchInfo, Root, BatchRoot, BatchProof, Meta, Prove, Pins, Answer, Opened, Started, Done, Merkleized, Applied, Listed, Read, Told, BatchTold, Rooted, Metadata, Proved, BatchProved, Pinned, Refuses}
+use Rattle.qm_model.specs.Refused.{Refused, NotOffered, NoDatabase, NoSuchHandle, StaleBatch, StaleRead, DataCorrupted, HeadDoesNotMatch}
+use Rattle.qm_model.specs.Refusals.{tip_refusal, proof_refusal, proof_count, pins_refusal}
+
+-- what a machine stands on: the kind of database, its policies, and a list's operations root and boundary,
+-- the proofs of its operations and its pins
+pub record Scheme (P : Type 0) : Type 0 where
+  pub kind : Kind
+  pub rules : Rules P
+  pub root : List Operation → Bytes
+  pub boundary : List Operation → ℕ
+  -- of the whole list, for the operations from a up to b
+  pub proof : List Operation → ℕ → ℕ → Proof
+  pub pins : List Operation → ℕ → List Bytes
+
+-- a batch number: used up; a batch with the chain of its parent, which made its base, and its writes; a merkleized
+-- batch with its tip list. The parent of a batch that was begun on a database is that as a merkleized batch.
+pub data Slot : Type 0 where
+  gone : Slot
+  writing : Chain → Chain → List Write → Slot
+  merkleized : Chain → List Operation → Slot
+
+-- a store: where its items start, the digests of the peaks there, and its items
+pub record Stored : Type 0 where
+  pub start : ℕ
+  pub head : Bytes
+  pub items : List Bytes
+
+pub record State : Type 0 where
+  -- the open database's list
+  pub database : Option (List Operation)
+  pub store : Stored
+  -- by number; no batch has the number 0
+  pub table : List Slot
+  -- how many openings were accepted
+  pub opened : ℕ
+  -- each list that a database or a batch of this run has had
+  pub had : List (List Operation)
+
+-- a store that has nothing
+abbrev pub empty : Stored
+empty = record { start = 0; head = []; items = [] }
+
+-- no database, over this store
+abbrev pub initial : Stored → State
+initial stored = record { database = None; store = stored; table = gone ∷ []; opened = 0; had = [] }
+
+abbrev pub slot_at : List Slot → ℕ → Slot
+slot_at table h = slice_index_or table h gone
+
+abbrev pub refuse : State → Refused → Answer × State
+refuse s r = (Refuses r, s)
+
+abbrev pub with_slot : State → ℕ → Slot → State
+with_slot s h slot = record s { table = slice_set s.table h slot }
+
+-- the answer, unless it is refused
+abbrev pub unless : State → Option Refused → Answer → Answer × State
+unless s None answer = (answer, s)
+unless s (Some r) answer = refuse s r
+
+-- what a command that needs a database does without one
+abbrev pub with_database : State → Option (List Operation) → (List Operation → Answer × State) → Answer × State
+with_database s None f = refuse s NoDatabase
+with_database s (Some list) f = f list
+
+-- at start 0 there are no peaks, so the head has no bytes
+abbrev pub head_refusal : Bytes → Option Refused
+head_refusal [] = None
+head_refusal (b ∷ bs) = Some (DataCorrupted HeadDoesNotMatch)
+
+-- why no database is opened over a store. For the time being one is offered only where there are no items, from 0 on.
+abbrev pub opening_refusal : Stored → Option Refused
+opening_refusal stored = if nat_lt 0 (stored.start + length stored.items) then Some NotOffered else head_refusal stored.head
+
+-- a fresh database
+abbrev pub open_fresh : State → Answer × State
+open_fresh s = (Opened (s.opened + 1) 0 1, record s { database = Some fresh; store = record s.store { items = map (spelling variable) fresh }; opened = s.opened + 1; had = fresh ∷ s.had })
+
+abbrev pub open_unless : State → Option Refused → Answer × State
+open_unless s None = open_fresh s
+open_unless s (Some r) = refuse s r
+
+abbrev pub open_store : State → Answer × State
+open_store s = open_unless s (opening_refusal s.store)
+
+-- a batch gets the next number
+abbrev pub started : State → Slot → Answer × State
+started s slot = (Started (length s.table), record s { table = s.table ++ slot ∷ [] })
+
+abbrev pub start_batch : State → Answer × State
+start_batch s = with_database s s.database (λ list. started s (writing (begun_on list) (begun_on list) []))
+
+abbrev pub start_child : State → ℕ → Option ℕ → Slot → Answer × State
+start_child s h keep (merkleized chain tip) = started s (writing (child_of keep chain tip) chain [])
+start_child s h keep gone = refuse s (NoSuchHandle h)
+start_child s h keep (writing chain parent ws) = refuse s (NoSuchHandle h)
+
+abbrev pub child : State → ℕ → Option ℕ → Answer × State
+child s h keep = start_child s h keep (slot_at s.table h)
+
+abbrev pub start_tip : State → Answer × State
+start_tip s = with_database s s.database (λ list. started s (merkleized (begun_on list) list))
+
+abbrev pub put_in : State → ℕ → Write → Slot → Answer × State
+put_in s h w (writing chain parent ws) = (Done, with_slot s h (writing chain parent (ws ++ w ∷ [])))
+put_in s h w gone = refuse s (NoSuchHandle h)
+put_in s h w (merkleized chain tip) = refuse s (NoSuchHandle h)
+
+abbrev pub put : State → ℕ → Bytes → Bytes → Answer × State
+put s h key value = put_in s h (record { key = key; value = Some value }) (slot_at s.table h)
+
+abbrev pub del : State → ℕ → Bytes → Answer × State
+del s h key = put_in s h (record { key = key; value = None }) (slot_at s.table h)
+
+abbrev pub list_operations : State → ℕ → Slot → Answer × State
+list_operations s h (merkleized chain tip) = (Listed (length chain.base) (own_operations chain tip), s)
+list_operations s h gone = refuse s (NoSuchHandle h)
+list_operations s h (writing chain parent ws) = refuse s (NoSuchHandle h)
+
+abbrev pub ops : State → ℕ → Answer × State
+ops s h = list_operations s h (slot_at s.table h)
+
+-- the metadata of the list's last commit
+abbrev pub meta : State → Answer × State
+meta s = with_database s s.database (λ list. (Metadata (last_metadata list), s))
+
+module _ {P : Type 0} (m : Scheme P) where
+  -- the batch gets its tip list, or is used up where that is refused
+  abbrev pub merkleize_tip : State → ℕ → Chain → List Operation → Option Refused → Answer × State
+  merkleize_tip s h chain tip None =
+      (Merkleized h (length chain.base) (length tip) (floor tip), record (with_slot s h (merkleized chain tip)) { had = tip ∷ s.had })
+  merkleize_tip s h chain tip (Some r) = refuse (with_slot s h gone) r
+
+  -- the batch is also used up where the database has moved on
+  abbrev pub merkleize_in : State → ℕ → P → Option Bytes → List Operation → Slot → Answer × State
+  merkleize_in s h policy meta list (writing chain parent ws) =
+      let tip = steps.step m.kind m.rules chain.base ws policy meta in
+      if fits m.root (commitment m.root list) chain
+      then merkleize_tip s h chain tip (tip_refusal variable chain tip)
+      else refuse (with_slot s h gone) StaleBatch
+  merkleize_in s h policy meta list gone = refuse s (NoSuchHandle h)
+  merkleize_in s h policy meta list (merkleized chain tip) = refuse s (NoSuchHandle h)
+
+  abbrev pub merkleize : State → ℕ → P → Option Bytes → Answer × State
+  merkleize s h policy meta = with_database s s.database (λ list. merkleize_in s h policy meta list (slot_at s.table h))
+
+  -- the database takes the tip list, and the store what it lacks of it
+  abbrev pub apply_in : State → ℕ → List Operation → Slot → Answer × State
+  apply_in s h list (merkleized chain tip) =
+      if fits m.root (commitment m.root list) chain
+      then (Applied (length tip), record s { database = Some tip; store = record s.store { items = s.store.items ++ map (spelling variable) (drop (length list) tip) } })
+      else refuse s StaleBatch
+  apply_in s h list gone = refuse s (NoSuchHandle h)
+  apply_in s h list (writing chain parent ws) = refuse s (NoSuchHandle h)
+
+  abbrev pub apply : State → ℕ → Answer × State
+  apply s h = with_database s s.database (λ list. apply_in s h list (slot_at s.table h))
+
+  -- the answer, unless the database is at no state of the batch's chain
+  abbrev pub if_readable : State → List Operation → Chain → List Operation → Answer → Answer × State
+  if_readable s list chain tip answer = if readable m.root (commitment m.root list) chain tip then (answer, s) else refuse s StaleRead
+
+  -- the values of keys through a batch
+  abbrev pub read_in : State → ℕ → List Bytes → List Operation → Slot → Answer × State
+  read_in s h keys list (writing chain parent ws) = if_readable s list parent chain.base (Read (map (read_through chain.base ws) keys))
+  read_in s h keys list (merkleized chain tip) = if_readable s list chain tip (Read (map (value_of tip) keys))
+  read_in s h keys list gone = refuse s (NoSuchHandle h)
+
+  -- the values of keys, through a batch where one is given
+  abbrev pub read : State → List Bytes → Option ℕ → Answer × State
+  read s keys None = with_database s s.database (λ list. (Read (map (value_of list) keys), s))
+  read s keys (Some h) = with_database s s.database (λ list. read_in s h keys list (slot_at s.table h))
+
+  abbrev pub info : State → Answer × State
+  info s = with_database s s.database (λ list. (Told s.store.start (length list) (floor list) (m.boundary list) (nat_lt 0 (length (live list))), s))
+
+  -- the numbers of a merkleized batch
+  abbrev pub info_in : State → ℕ → Slot → Answer × State
+  info_in s h (merkleized chain tip) = (BatchTold (length chain.base) (length tip) (floor tip) (m.boundary tip), s)
+  info_in s h gone = refuse s (NoSuchHandle h)
+  info_in s h (writing chain parent ws) = refuse s (NoSuchHandle h)
+
+  abbrev pub batch_info : State → ℕ → Answer × State
+  batch_info s h = info_in s h (slot_at s.table h)
+
+  -- the root, which is the operations root in this kind of database
+  abbrev pub root : State → Answer × State
+  root s = with_database s s.database (λ list. (Rooted (m.root list) (m.root list), s))
+
+  abbrev pub root_in : State → ℕ → Slot → Answer × State
+  root_in s h (merkleized chain tip) = (Rooted (m.root tip) (m.root tip), s)
+  root_in s h gone = refuse s (NoSuchHandle h)
+  root_in s h (writing chain parent ws) = refuse s (NoSuchHandle h)
+
+  abbrev pub batch_root : State → ℕ → Answer × State
+  batch_root s h = root_in s h (slot_at s.table h)
+
+  -- the proof of a merkleized batch's own operations in its tip list, and the pins at its base
+  abbrev pub proof_in : State → ℕ → List Operation → Slot → Answer × State
+  proof_in s h list (merkleized chain tip) = if_readable s list chain tip (BatchProved (m.proof tip (length chain.base) (length tip)) (m.pins tip (length chain.base)))
+  proof_in s h list gone = refuse s (NoSuchHandle h)
+  proof_in s h list (writing chain parent ws) = refuse s (NoSuchHandle h)
+
+  abbrev pub batch_proof : State → ℕ → Answer × State
+  batch_proof s h = with_database s s.database (λ list. proof_in s h list (slot_at s.table h))
+
+  -- up to `max` operations from `start` on, and their proof among the list's first `size` operations
+  abbrev pub prove : State → ℕ → ℕ → ℕ → Answer × State
+  prove s size start max = with_database s s.database (λ list. let n = proof_count size start max in
+      unless s (proof_refusal s.store.start list size start) (Proved (m.proof (take size list) start (start + n)) (take n (drop start list))))
+
+  abbrev pub pins : State → ℕ → Answer × State
+  pins s n = with_database s s.database (λ list. unless s (pins_refusal list n) (Pinned (m.pins list n)))
+
+  -- one command: the answer, and the state after it
+  abbrev pub turn : State → Line P → Answer × State
+  turn s Open = open_store s
+  turn s Batch = start_batch s
+  turn s (Child h keep) = child s h keep
+  turn s Tip = start_tip s
+  turn s (Put h key value) = put s h key value
+  turn s (Del h key) = del s h key
+  turn s (Merkleize h policy meta) = merkleize s h policy meta
+  turn s (Apply h) = apply s h
+  turn s (Ops h) = ops s h
+  turn s (Get key from) = read s (key ∷ []) from
+  turn s (Many keys from) = read s keys from
+  turn s Info = info s
+  turn s (BatchInfo h) = batch_info s h
+  turn s Root = root s
+  turn s (BatchRoot h) = batch_root s h
+  turn s (BatchProof h) = batch_proof s h
+  turn s Meta = meta s
+  turn s (Prove size start max) = prove s size start max
+  turn s (Pins n) = pins s n
+
+  -- the answers to commands in order, and the state after them
+  abbrev pub answers : State → List (Line P) → List Answer
+  answers s [] = []
+  answers s (line ∷ lines) = (turn s line).0 ∷ answers (turn s line).1 lines
+
+  abbrev pub state_after : State → List (Line P) → State
+  state_after s [] = s
+  state_after s (line ∷ lines) = state_after (turn s line).1 lines

@@ -1,0 +1,38 @@
+-- What a database, its log or its tree refuses, and the text of corruption.
+use Rattle.std.specs.Prelude.{ℕ, codes}
+use Rattle.qm_model.specs.Operations.{Bytes}
+
+-- what is wrong with what a store keeps
+pub data Corrupt : Type 0 where
+  FloorExceedsCommit : Corrupt
+  ItemDoesNotDecode : Corrupt
+  HeadDoesNotMatch : Corrupt
+
+-- why a tree refused: a location or size out of range, a node that is pruned or missing, too many leaves
+pub data TreeRefused : Type 0 where
+  RangeOutOfBounds : ℕ → TreeRefused
+  ElementPruned : ℕ → TreeRefused
+  MissingNode : ℕ → TreeRefused
+  LocationOverflow : ℕ → TreeRefused
+
+-- why a log refused: an item that is pruned, a spelling of too many bytes
+pub data LogRefused : Type 0 where
+  ItemPruned : ℕ → LogRefused
+  ItemTooLarge : ℕ → LogRefused
+
+-- why a command was refused
+pub data Refused : Type 0 where
+  NotOffered : Refused
+  NoDatabase : Refused
+  NoSuchHandle : ℕ → Refused
+  StaleBatch : Refused
+  StaleRead : Refused
+  HistoricalFloorPruned : ℕ → Refused
+  DataCorrupted : Corrupt → Refused
+  Merkle : TreeRefused → Refused
+  Journal : LogRefused → Refused
+
+abbrev pub corrupt_text : Corrupt → Bytes
+corrupt_text FloorExceedsCommit = codes "inactivity floor exceeds commit location"
+corrupt_text ItemDoesNotDecode = codes "item does not decode"
+corrupt_text HeadDoesNotMatch = codes "head does not match the start"

@@ -1,0 +1,38 @@
+-- What an error of a call refuses.
+use Rattle.std.specs.Prelude.{◌≡◌, Option, None, Some, IfSome, option_map}
+use Rattle.qm_model.specs.Refused as refusals
+use Rattle.qm_base.specs.declared.error.JournalError.{JournalError}
+use Rattle.qm_base.specs.declared.error.JournalError.TheVariants as journal
+use Rattle.qm_base.specs.declared.error.MerkleError.{MerkleError}
+use Rattle.qm_base.specs.declared.error.MerkleError.TheVariants as merkle
+use Rattle.qm_base.specs.declared.error.Error.{Error}
+use Rattle.qm_base.specs.declared.error.Error.TheVariants as errors
+use Rattle.qm_base.specs.Views.{corrupt_view}
+
+-- why a tree refused, if memory was not wanted
+abbrev pub tree_refusal : MerkleError → Option refusals.TreeRefused
+tree_refusal merkle.Memory = None
+tree_refusal (merkle.RangeOutOfBounds n) = Some (refusals.RangeOutOfBounds n)
+tree_refusal (merkle.ElementPruned n) = Some (refusals.ElementPruned n)
+tree_refusal (merkle.MissingNode n) = Some (refusals.MissingNode n)
+tree_refusal (merkle.LocationOverflow n) = Some (refusals.LocationOverflow n)
+
+-- why a log refused, if its store did not fail
+abbrev pub log_refusal : JournalError → Option refusals.LogRefused
+log_refusal journal.Store = None
+log_refusal (journal.ItemPruned n) = Some (refusals.ItemPruned n)
+log_refusal (journal.ItemTooLarge n) = Some (refusals.ItemTooLarge n)
+
+-- why a call refused, if it is not for want of memory or a failing store
+abbrev pub refusal_of : Error → Option refusals.Refused
+refusal_of errors.Memory = None
+refusal_of errors.StaleBatch = Some refusals.StaleBatch
+refusal_of errors.StaleRead = Some refusals.StaleRead
+refusal_of (errors.HistoricalFloorPruned n) = Some (refusals.HistoricalFloorPruned n)
+refusal_of (errors.DataCorrupted c) = Some (refusals.DataCorrupted (corrupt_view c))
+refusal_of (errors.Merkle e) = option_map refusals.Merkle (tree_refusal e)
+refusal_of (errors.Journal e) = option_map refusals.Journal (log_refusal e)
+
+-- an error refuses for no other reason than is due
+abbrev pub IsDue : Error → Option refusals.Refused → Type 0
+IsDue e due = IfSome (refusal_of e) (λ r. due ≡ Some r)
