@@ -2,7 +2,7 @@
 #![tactic(auto)]
 
 ghost use Rattle.std.specs.Prelude.{◌≡◌, ℕ, ◌+◌, ◌-◌, ◌^◌, ◌<◌, ◌≤◌, List, length, map, slice_get};
-ghost use Rattle.std.specs.Prelude.{Option, Some, None, IfSome, IfOk, OnOk, OnErr, IsErrOf};
+ghost use Rattle.std.specs.Prelude.{Option, Some, None, IfSome, IsSome, IfOk, OnOk, OnErr, IsErrOf};
 ghost use Rattle.qm_model.specs.Causes.{IsCause, Grows, GrowsPart};
 
 mod items;
@@ -116,4 +116,7 @@ pub trait Store: Drop {
 
     /// Where the items are told, they reach from the start to the end.
     ghost told_end: { (s : Self) → IfSome (items s) (λ xs. start s + length xs ≡ end s) };
+
+    /// Where the items are told, the head is.
+    ghost told_head: { (s : Self) → IfSome (items s) (λ _. IsSome (head s)) };
 }
