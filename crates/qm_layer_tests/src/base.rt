@@ -7,6 +7,7 @@ use qm_base::{
 };
 use qm_store::StoreError;
 use std::alloc::{AllocError, Global};
+use std::process::Abort;
 use std::test::Fail;
 
 #[test]
@@ -85,76 +86,103 @@ fn key_spelled_by<U: Update>(alloc: Global, bytes: &[u8]) -> Result<Option<Vec<u
     }
 }
 
+// The bytes spell an operation of this kind with this key, or none.
+fn expect_key<U: Update>(
+    rt: &impl Abort,
+    alloc: Global,
+    bytes: &[u8],
+    want: Option<&[u8]>,
+) -> Result<(), AllocError> {
+    let found = key_spelled_by::<U>(alloc, bytes)?;
+    assert_eq!(rt;
+        found.as_ref().map(|key| key.as_slice()),
+        want,
+        "at {bytes:?}"
+    );
+    Ok(())
+}
+
 #[test]
 fn each_kind_and_size_has_its_spellings(rt: HostRuntime) -> Result<(), Fail> {
     type Variable = VariableEncoding<ByteValue>;
     type Fixed = FixedEncoding<FixedBytes<4>>;
     let alloc = rt.alloc();
-    // the bytes, and the key that they spell in an unordered and an ordered database with lengths, and in both of fixed sizes
-    let table: [(&[u8], [Option<&[u8]>; 4]); 15] = [
+    // the bytes, their key, and whether they spell an operation of an unordered and an ordered database with lengths, and of
+    // both of fixed sizes
+    let table: [(&[u8], &[u8], [bool; 4]); 15] = [
         (
             &[1, 0, 0, 0, 1, 107, 0, 0, 0, 1, 118],
-            [Some(&[107]), None, None, None],
+            &[107],
+            [true, false, false, false],
         ),
         (
             &[1, 0, 0, 0, 1, 107, 0, 0, 0, 1, 118, 0, 0, 0, 1, 108],
-            [None, Some(&[107]), None, None],
+            &[107],
+            [false, true, false, false],
         ),
         (
             &[2, 0, 0, 0, 2, 97, 98],
-            [Some(&[97, 98]), Some(&[97, 98]), None, None],
+            &[97, 98],
+            [true, true, false, false],
         ),
         (
             &[3, 1, 0, 0, 0, 1, 170, 0, 0, 0, 0, 0, 0, 0, 0],
-            [Some(&[]), Some(&[]), None, None],
+            &[],
+            [true, true, false, false],
         ),
         (
             &[1, 97, 98, 5, 6, 7, 8, 0, 0, 0, 0, 0, 0, 0],
-            [None, None, Some(&[97, 98]), Some(&[97, 98])],
+            &[97, 98],
+            [false, false, true, true],
         ),
         (
             &[1, 97, 98, 5, 6, 7, 8, 99, 100, 0, 0, 0, 0, 0],
-            [None, None, None, Some(&[97, 98])],
+            &[97, 98],
+            [false, false, false, true],
         ),
         (
             &[2, 97, 98, 0, 0, 0, 0, 0, 0, 0, 0, 0, 0, 0],
-            [None, None, Some(&[97, 98]), Some(&[97, 98])],
+            &[97, 98],
+            [false, false, true, true],
         ),
         // without the last byte of padding
         (
             &[2, 97, 98, 0, 0, 0, 0, 0, 0, 0, 0, 0, 0],
-            [None, None, None, None],
+            &[],
+            [false, false, false, false],
         ),
         (
             &[3, 1, 5, 6, 7, 8, 0, 0, 0, 0, 0, 0, 1, 2],
-            [None, None, Some(&[]), Some(&[])],
+            &[],
+            [false, false, true, true],
         ),
         // a floor of 2^62, and one above
         (
             &[3, 0, 64, 0, 0, 0, 0, 0, 0, 0],
-            [Some(&[]), Some(&[]), None, None],
+            &[],
+            [true, true, false, false],
         ),
-        (&[3, 0, 64, 0, 0, 0, 0, 0, 0, 1], [None, None, None, None]),
+        (
+            &[3, 0, 64, 0, 0, 0, 0, 0, 0, 1],
+            &[],
+            [false, false, false, false],
+        ),
         // no tag, another tag, a length past the end, and another mark
-        (&[], [None, None, None, None]),
-        (&[4, 0, 0, 0, 1, 107], [None, None, None, None]),
-        (&[2, 0, 0, 0, 2, 97], [None, None, None, None]),
-        (&[3, 2, 0, 0, 0, 0, 0, 0, 0, 2], [None, None, None, None]),
+        (&[], &[], [false, false, false, false]),
+        (&[4, 0, 0, 0, 1, 107], &[], [false, false, false, false]),
+        (&[2, 0, 0, 0, 2, 97], &[], [false, false, false, false]),
+        (
+            &[3, 2, 0, 0, 0, 0, 0, 0, 0, 2],
+            &[],
+            [false, false, false, false],
+        ),
     ];
-    for (bytes, want) in table {
-        let found = [
-            key_spelled_by::<Unordered<ByteKey, Variable>>(alloc, bytes)?,
-            key_spelled_by::<Ordered<ByteKey, Variable>>(alloc, bytes)?,
-            key_spelled_by::<Unordered<FixedBytes<2>, Fixed>>(alloc, bytes)?,
-            key_spelled_by::<Ordered<FixedBytes<2>, Fixed>>(alloc, bytes)?,
-        ];
-        for (found, want) in found.iter().zip(want.iter()) {
-            assert_eq!(rt;
-                found.as_ref().map(|key| key.as_slice()),
-                *want,
-                "at {bytes:?}"
-            );
-        }
+    for (bytes, key, [unordered, ordered, fixed, ordered_fixed]) in table {
+        let key_if = |is_spelled: bool| is_spelled.then_some(key);
+        expect_key::<Unordered<ByteKey, Variable>>(&rt, alloc, bytes, key_if(unordered))?;
+        expect_key::<Ordered<ByteKey, Variable>>(&rt, alloc, bytes, key_if(ordered))?;
+        expect_key::<Unordered<FixedBytes<2>, Fixed>>(&rt, alloc, bytes, key_if(fixed))?;
+        expect_key::<Ordered<FixedBytes<2>, Fixed>>(&rt, alloc, bytes, key_if(ordered_fixed))?;
     }
     Ok(())
 }

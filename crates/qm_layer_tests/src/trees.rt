@@ -230,18 +230,15 @@ fn leaves_are_replaced(rt: HostRuntime) -> Result<(), Fail> {
 
 #[test]
 fn pins_make_a_tree(rt: HostRuntime) -> Result<(), Fail> {
-    let alloc = rt.alloc();
+    let none: Vec<Sha256Digest> = Vec::new(rt.alloc());
+    let nodes: Vec<Sha256Digest> = Vec::new(rt.alloc());
     let three: Location<mmr::Family> = Location::new(3);
-    let digest = Sha256Digest::from_bytes(&[0; 32]).ok_or("no digest")?;
-    let missing = Tree::from_components(
-        alloc,
-        Vec::new(alloc),
-        three,
-        Vec::from_slice(alloc, &[digest])?,
-    );
-    assert_eq!(rt; missing.err(), Some(MerkleError::MissingNode(3)));
-    let pins = Vec::from_slice(alloc, &[digest, digest])?;
-    let tree = Tree::from_components(alloc, Vec::new(alloc), three, pins)?;
-    assert_eq!(rt; tree.leaves(), three);
+    let missing = Tree::from_components(rt.alloc(), nodes, three, none).err();
+    assert_eq!(rt; missing, Some(MerkleError::MissingNode(2)));
+    let none: Vec<Sha256Digest> = Vec::new(rt.alloc());
+    let nodes: Vec<Sha256Digest> = Vec::new(rt.alloc());
+    let zero: Location<mmr::Family> = Location::new(0);
+    let tree = Tree::from_components(rt.alloc(), nodes, zero, none)?;
+    assert_eq!(rt; tree.leaves(), zero);
     Ok(())
 }
