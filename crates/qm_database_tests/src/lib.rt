@@ -1,7 +1,5 @@
-//! Tests of databases and what stands above them: what no clause says of batches, databases and runs.
+//! Tests of databases: what no clause says of batches and databases.
 #![tactic(auto)]
 
 #[cfg(test)]
 mod databases;
-#[cfg(test)]
-mod runs;
