@@ -1,5 +1,7 @@
-//! Tests of databases: what no clause says of batches and databases.
+//! Tests of databases: what no clause says of them, and no run of the program shows.
 #![tactic(auto)]
 
 #[cfg(test)]
-mod databases;
+mod fixed;
+#[cfg(test)]
+mod ordered;
