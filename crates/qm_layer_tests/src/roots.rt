@@ -2,10 +2,10 @@
 
 ghost use Rattle.std.specs.Prelude.{◌≤◌};
 
-use crate::trees::{Tree, TreeHasher, add_leaf};
+use crate::trees::{Tree, TreeHasher, Wrong, add_leaf};
 use qm_base::{Digest, Hasher, Location, MerkleError, Sha256, Sha256Digest};
 use qm_merkle::mmr::Family;
-use qm_merkle::{Family as _, StandardHasher};
+use qm_merkle::{Family as _, Position, StandardHasher};
 use std::alloc::{AllocError, Global};
 use std::test::Fail;
 
@@ -101,5 +101,29 @@ fn too_few_pins(rt: HostRuntime) -> Result<(), Fail> {
     let nodes: Vec<Sha256Digest> = Vec::new(rt.alloc());
     let missing = Tree::from_components(rt.alloc(), nodes, three, one).err();
     assert_eq!(rt; missing, Some(MerkleError::MissingNode(3)));
+    Ok(())
+}
+
+#[test]
+fn trees_are_made_of_their_parts(rt: HostRuntime) -> Result<(), Fail> {
+    let alloc = rt.alloc();
+    let mut hasher = StandardHasher::new(Sha256::new());
+    let leaf = hasher.leaf_digest(Family::location_to_position(Location::new(0)), b"a");
+    let mut tree = Tree::new(alloc);
+    for _ in 0..3 {
+        add_leaf(alloc, &mut hasher, &mut tree, leaf)?;
+    }
+    let Some(peak) = tree.get_node(Position::new(2)) else {
+        return Err(Wrong.into());
+    };
+    let want = tree.root(alloc, &mut hasher, 0)?;
+    let pins = Vec::from_slice(alloc, &[peak])?;
+    let nodes = Vec::from_slice(alloc, &[leaf])?;
+    let made = Tree::from_components(alloc, nodes, Location::new(2), pins)?;
+    assert_eq!(rt; made.root(alloc, &mut hasher, 0)?, want);
+    let pins = Vec::from_slice(alloc, &[peak])?;
+    let nodes = Vec::from_slice(alloc, &[leaf])?;
+    let made = Tree::from_pruned_with_retained(alloc, nodes, Location::new(2), pins)?;
+    assert_eq!(rt; made.root(alloc, &mut hasher, 0)?, want);
     Ok(())
 }
