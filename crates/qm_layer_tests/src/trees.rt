@@ -243,5 +243,8 @@ fn pins_make_a_tree(rt: HostRuntime) -> Result<(), Fail> {
     let pins = Vec::from_slice(alloc, &[digest, digest])?;
     let tree = Tree::from_components(alloc, Vec::new(alloc), three, pins)?;
     assert_eq!(rt; tree.leaves(), three);
+    let pins = Vec::from_slice(alloc, &[digest, digest])?;
+    let tree = Tree::from_pruned_with_retained(alloc, Vec::new(alloc), three, pins)?;
+    assert_eq!(rt; tree.leaves(), three);
     Ok(())
 }
