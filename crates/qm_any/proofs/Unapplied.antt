@@ -162,9 +162,9 @@ lacked-behind layers tip older n leads among =
     (ap (drop (length lent)) (lacked-lists layers tip older lent leads (Contains-later tip older lent here.1)).0
     ∙ drop-append_seam lent (operations_in (unapplied (length lent) layers)))
 
--- a store whose items grew starts where it did
+-- a store whose items grew has the start and the head that it had
 pub appended : {C : Type 0} (members : store.Ghosts C) (old new : C) (more : List Bytes) → HasGrown members old new more → Appended members old new more
-appended members old new more grown = record { start = grown.start; items = grown.items }
+appended members old new more grown = record { start = grown.start; head = grown.head; items = grown.items }
 
 -- want of memory is no fault
 pub memory-cause : (before now : ℕ) (e : Error) → before ≤ now → e ≡ errors.Memory → IsCause before now (e ≡ errors.Journal journal.Store)
@@ -174,6 +174,7 @@ memory-cause before now e later is = record { later = later; failed = λ fault. 
 pub part-whole : {C : Type 0} (members : store.Ghosts C) (old new : C) (more : List Bytes) → HasGrown members old new more → AppendedPart members old new more
 part-whole members old new more grown = record {
   start = grown.start;
+  head = grown.head;
   items = (length more, subst (Grows (members.items old) (members.items new)) (sym (take_all (length more) more (omega arith))) grown.items);
 }
 

@@ -6,7 +6,7 @@ use Rattle.qm_model.specs.Operations.{Bytes}
 use Rattle.qm_model.specs.Batches.{Apart}
 use Rattle.qm_model.specs.Policies.{Policy}
 use Rattle.qm_machine.specs.Lines.{Line, Answer}
-use Rattle.qm_machine.specs.Machine.{Scheme, State, initial, turn, answers}
+use Rattle.qm_machine.specs.Machine.{Scheme, Stored, State, initial, turn, answers}
 use Rattle.qm_machine.specs.Grammar.{lines_of, line_of, commands_in}
 use Rattle.qm_machine.specs.Text.{reply_line, text_of}
 use Rattle.qm_lines.proofs.Inputs.{IsAt, at_within, at_command, at_more, at_bad}
@@ -33,33 +33,33 @@ module _ (input rest line behind : Bytes) (k : ℕ) (at : IsAt input rest k) (fo
   at_short None e some = absurd (cc some)
   at_short (Some c) e some = at_within input rest line behind k at found c e
 
-  module _ (m : Scheme Policy) (items : List Bytes) where
+  module _ (m : Scheme Policy) (stored : Stored) where
     -- it was answered
     pub line_step : (o : Option (Line Policy)) → line_of line ≡ o → IsSome o → (old new : Bytes) (Before After : State → Type 0)
-        → (Apart m.root (after m items (commands_in input) k).had → (old ≡ text_of (answers m (initial items) (take k (commands_in input)))) × Before (after m items (commands_in input) k))
+        → (Apart m.root (after m stored (commands_in input) k).had → (old ≡ text_of (answers m (initial stored) (take k (commands_in input)))) × Before (after m stored (commands_in input) k))
         → ((s : State) → Before s → IfSome o (λ c. Apart m.root ((turn m s c).1).had → (new ≡ with_line old (turn m s c).0) × After (turn m s c).1))
-        → Apart m.root (after m items (commands_in input) (k + 1)).had → (new ≡ text_of (answers m (initial items) (take (k + 1) (commands_in input)))) × After (after m items (commands_in input) (k + 1))
+        → Apart m.root (after m stored (commands_in input) (k + 1)).had → (new ≡ text_of (answers m (initial stored) (take (k + 1) (commands_in input)))) × After (after m stored (commands_in input) (k + 1))
     line_step None e some old new Before After so_far one = absurd (cc some)
     line_step (Some c) e some old new Before After so_far one =
-        loop_step m items (commands_in input) text_of with_line text_of-push k c old new Before After
+        loop_step m stored (commands_in input) text_of with_line text_of-push k c old new Before After
         (at_within input rest line behind k at found c e) (at_command input rest line behind k at found c e) so_far one
 
     -- what is left where the loop ended at it
     line_left : (o : Option (Line Policy)) → line_of line ≡ o → (left : Option (List Bytes)) (Before : State → Type 0)
-        → (Apart m.root (after m items (commands_in input) k).had → Before (after m items (commands_in input) k))
-        → ((s : State) → Before s → Apart m.root s.had → IsLeft left s.items (after_line m s o).items)
-        → Apart m.root (after m items (commands_in input) k).had → IsLeft left (after m items (commands_in input) k).items (after m items (commands_in input) (suc k)).items
+        → (Apart m.root (after m stored (commands_in input) k).had → Before (after m stored (commands_in input) k))
+        → ((s : State) → Before s → Apart m.root s.had → IsLeft left s.store.items (after_line m s o).store.items)
+        → Apart m.root (after m stored (commands_in input) k).had → IsLeft left (after m stored (commands_in input) k).store.items (after m stored (commands_in input) (suc k)).store.items
     line_left None e left Before so_far leaves = λ apart.
-        let s : State = after m items (commands_in input) k in
-        subst (IsLeft left s.items) (sym (after_all m items (commands_in input) k (omega (arith, (at_bad input rest line behind k at found e).0)))) (leaves s (so_far apart) apart)
+        let s : State = after m stored (commands_in input) k in
+        subst (IsLeft left s.store.items) (sym (after_all m stored (commands_in input) k (omega (arith, (at_bad input rest line behind k at found e).0)))) (leaves s (so_far apart) apart)
     line_left (Some c) e left Before so_far leaves =
-        left_in m items (commands_in input) k c left Before (at_within input rest line behind k at found c e) (at_command input rest line behind k at found c e) so_far leaves
+        left_in m stored (commands_in input) k c left Before (at_within input rest line behind k at found c e) (at_command input rest line behind k at found c e) so_far leaves
 
     -- the loop ended at it
     pub answered_in : (text : Bytes) (left : Option (List Bytes)) (Before : State → Type 0)
-        → (Apart m.root (after m items (commands_in input) k).had → (text ≡ text_of (answers m (initial items) (take k (commands_in input)))) × Before (after m items (commands_in input) k))
-        → ((s : State) → Before s → Apart m.root s.had → IsLeft left s.items (after_line m s (line_of line)).items)
-        → IsAnswered m items (commands_in input) k text left
+        → (Apart m.root (after m stored (commands_in input) k).had → (text ≡ text_of (answers m (initial stored) (take k (commands_in input)))) × Before (after m stored (commands_in input) k))
+        → ((s : State) → Before s → Apart m.root s.had → IsLeft left s.store.items (after_line m s (line_of line)).store.items)
+        → IsAnswered m stored (commands_in input) k text left
     answered_in text left Before so_far leaves = record {
       few = at.few;
       same = λ apart. (so_far apart).0;
@@ -67,11 +67,11 @@ module _ (input rest line behind : Bytes) (k : ℕ) (at : IsAt input rest k) (fo
     }
 
 -- the loop ended behind the last line, or before the first
-pub answered_at : (m : Scheme Policy) (items : List Bytes) (input : Bytes) (k : ℕ) (text : Bytes) (left : Option (List Bytes)) → k ≤ length (commands_in input)
-    → (Apart m.root (after m items (commands_in input) k).had → (text ≡ text_of (answers m (initial items) (take k (commands_in input)))) × (left ≡ Some (after m items (commands_in input) k).items))
-    → IsAnswered m items (commands_in input) k text left
-answered_at m items input k text left few so_far = record {
+pub answered_at : (m : Scheme Policy) (stored : Stored) (input : Bytes) (k : ℕ) (text : Bytes) (left : Option (List Bytes)) → k ≤ length (commands_in input)
+    → (Apart m.root (after m stored (commands_in input) k).had → (text ≡ text_of (answers m (initial stored) (take k (commands_in input)))) × (left ≡ Some (after m stored (commands_in input) k).store.items))
+    → IsAnswered m stored (commands_in input) k text left
+answered_at m stored input k text left few so_far = record {
   few = few;
   same = λ apart. (so_far apart).0;
-  left = λ apart. left_none (after m items (commands_in input) k).items (after m items (commands_in input) (suc k)).items left (so_far apart).1;
+  left = λ apart. left_none (after m stored (commands_in input) k).store.items (after m stored (commands_in input) (suc k)).store.items left (so_far apart).1;
 }

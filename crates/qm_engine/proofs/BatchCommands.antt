@@ -1,5 +1,5 @@
 -- The commands that make, fill and apply batches.
-use Rattle.std.proofs.Common.{◌≡◌, ◌≢◌, ℕ, Bool, true, false, cond, List, [], ◌∷◌, ◌++◌, length, get_or, set, map, drop, Option, Some, None, arith, refl, sym, ◌∙◌, ap, subst, length-append, IfSome, append-nil}
+use Rattle.std.proofs.Common.{◌≡◌, ◌≢◌, ◌<◌, ℕ, Bool, true, false, cond, List, [], ◌∷◌, ◌++◌, length, get_or, set, map, drop, Option, Some, None, arith, refl, sym, ◌∙◌, ap, subst, length-append, IfSome, append-nil}
 use Rattle.std.specs.Prelude.{Contains}
 use Rattle.qm_model.specs.Causes.{Grows, GrowsPart}
 use Rattle.qm_model.specs.Operations.{Bytes, Operation}
@@ -32,7 +32,11 @@ use Rattle.qm_engine.specs.Turn.{turn_of_error}
 use Rattle.qm_store.specs.Refusals.{refusal_of}
 use Rattle.qm_engine.specs.Session.{Meaning, SlotIs, Holds, IsLeft}
 use Rattle.qm_engine.proofs.Tables.{push_at, set_at, set_set}
-use Rattle.qm_engine.proofs.Commands.{choice, none_some, left_part, refuses, by_error, HeldIs-more, SlotIs-more, with_list, HeldIs-kept, slots_set, lengths_set, Keeps, Holds-used, Turns}
+use Rattle.qm_store.specs.Given.{Appended, IsUnchanged}
+use Rattle.qm_engine.proofs.Commands.{stored-same, choice, none_some, left_part, refuses, by_error, HeldIs-more, SlotIs-more, with_list, HeldIs-kept, slots_set, lengths_set, Keeps, Holds-used, Turns}
+
+longer : {A : Type 0} (xs ys : List A) → 0 < length xs → 0 < length (xs ++ ys)
+longer xs ys some = omega (arith, some, length-append xs ys)
 
 module _ {X C B M K V D P : Type 0} (m : Meaning X C B M) (key : K → Bytes) (value : V → Bytes) (digest : D → Bytes) (scheme : Scheme P) where
   abbrev root : List Operation → Bytes
@@ -47,8 +51,8 @@ module _ {X C B M K V D P : Type 0} (m : Meaning X C B M) (key : K → Bytes) (v
     ap lines.Started (e ∙ k.lengths),
     record {
       database = k.database;
-      start = k.start;
-      items = k.items;
+      store = k.store;
+      whole = k.whole;
       count = k.count;
       lengths = omega (arith, length-append table (slot ∷ []), length-append s.table (new ∷ []), k.lengths);
       slots = push_at (SlotIs m s.had) Gone machine.gone tt table s.table slot new k.lengths k.slots is;
@@ -77,8 +81,8 @@ module _ {X C B M K V D P : Type 0} (m : Meaning X C B M) (key : K → Bytes) (v
     refl,
     record {
       database = k.database;
-      start = k.start;
-      items = k.items;
+      store = k.store;
+      whole = k.whole;
       count = k.count;
       lengths = rw set_set (lengths_set m table s h (Writing after) (machine.writing chain above (ws ++ w ∷ [])) k.lengths);
       slots = rw set_set (slots_set m table s h (Writing after) (machine.writing chain above (ws ++ w ∷ [])) k.lengths k.slots (let same : x ≡ batch = cc in (wrote chain above ws (subst (λ v. m.is_batch v chain above ws) same is.0), is.1, is.2)));
@@ -110,13 +114,13 @@ module _ {X C B M K V D P : Type 0} (m : Meaning X C B M) (key : K → Bytes) (v
   -- a merkleize that was accepted
   merkleized_in : (x after : X) (table : List (Slot B M)) (opened : ℕ) (h : ℕ) (policy : P) (meta : Option Bytes) (batch : B) (made : M) (low high bottom : ℕ) (s : State) (list : List Operation)
       → Holds m (Database x) table opened s → Contains s.had list → ((l : List Operation) → m.stands x l → m.stands after l)
-      → m.start (m.inside after) ≡ m.start (m.inside x) → m.items (m.inside after) ≡ m.items (m.inside x)
+      → IsUnchanged m.members (m.inside x) (m.inside after)
       → ((chain above : Chain) (ws : List Write) → m.is_batch batch chain above ws → fits root (commitment root list) chain ≡ true)
       → ((chain above : Chain) (ws : List Write) → m.is_batch batch chain above ws → IsOnChain list chain → let tip = step scheme.kind scheme.rules chain.base ws policy meta in (tip_refusal variable chain tip ≡ None) × m.is_merkleized made chain tip)
       → ((chain : Chain) (tip : List Operation) → m.is_merkleized made chain tip → (low ≡ length chain.base) × (high ≡ length tip) × (bottom ≡ floor tip))
       → (a : Slot B M) (b : machine.Slot) → SlotIs m s.had a b → writing_of a ≡ Some batch
       → Goes (Reply (replies.Merkleized h low high bottom)) (Database after) (set (set table h Gone) h (Merkleized made)) opened (merkleize_in scheme s h policy meta list b)
-  merkleized_in x after table opened h policy meta batch made low high bottom s list k in_had keeps start items fit_of did sized (Writing w) (machine.writing chain above ws) is e =
+  merkleized_in x after table opened h policy meta batch made low high bottom s list k in_had keeps same_store fit_of did sized (Writing w) (machine.writing chain above ws) is e =
       let same : w ≡ batch = cc in
       let batch_is : m.is_batch batch chain above ws = subst (λ v. m.is_batch v chain above ws) same is.0 in
       let fit : fits root (commitment root list) chain ≡ true = fit_of chain above ws batch_is in
@@ -136,31 +140,31 @@ module _ {X C B M K V D P : Type 0} (m : Meaning X C B M) (key : K → Bytes) (v
             rw (sizes.0, sizes.1, sizes.2) refl,
             record {
               database = HeldIs-more m s.had tip (Database after) s.database (HeldIs-kept m x after s.had s.database keeps k.database);
-              start = start ∙ k.start;
-              items = items ∙ k.items;
+              store = stored-same m.members (m.inside x) (m.inside after) s.store same_store k.store;
+              whole = k.whole;
               count = k.count;
               lengths = rw set_set (lengths_set m table s h (Merkleized made) (machine.merkleized chain tip) k.lengths);
               slots = rw set_set (set_at (SlotIs m (tip ∷ s.had)) Gone machine.gone tt table s.table h (Merkleized made) (machine.merkleized chain tip) k.lengths (λ i. SlotIs-more m s.had tip (get_or table i Gone) (slot_at s.table i) (k.slots i)) (now, IsAmong-more s.had tip chain is.1, Contains-first tip s.had));
             },
           )
-  merkleized_in x after table opened h policy meta batch made low high bottom s list k in_had keeps start items fit_of did sized (Writing w) machine.gone is e = absurd is
-  merkleized_in x after table opened h policy meta batch made low high bottom s list k in_had keeps start items fit_of did sized (Writing w) (machine.merkleized chain tip) is e = absurd is
-  merkleized_in x after table opened h policy meta batch made low high bottom s list k in_had keeps start items fit_of did sized Gone b is e = absurd (cc)
-  merkleized_in x after table opened h policy meta batch made low high bottom s list k in_had keeps start items fit_of did sized (Merkleized w) b is e = absurd (cc)
+  merkleized_in x after table opened h policy meta batch made low high bottom s list k in_had keeps same_store fit_of did sized (Writing w) machine.gone is e = absurd is
+  merkleized_in x after table opened h policy meta batch made low high bottom s list k in_had keeps same_store fit_of did sized (Writing w) (machine.merkleized chain tip) is e = absurd is
+  merkleized_in x after table opened h policy meta batch made low high bottom s list k in_had keeps same_store fit_of did sized Gone b is e = absurd (cc)
+  merkleized_in x after table opened h policy meta batch made low high bottom s list k in_had keeps same_store fit_of did sized (Merkleized w) b is e = absurd (cc)
 
   -- one that found the batch left behind
   stale_in : (x after : X) (table : List (Slot B M)) (opened : ℕ) (h : ℕ) (policy : P) (meta : Option Bytes) (batch : B) (s : State) (list : List Operation)
       → Holds m (Database x) table opened s → Contains s.had list → ((l : List Operation) → m.stands x l → m.stands after l)
-      → m.start (m.inside after) ≡ m.start (m.inside x) → m.items (m.inside after) ≡ m.items (m.inside x)
+      → IsUnchanged m.members (m.inside x) (m.inside after)
       → ((chain above : Chain) (ws : List Write) → m.is_batch batch chain above ws → IsOnChain list chain → ⊥)
       → (a : Slot B M) (b : machine.Slot) → SlotIs m s.had a b → writing_of a ≡ Some batch
       → Goes (Reply (replies.Refused refused.StaleBatch)) (Database after) (set table h Gone) opened (merkleize_in scheme s h policy meta list b)
-  stale_in x after table opened h policy meta batch s list k in_had keeps start items off (Writing w) (machine.writing chain above ws) is e =
+  stale_in x after table opened h policy meta batch s list k in_had keeps same_store off (Writing w) (machine.writing chain above ws) is e =
       let same : w ≡ batch = cc in
       let batch_is : m.is_batch batch chain above ws = subst (λ v. m.is_batch v chain above ws) same is.0 in
       choice (fits root (commitment root list) chain) (merkleize_tip scheme s h chain tip (tip_refusal variable chain tip)) (refuse (with_slot s h machine.gone) refusals.StaleBatch) Goal
       (λ fit. by_due fit batch_is (tip_refusal variable chain tip))
-      (λ fit apart. (refl, Holds-used m x after table opened h s (keeps, start, items) k))
+      (λ fit apart. (refl, Holds-used m x after table opened h s (keeps, same_store) k))
     where
       tip : List Operation
       tip = step scheme.kind scheme.rules chain.base ws policy meta
@@ -171,10 +175,10 @@ module _ {X C B M K V D P : Type 0} (m : Meaning X C B M) (key : K → Bytes) (v
       by_due : fits root (commitment root list) chain ≡ true → m.is_batch batch chain above ws → (due : Option refusals.Refused) → Goal (merkleize_tip scheme s h chain tip due)
       by_due fit batch_is None = λ apart. absurd (off chain above ws batch_is (on_chain-fits root (tip ∷ s.had) list chain apart (Contains-more s.had tip list in_had) (IsAmong-more s.had tip chain is.1) fit))
       by_due fit batch_is (Some r) = λ apart. absurd (off chain above ws batch_is (on_chain-fits root s.had list chain apart in_had is.1 fit))
-  stale_in x after table opened h policy meta batch s list k in_had keeps start items off (Writing w) machine.gone is e = absurd is
-  stale_in x after table opened h policy meta batch s list k in_had keeps start items off (Writing w) (machine.merkleized chain tip) is e = absurd is
-  stale_in x after table opened h policy meta batch s list k in_had keeps start items off Gone b is e = absurd (cc)
-  stale_in x after table opened h policy meta batch s list k in_had keeps start items off (Merkleized w) b is e = absurd (cc)
+  stale_in x after table opened h policy meta batch s list k in_had keeps same_store off (Writing w) machine.gone is e = absurd is
+  stale_in x after table opened h policy meta batch s list k in_had keeps same_store off (Writing w) (machine.merkleized chain tip) is e = absurd is
+  stale_in x after table opened h policy meta batch s list k in_had keeps same_store off Gone b is e = absurd (cc)
+  stale_in x after table opened h policy meta batch s list k in_had keeps same_store off (Merkleized w) b is e = absurd (cc)
 
   -- one whose tip list is refused
   too_large_in : (x after : X) (table : List (Slot B M)) (opened : ℕ) (h : ℕ) (policy : P) (meta : Option Bytes) (batch : B) (r : Refused) (s : State) (list : List Operation)
@@ -208,32 +212,32 @@ module _ {X C B M K V D P : Type 0} (m : Meaning X C B M) (key : K → Bytes) (v
 
   pub merkleize_ok : (x after : X) (table : List (Slot B M)) (opened : ℕ) (h : ℕ) (policy : P) (meta : Option Bytes) (batch : B) (made : M) (low high bottom : ℕ) (s : State)
       → Holds m (Database x) table opened s → ((l : List Operation) → m.stands x l → m.stands after l)
-      → m.start (m.inside after) ≡ m.start (m.inside x) → m.items (m.inside after) ≡ m.items (m.inside x)
+      → IsUnchanged m.members (m.inside x) (m.inside after)
       → ((list : List Operation) (chain above : Chain) (ws : List Write) → m.stands x list → m.is_batch batch chain above ws → fits root (commitment root list) chain ≡ true)
       → ((list : List Operation) (chain above : Chain) (ws : List Write) → m.stands x list → m.is_batch batch chain above ws → IsOnChain list chain → let tip = step scheme.kind scheme.rules chain.base ws policy meta in (tip_refusal variable chain tip ≡ None) × m.is_merkleized made chain tip)
       → ((chain : Chain) (tip : List Operation) → m.is_merkleized made chain tip → (low ≡ length chain.base) × (high ≡ length tip) × (bottom ≡ floor tip))
       → writing_of (get_or table h Gone) ≡ Some batch
       → Goes (Reply (replies.Merkleized h low high bottom)) (Database after) (set (set table h Gone) h (Merkleized made)) opened (machine.merkleize scheme s h policy meta)
-  merkleize_ok x after table opened h policy meta batch made low high bottom s k keeps start items fit did sized e =
+  merkleize_ok x after table opened h policy meta batch made low high bottom s k keeps same_store fit did sized e =
       with_list m x s.had s.database s (λ list. merkleize_in scheme s h policy meta list (slot_at s.table h)) (Goes (Reply (replies.Merkleized h low high bottom)) (Database after) (set (set table h Gone) h (Merkleized made)) opened) k.database
-      (λ list stands in_had. merkleized_in x after table opened h policy meta batch made low high bottom s list k in_had keeps start items (λ chain above ws. fit list chain above ws stands) (λ chain above ws. did list chain above ws stands) sized
+      (λ list stands in_had. merkleized_in x after table opened h policy meta batch made low high bottom s list k in_had keeps same_store (λ chain above ws. fit list chain above ws stands) (λ chain above ws. did list chain above ws stands) sized
       (get_or table h Gone) (slot_at s.table h) (k.slots h) e)
 
   pub merkleize_err : (x after : X) (table : List (Slot B M)) (opened : ℕ) (h : ℕ) (policy : P) (meta : Option Bytes) (batch : B) (error : Error) (s : State)
       → Holds m (Database x) table opened s → ((l : List Operation) → m.stands x l → m.stands after l)
-      → m.start (m.inside after) ≡ m.start (m.inside x) → m.items (m.inside after) ≡ m.items (m.inside x)
+      → IsUnchanged m.members (m.inside x) (m.inside after)
       → (error ≡ errors.StaleBatch → (list : List Operation) (chain above : Chain) (ws : List Write) → m.stands x list → m.is_batch batch chain above ws → IsOnChain list chain → ⊥)
       → (error ≢ errors.StaleBatch → (list : List Operation) (chain above : Chain) (ws : List Write) → m.stands x list → m.is_batch batch chain above ws → IfSome (refusal_of error) (λ r. (fits root (commitment root list) chain ≡ true)
       × (IsOnChain list chain → tip_refusal variable chain (step scheme.kind scheme.rules chain.base ws policy meta) ≡ Some r)))
       → writing_of (get_or table h Gone) ≡ Some batch
       → Goes (turn_of_error error) (Database after) (set table h Gone) opened (machine.merkleize scheme s h policy meta)
-  merkleize_err x after table opened h policy meta batch error s k keeps start items stale why e =
+  merkleize_err x after table opened h policy meta batch error s k keeps same_store stale why e =
       by_error error _
       (λ is_stale. with_list m x s.had s.database s (λ list. merkleize_in scheme s h policy meta list (slot_at s.table h)) (Goes (Reply (replies.Refused refused.StaleBatch)) (Database after) (set table h Gone) opened) k.database
-      (λ list stands in_had. stale_in x after table opened h policy meta batch s list k in_had keeps start items (λ chain above ws. stale is_stale list chain above ws stands)
+      (λ list stands in_had. stale_in x after table opened h policy meta batch s list k in_had keeps same_store (λ chain above ws. stale is_stale list chain above ws stands)
       (get_or table h Gone) (slot_at s.table h) (k.slots h) e))
       (λ r other told. with_list m x s.had s.database s (λ list. merkleize_in scheme s h policy meta list (slot_at s.table h)) (Goes (Reply (replies.Refused r)) (Database after) (set table h Gone) opened) k.database
-      (λ list stands in_had. too_large_in x after table opened h policy meta batch r s list k in_had (keeps, start, items)
+      (λ list stands in_had. too_large_in x after table opened h policy meta batch r s list k in_had (keeps, same_store)
       (λ chain above ws is. subst (λ o. IfSome o (λ r. (fits root (commitment root list) chain ≡ true) × (IsOnChain list chain → tip_refusal variable chain (step scheme.kind scheme.rules chain.base ws policy meta) ≡ Some r))) told (why other list chain above ws stands is))
       (get_or table h Gone) (slot_at s.table h) (k.slots h) e))
 
@@ -242,14 +246,14 @@ module _ {X C B M K V D P : Type 0} (m : Meaning X C B M) (key : K → Bytes) (v
       → Holds m (Database x) table opened s → Contains s.had list
       → ((chain : Chain) (tip : List Operation) → m.is_merkleized batch chain tip → fits root (commitment root list) chain ≡ true)
       → ((chain : Chain) (tip : List Operation) → m.is_merkleized batch chain tip → IsOnChain list chain → m.stands after tip)
-      → ((chain : Chain) (tip : List Operation) → m.is_merkleized batch chain tip → IsOnChain list chain → (m.start (m.inside after) ≡ m.start (m.inside x)) × Grows (m.items (m.inside x)) (m.items (m.inside after)) (map (spelling variable) (drop (length list) tip)))
+      → ((chain : Chain) (tip : List Operation) → m.is_merkleized batch chain tip → IsOnChain list chain → Appended m.members (m.inside x) (m.inside after) (map (spelling variable) (drop (length list) tip)))
       → ((l : List Operation) → m.stands after l → size ≡ length l)
       → (a : Slot B M) (b : machine.Slot) → SlotIs m s.had a b → merkleized_of a ≡ Some batch
       → Goes (Reply (replies.Applied size)) (Database after) table opened (apply_in scheme s h list b)
   applied_in x after table opened h batch size s list k in_had fit_of did grown sized (Merkleized w) (machine.merkleized chain tip) is e =
       let same : w ≡ batch = cc in
       let batch_is : m.is_merkleized batch chain tip = subst (λ v. m.is_merkleized v chain tip) same is.0 in
-      choice (fits root (commitment root list) chain) (lines.Applied (length tip), record s { database = Some tip; items = s.items ++ map (spelling variable) (drop (length list) tip) }) (refuse s refusals.StaleBatch) (Goes (Reply (replies.Applied size)) (Database after) table opened)
+      choice (fits root (commitment root list) chain) (lines.Applied (length tip), record s { database = Some tip; store = record s.store { items = s.store.items ++ map (spelling variable) (drop (length list) tip) } }) (refuse s refusals.StaleBatch) (Goes (Reply (replies.Applied size)) (Database after) table opened)
       (λ fit apart.
       let on_chain = on_chain-fits root s.had list chain apart in_had is.1 fit in
       let stood : m.stands after tip = did chain tip batch_is on_chain in
@@ -257,8 +261,8 @@ module _ {X C B M K V D P : Type 0} (m : Meaning X C B M) (key : K → Bytes) (v
         ap lines.Applied (sized tip stood),
         record {
           database = (stood, is.2);
-          start = more.0 ∙ k.start;
-          items = subst (λ o. Grows o (m.items (m.inside after)) (map (spelling variable) (drop (length list) tip))) k.items more.1;
+          store = record { start = more.start ∙ k.store.start; head = more.head ∙ k.store.head; items = subst (λ o. Grows o (m.members.items (m.inside after)) (map (spelling variable) (drop (length list) tip))) k.store.items more.items };
+          whole = λ _. ((k.whole tt).0, longer s.store.items (map (spelling variable) (drop (length list) tip)) (k.whole tt).1);
           count = k.count;
           lengths = k.lengths;
           slots = k.slots;
@@ -279,7 +283,7 @@ module _ {X C B M K V D P : Type 0} (m : Meaning X C B M) (key : K → Bytes) (v
   unapplied_in x table opened h batch s list k in_had off (Merkleized w) (machine.merkleized chain tip) is e =
       let same : w ≡ batch = cc in
       let batch_is : m.is_merkleized batch chain tip = subst (λ v. m.is_merkleized v chain tip) same is.0 in
-      choice (fits root (commitment root list) chain) (lines.Applied (length tip), record s { database = Some tip; items = s.items ++ map (spelling variable) (drop (length list) tip) }) (refuse s refusals.StaleBatch) (Goes (Reply (replies.Refused refused.StaleBatch)) (Database x) table opened)
+      choice (fits root (commitment root list) chain) (lines.Applied (length tip), record s { database = Some tip; store = record s.store { items = s.store.items ++ map (spelling variable) (drop (length list) tip) } }) (refuse s refusals.StaleBatch) (Goes (Reply (replies.Refused refused.StaleBatch)) (Database x) table opened)
       (λ fit apart. absurd (off chain tip batch_is (on_chain-fits root s.had list chain apart in_had is.1 fit)))
       (λ unfit apart. (refl, k))
   unapplied_in x table opened h batch s list k in_had off (Merkleized w) machine.gone is e = absurd is
@@ -291,7 +295,7 @@ module _ {X C B M K V D P : Type 0} (m : Meaning X C B M) (key : K → Bytes) (v
       → Holds m (Database x) table opened s
       → ((list : List Operation) (chain : Chain) (tip : List Operation) → m.stands x list → m.is_merkleized batch chain tip → fits root (commitment root list) chain ≡ true)
       → ((list : List Operation) (chain : Chain) (tip : List Operation) → m.stands x list → m.is_merkleized batch chain tip → IsOnChain list chain → m.stands after tip)
-      → ((list : List Operation) (chain : Chain) (tip : List Operation) → m.stands x list → m.is_merkleized batch chain tip → IsOnChain list chain → (m.start (m.inside after) ≡ m.start (m.inside x)) × Grows (m.items (m.inside x)) (m.items (m.inside after)) (map (spelling variable) (drop (length list) tip)))
+      → ((list : List Operation) (chain : Chain) (tip : List Operation) → m.stands x list → m.is_merkleized batch chain tip → IsOnChain list chain → Appended m.members (m.inside x) (m.inside after) (map (spelling variable) (drop (length list) tip)))
       → ((l : List Operation) → m.stands after l → size ≡ length l)
       → merkleized_of (get_or table h Gone) ≡ Some batch
       → Goes (Reply (replies.Applied size)) (Database after) table opened (machine.apply scheme s h)
@@ -319,21 +323,21 @@ module _ {X C B M K V D P : Type 0} (m : Meaning X C B M) (key : K → Bytes) (v
   left_in : (x : X) (items : Option (List Bytes)) (table : List (Slot B M)) (opened : ℕ) (h : ℕ) (batch : M) (s : State) (list : List Operation)
       → Holds m (Database x) table opened s → Contains s.had list → Apart root s.had
       → ((chain : Chain) (tip : List Operation) → m.is_merkleized batch chain tip → (fits root (commitment root list) chain ≡ true → IsOnChain list chain)
-      → GrowsPart (m.items (m.inside x)) items (cond (fits root (commitment root list) chain) (map (spelling variable) (drop (length list) tip)) []))
+      → GrowsPart (m.members.items (m.inside x)) items (cond (fits root (commitment root list) chain) (map (spelling variable) (drop (length list) tip)) []))
       → (a : Slot B M) (b : machine.Slot) → SlotIs m s.had a b → merkleized_of a ≡ Some batch
-      → IsLeft items s.items ((apply_in scheme s h list b).1).items
+      → IsLeft items s.store.items ((apply_in scheme s h list b).1).store.items
   left_in x items table opened h batch s list k in_had apart grown (Merkleized w) (machine.merkleized chain tip) is e =
       let same : w ≡ batch = cc in
       let batch_is : m.is_merkleized batch chain tip = subst (λ v. m.is_merkleized v chain tip) same is.0 in
       let more : List Bytes = map (spelling variable) (drop (length list) tip) in
       let part = grown chain tip batch_is (λ fit. on_chain-fits root s.had list chain apart in_had is.1 fit) in
-      let there : GrowsPart (Some s.items) items (cond (fits root (commitment root list) chain) more []) = subst (λ o. GrowsPart o items (cond (fits root (commitment root list) chain) more [])) k.items part in
-      by_fit (fits root (commitment root list) chain) (lines.Applied (length tip)) (record s { database = Some tip; items = s.items ++ more }) more there refl
+      let there : GrowsPart (Some s.store.items) items (cond (fits root (commitment root list) chain) more []) = subst (λ o. GrowsPart o items (cond (fits root (commitment root list) chain) more [])) k.store.items part in
+      by_fit (fits root (commitment root list) chain) (lines.Applied (length tip)) (record s { database = Some tip; store = record s.store { items = s.store.items ++ more } }) more there refl
     where
-      by_fit : (t : Bool) (answer : Answer) (next : State) (more : List Bytes) → GrowsPart (Some s.items) items (cond t more []) → next.items ≡ s.items ++ more
-          → IsLeft items s.items ((cond t (answer, next) (refuse s refusals.StaleBatch)).1).items
-      by_fit true answer next more part is_next = subst (IsLeft items s.items) (sym is_next) (left_part s.items more items part)
-      by_fit false answer next more part is_next = subst (IsLeft items s.items) (append-nil s.items) (left_part s.items [] items part)
+      by_fit : (t : Bool) (answer : Answer) (next : State) (more : List Bytes) → GrowsPart (Some s.store.items) items (cond t more []) → next.store.items ≡ s.store.items ++ more
+          → IsLeft items s.store.items ((cond t (answer, next) (refuse s refusals.StaleBatch)).1).store.items
+      by_fit true answer next more part is_next = subst (IsLeft items s.store.items) (sym is_next) (left_part s.store.items more items part)
+      by_fit false answer next more part is_next = subst (IsLeft items s.store.items) (append-nil s.store.items) (left_part s.store.items [] items part)
   left_in x items table opened h batch s list k in_had apart grown (Merkleized w) machine.gone is e = absurd is
   left_in x items table opened h batch s list k in_had apart grown (Merkleized w) (machine.writing chain above ws) is e = absurd is
   left_in x items table opened h batch s list k in_had apart grown Gone b is e = absurd (cc)
@@ -342,9 +346,9 @@ module _ {X C B M K V D P : Type 0} (m : Meaning X C B M) (key : K → Bytes) (v
   pub apply_left : (x : X) (items : Option (List Bytes)) (table : List (Slot B M)) (opened : ℕ) (h : ℕ) (batch : M) (s : State)
       → Holds m (Database x) table opened s → Apart root s.had
       → ((list : List Operation) (chain : Chain) (tip : List Operation) → m.stands x list → m.is_merkleized batch chain tip → (fits root (commitment root list) chain ≡ true → IsOnChain list chain)
-      → GrowsPart (m.items (m.inside x)) items (cond (fits root (commitment root list) chain) (map (spelling variable) (drop (length list) tip)) []))
+      → GrowsPart (m.members.items (m.inside x)) items (cond (fits root (commitment root list) chain) (map (spelling variable) (drop (length list) tip)) []))
       → merkleized_of (get_or table h Gone) ≡ Some batch
-      → IsLeft items s.items ((machine.apply scheme s h).1).items
+      → IsLeft items s.store.items ((machine.apply scheme s h).1).store.items
   apply_left x items table opened h batch s k apart grown e =
-      with_list m x s.had s.database s (λ list. apply_in scheme s h list (slot_at s.table h)) (λ next. IsLeft items s.items (next.1).items) k.database
+      with_list m x s.had s.database s (λ list. apply_in scheme s h list (slot_at s.table h)) (λ next. IsLeft items s.store.items (next.1).store.items) k.database
       (λ list stands in_had. left_in x items table opened h batch s list k in_had apart (λ chain tip. grown list chain tip stands) (get_or table h Gone) (slot_at s.table h) (k.slots h) e)

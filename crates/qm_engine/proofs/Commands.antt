@@ -1,6 +1,7 @@
 -- Each command over what a run holds, as lemmas over plain values: what all of them use, and the opening.
-use Rattle.std.proofs.Common.{◌≡◌, ◌≢◌, ℕ, ◌+◌, ◌<◌, Bool, true, false, cond, List, [], ◌∷◌, ◌++◌, length, get_or, set, map, Option, Some, None, arith, refl, sym, ◌∙◌, ap, subst, IfSome, append-nil, ◌⊎◌}
-use Rattle.std.specs.Prelude.{Contains, IsSome, is_some}
+use Rattle.std.proofs.Common.{◌≡◌, ◌≢◌, ℕ, ◌+◌, ◌<◌, Bool, true, false, cond, List, [], ◌∷◌, ◌++◌, length, get_or, set, map, Option, Some, None, arith, refl, sym, ◌∙◌, ap, subst, IfSome, append-nil}
+use Rattle.std.specs.Prelude.{Contains, IsSome, is_some, option_map, option_and_then}
+use Rattle.std.proofs.lemmas.Bool.{lt-ltb, le-ltb}
 use Rattle.std.proofs.lemmas.List.{length-set}
 use Rattle.std.proofs.Math.Seq.{drop-append_seam, take-length}
 use Rattle.qm_model.specs.Causes.{Grows, GrowsPart}
@@ -10,7 +11,7 @@ use Rattle.qm_model.specs.Batches.{Apart}
 use Rattle.qm_machine.specs.Lines.{Answer}
 use Rattle.qm_machine.specs.Lines as lines
 use Rattle.qm_model.specs.Refused as refusals
-use Rattle.qm_machine.specs.Machine.{Scheme, State, slot_at, with_slot, with_database, unless, open_over}
+use Rattle.qm_machine.specs.Machine.{Scheme, Stored, State, slot_at, with_slot, with_database, unless, head_refusal, opening_refusal, open_unless}
 use Rattle.qm_machine.specs.Machine as machine
 use Rattle.qm_model.proofs.Chains.{Contains-more, Contains-first, IsAmong-more}
 use Rattle.qm_base.specs.declared.error.JournalError.TheVariants as journal
@@ -33,7 +34,9 @@ use Rattle.qm_engine.specs.declared.session.Turn.TheVariants.{Reply, Memory, Sto
 use Rattle.qm_engine.specs.Table.{merkleized_of}
 use Rattle.qm_engine.specs.Turn.{turn_of_error}
 use Rattle.qm_store.specs.Refusals.{refusal_of, IsDue}
-use Rattle.qm_store.specs.Given.{store_given}
+use Rattle.qm_store.specs.declared.Store as stores
+use Rattle.qm_store.specs.Given.{store_given, Appended, AppendedPart, IsUnchanged, TellsAll}
+use Rattle.qm_engine.specs.Stores.{IsStored, told}
 use Rattle.qm_engine.specs.Session.{Meaning, HeldIs, SlotIs, Holds, IfReply, IsLeft, Answers}
 use Rattle.qm_engine.proofs.Tables.{set_at}
 
@@ -49,14 +52,37 @@ none_some none some = absurd (cc)
 pub due_told : {A : Type 0} (o due : Option A) (r : A) → IfSome o (λ x. due ≡ Some x) → o ≡ Some r → due ≡ Some r
 due_told o due r is told = subst (λ p. IfSome p (λ x. due ≡ Some x)) told is
 
--- what holds where a thing is told holds of one that is
-pub some_then : {A P : Type 0} (told : Option A) (x : A) → told ≡ Some x → IfSome told (λ _. P) → P
-some_then None x is p = absurd (cc is)
-some_then (Some y) x is p = p
+-- what holds of a thing that is told
+pub some_is : {A : Type 0} (told : Option A) (x : A) (Q : A → Type 0) → told ≡ Some x → IfSome told Q → Q x
+some_is told x Q is each = subst (λ o. IfSome o Q) is each
+
+-- what a store has that tells it
+pub told-stored : {C : Type 0} (members : stores.Ghosts C) (c : C) (stored : Stored) → told members c ≡ Some stored → IsStored members c stored
+told-stored members c stored is = by (members.items c) (members.head c) refl refl is
+  where
+    by : (items : Option (List Bytes)) (head : Option Bytes) → members.items c ≡ items → members.head c ≡ head
+        → option_and_then (λ xs. option_map (λ h. record { start = members.start c; head = h; items = xs }) head) items ≡ Some stored → IsStored members c stored
+    by None head is_items is_head is = absurd (cc is)
+    by (Some xs) None is_items is_head is = absurd (cc is)
+    by (Some xs) (Some h) is_items is_head is =
+        let same : record { start = members.start c; head = h; items = xs } ≡ stored = cc is in
+        record { start = ap (λ (t : Stored). t.start) same; head = is_head ∙ ap (λ (t : Stored). Some t.head) same; items = is_items ∙ ap (λ (t : Stored). Some t.items) same }
+
+-- a store that has what another has
+pub stored-same : {C : Type 0} (members : stores.Ghosts C) (old new : C) (stored : Stored) → IsUnchanged members old new → IsStored members old stored → IsStored members new stored
+stored-same members old new stored same is = record { start = same.start ∙ is.start; head = same.head ∙ is.head; items = same.items ∙ is.items }
 
 -- all of what is due is a first part of it
 pub Grows-whole : {A : Type 0} (old new : Option (List A)) (more : List A) → Grows old new more → GrowsPart old new more
 Grows-whole old new more grows = (length more, subst (Grows old new) (sym (take-length more)) grows)
+
+pub Appended-part : {C : Type 0} (members : stores.Ghosts C) (old new : C) (more : List Bytes) → Appended members old new more → AppendedPart members old new more
+Appended-part members old new more grown = record { start = grown.start; items = Grows-whole (members.items old) (members.items new) more grown.items; head = grown.head }
+
+-- what comes of a head that is not that of a start at 0 comes of none that is
+pub offered-unopened : (P : Type 0) (o : Option Bytes) → IfSome o (λ head. head_refusal head ≡ None) → IfSome o (λ head. IsSome (head_refusal head) → P)
+offered-unopened P None offered = tt
+offered-unopened P (Some head) offered = λ some. absurd (cc (offered, some))
 
 -- a first part of what is due, and nothing of it
 pub left_part : (before more : List Bytes) (items : Option (List Bytes)) → GrowsPart (Some before) items more → IsLeft items before (before ++ more)
@@ -135,19 +161,19 @@ module _ {X C B M : Type 0} (m : Meaning X C B M) where
   pub lengths_set : (table : List (Slot B M)) (s : State) (h : ℕ) (new : Slot B M) (slot : machine.Slot) → length table ≡ length s.table → length (set table h new) ≡ length (set s.table h slot)
   lengths_set table s h new slot e = length-set table h new ∙ e ∙ sym (length-set s.table h slot)
 
-  -- a store that starts at 0 and tells its items
-  pub Holds-told : (held : Given X C) (table : List (Slot B M)) (opened : ℕ) (s : State) → Holds m held table opened s → (m.start (store_given m.inside held) ≡ 0) × IsSome (m.items (store_given m.inside held))
-  Holds-told held table opened s k = (k.start, ap is_some k.items)
+  -- the store of a database starts at 0, and tells its items
+  pub Holds-told : (x : X) (table : List (Slot B M)) (opened : ℕ) (s : State) → Holds m (Database x) table opened s → TellsAll m.members (m.inside x)
+  Holds-told x table opened s k = (k.store.start ∙ (k.whole tt).0, ap is_some k.store.items)
 
   -- a database that stands for the same lists, over what the store had
   abbrev pub Keeps : X → X → Type 0
-  Keeps x after = ((l : List Operation) → m.stands x l → m.stands after l) × (m.start (m.inside after) ≡ m.start (m.inside x)) × (m.items (m.inside after) ≡ m.items (m.inside x))
+  Keeps x after = ((l : List Operation) → m.stands x l → m.stands after l) × IsUnchanged m.members (m.inside x) (m.inside after)
 
   pub Holds-kept : (x after : X) (table : List (Slot B M)) (opened : ℕ) (s : State) → Keeps x after → Holds m (Database x) table opened s → Holds m (Database after) table opened s
   Holds-kept x after table opened s keeps k = record {
     database = HeldIs-kept x after s.had s.database keeps.0 k.database;
-    start = keeps.1 ∙ k.start;
-    items = keeps.2 ∙ k.items;
+    store = stored-same m.members (m.inside x) (m.inside after) s.store keeps.1 k.store;
+    whole = k.whole;
     count = k.count;
     lengths = k.lengths;
     slots = k.slots;
@@ -157,8 +183,8 @@ module _ {X C B M : Type 0} (m : Meaning X C B M) where
   pub Holds-used : (x after : X) (table : List (Slot B M)) (opened : ℕ) (h : ℕ) (s : State) → Keeps x after → Holds m (Database x) table opened s → Holds m (Database after) (set table h Gone) opened (with_slot s h machine.gone)
   Holds-used x after table opened h s keeps k = record {
     database = HeldIs-kept x after s.had s.database keeps.0 k.database;
-    start = keeps.1 ∙ k.start;
-    items = keeps.2 ∙ k.items;
+    store = stored-same m.members (m.inside x) (m.inside after) s.store keeps.1 k.store;
+    whole = k.whole;
     count = k.count;
     lengths = lengths_set table s h Gone machine.gone k.lengths;
     slots = slots_set table s h Gone machine.gone k.lengths k.slots tt;
@@ -197,46 +223,97 @@ module _ {X C B M K V D P : Type 0} (m : Meaning X C B M) (key : K → Bytes) (v
       (λ list stands in_had. subst (λ d. Turns (Reply (replies.Refused r)) (Database after) table opened (unless s d (answer list))) (sym (due_told (refusal_of error) (due list) (refused_view r) (is list stands) told))
       (λ apart. (refl, Holds-kept m x after table opened s keeps k))))
 
-  -- an opening over a store that is not empty, and over one that is
-  pub open_refused : (held : Given X C) (table : List (Slot B M)) (opened start end : ℕ) (s : State) → Holds m held table opened s
-      → start ≡ m.start (store_given m.inside held) → IfSome (m.items (store_given m.inside held)) (λ xs. m.start (store_given m.inside held) + length xs ≡ end) → (0 < start) ⊎ (0 < end)
-      → Turns (Reply (replies.Refused refused.NotOffered)) held table opened (open_over s s.items)
-  open_refused held table opened start end s k is_start law above = by s.items k.items
-    where
-      by : (items : List Bytes) → m.items (store_given m.inside held) ≡ Some items → Turns (Reply (replies.Refused refused.NotOffered)) held table opened (open_over s items)
-      by [] is = let counted = rw is at law in absurd (let zero_start = k.start in grind (arith, above, is_start, zero_start, counted))
-      by (i ∷ items) is = λ apart. (refl, k)
+  -- an opening, as the machine's store decides it
+  abbrev Opening : Turn K V D → Given X C → List (Slot B M) → ℕ → State → Option refusals.Refused → Type 0
+  Opening turn held table opened s due = Turns turn held table opened (open_unless s due)
 
-  no_items : (c : C) (end : ℕ) (items : List Bytes) → m.items c ≡ Some items → m.start c ≡ 0 → IfSome (m.items c) (λ xs. m.start c + length xs ≡ end) → end ≡ 0 → items ≡ []
-  no_items c end [] is start law none = refl
-  no_items c end (i ∷ items) is start law none = let counted = rw is at law in absurd (omega (arith, counted, start, none))
+  -- there is a database, or the store is not empty
+  pub open_refused : (held : Given X C) (table : List (Slot B M)) (opened : ℕ) (s : State) → Holds m held table opened s
+      → 0 < s.store.start + length s.store.items
+      → Turns (Reply (replies.Refused refused.NotOffered)) held table opened (machine.open_store s)
+  open_refused held table opened s k above =
+      subst (λ t. Opening (Reply (replies.Refused refused.NotOffered)) held table opened s (cond t (Some refusals.NotOffered) (head_refusal s.store.head))) (sym (lt-ltb 0 (s.store.start + length s.store.items) above)) (λ apart. (refl, k))
 
-  pub open_ok : (held : Given X C) (x : X) (table : List (Slot B M)) (opened start size end : ℕ) (s : State) → Holds m held table opened s
-      → IfSome (m.items (store_given m.inside held)) (λ xs. m.start (store_given m.inside held) + length xs ≡ end) → end ≡ 0
-      → m.stands x fresh → m.start (m.inside x) ≡ m.start (store_given m.inside held) → Grows (m.items (store_given m.inside held)) (m.items (m.inside x)) (map (spelling variable) fresh)
-      → start ≡ m.start (m.inside x) → ((l : List Operation) → m.stands x l → size ≡ length l)
-      → Turns (Reply (replies.Opened (opened + 1) start size)) (Database x) table (opened + 1) (open_over s s.items)
-  open_ok held x table opened start size end s k law none stands same_start grows is_start sized =
-      let empty : s.items ≡ [] = no_items (store_given m.inside held) end s.items k.items k.start law none in
-      let there : Grows (Some s.items) (m.items (m.inside x)) (map (spelling variable) fresh) = subst (λ o. Grows o (m.items (m.inside x)) (map (spelling variable) fresh)) k.items grows in
-      subst (λ items. Turns (Reply (replies.Opened (opened + 1) start size)) (Database x) table (opened + 1) (open_over s items)) (sym empty) (λ apart. (
-        rw (k.count, is_start ∙ same_start ∙ k.start, sized fresh stands) refl,
-        record {
-          database = (stands, Contains-first fresh s.had);
-          start = same_start ∙ k.start;
-          items = rw empty at there;
-          count = ap (λ n. n + 1) k.count;
-          lengths = k.lengths;
-          slots = λ h. SlotIs-more m s.had fresh (get_or table h Gone) (slot_at s.table h) (k.slots h);
-        },
-      ))
+  -- a store that ends at 0, with no database
+  module _ (c : C) (table : List (Slot B M)) (opened : ℕ) (s : State) (k : Holds m (Store c) table opened s) (law : IfSome (m.members.items c) (λ xs. m.members.start c + length xs ≡ m.members.«end» c)) (none : m.members.«end» c ≡ 0) where
+    -- it starts at 0, and has no items
+    counted : s.store.start + length s.store.items ≡ 0
+    counted =
+        let ends = some_is (m.members.items c) s.store.items (λ xs. m.members.start c + length xs ≡ m.members.«end» c) k.store.items law in
+        ap (λ n. n + length s.store.items) (sym k.store.start) ∙ ends ∙ none
 
-  pub open_left : (held : Given X C) (items : Option (List Bytes)) (end : ℕ) (table : List (Slot B M)) (opened : ℕ) (s : State) → Holds m held table opened s
-      → IfSome (m.items (store_given m.inside held)) (λ xs. m.start (store_given m.inside held) + length xs ≡ end) → end ≡ 0
-      → GrowsPart (m.items (store_given m.inside held)) items (map (spelling variable) fresh)
-      → IsLeft items s.items ((open_over s s.items).1).items
-  open_left held items end table opened s k law none grows =
-      let empty : s.items ≡ [] = no_items (store_given m.inside held) end s.items k.items k.start law none in
-      let there : GrowsPart (Some s.items) items (map (spelling variable) fresh) = subst (λ o. GrowsPart o items (map (spelling variable) fresh)) k.items grows in
-      let Goal : List Bytes → Type 0 = λ xs. IsLeft items xs ((open_over s xs).1).items in
-      subst Goal (sym empty) (left_part [] (map (spelling variable) fresh) items (rw empty at there))
+    no_items : s.store.items ≡ []
+    no_items = by s.store.items counted
+      where
+        by : (items : List Bytes) → s.store.start + length items ≡ 0 → items ≡ []
+        by [] is = refl
+        by (i ∷ items) is = absurd (omega (arith, is))
+
+    -- so its head decides
+    by_head : opening_refusal s.store ≡ head_refusal s.store.head
+    by_head = ap (λ t. cond t (Some refusals.NotOffered) (head_refusal s.store.head)) (le-ltb 0 (s.store.start + length s.store.items) (omega (arith, counted)))
+
+    given_items : {more : List Bytes} (after : Option (List Bytes)) → Grows (m.members.items c) after more → after ≡ Some more
+    given_items {more} after grows = subst (λ o. Grows o after more) (k.store.items ∙ ap Some no_items) grows
+
+    pub open_ok : (x : X) (start size : ℕ) → IfSome (m.members.items c) (λ _. m.stands x fresh) → IfSome (m.members.head c) (λ head. head_refusal head ≡ None) → Appended m.members c (m.inside x) (map (spelling variable) fresh)
+        → start ≡ m.members.start (m.inside x) → ((l : List Operation) → m.stands x l → size ≡ length l)
+        → Turns (Reply (replies.Opened (opened + 1) start size)) (Database x) table (opened + 1) (machine.open_store s)
+    open_ok x start size stood offered grown is_start sized =
+        let stands : m.stands x fresh = some_is (m.members.items c) s.store.items (λ _. m.stands x fresh) k.store.items stood in
+        let due : head_refusal s.store.head ≡ None = some_is (m.members.head c) s.store.head (λ head. head_refusal head ≡ None) k.store.head offered in
+        let zero_start : s.store.start ≡ 0 = omega (arith, counted) in
+        subst (Opening (Reply (replies.Opened (opened + 1) start size)) (Database x) table (opened + 1) s) (sym (by_head ∙ due)) (λ apart. (
+          rw (k.count, is_start ∙ grown.start ∙ k.store.start ∙ zero_start, sized fresh stands) refl,
+          record {
+            database = (stands, Contains-first fresh s.had);
+            store = record { start = grown.start ∙ k.store.start; head = grown.head ∙ k.store.head; items = given_items (m.members.items (m.inside x)) grown.items };
+            whole = λ _. (zero_start, omega arith);
+            count = ap (λ n. n + 1) k.count;
+            lengths = k.lengths;
+            slots = λ h. SlotIs-more m s.had fresh (get_or table h Gone) (slot_at s.table h) (k.slots h);
+          },
+        ))
+
+    -- a store alone that stands for it, too
+    alone : (after : C) (d : Option (List Operation)) → HeldIs m s.had (Store c) d → HeldIs m s.had (Store after) d
+    alone after None is = tt
+    alone after (Some list) is = absurd is
+
+    refused_store : (given : Given X C) → ((x : X) → given ≡ Database x → ⊥) → IsUnchanged m.members c (store_given m.inside given) → Holds m given table opened s
+    refused_store (Database x) back same = absurd (back x refl)
+    refused_store (Store after) back same = record {
+      database = alone after s.database k.database;
+      store = stored-same m.members c after s.store same k.store;
+      whole = λ is_open. absurd is_open;
+      count = k.count;
+      lengths = k.lengths;
+      slots = k.slots;
+    }
+
+    -- what is told of a store whose head is not that of a start at 0
+    abbrev pub Unopened : C → Type 0
+    Unopened after = IfSome (m.members.head c) (λ head. IsSome (head_refusal head) → IsUnchanged m.members c after)
+
+    unopened : (after : C) (r : refusals.Refused) → head_refusal s.store.head ≡ Some r → Unopened after → IsUnchanged m.members c after
+    unopened after r due same = some_is (m.members.head c) s.store.head (λ head. IsSome (head_refusal head) → IsUnchanged m.members c after) k.store.head same (ap is_some due)
+
+    pub open_err : (given : Given X C) (error : Error) → IfSome (m.members.head c) (λ head. IsDue error (head_refusal head)) → Unopened (store_given m.inside given) → ((x : X) → given ≡ Database x → ⊥)
+        → Turns (turn_of_error error) given table opened (machine.open_store s)
+    open_err given error why same back =
+        by_refusal error _ (λ r told.
+        let due : head_refusal s.store.head ≡ Some (refused_view r) =
+        due_told (refusal_of error) (head_refusal s.store.head) (refused_view r) (some_is (m.members.head c) s.store.head (λ head. IsDue error (head_refusal head)) k.store.head why) told in
+        subst (Opening (Reply (replies.Refused r)) given table opened s) (sym (by_head ∙ due)) (λ apart. (refl, refused_store given back (unopened (store_given m.inside given) (refused_view r) due same))))
+
+    pub open_left : (after : C) → Unopened after → AppendedPart m.members c after (map (spelling variable) fresh)
+        → IsLeft (m.members.items after) s.store.items ((machine.open_store s).1).store.items
+    open_left after same grown =
+        subst (λ due. IsLeft (m.members.items after) s.store.items ((open_unless s due).1).store.items) (sym by_head) (by (head_refusal s.store.head) refl)
+      where
+        by : (due : Option refusals.Refused) → head_refusal s.store.head ≡ due → IsLeft (m.members.items after) s.store.items ((open_unless s due).1).store.items
+        by (Some r) is = left_none s.store.items s.store.items (m.members.items after) ((unopened after r is same).items ∙ k.store.items)
+        by None is =
+            let more : List Bytes = map (spelling variable) fresh in
+            let there : GrowsPart (Some []) (m.members.items after) more = subst (λ o. GrowsPart o (m.members.items after) more) (k.store.items ∙ ap Some no_items) grown.items in
+            subst (λ xs. IsLeft (m.members.items after) xs more) (sym no_items) (left_part [] more (m.members.items after) there)

@@ -22,6 +22,7 @@ use Rattle.qm_engine.specs.declared.session.Turn.TheVariants.{Reply}
 use Rattle.qm_engine.specs.Table.{merkleized_of}
 use Rattle.qm_engine.specs.Turn.{turn_of_error}
 use Rattle.qm_store.specs.Refusals.{refusal_of, IsDue}
+use Rattle.qm_store.specs.Given.{IsUnchanged}
 use Rattle.qm_engine.specs.Session.{Meaning, SlotIs, Holds, Answers}
 use Rattle.qm_engine.proofs.Commands.{with_list, Holds-kept, Turns, unless_err, answered, merkleized_slot}
 use Rattle.qm_engine.proofs.ReadCommands.{readable_ok, readable_err, readable_state}
@@ -35,32 +36,33 @@ module _ {X C B M K V D P : Type 0} (m : Meaning X C B M) (key : K → Bytes) (v
 
   -- proofs and pins
   pub prove_ok : (x after : X) (table : List (Slot B M)) (opened size start max : ℕ) (proof : Proof) (ops : List Operation) (s : State) → Holds m (Database x) table opened s
-      → ((l : List Operation) → m.stands x l → m.stands after l) → m.start (m.inside after) ≡ m.start (m.inside x) → m.items (m.inside after) ≡ m.items (m.inside x)
-      → ((list : List Operation) → m.stands x list → proof_refusal list size start ≡ None)
+      → ((l : List Operation) → m.stands x l → m.stands after l) → IsUnchanged m.members (m.inside x) (m.inside after)
+      → ((list : List Operation) → m.stands x list → proof_refusal (m.members.start (m.inside x)) list size start ≡ None)
       → ((list : List Operation) → m.stands x list → proof ≡ scheme.proof (take size list) start (start + proof_count size start max))
       → ((list : List Operation) → m.stands x list → ops ≡ take (proof_count size start max) (drop start list))
       → (lines.Proved proof ops ≡ (machine.prove scheme s size start max).0) × Holds m (Database after) table opened (machine.prove scheme s size start max).1
-  prove_ok x after table opened size start max proof ops s k keeps same_start same_items offered is_proof are_ops =
+  prove_ok x after table opened size start max proof ops s k keeps same_store offered is_proof are_ops =
       let count : ℕ = proof_count size start max in
       let Goal : Answer × State → Type 0 = λ next. (lines.Proved proof ops ≡ next.0) × Holds m (Database after) table opened next.1 in
       let given : List Operation → Answer = λ list. lines.Proved (scheme.proof (take size list) start (start + count)) (take count (drop start list)) in
-      with_list m x s.had s.database s (λ list. unless s (proof_refusal list size start) (given list)) Goal k.database
-      (λ list stands in_had. subst (λ due. Goal (unless s due (given list))) (sym (offered list stands))
-      (ap₂ lines.Proved (is_proof list stands) (are_ops list stands), Holds-kept m x after table opened s (keeps, same_start, same_items) k))
+      with_list m x s.had s.database s (λ list. unless s (proof_refusal s.store.start list size start) (given list)) Goal k.database
+      (λ list stands in_had. subst (λ due. Goal (unless s due (given list))) (sym (subst (λ kept. proof_refusal kept list size start ≡ None) k.store.start (offered list stands)))
+      (ap₂ lines.Proved (is_proof list stands) (are_ops list stands), Holds-kept m x after table opened s (keeps, same_store) k))
 
   pub prove_err : (x after : X) (table : List (Slot B M)) (opened size start max : ℕ) (error : Error) (s : State) → Holds m (Database x) table opened s
-      → ((l : List Operation) → m.stands x l → m.stands after l) → m.start (m.inside after) ≡ m.start (m.inside x) → m.items (m.inside after) ≡ m.items (m.inside x)
-      → ((list : List Operation) → m.stands x list → IsDue error (proof_refusal list size start))
+      → ((l : List Operation) → m.stands x l → m.stands after l) → IsUnchanged m.members (m.inside x) (m.inside after)
+      → ((list : List Operation) → m.stands x list → IsDue error (proof_refusal (m.members.start (m.inside x)) list size start))
       → Goes (turn_of_error error) (Database after) table opened (machine.prove scheme s size start max)
-  prove_err x after table opened size start max error s k keeps same_start same_items is =
-      unless_err m key value digest scheme x after table opened error s (λ list. proof_refusal list size start)
-      (λ list. lines.Proved (scheme.proof (take size list) start (start + proof_count size start max)) (take (proof_count size start max) (drop start list))) k (keeps, same_start, same_items) is
+  prove_err x after table opened size start max error s k keeps same_store is =
+      unless_err m key value digest scheme x after table opened error s (λ list. proof_refusal s.store.start list size start)
+      (λ list. lines.Proved (scheme.proof (take size list) start (start + proof_count size start max)) (take (proof_count size start max) (drop start list))) k (keeps, same_store)
+      (λ list stands. subst (λ kept. IsDue error (proof_refusal kept list size start)) k.store.start (is list stands))
 
   pub pins_err : (x : X) (table : List (Slot B M)) (opened n : ℕ) (error : Error) (s : State) → Holds m (Database x) table opened s
       → ((list : List Operation) → m.stands x list → IsDue error (pins_refusal list n))
       → Goes (turn_of_error error) (Database x) table opened (machine.pins scheme s n)
   pins_err x table opened n error s k is =
-      unless_err m key value digest scheme x x table opened error s (λ list. pins_refusal list n) (λ list. lines.Pinned (scheme.pins list n)) k (λ l h. h, refl, refl) is
+      unless_err m key value digest scheme x x table opened error s (λ list. pins_refusal list n) (λ list. lines.Pinned (scheme.pins list n)) k (λ l h. h, record { start = refl; head = refl; items = refl }) is
 
   -- the proof of a batch
   proof_state-in : (s : State) (h : ℕ) (list : List Operation) (named : machine.Slot) → (proof_in scheme s h list named).1 ≡ s

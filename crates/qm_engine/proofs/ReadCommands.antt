@@ -23,6 +23,7 @@ use Rattle.qm_engine.specs.declared.session.Turn.{Turn}
 use Rattle.qm_engine.specs.Table.{merkleized_of}
 use Rattle.qm_engine.specs.Turn.{turn_of_error}
 use Rattle.qm_store.specs.Refusals.{refusal_of}
+use Rattle.qm_store.specs.Given.{IsUnchanged}
 use Rattle.qm_engine.specs.Session.{Meaning, SlotIs, Holds, Answers}
 use Rattle.qm_engine.proofs.Commands.{choice, none_some, refuses, by_refusal, with_list, Holds-kept, Turns, answered}
 
@@ -129,23 +130,23 @@ module _ {X C B M K V D P : Type 0} (m : Meaning X C B M) (key : K → Bytes) (v
 
   -- over a database, what is read through a batch number
   pub named_read : (turn : Turn K V D) (x after : X) (table : List (Slot B M)) (opened h : ℕ) (keys : List Bytes) (s : State) → Holds m (Database x) table opened s
-      → ((l : List Operation) → m.stands x l → m.stands after l) → m.start (m.inside after) ≡ m.start (m.inside x) → m.items (m.inside after) ≡ m.items (m.inside x)
+      → ((l : List Operation) → m.stands x l → m.stands after l) → IsUnchanged m.members (m.inside x) (m.inside after)
       → ((list : List Operation) (named : machine.Slot) → m.stands x list → Contains s.had list → SlotIs m s.had (get_or table h Gone) named
       → Answers key value digest root turn s (read_in scheme s h keys list named))
       → Goes turn (Database after) table opened (machine.read scheme s keys (Some h))
-  named_read turn x after table opened h keys s k keeps start items told =
+  named_read turn x after table opened h keys s k keeps same_store told =
       with_list m x s.had s.database s (λ list. read_in scheme s h keys list (slot_at s.table h)) (Goes turn (Database after) table opened) k.database
       (λ list stands in_had. answered m key value digest scheme turn (Database after) table opened s (read_in scheme s h keys list (slot_at s.table h)) (read_state-in s h keys list (slot_at s.table h))
-      (Holds-kept m x after table opened s (keeps, start, items) k) (told list (slot_at s.table h) stands in_had (k.slots h)))
+      (Holds-kept m x after table opened s (keeps, same_store) k) (told list (slot_at s.table h) stands in_had (k.slots h)))
 
   -- over a database, what is read of it
   pub database_read : (x after : X) (table : List (Slot B M)) (opened : ℕ) (keys : List Bytes) (values : List (Option Bytes)) (s : State) → Holds m (Database x) table opened s
-      → ((l : List Operation) → m.stands x l → m.stands after l) → m.start (m.inside after) ≡ m.start (m.inside x) → m.items (m.inside after) ≡ m.items (m.inside x)
+      → ((l : List Operation) → m.stands x l → m.stands after l) → IsUnchanged m.members (m.inside x) (m.inside after)
       → ((list : List Operation) → m.stands x list → values ≡ map (value_of list) keys)
       → (lines.Read values ≡ (machine.read scheme s keys None).0) × Holds m (Database after) table opened (machine.read scheme s keys None).1
-  database_read x after table opened keys values s k keeps start items are =
+  database_read x after table opened keys values s k keeps same_store are =
       with_list m x s.had s.database s (λ list. (lines.Read (map (value_of list) keys), s)) (λ next. (lines.Read values ≡ next.0) × Holds m (Database after) table opened next.1) k.database
-      (λ list stands in_had. (ap lines.Read (are list stands), Holds-kept m x after table opened s (keeps, start, items) k))
+      (λ list stands in_had. (ap lines.Read (are list stands), Holds-kept m x after table opened s (keeps, same_store) k))
 
   pub ops_ok : (held : Given X C) (table : List (Slot B M)) (opened : ℕ) (h base : ℕ) (own : List Operation) (batch : M) (s : State) → Holds m held table opened s
       → ((chain : Chain) (tip : List Operation) → m.is_merkleized batch chain tip → (base ≡ length chain.base) × (own ≡ own_operations chain tip))

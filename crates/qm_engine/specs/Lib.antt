@@ -1,5 +1,6 @@
 pub mod Table
 pub mod Turn
+pub mod Stores
 pub mod Session
 pub mod Runs
 pub mod Answered

@@ -1,12 +1,12 @@
 -- What a run holds, and the state of the machine that it stands for.
-use Rattle.std.specs.Prelude.{◌≡◌, ◌≤◌, ℕ, List, ◌++◌, take, drop, length, Contains, Option, Some, None, slice_index_or}
+use Rattle.std.specs.Prelude.{◌≡◌, ◌≤◌, ◌<◌, ℕ, List, ◌++◌, take, drop, length, Contains, Option, Some, None, slice_index_or}
 use Rattle.qm_model.specs.Causes.{Rose}
 use Rattle.qm_model.specs.Operations.{Bytes, Operation}
 use Rattle.qm_model.specs.Writes.{Write}
 use Rattle.qm_model.specs.Batches.{Chain, IsAmong, Apart}
 use Rattle.qm_machine.specs.Lines.{Answer}
 use Rattle.qm_model.specs.Policies.{Policy, policies}
-use Rattle.qm_machine.specs.Machine.{Scheme, State, slot_at}
+use Rattle.qm_machine.specs.Machine.{Scheme, Stored, State, slot_at}
 use Rattle.qm_machine.specs.Machine as machine
 use Rattle.qm_lines.specs.Views.{answer_view}
 use Rattle.qm_lines.specs.declared.reply.Reply as reply
@@ -20,23 +20,32 @@ use Rattle.qm_engine.specs.declared.session.Session.{Session}
 use Rattle.qm_engine.specs.declared.session.Turn.{Turn}
 use Rattle.qm_engine.specs.declared.session.Turn.TheVariants.{Reply, Memory, StoreFault}
 use Rattle.qm_store.specs.Given.{store_given}
+use Rattle.qm_engine.specs.Stores.{IsStored}
 
 -- what the engine's values stand for, over its store
 pub record Meaning (X C B M : Type 0) : Type 1 where
+  pub members : store.Ghosts C
   pub inside : X → C
-  pub start : C → ℕ
-  pub items : C → Option (List Bytes)
   pub stands : X → List Operation → Type 0
   pub is_batch : B → Chain → Chain → List Write → Type 0
   pub is_merkleized : M → Chain → List Operation → Type 0
 
 -- that of a bound on an engine and on its store
 abbrev pub meaning : {X C K V D F B M : Type 0} → engine.Ghosts X C K V D F B M → store.Ghosts C → Meaning X C B M
-meaning x c = record { inside = x.inside; start = c.start; items = c.items; stands = x.stands; is_batch = x.is_batch; is_merkleized = x.is_merkleized }
+meaning x c = record { members = c; inside = x.inside; stands = x.stands; is_batch = x.is_batch; is_merkleized = x.is_merkleized }
 
 -- the machine of an engine: its kind, root, boundary, proofs and pins, under the policies
 abbrev pub scheme_of : {X C K V D F B M : Type 0} → engine.Ghosts X C K V D F B M → Scheme Policy
 scheme_of x = record { kind = x.kind; rules = policies; root = x.root; boundary = x.boundary; proof = x.proof; pins = x.pins }
+
+-- a database is held
+abbrev pub IsOpen : {X C : Type 0} → Given X C → Type 0
+IsOpen (Database x) = Unit {0}
+IsOpen (Store c) = ⊥
+
+-- a store has the items of a whole list, from 0 on; a list is never empty
+abbrev pub IsWhole : Stored → Type 0
+IsWhole stored = (stored.start ≡ 0) × (0 < length stored.items)
 
 module _ {X C B M : Type 0} (m : Meaning X C B M) where
   -- the database stands for the machine's list, one of those that the run has had; without one there is a store alone
@@ -61,8 +70,8 @@ module _ {X C B M : Type 0} (m : Meaning X C B M) where
   -- what is held stands for this state
   pub record Holds (held : Given X C) (table : List (Slot B M)) (opened : ℕ) (s : State) : Type 0 where
     pub database : HeldIs s.had held s.database
-    pub start : m.start (store_given m.inside held) ≡ 0
-    pub items : m.items (store_given m.inside held) ≡ Some s.items
+    pub store : IsStored m.members (store_given m.inside held) s.store
+    pub whole : IsOpen held → IsWhole s.store
     pub count : opened ≡ s.opened
     pub lengths : length table ≡ length s.table
     pub slots : (h : ℕ) → SlotIs s.had (slice_index_or table h Gone) (slot_at s.table h)
@@ -102,9 +111,12 @@ pub record IsLeft (items : Option (List Bytes)) (before after : List Bytes) : Ty
 -- However a command ends, the store has the items before it and a first part of what it appends.
 abbrev pub Leaves : {X C B M : Type 0} → Meaning X C B M → (List Operation → Bytes) → Session X C B M → Session X C B M → (State → Answer × State) → Type 0
 Leaves m root old new next =
-    (s : State) → Stands m old s → Apart root s.had → IsLeft (m.items (store_given m.inside new.held)) s.items ((next s).1).items
+    (s : State) → Stands m old s → Apart root s.had → IsLeft (m.members.items (store_given m.inside new.held)) s.store.items ((next s).1).store.items
 
--- the store's count has not fallen, and it rose where a fault is told
-pub record Causes {K V D : Type 0} (before now : ℕ) (turn : Turn K V D) : Type 0 where
-  pub later : before ≤ now
-  pub fault : turn ≡ StoreFault → Rose before now
+-- A turn uses the store: it starts where it did, with its head; its count has not fallen, and it rose where a fault
+-- is told.
+pub record Uses {C K V D : Type 0} (members : store.Ghosts C) (old new : C) (turn : Turn K V D) : Type 0 where
+  pub start : members.start new ≡ members.start old
+  pub head : members.head new ≡ members.head old
+  pub later : members.faults old ≤ members.faults new
+  pub fault : turn ≡ StoreFault → Rose (members.faults old) (members.faults new)

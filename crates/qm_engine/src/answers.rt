@@ -9,6 +9,7 @@ ghost use Rattle.qm_machine.specs.Text.{reply_line};
 ghost use Rattle.qm_lines.specs.Views.{policy_view, line_view, answer_view};
 ghost use Rattle.qm_store.specs.Given.{store_given};
 ghost use Rattle.qm_engine.specs.Session.{meaning, scheme_of, Stands, Leaves, IsLeft};
+ghost use Rattle.qm_engine.specs.Stores.{told};
 ghost use Rattle.qm_engine.specs.Answered.{after_line, IsAnswered};
 
 use crate::engine::Engine;
@@ -74,6 +75,8 @@ fn answer<X: Engine<C>, C: Store>(
         (λ s. machine.turn (scheme_of X.Engine) s (line_view X.Key.bytes X.Value.bytes policy_view command.now)) }
     ensures kept { OnSome result.1 (text.new.items ≡ text.old.items) }
     ensures cause { IfSome result.1 (λ e. (e ≢ Ending.Done) × (e ≢ Ending.BadLine)) }
+    ensures start { C.start (store_given X.inside result.0.held) ≡ C.start (store_given X.inside session.held) }
+    ensures head { C.head (store_given X.inside result.0.held) ≡ C.head (store_given X.inside session.held) }
     ensures later { C.faults (store_given X.inside session.held) ≤ C.faults (store_given X.inside result.0.held) }
     ensures fault { result.1 ≡ Some Ending.StoreFault → Rose (C.faults (store_given X.inside session.held)) (C.faults (store_given X.inside result.0.held)) }
     ensures opened { result.0.opened ≤ session.opened + 1 }
@@ -103,12 +106,14 @@ fn answer_line<X: Engine<C, Key = ByteKey, Value = ByteValue>, C: Store>(
         Apart X.root next.1.had → (text.new.items ≡ text.old.items ++ (reply_line next.0 ++ 10 ∷ []))
         × Stands (meaning X.Engine C.Store) result.0 next.1)) }
     ensures left { (s : machine.State) → Stands (meaning X.Engine C.Store) session s → Apart X.root s.had
-        → IsLeft (C.items (store_given X.inside result.0.held)) s.items (after_line (scheme_of X.Engine) s (line_of line.now)).items }
+        → IsLeft (C.items (store_given X.inside result.0.held)) s.store.items (after_line (scheme_of X.Engine) s (line_of line.now)).store.items }
     ensures kept { OnSome result.1 (text.new.items ≡ text.old.items) }
     ensures command { IfNone result.1 (IsSome (line_of line.now)) }
     ensures bad { result.1 ≡ Some Ending.BadLine → line_of line.now ≡ None }
     ensures fault_command { result.1 ≡ Some Ending.StoreFault → IsSome (line_of line.now) }
     ensures not_done { IfSome result.1 (λ e. e ≢ Ending.Done) }
+    ensures start { C.start (store_given X.inside result.0.held) ≡ C.start (store_given X.inside session.held) }
+    ensures head { C.head (store_given X.inside result.0.held) ≡ C.head (store_given X.inside session.held) }
     ensures later { C.faults (store_given X.inside session.held) ≤ C.faults (store_given X.inside result.0.held) }
     ensures fault { result.1 ≡ Some Ending.StoreFault → Rose (C.faults (store_given X.inside session.held)) (C.faults (store_given X.inside result.0.held)) }
     ensures opened { result.0.opened ≤ session.opened + 1 }
@@ -130,11 +135,13 @@ pub fn answer_lines<X: Engine<C, Key = ByteKey, Value = ByteValue>, C: Store, G:
     input: &[u8],
     _gate: &G,
 ) -> Answered<C>
-    ensures machine { C.start store ≡ 0 → IfSome (C.items store) (λ items.
-        IsAnswered (scheme_of X.Engine) items (commands_in input.now) result.answered result.text.items (C.items result.store)) }
+    ensures machine { IfSome (told C.Store store) (λ stored.
+        IsAnswered (scheme_of X.Engine) stored (commands_in input.now) result.answered result.text.items (C.items result.store)) }
     ensures done { result.ending ≡ Ending.Done → (result.answered ≡ length (commands_in input.now)) × (bad_in input.now ≡ None) }
     ensures bad { result.ending ≡ Ending.BadLine → (result.answered ≡ length (commands_in input.now)) × (bad_in input.now ≡ Some (result.answered + 1)) }
     ensures short { result.ending ≡ Ending.StoreFault → result.answered < length (commands_in input.now) }
+    ensures start { C.start result.store ≡ C.start store }
+    ensures head { C.head result.store ≡ C.head store }
     ensures bound { result.answered ≤ length input.now }
     ensures later { C.faults store ≤ C.faults result.store }
     ensures fault { result.ending ≡ Ending.StoreFault → Rose (C.faults store) (C.faults result.store) }

@@ -1,6 +1,6 @@
 //! What a database offers to a run, over any store.
 
-ghost use Rattle.std.specs.Prelude.{◌≡◌, ◌≢◌, ◌≤◌, ◌+◌, ◌++◌, ◌∷◌, [], ℕ, List, Some, None, true, map, take, drop, length, nat_lt, option_map, if◌then◌else◌, IfOk, IfErr, IfSome};
+ghost use Rattle.std.specs.Prelude.{◌≡◌, ◌≢◌, ◌≤◌, ◌+◌, ◌++◌, ◌∷◌, [], ℕ, List, Some, None, true, map, take, drop, length, nat_lt, option_map, if◌then◌else◌, IfOk, IfErr, IfSome, IsSome};
 ghost use Rattle.std.specs.Int.NonZero.{non_zero_u64_get};
 ghost use Rattle.qm_model.specs.Causes.{Rose};
 ghost use Rattle.qm_model.specs.Operations.{Bytes, Operation, fresh};
@@ -12,6 +12,7 @@ ghost use Rattle.qm_model.specs.Policies.{policies};
 ghost use Rattle.qm_model.specs.Batches.{Chain, begun_on, child_of, IsOnChain, IsKnown, commitment, fits, readable, own_operations};
 ghost use Rattle.qm_model.specs.Proofs as proofs;
 ghost use Rattle.qm_model.specs.Refusals.{tip_refusal, proof_refusal, proof_count, pins_refusal};
+ghost use Rattle.qm_machine.specs.Machine.{head_refusal};
 ghost use Rattle.qm_lines.specs.Views.{policy_view, listed_view};
 ghost use Rattle.qm_proofs.specs.Proofs.{proof_view};
 ghost use Rattle.qm_store.specs.Given.{store_given, store_after, Appended, AppendedPart, IsUnchanged, TellsAll};
@@ -94,17 +95,21 @@ pub trait Engine<C: Store>: Drop + Sized {
     /// The digests of the peaks over a list's first operations, so many.
     ghost pins: { List Operation → ℕ → List Bytes };
 
-    /// Opens a database over an empty store: a fresh list. Only memory and the store can fail. What a store holds that tells
-    /// no items is not known.
+    /// Opens a database over an empty store: a fresh list. It is refused where the store's head is not that of a start at
+    /// 0, and the store is then as it was; else only memory and the store can fail. What a store holds that tells no items
+    /// is not known.
     fn open(alloc: Global, store: C, config: &Self::Config) -> Result<Self, Refusal<Self, C>>
         requires start { C.start store ≡ 0 }
         requires empty { C.end store ≡ 0 }
         ensures opened { IfSome (C.items store) (λ _. IfOk result (λ x. stands x fresh)) }
+        ensures offered { IfOk result (λ _. IfSome (C.head store) (λ head. head_refusal head ≡ None)) }
         ensures grown { IfOk result (λ x. Appended C.Store store (inside x) (map (spelling variable) fresh)) }
         ensures kept { IfErr result (λ r. AppendedPart C.Store store (store_given inside r.given) (map (spelling variable) fresh)) }
         ensures cause { IfErr result (λ r. r.error ≡ Error.Journal JournalError.Store → Rose (C.faults store) (C.faults (store_given inside r.given))) }
         ensures later { C.faults store ≤ C.faults (store_after inside result) }
-        ensures refused { IfErr result (λ r. refusal_of r.error ≡ None) };
+        ensures refused { IfErr result (λ r. IfSome (C.head store) (λ head. IsDue r.error (head_refusal head))) }
+        ensures unopened { IfErr result (λ r. IfSome (C.head store) (λ head. IsSome (head_refusal head) → IsUnchanged C.Store store (store_given inside r.given))) }
+        ensures back { IfErr result (λ r. (x : Self) → r.given ≢ Given.Database x) };
 
     /// Lends the store.
     fn store(&self) -> &C
@@ -208,6 +213,8 @@ pub trait Engine<C: Store>: Drop + Sized {
         ensures kept { IfErr result (λ r. (list : List Operation) (chain : Chain) (tip : List Operation) → stands self list → is_merkleized batch.now chain tip
             → AppendedPart C.Store (inside self) (store_given inside r.given) (if fits root (commitment root list) chain then map (spelling variable) (drop (length list) tip) else [])) }
         ensures back { IfErr result (λ r. (x : Self) → r.given ≡ Given.Database x → x ≡ self) }
+        ensures start { C.start (store_after inside result) ≡ C.start (inside self) }
+        ensures head { C.head (store_after inside result) ≡ C.head (inside self) }
         ensures cause { IfErr result (λ r. r.error ≡ Error.Journal JournalError.Store → Rose (C.faults (inside self)) (C.faults (store_given inside r.given))) }
         ensures later { C.faults (inside self) ≤ C.faults (store_after inside result) };
 
@@ -299,12 +306,12 @@ pub trait Engine<C: Store>: Drop + Sized {
         start: u64,
         max: NonZeroU64,
     ) -> Result<(Proof<Self::Digest>, Vec<Listed<Self::Key, Self::Value>>), Error>
-        ensures offered { IfOk result (λ r. (list : List Operation) → stands self.old list → proof_refusal list size start ≡ None) }
+        ensures offered { IfOk result (λ r. (list : List Operation) → stands self.old list → proof_refusal (C.start (inside self.old)) list size start ≡ None) }
         ensures proof { IfOk result (λ r. (list : List Operation) → stands self.old list
             → proof_view Self.Digest.bytes r.0 ≡ proof (take size list) start (start + proof_count size start (non_zero_u64_get max))) }
         ensures ops { IfOk result (λ r. (list : List Operation) → stands self.old list
             → map (listed_view Self.Key.bytes Self.Value.bytes) r.1.items ≡ take (proof_count size start (non_zero_u64_get max)) (drop start list)) }
-        ensures refused { IfErr result (λ e. TellsAll C.Store (inside self.old) → (list : List Operation) → stands self.old list → IsDue e (proof_refusal list size start)) }
+        ensures refused { IfErr result (λ e. TellsAll C.Store (inside self.old) → (list : List Operation) → stands self.old list → IsDue e (proof_refusal (C.start (inside self.old)) list size start)) }
         ensures same { (list : List Operation) → stands self.old list → stands self.new list }
         ensures store { IsUnchanged C.Store (inside self.old) (inside self.new) }
         ensures cause { IfErr result (λ e. e ≡ Error.Journal JournalError.Store → Rose (C.faults (inside self.old)) (C.faults (inside self.new))) }

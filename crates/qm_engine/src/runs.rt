@@ -8,6 +8,7 @@ ghost use Rattle.qm_machine.specs.Machine as machine;
 ghost use Rattle.qm_lines.specs.Views.{policy_view, line_view, answer_view};
 ghost use Rattle.qm_store.specs.Given.{store_given};
 ghost use Rattle.qm_engine.specs.Session.{meaning, scheme_of, Stands, Leaves};
+ghost use Rattle.qm_engine.specs.Stores.{told};
 ghost use Rattle.qm_engine.specs.Runs.{IsRun};
 
 use crate::engine::Engine;
@@ -67,6 +68,8 @@ fn step<X: Engine<C>, C: Store>(
     ensures grown { IfNone result.1 (length replies.new.items ≡ length replies.old.items + 1) }
     ensures kept { OnSome result.1 (replies.new.items ≡ replies.old.items) }
     ensures not_done { IfSome result.1 (λ e. e ≢ End.Done) }
+    ensures start { C.start (store_given X.inside result.0.held) ≡ C.start (store_given X.inside session.held) }
+    ensures head { C.head (store_given X.inside result.0.held) ≡ C.head (store_given X.inside session.held) }
     ensures later { C.faults (store_given X.inside session.held) ≤ C.faults (store_given X.inside result.0.held) }
     ensures fault { result.1 ≡ Some End.StoreFault → Rose (C.faults (store_given X.inside session.held)) (C.faults (store_given X.inside result.0.held)) }
     ensures opened { result.0.opened ≤ session.opened + 1 }
@@ -84,7 +87,7 @@ fn step<X: Engine<C>, C: Store>(
 
 // A session with a closed store, and no batch.
 pub(crate) fn begin<X: Engine<C>, C: Store>(alloc: Global, store: C) -> Result<Of<X, C>, C>
-    ensures session { IfOk result (λ session. (items : List Bytes) → C.items store ≡ Some items → C.start store ≡ 0 → Stands (meaning X.Engine C.Store) session (machine.initial items)) }
+    ensures session { IfOk result (λ session. (stored : machine.Stored) → told C.Store store ≡ Some stored → Stands (meaning X.Engine C.Store) session (machine.initial stored)) }
     ensures store { IfOk result (λ session. store_given X.inside session.held ≡ store) }
     ensures opened { IfOk result (λ session. session.opened ≡ 0) }
     ensures back { IfErr result (λ c. c ≡ store) }
@@ -101,7 +104,8 @@ pub(crate) fn begin<X: Engine<C>, C: Store>(alloc: Global, store: C) -> Result<O
 }
 
 /// Runs the commands over the store, from no database, up to their end or to the first for which memory or the
-/// store fails. Accepted openings are numbered from 1, batches too. The gate holds the workers of an opening.
+/// store fails. Accepted openings are numbered from 1, batches too. The gate holds the workers of an opening. That a store
+/// tells its head is no premise beside that it tells its items (`told_head`).
 pub fn run<X: Engine<C>, C: Store, G: Gate>(
     alloc: Global,
     store: C,
@@ -109,10 +113,12 @@ pub fn run<X: Engine<C>, C: Store, G: Gate>(
     commands: &[Command<X::Key, X::Value, AnyPolicy>],
     _gate: &G,
 ) -> Outcome<X, C>
-    ensures machine { C.start store ≡ 0 → IfSome (C.items store) (λ items. IsRun (scheme_of X.Engine) items
+    ensures machine { IfSome (told C.Store store) (λ stored. IsRun (scheme_of X.Engine) stored
         (map (line_view X.Key.bytes X.Value.bytes policy_view) commands.now) (map (answer_view X.Key.bytes X.Value.bytes X.Digest.bytes) result.replies.items) (C.items result.store)) }
     ensures done { result.end ≡ End.Done → length result.replies.items ≡ length commands.now }
     ensures short { result.end ≡ End.StoreFault → length result.replies.items < length commands.now }
+    ensures start { C.start result.store ≡ C.start store }
+    ensures head { C.head result.store ≡ C.head store }
     ensures later { C.faults store ≤ C.faults result.store }
     ensures fault { result.end ≡ End.StoreFault → Rose (C.faults store) (C.faults result.store) }
 {

@@ -1,31 +1,38 @@
 // One command over what a run holds.
-ghost use Rattle.std.specs.Prelude.{◌≡◌, ◌+◌, ◌^◌, ◌<◌, ◌≤◌};
+ghost use Rattle.std.specs.Prelude.{◌≡◌, ◌+◌, ◌^◌, ◌<◌, ◌≤◌, IfOk, IfErr};
 ghost use Rattle.qm_machine.specs.Machine as machine;
 ghost use Rattle.qm_lines.specs.Views.{policy_view, line_view};
 ghost use Rattle.qm_store.specs.Given.{store_given};
-ghost use Rattle.qm_engine.specs.Session.{meaning, scheme_of, Obeys, Leaves, Causes};
+ghost use Rattle.qm_engine.specs.Session.{meaning, scheme_of, Obeys, Leaves, Uses};
 
 mod batches;
 mod proofs;
 mod reads;
 
 use crate::engine::Engine;
-use crate::session::{Of, Session, Turn, close, turn_of};
+use crate::session::{Of, Session, Turn, turn_of};
 use batches::{apply, batch, child, del, merkleize, put, tip};
 use proofs::{batch_proof, pins, prove};
 use qm_lines::{AnyPolicy, Command, Refused, Reply};
-use qm_store::{Given, Store};
+use qm_store::{Given, Refusal, Store};
 use reads::{batch_info, batch_root, info, meta, ops, read, read_key, root};
 use std::alloc::Global;
 
-/// Where the items of the held store start and end.
-fn bounds<X: Engine<C>, C: Store>(held: &Given<X, C>) -> (u64, u64)
-    ensures start { result.0 ≡ C.start (store_given X.inside held.now) }
-    ensures end { result.1 ≡ C.end (store_given X.inside held.now) }
+// The store, where it is held alone and has nothing.
+fn empty_store<X: Engine<C>, C: Store>(held: Given<X, C>) -> Result<C, Given<X, C>>
+    ensures ok { IfOk result (λ store. (held ≡ Given.Store store) × (C.end store ≡ 0)) }
+    ensures back { IfErr result (λ given. given ≡ held) }
+    ensures filled { IfErr result (λ _. (store : C) → held ≡ Given.Store store → 0 < C.end store) }
 {
     match held {
-        Given::Database(x) => x.store().bounds(),
-        Given::Store(store) => store.bounds(),
+        Given::Store(store) => {
+            if store.bounds().1 == 0 {
+                Ok(store)
+            } else {
+                Err(Given::Store(store))
+            }
+        }
+        Given::Database(x) => Err(Given::Database(x)),
     }
 }
 
@@ -39,7 +46,7 @@ fn open<X: Engine<C>, C: Store>(
         (machine.open_store) }
     ensures left { Leaves (meaning X.Engine C.Store) X.root session result.0
         (machine.open_store) }
-    ensures causes { Causes (C.faults (store_given X.inside session.held)) (C.faults (store_given X.inside result.0.held)) result.1 }
+    ensures uses { Uses C.Store (store_given X.inside session.held) (store_given X.inside result.0.held) result.1 }
     ensures opened { result.0.opened ≤ session.opened + 1 }
 {
     let Session {
@@ -47,38 +54,38 @@ fn open<X: Engine<C>, C: Store>(
         table,
         opened,
     } = session;
-    let (start, end) = bounds::<X, C>(&held);
-    if start > 0 || end > 0 {
-        return (
-            Session {
+    let store = match empty_store::<X, C>(held) {
+        Ok(store) => store,
+        Err(held) => {
+            let session = Session {
                 held,
                 table,
                 opened,
-            },
-            Turn::Reply(Reply::Refused(Refused::NotOffered)),
-        );
-    }
-    let store = close::<X, C>(held);
+            };
+            return (session, Turn::Reply(Reply::Refused(Refused::NotOffered)));
+        }
+    };
     match X::open(alloc, store, config) {
         Ok(x) => {
             let numbers = x.info();
             let opened = opened + 1;
+            let session = Session {
+                held: Given::Database(x),
+                table,
+                opened,
+            };
             (
-                Session {
-                    held: Given::Database(x),
-                    table,
-                    opened,
-                },
+                session,
                 Turn::Reply(Reply::Opened(opened, numbers.start, numbers.size)),
             )
         }
-        Err(refusal) => (
+        Err(Refusal { given, error }) => (
             Session {
-                held: refusal.given,
+                held: given,
                 table,
                 opened,
             },
-            turn_of(refusal.error),
+            turn_of(error),
         ),
     }
 }
@@ -96,7 +103,7 @@ pub fn turn<X: Engine<C>, C: Store>(
         (λ s. machine.turn (scheme_of X.Engine) s (line_view X.Key.bytes X.Value.bytes policy_view command.now)) }
     ensures left { Leaves (meaning X.Engine C.Store) X.root session result.0
         (λ s. machine.turn (scheme_of X.Engine) s (line_view X.Key.bytes X.Value.bytes policy_view command.now)) }
-    ensures causes { Causes (C.faults (store_given X.inside session.held)) (C.faults (store_given X.inside result.0.held)) result.1 }
+    ensures uses { Uses C.Store (store_given X.inside session.held) (store_given X.inside result.0.held) result.1 }
     ensures opened { result.0.opened ≤ session.opened + 1 }
 {
     match command {

@@ -240,5 +240,9 @@ fn pins_make_a_tree(rt: HostRuntime) -> Result<(), Fail> {
     let zero: Location<mmr::Family> = Location::new(0);
     let tree = Tree::from_components(rt.alloc(), nodes, zero, none)?;
     assert_eq!(rt; tree.leaves(), zero);
+    let none: Vec<Sha256Digest> = Vec::new(rt.alloc());
+    let nodes: Vec<Sha256Digest> = Vec::new(rt.alloc());
+    let tree = Tree::from_pruned_with_retained(rt.alloc(), nodes, zero, none)?;
+    assert_eq!(rt; tree.leaves(), zero);
     Ok(())
 }

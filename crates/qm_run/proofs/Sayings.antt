@@ -4,6 +4,7 @@ use Rattle.std.proofs.lemmas.List.{take_all}
 use Rattle.std.proofs.Math.Seq.{take-nil, drop-length}
 use Rattle.qm_model.specs.Causes.{Grows, GrowsPart}
 use Rattle.qm_model.specs.Operations.{Bytes}
+use Rattle.qm_machine.specs.Machine.{Stored}
 use Rattle.qm_machine.specs.Grammar.{commands_in, bad_in}
 use Rattle.qm_engine.specs.Session.{IsLeft}
 use Rattle.qm_engine.specs.Answered.{IsAnswered}
@@ -18,8 +19,8 @@ use Rattle.qm_engine.proofs.Loops.{after_all}
 left_whole : (left : Option (List Bytes)) (items : List Bytes) → IsLeft left items items → left ≡ Some items
 left_whole left items h = h.same ∙ ap (λ rest. Some (items ++ take h.count rest)) (drop-length items) ∙ ap (λ rest. Some (items ++ rest)) (take-nil h.count) ∙ ap Some (append-nil items)
 
-module _ (items : List Bytes) (input : Bytes) (rose : Type 0) where
-  pub says_nothing : (s : ℕ) (left : Option (List Bytes)) → (s ≡ 1) ⊎ ((s ≡ 3) ⊎ (s ≡ 7)) → Says items input s rose [] left
+module _ (stored : Stored) (input : Bytes) (rose : Type 0) where
+  pub says_nothing : (s : ℕ) (left : Option (List Bytes)) → (s ≡ 1) ⊎ ((s ≡ 3) ⊎ (s ≡ 7)) → Says stored input s rose [] left
   says_nothing s left h = record {
     all = λ e. absurd (grind (arith, h, e));
     bad = λ e. absurd (grind (arith, h, e));
@@ -28,7 +29,7 @@ module _ (items : List Bytes) (input : Bytes) (rose : Type 0) where
     nothing = λ _. refl;
   }
 
-  pub says_part : (s : ℕ) (written : Bytes) (left : Option (List Bytes)) (k : ℕ) → (s ≡ 4) ⊎ (s ≡ 5) → IsPartial items input rose written left k → Says items input s rose written left
+  pub says_part : (s : ℕ) (written : Bytes) (left : Option (List Bytes)) (k : ℕ) → (s ≡ 4) ⊎ (s ≡ 5) → IsPartial stored input rose written left k → Says stored input s rose written left
   says_part s written left k h p = record {
     all = λ e. absurd (grind (arith, h, e));
     bad = λ e. absurd (grind (arith, h, e));
@@ -38,43 +39,43 @@ module _ (items : List Bytes) (input : Bytes) (rose : Type 0) where
   }
 
   -- no command was tried
-  pub says_unstarted : Says items input 5 rose [] (Some items)
-  says_unstarted = says_part 5 [] (Some items) 0 (inr refl) (record {
+  pub says_unstarted : Says stored input 5 rose [] (Some stored.items)
+  says_unstarted = says_part 5 [] (Some stored.items) 0 (inr refl) (record {
     few = omega arith;
     part = λ _. inl (0, refl);
-    items_left = λ _. left_none items (state items input 1).items (Some items) refl;
+    items_left = λ _. left_none stored.items (state stored input 1).store.items (Some stored.items) refl;
   })
 
   -- what an ending says of the first k commands: those before a bad line or the end are all, those before a fault are not
   abbrev pub IsWhole : ℕ → Ending → Type 0
-  IsWhole k Done = (k ≡ count items input) × (bad_in input ≡ None)
-  IsWhole k BadLine = (k ≡ count items input) × (bad_in input ≡ Some (k + 1))
+  IsWhole k Done = (k ≡ count stored input) × (bad_in input ≡ None)
+  IsWhole k BadLine = (k ≡ count stored input) × (bad_in input ≡ Some (k + 1))
   IsWhole k Memory = Unit {0}
-  IsWhole k StoreFault = rose × (k < count items input)
+  IsWhole k StoreFault = rose × (k < count stored input)
 
-  pub is_whole : (k : ℕ) (ending : Ending) → (ending ≡ Done → (k ≡ count items input) × (bad_in input ≡ None)) → (ending ≡ BadLine → (k ≡ count items input) × (bad_in input ≡ Some (k + 1)))
-      → (ending ≡ StoreFault → rose) → (ending ≡ StoreFault → k < count items input) → IsWhole k ending
+  pub is_whole : (k : ℕ) (ending : Ending) → (ending ≡ Done → (k ≡ count stored input) × (bad_in input ≡ None)) → (ending ≡ BadLine → (k ≡ count stored input) × (bad_in input ≡ Some (k + 1)))
+      → (ending ≡ StoreFault → rose) → (ending ≡ StoreFault → k < count stored input) → IsWhole k ending
   is_whole k Done done bad fault short = done refl
   is_whole k BadLine done bad fault short = bad refl
   is_whole k Memory done bad fault short = tt
   is_whole k StoreFault done bad fault short = (fault refl, short refl)
 
-  module _ (text : Bytes) (k : ℕ) (left : Option (List Bytes)) (answered : IsAnswered scheme items (commands_in input) k text left) where
-    pub partial : (ending : Ending) → IsWhole k ending → (n : ℕ) → IsPartial items input rose (take n (text ++ tail_text ending k)) left k
+  module _ (text : Bytes) (k : ℕ) (left : Option (List Bytes)) (answered : IsAnswered scheme stored (commands_in input) k text left) where
+    pub partial : (ending : Ending) → IsWhole k ending → (n : ℕ) → IsPartial stored input rose (take n (text ++ tail_text ending k)) left k
     partial Done is n = record { few = answered.few; part = λ apart. inl (n, rw append-nil (ap (take n) (answered.same apart))); items_left = answered.left }
     partial BadLine is n = record { few = answered.few; part = λ apart. inr (inr (k + 1, is.1, is.0, (n, ap (λ t. take n (t ++ bad_text (k + 1))) (answered.same apart)))); items_left = answered.left }
     partial Memory is n = record { few = answered.few; part = λ apart. inl (n, rw append-nil (ap (take n) (answered.same apart))); items_left = answered.left }
     partial StoreFault is n = record { few = answered.few; part = λ apart. inr (inl (is.0, is.1, (n, ap (λ t. take n (t ++ fault_text)) (answered.same apart)))); items_left = answered.left }
 
     -- all commands answered: the text, and the items
-    finished : k ≡ count items input → IsApart items input (count items input) → (text ≡ model_text items input (count items input)) × (left ≡ Some (state items input (count items input)).items)
+    finished : k ≡ count stored input → IsApart stored input (count stored input) → (text ≡ model_text stored input (count stored input)) × (left ≡ Some (state stored input (count stored input)).store.items)
     finished e apart =
-        let n : ℕ = count items input in
-        let apart_here : IsApart items input k = subst (IsApart items input) (sym e) apart in
-        let at_end : IsLeftAt items input left n = subst (IsLeftAt items input left) e (answered.left apart_here) in
-        (answered.same apart_here ∙ ap (model_text items input) e, left_whole left (state items input n).items (subst (IsLeft left (state items input n).items) (after_all scheme items (commands_in input) n (omega arith)) at_end))
+        let n : ℕ = count stored input in
+        let apart_here : IsApart stored input k = subst (IsApart stored input) (sym e) apart in
+        let at_end : IsLeftAt stored input left n = subst (IsLeftAt stored input left) e (answered.left apart_here) in
+        (answered.same apart_here ∙ ap (model_text stored input) e, left_whole left (state stored input n).store.items (subst (IsLeft left (state stored input n).store.items) (after_all scheme stored (commands_in input) n (omega arith)) at_end))
 
-    pub whole : (ending : Ending) → IsWhole k ending → Says items input (tail_status ending) rose (text ++ tail_text ending k) left
+    pub whole : (ending : Ending) → IsWhole k ending → Says stored input (tail_status ending) rose (text ++ tail_text ending k) left
     whole Done is = record {
       all = λ _. (is.1, λ apart. let f = finished is.0 apart in (append-nil text ∙ f.0, f.1));
       bad = λ e. absurd (omega arith);
@@ -90,7 +91,7 @@ module _ (items : List Bytes) (input : Bytes) (rose : Type 0) where
       nothing = λ e. absurd (grind (arith, e));
     }
     whole Memory is = says_part 5 (text ++ []) left k (inr refl)
-        (subst (λ w. IsPartial items input rose w left k) (take_all (length (text ++ [])) (text ++ []) (omega arith)) (partial Memory is (length (text ++ []))))
+        (subst (λ w. IsPartial stored input rose w left k) (take_all (length (text ++ [])) (text ++ []) (omega arith)) (partial Memory is (length (text ++ []))))
     whole StoreFault is = record {
       all = λ e. absurd (omega arith);
       bad = λ e. absurd (omega arith);
@@ -100,19 +101,19 @@ module _ (items : List Bytes) (input : Bytes) (rose : Type 0) where
     }
 
 -- What a sink tells, and what a status says of it.
-module _ (items : List Bytes) (input : Bytes) (status : ℕ) (rose : Type 0) (left : Option (List Bytes)) where
+module _ (stored : Stored) (input : Bytes) (status : ℕ) (rose : Type 0) (left : Option (List Bytes)) where
   abbrev pub Told : Option Bytes → Option Bytes → Type 0
-  Told old new = IfSome old (λ before. (written : Bytes) × (new ≡ Some (before ++ written)) × Says items input status rose written left)
+  Told old new = IfSome old (λ before. (written : Bytes) × (new ≡ Some (before ++ written)) × Says stored input status rose written left)
 
-  pub unchanged : (text : Option Bytes) → Says items input status rose [] left → Told text text
+  pub unchanged : (text : Option Bytes) → Says stored input status rose [] left → Told text text
   unchanged None says = tt
   unchanged (Some before) says = ([], ap Some (sym (append-nil before)), says)
 
-  pub grown : (old new : Option Bytes) (text : Bytes) → Grows old new text → Says items input status rose text left → Told old new
+  pub grown : (old new : Option Bytes) (text : Bytes) → Grows old new text → Says stored input status rose text left → Told old new
   grown None new text g says = tt
   grown (Some before) new text g says = (text, g, says)
 
-  pub grown_part : (old new : Option Bytes) (text : Bytes) → GrowsPart old new text → ((n : ℕ) → Says items input status rose (take n text) left) → Told old new
+  pub grown_part : (old new : Option Bytes) (text : Bytes) → GrowsPart old new text → ((n : ℕ) → Says stored input status rose (take n text) left) → Told old new
   grown_part None new text g says = tt
   grown_part (Some before) new text g says = (take g.0 text, g.1, says g.0)
 
@@ -120,12 +121,12 @@ pub each_input : (o : Option Bytes) {Q : Bytes → Type 0} → ((x : Bytes) → 
 each_input None h = tt
 each_input (Some x) h = h x
 
-pub each_more : (o : Option (List Bytes)) {P Q : List Bytes → Type 0} → IfSome o P → ((x : List Bytes) → P x → Q x) → IfSome o Q
+pub each_more : {A : Type 0} (o : Option A) {P Q : A → Type 0} → IfSome o P → ((x : A) → P x → Q x) → IfSome o Q
 each_more None p h = tt
 each_more (Some x) p h = h x p
 
 -- each of two
-pub both : (o : Option (List Bytes)) (i : Option Bytes) {P : List Bytes → Type 0} {R : Bytes → Type 0} {Q : List Bytes → Bytes → Type 0} → IfSome o P → IfSome i R → ((x : List Bytes) (y : Bytes) → P x → R y → Q x y)
+pub both : {A B : Type 0} (o : Option A) (i : Option B) {P : A → Type 0} {R : B → Type 0} {Q : A → B → Type 0} → IfSome o P → IfSome i R → ((x : A) (y : B) → P x → R y → Q x y)
     → IfSome o (λ x. IfSome i (Q x))
 both None i p r h = tt
 both (Some x) None p r h = tt

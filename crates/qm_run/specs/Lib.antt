@@ -1,3 +1,4 @@
 pub mod Program
 pub mod Endings
 pub mod Databases
+pub mod Held

@@ -7,7 +7,7 @@ use Rattle.qm_model.specs.Step.{unordered}
 use Rattle.qm_model.specs.Mmr.{mmr}
 use Rattle.qm_model.specs.Roots.{sha256_root, sha256_proof, sha256_pins}
 use Rattle.qm_model.specs.Batches.{Apart}
-use Rattle.qm_machine.specs.Machine.{Scheme, State, initial, answers}
+use Rattle.qm_machine.specs.Machine.{Scheme, Stored, State, initial, answers}
 use Rattle.qm_machine.specs.Grammar.{commands_in, bad_in}
 use Rattle.qm_machine.specs.Text.{text_of}
 use Rattle.qm_engine.specs.Session.{IsLeft}
@@ -36,19 +36,19 @@ fault_text = codes "store fault" ++ 10 ∷ []
 abbrev pub IsPartOf : Bytes → Bytes → Type 0
 IsPartOf part whole = (n : ℕ) × (part ≡ take n whole)
 
--- over a store with these items, for an input
-module _ (items : List Bytes) (input : Bytes) where
+-- over this store, for an input
+module _ (stored : Stored) (input : Bytes) where
   -- how many commands there are before the first bad line
   abbrev pub count : ℕ
   count = length (commands_in input)
 
   -- the machine's state after the first k commands
   abbrev pub state : ℕ → State
-  state k = after scheme items (commands_in input) k
+  state k = after scheme stored (commands_in input) k
 
   -- the text of the machine's answers to the first k commands
   abbrev pub model_text : ℕ → Bytes
-  model_text k = text_of (answers scheme (initial items) (take k (commands_in input)))
+  model_text k = text_of (answers scheme (initial stored) (take k (commands_in input)))
 
   -- the lists of the machine's run over the first k commands are apart
   abbrev pub IsApart : ℕ → Type 0
@@ -56,7 +56,7 @@ module _ (items : List Bytes) (input : Bytes) where
 
   -- the machine's items after the first k commands, with a first part of what the next one appends
   abbrev pub IsLeftAt : Option (List Bytes) → ℕ → Type 0
-  IsLeftAt left k = IsLeft left (state k).items (state (suc k)).items
+  IsLeftAt left k = IsLeft left (state k).store.items (state (suc k)).store.items
 
   -- k commands answered: a first part of their replies; of these and the fault, where the store's count rose and not all are answered; of
   -- these and the bad line, where there is one behind them
@@ -70,9 +70,9 @@ module _ (items : List Bytes) (input : Bytes) where
   -- What a status says of the bytes written and of the store's items; `rose` says that the store's count rose.
   pub record Says (status : ℕ) (rose : Type 0) (written : Bytes) (left : Option (List Bytes)) : Type 0 where
     -- every line answered
-    pub all : status ≡ 0 → (bad_in input ≡ None) × (IsApart count → (written ≡ model_text count) × (left ≡ Some (state count).items))
+    pub all : status ≡ 0 → (bad_in input ≡ None) × (IsApart count → (written ≡ model_text count) × (left ≡ Some (state count).store.items))
     -- a bad line
-    pub bad : status ≡ 2 → (n : ℕ) × (bad_in input ≡ Some n) × (IsApart count → (written ≡ model_text count ++ bad_text n) × (left ≡ Some (state count).items))
+    pub bad : status ≡ 2 → (n : ℕ) × (bad_in input ≡ Some n) × (IsApart count → (written ≡ model_text count ++ bad_text n) × (left ≡ Some (state count).store.items))
     -- the store failed, and a command has no reply
     pub fault : status ≡ 6 → (k : ℕ) × (k < count) × (IsApart k → (written ≡ model_text k ++ fault_text) × IsLeftAt left k)
     -- the sink failed, or memory did

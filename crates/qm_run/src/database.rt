@@ -5,16 +5,15 @@ ghost use Rattle.qm_model.specs.Mmr.{mmr};
 ghost use Rattle.qm_model.specs.Roots.{sha256_root, sha256_proof, sha256_pins};
 ghost use Rattle.qm_model.specs.Step as steps;
 ghost use Rattle.qm_any.specs.Databases.{IsDatabase, IsBegun, IsMade};
-ghost use Rattle.qm_store.specs.Refusals.{refusal_of};
 ghost use Rattle.qm_run.specs.Databases.{hashing, layout};
+ghost use Rattle.qm_run.specs.Held.{held};
 
 use crate::listed::{listed, twin_option};
 use qm_any::batch::{MerkleizedBatch, UnmerkleizedBatch};
 use qm_any::db::Db;
 use qm_any::{Proportional, init};
 use qm_base::{
-    ByteKey, ByteValue, Error, JournalError, Location, Sha256, Sha256Digest, Unordered,
-    VariableEncoding,
+    ByteKey, ByteValue, Error, Location, Sha256, Sha256Digest, Unordered, VariableEncoding,
 };
 use qm_engine::{BatchSizes, Engine, Numbers};
 use qm_index::FourCap;
@@ -22,7 +21,7 @@ use qm_index::unordered::Index;
 use qm_lines::{AnyPolicy, Listed};
 use qm_merkle::mmr;
 use qm_proofs::Proof;
-use qm_store::{Refusal, Store};
+use qm_store::{Given, Refusal, Store};
 use std::alloc::{AllocError, Global};
 use std::num::NonZeroU64;
 use std::rc::Rc;
@@ -33,17 +32,26 @@ type Pair = Unordered<ByteKey, VariableEncoding<ByteValue>>;
 /// Where its keys are live, by their first four bytes.
 type Places = Index<FourCap, Location<mmr::Family>>;
 
-/// The program's database over a store.
-pub type Database<C> = Db<mmr::Family, C, Places, Sha256, Pair>;
+type Inside<C> = Db<mmr::Family, C, Places, Sha256, Pair>;
 
-// What an opening that fails comes to: a store's head that does not match counts as want of memory.
-fn opening_error(error: Error) -> Error
-    ensures refused { refusal_of result ≡ None }
-    ensures store { result ≡ Error.Journal JournalError.Store → error ≡ Error.Journal JournalError.Store }
+/// The program's database over a store.
+#[derive(Drop)]
+pub struct Database<C: Store> {
+    db: Inside<C>,
+}
+
+// A refusal that gives back an engine.
+fn refusal<C: Store>(refusal: Refusal<Inside<C>, C>) -> Refusal<Database<C>, C>
+    ensures given { result.given ≡ held refusal.given }
+    ensures error { result.error ≡ refusal.error }
 {
-    match error {
-        Error::Journal(JournalError::Store) => Error::Journal(JournalError::Store),
-        _ => Error::Memory,
+    let given = match refusal.given {
+        Given::Database(db) => Given::Database(Database { db }),
+        Given::Store(store) => Given::Store(store),
+    };
+    Refusal {
+        given,
+        error: refusal.error,
     }
 }
 
@@ -60,9 +68,9 @@ impl<C: Store> Engine<C> for Database<C> {
 
     type Merkleized = Rc<MerkleizedBatch<mmr::Family, Sha256Digest, Pair>>;
 
-    ghost inside = { λ db. db.log.store };
+    ghost inside = { λ x. x.db.log.store };
 
-    ghost stands = { λ db list. IsDatabase C.Store layout db list };
+    ghost stands = { λ x list. IsDatabase C.Store layout x.db list };
 
     ghost is_batch = { λ b chain above ws. IsBegun hashing b chain above × (b.writes ≡ ws) };
 
@@ -80,35 +88,32 @@ impl<C: Store> Engine<C> for Database<C> {
 
     fn open(alloc: Global, store: C, _config: &()) -> Result<Self, Refusal<Self, C>> {
         match init(alloc, store, Sha256::new(), FourCap) {
-            Ok(db) => Ok(db),
-            Err(Refusal { given, error }) => Err(Refusal {
-                given,
-                error: opening_error(error),
-            }),
+            Ok(db) => Ok(Database { db }),
+            Err(refused) => Err(refusal(refused)),
         }
     }
 
     fn store(&self) -> &C {
-        Db::store(self)
+        self.db.store()
     }
 
     fn close(self) -> C {
-        Db::close(self)
+        self.db.close()
     }
 
     fn info(&self) -> Numbers {
-        let (start, size) = self.bounds();
+        let (start, size) = self.db.bounds();
         Numbers {
             start: start.get(),
             size: size.get(),
-            floor: self.inactivity_floor_loc().get(),
-            boundary: self.sync_boundary().get(),
-            is_live: !self.is_empty(),
+            floor: self.db.inactivity_floor_loc().get(),
+            boundary: self.db.sync_boundary().get(),
+            is_live: !self.db.is_empty(),
         }
     }
 
     fn batch(&self, alloc: Global) -> Result<Self::Batch, AllocError> {
-        self.new_batch(alloc)
+        self.db.new_batch(alloc)
     }
 
     fn child(
@@ -123,7 +128,7 @@ impl<C: Store> Engine<C> for Database<C> {
     }
 
     fn tip(&self, alloc: Global) -> Result<Self::Merkleized, AllocError> {
-        self.to_batch(alloc)
+        self.db.to_batch(alloc)
     }
 
     fn put(
@@ -148,7 +153,9 @@ impl<C: Store> Engine<C> for Database<C> {
     ) -> Result<Self::Merkleized, Error> {
         let metadata = twin_option(alloc, metadata)?;
         match policy {
-            AnyPolicy::Proportional => { batch.merkleize(alloc, self, metadata, &mut Proportional) }
+            AnyPolicy::Proportional => {
+                batch.merkleize(alloc, &mut self.db, metadata, &mut Proportional)
+            }
         }
     }
 
@@ -177,11 +184,14 @@ impl<C: Store> Engine<C> for Database<C> {
     }
 
     fn apply(self, alloc: Global, batch: &Self::Merkleized) -> Result<Self, Refusal<Self, C>> {
-        self.apply_batch(alloc, batch)
+        match self.db.apply_batch(alloc, batch) {
+            Ok(db) => Ok(Database { db }),
+            Err(refused) => Err(refusal(refused)),
+        }
     }
 
     fn get(&mut self, alloc: Global, keys: &[ByteKey]) -> Result<Vec<Option<ByteValue>>, Error> {
-        self.get_many(alloc, keys)
+        self.db.get_many(alloc, keys)
     }
 
     fn get_through(
@@ -190,7 +200,7 @@ impl<C: Store> Engine<C> for Database<C> {
         batch: &Self::Batch,
         keys: &[ByteKey],
     ) -> Result<Vec<Option<ByteValue>>, Error> {
-        batch.get_many(alloc, keys, self)
+        batch.get_many(alloc, keys, &mut self.db)
     }
 
     fn get_from(
@@ -199,7 +209,7 @@ impl<C: Store> Engine<C> for Database<C> {
         batch: &Self::Merkleized,
         keys: &[ByteKey],
     ) -> Result<Vec<Option<ByteValue>>, Error> {
-        batch.get_many(alloc, keys, self)
+        batch.get_many(alloc, keys, &mut self.db)
     }
 
     fn proof(
@@ -207,8 +217,8 @@ impl<C: Store> Engine<C> for Database<C> {
         alloc: Global,
         batch: &Self::Merkleized,
     ) -> Result<(Proof<Sha256Digest>, Vec<Sha256Digest>), Error> {
-        match batch.proof(alloc, self) {
-            Ok(proof) => match batch.pinned_nodes(alloc, self) {
+        match batch.proof(alloc, &self.db) {
+            Ok(proof) => match batch.pinned_nodes(alloc, &self.db) {
                 Ok(pins) => Ok((proof, pins)),
                 Err(error) => Err(error),
             },
@@ -217,11 +227,11 @@ impl<C: Store> Engine<C> for Database<C> {
     }
 
     fn root(&self, _alloc: Global) -> Result<Sha256Digest, AllocError> {
-        Ok(Db::root(self))
+        Ok(self.db.root())
     }
 
     fn metadata(&self, alloc: Global) -> Result<Option<ByteValue>, AllocError> {
-        self.get_metadata(alloc)
+        self.db.get_metadata(alloc)
     }
 
     fn prove(
@@ -232,12 +242,12 @@ impl<C: Store> Engine<C> for Database<C> {
         max: NonZeroU64,
     ) -> Result<(Proof<Sha256Digest>, Vec<Listed<ByteKey, ByteValue>>), Error> {
         let (size, start) = (Location::new(size), Location::new(start));
-        let (proof, operations) = self.historical_proof(alloc, size, start, max)?;
+        let (proof, operations) = self.db.historical_proof(alloc, size, start, max)?;
         let operations = listed(alloc, &operations)?;
         Ok((proof, operations))
     }
 
     fn pins(&self, alloc: Global, at: u64) -> Result<Vec<Sha256Digest>, Error> {
-        self.pinned_nodes_at(alloc, Location::new(at))
+        self.db.pinned_nodes_at(alloc, Location::new(at))
     }
 }

@@ -122,6 +122,8 @@ impl Store for MemStore {
 
     ghost told_end = { λ s. refl };
 
+    ghost told_head = { λ s. refl };
+
     fn bounds(&self) -> (u64, u64) {
         (self.first, self.first + self.kept.len() as u64)
     }

@@ -13,7 +13,7 @@ ghost use Rattle.qm_machine.specs.Machine as machine;
 ghost use Rattle.qm_lines.specs.Views.{policy_view};
 ghost use Rattle.qm_store.specs.Given.{store_given, IsUnchanged, TellsAll};
 ghost use Rattle.qm_store.specs.Refusals.{refusal_of};
-ghost use Rattle.qm_engine.specs.Session.{meaning, scheme_of, SlotIs, Stands, Follows, Obeys, Leaves, Causes};
+ghost use Rattle.qm_engine.specs.Session.{meaning, scheme_of, SlotIs, Stands, Follows, Obeys, Leaves, Uses};
 
 use crate::engine::Engine;
 use crate::session::{Of, Session, Turn, turn_of};
@@ -215,7 +215,7 @@ pub fn merkleize<X: Engine<C>, C: Store>(
     ensures machine { Obeys (meaning X.Engine C.Store) X.Key.bytes X.Value.bytes X.Digest.bytes X.root session.old session.new result
         (λ s. machine.merkleize (scheme_of X.Engine) s number (policy_view policy.now) (option_map X.Value.bytes metadata.now)) }
     ensures store { IsUnchanged C.Store (store_given X.inside session.old.held) (store_given X.inside session.new.held) }
-    ensures causes { Causes (C.faults (store_given X.inside session.old.held)) (C.faults (store_given X.inside session.new.held)) result }
+    ensures uses { Uses C.Store (store_given X.inside session.old.held) (store_given X.inside session.new.held) result }
     ensures opened { session.new.opened ≡ session.old.opened }
 {
     let Given::Database(x) = &mut session.held else {
@@ -243,7 +243,7 @@ pub fn apply<X: Engine<C>, C: Store>(
         (λ s. machine.apply (scheme_of X.Engine) s number) }
     ensures left { Leaves (meaning X.Engine C.Store) X.root session result.0
         (λ s. machine.apply (scheme_of X.Engine) s number) }
-    ensures causes { Causes (C.faults (store_given X.inside session.held)) (C.faults (store_given X.inside result.0.held)) result.1 }
+    ensures uses { Uses C.Store (store_given X.inside session.held) (store_given X.inside result.0.held) result.1 }
     ensures opened { result.0.opened ≡ session.opened }
 {
     let Session {

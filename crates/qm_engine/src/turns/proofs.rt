@@ -3,7 +3,7 @@ ghost use Rattle.std.specs.Prelude.{◌≡◌, ◌≢◌};
 ghost use Rattle.std.specs.Int.NonZero.{non_zero_u64_get};
 ghost use Rattle.qm_machine.specs.Machine as machine;
 ghost use Rattle.qm_store.specs.Given.{store_given, IsUnchanged};
-ghost use Rattle.qm_engine.specs.Session.{meaning, scheme_of, Obeys, Tells, Causes};
+ghost use Rattle.qm_engine.specs.Session.{meaning, scheme_of, Obeys, Tells, Uses};
 
 use crate::engine::Engine;
 use crate::session::{Of, Turn, turn_of};
@@ -54,7 +54,7 @@ pub fn prove<X: Engine<C>, C: Store>(
     ensures machine { Obeys (meaning X.Engine C.Store) X.Key.bytes X.Value.bytes X.Digest.bytes X.root session.old session.new result
         (λ s. machine.prove (scheme_of X.Engine) s size start (non_zero_u64_get max)) }
     ensures store { IsUnchanged C.Store (store_given X.inside session.old.held) (store_given X.inside session.new.held) }
-    ensures causes { Causes (C.faults (store_given X.inside session.old.held)) (C.faults (store_given X.inside session.new.held)) result }
+    ensures uses { Uses C.Store (store_given X.inside session.old.held) (store_given X.inside session.new.held) result }
     ensures opened { session.new.opened ≡ session.old.opened }
 {
     let Given::Database(x) = &mut session.held else {

@@ -4,7 +4,7 @@ ghost use Rattle.qm_model.specs.Operations.{Operation};
 ghost use Rattle.qm_machine.specs.Machine.{State};
 ghost use Rattle.qm_machine.specs.Machine as machine;
 ghost use Rattle.qm_store.specs.Given.{store_given, IsUnchanged, TellsAll};
-ghost use Rattle.qm_engine.specs.Session.{meaning, scheme_of, SlotIs, Answers, Obeys, Tells, Causes};
+ghost use Rattle.qm_engine.specs.Session.{meaning, scheme_of, SlotIs, Answers, Obeys, Tells, Uses};
 
 use crate::engine::{BatchSizes, Engine, Numbers};
 use crate::session::{Of, Turn, turn_of};
@@ -27,7 +27,7 @@ fn read_slot<X: Engine<C>, C: Store>(
         → Answers X.Key.bytes X.Value.bytes X.Digest.bytes X.root result s (machine.read_in (scheme_of X.Engine) s number (map X.Key.bytes keys.now) list named) }
     ensures same { (list : List Operation) → X.stands database.old list → X.stands database.new list }
     ensures store { IsUnchanged C.Store (X.inside database.old) (X.inside database.new) }
-    ensures causes { Causes (C.faults (X.inside database.old)) (C.faults (X.inside database.new)) result }
+    ensures uses { Uses C.Store (X.inside database.old) (X.inside database.new) result }
 {
     match slot {
         Slot::Gone => Turn::Reply(Reply::Refused(Refused::NoSuchHandle(number))),
@@ -52,7 +52,7 @@ pub fn read<X: Engine<C>, C: Store>(
     ensures machine { Obeys (meaning X.Engine C.Store) X.Key.bytes X.Value.bytes X.Digest.bytes X.root session.old session.new result
         (λ s. machine.read (scheme_of X.Engine) s (map X.Key.bytes keys.now) from) }
     ensures store { IsUnchanged C.Store (store_given X.inside session.old.held) (store_given X.inside session.new.held) }
-    ensures causes { Causes (C.faults (store_given X.inside session.old.held)) (C.faults (store_given X.inside session.new.held)) result }
+    ensures uses { Uses C.Store (store_given X.inside session.old.held) (store_given X.inside session.new.held) result }
     ensures opened { session.new.opened ≡ session.old.opened }
 {
     let Given::Database(x) = &mut session.held else {
@@ -90,7 +90,7 @@ pub fn read_key<X: Engine<C>, C: Store>(
     ensures machine { Obeys (meaning X.Engine C.Store) X.Key.bytes X.Value.bytes X.Digest.bytes X.root session.old session.new result
         (λ s. machine.read (scheme_of X.Engine) s (X.Key.bytes key.now ∷ []) from) }
     ensures store { IsUnchanged C.Store (store_given X.inside session.old.held) (store_given X.inside session.new.held) }
-    ensures causes { Causes (C.faults (store_given X.inside session.old.held)) (C.faults (store_given X.inside session.new.held)) result }
+    ensures uses { Uses C.Store (store_given X.inside session.old.held) (store_given X.inside session.new.held) result }
     ensures opened { session.new.opened ≡ session.old.opened }
 {
     match alone(alloc, key) {

@@ -1,6 +1,6 @@
 use Rattle.std.proofs.Common.{◌∷◌, [], ◌++◌, ap, ◌∙◌}
 use Rattle.qm_machine.specs.Text.{reply_line}
-use Rattle.qm_run.proofs.answers.answer.Goals as goal
+use Rattle.qm_engine.proofs.answers.answer.Goals as goal
 
 pub returns-in-Ok-clause-machine : goal.returns-in-Ok-clause-machine
 returns-in-Ok-clause-machine g c = λ s k apart.

@@ -8,7 +8,7 @@ use Rattle.qm_model.specs.Policies.{Policy}
 use Rattle.qm_machine.specs.Text.{reply_line}
 use Rattle.qm_lines.specs.Parsed.{byte_line}
 use Rattle.qm_engine.specs.Session.{Meaning, meaning, scheme_of, Holds}
-use Rattle.qm_run.proofs.answers.answer_line.Goals as goal
+use Rattle.qm_engine.proofs.answers.answer_line.Goals as goal
 
 pub returns-in-Ok-Some-clause-machine : goal.returns-in-Ok-Some-clause-machine
 returns-in-Ok-Some-clause-machine g c = λ s k.

@@ -3,9 +3,10 @@ use Rattle.std.proofs.lemmas.List.{length-map}
 use Rattle.qm_model.specs.Policies.{Policy}
 use Rattle.qm_machine.specs.Machine.{Scheme}
 use Rattle.qm_lines.specs.Views.{policy_view, line_view, answer_view}
+use Rattle.qm_engine.specs.Stores.{told}
 use Rattle.qm_engine.specs.Session.{Meaning, meaning, scheme_of, Holds}
 use Rattle.qm_engine.proofs.Loops.{each, loop_step, ended_in, ended_at, line_here, Rose-wider}
-use Rattle.qm_run.proofs.runs.run.Goals as goal
+use Rattle.qm_engine.proofs.runs.run.Goals as goal
 
 pub loop-command-init : goal.loop-command-init
 loop-command-init g c =
@@ -14,24 +15,26 @@ loop-command-init g c =
       count = ap length c.new-replies.ensures.items;
       opened = omega (arith, c.in-Ok.ensures.opened);
       later = omega (arith, ap g.C.Store.faults c.in-Ok.ensures.store);
-      machine = λ items is start apart. (ap (map a) c.new-replies.ensures.items, c.in-Ok.ensures.session items is start);
+      start = ap g.C.Store.start c.in-Ok.ensures.store;
+      head = ap g.C.Store.head c.in-Ok.ensures.store;
+      machine = λ stored is apart. (ap (map a) c.new-replies.ensures.items, c.in-Ok.ensures.session stored is);
     }
 
 pub returns-in-Some-clause-machine : goal.returns-in-Some-clause-machine
-returns-in-Some-clause-machine g c = λ start.
+returns-in-Some-clause-machine g c =
     let m : Meaning g.row.X.Denot g.row.C.Denot g.row.X-Batch.Denot g.row.X-Merkleized.Denot = meaning g.X.Engine g.C.Store in
     let scheme : Scheme Policy = scheme_of g.X.Engine in
     let f = line_view g.X.Key.ByteString.bytes g.X.Value.ByteString.bytes policy_view in
     let a = answer_view g.X.Key.ByteString.bytes g.X.Value.ByteString.bytes g.X.Digest.Digest.bytes in
     let i = c.loop-command.command-index in
     let kept : c.step-next.new.replies.items ≡ c.loop-command.replies.items = rw c.in-Some.is at c.step-next.ensures.kept in
-    each (g.C.Store.items c.args.store) (λ items is.
-    rw (kept, c.close.ensures) (ended_in scheme items (map f c.args.commands.now) i (f c.command-item.result) (map a c.loop-command.replies.items) _
+    each (told g.C.Store c.args.store) (λ stored is.
+    rw (kept, c.close.ensures) (ended_in scheme stored (map f c.args.commands.now) i (f c.command-item.result) (map a c.loop-command.replies.items) _
     (λ s. Holds m c.loop-command.session.held c.loop-command.session.table.items c.loop-command.session.opened s)
     (rw (length-map c.args.commands.now f) c.loop-command-test.true)
     (line_here f c.args.commands.now i c.command-item.result c.loop-command-test.true c.command-item.is)
     (length-map c.loop-command.replies.items a ∙ c.loop-command.invariant.count)
-    (c.loop-command.invariant.machine items is start)
+    (c.loop-command.invariant.machine stored is)
     c.step-next.ensures.left))
 
 pub returns-in-Some-clause-fault : goal.returns-in-Some-clause-fault
@@ -51,24 +54,26 @@ loop-command-preserved g c =
       count = grown ∙ ap (λ n. n + 1) c.loop-command.invariant.count;
       opened = omega arith;
       later = omega arith;
-      machine = λ items is start. loop_step scheme items (map f c.args.commands.now) (λ given. given) (λ given answer. given ++ answer ∷ []) (λ given answer. refl) i (f c.command-item.result) (map a c.loop-command.replies.items) (map a c.step-next.new.replies.items)
+      start = c.step-next.ensures.start ∙ c.loop-command.invariant.start;
+      head = c.step-next.ensures.head ∙ c.loop-command.invariant.head;
+      machine = λ stored is. loop_step scheme stored (map f c.args.commands.now) (λ given. given) (λ given answer. given ++ answer ∷ []) (λ given answer. refl) i (f c.command-item.result) (map a c.loop-command.replies.items) (map a c.step-next.new.replies.items)
           (λ s. Holds m c.loop-command.session.held c.loop-command.session.table.items c.loop-command.session.opened s)
           (λ s. Holds m c.step-next.result.0.held c.step-next.result.0.table.items c.step-next.result.0.opened s)
           (rw (length-map c.args.commands.now f) c.loop-command-test.true)
           (line_here f c.args.commands.now i c.command-item.result c.loop-command-test.true c.command-item.is)
-          (c.loop-command.invariant.machine items is start)
+          (c.loop-command.invariant.machine stored is)
           (λ s k. rw c.in_default.is at (c.step-next.ensures.machine s k));
     }
 
 pub returns-clause-machine : goal.returns-clause-machine
-returns-clause-machine g c = λ start.
+returns-clause-machine g c =
     let m : Meaning g.row.X.Denot g.row.C.Denot g.row.X-Batch.Denot g.row.X-Merkleized.Denot = meaning g.X.Engine g.C.Store in
     let scheme : Scheme Policy = scheme_of g.X.Engine in
     let f = line_view g.X.Key.ByteString.bytes g.X.Value.ByteString.bytes policy_view in
     let a = answer_view g.X.Key.ByteString.bytes g.X.Value.ByteString.bytes g.X.Digest.Digest.bytes in
     let i = c.loop-command.command-index in
-    each (g.C.Store.items c.args.store) (λ items is.
-    rw c.close-2.ensures (ended_at scheme items (map f c.args.commands.now) i (map a c.loop-command.replies.items) _
+    each (told g.C.Store c.args.store) (λ stored is.
+    rw c.close-2.ensures (ended_at scheme stored (map f c.args.commands.now) i (map a c.loop-command.replies.items) _
     (omega (arith, length-map c.args.commands.now f, c.loop-command.auto.command-index-end))
     (length-map c.loop-command.replies.items a ∙ c.loop-command.invariant.count)
-    (λ apart. let at_end = c.loop-command.invariant.machine items is start apart in (at_end.0, (at_end.1).items))))
+    (λ apart. let at_end = c.loop-command.invariant.machine stored is apart in (at_end.0, (at_end.1).store.items))))

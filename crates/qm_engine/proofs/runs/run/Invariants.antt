@@ -1,13 +1,13 @@
-use Rattle.std.proofs.Common.{◌≡◌, ◌≤◌, List, Some, map, take, length}
-use Rattle.qm_model.specs.Operations.{Bytes}
+use Rattle.std.proofs.Common.{◌≡◌, ◌≤◌, Some, map, take, length}
 use Rattle.qm_model.specs.Batches.{Apart}
 use Rattle.qm_model.specs.Policies.{Policy}
-use Rattle.qm_machine.specs.Machine.{Scheme, initial, answers}
+use Rattle.qm_machine.specs.Machine.{Scheme, Stored, initial, answers}
 use Rattle.qm_lines.specs.Views.{policy_view, line_view, answer_view}
 use Rattle.qm_store.specs.Given.{store_given}
+use Rattle.qm_engine.specs.Stores.{told}
 use Rattle.qm_engine.specs.Session.{Meaning, meaning, scheme_of, Holds}
 use Rattle.qm_engine.specs.Runs.{after}
-use Rattle.qm_run.proofs.runs.run.Given as goal
+use Rattle.qm_engine.proofs.runs.run.Given as goal
 
 abbrev pub invariant-loop-command : goal.invariant-loop-command
 invariant-loop-command g l =
@@ -16,9 +16,11 @@ invariant-loop-command g l =
     record {
       count : length l.replies.items ≡ l.command-index;
       opened : l.session.opened ≤ l.command-index;
+      start : g.C.Store.start (store_given g.X.Engine.inside l.session.held) ≡ g.C.Store.start l.fn.store;
+      head : g.C.Store.head (store_given g.X.Engine.inside l.session.held) ≡ g.C.Store.head l.fn.store;
       later : g.C.Store.faults l.fn.store ≤ g.C.Store.faults (store_given g.X.Engine.inside l.session.held);
-      machine : (items : List Bytes) → g.C.Store.items l.fn.store ≡ Some items → g.C.Store.start l.fn.store ≡ 0
-          → Apart g.X.Engine.root (after scheme items (map (line_view g.X.Key.ByteString.bytes g.X.Value.ByteString.bytes policy_view) l.commands) l.command-index).had
-          → (map (answer_view g.X.Key.ByteString.bytes g.X.Value.ByteString.bytes g.X.Digest.Digest.bytes) l.replies.items ≡ answers scheme (initial items) (take l.command-index (map (line_view g.X.Key.ByteString.bytes g.X.Value.ByteString.bytes policy_view) l.commands)))
-          × Holds m l.session.held l.session.table.items l.session.opened (after scheme items (map (line_view g.X.Key.ByteString.bytes g.X.Value.ByteString.bytes policy_view) l.commands) l.command-index);
+      machine : (stored : Stored) → told g.C.Store l.fn.store ≡ Some stored
+          → Apart g.X.Engine.root (after scheme stored (map (line_view g.X.Key.ByteString.bytes g.X.Value.ByteString.bytes policy_view) l.commands) l.command-index).had
+          → (map (answer_view g.X.Key.ByteString.bytes g.X.Value.ByteString.bytes g.X.Digest.Digest.bytes) l.replies.items ≡ answers scheme (initial stored) (take l.command-index (map (line_view g.X.Key.ByteString.bytes g.X.Value.ByteString.bytes policy_view) l.commands)))
+          × Holds m l.session.held l.session.table.items l.session.opened (after scheme stored (map (line_view g.X.Key.ByteString.bytes g.X.Value.ByteString.bytes policy_view) l.commands) l.command-index);
     }

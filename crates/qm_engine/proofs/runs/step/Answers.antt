@@ -1,7 +1,7 @@
 use Rattle.std.proofs.Common.{◌∷◌, [], ◌++◌, map, ap, ◌∙◌}
 use Rattle.std.proofs.lemmas.List.{map-append}
 use Rattle.qm_lines.specs.Views.{answer_view}
-use Rattle.qm_run.proofs.runs.step.Goals as goal
+use Rattle.qm_engine.proofs.runs.step.Goals as goal
 
 pub returns-in-Ok-clause-machine : goal.returns-in-Ok-clause-machine
 returns-in-Ok-clause-machine g c = λ s k apart.

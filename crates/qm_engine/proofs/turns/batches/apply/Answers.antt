@@ -6,7 +6,7 @@ use Rattle.qm_engine.specs.Session.{Meaning, meaning, scheme_of}
 use Rattle.qm_store.specs.Given.{store_given}
 use Rattle.qm_engine.proofs.Commands.{Grows-whole}
 use Rattle.qm_engine.proofs.BatchCommands.{not_merkleized, apply_ok, apply_err, apply_left}
-use Rattle.qm_run.proofs.turns.batches.apply.Goals as goal
+use Rattle.qm_engine.proofs.turns.batches.apply.Goals as goal
 
 pub returns-in-None-clause-machine : goal.returns-in-None-clause-machine
 returns-in-None-clause-machine g c = λ s k.
@@ -19,7 +19,7 @@ returns-in-Ok-clause-machine g c = λ s k.
     let m : Meaning g.row.X.Denot g.row.C.Denot g.row.X-Batch.Denot g.row.X-Merkleized.Denot = meaning g.X.Engine g.C.Store in
     let scheme : Scheme Policy = scheme_of g.X.Engine in
     apply_ok m g.X.Key.ByteString.bytes g.X.Value.ByteString.bytes g.X.Digest.Digest.bytes scheme c.in-Database.x c.in-Ok.x c.args.session.table.items c.args.session.opened c.args.number c.in-Some.batch.now c.info-numbers.result.size s (rw c.in-Database.is at k)
-    c.in-Ok.ensures.fits c.in-Ok.ensures.applied (λ list chain tip stands is on. let more = c.in-Ok.ensures.grown list chain tip stands is on in (more.start, more.items)) (λ list stands. (c.info-numbers.ensures.list list stands).0) (sym c.in-Some.ensures)
+    c.in-Ok.ensures.fits c.in-Ok.ensures.applied c.in-Ok.ensures.grown (λ list stands. (c.info-numbers.ensures.list list stands).0) (sym c.in-Some.ensures)
 
 pub returns-in-Ok-clause-left : goal.returns-in-Ok-clause-left
 returns-in-Ok-clause-left g c = λ s k apart.

@@ -4,7 +4,7 @@ use Rattle.qm_machine.specs.Machine.{Scheme, slot_at}
 use Rattle.qm_engine.specs.declared.table.Slot.TheVariants.{Gone}
 use Rattle.qm_engine.specs.Session.{Meaning, meaning, scheme_of}
 use Rattle.qm_engine.proofs.BatchCommands.{put_ok}
-use Rattle.qm_run.proofs.turns.batches.del.Goals as goal
+use Rattle.qm_engine.proofs.turns.batches.del.Goals as goal
 
 pub returns-in-Ok-clause-machine : goal.returns-in-Ok-clause-machine
 returns-in-Ok-clause-machine g c = λ s k.

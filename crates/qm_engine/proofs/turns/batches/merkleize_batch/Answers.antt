@@ -1,5 +1,5 @@
 use Rattle.std.proofs.Common.{sym}
-use Rattle.qm_run.proofs.turns.batches.merkleize_batch.Goals as goal
+use Rattle.qm_engine.proofs.turns.batches.merkleize_batch.Goals as goal
 
 pub returns-clause-made : goal.returns-clause-made
 returns-clause-made g c = rw (sym c.in_ok-policy.ensures) c.merkleize.ensures.made

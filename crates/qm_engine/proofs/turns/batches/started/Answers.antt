@@ -3,7 +3,7 @@ use Rattle.qm_model.specs.Policies.{Policy}
 use Rattle.qm_machine.specs.Machine.{Scheme}
 use Rattle.qm_engine.specs.Session.{Meaning, meaning, scheme_of}
 use Rattle.qm_engine.proofs.BatchCommands.{started_ok}
-use Rattle.qm_run.proofs.turns.batches.started.Goals as goal
+use Rattle.qm_engine.proofs.turns.batches.started.Goals as goal
 
 pub returns-in-Ok-clause-machine : goal.returns-in-Ok-clause-machine
 returns-in-Ok-clause-machine g c = λ s new k is.

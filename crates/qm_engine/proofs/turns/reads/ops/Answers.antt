@@ -5,7 +5,7 @@ use Rattle.qm_lines.specs.Views.{listed_view}
 use Rattle.qm_engine.specs.declared.table.Slot.TheVariants.{Gone}
 use Rattle.qm_engine.specs.Session.{Meaning, meaning, scheme_of}
 use Rattle.qm_engine.proofs.ReadCommands.{ops_ok}
-use Rattle.qm_run.proofs.turns.reads.ops.Goals as goal
+use Rattle.qm_engine.proofs.turns.reads.ops.Goals as goal
 
 pub returns-in-Ok-clause-machine : goal.returns-in-Ok-clause-machine
 returns-in-Ok-clause-machine g c = λ s k _.

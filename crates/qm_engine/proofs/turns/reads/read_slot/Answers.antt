@@ -5,7 +5,7 @@ use Rattle.qm_model.specs.Policies.{Policy}
 use Rattle.qm_machine.specs.Machine.{Scheme}
 use Rattle.qm_engine.specs.Session.{Meaning, meaning, scheme_of}
 use Rattle.qm_engine.proofs.ReadCommands.{map-through, written_ok, written_err, made_ok, made_err}
-use Rattle.qm_run.proofs.turns.reads.read_slot.Goals as goal
+use Rattle.qm_engine.proofs.turns.reads.read_slot.Goals as goal
 
 pub returns-in-Ok-clause-machine : goal.returns-in-Ok-clause-machine
 returns-in-Ok-clause-machine g c = λ s list named tells stands in_had is.

@@ -10,16 +10,16 @@ use Rattle.qm_run.proofs.Engines.{log-untold, log-rose, log-kept}
 use Rattle.qm_run.proofs.database.DatabaseEngine.get.Goals as goal
 
 pub returns-clause-values : goal.returns-clause-values
-returns-clause-values g c = ok-each (IsDatabase g.C.Store layout c.args.self.now) (λ list v. map (option_map (λ x. x)) v.items ≡ map (λ k. value_of list k) c.args.keys.now) c.get_many.result c.get_many.ensures.values
+returns-clause-values g c = ok-each (IsDatabase g.C.Store layout c.args.self.now.db) (λ list v. map (option_map (λ x. x)) v.items ≡ map (λ k. value_of list k) c.args.keys.now) c.get_many.result c.get_many.ensures.values
 
 pub returns-clause-same : goal.returns-clause-same
-returns-clause-same g c = λ list is. left-database g.C.Store layout c.args.self.now c.get_many.new.self list c.get_many.ensures.left is
+returns-clause-same g c = λ list is. left-database g.C.Store layout c.args.self.now.db c.get_many.new.self list c.get_many.ensures.left is
 
 pub returns-clause-cause : goal.returns-clause-cause
-returns-clause-cause g c = err-then c.get_many.result c.get_many.ensures.error (λ e why fault. log-rose g.C.Store c.args.self.now.log c.get_many.new.self.log e why fault)
+returns-clause-cause g c = err-then c.get_many.result c.get_many.ensures.error (λ e why fault. log-rose g.C.Store c.args.self.now.db.log c.get_many.new.self.log e why fault)
 
 pub returns-clause-never : goal.returns-clause-never
-returns-clause-never g c = err-then c.get_many.result c.get_many.ensures.error (λ e why. log-kept g.C.Store c.args.self.now.log c.get_many.new.self.log e why)
+returns-clause-never g c = err-then c.get_many.result c.get_many.ensures.error (λ e why. log-kept g.C.Store c.args.self.now.db.log c.get_many.new.self.log e why)
 
 pub returns-clause-refused : goal.returns-clause-refused
-returns-clause-refused g c = err-then c.get_many.result c.get_many.ensures.error (λ e why tells list is. log-untold g.C.Store c.args.self.now.log c.get_many.new.self.log e (is.lent.logged.start ∙ tells.0) why)
+returns-clause-refused g c = err-then c.get_many.result c.get_many.ensures.error (λ e why tells list is. log-untold g.C.Store c.args.self.now.db.log c.get_many.new.self.log e (is.lent.logged.start ∙ tells.0) why)

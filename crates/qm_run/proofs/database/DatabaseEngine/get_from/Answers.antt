@@ -13,33 +13,33 @@ use Rattle.qm_run.proofs.database.DatabaseEngine.get_from.Goals as goal
 pub returns-clause-readable : goal.returns-clause-readable
 returns-clause-readable g c =
     ok-then c.get_many.result c.get_many.ensures.readable
-    (λ values can list chain tip is batch. sym (knows-readable list chain tip c.args.self.now.commitment c.deref.result.now.bounds is.commitment ((subst (λ b. IsMade hashing b chain tip) (sym c.deref.ensures) batch).bounds)) ∙ can)
+    (λ values can list chain tip is batch. sym (knows-readable list chain tip c.args.self.now.db.commitment c.deref.result.now.bounds is.commitment ((subst (λ b. IsMade hashing b chain tip) (sym c.deref.ensures) batch).bounds)) ∙ can)
 
 pub returns-clause-values : goal.returns-clause-values
 returns-clause-values g c =
-    made-reads c.get_many.result (IsDatabase g.C.Store layout c.args.self.now) (IsMade hashing c.args.batch.now.value) (λ v tip. map (option_map (λ x. x)) v.items ≡ map (λ k. value_of tip k) c.args.keys.now)
+    made-reads c.get_many.result (IsDatabase g.C.Store layout c.args.self.now.db) (IsMade hashing c.args.batch.now.value) (λ v tip. map (option_map (λ x. x)) v.items ≡ map (λ k. value_of tip k) c.args.keys.now)
     (λ list chain tip is batch known. c.get_many.ensures.values list chain tip is (subst (λ b. IsMade hashing b chain tip) (sym c.deref.ensures) batch) known)
 
 pub returns-clause-stale : goal.returns-clause-stale
 returns-clause-stale g c =
     err-then c.get_many.result c.get_many.ensures.error
-    (λ e why stale list chain tip is batch. unknown list chain tip (sym (knows-readable list chain tip c.args.self.now.commitment c.deref.result.now.bounds is.commitment ((subst (λ b. IsMade hashing b chain tip) (sym c.deref.ensures) batch).bounds)) ∙ stale-read g.C.Store c.args.self.now.log c.get_many.new.db.log (knows c.deref.result.now.bounds c.args.self.now.commitment) e why stale))
+    (λ e why stale list chain tip is batch. unknown list chain tip (sym (knows-readable list chain tip c.args.self.now.db.commitment c.deref.result.now.bounds is.commitment ((subst (λ b. IsMade hashing b chain tip) (sym c.deref.ensures) batch).bounds)) ∙ stale-read g.C.Store c.args.self.now.db.log c.get_many.new.db.log (knows c.deref.result.now.bounds c.args.self.now.db.commitment) e why stale))
 
 pub returns-clause-refused : goal.returns-clause-refused
 returns-clause-refused g c =
     err-then c.get_many.result c.get_many.ensures.error
-    (λ e why fresh tells list chain tip is batch known. fresh-read g.C.Store c.args.self.now.log c.get_many.new.db.log (knows c.deref.result.now.bounds c.args.self.now.commitment) e why fresh (is.lent.logged.start ∙ tells.0))
+    (λ e why fresh tells list chain tip is batch known. fresh-read g.C.Store c.args.self.now.db.log c.get_many.new.db.log (knows c.deref.result.now.bounds c.args.self.now.db.commitment) e why fresh (is.lent.logged.start ∙ tells.0))
 
 pub returns-clause-order : goal.returns-clause-order
 returns-clause-order g c =
     err-then c.get_many.result c.get_many.ensures.error
-    (λ e why fresh other list chain tip is batch. sym (knows-readable list chain tip c.args.self.now.commitment c.deref.result.now.bounds is.commitment ((subst (λ b. IsMade hashing b chain tip) (sym c.deref.ensures) batch).bounds)) ∙ known-read g.C.Store c.args.self.now.log c.get_many.new.db.log (knows c.deref.result.now.bounds c.args.self.now.commitment) e why fresh other)
+    (λ e why fresh other list chain tip is batch. sym (knows-readable list chain tip c.args.self.now.db.commitment c.deref.result.now.bounds is.commitment ((subst (λ b. IsMade hashing b chain tip) (sym c.deref.ensures) batch).bounds)) ∙ known-read g.C.Store c.args.self.now.db.log c.get_many.new.db.log (knows c.deref.result.now.bounds c.args.self.now.db.commitment) e why fresh other)
 
 pub returns-clause-same : goal.returns-clause-same
-returns-clause-same g c = λ list is. left-database g.C.Store layout c.args.self.now c.get_many.new.db list c.get_many.ensures.left is
+returns-clause-same g c = λ list is. left-database g.C.Store layout c.args.self.now.db c.get_many.new.db list c.get_many.ensures.left is
 
 pub returns-clause-cause : goal.returns-clause-cause
-returns-clause-cause g c = err-then c.get_many.result c.get_many.ensures.error (λ e why fault. rose-read g.C.Store c.args.self.now.log c.get_many.new.db.log (knows c.deref.result.now.bounds c.args.self.now.commitment) e why fault)
+returns-clause-cause g c = err-then c.get_many.result c.get_many.ensures.error (λ e why fault. rose-read g.C.Store c.args.self.now.db.log c.get_many.new.db.log (knows c.deref.result.now.bounds c.args.self.now.db.commitment) e why fault)
 
 pub returns-clause-never : goal.returns-clause-never
-returns-clause-never g c = err-then c.get_many.result c.get_many.ensures.error (λ e why. never-read g.C.Store c.args.self.now.log c.get_many.new.db.log (knows c.deref.result.now.bounds c.args.self.now.commitment) e why)
+returns-clause-never g c = err-then c.get_many.result c.get_many.ensures.error (λ e why. never-read g.C.Store c.args.self.now.db.log c.get_many.new.db.log (knows c.deref.result.now.bounds c.args.self.now.db.commitment) e why)

@@ -13,32 +13,32 @@ use Rattle.qm_run.proofs.database.DatabaseEngine.get_through.Goals as goal
 pub returns-clause-readable : goal.returns-clause-readable
 returns-clause-readable g c =
     ok-then c.get_many.result c.get_many.ensures.readable
-    (λ values can list chain above ws is batch. sym (knows-readable list above chain.base c.args.self.now.commitment c.args.batch.now.parent.bounds is.commitment batch.0.parent.bounds) ∙ can)
+    (λ values can list chain above ws is batch. sym (knows-readable list above chain.base c.args.self.now.db.commitment c.args.batch.now.parent.bounds is.commitment batch.0.parent.bounds) ∙ can)
 
 pub returns-clause-values : goal.returns-clause-values
 returns-clause-values g c =
-    begun-reads c.get_many.result (IsDatabase g.C.Store layout c.args.self.now) c.args.batch.now (λ v base ws. map (option_map (λ x. x)) v.items ≡ map (λ k. read_through base ws k) c.args.keys.now) c.get_many.ensures.values
+    begun-reads c.get_many.result (IsDatabase g.C.Store layout c.args.self.now.db) c.args.batch.now (λ v base ws. map (option_map (λ x. x)) v.items ≡ map (λ k. read_through base ws k) c.args.keys.now) c.get_many.ensures.values
 
 pub returns-clause-stale : goal.returns-clause-stale
 returns-clause-stale g c =
     err-then c.get_many.result c.get_many.ensures.error
-    (λ e why stale list chain above ws is batch. unknown list above chain.base (sym (knows-readable list above chain.base c.args.self.now.commitment c.args.batch.now.parent.bounds is.commitment batch.0.parent.bounds) ∙ stale-read g.C.Store c.args.self.now.log c.get_many.new.db.log (knows c.args.batch.now.parent.bounds c.args.self.now.commitment) e why stale))
+    (λ e why stale list chain above ws is batch. unknown list above chain.base (sym (knows-readable list above chain.base c.args.self.now.db.commitment c.args.batch.now.parent.bounds is.commitment batch.0.parent.bounds) ∙ stale-read g.C.Store c.args.self.now.db.log c.get_many.new.db.log (knows c.args.batch.now.parent.bounds c.args.self.now.db.commitment) e why stale))
 
 pub returns-clause-refused : goal.returns-clause-refused
 returns-clause-refused g c =
     err-then c.get_many.result c.get_many.ensures.error
-    (λ e why fresh tells list chain above ws is batch known. fresh-read g.C.Store c.args.self.now.log c.get_many.new.db.log (knows c.args.batch.now.parent.bounds c.args.self.now.commitment) e why fresh (is.lent.logged.start ∙ tells.0))
+    (λ e why fresh tells list chain above ws is batch known. fresh-read g.C.Store c.args.self.now.db.log c.get_many.new.db.log (knows c.args.batch.now.parent.bounds c.args.self.now.db.commitment) e why fresh (is.lent.logged.start ∙ tells.0))
 
 pub returns-clause-order : goal.returns-clause-order
 returns-clause-order g c =
     err-then c.get_many.result c.get_many.ensures.error
-    (λ e why fresh other list chain above ws is batch. sym (knows-readable list above chain.base c.args.self.now.commitment c.args.batch.now.parent.bounds is.commitment batch.0.parent.bounds) ∙ known-read g.C.Store c.args.self.now.log c.get_many.new.db.log (knows c.args.batch.now.parent.bounds c.args.self.now.commitment) e why fresh other)
+    (λ e why fresh other list chain above ws is batch. sym (knows-readable list above chain.base c.args.self.now.db.commitment c.args.batch.now.parent.bounds is.commitment batch.0.parent.bounds) ∙ known-read g.C.Store c.args.self.now.db.log c.get_many.new.db.log (knows c.args.batch.now.parent.bounds c.args.self.now.db.commitment) e why fresh other)
 
 pub returns-clause-same : goal.returns-clause-same
-returns-clause-same g c = λ list is. left-database g.C.Store layout c.args.self.now c.get_many.new.db list c.get_many.ensures.left is
+returns-clause-same g c = λ list is. left-database g.C.Store layout c.args.self.now.db c.get_many.new.db list c.get_many.ensures.left is
 
 pub returns-clause-cause : goal.returns-clause-cause
-returns-clause-cause g c = err-then c.get_many.result c.get_many.ensures.error (λ e why fault. rose-read g.C.Store c.args.self.now.log c.get_many.new.db.log (knows c.args.batch.now.parent.bounds c.args.self.now.commitment) e why fault)
+returns-clause-cause g c = err-then c.get_many.result c.get_many.ensures.error (λ e why fault. rose-read g.C.Store c.args.self.now.db.log c.get_many.new.db.log (knows c.args.batch.now.parent.bounds c.args.self.now.db.commitment) e why fault)
 
 pub returns-clause-never : goal.returns-clause-never
-returns-clause-never g c = err-then c.get_many.result c.get_many.ensures.error (λ e why. never-read g.C.Store c.args.self.now.log c.get_many.new.db.log (knows c.args.batch.now.parent.bounds c.args.self.now.commitment) e why)
+returns-clause-never g c = err-then c.get_many.result c.get_many.ensures.error (λ e why. never-read g.C.Store c.args.self.now.db.log c.get_many.new.db.log (knows c.args.batch.now.parent.bounds c.args.self.now.db.commitment) e why)

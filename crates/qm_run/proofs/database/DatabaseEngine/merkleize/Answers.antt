@@ -17,7 +17,7 @@ use Rattle.qm_run.proofs.database.DatabaseEngine.merkleize.Goals as goal
 pub returns-clause-fits : goal.returns-clause-fits
 returns-clause-fits g c =
     ok-then c.merkleize.result c.merkleize.ensures.fits
-    (λ b fit list chain above ws is batch. sym (on-begun list chain above c.args.self.now.commitment c.args.batch (subst (λ (b : Begun Sha256Digest). b.keep ≤ suc (length b.parent.bounds.ancestors)) c.batch.view_is c.batch.invariant) is.commitment batch.0) ∙ fit)
+    (λ b fit list chain above ws is batch. sym (on-begun list chain above c.args.self.now.db.commitment c.args.batch (subst (λ (b : Begun Sha256Digest). b.keep ≤ suc (length b.parent.bounds.ancestors)) c.batch.view_is c.batch.invariant) is.commitment batch.0) ∙ fit)
 
 pub returns-clause-made : goal.returns-clause-made
 returns-clause-made g c =
@@ -26,7 +26,7 @@ returns-clause-made g c =
     let made = option_map (λ v. v) c.in_ok-metadata.metadata in
     let same : made ≡ meta = ap (option_map (λ v. v)) c.in_ok-metadata.ensures in
     let one : proportional ≡ policy = sym (only c.args.policy.now) in
-    made-ok c.merkleize.result (λ b. b.value) c.args.batch policy meta (IsDatabase g.C.Store layout c.args.self.now)
+    made-ok c.merkleize.result (λ b. b.value) c.args.batch policy meta (IsDatabase g.C.Store layout c.args.self.now.db)
     (λ list chain above is begun on.
     subst (λ m. IfOk c.merkleize.result (λ b. IsMade hashing b.value chain (stepped chain.base c.args.batch.writes policy m))) same
     (subst (λ p. IfOk c.merkleize.result (λ b. IsMade hashing b.value chain (stepped chain.base c.args.batch.writes p made))) one (c.merkleize.ensures.made list chain above is begun on)))
@@ -37,7 +37,7 @@ returns-clause-made g c =
 pub returns-clause-stale : goal.returns-clause-stale
 returns-clause-stale g c =
     err-then c.merkleize.result c.merkleize.ensures.stale
-    (λ e told stale list chain above ws is batch. off-chain list chain (sym (on-begun list chain above c.args.self.now.commitment c.args.batch (subst (λ (b : Begun Sha256Digest). b.keep ≤ suc (length b.parent.bounds.ancestors)) c.batch.view_is c.batch.invariant) is.commitment batch.0) ∙ told stale))
+    (λ e told stale list chain above ws is batch. off-chain list chain (sym (on-begun list chain above c.args.self.now.db.commitment c.args.batch (subst (λ (b : Begun Sha256Digest). b.keep ≤ suc (length b.parent.bounds.ancestors)) c.batch.view_is c.batch.invariant) is.commitment batch.0) ∙ told stale))
 
 pub returns-clause-refused : goal.returns-clause-refused
 returns-clause-refused g c =
@@ -46,16 +46,16 @@ returns-clause-refused g c =
     let made = option_map (λ v. v) c.in_ok-metadata.metadata in
     let same : made ≡ meta = ap (option_map (λ v. v)) c.in_ok-metadata.ensures in
     let one : proportional ≡ policy = sym (only c.args.policy.now) in
-    let read = IsReadError g.C.Store c.args.self.now.log c.merkleize.new.db.log in
+    let read = IsReadError g.C.Store c.args.self.now.db.log c.merkleize.new.db.log in
     err-both c.merkleize.result
-    (made-err c.merkleize.result c.args.batch policy meta read (IsDatabase g.C.Store layout c.args.self.now)
+    (made-err c.merkleize.result c.args.batch policy meta read (IsDatabase g.C.Store layout c.args.self.now.db)
     (λ list chain above is begun on.
     subst (λ m. IfErr c.merkleize.result (λ e. IsRefused form chain.base (stepped chain.base c.args.batch.writes policy m) e ⊎ read e)) same
     (subst (λ p. IfErr c.merkleize.result (λ e. IsRefused form chain.base (stepped chain.base c.args.batch.writes p made) e ⊎ read e)) one (c.merkleize.ensures.refused list chain above is begun on))))
     c.merkleize.ensures.order
     (λ e refused order fresh tells list chain above ws is batch.
-    refused-due chain (stepped chain.base ws policy meta) g.C.Store c.args.self.now.log c.merkleize.new.db.log _ (IsOnChain list chain) e fresh (is.lent.logged.start ∙ tells.0) (refused list chain above ws is batch)
-    (λ memory. sym (on-begun list chain above c.args.self.now.commitment c.args.batch (subst (λ (b : Begun Sha256Digest). b.keep ≤ suc (length b.parent.bounds.ancestors)) c.batch.view_is c.batch.invariant) is.commitment batch.0) ∙ order memory fresh))
+    refused-due chain (stepped chain.base ws policy meta) g.C.Store c.args.self.now.db.log c.merkleize.new.db.log _ (IsOnChain list chain) e fresh (is.lent.logged.start ∙ tells.0) (refused list chain above ws is batch)
+    (λ memory. sym (on-begun list chain above c.args.self.now.db.commitment c.args.batch (subst (λ (b : Begun Sha256Digest). b.keep ≤ suc (length b.parent.bounds.ancestors)) c.batch.view_is c.batch.invariant) is.commitment batch.0) ∙ order memory fresh))
 
 pub returns-clause-same : goal.returns-clause-same
-returns-clause-same g c = λ list is. left-database g.C.Store layout c.args.self.now c.merkleize.new.db list c.merkleize.ensures.left is
+returns-clause-same g c = λ list is. left-database g.C.Store layout c.args.self.now.db c.merkleize.new.db list c.merkleize.ensures.left is

@@ -7,7 +7,7 @@ use Rattle.qm_run.proofs.Engines.{knows-readable, unknown, proved, pinned}
 use Rattle.qm_run.proofs.database.DatabaseEngine.proof.Goals as goal
 
 pub returns-in-Ok-pinned_nodes-clause-readable : goal.returns-in-Ok-pinned_nodes-clause-readable
-returns-in-Ok-pinned_nodes-clause-readable g c = λ list chain tip is batch. sym (knows-readable list chain tip c.args.self.now.commitment c.deref.result.now.bounds is.commitment ((subst (λ b. IsMade hashing b chain tip) (sym c.deref.ensures) batch).bounds)) ∙ c.in-Ok.ensures.readable
+returns-in-Ok-pinned_nodes-clause-readable g c = λ list chain tip is batch. sym (knows-readable list chain tip c.args.self.now.db.commitment c.deref.result.now.bounds is.commitment ((subst (λ b. IsMade hashing b chain tip) (sym c.deref.ensures) batch).bounds)) ∙ c.in-Ok.ensures.readable
 
 pub returns-in-Ok-pinned_nodes-clause-proof : goal.returns-in-Ok-pinned_nodes-clause-proof
 returns-in-Ok-pinned_nodes-clause-proof g c = λ list chain tip is batch known. (
@@ -17,10 +17,10 @@ returns-in-Ok-pinned_nodes-clause-proof g c = λ list chain tip is batch known. 
 
 pub returns-in-Err-clause-stale : goal.returns-in-Err-clause-stale
 returns-in-Err-clause-stale g c = λ stale list chain tip is batch. unknown list chain tip
-    (sym (knows-readable list chain tip c.args.self.now.commitment c.deref.result.now.bounds is.commitment ((subst (λ b. IsMade hashing b chain tip) (sym c.deref.ensures) batch).bounds)) ∙ c.in-Err.ensures.stale stale)
+    (sym (knows-readable list chain tip c.args.self.now.db.commitment c.deref.result.now.bounds is.commitment ((subst (λ b. IsMade hashing b chain tip) (sym c.deref.ensures) batch).bounds)) ∙ c.in-Err.ensures.stale stale)
 
 pub returns-in-Err-clause-order : goal.returns-in-Err-clause-order
-returns-in-Err-clause-order g c = λ fresh other list chain tip is batch. sym (knows-readable list chain tip c.args.self.now.commitment c.deref.result.now.bounds is.commitment ((subst (λ b. IsMade hashing b chain tip) (sym c.deref.ensures) batch).bounds)) ∙ c.in-Err.ensures.order other fresh
+returns-in-Err-clause-order g c = λ fresh other list chain tip is batch. sym (knows-readable list chain tip c.args.self.now.db.commitment c.deref.result.now.bounds is.commitment ((subst (λ b. IsMade hashing b chain tip) (sym c.deref.ensures) batch).bounds)) ∙ c.in-Err.ensures.order other fresh
 
 pub returns-in-Err-pinned_nodes-clause-order : goal.returns-in-Err-pinned_nodes-clause-order
-returns-in-Err-pinned_nodes-clause-order g c = λ fresh other list chain tip is batch. sym (knows-readable list chain tip c.args.self.now.commitment c.deref.result.now.bounds is.commitment ((subst (λ b. IsMade hashing b chain tip) (sym c.deref.ensures) batch).bounds)) ∙ c.in-Ok.ensures.readable
+returns-in-Err-pinned_nodes-clause-order g c = λ fresh other list chain tip is batch. sym (knows-readable list chain tip c.args.self.now.db.commitment c.deref.result.now.bounds is.commitment ((subst (λ b. IsMade hashing b chain tip) (sym c.deref.ensures) batch).bounds)) ∙ c.in-Ok.ensures.readable

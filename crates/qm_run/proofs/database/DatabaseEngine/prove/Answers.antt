@@ -20,7 +20,7 @@ returns-clause-proof g c = λ list is.
     ∙ proved (take c.args.size list) c.args.start (c.args.start + proof_count c.args.size c.args.start max)
 
 pub returns-in_err-operations-clause-same : goal.returns-in_err-operations-clause-same
-returns-in_err-operations-clause-same g c = λ list is. left-database g.C.Store layout c.args.self.now c.historical_proof.new.self list c.historical_proof.ensures.left is
+returns-in_err-operations-clause-same g c = λ list is. left-database g.C.Store layout c.args.self.now.db c.historical_proof.new.self list c.historical_proof.ensures.left is
 
 pub returns-clause-same : goal.returns-clause-same
-returns-clause-same g c = λ list is. left-database g.C.Store layout c.args.self.now c.historical_proof.new.self list c.historical_proof.ensures.left is
+returns-clause-same g c = λ list is. left-database g.C.Store layout c.args.self.now.db c.historical_proof.new.self list c.historical_proof.ensures.left is
