@@ -1,8 +1,7 @@
-use Rattle.qm_model.proofs.Results.{told-one}
-use Rattle.qm_any.proofs.Telling.{floor-ended}
+use Rattle.std.proofs.Common.{◌≡◌, arith, refl}
+use Rattle.std.proofs.lemmas.Result.{err_from_is_err_and}
+use Rattle.std.proofs.lemmas.List.{length-map}
+use Rattle.qm_model.proofs.Results.{told-any, told-one}
+use Rattle.qm_model.specs.Forms.{spelling}
+use Rattle.qm_any.proofs.Telling.{floor-ended, last-among, refused-last, refused-none, refused-floor, refused-start, refused-kept, offered-there}
 use Rattle.qm_any.proofs.proof.offered.Goals as goal
-
-pub returns-in-Some-3-clause-floor : goal.returns-in-Some-3-clause-floor
-returns-in-Some-3-clause-floor g c = λ list is all.
-    told-one _ _ (g.C.Store.items c.args.log.now.store) (c.in_ok-floor_at_end.ensures.found list is all) (λ found.
-    floor-ended list c.args.size c.in-Some.floor (rw c.in-Some.is at found))
