@@ -19,6 +19,7 @@ use Rattle.qm_model.specs.Trees.{Shape, Node, leaf, end_of, peaks, row_from, dig
 use Rattle.qm_model.proofs.Forms.{IsSpelling-once}
 use Rattle.qm_model.specs.Families.{Births, IsFamily, HasPeaks, over}
 use Rattle.qm_base.specs.Parts.{floor_of}
+use Rattle.qm_base.specs.declared.error.Corrupt.TheVariants as corrupt
 use Rattle.qm_base.specs.declared.error.Error.{Error}
 use Rattle.qm_base.specs.declared.error.Error.TheVariants as errors
 use Rattle.qm_base.specs.declared.error.JournalError.TheVariants as journal
@@ -91,7 +92,7 @@ log-none members shape births family peaked bytes hash log whole start leaves fi
 -- the head of a store that starts at 0 has no byte, where it is as long as it should be
 module _ (shape : Shape) (births : Births) (family : IsFamily shape births) (peaked : HasPeaks shape) (start size : ℕ) (first : start ≡ 0) where
   none-long : length (peaks shape start) * size ≡ 0
-  none-long = ap (λ n. length (peaks shape n) * size) first ∙ ap (λ ps. length ps * size) (peaks-none shape births family peaked)
+  none-long = ap (λ n. length (peaks shape n) * size) first ∙ ap (λ ps. length ps * size) (peaks-none shape births family peaked) ∙ omega arith
 
   pub head-bare : (h : Option Bytes) → IfSome h (λ h. length h ≡ length (peaks shape start) * size) → IfSome h (λ h. h ≡ [])
   head-bare None long = tt
@@ -197,6 +198,16 @@ last-there kept size i after there = ap (last_refusal kept) after ∙ ap (λ b. 
 
 last-gone : (kept size i : ℕ) → size ≡ suc i → i < kept → last_refusal kept size ≡ Some (Journal (ItemPruned i))
 last-gone kept size i after gone = ap (last_refusal kept) after ∙ ap (λ b. if b then Some (Journal (ItemPruned i)) else None) (lt-ltb i kept gone)
+
+-- want of memory, and a failing store, are no refusals
+pub no-refusal : (P : refusals.Refused → Type 0) (e : Error) → (e ≡ errors.Memory) ⊎ (e ≡ errors.Journal journal.Store) → IfSome (refusal_of e) P
+no-refusal P e (inl memory) = subst (λ e. IfSome (refusal_of e) P) (sym memory) tt
+no-refusal P e (inr failed) = subst (λ e. IfSome (refusal_of e) P) (sym failed) tt
+
+-- what does not decode is one of the reasons why there is no proof
+pub decoded-among : (size start : ℕ) (e : Error) → (e ≡ errors.Memory) ⊎ (e ≡ errors.DataCorrupted corrupt.ItemDoesNotDecode) → IsAmong e (proof_reasons size start)
+decoded-among size start e (inl memory) = subst (λ e. IsAmong e (proof_reasons size start)) (sym memory) tt
+decoded-among size start e (inr wrong) = subst (λ e. IsAmong e (proof_reasons size start)) (sym wrong) (6, omega arith, refl)
 
 -- why a log's read of an item failed
 abbrev pub IsFailed : ℕ → Error → Type 0

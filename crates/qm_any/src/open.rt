@@ -63,8 +63,8 @@ fn root_of_one<H: Hasher>(hasher: &mut H, leaf: &H::Digest) -> H::Digest
 }
 
 /// Opens a database over an empty store: a fresh list, one commit without metadata and with floor 0, which it appends.
-/// The translator makes the index keys. A refusal gives back the store. An empty store has nothing to say in its head: one
-/// with a byte there is refused, and comes back as it was.
+/// The translator makes the index keys. A refusal gives back the store. The head of an empty store is empty: one with a byte
+/// is refused, and the store comes back as it was.
 pub fn init<F: Family, C: Store, I: Factory<Value = Location<F>>, H: Hasher + Drop, U: Update>(
     alloc: Global,
     store: C,
@@ -73,6 +73,7 @@ pub fn init<F: Family, C: Store, I: Factory<Value = Location<F>>, H: Hasher + Dr
 ) -> Result<Db<F, C, I, H, U>, Refusal<Db<F, C, I, H, U>, C>>
     requires start { C.start store ≡ 0 }
     requires empty { C.end store ≡ 0 }
+    ensures keys { ⟦<Db<F, C, I, H, U> as LaidOut>⟧.layout.index_key ≡ I.Translator.index_key }
     ensures stands { IfSome (C.items store) (λ _. IfOk result (λ db. IsDatabase C.Store ⟦<Db<F, C, I, H, U> as LaidOut>⟧.layout db fresh)) }
     ensures grown { IfOk result (λ db. Appended C.Store store db.log.store (map (spelling U.form) fresh)) }
     ensures later { IfOk result (λ db. C.faults store ≤ C.faults db.log.store) }

@@ -99,6 +99,8 @@ fn a_database_tells_its_numbers(rt: HostRuntime) -> Result<(), Fail> {
     assert_eq!(rt; db.sync_boundary().get(), 2);
     assert_eq!(rt; db.strategy(), 1);
     assert_eq!(rt; db.store().len(), 4);
+    let text = format!(in rt.alloc(); "{db:?}")?;
+    assert_eq!(rt; text.as_str(), "Db { start: 0, size: 4, floor: 2 }");
     Ok(())
 }
 
