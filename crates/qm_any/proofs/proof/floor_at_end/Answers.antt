@@ -10,7 +10,7 @@ pub returns-in_err-item-clause-pruned : goal.returns-in_err-item-clause-pruned
 returns-in_err-item-clause-pruned g c =
     let exit = err_from_is_err_and c.from_residual.result c.from_residual.ensures.1 in
     let after : c.args.size ≡ suc (c.args.size - 1) = omega (arith, c.if-size-eq0.false) in
-    rw (exit.1, exit.2) (last-due (g.C.Store.start c.args.log.now.store) c.args.size (c.args.size - 1) c.in_err-item.error after c.in_err-item.ensures.never
+    rw (exit.1, exit.2) (last-due (g.C.Store.start c.args.log.now.store) c.args.size (c.args.size - 1) _ after c.in_err-item.ensures.never
     (λ pruned. omega (arith, c.bounds.ensures.first, c.read.ensures.pruned.0 (c.in_err-item.was ∙ ap Err pruned))))
 
 pub returns-clause-kept : goal.returns-clause-kept

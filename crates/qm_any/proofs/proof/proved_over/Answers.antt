@@ -33,7 +33,7 @@ returns-in_err-proof-clause-refused g c = λ list is all.
     let size : c.args.size ≤ c.offered.new.log.tree.leaves = omega (arith, within.0, ap (λ t. t.leaves) tree) in
     let from : c.offered.new.log.tree.start ≤ c.args.start = omega (arith, c.in_ok-floor.ensures.kept, c.bounds.ensures.first, ap (λ t. t.start) tree) in
     told-any _ (g.C.Store.items c.args.log.now.store)
-    (rw (exit.1, exit.2) (no-refusal (λ r. proof_refusal (g.C.Store.start c.args.log.now.store) list c.args.size c.args.start ≡ Some r) c.in_err-proof.error (c.in_err-proof.ensures.never size within.1 from)))
+    (rw (exit.1, exit.2) (no-refusal (λ r. proof_refusal (g.C.Store.start c.args.log.now.store) list c.args.size c.args.start ≡ Some r) _ (c.in_err-proof.ensures.never size within.1 from)))
 
 pub returns-in_err-proof-clause-causes : goal.returns-in_err-proof-clause-causes
 returns-in_err-proof-clause-causes g c =
@@ -42,12 +42,12 @@ returns-in_err-proof-clause-causes g c =
     let tree = (c.offered.ensures.read).tree in
     let size : c.args.size ≤ c.offered.new.log.tree.leaves = omega (arith, within.0, ap (λ t. t.leaves) tree) in
     let from : c.offered.new.log.tree.start ≤ c.args.start = omega (arith, c.in_ok-floor.ensures.kept, c.bounds.ensures.first, ap (λ t. t.start) tree) in
-    rw (exit.1, exit.2) (no-refusal (Contains (proof_reasons c.args.size c.args.start)) c.in_err-proof.error (c.in_err-proof.ensures.never size within.1 from))
+    rw (exit.1, exit.2) (no-refusal (Contains (proof_reasons c.args.size c.args.start)) _ (c.in_err-proof.ensures.never size within.1 from))
 
 pub returns-in_err-operations-clause-causes : goal.returns-in_err-operations-clause-causes
 returns-in_err-operations-clause-causes g c =
     let exit = err_from_is_err_and c.from_residual-in_err-operations.result c.from_residual-in_err-operations.ensures.1 in
-    rw (exit.1, exit.2) (decoded-among c.args.size c.args.start c.in_err-operations.error c.in_err-operations.ensures.never)
+    rw (exit.1, exit.2) (decoded-among c.args.size c.args.start _ c.in_err-operations.ensures.never)
 
 pub returns-clause-proof : goal.returns-clause-proof
 returns-clause-proof g c = λ list is all.
