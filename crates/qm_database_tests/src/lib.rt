@@ -1,7 +1,7 @@
-//! Tests of databases and what stands above them: what no clause says of batches, databases and runs.
+//! Tests of databases: what no clause says of them, and no run of the program shows.
 #![tactic(auto)]
 
 #[cfg(test)]
-mod databases;
+mod fixed;
 #[cfg(test)]
-mod runs;
+mod ordered;

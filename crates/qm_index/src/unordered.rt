@@ -1,6 +1,6 @@
 //! Indices without an order of their keys.
 
-ghost use Rattle.std.specs.Prelude.{◌≡◌, ◌<◌, ℕ, List, [], ◌∷◌, ◌++◌, length, set, remove, OnOk, OnErr};
+ghost use Rattle.std.specs.Prelude.{◌≡◌, ◌<◌, ℕ, List, [], ◌∷◌, ◌++◌, length, set, remove, refl, OnOk, OnErr};
 ghost use Rattle.std.specs.List.{FoldsTo};
 ghost use Rattle.std.specs.Fn.{CalledAt};
 ghost use Rattle.qm_index.specs.Buckets.{bucket_at, Puts, IsIndex, all_values};
@@ -59,6 +59,9 @@ pub trait Factory: Unordered {
     /// An index without buckets. It takes no memory yet.
     fn new(alloc: Global, translator: Self::Translator) -> Self
         ensures { Self.entries result ≡ [] };
+
+    /// An index key is the translator's.
+    ghost translated: { Self.index_key ≡ Self.Translator.index_key };
 }
 
 /// An index by hash. It keeps an index key and the values for each bucket, and no key.
@@ -82,6 +85,8 @@ impl<T, V> Model for Index<T, V> {
 
 impl<T: Translator, V: IndexValue> Factory for Index<T, V> {
     type Translator = T;
+
+    ghost translated = { refl };
 
     fn new(alloc: Global, translator: T) -> Self {
         Index {

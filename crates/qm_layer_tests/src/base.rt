@@ -1,150 +1,14 @@
-//! Spellings and texts written by hand, a hash of another program, and that calls succeed.
+//! Spellings worked by hand, and texts of errors.
 
-use qm_base::update::{Unordered, Update};
 use qm_base::{
-    ByteKey, ByteString, ByteValue, Corrupt, Digest, Error, Gate, Hasher, JournalError, Location,
-    MerkleError, OpenGate, Operation, Sha256, Twin, VariableEncoding,
+    ByteKey, ByteString, ByteValue, Corrupt, Digest, Error, FixedBytes, FixedEncoding, Hasher,
+    JournalError, MerkleError, Operation, Ordered, Sha256, Spelled as _, Unordered, Update,
+    VariableEncoding,
 };
+use qm_store::StoreError;
 use std::alloc::{AllocError, Global};
+use std::process::Abort;
 use std::test::Fail;
-
-#[derive(Clone, Copy, Drop, Debug, PartialEq, Eq, PartialOrd, Ord)]
-struct Family;
-
-type ByteUpdate = Unordered<ByteKey, VariableEncoding<ByteValue>>;
-
-type ByteOperation = Operation<Family, ByteUpdate>;
-
-// The spelling, through the bounds.
-fn spelling<F, U: Update>(
-    alloc: Global,
-    operation: &Operation<F, U>,
-) -> Result<Vec<u8>, AllocError> {
-    operation.encode(alloc)
-}
-
-#[test]
-fn operations_are_spelled(rt: HostRuntime) -> Result<(), Fail> {
-    let alloc = rt.alloc();
-    let key = ByteKey::new(vec![in alloc; 0x6bu8]?);
-    let long_key = ByteKey::new(vec![in alloc; 0x61u8, 0x62]?);
-    let value = ByteValue::new(vec![in alloc; 0x76u8]?);
-    let metadata = ByteValue::new(vec![in alloc; 0xaau8]?);
-    let empty = ByteValue::new(Vec::new(alloc));
-    let table: [(ByteOperation, &[u8]); 5] = [
-        (
-            Operation::Update(Unordered(key.twin(alloc)?, value)),
-            &[1, 0, 0, 0, 1, 0x6b, 0, 0, 0, 1, 0x76],
-        ),
-        (
-            Operation::Update(Unordered(key, empty)),
-            &[1, 0, 0, 0, 1, 0x6b, 0, 0, 0, 0],
-        ),
-        (Operation::Delete(long_key), &[2, 0, 0, 0, 2, 0x61, 0x62]),
-        (
-            Operation::CommitFloor(None, Location::new(2)),
-            &[3, 0, 0, 0, 0, 0, 0, 0, 0, 2],
-        ),
-        (
-            Operation::CommitFloor(Some(metadata), Location::new(0)),
-            &[3, 1, 0, 0, 0, 1, 0xaa, 0, 0, 0, 0, 0, 0, 0, 0],
-        ),
-    ];
-    for (operation, want) in table {
-        let bytes = spelling(alloc, &operation)?;
-        assert_eq!(rt; bytes.as_slice(), want);
-    }
-    Ok(())
-}
-
-// The bytes of a key or a value, or none.
-fn bytes_of<B: ByteString>(alloc: Global, field: Option<&B>) -> Result<Vec<u8>, AllocError> {
-    match field {
-        Some(field) => field.as_bytes().to_vec(alloc),
-        None => Ok(Vec::new(alloc)),
-    }
-}
-
-#[test]
-fn operations_tell_their_parts(rt: HostRuntime) -> Result<(), Fail> {
-    let alloc = rt.alloc();
-    let key = ByteKey::new(vec![in alloc; 0x6bu8]?);
-    let value = ByteValue::new(vec![in alloc; 0x76u8]?);
-    let update: ByteUpdate = Unordered(key.twin(alloc)?, value.twin(alloc)?);
-    let table: [(ByteOperation, &[u8], bool, bool); 3] = [
-        (Operation::Update(update), &[0x6b], true, false),
-        (Operation::Delete(key.twin(alloc)?), &[0x6b], false, true),
-        (
-            Operation::CommitFloor(None, Location::new(2)),
-            &[],
-            false,
-            false,
-        ),
-    ];
-    for (operation, want, updates, deletes) in table {
-        assert_eq!(rt; operation.is_update(), updates);
-        assert_eq!(rt; operation.is_delete(), deletes);
-        assert_eq!(rt; operation.has_floor().is_some(), !updates && !deletes);
-        assert_eq!(rt; bytes_of(alloc, operation.key())?.as_slice(), want);
-        let given = operation.into_key();
-        assert_eq!(rt; bytes_of(alloc, given.as_ref())?.as_slice(), want);
-    }
-    Ok(())
-}
-
-// Whether updates of this key and value tell them and give them up, through the bound.
-fn tells_its_parts<U: Update>(
-    alloc: Global,
-    first: U,
-    second: U,
-    key: &[u8],
-    value: &[u8],
-) -> Result<bool, AllocError> {
-    let told = first.key().as_bytes() == key && second.value().as_bytes() == value;
-    let first = bytes_of(alloc, Some(&first.into_key()))?;
-    let second = bytes_of(alloc, Some(&second.into_value()))?;
-    Ok(told && first.as_slice() == key && second.as_slice() == value)
-}
-
-#[test]
-fn updates_tell_their_parts(rt: HostRuntime) -> Result<(), Fail> {
-    let alloc = rt.alloc();
-    let key = ByteKey::new(vec![in alloc; 0x6bu8]?);
-    let value = ByteValue::new(vec![in alloc; 0x76u8]?);
-    let first: ByteUpdate = Unordered(key.twin(alloc)?, value.twin(alloc)?);
-    let second: ByteUpdate = Unordered(key, value);
-    assert!(rt; tells_its_parts(alloc, first, second, &[0x6b], &[0x76])?);
-    Ok(())
-}
-
-// A copy's bytes, through the bound.
-fn twin_bytes<B: ByteString>(alloc: Global, field: &B) -> Result<Vec<u8>, AllocError> {
-    let copy = field.twin(alloc)?;
-    copy.as_bytes().to_vec(alloc)
-}
-
-#[test]
-fn twins_have_the_bytes(rt: HostRuntime) -> Result<(), Fail> {
-    let alloc = rt.alloc();
-    let key = ByteKey::new(vec![in alloc; 0x6bu8]?);
-    let value = ByteValue::new(vec![in alloc; 0x76u8, 0xff]?);
-    assert_eq!(rt; twin_bytes(alloc, &key)?.as_slice(), [0x6b].as_slice());
-    assert_eq!(rt;
-        twin_bytes(alloc, &value)?.as_slice(),
-        [0x76, 0xff].as_slice()
-    );
-    Ok(())
-}
-
-#[test]
-fn locations_are_numbers(rt: HostRuntime) {
-    let low: Location<Family> = Location::new(2);
-    let high = Location::new(u64::MAX);
-    assert_eq!(rt; high.get(), u64::MAX);
-    assert_eq!(rt; low, Location::new(2));
-    assert!(rt; low != high);
-    assert!(rt; low < high);
-}
 
 #[test]
 fn errors_have_text(rt: HostRuntime) -> Result<(), Fail> {
@@ -191,32 +55,134 @@ fn errors_have_text(rt: HostRuntime) -> Result<(), Fail> {
         let text = format!(in rt.alloc(); "{error}")?;
         assert_eq!(rt; text.as_str(), want);
     }
-    let text = format!(in rt.alloc(); "{}", JournalError::Store)?;
-    assert_eq!(rt; text.as_str(), "Store");
+    let text = format!(in rt.alloc(); "{}, {}", StoreError::Memory, StoreError::Failed)?;
+    assert_eq!(rt; text.as_str(), "out of memory, store fault");
+    Ok(())
+}
+
+// The key of an update or a delete that the bytes spell, where they spell an operation that is spelled and fed so again;
+// that of an update as it is lent from them.
+fn key_spelled_by<U: Update>(alloc: Global, bytes: &[u8]) -> Result<Option<Vec<u8>>, AllocError> {
+    let Some(operation) = Operation::<(), U>::decode(alloc, bytes)? else {
+        return Ok(None);
+    };
+    let mut fed = Sha256::new();
+    fed.start();
+    operation.feed(&mut fed);
+    let mut whole = Sha256::new();
+    whole.start();
+    whole.update(bytes);
+    let encoded = operation.encode(alloc)?;
+    if encoded.as_slice() != bytes || fed.finish().bytes() != whole.finish().bytes() {
+        return Ok(None);
+    }
+    let lent = Operation::<(), U>::update_key(bytes);
+    if lent.is_some() != operation.is_update() {
+        return Ok(None);
+    }
+    match operation.key() {
+        Some(key) => Ok(Some(lent.unwrap_or(key.as_bytes()).to_vec(alloc)?)),
+        None => Ok(Some(Vec::new(alloc))),
+    }
+}
+
+// The bytes spell an operation of this kind with this key, or none.
+fn expect_key<U: Update>(
+    rt: &impl Abort,
+    alloc: Global,
+    bytes: &[u8],
+    want: Option<&[u8]>,
+) -> Result<(), AllocError> {
+    let found = key_spelled_by::<U>(alloc, bytes)?;
+    assert_eq!(rt;
+        found.as_ref().map(|key| key.as_slice()),
+        want,
+        "at {bytes:?}"
+    );
     Ok(())
 }
 
 #[test]
-fn three_bytes_are_hashed(rt: HostRuntime) -> Result<(), Fail> {
-    let mut hasher = Sha256::new();
-    hasher.start();
-    hasher.update(b"abc");
-    let digest = hasher.finish();
-    let abc = [
-        0xba, 0x78, 0x16, 0xbf, 0x8f, 0x01, 0xcf, 0xea, 0x41, 0x41, 0x40, 0xde, 0x5d, 0xae, 0x22,
-        0x23, 0xb0, 0x03, 0x61, 0xa3, 0x96, 0x17, 0x7a, 0x9c, 0xb4, 0x10, 0xff, 0x61, 0xf2, 0x00,
-        0x15, 0xad,
+fn each_kind_and_size_has_its_spellings(rt: HostRuntime) -> Result<(), Fail> {
+    type Variable = VariableEncoding<ByteValue>;
+    type Fixed = FixedEncoding<FixedBytes<4>>;
+    let alloc = rt.alloc();
+    // the bytes, their key, and whether they spell an operation of an unordered and an ordered database with lengths, and of
+    // both of fixed sizes
+    let table: [(&[u8], &[u8], [bool; 4]); 15] = [
+        (
+            &[1, 0, 0, 0, 1, 107, 0, 0, 0, 1, 118],
+            &[107],
+            [true, false, false, false],
+        ),
+        (
+            &[1, 0, 0, 0, 1, 107, 0, 0, 0, 1, 118, 0, 0, 0, 1, 108],
+            &[107],
+            [false, true, false, false],
+        ),
+        (
+            &[2, 0, 0, 0, 2, 97, 98],
+            &[97, 98],
+            [true, true, false, false],
+        ),
+        (
+            &[3, 1, 0, 0, 0, 1, 170, 0, 0, 0, 0, 0, 0, 0, 0],
+            &[],
+            [true, true, false, false],
+        ),
+        (
+            &[1, 97, 98, 5, 6, 7, 8, 0, 0, 0, 0, 0, 0, 0],
+            &[97, 98],
+            [false, false, true, true],
+        ),
+        (
+            &[1, 97, 98, 5, 6, 7, 8, 99, 100, 0, 0, 0, 0, 0],
+            &[97, 98],
+            [false, false, false, true],
+        ),
+        (
+            &[2, 97, 98, 0, 0, 0, 0, 0, 0, 0, 0, 0, 0, 0],
+            &[97, 98],
+            [false, false, true, true],
+        ),
+        // without the last byte of padding
+        (
+            &[2, 97, 98, 0, 0, 0, 0, 0, 0, 0, 0, 0, 0],
+            &[],
+            [false, false, false, false],
+        ),
+        (
+            &[3, 1, 5, 6, 7, 8, 0, 0, 0, 0, 0, 0, 1, 2],
+            &[],
+            [false, false, true, true],
+        ),
+        // a floor of 2^62, and one above
+        (
+            &[3, 0, 64, 0, 0, 0, 0, 0, 0, 0],
+            &[],
+            [true, true, false, false],
+        ),
+        (
+            &[3, 0, 64, 0, 0, 0, 0, 0, 0, 1],
+            &[],
+            [false, false, false, false],
+        ),
+        // no tag, another tag, a length past the end, and another mark
+        (&[], &[], [false, false, false, false]),
+        (&[4, 0, 0, 0, 1, 107], &[], [false, false, false, false]),
+        (&[2, 0, 0, 0, 2, 97], &[], [false, false, false, false]),
+        (
+            &[3, 2, 0, 0, 0, 0, 0, 0, 0, 2],
+            &[],
+            [false, false, false, false],
+        ),
     ];
-    assert_eq!(rt; digest.bytes(), abc.as_slice());
+    for (bytes, key, [unordered, ordered, fixed, ordered_fixed]) in table {
+        let key_if = |is_spelled: bool| is_spelled.then_some(key);
+        expect_key::<Unordered<ByteKey, Variable>>(&rt, alloc, bytes, key_if(unordered))?;
+        expect_key::<Ordered<ByteKey, Variable>>(&rt, alloc, bytes, key_if(ordered))?;
+        expect_key::<Unordered<FixedBytes<2>, Fixed>>(&rt, alloc, bytes, key_if(fixed))?;
+        expect_key::<Ordered<FixedBytes<2>, Fixed>>(&rt, alloc, bytes, key_if(ordered_fixed))?;
+    }
     Ok(())
-}
-
-fn go_through<G: Gate>(gate: &G) {
-    gate.take(1, 0);
-    gate.pass(1, 0);
-}
-
-#[test]
-fn an_open_gate_lets_through() {
-    go_through(&OpenGate);
 }

@@ -1,24 +1,13 @@
-//! Tests of the crates below databases: what no clause says of spellings, hashing, trees, indices, chains and stores.
+//! Tests of the crates below databases: what no clause says of spellings, trees, indices, logs and texts, and no run of the
+//! program shows.
 #![tactic(auto)]
 
 #[cfg(test)]
 mod base;
 #[cfg(test)]
-mod batches;
+mod lines;
 #[cfg(test)]
-mod chain;
-#[cfg(test)]
-mod delayed;
-#[cfg(test)]
-mod families;
-#[cfg(test)]
-mod index;
-#[cfg(test)]
-mod ranges;
-#[cfg(test)]
-mod roots;
-#[cfg(test)]
-mod spellings;
+mod maps;
 #[cfg(test)]
 mod store;
 #[cfg(test)]

@@ -1,6 +1,6 @@
 //! Ports in memory, which fail where they are told to.
 
-ghost use Rattle.std.specs.Prelude.{◌≡◌, ◌↔◌, ◌++◌, ◌≤◌, ◌<◌, [], List, ℕ, length, take, drop, min, Some, IfOk, OnOk, OnErr, IsErr, IsErrOf, Contains};
+ghost use Rattle.std.specs.Prelude.{◌≡◌, ◌≢◌, ◌↔◌, ◌++◌, ◌≤◌, ◌<◌, [], List, ℕ, length, take, drop, min, Some, Err, IfOk, OnOk, OnErr, IsErr, IsErrOf, Contains};
 ghost use Rattle.std.specs.Io.{ReadsAtMost};
 ghost use Rattle.std.specs.Io.KnownBytes.{ReadConsumes};
 ghost use Rattle.qm_model.specs.Causes.{IsCause};
@@ -69,12 +69,12 @@ impl Source for MemSource {
         ensures bound { ReadsAtMost result out.new }
         ensures bytes { ReadConsumes (Some self.old.left) (Some self.new.left) result out.new }
         ensures cause { IsCause self.old.faults self.new.faults (IsErr result) }
+        ensures steady { OnOk result (self.new.faults ≡ self.old.faults) }
 
         ensures fails { IsErr result ↔ Contains self.old.fail self.old.calls }
         ensures full { IfOk result (λ n. n ≡ min (length self.old.left) (length out.new)) }
         ensures kept { self.new.fail ≡ self.old.fail }
         ensures counted { self.new.calls ≡ one_more self.old.calls }
-        ensures sound { OnOk result (self.new.faults ≡ self.old.faults) }
         ensures faulty { OnErr result (self.new.faults ≡ one_more self.old.faults) }
     {
         let is_failing = self.fail.contains(&self.calls);
@@ -145,6 +145,7 @@ impl Sink for MemSink {
         ensures progress { IfOk result (λ n. 0 < length piece.now → 0 < n) }
         ensures bytes { Takes (Some self.old.text) (Some self.new.text) result piece.now }
         ensures cause { IsCause self.old.faults self.new.faults (IsErrOf result SinkError.Failed) }
+        ensures steady { result ≢ Err SinkError.Failed → self.new.faults ≡ self.old.faults }
 
         ensures fails { IsErrOf result SinkError.Failed ↔ Contains self.old.fail self.old.calls }
         ensures all { IfOk result (λ n. n ≡ length piece.now) }
@@ -153,8 +154,6 @@ impl Sink for MemSink {
         ensures kept { self.new.fail ≡ self.old.fail }
         ensures counted { self.new.calls ≡ one_more self.old.calls }
         ensures faulty { IsErrOf result SinkError.Failed → self.new.faults ≡ one_more self.old.faults }
-        ensures sound { OnOk result (self.new.faults ≡ self.old.faults) }
-        ensures short { IsErrOf result SinkError.Memory → self.new.faults ≡ self.old.faults }
     {
         let is_failing = self.fail.contains(&self.calls);
         self.calls = self.calls.saturating_add(1);

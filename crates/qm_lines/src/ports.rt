@@ -1,6 +1,6 @@
 //! Where bytes come from and go to.
 
-ghost use Rattle.std.specs.Prelude.{◌≡◌, ◌≤◌, ◌<◌, List, ℕ, length, Option, IfOk, IsErr, IsErrOf};
+ghost use Rattle.std.specs.Prelude.{◌≡◌, ◌≢◌, ◌≤◌, ◌<◌, List, ℕ, length, Option, Err, IfOk, OnOk, IsErr, IsErrOf};
 ghost use Rattle.std.specs.Io.{ReadsAtMost};
 ghost use Rattle.std.specs.Io.KnownBytes.{ReadConsumes};
 ghost use Rattle.qm_model.specs.Causes.{IsCause};
@@ -22,7 +22,8 @@ pub trait Source {
     fn read(&mut self, out: &mut [u8]) -> Result<usize, Failed>
         ensures bound { ReadsAtMost result out.new }
         ensures bytes { ReadConsumes (left self.old) (left self.new) result out.new }
-        ensures cause { IsCause (faults self.old) (faults self.new) (IsErr result) };
+        ensures cause { IsCause (faults self.old) (faults self.new) (IsErr result) }
+        ensures steady { OnOk result (faults self.new ≡ faults self.old) };
 
     /// How often it failed, up to `u64::MAX`.
     fn faults(&self) -> u64
@@ -49,7 +50,8 @@ pub trait Sink {
         ensures bound { IfOk result (λ n. n ≤ length piece.now) }
         ensures progress { IfOk result (λ n. 0 < length piece.now → 0 < n) }
         ensures bytes { Takes (text self.old) (text self.new) result piece.now }
-        ensures cause { IsCause (faults self.old) (faults self.new) (IsErrOf result SinkError.Failed) };
+        ensures cause { IsCause (faults self.old) (faults self.new) (IsErrOf result SinkError.Failed) }
+        ensures steady { result ≢ Err SinkError.Failed → faults self.new ≡ faults self.old };
 
     /// How often it failed, up to `u64::MAX`.
     fn faults(&self) -> u64

@@ -33,12 +33,6 @@ cut-item from [] bytes i within = absurd (omega (arith, within))
 cut-item from (to ∷ ends) bytes zero within = refl
 cut-item from (to ∷ ends) bytes (suc i) within = cut-item to ends bytes i (omega (arith, within))
 
--- the first items are cut at the first ends
-pub cut-take : (n from : ℕ) (ends bytes : List ℕ) → cut from (take n ends) bytes ≡ take n (cut from ends bytes)
-cut-take zero from ends bytes = refl
-cut-take (suc n) from [] bytes = refl
-cut-take (suc n) from (to ∷ ends) bytes = ap (λ xs. slice_range bytes from to ∷ xs) (cut-take n to ends bytes)
-
 -- more ends give more items
 pub cut-append : (from : ℕ) (ends : List ℕ) (last : ℕ) (later bytes : List ℕ) → AreEnds from ends last → cut from (ends ++ later) bytes ≡ cut from ends bytes ++ cut last later bytes
 cut-append from [] last later bytes are = ap (λ n. cut n later bytes) are

@@ -89,7 +89,8 @@ pub trait Store: Drop {
         ensures same_head { head self.new ≡ head self.old }
         ensures cause { IsCause (faults self.old) (faults self.new) (IsErrOf result StoreError.Failed) };
 
-    /// The digests of the peaks at the start, one after another; empty at start 0.
+    /// The digests of the peaks at the start, one after another. At start 0 there are none, and yet no law says that the head
+    /// is empty there, since what a store keeps may be damaged: who opens a log checks the head's length.
     fn head(&mut self) -> Result<Vec<u8>, StoreError>
         ensures value { IfOk result (λ v. IfSome (head self.old) (λ h. v.items ≡ h)) }
         ensures same_start { start self.new ≡ start self.old }
@@ -117,6 +118,6 @@ pub trait Store: Drop {
     /// Where the items are told, they reach from the start to the end.
     ghost told_end: { (s : Self) → IfSome (items s) (λ xs. start s + length xs ≡ end s) };
 
-    /// Where the items are told, the head is.
+    /// Where the items are told, the head is told too.
     ghost told_head: { (s : Self) → IfSome (items s) (λ _. IsSome (head s)) };
 }

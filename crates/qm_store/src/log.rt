@@ -72,7 +72,8 @@ impl<F: Family, C: Store, H: Hasher> Model for AuthLog<F, C, H> {
 
 impl<F: Family, C: Store, H: Hasher + Drop> AuthLog<F, C, H> {
     /// The log that ends at `size`, whatever the store has past it.
-    /// Each item from the store's start up to there is read once. A refusal gives back the store.
+    /// Each item from the store's start up to there is read once. A head of another length than the digests of the peaks at the
+    /// start have is refused, before any item is read. A refusal gives back the store.
     pub fn open(alloc: Global, store: C, hasher: H, size: u64) -> Result<Self, LogRefusal<Self, C>>
         requires start { C.start store ≤ size }
         requires end { size ≤ C.end store }

@@ -48,10 +48,18 @@ impl MemStore {
         requires { start ≤ 2 ^ 62 }
         ensures { result ≡ record { start = start; head = []; items = []; fail = fail.items; calls = 0; faults = 0 } }
     {
+        MemStore::with_head(alloc, start, Vec::new(alloc), fail)
+    }
+
+    /// An empty store whose first item will be at this location, with this head.
+    pub fn with_head(alloc: Global, start: u64, head: Vec<u8>, fail: Vec<u64>) -> MemStore
+        requires { start ≤ 2 ^ 62 }
+        ensures { result ≡ record { start = start; head = head.items; items = []; fail = fail.items; calls = 0; faults = 0 } }
+    {
         MemStore {
             alloc,
             first: start,
-            head: Vec::new(alloc),
+            head,
             kept: Items::new(alloc),
             listed: fail,
             called: 0,

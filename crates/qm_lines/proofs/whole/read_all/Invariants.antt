@@ -1,4 +1,4 @@
-use Rattle.std.proofs.Common.{◌≤◌, ◌-◌, length}
+use Rattle.std.proofs.Common.{◌≡◌, ◌≤◌, ◌-◌, length}
 use Rattle.std.specs.Io.KnownBytes.{Consumes}
 use Rattle.qm_lines.proofs.whole.read_all.Given as goal
 
@@ -6,7 +6,7 @@ abbrev pub invariant-loop-all : goal.invariant-loop-all
 invariant-loop-all g l = record {
   short : length l.all.items ≤ 16777216;
   read : Consumes (g.S.Source.left l.fn.source) (g.S.Source.left l.source) l.all.items;
-  later : g.S.Source.faults l.fn.source ≤ g.S.Source.faults l.source;
+  steady : g.S.Source.faults l.source ≡ g.S.Source.faults l.fn.source;
 }
 
 abbrev pub decreases-loop-all : goal.decreases-loop-all

@@ -1,4 +1,4 @@
-use Rattle.std.proofs.Common.{◌≡◌, ◌≤◌, ◌-◌, ℕ, List, length, take, drop, arith, length-drop}
+use Rattle.std.proofs.Common.{◌≡◌, ◌∙◌, ◌≤◌, ◌-◌, ℕ, List, length, take, drop, arith, length-drop}
 use Rattle.std.proofs.lemmas.List.{take_all}
 use Rattle.std.proofs.lemmas.Result.{err_from_is_err_and}
 use Rattle.qm_lines.proofs.Told.{Grows-further, GrowsPart-at_err}
@@ -23,5 +23,5 @@ loop-at-preserved g c =
     record {
       within = omega (arith, bound, length-drop at text);
       written = Grows-further _ _ _ at text c.loop-at.invariant.written c.in_ok-at.field-0 (rw (rest at text) at c.in_ok-at.ensures.bytes);
-      later = omega (arith, c.write.ensures.cause.later);
+      steady = c.in_ok-at.ensures.steady (λ e. cc) ∙ c.loop-at.invariant.steady;
     }

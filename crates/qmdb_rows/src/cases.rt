@@ -1,0 +1,147 @@
+// Cases, and how they are read.
+use anyhow::{Context, Result, bail};
+use std::alloc::{AllocError, Global};
+
+/// A run of the program, with the ports that it is given.
+#[derive(Drop)]
+pub struct Case {
+    pub name: String,
+    pub words: Vec<String>,
+    pub input: Vec<u8>,
+    pub source_fails: Vec<u64>,
+    pub sink_fails: Vec<u64>,
+    pub store: StoreOf,
+    pub tells_items: bool,
+}
+
+/// Which store a case has.
+#[derive(Drop)]
+pub enum StoreOf {
+    /// The one that the case before gave back.
+    Kept,
+    New(NewStore),
+}
+
+/// An empty store.
+#[derive(Drop)]
+pub struct NewStore {
+    pub start: u64,
+    pub head: Vec<u8>,
+    pub fails: Vec<u64>,
+}
+
+/// The cases of a text.
+pub fn parse(alloc: Global, text: &str) -> Result<Vec<Case>> {
+    let mut cases = Vec::new(alloc);
+    for (at, line) in text.lines().enumerate() {
+        parse_line(alloc, &mut cases, line).context(format_args!("line {}", at + 1))?;
+    }
+    Ok(cases)
+}
+
+fn parse_line(alloc: Global, cases: &mut Vec<Case>, line: &str) -> Result<()> {
+    if line.is_empty() || line.starts_with('#') {
+        return Ok(());
+    }
+    let (first, rest) = line.split_once(' ').unwrap_or((line, ""));
+    match first {
+        "case" => cases.push(Case::new(alloc, rest)?)?,
+        "again" => {
+            let before = cases.last().context("no case before")?;
+            let case = before.again(alloc, rest)?;
+            cases.push(case)?;
+        }
+        _ => {
+            let case = cases.last_mut().context("no case has begun")?;
+            case.parse_part(alloc, first, rest)?;
+        }
+    }
+    Ok(())
+}
+
+impl NewStore {
+    fn new(alloc: Global) -> NewStore {
+        NewStore {
+            start: 0,
+            head: Vec::new(alloc),
+            fails: Vec::new(alloc),
+        }
+    }
+}
+
+impl Case {
+    fn new(alloc: Global, name: &str) -> Result<Case, AllocError> {
+        Ok(Case {
+            name: String::from_str(alloc, name)?,
+            words: words(alloc, "run any unordered mmr")?,
+            input: Vec::new(alloc),
+            source_fails: Vec::new(alloc),
+            sink_fails: Vec::new(alloc),
+            store: StoreOf::New(NewStore::new(alloc)),
+            tells_items: false,
+        })
+    }
+
+    // A case with these words and this input.
+    fn again(&self, alloc: Global, name: &str) -> Result<Case, AllocError> {
+        let mut case = Case::new(alloc, name)?;
+        case.words = self.words.clone()?;
+        case.input = self.input.clone()?;
+        Ok(case)
+    }
+
+    // Takes in a line that begins with this word.
+    fn parse_part(&mut self, alloc: Global, first: &str, rest: &str) -> Result<()> {
+        match first {
+            "words" => self.words = words(alloc, rest)?,
+            "|" => {
+                self.input.extend_from_slice(rest.as_bytes())?;
+                self.input.push(b'\n')?;
+            }
+            "hex" => self.input.extend_from_slice(&hex::decode(alloc, rest)?)?,
+            "fill" => {
+                let (count, bytes) = rest.split_once(' ').context("no bytes")?;
+                let bytes = hex::decode(alloc, bytes)?;
+                for _ in 0..count.parse::<u32>()? {
+                    self.input.extend_from_slice(&bytes)?;
+                }
+            }
+            "start" => self.new_store()?.start = rest.parse()?,
+            "head" => self.new_store()?.head = hex::decode(alloc, rest)?,
+            "fail" => {
+                let (port, numbers) = rest.split_once(' ').context("no numbers")?;
+                let fails = self.fails_of(port)?;
+                for number in numbers.split(' ') {
+                    fails.push(number.parse()?)?;
+                }
+            }
+            "keep" => self.store = StoreOf::Kept,
+            "items" => self.tells_items = true,
+            _ => bail!("unknown: {first}"),
+        }
+        Ok(())
+    }
+
+    fn new_store(&mut self) -> Result<&mut NewStore> {
+        match &mut self.store {
+            StoreOf::New(store) => Ok(store),
+            StoreOf::Kept => bail!("the store is kept"),
+        }
+    }
+
+    // The numbers of the calls of a port that fail.
+    fn fails_of(&mut self, port: &str) -> Result<&mut Vec<u64>> {
+        match port {
+            "source" => Ok(&mut self.source_fails),
+            "sink" => Ok(&mut self.sink_fails),
+            "store" => Ok(&mut self.new_store()?.fails),
+            _ => bail!("no port: {port}"),
+        }
+    }
+}
+
+fn words(alloc: Global, text: &str) -> Result<Vec<String>, AllocError> {
+    text.split_whitespace()
+        .map(|word| String::from_str(alloc, word))
+        .try_collect(alloc)
+}
