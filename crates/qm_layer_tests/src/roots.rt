@@ -104,6 +104,21 @@ fn too_few_pins(rt: HostRuntime) -> Result<(), Fail> {
     Ok(())
 }
 
+// The tree of three leaves pruned to two, of its last leaf and the peak over the others.
+fn of_components(alloc: Global, leaf: Sha256Digest, peak: Sha256Digest) -> Result<Tree, Fail> {
+    let nodes = Vec::from_slice(alloc, &[leaf])?;
+    let pins = Vec::from_slice(alloc, &[peak])?;
+    Ok(Tree::from_components(alloc, nodes, Location::new(2), pins)?)
+}
+
+// The same tree, where no pin lacks.
+fn of_retained(alloc: Global, leaf: Sha256Digest, peak: Sha256Digest) -> Result<Tree, Fail> {
+    let nodes = Vec::from_slice(alloc, &[leaf])?;
+    let pins = Vec::from_slice(alloc, &[peak])?;
+    let two = Location::new(2);
+    Ok(Tree::from_pruned_with_retained(alloc, nodes, two, pins)?)
+}
+
 #[test]
 fn trees_are_made_of_their_parts(rt: HostRuntime) -> Result<(), Fail> {
     let alloc = rt.alloc();
@@ -117,13 +132,11 @@ fn trees_are_made_of_their_parts(rt: HostRuntime) -> Result<(), Fail> {
         return Err(Wrong.into());
     };
     let want = tree.root(alloc, &mut hasher, 0)?;
-    let pins = Vec::from_slice(alloc, &[peak])?;
-    let nodes = Vec::from_slice(alloc, &[leaf])?;
-    let made = Tree::from_components(alloc, nodes, Location::new(2), pins)?;
-    assert_eq!(rt; made.root(alloc, &mut hasher, 0)?, want);
-    let pins = Vec::from_slice(alloc, &[peak])?;
-    let nodes = Vec::from_slice(alloc, &[leaf])?;
-    let made = Tree::from_pruned_with_retained(alloc, nodes, Location::new(2), pins)?;
-    assert_eq!(rt; made.root(alloc, &mut hasher, 0)?, want);
+    for made in [
+        of_components(alloc, leaf, peak)?,
+        of_retained(alloc, leaf, peak)?,
+    ] {
+        assert_eq!(rt; made.root(alloc, &mut hasher, 0)?, want);
+    }
     Ok(())
 }
