@@ -22,7 +22,7 @@ ghost use Rattle.qm_batch.specs.Changes.{LeadTo};
 ghost use Rattle.qm_batch.specs.Lent.{IsIndexed, IsReadError, NoneBelow};
 ghost use Rattle.qm_batch.specs.Views.{changes_view, IsPlan};
 ghost use Rattle.qm_any.specs.Databases.{Database, IsBegun, IsDatabase, IsLeft, IsMade, IsTree, at_rest, stepped};
-ghost use Rattle.qm_store.specs.Given.{Appended, AppendedPart, store_given};
+ghost use Rattle.qm_store.specs.Given.{Appended, AppendedPart, store_given, store_after};
 ghost use Rattle.qm_store.specs.KeptTrees.{IsKeptTree, held_at};
 ghost use Rattle.qm_any.specs.Views.{write_views};
 
@@ -170,6 +170,8 @@ impl<
             → IfOk result (λ next. IsDatabase C.Store ⟦<Self as LaidOut>⟧.layout next tip) }
         ensures fits { OnOk result (is_at self.commitment batch.now.bounds.db batch.now.bounds.ancestors ≡ true) }
         ensures grown { (chain : Chain) (tip : List Operation) → IsMade ⟦<Self as LaidOut>⟧.layout.hashing batch.now chain tip → IfOk result (λ next. Appended C.Store self.log.store next.log.store (map (spelling U.form) (drop self.commitment.size tip))) }
+        ensures start { C.start (store_after (λ db. db.log.store) result) ≡ C.start self.log.store }
+        ensures head { C.head (store_after (λ db. db.log.store) result) ≡ C.head self.log.store }
         ensures later { IfOk result (λ next. C.faults self.log.store ≤ C.faults next.log.store) }
         ensures stale { IfErr result (λ r. r.error ≡ Error.StaleBatch → (r.given ≡ Given.Database self) × (is_at self.commitment batch.now.bounds.db batch.now.bounds.ancestors ≡ false)) }
         ensures part { (chain : Chain) (tip : List Operation) → IsMade ⟦<Self as LaidOut>⟧.layout.hashing batch.now chain tip → IfErr result (λ r. AppendedPart C.Store self.log.store (store_given (λ db. db.log.store) r.given)

@@ -8,7 +8,7 @@ ghost use Rattle.qm_model.specs.Trees as trees;
 ghost use Rattle.qm_store.specs.Log as logs;
 ghost use Rattle.qm_store.specs.Log.{IsLog};
 ghost use Rattle.qm_any.specs.Databases.{Database, IsDatabase};
-ghost use Rattle.qm_store.specs.Given.{Appended, AppendedPart, store_given};
+ghost use Rattle.qm_store.specs.Given.{Appended, AppendedPart, store_given, IsUnchanged};
 
 use crate::db::{Db, LaidOut};
 use crate::operations::spelled;
@@ -80,6 +80,7 @@ pub fn init<F: Family, C: Store, I: Factory<Value = Location<F>>, H: Hasher + Dr
     ensures bare { IfOk result (λ _. IfSome (C.head store) (λ h. h ≡ [])) }
     ensures head { IfErr result (λ r. r.error ≡ Error.DataCorrupted Corrupt.HeadDoesNotMatch → IfSome (C.head store) (λ h. 0 < length h)) }
     ensures back_head { IfErr result (λ r. r.error ≡ Error.DataCorrupted Corrupt.HeadDoesNotMatch → (s : C) × (r.given ≡ Given.Store s) × logs.IsKept C.Store store s) }
+    ensures unopened { IfErr result (λ r. IfSome (C.head store) (λ h. 0 < length h → IsUnchanged C.Store store (store_given (λ db. db.log.store) r.given))) }
     ensures part { IfErr result (λ r. AppendedPart C.Store store (store_given (λ db. db.log.store) r.given) (map (spelling U.form) fresh)) }
     ensures back { IfErr result (λ r. (x : Database C H.Digest) → r.given ≢ Given.Database x) }
     ensures causes { IfErr result (λ r. (r.error ≡ Error.Memory) ⊎ ((r.error ≡ Error.Journal JournalError.Store) ⊎ (r.error ≡ Error.DataCorrupted Corrupt.HeadDoesNotMatch))) }
