@@ -44,12 +44,12 @@ returns-in-Err-clause-cause g c = too_long-cause (map (λ v. v.items) c.deref-2.
 
 pub returns-in_err-plan-clause-whole : goal.returns-in_err-plan-clause-whole
 returns-in_err-plan-clause-whole g c = λ list is none low.
-    let exit = err_from_is_err_and c.from_residual-in_err-plan.result c.from_residual-in_err-plan.ensures.1 in
+    let exit = err_from_is_err_and c.from_residual.result c.from_residual.ensures.1 in
     rw (exit.1, exit.2) (c.in_err-plan.ensures.whole list is none (subst (λ n. c.args.db.now.log.tree.start ≤ n) (sym (ap (λ b. b.floor) c.base-base.ensures.value)) low))
 
 pub returns-in_err-plan-clause-causes : goal.returns-in_err-plan-clause-causes
 returns-in_err-plan-clause-causes g c =
-    let exit = err_from_is_err_and c.from_residual-in_err-plan.result c.from_residual-in_err-plan.ensures.1 in
+    let exit = err_from_is_err_and c.from_residual.result c.from_residual.ensures.1 in
     rw (exit.1, exit.2) (inl c.in_err-plan.ensures.error)
 
 pub returns-in-Err-clause-whole : goal.returns-in-Err-clause-whole

@@ -1,4 +1,4 @@
-use Rattle.std.proofs.Common.{◌≡◌, ◌≤◌, ◌-◌, ◌∙◌, suc, arith, map, sym, ap, Some}
+use Rattle.std.proofs.Common.{◌≡◌, ◌-◌, ◌∙◌, suc, arith, map, sym, ap, Some}
 use Rattle.std.specs.Prelude.{Err}
 use Rattle.std.proofs.lemmas.Result.{err_from_is_err_and}
 use Rattle.qm_model.proofs.Results.{told-one}
