@@ -38,7 +38,7 @@ use Rattle.qm_any.specs.Layouts.{Hashing, list_root}
 use Rattle.qm_any.proofs.Known.{child-boundary, child-tips}
 use Rattle.qm_any.specs.Tips.{own_spellings, IsTaken, IsRefused}
 use Rattle.qm_store.specs.Refusals.{refusal_of, IsDue}
-use Rattle.qm_store.specs.Given.{IsUnchanged, TellsAll, store_given}
+use Rattle.qm_store.specs.Given.{IsUnchanged, TellsAll}
 use Rattle.qm_store.specs.declared.refusal.Given.{Given}
 use Rattle.qm_store.specs.declared.refusal.Given.TheVariants as given
 use Rattle.qm_engine.specs.declared.words.Words as words
@@ -289,13 +289,23 @@ pub err-of : {X E : Type 0} (r : Result X E) (x : E) (P : Type 0) → IfErr r (�
 err-of (Ok v) x P given is = absurd (cc is)
 err-of (Err e) x P given is = given (cc is)
 
+-- the error that a call passes on
+pub err-exit : {X E : Type 0} (r : Result X E) (y e x : E) → r ≡ Err y → y ≡ e → r ≡ Err x → e ≡ x
+err-exit r y e x is from fault = cc (is, from, fault)
+
+pub memory-exit : {X : Type 0} (r : Result X Error) (y : Error) → r ≡ Err y → y ≡ errors.Memory → r ≡ Err (errors.Journal journal.Store) → ⊥
+memory-exit r y is memory fault = let same : errors.Memory ≡ errors.Journal journal.Store = err-exit r y errors.Memory (errors.Journal journal.Store) is memory fault in absurd (cc same)
+
 -- what reads left is what reads leave
 pub left-store : {C D : Type 0} (members : store.Ghosts C) (hash : Hashing D) (old new : Database C D) → IsLeft members hash old new → IsUnchanged members old.log.store new.log.store
 left-store members hash old new left = let kept = (left.read).kept in record { start = kept.start; head = kept.head; items = kept.items }
 
 -- an engine's refusal gives back what the database's does
-pub held-database : {C : Type 0} (given : Given (Database C Sha256Digest) C) (x : engine.Database C) → held given ≡ given.Database x → given ≡ given.Database x.db
-held-database (given.Database db) x is = let same : record { db = db } ≡ x = cc is in ap (λ (y : engine.Database C). given.Database y.db) same
+same-engine : {C : Type 0} (y x : engine.Database C) (a b : Given (engine.Database C) C) → a ≡ given.Database y → b ≡ given.Database x → a ≡ b → y ≡ x
+same-engine y x a b is_y is_x same = cc (is_y, is_x, same)
+
+pub held-database : {C : Type 0} (back : Given (Database C Sha256Digest) C) (x : engine.Database C) → held back ≡ given.Database x → back ≡ given.Database x.db
+held-database {C = C} (given.Database db) x is = ap (λ (y : engine.Database C). given.Database y.db) (same-engine (record { db = db }) x (given.Database (record { db = db })) (given.Database x) refl refl is)
 held-database (given.Store store) x is = absurd (cc is)
 
 -- an apply that fails and not as stale is for no refusal

@@ -27,12 +27,12 @@ returns-in-Ok-write_all-clause-headline g c =
     let ending = c.answer_lines-text.result.ending in
     let text = c.answer_lines-text.result.text.items in
     let k : ℕ = c.answer_lines-text.result.answered in
-    let told : c.deref.result.now ≡ text ++ tail_text ending k = c.deref.ensures.value ∙ c.in-Ok.ensures in
+    let spelt : c.deref.result.now ≡ text ++ tail_text ending k = c.deref.ensures.value ∙ c.in-Ok.ensures in
     each_more (told g.C.Store c.args.store) c.answer_lines-text.ensures.machine (λ stored answered.
     let is : IsWhole stored input rose k ending = is_whole stored input rose k ending c.answer_lines-text.ensures.done c.answer_lines-text.ensures.bad c.answer_lines-text.ensures.fault c.answer_lines-text.ensures.short in
     subst (λ s. Told stored input s rose left (g.K.Sink.text c.args.sink.now) (g.K.Sink.text c.write_all.new.sink)) (sym c.status_of.ensures)
     (grown stored input (tail_status ending) rose left (g.K.Sink.text c.args.sink.now) (g.K.Sink.text c.write_all.new.sink) (text ++ tail_text ending k)
-    (subst (Grows (g.K.Sink.text c.args.sink.now) (g.K.Sink.text c.write_all.new.sink)) told c.in-Ok-write_all.ensures.ok)
+    (subst (Grows (g.K.Sink.text c.args.sink.now) (g.K.Sink.text c.write_all.new.sink)) spelt c.in-Ok-write_all.ensures.ok)
     (whole stored input rose text k left answered ending is)))
 
 pub returns-in-Err-Failed-clause-headline : goal.returns-in-Err-Failed-clause-headline
@@ -43,11 +43,11 @@ returns-in-Err-Failed-clause-headline g c =
     let ending = c.answer_lines-text.result.ending in
     let text = c.answer_lines-text.result.text.items in
     let k : ℕ = c.answer_lines-text.result.answered in
-    let told : c.deref.result.now ≡ text ++ tail_text ending k = c.deref.ensures.value ∙ c.in-Ok.ensures in
+    let spelt : c.deref.result.now ≡ text ++ tail_text ending k = c.deref.ensures.value ∙ c.in-Ok.ensures in
     each_more (told g.C.Store c.args.store) c.answer_lines-text.ensures.machine (λ stored answered.
     let is : IsWhole stored input rose k ending = is_whole stored input rose k ending c.answer_lines-text.ensures.done c.answer_lines-text.ensures.bad c.answer_lines-text.ensures.fault c.answer_lines-text.ensures.short in
     grown_part stored input 4 rose left (g.K.Sink.text c.args.sink.now) (g.K.Sink.text c.write_all.new.sink) (text ++ tail_text ending k)
-    (subst (GrowsPart (g.K.Sink.text c.args.sink.now) (g.K.Sink.text c.write_all.new.sink)) told c.in-Err-Failed.ensures.err)
+    (subst (GrowsPart (g.K.Sink.text c.args.sink.now) (g.K.Sink.text c.write_all.new.sink)) spelt c.in-Err-Failed.ensures.err)
     (λ n. says_part stored input rose 4 (take n (text ++ tail_text ending k)) left k (inl refl) (partial stored input rose text k left answered ending is n)))
 
 pub returns-clause-headline : goal.returns-clause-headline
@@ -58,9 +58,9 @@ returns-clause-headline g c =
     let ending = c.answer_lines-text.result.ending in
     let text = c.answer_lines-text.result.text.items in
     let k : ℕ = c.answer_lines-text.result.answered in
-    let told : c.deref.result.now ≡ text ++ tail_text ending k = c.deref.ensures.value ∙ c.in-Ok.ensures in
+    let spelt : c.deref.result.now ≡ text ++ tail_text ending k = c.deref.ensures.value ∙ c.in-Ok.ensures in
     each_more (told g.C.Store c.args.store) c.answer_lines-text.ensures.machine (λ stored answered.
     let is : IsWhole stored input rose k ending = is_whole stored input rose k ending c.answer_lines-text.ensures.done c.answer_lines-text.ensures.bad c.answer_lines-text.ensures.fault c.answer_lines-text.ensures.short in
     grown_part stored input 5 rose left (g.K.Sink.text c.args.sink.now) (g.K.Sink.text c.write_all.new.sink) (text ++ tail_text ending k)
-    (subst (GrowsPart (g.K.Sink.text c.args.sink.now) (g.K.Sink.text c.write_all.new.sink)) told c.in-Err-Memory.ensures.err)
+    (subst (GrowsPart (g.K.Sink.text c.args.sink.now) (g.K.Sink.text c.write_all.new.sink)) spelt c.in-Err-Memory.ensures.err)
     (λ n. says_part stored input rose 5 (take n (text ++ tail_text ending k)) left k (inr refl) (partial stored input rose text k left answered ending is n)))

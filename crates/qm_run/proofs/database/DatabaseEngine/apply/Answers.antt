@@ -1,12 +1,9 @@
 use Rattle.std.proofs.Common.{◌≤◌, ◌∙◌, ap, sym, subst, length, drop, map, [], if◌then◌else◌}
-use Rattle.sha2.specs.Sha256.{sha256}
-use Rattle.qm_model.proofs.Results.{err-then, ok-then}
 use Rattle.qm_model.specs.Mmr.{mmr}
 use Rattle.qm_model.specs.Forms.{spelling, variable}
-use Rattle.qm_any.specs.Databases.{IsDatabase, IsMade}
+use Rattle.qm_any.specs.Databases.{IsMade}
 use Rattle.qm_store.specs.Given.{Appended, AppendedPart, store_given}
-use Rattle.qm_chain.specs.Bounds.{is_at}
-use Rattle.qm_run.specs.Databases.{hashing, layout}
+use Rattle.qm_run.specs.Databases.{hashing}
 use Rattle.qm_model.specs.Causes.{Rose}
 use Rattle.qm_store.specs.Refusals.{refusal_of}
 use Rattle.qm_run.specs.Held.{held}

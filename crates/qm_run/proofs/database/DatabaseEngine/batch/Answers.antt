@@ -1,11 +1,9 @@
 use Rattle.std.proofs.Common.{sym, ap, subst, refl}
-use Rattle.sha2.specs.Sha256.{sha256}
 use Rattle.qm_model.proofs.Results.{ok-then}
-use Rattle.qm_model.specs.Mmr.{mmr}
 use Rattle.qm_model.specs.Batches.{begun_on}
 use Rattle.qm_any.specs.Databases.{IsBegun}
 use Rattle.qm_any.proofs.Resting.{rest-made}
-use Rattle.qm_run.specs.Databases.{hashing, layout}
+use Rattle.qm_run.specs.Databases.{hashing}
 use Rattle.qm_run.proofs.database.DatabaseEngine.batch.Goals as goal
 
 pub returns : goal.returns

@@ -1,7 +1,5 @@
 use Rattle.std.proofs.Common.{None, Some, sym, ap, subst}
-use Rattle.sha2.specs.Sha256.{sha256}
 use Rattle.qm_model.proofs.Results.{ok-then}
-use Rattle.qm_model.specs.Mmr.{mmr}
 use Rattle.qm_model.specs.Batches.{child_of}
 use Rattle.qm_any.specs.Databases.{IsBegun}
 use Rattle.qm_any.proofs.Resting.{child-all, child-first}

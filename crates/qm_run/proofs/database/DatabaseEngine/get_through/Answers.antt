@@ -1,7 +1,5 @@
 use Rattle.std.proofs.Common.{◌≡◌, ◌∙◌, sym, map, option_map}
-use Rattle.sha2.specs.Sha256.{sha256}
 use Rattle.qm_model.proofs.Results.{err-then, ok-then}
-use Rattle.qm_model.specs.Mmr.{mmr}
 use Rattle.qm_model.specs.Writes.{read_through}
 use Rattle.qm_any.specs.Databases.{IsDatabase}
 use Rattle.qm_any.proofs.Reading.{left-database}

@@ -1,6 +1,4 @@
 use Rattle.std.proofs.Common.{◌∙◌, ap, subst, sym}
-use Rattle.sha2.specs.Sha256.{sha256}
-use Rattle.qm_model.specs.Mmr.{mmr}
 use Rattle.qm_any.specs.Databases.{IsMade}
 use Rattle.qm_run.specs.Databases.{hashing}
 use Rattle.qm_run.proofs.database.DatabaseEngine.ops.Goals as goal

@@ -1,6 +1,4 @@
-use Rattle.sha2.specs.Sha256.{sha256}
 use Rattle.qm_model.proofs.Results.{ok-each}
-use Rattle.qm_model.specs.Mmr.{mmr}
 use Rattle.qm_model.specs.Batches.{begun_on}
 use Rattle.qm_any.specs.Databases.{IsDatabase, IsMade}
 use Rattle.qm_run.specs.Databases.{hashing, layout}
