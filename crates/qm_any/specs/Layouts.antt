@@ -3,7 +3,6 @@ use Rattle.std.specs.Prelude.{ℕ, List, map}
 use Rattle.qm_model.specs.Operations.{Bytes, Operation}
 use Rattle.qm_model.specs.Forms.{Form, spelling}
 use Rattle.qm_model.specs.Trees.{Shape, ops_root}
-use Rattle.qm_base.specs.declared.digest.Digest as digest
 use Rattle.qm_base.specs.declared.digest.Hasher as hasher
 use Rattle.qm_base.specs.declared.update.Update as update
 use Rattle.qm_merkle.specs.declared.family.Family as family
@@ -33,8 +32,8 @@ abbrev pub hashing_with : {D : Type 0} → (D → Bytes) → (Bytes → Bytes) �
 hashing_with bytes hash shape form = record { bytes = bytes; hash = hash; shape = shape; form = form }
 
 -- those of a database's parameters
-abbrev pub hashing_of : {D H F U K V : Type 0} → digest.Ghosts D → hasher.Ghosts H D → family.Ghosts F → update.Ghosts U K V → Hashing D
-hashing_of digests hashes families updates = hashing_with digests.bytes hashes.hash families.shape updates.form
+abbrev pub hashing_of : {D H F U K V : Type 0} → (D → Bytes) → hasher.Ghosts H D → family.Ghosts F → update.Ghosts U K V → Hashing D
+hashing_of bytes hashes families updates = hashing_with bytes hashes.hash families.shape updates.form
 
-abbrev pub layout_of : {D H F U K V I L : Type 0} → digest.Ghosts D → hasher.Ghosts H D → family.Ghosts F → update.Ghosts U K V → index.Ghosts I L → Layout D
-layout_of digests hashes families updates indices = record { hashing = hashing_of digests hashes families updates; index_key = indices.index_key }
+abbrev pub layout_of : {D H F U K V I L : Type 0} → (D → Bytes) → hasher.Ghosts H D → family.Ghosts F → update.Ghosts U K V → index.Ghosts I L → Layout D
+layout_of bytes hashes families updates indices = record { hashing = hashing_of bytes hashes families updates; index_key = indices.index_key }

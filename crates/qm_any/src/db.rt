@@ -90,7 +90,7 @@ impl<F: Family, C: Store, I: qm_index::Unordered<Value = Location<F>>, H: Hasher
 
     type Digest = H::Digest;
 
-    ghost layout = { layout_of H.Digest.Digest H.Hasher F.Family U.Update I.Unordered };
+    ghost layout = { layout_of H.Digest.bytes H.Hasher F.Family U.Update I.Unordered };
 }
 
 impl<

@@ -293,14 +293,16 @@ err-of (Err e) x P given is = given (cc is)
 pub left-store : {C D : Type 0} (members : store.Ghosts C) (hash : Hashing D) (old new : Database C D) → IsLeft members hash old new → IsUnchanged members old.log.store new.log.store
 left-store members hash old new left = let kept = (left.read).kept in record { start = kept.start; head = kept.head; items = kept.items }
 
--- The store that an engine's refusal gives back is the database's.
-pub held-store : {C : Type 0} (given : Given (Database C Sha256Digest) C) → store_given (λ (x : engine.Database C). x.db.log.store) (held given) ≡ store_given (λ db. db.log.store) given
-held-store (given.Database db) = refl
-held-store (given.Store store) = refl
-
+-- an engine's refusal gives back what the database's does
 pub held-database : {C : Type 0} (given : Given (Database C Sha256Digest) C) (x : engine.Database C) → held given ≡ given.Database x → given ≡ given.Database x.db
 held-database (given.Database db) x is = let same : record { db = db } ≡ x = cc is in ap (λ (y : engine.Database C). given.Database y.db) same
 held-database (given.Store store) x is = absurd (cc is)
+
+-- an apply that fails and not as stale is for no refusal
+pub unapplied-untold : (e : Error) → (e ≡ errors.StaleBatch) ⊎ ((e ≡ errors.Memory) ⊎ (e ≡ errors.Journal journal.Store)) → e ≢ errors.StaleBatch → refusal_of e ≡ None
+unapplied-untold e (inl stale) fresh = absurd (fresh stale)
+unapplied-untold e (inr (inl memory)) fresh = ap refusal_of memory
+unapplied-untold e (inr (inr fault)) fresh = ap refusal_of fault
 
 -- what an opening says of a store's head, as the machine has it
 pub bare-offered : (told : Option Bytes) → IfSome told (λ head. head ≡ []) → IfSome told (λ head. head_refusal head ≡ None)

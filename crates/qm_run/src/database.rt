@@ -1,9 +1,10 @@
 // The program's database as an engine.
 ghost use Rattle.std.specs.Prelude.{◌≡◌};
 ghost use Rattle.qm_any.specs.Databases.{IsDatabase, IsBegun, IsMade};
+ghost use Rattle.qm_store.specs.Given.{store_given};
 ghost use Rattle.qm_run.specs.Databases.{hashing, layout};
 ghost use Rattle.qm_run.specs.Held.{held};
-ghost use Rattle.qm_run.specs.Program.{scheme};
+ghost use Rattle.qm_run.specs.Program as program;
 
 use crate::listed::{listed, twin_option};
 use qm_any::batch::{MerkleizedBatch, UnmerkleizedBatch};
@@ -40,6 +41,7 @@ pub struct Database<C: Store> {
 // A refusal that gives back an engine.
 fn refusal<C: Store>(refused: Refusal<Inside<C>, C>) -> Refusal<Database<C>, C>
     ensures given { result.given ≡ held refused.given }
+    ensures store { store_given (λ x. x.db.log.store) result.given ≡ store_given (λ db. db.log.store) refused.given }
     ensures error { result.error ≡ refused.error }
 {
     let given = match refused.given {
@@ -65,7 +67,7 @@ impl<C: Store> Words<C> for Database<C> {
 
     ghost is_merkleized = { λ b chain tip. IsMade hashing b.value chain tip };
 
-    ghost scheme = { scheme };
+    ghost scheme = { program.scheme };
 }
 
 impl<C: Store> Engine<C> for Database<C> {

@@ -15,16 +15,16 @@ proof_through-requires-clause-few g c =
 
 pub returns-clause-proof : goal.returns-clause-proof
 returns-clause-proof g c = λ list chain tip is made known.
-    let tree = subst (λ t. IsTree (hashing_of g.D.Digest g.H.Hasher g.F.Family g.U.Update) t tip (bases_of chain)) (sym (ap (λ b. b.tree) c.self.view_is)) made.tree in
+    let tree = subst (λ t. IsTree (hashing_of g.D.Digest.bytes g.H.Hasher g.F.Family g.U.Update) t tip (bases_of chain)) (sym (ap (λ b. b.tree) c.self.view_is)) made.tree in
     subst (λ a. IfOk c.proof_through.result (λ p. proof_view g.D.Digest.bytes p ≡ ops_proof g.H.Hasher.hash g.F.Family.shape g.U.Update.form tip a (length tip)))
     (c.start.ensures.value ∙ ap (λ k. k.size) made.bounds.base)
     (c.proof_through.ensures.value list tip (bases_of chain) is tree (known-base list chain tip made.linked known) (c.floor.ensures ∙ made.lowest))
 
 pub returns-clause-whole : goal.returns-clause-whole
 returns-clause-whole g c = λ first list chain tip is made known.
-    let tree = subst (λ t. IsTree (hashing_of g.D.Digest g.H.Hasher g.F.Family g.U.Update) t tip (bases_of chain)) (sym (ap (λ b. b.tree) c.self.view_is)) made.tree in
+    let tree = subst (λ t. IsTree (hashing_of g.D.Digest.bytes g.H.Hasher g.F.Family g.U.Update) t tip (bases_of chain)) (sym (ap (λ b. b.tree) c.self.view_is)) made.tree in
     c.proof_through.ensures.whole first list tip (bases_of chain) is tree (known-base list chain tip made.linked known)
 
 pub returns-in_err-known-clause-whole : goal.returns-in_err-known-clause-whole
 returns-in_err-known-clause-whole g c = λ first list chain tip is made known.
-    known-read (list_root (hashing_of g.D.Digest g.H.Hasher g.F.Family g.U.Update)) c.args.self.now.bounds chain tip list (commitment_view g.D.Digest.bytes c.commitment.result.now) made.bounds (c.commitment.ensures.value ∙ is.commitment) known c.in_err-known.ensures.stale.1
+    known-read (list_root (hashing_of g.D.Digest.bytes g.H.Hasher g.F.Family g.U.Update)) c.args.self.now.bounds chain tip list (commitment_view g.D.Digest.bytes c.commitment.result.now) made.bounds (c.commitment.ensures.value ∙ is.commitment) known c.in_err-known.ensures.stale.1

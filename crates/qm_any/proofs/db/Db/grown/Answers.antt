@@ -13,14 +13,14 @@ inactive_peaks-inactive-requires g c = omega (arith, c.new.ensures, c.leaves.ens
 
 pub returns-clause-tree : goal.returns-clause-tree
 returns-clause-tree g c = λ list base older is kept found.
-    let by = hashing_of g.H.Digest.Digest g.H.Hasher g.F.Family g.U.Update in
+    let by = hashing_of g.H.Digest.Digest.bytes g.H.Hasher g.F.Family g.U.Update in
     let sp = spellings by in
     let log = subst (λ log. IsLog g.C.Store g.F.Family.shape g.H.Digest.Digest.bytes g.H.Hasher.hash log (sp list)) (sym (ap (λ db. db.log) c.self.view_is)) is.lent.logged in
     c.grown.ensures.tree (sp list) (sp base) (map sp older) log kept (contains-mapped sp (base ∷ older) list found)
 
 pub returns-clause-root : goal.returns-clause-root
 returns-clause-root g c = λ list base tip older is kept found spelled lowest.
-    let by = hashing_of g.H.Digest.Digest g.H.Hasher g.F.Family g.U.Update in
+    let by = hashing_of g.H.Digest.Digest.bytes g.H.Hasher g.F.Family g.U.Update in
     let sp = spellings by in
     let log = subst (λ log. IsLog g.C.Store g.F.Family.shape g.H.Digest.Digest.bytes g.H.Hasher.hash log (sp list)) (sym (ap (λ db. db.log) c.self.view_is)) is.lent.logged in
     let items = map (λ v. v.items) c.args.items.now in

@@ -11,4 +11,4 @@ returns-clause-value g c = grind (arith, common_steps)
 
 pub returns-clause-begun : goal.returns-clause-begun
 returns-clause-begun g c = λ list stands.
-    subst (λ b. IsBegun (hashing_of g.H.Digest.Digest g.H.Hasher g.F.Family g.U.Update) b (begun_on list) (begun_on list)) (sym (returns-clause-value g c)) (record { parent = rest-made c.args.self.now list stands; kept = refl })
+    subst (λ b. IsBegun (hashing_of g.H.Digest.Digest.bytes g.H.Hasher g.F.Family g.U.Update) b (begun_on list) (begun_on list)) (sym (returns-clause-value g c)) (record { parent = rest-made c.args.self.now list stands; kept = refl })

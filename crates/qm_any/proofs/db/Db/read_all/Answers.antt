@@ -11,29 +11,29 @@ use Rattle.qm_any.proofs.db.Db.read_all.Goals as goal
 
 pub loop-key-init : goal.loop-key-init
 loop-key-init g c = record {
-  left = left-none g.C.Store (hashing_of g.H.Digest.Digest g.H.Hasher g.F.Family g.U.Update) c.args.self.now;
+  left = left-none g.C.Store (hashing_of g.H.Digest.Digest.bytes g.H.Hasher g.F.Family g.U.Update) c.args.self.now;
   values = λ list base stands from. ap (map (option_map g.U.Value.ByteString.bytes)) c.new-values.ensures.items;
 }
 
 pub returns-in_err-value-clause-error : goal.returns-in_err-value-clause-error
 returns-in_err-value-clause-error g c =
     let exit = err_from_is_err_and c.from_residual.result c.from_residual.ensures.1 in
-    rw (exit.1, exit.2) (left-error g.C.Store (hashing_of g.H.Digest.Digest g.H.Hasher g.F.Family g.U.Update) c.args.self.now c.loop-key.self c.read_one.new.self _ c.loop-key.invariant.left c.in_err-value.ensures.error)
+    rw (exit.1, exit.2) (left-error g.C.Store (hashing_of g.H.Digest.Digest.bytes g.H.Hasher g.F.Family g.U.Update) c.args.self.now c.loop-key.self c.read_one.new.self _ c.loop-key.invariant.left c.in_err-value.ensures.error)
 
 pub returns-in_err-value-clause-left : goal.returns-in_err-value-clause-left
-returns-in_err-value-clause-left g c = left-then g.C.Store (hashing_of g.H.Digest.Digest g.H.Hasher g.F.Family g.U.Update) c.args.self.now c.loop-key.self c.read_one.new.self c.loop-key.invariant.left c.read_one.ensures.left
+returns-in_err-value-clause-left g c = left-then g.C.Store (hashing_of g.H.Digest.Digest.bytes g.H.Hasher g.F.Family g.U.Update) c.args.self.now c.loop-key.self c.read_one.new.self c.loop-key.invariant.left c.read_one.ensures.left
 
 pub returns-in_err-push-clause-left : goal.returns-in_err-push-clause-left
-returns-in_err-push-clause-left g c = left-then g.C.Store (hashing_of g.H.Digest.Digest g.H.Hasher g.F.Family g.U.Update) c.args.self.now c.loop-key.self c.read_one.new.self c.loop-key.invariant.left c.read_one.ensures.left
+returns-in_err-push-clause-left g c = left-then g.C.Store (hashing_of g.H.Digest.Digest.bytes g.H.Hasher g.F.Family g.U.Update) c.args.self.now c.loop-key.self c.read_one.new.self c.loop-key.invariant.left c.read_one.ensures.left
 
 pub loop-key-preserved : goal.loop-key-preserved
 loop-key-preserved g c =
     let key = g.U.Key.ByteString.bytes in
     let value = g.U.Value.ByteString.bytes in
     record {
-      left = left-then g.C.Store (hashing_of g.H.Digest.Digest g.H.Hasher g.F.Family g.U.Update) c.args.self.now c.loop-key.self c.read_one.new.self c.loop-key.invariant.left c.read_one.ensures.left;
+      left = left-then g.C.Store (hashing_of g.H.Digest.Digest.bytes g.H.Hasher g.F.Family g.U.Update) c.args.self.now c.loop-key.self c.read_one.new.self c.loop-key.invariant.left c.read_one.ensures.left;
       values = λ list base stands from.
-          let mid = left-database g.C.Store (layout_of g.H.Digest.Digest g.H.Hasher g.F.Family g.U.Update g.I.Unordered) c.args.self.now c.loop-key.self list c.loop-key.invariant.left stands in
+          let mid = left-database g.C.Store (layout_of g.H.Digest.Digest.bytes g.H.Hasher g.F.Family g.U.Update g.I.Unordered) c.args.self.now c.loop-key.self list c.loop-key.invariant.left stands in
           mapped-more (λ k. read_through base c.args.writes.now (key k)) (option_map value) c.args.keys.now c.loop-key.key-index c.key-item.result
           c.loop-key.values.items c.push.new.self.items c.in_ok-value.value c.loop-key-test.true c.key-item.is c.in_ok-push.ensures.items
           (c.in_ok-value.ensures.value list base mid from) (c.loop-key.invariant.values list base stands from);
@@ -52,5 +52,5 @@ pub returns-in_err-value-clause-whole : goal.returns-in_err-value-clause-whole
 returns-in_err-value-clause-whole g c = λ list is none.
     let exit = err_from_is_err_and c.from_residual.result c.from_residual.ensures.1 in
     let left = c.loop-key.invariant.left in
-    let mid = left-database g.C.Store (layout_of g.H.Digest.Digest g.H.Hasher g.F.Family g.U.Update g.I.Unordered) c.args.self.now c.loop-key.self list left is in
+    let mid = left-database g.C.Store (layout_of g.H.Digest.Digest.bytes g.H.Hasher g.F.Family g.U.Update g.I.Unordered) c.args.self.now c.loop-key.self list left is in
     rw (exit.1, exit.2) (c.in_err-value.ensures.whole list mid (subst (λ t. NoneBelow t.start list) (sym (left.read).tree) none))

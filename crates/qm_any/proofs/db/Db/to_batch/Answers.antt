@@ -13,4 +13,4 @@ returns-clause-value g c = grind (arith, common_steps)
 pub returns-clause-made : goal.returns-clause-made
 returns-clause-made g c = λ list stands.
     ok-then c.at_rest.result (returns-clause-value g c) (λ b is.
-    subst (λ x. IsMade (hashing_of g.H.Digest.Digest g.H.Hasher g.F.Family g.U.Update) x (begun_on list) list) (sym is) (rest-made c.args.self.now list stands))
+    subst (λ x. IsMade (hashing_of g.H.Digest.Digest.bytes g.H.Hasher g.F.Family g.U.Update) x (begun_on list) list) (sym is) (rest-made c.args.self.now list stands))

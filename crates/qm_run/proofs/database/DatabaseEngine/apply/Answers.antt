@@ -1,4 +1,4 @@
-use Rattle.std.proofs.Common.{◌∙◌, ap, sym, subst, length, drop, map, [], if◌then◌else◌}
+use Rattle.std.proofs.Common.{◌≤◌, ◌∙◌, ap, sym, subst, length, drop, map, [], if◌then◌else◌}
 use Rattle.sha2.specs.Sha256.{sha256}
 use Rattle.qm_model.proofs.Results.{err-then, ok-then}
 use Rattle.qm_model.specs.Mmr.{mmr}
@@ -7,10 +7,12 @@ use Rattle.qm_any.specs.Databases.{IsDatabase, IsMade}
 use Rattle.qm_store.specs.Given.{Appended, AppendedPart, store_given}
 use Rattle.qm_chain.specs.Bounds.{is_at}
 use Rattle.qm_run.specs.Databases.{hashing, layout}
+use Rattle.qm_model.specs.Causes.{Rose}
+use Rattle.qm_store.specs.Refusals.{refusal_of}
 use Rattle.qm_run.specs.Held.{held}
 use Rattle.qm_model.specs.Batches.{commitment, fits}
 use Rattle.qm_model.specs.Roots.{sha256_root}
-use Rattle.qm_run.proofs.Engines.{at-made, off-chain, appends-same, held-store, held-database}
+use Rattle.qm_run.proofs.Engines.{at-made, off-chain, appends-same, held-database, unapplied-untold}
 use Rattle.qm_run.proofs.database.DatabaseEngine.apply.Goals as goal
 
 pub returns-in-Ok-clause-fits : goal.returns-in-Ok-clause-fits
@@ -31,14 +33,16 @@ returns-in-Err-clause-stale g c = λ stale.
       λ list chain tip is batch. off-chain list chain (sym (at-made list chain tip c.args.self.db.commitment c.deref.result.now is.commitment (subst (λ b. IsMade hashing b chain tip) (sym c.deref.ensures) batch)) ∙ told.1),
     )
 
+pub returns-in-Err-clause-refused : goal.returns-in-Err-clause-refused
+returns-in-Err-clause-refused g c = λ fresh.
+    ap refusal_of c.refusal.ensures.error ∙ unapplied-untold c.in-Err.refused.error c.in-Err.ensures.causes (λ stale. fresh (c.refusal.ensures.error ∙ stale))
+
 pub returns-in-Err-clause-kept : goal.returns-in-Err-clause-kept
 returns-in-Err-clause-kept g c = λ list chain tip is batch.
     let made = (subst (λ b. IsMade hashing b chain tip) (sym c.deref.ensures) batch) in
-    let given = c.in-Err.refused.given in
-    let same = ap (store_given (λ x. x.db.log.store)) c.refusal.ensures.given ∙ held-store given in
     let more = if fits (sha256_root mmr) (commitment (sha256_root mmr) list) chain then map (spelling variable) (drop (length list) tip) else [] in
-    subst (λ s. AppendedPart g.C.Store c.args.self.db.log.store s more) (sym same)
-    (subst (AppendedPart g.C.Store c.args.self.db.log.store (store_given (λ db. db.log.store) given))
+    subst (λ s. AppendedPart g.C.Store c.args.self.db.log.store s more) (sym c.refusal.ensures.store)
+    (subst (AppendedPart g.C.Store c.args.self.db.log.store (store_given (λ db. db.log.store) c.in-Err.refused.given))
     (appends-same list chain tip c.args.self.db.commitment c.deref.result.now is.commitment made) (c.in-Err.ensures.part chain tip made))
 
 pub returns-in-Err-clause-back : goal.returns-in-Err-clause-back
@@ -47,7 +51,14 @@ returns-in-Err-clause-back g c = λ x is.
     ap (λ d. record { db = d }) (c.in-Err.ensures.back x.db at).0
 
 pub returns-in-Err-clause-start : goal.returns-in-Err-clause-start
-returns-in-Err-clause-start g c = ap g.C.Store.start (ap (store_given (λ x. x.db.log.store)) c.refusal.ensures.given ∙ held-store c.in-Err.refused.given) ∙ c.in-Err.ensures.start
+returns-in-Err-clause-start g c = ap g.C.Store.start c.refusal.ensures.store ∙ c.in-Err.ensures.start
 
 pub returns-in-Err-clause-head : goal.returns-in-Err-clause-head
-returns-in-Err-clause-head g c = ap g.C.Store.head (ap (store_given (λ x. x.db.log.store)) c.refusal.ensures.given ∙ held-store c.in-Err.refused.given) ∙ c.in-Err.ensures.head
+returns-in-Err-clause-head g c = ap g.C.Store.head c.refusal.ensures.store ∙ c.in-Err.ensures.head
+
+pub returns-in-Err-clause-cause : goal.returns-in-Err-clause-cause
+returns-in-Err-clause-cause g c = λ fault.
+    subst (λ s. Rose (g.C.Store.faults c.args.self.db.log.store) (g.C.Store.faults s)) (sym c.refusal.ensures.store) (c.in-Err.ensures.cause.failed (sym c.refusal.ensures.error ∙ fault))
+
+pub returns-in-Err-clause-later : goal.returns-in-Err-clause-later
+returns-in-Err-clause-later g c = subst (λ s. g.C.Store.faults c.args.self.db.log.store ≤ g.C.Store.faults s) (sym c.refusal.ensures.store) c.in-Err.ensures.cause.later

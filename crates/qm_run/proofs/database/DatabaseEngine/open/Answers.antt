@@ -1,7 +1,36 @@
-use Rattle.std.proofs.Common.{◌∙◌, ap, sym, subst}
-use Rattle.qm_store.specs.Given.{store_given}
-use Rattle.qm_run.proofs.Engines.{bare-offered, head-due, head-unopened, held-store, held-database}
+use Rattle.std.proofs.Common.{◌≤◌, ◌∙◌, IfSome, map, sym, subst}
+use Rattle.std.specs.Prelude.{IsSome}
+use Rattle.qm_model.specs.Causes.{Rose}
+use Rattle.qm_model.specs.Operations.{fresh}
+use Rattle.qm_model.specs.Forms.{spelling, variable}
+use Rattle.qm_machine.specs.Machine.{head_refusal}
+use Rattle.qm_store.specs.Given.{AppendedPart, IsUnchanged}
+use Rattle.qm_store.specs.Refusals.{IsDue}
+use Rattle.qm_run.proofs.Engines.{bare-offered, head-due, head-unopened, held-database}
 use Rattle.qm_run.proofs.database.DatabaseEngine.open.Goals as goal
 
 pub returns-in-Ok-clause-offered : goal.returns-in-Ok-clause-offered
 returns-in-Ok-clause-offered g c = bare-offered (g.C.Store.head c.args.store) c.in-Ok.ensures.bare
+
+pub returns-in-Err-clause-kept : goal.returns-in-Err-clause-kept
+returns-in-Err-clause-kept g c = subst (λ s. AppendedPart g.C.Store c.args.store s (map (spelling variable) fresh)) (sym c.refusal.ensures.store) c.in-Err.ensures.part
+
+pub returns-in-Err-clause-cause : goal.returns-in-Err-clause-cause
+returns-in-Err-clause-cause g c = λ fault.
+    subst (λ s. Rose (g.C.Store.faults c.args.store) (g.C.Store.faults s)) (sym c.refusal.ensures.store) (c.in-Err.ensures.cause.failed (sym c.refusal.ensures.error ∙ fault))
+
+pub returns-in-Err-clause-later : goal.returns-in-Err-clause-later
+returns-in-Err-clause-later g c = subst (λ s. g.C.Store.faults c.args.store ≤ g.C.Store.faults s) (sym c.refusal.ensures.store) c.in-Err.ensures.cause.later
+
+pub returns-in-Err-clause-refused : goal.returns-in-Err-clause-refused
+returns-in-Err-clause-refused g c =
+    let head = g.C.Store.head c.args.store in
+    subst (λ e. IfSome head (λ h. IsDue e (head_refusal h))) (sym c.refusal.ensures.error) (head-due head c.in-Err.refused.error c.in-Err.ensures.causes c.in-Err.ensures.head)
+
+pub returns-in-Err-clause-unopened : goal.returns-in-Err-clause-unopened
+returns-in-Err-clause-unopened g c =
+    let head = g.C.Store.head c.args.store in
+    subst (λ s. IfSome head (λ h. IsSome (head_refusal h) → IsUnchanged g.C.Store c.args.store s)) (sym c.refusal.ensures.store) (head-unopened _ head c.in-Err.ensures.unopened)
+
+pub returns-in-Err-clause-back : goal.returns-in-Err-clause-back
+returns-in-Err-clause-back g c = λ x is. c.in-Err.ensures.back x.db (held-database c.in-Err.refused.given x (sym c.refusal.ensures.given ∙ is))
