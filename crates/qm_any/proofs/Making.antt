@@ -26,6 +26,7 @@ use Rattle.qm_batch.specs.Views.{Plan, IsPlan}
 use Rattle.qm_any.specs.Databases.{Made, AreAgreed, AreLinked, IsMade, IsTree, bases, bases_of, child_boundary, child_made, child_tips, kept_by, stepped}
 use Rattle.qm_any.proofs.Agreed.{child-starts, child-bases-above, joined-first}
 use Rattle.qm_any.specs.Layouts.{Hashing, list_root, spellings}
+use Rattle.qm_any.specs.Reasons.{IsSizeError}
 use Rattle.qm_any.specs.Tips.{own_spellings, IsLow, IsTooLong}
 use Rattle.qm_any.proofs.Known.{contains-mapped, child-linked, child-bases, child-boundary, child-tips}
 
@@ -348,6 +349,16 @@ too_long-fresh spelt size e (inr many) stale = absurd (cc (many.2, stale))
 pub too_long-cause : (spelt : List Bytes) (size : ℕ) (e : Error) {P : Type 0} → IsTooLong spelt size e → e ≡ errors.Journal journal.Store → P
 too_long-cause spelt size e (inl long) fault = absurd (cc (long.2, fault))
 too_long-cause spelt size e (inr many) fault = absurd (cc (many.2, fault))
+
+-- nor of an item that is pruned
+pub too_long-kept : (spelt : List Bytes) (size : ℕ) (e : Error) → IsTooLong spelt size e → (n : ℕ) → e ≢ errors.Journal (journal.ItemPruned n)
+too_long-kept spelt size e (inl long) n pruned = absurd (cc (long.2, pruned))
+too_long-kept spelt size e (inr many) n pruned = absurd (cc (many.2, pruned))
+
+-- it is one of a size
+pub too_long-size : (spelt : List Bytes) (size : ℕ) (e : Error) → IsTooLong spelt size e → IsSizeError e
+too_long-size spelt size e (inl long) = inl (long.0, long.2)
+too_long-size spelt size e (inr many) = inr (size, many.2)
 
 -- an error that tells what is too long of the operations of a plan tells it of the own operations of its list
 pub plan-refused : (form : Form) (plan : Plan) (base tip : List Operation) (items : List Bytes) (size : ℕ) (e : Error) → IsPlan plan base tip → items ≡ map (spelling form) plan.operations → size ≡ length base + length plan.operations

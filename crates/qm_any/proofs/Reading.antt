@@ -1,15 +1,17 @@
 -- What reads leave of a database, and what they find.
-use Rattle.std.proofs.Common.{◌≡◌, ◌∙◌, ap, sym, subst, refl, ℕ, List, [], Option, None, Some}
+use Rattle.std.proofs.Common.{◌≡◌, ◌≤◌, ◌∙◌, arith, ap, sym, subst, refl, ℕ, List, [], Option, None, Some}
 use Rattle.std.specs.Prelude.{IsSome, option_map, option_and_then}
+use Rattle.std.proofs.lemmas.List.Elements.{All-weaker}
 use Rattle.qm_model.specs.Operations.{Bytes, Operation}
-use Rattle.qm_model.specs.Live.{Live, live, live_of, value_of}
+use Rattle.qm_model.specs.Live.{Live, floor, live, live_of, value_of}
+use Rattle.qm_model.specs.Step.{IsGood}
 use Rattle.qm_model.proofs.Chains.{Contains-first}
 use Rattle.qm_base.specs.Parts as parts
 use Rattle.qm_base.specs.declared.error.Error.{Error}
 use Rattle.qm_store.specs.declared.Store as store
 use Rattle.qm_batch.specs.Changes.{update_of, located}
 use Rattle.qm_batch.specs.Layers.{Layer, LeadOver}
-use Rattle.qm_batch.specs.Lent.{IsReadError}
+use Rattle.qm_batch.specs.Lent.{IsReadError, NoneBelow}
 use Rattle.qm_batch.proofs.Reading.{read-none, read-then, error-then, lent-then}
 use Rattle.qm_any.specs.Layouts.{Hashing, Layout}
 use Rattle.qm_any.specs.Databases.{Database, IsDatabase, IsLeft}
@@ -55,3 +57,7 @@ value-found list key = by (live_of (live list) key)
     by : (o : Option Live) → option_and_then (λ (p : ℕ × Operation). parts.value_of p.1) (option_map located o) ≡ option_map (λ (e : Live). e.value) o
     by None = refl
     by (Some e) = refl
+
+-- no live update of a good list stands below its floor
+pub good-none : (start : ℕ) (list : List Operation) → IsGood list → start ≤ floor list → NoneBelow start list
+good-none start list good from = All-weaker (λ (e : Live). floor list ≤ e.location) (λ e. start ≤ e.location) (λ e high. omega (arith, from, high)) (live list) good.above_floor

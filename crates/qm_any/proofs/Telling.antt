@@ -1,6 +1,7 @@
 -- What a fresh list stands for, proofs in the first operations of a list, and the floor of these.
-use Rattle.std.proofs.Common.{◌≡◌, ℕ, zero, suc, ◌+◌, ◌*◌, ◌^◌, ◌/◌, ◌-◌, ◌≤◌, ◌<◌, List, [], ◌∷◌, ◌++◌, length, take, drop, map, get_or, refl, sym, ◌∙◌, ap, ap₂, subst, arith, Option, None, Some, IfSome, All, Contains}
-use Rattle.std.specs.Prelude.{count_by, nat_le, nat_lt, IsSome, slice_get, option_and_then, if◌then◌else◌, Result, Ok, Err, IfOk, IfErr}
+use Rattle.std.proofs.Common.{◌≡◌, ℕ, zero, suc, ◌+◌, ◌*◌, ◌^◌, ◌/◌, ◌-◌, ◌≤◌, ◌<◌, List, [], ◌∷◌, ◌++◌, length, take, drop, map, get_or, refl, sym, ◌∙◌, ap, ap₂, subst, arith, Option, None, Some, IfSome, All, Contains, Bool, ◌⊎◌, inl, inr}
+use Rattle.std.specs.Option.{option_or}
+use Rattle.std.specs.Prelude.{◌≢◌, count_by, nat_le, nat_lt, IsSome, slice_get, option_and_then, if◌then◌else◌, Result, Ok, Err, IfOk, IfErr}
 use Rattle.std.proofs.lemmas.Bool.{lt-ltb, le-ltb}
 use Rattle.std.proofs.lemmas.List.{nil_from_length, length-take-le, length-map, take-map, drop-map, take_all, take_more, map-append, get_or-map}
 use Rattle.std.proofs.lemmas.List.Elements.{All-cons, All-nil, All-take, All-drop}
@@ -8,18 +9,20 @@ use Rattle.std.proofs.lemmas.List.Sorted.{IsPermutation-refl}
 use Rattle.qm_model.specs.Batches.{Commitment}
 use Rattle.qm_model.specs.Causes.{Grows}
 use Rattle.qm_model.specs.Refused as refusals
-use Rattle.qm_model.specs.Refused.{HistoricalFloorPruned, DataCorrupted, Merkle, FloorExceedsCommit, RangeOutOfBounds}
+use Rattle.qm_model.specs.Refused.{HistoricalFloorPruned, DataCorrupted, Merkle, Journal, FloorExceedsCommit, RangeOutOfBounds, ItemPruned}
 use Rattle.qm_model.specs.Live.{floor, floor_after}
 use Rattle.qm_model.specs.Forms.{Form, IsOf, IsSpelling, spelling}
 use Rattle.qm_model.specs.Operations.{Bytes, Operation, update, delete, commit, fresh}
 use Rattle.qm_model.specs.Proofs.{Proof, proof_of, ops_proof}
-use Rattle.qm_model.specs.Refusals.{commit_floor, floor_before, end_refusal, proof_refusal, proof_count}
+use Rattle.qm_model.specs.Refusals.{commit_floor, floor_before, item_refusal, last_refusal, end_refusal, proof_refusal, proof_count}
 use Rattle.qm_model.specs.Trees.{Shape, Node, leaf, end_of, peaks, row_from, digest_of, leaf_digest, root_of, root, ops_root, inactive_peaks}
 use Rattle.qm_model.proofs.Forms.{IsSpelling-once}
 use Rattle.qm_model.specs.Families.{Births, IsFamily, HasPeaks, over}
 use Rattle.qm_base.specs.Parts.{floor_of}
+use Rattle.qm_base.specs.declared.error.Corrupt.TheVariants as corrupt
 use Rattle.qm_base.specs.declared.error.Error.{Error}
 use Rattle.qm_base.specs.declared.error.Error.TheVariants as errors
+use Rattle.qm_base.specs.declared.error.JournalError.TheVariants as journal
 use Rattle.qm_merkle.specs.Mems.{IsWhole}
 use Rattle.qm_merkle.proofs.Numbering.{birth-born}
 use Rattle.qm_merkle.proofs.Standing.{peaks-none, stands-new}
@@ -29,7 +32,8 @@ use Rattle.qm_store.proofs.Leaves.{leaves-spelled}
 use Rattle.qm_batch.proofs.Spellings.{spelled-there}
 use Rattle.qm_any.specs.Layouts.{Layout, list_root}
 use Rattle.qm_any.specs.Databases.{Database, IsDatabase}
-use Rattle.qm_store.specs.Refusals.{IsDue}
+use Rattle.qm_any.specs.Reasons.{proof_reasons}
+use Rattle.qm_store.specs.Refusals.{IsAmong, IsDue, refusal_of}
 
 -- a node of two leaves or more ends past the first leaf
 wide : (i h : ℕ) → 2 ≤ suc i * 2 ^ suc h
@@ -84,6 +88,20 @@ log-none members shape births family peaked bytes hash log whole start leaves fi
     nothing : (o : Option (List Bytes)) → IfSome o (λ xs. take 0 xs ≡ [])
     nothing None = tt
     nothing (Some xs) = refl
+
+-- the head of a store that starts at 0 has no byte, where it is as long as it should be
+module _ (shape : Shape) (births : Births) (family : IsFamily shape births) (peaked : HasPeaks shape) (start size : ℕ) (first : start ≡ 0) where
+  none-long : length (peaks shape start) * size ≡ 0
+  none-long = ap (λ n. length (peaks shape n) * size) first ∙ ap (λ ps. length ps * size) (peaks-none shape births family peaked) ∙ omega arith
+
+  pub head-bare : (h : Option Bytes) → IfSome h (λ h. length h ≡ length (peaks shape start) * size) → IfSome h (λ h. h ≡ [])
+  head-bare None long = tt
+  head-bare (Some h) long = nil_from_length h (long ∙ none-long)
+
+  pub head-some : (h : Option Bytes) → IfSome h (λ h. length h ≢ length (peaks shape start) * size) → IfSome h (λ h. 0 < length h)
+  head-some None short = tt
+  head-some (Some []) short = absurd (short (sym none-long))
+  head-some (Some (b ∷ h)) short = omega arith
 
 -- the root over a list's spellings is its operations root
 pub root-spelled : (hash : Bytes → Bytes) (shape : Shape) (form : Form) (list : List Bytes) (ops : List Operation) (inactive : ℕ) → list ≡ map (spelling form) ops → inactive ≡ inactive_peaks shape (length ops) (floor ops)
@@ -141,11 +159,6 @@ floor-read form list size i bs f after all is told =
     let there = spelled-there form list i bs all is in
     told there.0 there.2 ∙ ap (option_and_then commit_floor) (sym there.1) ∙ ap (floor_before list) (sym after)
 
--- a floor that is told is the one that stands there
-pub floor-found : (f g : Option ℕ) → f ≡ g → IfSome f (λ floor. g ≡ Some floor)
-floor-found None g is = tt
-floor-found (Some floor) g is = sym is
-
 -- the item at a location spells the operation there
 pub item-spells : {V : Type 0} (form : Form) (bytes : V → Bytes) (items : List V) (list : List Operation) (i : ℕ) (item : V) (d : Operation) → i < length items → item ≡ get_or items i item → map bytes items ≡ map (spelling form) list
     → All (IsOf form) list → IsSpelling form (bytes item) (get_or list i d)
@@ -179,27 +192,81 @@ proof-spelled hash shape form list size inactive a b within is =
     (ap (digests_from hash shape 0) (take-map (spelling form) size list) ∙ sym (leaves-spelled hash shape form 0 (take size list)))
     (is ∙ ap (λ n. inactive_peaks shape n (floor (take size list))) (sym (length-take-le size list within)))
 
--- why there is no proof, case by case
-module _ (list : List Operation) (size start : ℕ) where
-  ended : (o : Option ℕ) → size ≤ length list → o ≡ floor_before list size → proof_refusal list size start ≡ end_refusal size start o
-  ended o within is = ap (λ b. if b then Some (Merkle (RangeOutOfBounds size)) else end_refusal size start (floor_before list size)) (le-ltb (length list) size within) ∙ ap (end_refusal size start) (sym is)
+-- the last of the first items is kept, or refused
+pub last-there : (kept size i : ℕ) → size ≡ suc i → kept ≤ i → last_refusal kept size ≡ None
+last-there kept size i after there = ap (last_refusal kept) after ∙ ap (λ b. if b then Some (Journal (ItemPruned i)) else None) (le-ltb i kept there)
 
-  module _ (f : ℕ) (within : size ≤ length list) (some : 0 < size) (is : Some f ≡ floor_before list size) where
-    pub refused-floor : size ≤ f → proof_refusal list size start ≡ Some (DataCorrupted FloorExceedsCommit)
+last-gone : (kept size i : ℕ) → size ≡ suc i → i < kept → last_refusal kept size ≡ Some (Journal (ItemPruned i))
+last-gone kept size i after gone = ap (last_refusal kept) after ∙ ap (λ b. if b then Some (Journal (ItemPruned i)) else None) (lt-ltb i kept gone)
+
+-- want of memory, and a failing store, are no refusals
+pub no-refusal : (P : refusals.Refused → Type 0) (e : Error) → (e ≡ errors.Memory) ⊎ (e ≡ errors.Journal journal.Store) → IfSome (refusal_of e) P
+no-refusal P e (inl memory) = subst (λ e. IfSome (refusal_of e) P) (sym memory) tt
+no-refusal P e (inr failed) = subst (λ e. IfSome (refusal_of e) P) (sym failed) tt
+
+-- what does not decode is one of the reasons why there is no proof
+pub decoded-among : (size start : ℕ) (e : Error) → (e ≡ errors.Memory) ⊎ (e ≡ errors.DataCorrupted corrupt.ItemDoesNotDecode) → IsAmong e (proof_reasons size start)
+decoded-among size start e (inl memory) = subst (λ e. IsAmong e (proof_reasons size start)) (sym memory) tt
+decoded-among size start e (inr wrong) = subst (λ e. IsAmong e (proof_reasons size start)) (sym wrong) (6, omega arith, refl)
+
+-- why a log's read of an item failed
+abbrev pub IsFailed : ℕ → Error → Type 0
+IsFailed at e = (e ≡ errors.Memory) ⊎ ((e ≡ errors.Journal journal.Store) ⊎ (e ≡ errors.Journal (journal.ItemPruned at)))
+
+-- the read of the last one is refused where it is gone
+pub last-due : (kept size i : ℕ) (e : Error) → size ≡ suc i → IsFailed i e → (e ≡ errors.Journal (journal.ItemPruned i) → i < kept) → IsDue e (last_refusal kept size)
+last-due kept size i e after (inl memory) gone = subst (λ e. IsDue e (last_refusal kept size)) (sym memory) tt
+last-due kept size i e after (inr (inl failed)) gone = subst (λ e. IsDue e (last_refusal kept size)) (sym failed) tt
+last-due kept size i e after (inr (inr pruned)) gone = subst (λ e. IsDue e (last_refusal kept size)) (sym pruned) (last-gone kept size i after (gone pruned))
+
+-- that is one of the reasons why there is no proof
+pub last-among : (size start : ℕ) (e : Error) → IsFailed (size - 1) e → IsAmong e (proof_reasons size start)
+last-among size start e (inl memory) = subst (λ e. IsAmong e (proof_reasons size start)) (sym memory) tt
+last-among size start e (inr (inl failed)) = subst (λ e. IsAmong e (proof_reasons size start)) (sym failed) tt
+last-among size start e (inr (inr pruned)) = subst (λ e. IsAmong e (proof_reasons size start)) (sym pruned) (1, omega arith, refl)
+
+-- why there is no proof, case by case
+module _ (kept : ℕ) (list : List Operation) (size start : ℕ) where
+  past_end : size ≤ length list → proof_refusal kept list size start ≡ option_or (last_refusal kept size) (end_refusal kept size start (floor_before list size))
+  past_end within = ap (λ b. if b then Some (Merkle (RangeOutOfBounds size)) else option_or (last_refusal kept size) (end_refusal kept size start (floor_before list size))) (le-ltb (length list) size within)
+
+  -- the last item is
+  pub refused-last : (e : Error) → size ≤ length list → IsDue e (last_refusal kept size) → IsDue e (proof_refusal kept list size start)
+  refused-last e within due = by (refusal_of e) due
+    where
+      by : (o : Option refusals.Refused) → IfSome o (λ r. last_refusal kept size ≡ Some r) → IfSome o (λ r. proof_refusal kept list size start ≡ Some r)
+      by None due = tt
+      by (Some r) due = past_end within ∙ ap (λ o. option_or o (end_refusal kept size start (floor_before list size))) due
+
+  ended : (o : Option ℕ) → size ≤ length list → last_refusal kept size ≡ None → o ≡ floor_before list size → proof_refusal kept list size start ≡ end_refusal kept size start o
+  ended o within there is = past_end within ∙ ap (λ l. option_or l (end_refusal kept size start (floor_before list size))) there ∙ ap (end_refusal kept size start) (sym is)
+
+  -- no commit stands there
+  pub refused-none : size ≤ length list → last_refusal kept size ≡ None → None ≡ floor_before list size → proof_refusal kept list size start ≡ Some (HistoricalFloorPruned size)
+  refused-none within there is = ended None within there is
+
+  module _ (f : ℕ) (within : size ≤ length list) (there : last_refusal kept size ≡ None) (some : 0 < size) (is : Some f ≡ floor_before list size) where
+    abbrev started : Bool → Option refusals.Refused
+    started b = if b then item_refusal kept start else Some (Merkle (RangeOutOfBounds start))
+
+    pub refused-floor : size ≤ f → proof_refusal kept list size start ≡ Some (DataCorrupted FloorExceedsCommit)
     refused-floor over =
         let low : size - 1 < f = omega (arith, over, some) in
-        ended (Some f) within is ∙ ap (λ b. if b then Some (DataCorrupted FloorExceedsCommit) else (if nat_lt start size then None else Some (Merkle (RangeOutOfBounds start)))) (lt-ltb (size - 1) f low)
+        ended (Some f) within there is ∙ ap (λ b. if b then Some (DataCorrupted FloorExceedsCommit) else started (nat_lt start size)) (lt-ltb (size - 1) f low)
 
-    in_floor : f < size → proof_refusal list size start ≡ (if nat_lt start size then None else Some (Merkle (RangeOutOfBounds start)))
+    in_floor : f < size → proof_refusal kept list size start ≡ started (nat_lt start size)
     in_floor low =
         let high : f ≤ size - 1 = omega (arith, low) in
-        ended (Some f) within is ∙ ap (λ b. if b then Some (DataCorrupted FloorExceedsCommit) else (if nat_lt start size then None else Some (Merkle (RangeOutOfBounds start)))) (le-ltb (size - 1) f high)
+        ended (Some f) within there is ∙ ap (λ b. if b then Some (DataCorrupted FloorExceedsCommit) else started (nat_lt start size)) (le-ltb (size - 1) f high)
 
-    pub refused-start : f < size → size ≤ start → proof_refusal list size start ≡ Some (Merkle (RangeOutOfBounds start))
-    refused-start low over = in_floor low ∙ ap (λ b. if b then None else Some (Merkle (RangeOutOfBounds start))) (le-ltb start size over)
+    pub refused-start : f < size → size ≤ start → proof_refusal kept list size start ≡ Some (Merkle (RangeOutOfBounds start))
+    refused-start low over = in_floor low ∙ ap started (le-ltb start size over)
 
-    pub offered-there : f < size → start < size → proof_refusal list size start ≡ None
-    offered-there low before = in_floor low ∙ ap (λ b. if b then None else Some (Merkle (RangeOutOfBounds start))) (lt-ltb start size before)
+    pub refused-kept : f < size → start < size → start < kept → proof_refusal kept list size start ≡ Some (Journal (ItemPruned start))
+    refused-kept low before gone = in_floor low ∙ ap started (lt-ltb start size before) ∙ ap (λ b. if b then Some (Journal (ItemPruned start)) else None) (lt-ltb start kept gone)
+
+    pub offered-there : f < size → start < size → kept ≤ start → proof_refusal kept list size start ≡ None
+    offered-there low before from = in_floor low ∙ ap started (lt-ltb start size before) ∙ ap (λ b. if b then Some (Journal (ItemPruned start)) else None) (le-ltb start kept from)
 
 -- the proof in all operations is the list's
 pub proof-whole : {X E : Type 0} (r : Result X E) (hash : Bytes → Bytes) (shape : Shape) (form : Form) (list : List Operation) (view : X → Proof) (n a m : ℕ) → n ≡ length list

@@ -1,4 +1,5 @@
 pub mod Layouts
 pub mod Databases
+pub mod Reasons
 pub mod Tips
 pub mod Views

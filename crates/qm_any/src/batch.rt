@@ -15,11 +15,12 @@ ghost use Rattle.qm_merkle.specs.Batches.{stops, stops_since};
 ghost use Rattle.qm_proofs.specs.Proofs.{proof_view, first_lacked, needed_positions};
 ghost use Rattle.qm_chain.specs.Bounds.{commitment_view, is_at, knows};
 ghost use Rattle.qm_batch.specs.Bases.{IsBase, base_view};
-ghost use Rattle.qm_batch.specs.Lent.{IsReadError};
+ghost use Rattle.qm_batch.specs.Lent.{IsReadError, NoneBelow};
 ghost use Rattle.qm_batch.specs.Views.{changes_view, IsPlan};
 ghost use Rattle.qm_any.specs.Databases.{IsDatabase, IsBegun, IsMade, IsLeft, base_of, bases, child_boundary, child_made, child_tips, is_on, kept_by, operations_in, stepped, unapplied};
 ghost use Rattle.qm_store.specs.Log.{IsLacked};
 ghost use Rattle.qm_store.specs.KeptTrees.{held_at};
+ghost use Rattle.qm_any.specs.Reasons.{IsMakingError};
 ghost use Rattle.qm_any.specs.Tips.{IsLow, IsTaken, IsRefused};
 ghost use Rattle.qm_base.specs.Views.{operation_views};
 ghost use Rattle.qm_any.specs.Layouts.{Hashing};
@@ -145,6 +146,7 @@ impl<F: Family, D: Digest, U: Update> UnmerkleizedBatch<F, D, U> {
         ensures readable { OnOk result (knows self.now.parent.bounds db.old.commitment ≡ true) }
         ensures error { IfErr result (λ e. ((e ≡ Error.StaleRead) × (knows self.now.parent.bounds db.old.commitment ≡ false))
             ⊎ ((e ≡ Error.Memory) ⊎ ((knows self.now.parent.bounds db.old.commitment ≡ true) × IsReadError C.Store db.old.log db.new.log e))) }
+        ensures whole { (list : List Operation) → IsDatabase C.Store ⟦<Db<F, C, I, H, U> as LaidOut>⟧.layout db.old list → NoneBelow db.old.log.tree.start list → IfErr result (λ e. (n : ℕ) → e ≢ Error.Journal (JournalError.ItemPruned n)) }
         ensures left { IsLeft C.Store ⟦<Db<F, C, I, H, U> as LaidOut>⟧.layout.hashing db.old db.new }
     {
         self.parent.bounds.compatible(db.commitment())?;
@@ -167,6 +169,7 @@ impl<F: Family, D: Digest, U: Update> UnmerkleizedBatch<F, D, U> {
         ensures readable { OnOk result (knows self.now.parent.bounds db.old.commitment ≡ true) }
         ensures error { IfErr result (λ e. ((e ≡ Error.StaleRead) × (knows self.now.parent.bounds db.old.commitment ≡ false))
             ⊎ ((e ≡ Error.Memory) ⊎ ((knows self.now.parent.bounds db.old.commitment ≡ true) × IsReadError C.Store db.old.log db.new.log e))) }
+        ensures whole { (list : List Operation) → IsDatabase C.Store ⟦<Db<F, C, I, H, U> as LaidOut>⟧.layout db.old list → NoneBelow db.old.log.tree.start list → IfErr result (λ e. (n : ℕ) → e ≢ Error.Journal (JournalError.ItemPruned n)) }
         ensures left { IsLeft C.Store ⟦<Db<F, C, I, H, U> as LaidOut>⟧.layout.hashing db.old db.new }
     {
         self.parent.bounds.compatible(db.commitment())?;
@@ -205,6 +208,9 @@ impl<F: Family, D: Digest, K: ByteString, V: ValueEncoding<K>> UnmerkleizedBatch
         ensures above { IfOk result (λ b. All (λ n. b.value.bounds.db.size ≤ n) (stops b.value.tree.leaves b.value.tree.layers)) }
         ensures stale { IfErr result (λ e. e ≡ Error.StaleBatch → is_on db.old.commitment self ≡ false) }
         ensures order { IfErr result (λ e. e ≢ Error.Memory → e ≢ Error.StaleBatch → is_on db.old.commitment self ≡ true) }
+        ensures causes { IfErr result (λ e. (e ≡ Error.StaleBatch) ⊎ IsMakingError C.Store db.old.log db.new.log e) }
+        ensures whole { (list : List Operation) → IsDatabase C.Store ⟦<Db<F, C, I, H, Unordered<K, V>> as LaidOut>⟧.layout db.old list → NoneBelow db.old.log.tree.start list → db.old.log.tree.start ≤ self.parent.bounds.inactivity_floor
+            → IfErr result (λ e. (n : ℕ) → e ≢ Error.Journal (JournalError.ItemPruned n)) }
         ensures cause { IfErr result (λ e. e ≡ Error.Journal JournalError.Store → Rose (C.faults db.old.log.store) (C.faults db.new.log.store)) }
         ensures left { IsLeft C.Store ⟦<Db<F, C, I, H, Unordered<K, V>> as LaidOut>⟧.layout.hashing db.old db.new }
     {
@@ -305,6 +311,7 @@ impl<F: Family, D: Digest, U: Update> MerkleizedBatch<F, D, U> {
         ensures readable { OnOk result (knows self.now.bounds db.old.commitment ≡ true) }
         ensures error { IfErr result (λ e. ((e ≡ Error.StaleRead) × (knows self.now.bounds db.old.commitment ≡ false))
             ⊎ ((e ≡ Error.Memory) ⊎ ((knows self.now.bounds db.old.commitment ≡ true) × IsReadError C.Store db.old.log db.new.log e))) }
+        ensures whole { (list : List Operation) → IsDatabase C.Store ⟦<Db<F, C, I, H, U> as LaidOut>⟧.layout db.old list → NoneBelow db.old.log.tree.start list → IfErr result (λ e. (n : ℕ) → e ≢ Error.Journal (JournalError.ItemPruned n)) }
         ensures left { IsLeft C.Store ⟦<Db<F, C, I, H, U> as LaidOut>⟧.layout.hashing db.old db.new }
     {
         self.bounds.compatible(db.commitment())?;
@@ -328,6 +335,7 @@ impl<F: Family, D: Digest, U: Update> MerkleizedBatch<F, D, U> {
         ensures readable { OnOk result (knows self.now.bounds db.old.commitment ≡ true) }
         ensures error { IfErr result (λ e. ((e ≡ Error.StaleRead) × (knows self.now.bounds db.old.commitment ≡ false))
             ⊎ ((e ≡ Error.Memory) ⊎ ((knows self.now.bounds db.old.commitment ≡ true) × IsReadError C.Store db.old.log db.new.log e))) }
+        ensures whole { (list : List Operation) → IsDatabase C.Store ⟦<Db<F, C, I, H, U> as LaidOut>⟧.layout db.old list → NoneBelow db.old.log.tree.start list → IfErr result (λ e. (n : ℕ) → e ≢ Error.Journal (JournalError.ItemPruned n)) }
         ensures left { IsLeft C.Store ⟦<Db<F, C, I, H, U> as LaidOut>⟧.layout.hashing db.old db.new }
     {
         self.bounds.compatible(db.commitment())?;
@@ -577,6 +585,9 @@ fn made_on<
     ensures refused { (list : List Operation) (chain above : Chain) → IsDatabase C.Store ⟦<Db<F, C, I, H, Unordered<K, V>> as LaidOut>⟧.layout db.old list → IsMade ⟦<Db<F, C, I, H, Unordered<K, V>> as LaidOut>⟧.layout.hashing parent.now above chain.base → chain.kept ≡ kept_by keep above chain.base → IsOnChain list chain
         → IfErr result (λ e. IsRefused ⟦<Unordered<K, V> as Update>⟧.form chain.base (stepped chain.base (write_views K.bytes V.Value.bytes writes.now) proportional (option_map V.Value.bytes metadata)) e ⊎ IsReadError C.Store db.old.log db.new.log e) }
     ensures above { IfOk result (λ b. All (λ n. b.value.bounds.db.size ≤ n) (stops b.value.tree.leaves b.value.tree.layers)) }
+    ensures causes { IfErr result (IsMakingError C.Store db.old.log db.new.log) }
+    ensures whole { (list : List Operation) → IsDatabase C.Store ⟦<Db<F, C, I, H, Unordered<K, V>> as LaidOut>⟧.layout db.old list → NoneBelow db.old.log.tree.start list → db.old.log.tree.start ≤ parent.now.bounds.inactivity_floor
+        → IfErr result (λ e. (n : ℕ) → e ≢ Error.Journal (JournalError.ItemPruned n)) }
     ensures never { IfErr result (λ e. e ≢ Error.StaleBatch) }
     ensures cause { IfErr result (λ e. e ≡ Error.Journal JournalError.Store → Rose (C.faults db.old.log.store) (C.faults db.new.log.store)) }
     ensures left { IsLeft C.Store ⟦<Db<F, C, I, H, Unordered<K, V>> as LaidOut>⟧.layout.hashing db.old db.new }
@@ -614,6 +625,9 @@ fn planned<
     ensures live { IfOk result (λ made. (made.0).live ≤ parent.now.bounds.tip.size + length made.1.items) }
     ensures refused { (list base : List Operation) → IsDatabase C.Store ⟦<Db<F, C, I, H, Unordered<K, V>> as LaidOut>⟧.layout db.old list → IsBase (base_of parent.now) list base
         → IfErr result (λ e. IsRefused ⟦<Unordered<K, V> as Update>⟧.form base (stepped base (write_views K.bytes V.Value.bytes writes.now) proportional (option_map V.Value.bytes metadata)) e ⊎ IsReadError C.Store db.old.log db.new.log e) }
+    ensures causes { IfErr result (IsMakingError C.Store db.old.log db.new.log) }
+    ensures whole { (list : List Operation) → IsDatabase C.Store ⟦<Db<F, C, I, H, Unordered<K, V>> as LaidOut>⟧.layout db.old list → NoneBelow db.old.log.tree.start list → db.old.log.tree.start ≤ parent.now.bounds.inactivity_floor
+        → IfErr result (λ e. (n : ℕ) → e ≢ Error.Journal (JournalError.ItemPruned n)) }
     ensures never { IfErr result (λ e. e ≢ Error.StaleBatch) }
     ensures cause { IfErr result (λ e. e ≡ Error.Journal JournalError.Store → Rose (C.faults db.old.log.store) (C.faults db.new.log.store)) }
     ensures left { IsLeft C.Store ⟦<Db<F, C, I, H, Unordered<K, V>> as LaidOut>⟧.layout.hashing db.old db.new }

@@ -22,7 +22,7 @@ ghost use Rattle.qm_batch.specs.Changes.{LeadTo};
 ghost use Rattle.qm_batch.specs.Lent.{IsIndexed, IsReadError, NoneBelow};
 ghost use Rattle.qm_batch.specs.Views.{changes_view, IsPlan};
 ghost use Rattle.qm_any.specs.Databases.{Database, IsBegun, IsDatabase, IsLeft, IsMade, IsTree, at_rest, stepped};
-ghost use Rattle.qm_store.specs.Given.{Appended, AppendedPart, store_given};
+ghost use Rattle.qm_store.specs.Given.{Appended, AppendedPart, store_given, store_after};
 ghost use Rattle.qm_store.specs.KeptTrees.{IsKeptTree, held_at};
 ghost use Rattle.qm_any.specs.Views.{write_views};
 
@@ -39,6 +39,7 @@ use qm_merkle::Family;
 use qm_proofs::Proof;
 use qm_store::{AuthLog, Given, KeptTree, LogGiven, LogRefusal, Refusal, Store};
 use std::alloc::{AllocError, Global};
+use std::fmt;
 use std::marker::Model;
 use std::rc::Rc;
 
@@ -169,6 +170,8 @@ impl<
             → IfOk result (λ next. IsDatabase C.Store ⟦<Self as LaidOut>⟧.layout next tip) }
         ensures fits { OnOk result (is_at self.commitment batch.now.bounds.db batch.now.bounds.ancestors ≡ true) }
         ensures grown { (chain : Chain) (tip : List Operation) → IsMade ⟦<Self as LaidOut>⟧.layout.hashing batch.now chain tip → IfOk result (λ next. Appended C.Store self.log.store next.log.store (map (spelling U.form) (drop self.commitment.size tip))) }
+        ensures start { C.start (store_after (λ db. db.log.store) result) ≡ C.start self.log.store }
+        ensures head { C.head (store_after (λ db. db.log.store) result) ≡ C.head self.log.store }
         ensures later { IfOk result (λ next. C.faults self.log.store ≤ C.faults next.log.store) }
         ensures stale { IfErr result (λ r. r.error ≡ Error.StaleBatch → (r.given ≡ Given.Database self) × (is_at self.commitment batch.now.bounds.db batch.now.bounds.ancestors ≡ false)) }
         ensures part { (chain : Chain) (tip : List Operation) → IsMade ⟦<Self as LaidOut>⟧.layout.hashing batch.now chain tip → IfErr result (λ r. AppendedPart C.Store self.log.store (store_given (λ db. db.log.store) r.given)
@@ -242,6 +245,7 @@ impl<
     ) -> Result<Vec<Option<U::Value>>, Error>
         ensures values { (list : List Operation) → IsDatabase C.Store ⟦<Self as LaidOut>⟧.layout self.old list → IfOk result (λ v. map (option_map U.Value.bytes) v.items ≡ map (λ k. lives.value_of list (U.Key.bytes k)) keys.now) }
         ensures error { IfErr result (IsReadError C.Store self.old.log self.new.log) }
+        ensures whole { (list : List Operation) → IsDatabase C.Store ⟦<Self as LaidOut>⟧.layout self.old list → NoneBelow self.old.log.tree.start list → IfErr result (λ e. (n : ℕ) → e ≢ Error.Journal (JournalError.ItemPruned n)) }
         ensures left { IsLeft C.Store ⟦<Self as LaidOut>⟧.layout.hashing self.old self.new }
     {
         let writes = Writes::new(alloc);
@@ -282,6 +286,7 @@ impl<
         ensures values { (list base : List Operation) → IsDatabase C.Store ⟦<Self as LaidOut>⟧.layout self.old list → LeadOver (map (λ l. l.value) steps.now) list base
             → IfOk result (λ v. map (option_map U.Value.bytes) v.items ≡ map (λ k. read_through base writes.now (U.Key.bytes k)) keys.now) }
         ensures error { IfErr result (IsReadError C.Store self.old.log self.new.log) }
+        ensures whole { (list : List Operation) → IsDatabase C.Store ⟦<Self as LaidOut>⟧.layout self.old list → NoneBelow self.old.log.tree.start list → IfErr result (λ e. (n : ℕ) → e ≢ Error.Journal (JournalError.ItemPruned n)) }
         ensures left { IsLeft C.Store ⟦<Self as LaidOut>⟧.layout.hashing self.old self.new }
     {
         let mut values = Vec::new(alloc);
@@ -468,9 +473,28 @@ impl<
             → IfOk result (λ plan. IsPlan plan known (stepped known (write_views K.bytes V.Value.bytes writes.now) proportional (option_map V.Value.bytes metadata))) }
         ensures live { IfOk result (λ plan. plan.live ≤ base.now.size + length plan.operations) }
         ensures error { IfErr result (IsReadError C.Store self.old.log self.new.log) }
+        ensures whole { (list : List Operation) → IsDatabase C.Store ⟦<Self as LaidOut>⟧.layout self.old list → NoneBelow self.old.log.tree.start list → self.old.log.tree.start ≤ base.now.floor
+            → IfErr result (λ e. (n : ℕ) → e ≢ Error.Journal (JournalError.ItemPruned n)) }
         ensures left { IsLeft C.Store ⟦<Self as LaidOut>⟧.layout.hashing self.old self.new }
     {
         plain(alloc, &self.index, &mut self.log, base, writes, metadata)
+    }
+}
+
+impl<
+    F: Family,
+    C: Store,
+    I: qm_index::Unordered<Value = Location<F>>,
+    H: Hasher + Drop,
+    U: Update,
+> fmt::Debug for Db<F, C, I, H, U> {
+    fn fmt<W: fmt::Write>(&self, f: &mut fmt::Formatter<W>) -> fmt::Result {
+        let (start, size) = self.log.bounds();
+        f.debug_struct("Db")
+            .field("start", &start)
+            .field("size", &size)
+            .field("floor", &self.floor.get())
+            .finish()
     }
 }
 

@@ -1,6 +1,6 @@
 //! How a database is opened, and the root of a fresh one.
 
-ghost use Rattle.std.specs.Prelude.{◌≡◌, ◌≢◌, ◌⊎◌, ◌≤◌, ◌∷◌, [], length, map, IfSome, IfOk, IfErr};
+ghost use Rattle.std.specs.Prelude.{◌≡◌, ◌≢◌, ◌⊎◌, ◌≤◌, ◌<◌, ◌∷◌, [], length, map, IfSome, IfOk, IfErr};
 ghost use Rattle.qm_model.specs.Causes.{IsCause};
 ghost use Rattle.qm_model.specs.Forms.{spelling};
 ghost use Rattle.qm_model.specs.Operations.{fresh};
@@ -8,7 +8,7 @@ ghost use Rattle.qm_model.specs.Trees as trees;
 ghost use Rattle.qm_store.specs.Log as logs;
 ghost use Rattle.qm_store.specs.Log.{IsLog};
 ghost use Rattle.qm_any.specs.Databases.{Database, IsDatabase};
-ghost use Rattle.qm_store.specs.Given.{Appended, AppendedPart, store_given};
+ghost use Rattle.qm_store.specs.Given.{Appended, AppendedPart, store_given, IsUnchanged};
 
 use crate::db::{Db, LaidOut};
 use crate::operations::spelled;
@@ -63,7 +63,8 @@ fn root_of_one<H: Hasher>(hasher: &mut H, leaf: &H::Digest) -> H::Digest
 }
 
 /// Opens a database over an empty store: a fresh list, one commit without metadata and with floor 0, which it appends.
-/// The translator makes the index keys. A refusal gives back the store.
+/// The translator makes the index keys. A refusal gives back the store. The head of an empty store is empty: one with a byte
+/// is refused, and the store comes back as it was.
 pub fn init<F: Family, C: Store, I: Factory<Value = Location<F>>, H: Hasher + Drop, U: Update>(
     alloc: Global,
     store: C,
@@ -72,9 +73,14 @@ pub fn init<F: Family, C: Store, I: Factory<Value = Location<F>>, H: Hasher + Dr
 ) -> Result<Db<F, C, I, H, U>, Refusal<Db<F, C, I, H, U>, C>>
     requires start { C.start store ≡ 0 }
     requires empty { C.end store ≡ 0 }
+    ensures keys { ⟦<Db<F, C, I, H, U> as LaidOut>⟧.layout.index_key ≡ I.Translator.index_key }
     ensures stands { IfSome (C.items store) (λ _. IfOk result (λ db. IsDatabase C.Store ⟦<Db<F, C, I, H, U> as LaidOut>⟧.layout db fresh)) }
     ensures grown { IfOk result (λ db. Appended C.Store store db.log.store (map (spelling U.form) fresh)) }
     ensures later { IfOk result (λ db. C.faults store ≤ C.faults db.log.store) }
+    ensures bare { IfOk result (λ _. IfSome (C.head store) (λ h. h ≡ [])) }
+    ensures head { IfErr result (λ r. r.error ≡ Error.DataCorrupted Corrupt.HeadDoesNotMatch → IfSome (C.head store) (λ h. 0 < length h)) }
+    ensures back_head { IfErr result (λ r. r.error ≡ Error.DataCorrupted Corrupt.HeadDoesNotMatch → (s : C) × (r.given ≡ Given.Store s) × logs.IsKept C.Store store s) }
+    ensures unopened { IfErr result (λ r. IfSome (C.head store) (λ h. 0 < length h → IsUnchanged C.Store store (store_given (λ db. db.log.store) r.given))) }
     ensures part { IfErr result (λ r. AppendedPart C.Store store (store_given (λ db. db.log.store) r.given) (map (spelling U.form) fresh)) }
     ensures back { IfErr result (λ r. (x : Database C H.Digest) → r.given ≢ Given.Database x) }
     ensures causes { IfErr result (λ r. (r.error ≡ Error.Memory) ⊎ ((r.error ≡ Error.Journal JournalError.Store) ⊎ (r.error ≡ Error.DataCorrupted Corrupt.HeadDoesNotMatch))) }
@@ -123,6 +129,8 @@ fn empty_log<F: Family, C: Store, H: Hasher + Drop, X: Drop>(
     ensures stands { IfOk result (λ log. IsLog C.Store F.shape H.Digest.bytes H.hash log []) }
     ensures kept { IfOk result (λ log. logs.IsKept C.Store store log.store) }
     ensures later { IfOk result (λ log. C.faults store ≤ C.faults log.store) }
+    ensures bare { IfOk result (λ _. IfSome (C.head store) (λ h. h ≡ [])) }
+    ensures head { IfErr result (λ r. r.error ≡ Error.DataCorrupted Corrupt.HeadDoesNotMatch → IfSome (C.head store) (λ h. 0 < length h)) }
     ensures back { IfErr result (λ r. (s : C) × (r.given ≡ Given.Store s) × logs.IsKept C.Store store s × IsCause (C.faults store) (C.faults s) (r.error ≡ Error.Journal JournalError.Store)) }
     ensures causes { IfErr result (λ r. (r.error ≡ Error.Memory) ⊎ ((r.error ≡ Error.Journal JournalError.Store) ⊎ (r.error ≡ Error.DataCorrupted Corrupt.HeadDoesNotMatch))) }
 {

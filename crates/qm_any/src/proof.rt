@@ -1,20 +1,22 @@
 //! Proofs of a database's operations.
 
-ghost use Rattle.std.specs.Prelude.{◌≡◌, ◌≢◌, ◌⊎◌, ◌≤◌, ◌<◌, ◌+◌, ◌-◌, List, None, Some, IfSome, All, length, map, take, drop, IfOk, IfErr, OnOk};
+ghost use Rattle.std.specs.Prelude.{◌≡◌, ◌≢◌, ◌⊎◌, ◌≤◌, ◌<◌, ◌+◌, ◌-◌, List, None, IfSome, All, length, map, take, drop, Err, IfOk, IfErr, OnOk};
 ghost use Rattle.std.specs.NonZero.{non_zero_u64_get};
 ghost use Rattle.qm_model.specs.Forms.{IsOf, IsSpelling, spelling};
 ghost use Rattle.qm_base.specs.Views.{operation_views};
 ghost use Rattle.qm_model.specs.Causes.{Rose};
-ghost use Rattle.qm_model.specs.Refused as refusals;
 ghost use Rattle.qm_model.specs.Live as lives;
 ghost use Rattle.qm_model.specs.Operations as operations;
 ghost use Rattle.qm_model.specs.Proofs.{ops_proof, pins_at};
-ghost use Rattle.qm_model.specs.Refusals.{commit_floor, floor_before, proof_refusal, proof_count, pins_refusal};
-ghost use Rattle.qm_proofs.specs.Proofs.{proof_view};
+ghost use Rattle.qm_model.specs.Refusals.{commit_floor, floor_before, last_refusal, proof_refusal, proof_count, pins_refusal};
+ghost use Rattle.qm_model.specs.Trees.{peak_positions};
+ghost use Rattle.qm_merkle.specs.Mems.{node_at};
+ghost use Rattle.qm_proofs.specs.Proofs.{proof_view, first_lacked};
 ghost use Rattle.qm_batch.specs.Lent.{IsRead};
-ghost use Rattle.qm_store.specs.Log.{IsLog};
+ghost use Rattle.qm_store.specs.Log.{IsLacked, IsLog};
 ghost use Rattle.qm_any.specs.Databases.{IsDatabase, IsLeft};
-ghost use Rattle.qm_store.specs.Refusals.{IsDue};
+ghost use Rattle.qm_store.specs.Refusals.{IsAmong, IsDue};
+ghost use Rattle.qm_any.specs.Reasons.{proof_reasons};
 
 use crate::db::{Db, LaidOut};
 use qm_base::update::Update;
@@ -33,8 +35,9 @@ impl<
     U: Update,
 > Db<F, C, I, H, U> {
     /// The operations from `start` on, at most `max`, and their proof in the list of the first `size` operations, which
-    /// has to end with a commit. It verifies against the root that the database had with these operations. Where the
-    /// commit is no longer in the store it is refused with the size, as where none stands there.
+    /// has to end with a commit. It verifies against the root that the database had with these operations. It is refused
+    /// for the first of these: so many operations are past the end; the store no longer has the last of them, or that is
+    /// no commit; its floor is past it; `start` is past it, or before what the store has.
     pub fn historical_proof(
         &mut self,
         alloc: Global,
@@ -42,15 +45,14 @@ impl<
         start: Location<F>,
         max: NonZeroU64,
     ) -> Result<(Proof<H::Digest>, Vec<Operation<F, U>>), Error>
-        ensures offered { (list : List operations.Operation) → IsDatabase C.Store ⟦<Self as LaidOut>⟧.layout self.old list → OnOk result (proof_refusal list size start ≡ None) }
+        ensures offered { (list : List operations.Operation) → IsDatabase C.Store ⟦<Self as LaidOut>⟧.layout self.old list → OnOk result (proof_refusal (C.start self.old.log.store) list size start ≡ None) }
         ensures kept { OnOk result (C.start self.old.log.store ≤ start) }
         ensures proof { (list : List operations.Operation) → IsDatabase C.Store ⟦<Self as LaidOut>⟧.layout self.old list
             → IfOk result (λ shown. proof_view H.Digest.bytes shown.0 ≡ ops_proof H.hash F.shape U.form (take size list) start (start + proof_count size start (non_zero_u64_get max))) }
         ensures operations { (list : List operations.Operation) → IsDatabase C.Store ⟦<Self as LaidOut>⟧.layout self.old list
             → IfOk result (λ shown. operation_views U.view U.Key.bytes U.Value.bytes shown.1.items ≡ take (proof_count size start (non_zero_u64_get max)) (drop start list)) }
-        ensures refused { C.start self.old.log.store ≤ start → C.start self.old.log.store ≤ size - 1 → (list : List operations.Operation) → IsDatabase C.Store ⟦<Self as LaidOut>⟧.layout self.old list → IfErr result (λ e. IsDue e (proof_refusal list size start)) }
-        ensures pruned { start < C.start self.old.log.store → C.start self.old.log.store ≤ size - 1 → (list : List operations.Operation) → IsDatabase C.Store ⟦<Self as LaidOut>⟧.layout self.old list → proof_refusal list size start ≡ None
-            → IfErr result (λ e. IsDue e (Some (refusals.Journal (refusals.ItemPruned start)))) }
+        ensures refused { (list : List operations.Operation) → IsDatabase C.Store ⟦<Self as LaidOut>⟧.layout self.old list → IfErr result (λ e. IsDue e (proof_refusal (C.start self.old.log.store) list size start)) }
+        ensures causes { IfErr result (λ e. IsAmong e (proof_reasons size start)) }
         ensures never { IfErr result (λ e. e ≢ Error.StaleBatch) }
         ensures cause { IfErr result (λ e. e ≡ Error.Journal JournalError.Store → Rose (C.faults self.old.log.store) (C.faults self.new.log.store)) }
         ensures left { IsLeft C.Store ⟦<Self as LaidOut>⟧.layout.hashing self.old self.new }
@@ -65,13 +67,14 @@ impl<
         start: Location<F>,
         max: NonZeroU64,
     ) -> Result<(Proof<H::Digest>, Vec<Operation<F, U>>), Error>
-        ensures offered { (list : List operations.Operation) → IsDatabase C.Store ⟦<Self as LaidOut>⟧.layout self.old list → OnOk result (proof_refusal list (length list) start ≡ None) }
+        ensures offered { (list : List operations.Operation) → IsDatabase C.Store ⟦<Self as LaidOut>⟧.layout self.old list → OnOk result (proof_refusal (C.start self.old.log.store) list (length list) start ≡ None) }
         ensures kept { OnOk result (C.start self.old.log.store ≤ start) }
         ensures proof { (list : List operations.Operation) → IsDatabase C.Store ⟦<Self as LaidOut>⟧.layout self.old list
             → IfOk result (λ shown. proof_view H.Digest.bytes shown.0 ≡ ops_proof H.hash F.shape U.form list start (start + proof_count (length list) start (non_zero_u64_get max))) }
         ensures operations { (list : List operations.Operation) → IsDatabase C.Store ⟦<Self as LaidOut>⟧.layout self.old list
             → IfOk result (λ shown. operation_views U.view U.Key.bytes U.Value.bytes shown.1.items ≡ take (proof_count (length list) start (non_zero_u64_get max)) (drop start list)) }
-        ensures refused { C.start self.old.log.store ≤ start → (list : List operations.Operation) → C.start self.old.log.store ≤ length list - 1 → IsDatabase C.Store ⟦<Self as LaidOut>⟧.layout self.old list → IfErr result (λ e. IsDue e (proof_refusal list (length list) start)) }
+        ensures refused { (list : List operations.Operation) → IsDatabase C.Store ⟦<Self as LaidOut>⟧.layout self.old list → IfErr result (λ e. IsDue e (proof_refusal (C.start self.old.log.store) list (length list) start)) }
+        ensures causes { IfErr result (λ e. IsAmong e (proof_reasons self.old.commitment.size start)) }
         ensures never { IfErr result (λ e. e ≢ Error.StaleBatch) }
         ensures cause { IfErr result (λ e. e ≡ Error.Journal JournalError.Store → Rose (C.faults self.old.log.store) (C.faults self.new.log.store)) }
         ensures left { IsLeft C.Store ⟦<Self as LaidOut>⟧.layout.hashing self.old self.new }
@@ -81,7 +84,7 @@ impl<
     }
 
     /// The digests of the peaks over the first `count` operations, from left to right: what a node has to be given that
-    /// starts with the operations from there on.
+    /// starts with the operations from there on. Where the store has these, or earlier ones, all digests are there.
     pub fn pinned_nodes_at(
         &self,
         alloc: Global,
@@ -90,6 +93,10 @@ impl<
         ensures offered { (list : List operations.Operation) → IsDatabase C.Store ⟦<Self as LaidOut>⟧.layout self.now list → OnOk result (pins_refusal list count ≡ None) }
         ensures pins { (list : List operations.Operation) → IsDatabase C.Store ⟦<Self as LaidOut>⟧.layout self.now list → IfOk result (λ pins. map H.Digest.bytes pins.items ≡ pins_at H.hash F.shape U.form list count) }
         ensures refused { C.start self.now.log.store ≤ count → (list : List operations.Operation) → IsDatabase C.Store ⟦<Self as LaidOut>⟧.layout self.now list → IfErr result (λ e. IsDue e (pins_refusal list count)) }
+        ensures range { self.now.commitment.size < count → result ≡ Err (Error.Merkle (MerkleError.RangeOutOfBounds count)) }
+        ensures held { OnOk result (first_lacked (node_at F.shape self.now.log.tree) (peak_positions F.shape count) ≡ None) }
+        ensures cause { count ≤ self.now.commitment.size → IfErr result (IsLacked (node_at F.shape self.now.log.tree) (peak_positions F.shape count)) }
+        ensures whole { C.start self.now.log.store ≤ count → count ≤ self.now.commitment.size → IfErr result (λ e. e ≡ Error.Memory) }
         ensures never { IfErr result (λ e. (e ≢ Error.StaleBatch) × (e ≢ Error.Journal JournalError.Store)) }
     {
         // The log is kept from where its store is.
@@ -106,16 +113,15 @@ fn proved_over<F: Family, C: Store, H: Hasher + Drop, U: Update>(
     start: u64,
     max: NonZeroU64,
 ) -> Result<(Proof<H::Digest>, Vec<Operation<F, U>>), Error>
-    ensures offered { (list : List operations.Operation) → IsLog C.Store F.shape H.Digest.bytes H.hash log.old (map (spelling U.form) list) → All (IsOf U.form) list → IfSome (C.items log.old.store) (λ _. OnOk result (proof_refusal list size start ≡ None)) }
+    ensures offered { (list : List operations.Operation) → IsLog C.Store F.shape H.Digest.bytes H.hash log.old (map (spelling U.form) list) → All (IsOf U.form) list → IfSome (C.items log.old.store) (λ _. OnOk result (proof_refusal (C.start log.old.store) list size start ≡ None)) }
     ensures kept { OnOk result (C.start log.old.store ≤ start) }
     ensures proof { (list : List operations.Operation) → IsLog C.Store F.shape H.Digest.bytes H.hash log.old (map (spelling U.form) list) → All (IsOf U.form) list
         → IfSome (C.items log.old.store) (λ _. IfOk result (λ shown. proof_view H.Digest.bytes shown.0 ≡ ops_proof H.hash F.shape U.form (take size list) start (start + proof_count size start (non_zero_u64_get max)))) }
     ensures operations { (list : List operations.Operation) → IsLog C.Store F.shape H.Digest.bytes H.hash log.old (map (spelling U.form) list) → All (IsOf U.form) list
         → IfSome (C.items log.old.store) (λ _. IfOk result (λ shown. operation_views U.view U.Key.bytes U.Value.bytes shown.1.items ≡ take (proof_count size start (non_zero_u64_get max)) (drop start list))) }
-    ensures refused { C.start log.old.store ≤ start → C.start log.old.store ≤ size - 1 → (list : List operations.Operation) → IsLog C.Store F.shape H.Digest.bytes H.hash log.old (map (spelling U.form) list) → All (IsOf U.form) list
-        → IfSome (C.items log.old.store) (λ _. IfErr result (λ e. IsDue e (proof_refusal list size start))) }
-    ensures pruned { start < C.start log.old.store → C.start log.old.store ≤ size - 1 → (list : List operations.Operation) → IsLog C.Store F.shape H.Digest.bytes H.hash log.old (map (spelling U.form) list) → All (IsOf U.form) list → proof_refusal list size start ≡ None
-        → IfSome (C.items log.old.store) (λ _. IfErr result (λ e. IsDue e (Some (refusals.Journal (refusals.ItemPruned start))))) }
+    ensures refused { (list : List operations.Operation) → IsLog C.Store F.shape H.Digest.bytes H.hash log.old (map (spelling U.form) list) → All (IsOf U.form) list
+        → IfSome (C.items log.old.store) (λ _. IfErr result (λ e. IsDue e (proof_refusal (C.start log.old.store) list size start))) }
+    ensures causes { IfErr result (λ e. IsAmong e (proof_reasons size start)) }
     ensures never { IfErr result (λ e. e ≢ Error.StaleBatch) }
     ensures cause { IfErr result (λ e. e ≡ Error.Journal JournalError.Store → Rose (C.faults log.old.store) (C.faults log.new.store)) }
     ensures read { IsRead C.Store F.shape H.Digest.bytes H.hash log.old log.new }
@@ -136,43 +142,49 @@ fn offered<F: Family, C: Store, H: Hasher + Drop, U: Update>(
     size: u64,
     start: u64,
 ) -> Result<u64, Error>
-    ensures offered { (list : List operations.Operation) → IsLog C.Store F.shape H.Digest.bytes H.hash log.old (map (spelling U.form) list) → All (IsOf U.form) list → IfSome (C.items log.old.store) (λ _. OnOk result (proof_refusal list size start ≡ None)) }
+    ensures offered { (list : List operations.Operation) → IsLog C.Store F.shape H.Digest.bytes H.hash log.old (map (spelling U.form) list) → All (IsOf U.form) list → IfSome (C.items log.old.store) (λ _. OnOk result (proof_refusal (C.start log.old.store) list size start ≡ None)) }
+    ensures kept { OnOk result (C.start log.old.store ≤ start) }
     ensures within { OnOk result ((size ≤ log.old.tree.leaves) × (start < size)) }
     ensures floor { (list : List operations.Operation) → IsLog C.Store F.shape H.Digest.bytes H.hash log.old (map (spelling U.form) list) → All (IsOf U.form) list → IfSome (C.items log.old.store) (λ _. IfOk result (λ f. f ≡ lives.floor (take size list))) }
-    ensures refused { C.start log.old.store ≤ size - 1 → (list : List operations.Operation) → IsLog C.Store F.shape H.Digest.bytes H.hash log.old (map (spelling U.form) list) → All (IsOf U.form) list
-        → IfSome (C.items log.old.store) (λ _. IfErr result (λ e. IsDue e (proof_refusal list size start))) }
+    ensures refused { (list : List operations.Operation) → IsLog C.Store F.shape H.Digest.bytes H.hash log.old (map (spelling U.form) list) → All (IsOf U.form) list
+        → IfSome (C.items log.old.store) (λ _. IfErr result (λ e. IsDue e (proof_refusal (C.start log.old.store) list size start))) }
+    ensures causes { IfErr result (λ e. IsAmong e (proof_reasons size start)) }
     ensures never { IfErr result (λ e. e ≢ Error.StaleBatch) }
     ensures cause { IfErr result (λ e. e ≡ Error.Journal JournalError.Store → Rose (C.faults log.old.store) (C.faults log.new.store)) }
     ensures read { IsRead C.Store F.shape H.Digest.bytes H.hash log.old log.new }
 {
-    if log.size() < size {
+    let (first, leaves) = log.bounds();
+    if leaves < size {
         return Err(Error::Merkle(MerkleError::RangeOutOfBounds(size)));
     }
     match floor_at_end::<F, C, H, U>(alloc, log, size)? {
         None => Err(Error::HistoricalFloorPruned(size)),
         Some(floor) if floor >= size => Err(Error::DataCorrupted(Corrupt::FloorExceedsCommit)),
         Some(_) if start >= size => Err(Error::Merkle(MerkleError::RangeOutOfBounds(start))),
+        Some(_) if start < first => Err(Error::Journal(JournalError::ItemPruned(start))),
         Some(floor) => Ok(floor),
     }
 }
 
-// The floor of the commit at the end of a log's first `size` operations, if one stands there and the store has it.
+// The floor of the commit at the end of a log's first `size` operations, if one stands there.
 fn floor_at_end<F: Family, C: Store, H: Hasher + Drop, U: Update>(
     alloc: Global,
     log: &mut AuthLog<F, C, H>,
     size: u64,
 ) -> Result<Option<u64>, Error>
     requires { size ≤ log.old.tree.leaves }
-    ensures floor { C.start log.old.store ≤ size - 1 → (list : List operations.Operation) → IsLog C.Store F.shape H.Digest.bytes H.hash log.old (map (spelling U.form) list) → All (IsOf U.form) list
+    ensures floor { (list : List operations.Operation) → IsLog C.Store F.shape H.Digest.bytes H.hash log.old (map (spelling U.form) list) → All (IsOf U.form) list
         → IfSome (C.items log.old.store) (λ _. IfOk result (λ f. f ≡ floor_before list size)) }
-    ensures found { (list : List operations.Operation) → IsLog C.Store F.shape H.Digest.bytes H.hash log.old (map (spelling U.form) list) → All (IsOf U.form) list
-        → IfSome (C.items log.old.store) (λ _. IfOk result (λ f. IfSome f (λ floor. floor_before list size ≡ Some floor))) }
     ensures some { IfOk result (λ f. IfSome f (λ _. 0 < size)) }
-    ensures never { IfErr result (λ e. (e ≡ Error.Memory) ⊎ ((e ≡ Error.Journal JournalError.Store) × Rose (C.faults log.old.store) (C.faults log.new.store))) }
+    ensures kept { OnOk result (last_refusal (C.start log.old.store) size ≡ None) }
+    ensures pruned { IfErr result (λ e. IsDue e (last_refusal (C.start log.old.store) size)) }
+    ensures causes { IfErr result (λ e. (e ≡ Error.Memory) ⊎ ((e ≡ Error.Journal JournalError.Store) ⊎ (e ≡ Error.Journal (JournalError.ItemPruned (size - 1))))) }
+    ensures cause { IfErr result (λ e. e ≡ Error.Journal JournalError.Store → Rose (C.faults log.old.store) (C.faults log.new.store)) }
     ensures read { IsRead C.Store F.shape H.Digest.bytes H.hash log.old log.new }
 {
-    let (first, _) = log.bounds();
-    if size == 0 || size <= first {
+    // The log is kept from where its store is.
+    log.bounds();
+    if size == 0 {
         return Ok(None);
     }
     let item = log.read(size - 1)?;

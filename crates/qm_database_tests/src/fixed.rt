@@ -67,6 +67,8 @@ fn keys_are_read(rt: HostRuntime) -> Result<(), Fail> {
     assert_eq!(rt; db.validate_batch(&batch), Ok(()));
     let mut db = applied(alloc, db, &batch)?;
     assert_eq!(rt; last(&db.get(alloc, &key)?), Some(17));
+    let text = format!(in alloc; "{db:?}")?;
+    assert_eq!(rt; text.as_str(), "Db { start: 0, size: 4, floor: 2 }");
     Ok(())
 }
 

@@ -8,7 +8,6 @@ use Rattle.qm_model.specs.Live.{floor}
 use Rattle.qm_model.specs.Writes.{Write}
 use Rattle.qm_model.specs.Batches.{Chain, child_of, IsOnChain, Apart, commitment, fits}
 use Rattle.qm_model.specs.Refusals.{tip_refusal}
-use Rattle.qm_model.specs.Step.{step}
 use Rattle.qm_machine.specs.Lines.{Answer}
 use Rattle.qm_machine.specs.Lines as lines
 use Rattle.qm_model.specs.Refused as refusals
@@ -21,6 +20,9 @@ use Rattle.qm_lines.specs.Views.{refused_view}
 use Rattle.qm_lines.specs.declared.reply.Reply.TheVariants as replies
 use Rattle.qm_lines.specs.declared.reply.Refused.{Refused}
 use Rattle.qm_lines.specs.declared.reply.Refused.TheVariants as refused
+use Rattle.qm_store.specs.declared.Store as stores
+use Rattle.qm_engine.specs.declared.words.Words as words
+use Rattle.qm_model.specs.Policies.{Policy}
 use Rattle.qm_store.specs.declared.refusal.Given.{Given}
 use Rattle.qm_store.specs.declared.refusal.Given.TheVariants.{Database}
 use Rattle.qm_engine.specs.declared.table.Slot.{Slot}
@@ -30,7 +32,8 @@ use Rattle.qm_engine.specs.declared.session.Turn.TheVariants.{Reply}
 use Rattle.qm_engine.specs.Table.{writing_of, merkleized_of}
 use Rattle.qm_engine.specs.Turn.{turn_of_error}
 use Rattle.qm_store.specs.Refusals.{refusal_of}
-use Rattle.qm_engine.specs.Session.{Meaning, SlotIs, Holds, IsLeft}
+use Rattle.qm_engine.specs.Words.{AtBatch, AtTip, Fits, tip_of}
+use Rattle.qm_engine.specs.Session.{SlotIs, Holds, IsLeft}
 use Rattle.qm_engine.proofs.Tables.{push_at, set_at, set_set}
 use Rattle.qm_store.specs.Given.{Appended, IsUnchanged}
 use Rattle.qm_engine.proofs.Commands.{stored-same, choice, none_some, left_part, refuses, by_error, HeldIs-more, SlotIs-more, with_list, HeldIs-kept, slots_set, lengths_set, Keeps, Holds-used, Turns}
@@ -38,15 +41,15 @@ use Rattle.qm_engine.proofs.Commands.{stored-same, choice, none_some, left_part,
 longer : {A : Type 0} (xs ys : List A) → 0 < length xs → 0 < length (xs ++ ys)
 longer xs ys some = omega (arith, some, length-append xs ys)
 
-module _ {X C B M K V D P : Type 0} (m : Meaning X C B M) (key : K → Bytes) (value : V → Bytes) (digest : D → Bytes) (scheme : Scheme P) where
+module _ {X C B M K V D : Type 0} (members : stores.Ghosts C) (means : words.Ghosts X C B M) (key : K → Bytes) (value : V → Bytes) (digest : D → Bytes) where
   abbrev root : List Operation → Bytes
-  root = scheme.root
+  root = means.scheme.root
 
   abbrev Goes : Turn K V D → Given X C → List (Slot B M) → ℕ → Answer × State → Type 0
-  Goes = Turns m key value digest scheme
+  Goes = Turns members means key value digest
 
-  pub started_ok : (held : Given X C) (table : List (Slot B M)) (opened n : ℕ) (slot : Slot B M) (new : machine.Slot) (s : State) → Holds m held table opened s
-      → SlotIs m s.had slot new → n ≡ length table → Goes (Reply (replies.Batch n)) held (table ++ slot ∷ []) opened (started s new)
+  pub started_ok : (held : Given X C) (table : List (Slot B M)) (opened n : ℕ) (slot : Slot B M) (new : machine.Slot) (s : State) → Holds members means held table opened s
+      → SlotIs members means s.had slot new → n ≡ length table → Goes (Reply (replies.Batch n)) held (table ++ slot ∷ []) opened (started s new)
   started_ok held table opened n slot new s k is e = λ _. (
     ap lines.Started (e ∙ k.lengths),
     record {
@@ -55,27 +58,27 @@ module _ {X C B M K V D P : Type 0} (m : Meaning X C B M) (key : K → Bytes) (v
       whole = k.whole;
       count = k.count;
       lengths = omega (arith, length-append table (slot ∷ []), length-append s.table (new ∷ []), k.lengths);
-      slots = push_at (SlotIs m s.had) Gone machine.gone tt table s.table slot new k.lengths k.slots is;
+      slots = push_at (SlotIs members means s.had) Gone machine.gone tt table s.table slot new k.lengths k.slots is;
     },
   )
 
   -- a child of what the number names
-  pub child_in : (Q : Answer × State → Type 0) (h : ℕ) (keep : Option ℕ) (batch : M) (made : B) (s : State) (a : Slot B M) (b : machine.Slot) → SlotIs m s.had a b → merkleized_of a ≡ Some batch
-      → ((chain : Chain) (tip : List Operation) → m.is_merkleized batch chain tip → m.is_batch made (child_of keep chain tip) chain [])
-      → ((new : machine.Slot) → SlotIs m s.had (Writing made) new → Q (started s new))
+  pub child_in : (Q : Answer × State → Type 0) (h : ℕ) (keep : Option ℕ) (batch : M) (made : B) (s : State) (a : Slot B M) (b : machine.Slot) → SlotIs members means s.had a b → merkleized_of a ≡ Some batch
+      → ((chain : Chain) (tip : List Operation) → means.is_merkleized batch chain tip → means.is_batch made (child_of keep chain tip) chain [])
+      → ((new : machine.Slot) → SlotIs members means s.had (Writing made) new → Q (started s new))
       → Q (start_child s h keep b)
   child_in Q h keep batch made s (Merkleized w) (machine.merkleized chain tip) is e begun each =
       let same : w ≡ batch = cc in
       each (machine.writing (child_of keep chain tip) chain [])
-      (begun chain tip (subst (λ v. m.is_merkleized v chain tip) same is.0), child-among s.had keep chain tip is.1 is.2, is.1)
+      (begun chain tip (subst (λ v. means.is_merkleized v chain tip) same is.0), child-among s.had keep chain tip is.1 is.2, is.1)
   child_in Q h keep batch made s (Merkleized w) machine.gone is e begun each = absurd is
   child_in Q h keep batch made s (Merkleized w) (machine.writing chain above ws) is e begun each = absurd is
   child_in Q h keep batch made s Gone b is e begun each = absurd (cc)
   child_in Q h keep batch made s (Writing w) b is e begun each = absurd (cc)
 
-  pub put_ok : (held : Given X C) (table : List (Slot B M)) (opened : ℕ) (h : ℕ) (w : Write) (batch after : B) (s : State) → Holds m held table opened s
-      → ((chain above : Chain) (ws : List Write) → m.is_batch batch chain above ws → m.is_batch after chain above (ws ++ w ∷ []))
-      → (a : Slot B M) (b : machine.Slot) → SlotIs m s.had a b → writing_of a ≡ Some batch
+  pub put_ok : (held : Given X C) (table : List (Slot B M)) (opened : ℕ) (h : ℕ) (w : Write) (batch after : B) (s : State) → Holds members means held table opened s
+      → ((chain above : Chain) (ws : List Write) → means.is_batch batch chain above ws → means.is_batch after chain above (ws ++ w ∷ []))
+      → (a : Slot B M) (b : machine.Slot) → SlotIs members means s.had a b → writing_of a ≡ Some batch
       → Goes (Reply replies.Done) held (set (set table h Gone) h (Writing after)) opened (put_in s h w b)
   put_ok held table opened h w batch after s k wrote (Writing x) (machine.writing chain above ws) is e = λ _. (
     refl,
@@ -84,8 +87,8 @@ module _ {X C B M K V D P : Type 0} (m : Meaning X C B M) (key : K → Bytes) (v
       store = k.store;
       whole = k.whole;
       count = k.count;
-      lengths = rw set_set (lengths_set m table s h (Writing after) (machine.writing chain above (ws ++ w ∷ [])) k.lengths);
-      slots = rw set_set (slots_set m table s h (Writing after) (machine.writing chain above (ws ++ w ∷ [])) k.lengths k.slots (let same : x ≡ batch = cc in (wrote chain above ws (subst (λ v. m.is_batch v chain above ws) same is.0), is.1, is.2)));
+      lengths = rw set_set (lengths_set members means table s h (Writing after) (machine.writing chain above (ws ++ w ∷ [])) k.lengths);
+      slots = rw set_set (slots_set members means table s h (Writing after) (machine.writing chain above (ws ++ w ∷ [])) k.lengths k.slots (let same : x ≡ batch = cc in (wrote chain above ws (subst (λ v. means.is_batch v chain above ws) same is.0), is.1, is.2)));
     },
   )
   put_ok held table opened h w batch after s k wrote (Writing x) machine.gone is e = absurd is
@@ -94,9 +97,9 @@ module _ {X C B M K V D P : Type 0} (m : Meaning X C B M) (key : K → Bytes) (v
   put_ok held table opened h w batch after s k wrote (Merkleized x) b is e = absurd (cc)
 
   -- a batch number that names no merkleized batch
-  apply_none : (held : Given X C) (table : List (Slot B M)) (opened : ℕ) (h : ℕ) (list : List Operation) (s : State) → Holds m held table opened s
-      → (a : Slot B M) (b : machine.Slot) → SlotIs m s.had a b → merkleized_of a ≡ None
-      → Goes (Reply (replies.Refused (refused.NoSuchHandle h))) held table opened (apply_in scheme s h list b)
+  apply_none : (held : Given X C) (table : List (Slot B M)) (opened : ℕ) (h : ℕ) (list : List Operation) (s : State) → Holds members means held table opened s
+      → (a : Slot B M) (b : machine.Slot) → SlotIs members means s.had a b → merkleized_of a ≡ None
+      → Goes (Reply (replies.Refused (refused.NoSuchHandle h))) held table opened (apply_in means.scheme s h list b)
   apply_none held table opened h list s k Gone machine.gone is e = λ _. (refl, k)
   apply_none held table opened h list s k (Writing w) (machine.writing chain above ws) is e = λ _. (refl, k)
   apply_none held table opened h list s k Gone (machine.writing chain above ws) is e = absurd is
@@ -105,46 +108,46 @@ module _ {X C B M K V D P : Type 0} (m : Meaning X C B M) (key : K → Bytes) (v
   apply_none held table opened h list s k (Writing w) (machine.merkleized chain tip) is e = absurd is
   apply_none held table opened h list s k (Merkleized w) b is e = absurd (cc)
 
-  pub not_merkleized : (x : X) (table : List (Slot B M)) (opened : ℕ) (h : ℕ) (s : State) → Holds m (Database x) table opened s
-      → merkleized_of (get_or table h Gone) ≡ None → Goes (Reply (replies.Refused (refused.NoSuchHandle h))) (Database x) table opened (machine.apply scheme s h)
+  pub not_merkleized : (x : X) (table : List (Slot B M)) (opened : ℕ) (h : ℕ) (s : State) → Holds members means (Database x) table opened s
+      → merkleized_of (get_or table h Gone) ≡ None → Goes (Reply (replies.Refused (refused.NoSuchHandle h))) (Database x) table opened (machine.apply means.scheme s h)
   not_merkleized x table opened h s k e =
-      with_list m x s.had s.database s (λ list. apply_in scheme s h list (slot_at s.table h)) (Goes (Reply (replies.Refused (refused.NoSuchHandle h))) (Database x) table opened) k.database (λ list stands in_had.
+      with_list members means x s.had s.database s (λ list. apply_in means.scheme s h list (slot_at s.table h)) (Goes (Reply (replies.Refused (refused.NoSuchHandle h))) (Database x) table opened) k.database (λ list stands in_had.
       apply_none (Database x) table opened h list s k (get_or table h Gone) (slot_at s.table h) (k.slots h) e)
 
   -- a merkleize that was accepted
-  merkleized_in : (x after : X) (table : List (Slot B M)) (opened : ℕ) (h : ℕ) (policy : P) (meta : Option Bytes) (batch : B) (made : M) (low high bottom : ℕ) (s : State) (list : List Operation)
-      → Holds m (Database x) table opened s → Contains s.had list → ((l : List Operation) → m.stands x l → m.stands after l)
-      → IsUnchanged m.members (m.inside x) (m.inside after)
-      → ((chain above : Chain) (ws : List Write) → m.is_batch batch chain above ws → fits root (commitment root list) chain ≡ true)
-      → ((chain above : Chain) (ws : List Write) → m.is_batch batch chain above ws → IsOnChain list chain → let tip = step scheme.kind scheme.rules chain.base ws policy meta in (tip_refusal variable chain tip ≡ None) × m.is_merkleized made chain tip)
-      → ((chain : Chain) (tip : List Operation) → m.is_merkleized made chain tip → (low ≡ length chain.base) × (high ≡ length tip) × (bottom ≡ floor tip))
-      → (a : Slot B M) (b : machine.Slot) → SlotIs m s.had a b → writing_of a ≡ Some batch
-      → Goes (Reply (replies.Merkleized h low high bottom)) (Database after) (set (set table h Gone) h (Merkleized made)) opened (merkleize_in scheme s h policy meta list b)
+  merkleized_in : (x after : X) (table : List (Slot B M)) (opened : ℕ) (h : ℕ) (policy : Policy) (meta : Option Bytes) (batch : B) (made : M) (low high bottom : ℕ) (s : State) (list : List Operation)
+      → Holds members means (Database x) table opened s → Contains s.had list → ((l : List Operation) → means.stands x l → means.stands after l)
+      → IsUnchanged members (means.inside x) (means.inside after)
+      → ((chain above : Chain) (ws : List Write) → means.is_batch batch chain above ws → fits root (commitment root list) chain ≡ true)
+      → ((chain above : Chain) (ws : List Write) → means.is_batch batch chain above ws → IsOnChain list chain → let tip = tip_of means.scheme chain ws policy meta in (tip_refusal variable chain tip ≡ None) × means.is_merkleized made chain tip)
+      → ((chain : Chain) (tip : List Operation) → means.is_merkleized made chain tip → (low ≡ length chain.base) × (high ≡ length tip) × (bottom ≡ floor tip))
+      → (a : Slot B M) (b : machine.Slot) → SlotIs members means s.had a b → writing_of a ≡ Some batch
+      → Goes (Reply (replies.Merkleized h low high bottom)) (Database after) (set (set table h Gone) h (Merkleized made)) opened (merkleize_in means.scheme s h policy meta list b)
   merkleized_in x after table opened h policy meta batch made low high bottom s list k in_had keeps same_store fit_of did sized (Writing w) (machine.writing chain above ws) is e =
       let same : w ≡ batch = cc in
-      let batch_is : m.is_batch batch chain above ws = subst (λ v. m.is_batch v chain above ws) same is.0 in
+      let batch_is : means.is_batch batch chain above ws = subst (λ v. means.is_batch v chain above ws) same is.0 in
       let fit : fits root (commitment root list) chain ≡ true = fit_of chain above ws batch_is in
-      subst (λ t. Goal (cond t (merkleize_tip scheme s h chain tip (tip_refusal variable chain tip)) (refuse (with_slot s h machine.gone) refusals.StaleBatch))) (sym fit) (by_due fit batch_is (tip_refusal variable chain tip) refl)
+      subst (λ t. Goal (cond t (merkleize_tip means.scheme s h chain tip (tip_refusal variable chain tip)) (refuse (with_slot s h machine.gone) refusals.StaleBatch))) (sym fit) (by_due fit batch_is (tip_refusal variable chain tip) refl)
     where
       tip : List Operation
-      tip = step scheme.kind scheme.rules chain.base ws policy meta
+      tip = tip_of means.scheme chain ws policy meta
 
       Goal : Answer × State → Type 0
       Goal next = Goes (Reply (replies.Merkleized h low high bottom)) (Database after) (set (set table h Gone) h (Merkleized made)) opened next
 
-      by_due : fits root (commitment root list) chain ≡ true → m.is_batch batch chain above ws → (due : Option refusals.Refused) → tip_refusal variable chain tip ≡ due → Goal (merkleize_tip scheme s h chain tip due)
+      by_due : fits root (commitment root list) chain ≡ true → means.is_batch batch chain above ws → (due : Option refusals.Refused) → tip_refusal variable chain tip ≡ due → Goal (merkleize_tip means.scheme s h chain tip due)
       by_due fit batch_is (Some r) is_due = λ apart. absurd (none_some (did chain above ws batch_is (on_chain-fits root s.had list chain apart in_had is.1 fit)).0 is_due)
       by_due fit batch_is None is_due = λ apart.
           let now = (did chain above ws batch_is (on_chain-fits root (tip ∷ s.had) list chain apart (Contains-more s.had tip list in_had) (IsAmong-more s.had tip chain is.1) fit)).1 in
           let sizes = sized chain tip now in (
             rw (sizes.0, sizes.1, sizes.2) refl,
             record {
-              database = HeldIs-more m s.had tip (Database after) s.database (HeldIs-kept m x after s.had s.database keeps k.database);
-              store = stored-same m.members (m.inside x) (m.inside after) s.store same_store k.store;
+              database = HeldIs-more members means s.had tip (Database after) s.database (HeldIs-kept members means x after s.had s.database keeps k.database);
+              store = stored-same members (means.inside x) (means.inside after) s.store same_store k.store;
               whole = k.whole;
               count = k.count;
-              lengths = rw set_set (lengths_set m table s h (Merkleized made) (machine.merkleized chain tip) k.lengths);
-              slots = rw set_set (set_at (SlotIs m (tip ∷ s.had)) Gone machine.gone tt table s.table h (Merkleized made) (machine.merkleized chain tip) k.lengths (λ i. SlotIs-more m s.had tip (get_or table i Gone) (slot_at s.table i) (k.slots i)) (now, IsAmong-more s.had tip chain is.1, Contains-first tip s.had));
+              lengths = rw set_set (lengths_set members means table s h (Merkleized made) (machine.merkleized chain tip) k.lengths);
+              slots = rw set_set (set_at (SlotIs members means (tip ∷ s.had)) Gone machine.gone tt table s.table h (Merkleized made) (machine.merkleized chain tip) k.lengths (λ i. SlotIs-more members means s.had tip (get_or table i Gone) (slot_at s.table i) (k.slots i)) (now, IsAmong-more s.had tip chain is.1, Contains-first tip s.had));
             },
           )
   merkleized_in x after table opened h policy meta batch made low high bottom s list k in_had keeps same_store fit_of did sized (Writing w) machine.gone is e = absurd is
@@ -153,26 +156,26 @@ module _ {X C B M K V D P : Type 0} (m : Meaning X C B M) (key : K → Bytes) (v
   merkleized_in x after table opened h policy meta batch made low high bottom s list k in_had keeps same_store fit_of did sized (Merkleized w) b is e = absurd (cc)
 
   -- one that found the batch left behind
-  stale_in : (x after : X) (table : List (Slot B M)) (opened : ℕ) (h : ℕ) (policy : P) (meta : Option Bytes) (batch : B) (s : State) (list : List Operation)
-      → Holds m (Database x) table opened s → Contains s.had list → ((l : List Operation) → m.stands x l → m.stands after l)
-      → IsUnchanged m.members (m.inside x) (m.inside after)
-      → ((chain above : Chain) (ws : List Write) → m.is_batch batch chain above ws → IsOnChain list chain → ⊥)
-      → (a : Slot B M) (b : machine.Slot) → SlotIs m s.had a b → writing_of a ≡ Some batch
-      → Goes (Reply (replies.Refused refused.StaleBatch)) (Database after) (set table h Gone) opened (merkleize_in scheme s h policy meta list b)
+  stale_in : (x after : X) (table : List (Slot B M)) (opened : ℕ) (h : ℕ) (policy : Policy) (meta : Option Bytes) (batch : B) (s : State) (list : List Operation)
+      → Holds members means (Database x) table opened s → Contains s.had list → ((l : List Operation) → means.stands x l → means.stands after l)
+      → IsUnchanged members (means.inside x) (means.inside after)
+      → ((chain above : Chain) (ws : List Write) → means.is_batch batch chain above ws → IsOnChain list chain → ⊥)
+      → (a : Slot B M) (b : machine.Slot) → SlotIs members means s.had a b → writing_of a ≡ Some batch
+      → Goes (Reply (replies.Refused refused.StaleBatch)) (Database after) (set table h Gone) opened (merkleize_in means.scheme s h policy meta list b)
   stale_in x after table opened h policy meta batch s list k in_had keeps same_store off (Writing w) (machine.writing chain above ws) is e =
       let same : w ≡ batch = cc in
-      let batch_is : m.is_batch batch chain above ws = subst (λ v. m.is_batch v chain above ws) same is.0 in
-      choice (fits root (commitment root list) chain) (merkleize_tip scheme s h chain tip (tip_refusal variable chain tip)) (refuse (with_slot s h machine.gone) refusals.StaleBatch) Goal
+      let batch_is : means.is_batch batch chain above ws = subst (λ v. means.is_batch v chain above ws) same is.0 in
+      choice (fits root (commitment root list) chain) (merkleize_tip means.scheme s h chain tip (tip_refusal variable chain tip)) (refuse (with_slot s h machine.gone) refusals.StaleBatch) Goal
       (λ fit. by_due fit batch_is (tip_refusal variable chain tip))
-      (λ fit apart. (refl, Holds-used m x after table opened h s (keeps, same_store) k))
+      (λ fit apart. (refl, Holds-used members means x after table opened h s (keeps, same_store) k))
     where
       tip : List Operation
-      tip = step scheme.kind scheme.rules chain.base ws policy meta
+      tip = tip_of means.scheme chain ws policy meta
 
       Goal : Answer × State → Type 0
       Goal next = Goes (Reply (replies.Refused refused.StaleBatch)) (Database after) (set table h Gone) opened next
 
-      by_due : fits root (commitment root list) chain ≡ true → m.is_batch batch chain above ws → (due : Option refusals.Refused) → Goal (merkleize_tip scheme s h chain tip due)
+      by_due : fits root (commitment root list) chain ≡ true → means.is_batch batch chain above ws → (due : Option refusals.Refused) → Goal (merkleize_tip means.scheme s h chain tip due)
       by_due fit batch_is None = λ apart. absurd (off chain above ws batch_is (on_chain-fits root (tip ∷ s.had) list chain apart (Contains-more s.had tip list in_had) (IsAmong-more s.had tip chain is.1) fit))
       by_due fit batch_is (Some r) = λ apart. absurd (off chain above ws batch_is (on_chain-fits root s.had list chain apart in_had is.1 fit))
   stale_in x after table opened h policy meta batch s list k in_had keeps same_store off (Writing w) machine.gone is e = absurd is
@@ -181,87 +184,87 @@ module _ {X C B M K V D P : Type 0} (m : Meaning X C B M) (key : K → Bytes) (v
   stale_in x after table opened h policy meta batch s list k in_had keeps same_store off (Merkleized w) b is e = absurd (cc)
 
   -- one whose tip list is refused
-  too_large_in : (x after : X) (table : List (Slot B M)) (opened : ℕ) (h : ℕ) (policy : P) (meta : Option Bytes) (batch : B) (r : Refused) (s : State) (list : List Operation)
-      → Holds m (Database x) table opened s → Contains s.had list → Keeps m x after
-      → ((chain above : Chain) (ws : List Write) → m.is_batch batch chain above ws → (fits root (commitment root list) chain ≡ true)
-      × (IsOnChain list chain → tip_refusal variable chain (step scheme.kind scheme.rules chain.base ws policy meta) ≡ Some (refused_view r)))
-      → (a : Slot B M) (b : machine.Slot) → SlotIs m s.had a b → writing_of a ≡ Some batch
-      → Goes (Reply (replies.Refused r)) (Database after) (set table h Gone) opened (merkleize_in scheme s h policy meta list b)
+  too_large_in : (x after : X) (table : List (Slot B M)) (opened : ℕ) (h : ℕ) (policy : Policy) (meta : Option Bytes) (batch : B) (r : Refused) (s : State) (list : List Operation)
+      → Holds members means (Database x) table opened s → Contains s.had list → Keeps members means x after
+      → ((chain above : Chain) (ws : List Write) → means.is_batch batch chain above ws → (fits root (commitment root list) chain ≡ true)
+      × (IsOnChain list chain → tip_refusal variable chain (tip_of means.scheme chain ws policy meta) ≡ Some (refused_view r)))
+      → (a : Slot B M) (b : machine.Slot) → SlotIs members means s.had a b → writing_of a ≡ Some batch
+      → Goes (Reply (replies.Refused r)) (Database after) (set table h Gone) opened (merkleize_in means.scheme s h policy meta list b)
   too_large_in x after table opened h policy meta batch r s list k in_had keeps why (Writing w) (machine.writing chain above ws) is e =
       let same : w ≡ batch = cc in
-      let batch_is : m.is_batch batch chain above ws = subst (λ v. m.is_batch v chain above ws) same is.0 in
+      let batch_is : means.is_batch batch chain above ws = subst (λ v. means.is_batch v chain above ws) same is.0 in
       let fit : fits root (commitment root list) chain ≡ true = (why chain above ws batch_is).0 in
-      subst (λ t. Goal (cond t (merkleize_tip scheme s h chain tip (tip_refusal variable chain tip)) (refuse (with_slot s h machine.gone) refusals.StaleBatch))) (sym fit) (by_due fit batch_is (tip_refusal variable chain tip) refl)
+      subst (λ t. Goal (cond t (merkleize_tip means.scheme s h chain tip (tip_refusal variable chain tip)) (refuse (with_slot s h machine.gone) refusals.StaleBatch))) (sym fit) (by_due fit batch_is (tip_refusal variable chain tip) refl)
     where
       tip : List Operation
-      tip = step scheme.kind scheme.rules chain.base ws policy meta
+      tip = tip_of means.scheme chain ws policy meta
 
       Goal : Answer × State → Type 0
       Goal next = Goes (Reply (replies.Refused r)) (Database after) (set table h Gone) opened next
 
-      by_due : fits root (commitment root list) chain ≡ true → m.is_batch batch chain above ws → (due : Option refusals.Refused) → tip_refusal variable chain tip ≡ due → Goal (merkleize_tip scheme s h chain tip due)
+      by_due : fits root (commitment root list) chain ≡ true → means.is_batch batch chain above ws → (due : Option refusals.Refused) → tip_refusal variable chain tip ≡ due → Goal (merkleize_tip means.scheme s h chain tip due)
       by_due fit batch_is None is_due = λ apart. absurd (none_some is_due ((why chain above ws batch_is).1 (on_chain-fits root (tip ∷ s.had) list chain apart (Contains-more s.had tip list in_had) (IsAmong-more s.had tip chain is.1) fit)))
       by_due fit batch_is (Some q) is_due = λ apart. (
         ap refuses (sym ((why chain above ws batch_is).1 (on_chain-fits root s.had list chain apart in_had is.1 fit)) ∙ is_due),
-        Holds-used m x after table opened h s keeps k,
+        Holds-used members means x after table opened h s keeps k,
       )
   too_large_in x after table opened h policy meta batch r s list k in_had keeps why (Writing w) machine.gone is e = absurd is
   too_large_in x after table opened h policy meta batch r s list k in_had keeps why (Writing w) (machine.merkleized chain tip) is e = absurd is
   too_large_in x after table opened h policy meta batch r s list k in_had keeps why Gone b is e = absurd (cc)
   too_large_in x after table opened h policy meta batch r s list k in_had keeps why (Merkleized w) b is e = absurd (cc)
 
-  pub merkleize_ok : (x after : X) (table : List (Slot B M)) (opened : ℕ) (h : ℕ) (policy : P) (meta : Option Bytes) (batch : B) (made : M) (low high bottom : ℕ) (s : State)
-      → Holds m (Database x) table opened s → ((l : List Operation) → m.stands x l → m.stands after l)
-      → IsUnchanged m.members (m.inside x) (m.inside after)
-      → ((list : List Operation) (chain above : Chain) (ws : List Write) → m.stands x list → m.is_batch batch chain above ws → fits root (commitment root list) chain ≡ true)
-      → ((list : List Operation) (chain above : Chain) (ws : List Write) → m.stands x list → m.is_batch batch chain above ws → IsOnChain list chain → let tip = step scheme.kind scheme.rules chain.base ws policy meta in (tip_refusal variable chain tip ≡ None) × m.is_merkleized made chain tip)
-      → ((chain : Chain) (tip : List Operation) → m.is_merkleized made chain tip → (low ≡ length chain.base) × (high ≡ length tip) × (bottom ≡ floor tip))
+  pub merkleize_ok : (x after : X) (table : List (Slot B M)) (opened : ℕ) (h : ℕ) (policy : Policy) (meta : Option Bytes) (batch : B) (made : M) (low high bottom : ℕ) (s : State)
+      → Holds members means (Database x) table opened s → ((l : List Operation) → means.stands x l → means.stands after l)
+      → IsUnchanged members (means.inside x) (means.inside after)
+      → AtBatch means x batch (λ list chain above ws. Fits means list chain)
+      → AtBatch means x batch (λ list chain above ws. IsOnChain list chain → let tip = tip_of means.scheme chain ws policy meta in (tip_refusal variable chain tip ≡ None) × means.is_merkleized made chain tip)
+      → ((chain : Chain) (tip : List Operation) → means.is_merkleized made chain tip → (low ≡ length chain.base) × (high ≡ length tip) × (bottom ≡ floor tip))
       → writing_of (get_or table h Gone) ≡ Some batch
-      → Goes (Reply (replies.Merkleized h low high bottom)) (Database after) (set (set table h Gone) h (Merkleized made)) opened (machine.merkleize scheme s h policy meta)
+      → Goes (Reply (replies.Merkleized h low high bottom)) (Database after) (set (set table h Gone) h (Merkleized made)) opened (machine.merkleize means.scheme s h policy meta)
   merkleize_ok x after table opened h policy meta batch made low high bottom s k keeps same_store fit did sized e =
-      with_list m x s.had s.database s (λ list. merkleize_in scheme s h policy meta list (slot_at s.table h)) (Goes (Reply (replies.Merkleized h low high bottom)) (Database after) (set (set table h Gone) h (Merkleized made)) opened) k.database
+      with_list members means x s.had s.database s (λ list. merkleize_in means.scheme s h policy meta list (slot_at s.table h)) (Goes (Reply (replies.Merkleized h low high bottom)) (Database after) (set (set table h Gone) h (Merkleized made)) opened) k.database
       (λ list stands in_had. merkleized_in x after table opened h policy meta batch made low high bottom s list k in_had keeps same_store (λ chain above ws. fit list chain above ws stands) (λ chain above ws. did list chain above ws stands) sized
       (get_or table h Gone) (slot_at s.table h) (k.slots h) e)
 
-  pub merkleize_err : (x after : X) (table : List (Slot B M)) (opened : ℕ) (h : ℕ) (policy : P) (meta : Option Bytes) (batch : B) (error : Error) (s : State)
-      → Holds m (Database x) table opened s → ((l : List Operation) → m.stands x l → m.stands after l)
-      → IsUnchanged m.members (m.inside x) (m.inside after)
-      → (error ≡ errors.StaleBatch → (list : List Operation) (chain above : Chain) (ws : List Write) → m.stands x list → m.is_batch batch chain above ws → IsOnChain list chain → ⊥)
-      → (error ≢ errors.StaleBatch → (list : List Operation) (chain above : Chain) (ws : List Write) → m.stands x list → m.is_batch batch chain above ws → IfSome (refusal_of error) (λ r. (fits root (commitment root list) chain ≡ true)
-      × (IsOnChain list chain → tip_refusal variable chain (step scheme.kind scheme.rules chain.base ws policy meta) ≡ Some r)))
+  pub merkleize_err : (x after : X) (table : List (Slot B M)) (opened : ℕ) (h : ℕ) (policy : Policy) (meta : Option Bytes) (batch : B) (error : Error) (s : State)
+      → Holds members means (Database x) table opened s → ((l : List Operation) → means.stands x l → means.stands after l)
+      → IsUnchanged members (means.inside x) (means.inside after)
+      → (error ≡ errors.StaleBatch → AtBatch means x batch (λ list chain above ws. ¬ IsOnChain list chain))
+      → (error ≢ errors.StaleBatch → AtBatch means x batch (λ list chain above ws. IfSome (refusal_of error) (λ r. Fits means list chain
+      × (IsOnChain list chain → tip_refusal variable chain (tip_of means.scheme chain ws policy meta) ≡ Some r))))
       → writing_of (get_or table h Gone) ≡ Some batch
-      → Goes (turn_of_error error) (Database after) (set table h Gone) opened (machine.merkleize scheme s h policy meta)
+      → Goes (turn_of_error error) (Database after) (set table h Gone) opened (machine.merkleize means.scheme s h policy meta)
   merkleize_err x after table opened h policy meta batch error s k keeps same_store stale why e =
       by_error error _
-      (λ is_stale. with_list m x s.had s.database s (λ list. merkleize_in scheme s h policy meta list (slot_at s.table h)) (Goes (Reply (replies.Refused refused.StaleBatch)) (Database after) (set table h Gone) opened) k.database
+      (λ is_stale. with_list members means x s.had s.database s (λ list. merkleize_in means.scheme s h policy meta list (slot_at s.table h)) (Goes (Reply (replies.Refused refused.StaleBatch)) (Database after) (set table h Gone) opened) k.database
       (λ list stands in_had. stale_in x after table opened h policy meta batch s list k in_had keeps same_store (λ chain above ws. stale is_stale list chain above ws stands)
       (get_or table h Gone) (slot_at s.table h) (k.slots h) e))
-      (λ r other told. with_list m x s.had s.database s (λ list. merkleize_in scheme s h policy meta list (slot_at s.table h)) (Goes (Reply (replies.Refused r)) (Database after) (set table h Gone) opened) k.database
+      (λ r other told. with_list members means x s.had s.database s (λ list. merkleize_in means.scheme s h policy meta list (slot_at s.table h)) (Goes (Reply (replies.Refused r)) (Database after) (set table h Gone) opened) k.database
       (λ list stands in_had. too_large_in x after table opened h policy meta batch r s list k in_had (keeps, same_store)
-      (λ chain above ws is. subst (λ o. IfSome o (λ r. (fits root (commitment root list) chain ≡ true) × (IsOnChain list chain → tip_refusal variable chain (step scheme.kind scheme.rules chain.base ws policy meta) ≡ Some r))) told (why other list chain above ws stands is))
+      (λ chain above ws is. subst (λ o. IfSome o (λ r. (fits root (commitment root list) chain ≡ true) × (IsOnChain list chain → tip_refusal variable chain (tip_of means.scheme chain ws policy meta) ≡ Some r))) told (why other list chain above ws stands is))
       (get_or table h Gone) (slot_at s.table h) (k.slots h) e))
 
   -- an apply that was accepted
   applied_in : (x after : X) (table : List (Slot B M)) (opened : ℕ) (h : ℕ) (batch : M) (size : ℕ) (s : State) (list : List Operation)
-      → Holds m (Database x) table opened s → Contains s.had list
-      → ((chain : Chain) (tip : List Operation) → m.is_merkleized batch chain tip → fits root (commitment root list) chain ≡ true)
-      → ((chain : Chain) (tip : List Operation) → m.is_merkleized batch chain tip → IsOnChain list chain → m.stands after tip)
-      → ((chain : Chain) (tip : List Operation) → m.is_merkleized batch chain tip → IsOnChain list chain → Appended m.members (m.inside x) (m.inside after) (map (spelling variable) (drop (length list) tip)))
-      → ((l : List Operation) → m.stands after l → size ≡ length l)
-      → (a : Slot B M) (b : machine.Slot) → SlotIs m s.had a b → merkleized_of a ≡ Some batch
-      → Goes (Reply (replies.Applied size)) (Database after) table opened (apply_in scheme s h list b)
+      → Holds members means (Database x) table opened s → Contains s.had list
+      → ((chain : Chain) (tip : List Operation) → means.is_merkleized batch chain tip → fits root (commitment root list) chain ≡ true)
+      → ((chain : Chain) (tip : List Operation) → means.is_merkleized batch chain tip → IsOnChain list chain → means.stands after tip)
+      → ((chain : Chain) (tip : List Operation) → means.is_merkleized batch chain tip → IsOnChain list chain → Appended members (means.inside x) (means.inside after) (map (spelling variable) (drop (length list) tip)))
+      → ((l : List Operation) → means.stands after l → size ≡ length l)
+      → (a : Slot B M) (b : machine.Slot) → SlotIs members means s.had a b → merkleized_of a ≡ Some batch
+      → Goes (Reply (replies.Applied size)) (Database after) table opened (apply_in means.scheme s h list b)
   applied_in x after table opened h batch size s list k in_had fit_of did grown sized (Merkleized w) (machine.merkleized chain tip) is e =
       let same : w ≡ batch = cc in
-      let batch_is : m.is_merkleized batch chain tip = subst (λ v. m.is_merkleized v chain tip) same is.0 in
+      let batch_is : means.is_merkleized batch chain tip = subst (λ v. means.is_merkleized v chain tip) same is.0 in
       choice (fits root (commitment root list) chain) (lines.Applied (length tip), record s { database = Some tip; store = record s.store { items = s.store.items ++ map (spelling variable) (drop (length list) tip) } }) (refuse s refusals.StaleBatch) (Goes (Reply (replies.Applied size)) (Database after) table opened)
       (λ fit apart.
       let on_chain = on_chain-fits root s.had list chain apart in_had is.1 fit in
-      let stood : m.stands after tip = did chain tip batch_is on_chain in
+      let stood : means.stands after tip = did chain tip batch_is on_chain in
       let more = grown chain tip batch_is on_chain in (
         ap lines.Applied (sized tip stood),
         record {
           database = (stood, is.2);
-          store = record { start = more.start ∙ k.store.start; head = more.head ∙ k.store.head; items = subst (λ o. Grows o (m.members.items (m.inside after)) (map (spelling variable) (drop (length list) tip))) k.store.items more.items };
+          store = record { start = more.start ∙ k.store.start; head = more.head ∙ k.store.head; items = subst (λ o. Grows o (members.items (means.inside after)) (map (spelling variable) (drop (length list) tip))) k.store.items more.items };
           whole = λ _. ((k.whole tt).0, longer s.store.items (map (spelling variable) (drop (length list) tip)) (k.whole tt).1);
           count = k.count;
           lengths = k.lengths;
@@ -276,13 +279,13 @@ module _ {X C B M K V D P : Type 0} (m : Meaning X C B M) (key : K → Bytes) (v
 
   -- one that found the batch left behind
   unapplied_in : (x : X) (table : List (Slot B M)) (opened : ℕ) (h : ℕ) (batch : M) (s : State) (list : List Operation)
-      → Holds m (Database x) table opened s → Contains s.had list
-      → ((chain : Chain) (tip : List Operation) → m.is_merkleized batch chain tip → IsOnChain list chain → ⊥)
-      → (a : Slot B M) (b : machine.Slot) → SlotIs m s.had a b → merkleized_of a ≡ Some batch
-      → Goes (Reply (replies.Refused refused.StaleBatch)) (Database x) table opened (apply_in scheme s h list b)
+      → Holds members means (Database x) table opened s → Contains s.had list
+      → ((chain : Chain) (tip : List Operation) → means.is_merkleized batch chain tip → IsOnChain list chain → ⊥)
+      → (a : Slot B M) (b : machine.Slot) → SlotIs members means s.had a b → merkleized_of a ≡ Some batch
+      → Goes (Reply (replies.Refused refused.StaleBatch)) (Database x) table opened (apply_in means.scheme s h list b)
   unapplied_in x table opened h batch s list k in_had off (Merkleized w) (machine.merkleized chain tip) is e =
       let same : w ≡ batch = cc in
-      let batch_is : m.is_merkleized batch chain tip = subst (λ v. m.is_merkleized v chain tip) same is.0 in
+      let batch_is : means.is_merkleized batch chain tip = subst (λ v. means.is_merkleized v chain tip) same is.0 in
       choice (fits root (commitment root list) chain) (lines.Applied (length tip), record s { database = Some tip; store = record s.store { items = s.store.items ++ map (spelling variable) (drop (length list) tip) } }) (refuse s refusals.StaleBatch) (Goes (Reply (replies.Refused refused.StaleBatch)) (Database x) table opened)
       (λ fit apart. absurd (off chain tip batch_is (on_chain-fits root s.had list chain apart in_had is.1 fit)))
       (λ unfit apart. (refl, k))
@@ -292,43 +295,43 @@ module _ {X C B M K V D P : Type 0} (m : Meaning X C B M) (key : K → Bytes) (v
   unapplied_in x table opened h batch s list k in_had off (Writing w) b is e = absurd (cc)
 
   pub apply_ok : (x after : X) (table : List (Slot B M)) (opened : ℕ) (h : ℕ) (batch : M) (size : ℕ) (s : State)
-      → Holds m (Database x) table opened s
-      → ((list : List Operation) (chain : Chain) (tip : List Operation) → m.stands x list → m.is_merkleized batch chain tip → fits root (commitment root list) chain ≡ true)
-      → ((list : List Operation) (chain : Chain) (tip : List Operation) → m.stands x list → m.is_merkleized batch chain tip → IsOnChain list chain → m.stands after tip)
-      → ((list : List Operation) (chain : Chain) (tip : List Operation) → m.stands x list → m.is_merkleized batch chain tip → IsOnChain list chain → Appended m.members (m.inside x) (m.inside after) (map (spelling variable) (drop (length list) tip)))
-      → ((l : List Operation) → m.stands after l → size ≡ length l)
+      → Holds members means (Database x) table opened s
+      → AtTip means x batch (λ list chain tip. Fits means list chain)
+      → AtTip means x batch (λ list chain tip. IsOnChain list chain → means.stands after tip)
+      → AtTip means x batch (λ list chain tip. IsOnChain list chain → Appended members (means.inside x) (means.inside after) (map (spelling variable) (drop (length list) tip)))
+      → ((l : List Operation) → means.stands after l → size ≡ length l)
       → merkleized_of (get_or table h Gone) ≡ Some batch
-      → Goes (Reply (replies.Applied size)) (Database after) table opened (machine.apply scheme s h)
+      → Goes (Reply (replies.Applied size)) (Database after) table opened (machine.apply means.scheme s h)
   apply_ok x after table opened h batch size s k fit did grown sized e =
-      with_list m x s.had s.database s (λ list. apply_in scheme s h list (slot_at s.table h)) (Goes (Reply (replies.Applied size)) (Database after) table opened) k.database
+      with_list members means x s.had s.database s (λ list. apply_in means.scheme s h list (slot_at s.table h)) (Goes (Reply (replies.Applied size)) (Database after) table opened) k.database
       (λ list stands in_had. applied_in x after table opened h batch size s list k in_had (λ chain tip. fit list chain tip stands) (λ chain tip. did list chain tip stands) (λ chain tip. grown list chain tip stands) sized
       (get_or table h Gone) (slot_at s.table h) (k.slots h) e)
 
   pub apply_err : (x : X) (given : Given X C) (table : List (Slot B M)) (opened : ℕ) (h : ℕ) (batch : M) (error : Error) (s : State)
-      → Holds m (Database x) table opened s
-      → (error ≡ errors.StaleBatch → (given ≡ Database x) × ((list : List Operation) (chain : Chain) (tip : List Operation) → m.stands x list → m.is_merkleized batch chain tip → IsOnChain list chain → ⊥))
+      → Holds members means (Database x) table opened s
+      → (error ≡ errors.StaleBatch → (given ≡ Database x) × AtTip means x batch (λ list chain tip. ¬ IsOnChain list chain))
       → (error ≢ errors.StaleBatch → refusal_of error ≡ None)
       → merkleized_of (get_or table h Gone) ≡ Some batch
-      → Goes (turn_of_error error) given table opened (machine.apply scheme s h)
+      → Goes (turn_of_error error) given table opened (machine.apply means.scheme s h)
   apply_err x given table opened h batch error s k stale none e =
       by_error error _
       (λ is_stale. let facts = stale is_stale in
-      subst (λ g. Goes (Reply (replies.Refused refused.StaleBatch)) g table opened (machine.apply scheme s h)) (sym facts.0)
-      (with_list m x s.had s.database s (λ list. apply_in scheme s h list (slot_at s.table h)) (Goes (Reply (replies.Refused refused.StaleBatch)) (Database x) table opened) k.database
+      subst (λ g. Goes (Reply (replies.Refused refused.StaleBatch)) g table opened (machine.apply means.scheme s h)) (sym facts.0)
+      (with_list members means x s.had s.database s (λ list. apply_in means.scheme s h list (slot_at s.table h)) (Goes (Reply (replies.Refused refused.StaleBatch)) (Database x) table opened) k.database
       (λ list stands in_had. unapplied_in x table opened h batch s list k in_had (λ chain tip. facts.1 list chain tip stands)
       (get_or table h Gone) (slot_at s.table h) (k.slots h) e)))
       (λ r other told. absurd (none_some (none other) told))
 
   -- what an apply leaves in the store
   left_in : (x : X) (items : Option (List Bytes)) (table : List (Slot B M)) (opened : ℕ) (h : ℕ) (batch : M) (s : State) (list : List Operation)
-      → Holds m (Database x) table opened s → Contains s.had list → Apart root s.had
-      → ((chain : Chain) (tip : List Operation) → m.is_merkleized batch chain tip → (fits root (commitment root list) chain ≡ true → IsOnChain list chain)
-      → GrowsPart (m.members.items (m.inside x)) items (cond (fits root (commitment root list) chain) (map (spelling variable) (drop (length list) tip)) []))
-      → (a : Slot B M) (b : machine.Slot) → SlotIs m s.had a b → merkleized_of a ≡ Some batch
-      → IsLeft items s.store.items ((apply_in scheme s h list b).1).store.items
+      → Holds members means (Database x) table opened s → Contains s.had list → Apart root s.had
+      → ((chain : Chain) (tip : List Operation) → means.is_merkleized batch chain tip → (fits root (commitment root list) chain ≡ true → IsOnChain list chain)
+      → GrowsPart (members.items (means.inside x)) items (cond (fits root (commitment root list) chain) (map (spelling variable) (drop (length list) tip)) []))
+      → (a : Slot B M) (b : machine.Slot) → SlotIs members means s.had a b → merkleized_of a ≡ Some batch
+      → IsLeft items s.store.items ((apply_in means.scheme s h list b).1).store.items
   left_in x items table opened h batch s list k in_had apart grown (Merkleized w) (machine.merkleized chain tip) is e =
       let same : w ≡ batch = cc in
-      let batch_is : m.is_merkleized batch chain tip = subst (λ v. m.is_merkleized v chain tip) same is.0 in
+      let batch_is : means.is_merkleized batch chain tip = subst (λ v. means.is_merkleized v chain tip) same is.0 in
       let more : List Bytes = map (spelling variable) (drop (length list) tip) in
       let part = grown chain tip batch_is (λ fit. on_chain-fits root s.had list chain apart in_had is.1 fit) in
       let there : GrowsPart (Some s.store.items) items (cond (fits root (commitment root list) chain) more []) = subst (λ o. GrowsPart o items (cond (fits root (commitment root list) chain) more [])) k.store.items part in
@@ -344,11 +347,11 @@ module _ {X C B M K V D P : Type 0} (m : Meaning X C B M) (key : K → Bytes) (v
   left_in x items table opened h batch s list k in_had apart grown (Writing w) b is e = absurd (cc)
 
   pub apply_left : (x : X) (items : Option (List Bytes)) (table : List (Slot B M)) (opened : ℕ) (h : ℕ) (batch : M) (s : State)
-      → Holds m (Database x) table opened s → Apart root s.had
-      → ((list : List Operation) (chain : Chain) (tip : List Operation) → m.stands x list → m.is_merkleized batch chain tip → (fits root (commitment root list) chain ≡ true → IsOnChain list chain)
-      → GrowsPart (m.members.items (m.inside x)) items (cond (fits root (commitment root list) chain) (map (spelling variable) (drop (length list) tip)) []))
+      → Holds members means (Database x) table opened s → Apart root s.had
+      → ((list : List Operation) (chain : Chain) (tip : List Operation) → means.stands x list → means.is_merkleized batch chain tip → (fits root (commitment root list) chain ≡ true → IsOnChain list chain)
+      → GrowsPart (members.items (means.inside x)) items (cond (fits root (commitment root list) chain) (map (spelling variable) (drop (length list) tip)) []))
       → merkleized_of (get_or table h Gone) ≡ Some batch
-      → IsLeft items s.store.items ((machine.apply scheme s h).1).store.items
+      → IsLeft items s.store.items ((machine.apply means.scheme s h).1).store.items
   apply_left x items table opened h batch s k apart grown e =
-      with_list m x s.had s.database s (λ list. apply_in scheme s h list (slot_at s.table h)) (λ next. IsLeft items s.store.items (next.1).store.items) k.database
+      with_list members means x s.had s.database s (λ list. apply_in means.scheme s h list (slot_at s.table h)) (λ next. IsLeft items s.store.items (next.1).store.items) k.database
       (λ list stands in_had. left_in x items table opened h batch s list k in_had apart (λ chain tip. grown list chain tip stands) (get_or table h Gone) (slot_at s.table h) (k.slots h) e)

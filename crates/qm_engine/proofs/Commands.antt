@@ -35,9 +35,10 @@ use Rattle.qm_engine.specs.Table.{merkleized_of}
 use Rattle.qm_engine.specs.Turn.{turn_of_error}
 use Rattle.qm_store.specs.Refusals.{refusal_of, IsDue}
 use Rattle.qm_store.specs.declared.Store as stores
+use Rattle.qm_engine.specs.declared.words.Words as words
 use Rattle.qm_store.specs.Given.{store_given, Appended, AppendedPart, IsUnchanged, TellsAll}
 use Rattle.qm_engine.specs.Stores.{IsStored, told}
-use Rattle.qm_engine.specs.Session.{Meaning, HeldIs, SlotIs, Holds, IfReply, IsLeft, Answers}
+use Rattle.qm_engine.specs.Session.{HeldIs, SlotIs, Holds, IfReply, IsLeft, Answers}
 use Rattle.qm_engine.proofs.Tables.{set_at}
 
 -- what holds of both sides of a choice
@@ -124,14 +125,14 @@ by_refusal error Q each = by_error error Q (λ e. each refused.StaleBatch (ap re
 pub no_refusal : {K V D : Type 0} (error : Error) (Q : reply.Reply K V D → Type 0) → refusal_of error ≡ None → IfReply (turn_of_error error) Q
 no_refusal error Q none = by_refusal error Q (λ r told. absurd (none_some none told))
 
-module _ {X C B M : Type 0} (m : Meaning X C B M) where
-  pub HeldIs-more : (had : List (List Operation)) (new : List Operation) (held : Given X C) (d : Option (List Operation)) → HeldIs m had held d → HeldIs m (new ∷ had) held d
+module _ {X C B M : Type 0} (members : stores.Ghosts C) (means : words.Ghosts X C B M) where
+  pub HeldIs-more : (had : List (List Operation)) (new : List Operation) (held : Given X C) (d : Option (List Operation)) → HeldIs members means had held d → HeldIs members means (new ∷ had) held d
   HeldIs-more had new (Database x) (Some list) h = (h.0, Contains-more had new list h.1)
   HeldIs-more had new (Database x) None h = absurd h
   HeldIs-more had new (Store c) (Some list) h = absurd h
   HeldIs-more had new (Store c) None h = tt
 
-  pub SlotIs-more : (had : List (List Operation)) (new : List Operation) (a : Slot B M) (b : machine.Slot) → SlotIs m had a b → SlotIs m (new ∷ had) a b
+  pub SlotIs-more : (had : List (List Operation)) (new : List Operation) (a : Slot B M) (b : machine.Slot) → SlotIs members means had a b → SlotIs members means (new ∷ had) a b
   SlotIs-more had new Gone machine.gone h = tt
   SlotIs-more had new Gone (machine.writing chain above ws) h = absurd h
   SlotIs-more had new Gone (machine.merkleized chain tip) h = absurd h
@@ -144,35 +145,35 @@ module _ {X C B M : Type 0} (m : Meaning X C B M) where
 
   -- a database is open where one is held
   pub with_list : (x : X) (had : List (List Operation)) (d : Option (List Operation)) (s : State) (f : List Operation → Answer × State) (Q : Answer × State → Type 0)
-      → HeldIs m had (Database x) d → ((list : List Operation) → m.stands x list → Contains had list → Q (f list)) → Q (with_database s d f)
+      → HeldIs members means had (Database x) d → ((list : List Operation) → means.stands x list → Contains had list → Q (f list)) → Q (with_database s d f)
   with_list x had None s f Q h each = absurd h
   with_list x had (Some list) s f Q h each = each list h.0 h.1
 
   -- another database that stands for the same lists
-  pub HeldIs-kept : (x after : X) (had : List (List Operation)) (d : Option (List Operation)) → ((list : List Operation) → m.stands x list → m.stands after list) → HeldIs m had (Database x) d → HeldIs m had (Database after) d
+  pub HeldIs-kept : (x after : X) (had : List (List Operation)) (d : Option (List Operation)) → ((list : List Operation) → means.stands x list → means.stands after list) → HeldIs members means had (Database x) d → HeldIs members means had (Database after) d
   HeldIs-kept x after had None keeps h = absurd h
   HeldIs-kept x after had (Some list) keeps h = (keeps list h.0, h.1)
 
   -- the same places, with one set
-  pub slots_set : (table : List (Slot B M)) (s : State) (h : ℕ) (new : Slot B M) (slot : machine.Slot) → length table ≡ length s.table → ((i : ℕ) → SlotIs m s.had (get_or table i Gone) (slot_at s.table i))
-      → SlotIs m s.had new slot → (i : ℕ) → SlotIs m s.had (get_or (set table h new) i Gone) (slot_at (set s.table h slot) i)
-  slots_set table s h new slot e each is = set_at (SlotIs m s.had) Gone machine.gone tt table s.table h new slot e each is
+  pub slots_set : (table : List (Slot B M)) (s : State) (h : ℕ) (new : Slot B M) (slot : machine.Slot) → length table ≡ length s.table → ((i : ℕ) → SlotIs members means s.had (get_or table i Gone) (slot_at s.table i))
+      → SlotIs members means s.had new slot → (i : ℕ) → SlotIs members means s.had (get_or (set table h new) i Gone) (slot_at (set s.table h slot) i)
+  slots_set table s h new slot e each is = set_at (SlotIs members means s.had) Gone machine.gone tt table s.table h new slot e each is
 
   pub lengths_set : (table : List (Slot B M)) (s : State) (h : ℕ) (new : Slot B M) (slot : machine.Slot) → length table ≡ length s.table → length (set table h new) ≡ length (set s.table h slot)
   lengths_set table s h new slot e = length-set table h new ∙ e ∙ sym (length-set s.table h slot)
 
   -- the store of a database starts at 0, and tells its items
-  pub Holds-told : (x : X) (table : List (Slot B M)) (opened : ℕ) (s : State) → Holds m (Database x) table opened s → TellsAll m.members (m.inside x)
+  pub Holds-told : (x : X) (table : List (Slot B M)) (opened : ℕ) (s : State) → Holds members means (Database x) table opened s → TellsAll members (means.inside x)
   Holds-told x table opened s k = (k.store.start ∙ (k.whole tt).0, ap is_some k.store.items)
 
   -- a database that stands for the same lists, over what the store had
   abbrev pub Keeps : X → X → Type 0
-  Keeps x after = ((l : List Operation) → m.stands x l → m.stands after l) × IsUnchanged m.members (m.inside x) (m.inside after)
+  Keeps x after = ((l : List Operation) → means.stands x l → means.stands after l) × IsUnchanged members (means.inside x) (means.inside after)
 
-  pub Holds-kept : (x after : X) (table : List (Slot B M)) (opened : ℕ) (s : State) → Keeps x after → Holds m (Database x) table opened s → Holds m (Database after) table opened s
+  pub Holds-kept : (x after : X) (table : List (Slot B M)) (opened : ℕ) (s : State) → Keeps x after → Holds members means (Database x) table opened s → Holds members means (Database after) table opened s
   Holds-kept x after table opened s keeps k = record {
     database = HeldIs-kept x after s.had s.database keeps.0 k.database;
-    store = stored-same m.members (m.inside x) (m.inside after) s.store keeps.1 k.store;
+    store = stored-same members (means.inside x) (means.inside after) s.store keeps.1 k.store;
     whole = k.whole;
     count = k.count;
     lengths = k.lengths;
@@ -180,10 +181,10 @@ module _ {X C B M : Type 0} (m : Meaning X C B M) where
   }
 
   -- and whose batch number h is used up
-  pub Holds-used : (x after : X) (table : List (Slot B M)) (opened : ℕ) (h : ℕ) (s : State) → Keeps x after → Holds m (Database x) table opened s → Holds m (Database after) (set table h Gone) opened (with_slot s h machine.gone)
+  pub Holds-used : (x after : X) (table : List (Slot B M)) (opened : ℕ) (h : ℕ) (s : State) → Keeps x after → Holds members means (Database x) table opened s → Holds members means (Database after) (set table h Gone) opened (with_slot s h machine.gone)
   Holds-used x after table opened h s keeps k = record {
     database = HeldIs-kept x after s.had s.database keeps.0 k.database;
-    store = stored-same m.members (m.inside x) (m.inside after) s.store keeps.1 k.store;
+    store = stored-same members (means.inside x) (means.inside after) s.store keeps.1 k.store;
     whole = k.whole;
     count = k.count;
     lengths = lengths_set table s h Gone machine.gone k.lengths;
@@ -195,51 +196,51 @@ module _ {X C B M : Type 0} (m : Meaning X C B M) where
   merkleized_slot (Writing b) batch e = absurd (cc)
   merkleized_slot (Merkleized b) batch e = ap Merkleized (cc)
 
-module _ {X C B M K V D P : Type 0} (m : Meaning X C B M) (key : K → Bytes) (value : V → Bytes) (digest : D → Bytes) (scheme : Scheme P) where
+module _ {X C B M K V D : Type 0} (members : stores.Ghosts C) (means : words.Ghosts X C B M) (key : K → Bytes) (value : V → Bytes) (digest : D → Bytes) where
   abbrev root : List Operation → Bytes
-  root = scheme.root
+  root = means.scheme.root
 
   abbrev pub Turns : Turn K V D → Given X C → List (Slot B M) → ℕ → Answer × State → Type 0
-  Turns turn held table opened next = IfReply turn (λ r. Apart root (next.1).had → (answer_view key value digest r ≡ next.0) × Holds m held table opened next.1)
+  Turns turn held table opened next = IfReply turn (λ r. Apart root (next.1).had → (answer_view key value digest r ≡ next.0) × Holds members means held table opened next.1)
 
   -- an answer that leaves the state as it is
-  pub stays : (held : Given X C) (table : List (Slot B M)) (opened : ℕ) (s : State) (answer : Answer) (next : Answer × State) → next.1 ≡ s → Holds m held table opened s
-      → (Apart root s.had → answer ≡ next.0) → Apart root (next.1).had → (answer ≡ next.0) × Holds m held table opened next.1
+  pub stays : (held : Given X C) (table : List (Slot B M)) (opened : ℕ) (s : State) (answer : Answer) (next : Answer × State) → next.1 ≡ s → Holds members means held table opened s
+      → (Apart root s.had → answer ≡ next.0) → Apart root (next.1).had → (answer ≡ next.0) × Holds members means held table opened next.1
   stays held table opened s answer next same k is =
-      subst (λ t. Apart root t.had → (answer ≡ next.0) × Holds m held table opened t) (sym same) (λ apart. (is apart, k))
+      subst (λ t. Apart root t.had → (answer ≡ next.0) × Holds members means held table opened t) (sym same) (λ apart. (is apart, k))
 
-  pub answered : (turn : Turn K V D) (held : Given X C) (table : List (Slot B M)) (opened : ℕ) (s : State) (next : Answer × State) → next.1 ≡ s → Holds m held table opened s
-      → Answers key value digest root turn s next → Turns turn held table opened next
+  pub answered : (turn : Turn K V D) (held : Given X C) (table : List (Slot B M)) (opened : ℕ) (s : State) (next : Answer × State) → next.1 ≡ s → Holds members means held table opened s
+      → Answers members means key value digest turn s next → Turns turn held table opened next
   answered (Reply r) held table opened s next same k is = stays held table opened s (answer_view key value digest r) next same k is
   answered Memory held table opened s next same k is = tt
   answered StoreFault held table opened s next same k is = tt
 
   -- an error of a call that changes nothing
   pub unless_err : (x after : X) (table : List (Slot B M)) (opened : ℕ) (error : Error) (s : State) (due : List Operation → Option refusals.Refused) (answer : List Operation → Answer)
-      → Holds m (Database x) table opened s → Keeps m x after → ((list : List Operation) → m.stands x list → IsDue error (due list))
+      → Holds members means (Database x) table opened s → Keeps members means x after → ((list : List Operation) → means.stands x list → IsDue error (due list))
       → Turns (turn_of_error error) (Database after) table opened (with_database s s.database (λ list. unless s (due list) (answer list)))
   unless_err x after table opened error s due answer k keeps is =
-      by_refusal error _ (λ r told. with_list m x s.had s.database s (λ list. unless s (due list) (answer list)) (Turns (Reply (replies.Refused r)) (Database after) table opened) k.database
+      by_refusal error _ (λ r told. with_list members means x s.had s.database s (λ list. unless s (due list) (answer list)) (Turns (Reply (replies.Refused r)) (Database after) table opened) k.database
       (λ list stands in_had. subst (λ d. Turns (Reply (replies.Refused r)) (Database after) table opened (unless s d (answer list))) (sym (due_told (refusal_of error) (due list) (refused_view r) (is list stands) told))
-      (λ apart. (refl, Holds-kept m x after table opened s keeps k))))
+      (λ apart. (refl, Holds-kept members means x after table opened s keeps k))))
 
   -- an opening, as the machine's store decides it
   abbrev Opening : Turn K V D → Given X C → List (Slot B M) → ℕ → State → Option refusals.Refused → Type 0
   Opening turn held table opened s due = Turns turn held table opened (open_unless s due)
 
   -- there is a database, or the store is not empty
-  pub open_refused : (held : Given X C) (table : List (Slot B M)) (opened : ℕ) (s : State) → Holds m held table opened s
+  pub open_refused : (held : Given X C) (table : List (Slot B M)) (opened : ℕ) (s : State) → Holds members means held table opened s
       → 0 < s.store.start + length s.store.items
       → Turns (Reply (replies.Refused refused.NotOffered)) held table opened (machine.open_store s)
   open_refused held table opened s k above =
       subst (λ t. Opening (Reply (replies.Refused refused.NotOffered)) held table opened s (cond t (Some refusals.NotOffered) (head_refusal s.store.head))) (sym (lt-ltb 0 (s.store.start + length s.store.items) above)) (λ apart. (refl, k))
 
   -- a store that ends at 0, with no database
-  module _ (c : C) (table : List (Slot B M)) (opened : ℕ) (s : State) (k : Holds m (Store c) table opened s) (law : IfSome (m.members.items c) (λ xs. m.members.start c + length xs ≡ m.members.«end» c)) (none : m.members.«end» c ≡ 0) where
+  module _ (c : C) (table : List (Slot B M)) (opened : ℕ) (s : State) (k : Holds members means (Store c) table opened s) (law : IfSome (members.items c) (λ xs. members.start c + length xs ≡ members.«end» c)) (none : members.«end» c ≡ 0) where
     -- it starts at 0, and has no items
     counted : s.store.start + length s.store.items ≡ 0
     counted =
-        let ends = some_is (m.members.items c) s.store.items (λ xs. m.members.start c + length xs ≡ m.members.«end» c) k.store.items law in
+        let ends = some_is (members.items c) s.store.items (λ xs. members.start c + length xs ≡ members.«end» c) k.store.items law in
         ap (λ n. n + length s.store.items) (sym k.store.start) ∙ ends ∙ none
 
     no_items : s.store.items ≡ []
@@ -253,38 +254,38 @@ module _ {X C B M K V D P : Type 0} (m : Meaning X C B M) (key : K → Bytes) (v
     by_head : opening_refusal s.store ≡ head_refusal s.store.head
     by_head = ap (λ t. cond t (Some refusals.NotOffered) (head_refusal s.store.head)) (le-ltb 0 (s.store.start + length s.store.items) (omega (arith, counted)))
 
-    given_items : {more : List Bytes} (after : Option (List Bytes)) → Grows (m.members.items c) after more → after ≡ Some more
+    given_items : {more : List Bytes} (after : Option (List Bytes)) → Grows (members.items c) after more → after ≡ Some more
     given_items {more} after grows = subst (λ o. Grows o after more) (k.store.items ∙ ap Some no_items) grows
 
-    pub open_ok : (x : X) (start size : ℕ) → IfSome (m.members.items c) (λ _. m.stands x fresh) → IfSome (m.members.head c) (λ head. head_refusal head ≡ None) → Appended m.members c (m.inside x) (map (spelling variable) fresh)
-        → start ≡ m.members.start (m.inside x) → ((l : List Operation) → m.stands x l → size ≡ length l)
+    pub open_ok : (x : X) (start size : ℕ) → IfSome (members.items c) (λ _. means.stands x fresh) → IfSome (members.head c) (λ head. head_refusal head ≡ None) → Appended members c (means.inside x) (map (spelling variable) fresh)
+        → start ≡ members.start (means.inside x) → ((l : List Operation) → means.stands x l → size ≡ length l)
         → Turns (Reply (replies.Opened (opened + 1) start size)) (Database x) table (opened + 1) (machine.open_store s)
     open_ok x start size stood offered grown is_start sized =
-        let stands : m.stands x fresh = some_is (m.members.items c) s.store.items (λ _. m.stands x fresh) k.store.items stood in
-        let due : head_refusal s.store.head ≡ None = some_is (m.members.head c) s.store.head (λ head. head_refusal head ≡ None) k.store.head offered in
+        let stands : means.stands x fresh = some_is (members.items c) s.store.items (λ _. means.stands x fresh) k.store.items stood in
+        let due : head_refusal s.store.head ≡ None = some_is (members.head c) s.store.head (λ head. head_refusal head ≡ None) k.store.head offered in
         let zero_start : s.store.start ≡ 0 = omega (arith, counted) in
         subst (Opening (Reply (replies.Opened (opened + 1) start size)) (Database x) table (opened + 1) s) (sym (by_head ∙ due)) (λ apart. (
           rw (k.count, is_start ∙ grown.start ∙ k.store.start ∙ zero_start, sized fresh stands) refl,
           record {
             database = (stands, Contains-first fresh s.had);
-            store = record { start = grown.start ∙ k.store.start; head = grown.head ∙ k.store.head; items = given_items (m.members.items (m.inside x)) grown.items };
+            store = record { start = grown.start ∙ k.store.start; head = grown.head ∙ k.store.head; items = given_items (members.items (means.inside x)) grown.items };
             whole = λ _. (zero_start, omega arith);
             count = ap (λ n. n + 1) k.count;
             lengths = k.lengths;
-            slots = λ h. SlotIs-more m s.had fresh (get_or table h Gone) (slot_at s.table h) (k.slots h);
+            slots = λ h. SlotIs-more members means s.had fresh (get_or table h Gone) (slot_at s.table h) (k.slots h);
           },
         ))
 
     -- a store alone that stands for it, too
-    alone : (after : C) (d : Option (List Operation)) → HeldIs m s.had (Store c) d → HeldIs m s.had (Store after) d
+    alone : (after : C) (d : Option (List Operation)) → HeldIs members means s.had (Store c) d → HeldIs members means s.had (Store after) d
     alone after None is = tt
     alone after (Some list) is = absurd is
 
-    refused_store : (given : Given X C) → ((x : X) → given ≡ Database x → ⊥) → IsUnchanged m.members c (store_given m.inside given) → Holds m given table opened s
+    refused_store : (given : Given X C) → ((x : X) → given ≡ Database x → ⊥) → IsUnchanged members c (store_given means.inside given) → Holds members means given table opened s
     refused_store (Database x) back same = absurd (back x refl)
     refused_store (Store after) back same = record {
       database = alone after s.database k.database;
-      store = stored-same m.members c after s.store same k.store;
+      store = stored-same members c after s.store same k.store;
       whole = λ is_open. absurd is_open;
       count = k.count;
       lengths = k.lengths;
@@ -293,27 +294,27 @@ module _ {X C B M K V D P : Type 0} (m : Meaning X C B M) (key : K → Bytes) (v
 
     -- what is told of a store whose head is not that of a start at 0
     abbrev pub Unopened : C → Type 0
-    Unopened after = IfSome (m.members.head c) (λ head. IsSome (head_refusal head) → IsUnchanged m.members c after)
+    Unopened after = IfSome (members.head c) (λ head. IsSome (head_refusal head) → IsUnchanged members c after)
 
-    unopened : (after : C) (r : refusals.Refused) → head_refusal s.store.head ≡ Some r → Unopened after → IsUnchanged m.members c after
-    unopened after r due same = some_is (m.members.head c) s.store.head (λ head. IsSome (head_refusal head) → IsUnchanged m.members c after) k.store.head same (ap is_some due)
+    unopened : (after : C) (r : refusals.Refused) → head_refusal s.store.head ≡ Some r → Unopened after → IsUnchanged members c after
+    unopened after r due same = some_is (members.head c) s.store.head (λ head. IsSome (head_refusal head) → IsUnchanged members c after) k.store.head same (ap is_some due)
 
-    pub open_err : (given : Given X C) (error : Error) → IfSome (m.members.head c) (λ head. IsDue error (head_refusal head)) → Unopened (store_given m.inside given) → ((x : X) → given ≡ Database x → ⊥)
+    pub open_err : (given : Given X C) (error : Error) → IfSome (members.head c) (λ head. IsDue error (head_refusal head)) → Unopened (store_given means.inside given) → ((x : X) → given ≡ Database x → ⊥)
         → Turns (turn_of_error error) given table opened (machine.open_store s)
     open_err given error why same back =
         by_refusal error _ (λ r told.
         let due : head_refusal s.store.head ≡ Some (refused_view r) =
-        due_told (refusal_of error) (head_refusal s.store.head) (refused_view r) (some_is (m.members.head c) s.store.head (λ head. IsDue error (head_refusal head)) k.store.head why) told in
-        subst (Opening (Reply (replies.Refused r)) given table opened s) (sym (by_head ∙ due)) (λ apart. (refl, refused_store given back (unopened (store_given m.inside given) (refused_view r) due same))))
+        due_told (refusal_of error) (head_refusal s.store.head) (refused_view r) (some_is (members.head c) s.store.head (λ head. IsDue error (head_refusal head)) k.store.head why) told in
+        subst (Opening (Reply (replies.Refused r)) given table opened s) (sym (by_head ∙ due)) (λ apart. (refl, refused_store given back (unopened (store_given means.inside given) (refused_view r) due same))))
 
-    pub open_left : (after : C) → Unopened after → AppendedPart m.members c after (map (spelling variable) fresh)
-        → IsLeft (m.members.items after) s.store.items ((machine.open_store s).1).store.items
+    pub open_left : (after : C) → Unopened after → AppendedPart members c after (map (spelling variable) fresh)
+        → IsLeft (members.items after) s.store.items ((machine.open_store s).1).store.items
     open_left after same grown =
-        subst (λ due. IsLeft (m.members.items after) s.store.items ((open_unless s due).1).store.items) (sym by_head) (by (head_refusal s.store.head) refl)
+        subst (λ due. IsLeft (members.items after) s.store.items ((open_unless s due).1).store.items) (sym by_head) (by (head_refusal s.store.head) refl)
       where
-        by : (due : Option refusals.Refused) → head_refusal s.store.head ≡ due → IsLeft (m.members.items after) s.store.items ((open_unless s due).1).store.items
-        by (Some r) is = left_none s.store.items s.store.items (m.members.items after) ((unopened after r is same).items ∙ k.store.items)
+        by : (due : Option refusals.Refused) → head_refusal s.store.head ≡ due → IsLeft (members.items after) s.store.items ((open_unless s due).1).store.items
+        by (Some r) is = left_none s.store.items s.store.items (members.items after) ((unopened after r is same).items ∙ k.store.items)
         by None is =
             let more : List Bytes = map (spelling variable) fresh in
-            let there : GrowsPart (Some []) (m.members.items after) more = subst (λ o. GrowsPart o (m.members.items after) more) (k.store.items ∙ ap Some no_items) grown.items in
-            subst (λ xs. IsLeft (m.members.items after) xs more) (sym no_items) (left_part [] more (m.members.items after) there)
+            let there : GrowsPart (Some []) (members.items after) more = subst (λ o. GrowsPart o (members.items after) more) (k.store.items ∙ ap Some no_items) grown.items in
+            subst (λ xs. IsLeft (members.items after) xs more) (sym no_items) (left_part [] more (members.items after) there)

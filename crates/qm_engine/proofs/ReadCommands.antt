@@ -15,6 +15,8 @@ use Rattle.qm_base.specs.declared.error.Error.{Error}
 use Rattle.qm_base.specs.declared.error.Error.TheVariants as errors
 use Rattle.qm_lines.specs.Views.{refused_view}
 use Rattle.qm_lines.specs.declared.reply.Refused.{Refused}
+use Rattle.qm_store.specs.declared.Store as stores
+use Rattle.qm_engine.specs.declared.words.Words as words
 use Rattle.qm_store.specs.declared.refusal.Given.{Given}
 use Rattle.qm_store.specs.declared.refusal.Given.TheVariants.{Database}
 use Rattle.qm_engine.specs.declared.table.Slot.{Slot}
@@ -24,7 +26,8 @@ use Rattle.qm_engine.specs.Table.{merkleized_of}
 use Rattle.qm_engine.specs.Turn.{turn_of_error}
 use Rattle.qm_store.specs.Refusals.{refusal_of}
 use Rattle.qm_store.specs.Given.{IsUnchanged}
-use Rattle.qm_engine.specs.Session.{Meaning, SlotIs, Holds, Answers}
+use Rattle.qm_engine.specs.Words.{CanRead, IsReadFailure}
+use Rattle.qm_engine.specs.Session.{SlotIs, Holds, Answers}
 use Rattle.qm_engine.proofs.Commands.{choice, none_some, refuses, by_refusal, with_list, Holds-kept, Turns, answered}
 
 -- whether an error tells that a read is stale
@@ -42,25 +45,24 @@ pub map-through : {A B E : Type 0} (f : A → B) (g : B → E) (xs : List A) →
 map-through f g [] = refl
 map-through f g (x ∷ xs) = ap (λ r. g (f x) ∷ r) (map-through f g xs)
 
-module _ {X C B M K V D P : Type 0} (m : Meaning X C B M) (key : K → Bytes) (value : V → Bytes) (digest : D → Bytes) (scheme : Scheme P) where
+module _ {X C B M K V D : Type 0} (members : stores.Ghosts C) (means : words.Ghosts X C B M) (key : K → Bytes) (value : V → Bytes) (digest : D → Bytes) where
   abbrev root : List Operation → Bytes
-  root = scheme.root
+  root = means.scheme.root
 
   abbrev Goes : Turn K V D → Given X C → List (Slot B M) → ℕ → Answer × State → Type 0
-  Goes = Turns m key value digest scheme
+  Goes = Turns members means key value digest
 
   -- what is read where that is allowed
   pub readable_ok : (s : State) (list : List Operation) (chain : Chain) (tip : List Operation) (got answer : Answer) → Contains s.had list → IsAmong s.had chain → Contains s.had tip
-      → readable root (commitment root list) chain tip ≡ true → (IsKnown list chain tip → got ≡ answer) → Apart root s.had → got ≡ (if_readable scheme s list chain tip answer).0
+      → CanRead means list chain tip → (IsKnown list chain tip → got ≡ answer) → Apart root s.had → got ≡ (if_readable means.scheme s list chain tip answer).0
   readable_ok s list chain tip got answer in_had among tip_in can is apart =
       subst (λ t. got ≡ (cond t (answer, s) (refuse s refusals.StaleRead)).0) (sym can) (is (known-readable root s.had list chain tip apart in_had among tip_in can))
 
   -- and what an error of such a read comes to
   pub readable_err : (s : State) (list : List Operation) (chain : Chain) (tip : List Operation) (error : Error) (answer : Answer) → Contains s.had list → IsAmong s.had chain → Contains s.had tip
-      → (error ≡ errors.StaleRead → IsKnown list chain tip → ⊥) → (error ≢ errors.StaleRead → IsKnown list chain tip → refusal_of error ≡ None)
-      → (error ≢ errors.StaleRead → error ≢ errors.Memory → readable root (commitment root list) chain tip ≡ true)
-      → Answers key value digest root (turn_of_error error) s (if_readable scheme s list chain tip answer)
-  readable_err s list chain tip error answer in_had among tip_in stale none order =
+      → (tells : Type 0) → tells → IsReadFailure means tells list chain tip error
+      → Answers members means key value digest (turn_of_error error) s (if_readable means.scheme s list chain tip answer)
+  readable_err s list chain tip error answer in_had among tip_in tells told_all why =
       by_refusal error _ (λ r told apart. by apart r told (is_stale_read error))
     where
       Goal : Refused → Bool → Type 0
@@ -71,90 +73,84 @@ module _ {X C B M K V D P : Type 0} (m : Meaning X C B M) (key : K → Bytes) (v
 
       by : Apart root s.had → (r : Refused) → refusal_of error ≡ Some (refused_view r) → (error ≡ errors.StaleRead) ⊎ (error ≢ errors.StaleRead) → Goal r (readable root (commitment root list) chain tip)
       by apart r told (inl is) = choice (readable root (commitment root list) chain tip) (answer, s) (refuse s refusals.StaleRead) (λ next. lines.Refuses (refused_view r) ≡ next.0)
-          (λ can. absurd (stale is (known apart can)))
+          (λ can. absurd (why.stale is (known apart can)))
           (λ not. ap refuses (sym told ∙ ap refusal_of is))
       by apart r told (inr other) =
-          let can : readable root (commitment root list) chain tip ≡ true = order other (λ is. none_some (ap refusal_of is) told) in
-          absurd (none_some (none other (known apart can)) told)
+          let can : readable root (commitment root list) chain tip ≡ true = why.order other (λ is. none_some (ap refusal_of is) told) in
+          absurd (none_some (why.refused other told_all (known apart can)) told)
 
   -- a read leaves the state as it is
-  pub readable_state : (s : State) (list : List Operation) (chain : Chain) (tip : List Operation) (answer : Answer) → (if_readable scheme s list chain tip answer).1 ≡ s
+  pub readable_state : (s : State) (list : List Operation) (chain : Chain) (tip : List Operation) (answer : Answer) → (if_readable means.scheme s list chain tip answer).1 ≡ s
   readable_state s list chain tip answer =
       choice (readable root (commitment root list) chain tip) (answer, s) (refuse s refusals.StaleRead) (λ next. next.1 ≡ s) (λ can. refl) (λ not. refl)
 
   -- through a batch, and through a merkleized one
-  pub written_ok : (s : State) (list : List Operation) (h : ℕ) (keys : List Bytes) (batch : B) (values : List (Option Bytes)) (named : machine.Slot) → Contains s.had list → SlotIs m s.had (Writing batch) named
-      → ((chain above : Chain) (ws : List Write) → m.is_batch batch chain above ws → readable root (commitment root list) above chain.base ≡ true)
-      → ((chain above : Chain) (ws : List Write) → m.is_batch batch chain above ws → IsKnown list above chain.base → values ≡ map (read_through chain.base ws) keys)
-      → Apart root s.had → lines.Read values ≡ (read_in scheme s h keys list named).0
+  pub written_ok : (s : State) (list : List Operation) (h : ℕ) (keys : List Bytes) (batch : B) (values : List (Option Bytes)) (named : machine.Slot) → Contains s.had list → SlotIs members means s.had (Writing batch) named
+      → ((chain above : Chain) (ws : List Write) → means.is_batch batch chain above ws → CanRead means list above chain.base)
+      → ((chain above : Chain) (ws : List Write) → means.is_batch batch chain above ws → IsKnown list above chain.base → values ≡ map (read_through chain.base ws) keys)
+      → Apart root s.had → lines.Read values ≡ (read_in means.scheme s h keys list named).0
   written_ok s list h keys batch values machine.gone in_had is can are = absurd is
   written_ok s list h keys batch values (machine.merkleized chain tip) in_had is can are = absurd is
   written_ok s list h keys batch values (machine.writing chain above ws) in_had is can are =
       readable_ok s list above chain.base (lines.Read values) (lines.Read (map (read_through chain.base ws) keys)) in_had is.2 (is.1).base (can chain above ws is.0) (λ known. ap lines.Read (are chain above ws is.0 known))
 
-  pub written_err : (s : State) (list : List Operation) (h : ℕ) (keys : List Bytes) (batch : B) (error : Error) (named : machine.Slot) → Contains s.had list → SlotIs m s.had (Writing batch) named
-      → (error ≡ errors.StaleRead → (chain above : Chain) (ws : List Write) → m.is_batch batch chain above ws → IsKnown list above chain.base → ⊥)
-      → (error ≢ errors.StaleRead → (chain above : Chain) (ws : List Write) → m.is_batch batch chain above ws → IsKnown list above chain.base → refusal_of error ≡ None)
-      → (error ≢ errors.StaleRead → error ≢ errors.Memory → (chain above : Chain) (ws : List Write) → m.is_batch batch chain above ws → readable root (commitment root list) above chain.base ≡ true)
-      → Answers key value digest root (turn_of_error error) s (read_in scheme s h keys list named)
-  written_err s list h keys batch error machine.gone in_had is stale none order = absurd is
-  written_err s list h keys batch error (machine.merkleized chain tip) in_had is stale none order = absurd is
-  written_err s list h keys batch error (machine.writing chain above ws) in_had is stale none order =
-      readable_err s list above chain.base error (lines.Read (map (read_through chain.base ws) keys)) in_had is.2 (is.1).base
-      (λ e. stale e chain above ws is.0) (λ e. none e chain above ws is.0) (λ e f. order e f chain above ws is.0)
+  pub written_err : (s : State) (list : List Operation) (h : ℕ) (keys : List Bytes) (batch : B) (error : Error) (named : machine.Slot) → Contains s.had list → SlotIs members means s.had (Writing batch) named
+      → (tells : Type 0) → tells → ((chain above : Chain) (ws : List Write) → means.is_batch batch chain above ws → IsReadFailure means tells list above chain.base error)
+      → Answers members means key value digest (turn_of_error error) s (read_in means.scheme s h keys list named)
+  written_err s list h keys batch error machine.gone in_had is tells told_all why = absurd is
+  written_err s list h keys batch error (machine.merkleized chain tip) in_had is tells told_all why = absurd is
+  written_err s list h keys batch error (machine.writing chain above ws) in_had is tells told_all why =
+      readable_err s list above chain.base error (lines.Read (map (read_through chain.base ws) keys)) in_had is.2 (is.1).base tells told_all (why chain above ws is.0)
 
-  pub made_ok : (s : State) (list : List Operation) (h : ℕ) (keys : List Bytes) (batch : M) (values : List (Option Bytes)) (named : machine.Slot) → Contains s.had list → SlotIs m s.had (Merkleized batch) named
-      → ((chain : Chain) (tip : List Operation) → m.is_merkleized batch chain tip → readable root (commitment root list) chain tip ≡ true)
-      → ((chain : Chain) (tip : List Operation) → m.is_merkleized batch chain tip → IsKnown list chain tip → values ≡ map (value_of tip) keys)
-      → Apart root s.had → lines.Read values ≡ (read_in scheme s h keys list named).0
+  pub made_ok : (s : State) (list : List Operation) (h : ℕ) (keys : List Bytes) (batch : M) (values : List (Option Bytes)) (named : machine.Slot) → Contains s.had list → SlotIs members means s.had (Merkleized batch) named
+      → ((chain : Chain) (tip : List Operation) → means.is_merkleized batch chain tip → CanRead means list chain tip)
+      → ((chain : Chain) (tip : List Operation) → means.is_merkleized batch chain tip → IsKnown list chain tip → values ≡ map (value_of tip) keys)
+      → Apart root s.had → lines.Read values ≡ (read_in means.scheme s h keys list named).0
   made_ok s list h keys batch values machine.gone in_had is can are = absurd is
   made_ok s list h keys batch values (machine.writing chain above ws) in_had is can are = absurd is
   made_ok s list h keys batch values (machine.merkleized chain tip) in_had is can are =
       readable_ok s list chain tip (lines.Read values) (lines.Read (map (value_of tip) keys)) in_had is.1 is.2 (can chain tip is.0) (λ known. ap lines.Read (are chain tip is.0 known))
 
-  pub made_err : (s : State) (list : List Operation) (h : ℕ) (keys : List Bytes) (batch : M) (error : Error) (named : machine.Slot) → Contains s.had list → SlotIs m s.had (Merkleized batch) named
-      → (error ≡ errors.StaleRead → (chain : Chain) (tip : List Operation) → m.is_merkleized batch chain tip → IsKnown list chain tip → ⊥)
-      → (error ≢ errors.StaleRead → (chain : Chain) (tip : List Operation) → m.is_merkleized batch chain tip → IsKnown list chain tip → refusal_of error ≡ None)
-      → (error ≢ errors.StaleRead → error ≢ errors.Memory → (chain : Chain) (tip : List Operation) → m.is_merkleized batch chain tip → readable root (commitment root list) chain tip ≡ true)
-      → Answers key value digest root (turn_of_error error) s (read_in scheme s h keys list named)
-  made_err s list h keys batch error machine.gone in_had is stale none order = absurd is
-  made_err s list h keys batch error (machine.writing chain above ws) in_had is stale none order = absurd is
-  made_err s list h keys batch error (machine.merkleized chain tip) in_had is stale none order =
-      readable_err s list chain tip error (lines.Read (map (value_of tip) keys)) in_had is.1 is.2
-      (λ e. stale e chain tip is.0) (λ e. none e chain tip is.0) (λ e f. order e f chain tip is.0)
+  pub made_err : (s : State) (list : List Operation) (h : ℕ) (keys : List Bytes) (batch : M) (error : Error) (named : machine.Slot) → Contains s.had list → SlotIs members means s.had (Merkleized batch) named
+      → (tells : Type 0) → tells → ((chain : Chain) (tip : List Operation) → means.is_merkleized batch chain tip → IsReadFailure means tells list chain tip error)
+      → Answers members means key value digest (turn_of_error error) s (read_in means.scheme s h keys list named)
+  made_err s list h keys batch error machine.gone in_had is tells told_all why = absurd is
+  made_err s list h keys batch error (machine.writing chain above ws) in_had is tells told_all why = absurd is
+  made_err s list h keys batch error (machine.merkleized chain tip) in_had is tells told_all why =
+      readable_err s list chain tip error (lines.Read (map (value_of tip) keys)) in_had is.1 is.2 tells told_all (why chain tip is.0)
 
-  read_state-in : (s : State) (h : ℕ) (keys : List Bytes) (list : List Operation) (named : machine.Slot) → (read_in scheme s h keys list named).1 ≡ s
+  read_state-in : (s : State) (h : ℕ) (keys : List Bytes) (list : List Operation) (named : machine.Slot) → (read_in means.scheme s h keys list named).1 ≡ s
   read_state-in s h keys list machine.gone = refl
   read_state-in s h keys list (machine.writing chain above ws) = readable_state s list above chain.base (lines.Read (map (read_through chain.base ws) keys))
   read_state-in s h keys list (machine.merkleized chain tip) = readable_state s list chain tip (lines.Read (map (value_of tip) keys))
 
   -- over a database, what is read through a batch number
-  pub named_read : (turn : Turn K V D) (x after : X) (table : List (Slot B M)) (opened h : ℕ) (keys : List Bytes) (s : State) → Holds m (Database x) table opened s
-      → ((l : List Operation) → m.stands x l → m.stands after l) → IsUnchanged m.members (m.inside x) (m.inside after)
-      → ((list : List Operation) (named : machine.Slot) → m.stands x list → Contains s.had list → SlotIs m s.had (get_or table h Gone) named
-      → Answers key value digest root turn s (read_in scheme s h keys list named))
-      → Goes turn (Database after) table opened (machine.read scheme s keys (Some h))
+  pub named_read : (turn : Turn K V D) (x after : X) (table : List (Slot B M)) (opened h : ℕ) (keys : List Bytes) (s : State) → Holds members means (Database x) table opened s
+      → ((l : List Operation) → means.stands x l → means.stands after l) → IsUnchanged members (means.inside x) (means.inside after)
+      → ((list : List Operation) (named : machine.Slot) → means.stands x list → Contains s.had list → SlotIs members means s.had (get_or table h Gone) named
+      → Answers members means key value digest turn s (read_in means.scheme s h keys list named))
+      → Goes turn (Database after) table opened (machine.read means.scheme s keys (Some h))
   named_read turn x after table opened h keys s k keeps same_store told =
-      with_list m x s.had s.database s (λ list. read_in scheme s h keys list (slot_at s.table h)) (Goes turn (Database after) table opened) k.database
-      (λ list stands in_had. answered m key value digest scheme turn (Database after) table opened s (read_in scheme s h keys list (slot_at s.table h)) (read_state-in s h keys list (slot_at s.table h))
-      (Holds-kept m x after table opened s (keeps, same_store) k) (told list (slot_at s.table h) stands in_had (k.slots h)))
+      with_list members means x s.had s.database s (λ list. read_in means.scheme s h keys list (slot_at s.table h)) (Goes turn (Database after) table opened) k.database
+      (λ list stands in_had. answered members means key value digest turn (Database after) table opened s (read_in means.scheme s h keys list (slot_at s.table h)) (read_state-in s h keys list (slot_at s.table h))
+      (Holds-kept members means x after table opened s (keeps, same_store) k) (told list (slot_at s.table h) stands in_had (k.slots h)))
 
   -- over a database, what is read of it
-  pub database_read : (x after : X) (table : List (Slot B M)) (opened : ℕ) (keys : List Bytes) (values : List (Option Bytes)) (s : State) → Holds m (Database x) table opened s
-      → ((l : List Operation) → m.stands x l → m.stands after l) → IsUnchanged m.members (m.inside x) (m.inside after)
-      → ((list : List Operation) → m.stands x list → values ≡ map (value_of list) keys)
-      → (lines.Read values ≡ (machine.read scheme s keys None).0) × Holds m (Database after) table opened (machine.read scheme s keys None).1
+  pub database_read : (x after : X) (table : List (Slot B M)) (opened : ℕ) (keys : List Bytes) (values : List (Option Bytes)) (s : State) → Holds members means (Database x) table opened s
+      → ((l : List Operation) → means.stands x l → means.stands after l) → IsUnchanged members (means.inside x) (means.inside after)
+      → ((list : List Operation) → means.stands x list → values ≡ map (value_of list) keys)
+      → (lines.Read values ≡ (machine.read means.scheme s keys None).0) × Holds members means (Database after) table opened (machine.read means.scheme s keys None).1
   database_read x after table opened keys values s k keeps same_store are =
-      with_list m x s.had s.database s (λ list. (lines.Read (map (value_of list) keys), s)) (λ next. (lines.Read values ≡ next.0) × Holds m (Database after) table opened next.1) k.database
-      (λ list stands in_had. (ap lines.Read (are list stands), Holds-kept m x after table opened s (keeps, same_store) k))
+      with_list members means x s.had s.database s (λ list. (lines.Read (map (value_of list) keys), s)) (λ next. (lines.Read values ≡ next.0) × Holds members means (Database after) table opened next.1) k.database
+      (λ list stands in_had. (ap lines.Read (are list stands), Holds-kept members means x after table opened s (keeps, same_store) k))
 
-  pub ops_ok : (held : Given X C) (table : List (Slot B M)) (opened : ℕ) (h base : ℕ) (own : List Operation) (batch : M) (s : State) → Holds m held table opened s
-      → ((chain : Chain) (tip : List Operation) → m.is_merkleized batch chain tip → (base ≡ length chain.base) × (own ≡ own_operations chain tip))
-      → (a : Slot B M) (b : machine.Slot) → SlotIs m s.had a b → merkleized_of a ≡ Some batch
-      → (lines.Listed base own ≡ (list_operations s h b).0) × Holds m held table opened (list_operations s h b).1
+  pub ops_ok : (held : Given X C) (table : List (Slot B M)) (opened : ℕ) (h base : ℕ) (own : List Operation) (batch : M) (s : State) → Holds members means held table opened s
+      → ((chain : Chain) (tip : List Operation) → means.is_merkleized batch chain tip → (base ≡ length chain.base) × (own ≡ own_operations chain tip))
+      → (a : Slot B M) (b : machine.Slot) → SlotIs members means s.had a b → merkleized_of a ≡ Some batch
+      → (lines.Listed base own ≡ (list_operations s h b).0) × Holds members means held table opened (list_operations s h b).1
   ops_ok held table opened h base own batch s k listed (Merkleized w) (machine.merkleized chain tip) is e =
       let same : w ≡ batch = cc in
-      let facts = listed chain tip (subst (λ v. m.is_merkleized v chain tip) same is.0) in
+      let facts = listed chain tip (subst (λ v. means.is_merkleized v chain tip) same is.0) in
       (ap₂ lines.Listed facts.0 facts.1, k)
   ops_ok held table opened h base own batch s k listed (Merkleized w) machine.gone is e = absurd is
   ops_ok held table opened h base own batch s k listed (Merkleized w) (machine.writing chain above ws) is e = absurd is

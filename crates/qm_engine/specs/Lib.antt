@@ -1,6 +1,7 @@
 pub mod Table
 pub mod Turn
 pub mod Stores
+pub mod Words
 pub mod Session
 pub mod Runs
 pub mod Answered

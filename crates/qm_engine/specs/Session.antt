@@ -2,16 +2,14 @@
 use Rattle.std.specs.Prelude.{◌≡◌, ◌≤◌, ◌<◌, ℕ, List, ◌++◌, take, drop, length, Contains, Option, Some, None, slice_index_or}
 use Rattle.qm_model.specs.Causes.{Rose}
 use Rattle.qm_model.specs.Operations.{Bytes, Operation}
-use Rattle.qm_model.specs.Writes.{Write}
-use Rattle.qm_model.specs.Batches.{Chain, IsAmong, Apart}
+use Rattle.qm_model.specs.Batches.{IsAmong, Apart}
 use Rattle.qm_machine.specs.Lines.{Answer}
-use Rattle.qm_model.specs.Policies.{Policy, policies}
 use Rattle.qm_machine.specs.Machine.{Scheme, Stored, State, slot_at}
 use Rattle.qm_machine.specs.Machine as machine
 use Rattle.qm_lines.specs.Views.{answer_view}
 use Rattle.qm_lines.specs.declared.reply.Reply as reply
 use Rattle.qm_store.specs.declared.Store as store
-use Rattle.qm_engine.specs.declared.engine.Engine as engine
+use Rattle.qm_engine.specs.declared.words.Words as words
 use Rattle.qm_store.specs.declared.refusal.Given.{Given}
 use Rattle.qm_store.specs.declared.refusal.Given.TheVariants.{Database, Store}
 use Rattle.qm_engine.specs.declared.table.Slot.{Slot}
@@ -22,22 +20,6 @@ use Rattle.qm_engine.specs.declared.session.Turn.TheVariants.{Reply, Memory, Sto
 use Rattle.qm_store.specs.Given.{store_given}
 use Rattle.qm_engine.specs.Stores.{IsStored}
 
--- what the engine's values stand for, over its store
-pub record Meaning (X C B M : Type 0) : Type 1 where
-  pub members : store.Ghosts C
-  pub inside : X → C
-  pub stands : X → List Operation → Type 0
-  pub is_batch : B → Chain → Chain → List Write → Type 0
-  pub is_merkleized : M → Chain → List Operation → Type 0
-
--- that of a bound on an engine and on its store
-abbrev pub meaning : {X C K V D F B M : Type 0} → engine.Ghosts X C K V D F B M → store.Ghosts C → Meaning X C B M
-meaning x c = record { members = c; inside = x.inside; stands = x.stands; is_batch = x.is_batch; is_merkleized = x.is_merkleized }
-
--- the machine of an engine: its kind, root, boundary, proofs and pins, under the policies
-abbrev pub scheme_of : {X C K V D F B M : Type 0} → engine.Ghosts X C K V D F B M → Scheme Policy
-scheme_of x = record { kind = x.kind; rules = policies; root = x.root; boundary = x.boundary; proof = x.proof; pins = x.pins }
-
 -- a database is held
 abbrev pub IsOpen : {X C : Type 0} → Given X C → Type 0
 IsOpen (Database x) = Unit {0}
@@ -47,10 +29,10 @@ IsOpen (Store c) = ⊥
 abbrev pub IsWhole : Stored → Type 0
 IsWhole stored = (stored.start ≡ 0) × (0 < length stored.items)
 
-module _ {X C B M : Type 0} (m : Meaning X C B M) where
+module _ {X C B M : Type 0} (members : store.Ghosts C) (means : words.Ghosts X C B M) where
   -- the database stands for the machine's list, one of those that the run has had; without one there is a store alone
   abbrev pub HeldIs : List (List Operation) → Given X C → Option (List Operation) → Type 0
-  HeldIs had (Database x) (Some list) = m.stands x list × Contains had list
+  HeldIs had (Database x) (Some list) = means.stands x list × Contains had list
   HeldIs had (Database x) None = ⊥
   HeldIs had (Store c) (Some list) = ⊥
   HeldIs had (Store c) None = Unit {0}
@@ -61,16 +43,16 @@ module _ {X C B M : Type 0} (m : Meaning X C B M) where
   SlotIs had Gone (machine.writing chain above ws) = ⊥
   SlotIs had Gone (machine.merkleized chain tip) = ⊥
   SlotIs had (Writing b) machine.gone = ⊥
-  SlotIs had (Writing b) (machine.writing chain above ws) = m.is_batch b chain above ws × IsAmong had chain × IsAmong had above
+  SlotIs had (Writing b) (machine.writing chain above ws) = means.is_batch b chain above ws × IsAmong had chain × IsAmong had above
   SlotIs had (Writing b) (machine.merkleized chain tip) = ⊥
   SlotIs had (Merkleized b) machine.gone = ⊥
   SlotIs had (Merkleized b) (machine.writing chain above ws) = ⊥
-  SlotIs had (Merkleized b) (machine.merkleized chain tip) = m.is_merkleized b chain tip × IsAmong had chain × Contains had tip
+  SlotIs had (Merkleized b) (machine.merkleized chain tip) = means.is_merkleized b chain tip × IsAmong had chain × Contains had tip
 
   -- what is held stands for this state
   pub record Holds (held : Given X C) (table : List (Slot B M)) (opened : ℕ) (s : State) : Type 0 where
     pub database : HeldIs s.had held s.database
-    pub store : IsStored m.members (store_given m.inside held) s.store
+    pub store : IsStored members (store_given means.inside held) s.store
     pub whole : IsOpen held → IsWhole s.store
     pub count : opened ≡ s.opened
     pub lengths : length table ≡ length s.table
@@ -86,32 +68,34 @@ IfReply (Reply r) P = P r
 IfReply Memory P = Unit {0}
 IfReply StoreFault P = Unit {0}
 
--- A turn does what the machine does: a reply is the machine's, and the session stands for its next state, where that
--- run's lists are apart.
-abbrev pub Follows : {X C B M K V D : Type 0} → Meaning X C B M → (K → Bytes) → (V → Bytes) → (D → Bytes) → (List Operation → Bytes) → Session X C B M → Turn K V D → Answer × State → Type 0
-Follows m key value digest root new turn next = IfReply turn (λ r. Apart root (next.1).had → (answer_view key value digest r ≡ next.0) × Stands m new next.1)
-
--- A command does so from each state that the session stood for.
-abbrev pub Obeys : {X C B M K V D : Type 0} → Meaning X C B M → (K → Bytes) → (V → Bytes) → (D → Bytes) → (List Operation → Bytes) → Session X C B M → Session X C B M → Turn K V D → (State → Answer × State) → Type 0
-Obeys m key value digest root old new turn next = (s : State) → Stands m old s → Follows m key value digest root new turn (next s)
-
--- The same of a command that leaves the session as it is.
-abbrev pub Tells : {X C B M K V D : Type 0} → Meaning X C B M → (K → Bytes) → (V → Bytes) → (D → Bytes) → (List Operation → Bytes) → Session X C B M → Turn K V D → (State → Answer × State) → Type 0
-Tells m key value digest root session turn next = Obeys m key value digest root session session turn next
-
--- A reply is the machine's, where the lists of this state are apart.
-abbrev pub Answers : {K V D : Type 0} → (K → Bytes) → (V → Bytes) → (D → Bytes) → (List Operation → Bytes) → Turn K V D → State → Answer × State → Type 0
-Answers key value digest root turn s next = IfReply turn (λ r. Apart root s.had → answer_view key value digest r ≡ next.0)
-
 -- The items are those before a command, or with a first part of what it appends.
 pub record IsLeft (items : Option (List Bytes)) (before after : List Bytes) : Type 0 where
   pub count : ℕ
   pub same : items ≡ Some (before ++ take count (drop (length before) after))
 
--- However a command ends, the store has the items before it and a first part of what it appends.
-abbrev pub Leaves : {X C B M : Type 0} → Meaning X C B M → (List Operation → Bytes) → Session X C B M → Session X C B M → (State → Answer × State) → Type 0
-Leaves m root old new next =
-    (s : State) → Stands m old s → Apart root s.had → IsLeft (m.members.items (store_given m.inside new.held)) s.store.items ((next s).1).store.items
+module _ {X C B M : Type 0} (members : store.Ghosts C) (means : words.Ghosts X C B M) where
+  -- However a command ends, the store has the items before it and a first part of what it appends.
+  abbrev pub Leaves : Session X C B M → Session X C B M → (State → Answer × State) → Type 0
+  Leaves old new next =
+      (s : State) → Stands members means old s → Apart means.scheme.root s.had → IsLeft (members.items (store_given means.inside new.held)) s.store.items ((next s).1).store.items
+
+  module _ {K V D : Type 0} (key : K → Bytes) (value : V → Bytes) (digest : D → Bytes) where
+    -- A reply is the machine's, where the lists of this state are apart.
+    abbrev pub Answers : Turn K V D → State → Answer × State → Type 0
+    Answers turn s next = IfReply turn (λ r. Apart means.scheme.root s.had → answer_view key value digest r ≡ next.0)
+
+    -- A turn does what the machine does: a reply is the machine's, and the session stands for its next state, where that
+    -- run's lists are apart.
+    abbrev pub Follows : Session X C B M → Turn K V D → Answer × State → Type 0
+    Follows new turn next = IfReply turn (λ r. Apart means.scheme.root (next.1).had → (answer_view key value digest r ≡ next.0) × Stands members means new next.1)
+
+    -- A command does so from each state that the session stood for.
+    abbrev pub Obeys : Session X C B M → Session X C B M → Turn K V D → (State → Answer × State) → Type 0
+    Obeys old new turn next = (s : State) → Stands members means old s → Follows new turn (next s)
+
+    -- The same of a command that leaves the session as it is.
+    abbrev pub Tells : Session X C B M → Turn K V D → (State → Answer × State) → Type 0
+    Tells session turn next = Obeys session session turn next
 
 -- A turn uses the store: it starts where it did, with its head; its count has not fallen, and it rose where a fault
 -- is told.

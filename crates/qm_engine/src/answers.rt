@@ -8,7 +8,7 @@ ghost use Rattle.qm_machine.specs.Machine as machine;
 ghost use Rattle.qm_machine.specs.Text.{reply_line};
 ghost use Rattle.qm_lines.specs.Views.{policy_view, line_view, answer_view};
 ghost use Rattle.qm_store.specs.Given.{store_given};
-ghost use Rattle.qm_engine.specs.Session.{meaning, scheme_of, Stands, Leaves, IsLeft};
+ghost use Rattle.qm_engine.specs.Session.{Stands, Leaves, IsLeft};
 ghost use Rattle.qm_engine.specs.Stores.{told};
 ghost use Rattle.qm_engine.specs.Answered.{after_line, IsAnswered};
 
@@ -67,12 +67,12 @@ fn answer<X: Engine<C>, C: Store>(
     command: &Command<X::Key, X::Value, AnyPolicy>,
 ) -> (Of<X, C>, Option<Ending>)
     requires { session.opened + 1 < 2 ^ 64 }
-    ensures machine { (s : machine.State) → Stands (meaning X.Engine C.Store) session s → IfNone result.1
-        (let next = machine.turn (scheme_of X.Engine) s (line_view X.Key.bytes X.Value.bytes policy_view command.now) in
-        Apart X.root next.1.had → (text.new.items ≡ text.old.items ++ (reply_line next.0 ++ 10 ∷ []))
-        × Stands (meaning X.Engine C.Store) result.0 next.1) }
-    ensures left { Leaves (meaning X.Engine C.Store) X.root session result.0
-        (λ s. machine.turn (scheme_of X.Engine) s (line_view X.Key.bytes X.Value.bytes policy_view command.now)) }
+    ensures machine { (s : machine.State) → Stands C.Store X.Words session s → IfNone result.1
+        (let next = machine.turn X.scheme s (line_view X.Key.bytes X.Value.bytes policy_view command.now) in
+        Apart X.scheme.root next.1.had → (text.new.items ≡ text.old.items ++ (reply_line next.0 ++ 10 ∷ []))
+        × Stands C.Store X.Words result.0 next.1) }
+    ensures left { Leaves C.Store X.Words session result.0
+        (λ s. machine.turn X.scheme s (line_view X.Key.bytes X.Value.bytes policy_view command.now)) }
     ensures kept { OnSome result.1 (text.new.items ≡ text.old.items) }
     ensures cause { IfSome result.1 (λ e. (e ≢ Ending.Done) × (e ≢ Ending.BadLine)) }
     ensures start { C.start (store_given X.inside result.0.held) ≡ C.start (store_given X.inside session.held) }
@@ -101,12 +101,12 @@ fn answer_line<X: Engine<C, Key = ByteKey, Value = ByteValue>, C: Store>(
     line: &[u8],
 ) -> (Of<X, C>, Option<Ending>)
     requires { session.opened + 1 < 2 ^ 64 }
-    ensures machine { (s : machine.State) → Stands (meaning X.Engine C.Store) session s → IfNone result.1 (IfSome (line_of line.now) (λ command.
-        let next = machine.turn (scheme_of X.Engine) s command in
-        Apart X.root next.1.had → (text.new.items ≡ text.old.items ++ (reply_line next.0 ++ 10 ∷ []))
-        × Stands (meaning X.Engine C.Store) result.0 next.1)) }
-    ensures left { (s : machine.State) → Stands (meaning X.Engine C.Store) session s → Apart X.root s.had
-        → IsLeft (C.items (store_given X.inside result.0.held)) s.store.items (after_line (scheme_of X.Engine) s (line_of line.now)).store.items }
+    ensures machine { (s : machine.State) → Stands C.Store X.Words session s → IfNone result.1 (IfSome (line_of line.now) (λ command.
+        let next = machine.turn X.scheme s command in
+        Apart X.scheme.root next.1.had → (text.new.items ≡ text.old.items ++ (reply_line next.0 ++ 10 ∷ []))
+        × Stands C.Store X.Words result.0 next.1)) }
+    ensures left { (s : machine.State) → Stands C.Store X.Words session s → Apart X.scheme.root s.had
+        → IsLeft (C.items (store_given X.inside result.0.held)) s.store.items (after_line X.scheme s (line_of line.now)).store.items }
     ensures kept { OnSome result.1 (text.new.items ≡ text.old.items) }
     ensures command { IfNone result.1 (IsSome (line_of line.now)) }
     ensures bad { result.1 ≡ Some Ending.BadLine → line_of line.now ≡ None }
@@ -136,7 +136,7 @@ pub fn answer_lines<X: Engine<C, Key = ByteKey, Value = ByteValue>, C: Store, G:
     _gate: &G,
 ) -> Answered<C>
     ensures machine { IfSome (told C.Store store) (λ stored.
-        IsAnswered (scheme_of X.Engine) stored (commands_in input.now) result.answered result.text.items (C.items result.store)) }
+        IsAnswered X.scheme stored (commands_in input.now) result.answered result.text.items (C.items result.store)) }
     ensures done { result.ending ≡ Ending.Done → (result.answered ≡ length (commands_in input.now)) × (bad_in input.now ≡ None) }
     ensures bad { result.ending ≡ Ending.BadLine → (result.answered ≡ length (commands_in input.now)) × (bad_in input.now ≡ Some (result.answered + 1)) }
     ensures short { result.ending ≡ Ending.StoreFault → result.answered < length (commands_in input.now) }

@@ -1,23 +1,22 @@
 //! What a database offers to a run, over any store.
 
-ghost use Rattle.std.specs.Prelude.{◌≡◌, ◌≢◌, ◌≤◌, ◌+◌, ◌++◌, ◌∷◌, [], ℕ, List, Some, None, true, map, take, drop, length, nat_lt, option_map, if◌then◌else◌, IfOk, IfErr, IfSome, IsSome};
+ghost use Rattle.std.specs.Prelude.{◌≡◌, ◌≢◌, ◌≤◌, ◌+◌, ◌++◌, ◌∷◌, [], List, Some, None, map, take, drop, length, nat_lt, option_map, if◌then◌else◌, IfOk, IfErr, IfSome, IsSome, IsErrOf};
 ghost use Rattle.std.specs.Int.NonZero.{non_zero_u64_get};
 ghost use Rattle.qm_model.specs.Causes.{Rose};
-ghost use Rattle.qm_model.specs.Operations.{Bytes, Operation, fresh};
+ghost use Rattle.qm_model.specs.Operations.{Operation, fresh};
 ghost use Rattle.qm_model.specs.Forms.{spelling, variable};
 ghost use Rattle.qm_model.specs.Live.{live, floor, value_of, last_metadata};
 ghost use Rattle.qm_model.specs.Writes.{Write, read_through};
-ghost use Rattle.qm_model.specs.Step.{Kind, step};
-ghost use Rattle.qm_model.specs.Policies.{policies};
-ghost use Rattle.qm_model.specs.Batches.{Chain, begun_on, child_of, IsOnChain, IsKnown, commitment, fits, readable, own_operations};
-ghost use Rattle.qm_model.specs.Proofs as proofs;
+ghost use Rattle.qm_model.specs.Batches.{Chain, begun_on, child_of, IsOnChain, IsKnown, commitment, fits, own_operations};
 ghost use Rattle.qm_model.specs.Refusals.{tip_refusal, proof_refusal, proof_count, pins_refusal};
 ghost use Rattle.qm_machine.specs.Machine.{head_refusal};
 ghost use Rattle.qm_lines.specs.Views.{policy_view, listed_view};
 ghost use Rattle.qm_proofs.specs.Proofs.{proof_view};
 ghost use Rattle.qm_store.specs.Given.{store_given, store_after, Appended, AppendedPart, IsUnchanged, TellsAll};
 ghost use Rattle.qm_store.specs.Refusals.{refusal_of, IsDue};
+ghost use Rattle.qm_engine.specs.Words.{AtBatch, AtTip, Fits, CanRead, IsReadFailure, ReadsOnly, tip_of};
 
+use crate::words::Words;
 use qm_base::{Digest, Error, JournalError, Key, VariableValue};
 use qm_lines::{AnyPolicy, Listed};
 use qm_proofs::Proof;
@@ -54,7 +53,7 @@ pub struct BatchSizes {
 }
 
 /// A kind of database: one call for each command of a run.
-pub trait Engine<C: Store>: Drop + Sized {
+pub trait Engine<C: Store>: Words<C> + Drop + Sized {
     type Key: Key;
 
     type Value: VariableValue;
@@ -63,71 +62,39 @@ pub trait Engine<C: Store>: Drop + Sized {
 
     type Config: Drop;
 
-    type Batch: Drop;
-
-    type Merkleized: Drop;
-
-    /// The store that it holds.
-    ghost inside: { Self → C };
-
-    /// It stands for this operation list.
-    ghost stands: { Self → List Operation → Type 0 };
-
-    /// A batch of this chain, whose parent is of that one and made its base, with these writes. The parent of a batch that
-    /// was begun on a database is that as a merkleized batch.
-    ghost is_batch: { Self.Batch → Chain → Chain → List Write → Type 0 };
-
-    /// A merkleized batch of this chain with this tip list.
-    ghost is_merkleized: { Self.Merkleized → Chain → List Operation → Type 0 };
-
-    /// What writes and decisions append.
-    ghost kind: { Kind };
-
-    /// The root of a list, which tells a batch whether it fits.
-    ghost root: { List Operation → Bytes };
-
-    /// Up to where a list may be pruned.
-    ghost boundary: { List Operation → ℕ };
-
-    /// The proof of a list's operations from one location up to another, in the whole list.
-    ghost proof: { List Operation → ℕ → ℕ → proofs.Proof };
-
-    /// The digests of the peaks over a list's first operations, so many.
-    ghost pins: { List Operation → ℕ → List Bytes };
-
     /// Opens a database over an empty store: a fresh list. It is refused where the store's head is not that of a start at
     /// 0, and the store is then as it was; else only memory and the store can fail. What a store holds that tells no items
     /// is not known.
     fn open(alloc: Global, store: C, config: &Self::Config) -> Result<Self, Refusal<Self, C>>
         requires start { C.start store ≡ 0 }
         requires empty { C.end store ≡ 0 }
-        ensures opened { IfSome (C.items store) (λ _. IfOk result (λ x. stands x fresh)) }
+        ensures opened { IfSome (C.items store) (λ _. IfOk result (λ x. Self.stands x fresh)) }
         ensures offered { IfOk result (λ _. IfSome (C.head store) (λ head. head_refusal head ≡ None)) }
-        ensures grown { IfOk result (λ x. Appended C.Store store (inside x) (map (spelling variable) fresh)) }
-        ensures kept { IfErr result (λ r. AppendedPart C.Store store (store_given inside r.given) (map (spelling variable) fresh)) }
-        ensures cause { IfErr result (λ r. r.error ≡ Error.Journal JournalError.Store → Rose (C.faults store) (C.faults (store_given inside r.given))) }
-        ensures later { C.faults store ≤ C.faults (store_after inside result) }
+        ensures grown { IfOk result (λ x. Appended C.Store store (Self.inside x) (map (spelling variable) fresh)) }
+        ensures kept { IfErr result (λ r. AppendedPart C.Store store (store_given Self.inside r.given) (map (spelling variable) fresh)) }
+        ensures cause { IfErr result (λ r. r.error ≡ Error.Journal JournalError.Store → Rose (C.faults store) (C.faults (store_given Self.inside r.given))) }
+        ensures later { C.faults store ≤ C.faults (store_after Self.inside result) }
         ensures refused { IfErr result (λ r. IfSome (C.head store) (λ head. IsDue r.error (head_refusal head))) }
-        ensures unopened { IfErr result (λ r. IfSome (C.head store) (λ head. IsSome (head_refusal head) → IsUnchanged C.Store store (store_given inside r.given))) }
+        ensures unopened { IfErr result (λ r. IfSome (C.head store) (λ head. IsSome (head_refusal head) → IsUnchanged C.Store store (store_given Self.inside r.given))) }
         ensures back { IfErr result (λ r. (x : Self) → r.given ≢ Given.Database x) };
 
     /// Lends the store.
     fn store(&self) -> &C
-        ensures { result.now ≡ inside self.now };
+        ensures { result.now ≡ Self.inside self.now };
 
     /// Gives the store back, as it is.
     fn close(self) -> C
-        ensures { result ≡ inside self };
+        ensures { result ≡ Self.inside self };
 
     /// The numbers of the database.
     fn info(&self) -> Numbers
-        ensures start { result.start ≡ C.start (inside self.now) }
-        ensures list { (list : List Operation) → stands self.now list → (result.size ≡ length list) × (result.floor ≡ floor list)
-            × (result.boundary ≡ boundary list) × (result.is_live ≡ nat_lt 0 (length (live list))) };
+        ensures start { result.start ≡ C.start (Self.inside self.now) }
+        ensures list { (list : List Operation) → Self.stands self.now list → (result.size ≡ length list) × (result.floor ≡ floor list)
+            × (result.boundary ≡ Self.scheme.boundary list) × (result.is_live ≡ nat_lt 0 (length (live list))) };
 
     /// Begins a batch.
     fn batch(&self, alloc: Global) -> Result<Self::Batch, AllocError>
-        ensures { IfOk result (λ b. (list : List Operation) → stands self.now list → is_batch b (begun_on list) (begun_on list) []) };
+        ensures { IfOk result (λ b. (list : List Operation) → Self.stands self.now list → Self.is_batch b (begun_on list) (begun_on list) []) };
 
     /// Begins a batch on the list of a merkleized one. It keeps that one and the first of its kept ancestors, so many, or all.
     fn child(
@@ -135,11 +102,11 @@ pub trait Engine<C: Store>: Drop + Sized {
         batch: &Self::Merkleized,
         keep: Option<u64>,
     ) -> Result<Self::Batch, AllocError>
-        ensures { IfOk result (λ b. (chain : Chain) (tip : List Operation) → is_merkleized batch.now chain tip → is_batch b (child_of keep chain tip) chain []) };
+        ensures { IfOk result (λ b. (chain : Chain) (tip : List Operation) → Self.is_merkleized batch.now chain tip → Self.is_batch b (child_of keep chain tip) chain []) };
 
     /// The database as a merkleized batch, which does nothing.
     fn tip(&self, alloc: Global) -> Result<Self::Merkleized, AllocError>
-        ensures { IfOk result (λ b. (list : List Operation) → stands self.now list → is_merkleized b (begun_on list) list) };
+        ensures { IfOk result (λ b. (list : List Operation) → Self.stands self.now list → Self.is_merkleized b (begun_on list) list) };
 
     /// Writes a value for a key.
     fn put(
@@ -148,13 +115,13 @@ pub trait Engine<C: Store>: Drop + Sized {
         key: Self::Key,
         value: Self::Value,
     ) -> Result<Self::Batch, AllocError>
-        ensures { IfOk result (λ b. (chain above : Chain) (ws : List Write) → is_batch batch chain above ws
-            → is_batch b chain above (ws ++ record { key = Self.Key.bytes key; value = Some (Self.Value.bytes value) } ∷ [])) };
+        ensures { IfOk result (λ b. (chain above : Chain) (ws : List Write) → Self.is_batch batch chain above ws
+            → Self.is_batch b chain above (ws ++ record { key = Self.Key.bytes key; value = Some (Self.Value.bytes value) } ∷ [])) };
 
     /// Deletes a key.
     fn del(alloc: Global, batch: Self::Batch, key: Self::Key) -> Result<Self::Batch, AllocError>
-        ensures { IfOk result (λ b. (chain above : Chain) (ws : List Write) → is_batch batch chain above ws
-            → is_batch b chain above (ws ++ record { key = Self.Key.bytes key; value = None } ∷ [])) };
+        ensures { IfOk result (λ b. (chain above : Chain) (ws : List Write) → Self.is_batch batch chain above ws
+            → Self.is_batch b chain above (ws ++ record { key = Self.Key.bytes key; value = None } ∷ [])) };
 
     /// Makes the batch's tip list: a step of its base list, under the policy. The batch is consumed also where
     /// this is refused, and the policy may have moved on. It is refused where the batch is stale, where an own
@@ -166,68 +133,56 @@ pub trait Engine<C: Store>: Drop + Sized {
         policy: &mut AnyPolicy,
         metadata: &Option<Self::Value>,
     ) -> Result<Self::Merkleized, Error>
-        ensures fits { IfOk result (λ b. (list : List Operation) (chain above : Chain) (ws : List Write) → stands self.old list → is_batch batch chain above ws
-            → fits root (commitment root list) chain ≡ true) }
-        ensures made { IfOk result (λ b. (list : List Operation) (chain above : Chain) (ws : List Write) → stands self.old list → is_batch batch chain above ws → IsOnChain list chain
-            → let tip = step kind policies chain.base ws (policy_view policy.old) (option_map Self.Value.bytes metadata.now) in
-            (tip_refusal variable chain tip ≡ None) × is_merkleized b chain tip) }
-        ensures stale { IfErr result (λ e. e ≡ Error.StaleBatch → (list : List Operation) (chain above : Chain) (ws : List Write) → stands self.old list → is_batch batch chain above ws
-            → ¬ IsOnChain list chain) }
-        ensures refused { IfErr result (λ e. e ≢ Error.StaleBatch → TellsAll C.Store (inside self.old)
-            → (list : List Operation) (chain above : Chain) (ws : List Write) → stands self.old list → is_batch batch chain above ws
-            → IfSome (refusal_of e) (λ r. (fits root (commitment root list) chain ≡ true)
-            × (IsOnChain list chain → tip_refusal variable chain (step kind policies chain.base ws (policy_view policy.old) (option_map Self.Value.bytes metadata.now)) ≡ Some r))) }
-        ensures same { (list : List Operation) → stands self.old list → stands self.new list }
-        ensures store { IsUnchanged C.Store (inside self.old) (inside self.new) }
-        ensures cause { IfErr result (λ e. e ≡ Error.Journal JournalError.Store → Rose (C.faults (inside self.old)) (C.faults (inside self.new))) }
-        ensures later { C.faults (inside self.old) ≤ C.faults (inside self.new) };
+        ensures fits { IfOk result (λ _. AtBatch Self.Words self.old batch (λ list chain above ws. Fits Self.Words list chain)) }
+        ensures made { IfOk result (λ b. AtBatch Self.Words self.old batch (λ list chain above ws. IsOnChain list chain
+            → let tip = tip_of Self.scheme chain ws (policy_view policy.old) (option_map Self.Value.bytes metadata.now) in
+            (tip_refusal variable chain tip ≡ None) × Self.is_merkleized b chain tip)) }
+        ensures stale { IfErr result (λ e. e ≡ Error.StaleBatch → AtBatch Self.Words self.old batch (λ list chain above ws. ¬ IsOnChain list chain)) }
+        ensures refused { IfErr result (λ e. e ≢ Error.StaleBatch → TellsAll C.Store (Self.inside self.old) → AtBatch Self.Words self.old batch (λ list chain above ws.
+            IfSome (refusal_of e) (λ r. Fits Self.Words list chain
+            × (IsOnChain list chain → tip_refusal variable chain (tip_of Self.scheme chain ws (policy_view policy.old) (option_map Self.Value.bytes metadata.now)) ≡ Some r)))) }
+        ensures reads { ReadsOnly Self.Words C.Store self.old self.new (IsErrOf result (Error.Journal JournalError.Store)) };
 
     /// The sizes of a merkleized batch.
     fn sizes(batch: &Self::Merkleized) -> BatchSizes
-        ensures { (chain : Chain) (tip : List Operation) → is_merkleized batch.now chain tip
-            → (result.base ≡ length chain.base) × (result.tip ≡ length tip) × (result.floor ≡ floor tip) × (result.boundary ≡ boundary tip) };
+        ensures { (chain : Chain) (tip : List Operation) → Self.is_merkleized batch.now chain tip
+            → (result.base ≡ length chain.base) × (result.tip ≡ length tip) × (result.floor ≡ floor tip) × (result.boundary ≡ Self.scheme.boundary tip) };
 
     /// The root of the list that a merkleized batch makes.
     fn batch_root(batch: &Self::Merkleized) -> Self::Digest
-        ensures { (chain : Chain) (tip : List Operation) → is_merkleized batch.now chain tip → Self.Digest.bytes result ≡ root tip };
+        ensures { (chain : Chain) (tip : List Operation) → Self.is_merkleized batch.now chain tip → Self.Digest.bytes result ≡ Self.scheme.root tip };
 
     /// The size of a merkleized batch's base, and its own operations.
     fn ops(
         alloc: Global,
         batch: &Self::Merkleized,
     ) -> Result<(u64, Vec<Listed<Self::Key, Self::Value>>), AllocError>
-        ensures { IfOk result (λ r. (chain : Chain) (tip : List Operation) → is_merkleized batch.now chain tip
+        ensures { IfOk result (λ r. (chain : Chain) (tip : List Operation) → Self.is_merkleized batch.now chain tip
             → (r.0 ≡ length chain.base) × (map (listed_view Self.Key.bytes Self.Value.bytes) r.1.items ≡ own_operations chain tip)) };
 
     /// Takes the batch's tip list, and appends to the store what it lacks of it.
     fn apply(self, alloc: Global, batch: &Self::Merkleized) -> Result<Self, Refusal<Self, C>>
-        ensures fits { IfOk result (λ next. (list : List Operation) (chain : Chain) (tip : List Operation) → stands self list → is_merkleized batch.now chain tip
-            → fits root (commitment root list) chain ≡ true) }
-        ensures applied { IfOk result (λ next. (list : List Operation) (chain : Chain) (tip : List Operation) → stands self list → is_merkleized batch.now chain tip → IsOnChain list chain
-            → stands next tip) }
-        ensures grown { IfOk result (λ next. (list : List Operation) (chain : Chain) (tip : List Operation) → stands self list → is_merkleized batch.now chain tip → IsOnChain list chain
-            → Appended C.Store (inside self) (inside next) (map (spelling variable) (drop (length list) tip))) }
-        ensures stale { IfErr result (λ r. r.error ≡ Error.StaleBatch → (r.given ≡ Given.Database self)
-            × ((list : List Operation) (chain : Chain) (tip : List Operation) → stands self list → is_merkleized batch.now chain tip → ¬ IsOnChain list chain)) }
+        ensures fits { IfOk result (λ _. AtTip Self.Words self batch.now (λ list chain tip. Fits Self.Words list chain)) }
+        ensures applied { IfOk result (λ next. AtTip Self.Words self batch.now (λ list chain tip. IsOnChain list chain → Self.stands next tip)) }
+        ensures grown { IfOk result (λ next. AtTip Self.Words self batch.now (λ list chain tip. IsOnChain list chain
+            → Appended C.Store (Self.inside self) (Self.inside next) (map (spelling variable) (drop (length list) tip)))) }
+        ensures stale { IfErr result (λ r. r.error ≡ Error.StaleBatch → (r.given ≡ Given.Database self) × AtTip Self.Words self batch.now (λ list chain tip. ¬ IsOnChain list chain)) }
         ensures refused { IfErr result (λ r. r.error ≢ Error.StaleBatch → refusal_of r.error ≡ None) }
-        ensures kept { IfErr result (λ r. (list : List Operation) (chain : Chain) (tip : List Operation) → stands self list → is_merkleized batch.now chain tip
-            → AppendedPart C.Store (inside self) (store_given inside r.given) (if fits root (commitment root list) chain then map (spelling variable) (drop (length list) tip) else [])) }
+        ensures kept { IfErr result (λ r. AtTip Self.Words self batch.now (λ list chain tip.
+            AppendedPart C.Store (Self.inside self) (store_given Self.inside r.given) (if fits Self.scheme.root (commitment Self.scheme.root list) chain then map (spelling variable) (drop (length list) tip) else []))) }
         ensures back { IfErr result (λ r. (x : Self) → r.given ≡ Given.Database x → x ≡ self) }
-        ensures start { C.start (store_after inside result) ≡ C.start (inside self) }
-        ensures head { C.head (store_after inside result) ≡ C.head (inside self) }
-        ensures cause { IfErr result (λ r. r.error ≡ Error.Journal JournalError.Store → Rose (C.faults (inside self)) (C.faults (store_given inside r.given))) }
-        ensures later { C.faults (inside self) ≤ C.faults (store_after inside result) };
+        ensures start { C.start (store_after Self.inside result) ≡ C.start (Self.inside self) }
+        ensures head { C.head (store_after Self.inside result) ≡ C.head (Self.inside self) }
+        ensures cause { IfErr result (λ r. r.error ≡ Error.Journal JournalError.Store → Rose (C.faults (Self.inside self)) (C.faults (store_given Self.inside r.given))) }
+        ensures later { C.faults (Self.inside self) ≤ C.faults (store_after Self.inside result) };
 
     /// Reads the values of keys, in their order.
     fn get(&mut self, alloc: Global, keys: &[Self::Key]) -> Result<Vec<Option<Self::Value>>, Error>
-        ensures values { IfOk result (λ v. (list : List Operation) → stands self.old list
+        ensures values { IfOk result (λ v. (list : List Operation) → Self.stands self.old list
             → map (option_map Self.Value.bytes) v.items ≡ map (λ k. value_of list (Self.Key.bytes k)) keys.now) }
-        ensures same { (list : List Operation) → stands self.old list → stands self.new list }
-        ensures store { IsUnchanged C.Store (inside self.old) (inside self.new) }
-        ensures cause { IfErr result (λ e. e ≡ Error.Journal JournalError.Store → Rose (C.faults (inside self.old)) (C.faults (inside self.new))) }
-        ensures later { C.faults (inside self.old) ≤ C.faults (inside self.new) }
+        ensures reads { ReadsOnly Self.Words C.Store self.old self.new (IsErrOf result (Error.Journal JournalError.Store)) }
         ensures never { IfErr result (λ e. e ≢ Error.StaleBatch) }
-        ensures refused { IfErr result (λ e. TellsAll C.Store (inside self.old) → (list : List Operation) → stands self.old list → refusal_of e ≡ None) };
+        ensures refused { IfErr result (λ e. TellsAll C.Store (Self.inside self.old) → (list : List Operation) → Self.stands self.old list → refusal_of e ≡ None) };
 
     /// Reads the values of keys through a batch: its own writes, then its base list. It is refused where the database is at no
     /// state at which the batch's parent can be read.
@@ -237,20 +192,12 @@ pub trait Engine<C: Store>: Drop + Sized {
         batch: &Self::Batch,
         keys: &[Self::Key],
     ) -> Result<Vec<Option<Self::Value>>, Error>
-        ensures readable { IfOk result (λ _. (list : List Operation) (chain above : Chain) (ws : List Write) → stands self.old list → is_batch batch.now chain above ws
-            → readable root (commitment root list) above chain.base ≡ true) }
-        ensures values { IfOk result (λ v. (list : List Operation) (chain above : Chain) (ws : List Write) → stands self.old list → is_batch batch.now chain above ws → IsKnown list above chain.base
-            → map (option_map Self.Value.bytes) v.items ≡ map (λ k. read_through chain.base ws (Self.Key.bytes k)) keys.now) }
-        ensures stale { IfErr result (λ e. e ≡ Error.StaleRead → (list : List Operation) (chain above : Chain) (ws : List Write) → stands self.old list → is_batch batch.now chain above ws
-            → ¬ IsKnown list above chain.base) }
-        ensures refused { IfErr result (λ e. e ≢ Error.StaleRead → TellsAll C.Store (inside self.old)
-            → (list : List Operation) (chain above : Chain) (ws : List Write) → stands self.old list → is_batch batch.now chain above ws → IsKnown list above chain.base → refusal_of e ≡ None) }
-        ensures order { IfErr result (λ e. e ≢ Error.StaleRead → e ≢ Error.Memory → (list : List Operation) (chain above : Chain) (ws : List Write) → stands self.old list → is_batch batch.now chain above ws
-            → readable root (commitment root list) above chain.base ≡ true) }
-        ensures same { (list : List Operation) → stands self.old list → stands self.new list }
-        ensures store { IsUnchanged C.Store (inside self.old) (inside self.new) }
-        ensures cause { IfErr result (λ e. e ≡ Error.Journal JournalError.Store → Rose (C.faults (inside self.old)) (C.faults (inside self.new))) }
-        ensures later { C.faults (inside self.old) ≤ C.faults (inside self.new) }
+        ensures readable { IfOk result (λ _. AtBatch Self.Words self.old batch.now (λ list chain above ws. CanRead Self.Words list above chain.base)) }
+        ensures values { IfOk result (λ v. AtBatch Self.Words self.old batch.now (λ list chain above ws. IsKnown list above chain.base
+            → map (option_map Self.Value.bytes) v.items ≡ map (λ k. read_through chain.base ws (Self.Key.bytes k)) keys.now)) }
+        ensures failure { IfErr result (λ e. AtBatch Self.Words self.old batch.now (λ list chain above ws.
+            IsReadFailure Self.Words (TellsAll C.Store (Self.inside self.old)) list above chain.base e)) }
+        ensures reads { ReadsOnly Self.Words C.Store self.old self.new (IsErrOf result (Error.Journal JournalError.Store)) }
         ensures never { IfErr result (λ e. e ≢ Error.StaleBatch) };
 
     /// Reads the values of keys through a merkleized batch, on the list that it makes. It is refused where the database is at
@@ -261,20 +208,11 @@ pub trait Engine<C: Store>: Drop + Sized {
         batch: &Self::Merkleized,
         keys: &[Self::Key],
     ) -> Result<Vec<Option<Self::Value>>, Error>
-        ensures readable { IfOk result (λ _. (list : List Operation) (chain : Chain) (tip : List Operation) → stands self.old list → is_merkleized batch.now chain tip
-            → readable root (commitment root list) chain tip ≡ true) }
-        ensures values { IfOk result (λ v. (list : List Operation) (chain : Chain) (tip : List Operation) → stands self.old list → is_merkleized batch.now chain tip → IsKnown list chain tip
-            → map (option_map Self.Value.bytes) v.items ≡ map (λ k. value_of tip (Self.Key.bytes k)) keys.now) }
-        ensures stale { IfErr result (λ e. e ≡ Error.StaleRead → (list : List Operation) (chain : Chain) (tip : List Operation) → stands self.old list → is_merkleized batch.now chain tip
-            → ¬ IsKnown list chain tip) }
-        ensures refused { IfErr result (λ e. e ≢ Error.StaleRead → TellsAll C.Store (inside self.old)
-            → (list : List Operation) (chain : Chain) (tip : List Operation) → stands self.old list → is_merkleized batch.now chain tip → IsKnown list chain tip → refusal_of e ≡ None) }
-        ensures order { IfErr result (λ e. e ≢ Error.StaleRead → e ≢ Error.Memory → (list : List Operation) (chain : Chain) (tip : List Operation) → stands self.old list → is_merkleized batch.now chain tip
-            → readable root (commitment root list) chain tip ≡ true) }
-        ensures same { (list : List Operation) → stands self.old list → stands self.new list }
-        ensures store { IsUnchanged C.Store (inside self.old) (inside self.new) }
-        ensures cause { IfErr result (λ e. e ≡ Error.Journal JournalError.Store → Rose (C.faults (inside self.old)) (C.faults (inside self.new))) }
-        ensures later { C.faults (inside self.old) ≤ C.faults (inside self.new) }
+        ensures readable { IfOk result (λ _. AtTip Self.Words self.old batch.now (λ list chain tip. CanRead Self.Words list chain tip)) }
+        ensures values { IfOk result (λ v. AtTip Self.Words self.old batch.now (λ list chain tip. IsKnown list chain tip
+            → map (option_map Self.Value.bytes) v.items ≡ map (λ k. value_of tip (Self.Key.bytes k)) keys.now)) }
+        ensures failure { IfErr result (λ e. AtTip Self.Words self.old batch.now (λ list chain tip. IsReadFailure Self.Words (TellsAll C.Store (Self.inside self.old)) list chain tip e)) }
+        ensures reads { ReadsOnly Self.Words C.Store self.old self.new (IsErrOf result (Error.Journal JournalError.Store)) }
         ensures never { IfErr result (λ e. e ≢ Error.StaleBatch) };
 
     /// The proof of a merkleized batch's own operations in the list that it makes, and the digests of the peaks over its base
@@ -284,16 +222,10 @@ pub trait Engine<C: Store>: Drop + Sized {
         alloc: Global,
         batch: &Self::Merkleized,
     ) -> Result<(Proof<Self::Digest>, Vec<Self::Digest>), Error>
-        ensures readable { IfOk result (λ _. (list : List Operation) (chain : Chain) (tip : List Operation) → stands self.now list → is_merkleized batch.now chain tip
-            → readable root (commitment root list) chain tip ≡ true) }
-        ensures proof { IfOk result (λ r. (list : List Operation) (chain : Chain) (tip : List Operation) → stands self.now list → is_merkleized batch.now chain tip → IsKnown list chain tip
-            → (proof_view Self.Digest.bytes r.0 ≡ proof tip (length chain.base) (length tip)) × (map Self.Digest.bytes r.1.items ≡ pins tip (length chain.base))) }
-        ensures stale { IfErr result (λ e. e ≡ Error.StaleRead → (list : List Operation) (chain : Chain) (tip : List Operation) → stands self.now list → is_merkleized batch.now chain tip
-            → ¬ IsKnown list chain tip) }
-        ensures refused { IfErr result (λ e. e ≢ Error.StaleRead → C.start (inside self.now) ≡ 0
-            → (list : List Operation) (chain : Chain) (tip : List Operation) → stands self.now list → is_merkleized batch.now chain tip → IsKnown list chain tip → refusal_of e ≡ None) }
-        ensures order { IfErr result (λ e. e ≢ Error.StaleRead → e ≢ Error.Memory → (list : List Operation) (chain : Chain) (tip : List Operation) → stands self.now list → is_merkleized batch.now chain tip
-            → readable root (commitment root list) chain tip ≡ true) }
+        ensures readable { IfOk result (λ _. AtTip Self.Words self.now batch.now (λ list chain tip. CanRead Self.Words list chain tip)) }
+        ensures proof { IfOk result (λ r. AtTip Self.Words self.now batch.now (λ list chain tip. IsKnown list chain tip
+            → (proof_view Self.Digest.bytes r.0 ≡ Self.scheme.proof tip (length chain.base) (length tip)) × (map Self.Digest.bytes r.1.items ≡ Self.scheme.pins tip (length chain.base)))) }
+        ensures failure { IfErr result (λ e. AtTip Self.Words self.now batch.now (λ list chain tip. IsReadFailure Self.Words (C.start (Self.inside self.now) ≡ 0) list chain tip e)) }
         ensures never { IfErr result (λ e. (e ≢ Error.StaleBatch) × (e ≢ Error.Journal JournalError.Store)) };
 
     /// Operations from `start` on, at most `max`, and their proof in the list of the database's first `size`
@@ -306,31 +238,28 @@ pub trait Engine<C: Store>: Drop + Sized {
         start: u64,
         max: NonZeroU64,
     ) -> Result<(Proof<Self::Digest>, Vec<Listed<Self::Key, Self::Value>>), Error>
-        ensures offered { IfOk result (λ r. (list : List Operation) → stands self.old list → proof_refusal (C.start (inside self.old)) list size start ≡ None) }
-        ensures proof { IfOk result (λ r. (list : List Operation) → stands self.old list
-            → proof_view Self.Digest.bytes r.0 ≡ proof (take size list) start (start + proof_count size start (non_zero_u64_get max))) }
-        ensures ops { IfOk result (λ r. (list : List Operation) → stands self.old list
+        ensures offered { IfOk result (λ r. (list : List Operation) → Self.stands self.old list → proof_refusal (C.start (Self.inside self.old)) list size start ≡ None) }
+        ensures proof { IfOk result (λ r. (list : List Operation) → Self.stands self.old list
+            → proof_view Self.Digest.bytes r.0 ≡ Self.scheme.proof (take size list) start (start + proof_count size start (non_zero_u64_get max))) }
+        ensures ops { IfOk result (λ r. (list : List Operation) → Self.stands self.old list
             → map (listed_view Self.Key.bytes Self.Value.bytes) r.1.items ≡ take (proof_count size start (non_zero_u64_get max)) (drop start list)) }
-        ensures refused { IfErr result (λ e. TellsAll C.Store (inside self.old) → (list : List Operation) → stands self.old list → IsDue e (proof_refusal (C.start (inside self.old)) list size start)) }
-        ensures same { (list : List Operation) → stands self.old list → stands self.new list }
-        ensures store { IsUnchanged C.Store (inside self.old) (inside self.new) }
-        ensures cause { IfErr result (λ e. e ≡ Error.Journal JournalError.Store → Rose (C.faults (inside self.old)) (C.faults (inside self.new))) }
-        ensures later { C.faults (inside self.old) ≤ C.faults (inside self.new) }
+        ensures refused { IfErr result (λ e. TellsAll C.Store (Self.inside self.old) → (list : List Operation) → Self.stands self.old list → IsDue e (proof_refusal (C.start (Self.inside self.old)) list size start)) }
+        ensures reads { ReadsOnly Self.Words C.Store self.old self.new (IsErrOf result (Error.Journal JournalError.Store)) }
         ensures never { IfErr result (λ e. e ≢ Error.StaleBatch) };
 
     /// The digests of the peaks over the first `at` operations, which a node that starts there has to keep. A store
     /// that starts above 0 may have forgotten them.
     fn pins(&self, alloc: Global, at: u64) -> Result<Vec<Self::Digest>, Error>
-        ensures offered { IfOk result (λ digests. (list : List Operation) → stands self.now list → pins_refusal list at ≡ None) }
-        ensures digests { IfOk result (λ digests. (list : List Operation) → stands self.now list → map Self.Digest.bytes digests.items ≡ pins list at) }
-        ensures refused { IfErr result (λ e. C.start (inside self.now) ≡ 0 → (list : List Operation) → stands self.now list → IsDue e (pins_refusal list at)) }
+        ensures offered { IfOk result (λ digests. (list : List Operation) → Self.stands self.now list → pins_refusal list at ≡ None) }
+        ensures digests { IfOk result (λ digests. (list : List Operation) → Self.stands self.now list → map Self.Digest.bytes digests.items ≡ Self.scheme.pins list at) }
+        ensures refused { IfErr result (λ e. C.start (Self.inside self.now) ≡ 0 → (list : List Operation) → Self.stands self.now list → IsDue e (pins_refusal list at)) }
         ensures never { IfErr result (λ e. (e ≢ Error.StaleBatch) × (e ≢ Error.Journal JournalError.Store)) };
 
     /// The operations root of the database's list.
     fn root(&self, alloc: Global) -> Result<Self::Digest, AllocError>
-        ensures { IfOk result (λ d. (list : List Operation) → stands self.now list → Self.Digest.bytes d ≡ root list) };
+        ensures { IfOk result (λ d. (list : List Operation) → Self.stands self.now list → Self.Digest.bytes d ≡ Self.scheme.root list) };
 
     /// The metadata of the list's last commit.
     fn metadata(&self, alloc: Global) -> Result<Option<Self::Value>, AllocError>
-        ensures { IfOk result (λ v. (list : List Operation) → stands self.now list → option_map Self.Value.bytes v ≡ last_metadata list) };
+        ensures { IfOk result (λ v. (list : List Operation) → Self.stands self.now list → option_map Self.Value.bytes v ≡ last_metadata list) };
 }

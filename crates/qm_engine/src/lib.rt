@@ -7,7 +7,9 @@ pub mod runs;
 mod session;
 mod table;
 mod turns;
+pub mod words;
 
 pub use answers::{Answered, Ending, answer_lines};
 pub use engine::{BatchSizes, Engine, Numbers};
 pub use runs::{End, Outcome, run};
+pub use words::Words;

@@ -7,7 +7,7 @@ ghost use Rattle.qm_model.specs.Batches.{Apart};
 ghost use Rattle.qm_machine.specs.Machine as machine;
 ghost use Rattle.qm_lines.specs.Views.{policy_view, line_view, answer_view};
 ghost use Rattle.qm_store.specs.Given.{store_given};
-ghost use Rattle.qm_engine.specs.Session.{meaning, scheme_of, Stands, Leaves};
+ghost use Rattle.qm_engine.specs.Session.{Stands, Leaves};
 ghost use Rattle.qm_engine.specs.Stores.{told};
 ghost use Rattle.qm_engine.specs.Runs.{IsRun};
 
@@ -59,12 +59,12 @@ fn step<X: Engine<C>, C: Store>(
     command: &Command<X::Key, X::Value, AnyPolicy>,
 ) -> (Of<X, C>, Option<End>)
     requires { session.opened + 1 < 2 ^ 64 }
-    ensures machine { (s : machine.State) → Stands (meaning X.Engine C.Store) session s → IfNone result.1
-        (let next = machine.turn (scheme_of X.Engine) s (line_view X.Key.bytes X.Value.bytes policy_view command.now) in
-        Apart X.root next.1.had → (map (answer_view X.Key.bytes X.Value.bytes X.Digest.bytes) replies.new.items ≡ map (answer_view X.Key.bytes X.Value.bytes X.Digest.bytes) replies.old.items ++ next.0 ∷ [])
-        × Stands (meaning X.Engine C.Store) result.0 next.1) }
-    ensures left { Leaves (meaning X.Engine C.Store) X.root session result.0
-        (λ s. machine.turn (scheme_of X.Engine) s (line_view X.Key.bytes X.Value.bytes policy_view command.now)) }
+    ensures machine { (s : machine.State) → Stands C.Store X.Words session s → IfNone result.1
+        (let next = machine.turn X.scheme s (line_view X.Key.bytes X.Value.bytes policy_view command.now) in
+        Apart X.scheme.root next.1.had → (map (answer_view X.Key.bytes X.Value.bytes X.Digest.bytes) replies.new.items ≡ map (answer_view X.Key.bytes X.Value.bytes X.Digest.bytes) replies.old.items ++ next.0 ∷ [])
+        × Stands C.Store X.Words result.0 next.1) }
+    ensures left { Leaves C.Store X.Words session result.0
+        (λ s. machine.turn X.scheme s (line_view X.Key.bytes X.Value.bytes policy_view command.now)) }
     ensures grown { IfNone result.1 (length replies.new.items ≡ length replies.old.items + 1) }
     ensures kept { OnSome result.1 (replies.new.items ≡ replies.old.items) }
     ensures not_done { IfSome result.1 (λ e. e ≢ End.Done) }
@@ -87,7 +87,7 @@ fn step<X: Engine<C>, C: Store>(
 
 // A session with a closed store, and no batch.
 pub(crate) fn begin<X: Engine<C>, C: Store>(alloc: Global, store: C) -> Result<Of<X, C>, C>
-    ensures session { IfOk result (λ session. (stored : machine.Stored) → told C.Store store ≡ Some stored → Stands (meaning X.Engine C.Store) session (machine.initial stored)) }
+    ensures session { IfOk result (λ session. (stored : machine.Stored) → told C.Store store ≡ Some stored → Stands C.Store X.Words session (machine.initial stored)) }
     ensures store { IfOk result (λ session. store_given X.inside session.held ≡ store) }
     ensures opened { IfOk result (λ session. session.opened ≡ 0) }
     ensures back { IfErr result (λ c. c ≡ store) }
@@ -113,7 +113,7 @@ pub fn run<X: Engine<C>, C: Store, G: Gate>(
     commands: &[Command<X::Key, X::Value, AnyPolicy>],
     _gate: &G,
 ) -> Outcome<X, C>
-    ensures machine { IfSome (told C.Store store) (λ stored. IsRun (scheme_of X.Engine) stored
+    ensures machine { IfSome (told C.Store store) (λ stored. IsRun X.scheme stored
         (map (line_view X.Key.bytes X.Value.bytes policy_view) commands.now) (map (answer_view X.Key.bytes X.Value.bytes X.Digest.bytes) result.replies.items) (C.items result.store)) }
     ensures done { result.end ≡ End.Done → length result.replies.items ≡ length commands.now }
     ensures short { result.end ≡ End.StoreFault → length result.replies.items < length commands.now }

@@ -5,6 +5,7 @@ ghost use Rattle.qm_engine.specs.Turn.{turn_of_tree, turn_of_log, turn_of_error}
 
 use crate::engine::Engine;
 use crate::table::Slot;
+use crate::words::Words;
 use qm_base::{Error, JournalError, MerkleError};
 use qm_lines::{LogRefused, Refused, Reply, TreeRefused};
 use qm_store::{Given, Store};
@@ -17,7 +18,7 @@ pub struct Session<X, C, B, M> {
     pub opened: u64,
 }
 
-pub type Of<X, C> = Session<X, C, <X as Engine<C>>::Batch, <X as Engine<C>>::Merkleized>;
+pub type Of<X, C> = Session<X, C, <X as Words<C>>::Batch, <X as Words<C>>::Merkleized>;
 
 /// What a command comes to: a reply, or why the run ends.
 #[derive(Drop)]

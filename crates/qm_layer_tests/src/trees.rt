@@ -4,7 +4,7 @@ ghost use Rattle.std.specs.Prelude.{◌≡◌, ◌+◌, ◌≤◌, OnOk};
 
 use qm_base::{Digest, Hasher, Location, MerkleError, Sha256, Sha256Digest};
 use qm_merkle::mem::Mem;
-use qm_merkle::{Family, StandardHasher, mmb, mmr};
+use qm_merkle::{Family, Position, StandardHasher, mmb, mmr};
 use qm_proofs::Proof;
 use std::alloc::{AllocError, Global};
 use std::process::Abort;
@@ -229,20 +229,54 @@ fn leaves_are_replaced(rt: HostRuntime) -> Result<(), Fail> {
 }
 
 #[test]
-fn pins_make_a_tree(rt: HostRuntime) -> Result<(), Fail> {
+fn a_pin_lacks(rt: HostRuntime) -> Result<(), Fail> {
     let none: Vec<Sha256Digest> = Vec::new(rt.alloc());
     let nodes: Vec<Sha256Digest> = Vec::new(rt.alloc());
     let three: Location<mmr::Family> = Location::new(3);
     let missing = Tree::from_components(rt.alloc(), nodes, three, none).err();
     assert_eq!(rt; missing, Some(MerkleError::MissingNode(2)));
-    let none: Vec<Sha256Digest> = Vec::new(rt.alloc());
-    let nodes: Vec<Sha256Digest> = Vec::new(rt.alloc());
-    let zero: Location<mmr::Family> = Location::new(0);
-    let tree = Tree::from_components(rt.alloc(), nodes, zero, none)?;
-    assert_eq!(rt; tree.leaves(), zero);
-    let none: Vec<Sha256Digest> = Vec::new(rt.alloc());
-    let nodes: Vec<Sha256Digest> = Vec::new(rt.alloc());
-    let tree = Tree::from_pruned_with_retained(rt.alloc(), nodes, zero, none)?;
-    assert_eq!(rt; tree.leaves(), zero);
+    Ok(())
+}
+
+// The tree of three leaves pruned to two, of its last leaf and the peak over the others.
+fn of_components(
+    alloc: Global,
+    leaf: Sha256Digest,
+    peak: Sha256Digest,
+) -> Result<Tree<mmr::Family>, Fail> {
+    let nodes = Vec::from_slice(alloc, &[leaf])?;
+    let pins = Vec::from_slice(alloc, &[peak])?;
+    Ok(Tree::from_components(alloc, nodes, Location::new(2), pins)?)
+}
+
+// The same tree, where no pin lacks.
+fn of_retained(
+    alloc: Global,
+    leaf: Sha256Digest,
+    peak: Sha256Digest,
+) -> Result<Tree<mmr::Family>, Fail> {
+    let nodes = Vec::from_slice(alloc, &[leaf])?;
+    let pins = Vec::from_slice(alloc, &[peak])?;
+    let two = Location::new(2);
+    Ok(Tree::from_pruned_with_retained(alloc, nodes, two, pins)?)
+}
+
+#[test]
+fn trees_are_made_of_their_parts(rt: HostRuntime) -> Result<(), Fail> {
+    let alloc = rt.alloc();
+    let mut hasher = StandardHasher::new(Sha256::new());
+    let leaf = hasher.leaf_digest(mmr::Family::location_to_position(Location::new(0)), b"a");
+    let mut tree: Tree<mmr::Family> = Mem::new(alloc);
+    for _ in 0..3 {
+        add_leaf(alloc, &mut hasher, &mut tree, leaf)?;
+    }
+    let peak = tree.get_node(Position::new(2)).ok_or("no peak")?;
+    let want = tree.root(alloc, &mut hasher, 0)?;
+    for made in [
+        of_components(alloc, leaf, peak)?,
+        of_retained(alloc, leaf, peak)?,
+    ] {
+        assert_eq!(rt; made.root(alloc, &mut hasher, 0)?, want);
+    }
     Ok(())
 }

@@ -1,6 +1,6 @@
 -- The program's database as an engine: where its batches fit and can be read, and what its refusals are.
-use Rattle.std.proofs.Common.{◌≡◌, ◌≢◌, ◌≤◌, ℕ, suc, arith, ◌^◌, ◌∙◌, ◌⊎◌, ap, ap₂, sym, subst, refl, inl, inr, List, [], ◌∷◌, length, map, drop, Option, Some, None, Bool, true, false, IfSome}
-use Rattle.std.specs.Prelude.{Result, Ok, Err, IfOk, IfErr, if◌then◌else◌, option_map}
+use Rattle.std.proofs.Common.{◌≡◌, ◌≢◌, ◌≤◌, ◌<◌, ℕ, suc, arith, ◌^◌, ◌∙◌, ◌⊎◌, ap, ap₂, sym, subst, refl, inl, inr, List, [], ◌∷◌, length, map, drop, Option, Some, None, Bool, true, false, IfSome}
+use Rattle.std.specs.Prelude.{Result, Ok, Err, IfOk, IfErr, IsErrOf, IsSome, if◌then◌else◌, option_map}
 use Rattle.std.specs.Option.{option_or}
 use Rattle.std.proofs.lemmas.Bool.{lt-ltb, le-ltb}
 use Rattle.sha2.specs.Sha256.{sha256}
@@ -14,7 +14,9 @@ use Rattle.qm_model.specs.Causes.{Rose}
 use Rattle.qm_store.specs.declared.Store as store
 use Rattle.qm_store.specs.Log.{Log}
 use Rattle.qm_batch.specs.Lent.{IsReadError}
-use Rattle.qm_model.specs.Refused.{Refused, Journal, ItemTooLarge, Merkle, LocationOverflow}
+use Rattle.qm_model.specs.Refused.{Refused, Journal, ItemTooLarge, Merkle, LocationOverflow, DataCorrupted, HeadDoesNotMatch}
+use Rattle.qm_machine.specs.Machine.{head_refusal}
+use Rattle.qm_base.specs.declared.error.Corrupt.TheVariants as corrupt
 use Rattle.qm_model.specs.Mmr.{mmr}
 use Rattle.qm_model.specs.Refusals.{tip_refusal, too_long, too_many}
 use Rattle.qm_model.specs.Roots.{sha256_root, sha256_proof, sha256_pins}
@@ -31,11 +33,18 @@ use Rattle.qm_lines.specs.Views.{policy_view}
 use Rattle.qm_run.specs.Databases.{form, hashing}
 use Rattle.qm_lines.specs.declared.policy.AnyPolicy.{AnyPolicy}
 use Rattle.qm_lines.specs.declared.policy.AnyPolicy.TheVariants.{Proportional}
-use Rattle.qm_any.specs.Databases.{Begun, Made, IsBegun, IsMade, is_on, list_commitment, stepped}
-use Rattle.qm_any.specs.Layouts.{list_root}
+use Rattle.qm_any.specs.Databases.{Database, IsLeft, Begun, Made, IsBegun, IsMade, is_on, list_commitment, stepped}
+use Rattle.qm_any.specs.Layouts.{Hashing, list_root}
 use Rattle.qm_any.proofs.Known.{child-boundary, child-tips}
 use Rattle.qm_any.specs.Tips.{own_spellings, IsTaken, IsRefused}
-use Rattle.qm_store.specs.Refusals.{refusal_of}
+use Rattle.qm_store.specs.Refusals.{refusal_of, IsDue}
+use Rattle.qm_store.specs.Given.{IsUnchanged, TellsAll, store_given}
+use Rattle.qm_store.specs.declared.refusal.Given.{Given}
+use Rattle.qm_store.specs.declared.refusal.Given.TheVariants as given
+use Rattle.qm_engine.specs.declared.words.Words as words
+use Rattle.qm_engine.specs.Words.{IsReadFailure}
+use Rattle.qm_run.specs.declared.database.Database as engine
+use Rattle.qm_run.specs.Held.{held}
 
 -- the program's form spells operations as the machine does
 leaves-same : (i : ℕ) (ops : List Operation) → leaves_from sha256 mmr form i ops ≡ leaves_from sha256 mmr variable i ops
@@ -155,6 +164,15 @@ module _ {C D : Type 0} (members : store.Ghosts C) (old new : Log C D) (can : Bo
   rose-read (inr (inl memory)) fault = absurd (cc (memory, fault))
   rose-read (inr (inr told)) fault = log-rose members old new e told.1 fault
 
+  -- so it is a failure of a read of the engine
+  pub read-failure : {X B M : Type 0} (means : words.Ghosts X C B M) (list : List Operation) (chain : Chain) (tip : List Operation) → can ≡ readable means.scheme.root (commitment means.scheme.root list) chain tip
+      → old.tree.start ≡ members.start old.store → IsReadErr members old new can e → IsReadFailure means (TellsAll members old.store) list chain tip e
+  read-failure means list chain tip is start why = record {
+    stale = λ stale known. apart (sym (is ∙ readable-known means.scheme.root list chain tip known) ∙ stale-read why stale);
+    refused = λ fresh tells known. fresh-read why fresh (start ∙ tells.0);
+    order = λ fresh other. sym is ∙ known-read why fresh other;
+  }
+
   pub never-read : IsReadErr members old new can e → e ≢ errors.StaleBatch
   never-read (inl why) stale = absurd (cc (why.0, stale))
   never-read (inr (inl memory)) stale = absurd (cc (memory, stale))
@@ -265,3 +283,45 @@ pub made-err : {X : Type 0} (r : Result X Error) (begun : Begun Sha256Digest) (p
 made-err (Ok x) begun policy meta R S given = tt
 made-err (Err e) begun policy meta R S given = λ list chain above ws is batch on.
     subst (λ w. IsRefused form chain.base (stepped chain.base w policy meta) e ⊎ R e) batch.1 (given list chain above is batch.0 on)
+
+-- what a fault tells
+pub err-of : {X E : Type 0} (r : Result X E) (x : E) (P : Type 0) → IfErr r (λ e. e ≡ x → P) → IsErrOf r x → P
+err-of (Ok v) x P given is = absurd (cc is)
+err-of (Err e) x P given is = given (cc is)
+
+-- what reads left is what reads leave
+pub left-store : {C D : Type 0} (members : store.Ghosts C) (hash : Hashing D) (old new : Database C D) → IsLeft members hash old new → IsUnchanged members old.log.store new.log.store
+left-store members hash old new left = let kept = (left.read).kept in record { start = kept.start; head = kept.head; items = kept.items }
+
+-- The store that an engine's refusal gives back is the database's.
+pub held-store : {C : Type 0} (given : Given (Database C Sha256Digest) C) → store_given (λ (x : engine.Database C). x.db.log.store) (held given) ≡ store_given (λ db. db.log.store) given
+held-store (given.Database db) = refl
+held-store (given.Store store) = refl
+
+pub held-database : {C : Type 0} (given : Given (Database C Sha256Digest) C) (x : engine.Database C) → held given ≡ given.Database x → given ≡ given.Database x.db
+held-database (given.Database db) x is = let same : record { db = db } ≡ x = cc is in ap (λ (y : engine.Database C). given.Database y.db) same
+held-database (given.Store store) x is = absurd (cc is)
+
+-- what an opening says of a store's head, as the machine has it
+pub bare-offered : (told : Option Bytes) → IfSome told (λ head. head ≡ []) → IfSome told (λ head. head_refusal head ≡ None)
+bare-offered None bare = tt
+bare-offered (Some head) bare = ap head_refusal bare
+
+filled : (head : Bytes) → IsSome (head_refusal head) → 0 < length head
+filled [] some = absurd (cc some)
+filled (b ∷ bs) some = omega arith
+
+due-filled : (head : Bytes) → 0 < length head → head_refusal head ≡ Some (DataCorrupted HeadDoesNotMatch)
+due-filled [] more = absurd (omega (arith, more))
+due-filled (b ∷ bs) more = refl
+
+pub head-due : (told : Option Bytes) (e : Error) → (e ≡ errors.Memory) ⊎ ((e ≡ errors.Journal journal.Store) ⊎ (e ≡ errors.DataCorrupted corrupt.HeadDoesNotMatch))
+    → (e ≡ errors.DataCorrupted corrupt.HeadDoesNotMatch → IfSome told (λ head. 0 < length head)) → IfSome told (λ head. IsDue e (head_refusal head))
+head-due None e why filled = tt
+head-due (Some head) e (inl memory) more = subst (λ x. IsDue x (head_refusal head)) (sym memory) tt
+head-due (Some head) e (inr (inl fault)) more = subst (λ x. IsDue x (head_refusal head)) (sym fault) tt
+head-due (Some head) e (inr (inr differs)) more = subst (λ x. IsDue x (head_refusal head)) (sym differs) (due-filled head (more differs))
+
+pub head-unopened : (P : Type 0) (told : Option Bytes) → IfSome told (λ head. 0 < length head → P) → IfSome told (λ head. IsSome (head_refusal head) → P)
+head-unopened P None given = tt
+head-unopened P (Some head) given = λ some. given (filled head some)

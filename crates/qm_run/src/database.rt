@@ -1,12 +1,9 @@
 // The program's database as an engine.
 ghost use Rattle.std.specs.Prelude.{◌≡◌};
-ghost use Rattle.qm_model.specs.Live as lives;
-ghost use Rattle.qm_model.specs.Mmr.{mmr};
-ghost use Rattle.qm_model.specs.Roots.{sha256_root, sha256_proof, sha256_pins};
-ghost use Rattle.qm_model.specs.Step as steps;
 ghost use Rattle.qm_any.specs.Databases.{IsDatabase, IsBegun, IsMade};
 ghost use Rattle.qm_run.specs.Databases.{hashing, layout};
 ghost use Rattle.qm_run.specs.Held.{held};
+ghost use Rattle.qm_run.specs.Program.{scheme};
 
 use crate::listed::{listed, twin_option};
 use qm_any::batch::{MerkleizedBatch, UnmerkleizedBatch};
@@ -15,7 +12,7 @@ use qm_any::{Proportional, init};
 use qm_base::{
     ByteKey, ByteValue, Error, Location, Sha256, Sha256Digest, Unordered, VariableEncoding,
 };
-use qm_engine::{BatchSizes, Engine, Numbers};
+use qm_engine::{BatchSizes, Engine, Numbers, Words};
 use qm_index::FourCap;
 use qm_index::unordered::Index;
 use qm_lines::{AnyPolicy, Listed};
@@ -41,29 +38,21 @@ pub struct Database<C: Store> {
 }
 
 // A refusal that gives back an engine.
-fn refusal<C: Store>(refusal: Refusal<Inside<C>, C>) -> Refusal<Database<C>, C>
-    ensures given { result.given ≡ held refusal.given }
-    ensures error { result.error ≡ refusal.error }
+fn refusal<C: Store>(refused: Refusal<Inside<C>, C>) -> Refusal<Database<C>, C>
+    ensures given { result.given ≡ held refused.given }
+    ensures error { result.error ≡ refused.error }
 {
-    let given = match refusal.given {
+    let given = match refused.given {
         Given::Database(db) => Given::Database(Database { db }),
         Given::Store(store) => Given::Store(store),
     };
     Refusal {
         given,
-        error: refusal.error,
+        error: refused.error,
     }
 }
 
-impl<C: Store> Engine<C> for Database<C> {
-    type Key = ByteKey;
-
-    type Value = ByteValue;
-
-    type Digest = Sha256Digest;
-
-    type Config = ();
-
+impl<C: Store> Words<C> for Database<C> {
     type Batch = UnmerkleizedBatch<mmr::Family, Sha256Digest, Pair>;
 
     type Merkleized = Rc<MerkleizedBatch<mmr::Family, Sha256Digest, Pair>>;
@@ -76,15 +65,17 @@ impl<C: Store> Engine<C> for Database<C> {
 
     ghost is_merkleized = { λ b chain tip. IsMade hashing b.value chain tip };
 
-    ghost kind = { steps.unordered };
+    ghost scheme = { scheme };
+}
 
-    ghost root = { sha256_root mmr };
+impl<C: Store> Engine<C> for Database<C> {
+    type Key = ByteKey;
 
-    ghost boundary = { lives.floor };
+    type Value = ByteValue;
 
-    ghost proof = { sha256_proof mmr };
+    type Digest = Sha256Digest;
 
-    ghost pins = { sha256_pins mmr };
+    type Config = ();
 
     fn open(alloc: Global, store: C, _config: &()) -> Result<Self, Refusal<Self, C>> {
         match init(alloc, store, Sha256::new(), FourCap) {

@@ -1,5 +1,5 @@
 -- What an error of a call refuses.
-use Rattle.std.specs.Prelude.{◌≡◌, Option, None, Some, IfSome, option_map}
+use Rattle.std.specs.Prelude.{◌≡◌, List, Contains, Option, None, Some, IfSome, option_map}
 use Rattle.qm_model.specs.Refused as refusals
 use Rattle.qm_base.specs.declared.error.JournalError.{JournalError}
 use Rattle.qm_base.specs.declared.error.JournalError.TheVariants as journal
@@ -36,3 +36,7 @@ refusal_of (errors.Journal e) = option_map refusals.Journal (log_refusal e)
 -- an error refuses for no other reason than is due
 abbrev pub IsDue : Error → Option refusals.Refused → Type 0
 IsDue e due = IfSome (refusal_of e) (λ r. due ≡ Some r)
+
+-- an error is want of memory, a failing store, or refuses for one of these reasons
+abbrev pub IsAmong : Error → List refusals.Refused → Type 0
+IsAmong e reasons = IfSome (refusal_of e) (Contains reasons)

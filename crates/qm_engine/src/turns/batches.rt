@@ -1,5 +1,5 @@
 // Commands that make, fill and apply batches.
-ghost use Rattle.std.specs.Prelude.{◌≡◌, ◌++◌, ◌∷◌, [], ◌≤◌, ◌≢◌, List, Some, None, true, option_map, IfOk, IfErr, IfSome};
+ghost use Rattle.std.specs.Prelude.{◌≡◌, ◌++◌, ◌∷◌, [], ◌≤◌, ◌≢◌, List, Some, None, true, option_map, IfOk, IfErr, IfSome, IsErrOf};
 ghost use Rattle.qm_model.specs.Forms.{variable};
 ghost use Rattle.qm_model.specs.Causes.{Rose};
 ghost use Rattle.qm_model.specs.Operations.{Operation};
@@ -13,7 +13,8 @@ ghost use Rattle.qm_machine.specs.Machine as machine;
 ghost use Rattle.qm_lines.specs.Views.{policy_view};
 ghost use Rattle.qm_store.specs.Given.{store_given, IsUnchanged, TellsAll};
 ghost use Rattle.qm_store.specs.Refusals.{refusal_of};
-ghost use Rattle.qm_engine.specs.Session.{meaning, scheme_of, SlotIs, Stands, Follows, Obeys, Leaves, Uses};
+ghost use Rattle.qm_engine.specs.Words.{AtBatch, Fits, ReadsOnly, tip_of};
+ghost use Rattle.qm_engine.specs.Session.{SlotIs, Stands, Follows, Obeys, Leaves, Uses};
 
 use crate::engine::Engine;
 use crate::session::{Of, Session, Turn, turn_of};
@@ -28,8 +29,8 @@ fn started<X: Engine<C>, C: Store>(
     session: &mut Of<X, C>,
     slot: Slot<X::Batch, X::Merkleized>,
 ) -> Turn<X::Key, X::Value, X::Digest>
-    ensures machine { (s : State) (new : machine.Slot) → Stands (meaning X.Engine C.Store) session.old s → SlotIs (meaning X.Engine C.Store) s.had slot new
-        → Follows (meaning X.Engine C.Store) X.Key.bytes X.Value.bytes X.Digest.bytes X.root session.new result (machine.started s new) }
+    ensures machine { (s : State) (new : machine.Slot) → Stands C.Store X.Words session.old s → SlotIs C.Store X.Words s.had slot new
+        → Follows C.Store X.Words X.Key.bytes X.Value.bytes X.Digest.bytes session.new result (machine.started s new) }
     ensures rest { session.new ≡ record session.old { table = session.new.table } }
     ensures never { result ≢ Turn.StoreFault }
 {
@@ -45,7 +46,7 @@ pub fn batch<X: Engine<C>, C: Store>(
     alloc: Global,
     session: &mut Of<X, C>,
 ) -> Turn<X::Key, X::Value, X::Digest>
-    ensures machine { Obeys (meaning X.Engine C.Store) X.Key.bytes X.Value.bytes X.Digest.bytes X.root session.old session.new result
+    ensures machine { Obeys C.Store X.Words X.Key.bytes X.Value.bytes X.Digest.bytes session.old session.new result
         (machine.start_batch) }
     ensures rest { session.new ≡ record session.old { table = session.new.table } }
     ensures never { result ≢ Turn.StoreFault }
@@ -66,7 +67,7 @@ pub fn child<X: Engine<C>, C: Store>(
     number: u64,
     keep: Option<u64>,
 ) -> Turn<X::Key, X::Value, X::Digest>
-    ensures machine { Obeys (meaning X.Engine C.Store) X.Key.bytes X.Value.bytes X.Digest.bytes X.root session.old session.new result
+    ensures machine { Obeys C.Store X.Words X.Key.bytes X.Value.bytes X.Digest.bytes session.old session.new result
         (λ s. machine.child s number keep) }
     ensures rest { session.new ≡ record session.old { table = session.new.table } }
     ensures never { result ≢ Turn.StoreFault }
@@ -85,7 +86,7 @@ pub fn tip<X: Engine<C>, C: Store>(
     alloc: Global,
     session: &mut Of<X, C>,
 ) -> Turn<X::Key, X::Value, X::Digest>
-    ensures machine { Obeys (meaning X.Engine C.Store) X.Key.bytes X.Value.bytes X.Digest.bytes X.root session.old session.new result
+    ensures machine { Obeys C.Store X.Words X.Key.bytes X.Value.bytes X.Digest.bytes session.old session.new result
         (machine.start_tip) }
     ensures rest { session.new ≡ record session.old { table = session.new.table } }
     ensures never { result ≢ Turn.StoreFault }
@@ -122,7 +123,7 @@ pub fn put<X: Engine<C>, C: Store>(
     key: &X::Key,
     value: &X::Value,
 ) -> Turn<X::Key, X::Value, X::Digest>
-    ensures machine { Obeys (meaning X.Engine C.Store) X.Key.bytes X.Value.bytes X.Digest.bytes X.root session.old session.new result
+    ensures machine { Obeys C.Store X.Words X.Key.bytes X.Value.bytes X.Digest.bytes session.old session.new result
         (λ s. machine.put s number (X.Key.bytes key.now) (X.Value.bytes value.now)) }
     ensures rest { session.new ≡ record session.old { table = session.new.table } }
     ensures never { result ≢ Turn.StoreFault }
@@ -159,7 +160,7 @@ pub fn del<X: Engine<C>, C: Store>(
     number: u64,
     key: &X::Key,
 ) -> Turn<X::Key, X::Value, X::Digest>
-    ensures machine { Obeys (meaning X.Engine C.Store) X.Key.bytes X.Value.bytes X.Digest.bytes X.root session.old session.new result
+    ensures machine { Obeys C.Store X.Words X.Key.bytes X.Value.bytes X.Digest.bytes session.old session.new result
         (λ s. machine.del s number (X.Key.bytes key.now)) }
     ensures rest { session.new ≡ record session.old { table = session.new.table } }
     ensures never { result ≢ Turn.StoreFault }
@@ -184,21 +185,15 @@ fn merkleize_batch<X: Engine<C>, C: Store>(
     policy: &AnyPolicy,
     metadata: &Option<X::Value>,
 ) -> Result<X::Merkleized, Error>
-    ensures fits { IfOk result (λ b. (list : List Operation) (chain above : Chain) (ws : List Write) → X.stands database.old list → X.is_batch batch chain above ws
-        → fits X.root (commitment X.root list) chain ≡ true) }
-    ensures made { IfOk result (λ b. (list : List Operation) (chain above : Chain) (ws : List Write) → X.stands database.old list → X.is_batch batch chain above ws → IsOnChain list chain
-        → let tip = step X.kind policies chain.base ws (policy_view policy.now) (option_map X.Value.bytes metadata.now) in
-        (tip_refusal variable chain tip ≡ None) × X.is_merkleized b chain tip) }
-    ensures stale { IfErr result (λ e. e ≡ Error.StaleBatch → (list : List Operation) (chain above : Chain) (ws : List Write) → X.stands database.old list → X.is_batch batch chain above ws
-        → ¬ IsOnChain list chain) }
-    ensures refused { IfErr result (λ e. e ≢ Error.StaleBatch → TellsAll C.Store (X.inside database.old)
-        → (list : List Operation) (chain above : Chain) (ws : List Write) → X.stands database.old list → X.is_batch batch chain above ws
-        → IfSome (refusal_of e) (λ r. (fits X.root (commitment X.root list) chain ≡ true)
-        × (IsOnChain list chain → tip_refusal variable chain (step X.kind policies chain.base ws (policy_view policy.now) (option_map X.Value.bytes metadata.now)) ≡ Some r))) }
-    ensures same { (list : List Operation) → X.stands database.old list → X.stands database.new list }
-    ensures store { IsUnchanged C.Store (X.inside database.old) (X.inside database.new) }
-    ensures cause { IfErr result (λ e. e ≡ Error.Journal JournalError.Store → Rose (C.faults (X.inside database.old)) (C.faults (X.inside database.new))) }
-    ensures later { C.faults (X.inside database.old) ≤ C.faults (X.inside database.new) }
+    ensures fits { IfOk result (λ _. AtBatch X.Words database.old batch (λ list chain above ws. Fits X.Words list chain)) }
+    ensures made { IfOk result (λ b. AtBatch X.Words database.old batch (λ list chain above ws. IsOnChain list chain
+        → let tip = tip_of X.scheme chain ws (policy_view policy.now) (option_map X.Value.bytes metadata.now) in
+        (tip_refusal variable chain tip ≡ None) × X.is_merkleized b chain tip)) }
+    ensures stale { IfErr result (λ e. e ≡ Error.StaleBatch → AtBatch X.Words database.old batch (λ list chain above ws. ¬ IsOnChain list chain)) }
+    ensures refused { IfErr result (λ e. e ≢ Error.StaleBatch → TellsAll C.Store (X.inside database.old) → AtBatch X.Words database.old batch (λ list chain above ws.
+        IfSome (refusal_of e) (λ r. Fits X.Words list chain
+        × (IsOnChain list chain → tip_refusal variable chain (tip_of X.scheme chain ws (policy_view policy.now) (option_map X.Value.bytes metadata.now)) ≡ Some r)))) }
+    ensures reads { ReadsOnly X.Words C.Store database.old database.new (IsErrOf result (Error.Journal JournalError.Store)) }
 {
     let mut policy = policy.twin(alloc)?;
     database.merkleize(alloc, batch, &mut policy, metadata)
@@ -212,8 +207,8 @@ pub fn merkleize<X: Engine<C>, C: Store>(
     policy: &AnyPolicy,
     metadata: &Option<X::Value>,
 ) -> Turn<X::Key, X::Value, X::Digest>
-    ensures machine { Obeys (meaning X.Engine C.Store) X.Key.bytes X.Value.bytes X.Digest.bytes X.root session.old session.new result
-        (λ s. machine.merkleize (scheme_of X.Engine) s number (policy_view policy.now) (option_map X.Value.bytes metadata.now)) }
+    ensures machine { Obeys C.Store X.Words X.Key.bytes X.Value.bytes X.Digest.bytes session.old session.new result
+        (λ s. machine.merkleize X.scheme s number (policy_view policy.now) (option_map X.Value.bytes metadata.now)) }
     ensures store { IsUnchanged C.Store (store_given X.inside session.old.held) (store_given X.inside session.new.held) }
     ensures uses { Uses C.Store (store_given X.inside session.old.held) (store_given X.inside session.new.held) result }
     ensures opened { session.new.opened ≡ session.old.opened }
@@ -239,10 +234,10 @@ pub fn apply<X: Engine<C>, C: Store>(
     session: Of<X, C>,
     number: u64,
 ) -> (Of<X, C>, Turn<X::Key, X::Value, X::Digest>)
-    ensures machine { Obeys (meaning X.Engine C.Store) X.Key.bytes X.Value.bytes X.Digest.bytes X.root session result.0 result.1
-        (λ s. machine.apply (scheme_of X.Engine) s number) }
-    ensures left { Leaves (meaning X.Engine C.Store) X.root session result.0
-        (λ s. machine.apply (scheme_of X.Engine) s number) }
+    ensures machine { Obeys C.Store X.Words X.Key.bytes X.Value.bytes X.Digest.bytes session result.0 result.1
+        (λ s. machine.apply X.scheme s number) }
+    ensures left { Leaves C.Store X.Words session result.0
+        (λ s. machine.apply X.scheme s number) }
     ensures uses { Uses C.Store (store_given X.inside session.held) (store_given X.inside result.0.held) result.1 }
     ensures opened { result.0.opened ≡ session.opened }
 {

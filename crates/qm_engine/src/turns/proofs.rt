@@ -3,7 +3,7 @@ ghost use Rattle.std.specs.Prelude.{◌≡◌, ◌≢◌};
 ghost use Rattle.std.specs.Int.NonZero.{non_zero_u64_get};
 ghost use Rattle.qm_machine.specs.Machine as machine;
 ghost use Rattle.qm_store.specs.Given.{store_given, IsUnchanged};
-ghost use Rattle.qm_engine.specs.Session.{meaning, scheme_of, Obeys, Tells, Uses};
+ghost use Rattle.qm_engine.specs.Session.{Obeys, Tells, Uses};
 
 use crate::engine::Engine;
 use crate::session::{Of, Turn, turn_of};
@@ -20,8 +20,8 @@ pub fn batch_proof<X: Engine<C>, C: Store>(
     session: &Of<X, C>,
     number: u64,
 ) -> Turn<X::Key, X::Value, X::Digest>
-    ensures machine { Tells (meaning X.Engine C.Store) X.Key.bytes X.Value.bytes X.Digest.bytes X.root session.now result
-        (λ s. machine.batch_proof (scheme_of X.Engine) s number) }
+    ensures machine { Tells C.Store X.Words X.Key.bytes X.Value.bytes X.Digest.bytes session.now result
+        (λ s. machine.batch_proof X.scheme s number) }
     ensures never { result ≢ Turn.StoreFault }
 {
     let Given::Database(x) = &session.held else {
@@ -51,8 +51,8 @@ pub fn prove<X: Engine<C>, C: Store>(
     start: u64,
     max: NonZeroU64,
 ) -> Turn<X::Key, X::Value, X::Digest>
-    ensures machine { Obeys (meaning X.Engine C.Store) X.Key.bytes X.Value.bytes X.Digest.bytes X.root session.old session.new result
-        (λ s. machine.prove (scheme_of X.Engine) s size start (non_zero_u64_get max)) }
+    ensures machine { Obeys C.Store X.Words X.Key.bytes X.Value.bytes X.Digest.bytes session.old session.new result
+        (λ s. machine.prove X.scheme s size start (non_zero_u64_get max)) }
     ensures store { IsUnchanged C.Store (store_given X.inside session.old.held) (store_given X.inside session.new.held) }
     ensures uses { Uses C.Store (store_given X.inside session.old.held) (store_given X.inside session.new.held) result }
     ensures opened { session.new.opened ≡ session.old.opened }
@@ -79,8 +79,8 @@ pub fn pins<X: Engine<C>, C: Store>(
     session: &Of<X, C>,
     at: u64,
 ) -> Turn<X::Key, X::Value, X::Digest>
-    ensures machine { Tells (meaning X.Engine C.Store) X.Key.bytes X.Value.bytes X.Digest.bytes X.root session.now result
-        (λ s. machine.pins (scheme_of X.Engine) s at) }
+    ensures machine { Tells C.Store X.Words X.Key.bytes X.Value.bytes X.Digest.bytes session.now result
+        (λ s. machine.pins X.scheme s at) }
     ensures never { result ≢ Turn.StoreFault }
 {
     let Given::Database(x) = &session.held else {

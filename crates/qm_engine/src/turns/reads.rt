@@ -4,7 +4,7 @@ ghost use Rattle.qm_model.specs.Operations.{Operation};
 ghost use Rattle.qm_machine.specs.Machine.{State};
 ghost use Rattle.qm_machine.specs.Machine as machine;
 ghost use Rattle.qm_store.specs.Given.{store_given, IsUnchanged, TellsAll};
-ghost use Rattle.qm_engine.specs.Session.{meaning, scheme_of, SlotIs, Answers, Obeys, Tells, Uses};
+ghost use Rattle.qm_engine.specs.Session.{SlotIs, Answers, Obeys, Tells, Uses};
 
 use crate::engine::{BatchSizes, Engine, Numbers};
 use crate::session::{Of, Turn, turn_of};
@@ -23,8 +23,8 @@ fn read_slot<X: Engine<C>, C: Store>(
     keys: &[X::Key],
 ) -> Turn<X::Key, X::Value, X::Digest>
     ensures machine { (s : State) (list : List Operation) (named : machine.Slot) → TellsAll C.Store (X.inside database.old) → X.stands database.old list → Contains s.had list
-        → SlotIs (meaning X.Engine C.Store) s.had slot.now named
-        → Answers X.Key.bytes X.Value.bytes X.Digest.bytes X.root result s (machine.read_in (scheme_of X.Engine) s number (map X.Key.bytes keys.now) list named) }
+        → SlotIs C.Store X.Words s.had slot.now named
+        → Answers C.Store X.Words X.Key.bytes X.Value.bytes X.Digest.bytes result s (machine.read_in X.scheme s number (map X.Key.bytes keys.now) list named) }
     ensures same { (list : List Operation) → X.stands database.old list → X.stands database.new list }
     ensures store { IsUnchanged C.Store (X.inside database.old) (X.inside database.new) }
     ensures uses { Uses C.Store (X.inside database.old) (X.inside database.new) result }
@@ -49,8 +49,8 @@ pub fn read<X: Engine<C>, C: Store>(
     keys: &[X::Key],
     from: Option<u64>,
 ) -> Turn<X::Key, X::Value, X::Digest>
-    ensures machine { Obeys (meaning X.Engine C.Store) X.Key.bytes X.Value.bytes X.Digest.bytes X.root session.old session.new result
-        (λ s. machine.read (scheme_of X.Engine) s (map X.Key.bytes keys.now) from) }
+    ensures machine { Obeys C.Store X.Words X.Key.bytes X.Value.bytes X.Digest.bytes session.old session.new result
+        (λ s. machine.read X.scheme s (map X.Key.bytes keys.now) from) }
     ensures store { IsUnchanged C.Store (store_given X.inside session.old.held) (store_given X.inside session.new.held) }
     ensures uses { Uses C.Store (store_given X.inside session.old.held) (store_given X.inside session.new.held) result }
     ensures opened { session.new.opened ≡ session.old.opened }
@@ -87,8 +87,8 @@ pub fn read_key<X: Engine<C>, C: Store>(
     key: &X::Key,
     from: Option<u64>,
 ) -> Turn<X::Key, X::Value, X::Digest>
-    ensures machine { Obeys (meaning X.Engine C.Store) X.Key.bytes X.Value.bytes X.Digest.bytes X.root session.old session.new result
-        (λ s. machine.read (scheme_of X.Engine) s (X.Key.bytes key.now ∷ []) from) }
+    ensures machine { Obeys C.Store X.Words X.Key.bytes X.Value.bytes X.Digest.bytes session.old session.new result
+        (λ s. machine.read X.scheme s (X.Key.bytes key.now ∷ []) from) }
     ensures store { IsUnchanged C.Store (store_given X.inside session.old.held) (store_given X.inside session.new.held) }
     ensures uses { Uses C.Store (store_given X.inside session.old.held) (store_given X.inside session.new.held) result }
     ensures opened { session.new.opened ≡ session.old.opened }
@@ -105,7 +105,7 @@ pub fn ops<X: Engine<C>, C: Store>(
     session: &Of<X, C>,
     number: u64,
 ) -> Turn<X::Key, X::Value, X::Digest>
-    ensures machine { Tells (meaning X.Engine C.Store) X.Key.bytes X.Value.bytes X.Digest.bytes X.root session.now result
+    ensures machine { Tells C.Store X.Words X.Key.bytes X.Value.bytes X.Digest.bytes session.now result
         (λ s. machine.ops s number) }
     ensures never { result ≢ Turn.StoreFault }
 {
@@ -120,8 +120,8 @@ pub fn ops<X: Engine<C>, C: Store>(
 
 /// The numbers of the database.
 pub fn info<X: Engine<C>, C: Store>(session: &Of<X, C>) -> Turn<X::Key, X::Value, X::Digest>
-    ensures machine { Tells (meaning X.Engine C.Store) X.Key.bytes X.Value.bytes X.Digest.bytes X.root session.now result
-        (machine.info (scheme_of X.Engine)) }
+    ensures machine { Tells C.Store X.Words X.Key.bytes X.Value.bytes X.Digest.bytes session.now result
+        (machine.info X.scheme) }
     ensures never { result ≢ Turn.StoreFault }
 {
     let Given::Database(x) = &session.held else {
@@ -142,8 +142,8 @@ pub fn batch_info<X: Engine<C>, C: Store>(
     session: &Of<X, C>,
     number: u64,
 ) -> Turn<X::Key, X::Value, X::Digest>
-    ensures machine { Tells (meaning X.Engine C.Store) X.Key.bytes X.Value.bytes X.Digest.bytes X.root session.now result
-        (λ s. machine.batch_info (scheme_of X.Engine) s number) }
+    ensures machine { Tells C.Store X.Words X.Key.bytes X.Value.bytes X.Digest.bytes session.now result
+        (λ s. machine.batch_info X.scheme s number) }
     ensures never { result ≢ Turn.StoreFault }
 {
     let Some(batch) = merkleized_at(&session.table, number) else {
@@ -163,8 +163,8 @@ pub fn root<X: Engine<C>, C: Store>(
     alloc: Global,
     session: &Of<X, C>,
 ) -> Turn<X::Key, X::Value, X::Digest>
-    ensures machine { Tells (meaning X.Engine C.Store) X.Key.bytes X.Value.bytes X.Digest.bytes X.root session.now result
-        (machine.root (scheme_of X.Engine)) }
+    ensures machine { Tells C.Store X.Words X.Key.bytes X.Value.bytes X.Digest.bytes session.now result
+        (machine.root X.scheme) }
     ensures never { result ≢ Turn.StoreFault }
 {
     let Given::Database(x) = &session.held else {
@@ -181,8 +181,8 @@ pub fn batch_root<X: Engine<C>, C: Store>(
     session: &Of<X, C>,
     number: u64,
 ) -> Turn<X::Key, X::Value, X::Digest>
-    ensures machine { Tells (meaning X.Engine C.Store) X.Key.bytes X.Value.bytes X.Digest.bytes X.root session.now result
-        (λ s. machine.batch_root (scheme_of X.Engine) s number) }
+    ensures machine { Tells C.Store X.Words X.Key.bytes X.Value.bytes X.Digest.bytes session.now result
+        (λ s. machine.batch_root X.scheme s number) }
     ensures never { result ≢ Turn.StoreFault }
 {
     let Some(batch) = merkleized_at(&session.table, number) else {
@@ -197,7 +197,7 @@ pub fn meta<X: Engine<C>, C: Store>(
     alloc: Global,
     session: &Of<X, C>,
 ) -> Turn<X::Key, X::Value, X::Digest>
-    ensures machine { Tells (meaning X.Engine C.Store) X.Key.bytes X.Value.bytes X.Digest.bytes X.root session.now result
+    ensures machine { Tells C.Store X.Words X.Key.bytes X.Value.bytes X.Digest.bytes session.now result
         (machine.meta) }
     ensures never { result ≢ Turn.StoreFault }
 {

@@ -106,3 +106,8 @@ returns-clause-taken g c = λ list chain above is made kept on.
       subst (λ xs. too_long xs ≡ None) (c.in_ok-plan.ensures.items ∙ ap (map (spelling (unordered_form g.K.ByteString.has g.V.Value.ByteString.has g.V.ValueEncoding.fixed))) plan.operations) c.in_ok-plan.ensures.short,
       omega (arith, room, size, count, plan-length c.in_ok-plan.plan base tip plan),
     )
+
+pub returns-in_err-tree-clause-whole : goal.returns-in_err-tree-clause-whole
+returns-in_err-tree-clause-whole g c = λ list is none low.
+    let exit = err_from_is_err_and c.from_residual-in_err-tree.result c.from_residual-in_err-tree.ensures.1 in
+    rw (exit.1, exit.2) (λ n pruned. cc)

@@ -1,11 +1,12 @@
-use Rattle.std.proofs.Common.{All, ◌≡◌, ◌+◌, ◌∙◌, ap, sym, subst, map, length, arith, inl, inr}
+use Rattle.std.proofs.Common.{All, ◌≡◌, ◌≤◌, ◌+◌, ◌∙◌, ap, sym, subst, map, length, arith, inl, inr}
 use Rattle.std.proofs.lemmas.List.{length-map}
+use Rattle.std.proofs.lemmas.Result.{err_from_is_err_and}
 use Rattle.qm_model.specs.Forms.{IsOf, spelling}
 use Rattle.qm_batch.specs.Bases.{IsBase}
 use Rattle.qm_batch.specs.PlanViews.{unordered_form, unordered_update}
 use Rattle.qm_base.specs.Views.{operation_views}
 use Rattle.qm_any.specs.Tips.{IsLow}
-use Rattle.qm_any.proofs.Making.{too_long-fresh, too_long-cause, plan-refused}
+use Rattle.qm_any.proofs.Making.{too_long-fresh, too_long-cause, too_long-kept, too_long-size, plan-refused}
 use Rattle.qm_any.proofs.batch.planned.Goals as goal
 
 pub returns-in-Ok-clause-plan : goal.returns-in-Ok-clause-plan
@@ -40,3 +41,19 @@ returns-in-Err-clause-never g c = too_long-fresh (map (λ v. v.items) c.deref-2.
 
 pub returns-in-Err-clause-cause : goal.returns-in-Err-clause-cause
 returns-in-Err-clause-cause g c = too_long-cause (map (λ v. v.items) c.deref-2.result.now) _ c.in-Err.error c.in-Err.ensures.err
+
+pub returns-in_err-plan-clause-whole : goal.returns-in_err-plan-clause-whole
+returns-in_err-plan-clause-whole g c = λ list is none low.
+    let exit = err_from_is_err_and c.from_residual.result c.from_residual.ensures.1 in
+    rw (exit.1, exit.2) (c.in_err-plan.ensures.whole list is none (subst (λ n. c.args.db.now.log.tree.start ≤ n) (sym (ap (λ b. b.floor) c.base-base.ensures.value)) low))
+
+pub returns-in_err-plan-clause-causes : goal.returns-in_err-plan-clause-causes
+returns-in_err-plan-clause-causes g c =
+    let exit = err_from_is_err_and c.from_residual.result c.from_residual.ensures.1 in
+    rw (exit.1, exit.2) (inl c.in_err-plan.ensures.error)
+
+pub returns-in-Err-clause-whole : goal.returns-in-Err-clause-whole
+returns-in-Err-clause-whole g c = λ list is none low. too_long-kept (map (λ v. v.items) c.deref-2.result.now) _ c.in-Err.error c.in-Err.ensures.err
+
+pub returns-in-Err-clause-causes : goal.returns-in-Err-clause-causes
+returns-in-Err-clause-causes g c = inr (too_long-size (map (λ v. v.items) c.deref-2.result.now) _ c.in-Err.error c.in-Err.ensures.err)

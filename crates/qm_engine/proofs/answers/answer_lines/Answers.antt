@@ -1,10 +1,8 @@
 use Rattle.std.proofs.Common.{◌≡◌, arith, refl, ◌∙◌, ap, Some}
-use Rattle.qm_model.specs.Policies.{Policy}
-use Rattle.qm_machine.specs.Machine.{Scheme}
 use Rattle.qm_machine.specs.Grammar.{line_of}
 use Rattle.qm_lines.proofs.Inputs.{at_start, at_end, at_bad}
 use Rattle.qm_engine.specs.Stores.{told}
-use Rattle.qm_engine.specs.Session.{Meaning, meaning, scheme_of, Holds}
+use Rattle.qm_engine.specs.Session.{Holds}
 use Rattle.qm_engine.proofs.Loops.{each}
 use Rattle.qm_engine.proofs.Answerings.{at_next, at_short, line_step, answered_in, answered_at}
 use Rattle.qm_engine.proofs.answers.answer_lines.Goals as goal
@@ -22,13 +20,11 @@ loop-line-init g c = record {
 
 pub returns-in-Some-ended-clause-machine : goal.returns-in-Some-ended-clause-machine
 returns-in-Some-ended-clause-machine g c =
-    let m : Meaning g.row.X.Denot g.row.C.Denot g.row.X-Batch.Denot g.row.X-Merkleized.Denot = meaning g.X.Engine g.C.Store in
-    let scheme : Scheme Policy = scheme_of g.X.Engine in
     let kept : c.answer_line-next.new.text.items ≡ c.loop-line.text.items = rw c.in-Some-ended.is at c.answer_line-next.ensures.kept in
     each (told g.C.Store c.args.store) (λ stored is.
     rw (kept, c.close.ensures) (answered_in c.args.input.now c.loop-line.rest.now c.in-Some.line.now c.in-Some.behind.now c.loop-line.answered c.loop-line.invariant.at c.in-Some.ensures.some
-    scheme stored c.loop-line.text.items _
-    (λ s. Holds m c.loop-line.session.held c.loop-line.session.table.items c.loop-line.session.opened s)
+    g.X.Words.scheme stored c.loop-line.text.items _
+    (λ s. Holds g.C.Store g.X.Words c.loop-line.session.held c.loop-line.session.table.items c.loop-line.session.opened s)
     (c.loop-line.invariant.machine stored is)
     c.answer_line-next.ensures.left))
 
@@ -44,8 +40,6 @@ returns-in-Some-ended-clause-short g c = λ e.
 
 pub loop-line-preserved : goal.loop-line-preserved
 loop-line-preserved g c =
-    let m : Meaning g.row.X.Denot g.row.C.Denot g.row.X-Batch.Denot g.row.X-Merkleized.Denot = meaning g.X.Engine g.C.Store in
-    let scheme : Scheme Policy = scheme_of g.X.Engine in
     let some = rw c.in_default-ended.is at c.answer_line-next.ensures.command in
     record {
       at = at_next c.args.input.now c.loop-line.rest.now c.in-Some.line.now c.in-Some.behind.now c.loop-line.answered c.loop-line.invariant.at c.in-Some.ensures.some (line_of c.in-Some.line.now) refl some;
@@ -55,19 +49,17 @@ loop-line-preserved g c =
       start = c.answer_line-next.ensures.start ∙ c.loop-line.invariant.start;
       head = c.answer_line-next.ensures.head ∙ c.loop-line.invariant.head;
       machine = λ stored is. line_step c.args.input.now c.loop-line.rest.now c.in-Some.line.now c.in-Some.behind.now c.loop-line.answered c.loop-line.invariant.at c.in-Some.ensures.some
-          scheme stored (line_of c.in-Some.line.now) refl some c.loop-line.text.items c.answer_line-next.new.text.items
-          (λ s. Holds m c.loop-line.session.held c.loop-line.session.table.items c.loop-line.session.opened s)
-          (λ s. Holds m c.answer_line-next.result.0.held c.answer_line-next.result.0.table.items c.answer_line-next.result.0.opened s)
+          g.X.Words.scheme stored (line_of c.in-Some.line.now) refl some c.loop-line.text.items c.answer_line-next.new.text.items
+          (λ s. Holds g.C.Store g.X.Words c.loop-line.session.held c.loop-line.session.table.items c.loop-line.session.opened s)
+          (λ s. Holds g.C.Store g.X.Words c.answer_line-next.result.0.held c.answer_line-next.result.0.table.items c.answer_line-next.result.0.opened s)
           (c.loop-line.invariant.machine stored is)
           (λ s k. rw c.in_default-ended.is at (c.answer_line-next.ensures.machine s k));
     }
 
 pub returns-clause-machine : goal.returns-clause-machine
 returns-clause-machine g c =
-    let m : Meaning g.row.X.Denot g.row.C.Denot g.row.X-Batch.Denot g.row.X-Merkleized.Denot = meaning g.X.Engine g.C.Store in
-    let scheme : Scheme Policy = scheme_of g.X.Engine in
     each (told g.C.Store c.args.store) (λ stored is.
-    rw c.close-2.ensures (answered_at scheme stored c.args.input.now c.loop-line.answered c.loop-line.text.items _ c.loop-line.invariant.at.few
+    rw c.close-2.ensures (answered_at g.X.Words.scheme stored c.args.input.now c.loop-line.answered c.loop-line.text.items _ c.loop-line.invariant.at.few
     (λ apart. let at_end = c.loop-line.invariant.machine stored is apart in (at_end.0, (at_end.1).store.items))))
 
 pub returns-clause-done : goal.returns-clause-done

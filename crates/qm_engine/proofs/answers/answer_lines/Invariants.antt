@@ -1,31 +1,28 @@
 use Rattle.std.proofs.Common.{◌≡◌, ◌≤◌, ◌+◌, Some, take, length}
 use Rattle.qm_model.specs.Batches.{Apart}
 use Rattle.qm_machine.specs.Grammar.{commands_in}
-use Rattle.qm_model.specs.Policies.{Policy}
-use Rattle.qm_machine.specs.Machine.{Scheme, Stored, initial, answers}
+use Rattle.qm_machine.specs.Machine.{Stored, initial, answers}
 use Rattle.qm_machine.specs.Text.{text_of}
 use Rattle.qm_store.specs.Given.{store_given}
 use Rattle.qm_lines.proofs.Inputs.{IsAt}
 use Rattle.qm_engine.specs.Stores.{told}
-use Rattle.qm_engine.specs.Session.{Meaning, meaning, scheme_of, Holds}
+use Rattle.qm_engine.specs.Session.{Holds}
 use Rattle.qm_engine.specs.Runs.{after}
 use Rattle.qm_engine.proofs.answers.answer_lines.Given as goal
 
 abbrev pub invariant-loop-line : goal.invariant-loop-line
 invariant-loop-line g l =
-    let m : Meaning g.row.X.Denot g.row.C.Denot g.row.X-Batch.Denot g.row.X-Merkleized.Denot = meaning g.X.Engine g.C.Store in
-    let scheme : Scheme Policy = scheme_of g.X.Engine in
     record {
       at : IsAt l.input l.rest l.answered;
       room : l.answered + length l.rest ≤ length l.input;
       opened : l.session.opened ≤ l.answered;
-      start : g.C.Store.start (store_given g.X.Engine.inside l.session.held) ≡ g.C.Store.start l.fn.store;
-      head : g.C.Store.head (store_given g.X.Engine.inside l.session.held) ≡ g.C.Store.head l.fn.store;
-      later : g.C.Store.faults l.fn.store ≤ g.C.Store.faults (store_given g.X.Engine.inside l.session.held);
+      start : g.C.Store.start (store_given g.X.Words.inside l.session.held) ≡ g.C.Store.start l.fn.store;
+      head : g.C.Store.head (store_given g.X.Words.inside l.session.held) ≡ g.C.Store.head l.fn.store;
+      later : g.C.Store.faults l.fn.store ≤ g.C.Store.faults (store_given g.X.Words.inside l.session.held);
       machine : (stored : Stored) → told g.C.Store l.fn.store ≡ Some stored
-          → Apart g.X.Engine.root (after scheme stored (commands_in l.input) l.answered).had
-          → (l.text.items ≡ text_of (answers scheme (initial stored) (take l.answered (commands_in l.input))))
-          × Holds m l.session.held l.session.table.items l.session.opened (after scheme stored (commands_in l.input) l.answered);
+          → Apart g.X.Words.scheme.root (after g.X.Words.scheme stored (commands_in l.input) l.answered).had
+          → (l.text.items ≡ text_of (answers g.X.Words.scheme (initial stored) (take l.answered (commands_in l.input))))
+          × Holds g.C.Store g.X.Words l.session.held l.session.table.items l.session.opened (after g.X.Words.scheme stored (commands_in l.input) l.answered);
     }
 
 abbrev pub decreases-loop-line : goal.decreases-loop-line

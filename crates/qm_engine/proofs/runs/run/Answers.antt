@@ -1,10 +1,8 @@
 use Rattle.std.proofs.Common.{◌≡◌, ◌+◌, ◌++◌, ◌∷◌, [], length, map, arith, refl, ◌∙◌, ap, Some}
 use Rattle.std.proofs.lemmas.List.{length-map}
-use Rattle.qm_model.specs.Policies.{Policy}
-use Rattle.qm_machine.specs.Machine.{Scheme}
 use Rattle.qm_lines.specs.Views.{policy_view, line_view, answer_view}
 use Rattle.qm_engine.specs.Stores.{told}
-use Rattle.qm_engine.specs.Session.{Meaning, meaning, scheme_of, Holds}
+use Rattle.qm_engine.specs.Session.{Holds}
 use Rattle.qm_engine.proofs.Loops.{each, loop_step, ended_in, ended_at, line_here, Rose-wider}
 use Rattle.qm_engine.proofs.runs.run.Goals as goal
 
@@ -22,15 +20,13 @@ loop-command-init g c =
 
 pub returns-in-Some-clause-machine : goal.returns-in-Some-clause-machine
 returns-in-Some-clause-machine g c =
-    let m : Meaning g.row.X.Denot g.row.C.Denot g.row.X-Batch.Denot g.row.X-Merkleized.Denot = meaning g.X.Engine g.C.Store in
-    let scheme : Scheme Policy = scheme_of g.X.Engine in
     let f = line_view g.X.Key.ByteString.bytes g.X.Value.ByteString.bytes policy_view in
     let a = answer_view g.X.Key.ByteString.bytes g.X.Value.ByteString.bytes g.X.Digest.Digest.bytes in
     let i = c.loop-command.command-index in
     let kept : c.step-next.new.replies.items ≡ c.loop-command.replies.items = rw c.in-Some.is at c.step-next.ensures.kept in
     each (told g.C.Store c.args.store) (λ stored is.
-    rw (kept, c.close.ensures) (ended_in scheme stored (map f c.args.commands.now) i (f c.command-item.result) (map a c.loop-command.replies.items) _
-    (λ s. Holds m c.loop-command.session.held c.loop-command.session.table.items c.loop-command.session.opened s)
+    rw (kept, c.close.ensures) (ended_in g.X.Words.scheme stored (map f c.args.commands.now) i (f c.command-item.result) (map a c.loop-command.replies.items) _
+    (λ s. Holds g.C.Store g.X.Words c.loop-command.session.held c.loop-command.session.table.items c.loop-command.session.opened s)
     (rw (length-map c.args.commands.now f) c.loop-command-test.true)
     (line_here f c.args.commands.now i c.command-item.result c.loop-command-test.true c.command-item.is)
     (length-map c.loop-command.replies.items a ∙ c.loop-command.invariant.count)
@@ -44,8 +40,6 @@ returns-in-Some-clause-fault g c = λ e.
 
 pub loop-command-preserved : goal.loop-command-preserved
 loop-command-preserved g c =
-    let m : Meaning g.row.X.Denot g.row.C.Denot g.row.X-Batch.Denot g.row.X-Merkleized.Denot = meaning g.X.Engine g.C.Store in
-    let scheme : Scheme Policy = scheme_of g.X.Engine in
     let f = line_view g.X.Key.ByteString.bytes g.X.Value.ByteString.bytes policy_view in
     let a = answer_view g.X.Key.ByteString.bytes g.X.Value.ByteString.bytes g.X.Digest.Digest.bytes in
     let i = c.loop-command.command-index in
@@ -56,9 +50,9 @@ loop-command-preserved g c =
       later = omega arith;
       start = c.step-next.ensures.start ∙ c.loop-command.invariant.start;
       head = c.step-next.ensures.head ∙ c.loop-command.invariant.head;
-      machine = λ stored is. loop_step scheme stored (map f c.args.commands.now) (λ given. given) (λ given answer. given ++ answer ∷ []) (λ given answer. refl) i (f c.command-item.result) (map a c.loop-command.replies.items) (map a c.step-next.new.replies.items)
-          (λ s. Holds m c.loop-command.session.held c.loop-command.session.table.items c.loop-command.session.opened s)
-          (λ s. Holds m c.step-next.result.0.held c.step-next.result.0.table.items c.step-next.result.0.opened s)
+      machine = λ stored is. loop_step g.X.Words.scheme stored (map f c.args.commands.now) (λ given. given) (λ given answer. given ++ answer ∷ []) (λ given answer. refl) i (f c.command-item.result) (map a c.loop-command.replies.items) (map a c.step-next.new.replies.items)
+          (λ s. Holds g.C.Store g.X.Words c.loop-command.session.held c.loop-command.session.table.items c.loop-command.session.opened s)
+          (λ s. Holds g.C.Store g.X.Words c.step-next.result.0.held c.step-next.result.0.table.items c.step-next.result.0.opened s)
           (rw (length-map c.args.commands.now f) c.loop-command-test.true)
           (line_here f c.args.commands.now i c.command-item.result c.loop-command-test.true c.command-item.is)
           (c.loop-command.invariant.machine stored is)
@@ -67,13 +61,11 @@ loop-command-preserved g c =
 
 pub returns-clause-machine : goal.returns-clause-machine
 returns-clause-machine g c =
-    let m : Meaning g.row.X.Denot g.row.C.Denot g.row.X-Batch.Denot g.row.X-Merkleized.Denot = meaning g.X.Engine g.C.Store in
-    let scheme : Scheme Policy = scheme_of g.X.Engine in
     let f = line_view g.X.Key.ByteString.bytes g.X.Value.ByteString.bytes policy_view in
     let a = answer_view g.X.Key.ByteString.bytes g.X.Value.ByteString.bytes g.X.Digest.Digest.bytes in
     let i = c.loop-command.command-index in
     each (told g.C.Store c.args.store) (λ stored is.
-    rw c.close-2.ensures (ended_at scheme stored (map f c.args.commands.now) i (map a c.loop-command.replies.items) _
+    rw c.close-2.ensures (ended_at g.X.Words.scheme stored (map f c.args.commands.now) i (map a c.loop-command.replies.items) _
     (omega (arith, length-map c.args.commands.now f, c.loop-command.auto.command-index-end))
     (length-map c.loop-command.replies.items a ∙ c.loop-command.invariant.count)
     (λ apart. let at_end = c.loop-command.invariant.machine stored is apart in (at_end.0, (at_end.1).store.items))))

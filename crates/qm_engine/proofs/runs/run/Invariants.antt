@@ -1,26 +1,23 @@
 use Rattle.std.proofs.Common.{◌≡◌, ◌≤◌, Some, map, take, length}
 use Rattle.qm_model.specs.Batches.{Apart}
-use Rattle.qm_model.specs.Policies.{Policy}
-use Rattle.qm_machine.specs.Machine.{Scheme, Stored, initial, answers}
+use Rattle.qm_machine.specs.Machine.{Stored, initial, answers}
 use Rattle.qm_lines.specs.Views.{policy_view, line_view, answer_view}
 use Rattle.qm_store.specs.Given.{store_given}
 use Rattle.qm_engine.specs.Stores.{told}
-use Rattle.qm_engine.specs.Session.{Meaning, meaning, scheme_of, Holds}
+use Rattle.qm_engine.specs.Session.{Holds}
 use Rattle.qm_engine.specs.Runs.{after}
 use Rattle.qm_engine.proofs.runs.run.Given as goal
 
 abbrev pub invariant-loop-command : goal.invariant-loop-command
 invariant-loop-command g l =
-    let m : Meaning g.row.X.Denot g.row.C.Denot g.row.X-Batch.Denot g.row.X-Merkleized.Denot = meaning g.X.Engine g.C.Store in
-    let scheme : Scheme Policy = scheme_of g.X.Engine in
     record {
       count : length l.replies.items ≡ l.command-index;
       opened : l.session.opened ≤ l.command-index;
-      start : g.C.Store.start (store_given g.X.Engine.inside l.session.held) ≡ g.C.Store.start l.fn.store;
-      head : g.C.Store.head (store_given g.X.Engine.inside l.session.held) ≡ g.C.Store.head l.fn.store;
-      later : g.C.Store.faults l.fn.store ≤ g.C.Store.faults (store_given g.X.Engine.inside l.session.held);
+      start : g.C.Store.start (store_given g.X.Words.inside l.session.held) ≡ g.C.Store.start l.fn.store;
+      head : g.C.Store.head (store_given g.X.Words.inside l.session.held) ≡ g.C.Store.head l.fn.store;
+      later : g.C.Store.faults l.fn.store ≤ g.C.Store.faults (store_given g.X.Words.inside l.session.held);
       machine : (stored : Stored) → told g.C.Store l.fn.store ≡ Some stored
-          → Apart g.X.Engine.root (after scheme stored (map (line_view g.X.Key.ByteString.bytes g.X.Value.ByteString.bytes policy_view) l.commands) l.command-index).had
-          → (map (answer_view g.X.Key.ByteString.bytes g.X.Value.ByteString.bytes g.X.Digest.Digest.bytes) l.replies.items ≡ answers scheme (initial stored) (take l.command-index (map (line_view g.X.Key.ByteString.bytes g.X.Value.ByteString.bytes policy_view) l.commands)))
-          × Holds m l.session.held l.session.table.items l.session.opened (after scheme stored (map (line_view g.X.Key.ByteString.bytes g.X.Value.ByteString.bytes policy_view) l.commands) l.command-index);
+          → Apart g.X.Words.scheme.root (after g.X.Words.scheme stored (map (line_view g.X.Key.ByteString.bytes g.X.Value.ByteString.bytes policy_view) l.commands) l.command-index).had
+          → (map (answer_view g.X.Key.ByteString.bytes g.X.Value.ByteString.bytes g.X.Digest.Digest.bytes) l.replies.items ≡ answers g.X.Words.scheme (initial stored) (take l.command-index (map (line_view g.X.Key.ByteString.bytes g.X.Value.ByteString.bytes policy_view) l.commands)))
+          × Holds g.C.Store g.X.Words l.session.held l.session.table.items l.session.opened (after g.X.Words.scheme stored (map (line_view g.X.Key.ByteString.bytes g.X.Value.ByteString.bytes policy_view) l.commands) l.command-index);
     }

@@ -1,5 +1,6 @@
-use Rattle.std.proofs.Common.{◌∙◌, ap, sym, subst, option_map}
+use Rattle.std.proofs.Common.{◌∙◌, ◌≤◌, ap, sym, subst, inr, option_map}
 use Rattle.std.specs.Prelude.{IfOk, IfErr, OnOk, ◌⊎◌}
+use Rattle.qm_model.proofs.Results.{err-then}
 use Rattle.qm_model.specs.Policies.{proportional}
 use Rattle.qm_batch.specs.Lent.{IsReadError}
 use Rattle.qm_any.specs.Layouts.{hashing_with}
@@ -37,3 +38,11 @@ returns-in-Ok-clause-refused g c = λ list chain above is begun on.
     let keep = ap (λ b. b.keep) c.self.view_is in
     subst (λ ws. IfErr c.made_on.result (λ e. IsRefused form chain.base (stepped chain.base ws proportional (option_map g.V.Value.ByteString.bytes c.args.metadata)) e ⊎ IsReadError g.C.Store c.args.db.now.log c.made_on.new.db.log e)) writes
     (c.made_on.ensures.refused list chain above is (subst (λ p. IsMade hashing p above chain.base) (sym parent) begun.parent) (begun.kept ∙ ap (λ k. kept_by k above chain.base) (sym keep)) on)
+
+pub returns-in-Ok-clause-causes : goal.returns-in-Ok-clause-causes
+returns-in-Ok-clause-causes g c = err-then c.made_on.result c.made_on.ensures.causes (λ e cause. inr cause)
+
+pub returns-in-Ok-clause-whole : goal.returns-in-Ok-clause-whole
+returns-in-Ok-clause-whole g c = λ list is none low.
+    let parent = c.deref-in-Ok.ensures ∙ ap (λ b. b.parent) c.self.view_is in
+    c.made_on.ensures.whole list is none (subst (λ p. c.args.db.now.log.tree.start ≤ p.bounds.inactivity_floor) (sym parent) low)

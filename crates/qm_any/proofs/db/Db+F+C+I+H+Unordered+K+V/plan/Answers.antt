@@ -1,7 +1,8 @@
-use Rattle.std.proofs.Common.{subst, sym}
+use Rattle.std.proofs.Common.{◌≤◌, subst, sym}
 use Rattle.qm_model.proofs.Results.{told-here}
 use Rattle.qm_any.specs.Layouts.{hashing_with}
 use Rattle.qm_batch.specs.PlanViews.{unordered_form}
+use Rattle.qm_batch.specs.Lent.{NoneBelow}
 use Rattle.qm_any.specs.Databases.{IsDatabase}
 use Rattle.qm_any.proofs.db.Db+F+C+I+H+Unordered+K+V.plan.Goals as goal
 
@@ -9,3 +10,8 @@ pub returns-clause-plan : goal.returns-clause-plan
 returns-clause-plan g c = λ list known is from.
     let at = subst (λ db. IsDatabase g.C.Store (record { hashing = hashing_with g.H.Digest.Digest.bytes g.H.Hasher.hash g.F.Family.shape (unordered_form g.K.ByteString.has g.V.Value.ByteString.has g.V.ValueEncoding.fixed); index_key = g.I.Unordered.index_key }) db list) (sym c.self.view_is) is in
     told-here _ (g.C.Store.items c.self.inside.log.store) at.told (c.plain.ensures.plan list known at.lent from)
+
+pub returns-clause-whole : goal.returns-clause-whole
+returns-clause-whole g c = λ list is none low.
+    let at = subst (λ db. IsDatabase g.C.Store (record { hashing = hashing_with g.H.Digest.Digest.bytes g.H.Hasher.hash g.F.Family.shape (unordered_form g.K.ByteString.has g.V.Value.ByteString.has g.V.ValueEncoding.fixed); index_key = g.I.Unordered.index_key }) db list) (sym c.self.view_is) is in
+    c.plain.ensures.whole list at.lent (subst (λ db. NoneBelow db.log.tree.start list) (sym c.self.view_is) none) (subst (λ db. db.log.tree.start ≤ c.args.base.now.floor) (sym c.self.view_is) low)

@@ -1,8 +1,9 @@
-use Rattle.std.proofs.Common.{◌∙◌, ap, map}
+use Rattle.std.proofs.Common.{◌∙◌, ap, map, subst, sym}
 use Rattle.std.specs.Prelude.{option_map}
 use Rattle.std.proofs.lemmas.List.{take_all}
 use Rattle.std.proofs.lemmas.Result.{err_from_is_err_and}
 use Rattle.qm_model.specs.Writes.{read_through}
+use Rattle.qm_batch.specs.Lent.{NoneBelow}
 use Rattle.qm_batch.proofs.Reading.{mapped-more}
 use Rattle.qm_any.specs.Layouts.{hashing_of, layout_of}
 use Rattle.qm_any.proofs.Reading.{left-none, left-then, left-error, left-database}
@@ -46,3 +47,10 @@ returns-clause-values g c = λ list base stands from.
 
 pub returns-clause-left : goal.returns-clause-left
 returns-clause-left g c = c.loop-key.invariant.left
+
+pub returns-in_err-value-clause-whole : goal.returns-in_err-value-clause-whole
+returns-in_err-value-clause-whole g c = λ list is none.
+    let exit = err_from_is_err_and c.from_residual.result c.from_residual.ensures.1 in
+    let left = c.loop-key.invariant.left in
+    let mid = left-database g.C.Store (layout_of g.H.Digest.Digest g.H.Hasher g.F.Family g.U.Update g.I.Unordered) c.args.self.now c.loop-key.self list left is in
+    rw (exit.1, exit.2) (c.in_err-value.ensures.whole list mid (subst (λ t. NoneBelow t.start list) (sym (left.read).tree) none))

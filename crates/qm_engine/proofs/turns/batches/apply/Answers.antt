@@ -1,8 +1,5 @@
 use Rattle.std.proofs.Common.{length, sym, map, drop}
 use Rattle.qm_model.specs.Forms.{spelling, variable}
-use Rattle.qm_model.specs.Policies.{Policy}
-use Rattle.qm_machine.specs.Machine.{Scheme}
-use Rattle.qm_engine.specs.Session.{Meaning, meaning, scheme_of}
 use Rattle.qm_store.specs.Given.{store_given}
 use Rattle.qm_engine.proofs.Commands.{Grows-whole}
 use Rattle.qm_engine.proofs.BatchCommands.{not_merkleized, apply_ok, apply_err, apply_left}
@@ -10,37 +7,27 @@ use Rattle.qm_engine.proofs.turns.batches.apply.Goals as goal
 
 pub returns-in-None-clause-machine : goal.returns-in-None-clause-machine
 returns-in-None-clause-machine g c = λ s k.
-    let m : Meaning g.row.X.Denot g.row.C.Denot g.row.X-Batch.Denot g.row.X-Merkleized.Denot = meaning g.X.Engine g.C.Store in
-    let scheme : Scheme Policy = scheme_of g.X.Engine in
-    not_merkleized m g.X.Key.ByteString.bytes g.X.Value.ByteString.bytes g.X.Digest.Digest.bytes scheme c.in-Database.x c.args.session.table.items c.args.session.opened c.args.number s (rw c.in-Database.is at k) (sym c.in-None.ensures)
+    not_merkleized g.C.Store g.X.Words g.X.Key.ByteString.bytes g.X.Value.ByteString.bytes g.X.Digest.Digest.bytes c.in-Database.x c.args.session.table.items c.args.session.opened c.args.number s (rw c.in-Database.is at k) (sym c.in-None.ensures)
 
 pub returns-in-Ok-clause-machine : goal.returns-in-Ok-clause-machine
 returns-in-Ok-clause-machine g c = λ s k.
-    let m : Meaning g.row.X.Denot g.row.C.Denot g.row.X-Batch.Denot g.row.X-Merkleized.Denot = meaning g.X.Engine g.C.Store in
-    let scheme : Scheme Policy = scheme_of g.X.Engine in
-    apply_ok m g.X.Key.ByteString.bytes g.X.Value.ByteString.bytes g.X.Digest.Digest.bytes scheme c.in-Database.x c.in-Ok.x c.args.session.table.items c.args.session.opened c.args.number c.in-Some.batch.now c.info-numbers.result.size s (rw c.in-Database.is at k)
+    apply_ok g.C.Store g.X.Words g.X.Key.ByteString.bytes g.X.Value.ByteString.bytes g.X.Digest.Digest.bytes c.in-Database.x c.in-Ok.x c.args.session.table.items c.args.session.opened c.args.number c.in-Some.batch.now c.info-numbers.result.size s (rw c.in-Database.is at k)
     c.in-Ok.ensures.fits c.in-Ok.ensures.applied c.in-Ok.ensures.grown (λ list stands. (c.info-numbers.ensures.list list stands).0) (sym c.in-Some.ensures)
 
 pub returns-in-Ok-clause-left : goal.returns-in-Ok-clause-left
 returns-in-Ok-clause-left g c = λ s k apart.
-    let m : Meaning g.row.X.Denot g.row.C.Denot g.row.X-Batch.Denot g.row.X-Merkleized.Denot = meaning g.X.Engine g.C.Store in
-    let scheme : Scheme Policy = scheme_of g.X.Engine in
-    apply_left m g.X.Key.ByteString.bytes g.X.Value.ByteString.bytes g.X.Digest.Digest.bytes scheme c.in-Database.x (g.C.Store.items (g.X.Engine.inside c.in-Ok.x)) c.args.session.table.items c.args.session.opened c.args.number c.in-Some.batch.now s (rw c.in-Database.is at k) apart
+    apply_left g.C.Store g.X.Words g.X.Key.ByteString.bytes g.X.Value.ByteString.bytes g.X.Digest.Digest.bytes c.in-Database.x (g.C.Store.items (g.X.Words.inside c.in-Ok.x)) c.args.session.table.items c.args.session.opened c.args.number c.in-Some.batch.now s (rw c.in-Database.is at k) apart
     (λ list chain tip stands is on.
     let fit = c.in-Ok.ensures.fits list chain tip stands is in
-    rw fit (Grows-whole (g.C.Store.items (g.X.Engine.inside c.in-Database.x)) (g.C.Store.items (g.X.Engine.inside c.in-Ok.x)) (map (spelling variable) (drop (length list) tip)) ((c.in-Ok.ensures.grown list chain tip stands is (on fit)).items)))
+    rw fit (Grows-whole (g.C.Store.items (g.X.Words.inside c.in-Database.x)) (g.C.Store.items (g.X.Words.inside c.in-Ok.x)) (map (spelling variable) (drop (length list) tip)) ((c.in-Ok.ensures.grown list chain tip stands is (on fit)).items)))
     (sym c.in-Some.ensures)
 
 pub returns-in-Err-clause-machine : goal.returns-in-Err-clause-machine
 returns-in-Err-clause-machine g c = λ s k.
-    let m : Meaning g.row.X.Denot g.row.C.Denot g.row.X-Batch.Denot g.row.X-Merkleized.Denot = meaning g.X.Engine g.C.Store in
-    let scheme : Scheme Policy = scheme_of g.X.Engine in
-    rw c.turn_of.ensures (apply_err m g.X.Key.ByteString.bytes g.X.Value.ByteString.bytes g.X.Digest.Digest.bytes scheme c.in-Database.x c.in-Err.refusal.given c.args.session.table.items c.args.session.opened c.args.number c.in-Some.batch.now c.in-Err.refusal.error s (rw c.in-Database.is at k)
+    rw c.turn_of.ensures (apply_err g.C.Store g.X.Words g.X.Key.ByteString.bytes g.X.Value.ByteString.bytes g.X.Digest.Digest.bytes c.in-Database.x c.in-Err.refusal.given c.args.session.table.items c.args.session.opened c.args.number c.in-Some.batch.now c.in-Err.refusal.error s (rw c.in-Database.is at k)
     c.in-Err.ensures.stale c.in-Err.ensures.refused (sym c.in-Some.ensures))
 
 pub returns-in-Err-clause-left : goal.returns-in-Err-clause-left
 returns-in-Err-clause-left g c = λ s k apart.
-    let m : Meaning g.row.X.Denot g.row.C.Denot g.row.X-Batch.Denot g.row.X-Merkleized.Denot = meaning g.X.Engine g.C.Store in
-    let scheme : Scheme Policy = scheme_of g.X.Engine in
-    apply_left m g.X.Key.ByteString.bytes g.X.Value.ByteString.bytes g.X.Digest.Digest.bytes scheme c.in-Database.x (g.C.Store.items (store_given g.X.Engine.inside c.in-Err.refusal.given)) c.args.session.table.items c.args.session.opened c.args.number c.in-Some.batch.now s (rw c.in-Database.is at k) apart
+    apply_left g.C.Store g.X.Words g.X.Key.ByteString.bytes g.X.Value.ByteString.bytes g.X.Digest.Digest.bytes c.in-Database.x (g.C.Store.items (store_given g.X.Words.inside c.in-Err.refusal.given)) c.args.session.table.items c.args.session.opened c.args.number c.in-Some.batch.now s (rw c.in-Database.is at k) apart
     (λ list chain tip stands is on. (c.in-Err.ensures.kept list chain tip stands is).items) (sym c.in-Some.ensures)

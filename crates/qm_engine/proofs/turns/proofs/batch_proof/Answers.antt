@@ -1,25 +1,18 @@
 use Rattle.std.proofs.Common.{map, sym, refl}
-use Rattle.qm_model.specs.Policies.{Policy}
-use Rattle.qm_machine.specs.Machine.{Scheme}
 use Rattle.qm_lines.specs.declared.reply.Reply.TheVariants.{BatchProof}
 use Rattle.qm_proofs.specs.Proofs.{proof_view}
-use Rattle.qm_engine.specs.Session.{Meaning, meaning, scheme_of}
 use Rattle.qm_engine.proofs.Commands.{Holds-told}
 use Rattle.qm_engine.proofs.ProofCommands.{batch_proof_ok, batch_proof_err}
 use Rattle.qm_engine.proofs.turns.proofs.batch_proof.Goals as goal
 
 pub returns-in-Ok-clause-machine : goal.returns-in-Ok-clause-machine
 returns-in-Ok-clause-machine g c = λ s k.
-    let m : Meaning g.row.X.Denot g.row.C.Denot g.row.X-Batch.Denot g.row.X-Merkleized.Denot = meaning g.X.Engine g.C.Store in
-    let scheme : Scheme Policy = scheme_of g.X.Engine in
-    rw c.in-Database.is (batch_proof_ok m g.X.Key.ByteString.bytes g.X.Value.ByteString.bytes g.X.Digest.Digest.bytes scheme (BatchProof c.in-Ok.proof.leaves c.in-Ok.proof.inactive_peaks c.in-Ok.proof.digests c.in-Ok.pins) (proof_view g.X.Digest.Digest.bytes c.in-Ok.proof) (map g.X.Digest.Digest.bytes c.in-Ok.pins.items) c.in-Database.x c.args.session.now.table.items c.args.session.now.opened c.args.number c.in-Some.batch.now s (rw c.in-Database.is at k)
+    rw c.in-Database.is (batch_proof_ok g.C.Store g.X.Words g.X.Key.ByteString.bytes g.X.Value.ByteString.bytes g.X.Digest.Digest.bytes (BatchProof c.in-Ok.proof.leaves c.in-Ok.proof.inactive_peaks c.in-Ok.proof.digests c.in-Ok.pins) (proof_view g.X.Digest.Digest.bytes c.in-Ok.proof) (map g.X.Digest.Digest.bytes c.in-Ok.pins.items) c.in-Database.x c.args.session.now.table.items c.args.session.now.opened c.args.number c.in-Some.batch.now s (rw c.in-Database.is at k)
     refl c.in-Ok.ensures.readable c.in-Ok.ensures.proof (sym c.in-Some.ensures))
 
 pub returns-in-Err-clause-machine : goal.returns-in-Err-clause-machine
 returns-in-Err-clause-machine g c = λ s k.
-    let m : Meaning g.row.X.Denot g.row.C.Denot g.row.X-Batch.Denot g.row.X-Merkleized.Denot = meaning g.X.Engine g.C.Store in
-    let scheme : Scheme Policy = scheme_of g.X.Engine in
     let held = rw c.in-Database.is at k in
-    let zero_start = (Holds-told m c.in-Database.x c.args.session.now.table.items c.args.session.now.opened s held).0 in
-    rw (c.turn_of.ensures, c.in-Database.is) (batch_proof_err m g.X.Key.ByteString.bytes g.X.Value.ByteString.bytes g.X.Digest.Digest.bytes scheme c.in-Err.error c.in-Database.x c.args.session.now.table.items c.args.session.now.opened c.args.number c.in-Some.batch.now s held
-    c.in-Err.ensures.stale (λ e. c.in-Err.ensures.refused e zero_start) c.in-Err.ensures.order (sym c.in-Some.ensures))
+    let zero_start = (Holds-told g.C.Store g.X.Words c.in-Database.x c.args.session.now.table.items c.args.session.now.opened s held).0 in
+    rw (c.turn_of.ensures, c.in-Database.is) (batch_proof_err g.C.Store g.X.Words g.X.Key.ByteString.bytes g.X.Value.ByteString.bytes g.X.Digest.Digest.bytes c.in-Err.error c.in-Database.x c.args.session.now.table.items c.args.session.now.opened c.args.number c.in-Some.batch.now s held
+    _ zero_start c.in-Err.ensures.failure (sym c.in-Some.ensures))

@@ -1,14 +1,9 @@
-use Rattle.qm_model.specs.Policies.{Policy}
-use Rattle.qm_machine.specs.Machine.{Scheme}
-use Rattle.qm_engine.specs.Session.{Meaning, meaning, scheme_of}
 use Rattle.qm_engine.proofs.Commands.{Holds-told}
 use Rattle.qm_engine.proofs.ProofCommands.{pins_err}
 use Rattle.qm_engine.proofs.turns.proofs.pins.Goals as goal
 
 pub returns-in-Err-clause-machine : goal.returns-in-Err-clause-machine
 returns-in-Err-clause-machine g c = λ s k.
-    let m : Meaning g.row.X.Denot g.row.C.Denot g.row.X-Batch.Denot g.row.X-Merkleized.Denot = meaning g.X.Engine g.C.Store in
-    let scheme : Scheme Policy = scheme_of g.X.Engine in
     let held = rw c.in-Database.is at k in
-    let zero_start = (Holds-told m c.in-Database.x c.args.session.now.table.items c.args.session.now.opened s held).0 in
-    rw (c.turn_of.ensures, c.in-Database.is) (pins_err m g.X.Key.ByteString.bytes g.X.Value.ByteString.bytes g.X.Digest.Digest.bytes scheme c.in-Database.x c.args.session.now.table.items c.args.session.now.opened c.args.at c.in-Err.error s held (c.in-Err.ensures.refused zero_start))
+    let zero_start = (Holds-told g.C.Store g.X.Words c.in-Database.x c.args.session.now.table.items c.args.session.now.opened s held).0 in
+    rw (c.turn_of.ensures, c.in-Database.is) (pins_err g.C.Store g.X.Words g.X.Key.ByteString.bytes g.X.Value.ByteString.bytes g.X.Digest.Digest.bytes c.in-Database.x c.args.session.now.table.items c.args.session.now.opened c.args.at c.in-Err.error s held (c.in-Err.ensures.refused zero_start))

@@ -1,4 +1,4 @@
-use Rattle.std.proofs.Common.{◌∙◌, ap, sym, subst, drop, map, [], if◌then◌else◌}
+use Rattle.std.proofs.Common.{◌∙◌, ap, sym, subst, length, drop, map, [], if◌then◌else◌}
 use Rattle.sha2.specs.Sha256.{sha256}
 use Rattle.qm_model.proofs.Results.{err-then, ok-then}
 use Rattle.qm_model.specs.Mmr.{mmr}
@@ -7,40 +7,47 @@ use Rattle.qm_any.specs.Databases.{IsDatabase, IsMade}
 use Rattle.qm_store.specs.Given.{Appended, AppendedPart, store_given}
 use Rattle.qm_chain.specs.Bounds.{is_at}
 use Rattle.qm_run.specs.Databases.{hashing, layout}
-use Rattle.qm_run.proofs.Engines.{at-made, off-chain, appends-same, applied-ok, ok-made, err-made}
+use Rattle.qm_run.specs.Held.{held}
+use Rattle.qm_model.specs.Batches.{commitment, fits}
+use Rattle.qm_model.specs.Roots.{sha256_root}
+use Rattle.qm_run.proofs.Engines.{at-made, off-chain, appends-same, held-store, held-database}
 use Rattle.qm_run.proofs.database.DatabaseEngine.apply.Goals as goal
 
-pub returns-clause-fits : goal.returns-clause-fits
-returns-clause-fits g c =
-    ok-then c.apply_batch.result c.apply_batch.ensures.fits
-    (λ next fit list chain tip is batch. sym (at-made list chain tip c.args.self.db.commitment c.deref.result.now is.commitment (subst (λ b. IsMade hashing b chain tip) (sym c.deref.ensures) batch)) ∙ fit)
+pub returns-in-Ok-clause-fits : goal.returns-in-Ok-clause-fits
+returns-in-Ok-clause-fits g c = λ list chain tip is batch.
+    sym (at-made list chain tip c.args.self.db.commitment c.deref.result.now is.commitment (subst (λ b. IsMade hashing b chain tip) (sym c.deref.ensures) batch)) ∙ c.in-Ok.ensures.fits
 
-pub returns-clause-applied : goal.returns-clause-applied
-returns-clause-applied g c =
-    applied-ok (IsDatabase g.C.Store layout c.args.self.db) (λ chain tip. IsMade hashing c.args.batch.now.value chain tip) (λ tip next. IsDatabase g.C.Store layout next tip) c.apply_batch.result
-    (λ list chain tip is batch on. c.apply_batch.ensures.stands list chain tip is (subst (λ b. IsMade hashing b chain tip) (sym c.deref.ensures) batch) on)
+pub returns-in-Ok-clause-applied : goal.returns-in-Ok-clause-applied
+returns-in-Ok-clause-applied g c = λ list chain tip is batch on. c.in-Ok.ensures.stands list chain tip is (subst (λ b. IsMade hashing b chain tip) (sym c.deref.ensures) batch) on
 
-pub returns-clause-grown : goal.returns-clause-grown
-returns-clause-grown g c =
-    ok-then c.apply_batch.result (ok-made c.apply_batch.result c.deref.result.now (λ tip next. Appended g.C.Store c.args.self.db.log.store next.log.store (map (spelling variable) (drop c.args.self.db.commitment.size tip))) c.apply_batch.ensures.grown)
-    (λ next grown list chain tip is batch on.
-    subst (λ n. Appended g.C.Store c.args.self.db.log.store next.log.store (map (spelling variable) (drop n tip))) (ap (λ k. k.size) is.commitment) (grown chain tip (subst (λ b. IsMade hashing b chain tip) (sym c.deref.ensures) batch)))
+pub returns-in-Ok-clause-grown : goal.returns-in-Ok-clause-grown
+returns-in-Ok-clause-grown g c = λ list chain tip is batch on.
+    subst (λ n. Appended g.C.Store c.args.self.db.log.store c.in-Ok.db.log.store (map (spelling variable) (drop n tip))) (ap (λ k. k.size) is.commitment) (c.in-Ok.ensures.grown chain tip (subst (λ b. IsMade hashing b chain tip) (sym c.deref.ensures) batch))
 
-pub returns-clause-stale : goal.returns-clause-stale
-returns-clause-stale g c =
-    err-then c.apply_batch.result c.apply_batch.ensures.stale
-    (λ r told stale. (
-      (told stale).0,
-      λ list chain tip is batch. off-chain list chain
-          (sym (at-made list chain tip c.args.self.db.commitment c.deref.result.now is.commitment (subst (λ b. IsMade hashing b chain tip) (sym c.deref.ensures) batch)) ∙ (told stale).1),
-    ))
+pub returns-in-Err-clause-stale : goal.returns-in-Err-clause-stale
+returns-in-Err-clause-stale g c = λ stale.
+    let told = c.in-Err.ensures.stale (sym c.refusal.ensures.error ∙ stale) in (
+      c.refusal.ensures.given ∙ ap held told.0,
+      λ list chain tip is batch. off-chain list chain (sym (at-made list chain tip c.args.self.db.commitment c.deref.result.now is.commitment (subst (λ b. IsMade hashing b chain tip) (sym c.deref.ensures) batch)) ∙ told.1),
+    )
 
-pub returns-clause-kept : goal.returns-clause-kept
-returns-clause-kept g c =
-    err-then c.apply_batch.result
-    (err-made c.apply_batch.result c.deref.result.now (λ tip r. AppendedPart g.C.Store c.args.self.db.log.store (store_given (λ db. db.log.store) r.given)
-    (if is_at c.args.self.db.commitment c.deref.result.now.bounds.db c.deref.result.now.bounds.ancestors then map (spelling variable) (drop c.args.self.db.commitment.size tip) else [])) c.apply_batch.ensures.part)
-    (λ r part list chain tip is batch.
-    let made = subst (λ b. IsMade hashing b chain tip) (sym c.deref.ensures) batch in
-    subst (AppendedPart g.C.Store c.args.self.db.log.store (store_given (λ db. db.log.store) r.given))
-    (appends-same list chain tip c.args.self.db.commitment c.deref.result.now is.commitment made) (part chain tip made))
+pub returns-in-Err-clause-kept : goal.returns-in-Err-clause-kept
+returns-in-Err-clause-kept g c = λ list chain tip is batch.
+    let made = (subst (λ b. IsMade hashing b chain tip) (sym c.deref.ensures) batch) in
+    let given = c.in-Err.refused.given in
+    let same = ap (store_given (λ x. x.db.log.store)) c.refusal.ensures.given ∙ held-store given in
+    let more = if fits (sha256_root mmr) (commitment (sha256_root mmr) list) chain then map (spelling variable) (drop (length list) tip) else [] in
+    subst (λ s. AppendedPart g.C.Store c.args.self.db.log.store s more) (sym same)
+    (subst (AppendedPart g.C.Store c.args.self.db.log.store (store_given (λ db. db.log.store) given))
+    (appends-same list chain tip c.args.self.db.commitment c.deref.result.now is.commitment made) (c.in-Err.ensures.part chain tip made))
+
+pub returns-in-Err-clause-back : goal.returns-in-Err-clause-back
+returns-in-Err-clause-back g c = λ x is.
+    let at = held-database c.in-Err.refused.given x (sym c.refusal.ensures.given ∙ is) in
+    ap (λ d. record { db = d }) (c.in-Err.ensures.back x.db at).0
+
+pub returns-in-Err-clause-start : goal.returns-in-Err-clause-start
+returns-in-Err-clause-start g c = ap g.C.Store.start (ap (store_given (λ x. x.db.log.store)) c.refusal.ensures.given ∙ held-store c.in-Err.refused.given) ∙ c.in-Err.ensures.start
+
+pub returns-in-Err-clause-head : goal.returns-in-Err-clause-head
+returns-in-Err-clause-head g c = ap g.C.Store.head (ap (store_given (λ x. x.db.log.store)) c.refusal.ensures.given ∙ held-store c.in-Err.refused.given) ∙ c.in-Err.ensures.head

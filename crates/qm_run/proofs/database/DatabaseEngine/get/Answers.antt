@@ -5,18 +5,24 @@ use Rattle.qm_model.specs.Mmr.{mmr}
 use Rattle.qm_model.specs.Live.{value_of}
 use Rattle.qm_any.specs.Databases.{IsDatabase}
 use Rattle.qm_any.proofs.Reading.{left-database}
-use Rattle.qm_run.specs.Databases.{layout}
-use Rattle.qm_run.proofs.Engines.{log-untold, log-rose, log-kept}
+use Rattle.qm_base.specs.declared.error.Error.TheVariants.{Journal}
+use Rattle.qm_base.specs.declared.error.JournalError.TheVariants.{Store}
+use Rattle.qm_run.specs.Databases.{hashing, layout}
+use Rattle.qm_run.proofs.Engines.{err-of, left-store, log-untold, log-rose, log-kept}
 use Rattle.qm_run.proofs.database.DatabaseEngine.get.Goals as goal
 
 pub returns-clause-values : goal.returns-clause-values
 returns-clause-values g c = ok-each (IsDatabase g.C.Store layout c.args.self.now.db) (λ list v. map (option_map (λ x. x)) v.items ≡ map (λ k. value_of list k) c.args.keys.now) c.get_many.result c.get_many.ensures.values
 
-pub returns-clause-same : goal.returns-clause-same
-returns-clause-same g c = λ list is. left-database g.C.Store layout c.args.self.now.db c.get_many.new.self list c.get_many.ensures.left is
-
-pub returns-clause-cause : goal.returns-clause-cause
-returns-clause-cause g c = err-then c.get_many.result c.get_many.ensures.error (λ e why fault. log-rose g.C.Store c.args.self.now.db.log c.get_many.new.self.log e why fault)
+pub returns-clause-reads : goal.returns-clause-reads
+returns-clause-reads g c = record {
+  same = λ list is. left-database g.C.Store layout c.args.self.now.db c.get_many.new.self list c.get_many.ensures.left is;
+  store = left-store g.C.Store hashing c.args.self.now.db c.get_many.new.self c.get_many.ensures.left;
+  faults = record {
+    later = (c.get_many.ensures.left).read.later;
+    failed = err-of c.get_many.result (Journal Store) _ (err-then c.get_many.result c.get_many.ensures.error (λ e why fault. log-rose g.C.Store c.args.self.now.db.log c.get_many.new.self.log e why fault));
+  };
+}
 
 pub returns-clause-never : goal.returns-clause-never
 returns-clause-never g c = err-then c.get_many.result c.get_many.ensures.error (λ e why. log-kept g.C.Store c.args.self.now.db.log c.get_many.new.self.log e why)

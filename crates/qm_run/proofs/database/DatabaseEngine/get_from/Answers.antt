@@ -6,8 +6,10 @@ use Rattle.qm_model.specs.Live.{value_of}
 use Rattle.qm_any.specs.Databases.{IsDatabase, IsMade}
 use Rattle.qm_any.proofs.Reading.{left-database}
 use Rattle.qm_chain.specs.Bounds.{knows}
+use Rattle.qm_base.specs.declared.error.Error.TheVariants.{Journal}
+use Rattle.qm_base.specs.declared.error.JournalError.TheVariants.{Store}
 use Rattle.qm_run.specs.Databases.{hashing, layout}
-use Rattle.qm_run.proofs.Engines.{knows-readable, unknown, stale-read, fresh-read, known-read, rose-read, never-read, made-reads}
+use Rattle.qm_run.proofs.Engines.{err-of, left-store, knows-readable, read-failure, rose-read, never-read, made-reads}
 use Rattle.qm_run.proofs.database.DatabaseEngine.get_from.Goals as goal
 
 pub returns-clause-readable : goal.returns-clause-readable
@@ -20,26 +22,22 @@ returns-clause-values g c =
     made-reads c.get_many.result (IsDatabase g.C.Store layout c.args.self.now.db) (IsMade hashing c.args.batch.now.value) (λ v tip. map (option_map (λ x. x)) v.items ≡ map (λ k. value_of tip k) c.args.keys.now)
     (λ list chain tip is batch known. c.get_many.ensures.values list chain tip is (subst (λ b. IsMade hashing b chain tip) (sym c.deref.ensures) batch) known)
 
-pub returns-clause-stale : goal.returns-clause-stale
-returns-clause-stale g c =
+pub returns-clause-failure : goal.returns-clause-failure
+returns-clause-failure g c =
     err-then c.get_many.result c.get_many.ensures.error
-    (λ e why stale list chain tip is batch. unknown list chain tip (sym (knows-readable list chain tip c.args.self.now.db.commitment c.deref.result.now.bounds is.commitment ((subst (λ b. IsMade hashing b chain tip) (sym c.deref.ensures) batch).bounds)) ∙ stale-read g.C.Store c.args.self.now.db.log c.get_many.new.db.log (knows c.deref.result.now.bounds c.args.self.now.db.commitment) e why stale))
+    (λ e why list chain tip is batch.
+    read-failure g.C.Store c.args.self.now.db.log c.get_many.new.db.log (knows c.deref.result.now.bounds c.args.self.now.db.commitment) e _ list chain tip
+    (knows-readable list chain tip c.args.self.now.db.commitment c.deref.result.now.bounds is.commitment ((subst (λ b. IsMade hashing b chain tip) (sym c.deref.ensures) batch).bounds)) is.lent.logged.start why)
 
-pub returns-clause-refused : goal.returns-clause-refused
-returns-clause-refused g c =
-    err-then c.get_many.result c.get_many.ensures.error
-    (λ e why fresh tells list chain tip is batch known. fresh-read g.C.Store c.args.self.now.db.log c.get_many.new.db.log (knows c.deref.result.now.bounds c.args.self.now.db.commitment) e why fresh (is.lent.logged.start ∙ tells.0))
-
-pub returns-clause-order : goal.returns-clause-order
-returns-clause-order g c =
-    err-then c.get_many.result c.get_many.ensures.error
-    (λ e why fresh other list chain tip is batch. sym (knows-readable list chain tip c.args.self.now.db.commitment c.deref.result.now.bounds is.commitment ((subst (λ b. IsMade hashing b chain tip) (sym c.deref.ensures) batch).bounds)) ∙ known-read g.C.Store c.args.self.now.db.log c.get_many.new.db.log (knows c.deref.result.now.bounds c.args.self.now.db.commitment) e why fresh other)
-
-pub returns-clause-same : goal.returns-clause-same
-returns-clause-same g c = λ list is. left-database g.C.Store layout c.args.self.now.db c.get_many.new.db list c.get_many.ensures.left is
-
-pub returns-clause-cause : goal.returns-clause-cause
-returns-clause-cause g c = err-then c.get_many.result c.get_many.ensures.error (λ e why fault. rose-read g.C.Store c.args.self.now.db.log c.get_many.new.db.log (knows c.deref.result.now.bounds c.args.self.now.db.commitment) e why fault)
+pub returns-clause-reads : goal.returns-clause-reads
+returns-clause-reads g c = record {
+  same = λ list is. left-database g.C.Store layout c.args.self.now.db c.get_many.new.db list c.get_many.ensures.left is;
+  store = left-store g.C.Store hashing c.args.self.now.db c.get_many.new.db c.get_many.ensures.left;
+  faults = record {
+    later = (c.get_many.ensures.left).read.later;
+    failed = err-of c.get_many.result (Journal Store) _ (err-then c.get_many.result c.get_many.ensures.error (λ e why fault. rose-read g.C.Store c.args.self.now.db.log c.get_many.new.db.log (knows c.deref.result.now.bounds c.args.self.now.db.commitment) e why fault));
+  };
+}
 
 pub returns-clause-never : goal.returns-clause-never
 returns-clause-never g c = err-then c.get_many.result c.get_many.ensures.error (λ e why. never-read g.C.Store c.args.self.now.db.log c.get_many.new.db.log (knows c.deref.result.now.bounds c.args.self.now.db.commitment) e why)

@@ -6,8 +6,10 @@ use Rattle.qm_model.specs.Writes.{read_through}
 use Rattle.qm_any.specs.Databases.{IsDatabase}
 use Rattle.qm_any.proofs.Reading.{left-database}
 use Rattle.qm_chain.specs.Bounds.{knows}
-use Rattle.qm_run.specs.Databases.{layout}
-use Rattle.qm_run.proofs.Engines.{knows-readable, unknown, stale-read, fresh-read, known-read, rose-read, never-read, begun-reads}
+use Rattle.qm_base.specs.declared.error.Error.TheVariants.{Journal}
+use Rattle.qm_base.specs.declared.error.JournalError.TheVariants.{Store}
+use Rattle.qm_run.specs.Databases.{hashing, layout}
+use Rattle.qm_run.proofs.Engines.{err-of, left-store, knows-readable, read-failure, rose-read, never-read, begun-reads}
 use Rattle.qm_run.proofs.database.DatabaseEngine.get_through.Goals as goal
 
 pub returns-clause-readable : goal.returns-clause-readable
@@ -19,26 +21,22 @@ pub returns-clause-values : goal.returns-clause-values
 returns-clause-values g c =
     begun-reads c.get_many.result (IsDatabase g.C.Store layout c.args.self.now.db) c.args.batch.now (λ v base ws. map (option_map (λ x. x)) v.items ≡ map (λ k. read_through base ws k) c.args.keys.now) c.get_many.ensures.values
 
-pub returns-clause-stale : goal.returns-clause-stale
-returns-clause-stale g c =
+pub returns-clause-failure : goal.returns-clause-failure
+returns-clause-failure g c =
     err-then c.get_many.result c.get_many.ensures.error
-    (λ e why stale list chain above ws is batch. unknown list above chain.base (sym (knows-readable list above chain.base c.args.self.now.db.commitment c.args.batch.now.parent.bounds is.commitment batch.0.parent.bounds) ∙ stale-read g.C.Store c.args.self.now.db.log c.get_many.new.db.log (knows c.args.batch.now.parent.bounds c.args.self.now.db.commitment) e why stale))
+    (λ e why list chain above ws is batch.
+    read-failure g.C.Store c.args.self.now.db.log c.get_many.new.db.log (knows c.args.batch.now.parent.bounds c.args.self.now.db.commitment) e _ list above chain.base
+    (knows-readable list above chain.base c.args.self.now.db.commitment c.args.batch.now.parent.bounds is.commitment batch.0.parent.bounds) is.lent.logged.start why)
 
-pub returns-clause-refused : goal.returns-clause-refused
-returns-clause-refused g c =
-    err-then c.get_many.result c.get_many.ensures.error
-    (λ e why fresh tells list chain above ws is batch known. fresh-read g.C.Store c.args.self.now.db.log c.get_many.new.db.log (knows c.args.batch.now.parent.bounds c.args.self.now.db.commitment) e why fresh (is.lent.logged.start ∙ tells.0))
-
-pub returns-clause-order : goal.returns-clause-order
-returns-clause-order g c =
-    err-then c.get_many.result c.get_many.ensures.error
-    (λ e why fresh other list chain above ws is batch. sym (knows-readable list above chain.base c.args.self.now.db.commitment c.args.batch.now.parent.bounds is.commitment batch.0.parent.bounds) ∙ known-read g.C.Store c.args.self.now.db.log c.get_many.new.db.log (knows c.args.batch.now.parent.bounds c.args.self.now.db.commitment) e why fresh other)
-
-pub returns-clause-same : goal.returns-clause-same
-returns-clause-same g c = λ list is. left-database g.C.Store layout c.args.self.now.db c.get_many.new.db list c.get_many.ensures.left is
-
-pub returns-clause-cause : goal.returns-clause-cause
-returns-clause-cause g c = err-then c.get_many.result c.get_many.ensures.error (λ e why fault. rose-read g.C.Store c.args.self.now.db.log c.get_many.new.db.log (knows c.args.batch.now.parent.bounds c.args.self.now.db.commitment) e why fault)
+pub returns-clause-reads : goal.returns-clause-reads
+returns-clause-reads g c = record {
+  same = λ list is. left-database g.C.Store layout c.args.self.now.db c.get_many.new.db list c.get_many.ensures.left is;
+  store = left-store g.C.Store hashing c.args.self.now.db c.get_many.new.db c.get_many.ensures.left;
+  faults = record {
+    later = (c.get_many.ensures.left).read.later;
+    failed = err-of c.get_many.result (Journal Store) _ (err-then c.get_many.result c.get_many.ensures.error (λ e why fault. rose-read g.C.Store c.args.self.now.db.log c.get_many.new.db.log (knows c.args.batch.now.parent.bounds c.args.self.now.db.commitment) e why fault));
+  };
+}
 
 pub returns-clause-never : goal.returns-clause-never
 returns-clause-never g c = err-then c.get_many.result c.get_many.ensures.error (λ e why. never-read g.C.Store c.args.self.now.db.log c.get_many.new.db.log (knows c.args.batch.now.parent.bounds c.args.self.now.db.commitment) e why)

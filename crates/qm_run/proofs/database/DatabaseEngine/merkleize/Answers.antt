@@ -10,8 +10,10 @@ use Rattle.qm_base.specs.declared.sha256.Sha256Digest.{Sha256Digest}
 use Rattle.qm_any.specs.Databases.{Begun, IsDatabase, IsMade, stepped}
 use Rattle.qm_any.specs.Tips.{IsTaken, IsRefused}
 use Rattle.qm_any.proofs.Reading.{left-database}
+use Rattle.qm_base.specs.declared.error.Error.TheVariants.{Journal}
+use Rattle.qm_base.specs.declared.error.JournalError.TheVariants.{Store}
 use Rattle.qm_run.specs.Databases.{form, hashing, layout}
-use Rattle.qm_run.proofs.Engines.{on-begun, off-chain, made-ok, made-err, refused-due, only}
+use Rattle.qm_run.proofs.Engines.{err-of, left-store, on-begun, off-chain, made-ok, made-err, refused-due, only}
 use Rattle.qm_run.proofs.database.DatabaseEngine.merkleize.Goals as goal
 
 pub returns-clause-fits : goal.returns-clause-fits
@@ -57,5 +59,9 @@ returns-clause-refused g c =
     refused-due chain (stepped chain.base ws policy meta) g.C.Store c.args.self.now.db.log c.merkleize.new.db.log _ (IsOnChain list chain) e fresh (is.lent.logged.start ∙ tells.0) (refused list chain above ws is batch)
     (λ memory. sym (on-begun list chain above c.args.self.now.db.commitment c.args.batch (subst (λ (b : Begun Sha256Digest). b.keep ≤ suc (length b.parent.bounds.ancestors)) c.batch.view_is c.batch.invariant) is.commitment batch.0) ∙ order memory fresh))
 
-pub returns-clause-same : goal.returns-clause-same
-returns-clause-same g c = λ list is. left-database g.C.Store layout c.args.self.now.db c.merkleize.new.db list c.merkleize.ensures.left is
+pub returns-clause-reads : goal.returns-clause-reads
+returns-clause-reads g c = record {
+  same = λ list is. left-database g.C.Store layout c.args.self.now.db c.merkleize.new.db list c.merkleize.ensures.left is;
+  store = left-store g.C.Store hashing c.args.self.now.db c.merkleize.new.db c.merkleize.ensures.left;
+  faults = record { later = (c.merkleize.ensures.left).read.later; failed = err-of c.merkleize.result (Journal Store) _ c.merkleize.ensures.cause };
+}

@@ -1,7 +1,8 @@
-use Rattle.std.proofs.Common.{◌∙◌, sym, subst, length}
+use Rattle.std.proofs.Common.{◌∙◌, ap, sym, subst, length}
 use Rattle.sha2.specs.Sha256.{sha256}
 use Rattle.qm_model.specs.Mmr.{mmr}
 use Rattle.qm_any.specs.Databases.{IsMade}
+use Rattle.qm_store.specs.Refusals.{refusal_of}
 use Rattle.qm_run.specs.Databases.{hashing}
 use Rattle.qm_run.proofs.Engines.{knows-readable, unknown, proved, pinned}
 use Rattle.qm_run.proofs.database.DatabaseEngine.proof.Goals as goal
@@ -15,12 +16,20 @@ returns-in-Ok-pinned_nodes-clause-proof g c = λ list chain tip is batch known. 
   c.in-Ok-pinned_nodes.ensures.pins list chain tip is (subst (λ b. IsMade hashing b chain tip) (sym c.deref-in-Ok.ensures) batch) known ∙ pinned tip (length chain.base),
 )
 
-pub returns-in-Err-clause-stale : goal.returns-in-Err-clause-stale
-returns-in-Err-clause-stale g c = λ stale list chain tip is batch. unknown list chain tip
-    (sym (knows-readable list chain tip c.args.self.now.db.commitment c.deref.result.now.bounds is.commitment ((subst (λ b. IsMade hashing b chain tip) (sym c.deref.ensures) batch).bounds)) ∙ c.in-Err.ensures.stale stale)
+pub returns-in-Err-clause-failure : goal.returns-in-Err-clause-failure
+returns-in-Err-clause-failure g c = λ list chain tip is batch.
+    let can = (knows-readable list chain tip c.args.self.now.db.commitment c.deref.result.now.bounds is.commitment ((subst (λ b. IsMade hashing b chain tip) (sym c.deref.ensures) batch).bounds)) in
+    record {
+      stale = λ stale. unknown list chain tip (sym can ∙ c.in-Err.ensures.stale stale);
+      refused = λ fresh zero known. ap refusal_of (c.in-Err.ensures.whole zero list chain tip is (subst (λ b. IsMade hashing b chain tip) (sym c.deref.ensures) batch) known);
+      order = λ fresh other. sym can ∙ c.in-Err.ensures.order other fresh;
+    }
 
-pub returns-in-Err-clause-order : goal.returns-in-Err-clause-order
-returns-in-Err-clause-order g c = λ fresh other list chain tip is batch. sym (knows-readable list chain tip c.args.self.now.db.commitment c.deref.result.now.bounds is.commitment ((subst (λ b. IsMade hashing b chain tip) (sym c.deref.ensures) batch).bounds)) ∙ c.in-Err.ensures.order other fresh
-
-pub returns-in-Err-pinned_nodes-clause-order : goal.returns-in-Err-pinned_nodes-clause-order
-returns-in-Err-pinned_nodes-clause-order g c = λ fresh other list chain tip is batch. sym (knows-readable list chain tip c.args.self.now.db.commitment c.deref.result.now.bounds is.commitment ((subst (λ b. IsMade hashing b chain tip) (sym c.deref.ensures) batch).bounds)) ∙ c.in-Ok.ensures.readable
+pub returns-in-Err-pinned_nodes-clause-failure : goal.returns-in-Err-pinned_nodes-clause-failure
+returns-in-Err-pinned_nodes-clause-failure g c = λ list chain tip is batch.
+    let can = (knows-readable list chain tip c.args.self.now.db.commitment c.deref-in-Ok.result.now.bounds is.commitment ((subst (λ b. IsMade hashing b chain tip) (sym c.deref-in-Ok.ensures) batch).bounds)) in
+    record {
+      stale = λ stale. unknown list chain tip (sym can ∙ c.in-Err-pinned_nodes.ensures.stale stale);
+      refused = λ fresh zero known. ap refusal_of (c.in-Err-pinned_nodes.ensures.whole zero list chain tip is (subst (λ b. IsMade hashing b chain tip) (sym c.deref-in-Ok.ensures) batch) known);
+      order = λ fresh other. sym can ∙ c.in-Err-pinned_nodes.ensures.order other fresh;
+    }

@@ -5,12 +5,12 @@ use Rattle.qm_model.specs.Mmr.{mmr}
 use Rattle.qm_model.specs.Proofs.{ops_proof}
 use Rattle.qm_model.specs.Refusals.{proof_count, proof_refusal}
 use Rattle.qm_any.proofs.Reading.{left-database}
-use Rattle.qm_run.specs.Databases.{form, layout}
-use Rattle.qm_run.proofs.Engines.{proved}
+use Rattle.qm_run.specs.Databases.{form, hashing, layout}
+use Rattle.qm_run.proofs.Engines.{left-store, proved}
 use Rattle.qm_run.proofs.database.DatabaseEngine.prove.Goals as goal
 
 pub returns-clause-offered : goal.returns-clause-offered
-returns-clause-offered g c = λ list is. ap₂ (proof_refusal list) (sym c.new-size.ensures) (sym c.new-start.ensures) ∙ c.in_ok-proof.ensures.offered list is
+returns-clause-offered g c = λ list is. ap₂ (proof_refusal (g.C.Store.start c.args.self.now.db.log.store) list) (sym c.new-size.ensures) (sym c.new-start.ensures) ∙ c.in_ok-proof.ensures.offered list is
 
 pub returns-clause-proof : goal.returns-clause-proof
 returns-clause-proof g c = λ list is.
@@ -19,8 +19,23 @@ returns-clause-proof g c = λ list is.
     ∙ ap₂ (λ n a. ops_proof sha256 mmr form (take n list) a (a + proof_count n a max)) c.new-size.ensures c.new-start.ensures
     ∙ proved (take c.args.size list) c.args.start (c.args.start + proof_count c.args.size c.args.start max)
 
-pub returns-in_err-operations-clause-same : goal.returns-in_err-operations-clause-same
-returns-in_err-operations-clause-same g c = λ list is. left-database g.C.Store layout c.args.self.now.db c.historical_proof.new.self list c.historical_proof.ensures.left is
+pub returns-in_err-proof-clause-reads : goal.returns-in_err-proof-clause-reads
+returns-in_err-proof-clause-reads g c = record {
+  same = λ list is. left-database g.C.Store layout c.args.self.now.db c.historical_proof.new.self list c.historical_proof.ensures.left is;
+  store = left-store g.C.Store hashing c.args.self.now.db c.historical_proof.new.self c.historical_proof.ensures.left;
+  faults = record { later = (c.historical_proof.ensures.left).read.later; failed = λ fault. c.in_err-proof.ensures.cause (cc fault) };
+}
 
-pub returns-clause-same : goal.returns-clause-same
-returns-clause-same g c = λ list is. left-database g.C.Store layout c.args.self.now.db c.historical_proof.new.self list c.historical_proof.ensures.left is
+pub returns-in_err-operations-clause-reads : goal.returns-in_err-operations-clause-reads
+returns-in_err-operations-clause-reads g c = record {
+  same = λ list is. left-database g.C.Store layout c.args.self.now.db c.historical_proof.new.self list c.historical_proof.ensures.left is;
+  store = left-store g.C.Store hashing c.args.self.now.db c.historical_proof.new.self c.historical_proof.ensures.left;
+  faults = record { later = (c.historical_proof.ensures.left).read.later; failed = λ fault. absurd (cc fault) };
+}
+
+pub returns-clause-reads : goal.returns-clause-reads
+returns-clause-reads g c = record {
+  same = λ list is. left-database g.C.Store layout c.args.self.now.db c.historical_proof.new.self list c.historical_proof.ensures.left is;
+  store = left-store g.C.Store hashing c.args.self.now.db c.historical_proof.new.self c.historical_proof.ensures.left;
+  faults = record { later = (c.historical_proof.ensures.left).read.later; failed = λ fault. absurd (cc fault) };
+}

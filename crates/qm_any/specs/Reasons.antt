@@ -1,0 +1,24 @@
+-- Why calls of a database refuse, whatever its store tells.
+use Rattle.std.specs.Prelude.{◌≡◌, ◌⊎◌, ℕ, ◌-◌, List, [], ◌∷◌}
+use Rattle.qm_base.specs.declared.error.Error.{Error}
+use Rattle.qm_base.specs.declared.error.Error.TheVariants as errors
+use Rattle.qm_base.specs.declared.error.JournalError.TheVariants as journal
+use Rattle.qm_base.specs.declared.error.MerkleError.TheVariants as merkle
+use Rattle.qm_model.specs.Refused.{Refused, HistoricalFloorPruned, DataCorrupted, Merkle, Journal, FloorExceedsCommit, ItemDoesNotDecode, RangeOutOfBounds, ItemPruned}
+use Rattle.qm_store.specs.declared.Store as store
+use Rattle.qm_store.specs.Log.{Log}
+use Rattle.qm_batch.specs.Lent.{IsReadError}
+
+-- why there may be no proof of operations from `start` on in the first `size`
+abbrev pub proof_reasons : ℕ → ℕ → List Refused
+proof_reasons size start =
+    Merkle (RangeOutOfBounds size) ∷ Journal (ItemPruned (size - 1)) ∷ HistoricalFloorPruned size ∷ DataCorrupted FloorExceedsCommit
+    ∷ Merkle (RangeOutOfBounds start) ∷ Journal (ItemPruned start) ∷ DataCorrupted ItemDoesNotDecode ∷ []
+
+-- a spelling is too long, or a list is
+abbrev pub IsSizeError : Error → Type 0
+IsSizeError e = ((n : ℕ) × (e ≡ errors.Journal (journal.ItemTooLarge n))) ⊎ ((n : ℕ) × (e ≡ errors.Merkle (merkle.LocationOverflow n)))
+
+-- why a list was not made: a read failed, or it is too large
+abbrev pub IsMakingError : {C D : Type 0} → store.Ghosts C → Log C D → Log C D → Error → Type 0
+IsMakingError members old new e = IsReadError members old new e ⊎ IsSizeError e

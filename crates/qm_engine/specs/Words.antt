@@ -1,0 +1,48 @@
+-- What an engine's clauses share, over all of its words at once.
+use Rattle.std.specs.Prelude.{◌≡◌, ◌≢◌, List, true, Option, None}
+use Rattle.qm_model.specs.Causes.{IsCause}
+use Rattle.qm_model.specs.Operations.{Bytes, Operation}
+use Rattle.qm_model.specs.Writes.{Write}
+use Rattle.qm_model.specs.Step.{step}
+use Rattle.qm_machine.specs.Machine.{Scheme}
+use Rattle.qm_model.specs.Batches.{Chain, IsKnown, commitment, fits, readable}
+use Rattle.qm_base.specs.declared.error.Error.{Error}
+use Rattle.qm_base.specs.declared.error.Error.TheVariants.{Memory, StaleRead}
+use Rattle.qm_store.specs.declared.Store as store
+use Rattle.qm_store.specs.Given.{IsUnchanged}
+use Rattle.qm_store.specs.Refusals.{refusal_of}
+use Rattle.qm_engine.specs.declared.words.Words as words
+
+-- the list that writes make of a chain's base list
+abbrev pub tip_of : {P : Type 0} → Scheme P → Chain → List Write → P → Option Bytes → List Operation
+tip_of m chain ws policy meta = step m.kind m.rules chain.base ws policy meta
+
+module _ {X C B M : Type 0} (means : words.Ghosts X C B M) where
+  -- at each list that the database stands for, and each chain and writes of the batch
+  abbrev pub AtBatch : X → B → (List Operation → Chain → Chain → List Write → Type 0) → Type 0
+  AtBatch db batch P = (list : List Operation) (chain above : Chain) (ws : List Write) → means.stands db list → means.is_batch batch chain above ws → P list chain above ws
+
+  -- at each list that the database stands for, and each chain and tip of the merkleized batch
+  abbrev pub AtTip : X → M → (List Operation → Chain → List Operation → Type 0) → Type 0
+  AtTip db batch P = (list : List Operation) (chain : Chain) (tip : List Operation) → means.stands db list → means.is_merkleized batch chain tip → P list chain tip
+
+  -- a batch of this chain fits the list
+  abbrev pub Fits : List Operation → Chain → Type 0
+  Fits list chain = fits means.scheme.root (commitment means.scheme.root list) chain ≡ true
+
+  -- and with this tip it can be read
+  abbrev pub CanRead : List Operation → Chain → List Operation → Type 0
+  CanRead list chain tip = readable means.scheme.root (commitment means.scheme.root list) chain tip ≡ true
+
+  -- A read through a batch of this chain with this tip failed: as stale only where the list is not known, and for want of
+  -- memory at any time; else the batch can be read, and where the store tells all and the list is known it is for no refusal.
+  pub record IsReadFailure (tells : Type 0) (list : List Operation) (chain : Chain) (tip : List Operation) (error : Error) : Type 0 where
+    pub stale : error ≡ StaleRead → ¬ IsKnown list chain tip
+    pub refused : error ≢ StaleRead → tells → IsKnown list chain tip → refusal_of error ≡ None
+    pub order : error ≢ StaleRead → error ≢ Memory → CanRead list chain tip
+
+  -- A call that read left what the database stands for, and what its store has; where it failed by that, its faults rose.
+  pub record ReadsOnly (members : store.Ghosts C) (old new : X) (failed : Type 0) : Type 0 where
+    pub same : (list : List Operation) → means.stands old list → means.stands new list
+    pub store : IsUnchanged members (means.inside old) (means.inside new)
+    pub faults : IsCause (members.faults (means.inside old)) (members.faults (means.inside new)) failed
