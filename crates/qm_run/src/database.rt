@@ -44,14 +44,12 @@ fn refusal<C: Store>(refused: Refusal<Inside<C>, C>) -> Refusal<Database<C>, C>
     ensures store { store_given (λ x. x.db.log.store) result.given ≡ store_given (λ db. db.log.store) refused.given }
     ensures error { result.error ≡ refused.error }
 {
-    let given = match refused.given {
+    let Refusal { given, error } = refused;
+    let given = match given {
         Given::Database(db) => Given::Database(Database { db }),
         Given::Store(store) => Given::Store(store),
     };
-    Refusal {
-        given,
-        error: refused.error,
-    }
+    Refusal { given, error }
 }
 
 impl<C: Store> Words<C> for Database<C> {

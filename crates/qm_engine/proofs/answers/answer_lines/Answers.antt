@@ -3,6 +3,7 @@ use Rattle.qm_machine.specs.Grammar.{line_of}
 use Rattle.qm_lines.proofs.Inputs.{at_start, at_end, at_bad}
 use Rattle.qm_engine.specs.Stores.{told}
 use Rattle.qm_engine.specs.Session.{Holds}
+use Rattle.qm_engine.proofs.Commands.{told-stored}
 use Rattle.qm_engine.proofs.Loops.{each}
 use Rattle.qm_engine.proofs.Answerings.{at_next, at_short, line_step, answered_in, answered_at}
 use Rattle.qm_engine.proofs.answers.answer_lines.Goals as goal
@@ -17,6 +18,12 @@ loop-line-init g c = record {
   later = omega (arith, ap g.C.Store.faults c.in-Ok.ensures.store);
   machine = λ stored is apart. (c.new-text.ensures.items, c.in-Ok.ensures.session stored is);
 }
+
+pub returns-in-Err-clause-machine : goal.returns-in-Err-clause-machine
+returns-in-Err-clause-machine g c =
+    each (told g.C.Store c.args.store) (λ stored is.
+    answered_at g.X.Words.scheme stored c.args.input.now 0 c.new-text.result.items _ (omega arith)
+    (λ apart. (c.new-text.ensures.items, ap g.C.Store.items c.in-Err.ensures.back ∙ (told-stored g.C.Store c.args.store stored is).items)))
 
 pub returns-in-Some-ended-clause-machine : goal.returns-in-Some-ended-clause-machine
 returns-in-Some-ended-clause-machine g c =

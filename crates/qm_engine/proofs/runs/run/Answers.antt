@@ -3,8 +3,8 @@ use Rattle.std.proofs.lemmas.List.{length-map}
 use Rattle.qm_lines.specs.Views.{policy_view, line_view, answer_view}
 use Rattle.qm_engine.specs.Stores.{told}
 use Rattle.qm_engine.specs.Session.{Holds}
-use Rattle.qm_engine.proofs.Loops.{each, loop_step, ended_in, ended_at, line_here, Rose-wider}
 use Rattle.qm_engine.proofs.Commands.{told-stored}
+use Rattle.qm_engine.proofs.Loops.{each, loop_step, ended_in, ended_at, line_here, Rose-wider}
 use Rattle.qm_engine.proofs.runs.run.Goals as goal
 
 pub loop-command-init : goal.loop-command-init
@@ -22,9 +22,11 @@ loop-command-init g c =
 pub returns-in-Err-clause-machine : goal.returns-in-Err-clause-machine
 returns-in-Err-clause-machine g c =
     let f = line_view g.X.Key.ByteString.bytes g.X.Value.ByteString.bytes policy_view in
+    let a = answer_view g.X.Key.ByteString.bytes g.X.Value.ByteString.bytes g.X.Digest.Digest.bytes in
+    let none : map a c.new-replies.result.items ≡ [] = ap (map a) c.new-replies.ensures.items in
     each (told g.C.Store c.args.store) (λ stored is.
-    rw (c.new-replies.ensures.items, c.in-Err.ensures.back) (ended_at g.X.Words.scheme stored (map f c.args.commands.now) 0 [] _ (omega arith) refl
-    (λ apart. (refl, (told-stored g.C.Store c.args.store stored is).items))))
+    ended_at g.X.Words.scheme stored (map f c.args.commands.now) 0 (map a c.new-replies.result.items) _ (omega arith) (ap length none)
+    (λ apart. (none, ap g.C.Store.items c.in-Err.ensures.back ∙ (told-stored g.C.Store c.args.store stored is).items)))
 
 pub returns-in-Some-clause-machine : goal.returns-in-Some-clause-machine
 returns-in-Some-clause-machine g c =
