@@ -3,7 +3,7 @@
 ghost use Rattle.std.specs.Prelude.{◌≡◌, ◌<◌, ◌^◌, length, IfOk};
 
 use qm_base::{ByteKey, ByteString, ByteValue, Location};
-use qm_chain::{Diff, DiffCursors, DiffEntry};
+use qm_chain::{Diff, DiffCursors, DiffEntry, DiffMerge};
 use qm_index::unordered::Index;
 use qm_index::{EightCap, Factory as _, OneCap, OrderedTranslator, TwoCap, Unordered};
 use std::alloc::{AllocError, Global};
@@ -62,13 +62,18 @@ fn entry(
 }
 
 #[test]
-fn cursors_go_forward(rt: HostRuntime) -> Result<(), Fail> {
+fn diffs_are_gone_through(rt: HostRuntime) -> Result<(), Fail> {
     let alloc = rt.alloc();
     let entries = vec![in alloc;
         entry(alloc, b"same1", Some(9))?,
         entry(alloc, b"same3", None)?,
     ]?;
     let diffs = vec![in alloc; Rc::new(alloc, Diff::new(entries))?]?;
+    let mut merge = DiffMerge::new(alloc, &diffs)?;
+    assert_eq!(rt;
+        merge.next().map(|(key, _)| key.as_bytes()),
+        Some(b"same1".as_slice())
+    );
     let mut cursors = DiffCursors::new(alloc, &diffs)?;
     assert!(rt;
         cursors

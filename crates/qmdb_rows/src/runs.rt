@@ -13,17 +13,26 @@ const END: u64 = 1 << 62;
 
 /// Runs a case, tells what came of it, and gives back the store. `kept` is that of the case before.
 pub fn run<W: Write>(alloc: Global, case: Case, kept: MemStore, out: &mut W) -> Result<MemStore> {
-    let store = match case.store {
+    let Case {
+        name,
+        words,
+        input,
+        source_fails,
+        sink_fails,
+        store,
+        tells_items,
+    } = case;
+    let store = match store {
         StoreOf::Kept => kept,
         StoreOf::New(store) => new_store(alloc, store)?,
     };
-    let mut source = MemSource::new(case.input, case.source_fails);
-    let mut sink = MemSink::new(alloc, case.sink_fails);
-    let (status, store) = qmdb_main(alloc, &case.words, store, &mut source, &mut sink, &OpenGate);
-    writeln!(out, "case {}", case.name)?;
+    let mut source = MemSource::new(input, source_fails);
+    let mut sink = MemSink::new(alloc, sink_fails);
+    let (status, store) = qmdb_main(alloc, &words, store, &mut source, &mut sink, &OpenGate);
+    writeln!(out, "case {name}")?;
     out.write_all(sink.bytes())?;
     writeln!(out, "status {status}")?;
-    tell_store(&store, case.tells_items, out)?;
+    tell_store(&store, tells_items, out)?;
     Ok(store)
 }
 
