@@ -144,17 +144,17 @@ log-rose members old new e (inr (inr pruned)) fault = absurd (item-apart pruned.
     item-apart n is = cc
 
 module _ {C D : Type 0} (members : store.Ghosts C) (old new : Log C D) (can : Bool) (e : Error) where
-  pub stale-read : IsReadErr members old new can e → e ≡ errors.StaleRead → can ≡ false
+  stale-read : IsReadErr members old new can e → e ≡ errors.StaleRead → can ≡ false
   stale-read (inl why) stale = why.1
   stale-read (inr (inl memory)) stale = absurd (cc (memory, stale))
   stale-read (inr (inr told)) stale = absurd (log-fresh members old new e told.1 stale)
 
-  pub fresh-read : IsReadErr members old new can e → e ≢ errors.StaleRead → old.tree.start ≡ 0 → refusal_of e ≡ None
+  fresh-read : IsReadErr members old new can e → e ≢ errors.StaleRead → old.tree.start ≡ 0 → refusal_of e ≡ None
   fresh-read (inl why) fresh whole = absurd (fresh why.0)
   fresh-read (inr (inl memory)) fresh whole = ap refusal_of memory
   fresh-read (inr (inr told)) fresh whole = log-untold members old new e whole told.1
 
-  pub known-read : IsReadErr members old new can e → e ≢ errors.StaleRead → e ≢ errors.Memory → can ≡ true
+  known-read : IsReadErr members old new can e → e ≢ errors.StaleRead → e ≢ errors.Memory → can ≡ true
   known-read (inl why) fresh other = absurd (fresh why.0)
   known-read (inr (inl memory)) fresh other = absurd (other memory)
   known-read (inr (inr told)) fresh other = told.0
@@ -178,17 +178,6 @@ module _ {C D : Type 0} (members : store.Ghosts C) (old new : Log C D) (can : Bo
   never-read (inr (inl memory)) stale = absurd (cc (memory, stale))
   never-read (inr (inr told)) stale = log-kept members old new e told.1 stale
 
--- what holds of a value, and of an error, for every chain of a merkleized batch
-pub ok-made : {X E : Type 0} (r : Result X E) (made : Made Sha256Digest) (P : List Operation → X → Type 0) → ((chain : Chain) (tip : List Operation) → IsMade hashing made chain tip → IfOk r (P tip))
-    → IfOk r (λ x. (chain : Chain) (tip : List Operation) → IsMade hashing made chain tip → P tip x)
-ok-made (Ok x) made P given = given
-ok-made (Err e) made P given = tt
-
-pub err-made : {X E : Type 0} (r : Result X E) (made : Made Sha256Digest) (P : List Operation → E → Type 0) → ((chain : Chain) (tip : List Operation) → IsMade hashing made chain tip → IfErr r (P tip))
-    → IfErr r (λ e. (chain : Chain) (tip : List Operation) → IsMade hashing made chain tip → P tip e)
-err-made (Ok x) made P given = tt
-err-made (Err e) made P given = given
-
 -- reads through batches
 pub made-reads : {X E : Type 0} (r : Result X E) (S : List Operation → Type 0) (L : Chain → List Operation → Type 0) (Q : X → List Operation → Type 0)
     → ((list : List Operation) (chain : Chain) (tip : List Operation) → S list → L chain tip → IsKnown list chain tip → IfOk r (λ x. Q x tip))
@@ -208,13 +197,6 @@ pub appends-same : (list : List Operation) (chain : Chain) (tip : List Operation
 appends-same list chain tip current made is batch =
     ap (λ b. if b then map (spelling variable) (drop current.size tip) else []) (at-made list chain tip current made is batch)
     ∙ ap (λ (n : ℕ). if fits (sha256_root mmr) (commitment (sha256_root mmr) list) chain then map (spelling variable) (drop n tip) else []) (ap (λ c. c.size) is)
-
--- an apply's database stands for the tip
-pub applied-ok : {X E : Type 0} (S : List Operation → Type 0) (L : Chain → List Operation → Type 0) (Q : List Operation → X → Type 0) (r : Result X E)
-    → ((list : List Operation) (chain : Chain) (tip : List Operation) → S list → L chain tip → IsOnChain list chain → IfOk r (Q tip))
-    → IfOk r (λ next. (list : List Operation) (chain : Chain) (tip : List Operation) → S list → L chain tip → IsOnChain list chain → Q tip next)
-applied-ok S L Q (Ok x) given = given
-applied-ok S L Q (Err e) given = tt
 
 -- the program's one policy
 pub only : (p : AnyPolicy) → policy_view p ≡ proportional
