@@ -11,7 +11,7 @@ use Rattle.qm_model.specs.Refusals.{tip_refusal}
 use Rattle.qm_machine.specs.Lines.{Answer}
 use Rattle.qm_machine.specs.Lines as lines
 use Rattle.qm_model.specs.Refused as refusals
-use Rattle.qm_machine.specs.Machine.{Scheme, State, slot_at, with_slot, refuse, started, start_child, put_in, merkleize_tip, merkleize_in, apply_in}
+use Rattle.qm_machine.specs.Machine.{State, slot_at, with_slot, refuse, started, start_child, put_in, merkleize_tip, merkleize_in, apply_in}
 use Rattle.qm_machine.specs.Machine as machine
 use Rattle.qm_model.proofs.Chains.{Contains-more, Contains-first, IsAmong-more, child-among, on_chain-fits}
 use Rattle.qm_base.specs.declared.error.Error.{Error}

@@ -11,7 +11,7 @@ use Rattle.qm_model.specs.Batches.{Apart}
 use Rattle.qm_machine.specs.Lines.{Answer}
 use Rattle.qm_machine.specs.Lines as lines
 use Rattle.qm_model.specs.Refused as refusals
-use Rattle.qm_machine.specs.Machine.{Scheme, Stored, State, slot_at, with_slot, with_database, unless, head_refusal, opening_refusal, open_unless}
+use Rattle.qm_machine.specs.Machine.{Stored, State, slot_at, with_slot, with_database, unless, head_refusal, opening_refusal, open_unless}
 use Rattle.qm_machine.specs.Machine as machine
 use Rattle.qm_model.proofs.Chains.{Contains-more, Contains-first, IsAmong-more}
 use Rattle.qm_base.specs.declared.error.JournalError.TheVariants as journal

@@ -7,7 +7,7 @@ use Rattle.qm_model.specs.Proofs.{Proof}
 use Rattle.qm_model.specs.Refusals.{proof_refusal, proof_count, pins_refusal}
 use Rattle.qm_machine.specs.Lines.{Answer}
 use Rattle.qm_machine.specs.Lines as lines
-use Rattle.qm_machine.specs.Machine.{Scheme, State, slot_at, unless, proof_in}
+use Rattle.qm_machine.specs.Machine.{State, slot_at, unless, proof_in}
 use Rattle.qm_machine.specs.Machine as machine
 use Rattle.qm_base.specs.declared.error.Error.{Error}
 use Rattle.qm_lines.specs.Views.{answer_view}

@@ -8,7 +8,7 @@ use Rattle.qm_model.specs.Batches.{Chain, IsAmong, IsKnown, Apart, commitment, r
 use Rattle.qm_machine.specs.Lines.{Answer}
 use Rattle.qm_machine.specs.Lines as lines
 use Rattle.qm_model.specs.Refused as refusals
-use Rattle.qm_machine.specs.Machine.{Scheme, State, slot_at, refuse, list_operations, if_readable, read_in}
+use Rattle.qm_machine.specs.Machine.{State, slot_at, refuse, list_operations, if_readable, read_in}
 use Rattle.qm_machine.specs.Machine as machine
 use Rattle.qm_model.proofs.Chains.{known-readable}
 use Rattle.qm_base.specs.declared.error.Error.{Error}

@@ -4,7 +4,7 @@ use Rattle.qm_model.specs.Causes.{Rose}
 use Rattle.qm_model.specs.Operations.{Bytes, Operation}
 use Rattle.qm_model.specs.Batches.{IsAmong, Apart}
 use Rattle.qm_machine.specs.Lines.{Answer}
-use Rattle.qm_machine.specs.Machine.{Scheme, Stored, State, slot_at}
+use Rattle.qm_machine.specs.Machine.{Stored, State, slot_at}
 use Rattle.qm_machine.specs.Machine as machine
 use Rattle.qm_lines.specs.Views.{answer_view}
 use Rattle.qm_lines.specs.declared.reply.Reply as reply

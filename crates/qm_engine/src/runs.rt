@@ -1,8 +1,7 @@
 //! A run of a list of commands.
 
-ghost use Rattle.std.specs.Prelude.{◌≡◌, ◌≢◌, ◌+◌, ◌++◌, ◌∷◌, [], ◌^◌, ◌<◌, ◌≤◌, ℕ, List, Option, Some, None, IfNone, IfSome, IfOk, IfErr, OnSome, OnOk, OnErr, length, map};
+ghost use Rattle.std.specs.Prelude.{◌≡◌, ◌≢◌, ◌+◌, ◌++◌, ◌∷◌, [], ◌^◌, ◌<◌, ◌≤◌, Option, Some, None, IfNone, IfSome, IfOk, IfErr, OnSome, OnOk, OnErr, length, map};
 ghost use Rattle.qm_model.specs.Causes.{Rose};
-ghost use Rattle.qm_model.specs.Operations.{Bytes};
 ghost use Rattle.qm_model.specs.Batches.{Apart};
 ghost use Rattle.qm_machine.specs.Machine as machine;
 ghost use Rattle.qm_lines.specs.Views.{policy_view, line_view, answer_view};

@@ -1,6 +1,6 @@
 //! The program's top call.
 
-ghost use Rattle.std.specs.Prelude.{◌≡◌, ◌≢◌, ◌↔◌, ◌≤◌, ◌<◌, ◌+◌, ◌++◌, ◌^◌, ◌⊎◌, ℕ, List, [], false, true, Option, Some, None, IfOk, IfSome, IsSome, IsErrOf, ◌&&◌, codes, length, map, bytes_eq};
+ghost use Rattle.std.specs.Prelude.{◌≡◌, ◌≢◌, ◌↔◌, ◌≤◌, ◌<◌, ◌+◌, ◌++◌, ◌^◌, ◌⊎◌, ℕ, false, true, Some, None, IfOk, IfSome, IsSome, ◌&&◌, codes, length, map, bytes_eq};
 ghost use Rattle.std.specs.Io.KnownBytes.{IsAtEnd};
 ghost use Rattle.std.specs.String.{string_bytes};
 ghost use Rattle.qm_model.specs.Causes.{Rose};

@@ -1,12 +1,8 @@
 // Commands that make, fill and apply batches.
-ghost use Rattle.std.specs.Prelude.{◌≡◌, ◌++◌, ◌∷◌, [], ◌≤◌, ◌≢◌, List, Some, None, true, option_map, IfOk, IfErr, IfSome, IsErrOf};
+ghost use Rattle.std.specs.Prelude.{◌≡◌, ◌++◌, ◌∷◌, [], ◌≢◌, List, Some, None, option_map, IfOk, IfErr, IfSome, IsErrOf};
 ghost use Rattle.qm_model.specs.Forms.{variable};
-ghost use Rattle.qm_model.specs.Causes.{Rose};
-ghost use Rattle.qm_model.specs.Operations.{Operation};
 ghost use Rattle.qm_model.specs.Writes.{Write};
-ghost use Rattle.qm_model.specs.Step.{step};
-ghost use Rattle.qm_model.specs.Batches.{Chain, IsOnChain, commitment, fits};
-ghost use Rattle.qm_model.specs.Policies.{policies};
+ghost use Rattle.qm_model.specs.Batches.{Chain, IsOnChain, fits};
 ghost use Rattle.qm_model.specs.Refusals.{tip_refusal};
 ghost use Rattle.qm_machine.specs.Machine.{State};
 ghost use Rattle.qm_machine.specs.Machine as machine;
