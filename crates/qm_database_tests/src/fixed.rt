@@ -55,19 +55,45 @@ fn last(value: &Option<FixedBytes<8>>) -> Option<u8> {
     value.as_ref()?.as_bytes().last().copied()
 }
 
+// The last byte of the key's value, through a batch that is begun on the database.
+fn read_begun(alloc: Global, db: &mut Database) -> Result<Option<u8>, Error> {
+    let key = key(alloc)?;
+    let begun = db.new_batch(alloc)?;
+    let value = begun.get(alloc, &key, db)?;
+    Ok(last(&value))
+}
+
+// The same through a merkleized batch.
+fn read_made(alloc: Global, batch: &Batch, db: &mut Database) -> Result<Option<u8>, Error> {
+    let key = key(alloc)?;
+    let value = batch.get(alloc, &key, db)?;
+    Ok(last(&value))
+}
+
+// The same of the database.
+fn read(alloc: Global, db: &mut Database) -> Result<Option<u8>, Error> {
+    let key = key(alloc)?;
+    let value = db.get(alloc, &key)?;
+    Ok(last(&value))
+}
+
+// The database after the batch, and the last byte of the key's value without it, through it and behind it.
+fn read_in_turn(alloc: Global) -> Result<(Database, [Option<u8>; 3]), Error> {
+    let mut db = opened(alloc)?;
+    let before = read_begun(alloc, &mut db)?;
+    let batch = batch_of(alloc, &mut db)?;
+    let through = read_made(alloc, &batch, &mut db)?;
+    db.validate_batch(&batch)?;
+    let mut db = applied(alloc, db, &batch)?;
+    let behind = read(alloc, &mut db)?;
+    Ok((db, [before, through, behind]))
+}
+
 #[test]
 fn keys_are_read(rt: HostRuntime) -> Result<(), Fail> {
-    let alloc = rt.alloc();
-    let key = key(alloc)?;
-    let mut db = opened(alloc)?;
-    let begun = db.new_batch(alloc)?;
-    assert_eq!(rt; last(&begun.get(alloc, &key, &mut db)?), None);
-    let batch = batch_of(alloc, &mut db)?;
-    assert_eq!(rt; last(&batch.get(alloc, &key, &mut db)?), Some(17));
-    assert_eq!(rt; db.validate_batch(&batch), Ok(()));
-    let mut db = applied(alloc, db, &batch)?;
-    assert_eq!(rt; last(&db.get(alloc, &key)?), Some(17));
-    let text = format!(in alloc; "{db:?}")?;
+    let (db, values) = read_in_turn(rt.alloc())?;
+    assert_eq!(rt; values, [None, Some(17), Some(17)]);
+    let text = format!(in rt.alloc(); "{db:?}")?;
     assert_eq!(rt; text.as_str(), "Db { start: 0, size: 4, floor: 2 }");
     Ok(())
 }
