@@ -1,0 +1,226 @@
+"""Writes the cases of crates/qmdb_rows and what they are to tell: its stdin and stdout.
+
+    python3 make_cases.py FOLDER        # FOLDER/stdin and FOLDER/stdout
+
+Replies are the worked rows' or this model's; those of failing calls, stores with a start or
+a head, words and the limit are worked by hand and stand below.
+"""
+
+import os
+import sys
+
+sys.path.insert(0, os.path.dirname(os.path.abspath(__file__)))
+sys.setrecursionlimit(10000)
+
+import check_rows  # noqa: E402
+import fuzz  # noqa: E402
+import model  # noqa: E402
+import qmdb  # noqa: E402
+
+STAGE = qmdb.stage_number('forks')
+WORDS = 'run any unordered mmr'
+inp, out = [], []
+def section(text):
+    inp.append('')
+    inp.append('# ' + text)
+def put(name, said, text, status, start, count, items=None, begin='case'):
+    """said: lines of stdin after the first"""
+    inp.append('')
+    inp.append('%s %s' % (begin, name))
+    inp.extend(said)
+    if items is not None: inp.append('items')
+    out.append('case ' + name)
+    if text:
+        assert text.endswith('\n')
+        out.extend(text[:-1].split('\n'))
+    out.append('status %d' % status)
+    out.append('store %d %d' % (start, count))
+    for i in items or []: out.append('item ' + i)
+def lines_of(data):
+    """stdin lines for these bytes"""
+    said = []
+    feed = data.endswith(b'\n')
+    parts = data.split(b'\n')
+    for p in parts[:-1]:
+        try:
+            t = p.decode('utf-8'); plain = '\r' not in t and all(c >= ' ' or c == '\t' for c in t)
+        except UnicodeDecodeError: plain = False
+        if plain: said.append('| ' + t if t else '|')
+        else: said.append('hex ' + (p + b'\n').hex())
+    if parts[-1]: said.append('hex ' + parts[-1].hex())
+    return said
+def modelled(name, data, words=WORDS, items=False):
+    if isinstance(data, str): data = data.encode()
+    store = model.Store()
+    status, text = qmdb.run_program(words.split(' ') if words else [], data, store, STAGE)
+    said = ([] if words == WORDS else ['words ' + words if words else 'words']) + lines_of(data)
+    put(name, said, text.decode(), status, store.start, len(store.items), [i.hex() for i in store.items] if items else None)
+    return text.decode(), status, store
+
+# ---- worked rows
+section('Worked rows.')
+for row in check_rows.load_rows():
+    first, last = check_rows.stages_of(row)
+    if first > STAGE or last < STAGE or 'initial' in row or row['store'] == 'mem': continue
+    run, = row['runs']
+    if 'repeat' in run['input']: continue
+    data = check_rows.row_input(run)
+    name = row['name'].replace(' any unordered mmr', '')
+    store = model.Store()
+    status, text = qmdb.run_program(run['words'], data, store, STAGE)
+    assert (status, text.decode()) == (run['status'], run['output'])
+    put(name, lines_of(data), run['output'], run['status'], 0, len(store.items), [i.hex() for i in store.items] if name in ('one put', 'put and delete') else None)
+
+# ---- inputs of the tests before
+section('Inputs and their replies.')
+def worked(name, data, status, replies, count):
+    t, s, store = modelled(name, data)
+    assert (s, t, len(store.items)) == (status, replies, count), (name, s, t, len(store.items))
+worked('no database', "get 61\ninfo\nops 1\nbatch\napply 1\nput 1 61 01\nmerkleize 1 prop none\n", 0,
+  "refused NoDatabase\nrefused NoDatabase\nrefused NoSuchHandle 1\nrefused NoDatabase\nrefused NoDatabase\nrefused NoSuchHandle 1\nrefused NoDatabase\n", 0)
+worked('no database, other lines', "root\nmeta\ndel 1 61\ntip\nmany 6b\nget 6b from=1\nproof 1\nchild 1 keep=2\ninfo 1\nroot 1\nprove 1 0 1\npins 0\n", 0,
+  "refused NoDatabase\nrefused NoDatabase\nrefused NoSuchHandle 1\nrefused NoDatabase\nrefused NoDatabase\nrefused NoDatabase\nrefused NoDatabase\nrefused NoSuchHandle 1\nrefused NoSuchHandle 1\nrefused NoSuchHandle 1\nrefused NoDatabase\nrefused NoDatabase\n", 0)
+worked('one key, and then none', "open\nbatch\nput 1 6b 76\nmerkleize 1 prop none\napply 1\nbatch\ndel 2 6b\nmerkleize 2 prop none\nops 2\napply 2\nget 6b\ninfo\n", 0,
+  "open 1 0 1\nbatch 1\nok\nmerkleized 1 1 4 2\napplied 4\nbatch 2\nok\nmerkleized 2 4 6 5\nops 4 D:6b C:none@5\napplied 6\nread none\ninfo 0 6 5 5 empty\n", 6)
+worked('metadata, and the root after each list', "open\nmeta\nroot\nbatch\ndel 1 6b\nmerkleize 1 prop AAbb\nops 1\nmeta\napply 1\nmeta\nbatch\nmerkleize 2 prop -\napply 2\nmeta\nroot\ndel 2 6b\n", 0,
+  "open 1 0 1\nmeta none\nroot 8ed63975392a90390c0a9fc1e4a522d28a7e99c0b62ef9e3bb2c3da3964a77f5 8ed63975392a90390c0a9fc1e4a522d28a7e99c0b62ef9e3bb2c3da3964a77f5\nbatch 1\nok\nmerkleized 1 1 2 1\nops 1 C:aabb@1\nmeta none\napplied 2\nmeta aabb\nbatch 2\nmerkleized 2 2 3 2\napplied 3\nmeta -\nroot 31074da561e7e89f41b13c5bad13d7ae7f60ad8d966a3487e8d1dcbafe2c6ea0 31074da561e7e89f41b13c5bad13d7ae7f60ad8d966a3487e8d1dcbafe2c6ea0\nrefused NoSuchHandle 2\n", 3)
+worked('a stale batch of the size of the list', "open\nbatch\nbatch\nput 1 61 01\nput 2 61 02\nmerkleize 1 prop none\nmerkleize 2 prop none\napply 1\napply 2\nget 61\n", 0,
+  "open 1 0 1\nbatch 1\nbatch 2\nok\nok\nmerkleized 1 1 4 2\nmerkleized 2 1 4 2\napplied 4\nrefused StaleBatch\nread 01\n", 4)
+worked('proofs and pins, and a bad line', "open\nbatch\nput 1 6b 76\nmerkleize 1 prop none\napply 1\nprove 4 1 2\npins 4\nprove 4 0 0\n", 2,
+  "open 1 0 1\nbatch 1\nok\nmerkleized 1 1 4 2\napplied 4\nproof 4 0 6e290ec1b71d702d95e7193ca20dc9da03b9bcdc2645c140bddcd6d81480bb3a 8843d42fc32ad0efbba7c0f8559d761ce243a6023f95981b717d52c5a70055db / U:6b=76 U:6b=76\npins cbb112f8deafdd1075d117a89941c39dd819d40a0e76f2e0ee154a2d1053dcb6\nbad line 8\n", 4)
+worked('reads through batches', "open\nbatch\nput 1 61 01\nbatch\nput 2 61 02\nmerkleize 1 prop none\nmerkleize 2 prop none\nget 61 from=2\napply 1\napply 2\nget 61 from=2\nget 61 from=1\nmany 61 62 from=1\nmany 62 61\n", 0,
+  "open 1 0 1\nbatch 1\nok\nbatch 2\nok\nmerkleized 1 1 4 2\nmerkleized 2 1 4 2\nread 02\napplied 4\nrefused StaleBatch\nrefused StaleRead\nread 01\nread 01 none\nread none 01\n", 4)
+worked('a child in one step with its parent, and the database as a batch', "open\nbatch\nput 1 61 01\nmerkleize 1 prop none\nchild 1\nput 2 62 02\nget 61 from=2\nmany 62 61 63 from=2\nmerkleize 2 prop none\nops 2\napply 2\napply 1\ntip\nops 3\napply 3\ninfo 2\nget 62 from=1\nget 62 from=3\n", 0,
+  "open 1 0 1\nbatch 1\nok\nmerkleized 1 1 4 2\nbatch 2\nok\nread 01\nread 02 01 none\nmerkleized 2 4 7 3\nops 4 U:62=02 U:61=01 C:none@3\napplied 7\nrefused StaleBatch\nbatch 3\nops 7\napplied 7\ninfo 4 7 3 3\nrefused StaleRead\nread 02\n", 7)
+worked('a child that keeps its parent alone', "open\nbatch\nput 1 61 01\nmerkleize 1 prop none\nchild 1\nput 2 62 02\nmerkleize 2 prop none\nchild 2 keep=0\nget 62 from=3\nmerkleize 3 prop none\nput 3 63 03\napply 1\nchild 2 keep=0\nput 4 63 03\nmerkleize 4 prop none\napply 4\n", 0,
+  "open 1 0 1\nbatch 1\nok\nmerkleized 1 1 4 2\nbatch 2\nok\nmerkleized 2 4 7 3\nbatch 3\nread 02\nrefused StaleBatch\nrefused NoSuchHandle 3\napplied 4\nbatch 4\nok\nmerkleized 4 7 10 5\napplied 10\n", 10)
+D0 = '6e290ec1b71d702d95e7193ca20dc9da03b9bcdc2645c140bddcd6d81480bb3a'
+D3 = 'cbb112f8deafdd1075d117a89941c39dd819d40a0e76f2e0ee154a2d1053dcb6'
+R4 = '183c19a0b6f42584bf2d68552da389bc980511207befe92fc296ae89c8aa6d14'
+R7 = '980ea5716c66fd1574182b934e2ac2077948dd397a6d677ce73d4ef20dc2e853'
+worked('proofs, numbers and roots of batches', "open\nbatch\nput 1 6b 76\nchild 1\nproof 1\nmerkleize 1 prop none\nproof 1\nroot 1\nproof 2\ninfo 1\nchild 1\nput 2 6c 77\nmerkleize 2 prop none\nproof 2\ninfo 2\napply 1\nproof 2\napply 2\nproof 1\nroot\nroot 2\ninfo 9\nroot 0\n", 0,
+  f"open 1 0 1\nbatch 1\nok\nrefused NoSuchHandle 1\nrefused NoSuchHandle 1\nmerkleized 1 1 4 2\nproof 4 0 {D0} / {D0}\nroot {R4} {R4}\nrefused NoSuchHandle 2\ninfo 1 4 2 2\nbatch 2\nok\nmerkleized 2 4 7 3\nproof 7 0 {D3} / {D3}\ninfo 4 7 3 3\napplied 4\nproof 7 0 {D3} / {D3}\napplied 7\nrefused StaleRead\nroot {R7} {R7}\nroot {R7} {R7}\nrefused NoSuchHandle 9\nrefused NoSuchHandle 0\n", 7)
+
+# ---- lines
+section('Each form of a line, with no database.')
+modelled('lines', ''.join(x + '\n' for x in (
+ 'batch', 'info', 'root', 'meta', 'tip', 'put 1 6b 76', 'put 0 00fF -', 'del 7 6B', 'merkleize 1 prop none', 'merkleize 1 prop -', 'merkleize 1 prop 0f',
+ 'apply 10', 'ops 18446744073709551615', 'get 4a4A', 'get 4a from=3', 'many 4a', 'many 4a 6b 4a from=0', 'child 2', 'child 2 keep=0', 'child 2 keep=18446744073709551615',
+ 'info 1', 'root 1', 'proof 1', 'prove 4 0 9', 'prove 18446744073709551615 0 18446744073709551615', 'pins 0', 'open')))
+modelled('keys of 32 bytes, values of 64', 'open\nbatch\nput 1 %s %s\nmerkleize 1 prop %s\nops 1\napply 1\nget %s\nmeta\n' % ('61' * 32, '62' * 64, '63' * 64, '61' * 32), items=True)
+modelled('numbers past the end', 'open\nprove 18446744073709551615 0 1\nprove 4611686018427387905 0 1\nprove 4611686018427387904 0 1\nprove 1 18446744073709551615 1\nprove 1 0 18446744073709551615\npins 18446744073709551615\npins 4611686018427387905\npins 4611686018427387904\nget 61 from=18446744073709551615\nchild 18446744073709551615\n')
+section('Lines that are none.')
+for bad in ('', ' ', 'Open', 'open ', ' open', 'open x', 'apply', 'apply ', 'apply 01', 'apply +1', 'apply -1', 'apply 18446744073709551616', 'ops 1 2',
+ 'get', 'get -', 'get 6', 'get 6g', 'put  1 6b 76', 'put 1 6b', 'put 1 - 76', 'put 1 6b 767', 'put 1 6b 76 77', 'merkleize 1 prop', 'merkleize 1 hold none', 'merkleize 1 prop non',
+ 'merkleize 1 prop none ', 'del 1', 'del 1 -', 'del 1 6b 76', 'get 4a 6b', 'get from=3', 'many', 'many from=3', 'many 4a from=3 6b', 'many 4a from=', 'many 4a from=03',
+ 'child 2 keep', 'child 2 keep=', 'child 2 from=1', 'tip 1', 'batch 1', 'info 1 2', 'proof', 'prove 4 0 0', 'prove 4 0', 'prove 4 0 01', 'pins', 'nothing', 'next 61',
+ 'get ' + '61' * 33, 'put 1 %s 76' % ('61' * 33), 'put 1 6b ' + '61' * 65, 'merkleize 1 prop ' + '61' * 65):
+    t, s, _ = modelled('bad line: ' + (bad if len(bad) < 40 else bad[:20] + '.. (%d characters)' % len(bad)), bad + '\n')
+    assert (t, s) == ('bad line 1\n', 2)
+section('Bytes that are no lines of text.')
+for name, data in (('a carriage return', b'open\r\n'), ('a zero byte', b'open\0\n'), ('no UTF-8', b'open\nbatch\n\xff\n'), ('a tab', b'get\t61\n')):
+    t, s, _ = modelled(name, data); assert s == 2
+modelled('no line feed at the end', b'open\nbatch\ninfo')
+modelled('an empty line at the end', b'open\n\n')
+modelled('a bad line without its line feed', b'open\ninfo\nput 1 6')
+
+# ---- the limit
+section('An input of 16,777,216 bytes, and one of a byte more.')
+put('as long as may be', ['fill 16777216 78'], 'bad line 1\n', 2, 0, 0)
+put('too long', ['hex 78'], '', 7, 0, 0, begin='again')
+put('too long, in lines', ['fill 3355444 6f70656e0a'], '', 7, 0, 0)
+
+# ---- other words
+section('Other words.')
+ONE = "open\nbatch\nput 1 6b 76\nmerkleize 1 prop none\napply 1\nops 1\nget 6b\ninfo\n"
+modelled('one put, once more', ONE)
+for words in ('', 'run', 'run any unordered', 'run any unordered mmr mmr', 'run any unordered mmb', 'run any ordered mmr', 'run current unordered mmr', 'walk any unordered mmr', 'run any unordered MMR', 'fill any unordered mmr 1 1', '--help'):
+    put('words: ' + words if words else 'no words', ['words ' + words if words else 'words'], '', 1, 0, 0, begin='again')
+put('other words before a source that fails', ['words run', 'fail source 0'], '', 1, 0, 0, begin='again')
+
+# ---- calls that fail
+section('Each call in turn that fails.')
+PROVED = "open\nbatch\nput 1 6b 76\nmerkleize 1 prop none\napply 1\nprove 4 0 9\n"
+REPLIES = "open 1 0 1\nbatch 1\nok\nmerkleized 1 1 4 2\napplied 4\nproof 4 0 / C:none@0 U:6b=76 U:6b=76 C:none@2\n"
+APPLIED = "open 1 0 1\nbatch 1\nok\nmerkleized 1 1 4 2\napplied 4\n"
+worked('one put, proved', PROVED, 0, REPLIES, 4)
+for call in range(3):
+    put('source call %d fails' % call, ['fail source %d' % call], '' if call < 2 else REPLIES, 3 if call < 2 else 0, 0, 0 if call < 2 else 4, begin='again')
+for call in range(2):
+    put('sink call %d fails' % call, ['fail sink %d' % call], '' if call < 1 else REPLIES, 4 if call < 1 else 0, 0, 4, begin='again')
+table = ["", "", "open 1 0 1\nbatch 1\nok\n", "open 1 0 1\nbatch 1\nok\nmerkleized 1 1 4 2\n"] + [APPLIED] * 5
+for call in range(10):
+    n = 0 if call < 2 else 1 if call < 4 else 4
+    if call < 9: put('store call %d fails' % call, ['fail store %d' % call], table[call] + 'store fault\n', 6, 0, n, begin='again')
+    else: put('store call %d fails' % call, ['fail store %d' % call], REPLIES, 0, 0, 4, begin='again')
+STEP = "open\nbatch\nput 1 6b 76\nmerkleize 1 prop none\nchild 1\nput 2 6c 77\nmerkleize 2 prop none\nget 6b from=2\napply 2\nget 6c from=1\napply 1\n"
+STEPPED = "open 1 0 1\nbatch 1\nok\nmerkleized 1 1 4 2\nbatch 2\nok\nmerkleized 2 4 7 3\nread 76\napplied 7\nrefused StaleRead\nrefused StaleBatch\n"
+BEFORE = "open 1 0 1\nbatch 1\nok\nmerkleized 1 1 4 2\nbatch 2\nok\nmerkleized 2 4 7 3\nread 76\nstore fault\n"
+section('A batch and its child are appended at once: call 3 is the only append after that of the opening.')
+worked('two batches in one step', STEP, 0, STEPPED, 7)
+for call, text, n in ((0, 'store fault\n', 0), (1, 'store fault\n', 0), (2, 'open 1 0 1\nbatch 1\nok\nstore fault\n', 1), (3, BEFORE, 1)):
+    put('one step, store call %d fails' % call, ['fail store %d' % call], text, 6, 0, n, begin='again')
+put('one step, store call 4 would fail', ['fail store 4'], STEPPED, 0, 0, 7, begin='again')
+section('More than one fails, and failing calls beside bad lines.')
+put('a fault that the sink does not take', lines_of(PROVED.encode()) + ['fail store 3', 'fail sink 0'], '', 4, 0, 1)
+put('a source that fails before the store', ['fail store 0', 'fail source 1'], '', 3, 0, 0, begin='again')
+put('a bad line behind a fault', lines_of(b'open\nput 1 6\n') + ['fail store 1'], 'store fault\n', 6, 0, 0)
+put('a bad line before the call that fails', lines_of(b'info\nput 1 6\nopen\n') + ['fail store 0'], 'refused NoDatabase\nbad line 2\n', 2, 0, 0)
+put('a bad line that the sink does not take', ['fail sink 0'], '', 4, 0, 0, begin='again')
+section('An input of two pieces: its end is the third call.')
+for call in range(4):
+    put('5,000 bytes, source call %d fails' % call, (['fill 5000 78'] if call == 0 else []) + ['fail source %d' % call], '' if call < 3 else 'bad line 1\n', 3 if call < 3 else 2, 0, 0, begin='case' if call == 0 else 'again')
+
+# ---- stores
+section('Stores with a start or a head.')
+ASK = b'open\ninfo\nbatch\nget 61\n'
+NONE = 'refused NoDatabase\n' * 3
+put('a start', lines_of(ASK) + ['start 2'], 'refused NotOffered\n' + NONE, 0, 2, 0)
+put('the last start', ['start 4611686018427387904'], 'refused NotOffered\n' + NONE, 0, 4611686018427387904, 0, begin='again')
+put('a start with a head', ['start 1', 'head 07'], 'refused NotOffered\n' + NONE, 0, 1, 0, begin='again')
+put('a head at start 0', ['head 07'], 'refused DataCorrupted head does not match the start\n' + NONE, 0, 0, 0, begin='again')
+put('a head of the length of a digest', ['head ' + '00' * 32], 'refused DataCorrupted head does not match the start\n' + NONE, 0, 0, 0, begin='again')
+put('a head that can not be read', ['head 07', 'fail store 0'], 'store fault\n', 6, 0, 0, begin='again')
+put('a head, opened twice', lines_of(b'open\nopen\nput 1 6') + ['head 07'], 'refused DataCorrupted head does not match the start\n' * 2 + 'bad line 3\n', 2, 0, 0)
+section('Runs over one store. It is opened only while it is empty.')
+put('nothing done', [], '', 0, 0, 0)
+put('kept, and opened', ['keep', '| open', '| open', '| info'], 'open 1 0 1\nrefused NotOffered\ninfo 0 1 0 0 empty\n', 0, 0, 1, items=['03000000000000000000'])
+put('kept, with an item', ['keep', '| open', '| info'], 'refused NotOffered\nrefused NoDatabase\n', 0, 0, 1, items=['03000000000000000000'])
+put('kept, with other words', ['keep', 'words run', '| open'], '', 1, 0, 1)
+put('an opening whose append fails', ['fail store 1 3', '| open'], 'store fault\n', 6, 0, 0)
+put('kept, and fails once more', ['keep', '| open'], 'store fault\n', 6, 0, 0)
+put('kept, and opened at last', ['keep', '| open', '| info'], 'open 1 0 1\ninfo 0 1 0 0 empty\n', 0, 0, 1)
+section('Scripts of an independent model.')
+for seed in range(100):
+    size = (12, 25, 25, 40, 60)[seed % 5]
+    lines = fuzz.script('rows %d' % seed, 'any unordered mmr', STAGE, size, bad=seed % 3 == 0)
+    modelled('script %d' % seed, '\n'.join(lines) + ('\n' if seed % 7 else ''))
+section('Chains of three batches: what the second and the third keep, which are applied before each is made, and before the third is asked.')
+def chain(keep2, keep3, before2, before3, before_asked):
+    lines = ['open', 'batch', 'put 1 6b6b6b6b01 01', 'merkleize 1 prop none']
+    applied = 0
+    def go(to):
+        nonlocal applied
+        if to > applied:
+            lines.append('apply %d' % to)
+            applied = to
+    for h, keep, before in ((2, keep2, before2), (3, keep3, before3)):
+        go(before)
+        lines.extend(['child %d%s' % (h - 1, '' if keep is None else ' keep=%d' % keep), 'put %d 6b6b6b6b0%d 0%d' % (h, h, h), 'merkleize %d prop none' % h])
+    go(before_asked)
+    lines.extend(['many 6b6b6b6b01 6b6b6b6b02 6b6b6b6b03 from=3', 'info 3', 'proof 3', 'child 3', 'del 4 6b6b6b6b01', 'get 6b6b6b6b01 from=4', 'merkleize 4 prop none', 'apply 3', 'apply 4', 'many 6b6b6b6b01 6b6b6b6b02 6b6b6b6b03', 'root'])
+    return lines
+for keep2 in (None, 0):
+    for keep3 in (None, 0, 1):
+        for before2 in (0, 1):
+            for before3 in (0, 1, 2):
+                for before_asked in (0, 1, 2, 3):
+                    if not (before2 <= before3 or before3 == 0): continue
+                    if before3 < before2 or before_asked < max(before2, before3): continue
+                    said = lambda k: 'all' if k is None else str(k)
+                    modelled('chain: keep %s and %s, applied %d, %d, %d' % (said(keep2), said(keep3), before2, before3, before_asked), ''.join(x + '\n' for x in chain(keep2, keep3, before2, before3, before_asked)))
+
+dest = sys.argv[1]
+open(dest + '/stdin', 'w').write('\n'.join(inp).lstrip('\n') + '\n')
+open(dest + '/stdout', 'w').write('\n'.join(out) + '\n')
+print(sum(1 for x in out if x.startswith('case ')), 'cases', sum(map(len, inp)) + len(inp), 'in', sum(map(len, out)) + len(out), 'out')
