@@ -9,11 +9,12 @@ ghost use Rattle.qm_model.specs.Live.{live, floor, value_of, last_metadata};
 ghost use Rattle.qm_model.specs.Writes.{Write, read_through};
 ghost use Rattle.qm_model.specs.Batches.{Chain, begun_on, child_of, IsOnChain, IsKnown, commitment, fits, own_operations};
 ghost use Rattle.qm_model.specs.Refusals.{tip_refusal, proof_refusal, proof_count, pins_refusal};
+ghost use Rattle.qm_model.specs.Refused as refusals;
 ghost use Rattle.qm_machine.specs.Machine.{head_refusal};
 ghost use Rattle.qm_lines.specs.Views.{policy_view, listed_view};
 ghost use Rattle.qm_proofs.specs.Proofs.{proof_view};
 ghost use Rattle.qm_store.specs.Given.{store_given, store_after, Appended, AppendedPart, IsUnchanged, TellsAll};
-ghost use Rattle.qm_store.specs.Refusals.{refusal_of, IsDue};
+ghost use Rattle.qm_store.specs.Refusals.{refusal_of, IsAmong, IsDue};
 ghost use Rattle.qm_engine.specs.Words.{AtBatch, AtTip, Fits, CanRead, IsReadFailure, ReadsOnly, tip_of};
 
 use crate::words::Words;
@@ -74,6 +75,7 @@ pub trait Engine<C: Store>: Words<C> + Drop + Sized {
         ensures kept { IfErr result (λ r. AppendedPart C.Store store (store_given Self.inside r.given) (map (spelling variable) fresh)) }
         ensures cause { IfErr result (λ r. r.error ≡ Error.Journal JournalError.Store → Rose (C.faults store) (C.faults (store_given Self.inside r.given))) }
         ensures later { C.faults store ≤ C.faults (store_after Self.inside result) }
+        ensures causes { IfErr result (λ r. IsAmong r.error (refusals.DataCorrupted refusals.HeadDoesNotMatch ∷ [])) }
         ensures refused { IfErr result (λ r. IfSome (C.head store) (λ head. IsDue r.error (head_refusal head))) }
         ensures unopened { IfErr result (λ r. IfSome (C.head store) (λ head. IsSome (head_refusal head) → IsUnchanged C.Store store (store_given Self.inside r.given))) }
         ensures back { IfErr result (λ r. (x : Self) → r.given ≢ Given.Database x) };

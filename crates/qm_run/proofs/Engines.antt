@@ -37,7 +37,7 @@ use Rattle.qm_any.specs.Databases.{Database, IsLeft, Begun, Made, IsBegun, IsMad
 use Rattle.qm_any.specs.Layouts.{Hashing, list_root}
 use Rattle.qm_any.proofs.Known.{child-boundary, child-tips}
 use Rattle.qm_any.specs.Tips.{own_spellings, IsTaken, IsRefused}
-use Rattle.qm_store.specs.Refusals.{refusal_of, IsDue}
+use Rattle.qm_store.specs.Refusals.{refusal_of, IsAmong, IsDue}
 use Rattle.qm_store.specs.Given.{IsUnchanged, TellsAll}
 use Rattle.qm_store.specs.declared.refusal.Given.{Given}
 use Rattle.qm_store.specs.declared.refusal.Given.TheVariants as given
@@ -315,6 +315,13 @@ head-due None e why filled = tt
 head-due (Some head) e (inl memory) more = subst (λ x. IsDue x (head_refusal head)) (sym memory) tt
 head-due (Some head) e (inr (inl fault)) more = subst (λ x. IsDue x (head_refusal head)) (sym fault) tt
 head-due (Some head) e (inr (inr differs)) more = subst (λ x. IsDue x (head_refusal head)) (sym differs) (due-filled head (more differs))
+
+-- an opening refuses a head alone, whatever the store tells
+pub head-among : (e : Error) → (e ≡ errors.Memory) ⊎ ((e ≡ errors.Journal journal.Store) ⊎ (e ≡ errors.DataCorrupted corrupt.HeadDoesNotMatch))
+    → IsAmong e (DataCorrupted HeadDoesNotMatch ∷ [])
+head-among e (inl memory) = subst (λ x. IsAmong x (DataCorrupted HeadDoesNotMatch ∷ [])) (sym memory) tt
+head-among e (inr (inl fault)) = subst (λ x. IsAmong x (DataCorrupted HeadDoesNotMatch ∷ [])) (sym fault) tt
+head-among e (inr (inr differs)) = subst (λ x. IsAmong x (DataCorrupted HeadDoesNotMatch ∷ [])) (sym differs) (0, omega arith, refl)
 
 pub head-unopened : (P : Type 0) (told : Option Bytes) → IfSome told (λ head. 0 < length head → P) → IfSome told (λ head. IsSome (head_refusal head) → P)
 head-unopened P None given = tt

@@ -1,12 +1,13 @@
-use Rattle.std.proofs.Common.{◌≤◌, ◌∙◌, IfSome, map, sym, subst}
+use Rattle.std.proofs.Common.{◌≤◌, ◌∙◌, [], ◌∷◌, IfSome, map, sym, subst}
 use Rattle.std.specs.Prelude.{IsSome}
 use Rattle.qm_model.specs.Causes.{Rose}
 use Rattle.qm_model.specs.Operations.{fresh}
 use Rattle.qm_model.specs.Forms.{spelling, variable}
+use Rattle.qm_model.specs.Refused.{DataCorrupted, HeadDoesNotMatch}
 use Rattle.qm_machine.specs.Machine.{head_refusal}
 use Rattle.qm_store.specs.Given.{AppendedPart, IsUnchanged}
-use Rattle.qm_store.specs.Refusals.{IsDue}
-use Rattle.qm_run.proofs.Engines.{bare-offered, head-due, head-unopened, held-database}
+use Rattle.qm_store.specs.Refusals.{IsAmong, IsDue}
+use Rattle.qm_run.proofs.Engines.{bare-offered, head-among, head-due, head-unopened, held-database}
 use Rattle.qm_run.proofs.database.DatabaseEngine.open.Goals as goal
 
 pub returns-in-Ok-clause-offered : goal.returns-in-Ok-clause-offered
@@ -21,6 +22,9 @@ returns-in-Err-clause-cause g c = λ fault.
 
 pub returns-in-Err-clause-later : goal.returns-in-Err-clause-later
 returns-in-Err-clause-later g c = subst (λ s. g.C.Store.faults c.args.store ≤ g.C.Store.faults s) (sym c.refusal.ensures.store) c.in-Err.ensures.cause.later
+
+pub returns-in-Err-clause-causes : goal.returns-in-Err-clause-causes
+returns-in-Err-clause-causes g c = subst (λ e. IsAmong e (DataCorrupted HeadDoesNotMatch ∷ [])) (sym c.refusal.ensures.error) (head-among c.in-Err.refused.error c.in-Err.ensures.causes)
 
 pub returns-in-Err-clause-refused : goal.returns-in-Err-clause-refused
 returns-in-Err-clause-refused g c =
