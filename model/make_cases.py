@@ -94,12 +94,12 @@ worked('a child in one step with its parent, and the database as a batch', "open
   "open 1 0 1\nbatch 1\nok\nmerkleized 1 1 4 2\nbatch 2\nok\nread 01\nread 02 01 none\nmerkleized 2 4 7 3\nops 4 U:62=02 U:61=01 C:none@3\napplied 7\nrefused StaleBatch\nbatch 3\nops 7\napplied 7\ninfo 4 7 3 3\nrefused StaleRead\nread 02\n", 7)
 worked('a child that keeps its parent alone', "open\nbatch\nput 1 61 01\nmerkleize 1 prop none\nchild 1\nput 2 62 02\nmerkleize 2 prop none\nchild 2 keep=0\nget 62 from=3\nmerkleize 3 prop none\nput 3 63 03\napply 1\nchild 2 keep=0\nput 4 63 03\nmerkleize 4 prop none\napply 4\n", 0,
   "open 1 0 1\nbatch 1\nok\nmerkleized 1 1 4 2\nbatch 2\nok\nmerkleized 2 4 7 3\nbatch 3\nread 02\nrefused StaleBatch\nrefused NoSuchHandle 3\napplied 4\nbatch 4\nok\nmerkleized 4 7 10 5\napplied 10\n", 10)
-D0 = '6e290ec1b71d702d95e7193ca20dc9da03b9bcdc2645c140bddcd6d81480bb3a'
-D3 = 'cbb112f8deafdd1075d117a89941c39dd819d40a0e76f2e0ee154a2d1053dcb6'
-R4 = '183c19a0b6f42584bf2d68552da389bc980511207befe92fc296ae89c8aa6d14'
-R7 = '980ea5716c66fd1574182b934e2ac2077948dd397a6d677ce73d4ef20dc2e853'
+DIGEST_0 = '6e290ec1b71d702d95e7193ca20dc9da03b9bcdc2645c140bddcd6d81480bb3a'
+DIGEST_3 = 'cbb112f8deafdd1075d117a89941c39dd819d40a0e76f2e0ee154a2d1053dcb6'
+ROOT_4 = '183c19a0b6f42584bf2d68552da389bc980511207befe92fc296ae89c8aa6d14'
+ROOT_7 = '980ea5716c66fd1574182b934e2ac2077948dd397a6d677ce73d4ef20dc2e853'
 worked('proofs, numbers and roots of batches', "open\nbatch\nput 1 6b 76\nchild 1\nproof 1\nmerkleize 1 prop none\nproof 1\nroot 1\nproof 2\ninfo 1\nchild 1\nput 2 6c 77\nmerkleize 2 prop none\nproof 2\ninfo 2\napply 1\nproof 2\napply 2\nproof 1\nroot\nroot 2\ninfo 9\nroot 0\n", 0,
-  f"open 1 0 1\nbatch 1\nok\nrefused NoSuchHandle 1\nrefused NoSuchHandle 1\nmerkleized 1 1 4 2\nproof 4 0 {D0} / {D0}\nroot {R4} {R4}\nrefused NoSuchHandle 2\ninfo 1 4 2 2\nbatch 2\nok\nmerkleized 2 4 7 3\nproof 7 0 {D3} / {D3}\ninfo 4 7 3 3\napplied 4\nproof 7 0 {D3} / {D3}\napplied 7\nrefused StaleRead\nroot {R7} {R7}\nroot {R7} {R7}\nrefused NoSuchHandle 9\nrefused NoSuchHandle 0\n", 7)
+  f"open 1 0 1\nbatch 1\nok\nrefused NoSuchHandle 1\nrefused NoSuchHandle 1\nmerkleized 1 1 4 2\nproof 4 0 {DIGEST_0} / {DIGEST_0}\nroot {ROOT_4} {ROOT_4}\nrefused NoSuchHandle 2\ninfo 1 4 2 2\nbatch 2\nok\nmerkleized 2 4 7 3\nproof 7 0 {DIGEST_3} / {DIGEST_3}\ninfo 4 7 3 3\napplied 4\nproof 7 0 {DIGEST_3} / {DIGEST_3}\napplied 7\nrefused StaleRead\nroot {ROOT_7} {ROOT_7}\nroot {ROOT_7} {ROOT_7}\nrefused NoSuchHandle 9\nrefused NoSuchHandle 0\n", 7)
 
 # ---- lines
 section('Each form of a line, with no database.')
