@@ -1,4 +1,5 @@
 pub mod Causes
+pub mod StoreModel
 pub mod Operations
 pub mod Forms
 pub mod Live

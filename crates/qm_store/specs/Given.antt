@@ -2,6 +2,7 @@
 use Rattle.std.specs.Prelude.{◌≡◌, List, IsSome, Result, Ok, Err}
 use Rattle.qm_model.specs.Operations.{Bytes}
 use Rattle.qm_model.specs.Causes.{Grows, GrowsPart}
+use Rattle.qm_model.specs.StoreModel.{items_told, head_told}
 use Rattle.qm_store.specs.declared.Store as store
 use Rattle.qm_store.specs.declared.refusal.Given.{Given}
 use Rattle.qm_store.specs.declared.refusal.Given.TheVariants.{Database, Store}
@@ -20,21 +21,20 @@ store_after inside (Err r) = store_given inside r.given
 -- a store's items grew by these, and its start and head are what they were
 pub record Appended {C : Type 0} (members : store.Ghosts C) (old new : C) (more : List Bytes) : Type 0 where
   pub start : members.start new ≡ members.start old
-  pub head : members.head new ≡ members.head old
-  pub items : Grows (members.items old) (members.items new) more
+  pub head : head_told (members.told new) ≡ head_told (members.told old)
+  pub items : Grows (items_told (members.told old)) (items_told (members.told new)) more
 
 -- they grew by a first part of these
 pub record AppendedPart {C : Type 0} (members : store.Ghosts C) (old new : C) (more : List Bytes) : Type 0 where
   pub start : members.start new ≡ members.start old
-  pub head : members.head new ≡ members.head old
-  pub items : GrowsPart (members.items old) (members.items new) more
+  pub head : head_told (members.told new) ≡ head_told (members.told old)
+  pub items : GrowsPart (items_told (members.told old)) (items_told (members.told new)) more
 
 -- a store starts at 0, and tells its items
 abbrev pub TellsAll : {C : Type 0} → store.Ghosts C → C → Type 0
-TellsAll members c = (members.start c ≡ 0) × IsSome (members.items c)
+TellsAll members c = (members.start c ≡ 0) × IsSome (members.told c)
 
--- a store has the items, the start and the head that it had
+-- a store has what it had
 pub record IsUnchanged {C : Type 0} (members : store.Ghosts C) (old new : C) : Type 0 where
   pub start : members.start new ≡ members.start old
-  pub head : members.head new ≡ members.head old
-  pub items : members.items new ≡ members.items old
+  pub told : members.told new ≡ members.told old

@@ -1,7 +1,8 @@
 -- Logs: the leaves of items, the head of a store, and what a log stands for.
 use Rattle.std.specs.Prelude.{◌≡◌, ◌⊎◌, ◌≤◌, ℕ, suc, ◌+◌, ◌-◌, List, [], ◌∷◌, length, take, drop, map, Option, Some, IfSome}
 use Rattle.std.specs.List.{concat}
-use Rattle.qm_model.specs.Causes.{IsCause, Grows, GrowsPart}
+use Rattle.qm_model.specs.Causes.{IsCause}
+use Rattle.qm_model.specs.StoreModel.{Stored, appended, pruned, IsOldOrNew, ReadsAs, HasAppended, Turns, Becomes}
 use Rattle.qm_model.specs.Operations.{Bytes}
 use Rattle.qm_model.specs.Trees.{Shape, leaf, peaks, leaf_digest, digest_of}
 use Rattle.qm_base.specs.declared.error.Error.{Error}
@@ -38,29 +39,43 @@ pub record IsLog {C D : Type 0} (members : store.Ghosts C) (shape : Shape) (byte
   pub tree : Stands shape bytes hash log.tree (digests_from hash shape 0 list)
   pub start : log.tree.start ≡ members.start log.store
   pub size : log.tree.leaves ≡ length list
-  pub items : IfSome (members.items log.store) (λ xs. take (length list - log.tree.start) xs ≡ drop log.tree.start list)
+  pub items : IfSome (members.told log.store) (λ held. take (length list - log.tree.start) held.items ≡ drop log.tree.start list)
 
 -- a store has what it had
 pub record IsKept {C : Type 0} (members : store.Ghosts C) (old new : C) : Type 0 where
   pub start : members.start new ≡ members.start old
   pub end : members.«end» new ≡ members.«end» old
-  pub items : members.items new ≡ members.items old
-  pub head : members.head new ≡ members.head old
+  pub told : members.told new ≡ members.told old
 
 -- a store's items grew by these, and else it has what it had
 pub record HasGrown {C : Type 0} (members : store.Ghosts C) (old new : C) (more : List Bytes) : Type 0 where
   pub start : members.start new ≡ members.start old
   pub end : members.«end» new ≡ members.«end» old + length more
-  pub items : Grows (members.items old) (members.items new) more
-  pub head : members.head new ≡ members.head old
+  pub told : Becomes (members.told old) (members.told new) (appended more)
 
 -- they grew by a first part of these
 pub record HasGrownPart {C : Type 0} (members : store.Ghosts C) (old new : C) (more : List Bytes) : Type 0 where
   pub start : members.start new ≡ members.start old
   pub from : members.«end» old ≤ members.«end» new
   pub within : members.«end» new ≤ members.«end» old + length more
-  pub items : GrowsPart (members.items old) (members.items new) more
-  pub head : members.head new ≡ members.head old
+  pub told : Turns (members.told old) (members.told new) (HasAppended more)
+
+-- a store was made this, and starts and ends where it did
+pub record HasBecome {C : Type 0} (members : store.Ghosts C) (old new : C) (f : Stored → Stored) : Type 0 where
+  pub start : members.start new ≡ members.start old
+  pub end : members.«end» new ≡ members.«end» old
+  pub told : Becomes (members.told old) (members.told new) f
+
+-- a call that failed left one of these, which starts where it did and ends there or before
+pub record HasLeft {C : Type 0} (members : store.Ghosts C) (R : Stored → Stored → Type 0) (old new : C) : Type 0 where
+  pub start : members.start new ≡ members.start old
+  pub within : members.«end» new ≤ members.«end» old
+  pub told : Turns (members.told old) (members.told new) R
+
+-- a prune to a location with this head failed
+pub record HasLeftPruned {C : Type 0} (members : store.Ghosts C) (to : ℕ) (head : Bytes) (old new : C) : Type 0 where
+  pub within : members.«end» new ≤ members.«end» old
+  pub told : Turns (members.told old) (members.told new) (λ s. ReadsAs s.stable (IsOldOrNew (pruned to head) s))
 
 -- why a log's call failed, where its store's did
 abbrev pub log_error : StoreError → Error
@@ -72,12 +87,13 @@ abbrev pub store_given : {C D : Type 0} → LogGiven (Log C D) C → C
 store_given (given.Log log) = log.store
 store_given (given.Store store) = store
 
--- what an append of these to a log leaves where it is refused: the log as it was, where memory lacked before its store was called, and else its store
-pub record IsRefused {C D : Type 0} (members : store.Ghosts C) (old : Log C D) (more : List Bytes) (left : LogGiven (Log C D) C) (error : Error) : Type 0 where
-  pub part : HasGrownPart members old.store (store_given left) more
-  pub back : (log : Log C D) → left ≡ given.Log log → (log ≡ old) × (error ≡ errors.Memory)
+-- what a call that takes a log by value leaves where it is refused: the log as it was, where memory lacked before its store was called, and
+-- else its store, as such a call leaves it
+pub record IsRefused {C D : Type 0} (members : store.Ghosts C) (Left : C → C → Type 0) (old : Log C D) (given : LogGiven (Log C D) C) (error : Error) : Type 0 where
+  pub back : (log : Log C D) → given ≡ given.Log log → (log ≡ old) × (error ≡ errors.Memory)
+  pub left : (s : C) → given ≡ given.Store s → Left old.store s
   pub never : (error ≡ errors.Memory) ⊎ (error ≡ errors.Journal journal.Store)
-  pub cause : IsCause (members.faults old.store) (members.faults (store_given left)) (error ≡ errors.Journal journal.Store)
+  pub cause : IsCause (members.faults old.store) (members.faults (store_given given)) (error ≡ errors.Journal journal.Store)
 
 -- why a log's call failed, where its tree's did
 abbrev pub tree_error : MerkleError → Error

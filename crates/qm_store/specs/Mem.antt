@@ -1,14 +1,17 @@
 -- What a store in memory tells of itself.
-use Rattle.std.specs.Prelude.{◌≡◌, ◌≤◌, ℕ, ◌+◌, ◌-◌, ◌^◌, min, List, [], ◌∷◌, ◌++◌, slice_range}
+use Rattle.std.specs.Prelude.{◌≡◌, ◌≤◌, ℕ, ◌+◌, ◌-◌, ◌^◌, min, max, List, [], ◌∷◌, slice_range}
+use Rattle.qm_model.specs.StoreModel.{Stored, empty, end_of}
 
--- where its items start, its head, the items, the numbers of the calls that fail, and how many calls and faults there were
+-- what it holds, the numbers of the calls that fail, and how many calls and faults there were
 pub record Mem : Type 0 where
-  pub start : ℕ
-  pub head : List ℕ
-  pub items : List (List ℕ)
+  pub held : Stored
   pub fail : List ℕ
   pub calls : ℕ
   pub faults : ℕ
+
+-- a store at rest with no items, from this start on, with this head
+abbrev pub at_start : ℕ → List ℕ → Stored
+at_start start head = record empty { start = start; head = head; stable = start }
 
 -- one more, up to the greatest number of 64 bits
 abbrev pub one_more : ℕ → ℕ
@@ -22,9 +25,19 @@ called s = record s { calls = one_more s.calls }
 abbrev pub failed : Mem → Mem
 failed s = record s { calls = one_more s.calls; faults = one_more s.faults }
 
--- the store after a call that put these behind its items
-abbrev pub grown : Mem → List (List ℕ) → Mem
-grown s more = record s { calls = one_more s.calls; items = s.items ++ more }
+-- the store after a call that makes this of what it holds
+abbrev pub made : (Stored → Stored) → Mem → Mem
+made f s = record s { held = f s.held; calls = one_more s.calls }
+
+-- the end that a restart chooses which is asked to keep the items up to a location
+abbrev pub chosen : ℕ → Stored → ℕ
+chosen keep s = max s.stable (min (end_of s) keep)
+
+-- the stable length is a location of its items, or their end, and all ends at or below 2^62
+pub record IsInside (m : Mem) : Type 0 where
+  pub start : m.held.start ≤ m.held.stable
+  pub stable : m.held.stable ≤ end_of m.held
+  pub limit : end_of m.held ≤ 2 ^ 62
 
 -- the items in a buffer from a place on, each up to its end
 abbrev pub cut : ℕ → List ℕ → List ℕ → List (List ℕ)

@@ -1,6 +1,6 @@
 //! Strings of bytes in a row, which share one buffer.
 
-ghost use Rattle.std.specs.Prelude.{◌≡◌, ℕ, ◌+◌, ◌<◌, ◌≤◌, List, [], ◌∷◌, ◌++◌, length, map, slice_get, slice_index};
+ghost use Rattle.std.specs.Prelude.{◌≡◌, ℕ, ◌+◌, ◌<◌, ◌≤◌, List, [], ◌∷◌, ◌++◌, length, map, take, drop, slice_get, slice_index};
 ghost use Rattle.std.specs.Prelude.{Some, IfOk, OnOk, OnErr, vec_len, vec_capacity};
 ghost use Rattle.std.specs.List.{sum_by};
 ghost use Rattle.qm_store.specs.Mem.{cut, AreEnds};
@@ -60,6 +60,36 @@ impl Items {
         self.bytes.reserve(more)?;
         put_all(&mut self.bytes, &mut self.ends, added);
         Ok(())
+    }
+
+    // Takes away the items behind the first ones, so many.
+    pub(crate) fn truncate(&mut self, count: usize)
+        requires { count ≤ length self.old }
+        ensures { self.new ≡ take count self.old }
+    {
+        let (_, end) = if count == 0 { (0, 0) } else { place(&self.ends, count - 1) };
+        self.ends.truncate(count);
+        self.bytes.truncate(end);
+    }
+
+    // Takes away the first items, so many; the others move down.
+    pub(crate) fn remove_first(&mut self, count: usize)
+        requires { count ≤ length self.old }
+        ensures { self.new ≡ drop count self.old }
+    {
+        let gone = if count == 0 { 0 } else { self.ends[count - 1] };
+        self.ends.drain(..count);
+        for end in &mut self.ends {
+            *end -= gone;
+        }
+        self.bytes.drain(..gone);
+    }
+
+    pub(crate) fn clear(&mut self)
+        ensures { self.new ≡ [] }
+    {
+        self.bytes.clear();
+        self.ends.clear();
     }
 }
 

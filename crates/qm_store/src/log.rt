@@ -1,19 +1,20 @@
 //! Logs: a store of items and a tree over their leaves, which agree.
 
 ghost use Rattle.std.specs.Prelude.{◌≡◌, ◌≢◌, ◌↔◌, ◌⊎◌, ℕ, ◌+◌, ◌-◌, ◌*◌, ◌^◌, ◌<◌, ◌≤◌, min, IsTrue, List, [], ◌∷◌, ◌++◌, Contains, length, map, take, drop, slice_get};
-ghost use Rattle.std.specs.Prelude.{Ok, Err, Some, None, IfSome, IfOk, IfErr, OnOk, OnErr, IsErrOf};
+ghost use Rattle.std.specs.Prelude.{tt, Ok, Err, Some, None, IfSome, IfOk, IfErr, OnOk, OnErr, IsErrOf};
 ghost use Rattle.std.specs.Int.NonZero.{non_zero_u64_get};
 ghost use Rattle.std.specs.List.{concat};
-ghost use Rattle.qm_model.specs.Causes.{IsCause, Rose, Grows, GrowsPart};
+ghost use Rattle.qm_model.specs.Causes.{IsCause};
+ghost use Rattle.qm_model.specs.StoreModel.{settled, rewound, pruned, with_metadata, IsImage, IsOldOrNew, RewindLeaves, ReadsAs, Turns, Becomes};
 ghost use Rattle.qm_model.specs.Trees as trees;
 ghost use Rattle.qm_model.specs.Proofs.{proof_of};
 ghost use Rattle.qm_merkle.specs.Mems.{Stands, node_at};
 ghost use Rattle.qm_merkle.specs.Batches.{all_layers, layers_since, stops, stops_since, lists_since, IsHistory};
 ghost use Rattle.qm_proofs.specs.Proofs.{proof_view, needed_positions, first_lacked, over_at};
 ghost use Rattle.qm_store.specs.KeptTrees.{IsKeptTree};
-ghost use Rattle.qm_store.specs.Log.{Log, digests_from, IsHead, IsLog, IsKept, HasGrown, IsRefused, IsLacked};
+ghost use Rattle.qm_store.specs.Log.{Log, digests_from, IsHead, log_error, IsLog, IsKept, HasGrown, HasGrownPart, HasBecome, HasLeft, HasLeftPruned, IsRefused, IsLacked};
 
-use crate::{KeptTree, Store, StoreError};
+use crate::{KeptTree, MetaEntry, Store, StoreError};
 use qm_base::{Corrupt, Digest, Error, Hasher, JournalError, Location, MerkleError};
 use qm_merkle::mem::Mem;
 use qm_merkle::{Family, MerkleizedBatch, Position, StandardHasher, UnmerkleizedBatch};
@@ -77,15 +78,15 @@ impl<F: Family, C: Store, H: Hasher + Drop> AuthLog<F, C, H> {
     pub fn open(alloc: Global, store: C, hasher: H, size: u64) -> Result<Self, LogRefusal<Self, C>>
         requires start { C.start store ≤ size }
         requires end { size ≤ C.end store }
-        ensures stands { (list : List (List ℕ)) → length list ≡ size → IfSome (C.items store) (λ xs. IfSome (C.head store) (λ h.
-            take (size - C.start store) xs ≡ drop (C.start store) list → IsHead F.shape H.Digest.bytes H.hash (C.start store) (digests_from H.hash F.shape 0 list) h
-            → IfOk result (λ log. IsLog C.Store F.shape H.Digest.bytes H.hash log list))) }
+        ensures stands { (list : List (List ℕ)) → length list ≡ size → IfSome (C.told store) (λ held.
+            take (size - C.start store) held.items ≡ drop (C.start store) list → IsHead F.shape H.Digest.bytes H.hash (C.start store) (digests_from H.hash F.shape 0 list) held.head
+            → IfOk result (λ log. IsLog C.Store F.shape H.Digest.bytes H.hash log list)) }
         ensures start { IfOk result (λ log. log.tree.start ≡ C.start store) }
         ensures size { IfOk result (λ log. log.tree.leaves ≡ size) }
         ensures kept { IfOk result (λ log. IsKept C.Store store log.store) }
         ensures back { IfErr result (λ r. (s : C) × (r.given ≡ LogGiven.Store s) × IsKept C.Store store s × IsCause (C.faults store) (C.faults s) (r.error ≡ Error.Journal JournalError.Store)) }
-        ensures long { IfOk result (λ _. IfSome (C.head store) (λ h. length h ≡ length (trees.peaks F.shape (C.start store)) * H.Digest.SIZE)) }
-        ensures head { IfErr result (λ r. r.error ≡ Error.DataCorrupted Corrupt.HeadDoesNotMatch → IfSome (C.head store) (λ h. length h ≢ length (trees.peaks F.shape (C.start store)) * H.Digest.SIZE)) }
+        ensures long { IfOk result (λ _. IfSome (C.told store) (λ held. length held.head ≡ length (trees.peaks F.shape (C.start store)) * H.Digest.SIZE)) }
+        ensures head { IfErr result (λ r. r.error ≡ Error.DataCorrupted Corrupt.HeadDoesNotMatch → IfSome (C.told store) (λ held. length held.head ≢ length (trees.peaks F.shape (C.start store)) * H.Digest.SIZE)) }
         ensures never { IfErr result (λ r. (r.error ≡ Error.Memory) ⊎ ((r.error ≡ Error.Journal JournalError.Store) ⊎ (r.error ≡ Error.DataCorrupted Corrupt.HeadDoesNotMatch))) }
         ensures later { IfOk result (λ log. C.faults store ≤ C.faults log.store) }
     {
@@ -113,7 +114,7 @@ impl<F: Family, C: Store, H: Hasher + Drop> AuthLog<F, C, H> {
         ensures start { IfOk result (λ log. log.tree.start ≡ self.tree.start) }
         ensures size { IfOk result (λ log. log.tree.leaves ≡ self.tree.leaves + length items.now) }
         ensures grown { IfOk result (λ log. HasGrown C.Store self.store log.store (map (λ v. v.items) items.now)) }
-        ensures refused { IfErr result (λ r. IsRefused C.Store self (map (λ v. v.items) items.now) r.given r.error) }
+        ensures refused { IfErr result (λ r. IsRefused C.Store (λ old new. HasGrownPart C.Store old new (map (λ v. v.items) items.now)) self r.given r.error) }
         ensures later { IfOk result (λ log. C.faults self.store ≤ C.faults log.store) }
     {
         let AuthLog {
@@ -150,7 +151,7 @@ impl<F: Family, C: Store, H: Hasher + Drop> AuthLog<F, C, H> {
         ensures start { IfOk result (λ log. log.tree.start ≡ self.tree.start) }
         ensures size { IfOk result (λ log. log.tree.leaves ≡ self.tree.leaves + length items.now) }
         ensures grown { IfOk result (λ log. HasGrown C.Store self.store log.store (map (λ v. v.items) items.now)) }
-        ensures refused { IfErr result (λ r. IsRefused C.Store self (map (λ v. v.items) items.now) r.given r.error) }
+        ensures refused { IfErr result (λ r. IsRefused C.Store (λ old new. HasGrownPart C.Store old new (map (λ v. v.items) items.now)) self r.given r.error) }
         ensures later { IfOk result (λ log. C.faults self.store ≤ C.faults log.store) }
     {
         let AuthLog {
@@ -171,10 +172,134 @@ impl<F: Family, C: Store, H: Hasher + Drop> AuthLog<F, C, H> {
         }
     }
 
+    /// Takes away what the store has past the log's end. A store that ends with the log is not called.
+    pub fn settle(self) -> Result<Self, LogRefusal<Self, C>>
+        ensures stands { (list : List (List ℕ)) → IsLog C.Store F.shape H.Digest.bytes H.hash self list → IfOk result (λ log. IsLog C.Store F.shape H.Digest.bytes H.hash log list) }
+        ensures tree { IfOk result (λ log. log.tree ≡ self.tree) }
+        ensures start { IfOk result (λ log. C.start log.store ≡ C.start self.store) }
+        ensures last { IfOk result (λ log. C.end log.store ≡ self.tree.leaves) }
+        ensures settled { IfOk result (λ log. Becomes (C.told self.store) (C.told log.store) (rewound self.tree.leaves)) }
+        ensures refused { IfErr result (λ r. IsRefused C.Store (HasLeft C.Store (λ s. ReadsAs (min s.stable self.tree.leaves) (RewindLeaves self.tree.leaves s))) self r.given r.error) }
+        ensures given { IfErr result (λ r. (log : Log C H.Digest) → r.given ≢ LogGiven.Log log) }
+        ensures later { IfOk result (λ log. C.faults self.store ≤ C.faults log.store) }
+    {
+        let size = self.size();
+        let (_, end) = self.store.bounds();
+        if end == size {
+            return Ok(self);
+        }
+        let AuthLog {
+            mut store,
+            tree,
+            hasher,
+        } = self;
+        let done = store.rewind(size);
+        log_after(store, tree, hasher, done)
+    }
+
+    /// Replaces the metadata of a name in the store.
+    pub fn put_meta(
+        self,
+        name: &str,
+        entries: &[MetaEntry],
+    ) -> Result<Self, LogRefusal<Self, C>>
+        requires last { C.end self.store ≡ self.tree.leaves }
+        ensures stands { (list : List (List ℕ)) → IsLog C.Store F.shape H.Digest.bytes H.hash self list → IfOk result (λ log. IsLog C.Store F.shape H.Digest.bytes H.hash log list) }
+        ensures tree { IfOk result (λ log. log.tree ≡ self.tree) }
+        ensures put { IfOk result (λ log. HasBecome C.Store self.store log.store (with_metadata name.now entries.now)) }
+        ensures refused { IfErr result (λ r. IsRefused C.Store (HasLeft C.Store (λ s. ReadsAs s.stable (IsOldOrNew (with_metadata name.now entries.now) s))) self r.given r.error) }
+        ensures given { IfErr result (λ r. (log : Log C H.Digest) → r.given ≢ LogGiven.Log log) }
+        ensures later { IfOk result (λ log. C.faults self.store ≤ C.faults log.store) }
+    {
+        let AuthLog {
+            mut store,
+            tree,
+            hasher,
+        } = self;
+        let done = store.put_meta(name, entries);
+        log_after(store, tree, hasher, done)
+    }
+
+    /// Makes the items stable: from then on a crash leaves them all.
+    pub fn commit(self) -> Result<Self, LogRefusal<Self, C>>
+        requires last { C.end self.store ≡ self.tree.leaves }
+        ensures stands { (list : List (List ℕ)) → IsLog C.Store F.shape H.Digest.bytes H.hash self list → IfOk result (λ log. IsLog C.Store F.shape H.Digest.bytes H.hash log list) }
+        ensures tree { IfOk result (λ log. log.tree ≡ self.tree) }
+        ensures committed { IfOk result (λ log. HasBecome C.Store self.store log.store settled) }
+        ensures refused { IfErr result (λ r. IsRefused C.Store (HasLeft C.Store (λ s. ReadsAs s.stable (IsImage s))) self r.given r.error) }
+        ensures given { IfErr result (λ r. (log : Log C H.Digest) → r.given ≢ LogGiven.Log log) }
+        ensures later { IfOk result (λ log. C.faults self.store ≤ C.faults log.store) }
+    {
+        let AuthLog {
+            mut store,
+            tree,
+            hasher,
+        } = self;
+        let done = store.commit();
+        log_after(store, tree, hasher, done)
+    }
+
+    /// Makes all that the store holds stable.
+    pub fn sync(self) -> Result<Self, LogRefusal<Self, C>>
+        requires last { C.end self.store ≡ self.tree.leaves }
+        ensures stands { (list : List (List ℕ)) → IsLog C.Store F.shape H.Digest.bytes H.hash self list → IfOk result (λ log. IsLog C.Store F.shape H.Digest.bytes H.hash log list) }
+        ensures tree { IfOk result (λ log. log.tree ≡ self.tree) }
+        ensures synced { IfOk result (λ log. HasBecome C.Store self.store log.store settled) }
+        ensures refused { IfErr result (λ r. IsRefused C.Store (HasLeft C.Store (λ s. ReadsAs s.stable (IsImage s))) self r.given r.error) }
+        ensures given { IfErr result (λ r. (log : Log C H.Digest) → r.given ≢ LogGiven.Log log) }
+        ensures later { IfOk result (λ log. C.faults self.store ≤ C.faults log.store) }
+    {
+        let AuthLog {
+            mut store,
+            tree,
+            hasher,
+        } = self;
+        let done = store.sync();
+        log_after(store, tree, hasher, done)
+    }
+
+    /// Takes the items before a location away, and keeps the digests of the peaks there as the store's head: the log stands for
+    /// the same list, from a later start. Where memory lacks for these digests, the log is given back as it was.
+    pub fn prune(self, alloc: Global, to: u64) -> Result<Self, LogRefusal<Self, C>>
+        requires start { self.tree.start ≤ to }
+        requires size { to ≤ self.tree.leaves }
+        requires last { C.end self.store ≡ self.tree.leaves }
+        requires stable { IfSome (C.told self.store) (λ s. to ≤ s.stable) }
+        ensures stands { (list : List (List ℕ)) → IsLog C.Store F.shape H.Digest.bytes H.hash self list → IfOk result (λ log. IsLog C.Store F.shape H.Digest.bytes H.hash log list) }
+        ensures start { IfOk result (λ log. log.tree.start ≡ to) }
+        ensures size { IfOk result (λ log. log.tree.leaves ≡ self.tree.leaves) }
+        ensures end { IfOk result (λ log. C.end log.store ≡ C.end self.store) }
+        ensures pruned { IfOk result (λ log. (head : List ℕ) × Becomes (C.told self.store) (C.told log.store) (pruned to head)
+            × ((list : List (List ℕ)) → IsLog C.Store F.shape H.Digest.bytes H.hash self list → IsHead F.shape H.Digest.bytes H.hash to (digests_from H.hash F.shape 0 list) head)) }
+        ensures refused { IfErr result (λ r. (head : List ℕ) × IsRefused C.Store (HasLeftPruned C.Store to head) self r.given r.error
+            × ((list : List (List ℕ)) → IsLog C.Store F.shape H.Digest.bytes H.hash self list → IsHead F.shape H.Digest.bytes H.hash to (digests_from H.hash F.shape 0 list) head)) }
+        ensures later { IfOk result (λ log. C.faults self.store ≤ C.faults log.store) }
+    {
+        let AuthLog {
+            mut store,
+            mut tree,
+            hasher,
+        } = self;
+        match forget(alloc, &mut tree, to) {
+            Ok(head) => {
+                let done = store.prune(to, &head);
+                log_after(store, tree, hasher, done)
+            }
+            Err(_) => Err(LogRefusal {
+                given: LogGiven::Log(AuthLog {
+                    store,
+                    tree,
+                    hasher,
+                }),
+                error: Error::Memory,
+            }),
+        }
+    }
+
     /// Reads the item at a location.
     pub fn read(&mut self, at: u64) -> Result<Vec<u8>, Error>
         requires { at < self.old.tree.leaves }
-        ensures item { (list : List (List ℕ)) → IsLog C.Store F.shape H.Digest.bytes H.hash self.old list → IfOk result (λ v. IfSome (C.items self.old.store) (λ _. slice_get list at ≡ Some v.items)) }
+        ensures item { (list : List (List ℕ)) → IsLog C.Store F.shape H.Digest.bytes H.hash self.old list → IfOk result (λ v. IfSome (C.told self.old.store) (λ _. slice_get list at ≡ Some v.items)) }
         ensures stands { (list : List (List ℕ)) → IsLog C.Store F.shape H.Digest.bytes H.hash self.old list → IsLog C.Store F.shape H.Digest.bytes H.hash self.new list }
         ensures pruned { (result ≡ Err (Error.Journal (JournalError.ItemPruned at))) ↔ (at < self.old.tree.start) }
         ensures never { IfErr result (λ e. (e ≡ Error.Memory) ⊎ ((e ≡ Error.Journal JournalError.Store) ⊎ (e ≡ Error.Journal (JournalError.ItemPruned at)))) }
@@ -312,7 +437,7 @@ impl<F: Family, C: Store, H: Hasher + Drop> AuthLog<F, C, H> {
         ensures proof { (list : List (List ℕ)) → IsLog C.Store F.shape H.Digest.bytes H.hash self.old list
             → IfOk result (λ shown. proof_view H.Digest.bytes shown.0 ≡ proof_of H.hash F.shape (digests_from H.hash F.shape 0 (take size list)) inactive start (start + min (non_zero_u64_get max) (size - start))) }
         ensures items { (list : List (List ℕ)) → IsLog C.Store F.shape H.Digest.bytes H.hash self.old list
-            → IfOk result (λ shown. IfSome (C.items self.old.store) (λ _. map (λ v. v.items) shown.1.items ≡ take (min (non_zero_u64_get max) (size - start)) (drop start list))) }
+            → IfOk result (λ shown. IfSome (C.told self.old.store) (λ _. map (λ v. v.items) shown.1.items ≡ take (min (non_zero_u64_get max) (size - start)) (drop start list))) }
         ensures count { IfOk result (λ shown. length shown.1.items ≡ min (non_zero_u64_get max) (size - start)) }
         ensures size { self.old.tree.leaves < size → result ≡ Err (Error.Merkle (MerkleError.RangeOutOfBounds size)) }
         ensures start { size ≤ self.old.tree.leaves → size ≤ start → result ≡ Err (Error.Merkle (MerkleError.RangeOutOfBounds start)) }
@@ -443,24 +568,19 @@ impl<F: Family, C: Store, H: Hasher + Drop> AuthLog<F, C, H> {
     }
 }
 
-// The log of a store that gets these items, whose leaves its tree has already.
-fn stored<F: Family, C: Store, H: Hasher + Drop>(
+// The log over a store that was called: where the call failed, the store alone is left.
+fn log_after<F: Family, C: Store, H: Hasher + Drop>(
     store: C,
     tree: Mem<F, H::Digest>,
     hasher: StandardHasher<H>,
-    items: &[Vec<u8>],
+    done: Result<(), StoreError>,
 ) -> Result<AuthLog<F, C, H>, LogRefusal<AuthLog<F, C, H>, C>>
-    requires start { tree.start ≡ C.start store }
-    requires size { tree.leaves ≡ C.end store + length items.now }
-    requires room { tree.leaves ≤ 2 ^ 62 }
-    ensures tree { IfOk result (λ log. log.tree ≡ tree) }
-    ensures grown { IfOk result (λ log. HasGrown C.Store store log.store (map (λ v. v.items) items.now)) }
-    ensures untold { IfOk result (λ log. C.items store ≡ None → C.items log.store ≡ None) }
-    ensures later { IfOk result (λ log. C.faults store ≤ C.faults log.store) }
-    ensures refused { IfErr result (λ r. (log : Log C H.Digest) → log.store ≡ store → IsRefused C.Store log (map (λ v. v.items) items.now) r.given r.error) }
+    requires start { OnOk done (tree.start ≡ C.start store) }
+    requires size { OnOk done (tree.leaves ≤ C.end store) }
+    ensures ok { IfOk result (λ log. (done ≡ Ok tt) × (log.store ≡ store) × (log.tree ≡ tree)) }
+    ensures err { IfErr result (λ r. (r.given ≡ LogGiven.Store store) × IfErr done (λ e. r.error ≡ log_error e) × (done ≢ Ok tt)) }
 {
-    let mut store = store;
-    match store.append(items) {
+    match done {
         Ok(()) => Ok(AuthLog {
             store,
             tree,
@@ -473,6 +593,58 @@ fn stored<F: Family, C: Store, H: Hasher + Drop>(
     }
 }
 
+// Forgets what a tree holds before a location, and gives the digests of the peaks there, one after another. Where memory lacks,
+// the tree is as it was.
+fn forget<F: Family, D: Digest>(
+    alloc: Global,
+    tree: &mut Mem<F, D>,
+    to: u64,
+) -> Result<Vec<u8>, AllocError>
+    requires start { tree.old.start ≤ to }
+    requires leaves { to ≤ tree.old.leaves }
+    ensures start { OnOk result (tree.new.start ≡ to) }
+    ensures leaves { OnOk result (tree.new.leaves ≡ tree.old.leaves) }
+    ensures stands { (hash : List ℕ → List ℕ) (list : List (List ℕ)) → Stands F.shape D.bytes hash tree.old list → OnOk result (Stands F.shape D.bytes hash tree.new list) }
+    ensures head { (hash : List ℕ → List ℕ) (list : List (List ℕ)) → Stands F.shape D.bytes hash tree.old list → IfOk result (λ head. IsHead F.shape D.bytes hash to list head.items) }
+    ensures err { OnErr result (tree.new ≡ tree.old) }
+{
+    let pins = shown::kept_peaks(alloc, tree, to).map_err(|_| AllocError)?;
+    let head = joined(alloc, &pins)?;
+    tree.prune(alloc, Location::new(to))?;
+    Ok(head)
+}
+
+// The bytes of digests, one after another.
+fn joined<D: Digest>(alloc: Global, digests: &[D]) -> Result<Vec<u8>, AllocError>
+    ensures { IfOk result (λ v. v.items ≡ concat (map D.bytes digests.now)) }
+{
+    let mut bytes = Vec::new(alloc);
+    for digest in digests {
+        bytes.extend_from_slice(digest.bytes())?;
+    }
+    Ok(bytes)
+}
+
+// The log of a store that gets these items, whose leaves its tree has already.
+fn stored<F: Family, C: Store, H: Hasher + Drop>(
+    store: C,
+    tree: Mem<F, H::Digest>,
+    hasher: StandardHasher<H>,
+    items: &[Vec<u8>],
+) -> Result<AuthLog<F, C, H>, LogRefusal<AuthLog<F, C, H>, C>>
+    requires start { tree.start ≡ C.start store }
+    requires size { tree.leaves ≡ C.end store + length items.now }
+    requires room { tree.leaves ≤ 2 ^ 62 }
+    ensures tree { IfOk result (λ log. log.tree ≡ tree) }
+    ensures grown { IfOk result (λ log. HasGrown C.Store store log.store (map (λ v. v.items) items.now)) }
+    ensures later { IfOk result (λ log. C.faults store ≤ C.faults log.store) }
+    ensures refused { IfErr result (λ r. (log : Log C H.Digest) → log.store ≡ store → IsRefused C.Store (λ old new. HasGrownPart C.Store old new (map (λ v. v.items) items.now)) log r.given r.error) }
+{
+    let mut store = store;
+    let done = store.append(items);
+    log_after(store, tree, hasher, done)
+}
+
 // The tree of a store's items from its start up to `size`.
 fn load<F: Family, C: Store, H: Hasher>(
     alloc: Global,
@@ -482,13 +654,13 @@ fn load<F: Family, C: Store, H: Hasher>(
 ) -> Result<Mem<F, H::Digest>, Error>
     requires start { C.start store.old ≤ size }
     requires end { size ≤ C.end store.old }
-    ensures stands { (list : List (List ℕ)) → length list ≡ size → IfSome (C.items store.old) (λ xs. IfSome (C.head store.old) (λ h.
-        take (size - C.start store.old) xs ≡ drop (C.start store.old) list → IsHead F.shape H.Digest.bytes H.hash (C.start store.old) (digests_from H.hash F.shape 0 list) h
-        → IfOk result (λ tree. Stands F.shape H.Digest.bytes H.hash tree (digests_from H.hash F.shape 0 list)))) }
+    ensures stands { (list : List (List ℕ)) → length list ≡ size → IfSome (C.told store.old) (λ held.
+        take (size - C.start store.old) held.items ≡ drop (C.start store.old) list → IsHead F.shape H.Digest.bytes H.hash (C.start store.old) (digests_from H.hash F.shape 0 list) held.head
+        → IfOk result (λ tree. Stands F.shape H.Digest.bytes H.hash tree (digests_from H.hash F.shape 0 list))) }
     ensures start { IfOk result (λ tree. tree.start ≡ C.start store.old) }
     ensures size { IfOk result (λ tree. tree.leaves ≡ size) }
-    ensures long { IfOk result (λ _. IfSome (C.head store.old) (λ h. length h ≡ length (trees.peaks F.shape (C.start store.old)) * H.Digest.SIZE)) }
-    ensures head { IfErr result (λ e. e ≡ Error.DataCorrupted Corrupt.HeadDoesNotMatch → IfSome (C.head store.old) (λ h. length h ≢ length (trees.peaks F.shape (C.start store.old)) * H.Digest.SIZE)) }
+    ensures long { IfOk result (λ _. IfSome (C.told store.old) (λ held. length held.head ≡ length (trees.peaks F.shape (C.start store.old)) * H.Digest.SIZE)) }
+    ensures head { IfErr result (λ e. e ≡ Error.DataCorrupted Corrupt.HeadDoesNotMatch → IfSome (C.told store.old) (λ held. length held.head ≢ length (trees.peaks F.shape (C.start store.old)) * H.Digest.SIZE)) }
     ensures never { IfErr result (λ e. (e ≡ Error.Memory) ⊎ ((e ≡ Error.Journal JournalError.Store) ⊎ (e ≡ Error.DataCorrupted Corrupt.HeadDoesNotMatch))) }
     ensures kept { IsKept C.Store store.old store.new }
     ensures cause { IsCause (C.faults store.old) (C.faults store.new) (IsErrOf result (Error.Journal JournalError.Store)) }
@@ -502,13 +674,13 @@ fn load<F: Family, C: Store, H: Hasher>(
 
 // The tree of no leaves past a store's start.
 fn pruned<F: Family, C: Store, D: Digest>(alloc: Global, store: &mut C) -> Result<Mem<F, D>, Error>
-    ensures stands { (hash : List ℕ → List ℕ) (list : List (List ℕ)) → C.start store.old ≤ length list → IfSome (C.head store.old) (λ h.
-        IsHead F.shape D.bytes hash (C.start store.old) (digests_from hash F.shape 0 list) h
+    ensures stands { (hash : List ℕ → List ℕ) (list : List (List ℕ)) → C.start store.old ≤ length list → IfSome (C.told store.old) (λ held.
+        IsHead F.shape D.bytes hash (C.start store.old) (digests_from hash F.shape 0 list) held.head
         → IfOk result (λ tree. Stands F.shape D.bytes hash tree (digests_from hash F.shape 0 (take (C.start store.old) list)))) }
     ensures start { IfOk result (λ tree. tree.start ≡ C.start store.old) }
     ensures leaves { IfOk result (λ tree. tree.leaves ≡ C.start store.old) }
-    ensures long { IfOk result (λ _. IfSome (C.head store.old) (λ h. length h ≡ length (trees.peaks F.shape (C.start store.old)) * D.SIZE)) }
-    ensures head { IfErr result (λ e. e ≡ Error.DataCorrupted Corrupt.HeadDoesNotMatch → IfSome (C.head store.old) (λ h. length h ≢ length (trees.peaks F.shape (C.start store.old)) * D.SIZE)) }
+    ensures long { IfOk result (λ _. IfSome (C.told store.old) (λ held. length held.head ≡ length (trees.peaks F.shape (C.start store.old)) * D.SIZE)) }
+    ensures head { IfErr result (λ e. e ≡ Error.DataCorrupted Corrupt.HeadDoesNotMatch → IfSome (C.told store.old) (λ held. length held.head ≢ length (trees.peaks F.shape (C.start store.old)) * D.SIZE)) }
     ensures never { IfErr result (λ e. (e ≡ Error.Memory) ⊎ ((e ≡ Error.Journal JournalError.Store) ⊎ (e ≡ Error.DataCorrupted Corrupt.HeadDoesNotMatch))) }
     ensures kept { IsKept C.Store store.old store.new }
     ensures cause { IsCause (C.faults store.old) (C.faults store.new) (IsErrOf result (Error.Journal JournalError.Store)) }
@@ -563,7 +735,7 @@ fn read_digests<F: Family, C: Store, H: Hasher>(
     requires end { size ≤ C.end store.old }
     requires few { size ≤ 2 ^ 62 }
     ensures count { IfOk result (λ v. length v.items ≡ size - start) }
-    ensures digests { IfOk result (λ v. IfSome (C.items store.old) (λ xs. map H.Digest.bytes v.items ≡ digests_from H.hash F.shape start (take (size - start) xs))) }
+    ensures digests { IfOk result (λ v. IfSome (C.told store.old) (λ held. map H.Digest.bytes v.items ≡ digests_from H.hash F.shape start (take (size - start) held.items))) }
     ensures never { IfErr result (λ e. (e ≡ Error.Memory) ⊎ (e ≡ Error.Journal JournalError.Store)) }
     ensures kept { IsKept C.Store store.old store.new }
     ensures cause { IsCause (C.faults store.old) (C.faults store.new) (IsErrOf result (Error.Journal JournalError.Store)) }

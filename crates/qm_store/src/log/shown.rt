@@ -208,7 +208,7 @@ pub(super) fn read_items<C: Store>(
     requires end { end ≤ C.end store.old }
     requires few { end ≤ 2 ^ 62 }
     ensures count { IfOk result (λ v. length v.items ≡ end - start) }
-    ensures items { IfOk result (λ v. IfSome (C.items store.old) (λ xs. map (λ v. v.items) v.items ≡ take (end - start) (drop (start - C.start store.old) xs))) }
+    ensures items { IfOk result (λ v. IfSome (C.told store.old) (λ held. map (λ v. v.items) v.items ≡ take (end - start) (drop (start - C.start store.old) held.items))) }
     ensures never { IfErr result (λ e. (e ≡ Error.Memory) ⊎ (e ≡ Error.Journal JournalError.Store)) }
     ensures kept { IsKept C.Store store.old store.new }
     ensures cause { IsCause (C.faults store.old) (C.faults store.new) (IsErrOf result (Error.Journal JournalError.Store)) }
