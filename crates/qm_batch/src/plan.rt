@@ -130,7 +130,7 @@ fn own_operations<
     requires size { base.now.size ≤ 2 ^ 62 }
     requires live { base.now.live ≤ base.now.size }
     ensures own { (lent list : List model.Operation) → IsLent C.Store F.shape H.Digest.bytes H.hash ⟦<Unordered<K, V> as Update>⟧.form I.index_key (I.entries index.now) log.old lent → IsBase (base_view base.now) lent list
-        → IfSome (C.items log.old.store) (λ _. IfOk result (λ own. AreOwn (unordered_touches K.bytes V.Value.bytes own.touches.items) own.live own.floor list (map (write_view K.bytes V.Value.bytes) writes.now))) }
+        → IfSome (C.told log.old.store) (λ _. IfOk result (λ own. AreOwn (unordered_touches K.bytes V.Value.bytes own.touches.items) own.live own.floor list (map (write_view K.bytes V.Value.bytes) writes.now))) }
     ensures count { IfOk result (λ own. own.live ≤ base.now.size + length own.touches.items) }
     ensures read { IsRead C.Store F.shape H.Digest.bytes H.hash log.old log.new }
     ensures error { IfErr result (IsReadError C.Store log.old log.new) }
@@ -221,7 +221,7 @@ pub fn plain<
     requires size { base.now.size ≤ 2 ^ 62 }
     requires live { base.now.live ≤ base.now.size }
     ensures plan { (lent list : List model.Operation) → IsLent C.Store F.shape H.Digest.bytes H.hash ⟦<Unordered<K, V> as Update>⟧.form I.index_key (I.entries index.now) log.old lent → IsBase (base_view base.now) lent list
-        → IfSome (C.items log.old.store) (λ _. IfOk result (λ plan. IsPlan plan list (stepped list (map (write_view K.bytes V.Value.bytes) writes.now) (option_map V.Value.bytes metadata)))) }
+        → IfSome (C.told log.old.store) (λ _. IfOk result (λ plan. IsPlan plan list (stepped list (map (write_view K.bytes V.Value.bytes) writes.now) (option_map V.Value.bytes metadata)))) }
     ensures live { IfOk result (λ plan. plan.live ≤ base.now.size + length plan.operations) }
     ensures read { IsRead C.Store F.shape H.Digest.bytes H.hash log.old log.new }
     ensures error { IfErr result (IsReadError C.Store log.old log.new) }

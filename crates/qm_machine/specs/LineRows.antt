@@ -13,7 +13,8 @@ use Rattle.qm_model.specs.Step.{unordered}
 use Rattle.qm_machine.specs.Lines.{Child, Put, Del, Merkleize, Get, Many, Prove, Pins}
 use Rattle.qm_model.specs.Refused.{Merkle, LocationOverflow}
 use Rattle.qm_model.specs.Refusals.{too_many}
-use Rattle.qm_machine.specs.Machine.{Scheme, Stored, empty, initial, answers}
+use Rattle.qm_model.specs.StoreModel.{Stored, empty}
+use Rattle.qm_machine.specs.Machine.{Scheme, initial, answers}
 use Rattle.qm_machine.specs.Grammar.{line_of, commands_in, bad_in}
 use Rattle.qm_machine.specs.Text.{text_of}
 

@@ -1,6 +1,7 @@
 -- The machine: databases and batches are operation lists, and each command is a function of the state.
 use Rattle.std.specs.Prelude.{ℕ, ◌+◌, nat_lt, if◌then◌else◌, List, [], ◌∷◌, ◌++◌, length, map, take, drop, slice_index_or, slice_set, Option, Some, None}
 use Rattle.qm_model.specs.Operations.{Bytes, Operation, fresh}
+use Rattle.qm_model.specs.StoreModel.{Stored, appended}
 use Rattle.qm_model.specs.Forms.{spelling, variable}
 use Rattle.qm_model.specs.Live.{live, floor, value_of, last_metadata}
 use Rattle.qm_model.specs.Writes.{Write, read_through}
@@ -31,12 +32,6 @@ pub data Slot : Type 0 where
   writing : Chain → Chain → List Write → Slot
   merkleized : Chain → List Operation → Slot
 
--- a store: where its items start, the digests of the peaks there, and its items
-pub record Stored : Type 0 where
-  pub start : ℕ
-  pub head : Bytes
-  pub items : List Bytes
-
 pub record State : Type 0 where
   -- the open database's list
   pub database : Option (List Operation)
@@ -47,10 +42,6 @@ pub record State : Type 0 where
   pub opened : ℕ
   -- each list that a database or a batch of this run has had
   pub had : List (List Operation)
-
--- a store that has nothing
-abbrev pub empty : Stored
-empty = record { start = 0; head = []; items = [] }
 
 -- no database, over this store
 abbrev pub initial : Stored → State
@@ -84,9 +75,9 @@ head_refusal (b ∷ bs) = Some (DataCorrupted HeadDoesNotMatch)
 abbrev pub opening_refusal : Stored → Option Refused
 opening_refusal stored = if nat_lt 0 (stored.start + length stored.items) then Some NotOffered else head_refusal stored.head
 
--- a fresh database
+-- a fresh database, over a store without items
 abbrev pub open_fresh : State → Answer × State
-open_fresh s = (Opened (s.opened + 1) 0 1, record s { database = Some fresh; store = record s.store { items = map (spelling variable) fresh }; opened = s.opened + 1; had = fresh ∷ s.had })
+open_fresh s = (Opened (s.opened + 1) 0 1, record s { database = Some fresh; store = appended (map (spelling variable) fresh) s.store; opened = s.opened + 1; had = fresh ∷ s.had })
 
 abbrev pub open_unless : State → Option Refused → Answer × State
 open_unless s None = open_fresh s
@@ -160,7 +151,7 @@ module _ {P : Type 0} (m : Scheme P) where
   abbrev pub apply_in : State → ℕ → List Operation → Slot → Answer × State
   apply_in s h list (merkleized chain tip) =
       if fits m.root (commitment m.root list) chain
-      then (Applied (length tip), record s { database = Some tip; store = record s.store { items = s.store.items ++ map (spelling variable) (drop (length list) tip) } })
+      then (Applied (length tip), record s { database = Some tip; store = appended (map (spelling variable) (drop (length list) tip)) s.store })
       else refuse s StaleBatch
   apply_in s h list gone = refuse s (NoSuchHandle h)
   apply_in s h list (writing chain parent ws) = refuse s (NoSuchHandle h)

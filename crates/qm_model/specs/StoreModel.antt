@@ -131,9 +131,10 @@ Turns (Some s) (Some t) R = R s t
 abbrev pub Becomes : Option Stored → Option Stored → (Stored → Stored) → Type 0
 Becomes old new f = Turns old new (λ s t. t ≡ f s)
 
--- the items that are told, and the head
-abbrev pub items_told : Option Stored → Option (List Bytes)
-items_told told = option_map (λ s. s.items) told
+-- a store but for its items and how far they are stable
+abbrev pub without_items : Stored → Stored
+without_items s = record s { items = []; stable = 0 }
 
-abbrev pub head_told : Option Stored → Option Bytes
-head_told told = option_map (λ s. s.head) told
+-- what is told beside the items and how far they are stable: appends leave it as it is
+abbrev pub beside_items : Option Stored → Option Stored
+beside_items told = option_map without_items told

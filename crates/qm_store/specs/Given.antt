@@ -1,8 +1,7 @@
 -- What a call that takes the database by value leaves, and what it does to the store.
 use Rattle.std.specs.Prelude.{◌≡◌, List, IsSome, Result, Ok, Err}
 use Rattle.qm_model.specs.Operations.{Bytes}
-use Rattle.qm_model.specs.Causes.{Grows, GrowsPart}
-use Rattle.qm_model.specs.StoreModel.{items_told, head_told}
+use Rattle.qm_model.specs.StoreModel.{appended, HasAppended, Turns, Becomes}
 use Rattle.qm_store.specs.declared.Store as store
 use Rattle.qm_store.specs.declared.refusal.Given.{Given}
 use Rattle.qm_store.specs.declared.refusal.Given.TheVariants.{Database, Store}
@@ -18,17 +17,15 @@ abbrev pub store_after : {X C : Type 0} → (X → C) → Result X (Refusal X C)
 store_after inside (Ok x) = inside x
 store_after inside (Err r) = store_given inside r.given
 
--- a store's items grew by these, and its start and head are what they were
+-- a store's items grew by these, and else it has what it had
 pub record Appended {C : Type 0} (members : store.Ghosts C) (old new : C) (more : List Bytes) : Type 0 where
   pub start : members.start new ≡ members.start old
-  pub head : head_told (members.told new) ≡ head_told (members.told old)
-  pub items : Grows (items_told (members.told old)) (items_told (members.told new)) more
+  pub told : Becomes (members.told old) (members.told new) (appended more)
 
--- they grew by a first part of these
+-- they grew by a first part of these, and no fewer are stable
 pub record AppendedPart {C : Type 0} (members : store.Ghosts C) (old new : C) (more : List Bytes) : Type 0 where
   pub start : members.start new ≡ members.start old
-  pub head : head_told (members.told new) ≡ head_told (members.told old)
-  pub items : GrowsPart (items_told (members.told old)) (items_told (members.told new)) more
+  pub told : Turns (members.told old) (members.told new) (HasAppended more)
 
 -- a store starts at 0, and tells its items
 abbrev pub TellsAll : {C : Type 0} → store.Ghosts C → C → Type 0

@@ -139,7 +139,7 @@ fn unwritten_at<
 ) -> Result<Option<U>, Error>
     ensures value { (lent base : List model.Operation) (ws : List Write) → IsLent C.Store F.shape H.Digest.bytes H.hash U.form I.index_key (I.entries index.now) log.old lent → LeadOver (map (λ l. l.value) layers.now) lent base → at < length base
         → map (last_view U.Key.bytes U.Value.bytes) last.now.entries ≡ map keyed (last_writes ws)
-        → IfSome (C.items log.old.store) (λ _. IfOk result (λ found. IsMoveAt (option_map (λ u. moved_touch (at, U.view u)) found) base (base ++ unordered_writes base ws) at)) }
+        → IfSome (C.told log.old.store) (λ _. IfOk result (λ found. IsMoveAt (option_map (λ u. moved_touch (at, U.view u)) found) base (base ++ unordered_writes base ws) at)) }
     ensures read { IsRead C.Store F.shape H.Digest.bytes H.hash log.old log.new }
     ensures error { IfErr result (IsReadError C.Store log.old log.new) }
     ensures pruned { log.old.tree.start ≤ at → IfErr result (λ e. (n : ℕ) → e ≢ Error.Journal (JournalError.ItemPruned n)) }
@@ -202,7 +202,7 @@ fn move_at<
 ) -> Result<Option<Touch<F, U>>, Error>
     ensures value { (lent list : List model.Operation) (ws : List Write) → IsLent C.Store F.shape H.Digest.bytes H.hash U.form I.index_key (I.entries index.now) log.old lent → IsBase (base_view base.now) lent list
         → map (last_view U.Key.bytes U.Value.bytes) last.now.entries ≡ map keyed (last_writes ws) → touch_views U.view U.Key.bytes U.Value.bytes made.now ≡ written_touches list (last_writes ws)
-        → IfSome (C.items log.old.store) (λ _. IfOk result (λ moved. IsMoveAt (option_map (touch_view U.view U.Key.bytes U.Value.bytes) moved) list (list ++ unordered_writes list ws) at)) }
+        → IfSome (C.told log.old.store) (λ _. IfOk result (λ moved. IsMoveAt (option_map (touch_view U.view U.Key.bytes U.Value.bytes) moved) list (list ++ unordered_writes list ws) at)) }
     ensures read { IsRead C.Store F.shape H.Digest.bytes H.hash log.old log.new }
     ensures error { IfErr result (IsReadError C.Store log.old log.new) }
     ensures pruned { log.old.tree.start ≤ at → IfErr result (λ e. (n : ℕ) → e ≢ Error.Journal (JournalError.ItemPruned n)) }
@@ -261,7 +261,7 @@ pub(crate) fn walk_from<
     requires { base.now.size ≤ 2 ^ 62 }
     ensures value { (lent list : List model.Operation) (ws : List Write) → IsLent C.Store F.shape H.Digest.bytes H.hash ⟦<Unordered<K, V> as Update>⟧.form I.index_key (I.entries index.now) log.old lent → IsBase (base_view base.now) lent list
         → map (last_view K.bytes V.Value.bytes) last.now.entries ≡ map keyed (last_writes ws) → unordered_touches K.bytes V.Value.bytes made.now ≡ written_touches list (last_writes ws)
-        → IfSome (C.items log.old.store) (λ _. IfOk result (λ walked. AreMoves (unordered_touches K.bytes V.Value.bytes walked.moves.items) walked.floor list
+        → IfSome (C.told log.old.store) (λ _. IfOk result (λ walked. AreMoves (unordered_touches K.bytes V.Value.bytes walked.moves.items) walked.floor list
         (walks.walk policies (list ++ unordered_writes list ws) base.now.floor (record { entries = entries; skips = 2 ^ 64 - 1 }) proportional))) }
     ensures read { IsRead C.Store F.shape H.Digest.bytes H.hash log.old log.new }
     ensures error { IfErr result (IsReadError C.Store log.old log.new) }

@@ -77,7 +77,7 @@ pub(crate) fn find_sites<
     last: &Last<'a, U::Key, U::Value>,
 ) -> Result<Vec<Site<'a, U::Key, U::Value>>, Error>
     ensures value { (lent base : List operations.Operation) → IsLent C.Store F.shape H.Digest.bytes H.hash U.form I.index_key (I.entries index.now) log.old lent → LeadOver (map (λ l. l.value) layers.now) lent base
-        → IfSome (C.items log.old.store) (λ _. IfOk result (λ sites. map (site_view U.Key.bytes U.Value.bytes) sites.items ≡ map (λ e. site_in base (write_view U.Key.bytes U.Value.bytes e.1.now)) last.now.entries)) }
+        → IfSome (C.told log.old.store) (λ _. IfOk result (λ sites. map (site_view U.Key.bytes U.Value.bytes) sites.items ≡ map (λ e. site_in base (write_view U.Key.bytes U.Value.bytes e.1.now)) last.now.entries)) }
     ensures read { IsRead C.Store F.shape H.Digest.bytes H.hash log.old log.new }
     ensures error { IfErr result (IsReadError C.Store log.old log.new) }
     ensures whole { (lent : List operations.Operation) → IsLent C.Store F.shape H.Digest.bytes H.hash U.form I.index_key (I.entries index.now) log.old lent → NoneBelow log.old.tree.start lent

@@ -40,7 +40,7 @@ returns-clause-own g c = λ lent base is from.
     let value = g.V.Value.ByteString.bytes in
     let view = unordered_touch key value in
     let ws = map (write_view key value) c.args.writes.now in
-    let items = g.C.Store.items c.args.log.now.store in
+    let items = g.C.Store.told c.args.log.now.store in
     let read = c.find_sites.ensures.read in
     let mid = lent-then g.C.Store g.F.Family.shape g.H.Digest.Digest.bytes g.H.Hasher.hash _ g.I.Unordered.index_key (g.I.Unordered.entries c.args.index.now) c.args.log.now c.find_sites.new.log lent read is in
     let touches = c.in_ok-touches.touches.items in
@@ -56,7 +56,7 @@ returns-clause-own g c = λ lent base is from.
     omega (arith, c.saturating_add-entries.ensures, c.saturating_sub-inactive.ensures, c.len.ensures, c.in_ok-touches.touches.ok.0, length-map touches view) in
     told-then _ _ items (c.in_ok-sites.ensures.value lent base is from.leads) (λ sites.
     let made = c.in_ok-touches.ensures base ws (ap (map _) c.deref.ensures.value ∙ sites ∙ sites-last (last_view key value) base c.in_ok-last.last.entries (last_writes ws) c.in_ok-last.ensures) in
-    told-one _ _ items (told _ _ _ read.kept.items (c.in_ok-walked.ensures.value lent base ws mid from c.in_ok-last.ensures (ap (map view) c.deref-3.ensures.value ∙ made))) (λ are.
+    told-one _ _ items (told _ _ _ read.kept.told (c.in_ok-walked.ensures.value lent base ws mid from c.in_ok-last.ensures (ap (map view) c.deref-3.ensures.value ∙ made))) (λ are.
     subst (λ (ts : List Touch). AreOwn ts behind c.in_ok-walked.walked.floor base ws) (sym (ap (map view) c.in_ok-append.ensures ∙ map-append view touches c.in_ok-walked.walked.moves.items))
     (are-own base ws (map view touches) (map view c.in_ok-walked.walked.moves.items) c.args.base.now.live behind c.in_ok-walked.walked.floor entries made from.live count limit
     (subst (λ n. AreMoves (map view c.in_ok-walked.walked.moves.items) c.in_ok-walked.walked.floor base (walk policies (base ++ unordered_writes base ws) n (record { entries = entries; skips = 2 ^ 64 - 1 }) proportional)) from.floor are))))

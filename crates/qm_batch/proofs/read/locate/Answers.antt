@@ -14,7 +14,7 @@ returns-in-Some-clause-value g c = λ lent base is from.
     let value = g.U.Value.ByteString.bytes in
     let layers = map (λ l. l.value) c.args.layers.now in
     let place : ℕ × Bytes → ℕ = λ p. p.0 in
-    told-any _ (g.C.Store.items c.args.log.now.store)
+    told-any _ (g.C.Store.told c.args.log.now.store)
     (c.loc.ensures ∙ sym (view-now value c.in-Some.entry.now)
     ∙ ap (option_map place) (sym (layer-stands layers lent base from key _ (change_view value c.in-Some.entry.now)
     (ap (option_map (λ p. (p.0.now, change_view value p.1.now))) (sym c.in-Some.is) ∙ c.newest.ensures ∙ ap (nearest_layer layers) c.as_bytes.ensures.value))))
@@ -26,7 +26,7 @@ returns-in_ok-found-in-None-clause-value g c = λ lent base is from.
     let layers = map (λ l. l.value) c.args.layers.now in
     let place : ℕ × Bytes → ℕ = λ p. p.0 in
     let update_place : ℕ × Operation → ℕ = λ p. p.0 in
-    told-one _ _ (g.C.Store.items c.args.log.now.store) (c.in_ok-found-in-None.ensures.value lent is) (λ found.
+    told-one _ _ (g.C.Store.told c.args.log.now.store) (c.in_ok-found-in-None.ensures.value lent is) (λ found.
     c.place_of.ensures ∙ place-of_read g.U.Update.view c.in_ok-found-in-None.found ∙ ap (option_map update_place) found ∙ place-of_update lent key
     ∙ ap (option_map place) (sym (lent-stands layers lent base from key
     (ap (option_map (λ p. (p.0.now, change_view value p.1.now))) (sym c.in-None.is) ∙ c.newest.ensures ∙ ap (nearest_layer layers) c.as_bytes.ensures.value))))

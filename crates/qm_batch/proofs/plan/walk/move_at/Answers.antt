@@ -13,7 +13,7 @@ returns-in_ok-again-in-Some-clause-value g c = λ lent base ws is from last made
     let size = from.size in
     let view = touch_view g.U.Update.view g.U.Key.ByteString.bytes g.U.Value.ByteString.bytes in
     let moved = c.in_ok-again-in-Some.field-0 in
-    told-any _ (g.C.Store.items c.args.log.now.store)
+    told-any _ (g.C.Store.told c.args.log.now.store)
     (again-is base ws c.args.at (omega (arith, size, c.if-base-at.true)) (touch_views g.U.Update.view g.U.Key.ByteString.bytes g.U.Value.ByteString.bytes c.args.made.now) made (view c.in-Some.touch.now) _
     (got-one view c.get.result c.args.made.now (c.args.at - c.args.base.now.size) (c.args.at - length base) c.in-Some.touch c.get.ensures.lookup c.in-Some.is (ap (λ n. c.args.at - n) size))
     (shown-operation view moved ∙ c.in_ok-again-in-Some.ensures.operation) (shown-each view moved _ c.in_ok-again-in-Some.ensures.before))
@@ -22,7 +22,7 @@ pub returns-in-None-clause-value : goal.returns-in-None-clause-value
 returns-in-None-clause-value g c = λ lent base ws is from last made.
     let size = from.size in
     let view = touch_view g.U.Update.view g.U.Key.ByteString.bytes g.U.Value.ByteString.bytes in
-    told-any _ (g.C.Store.items c.args.log.now.store)
+    told-any _ (g.C.Store.told c.args.log.now.store)
     (again-none base ws c.args.at (omega (arith, size, c.if-base-at.true)) (touch_views g.U.Update.view g.U.Key.ByteString.bytes g.U.Value.ByteString.bytes c.args.made.now) made
     (got-none view c.get.result c.args.made.now (c.args.at - c.args.base.now.size) (c.args.at - length base) c.get.ensures.lookup c.in-None.is (ap (λ n. c.args.at - n) size)))
 
@@ -30,12 +30,12 @@ pub returns-in-Some-2-clause-value : goal.returns-in-Some-2-clause-value
 returns-in-Some-2-clause-value g c = λ lent base ws is from last made.
     let size = from.size in
     let list = base ++ unordered_writes base ws in
-    told-one _ _ (g.C.Store.items c.args.log.now.store) (c.in_ok-update.ensures.value lent base ws is from.leads (omega (arith, size, c.if-base-at.false)) last) (λ standing.
+    told-one _ _ (g.C.Store.told c.args.log.now.store) (c.in_ok-update.ensures.value lent base ws is from.leads (omega (arith, size, c.if-base-at.false)) last) (λ standing.
     subst (λ found. IsMoveAt (option_map (λ u. moved_touch (c.args.at, g.U.Update.view u)) found) base list c.args.at) c.in-Some-2.is standing)
 
 pub returns-in-None-2-clause-value : goal.returns-in-None-2-clause-value
 returns-in-None-2-clause-value g c = λ lent base ws is from last made.
     let size = from.size in
     let list = base ++ unordered_writes base ws in
-    told-one _ _ (g.C.Store.items c.args.log.now.store) (c.in_ok-update.ensures.value lent base ws is from.leads (omega (arith, size, c.if-base-at.false)) last) (λ standing.
+    told-one _ _ (g.C.Store.told c.args.log.now.store) (c.in_ok-update.ensures.value lent base ws is from.leads (omega (arith, size, c.if-base-at.false)) last) (λ standing.
     subst (λ found. IsMoveAt (option_map (λ u. moved_touch (c.args.at, g.U.Update.view u)) found) base list c.args.at) c.in-None-2.is standing)

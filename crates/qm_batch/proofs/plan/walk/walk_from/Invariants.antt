@@ -21,6 +21,6 @@ invariant-loop-at g l =
       high : l.at ≤ max l.base.floor (l.base.size + length l.made);
       value : (lent base : List Operation) (ws : List Write) → IsLent g.C.Store g.F.Family.shape g.H.Digest.Digest.bytes g.H.Hasher.hash (unordered_form g.K.ByteString.has g.V.Value.ByteString.has g.V.ValueEncoding.fixed) g.I.Unordered.index_key (g.I.Unordered.entries l.index) l.initial.log lent →
           IsBase (base_view l.base) lent base → map (last_view key value) l.last.entries ≡ map keyed (last_writes ws) → unordered_touches key value l.made ≡ written_touches base (last_writes ws) →
-          IfSome (g.C.Store.items l.initial.log.store) (λ _. IsWalking base (base ++ unordered_writes base ws) (2 ^ 64 - 1) (unordered_touches key value l.moves.items) l.at l.entries
+          IfSome (g.C.Store.told l.initial.log.store) (λ _. IsWalking base (base ++ unordered_writes base ws) (2 ^ 64 - 1) (unordered_touches key value l.moves.items) l.at l.entries
           (walks.walk policies (base ++ unordered_writes base ws) l.base.floor (record { entries = l.fn.entries; skips = 2 ^ 64 - 1 }) proportional));
     }

@@ -14,7 +14,7 @@ use Rattle.qm_batch.proofs.plan.writes.find_sites.Goals as goal
 pub returns-in_err-locate-clause-value : goal.returns-in_err-locate-clause-value
 returns-in_err-locate-clause-value g c = λ lent base is from.
     let exit = err_from_is_err_and c.from_residual.result c.from_residual.ensures.1 in
-    told-err _ (g.C.Store.items c.args.log.now.store) c.from_residual.result exit.0 exit.1
+    told-err _ (g.C.Store.told c.args.log.now.store) c.from_residual.result exit.0 exit.1
 
 pub returns-in_err-locate-clause-read : goal.returns-in_err-locate-clause-read
 returns-in_err-locate-clause-read g c = read-then g.C.Store g.F.Family.shape g.H.Digest.Digest.bytes g.H.Hasher.hash c.args.log.now c.loop-write.log c.locate.new.log c.loop-write.invariant.read c.locate.ensures.read
@@ -35,7 +35,7 @@ returns-in_err-locate-clause-whole g c = λ lent is none.
 pub returns-in_err-push-clause-value : goal.returns-in_err-push-clause-value
 returns-in_err-push-clause-value g c = λ lent base is from.
     let exit = err_from_is_err_and c.from_residual-in_err-push.result c.from_residual-in_err-push.ensures.1 in
-    told-err _ (g.C.Store.items c.args.log.now.store) c.from_residual-in_err-push.result exit.0 exit.1
+    told-err _ (g.C.Store.told c.args.log.now.store) c.from_residual-in_err-push.result exit.0 exit.1
 
 pub returns-in_err-push-clause-read : goal.returns-in_err-push-clause-read
 returns-in_err-push-clause-read g c = read-then g.C.Store g.F.Family.shape g.H.Digest.Digest.bytes g.H.Hasher.hash c.args.log.now c.loop-write.log c.locate.new.log c.loop-write.invariant.read c.locate.ensures.read
@@ -46,7 +46,7 @@ loop-write-init g c = record {
   value = λ lent base is from.
       let key = g.U.Key.ByteString.bytes in
       let value = g.U.Value.ByteString.bytes in
-      told-any _ (g.C.Store.items c.args.log.now.store)
+      told-any _ (g.C.Store.told c.args.log.now.store)
       (ap₂ (λ sites ws. map (site_view key value) sites ++ map (λ w. site_in base (write_view key value w.now)) ws) c.new-sites.ensures.items (c.into_iter-write-iterator.ensures.into_iter_gives ∙ c.values-write-items.ensures.rest)
       ∙ map-twice (λ w. site_in base (write_view key value w.now)) (λ e. e.1) c.args.last.now.entries);
 }
@@ -60,8 +60,8 @@ loop-write-preserved g c =
       read = read-then g.C.Store g.F.Family.shape g.H.Digest.Digest.bytes g.H.Hasher.hash c.args.log.now c.loop-write.log c.locate.new.log read c.locate.ensures.read;
       value = λ lent base is from.
           let mid = lent-then g.C.Store g.F.Family.shape g.H.Digest.Digest.bytes g.H.Hasher.hash _ g.I.Unordered.index_key (g.I.Unordered.entries c.args.index.now) c.args.log.now c.loop-write.log lent read is in
-          told-both _ _ _ (g.C.Store.items c.args.log.now.store) (c.loop-write.invariant.value lent base is from)
-          (told _ _ _ read.kept.items (c.in_ok-locate.ensures.value lent base mid from)) (λ before found.
+          told-both _ _ _ (g.C.Store.told c.args.log.now.store) (c.loop-write.invariant.value lent base is from)
+          (told _ _ _ read.kept.told (c.in_ok-locate.ensures.value lent base mid from)) (λ before found.
           drained-more (site_view key value) (λ w. site_in base (write_view key value w.now)) c.loop-write.sites.items c.loop-write.write-iterator (map (λ e. site_in base (write_view key value e.1.now)) c.args.last.now.entries)
           c.push.new.self.items c.next.new.self _ c.in-Some.write.now
           (rest_more deref c.loop-write.write-iterator c.next.new.self c.next.result c.in-Some.write c.in-Some.is c.next.ensures.steps) c.in_ok-push.ensures.items (ap (λ o. (write_view key value c.in-Some.write.now.now, o)) (c.number_of-at.ensures ∙ found)) before);
@@ -71,6 +71,6 @@ pub returns-clause-value : goal.returns-clause-value
 returns-clause-value g c = λ lent base is from.
     let key = g.U.Key.ByteString.bytes in
     let value = g.U.Value.ByteString.bytes in
-    told-one _ _ (g.C.Store.items c.args.log.now.store) (c.loop-write.invariant.value lent base is from) (λ all.
+    told-one _ _ (g.C.Store.told c.args.log.now.store) (c.loop-write.invariant.value lent base is from) (λ all.
     drained-all (site_view key value) (λ w. site_in base (write_view key value w.now)) c.loop-write.sites.items c.loop-write.write-iterator (map (λ e. site_in base (write_view key value e.1.now)) c.args.last.now.entries)
     (rest_all deref c.loop-write.write-iterator c.next.new.self c.next.result c.in-None.is c.next.ensures.steps) all)

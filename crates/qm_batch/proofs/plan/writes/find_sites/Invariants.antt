@@ -14,6 +14,6 @@ invariant-loop-write g l =
     record {
       read : IsRead g.C.Store g.F.Family.shape g.H.Digest.Digest.bytes g.H.Hasher.hash l.initial.log l.log;
       value : (lent base : List Operation) → IsLent g.C.Store g.F.Family.shape g.H.Digest.Digest.bytes g.H.Hasher.hash g.U.Update.form g.I.Unordered.index_key (g.I.Unordered.entries l.index) l.initial.log lent →
-          LeadOver (map (λ l. l.value) l.layers) lent base → IfSome (g.C.Store.items l.initial.log.store)
+          LeadOver (map (λ l. l.value) l.layers) lent base → IfSome (g.C.Store.told l.initial.log.store)
           (λ _. map (site_view key value) l.sites.items ++ map (λ w. site_in base (write_view key value w.now)) l.write-iterator ≡ map (λ e. site_in base (write_view key value e.1.now)) l.last.entries);
     }
