@@ -3,10 +3,11 @@ use Rattle.std.proofs.Common.{◌≡◌, ◌≤◌, ◌<◌, ℕ, suc, ◌+◌, 
 use Rattle.std.specs.Prelude.{IsSome}
 use Rattle.std.proofs.lemmas.List.{flat_map_more}
 use Rattle.qm_model.specs.Operations.{Bytes}
+use Rattle.qm_model.specs.StoreModel.{Stored}
 use Rattle.qm_model.specs.Batches.{Apart}
 use Rattle.qm_model.specs.Policies.{Policy}
 use Rattle.qm_machine.specs.Lines.{Line, Answer}
-use Rattle.qm_machine.specs.Machine.{Scheme, Stored, State, initial, turn, answers}
+use Rattle.qm_machine.specs.Machine.{Scheme, State, initial, turn, answers}
 use Rattle.qm_machine.specs.Grammar.{lines_of, line_of, commands_in}
 use Rattle.qm_machine.specs.Text.{reply_line, text_of}
 use Rattle.qm_lines.proofs.Inputs.{IsAt, at_within, at_command, at_more, at_bad}
@@ -45,20 +46,20 @@ module _ (input rest line behind : Bytes) (k : ℕ) (at : IsAt input rest k) (fo
         (at_within input rest line behind k at found c e) (at_command input rest line behind k at found c e) so_far one
 
     -- what is left where the loop ended at it
-    line_left : (o : Option (Line Policy)) → line_of line ≡ o → (left : Option (List Bytes)) (Before : State → Type 0)
+    line_left : (o : Option (Line Policy)) → line_of line ≡ o → (left : Option Stored) (Before : State → Type 0)
         → (Apart m.root (after m stored (commands_in input) k).had → Before (after m stored (commands_in input) k))
-        → ((s : State) → Before s → Apart m.root s.had → IsLeft left s.store.items (after_line m s o).store.items)
-        → Apart m.root (after m stored (commands_in input) k).had → IsLeft left (after m stored (commands_in input) k).store.items (after m stored (commands_in input) (suc k)).store.items
+        → ((s : State) → Before s → Apart m.root s.had → IsLeft left s.store (after_line m s o).store)
+        → Apart m.root (after m stored (commands_in input) k).had → IsLeft left (after m stored (commands_in input) k).store (after m stored (commands_in input) (suc k)).store
     line_left None e left Before so_far leaves = λ apart.
         let s : State = after m stored (commands_in input) k in
-        subst (IsLeft left s.store.items) (sym (after_all m stored (commands_in input) k (omega (arith, (at_bad input rest line behind k at found e).0)))) (leaves s (so_far apart) apart)
+        subst (IsLeft left s.store) (sym (after_all m stored (commands_in input) k (omega (arith, (at_bad input rest line behind k at found e).0)))) (leaves s (so_far apart) apart)
     line_left (Some c) e left Before so_far leaves =
         left_in m stored (commands_in input) k c left Before (at_within input rest line behind k at found c e) (at_command input rest line behind k at found c e) so_far leaves
 
     -- the loop ended at it
-    pub answered_in : (text : Bytes) (left : Option (List Bytes)) (Before : State → Type 0)
+    pub answered_in : (text : Bytes) (left : Option Stored) (Before : State → Type 0)
         → (Apart m.root (after m stored (commands_in input) k).had → (text ≡ text_of (answers m (initial stored) (take k (commands_in input)))) × Before (after m stored (commands_in input) k))
-        → ((s : State) → Before s → Apart m.root s.had → IsLeft left s.store.items (after_line m s (line_of line)).store.items)
+        → ((s : State) → Before s → Apart m.root s.had → IsLeft left s.store (after_line m s (line_of line)).store)
         → IsAnswered m stored (commands_in input) k text left
     answered_in text left Before so_far leaves = record {
       few = at.few;
@@ -67,11 +68,11 @@ module _ (input rest line behind : Bytes) (k : ℕ) (at : IsAt input rest k) (fo
     }
 
 -- the loop ended behind the last line, or before the first
-pub answered_at : (m : Scheme Policy) (stored : Stored) (input : Bytes) (k : ℕ) (text : Bytes) (left : Option (List Bytes)) → k ≤ length (commands_in input)
-    → (Apart m.root (after m stored (commands_in input) k).had → (text ≡ text_of (answers m (initial stored) (take k (commands_in input)))) × (left ≡ Some (after m stored (commands_in input) k).store.items))
+pub answered_at : (m : Scheme Policy) (stored : Stored) (input : Bytes) (k : ℕ) (text : Bytes) (left : Option Stored) → k ≤ length (commands_in input)
+    → (Apart m.root (after m stored (commands_in input) k).had → (text ≡ text_of (answers m (initial stored) (take k (commands_in input)))) × (left ≡ Some (after m stored (commands_in input) k).store))
     → IsAnswered m stored (commands_in input) k text left
 answered_at m stored input k text left few so_far = record {
   few = few;
   same = λ apart. (so_far apart).0;
-  left = λ apart. left_none (after m stored (commands_in input) k).store.items (after m stored (commands_in input) (suc k)).store.items left (so_far apart).1;
+  left = λ apart. left_none (after m stored (commands_in input) k).store (after m stored (commands_in input) (suc k)).store left (so_far apart).1;
 }

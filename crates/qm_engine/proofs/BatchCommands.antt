@@ -1,7 +1,8 @@
 -- The commands that make, fill and apply batches.
 use Rattle.std.proofs.Common.{◌≡◌, ◌≢◌, ◌<◌, ℕ, Bool, true, false, cond, List, [], ◌∷◌, ◌++◌, length, get_or, set, map, drop, Option, Some, None, arith, refl, sym, ◌∙◌, ap, subst, length-append, IfSome, append-nil}
 use Rattle.std.specs.Prelude.{Contains}
-use Rattle.qm_model.specs.Causes.{Grows, GrowsPart}
+use Rattle.qm_model.specs.StoreModel.{Stored, appended, HasAppended}
+use Rattle.qm_model.specs.StoreModel as model
 use Rattle.qm_model.specs.Operations.{Bytes, Operation}
 use Rattle.qm_model.specs.Forms.{spelling, variable}
 use Rattle.qm_model.specs.Live.{floor}
@@ -36,7 +37,7 @@ use Rattle.qm_engine.specs.Words.{AtBatch, AtTip, Fits, tip_of}
 use Rattle.qm_engine.specs.Session.{SlotIs, Holds, IsLeft}
 use Rattle.qm_engine.proofs.Tables.{push_at, set_at, set_set}
 use Rattle.qm_store.specs.Given.{Appended, IsUnchanged}
-use Rattle.qm_engine.proofs.Commands.{stored-same, choice, none_some, left_part, refuses, by_error, HeldIs-more, SlotIs-more, with_list, HeldIs-kept, slots_set, lengths_set, Keeps, Holds-used, Turns}
+use Rattle.qm_engine.proofs.Commands.{stored-same, stored-grown, choice, none_some, left_part, refuses, by_error, HeldIs-more, SlotIs-more, with_list, HeldIs-kept, slots_set, lengths_set, Keeps, Holds-used, Turns}
 
 longer : {A : Type 0} (xs ys : List A) → 0 < length xs → 0 < length (xs ++ ys)
 longer xs ys some = omega (arith, some, length-append xs ys)
@@ -256,7 +257,7 @@ module _ {X C B M K V D : Type 0} (members : stores.Ghosts C) (means : words.Gho
   applied_in x after table opened h batch size s list k in_had fit_of did grown sized (Merkleized w) (machine.merkleized chain tip) is e =
       let same : w ≡ batch = cc in
       let batch_is : means.is_merkleized batch chain tip = subst (λ v. means.is_merkleized v chain tip) same is.0 in
-      choice (fits root (commitment root list) chain) (lines.Applied (length tip), record s { database = Some tip; store = record s.store { items = s.store.items ++ map (spelling variable) (drop (length list) tip) } }) (refuse s refusals.StaleBatch) (Goes (Reply (replies.Applied size)) (Database after) table opened)
+      choice (fits root (commitment root list) chain) (lines.Applied (length tip), record s { database = Some tip; store = appended (map (spelling variable) (drop (length list) tip)) s.store }) (refuse s refusals.StaleBatch) (Goes (Reply (replies.Applied size)) (Database after) table opened)
       (λ fit apart.
       let on_chain = on_chain-fits root s.had list chain apart in_had is.1 fit in
       let stood : means.stands after tip = did chain tip batch_is on_chain in
@@ -264,7 +265,7 @@ module _ {X C B M K V D : Type 0} (members : stores.Ghosts C) (means : words.Gho
         ap lines.Applied (sized tip stood),
         record {
           database = (stood, is.2);
-          store = record { start = more.start ∙ k.store.start; head = more.head ∙ k.store.head; items = subst (λ o. Grows o (members.items (means.inside after)) (map (spelling variable) (drop (length list) tip))) k.store.items more.items };
+          store = stored-grown members (means.inside x) (means.inside after) s.store (map (spelling variable) (drop (length list) tip)) more k.store;
           whole = λ _. ((k.whole tt).0, longer s.store.items (map (spelling variable) (drop (length list) tip)) (k.whole tt).1);
           count = k.count;
           lengths = k.lengths;
@@ -286,7 +287,7 @@ module _ {X C B M K V D : Type 0} (members : stores.Ghosts C) (means : words.Gho
   unapplied_in x table opened h batch s list k in_had off (Merkleized w) (machine.merkleized chain tip) is e =
       let same : w ≡ batch = cc in
       let batch_is : means.is_merkleized batch chain tip = subst (λ v. means.is_merkleized v chain tip) same is.0 in
-      choice (fits root (commitment root list) chain) (lines.Applied (length tip), record s { database = Some tip; store = record s.store { items = s.store.items ++ map (spelling variable) (drop (length list) tip) } }) (refuse s refusals.StaleBatch) (Goes (Reply (replies.Refused refused.StaleBatch)) (Database x) table opened)
+      choice (fits root (commitment root list) chain) (lines.Applied (length tip), record s { database = Some tip; store = appended (map (spelling variable) (drop (length list) tip)) s.store }) (refuse s refusals.StaleBatch) (Goes (Reply (replies.Refused refused.StaleBatch)) (Database x) table opened)
       (λ fit apart. absurd (off chain tip batch_is (on_chain-fits root s.had list chain apart in_had is.1 fit)))
       (λ unfit apart. (refl, k))
   unapplied_in x table opened h batch s list k in_had off (Merkleized w) machine.gone is e = absurd is
@@ -323,35 +324,34 @@ module _ {X C B M K V D : Type 0} (members : stores.Ghosts C) (means : words.Gho
       (λ r other told. absurd (none_some (none other) told))
 
   -- what an apply leaves in the store
-  left_in : (x : X) (items : Option (List Bytes)) (table : List (Slot B M)) (opened : ℕ) (h : ℕ) (batch : M) (s : State) (list : List Operation)
+  left_in : (x : X) (left : Option Stored) (table : List (Slot B M)) (opened : ℕ) (h : ℕ) (batch : M) (s : State) (list : List Operation)
       → Holds members means (Database x) table opened s → Contains s.had list → Apart root s.had
       → ((chain : Chain) (tip : List Operation) → means.is_merkleized batch chain tip → (fits root (commitment root list) chain ≡ true → IsOnChain list chain)
-      → GrowsPart (members.items (means.inside x)) items (cond (fits root (commitment root list) chain) (map (spelling variable) (drop (length list) tip)) []))
+      → model.Turns (members.told (means.inside x)) left (HasAppended (cond (fits root (commitment root list) chain) (map (spelling variable) (drop (length list) tip)) [])))
       → (a : Slot B M) (b : machine.Slot) → SlotIs members means s.had a b → merkleized_of a ≡ Some batch
-      → IsLeft items s.store.items ((apply_in means.scheme s h list b).1).store.items
-  left_in x items table opened h batch s list k in_had apart grown (Merkleized w) (machine.merkleized chain tip) is e =
+      → IsLeft left s.store ((apply_in means.scheme s h list b).1).store
+  left_in x left table opened h batch s list k in_had apart grown (Merkleized w) (machine.merkleized chain tip) is e =
       let same : w ≡ batch = cc in
       let batch_is : means.is_merkleized batch chain tip = subst (λ v. means.is_merkleized v chain tip) same is.0 in
       let more : List Bytes = map (spelling variable) (drop (length list) tip) in
       let part = grown chain tip batch_is (λ fit. on_chain-fits root s.had list chain apart in_had is.1 fit) in
-      let there : GrowsPart (Some s.store.items) items (cond (fits root (commitment root list) chain) more []) = subst (λ o. GrowsPart o items (cond (fits root (commitment root list) chain) more [])) k.store.items part in
-      by_fit (fits root (commitment root list) chain) (lines.Applied (length tip)) (record s { database = Some tip; store = record s.store { items = s.store.items ++ more } }) more there refl
+      by_fit (fits root (commitment root list) chain) (lines.Applied (length tip)) (record s { database = Some tip; store = appended more s.store }) more part refl
     where
-      by_fit : (t : Bool) (answer : Answer) (next : State) (more : List Bytes) → GrowsPart (Some s.store.items) items (cond t more []) → next.store.items ≡ s.store.items ++ more
-          → IsLeft items s.store.items ((cond t (answer, next) (refuse s refusals.StaleBatch)).1).store.items
-      by_fit true answer next more part is_next = subst (IsLeft items s.store.items) (sym is_next) (left_part s.store.items more items part)
-      by_fit false answer next more part is_next = subst (IsLeft items s.store.items) (append-nil s.store.items) (left_part s.store.items [] items part)
-  left_in x items table opened h batch s list k in_had apart grown (Merkleized w) machine.gone is e = absurd is
-  left_in x items table opened h batch s list k in_had apart grown (Merkleized w) (machine.writing chain above ws) is e = absurd is
-  left_in x items table opened h batch s list k in_had apart grown Gone b is e = absurd (cc)
-  left_in x items table opened h batch s list k in_had apart grown (Writing w) b is e = absurd (cc)
+      by_fit : (t : Bool) (answer : Answer) (next : State) (more : List Bytes) → model.Turns (members.told (means.inside x)) left (HasAppended (cond t more [])) → next.store ≡ appended more s.store
+          → IsLeft left s.store ((cond t (answer, next) (refuse s refusals.StaleBatch)).1).store
+      by_fit true answer next more part is_next = subst (IsLeft left s.store) (sym is_next) (left_part s.store more (members.told (means.inside x)) left k.store.told part)
+      by_fit false answer next more part is_next = subst (IsLeft left s.store) (ap (λ xs. record s.store { items = xs }) (append-nil s.store.items)) (left_part s.store [] (members.told (means.inside x)) left k.store.told part)
+  left_in x left table opened h batch s list k in_had apart grown (Merkleized w) machine.gone is e = absurd is
+  left_in x left table opened h batch s list k in_had apart grown (Merkleized w) (machine.writing chain above ws) is e = absurd is
+  left_in x left table opened h batch s list k in_had apart grown Gone b is e = absurd (cc)
+  left_in x left table opened h batch s list k in_had apart grown (Writing w) b is e = absurd (cc)
 
-  pub apply_left : (x : X) (items : Option (List Bytes)) (table : List (Slot B M)) (opened : ℕ) (h : ℕ) (batch : M) (s : State)
+  pub apply_left : (x : X) (left : Option Stored) (table : List (Slot B M)) (opened : ℕ) (h : ℕ) (batch : M) (s : State)
       → Holds members means (Database x) table opened s → Apart root s.had
       → ((list : List Operation) (chain : Chain) (tip : List Operation) → means.stands x list → means.is_merkleized batch chain tip → (fits root (commitment root list) chain ≡ true → IsOnChain list chain)
-      → GrowsPart (members.items (means.inside x)) items (cond (fits root (commitment root list) chain) (map (spelling variable) (drop (length list) tip)) []))
+      → model.Turns (members.told (means.inside x)) left (HasAppended (cond (fits root (commitment root list) chain) (map (spelling variable) (drop (length list) tip)) [])))
       → merkleized_of (get_or table h Gone) ≡ Some batch
-      → IsLeft items s.store.items ((machine.apply means.scheme s h).1).store.items
-  apply_left x items table opened h batch s k apart grown e =
-      with_list members means x s.had s.database s (λ list. apply_in means.scheme s h list (slot_at s.table h)) (λ next. IsLeft items s.store.items (next.1).store.items) k.database
-      (λ list stands in_had. left_in x items table opened h batch s list k in_had apart (λ chain tip. grown list chain tip stands) (get_or table h Gone) (slot_at s.table h) (k.slots h) e)
+      → IsLeft left s.store ((machine.apply means.scheme s h).1).store
+  apply_left x left table opened h batch s k apart grown e =
+      with_list members means x s.had s.database s (λ list. apply_in means.scheme s h list (slot_at s.table h)) (λ next. IsLeft left s.store (next.1).store) k.database
+      (λ list stands in_had. left_in x left table opened h batch s list k in_had apart (λ chain tip. grown list chain tip stands) (get_or table h Gone) (slot_at s.table h) (k.slots h) e)

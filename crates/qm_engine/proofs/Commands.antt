@@ -1,17 +1,18 @@
 -- Each command over what a run holds, as lemmas over plain values: what all of them use, and the opening.
-use Rattle.std.proofs.Common.{◌≡◌, ◌≢◌, ℕ, ◌+◌, ◌<◌, Bool, true, false, cond, List, [], ◌∷◌, ◌++◌, length, get_or, set, map, Option, Some, None, arith, refl, sym, ◌∙◌, ap, subst, IfSome, append-nil}
-use Rattle.std.specs.Prelude.{Contains, IsSome, is_some, option_map, option_and_then}
+use Rattle.std.proofs.Common.{◌≡◌, ◌≢◌, ℕ, ◌+◌, ◌<◌, ◌≤◌, Bool, true, false, cond, List, [], ◌∷◌, ◌++◌, length, take, get_or, set, map, Option, Some, None, arith, refl, sym, ◌∙◌, ap, subst, IfSome, append-nil}
+use Rattle.std.specs.Prelude.{Contains, IsSome, is_some}
 use Rattle.std.proofs.lemmas.Bool.{lt-ltb, le-ltb}
 use Rattle.std.proofs.lemmas.List.{length-set}
 use Rattle.std.proofs.Math.Seq.{drop-append_seam, take-length}
-use Rattle.qm_model.specs.Causes.{Grows, GrowsPart}
+use Rattle.qm_model.specs.StoreModel.{Stored, appended, HasAppended, Becomes}
+use Rattle.qm_model.specs.StoreModel as model
 use Rattle.qm_model.specs.Operations.{Bytes, Operation, fresh}
 use Rattle.qm_model.specs.Forms.{spelling, variable}
 use Rattle.qm_model.specs.Batches.{Apart}
 use Rattle.qm_machine.specs.Lines.{Answer}
 use Rattle.qm_machine.specs.Lines as lines
 use Rattle.qm_model.specs.Refused as refusals
-use Rattle.qm_machine.specs.Machine.{Stored, State, slot_at, with_slot, with_database, unless, head_refusal, opening_refusal, open_unless}
+use Rattle.qm_machine.specs.Machine.{State, slot_at, with_slot, with_database, unless, head_refusal, opening_refusal, open_unless}
 use Rattle.qm_machine.specs.Machine as machine
 use Rattle.qm_model.proofs.Chains.{Contains-more, Contains-first, IsAmong-more}
 use Rattle.qm_base.specs.declared.error.JournalError.TheVariants as journal
@@ -37,7 +38,7 @@ use Rattle.qm_store.specs.Refusals.{refusal_of, IsDue}
 use Rattle.qm_store.specs.declared.Store as stores
 use Rattle.qm_engine.specs.declared.words.Words as words
 use Rattle.qm_store.specs.Given.{store_given, Appended, AppendedPart, IsUnchanged, TellsAll}
-use Rattle.qm_engine.specs.Stores.{IsStored, told}
+use Rattle.qm_engine.specs.Stores.{IsStored}
 use Rattle.qm_engine.specs.Session.{HeldIs, SlotIs, Holds, IfReply, IsLeft, Answers}
 use Rattle.qm_engine.proofs.Tables.{set_at}
 
@@ -58,39 +59,54 @@ pub some_is : {A : Type 0} (told : Option A) (x : A) (Q : A → Type 0) → told
 some_is told x Q is each = subst (λ o. IfSome o Q) is each
 
 -- what a store has that tells it
-pub told-stored : {C : Type 0} (members : stores.Ghosts C) (c : C) (stored : Stored) → told members c ≡ Some stored → IsStored members c stored
-told-stored members c stored is = by (members.items c) (members.head c) refl refl is
-  where
-    by : (items : Option (List Bytes)) (head : Option Bytes) → members.items c ≡ items → members.head c ≡ head
-        → option_and_then (λ xs. option_map (λ h. record { start = members.start c; head = h; items = xs }) head) items ≡ Some stored → IsStored members c stored
-    by None head is_items is_head is = absurd (cc is)
-    by (Some xs) None is_items is_head is = absurd (cc is)
-    by (Some xs) (Some h) is_items is_head is =
-        let same : record { start = members.start c; head = h; items = xs } ≡ stored = cc is in
-        record { start = ap (λ (t : Stored). t.start) same; head = is_head ∙ ap (λ (t : Stored). Some t.head) same; items = is_items ∙ ap (λ (t : Stored). Some t.items) same }
+pub told-stored : {C : Type 0} (members : stores.Ghosts C) (c : C) (stored : Stored) → IfSome (members.told c) (λ held. held.start ≡ members.start c) → members.told c ≡ Some stored → IsStored members c stored
+told-stored members c stored law is = record { start = sym (some_is (members.told c) stored (λ held. held.start ≡ members.start c) is law); told = is }
 
 -- a store that has what another has
 pub stored-same : {C : Type 0} (members : stores.Ghosts C) (old new : C) (stored : Stored) → IsUnchanged members old new → IsStored members old stored → IsStored members new stored
-stored-same members old new stored same is = record { start = same.start ∙ is.start; head = same.head ∙ is.head; items = same.items ∙ is.items }
+stored-same members old new stored same is = record { start = same.start ∙ is.start; told = same.told ∙ is.told }
+
+-- what is told where it becomes this
+pub becomes-told : (o new : Option Stored) (old : Stored) (f : Stored → Stored) → o ≡ Some old → Becomes o new f → new ≡ Some (f old)
+becomes-told o new old f is made = by new (subst (λ p. Becomes p new f) is made)
+  where
+    by : (new : Option Stored) → Becomes (Some old) new f → new ≡ Some (f old)
+    by None made = absurd made
+    by (Some t) made = ap Some made
+
+-- a store that has grown is one that tells so
+pub stored-grown : {C : Type 0} (members : stores.Ghosts C) (old new : C) (stored : Stored) (more : List Bytes) → Appended members old new more → IsStored members old stored → IsStored members new (appended more stored)
+stored-grown members old new stored more grown is = record { start = grown.start ∙ is.start; told = becomes-told (members.told old) (members.told new) stored (appended more) is.told grown.told }
 
 -- all of what is due is a first part of it
-pub Grows-whole : {A : Type 0} (old new : Option (List A)) (more : List A) → Grows old new more → GrowsPart old new more
-Grows-whole old new more grows = (length more, subst (Grows old new) (sym (take-length more)) grows)
-
 pub Appended-part : {C : Type 0} (members : stores.Ghosts C) (old new : C) (more : List Bytes) → Appended members old new more → AppendedPart members old new more
-Appended-part members old new more grown = record { start = grown.start; items = Grows-whole (members.items old) (members.items new) more grown.items; head = grown.head }
+Appended-part members old new more grown = record { start = grown.start; told = part (members.told old) (members.told new) grown.told }
+  where
+    part : (o n : Option Stored) → Becomes o n (appended more) → model.Turns o n (HasAppended more)
+    part None n made = made
+    part (Some s) None made = absurd made
+    part (Some s) (Some t) made = record {
+      count = length more;
+      reads = subst (λ u. u ≡ record (appended (take (length more) more) s) { stable = u.stable }) (sym made) (ap (λ xs. appended xs s) (sym (take-length more)));
+      least_stable = subst (λ u. s.stable ≤ u.stable) (sym made) (omega arith);
+    }
 
 -- what comes of a head that is not that of a start at 0 comes of none that is
-pub offered-unopened : (P : Type 0) (o : Option Bytes) → IfSome o (λ head. head_refusal head ≡ None) → IfSome o (λ head. IsSome (head_refusal head) → P)
+pub offered-unopened : (P : Type 0) (o : Option Stored) → IfSome o (λ held. head_refusal held.head ≡ None) → IfSome o (λ held. IsSome (head_refusal held.head) → P)
 offered-unopened P None offered = tt
-offered-unopened P (Some head) offered = λ some. absurd (cc (offered, some))
+offered-unopened P (Some held) offered = λ some. absurd (cc (offered, some))
 
--- a first part of what is due, and nothing of it
-pub left_part : (before more : List Bytes) (items : Option (List Bytes)) → GrowsPart (Some before) items more → IsLeft items before (before ++ more)
-left_part before more items grows = record { count = grows.0; same = rw (drop-append_seam before more) grows.1 }
+-- a first part of what is due
+pub left_part : (before : Stored) (more : List Bytes) (o left : Option Stored) → o ≡ Some before → model.Turns o left (HasAppended more) → IsLeft left before (appended more before)
+left_part before more o left is turns = by left (subst (λ p. model.Turns p left (HasAppended more)) is turns)
+  where
+    by : (left : Option Stored) → model.Turns (Some before) left (HasAppended more) → IsLeft left before (appended more before)
+    by None made = absurd made
+    by (Some t) made = record { count = made.count; stable = t.stable; least = made.least_stable; same = rw (drop-append_seam before.items more) (ap Some made.reads) }
 
-pub left_none : (before after : List Bytes) (items : Option (List Bytes)) → items ≡ Some before → IsLeft items before after
-left_none before after items is = record { count = 0; same = rw append-nil is }
+-- and nothing of it
+pub left_none : (before after : Stored) (left : Option Stored) → left ≡ Some before → IsLeft left before after
+left_none before after left is = record { count = 0; stable = before.stable; least = omega arith; same = is ∙ ap (λ xs. Some (record before { items = xs })) (sym (append-nil before.items)) }
 
 -- the answer that refuses so
 abbrev pub refuses : Option refusals.Refused → Answer
@@ -164,7 +180,7 @@ module _ {X C B M : Type 0} (members : stores.Ghosts C) (means : words.Ghosts X 
 
   -- the store of a database starts at 0, and tells its items
   pub Holds-told : (x : X) (table : List (Slot B M)) (opened : ℕ) (s : State) → Holds members means (Database x) table opened s → TellsAll members (means.inside x)
-  Holds-told x table opened s k = (k.store.start ∙ (k.whole tt).0, ap is_some k.store.items)
+  Holds-told x table opened s k = (k.store.start ∙ (k.whole tt).0, ap is_some k.store.told)
 
   -- a database that stands for the same lists, over what the store had
   abbrev pub Keeps : X → X → Type 0
@@ -236,45 +252,37 @@ module _ {X C B M K V D : Type 0} (members : stores.Ghosts C) (means : words.Gho
       subst (λ t. Opening (Reply (replies.Refused refused.NotOffered)) held table opened s (cond t (Some refusals.NotOffered) (head_refusal s.store.head))) (sym (lt-ltb 0 (s.store.start + length s.store.items) above)) (λ apart. (refl, k))
 
   -- a store that ends at 0, with no database
-  module _ (c : C) (table : List (Slot B M)) (opened : ℕ) (s : State) (k : Holds members means (Store c) table opened s) (law : IfSome (members.items c) (λ xs. members.start c + length xs ≡ members.«end» c)) (none : members.«end» c ≡ 0) where
+  module _ (c : C) (table : List (Slot B M)) (opened : ℕ) (s : State) (k : Holds members means (Store c) table opened s) (law : IfSome (members.told c) (λ held. model.end_of held ≡ members.«end» c)) (none : members.«end» c ≡ 0) where
     -- it starts at 0, and has no items
     counted : s.store.start + length s.store.items ≡ 0
-    counted =
-        let ends = some_is (members.items c) s.store.items (λ xs. members.start c + length xs ≡ members.«end» c) k.store.items law in
-        ap (λ n. n + length s.store.items) (sym k.store.start) ∙ ends ∙ none
-
-    no_items : s.store.items ≡ []
-    no_items = by s.store.items counted
-      where
-        by : (items : List Bytes) → s.store.start + length items ≡ 0 → items ≡ []
-        by [] is = refl
-        by (i ∷ items) is = absurd (omega (arith, is))
+    counted = some_is (members.told c) s.store (λ held. model.end_of held ≡ members.«end» c) k.store.told law ∙ none
 
     -- so its head decides
     by_head : opening_refusal s.store ≡ head_refusal s.store.head
     by_head = ap (λ t. cond t (Some refusals.NotOffered) (head_refusal s.store.head)) (le-ltb 0 (s.store.start + length s.store.items) (omega (arith, counted)))
 
-    given_items : {more : List Bytes} (after : Option (List Bytes)) → Grows (members.items c) after more → after ≡ Some more
-    given_items {more} after grows = subst (λ o. Grows o after more) (k.store.items ∙ ap Some no_items) grows
-
-    pub open_ok : (x : X) (start size : ℕ) → IfSome (members.items c) (λ _. means.stands x fresh) → IfSome (members.head c) (λ head. head_refusal head ≡ None) → Appended members c (means.inside x) (map (spelling variable) fresh)
+    pub open_ok : (x : X) (start size : ℕ) → IfSome (members.told c) (λ _. means.stands x fresh) → IfSome (members.told c) (λ held. head_refusal held.head ≡ None) → Appended members c (means.inside x) (map (spelling variable) fresh)
         → start ≡ members.start (means.inside x) → ((l : List Operation) → means.stands x l → size ≡ length l)
         → Turns (Reply (replies.Opened (opened + 1) start size)) (Database x) table (opened + 1) (machine.open_store s)
     open_ok x start size stood offered grown is_start sized =
-        let stands : means.stands x fresh = some_is (members.items c) s.store.items (λ _. means.stands x fresh) k.store.items stood in
-        let due : head_refusal s.store.head ≡ None = some_is (members.head c) s.store.head (λ head. head_refusal head ≡ None) k.store.head offered in
+        let stands : means.stands x fresh = some_is (members.told c) s.store (λ _. means.stands x fresh) k.store.told stood in
+        let due : head_refusal s.store.head ≡ None = some_is (members.told c) s.store (λ held. head_refusal held.head ≡ None) k.store.told offered in
         let zero_start : s.store.start ≡ 0 = omega (arith, counted) in
         subst (Opening (Reply (replies.Opened (opened + 1) start size)) (Database x) table (opened + 1) s) (sym (by_head ∙ due)) (λ apart. (
           rw (k.count, is_start ∙ grown.start ∙ k.store.start ∙ zero_start, sized fresh stands) refl,
           record {
             database = (stands, Contains-first fresh s.had);
-            store = record { start = grown.start ∙ k.store.start; head = grown.head ∙ k.store.head; items = given_items (members.items (means.inside x)) grown.items };
-            whole = λ _. (zero_start, omega arith);
+            store = stored-grown members c (means.inside x) s.store (map (spelling variable) fresh) grown k.store;
+            whole = λ _. (zero_start, longer s.store.items);
             count = ap (λ n. n + 1) k.count;
             lengths = k.lengths;
             slots = λ h. SlotIs-more members means s.had fresh (get_or table h Gone) (slot_at s.table h) (k.slots h);
           },
         ))
+      where
+        longer : (items : List Bytes) → 0 < length (items ++ map (spelling variable) fresh)
+        longer [] = omega arith
+        longer (i ∷ is) = omega arith
 
     -- a store alone that stands for it, too
     alone : (after : C) (d : Option (List Operation)) → HeldIs members means s.had (Store c) d → HeldIs members means s.had (Store after) d
@@ -294,27 +302,24 @@ module _ {X C B M K V D : Type 0} (members : stores.Ghosts C) (means : words.Gho
 
     -- what is told of a store whose head is not that of a start at 0
     abbrev pub Unopened : C → Type 0
-    Unopened after = IfSome (members.head c) (λ head. IsSome (head_refusal head) → IsUnchanged members c after)
+    Unopened after = IfSome (members.told c) (λ held. IsSome (head_refusal held.head) → IsUnchanged members c after)
 
     unopened : (after : C) (r : refusals.Refused) → head_refusal s.store.head ≡ Some r → Unopened after → IsUnchanged members c after
-    unopened after r due same = some_is (members.head c) s.store.head (λ head. IsSome (head_refusal head) → IsUnchanged members c after) k.store.head same (ap is_some due)
+    unopened after r due same = some_is (members.told c) s.store (λ held. IsSome (head_refusal held.head) → IsUnchanged members c after) k.store.told same (ap is_some due)
 
-    pub open_err : (given : Given X C) (error : Error) → IfSome (members.head c) (λ head. IsDue error (head_refusal head)) → Unopened (store_given means.inside given) → ((x : X) → given ≡ Database x → ⊥)
+    pub open_err : (given : Given X C) (error : Error) → IfSome (members.told c) (λ held. IsDue error (head_refusal held.head)) → Unopened (store_given means.inside given) → ((x : X) → given ≡ Database x → ⊥)
         → Turns (turn_of_error error) given table opened (machine.open_store s)
     open_err given error why same back =
         by_refusal error _ (λ r told.
         let due : head_refusal s.store.head ≡ Some (refused_view r) =
-        due_told (refusal_of error) (head_refusal s.store.head) (refused_view r) (some_is (members.head c) s.store.head (λ head. IsDue error (head_refusal head)) k.store.head why) told in
+        due_told (refusal_of error) (head_refusal s.store.head) (refused_view r) (some_is (members.told c) s.store (λ held. IsDue error (head_refusal held.head)) k.store.told why) told in
         subst (Opening (Reply (replies.Refused r)) given table opened s) (sym (by_head ∙ due)) (λ apart. (refl, refused_store given back (unopened (store_given means.inside given) (refused_view r) due same))))
 
     pub open_left : (after : C) → Unopened after → AppendedPart members c after (map (spelling variable) fresh)
-        → IsLeft (members.items after) s.store.items ((machine.open_store s).1).store.items
+        → IsLeft (members.told after) s.store ((machine.open_store s).1).store
     open_left after same grown =
-        subst (λ due. IsLeft (members.items after) s.store.items ((open_unless s due).1).store.items) (sym by_head) (by (head_refusal s.store.head) refl)
+        subst (λ due. IsLeft (members.told after) s.store ((open_unless s due).1).store) (sym by_head) (by (head_refusal s.store.head) refl)
       where
-        by : (due : Option refusals.Refused) → head_refusal s.store.head ≡ due → IsLeft (members.items after) s.store.items ((open_unless s due).1).store.items
-        by (Some r) is = left_none s.store.items s.store.items (members.items after) ((unopened after r is same).items ∙ k.store.items)
-        by None is =
-            let more : List Bytes = map (spelling variable) fresh in
-            let there : GrowsPart (Some []) (members.items after) more = subst (λ o. GrowsPart o (members.items after) more) (k.store.items ∙ ap Some no_items) grown.items in
-            subst (λ xs. IsLeft (members.items after) xs more) (sym no_items) (left_part [] more (members.items after) there)
+        by : (due : Option refusals.Refused) → head_refusal s.store.head ≡ due → IsLeft (members.told after) s.store ((open_unless s due).1).store
+        by (Some r) is = left_none s.store s.store (members.told after) ((unopened after r is same).told ∙ k.store.told)
+        by None is = left_part s.store (map (spelling variable) fresh) (members.told c) (members.told after) k.store.told grown.told

@@ -3,9 +3,10 @@ use Rattle.std.proofs.Common.{◌≡◌, ◌≤◌, ◌<◌, ℕ, suc, ◌+◌, 
 use Rattle.std.proofs.lemmas.List.{take_all, take_more, get_or-map}
 use Rattle.qm_model.specs.Causes.{Rose}
 use Rattle.qm_model.specs.Operations.{Bytes}
+use Rattle.qm_model.specs.StoreModel.{Stored}
 use Rattle.qm_model.specs.Batches.{Apart}
 use Rattle.qm_machine.specs.Lines.{Line, Answer}
-use Rattle.qm_machine.specs.Machine.{Scheme, Stored, State, initial, turn, answers, state_after}
+use Rattle.qm_machine.specs.Machine.{Scheme, State, initial, turn, answers, state_after}
 use Rattle.qm_machine.proofs.Runs.{state_after-push, answers-push, Apart-before}
 use Rattle.qm_engine.specs.Session.{IsLeft}
 use Rattle.qm_engine.specs.Runs.{IsRun, after}
@@ -37,41 +38,41 @@ module _ {P : Type 0} (m : Scheme P) (stored : Stored) (lines : List (Line P)) w
       (now.0 ∙ ap (λ r. more r (turn m s line).0) before.0 ∙ sym (push (answers m (initial stored) (take i lines)) (turn m s line).0), now.1)))
 
   -- what is left where the next command ended the run
-  pub left_in : (i : ℕ) (line : Line P) (left : Option (List Bytes)) (Before : State → Type 0) → i < length lines → line ≡ get_or lines i line
+  pub left_in : (i : ℕ) (line : Line P) (left : Option Stored) (Before : State → Type 0) → i < length lines → line ≡ get_or lines i line
       → (Apart m.root (after m stored lines i).had → Before (after m stored lines i))
-      → ((s : State) → Before s → Apart m.root s.had → IsLeft left s.store.items ((turn m s line).1).store.items)
-      → Apart m.root (after m stored lines i).had → IsLeft left (after m stored lines i).store.items (after m stored lines (suc i)).store.items
+      → ((s : State) → Before s → Apart m.root s.had → IsLeft left s.store ((turn m s line).1).store)
+      → Apart m.root (after m stored lines i).had → IsLeft left (after m stored lines i).store (after m stored lines (suc i)).store
   left_in i line left Before h here so_far leaves apart =
       let s : State = after m stored lines i in
-      let next : (after m stored lines (suc i)).store.items ≡ ((turn m s line).1).store.items =
-      ap (λ n. (after m stored lines n).store.items) (sym (add-one i)) ∙ ap (λ t. (state_after m (initial stored) t).store.items) (after_more i line h here) ∙ ap (λ (x : State). x.store.items) (state_after-push m (initial stored) (take i lines) line) in
-      subst (IsLeft left s.store.items) (sym next) (leaves s (so_far apart) apart)
+      let next : (after m stored lines (suc i)).store ≡ ((turn m s line).1).store =
+      ap (λ n. (after m stored lines n).store) (sym (add-one i)) ∙ ap (λ t. (state_after m (initial stored) t).store) (after_more i line h here) ∙ ap (λ (x : State). x.store) (state_after-push m (initial stored) (take i lines) line) in
+      subst (IsLeft left s.store) (sym next) (leaves s (so_far apart) apart)
 
   -- behind the last command the state stays
-  pub after_all : (i : ℕ) → length lines ≤ i → (after m stored lines (suc i)).store.items ≡ (after m stored lines i).store.items
-  after_all i h = ap (λ (t : List (Line P)). (state_after m (initial stored) t).store.items) (take_all (suc i) lines (omega arith) ∙ sym (take_all i lines h))
+  pub after_all : (i : ℕ) → length lines ≤ i → (after m stored lines (suc i)).store ≡ (after m stored lines i).store
+  after_all i h = ap (λ (t : List (Line P)). (state_after m (initial stored) t).store) (take_all (suc i) lines (omega arith) ∙ sym (take_all i lines h))
 
   -- the run ended in a command
-  pub ended_in : (i : ℕ) (line : Line P) (given : List Answer) (left : Option (List Bytes)) (Before : State → Type 0) → i < length lines → line ≡ get_or lines i line → length given ≡ i
+  pub ended_in : (i : ℕ) (line : Line P) (given : List Answer) (left : Option Stored) (Before : State → Type 0) → i < length lines → line ≡ get_or lines i line → length given ≡ i
       → (Apart m.root (after m stored lines i).had → (given ≡ answers m (initial stored) (take i lines)) × Before (after m stored lines i))
-      → ((s : State) → Before s → Apart m.root s.had → IsLeft left s.store.items ((turn m s line).1).store.items)
+      → ((s : State) → Before s → Apart m.root s.had → IsLeft left s.store ((turn m s line).1).store)
       → IsRun m stored lines given left
   ended_in i line given left Before h here e so_far leaves = record {
     few = omega (arith, e);
     same = subst (λ n. Apart m.root (after m stored lines n).had → given ≡ answers m (initial stored) (take n lines)) (sym e) (λ apart. (so_far apart).0);
-    left = subst (λ n. Apart m.root (after m stored lines n).had → IsLeft left (after m stored lines n).store.items (after m stored lines (suc n)).store.items) (sym e)
+    left = subst (λ n. Apart m.root (after m stored lines n).had → IsLeft left (after m stored lines n).store (after m stored lines (suc n)).store) (sym e)
         (left_in i line left Before h here (λ apart. (so_far apart).1) leaves);
   }
 
   -- the store is as it was after the commands answered
-  pub ended_at : (i : ℕ) (given : List Answer) (left : Option (List Bytes)) → i ≤ length lines → length given ≡ i
-      → (Apart m.root (after m stored lines i).had → (given ≡ answers m (initial stored) (take i lines)) × (left ≡ Some (after m stored lines i).store.items))
+  pub ended_at : (i : ℕ) (given : List Answer) (left : Option Stored) → i ≤ length lines → length given ≡ i
+      → (Apart m.root (after m stored lines i).had → (given ≡ answers m (initial stored) (take i lines)) × (left ≡ Some (after m stored lines i).store))
       → IsRun m stored lines given left
   ended_at i given left h e so_far = record {
     few = omega (arith, e);
     same = subst (λ n. Apart m.root (after m stored lines n).had → given ≡ answers m (initial stored) (take n lines)) (sym e) (λ apart. (so_far apart).0);
-    left = subst (λ n. Apart m.root (after m stored lines n).had → IsLeft left (after m stored lines n).store.items (after m stored lines (suc n)).store.items) (sym e)
-        (λ apart. left_none (after m stored lines i).store.items (after m stored lines (suc i)).store.items left (so_far apart).1);
+    left = subst (λ n. Apart m.root (after m stored lines n).had → IsLeft left (after m stored lines n).store (after m stored lines (suc n)).store) (sym e)
+        (λ apart. left_none (after m stored lines i).store (after m stored lines (suc i)).store left (so_far apart).1);
   }
 
 pub each : {A : Type 0} (o : Option A) {Q : A → Type 0} → ((x : A) → o ≡ Some x → Q x) → IfSome o Q

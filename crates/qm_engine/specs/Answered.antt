@@ -1,9 +1,10 @@
 -- What answering the lines of an input gives.
 use Rattle.std.specs.Prelude.{◌≡◌, ◌≤◌, ℕ, suc, List, length, take, Option, Some, None}
 use Rattle.qm_model.specs.Operations.{Bytes}
+use Rattle.qm_model.specs.StoreModel.{Stored}
 use Rattle.qm_model.specs.Batches.{Apart}
 use Rattle.qm_machine.specs.Lines.{Line}
-use Rattle.qm_machine.specs.Machine.{Scheme, Stored, State, initial, turn, answers}
+use Rattle.qm_machine.specs.Machine.{Scheme, State, initial, turn, answers}
 use Rattle.qm_machine.specs.Text.{text_of}
 use Rattle.qm_engine.specs.Session.{IsLeft}
 use Rattle.qm_engine.specs.Runs.{after}
@@ -13,9 +14,9 @@ abbrev pub after_line : {P : Type 0} → Scheme P → State → Option (Line P) 
 after_line m s None = s
 after_line m s (Some line) = (turn m s line).1
 
--- Over this store the first k commands were answered: the text is that of the machine's answers, and its items are
+-- Over this store the first k commands were answered: the text is that of the machine's answers, and its store is
 -- left, with a first part of what the next command appends, if the lists of that very run are apart.
-pub record IsAnswered {P : Type 0} (m : Scheme P) (stored : Stored) (lines : List (Line P)) (k : ℕ) (text : Bytes) (items_left : Option (List Bytes)) : Type 0 where
+pub record IsAnswered {P : Type 0} (m : Scheme P) (stored : Stored) (lines : List (Line P)) (k : ℕ) (text : Bytes) (store_left : Option Stored) : Type 0 where
   pub few : k ≤ length lines
   pub same : Apart m.root (after m stored lines k).had → text ≡ text_of (answers m (initial stored) (take k lines))
-  pub left : Apart m.root (after m stored lines k).had → IsLeft items_left (after m stored lines k).store.items (after m stored lines (suc k)).store.items
+  pub left : Apart m.root (after m stored lines k).had → IsLeft store_left (after m stored lines k).store (after m stored lines (suc k)).store

@@ -1,18 +1,18 @@
 -- What a run of commands answers and leaves.
 use Rattle.std.specs.Prelude.{◌≡◌, ◌≤◌, ℕ, suc, List, length, take, Option}
-use Rattle.qm_model.specs.Operations.{Bytes}
+use Rattle.qm_model.specs.StoreModel.{Stored}
 use Rattle.qm_model.specs.Batches.{Apart}
 use Rattle.qm_machine.specs.Lines.{Line, Answer}
-use Rattle.qm_machine.specs.Machine.{Scheme, Stored, State, initial, answers, state_after}
+use Rattle.qm_machine.specs.Machine.{Scheme, State, initial, answers, state_after}
 use Rattle.qm_engine.specs.Session.{IsLeft}
 
 -- the machine's state after the first k commands, over this store
 abbrev pub after : {P : Type 0} → Scheme P → Stored → List (Line P) → ℕ → State
 after m stored lines k = state_after m (initial stored) (take k lines)
 
--- A run over this store gave the machine's answers to as many of the first commands, and left the machine's items with
+-- A run over this store gave the machine's answers to as many of the first commands, and left the machine's store with
 -- a first part of what the next command appends, if the lists of that very run are apart.
-pub record IsRun {P : Type 0} (m : Scheme P) (stored : Stored) (lines : List (Line P)) (given : List Answer) (items_left : Option (List Bytes)) : Type 0 where
+pub record IsRun {P : Type 0} (m : Scheme P) (stored : Stored) (lines : List (Line P)) (given : List Answer) (store_left : Option Stored) : Type 0 where
   pub few : length given ≤ length lines
   pub same : Apart m.root (after m stored lines (length given)).had → given ≡ answers m (initial stored) (take (length given) lines)
-  pub left : Apart m.root (after m stored lines (length given)).had → IsLeft items_left (after m stored lines (length given)).store.items (after m stored lines (suc (length given))).store.items
+  pub left : Apart m.root (after m stored lines (length given)).had → IsLeft store_left (after m stored lines (length given)).store (after m stored lines (suc (length given))).store

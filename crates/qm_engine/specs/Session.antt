@@ -4,7 +4,8 @@ use Rattle.qm_model.specs.Causes.{Rose}
 use Rattle.qm_model.specs.Operations.{Bytes, Operation}
 use Rattle.qm_model.specs.Batches.{IsAmong, Apart}
 use Rattle.qm_machine.specs.Lines.{Answer}
-use Rattle.qm_machine.specs.Machine.{Stored, State, slot_at}
+use Rattle.qm_model.specs.StoreModel.{Stored, beside_items}
+use Rattle.qm_machine.specs.Machine.{State, slot_at}
 use Rattle.qm_machine.specs.Machine as machine
 use Rattle.qm_lines.specs.Views.{answer_view}
 use Rattle.qm_lines.specs.declared.reply.Reply as reply
@@ -68,16 +69,18 @@ IfReply (Reply r) P = P r
 IfReply Memory P = Unit {0}
 IfReply StoreFault P = Unit {0}
 
--- The items are those before a command, or with a first part of what it appends.
-pub record IsLeft (items : Option (List Bytes)) (before after : List Bytes) : Type 0 where
+-- A store is as it was before a command, or has a first part of what that appends; as many of its items are stable, or more.
+pub record IsLeft (left : Option Stored) (before after : Stored) : Type 0 where
   pub count : ℕ
-  pub same : items ≡ Some (before ++ take count (drop (length before) after))
+  pub stable : ℕ
+  pub least : before.stable ≤ stable
+  pub same : left ≡ Some (record before { items = before.items ++ take count (drop (length before.items) after.items); stable = stable })
 
 module _ {X C B M : Type 0} (members : store.Ghosts C) (means : words.Ghosts X C B M) where
-  -- However a command ends, the store has the items before it and a first part of what it appends.
+  -- However a command ends, the store is as it was before, with a first part of what the command appends.
   abbrev pub Leaves : Session X C B M → Session X C B M → (State → Answer × State) → Type 0
   Leaves old new next =
-      (s : State) → Stands members means old s → Apart means.scheme.root s.had → IsLeft (members.items (store_given means.inside new.held)) s.store.items ((next s).1).store.items
+      (s : State) → Stands members means old s → Apart means.scheme.root s.had → IsLeft (members.told (store_given means.inside new.held)) s.store ((next s).1).store
 
   module _ {K V D : Type 0} (key : K → Bytes) (value : V → Bytes) (digest : D → Bytes) where
     -- A reply is the machine's, where the lists of this state are apart.
@@ -97,10 +100,10 @@ module _ {X C B M : Type 0} (members : store.Ghosts C) (means : words.Ghosts X C
     abbrev pub Tells : Session X C B M → Turn K V D → (State → Answer × State) → Type 0
     Tells session turn next = Obeys session session turn next
 
--- A turn uses the store: it starts where it did, with its head; its count has not fallen, and it rose where a fault
--- is told.
+-- A turn uses the store: it starts where it did, and has what it had beside its items; its count has not fallen, and it rose
+-- where a fault is told.
 pub record Uses {C K V D : Type 0} (members : store.Ghosts C) (old new : C) (turn : Turn K V D) : Type 0 where
   pub start : members.start new ≡ members.start old
-  pub head : members.head new ≡ members.head old
+  pub beside : beside_items (members.told new) ≡ beside_items (members.told old)
   pub later : members.faults old ≤ members.faults new
   pub fault : turn ≡ StoreFault → Rose (members.faults old) (members.faults new)

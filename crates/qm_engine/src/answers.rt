@@ -9,7 +9,7 @@ ghost use Rattle.qm_machine.specs.Text.{reply_line};
 ghost use Rattle.qm_lines.specs.Views.{policy_view, line_view, answer_view};
 ghost use Rattle.qm_store.specs.Given.{store_given};
 ghost use Rattle.qm_engine.specs.Session.{Stands, Leaves, IsLeft};
-ghost use Rattle.qm_engine.specs.Stores.{told};
+ghost use Rattle.qm_model.specs.StoreModel.{beside_items};
 ghost use Rattle.qm_engine.specs.Answered.{after_line, IsAnswered};
 
 use crate::engine::Engine;
@@ -76,7 +76,7 @@ fn answer<X: Engine<C>, C: Store>(
     ensures kept { OnSome result.1 (text.new.items ≡ text.old.items) }
     ensures cause { IfSome result.1 (λ e. (e ≢ Ending.Done) × (e ≢ Ending.BadLine)) }
     ensures start { C.start (store_given X.inside result.0.held) ≡ C.start (store_given X.inside session.held) }
-    ensures head { C.head (store_given X.inside result.0.held) ≡ C.head (store_given X.inside session.held) }
+    ensures beside { beside_items (C.told (store_given X.inside result.0.held)) ≡ beside_items (C.told (store_given X.inside session.held)) }
     ensures later { C.faults (store_given X.inside session.held) ≤ C.faults (store_given X.inside result.0.held) }
     ensures fault { result.1 ≡ Some Ending.StoreFault → Rose (C.faults (store_given X.inside session.held)) (C.faults (store_given X.inside result.0.held)) }
     ensures opened { result.0.opened ≤ session.opened + 1 }
@@ -106,14 +106,14 @@ fn answer_line<X: Engine<C, Key = ByteKey, Value = ByteValue>, C: Store>(
         Apart X.scheme.root next.1.had → (text.new.items ≡ text.old.items ++ (reply_line next.0 ++ 10 ∷ []))
         × Stands C.Store X.Words result.0 next.1)) }
     ensures left { (s : machine.State) → Stands C.Store X.Words session s → Apart X.scheme.root s.had
-        → IsLeft (C.items (store_given X.inside result.0.held)) s.store.items (after_line X.scheme s (line_of line.now)).store.items }
+        → IsLeft (C.told (store_given X.inside result.0.held)) s.store (after_line X.scheme s (line_of line.now)).store }
     ensures kept { OnSome result.1 (text.new.items ≡ text.old.items) }
     ensures command { IfNone result.1 (IsSome (line_of line.now)) }
     ensures bad { result.1 ≡ Some Ending.BadLine → line_of line.now ≡ None }
     ensures fault_command { result.1 ≡ Some Ending.StoreFault → IsSome (line_of line.now) }
     ensures not_done { IfSome result.1 (λ e. e ≢ Ending.Done) }
     ensures start { C.start (store_given X.inside result.0.held) ≡ C.start (store_given X.inside session.held) }
-    ensures head { C.head (store_given X.inside result.0.held) ≡ C.head (store_given X.inside session.held) }
+    ensures beside { beside_items (C.told (store_given X.inside result.0.held)) ≡ beside_items (C.told (store_given X.inside session.held)) }
     ensures later { C.faults (store_given X.inside session.held) ≤ C.faults (store_given X.inside result.0.held) }
     ensures fault { result.1 ≡ Some Ending.StoreFault → Rose (C.faults (store_given X.inside session.held)) (C.faults (store_given X.inside result.0.held)) }
     ensures opened { result.0.opened ≤ session.opened + 1 }
@@ -135,13 +135,13 @@ pub fn answer_lines<X: Engine<C, Key = ByteKey, Value = ByteValue>, C: Store, G:
     input: &[u8],
     _gate: &G,
 ) -> Answered<C>
-    ensures machine { IfSome (told C.Store store) (λ stored.
-        IsAnswered X.scheme stored (commands_in input.now) result.answered result.text.items (C.items result.store)) }
+    ensures machine { IfSome (C.told store) (λ stored.
+        IsAnswered X.scheme stored (commands_in input.now) result.answered result.text.items (C.told result.store)) }
     ensures done { result.ending ≡ Ending.Done → (result.answered ≡ length (commands_in input.now)) × (bad_in input.now ≡ None) }
     ensures bad { result.ending ≡ Ending.BadLine → (result.answered ≡ length (commands_in input.now)) × (bad_in input.now ≡ Some (result.answered + 1)) }
     ensures short { result.ending ≡ Ending.StoreFault → result.answered < length (commands_in input.now) }
     ensures start { C.start result.store ≡ C.start store }
-    ensures head { C.head result.store ≡ C.head store }
+    ensures beside { beside_items (C.told result.store) ≡ beside_items (C.told store) }
     ensures bound { result.answered ≤ length input.now }
     ensures later { C.faults store ≤ C.faults result.store }
     ensures fault { result.ending ≡ Ending.StoreFault → Rose (C.faults store) (C.faults result.store) }

@@ -3,6 +3,7 @@
 ghost use Rattle.std.specs.Prelude.{◌≡◌, ◌≢◌, ◌≤◌, ◌+◌, ◌++◌, ◌∷◌, [], List, Some, None, map, take, drop, length, nat_lt, option_map, if◌then◌else◌, IfOk, IfErr, IfSome, IsSome, IsErrOf};
 ghost use Rattle.std.specs.Int.NonZero.{non_zero_u64_get};
 ghost use Rattle.qm_model.specs.Causes.{Rose};
+ghost use Rattle.qm_model.specs.StoreModel.{beside_items};
 ghost use Rattle.qm_model.specs.Operations.{Operation, fresh};
 ghost use Rattle.qm_model.specs.Forms.{spelling, variable};
 ghost use Rattle.qm_model.specs.Live.{live, floor, value_of, last_metadata};
@@ -69,15 +70,15 @@ pub trait Engine<C: Store>: Words<C> + Drop + Sized {
     fn open(alloc: Global, store: C, config: &Self::Config) -> Result<Self, Refusal<Self, C>>
         requires start { C.start store ≡ 0 }
         requires empty { C.end store ≡ 0 }
-        ensures opened { IfSome (C.items store) (λ _. IfOk result (λ x. Self.stands x fresh)) }
-        ensures offered { IfOk result (λ _. IfSome (C.head store) (λ head. head_refusal head ≡ None)) }
+        ensures opened { IfSome (C.told store) (λ _. IfOk result (λ x. Self.stands x fresh)) }
+        ensures offered { IfOk result (λ _. IfSome (C.told store) (λ held. head_refusal held.head ≡ None)) }
         ensures grown { IfOk result (λ x. Appended C.Store store (Self.inside x) (map (spelling variable) fresh)) }
         ensures kept { IfErr result (λ r. AppendedPart C.Store store (store_given Self.inside r.given) (map (spelling variable) fresh)) }
         ensures cause { IfErr result (λ r. r.error ≡ Error.Journal JournalError.Store → Rose (C.faults store) (C.faults (store_given Self.inside r.given))) }
         ensures later { C.faults store ≤ C.faults (store_after Self.inside result) }
         ensures causes { IfErr result (λ r. IsAmong r.error (refusals.DataCorrupted refusals.HeadDoesNotMatch ∷ [])) }
-        ensures refused { IfErr result (λ r. IfSome (C.head store) (λ head. IsDue r.error (head_refusal head))) }
-        ensures unopened { IfErr result (λ r. IfSome (C.head store) (λ head. IsSome (head_refusal head) → IsUnchanged C.Store store (store_given Self.inside r.given))) }
+        ensures refused { IfErr result (λ r. IfSome (C.told store) (λ held. IsDue r.error (head_refusal held.head))) }
+        ensures unopened { IfErr result (λ r. IfSome (C.told store) (λ held. IsSome (head_refusal held.head) → IsUnchanged C.Store store (store_given Self.inside r.given))) }
         ensures back { IfErr result (λ r. (x : Self) → r.given ≢ Given.Database x) };
 
     /// Lends the store.
@@ -174,7 +175,7 @@ pub trait Engine<C: Store>: Words<C> + Drop + Sized {
             AppendedPart C.Store (Self.inside self) (store_given Self.inside r.given) (if fits Self.scheme.root (commitment Self.scheme.root list) chain then map (spelling variable) (drop (length list) tip) else []))) }
         ensures back { IfErr result (λ r. (x : Self) → r.given ≡ Given.Database x → x ≡ self) }
         ensures start { C.start (store_after Self.inside result) ≡ C.start (Self.inside self) }
-        ensures head { C.head (store_after Self.inside result) ≡ C.head (Self.inside self) }
+        ensures beside { beside_items (C.told (store_after Self.inside result)) ≡ beside_items (C.told (Self.inside self)) }
         ensures cause { IfErr result (λ r. r.error ≡ Error.Journal JournalError.Store → Rose (C.faults (Self.inside self)) (C.faults (store_given Self.inside r.given))) }
         ensures later { C.faults (Self.inside self) ≤ C.faults (store_after Self.inside result) };
 

@@ -7,7 +7,7 @@ ghost use Rattle.qm_machine.specs.Machine as machine;
 ghost use Rattle.qm_lines.specs.Views.{policy_view, line_view, answer_view};
 ghost use Rattle.qm_store.specs.Given.{store_given};
 ghost use Rattle.qm_engine.specs.Session.{Stands, Leaves};
-ghost use Rattle.qm_engine.specs.Stores.{told};
+ghost use Rattle.qm_model.specs.StoreModel.{Stored, beside_items};
 ghost use Rattle.qm_engine.specs.Runs.{IsRun};
 
 use crate::engine::Engine;
@@ -68,7 +68,7 @@ fn step<X: Engine<C>, C: Store>(
     ensures kept { OnSome result.1 (replies.new.items ≡ replies.old.items) }
     ensures not_done { IfSome result.1 (λ e. e ≢ End.Done) }
     ensures start { C.start (store_given X.inside result.0.held) ≡ C.start (store_given X.inside session.held) }
-    ensures head { C.head (store_given X.inside result.0.held) ≡ C.head (store_given X.inside session.held) }
+    ensures beside { beside_items (C.told (store_given X.inside result.0.held)) ≡ beside_items (C.told (store_given X.inside session.held)) }
     ensures later { C.faults (store_given X.inside session.held) ≤ C.faults (store_given X.inside result.0.held) }
     ensures fault { result.1 ≡ Some End.StoreFault → Rose (C.faults (store_given X.inside session.held)) (C.faults (store_given X.inside result.0.held)) }
     ensures opened { result.0.opened ≤ session.opened + 1 }
@@ -86,7 +86,7 @@ fn step<X: Engine<C>, C: Store>(
 
 // A session with a closed store, and no batch.
 pub(crate) fn begin<X: Engine<C>, C: Store>(alloc: Global, store: C) -> Result<Of<X, C>, C>
-    ensures session { IfOk result (λ session. (stored : machine.Stored) → told C.Store store ≡ Some stored → Stands C.Store X.Words session (machine.initial stored)) }
+    ensures session { IfOk result (λ session. (stored : Stored) → C.told store ≡ Some stored → Stands C.Store X.Words session (machine.initial stored)) }
     ensures store { IfOk result (λ session. store_given X.inside session.held ≡ store) }
     ensures opened { IfOk result (λ session. session.opened ≡ 0) }
     ensures back { IfErr result (λ c. c ≡ store) }
@@ -103,8 +103,7 @@ pub(crate) fn begin<X: Engine<C>, C: Store>(alloc: Global, store: C) -> Result<O
 }
 
 /// Runs the commands over the store, from no database, up to their end or to the first for which memory or the
-/// store fails. Accepted openings are numbered from 1, batches too. The gate holds the workers of an opening. That a store
-/// tells its head is no premise beside that it tells its items (`told_head`).
+/// store fails. Accepted openings are numbered from 1, batches too. The gate holds the workers of an opening.
 pub fn run<X: Engine<C>, C: Store, G: Gate>(
     alloc: Global,
     store: C,
@@ -112,12 +111,12 @@ pub fn run<X: Engine<C>, C: Store, G: Gate>(
     commands: &[Command<X::Key, X::Value, AnyPolicy>],
     _gate: &G,
 ) -> Outcome<X, C>
-    ensures machine { IfSome (told C.Store store) (λ stored. IsRun X.scheme stored
-        (map (line_view X.Key.bytes X.Value.bytes policy_view) commands.now) (map (answer_view X.Key.bytes X.Value.bytes X.Digest.bytes) result.replies.items) (C.items result.store)) }
+    ensures machine { IfSome (C.told store) (λ stored. IsRun X.scheme stored
+        (map (line_view X.Key.bytes X.Value.bytes policy_view) commands.now) (map (answer_view X.Key.bytes X.Value.bytes X.Digest.bytes) result.replies.items) (C.told result.store)) }
     ensures done { result.end ≡ End.Done → length result.replies.items ≡ length commands.now }
     ensures short { result.end ≡ End.StoreFault → length result.replies.items < length commands.now }
     ensures start { C.start result.store ≡ C.start store }
-    ensures head { C.head result.store ≡ C.head store }
+    ensures beside { beside_items (C.told result.store) ≡ beside_items (C.told store) }
     ensures later { C.faults store ≤ C.faults result.store }
     ensures fault { result.end ≡ End.StoreFault → Rose (C.faults store) (C.faults result.store) }
 {

@@ -1,13 +1,14 @@
 -- What the program may answer, write and leave.
 use Rattle.std.specs.Prelude.{◌≡◌, ◌≤◌, ◌<◌, ◌⊎◌, ℕ, suc, Bool, false, ◌&&◌, List, [], ◌∷◌, ◌++◌, length, take, codes, Option, None, Some, bytes_eq, decimal}
 use Rattle.qm_model.specs.Operations.{Bytes}
+use Rattle.qm_model.specs.StoreModel.{Stored}
 use Rattle.qm_model.specs.Live.{floor}
 use Rattle.qm_model.specs.Policies.{Policy, policies}
 use Rattle.qm_model.specs.Step.{unordered}
 use Rattle.qm_model.specs.Mmr.{mmr}
 use Rattle.qm_model.specs.Roots.{sha256_root, sha256_proof, sha256_pins}
 use Rattle.qm_model.specs.Batches.{Apart}
-use Rattle.qm_machine.specs.Machine.{Scheme, Stored, State, initial, answers}
+use Rattle.qm_machine.specs.Machine.{Scheme, State, initial, answers}
 use Rattle.qm_machine.specs.Grammar.{commands_in, bad_in}
 use Rattle.qm_machine.specs.Text.{text_of}
 use Rattle.qm_engine.specs.Session.{IsLeft}
@@ -54,25 +55,25 @@ module _ (stored : Stored) (input : Bytes) where
   abbrev pub IsApart : ℕ → Type 0
   IsApart k = Apart scheme.root (state k).had
 
-  -- the machine's items after the first k commands, with a first part of what the next one appends
-  abbrev pub IsLeftAt : Option (List Bytes) → ℕ → Type 0
-  IsLeftAt left k = IsLeft left (state k).store.items (state (suc k)).store.items
+  -- the machine's store after the first k commands, with a first part of what the next one appends
+  abbrev pub IsLeftAt : Option Stored → ℕ → Type 0
+  IsLeftAt left k = IsLeft left (state k).store (state (suc k)).store
 
   -- k commands answered: a first part of their replies; of these and the fault, where the store's count rose and not all are answered; of
   -- these and the bad line, where there is one behind them
-  pub record IsPartial (rose : Type 0) (written : Bytes) (left : Option (List Bytes)) (k : ℕ) : Type 0 where
+  pub record IsPartial (rose : Type 0) (written : Bytes) (left : Option Stored) (k : ℕ) : Type 0 where
     pub few : k ≤ count
     pub part : IsApart k → IsPartOf written (model_text k)
         ⊎ (rose × (k < count) × IsPartOf written (model_text k ++ fault_text)
         ⊎ ((n : ℕ) × (bad_in input ≡ Some n) × (k ≡ count) × IsPartOf written (model_text k ++ bad_text n)))
-    pub items_left : IsApart k → IsLeftAt left k
+    pub store_left : IsApart k → IsLeftAt left k
 
-  -- What a status says of the bytes written and of the store's items; `rose` says that the store's count rose.
-  pub record Says (status : ℕ) (rose : Type 0) (written : Bytes) (left : Option (List Bytes)) : Type 0 where
+  -- What a status says of the bytes written and of what the store tells; `rose` says that the store's count rose.
+  pub record Says (status : ℕ) (rose : Type 0) (written : Bytes) (left : Option Stored) : Type 0 where
     -- every line answered
-    pub all : status ≡ 0 → (bad_in input ≡ None) × (IsApart count → (written ≡ model_text count) × (left ≡ Some (state count).store.items))
+    pub all : status ≡ 0 → (bad_in input ≡ None) × (IsApart count → (written ≡ model_text count) × (left ≡ Some (state count).store))
     -- a bad line
-    pub bad : status ≡ 2 → (n : ℕ) × (bad_in input ≡ Some n) × (IsApart count → (written ≡ model_text count ++ bad_text n) × (left ≡ Some (state count).store.items))
+    pub bad : status ≡ 2 → (n : ℕ) × (bad_in input ≡ Some n) × (IsApart count → (written ≡ model_text count ++ bad_text n) × (left ≡ Some (state count).store))
     -- the store failed, and a command has no reply
     pub fault : status ≡ 6 → (k : ℕ) × (k < count) × (IsApart k → (written ≡ model_text k ++ fault_text) × IsLeftAt left k)
     -- the sink failed, or memory did

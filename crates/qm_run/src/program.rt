@@ -6,7 +6,7 @@ ghost use Rattle.std.specs.String.{string_bytes};
 ghost use Rattle.qm_model.specs.Causes.{Rose};
 ghost use Rattle.qm_model.specs.Operations.{Bytes};
 ghost use Rattle.qm_machine.specs.Grammar.{bad_in};
-ghost use Rattle.qm_engine.specs.Stores.{told};
+ghost use Rattle.qm_model.specs.StoreModel.{beside_items};
 ghost use Rattle.qm_run.specs.Program.{are_words, Says, bad_text};
 ghost use Rattle.qm_run.specs.Endings.{tail_text, tail_status};
 
@@ -91,11 +91,11 @@ fn serve<C: Store, K: Sink, G: Gate>(
     sink: &mut K,
     gate: &G,
 ) -> (u8, C)
-    ensures headline { IfSome (told C.Store store) (λ stored. IfSome (K.text sink.old) (λ before.
+    ensures headline { IfSome (C.told store) (λ stored. IfSome (K.text sink.old) (λ before.
         (written : Bytes) × (K.text sink.new ≡ Some (before ++ written))
-        × Says stored input.now result.0 (Rose (C.faults store) (C.faults result.1)) written (C.items result.1))) }
+        × Says stored input.now result.0 (Rose (C.faults store) (C.faults result.1)) written (C.told result.1))) }
     ensures start { C.start result.1 ≡ C.start store }
-    ensures head { C.head result.1 ≡ C.head store }
+    ensures beside { beside_items (C.told result.1) ≡ beside_items (C.told store) }
     ensures write { result.0 ≡ 4 → Rose (K.faults sink.old) (K.faults sink.new) }
     ensures store { result.0 ≡ 6 → Rose (C.faults store) (C.faults result.1) }
     ensures codes { (result.0 ≡ 0) ⊎ ((result.0 ≡ 2) ⊎ ((result.0 ≡ 4) ⊎ ((result.0 ≡ 5) ⊎ (result.0 ≡ 6)))) }
@@ -135,16 +135,16 @@ pub fn qmdb_main<C: Store, S: Source, K: Sink, G: Gate>(
     sink: &mut K,
     gate: &G,
 ) -> (u8, C)
-    // From a store that tells its items, and so its head (`told_head`), the source and the sink telling their bytes.
-    ensures headline { IfSome (told C.Store store) (λ stored. IfSome (S.left source.old) (λ input. IfSome (K.text sink.old) (λ before.
+    // From a store that tells what it holds, the source and the sink telling their bytes.
+    ensures headline { IfSome (C.told store) (λ stored. IfSome (S.left source.old) (λ input. IfSome (K.text sink.old) (λ before.
         (written : Bytes) × (K.text sink.new ≡ Some (before ++ written))
-        × Says stored input result.0 (Rose (C.faults store) (C.faults result.1)) written (C.items result.1)))) }
+        × Says stored input result.0 (Rose (C.faults store) (C.faults result.1)) written (C.told result.1)))) }
 
     // What stays as it was.
     ensures untouched { (result.0 ≡ 1) ⊎ ((result.0 ≡ 3) ⊎ (result.0 ≡ 7)) → (result.1 ≡ store) × (sink.new ≡ sink.old) }
     ensures unread { result.0 ≡ 1 → source.new ≡ source.old }
     ensures start { C.start result.1 ≡ C.start store }
-    ensures head { C.head result.1 ≡ C.head store }
+    ensures beside { beside_items (C.told result.1) ≡ beside_items (C.told store) }
 
     // When each status comes.
     ensures usage { (result.0 ≡ 1) ↔ (are_words (map string_bytes words.now) ≡ false) }

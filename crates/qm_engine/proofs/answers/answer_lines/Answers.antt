@@ -1,9 +1,8 @@
 use Rattle.std.proofs.Common.{◌≡◌, arith, refl, ◌∙◌, ap, Some}
 use Rattle.qm_machine.specs.Grammar.{line_of}
 use Rattle.qm_lines.proofs.Inputs.{at_start, at_end, at_bad}
-use Rattle.qm_engine.specs.Stores.{told}
+use Rattle.qm_model.specs.StoreModel.{beside_items}
 use Rattle.qm_engine.specs.Session.{Holds}
-use Rattle.qm_engine.proofs.Commands.{told-stored}
 use Rattle.qm_engine.proofs.Loops.{each}
 use Rattle.qm_engine.proofs.Answerings.{at_next, at_short, line_step, answered_in, answered_at}
 use Rattle.qm_engine.proofs.answers.answer_lines.Goals as goal
@@ -14,21 +13,21 @@ loop-line-init g c = record {
   room = omega arith;
   opened = omega (arith, c.in-Ok.ensures.opened);
   start = ap g.C.Store.start c.in-Ok.ensures.store;
-  head = ap g.C.Store.head c.in-Ok.ensures.store;
+  beside = ap (λ s. beside_items (g.C.Store.told s)) c.in-Ok.ensures.store;
   later = omega (arith, ap g.C.Store.faults c.in-Ok.ensures.store);
   machine = λ stored is apart. (c.new-text.ensures.items, c.in-Ok.ensures.session stored is);
 }
 
 pub returns-in-Err-clause-machine : goal.returns-in-Err-clause-machine
 returns-in-Err-clause-machine g c =
-    each (told g.C.Store c.args.store) (λ stored is.
+    each (g.C.Store.told c.args.store) (λ stored is.
     answered_at g.X.Words.scheme stored c.args.input.now 0 c.new-text.result.items _ (omega arith)
-    (λ apart. (c.new-text.ensures.items, ap g.C.Store.items c.in-Err.ensures.back ∙ (told-stored g.C.Store c.args.store stored is).items)))
+    (λ apart. (c.new-text.ensures.items, ap g.C.Store.told c.in-Err.ensures.back ∙ is)))
 
 pub returns-in-Some-ended-clause-machine : goal.returns-in-Some-ended-clause-machine
 returns-in-Some-ended-clause-machine g c =
     let kept : c.answer_line-next.new.text.items ≡ c.loop-line.text.items = rw c.in-Some-ended.is at c.answer_line-next.ensures.kept in
-    each (told g.C.Store c.args.store) (λ stored is.
+    each (g.C.Store.told c.args.store) (λ stored is.
     rw (kept, c.close.ensures) (answered_in c.args.input.now c.loop-line.rest.now c.in-Some.line.now c.in-Some.behind.now c.loop-line.answered c.loop-line.invariant.at c.in-Some.ensures.some
     g.X.Words.scheme stored c.loop-line.text.items _
     (λ s. Holds g.C.Store g.X.Words c.loop-line.session.held c.loop-line.session.table.items c.loop-line.session.opened s)
@@ -54,7 +53,7 @@ loop-line-preserved g c =
       opened = omega arith;
       later = omega arith;
       start = c.answer_line-next.ensures.start ∙ c.loop-line.invariant.start;
-      head = c.answer_line-next.ensures.head ∙ c.loop-line.invariant.head;
+      beside = c.answer_line-next.ensures.beside ∙ c.loop-line.invariant.beside;
       machine = λ stored is. line_step c.args.input.now c.loop-line.rest.now c.in-Some.line.now c.in-Some.behind.now c.loop-line.answered c.loop-line.invariant.at c.in-Some.ensures.some
           g.X.Words.scheme stored (line_of c.in-Some.line.now) refl some c.loop-line.text.items c.answer_line-next.new.text.items
           (λ s. Holds g.C.Store g.X.Words c.loop-line.session.held c.loop-line.session.table.items c.loop-line.session.opened s)
@@ -65,9 +64,9 @@ loop-line-preserved g c =
 
 pub returns-clause-machine : goal.returns-clause-machine
 returns-clause-machine g c =
-    each (told g.C.Store c.args.store) (λ stored is.
+    each (g.C.Store.told c.args.store) (λ stored is.
     rw c.close-2.ensures (answered_at g.X.Words.scheme stored c.args.input.now c.loop-line.answered c.loop-line.text.items _ c.loop-line.invariant.at.few
-    (λ apart. let at_end = c.loop-line.invariant.machine stored is apart in (at_end.0, (at_end.1).store.items))))
+    (λ apart. let at_end = c.loop-line.invariant.machine stored is apart in (at_end.0, (at_end.1).store.told))))
 
 pub returns-clause-done : goal.returns-clause-done
 returns-clause-done g c = λ e. at_end c.args.input.now c.loop-line.rest.now c.loop-line.answered c.loop-line.invariant.at c.in_default.ensures.none

@@ -1,9 +1,8 @@
 use Rattle.std.proofs.Common.{◌≡◌, ◌+◌, ◌++◌, ◌∷◌, [], length, map, arith, refl, ◌∙◌, ap, Some}
 use Rattle.std.proofs.lemmas.List.{length-map}
 use Rattle.qm_lines.specs.Views.{policy_view, line_view, answer_view}
-use Rattle.qm_engine.specs.Stores.{told}
+use Rattle.qm_model.specs.StoreModel.{beside_items}
 use Rattle.qm_engine.specs.Session.{Holds}
-use Rattle.qm_engine.proofs.Commands.{told-stored}
 use Rattle.qm_engine.proofs.Loops.{each, loop_step, ended_in, ended_at, line_here, Rose-wider}
 use Rattle.qm_engine.proofs.runs.run.Goals as goal
 
@@ -15,7 +14,7 @@ loop-command-init g c =
       opened = omega (arith, c.in-Ok.ensures.opened);
       later = omega (arith, ap g.C.Store.faults c.in-Ok.ensures.store);
       start = ap g.C.Store.start c.in-Ok.ensures.store;
-      head = ap g.C.Store.head c.in-Ok.ensures.store;
+      beside = ap (λ s. beside_items (g.C.Store.told s)) c.in-Ok.ensures.store;
       machine = λ stored is apart. (ap (map a) c.new-replies.ensures.items, c.in-Ok.ensures.session stored is);
     }
 
@@ -24,9 +23,9 @@ returns-in-Err-clause-machine g c =
     let f = line_view g.X.Key.ByteString.bytes g.X.Value.ByteString.bytes policy_view in
     let a = answer_view g.X.Key.ByteString.bytes g.X.Value.ByteString.bytes g.X.Digest.Digest.bytes in
     let none : map a c.new-replies.result.items ≡ [] = ap (map a) c.new-replies.ensures.items in
-    each (told g.C.Store c.args.store) (λ stored is.
+    each (g.C.Store.told c.args.store) (λ stored is.
     ended_at g.X.Words.scheme stored (map f c.args.commands.now) 0 (map a c.new-replies.result.items) _ (omega arith) (ap length none)
-    (λ apart. (none, ap g.C.Store.items c.in-Err.ensures.back ∙ (told-stored g.C.Store c.args.store stored is).items)))
+    (λ apart. (none, ap g.C.Store.told c.in-Err.ensures.back ∙ is)))
 
 pub returns-in-Some-clause-machine : goal.returns-in-Some-clause-machine
 returns-in-Some-clause-machine g c =
@@ -34,7 +33,7 @@ returns-in-Some-clause-machine g c =
     let a = answer_view g.X.Key.ByteString.bytes g.X.Value.ByteString.bytes g.X.Digest.Digest.bytes in
     let i = c.loop-command.command-index in
     let kept : c.step-next.new.replies.items ≡ c.loop-command.replies.items = rw c.in-Some.is at c.step-next.ensures.kept in
-    each (told g.C.Store c.args.store) (λ stored is.
+    each (g.C.Store.told c.args.store) (λ stored is.
     rw (kept, c.close.ensures) (ended_in g.X.Words.scheme stored (map f c.args.commands.now) i (f c.command-item.result) (map a c.loop-command.replies.items) _
     (λ s. Holds g.C.Store g.X.Words c.loop-command.session.held c.loop-command.session.table.items c.loop-command.session.opened s)
     (rw (length-map c.args.commands.now f) c.loop-command-test.true)
@@ -59,7 +58,7 @@ loop-command-preserved g c =
       opened = omega arith;
       later = omega arith;
       start = c.step-next.ensures.start ∙ c.loop-command.invariant.start;
-      head = c.step-next.ensures.head ∙ c.loop-command.invariant.head;
+      beside = c.step-next.ensures.beside ∙ c.loop-command.invariant.beside;
       machine = λ stored is. loop_step g.X.Words.scheme stored (map f c.args.commands.now) (λ given. given) (λ given answer. given ++ answer ∷ []) (λ given answer. refl) i (f c.command-item.result) (map a c.loop-command.replies.items) (map a c.step-next.new.replies.items)
           (λ s. Holds g.C.Store g.X.Words c.loop-command.session.held c.loop-command.session.table.items c.loop-command.session.opened s)
           (λ s. Holds g.C.Store g.X.Words c.step-next.result.0.held c.step-next.result.0.table.items c.step-next.result.0.opened s)
@@ -74,8 +73,8 @@ returns-clause-machine g c =
     let f = line_view g.X.Key.ByteString.bytes g.X.Value.ByteString.bytes policy_view in
     let a = answer_view g.X.Key.ByteString.bytes g.X.Value.ByteString.bytes g.X.Digest.Digest.bytes in
     let i = c.loop-command.command-index in
-    each (told g.C.Store c.args.store) (λ stored is.
+    each (g.C.Store.told c.args.store) (λ stored is.
     rw c.close-2.ensures (ended_at g.X.Words.scheme stored (map f c.args.commands.now) i (map a c.loop-command.replies.items) _
     (omega (arith, length-map c.args.commands.now f, c.loop-command.auto.command-index-end))
     (length-map c.loop-command.replies.items a ∙ c.loop-command.invariant.count)
-    (λ apart. let at_end = c.loop-command.invariant.machine stored is apart in (at_end.0, (at_end.1).store.items))))
+    (λ apart. let at_end = c.loop-command.invariant.machine stored is apart in (at_end.0, (at_end.1).store.told))))
