@@ -38,7 +38,7 @@ left-database members layout old new list left is =
     let by = layout.hashing in
     subst (λ x. IsDatabase members layout x list) (sym left.rest)
     (record {
-      told = subst (λ items. IsSome items) (sym ((left.read).kept.items)) is.told;
+      told = subst IsSome (sym ((left.read).kept.told)) is.told;
       lent = lent-then members by.shape by.bytes by.hash by.form layout.index_key old.entries old.log new.log list left.read is.lent;
       commitment = is.commitment;
       floor = is.floor;

@@ -7,7 +7,7 @@ use Rattle.std.proofs.lemmas.List.{nil_from_length, length-take-le, length-map, 
 use Rattle.std.proofs.lemmas.List.Elements.{All-cons, All-nil, All-take, All-drop}
 use Rattle.std.proofs.lemmas.List.Sorted.{IsPermutation-refl}
 use Rattle.qm_model.specs.Batches.{Commitment}
-use Rattle.qm_model.specs.Causes.{Grows}
+use Rattle.qm_model.specs.StoreModel.{Stored, Becomes}
 use Rattle.qm_model.specs.Refused as refusals
 use Rattle.qm_model.specs.Refused.{HistoricalFloorPruned, DataCorrupted, Merkle, Journal, FloorExceedsCommit, RangeOutOfBounds, ItemPruned}
 use Rattle.qm_model.specs.Live.{floor, floor_after}
@@ -82,26 +82,29 @@ log-none members shape births family peaked bytes hash log whole start leaves fi
       (nil_from_length log.tree.pins (whole.pinned ∙ ap (λ n. length (peaks shape n)) start ∙ ap length (peaks-none shape births family peaked)));
   start = first;
   size = leaves;
-  items = subst (λ n. IfSome (members.items log.store) (λ xs. take (0 - n) xs ≡ drop n [])) (sym start) (nothing (members.items log.store));
+  items = subst (λ n. IfSome (members.told log.store) (λ held. take (0 - n) held.items ≡ drop n [])) (sym start) (nothing (members.told log.store));
 }
   where
-    nothing : (o : Option (List Bytes)) → IfSome o (λ xs. take 0 xs ≡ [])
+    nothing : (o : Option Stored) → IfSome o (λ held. take 0 held.items ≡ [])
     nothing None = tt
-    nothing (Some xs) = refl
+    nothing (Some held) = refl
 
 -- the head of a store that starts at 0 has no byte, where it is as long as it should be
 module _ (shape : Shape) (births : Births) (family : IsFamily shape births) (peaked : HasPeaks shape) (start size : ℕ) (first : start ≡ 0) where
   none-long : length (peaks shape start) * size ≡ 0
   none-long = ap (λ n. length (peaks shape n) * size) first ∙ ap (λ ps. length ps * size) (peaks-none shape births family peaked) ∙ omega arith
 
-  pub head-bare : (h : Option Bytes) → IfSome h (λ h. length h ≡ length (peaks shape start) * size) → IfSome h (λ h. h ≡ [])
+  pub head-bare : (told : Option Stored) → IfSome told (λ held. length held.head ≡ length (peaks shape start) * size) → IfSome told (λ held. held.head ≡ [])
   head-bare None long = tt
-  head-bare (Some h) long = nil_from_length h (long ∙ none-long)
+  head-bare (Some held) long = nil_from_length held.head (long ∙ none-long)
 
-  pub head-some : (h : Option Bytes) → IfSome h (λ h. length h ≢ length (peaks shape start) * size) → IfSome h (λ h. 0 < length h)
+  some-long : (head : Bytes) → length head ≢ length (peaks shape start) * size → 0 < length head
+  some-long [] short = absurd (short (sym none-long))
+  some-long (b ∷ bs) short = omega arith
+
+  pub head-some : (told : Option Stored) → IfSome told (λ held. length held.head ≢ length (peaks shape start) * size) → IfSome told (λ held. 0 < length held.head)
   head-some None short = tt
-  head-some (Some []) short = absurd (short (sym none-long))
-  head-some (Some (b ∷ h)) short = omega arith
+  head-some (Some held) short = some-long held.head short
 
 -- the root over a list's spellings is its operations root
 pub root-spelled : (hash : Bytes → Bytes) (shape : Shape) (form : Form) (list : List Bytes) (ops : List Operation) (inactive : ℕ) → list ≡ map (spelling form) ops → inactive ≡ inactive_peaks shape (length ops) (floor ops)
@@ -109,10 +112,11 @@ pub root-spelled : (hash : Bytes → Bytes) (shape : Shape) (form : Form) (list 
 root-spelled hash shape form list ops inactive spelled is =
     ap₂ (root hash shape) (ap (digests_from hash shape 0) spelled ∙ sym (leaves-spelled hash shape form 0 ops)) is
 
--- a store that told its items still does when these have grown
-pub grown-told : {A : Type 0} (o new : Option (List A)) (more : List A) (P : Type 0) → Grows o new more → (IsSome new → P) → IfSome o (λ _. P)
-grown-told None new more P grows give = tt
-grown-told (Some xs) new more P grows give = give (subst IsSome (sym grows) refl)
+-- a store that told what it holds still does when its items have grown
+pub grown-told : (o new : Option Stored) (f : Stored → Stored) (P : Type 0) → Becomes o new f → (IsSome new → P) → IfSome o (λ _. P)
+grown-told None new f P grows give = tt
+grown-told (Some s) None f P grows give = absurd grows
+grown-told (Some s) (Some t) f P grows give = give refl
 
 -- an operation of a fresh list is one of each form
 fresh-of : (form : Form) → All (IsOf form) fresh
@@ -121,7 +125,7 @@ fresh-of form = All-cons (IsOf form) (commit None 0) [] (tt, omega arith) (All-n
 -- an empty index, a log of the fresh list and its commitment are a database of the fresh list
 pub fresh-stands : {C D : Type 0} (members : store.Ghosts C) (layout : Layout D) (db : Database C D) (log : Log C D) (first : Commitment)
     → db ≡ record { entries = []; log = log; commitment = first; floor = 0; live = 0; metadata = None }
-    → first ≡ record { size = 1; root = list_root layout.hashing fresh } → IsSome (members.items log.store)
+    → first ≡ record { size = 1; root = list_root layout.hashing fresh } → IsSome (members.told log.store)
     → IsLog members layout.hashing.shape layout.hashing.bytes layout.hashing.hash log (map (spelling layout.hashing.form) fresh) → IsDatabase members layout db fresh
 fresh-stands members layout db log first is committed told logged = subst (λ d. IsDatabase members layout d fresh) (sym is) (record {
   told = told;

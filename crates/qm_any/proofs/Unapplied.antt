@@ -5,7 +5,9 @@ use Rattle.std.proofs.lemmas.Bool.Decides.{leb_tells}
 use Rattle.std.proofs.lemmas.List.{take-map, take_all, append-nil, length-append, map_more, map-append, nil_from_length}
 use Rattle.std.proofs.lemmas.List.Elements.{All-nil, All-cons, All-head, All-append, All-take, All-drop}
 use Rattle.std.proofs.Math.Seq.{take-append_seam, drop-append_seam}
-use Rattle.qm_model.specs.Causes.{Grows, IsCause}
+use Rattle.qm_model.specs.Causes.{IsCause}
+use Rattle.qm_model.specs.StoreModel.{Stored, Becomes}
+use Rattle.qm_model.specs.StoreModel as model
 use Rattle.qm_model.specs.Forms.{spelling}
 use Rattle.qm_model.specs.Operations.{Bytes, Operation}
 use Rattle.qm_model.specs.Batches.{Chain, IsOnChain}
@@ -13,7 +15,7 @@ use Rattle.qm_base.specs.declared.error.Error.{Error}
 use Rattle.qm_base.specs.declared.error.Error.TheVariants as errors
 use Rattle.qm_base.specs.declared.error.JournalError.TheVariants as journal
 use Rattle.qm_store.specs.declared.Store as store
-use Rattle.qm_store.specs.Log.{IsLog, HasGrown}
+use Rattle.qm_store.specs.Log.{IsLog}
 use Rattle.qm_batch.specs.Changes.{Changes, LeadTo}
 use Rattle.qm_batch.specs.Lent.{IsIndexed}
 use Rattle.qm_batch.specs.Layers.{Layer, LeadThrough}
@@ -162,30 +164,19 @@ lacked-behind layers tip older n leads among =
     (ap (drop (length lent)) (lacked-lists layers tip older lent leads (Contains-later tip older lent here.1)).0
     ∙ drop-append_seam lent (operations_in (unapplied (length lent) layers)))
 
--- a store whose items grew has the start and the head that it had
-pub appended : {C : Type 0} (members : store.Ghosts C) (old new : C) (more : List Bytes) → HasGrown members old new more → Appended members old new more
-appended members old new more grown = record { start = grown.start; head = grown.head; items = grown.items }
-
 -- want of memory is no fault
 pub memory-cause : (before now : ℕ) (e : Error) → before ≤ now → e ≡ errors.Memory → IsCause before now (e ≡ errors.Journal journal.Store)
 memory-cause before now e later is = record { later = later; failed = λ fault. absurd (cc (is, fault)) }
-
--- what grew by all of these grew by a first part of them
-pub part-whole : {C : Type 0} (members : store.Ghosts C) (old new : C) (more : List Bytes) → HasGrown members old new more → AppendedPart members old new more
-part-whole members old new more grown = record {
-  start = grown.start;
-  head = grown.head;
-  items = (length more, subst (Grows (members.items old) (members.items new)) (sym (take_all (length more) more (omega arith))) grown.items);
-}
 
 -- a database is another one where it has what that has, and the same log
 pub same-database : {C D : Type 0} (old db x : Database C D) → old ≡ db → x ≡ record old { log = x.log } → x.log ≡ old.log → x ≡ db
 same-database old db x is rest same = rest ∙ ap (λ l. record old { log = l }) same ∙ is
 
--- what grew still tells its items
-pub grown-told : {A : Type 0} (old new : Option (List A)) (more : List A) → IsSome old → Grows old new more → IsSome new
-grown-told None new more told grown = let none : false ≡ true = told in cc
-grown-told (Some xs) new more told grown = subst IsSome (sym grown) refl
+-- what grew still tells what it holds
+grown-told : (old new : Option Stored) (f : Stored → Stored) → IsSome old → Becomes old new f → IsSome new
+grown-told None new f told grown = let none : false ≡ true = told in cc
+grown-told (Some s) None f told grown = absurd grown
+grown-told (Some s) (Some t) f told grown = refl
 
 module _ {C D : Type 0} (members : store.Ghosts C) (layout : Layout D) where
   -- a database that took what its list lacked of a batch's list stands for that
@@ -208,7 +199,7 @@ module _ {C D : Type 0} (members : store.Ghosts C) (layout : Layout D) where
       let all : map (spelling layout.hashing.form) list ++ items ≡ map (spelling layout.hashing.form) tip =
       ap (λ xs. map (spelling layout.hashing.form) list ++ xs) spelled ∙ sym (map-append (spelling layout.hashing.form) list (operations_in (unapplied n batch.layers))) ∙ ap (map (spelling layout.hashing.form)) (sym lacked.0) in
       record {
-        told = grown-told (members.items db.log.store) (members.items next.log.store) items is.told grown.items;
+        told = grown-told (members.told db.log.store) (members.told next.log.store) (model.appended items) is.told grown.told;
         lent = record {
           indexed = index list tip (subst (λ cs. LeadTo cs list tip) (sym done) lacked.1) is.lent.indexed;
           logged = subst (IsLog members layout.hashing.shape layout.hashing.bytes layout.hashing.hash next.log) all (log (spelled_list list) older is.lent.logged

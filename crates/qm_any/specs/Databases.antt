@@ -168,7 +168,7 @@ module _ {D : Type 0} (hashing : Hashing D) where
 module _ {C D : Type 0} (members : store.Ghosts C) where
   -- the database, of this layout, stands for this list, and its store tells its items
   pub record IsDatabase (layout : Layout D) (db : Database C D) (list : List Operation) : Type 0 where
-    pub told : IsSome (members.items db.log.store)
+    pub told : IsSome (members.told db.log.store)
     pub lent : IsLent members layout.hashing.shape layout.hashing.bytes layout.hashing.hash layout.hashing.form layout.index_key db.entries db.log list
     pub commitment : db.commitment ≡ list_commitment layout.hashing list
     pub floor : db.floor ≡ floor list

@@ -171,7 +171,7 @@ impl<
         ensures fits { OnOk result (is_at self.commitment batch.now.bounds.db batch.now.bounds.ancestors ≡ true) }
         ensures grown { (chain : Chain) (tip : List Operation) → IsMade ⟦<Self as LaidOut>⟧.layout.hashing batch.now chain tip → IfOk result (λ next. Appended C.Store self.log.store next.log.store (map (spelling U.form) (drop self.commitment.size tip))) }
         ensures start { C.start (store_after (λ db. db.log.store) result) ≡ C.start self.log.store }
-        ensures head { C.head (store_after (λ db. db.log.store) result) ≡ C.head self.log.store }
+        ensures beside { beside_items (C.told (store_after (λ db. db.log.store) result)) ≡ beside_items (C.told self.log.store) }
         ensures later { IfOk result (λ next. C.faults self.log.store ≤ C.faults next.log.store) }
         ensures stale { IfErr result (λ r. r.error ≡ Error.StaleBatch → (r.given ≡ Given.Database self) × (is_at self.commitment batch.now.bounds.db batch.now.bounds.ancestors ≡ false)) }
         ensures part { (chain : Chain) (tip : List Operation) → IsMade ⟦<Self as LaidOut>⟧.layout.hashing batch.now chain tip → IfErr result (λ r. AppendedPart C.Store self.log.store (store_given (λ db. db.log.store) r.given)

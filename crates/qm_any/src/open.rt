@@ -74,13 +74,13 @@ pub fn init<F: Family, C: Store, I: Factory<Value = Location<F>>, H: Hasher + Dr
     requires start { C.start store ≡ 0 }
     requires empty { C.end store ≡ 0 }
     ensures keys { ⟦<Db<F, C, I, H, U> as LaidOut>⟧.layout.index_key ≡ I.Translator.index_key }
-    ensures stands { IfSome (C.items store) (λ _. IfOk result (λ db. IsDatabase C.Store ⟦<Db<F, C, I, H, U> as LaidOut>⟧.layout db fresh)) }
+    ensures stands { IfSome (C.told store) (λ _. IfOk result (λ db. IsDatabase C.Store ⟦<Db<F, C, I, H, U> as LaidOut>⟧.layout db fresh)) }
     ensures grown { IfOk result (λ db. Appended C.Store store db.log.store (map (spelling U.form) fresh)) }
     ensures later { IfOk result (λ db. C.faults store ≤ C.faults db.log.store) }
-    ensures bare { IfOk result (λ _. IfSome (C.head store) (λ h. h ≡ [])) }
-    ensures head { IfErr result (λ r. r.error ≡ Error.DataCorrupted Corrupt.HeadDoesNotMatch → IfSome (C.head store) (λ h. 0 < length h)) }
+    ensures bare { IfOk result (λ _. IfSome (C.told store) (λ held. held.head ≡ [])) }
+    ensures head { IfErr result (λ r. r.error ≡ Error.DataCorrupted Corrupt.HeadDoesNotMatch → IfSome (C.told store) (λ held. 0 < length held.head)) }
     ensures back_head { IfErr result (λ r. r.error ≡ Error.DataCorrupted Corrupt.HeadDoesNotMatch → (s : C) × (r.given ≡ Given.Store s) × logs.IsKept C.Store store s) }
-    ensures unopened { IfErr result (λ r. IfSome (C.head store) (λ h. 0 < length h → IsUnchanged C.Store store (store_given (λ db. db.log.store) r.given))) }
+    ensures unopened { IfErr result (λ r. IfSome (C.told store) (λ held. 0 < length held.head → IsUnchanged C.Store store (store_given (λ db. db.log.store) r.given))) }
     ensures part { IfErr result (λ r. AppendedPart C.Store store (store_given (λ db. db.log.store) r.given) (map (spelling U.form) fresh)) }
     ensures back { IfErr result (λ r. (x : Database C H.Digest) → r.given ≢ Given.Database x) }
     ensures causes { IfErr result (λ r. (r.error ≡ Error.Memory) ⊎ ((r.error ≡ Error.Journal JournalError.Store) ⊎ (r.error ≡ Error.DataCorrupted Corrupt.HeadDoesNotMatch))) }
@@ -129,8 +129,8 @@ fn empty_log<F: Family, C: Store, H: Hasher + Drop, X: Drop>(
     ensures stands { IfOk result (λ log. IsLog C.Store F.shape H.Digest.bytes H.hash log []) }
     ensures kept { IfOk result (λ log. logs.IsKept C.Store store log.store) }
     ensures later { IfOk result (λ log. C.faults store ≤ C.faults log.store) }
-    ensures bare { IfOk result (λ _. IfSome (C.head store) (λ h. h ≡ [])) }
-    ensures head { IfErr result (λ r. r.error ≡ Error.DataCorrupted Corrupt.HeadDoesNotMatch → IfSome (C.head store) (λ h. 0 < length h)) }
+    ensures bare { IfOk result (λ _. IfSome (C.told store) (λ held. held.head ≡ [])) }
+    ensures head { IfErr result (λ r. r.error ≡ Error.DataCorrupted Corrupt.HeadDoesNotMatch → IfSome (C.told store) (λ held. 0 < length held.head)) }
     ensures back { IfErr result (λ r. (s : C) × (r.given ≡ Given.Store s) × logs.IsKept C.Store store s × IsCause (C.faults store) (C.faults s) (r.error ≡ Error.Journal JournalError.Store)) }
     ensures causes { IfErr result (λ r. (r.error ≡ Error.Memory) ⊎ ((r.error ≡ Error.Journal JournalError.Store) ⊎ (r.error ≡ Error.DataCorrupted Corrupt.HeadDoesNotMatch))) }
 {
@@ -158,7 +158,7 @@ fn begun<F: Family, C: Store, I: Factory<Value = Location<F>>, H: Hasher + Drop,
     requires end { C.end log.store ≡ 0 }
     requires items { map (λ v. v.items) items.now ≡ map (spelling U.form) fresh }
     requires count { length items.now ≡ 1 }
-    ensures stands { IfSome (C.items log.store) (λ _. IfOk result (λ db. IsDatabase C.Store ⟦<Db<F, C, I, H, U> as LaidOut>⟧.layout db fresh)) }
+    ensures stands { IfSome (C.told log.store) (λ _. IfOk result (λ db. IsDatabase C.Store ⟦<Db<F, C, I, H, U> as LaidOut>⟧.layout db fresh)) }
     ensures grown { IfOk result (λ db. Appended C.Store log.store db.log.store (map (spelling U.form) fresh)) }
     ensures later { IfOk result (λ db. C.faults log.store ≤ C.faults db.log.store) }
     ensures part { IfErr result (λ r. AppendedPart C.Store log.store (store_given (λ db. db.log.store) r.given) (map (spelling U.form) fresh)) }

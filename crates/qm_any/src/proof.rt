@@ -113,14 +113,14 @@ fn proved_over<F: Family, C: Store, H: Hasher + Drop, U: Update>(
     start: u64,
     max: NonZeroU64,
 ) -> Result<(Proof<H::Digest>, Vec<Operation<F, U>>), Error>
-    ensures offered { (list : List operations.Operation) → IsLog C.Store F.shape H.Digest.bytes H.hash log.old (map (spelling U.form) list) → All (IsOf U.form) list → IfSome (C.items log.old.store) (λ _. OnOk result (proof_refusal (C.start log.old.store) list size start ≡ None)) }
+    ensures offered { (list : List operations.Operation) → IsLog C.Store F.shape H.Digest.bytes H.hash log.old (map (spelling U.form) list) → All (IsOf U.form) list → IfSome (C.told log.old.store) (λ _. OnOk result (proof_refusal (C.start log.old.store) list size start ≡ None)) }
     ensures kept { OnOk result (C.start log.old.store ≤ start) }
     ensures proof { (list : List operations.Operation) → IsLog C.Store F.shape H.Digest.bytes H.hash log.old (map (spelling U.form) list) → All (IsOf U.form) list
-        → IfSome (C.items log.old.store) (λ _. IfOk result (λ shown. proof_view H.Digest.bytes shown.0 ≡ ops_proof H.hash F.shape U.form (take size list) start (start + proof_count size start (non_zero_u64_get max)))) }
+        → IfSome (C.told log.old.store) (λ _. IfOk result (λ shown. proof_view H.Digest.bytes shown.0 ≡ ops_proof H.hash F.shape U.form (take size list) start (start + proof_count size start (non_zero_u64_get max)))) }
     ensures operations { (list : List operations.Operation) → IsLog C.Store F.shape H.Digest.bytes H.hash log.old (map (spelling U.form) list) → All (IsOf U.form) list
-        → IfSome (C.items log.old.store) (λ _. IfOk result (λ shown. operation_views U.view U.Key.bytes U.Value.bytes shown.1.items ≡ take (proof_count size start (non_zero_u64_get max)) (drop start list))) }
+        → IfSome (C.told log.old.store) (λ _. IfOk result (λ shown. operation_views U.view U.Key.bytes U.Value.bytes shown.1.items ≡ take (proof_count size start (non_zero_u64_get max)) (drop start list))) }
     ensures refused { (list : List operations.Operation) → IsLog C.Store F.shape H.Digest.bytes H.hash log.old (map (spelling U.form) list) → All (IsOf U.form) list
-        → IfSome (C.items log.old.store) (λ _. IfErr result (λ e. IsDue e (proof_refusal (C.start log.old.store) list size start))) }
+        → IfSome (C.told log.old.store) (λ _. IfErr result (λ e. IsDue e (proof_refusal (C.start log.old.store) list size start))) }
     ensures causes { IfErr result (λ e. IsAmong e (proof_reasons size start)) }
     ensures never { IfErr result (λ e. e ≢ Error.StaleBatch) }
     ensures cause { IfErr result (λ e. e ≡ Error.Journal JournalError.Store → Rose (C.faults log.old.store) (C.faults log.new.store)) }
@@ -142,12 +142,12 @@ fn offered<F: Family, C: Store, H: Hasher + Drop, U: Update>(
     size: u64,
     start: u64,
 ) -> Result<u64, Error>
-    ensures offered { (list : List operations.Operation) → IsLog C.Store F.shape H.Digest.bytes H.hash log.old (map (spelling U.form) list) → All (IsOf U.form) list → IfSome (C.items log.old.store) (λ _. OnOk result (proof_refusal (C.start log.old.store) list size start ≡ None)) }
+    ensures offered { (list : List operations.Operation) → IsLog C.Store F.shape H.Digest.bytes H.hash log.old (map (spelling U.form) list) → All (IsOf U.form) list → IfSome (C.told log.old.store) (λ _. OnOk result (proof_refusal (C.start log.old.store) list size start ≡ None)) }
     ensures kept { OnOk result (C.start log.old.store ≤ start) }
     ensures within { OnOk result ((size ≤ log.old.tree.leaves) × (start < size)) }
-    ensures floor { (list : List operations.Operation) → IsLog C.Store F.shape H.Digest.bytes H.hash log.old (map (spelling U.form) list) → All (IsOf U.form) list → IfSome (C.items log.old.store) (λ _. IfOk result (λ f. f ≡ lives.floor (take size list))) }
+    ensures floor { (list : List operations.Operation) → IsLog C.Store F.shape H.Digest.bytes H.hash log.old (map (spelling U.form) list) → All (IsOf U.form) list → IfSome (C.told log.old.store) (λ _. IfOk result (λ f. f ≡ lives.floor (take size list))) }
     ensures refused { (list : List operations.Operation) → IsLog C.Store F.shape H.Digest.bytes H.hash log.old (map (spelling U.form) list) → All (IsOf U.form) list
-        → IfSome (C.items log.old.store) (λ _. IfErr result (λ e. IsDue e (proof_refusal (C.start log.old.store) list size start))) }
+        → IfSome (C.told log.old.store) (λ _. IfErr result (λ e. IsDue e (proof_refusal (C.start log.old.store) list size start))) }
     ensures causes { IfErr result (λ e. IsAmong e (proof_reasons size start)) }
     ensures never { IfErr result (λ e. e ≢ Error.StaleBatch) }
     ensures cause { IfErr result (λ e. e ≡ Error.Journal JournalError.Store → Rose (C.faults log.old.store) (C.faults log.new.store)) }
@@ -174,7 +174,7 @@ fn floor_at_end<F: Family, C: Store, H: Hasher + Drop, U: Update>(
 ) -> Result<Option<u64>, Error>
     requires { size ≤ log.old.tree.leaves }
     ensures floor { (list : List operations.Operation) → IsLog C.Store F.shape H.Digest.bytes H.hash log.old (map (spelling U.form) list) → All (IsOf U.form) list
-        → IfSome (C.items log.old.store) (λ _. IfOk result (λ f. f ≡ floor_before list size)) }
+        → IfSome (C.told log.old.store) (λ _. IfOk result (λ f. f ≡ floor_before list size)) }
     ensures some { IfOk result (λ f. IfSome f (λ _. 0 < size)) }
     ensures kept { OnOk result (last_refusal (C.start log.old.store) size ≡ None) }
     ensures pruned { IfErr result (λ e. IsDue e (last_refusal (C.start log.old.store) size)) }

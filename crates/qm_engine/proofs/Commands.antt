@@ -78,19 +78,6 @@ becomes-told o new old f is made = by new (subst (λ p. Becomes p new f) is made
 pub stored-grown : {C : Type 0} (members : stores.Ghosts C) (old new : C) (stored : Stored) (more : List Bytes) → Appended members old new more → IsStored members old stored → IsStored members new (appended more stored)
 stored-grown members old new stored more grown is = record { start = grown.start ∙ is.start; told = becomes-told (members.told old) (members.told new) stored (appended more) is.told grown.told }
 
--- all of what is due is a first part of it
-pub Appended-part : {C : Type 0} (members : stores.Ghosts C) (old new : C) (more : List Bytes) → Appended members old new more → AppendedPart members old new more
-Appended-part members old new more grown = record { start = grown.start; told = part (members.told old) (members.told new) grown.told }
-  where
-    part : (o n : Option Stored) → Becomes o n (appended more) → model.Turns o n (HasAppended more)
-    part None n made = made
-    part (Some s) None made = absurd made
-    part (Some s) (Some t) made = record {
-      count = length more;
-      reads = subst (λ u. u ≡ record (appended (take (length more) more) s) { stable = u.stable }) (sym made) (ap (λ xs. appended xs s) (sym (take-length more)));
-      least_stable = subst (λ u. s.stable ≤ u.stable) (sym made) (omega arith);
-    }
-
 -- what comes of a head that is not that of a start at 0 comes of none that is
 pub offered-unopened : (P : Type 0) (o : Option Stored) → IfSome o (λ held. head_refusal held.head ≡ None) → IfSome o (λ held. IsSome (head_refusal held.head) → P)
 offered-unopened P None offered = tt

@@ -11,8 +11,8 @@ returns-in-Ok-clause-stands g c =
 
 pub returns-in-Ok-clause-bare : goal.returns-in-Ok-clause-bare
 returns-in-Ok-clause-bare g c =
-    head-bare g.F.Family.shape g.F.Family.births g.met.F.Family.numbered g.met.F.Family.peaked (g.C.Store.start c.args.store) g.H.Digest.Digest.SIZE c.requires.start (g.C.Store.head c.args.store) c.in-Ok.ensures.long
+    head-bare g.F.Family.shape g.F.Family.births g.met.F.Family.numbered g.met.F.Family.peaked (g.C.Store.start c.args.store) g.H.Digest.Digest.SIZE c.requires.start (g.C.Store.told c.args.store) c.in-Ok.ensures.long
 
 pub returns-in-Err-clause-head : goal.returns-in-Err-clause-head
 returns-in-Err-clause-head g c = λ corrupt.
-    head-some g.F.Family.shape g.F.Family.births g.met.F.Family.numbered g.met.F.Family.peaked (g.C.Store.start c.args.store) g.H.Digest.Digest.SIZE c.requires.start (g.C.Store.head c.args.store) (c.in-Err.ensures.head corrupt)
+    head-some g.F.Family.shape g.F.Family.births g.met.F.Family.numbered g.met.F.Family.peaked (g.C.Store.start c.args.store) g.H.Digest.Digest.SIZE c.requires.start (g.C.Store.told c.args.store) (c.in-Err.ensures.head corrupt)

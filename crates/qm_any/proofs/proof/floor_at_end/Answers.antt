@@ -22,5 +22,5 @@ returns-clause-kept g c =
 pub returns-clause-floor : goal.returns-clause-floor
 returns-clause-floor g c = λ list is all.
     let after : c.args.size ≡ suc (c.args.size - 1) = omega (arith, c.if-size-eq0.false) in
-    told-one _ _ (g.C.Store.items c.args.log.now.store) (c.in_ok-item.ensures.item (map (spelling g.U.Update.form) list) is) (λ read.
+    told-one _ _ (g.C.Store.told c.args.log.now.store) (c.in_ok-item.ensures.item (map (spelling g.U.Update.form) list) is) (λ read.
     floor-read g.U.Update.form list c.args.size (c.args.size - 1) c.deref.result.now c.in_ok-commit_floor_in.field-0 after all (read ∙ ap Some (sym c.deref.ensures.value)) c.in_ok-commit_floor_in.ensures)

@@ -10,7 +10,7 @@ pub returns-in_err-floor_at_end-clause-refused : goal.returns-in_err-floor_at_en
 returns-in_err-floor_at_end-clause-refused g c = λ list is all.
     let exit = err_from_is_err_and c.from_residual.result c.from_residual.ensures.1 in
     let within : c.args.size ≤ length list = omega (arith, c.if-leaves-size.false, c.bounds-first.ensures.size, is.size, length-map list (spelling g.U.Update.form)) in
-    told-any _ (g.C.Store.items c.args.log.now.store)
+    told-any _ (g.C.Store.told c.args.log.now.store)
     (rw (exit.1, exit.2) (refused-last (g.C.Store.start c.args.log.now.store) list c.args.size c.args.start _ within c.in_err-floor_at_end.ensures.pruned))
 
 pub returns-in_err-floor_at_end-clause-causes : goal.returns-in_err-floor_at_end-clause-causes
@@ -20,7 +20,7 @@ returns-in_err-floor_at_end-clause-causes g c =
 
 pub returns-in-Some-4-clause-floor : goal.returns-in-Some-4-clause-floor
 returns-in-Some-4-clause-floor g c = λ list is all.
-    told-one _ _ (g.C.Store.items c.args.log.now.store) (c.in_ok-floor_at_end.ensures.floor list is all) (λ found.
+    told-one _ _ (g.C.Store.told c.args.log.now.store) (c.in_ok-floor_at_end.ensures.floor list is all) (λ found.
     floor-ended list c.args.size c.in-Some.floor (sym (rw c.in-Some.is at found)))
 
 pub returns-in-None-clause-causes : goal.returns-in-None-clause-causes

@@ -21,7 +21,7 @@ returns-in_err-operations-clause-refused g c = λ list is all.
     let start = c.args.start in
     let count = proof_count c.args.size start (non_zero_u64_get c.args.max) in
     let read = c.offered.ensures.read in
-    told-one _ _ (g.C.Store.items c.args.log.now.store) (told _ _ _ read.kept.items (c.in_ok-proof.ensures.items (map (spelling g.U.Update.form) list) (read.stands (map (spelling g.U.Update.form) list) is))) (λ shown.
+    told-one _ _ (g.C.Store.told c.args.log.now.store) (told _ _ _ read.kept.told (c.in_ok-proof.ensures.items (map (spelling g.U.Update.form) list) (read.stands (map (spelling g.U.Update.form) list) is))) (λ shown.
     memory-due c.from_residual-in_err-operations.result exit.0 _ (proof_refusal (g.C.Store.start c.args.log.now.store) list c.args.size start) exit.1 exit.2
     (c.in_err-operations.ensures.whole (take count (drop start list)) (part-of g.U.Update.form list start count all) (ap (map (λ v. v.items)) c.deref.ensures.value ∙ shown ∙ part-spelled g.U.Update.form list start count)))
 
@@ -32,7 +32,7 @@ returns-in_err-proof-clause-refused g c = λ list is all.
     let tree = (c.offered.ensures.read).tree in
     let size : c.args.size ≤ c.offered.new.log.tree.leaves = omega (arith, within.0, ap (λ t. t.leaves) tree) in
     let from : c.offered.new.log.tree.start ≤ c.args.start = omega (arith, c.in_ok-floor.ensures.kept, c.bounds.ensures.first, ap (λ t. t.start) tree) in
-    told-any _ (g.C.Store.items c.args.log.now.store)
+    told-any _ (g.C.Store.told c.args.log.now.store)
     (rw (exit.1, exit.2) (no-refusal (λ r. proof_refusal (g.C.Store.start c.args.log.now.store) list c.args.size c.args.start ≡ Some r) _ (c.in_err-proof.ensures.never size within.1 from)))
 
 pub returns-in_err-proof-clause-causes : goal.returns-in_err-proof-clause-causes
@@ -53,7 +53,7 @@ pub returns-clause-proof : goal.returns-clause-proof
 returns-clause-proof g c = λ list is all.
     let shape = g.F.Family.shape in
     let within : c.args.size ≤ length list = omega (arith, c.in_ok-floor.ensures.within.0, is.size, length-map list (spelling g.U.Update.form)) in
-    told-one _ _ (g.C.Store.items c.args.log.now.store) (c.in_ok-floor.ensures.floor list is all) (λ floor.
+    told-one _ _ (g.C.Store.told c.args.log.now.store) (c.in_ok-floor.ensures.floor list is all) (λ floor.
     c.in_ok-proof.ensures.proof (map (spelling g.U.Update.form) list) ((c.offered.ensures.read).stands (map (spelling g.U.Update.form) list) is)
     ∙ proof-spelled g.H.Hasher.hash shape g.U.Update.form list c.args.size c.inactive_peaks-inactive.result c.args.start (c.args.start + proof_count c.args.size c.args.start (non_zero_u64_get c.args.max)) within
     (c.inactive_peaks-inactive.ensures ∙ ap₂ (inactive_peaks shape) c.new.ensures (c.new-2.ensures ∙ floor)))
@@ -63,7 +63,7 @@ returns-clause-operations g c = λ list is all.
     let start = c.args.start in
     let count = proof_count c.args.size start (non_zero_u64_get c.args.max) in
     let read = c.offered.ensures.read in
-    told-one _ _ (g.C.Store.items c.args.log.now.store) (told _ _ _ read.kept.items (c.in_ok-proof.ensures.items (map (spelling g.U.Update.form) list) (read.stands (map (spelling g.U.Update.form) list) is))) (λ shown.
+    told-one _ _ (g.C.Store.told c.args.log.now.store) (told _ _ _ read.kept.told (c.in_ok-proof.ensures.items (map (spelling g.U.Update.form) list) (read.stands (map (spelling g.U.Update.form) list) is))) (λ shown.
     c.in_ok-operations.ensures.value (take count (drop start list)) (part-of g.U.Update.form list start count all) (ap (map (λ v. v.items)) c.deref.ensures.value ∙ shown ∙ part-spelled g.U.Update.form list start count))
 
 pub returns-clause-read : goal.returns-clause-read

@@ -3,7 +3,8 @@ use Rattle.qm_model.specs.Operations.{fresh}
 use Rattle.qm_model.specs.Forms.{spelling, variable}
 use Rattle.qm_store.specs.declared.refusal.Given.TheVariants.{Store}
 use Rattle.qm_engine.specs.Session.{Holds}
-use Rattle.qm_engine.proofs.Commands.{open_ok, open_err, open_left, Appended-part, offered-unopened}
+use Rattle.qm_engine.proofs.Commands.{open_ok, open_err, open_left, offered-unopened}
+use Rattle.qm_store.proofs.Told.{appended-part}
 use Rattle.qm_engine.proofs.turns.open.Goals as goal
 
 pub returns-in-Ok-open-clause-machine : goal.returns-in-Ok-open-clause-machine
@@ -20,7 +21,7 @@ returns-in-Ok-open-clause-left g c = λ s k apart.
     let after = g.X.Words.inside c.in-Ok-open.x in
     let held : Holds g.C.Store g.X.Words (Store store) c.args.session.table.items c.args.session.opened s = subst (λ given. Holds g.C.Store g.X.Words given c.args.session.table.items c.args.session.opened s) c.in-Ok.ensures.ok.0 k in
     open_left g.C.Store g.X.Words g.X.Key.ByteString.bytes g.X.Value.ByteString.bytes g.X.Digest.Digest.bytes store c.args.session.table.items c.args.session.opened s held (g.met.C.Store.told_end store) c.in-Ok.ensures.ok.1
-    after (offered-unopened _ (g.C.Store.told store) c.in-Ok-open.ensures.offered) (Appended-part g.C.Store store after (map (spelling variable) fresh) c.in-Ok-open.ensures.grown)
+    after (offered-unopened _ (g.C.Store.told store) c.in-Ok-open.ensures.offered) (appended-part g.C.Store store after (map (spelling variable) fresh) c.in-Ok-open.ensures.grown)
 
 pub returns-in-Err-open-clause-machine : goal.returns-in-Err-open-clause-machine
 returns-in-Err-open-clause-machine g c = λ s k.

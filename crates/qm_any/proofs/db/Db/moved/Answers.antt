@@ -6,7 +6,8 @@ use Rattle.qm_store.specs.Log.{Log, IsLog}
 use Rattle.qm_batch.specs.Lent.{IsIndexed}
 use Rattle.qm_store.specs.Given.{Appended, AppendedPart, store_given}
 use Rattle.qm_any.proofs.Telling.{three}
-use Rattle.qm_any.proofs.Unapplied.{appended, part-whole, same-database, memory-cause}
+use Rattle.qm_store.proofs.Told.{grown-appended, appended-part}
+use Rattle.qm_any.proofs.Unapplied.{same-database, memory-cause}
 use Rattle.qm_any.proofs.db.Db.moved.Goals as goal
 
 pub given_back-requires-clause-whole : goal.given_back-requires-clause-whole
@@ -30,7 +31,7 @@ pub returns-in-Ok-clause-grown : goal.returns-in-Ok-clause-grown
 returns-in-Ok-clause-grown g c =
     ok-then c.indexed.result c.indexed.ensures.log (λ next is.
     three (λ (a b : g.row.C.Denot) (xs : List Bytes). Appended g.C.Store a b xs) (ap (λ db. db.log.store) c.self.view_is) (sym (ap (λ l. l.store) is)) (ap (map (λ v. v.items)) c.deref.ensures.value)
-    (appended g.C.Store c.self.inside.log.store c.in-Ok.log.store (map (λ v. v.items) c.deref.result.now) c.in-Ok.ensures.grown))
+    (grown-appended g.C.Store c.self.inside.log.store c.in-Ok.log.store (map (λ v. v.items) c.deref.result.now) c.in-Ok.ensures.grown))
 
 pub returns-in-Ok-clause-later : goal.returns-in-Ok-clause-later
 returns-in-Ok-clause-later g c =
@@ -55,7 +56,7 @@ returns-in-Ok-clause-part g c =
     err-then c.indexed.result c.indexed.ensures.back (λ r back.
     let more = map (λ v. v.items) c.args.lacking.items.items in
     let grown = subst (λ items. AppendedPart g.C.Store c.self.inside.log.store c.in-Ok.log.store (map (λ v. v.items) items)) c.deref.ensures.value
-    (part-whole g.C.Store c.self.inside.log.store c.in-Ok.log.store (map (λ v. v.items) c.deref.result.now) c.in-Ok.ensures.grown) in
+    (appended-part g.C.Store c.self.inside.log.store c.in-Ok.log.store (map (λ v. v.items) c.deref.result.now) (grown-appended g.C.Store c.self.inside.log.store c.in-Ok.log.store (map (λ v. v.items) c.deref.result.now) c.in-Ok.ensures.grown)) in
     let here = subst (λ s. AppendedPart g.C.Store s c.in-Ok.log.store more) (ap (λ db. db.log.store) c.self.view_is) grown in
     subst (λ given. AppendedPart g.C.Store c.args.self.log.store (store_given (λ db. db.log.store) given) more) (sym back.0) here)
 

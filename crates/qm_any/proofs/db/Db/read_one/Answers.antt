@@ -24,7 +24,7 @@ returns-clause-value g c = λ list base stands from.
     let view = read_view g.U.Update.view in
     let said : ℕ × Operation → Option Bytes = λ p. parts.value_of p.1 in
     let found : option_map view c.in_ok-update.field-0 ≡ update_of base at =
-    told-here _ (g.C.Store.items ((c.self.inside).log).store) inside.told (c.in_ok-update.ensures.value list base inside.lent from) in
+    told-here _ (g.C.Store.told ((c.self.inside).log).store) inside.told (c.in_ok-update.ensures.value list base inside.lent from) in
     let shown : option_and_then said (option_map view c.in_ok-update.field-0) ≡ read_through base writes at =
     ap (option_and_then said) found ∙ value-found base at ∙ sym (ap (λ w. overwritten w (value_of base at)) unwritten) in
     elim c.match-branch-3.branch [

@@ -1,7 +1,7 @@
 use Rattle.std.proofs.Common.{length, sym, map, drop}
 use Rattle.qm_model.specs.Forms.{spelling, variable}
 use Rattle.qm_store.specs.Given.{store_given}
-use Rattle.qm_engine.proofs.Commands.{Appended-part}
+use Rattle.qm_store.proofs.Told.{appended-part}
 use Rattle.qm_engine.proofs.BatchCommands.{not_merkleized, apply_ok, apply_err, apply_left}
 use Rattle.qm_engine.proofs.turns.batches.apply.Goals as goal
 
@@ -19,7 +19,7 @@ returns-in-Ok-clause-left g c = λ s k apart.
     apply_left g.C.Store g.X.Words g.X.Key.ByteString.bytes g.X.Value.ByteString.bytes g.X.Digest.Digest.bytes c.in-Database.x (g.C.Store.told (g.X.Words.inside c.in-Ok.x)) c.args.session.table.items c.args.session.opened c.args.number c.in-Some.batch.now s (rw c.in-Database.is at k) apart
     (λ list chain tip stands is on.
     let fit = c.in-Ok.ensures.fits list chain tip stands is in
-    rw fit (Appended-part g.C.Store (g.X.Words.inside c.in-Database.x) (g.X.Words.inside c.in-Ok.x) (map (spelling variable) (drop (length list) tip)) (c.in-Ok.ensures.grown list chain tip stands is (on fit))).told)
+    rw fit (appended-part g.C.Store (g.X.Words.inside c.in-Database.x) (g.X.Words.inside c.in-Ok.x) (map (spelling variable) (drop (length list) tip)) (c.in-Ok.ensures.grown list chain tip stands is (on fit))).told)
     (sym c.in-Some.ensures)
 
 pub returns-in-Err-clause-machine : goal.returns-in-Err-clause-machine

@@ -1,0 +1,71 @@
+-- What stores that have grown tell.
+use Rattle.std.proofs.Common.{◌≡◌, ◌≤◌, List, take, length, ap, sym, subst, append-nil, arith, refl, Option, Some, None}
+use Rattle.std.proofs.Math.Seq.{take-length}
+use Rattle.qm_model.specs.Operations.{Bytes}
+use Rattle.qm_model.specs.StoreModel.{Stored, appended, HasAppended, Turns, Becomes, without_items, beside_items}
+use Rattle.qm_base.specs.declared.error.Error.{Error}
+use Rattle.qm_store.specs.declared.Store as store
+use Rattle.qm_store.specs.declared.log.LogGiven.{LogGiven}
+use Rattle.qm_store.specs.declared.log.LogGiven.TheVariants as variants
+use Rattle.qm_store.specs.Log.{Log, IsKept, HasGrown, HasGrownPart, IsRefused, store_given}
+use Rattle.qm_store.specs.Given.{Appended, AppendedPart, IsUnchanged}
+
+-- what appends leave as it is
+beside-grown : (old new : Option Stored) (more : List Bytes) → Becomes old new (appended more) → beside_items new ≡ beside_items old
+beside-grown None new more is = ap beside_items is
+beside-grown (Some s) None more is = absurd is
+beside-grown (Some s) (Some t) more is = ap (λ x. Some (without_items x)) is
+
+beside-part : (old new : Option Stored) (more : List Bytes) → Turns old new (HasAppended more) → beside_items new ≡ beside_items old
+beside-part None new more is = ap beside_items is
+beside-part (Some s) None more is = absurd is
+beside-part (Some s) (Some t) more is = ap (λ x. Some (without_items x)) is.reads
+
+-- all of what is due is a first part of it
+part-whole : (old new : Option Stored) (more : List Bytes) → Becomes old new (appended more) → Turns old new (HasAppended more)
+part-whole None new more made = made
+part-whole (Some s) None more made = absurd made
+part-whole (Some s) (Some t) more made = record {
+  count = length more;
+  reads = subst (λ u. u ≡ record (appended (take (length more) more) s) { stable = u.stable }) (sym made) (ap (λ xs. appended xs s) (sym (take-length more)));
+  least_stable = subst (λ u. s.stable ≤ u.stable) (sym made) (omega arith);
+}
+
+-- what is told has grown by none of these
+part-none : (o : Option Stored) (more : List Bytes) → Turns o o (HasAppended more)
+part-none None more = refl
+part-none (Some s) more = record { count = 0; reads = ap (λ xs. record s { items = xs }) (sym (append-nil s.items)); least_stable = omega arith }
+
+module _ {C : Type 0} (members : store.Ghosts C) (old new : C) where
+  pub grown-appended : (more : List Bytes) → HasGrown members old new more → Appended members old new more
+  grown-appended more is = record { start = is.start; told = is.told }
+
+  pub grown-appended-part : (more : List Bytes) → HasGrownPart members old new more → AppendedPart members old new more
+  grown-appended-part more is = record { start = is.start; told = is.told }
+
+  -- what has grown has grown by a first part
+  pub appended-part : (more : List Bytes) → Appended members old new more → AppendedPart members old new more
+  appended-part more is = record { start = is.start; told = part-whole (members.told old) (members.told new) more is.told }
+
+  -- a store that is kept is unchanged
+  pub kept-unchanged : IsKept members old new → IsUnchanged members old new
+  kept-unchanged is = record { start = is.start; told = is.told }
+
+  -- and one that is unchanged has grown by a first part of any items: none of them
+  pub unchanged-appended-part : (more : List Bytes) → IsUnchanged members old new → AppendedPart members old new more
+  unchanged-appended-part more is = record { start = is.start; told = subst (λ o. Turns (members.told old) o (HasAppended more)) (sym is.told) (part-none (members.told old) more) }
+
+  -- what a store tells beside its items stays where these grow
+  pub appended-beside : (more : List Bytes) → Appended members old new more → beside_items (members.told new) ≡ beside_items (members.told old)
+  appended-beside more is = beside-grown (members.told old) (members.told new) more is.told
+
+  pub part-beside : (more : List Bytes) → AppendedPart members old new more → beside_items (members.told new) ≡ beside_items (members.told old)
+  part-beside more is = beside-part (members.told old) (members.told new) more is.told
+
+-- a log that refused these gives back a store with a first part of them
+pub refused-appended-part : {C D : Type 0} (members : store.Ghosts C) (old : Log C D) (more : List Bytes) (given : LogGiven (Log C D) C) (error : Error) →
+    IsRefused members (λ a b. HasGrownPart members a b more) old given error → AppendedPart members old.store (store_given given) more
+refused-appended-part members old more (variants.Log log) error is =
+    let same : log.store ≡ old.store = ap (λ l. l.store) (is.back log refl).0 in
+    unchanged-appended-part members old.store log.store more (record { start = ap members.start same; told = ap members.told same })
+refused-appended-part members old more (variants.Store s) error is = grown-appended-part members old.store s more (is.left s refl)
