@@ -1,5 +1,5 @@
 // A store in memory, which fails exactly at the listed calls.
-ghost use Rattle.std.specs.Prelude.{◌≡◌, ◌≢◌, ℕ, ◌+◌, ◌-◌, ◌^◌, ◌<◌, ◌≤◌, ◌↔◌, List, [], length, map, take, slice_get, Contains};
+ghost use Rattle.std.specs.Prelude.{◌≡◌, ◌≢◌, ℕ, ◌+◌, ◌-◌, ◌^◌, ◌<◌, ◌≤◌, ◌↔◌, List, [], length, map, take, slice_get, bytes_eq, Contains};
 ghost use Rattle.std.specs.Prelude.{IsTrue, Some, IfSome, IfOk, OnOk, OnErr, IsErrOf};
 ghost use Rattle.std.proofs.Common.{refl};
 ghost use Rattle.std.proofs.Math.Nat.{le-add_right};
@@ -26,6 +26,15 @@ impl Model for Metadata {
     ghost Value = { Named };
 
     ghost view = { λ m. record { name = string_bytes m.name; entries = m.entries.items } };
+}
+
+impl Metadata {
+    // Whether it is that of a name.
+    fn is_of(&self, name: &str) -> bool
+        ensures { result ≡ bytes_eq name.now self.now.name }
+    {
+        name == self.name.as_str()
+    }
 }
 
 /// A store in memory. Its calls that may fail are numbered from 0 on, and those fail whose numbers are listed. The numbers
@@ -281,12 +290,13 @@ impl Store for MemStore {
         ensures memory { result ≡ Err StoreError.Memory → self.new ≡ called self.old }
     {
         self.call()?;
-        let metadata = Metadata {
+        let named = Metadata {
             name: String::from_str(self.alloc, name)?,
             entries: copied(self.alloc, entries)?,
         };
-        self.metadata.insert(0, metadata)?;
-        self.metadata.retain(|other| other.name.as_str() != name);
+        self.metadata.reserve(1)?;
+        self.metadata.retain(|other| !other.is_of(name));
+        self.metadata.insert(0, named).unwrap();
         Ok(())
     }
 
@@ -350,7 +360,7 @@ fn entries_of(
     ensures { IfOk result (λ v. v.items ≡ metadata_in metadata.now name.now) }
 {
     for named in metadata {
-        if name == named.name.as_str() {
+        if named.is_of(name) {
             return copied(alloc, &named.entries);
         }
     }
