@@ -202,6 +202,7 @@ impl Store for MemStore {
 
     fn append(&mut self, added: &[Vec<u8>]) -> Result<(), StoreError>
         requires room { end_of self.old.held + length added.now ≤ 2 ^ 62 }
+        ensures inside { IsInside self.old }
         ensures cause { IsCause self.old.faults self.new.faults (IsErrOf result StoreError.Failed) }
 
         // It fails at the listed calls alone.
@@ -216,6 +217,7 @@ impl Store for MemStore {
     }
 
     fn commit(&mut self) -> Result<(), StoreError>
+        ensures inside { IsInside self.old }
         ensures cause { IsCause self.old.faults self.new.faults (IsErrOf result StoreError.Failed) }
 
         // It fails at the listed calls alone.
@@ -230,6 +232,7 @@ impl Store for MemStore {
     }
 
     fn sync(&mut self) -> Result<(), StoreError>
+        ensures inside { IsInside self.old }
         ensures cause { IsCause self.old.faults self.new.faults (IsErrOf result StoreError.Failed) }
 
         // It fails at the listed calls alone.
@@ -246,6 +249,7 @@ impl Store for MemStore {
     fn rewind(&mut self, to: u64) -> Result<(), StoreError>
         requires from { self.old.held.start ≤ to }
         requires before { to ≤ end_of self.old.held }
+        ensures inside { IsInside self.old }
         ensures cause { IsCause self.old.faults self.new.faults (IsErrOf result StoreError.Failed) }
 
         // It fails at the listed calls alone.
@@ -264,6 +268,7 @@ impl Store for MemStore {
         requires from { self.old.held.start ≤ to }
         requires before { to ≤ end_of self.old.held }
         requires stable { to ≤ self.old.held.stable }
+        ensures inside { IsInside self.old }
         ensures cause { IsCause self.old.faults self.new.faults (IsErrOf result StoreError.Failed) }
 
         // It fails at the listed calls alone.
@@ -281,6 +286,7 @@ impl Store for MemStore {
     }
 
     fn put_meta(&mut self, name: &str, entries: &[MetaEntry]) -> Result<(), StoreError>
+        ensures inside { IsInside self.old }
         ensures cause { IsCause self.old.faults self.new.faults (IsErrOf result StoreError.Failed) }
 
         // It fails at the listed calls alone.
@@ -301,6 +307,7 @@ impl Store for MemStore {
     }
 
     fn restart(&mut self, keep: u64) -> Result<(), StoreError>
+        ensures inside { IsInside self.old }
         ensures cause { IsCause self.old.faults self.new.faults (IsErrOf result StoreError.Failed) }
 
         // It fails at the listed calls alone.
@@ -319,6 +326,7 @@ impl Store for MemStore {
     }
 
     fn destroy(&mut self) -> Result<(), StoreError>
+        ensures inside { IsInside self.old }
         ensures cause { IsCause self.old.faults self.new.faults (IsErrOf result StoreError.Failed) }
 
         // It fails at the listed calls alone.
