@@ -33,3 +33,4 @@ pub mod RangeSpeaking
 pub mod KeySpeaking
 pub mod GraftedLemmas
 pub mod CheckProving
+pub mod Stores

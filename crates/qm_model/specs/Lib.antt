@@ -28,3 +28,4 @@ pub mod TreeRows
 pub mod CurrentRows
 pub mod ShaRow
 pub mod RandomSteps
+pub mod StoreRows

@@ -4,3 +4,4 @@ pub mod Stores
 pub mod Shown
 pub mod Kept
 pub mod Cuts
+pub mod Mems

@@ -1,7 +1,7 @@
 //! Strings of bytes in a row, which share one buffer.
 
-ghost use Rattle.std.specs.Prelude.{◌≡◌, ℕ, ◌+◌, ◌<◌, ◌≤◌, List, [], ◌∷◌, ◌++◌, length, map, take, drop, slice_get, slice_index};
-ghost use Rattle.std.specs.Prelude.{Some, IfOk, OnOk, OnErr, vec_len, vec_capacity};
+ghost use Rattle.std.specs.Prelude.{◌≡◌, ℕ, ◌+◌, ◌-◌, ◌<◌, ◌≤◌, List, [], ◌∷◌, ◌++◌, length, map, take, drop, slice_get, slice_index};
+ghost use Rattle.std.specs.Prelude.{All, Some, IfOk, OnOk, OnErr, vec_len, vec_capacity};
 ghost use Rattle.std.specs.List.{sum_by};
 ghost use Rattle.qm_store.specs.Mem.{cut, AreEnds};
 
@@ -67,7 +67,7 @@ impl Items {
         requires { count ≤ length self.old }
         ensures { self.new ≡ take count self.old }
     {
-        let (_, end) = if count == 0 { (0, 0) } else { place(&self.ends, count - 1) };
+        let end = end_of_first(&self.ends, count);
         self.ends.truncate(count);
         self.bytes.truncate(end);
     }
@@ -77,12 +77,10 @@ impl Items {
         requires { count ≤ length self.old }
         ensures { self.new ≡ drop count self.old }
     {
-        let gone = if count == 0 { 0 } else { self.ends[count - 1] };
-        self.ends.drain(..count);
-        for end in &mut self.ends {
-            *end -= gone;
-        }
-        self.bytes.drain(..gone);
+        let gone = end_of_first(&self.ends, count);
+        remove_front(&mut self.ends, count);
+        remove_front(&mut self.bytes, gone);
+        move_down(&mut self.ends, gone);
     }
 
     pub(crate) fn clear(&mut self)
@@ -93,14 +91,40 @@ impl Items {
     }
 }
 
+// Where the first items end, so many.
+fn end_of_first(ends: &[usize], count: usize) -> usize
+    requires { count ≤ length ends.now }
+    ensures { result ≡ slice_index (0 ∷ ends.now) count }
+{
+    if count == 0 { 0 } else { ends[count - 1] }
+}
+
 // Where an item starts and ends.
 fn place(ends: &[usize], at: usize) -> (usize, usize)
     requires { at < length ends.now }
     ensures start { result.0 ≡ slice_index (0 ∷ ends.now) at }
     ensures end { result.1 ≡ slice_index ends.now at }
 {
-    let start = if at == 0 { 0 } else { ends[at - 1] };
-    (start, ends[at])
+    (end_of_first(ends, at), ends[at])
+}
+
+// Takes away the first elements, so many.
+fn remove_front<T: Copy>(items: &mut Vec<T>, count: usize)
+    requires { count ≤ vec_len items.old }
+    ensures { items.new.items ≡ drop count items.old.items }
+{
+    items.copy_within(count.., 0);
+    items.truncate(items.len() - count);
+}
+
+// Takes this from each end.
+fn move_down(ends: &mut Vec<usize>, gone: usize)
+    requires { All (λ end. gone ≤ end) ends.old.items }
+    ensures { ends.new.items ≡ map (λ end. end - gone) ends.old.items }
+{
+    for end in ends.iter_mut() {
+        *end -= gone;
+    }
 }
 
 // How many bytes items have together.

@@ -1,5 +1,5 @@
 // A store in memory, which fails exactly at the listed calls.
-ghost use Rattle.std.specs.Prelude.{◌≡◌, ◌≢◌, ℕ, ◌+◌, ◌-◌, ◌^◌, ◌<◌, ◌≤◌, ◌↔◌, List, [], length, map, take, slice_get, Contains};
+ghost use Rattle.std.specs.Prelude.{◌≡◌, ◌≢◌, ℕ, ◌+◌, ◌-◌, ◌^◌, ◌<◌, ◌≤◌, ◌↔◌, List, [], length, map, take, slice_get, bytes_eq, Contains};
 ghost use Rattle.std.specs.Prelude.{IsTrue, Some, IfSome, IfOk, OnOk, OnErr, IsErrOf};
 ghost use Rattle.std.proofs.Common.{refl};
 ghost use Rattle.std.proofs.Math.Nat.{le-add_right};
@@ -26,6 +26,15 @@ impl Model for Metadata {
     ghost Value = { Named };
 
     ghost view = { λ m. record { name = string_bytes m.name; entries = m.entries.items } };
+}
+
+impl Metadata {
+    // Whether it is that of a name.
+    fn is_of(&self, name: &str) -> bool
+        ensures { result ≡ bytes_eq name.now self.now.name }
+    {
+        name == self.name.as_str()
+    }
 }
 
 /// A store in memory. Its calls that may fail are numbered from 0 on, and those fail whose numbers are listed. The numbers
@@ -193,6 +202,7 @@ impl Store for MemStore {
 
     fn append(&mut self, added: &[Vec<u8>]) -> Result<(), StoreError>
         requires room { end_of self.old.held + length added.now ≤ 2 ^ 62 }
+        ensures inside { IsInside self.old }
         ensures cause { IsCause self.old.faults self.new.faults (IsErrOf result StoreError.Failed) }
 
         // It fails at the listed calls alone.
@@ -207,6 +217,7 @@ impl Store for MemStore {
     }
 
     fn commit(&mut self) -> Result<(), StoreError>
+        ensures inside { IsInside self.old }
         ensures cause { IsCause self.old.faults self.new.faults (IsErrOf result StoreError.Failed) }
 
         // It fails at the listed calls alone.
@@ -221,6 +232,7 @@ impl Store for MemStore {
     }
 
     fn sync(&mut self) -> Result<(), StoreError>
+        ensures inside { IsInside self.old }
         ensures cause { IsCause self.old.faults self.new.faults (IsErrOf result StoreError.Failed) }
 
         // It fails at the listed calls alone.
@@ -237,6 +249,7 @@ impl Store for MemStore {
     fn rewind(&mut self, to: u64) -> Result<(), StoreError>
         requires from { self.old.held.start ≤ to }
         requires before { to ≤ end_of self.old.held }
+        ensures inside { IsInside self.old }
         ensures cause { IsCause self.old.faults self.new.faults (IsErrOf result StoreError.Failed) }
 
         // It fails at the listed calls alone.
@@ -255,6 +268,7 @@ impl Store for MemStore {
         requires from { self.old.held.start ≤ to }
         requires before { to ≤ end_of self.old.held }
         requires stable { to ≤ self.old.held.stable }
+        ensures inside { IsInside self.old }
         ensures cause { IsCause self.old.faults self.new.faults (IsErrOf result StoreError.Failed) }
 
         // It fails at the listed calls alone.
@@ -272,6 +286,7 @@ impl Store for MemStore {
     }
 
     fn put_meta(&mut self, name: &str, entries: &[MetaEntry]) -> Result<(), StoreError>
+        ensures inside { IsInside self.old }
         ensures cause { IsCause self.old.faults self.new.faults (IsErrOf result StoreError.Failed) }
 
         // It fails at the listed calls alone.
@@ -281,16 +296,18 @@ impl Store for MemStore {
         ensures memory { result ≡ Err StoreError.Memory → self.new ≡ called self.old }
     {
         self.call()?;
-        let metadata = Metadata {
+        let named = Metadata {
             name: String::from_str(self.alloc, name)?,
             entries: copied(self.alloc, entries)?,
         };
-        self.metadata.insert(0, metadata)?;
-        self.metadata.retain(|other| other.name.as_str() != name);
+        self.metadata.reserve(1)?;
+        self.metadata.retain(|other| !other.is_of(name));
+        self.metadata.insert(0, named).unwrap();
         Ok(())
     }
 
     fn restart(&mut self, keep: u64) -> Result<(), StoreError>
+        ensures inside { IsInside self.old }
         ensures cause { IsCause self.old.faults self.new.faults (IsErrOf result StoreError.Failed) }
 
         // It fails at the listed calls alone.
@@ -309,6 +326,7 @@ impl Store for MemStore {
     }
 
     fn destroy(&mut self) -> Result<(), StoreError>
+        ensures inside { IsInside self.old }
         ensures cause { IsCause self.old.faults self.new.faults (IsErrOf result StoreError.Failed) }
 
         // It fails at the listed calls alone.
@@ -350,7 +368,7 @@ fn entries_of(
     ensures { IfOk result (λ v. v.items ≡ metadata_in metadata.now name.now) }
 {
     for named in metadata {
-        if name == named.name.as_str() {
+        if named.is_of(name) {
             return copied(alloc, &named.entries);
         }
     }
