@@ -1,5 +1,6 @@
 pub mod Leaves
 pub mod Trees
+pub mod Told
 pub mod Stores
 pub mod Shown
 pub mod Kept

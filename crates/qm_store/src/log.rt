@@ -1,7 +1,7 @@
 //! Logs: a store of items and a tree over their leaves, which agree.
 
 ghost use Rattle.std.specs.Prelude.{◌≡◌, ◌≢◌, ◌↔◌, ◌⊎◌, ℕ, ◌+◌, ◌-◌, ◌*◌, ◌^◌, ◌<◌, ◌≤◌, min, IsTrue, List, [], ◌∷◌, ◌++◌, Contains, length, map, take, drop, slice_get};
-ghost use Rattle.std.specs.Prelude.{tt, Ok, Err, Some, None, IfSome, IfOk, IfErr, OnOk, OnErr, IsErrOf};
+ghost use Rattle.std.specs.Prelude.{Ok, Err, Some, None, IfSome, IfOk, IfErr, OnOk, OnErr, IsErrOf};
 ghost use Rattle.std.specs.Int.NonZero.{non_zero_u64_get};
 ghost use Rattle.std.specs.List.{concat};
 ghost use Rattle.qm_model.specs.Causes.{IsCause};
