@@ -3,5 +3,6 @@ pub mod Trees
 pub mod Told
 pub mod Stores
 pub mod Shown
+pub mod Heads
 pub mod Kept
 pub mod Cuts
