@@ -1,5 +1,5 @@
 -- What stores keep, and what holds of what they tell.
-use Rattle.std.proofs.Common.{◌≡◌, ◌⊎◌, ◌∙◌, ◌≤◌, ◌+◌, ◌-◌, ◌++◌, ℕ, List, length, take, drop, ap, sym, subst, refl, inl, inr, arith, append-nil, Option, Some, None, IfSome, Result, Ok, Err, IfOk, OnOk}
+use Rattle.std.proofs.Common.{◌≡◌, ◌≢◌, ◌⊎◌, ◌∙◌, ◌≤◌, ◌+◌, ◌-◌, ◌++◌, ℕ, List, length, take, drop, ap, sym, subst, refl, inl, inr, arith, append-nil, Option, Some, None, IfSome, Result, Ok, Err, IfOk, IfErr, OnOk, OnErr}
 use Rattle.std.specs.Prelude.{⊤, IsErrOf}
 use Rattle.std.proofs.lemmas.List.{take_all, take-take, drop-append-le, length-append, length-drop}
 use Rattle.qm_model.specs.Operations.{Bytes}
@@ -13,6 +13,7 @@ use Rattle.qm_store.specs.declared.Store as store
 use Rattle.qm_store.specs.declared.StoreError.{StoreError}
 use Rattle.qm_store.specs.declared.StoreError.TheVariants as stores
 use Rattle.qm_store.specs.declared.log.LogGiven.TheVariants as variants
+use Rattle.qm_store.specs.declared.log.LogRefusal.{LogRefusal}
 use Rattle.qm_store.proofs.Leaves.{length-digests_from}
 use Rattle.qm_store.proofs.Shown.{part_read}
 use Rattle.qm_store.specs.Log.{Log, IsLog, IsKept, HasGrown, IsRefused, digests_from, log_error}
@@ -56,11 +57,25 @@ refused-store members Left old new error left cause = record {
     failed stores.Memory fault = absurd cc
     failed stores.Failed fault = refl
 
+-- a log over a store that was called, where the call failed
+pub refused-after : {C D X : Type 0} (members : store.Ghosts C) (Left : C → C → Type 0) (old : Log C D) (new : C) (done : Result ⊤ StoreError) (made : Result X (LogRefusal (Log C D) C)) →
+    IfErr made (λ r. (r.given ≡ variants.Store new) × IfErr done (λ e. r.error ≡ log_error e) × (done ≢ Ok tt)) → OnErr done (Left old.store new) → IsCause (members.faults old.store) (members.faults new) (IsErrOf done stores.Failed) →
+    IfErr made (λ r. IsRefused members Left old r.given r.error)
+refused-after members Left old new done (Ok x) is left cause = tt
+refused-after members Left old new (Ok tt) (Err r) is left cause = absurd (is.2 refl)
+refused-after members Left old new (Err e) (Err r) is left cause =
+    subst (λ given. IsRefused members Left old given r.error) (sym is.0) (subst (IsRefused members Left old (variants.Store new)) (sym is.1) (refused-store members Left old new e left cause))
+
 -- what holds of what a store tells that was made this, by what held of it
 pub made-then : (o new : Option Stored) (f : Stored → Stored) {P Q R : Stored → Type 0} (S : Stored → Type 0) → Becomes o new f → IfSome o P → IfSome o Q → IfSome o R → ((s : Stored) → P s → Q s → R s → S (f s)) → IfSome new S
 made-then None new f S is p q r give = subst (λ o. IfSome o S) (sym is) tt
 made-then (Some s) None f S is p q r give = absurd is
 made-then (Some s) (Some t) f S is p q r give = subst S (sym is) (give s p q r)
+
+-- what follows where a call came off
+pub ok-both : {T E P Q R : Type 0} (done : Result T E) → OnOk done P → OnOk done Q → (P → Q → R) → OnOk done R
+ok-both (Ok x) p q give = give p q
+ok-both (Err e) p q give = tt
 
 -- what holds of a log over a store that was called, where the call came off
 pub after-ok : {C D E G : Type 0} (done : Result ⊤ E) (made : Result (Log C D) G) (new : C) (tree : Kept D) (P : Log C D → Type 0) →
