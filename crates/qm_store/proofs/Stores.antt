@@ -1,6 +1,6 @@
 -- What stores keep, and what holds of what they tell.
 use Rattle.std.proofs.Common.{◌≡◌, ◌≢◌, ◌⊎◌, ◌∙◌, ◌≤◌, ◌+◌, ◌-◌, ◌++◌, ℕ, List, length, take, drop, ap, sym, subst, refl, inl, inr, arith, append-nil, Option, Some, None, IfSome, Result, Ok, Err, IfOk, IfErr, OnOk, OnErr}
-use Rattle.std.specs.Prelude.{⊤, IsErrOf}
+use Rattle.std.specs.Prelude.{⊤, IsErrOf, slice_get}
 use Rattle.std.proofs.lemmas.List.{take_all, take-take, drop-append-le, length-append, length-drop}
 use Rattle.qm_model.specs.Operations.{Bytes}
 use Rattle.qm_model.specs.Trees.{Shape}
@@ -30,6 +30,13 @@ kept-then members a b c before after = record {
   end = after.end ∙ before.end;
   told = after.told ∙ before.told;
 }
+
+-- the item that a store gave which has what another had is that one's
+pub read-kept : {C : Type 0} (members : store.Ghosts C) (old now : C) (at : ℕ) (item : Bytes) → IsKept members old now → IfSome (members.told now) (λ s. s.start ≡ members.start now) →
+    IfSome (members.told now) (λ s. slice_get s.items (at - s.start) ≡ Some item) → IfSome (members.told old) (λ s. slice_get s.items (at - members.start old) ≡ Some item)
+read-kept members old now at item kept starts is =
+    subst (λ o. IfSome o (λ s. slice_get s.items (at - members.start old) ≡ Some item)) kept.told
+    (both (members.told now) starts is (λ s first given. ap (λ n. slice_get s.items (at - n)) (sym (first ∙ kept.start)) ∙ given))
 
 -- a log that is given back as it was, for want of memory
 pub refused-whole : {C D : Type 0} (members : store.Ghosts C) (Left : C → C → Type 0) (old log : Log C D) → log ≡ old → IsRefused members Left old (variants.Log log) errors.Memory

@@ -33,5 +33,5 @@ returns-clause-items g c = λ list is.
     let read = subst (λ (l : _). IfSome (members.told l.store) (λ held. map (λ v. v.items) c.in_ok-items.items.items ≡ take (start + c.min.result - start) (drop (start - members.start l.store) held.items))) c.self.view_is c.in_ok-items.ensures.items in
     both (members.told log.store) is.items read
     (λ held told shown.
-    shown ∙ ap₂ (λ j k. take j (drop (start - k) xs)) count (sym is.start)
+    shown ∙ ap₂ (λ j k. take j (drop (start - k) held.items)) count (sym is.start)
     ∙ part_read held.items list log.tree.start start m (omega (arith, c.bounds-first.ensures.start, c.if-start-first.false)) within told)
