@@ -12,6 +12,7 @@ use Rattle.qm_merkle.specs.Batches.{Batch, all_layers, IsHistory, AreThere}
 use Rattle.qm_proofs.specs.Proofs.{first_lacked, over_at, Tells}
 use Rattle.qm_merkle.proofs.Putting.{history-count}
 use Rattle.qm_merkle.proofs.Histories.{seen}
+use Rattle.qm_merkle.proofs.Pruning.{slice_get-drop}
 use Rattle.qm_proofs.proofs.Telling.{layers_tell}
 use Rattle.qm_proofs.proofs.Keeping.{read_there}
 use Rattle.qm_store.specs.Log.{IsLacked}
@@ -72,6 +73,19 @@ part_read xs list s start m from within same =
     sym (drop-take k m xs) ∙ ap (drop k) (sym (take-take (k + m) (length list - s) xs (omega arith)))
     ∙ drop-take k m (take (length list - s) xs) ∙ ap (λ l. take m (drop k l)) same ∙ ap (take m) (drop-drop k s list ∙ ap (λ j. drop j list) place)
 
+slice_get-take : (n k : ℕ) (xs : List Bytes) → k < n → slice_get (take n xs) k ≡ slice_get xs k
+slice_get-take zero k xs lt = absurd (omega arith)
+slice_get-take (suc n) k [] lt = refl
+slice_get-take (suc n) zero (x ∷ xs) lt = refl
+slice_get-take (suc n) (suc k) (x ∷ xs) lt = slice_get-take n k xs (omega arith)
+
+-- an item of what a store has is that of the list
+pub item_read : (xs list : List Bytes) (s at : ℕ) (item : Bytes) → s ≤ at → at < length list → take (length list - s) xs ≡ drop s list → slice_get xs (at - s) ≡ Some item → slice_get list at ≡ Some item
+item_read xs list s at item from within same is =
+    let place : s + (at - s) ≡ at = omega arith in
+    ap (slice_get list) (sym place) ∙ sym (slice_get-drop s list (at - s)) ∙ ap (λ l. slice_get l (at - s)) (sym same)
+    ∙ slice_get-take (length list - s) (at - s) xs (omega (arith, from, within)) ∙ is
+
 -- the next item that is read
 pub item-next : {V : Type 0} (value : V → Bytes) (from start at : ℕ) (made : List V) (v : V) (items : List Bytes) → from ≤ start → start ≤ at →
     map value made ≡ take (at - start) (drop (start - from) items) → slice_get items (at - from) ≡ Some (value v) → map value (made ++ v ∷ []) ≡ take (at + 1 - start) (drop (start - from) items)
@@ -79,15 +93,10 @@ item-next value from start at made v items low le so_far is =
     let next : suc (at - start) ≡ at + 1 - start = omega arith in
     let place : (start - from) + (at - start) ≡ at - from = omega arith in
     map-append value made (v ∷ []) ∙ ap (λ l. l ++ value v ∷ []) so_far
-    ∙ sym (take_next (at - start) (drop (start - from) items) (value v) (slice_get-drop (start - from) (at - start) items ∙ ap (slice_get items) place ∙ is))
+    ∙ sym (take_next (at - start) (drop (start - from) items) (value v) (slice_get-drop (start - from) items (at - start) ∙ ap (slice_get items) place ∙ is))
     ∙ ap (λ j. take j (drop (start - from) items)) next
   where
     take_next : (k : ℕ) (xs : List Bytes) (x : Bytes) → slice_get xs k ≡ Some x → take (suc k) xs ≡ take k xs ++ x ∷ []
     take_next k [] x is = cc
     take_next zero (y ∷ xs) x is = let same : y ≡ x = cc in ap (λ z. z ∷ []) same
     take_next (suc k) (y ∷ xs) x is = ap (λ l. y ∷ l) (take_next k xs x is)
-
-    slice_get-drop : (j k : ℕ) (xs : List Bytes) → slice_get (drop j xs) k ≡ slice_get xs (j + k)
-    slice_get-drop zero k xs = let same : k ≡ 0 + k = omega arith in ap (slice_get xs) same
-    slice_get-drop (suc j) k [] = refl
-    slice_get-drop (suc j) k (x ∷ xs) = let next : suc (j + k) ≡ suc j + k = omega arith in slice_get-drop j k xs ∙ ap (slice_get (x ∷ xs)) next

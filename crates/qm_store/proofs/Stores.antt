@@ -1,19 +1,22 @@
 -- What stores keep, and what holds of what they tell.
-use Rattle.std.proofs.Common.{◌≡◌, ◌⊎◌, ◌∙◌, ◌≤◌, ◌+◌, ◌-◌, ◌++◌, ℕ, List, length, take, drop, ap, sym, subst, refl, inl, inr, arith, append-nil, Option, Some, None, IfSome, Result, Ok, Err, IfOk}
-use Rattle.std.specs.Prelude.{IsErrOf}
-use Rattle.std.proofs.lemmas.List.{take_all, drop-append-le, length-append}
+use Rattle.std.proofs.Common.{◌≡◌, ◌≢◌, ◌⊎◌, ◌∙◌, ◌≤◌, ◌+◌, ◌-◌, ◌++◌, ℕ, List, length, take, drop, ap, sym, subst, refl, inl, inr, arith, append-nil, Option, Some, None, IfSome, Result, Ok, Err, IfOk, IfErr, OnOk, OnErr}
+use Rattle.std.specs.Prelude.{⊤, IsErrOf, slice_get}
+use Rattle.std.proofs.lemmas.List.{take_all, take-take, drop-append-le, length-append, length-drop}
 use Rattle.qm_model.specs.Operations.{Bytes}
 use Rattle.qm_model.specs.Trees.{Shape}
 use Rattle.qm_merkle.specs.Mems.{Kept, Stands}
-use Rattle.qm_model.specs.Causes.{IsCause, Grows}
+use Rattle.qm_model.specs.Causes.{IsCause}
+use Rattle.qm_model.specs.StoreModel.{Stored, end_of, appended, rewound, pruned, Becomes}
 use Rattle.qm_base.specs.declared.error.Error.TheVariants as errors
 use Rattle.qm_base.specs.declared.error.JournalError.TheVariants as journal
 use Rattle.qm_store.specs.declared.Store as store
 use Rattle.qm_store.specs.declared.StoreError.{StoreError}
 use Rattle.qm_store.specs.declared.StoreError.TheVariants as stores
-use Rattle.qm_store.specs.declared.log.LogGiven.TheVariants as given
+use Rattle.qm_store.specs.declared.log.LogGiven.TheVariants as variants
+use Rattle.qm_store.specs.declared.log.LogRefusal.{LogRefusal}
 use Rattle.qm_store.proofs.Leaves.{length-digests_from}
-use Rattle.qm_store.specs.Log.{Log, IsLog, IsKept, HasGrown, HasGrownPart, IsRefused, digests_from, log_error}
+use Rattle.qm_store.proofs.Shown.{part_read}
+use Rattle.qm_store.specs.Log.{Log, IsLog, IsKept, HasGrown, IsRefused, digests_from, log_error}
 
 -- what holds of both
 pub both : {X : Type 0} (o : Option X) {P Q R : X → Type 0} → IfSome o P → IfSome o Q → ((x : X) → P x → Q x → R x) → IfSome o R
@@ -25,39 +28,35 @@ pub kept-then : {C : Type 0} (members : store.Ghosts C) (a b c : C) → IsKept m
 kept-then members a b c before after = record {
   start = after.start ∙ before.start;
   end = after.end ∙ before.end;
-  items = after.items ∙ before.items;
-  head = after.head ∙ before.head;
+  told = after.told ∙ before.told;
 }
 
+-- the item that a store gave which has what another had is that one's
+pub read-kept : {C : Type 0} (members : store.Ghosts C) (old now : C) (at : ℕ) (item : Bytes) → IsKept members old now → IfSome (members.told now) (λ s. s.start ≡ members.start now) →
+    IfSome (members.told now) (λ s. slice_get s.items (at - s.start) ≡ Some item) → IfSome (members.told old) (λ s. slice_get s.items (at - members.start old) ≡ Some item)
+read-kept members old now at item kept starts is =
+    subst (λ o. IfSome o (λ s. slice_get s.items (at - members.start old) ≡ Some item)) kept.told
+    (both (members.told now) starts is (λ s first given. ap (λ n. slice_get s.items (at - n)) (sym (first ∙ kept.start)) ∙ given))
+
 -- a log that is given back as it was, for want of memory
-pub refused-whole : {C D : Type 0} (members : store.Ghosts C) (old log : Log C D) (more : List Bytes) → log ≡ old → IsRefused members old more (given.Log log) errors.Memory
-refused-whole members old log more same = record {
-  part = subst (λ l. HasGrownPart members old.store l.store more) (sym same) (record {
-    start = refl;
-    from = omega arith;
-    within = omega arith;
-    items = (0, none (members.items old.store));
-    head = refl;
-  });
+pub refused-whole : {C D : Type 0} (members : store.Ghosts C) (Left : C → C → Type 0) (old log : Log C D) → log ≡ old → IsRefused members Left old (variants.Log log) errors.Memory
+refused-whole members Left old log same = record {
   back = λ other is. (cc, refl);
+  left = λ s is. absurd cc;
   never = inl refl;
   cause = subst (λ l. IsCause (members.faults old.store) (members.faults l.store) (errors.Memory ≡ errors.Journal journal.Store)) (sym same) (record { later = omega arith; failed = λ never. absurd cc });
 }
-  where
-    none : (o : Option (List Bytes)) → Grows o o (take 0 more)
-    none None = tt
-    none (Some xs) = ap Some (sym (append-nil xs))
 
--- a log whose store refused these
-pub refused-stored : {C D T : Type 0} (members : store.Ghosts C) (old : Log C D) (s new : C) (more : List Bytes) (error : StoreError) → old.store ≡ s → HasGrownPart members s new more → IsCause (members.faults s) (members.faults new) (IsErrOf {T = T} (Err error) stores.Failed)
-    → IsRefused members old more (given.Store new) (log_error error)
-refused-stored members old s new more error is part cause = record {
-  part = subst (λ c. HasGrownPart members c new more) (sym is) part;
+-- a log whose store failed a call
+pub refused-store : {C D T : Type 0} (members : store.Ghosts C) (Left : C → C → Type 0) (old : Log C D) (new : C) (error : StoreError) → Left old.store new →
+    IsCause (members.faults old.store) (members.faults new) (IsErrOf {T = T} (Err error) stores.Failed) → IsRefused members Left old (variants.Store new) (log_error error)
+refused-store members Left old new error left cause = record {
   back = λ log same. absurd cc;
+  left = λ s same. let is : new ≡ s = cc in subst (Left old.store) is left;
   never = elim error as (λ e. (log_error e ≡ errors.Memory) ⊎ (log_error e ≡ errors.Journal journal.Store)) [ stores.Memory ↦ inl refl | stores.Failed ↦ inr refl ];
   cause = record {
-    later = rw is cause.later;
-    failed = λ fault. rw is (cause.failed (ap Err (failed error fault)));
+    later = cause.later;
+    failed = λ fault. cause.failed (ap Err (failed error fault));
   };
 }
   where
@@ -65,37 +64,86 @@ refused-stored members old s new more error is part cause = record {
     failed stores.Memory fault = absurd cc
     failed stores.Failed fault = refl
 
--- a store that ends with a list has the rest of a longer one when it has grown
-rest-grown : (o new : Option (List Bytes)) (start end : ℕ) (list more : List Bytes) → start ≤ length list → end ≡ length list → IfSome o (λ xs. take (length list - start) xs ≡ drop start list) →
-    IfSome o (λ xs. start + length xs ≡ end) → Grows o new more → (o ≡ None → new ≡ None) → IfSome new (λ xs. take (length (list ++ more) - start) xs ≡ drop start (list ++ more))
-rest-grown None new start end list more within last told all grows untold =
-    subst (λ n. IfSome n (λ xs. take (length (list ++ more) - start) xs ≡ drop start (list ++ more))) (sym (untold refl)) tt
-rest-grown (Some xs) new start end list more within last told all grows untold =
-    let rest : xs ≡ drop start list = sym (take_all (length list - start) xs (omega arith)) ∙ told in
-    subst (λ n. IfSome n (λ ys. take (length (list ++ more) - start) ys ≡ drop start (list ++ more))) (sym grows)
-    (take_all (length (list ++ more) - start) (xs ++ more) (omega (arith, length-append xs more, length-append list more))
-    ∙ ap (λ l. l ++ more) rest ∙ sym (drop-append-le start list more within))
+-- a log over a store that was called, where the call failed
+pub refused-after : {C D X : Type 0} (members : store.Ghosts C) (Left : C → C → Type 0) (old : Log C D) (new : C) (done : Result ⊤ StoreError) (made : Result X (LogRefusal (Log C D) C)) →
+    IfErr made (λ r. (r.given ≡ variants.Store new) × IfErr done (λ e. r.error ≡ log_error e) × (done ≢ Ok tt)) → OnErr done (Left old.store new) → IsCause (members.faults old.store) (members.faults new) (IsErrOf done stores.Failed) →
+    IfErr made (λ r. IsRefused members Left old r.given r.error)
+refused-after members Left old new done (Ok x) is left cause = tt
+refused-after members Left old new (Ok tt) (Err r) is left cause = absurd (is.2 refl)
+refused-after members Left old new (Err e) (Err r) is left cause =
+    subst (λ given. IsRefused members Left old given r.error) (sym is.0) (subst (IsRefused members Left old (variants.Store new)) (sym is.1) (refused-store members Left old new e left cause))
 
--- a log that has grown with its store
-pub log-grown : {C D : Type 0} (members : store.Ghosts C) (shape : Shape) (bytes : D → Bytes) (hash : Bytes → Bytes) (old new : Log C D) (list more : List Bytes) → IsLog members shape bytes hash old list →
-    Stands shape bytes hash new.tree (digests_from hash shape 0 (list ++ more)) → new.tree.start ≡ old.tree.start → members.start new.store ≡ members.start old.store → Grows (members.items old.store) (members.items new.store) more →
-    (members.items old.store ≡ None → members.items new.store ≡ None) → IfSome (members.items old.store) (λ xs. members.start old.store + length xs ≡ members.«end» old.store) →
-    members.«end» old.store ≡ old.tree.leaves → members.start old.store ≤ members.«end» old.store → IsLog members shape bytes hash new (list ++ more)
-log-grown members shape bytes hash old new list more is tree start first grows untold all last order = record {
-  tree = tree;
-  start = start ∙ is.start ∙ sym first;
-  size = tree.count ∙ length-digests_from hash shape 0 (list ++ more);
-  items = subst (λ n. IfSome (members.items new.store) (λ xs. take (length (list ++ more) - n) xs ≡ drop n (list ++ more))) (sym start)
-      (rest-grown (members.items old.store) (members.items new.store) old.tree.start (members.«end» old.store) list more (omega (arith, is.start, is.size)) (last ∙ is.size) is.items
-      (subst (λ n. IfSome (members.items old.store) (λ xs. n + length xs ≡ members.«end» old.store)) (sym is.start) all) grows untold);
-}
+-- what holds of what a store tells that was made this, by what held of it
+pub made-then : (o new : Option Stored) (f : Stored → Stored) {P Q R : Stored → Type 0} (S : Stored → Type 0) → Becomes o new f → IfSome o P → IfSome o Q → IfSome o R → ((s : Stored) → P s → Q s → R s → S (f s)) → IfSome new S
+made-then None new f S is p q r give = subst (λ o. IfSome o S) (sym is) tt
+made-then (Some s) None f S is p q r give = absurd is
+made-then (Some s) (Some t) f S is p q r give = subst S (sym is) (give s p q r)
+
+-- what follows where a call came off
+pub ok-both : {T E P Q R : Type 0} (done : Result T E) → OnOk done P → OnOk done Q → (P → Q → R) → OnOk done R
+ok-both (Ok x) p q give = give p q
+ok-both (Err e) p q give = tt
+
+-- what holds of a log over a store that was called, where the call came off
+pub after-ok : {C D E G : Type 0} (done : Result ⊤ E) (made : Result (Log C D) G) (new : C) (tree : Kept D) (P : Log C D → Type 0) →
+    IfOk made (λ log. (done ≡ Ok tt) × (log.store ≡ new) × (log.tree ≡ tree)) → OnOk done (P (record { store = new; tree = tree })) → IfOk made P
+after-ok done (Ok log) new tree P is p =
+    let there : P (record { store = new; tree = tree }) = subst (λ d. OnOk d (P (record { store = new; tree = tree }))) is.0 p in
+    subst (λ t. P (record { store = log.store; tree = t })) (sym is.2) (subst (λ c. P (record { store = c; tree = tree })) (sym is.1) there)
+after-ok done (Err e) new tree P is p = tt
+
+module _ {C D : Type 0} (members : store.Ghosts C) (shape : Shape) (bytes : D → Bytes) (hash : Bytes → Bytes) (old new : Log C D) (list : List Bytes) (is : IsLog members shape bytes hash old list)
+    (starts : IfSome (members.told old.store) (λ s. s.start ≡ members.start old.store)) (ends : IfSome (members.told old.store) (λ s. end_of s ≡ members.«end» old.store)) where
+  -- a log over a store that was made this, and of a tree that stands for a list
+  log-made : (f : Stored → Stored) (other : List Bytes) → Stands shape bytes hash new.tree (digests_from hash shape 0 other) → new.tree.start ≡ members.start new.store → Becomes (members.told old.store) (members.told new.store) f →
+      ((s : Stored) → s.start ≡ old.tree.start → end_of s ≡ members.«end» old.store → take (length list - old.tree.start) s.items ≡ drop old.tree.start list → take (length other - new.tree.start) (f s).items ≡ drop new.tree.start other)
+      → IsLog members shape bytes hash new other
+  log-made f other stands start made give = record {
+    tree = stands;
+    start = start;
+    size = stands.count ∙ length-digests_from hash shape 0 other;
+    items = made-then (members.told old.store) (members.told new.store) f (λ s. take (length other - new.tree.start) s.items ≡ drop new.tree.start other) made starts ends is.items
+        (λ s first last has. give s (first ∙ sym is.start) last has);
+  }
+
+  -- a log whose store grew, and whose tree has the new leaves
+  pub log-grown : (more : List Bytes) → Stands shape bytes hash new.tree (digests_from hash shape 0 (list ++ more)) → new.tree.start ≡ old.tree.start → HasGrown members old.store new.store more →
+      members.«end» old.store ≡ old.tree.leaves → members.start old.store ≤ members.«end» old.store → IsLog members shape bytes hash new (list ++ more)
+  log-grown more stands start grown last order =
+      log-made (appended more) (list ++ more) stands (start ∙ is.start ∙ sym grown.start) grown.told
+      (λ s first end has.
+      let n = old.tree.start in
+      let whole : length s.items ≤ length list - n = omega (arith, first, end, last, is.size) in
+      let within : n ≤ length list = omega (arith, is.start, is.size, last, order) in
+      let rest : s.items ≡ drop n list = sym (take_all (length list - n) s.items whole) ∙ has in
+      take_all (length (list ++ more) - new.tree.start) (s.items ++ more) (omega (arith, length-append s.items more, length-append list more, whole, within, start))
+      ∙ ap (λ l. l ++ more) rest ∙ sym (drop-append-le n list more within) ∙ ap (λ k. drop k (list ++ more)) (sym start))
+
+  -- a log whose store ends with it from now on
+  pub log-settled : new.tree ≡ old.tree → members.start new.store ≡ members.start old.store → Becomes (members.told old.store) (members.told new.store) (rewound old.tree.leaves) → IsLog members shape bytes hash new list
+  log-settled same start settled =
+      let from = ap (λ t. t.start) same in
+      log-made (rewound old.tree.leaves) list (subst (λ t. Stands shape bytes hash t (digests_from hash shape 0 list)) (sym same) is.tree) (from ∙ is.start ∙ sym start) settled
+      (λ s first end has.
+      subst (λ n. take (length list - n) (take (old.tree.leaves - s.start) s.items) ≡ drop n list) (sym from)
+      (take-take (length list - old.tree.start) (old.tree.leaves - s.start) s.items (omega (arith, first, is.size)) ∙ has))
+
+  -- a log that lets go of what stands before a location, with its store
+  pub log-pruned : (to : ℕ) (head : Bytes) → Stands shape bytes hash new.tree (digests_from hash shape 0 list) → new.tree.start ≡ to → members.start new.store ≡ to → old.tree.start ≤ to → to ≤ length list →
+      Becomes (members.told old.store) (members.told new.store) (pruned to head) → IsLog members shape bytes hash new list
+  log-pruned to head stands start first from within made =
+      log-made (pruned to head) list stands (start ∙ sym first) made
+      (λ s begins end has.
+      subst (λ n. take (length list - n) (drop (to - s.start) s.items) ≡ drop n list) (sym start)
+      (ap (λ n. take (length list - to) (drop (to - n) s.items)) begins
+      ∙ part_read s.items list old.tree.start to (length list - to) from (omega (arith, within)) has
+      ∙ take_all (length list - to) (drop to list) (omega (arith, length-drop to list))))
 
 -- a log of a store that has grown, and of a tree that has its leaves
 pub log-stored : {C D E : Type 0} (members : store.Ghosts C) (shape : Shape) (bytes : D → Bytes) (hash : Bytes → Bytes) (old : Log C D) (tree : Kept D) (made : Result (Log C D) E) (list more : List Bytes) → IsLog members shape bytes hash old list →
     Stands shape bytes hash tree (digests_from hash shape 0 (list ++ more)) → tree.start ≡ old.tree.start → IfOk made (λ log. log.tree ≡ tree) → IfOk made (λ log. HasGrown members old.store log.store more) →
-    IfOk made (λ log. members.items old.store ≡ None → members.items log.store ≡ None) → IfSome (members.items old.store) (λ xs. members.start old.store + length xs ≡ members.«end» old.store) →
+    IfSome (members.told old.store) (λ s. s.start ≡ members.start old.store) → IfSome (members.told old.store) (λ s. end_of s ≡ members.«end» old.store) →
     members.«end» old.store ≡ old.tree.leaves → members.start old.store ≤ members.«end» old.store → IfOk made (λ log. IsLog members shape bytes hash log (list ++ more))
-log-stored members shape bytes hash old tree (Ok log) list more is stands start same grown untold all last order =
-    log-grown members shape bytes hash old log list more is (subst (λ t. Stands shape bytes hash t (digests_from hash shape 0 (list ++ more))) (sym same) stands) (ap (λ t. t.start) same ∙ start)
-    grown.start grown.items untold all last order
-log-stored members shape bytes hash old tree (Err e) list more is stands start same grown untold all last order = tt
+log-stored members shape bytes hash old tree (Ok log) list more is stands start same grown starts ends last order =
+    log-grown members shape bytes hash old log list is starts ends more (subst (λ t. Stands shape bytes hash t (digests_from hash shape 0 (list ++ more))) (sym same) stands) (ap (λ t. t.start) same ∙ start) grown last order
+log-stored members shape bytes hash old tree (Err e) list more is stands start same grown starts ends last order = tt

@@ -16,7 +16,7 @@ use Rattle.qm_store.specs.declared.Store as store
 use Rattle.qm_store.specs.declared.StoreError.{StoreError}
 use Rattle.qm_store.specs.declared.StoreError.TheVariants as stores
 use Rattle.qm_store.specs.declared.log.LogGiven.{LogGiven}
-use Rattle.qm_store.specs.declared.log.LogGiven.TheVariants as given
+use Rattle.qm_store.specs.declared.log.LogGiven.TheVariants as variants
 
 -- a log: its store, and the tree over its items' leaves
 pub record Log (C D : Type 0) : Type 0 where
@@ -84,14 +84,14 @@ log_error stores.Failed = errors.Journal journal.Store
 
 -- the store that is given back, by itself or inside the log
 abbrev pub store_given : {C D : Type 0} → LogGiven (Log C D) C → C
-store_given (given.Log log) = log.store
-store_given (given.Store store) = store
+store_given (variants.Log log) = log.store
+store_given (variants.Store store) = store
 
 -- what a call that takes a log by value leaves where it is refused: the log as it was, where memory lacked before its store was called, and
 -- else its store, as such a call leaves it
 pub record IsRefused {C D : Type 0} (members : store.Ghosts C) (Left : C → C → Type 0) (old : Log C D) (given : LogGiven (Log C D) C) (error : Error) : Type 0 where
-  pub back : (log : Log C D) → given ≡ given.Log log → (log ≡ old) × (error ≡ errors.Memory)
-  pub left : (s : C) → given ≡ given.Store s → Left old.store s
+  pub back : (log : Log C D) → given ≡ variants.Log log → (log ≡ old) × (error ≡ errors.Memory)
+  pub left : (s : C) → given ≡ variants.Store s → Left old.store s
   pub never : (error ≡ errors.Memory) ⊎ (error ≡ errors.Journal journal.Store)
   pub cause : IsCause (members.faults old.store) (members.faults (store_given given)) (error ≡ errors.Journal journal.Store)
 

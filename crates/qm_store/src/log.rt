@@ -1,14 +1,14 @@
 //! Logs: a store of items and a tree over their leaves, which agree.
 
 ghost use Rattle.std.specs.Prelude.{◌≡◌, ◌≢◌, ◌↔◌, ◌⊎◌, ℕ, ◌+◌, ◌-◌, ◌*◌, ◌^◌, ◌<◌, ◌≤◌, min, IsTrue, List, [], ◌∷◌, ◌++◌, Contains, length, map, take, drop, slice_get};
-ghost use Rattle.std.specs.Prelude.{tt, Ok, Err, Some, None, IfSome, IfOk, IfErr, OnOk, OnErr, IsErrOf};
+ghost use Rattle.std.specs.Prelude.{Ok, Err, Some, None, IfSome, IfOk, IfErr, OnOk, OnErr, IsErrOf};
 ghost use Rattle.std.specs.Int.NonZero.{non_zero_u64_get};
 ghost use Rattle.std.specs.List.{concat};
 ghost use Rattle.qm_model.specs.Causes.{IsCause};
 ghost use Rattle.qm_model.specs.StoreModel.{settled, rewound, pruned, with_metadata, IsImage, IsOldOrNew, RewindLeaves, ReadsAs, Turns, Becomes};
 ghost use Rattle.qm_model.specs.Trees as trees;
 ghost use Rattle.qm_model.specs.Proofs.{proof_of};
-ghost use Rattle.qm_merkle.specs.Mems.{Stands, node_at};
+ghost use Rattle.qm_merkle.specs.Mems.{Stands, IsWhole, node_at};
 ghost use Rattle.qm_merkle.specs.Batches.{all_layers, layers_since, stops, stops_since, lists_since, IsHistory};
 ghost use Rattle.qm_proofs.specs.Proofs.{proof_view, needed_positions, first_lacked, over_at};
 ghost use Rattle.qm_store.specs.KeptTrees.{IsKeptTree};
@@ -606,8 +606,11 @@ fn forget<F: Family, D: Digest>(
     ensures leaves { OnOk result (tree.new.leaves ≡ tree.old.leaves) }
     ensures stands { (hash : List ℕ → List ℕ) (list : List (List ℕ)) → Stands F.shape D.bytes hash tree.old list → OnOk result (Stands F.shape D.bytes hash tree.new list) }
     ensures head { (hash : List ℕ → List ℕ) (list : List (List ℕ)) → Stands F.shape D.bytes hash tree.old list → IfOk result (λ head. IsHead F.shape D.bytes hash to list head.items) }
+    ensures whole { IsWhole F.shape tree.old }
     ensures err { OnErr result (tree.new ≡ tree.old) }
 {
+    let (start, _) = tree.bounds();
+    prove!(start.get() <= to);
     let pins = shown::kept_peaks(alloc, tree, to).map_err(|_| AllocError)?;
     let head = joined(alloc, &pins)?;
     tree.prune(alloc, Location::new(to))?;

@@ -8,5 +8,5 @@ invariant-loop-at g l = record {
   kept : IsKept g.C.Store l.fn.store l.store;
   later : g.C.Store.faults l.fn.store ≤ g.C.Store.faults l.store;
   count : length l.made.items ≡ l.at - l.start;
-  digests : IfSome (g.C.Store.items l.fn.store) (λ xs. map g.H.Digest.Digest.bytes l.made.items ≡ digests_from g.H.Hasher.hash g.F.Family.shape l.start (take (l.at - l.start) xs));
+  digests : IfSome (g.C.Store.told l.fn.store) (λ held. map g.H.Digest.Digest.bytes l.made.items ≡ digests_from g.H.Hasher.hash g.F.Family.shape l.start (take (l.at - l.start) held.items));
 }

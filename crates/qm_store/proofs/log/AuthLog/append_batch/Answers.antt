@@ -1,6 +1,6 @@
 use Rattle.std.proofs.Common.{◌≡◌, ◌∙◌, map, ap, sym, subst}
 use Rattle.qm_model.proofs.Results.{err-then}
-use Rattle.qm_store.specs.Log.{Log, IsLog}
+use Rattle.qm_store.specs.Log.{Log, IsLog, HasGrownPart}
 use Rattle.qm_store.proofs.Stores.{refused-whole, log-stored}
 use Rattle.qm_store.proofs.log.AuthLog.append_batch.Goals as goal
 
@@ -14,7 +14,7 @@ returns-in-Ok-clause-stands g c = λ list is.
     let was = subst (λ l. IsLog members shape bytes hash l list) (sym c.self.view_is) is in
     let last = subst (λ l. members.«end» l.store ≡ l.tree.leaves) (sym c.self.view_is) c.requires.last in
     log-stored members shape bytes hash old c.add_items.new.tree c.stored.result list (map (λ v. v.items) c.args.items.now) was (c.in-Ok.ensures.stands list was.tree) c.in-Ok.ensures.start
-    c.stored.ensures.tree c.stored.ensures.grown c.stored.ensures.untold (g.met.C.Store.told_end old.store) last (g.met.C.Store.ordered old.store)
+    c.stored.ensures.tree c.stored.ensures.grown (g.met.C.Store.told_start old.store) (g.met.C.Store.told_end old.store) last (g.met.C.Store.ordered old.store)
 
 pub returns-in-Ok-clause-refused : goal.returns-in-Ok-clause-refused
 returns-in-Ok-clause-refused g c =
@@ -23,4 +23,4 @@ returns-in-Ok-clause-refused g c =
 pub returns-in-Err-clause-refused : goal.returns-in-Err-clause-refused
 returns-in-Err-clause-refused g c =
     let same = ap (λ t. record { store = c.self.inside.store; tree = t }) c.in-Err.ensures.err ∙ c.self.view_is in
-    refused-whole g.C.Store c.args.self _ (map (λ v. v.items) c.args.items.now) same
+    refused-whole g.C.Store (λ old new. HasGrownPart g.C.Store old new (map (λ v. v.items) c.args.items.now)) c.args.self _ same

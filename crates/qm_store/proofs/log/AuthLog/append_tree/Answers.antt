@@ -1,6 +1,6 @@
 use Rattle.std.proofs.Common.{◌≡◌, ◌∙◌, ◌++◌, map, ap, sym, subst}
 use Rattle.qm_model.proofs.Results.{err-then}
-use Rattle.qm_store.specs.Log.{Log, IsLog}
+use Rattle.qm_store.specs.Log.{Log, IsLog, HasGrownPart}
 use Rattle.qm_store.specs.KeptTrees.{leaves_of}
 use Rattle.qm_store.proofs.Kept.{kept-among}
 use Rattle.qm_store.proofs.Stores.{refused-whole, log-stored}
@@ -19,7 +19,7 @@ returns-in-Ok-clause-stands g c = λ list older is kept found.
     let among = kept-among hash shape bytes c.args.tree.now (list ++ more) older kept list found in
     let stands = c.in-Ok.ensures.stands hash (leaves_of hash shape list) (leaves_of hash shape (list ++ more)) kept.lists kept.history among was.tree in
     log-stored members shape bytes hash old c.put_into.new.tree c.stored.result list more was stands c.in-Ok.ensures.start
-    c.stored.ensures.tree c.stored.ensures.grown c.stored.ensures.untold (g.met.C.Store.told_end old.store) last (g.met.C.Store.ordered old.store)
+    c.stored.ensures.tree c.stored.ensures.grown (g.met.C.Store.told_start old.store) (g.met.C.Store.told_end old.store) last (g.met.C.Store.ordered old.store)
 
 pub returns-in-Ok-clause-refused : goal.returns-in-Ok-clause-refused
 returns-in-Ok-clause-refused g c =
@@ -28,4 +28,4 @@ returns-in-Ok-clause-refused g c =
 pub returns-in-Err-clause-refused : goal.returns-in-Err-clause-refused
 returns-in-Err-clause-refused g c =
     let same = ap (λ t. record { store = c.self.inside.store; tree = t }) c.in-Err.ensures.err ∙ c.self.view_is in
-    refused-whole g.C.Store c.args.self _ (map (λ v. v.items) c.args.items.now) same
+    refused-whole g.C.Store (λ old new. HasGrownPart g.C.Store old new (map (λ v. v.items) c.args.items.now)) c.args.self _ same

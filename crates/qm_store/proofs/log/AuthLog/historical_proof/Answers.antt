@@ -30,8 +30,8 @@ returns-clause-items g c = λ list is.
     let m = min (non_zero_u64_get c.args.max) (c.args.size - start) in
     let count : start + c.min.result - start ≡ m = omega (arith, shown g c) in
     let within : start + m ≤ length list = omega (arith, is.size, c.bounds-first.ensures.size, c.if-leaves-size.false, c.if-size-start.false) in
-    let read = subst (λ (l : _). IfSome (members.items l.store) (λ xs. map (λ v. v.items) c.in_ok-items.items.items ≡ take (start + c.min.result - start) (drop (start - members.start l.store) xs))) c.self.view_is c.in_ok-items.ensures.items in
-    both (members.items log.store) is.items read
-    (λ xs told shown.
-    shown ∙ ap₂ (λ j k. take j (drop (start - k) xs)) count (sym is.start)
-    ∙ part_read xs list log.tree.start start m (omega (arith, c.bounds-first.ensures.start, c.if-start-first.false)) within told)
+    let read = subst (λ (l : _). IfSome (members.told l.store) (λ held. map (λ v. v.items) c.in_ok-items.items.items ≡ take (start + c.min.result - start) (drop (start - members.start l.store) held.items))) c.self.view_is c.in_ok-items.ensures.items in
+    both (members.told log.store) is.items read
+    (λ held told shown.
+    shown ∙ ap₂ (λ j k. take j (drop (start - k) held.items)) count (sym is.start)
+    ∙ part_read held.items list log.tree.start start m (omega (arith, c.bounds-first.ensures.start, c.if-start-first.false)) within told)

@@ -8,5 +8,5 @@ invariant-loop-at g l = record {
   kept : IsKept g.C.Store l.fn.store l.store;
   later : g.C.Store.faults l.fn.store ≤ g.C.Store.faults l.store;
   count : length l.items.items ≡ l.at - l.start;
-  items : IfSome (g.C.Store.items l.fn.store) (λ xs. map (λ v. v.items) l.items.items ≡ take (l.at - l.start) (drop (l.start - g.C.Store.start l.fn.store) xs));
+  items : IfSome (g.C.Store.told l.fn.store) (λ held. map (λ v. v.items) l.items.items ≡ take (l.at - l.start) (drop (l.start - g.C.Store.start l.fn.store) held.items));
 }

@@ -1,0 +1,2 @@
+use Rattle.qm_store.proofs.Heads.{head_kept}
+use Rattle.qm_store.proofs.log.forget.Goals as goal
