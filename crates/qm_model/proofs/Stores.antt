@@ -101,7 +101,7 @@ reads-kept-append more s inside = record {
   count = 0;
   reads = ap {B = Stored} (λ items. record s { items = items }) (sym (append-nil s.items));
   least_stable = omega arith;
-  within = inside.stable;
+  within = λ was. was;
 }
 
 pub reads-kept-destroy : (s : Stored) → IsInside s → DestroyLeaves s s

@@ -106,12 +106,14 @@ pub record ReadsAs (least : ℕ) (Leaves : Stored → Type 0) (new : Stored) : T
   pub left : Leaves image
   pub reads : new ≡ record image { stable = new.stable }
   pub least_stable : least ≤ new.stable
+  pub within : new.stable ≤ end_of new
 
 -- a first part of these was appended
 pub record HasAppended (more : List Bytes) (s new : Stored) : Type 0 where
   pub count : ℕ
   pub reads : new ≡ record (appended (take count more) s) { stable = new.stable }
   pub least_stable : s.stable ≤ new.stable
+  pub within : s.stable ≤ end_of s → new.stable ≤ end_of new
 
 -- a destroy failed: it took no effect, or it did
 abbrev pub DestroyLeaves : Stored → Stored → Type 0

@@ -1,8 +1,8 @@
 -- What stores that have grown tell.
-use Rattle.std.proofs.Common.{◌≡◌, ◌≤◌, List, take, length, ap, sym, subst, append-nil, arith, refl, Option, Some, None}
+use Rattle.std.proofs.Common.{◌≡◌, ◌≤◌, List, take, length, ap, sym, subst, append-nil, length-append, arith, refl, Option, Some, None}
 use Rattle.std.proofs.Math.Seq.{take-length}
 use Rattle.qm_model.specs.Operations.{Bytes}
-use Rattle.qm_model.specs.StoreModel.{Stored, appended, HasAppended, Turns, Becomes, without_items, beside_items}
+use Rattle.qm_model.specs.StoreModel.{Stored, end_of, appended, HasAppended, Turns, Becomes, without_items, beside_items}
 use Rattle.qm_base.specs.declared.error.Error.{Error}
 use Rattle.qm_store.specs.declared.Store as store
 use Rattle.qm_store.specs.declared.log.LogGiven.{LogGiven}
@@ -29,12 +29,13 @@ part-whole (Some s) (Some t) more made = record {
   count = length more;
   reads = subst (λ u. u ≡ record (appended (take (length more) more) s) { stable = u.stable }) (sym made) (ap (λ xs. appended xs s) (sym (take-length more)));
   least_stable = subst (λ u. s.stable ≤ u.stable) (sym made) (omega arith);
+  within = λ inside. subst (λ u. u.stable ≤ end_of u) (sym made) (omega (arith, inside, length-append s.items more));
 }
 
 -- what is told has grown by none of these
 part-none : (o : Option Stored) (more : List Bytes) → Turns o o (HasAppended more)
 part-none None more = refl
-part-none (Some s) more = record { count = 0; reads = ap (λ xs. record s { items = xs }) (sym (append-nil s.items)); least_stable = omega arith }
+part-none (Some s) more = record { count = 0; reads = ap (λ xs. record s { items = xs }) (sym (append-nil s.items)); least_stable = omega arith; within = λ inside. inside }
 
 module _ {C : Type 0} (members : store.Ghosts C) (old new : C) where
   pub grown-appended : (more : List Bytes) → HasGrown members old new more → Appended members old new more
