@@ -130,7 +130,7 @@ items-take ends bytes items n end are is within at =
     let first : AreEnds 0 (take n ends) (length (take end bytes)) = subst (λ k. AreEnds 0 (take n ends) k) count (ends-take 0 ends (length bytes) n are there) in (
       first,
       sym (cut-longer 0 (take n ends) (take end bytes) (drop end bytes) (length (take end bytes)) first (omega arith)) ∙ ap (λ b. cut 0 (take n ends) b) (take-append-drop end bytes)
-      ∙ cut-take 0 ends bytes n ∙ ap (λ xs. take n xs) is,
+          ∙ cut-take 0 ends bytes n ∙ ap (λ xs. take n xs) is,
     )
 
 -- the items behind the first ones, with the bytes from their end on
@@ -141,9 +141,9 @@ items-drop ends bytes items n gone are is within at =
     let later : AreEnds gone (drop n ends) (length bytes) = subst (λ k. AreEnds k (drop n ends) (length bytes)) (sym at) (ends-drop 0 ends (length bytes) n are there) in
     let none : gone - gone ≡ 0 = omega arith in (
       subst (λ k. AreEnds k (map (λ end. end - gone) (drop n ends)) (length (drop gone bytes))) none
-      (subst (λ k. AreEnds (gone - gone) (map (λ end. end - gone) (drop n ends)) k) (sym (length-drop gone bytes)) (ends-down gone gone (drop n ends) (length bytes) later)),
+          (subst (λ k. AreEnds (gone - gone) (map (λ end. end - gone) (drop n ends)) k) (sym (length-drop gone bytes)) (ends-down gone gone (drop n ends) (length bytes) later)),
       ap (λ k. cut k (map (λ end. end - gone) (drop n ends)) (drop gone bytes)) (sym none) ∙ cut-down gone gone (drop n ends) bytes (length bytes) (omega arith) later
-      ∙ ap (λ k. cut k (drop n ends) bytes) at ∙ cut-drop 0 ends bytes n ∙ ap (λ xs. drop n xs) is,
+          ∙ ap (λ k. cut k (drop n ends) bytes) at ∙ cut-drop 0 ends bytes n ∙ ap (λ xs. drop n xs) is,
     )
 
 -- the items behind the first ones end where these end, or later

@@ -11,8 +11,12 @@ remove_front-requires c = omega (arith, c.self.inside.ends.ok.0, c.requires, ap 
 pub remove_front-requires-2 : goal.remove_front-requires-2
 remove_front-requires-2 c =
     let at : c.end_of_first-gone.result ≡ get_or (0 ∷ c.self.inside.ends.items) c.args.count 0 = rw (← c.deref.ensures.value) c.end_of_first-gone.ensures in
-    omega (arith, at, c.self.inside.bytes.ok.0,
-    first-end c.self.inside.ends.items c.self.inside.bytes.items c.args.count c.self.invariant (omega (arith, c.requires, ap length c.self.view_is, length-cut 0 c.self.inside.ends.items c.self.inside.bytes.items)))
+    omega (
+      arith,
+      at,
+      c.self.inside.bytes.ok.0,
+      first-end c.self.inside.ends.items c.self.inside.bytes.items c.args.count c.self.invariant (omega (arith, c.requires, ap length c.self.view_is, length-cut 0 c.self.inside.ends.items c.self.inside.bytes.items)),
+    )
 
 pub move_down-requires : goal.move_down-requires
 move_down-requires c =
