@@ -1,5 +1,6 @@
 -- What follows of a store's items and of its head alone from what it tells.
-use Rattle.std.proofs.Common.{◌≡◌, ◌∙◌, List, take, ap, sym, refl, subst, append-nil, Option, Some, None}
+use Rattle.std.proofs.Common.{◌≡◌, ◌∙◌, List, length, take, arith, ap, sym, refl, subst, append-nil, Option, Some, None, IsSome, true, false}
+use Rattle.std.proofs.lemmas.List.{take_all}
 use Rattle.qm_model.specs.Operations.{Bytes}
 use Rattle.qm_model.specs.Causes.{Grows, GrowsPart}
 use Rattle.qm_model.specs.StoreModel.{Stored, appended, HasAppended, Turns, Becomes, items_told, head_told}
@@ -51,6 +52,23 @@ module _ {C : Type 0} (members : store.Ghosts C) (old new : C) where
     head = ap head_told is.told;
     items = subst (λ o. GrowsPart (items_told (members.told old)) (items_told o) more) (sym is.told) (told-same (members.told old) more);
   }
+
+-- what grew by items grew by a first part of them: all
+pub appended-part-whole : {C : Type 0} (members : store.Ghosts C) (old new : C) (more : List Bytes) → Appended members old new more → AppendedPart members old new more
+appended-part-whole members old new more is = record {
+  start = is.start;
+  head = is.head;
+  items = (length more, subst (Grows (items_told (members.told old)) (items_told (members.told new))) (sym (take_all (length more) more (omega arith))) is.items);
+}
+
+-- what grew still tells what it holds
+pub appended-tells : {C : Type 0} (members : store.Ghosts C) (old new : C) (more : List Bytes) → Appended members old new more → IsSome (members.told old) → IsSome (members.told new)
+appended-tells members old new more is told = some (members.told old) (members.told new) told is.items
+  where
+    some : (o n : Option Stored) → IsSome o → Grows (items_told o) (items_told n) more → IsSome n
+    some None n told grown = let none : false ≡ true = told in cc
+    some (Some s) None told grown = cc
+    some (Some s) (Some t) told grown = refl
 
 -- a log that refused these gives back a store with a first part of them
 pub refused-appended-part : {C D : Type 0} (members : store.Ghosts C) (old : Log C D) (more : List Bytes) (given : LogGiven (Log C D) C) (error : Error) →
