@@ -1,5 +1,5 @@
 -- What follows of a store's items and of its head alone from what it tells.
-use Rattle.std.proofs.Common.{◌≡◌, ◌∙◌, List, length, take, arith, ap, sym, refl, subst, append-nil, Option, Some, None, IsSome, true, false}
+use Rattle.std.proofs.Common.{◌≡◌, List, length, arith, ap, sym, refl, subst, append-nil, Option, Some, None, IsSome, true, false}
 use Rattle.std.proofs.lemmas.List.{take_all}
 use Rattle.qm_model.specs.Operations.{Bytes}
 use Rattle.qm_model.specs.Causes.{Grows, GrowsPart}
