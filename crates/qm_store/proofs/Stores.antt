@@ -1,5 +1,5 @@
 -- What stores keep, and what holds of what they tell.
-use Rattle.std.proofs.Common.{◌≡◌, ◌≢◌, ◌⊎◌, ◌∙◌, ◌≤◌, ◌+◌, ◌-◌, ◌++◌, ℕ, List, length, take, drop, ap, sym, subst, refl, inl, inr, arith, append-nil, Option, Some, None, IfSome, Result, Ok, Err, IfOk, IfErr, OnOk, OnErr}
+use Rattle.std.proofs.Common.{◌≡◌, ◌≢◌, ◌⊎◌, ◌∙◌, ◌≤◌, ◌-◌, ◌++◌, ℕ, List, length, take, drop, ap, sym, subst, refl, inl, inr, arith, Option, Some, None, IfSome, Result, Ok, Err, IfOk, IfErr, OnOk, OnErr}
 use Rattle.std.specs.Prelude.{⊤, IsErrOf, slice_get}
 use Rattle.std.proofs.lemmas.List.{take_all, take-take, drop-append-le, length-append, length-drop}
 use Rattle.qm_model.specs.Operations.{Bytes}

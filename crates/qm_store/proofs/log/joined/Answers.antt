@@ -1,5 +1,4 @@
-use Rattle.std.proofs.Common.{◌∙◌, ◌++◌, ap, ap₂, add-one, sym}
-use Rattle.std.specs.List.{concat}
+use Rattle.std.proofs.Common.{◌∙◌, ◌++◌, ap₂, add-one}
 use Rattle.qm_store.proofs.Heads.{joined_next}
 use Rattle.qm_store.proofs.log.joined.Goals as goal
 

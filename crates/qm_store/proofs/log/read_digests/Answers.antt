@@ -1,4 +1,4 @@
-use Rattle.std.proofs.Common.{◌≡◌, ◌∙◌, ◌-◌, map, ap, sym, subst, arith, IfSome, Some}
+use Rattle.std.proofs.Common.{◌∙◌, ◌-◌, map, ap, arith}
 use Rattle.std.specs.Prelude.{slice_get}
 use Rattle.qm_model.specs.Trees.{leaf, leaf_digest}
 use Rattle.qm_store.proofs.Leaves.{read-next}

@@ -1,4 +1,4 @@
-use Rattle.std.proofs.Common.{◌≡◌, ◌∙◌, ◌≤◌, List, ℕ, length, ap, sym, subst, arith, IfOk, IfErr, OnOk}
+use Rattle.std.proofs.Common.{◌∙◌, ◌≤◌, List, ℕ, length, ap, sym, subst, arith, IfOk}
 use Rattle.std.proofs.lemmas.Result.{on_err_weaker}
 use Rattle.qm_model.proofs.Results.{ok-then, err-then}
 use Rattle.qm_model.specs.StoreModel.{pruned, Becomes}
@@ -73,6 +73,6 @@ returns-in-Err-clause-refused g c =
       kept.0,
       refused-whole members (HasLeftPruned members c.args.to kept.0) c.args.self _ same,
       λ list is.
-      let leaves = digests_from hash shape 0 list in
-      kept.1 hash leaves (subst (λ log. Stands shape bytes hash log.tree leaves) (sym c.self.view_is) is.tree),
+          let leaves = digests_from hash shape 0 list in
+          kept.1 hash leaves (subst (λ log. Stands shape bytes hash log.tree leaves) (sym c.self.view_is) is.tree),
     )

@@ -1,5 +1,4 @@
-use Rattle.std.proofs.Common.{◌≡◌, ◌∙◌, ◌-◌, map, ap, sym, subst, arith, IfSome, Some}
-use Rattle.std.specs.Prelude.{slice_get}
+use Rattle.std.proofs.Common.{◌∙◌, map, ap, arith}
 use Rattle.qm_store.proofs.Shown.{item-next}
 use Rattle.qm_store.proofs.Stores.{both, kept-then, read-kept}
 use Rattle.qm_store.proofs.log.shown.read_items.Goals as goal
