@@ -56,14 +56,24 @@ module _ (input rest line behind : Bytes) (k : ℕ) (at : IsAt input rest k) (fo
     line_left (Some c) e left Before so_far leaves =
         left_in m stored (commands_in input) k c left Before (at_within input rest line behind k at found c e) (at_command input rest line behind k at found c e) so_far leaves
 
+    -- what is left where all commands were answered before it
+    line_whole : (o : Option (Line Policy)) → line_of line ≡ o → (left : Option Stored) (Before : State → Type 0)
+        → (Apart m.root (after m stored (commands_in input) k).had → Before (after m stored (commands_in input) k))
+        → ((s : State) → Before s → o ≡ None → left ≡ Some s.store)
+        → k ≡ length (commands_in input) → Apart m.root (after m stored (commands_in input) k).had → left ≡ Some (after m stored (commands_in input) k).store
+    line_whole None e left Before so_far stays all = λ apart. stays (after m stored (commands_in input) k) (so_far apart) refl
+    line_whole (Some c) e left Before so_far stays all = let short = at_within input rest line behind k at found c e in absurd (omega (arith, short, all))
+
     -- the loop ended at it
     pub answered_in : (text : Bytes) (left : Option Stored) (Before : State → Type 0)
         → (Apart m.root (after m stored (commands_in input) k).had → (text ≡ text_of (answers m (initial stored) (take k (commands_in input)))) × Before (after m stored (commands_in input) k))
+        → ((s : State) → Before s → line_of line ≡ None → left ≡ Some s.store)
         → ((s : State) → Before s → Apart m.root s.had → IsLeft left s.store (after_line m s (line_of line)).store)
         → IsAnswered m stored (commands_in input) k text left
-    answered_in text left Before so_far leaves = record {
+    answered_in text left Before so_far stays leaves = record {
       few = at.few;
       same = λ apart. (so_far apart).0;
+      whole = line_whole (line_of line) refl left Before (λ apart. (so_far apart).1) stays;
       left = line_left (line_of line) refl left Before (λ apart. (so_far apart).1) leaves;
     }
 
@@ -74,5 +84,6 @@ pub answered_at : (m : Scheme Policy) (stored : Stored) (input : Bytes) (k : ℕ
 answered_at m stored input k text left few so_far = record {
   few = few;
   same = λ apart. (so_far apart).0;
+  whole = λ all apart. (so_far apart).1;
   left = λ apart. left_none (after m stored (commands_in input) k).store (after m stored (commands_in input) (suc k)).store left (so_far apart).1;
 }

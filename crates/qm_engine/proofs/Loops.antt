@@ -60,6 +60,7 @@ module _ {P : Type 0} (m : Scheme P) (stored : Stored) (lines : List (Line P)) w
   ended_in i line given left Before h here e so_far leaves = record {
     few = omega (arith, e);
     same = subst (λ n. Apart m.root (after m stored lines n).had → given ≡ answers m (initial stored) (take n lines)) (sym e) (λ apart. (so_far apart).0);
+    whole = λ all. absurd (omega (arith, e, all, h));
     left = subst (λ n. Apart m.root (after m stored lines n).had → IsLeft left (after m stored lines n).store (after m stored lines (suc n)).store) (sym e)
         (left_in i line left Before h here (λ apart. (so_far apart).1) leaves);
   }
@@ -71,6 +72,7 @@ module _ {P : Type 0} (m : Scheme P) (stored : Stored) (lines : List (Line P)) w
   ended_at i given left h e so_far = record {
     few = omega (arith, e);
     same = subst (λ n. Apart m.root (after m stored lines n).had → given ≡ answers m (initial stored) (take n lines)) (sym e) (λ apart. (so_far apart).0);
+    whole = λ all. subst (λ n. Apart m.root (after m stored lines n).had → left ≡ Some (after m stored lines n).store) (sym e) (λ apart. (so_far apart).1);
     left = subst (λ n. Apart m.root (after m stored lines n).had → IsLeft left (after m stored lines n).store (after m stored lines (suc n)).store) (sym e)
         (λ apart. left_none (after m stored lines i).store (after m stored lines (suc i)).store left (so_far apart).1);
   }

@@ -19,4 +19,6 @@ after_line m s (Some line) = (turn m s line).1
 pub record IsAnswered {P : Type 0} (m : Scheme P) (stored : Stored) (lines : List (Line P)) (k : ℕ) (text : Bytes) (store_left : Option Stored) : Type 0 where
   pub few : k ≤ length lines
   pub same : Apart m.root (after m stored lines k).had → text ≡ text_of (answers m (initial stored) (take k lines))
+  -- every command answered
+  pub whole : k ≡ length lines → Apart m.root (after m stored lines k).had → store_left ≡ Some (after m stored lines k).store
   pub left : Apart m.root (after m stored lines k).had → IsLeft store_left (after m stored lines k).store (after m stored lines (suc k)).store

@@ -1,5 +1,5 @@
 -- What a run of commands answers and leaves.
-use Rattle.std.specs.Prelude.{◌≡◌, ◌≤◌, ℕ, suc, List, length, take, Option}
+use Rattle.std.specs.Prelude.{◌≡◌, ◌≤◌, ℕ, suc, List, length, take, Option, Some}
 use Rattle.qm_model.specs.StoreModel.{Stored}
 use Rattle.qm_model.specs.Batches.{Apart}
 use Rattle.qm_machine.specs.Lines.{Line, Answer}
@@ -15,4 +15,6 @@ after m stored lines k = state_after m (initial stored) (take k lines)
 pub record IsRun {P : Type 0} (m : Scheme P) (stored : Stored) (lines : List (Line P)) (given : List Answer) (store_left : Option Stored) : Type 0 where
   pub few : length given ≤ length lines
   pub same : Apart m.root (after m stored lines (length given)).had → given ≡ answers m (initial stored) (take (length given) lines)
+  -- every command answered
+  pub whole : length given ≡ length lines → Apart m.root (after m stored lines (length given)).had → store_left ≡ Some (after m stored lines (length given)).store
   pub left : Apart m.root (after m stored lines (length given)).had → IsLeft store_left (after m stored lines (length given)).store (after m stored lines (suc (length given))).store

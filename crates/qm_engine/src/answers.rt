@@ -109,6 +109,7 @@ fn answer_line<X: Engine<C, Key = ByteKey, Value = ByteValue>, C: Store>(
         → IsLeft (C.told (store_given X.inside result.0.held)) s.store (after_line X.scheme s (line_of line.now)).store }
     ensures kept { OnSome result.1 (text.new.items ≡ text.old.items) }
     ensures command { IfNone result.1 (IsSome (line_of line.now)) }
+    ensures unused { line_of line.now ≡ None → C.told (store_given X.inside result.0.held) ≡ C.told (store_given X.inside session.held) }
     ensures bad { result.1 ≡ Some Ending.BadLine → line_of line.now ≡ None }
     ensures fault_command { result.1 ≡ Some Ending.StoreFault → IsSome (line_of line.now) }
     ensures not_done { IfSome result.1 (λ e. e ≢ Ending.Done) }

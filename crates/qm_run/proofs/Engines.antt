@@ -7,6 +7,7 @@ use Rattle.sha2.specs.Sha256.{sha256}
 use Rattle.qm_base.specs.declared.error.Error.{Error}
 use Rattle.qm_base.specs.declared.error.Error.TheVariants as errors
 use Rattle.qm_base.specs.declared.error.JournalError.TheVariants as journal
+use Rattle.qm_model.specs.StoreModel.{Stored}
 use Rattle.qm_model.specs.Operations.{Bytes, Operation}
 use Rattle.qm_model.specs.Forms.{spelling, variable}
 use Rattle.qm_model.specs.Batches.{Commitment, Chain, boundary_list, IsOnChain, IsKnown, commitment, fits, readable}
@@ -280,7 +281,7 @@ memory-exit r y is memory fault = let same : errors.Memory ≡ errors.Journal jo
 
 -- what reads left is what reads leave
 pub left-store : {C D : Type 0} (members : store.Ghosts C) (hash : Hashing D) (old new : Database C D) → IsLeft members hash old new → IsUnchanged members old.log.store new.log.store
-left-store members hash old new left = let kept = (left.read).kept in record { start = kept.start; head = kept.head; items = kept.items }
+left-store members hash old new left = let kept = (left.read).kept in record { start = kept.start; told = kept.told }
 
 -- an engine's refusal gives back what the database's does
 same-engine : {C : Type 0} (y x : engine.Database C) (a b : Given (engine.Database C) C) → a ≡ given.Database y → b ≡ given.Database x → a ≡ b → y ≡ x
@@ -297,9 +298,9 @@ unapplied-untold e (inr (inl memory)) fresh = ap refusal_of memory
 unapplied-untold e (inr (inr fault)) fresh = ap refusal_of fault
 
 -- what an opening says of a store's head, as the machine has it
-pub bare-offered : (told : Option Bytes) → IfSome told (λ head. head ≡ []) → IfSome told (λ head. head_refusal head ≡ None)
+pub bare-offered : (told : Option Stored) → IfSome told (λ held. held.head ≡ []) → IfSome told (λ held. head_refusal held.head ≡ None)
 bare-offered None bare = tt
-bare-offered (Some head) bare = ap head_refusal bare
+bare-offered (Some held) bare = ap head_refusal bare
 
 filled : (head : Bytes) → IsSome (head_refusal head) → 0 < length head
 filled [] some = absurd (cc some)
@@ -309,12 +310,12 @@ due-filled : (head : Bytes) → 0 < length head → head_refusal head ≡ Some (
 due-filled [] more = absurd (omega (arith, more))
 due-filled (b ∷ bs) more = refl
 
-pub head-due : (told : Option Bytes) (e : Error) → (e ≡ errors.Memory) ⊎ ((e ≡ errors.Journal journal.Store) ⊎ (e ≡ errors.DataCorrupted corrupt.HeadDoesNotMatch))
-    → (e ≡ errors.DataCorrupted corrupt.HeadDoesNotMatch → IfSome told (λ head. 0 < length head)) → IfSome told (λ head. IsDue e (head_refusal head))
+pub head-due : (told : Option Stored) (e : Error) → (e ≡ errors.Memory) ⊎ ((e ≡ errors.Journal journal.Store) ⊎ (e ≡ errors.DataCorrupted corrupt.HeadDoesNotMatch))
+    → (e ≡ errors.DataCorrupted corrupt.HeadDoesNotMatch → IfSome told (λ held. 0 < length held.head)) → IfSome told (λ held. IsDue e (head_refusal held.head))
 head-due None e why filled = tt
-head-due (Some head) e (inl memory) more = subst (λ x. IsDue x (head_refusal head)) (sym memory) tt
-head-due (Some head) e (inr (inl fault)) more = subst (λ x. IsDue x (head_refusal head)) (sym fault) tt
-head-due (Some head) e (inr (inr differs)) more = subst (λ x. IsDue x (head_refusal head)) (sym differs) (due-filled head (more differs))
+head-due (Some held) e (inl memory) more = subst (λ x. IsDue x (head_refusal held.head)) (sym memory) tt
+head-due (Some held) e (inr (inl fault)) more = subst (λ x. IsDue x (head_refusal held.head)) (sym fault) tt
+head-due (Some held) e (inr (inr differs)) more = subst (λ x. IsDue x (head_refusal held.head)) (sym differs) (due-filled held.head (more differs))
 
 -- an opening refuses a head alone, whatever the store tells
 pub head-among : (e : Error) → (e ≡ errors.Memory) ⊎ ((e ≡ errors.Journal journal.Store) ⊎ (e ≡ errors.DataCorrupted corrupt.HeadDoesNotMatch))
@@ -323,6 +324,6 @@ head-among e (inl memory) = subst (λ x. IsAmong x (DataCorrupted HeadDoesNotMat
 head-among e (inr (inl fault)) = subst (λ x. IsAmong x (DataCorrupted HeadDoesNotMatch ∷ [])) (sym fault) tt
 head-among e (inr (inr differs)) = subst (λ x. IsAmong x (DataCorrupted HeadDoesNotMatch ∷ [])) (sym differs) (0, omega arith, refl)
 
-pub head-unopened : (P : Type 0) (told : Option Bytes) → IfSome told (λ head. 0 < length head → P) → IfSome told (λ head. IsSome (head_refusal head) → P)
+pub head-unopened : (P : Type 0) (told : Option Stored) → IfSome told (λ held. 0 < length held.head → P) → IfSome told (λ held. IsSome (head_refusal held.head) → P)
 head-unopened P None given = tt
-head-unopened P (Some head) given = λ some. given (filled head some)
+head-unopened P (Some held) given = λ some. given (filled held.head some)

@@ -1,26 +1,19 @@
 -- What each status says, from what the lines' answering gave.
 use Rattle.std.proofs.Common.{◌≡◌, ◌⊎◌, ◌+◌, ◌<◌, ℕ, List, [], ◌++◌, length, take, Option, Some, None, arith, refl, sym, ◌∙◌, ap, subst, inl, inr, append-nil, IfSome}
 use Rattle.std.proofs.lemmas.List.{take_all}
-use Rattle.std.proofs.Math.Seq.{take-nil, drop-length}
 use Rattle.qm_model.specs.Causes.{Grows, GrowsPart}
 use Rattle.qm_model.specs.Operations.{Bytes}
-use Rattle.qm_machine.specs.Machine.{Stored}
+use Rattle.qm_model.specs.StoreModel.{Stored}
 use Rattle.qm_machine.specs.Grammar.{commands_in, bad_in}
-use Rattle.qm_engine.specs.Session.{IsLeft}
 use Rattle.qm_engine.specs.Answered.{IsAnswered}
-use Rattle.qm_run.specs.Program.{scheme, count, state, model_text, IsApart, IsLeftAt, bad_text, fault_text, IsPartial, Says}
+use Rattle.qm_run.specs.Program.{scheme, count, state, model_text, IsApart, bad_text, fault_text, IsPartial, Says}
 use Rattle.qm_run.specs.Endings.{tail_text, tail_status}
 use Rattle.qm_engine.specs.declared.answers.Ending.{Ending}
 use Rattle.qm_engine.specs.declared.answers.Ending.TheVariants.{Done, BadLine, Memory, StoreFault}
 use Rattle.qm_engine.proofs.Commands.{left_none}
-use Rattle.qm_engine.proofs.Loops.{after_all}
-
--- where nothing is appended any more, all is left
-left_whole : (left : Option (List Bytes)) (items : List Bytes) → IsLeft left items items → left ≡ Some items
-left_whole left items h = h.same ∙ ap (λ rest. Some (items ++ take h.count rest)) (drop-length items) ∙ ap (λ rest. Some (items ++ rest)) (take-nil h.count) ∙ ap Some (append-nil items)
 
 module _ (stored : Stored) (input : Bytes) (rose : Type 0) where
-  pub says_nothing : (s : ℕ) (left : Option (List Bytes)) → (s ≡ 1) ⊎ ((s ≡ 3) ⊎ (s ≡ 7)) → Says stored input s rose [] left
+  pub says_nothing : (s : ℕ) (left : Option Stored) → (s ≡ 1) ⊎ ((s ≡ 3) ⊎ (s ≡ 7)) → Says stored input s rose [] left
   says_nothing s left h = record {
     all = λ e. absurd (grind (arith, h, e));
     bad = λ e. absurd (grind (arith, h, e));
@@ -29,7 +22,7 @@ module _ (stored : Stored) (input : Bytes) (rose : Type 0) where
     nothing = λ _. refl;
   }
 
-  pub says_part : (s : ℕ) (written : Bytes) (left : Option (List Bytes)) (k : ℕ) → (s ≡ 4) ⊎ (s ≡ 5) → IsPartial stored input rose written left k → Says stored input s rose written left
+  pub says_part : (s : ℕ) (written : Bytes) (left : Option Stored) (k : ℕ) → (s ≡ 4) ⊎ (s ≡ 5) → IsPartial stored input rose written left k → Says stored input s rose written left
   says_part s written left k h p = record {
     all = λ e. absurd (grind (arith, h, e));
     bad = λ e. absurd (grind (arith, h, e));
@@ -39,11 +32,11 @@ module _ (stored : Stored) (input : Bytes) (rose : Type 0) where
   }
 
   -- no command was tried
-  pub says_unstarted : Says stored input 5 rose [] (Some stored.items)
-  says_unstarted = says_part 5 [] (Some stored.items) 0 (inr refl) (record {
+  pub says_unstarted : Says stored input 5 rose [] (Some stored)
+  says_unstarted = says_part 5 [] (Some stored) 0 (inr refl) (record {
     few = omega arith;
     part = λ _. inl (0, refl);
-    items_left = λ _. left_none stored.items (state stored input 1).store.items (Some stored.items) refl;
+    store_left = λ _. left_none stored (state stored input 1).store (Some stored) refl;
   })
 
   -- what an ending says of the first k commands: those before a bad line or the end are all, those before a fault are not
@@ -60,20 +53,18 @@ module _ (stored : Stored) (input : Bytes) (rose : Type 0) where
   is_whole k Memory done bad fault short = tt
   is_whole k StoreFault done bad fault short = (fault refl, short refl)
 
-  module _ (text : Bytes) (k : ℕ) (left : Option (List Bytes)) (answered : IsAnswered scheme stored (commands_in input) k text left) where
+  module _ (text : Bytes) (k : ℕ) (left : Option Stored) (answered : IsAnswered scheme stored (commands_in input) k text left) where
     pub partial : (ending : Ending) → IsWhole k ending → (n : ℕ) → IsPartial stored input rose (take n (text ++ tail_text ending k)) left k
-    partial Done is n = record { few = answered.few; part = λ apart. inl (n, rw append-nil (ap (take n) (answered.same apart))); items_left = answered.left }
-    partial BadLine is n = record { few = answered.few; part = λ apart. inr (inr (k + 1, is.1, is.0, (n, ap (λ t. take n (t ++ bad_text (k + 1))) (answered.same apart)))); items_left = answered.left }
-    partial Memory is n = record { few = answered.few; part = λ apart. inl (n, rw append-nil (ap (take n) (answered.same apart))); items_left = answered.left }
-    partial StoreFault is n = record { few = answered.few; part = λ apart. inr (inl (is.0, is.1, (n, ap (λ t. take n (t ++ fault_text)) (answered.same apart)))); items_left = answered.left }
+    partial Done is n = record { few = answered.few; part = λ apart. inl (n, rw append-nil (ap (take n) (answered.same apart))); store_left = answered.left }
+    partial BadLine is n = record { few = answered.few; part = λ apart. inr (inr (k + 1, is.1, is.0, (n, ap (λ t. take n (t ++ bad_text (k + 1))) (answered.same apart)))); store_left = answered.left }
+    partial Memory is n = record { few = answered.few; part = λ apart. inl (n, rw append-nil (ap (take n) (answered.same apart))); store_left = answered.left }
+    partial StoreFault is n = record { few = answered.few; part = λ apart. inr (inl (is.0, is.1, (n, ap (λ t. take n (t ++ fault_text)) (answered.same apart)))); store_left = answered.left }
 
-    -- all commands answered: the text, and the items
-    finished : k ≡ count stored input → IsApart stored input (count stored input) → (text ≡ model_text stored input (count stored input)) × (left ≡ Some (state stored input (count stored input)).store.items)
+    -- all commands answered: the text, and the store
+    finished : k ≡ count stored input → IsApart stored input (count stored input) → (text ≡ model_text stored input (count stored input)) × (left ≡ Some (state stored input (count stored input)).store)
     finished e apart =
-        let n : ℕ = count stored input in
         let apart_here : IsApart stored input k = subst (IsApart stored input) (sym e) apart in
-        let at_end : IsLeftAt stored input left n = subst (IsLeftAt stored input left) e (answered.left apart_here) in
-        (answered.same apart_here ∙ ap (model_text stored input) e, left_whole left (state stored input n).store.items (subst (IsLeft left (state stored input n).store.items) (after_all scheme stored (commands_in input) n (omega arith)) at_end))
+        (answered.same apart_here ∙ ap (model_text stored input) e, subst (λ m. left ≡ Some (state stored input m).store) e (answered.whole e apart_here))
 
     pub whole : (ending : Ending) → IsWhole k ending → Says stored input (tail_status ending) rose (text ++ tail_text ending k) left
     whole Done is = record {
@@ -101,7 +92,7 @@ module _ (stored : Stored) (input : Bytes) (rose : Type 0) where
     }
 
 -- What a sink tells, and what a status says of it.
-module _ (stored : Stored) (input : Bytes) (status : ℕ) (rose : Type 0) (left : Option (List Bytes)) where
+module _ (stored : Stored) (input : Bytes) (status : ℕ) (rose : Type 0) (left : Option Stored) where
   abbrev pub Told : Option Bytes → Option Bytes → Type 0
   Told old new = IfSome old (λ before. (written : Bytes) × (new ≡ Some (before ++ written)) × Says stored input status rose written left)
 

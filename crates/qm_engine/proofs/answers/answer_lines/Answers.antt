@@ -32,6 +32,7 @@ returns-in-Some-ended-clause-machine g c =
     g.X.Words.scheme stored c.loop-line.text.items _
     (λ s. Holds g.C.Store g.X.Words c.loop-line.session.held c.loop-line.session.table.items c.loop-line.session.opened s)
     (c.loop-line.invariant.machine stored is)
+    (λ s k none. c.answer_line-next.ensures.unused none ∙ k.store.told)
     c.answer_line-next.ensures.left))
 
 pub returns-in-Some-ended-clause-bad : goal.returns-in-Some-ended-clause-bad

@@ -1,7 +1,6 @@
 use Rattle.std.proofs.Common.{◌≡◌, ℕ, ◌++◌, [], take, refl, sym, ◌∙◌, subst, inl, inr}
 use Rattle.qm_model.specs.Causes.{Rose, Grows, GrowsPart}
 use Rattle.qm_model.specs.Operations.{Bytes}
-use Rattle.qm_engine.specs.Stores.{told}
 use Rattle.qm_run.specs.Endings.{tail_text, tail_status}
 use Rattle.qm_run.proofs.Sayings.{Told, IsWhole, is_whole, each_more, says_part, partial, whole, unchanged, grown, grown_part}
 use Rattle.qm_run.proofs.program.serve.Goals as goal
@@ -10,11 +9,11 @@ pub returns-in-Err-clause-headline : goal.returns-in-Err-clause-headline
 returns-in-Err-clause-headline g c =
     let input : Bytes = c.args.input.now in
     let rose : Type 0 = Rose (g.C.Store.faults c.args.store) (g.C.Store.faults c.answer_lines-text.result.store) in
-    let left = g.C.Store.items c.answer_lines-text.result.store in
+    let left = g.C.Store.told c.answer_lines-text.result.store in
     let ending = c.answer_lines-text.result.ending in
     let text = c.answer_lines-text.result.text.items in
     let k : ℕ = c.answer_lines-text.result.answered in
-    each_more (told g.C.Store c.args.store) c.answer_lines-text.ensures.machine (λ stored answered.
+    each_more (g.C.Store.told c.args.store) c.answer_lines-text.ensures.machine (λ stored answered.
     let is : IsWhole stored input rose k ending = is_whole stored input rose k ending c.answer_lines-text.ensures.done c.answer_lines-text.ensures.bad c.answer_lines-text.ensures.fault c.answer_lines-text.ensures.short in
     unchanged stored input 5 rose left (g.K.Sink.text c.args.sink.now)
     (says_part stored input rose 5 [] left k (inr refl) (partial stored input rose text k left answered ending is 0)))
@@ -23,12 +22,12 @@ pub returns-in-Ok-write_all-clause-headline : goal.returns-in-Ok-write_all-claus
 returns-in-Ok-write_all-clause-headline g c =
     let input : Bytes = c.args.input.now in
     let rose : Type 0 = Rose (g.C.Store.faults c.args.store) (g.C.Store.faults c.answer_lines-text.result.store) in
-    let left = g.C.Store.items c.answer_lines-text.result.store in
+    let left = g.C.Store.told c.answer_lines-text.result.store in
     let ending = c.answer_lines-text.result.ending in
     let text = c.answer_lines-text.result.text.items in
     let k : ℕ = c.answer_lines-text.result.answered in
     let spelt : c.deref.result.now ≡ text ++ tail_text ending k = c.deref.ensures.value ∙ c.in-Ok.ensures in
-    each_more (told g.C.Store c.args.store) c.answer_lines-text.ensures.machine (λ stored answered.
+    each_more (g.C.Store.told c.args.store) c.answer_lines-text.ensures.machine (λ stored answered.
     let is : IsWhole stored input rose k ending = is_whole stored input rose k ending c.answer_lines-text.ensures.done c.answer_lines-text.ensures.bad c.answer_lines-text.ensures.fault c.answer_lines-text.ensures.short in
     subst (λ s. Told stored input s rose left (g.K.Sink.text c.args.sink.now) (g.K.Sink.text c.write_all.new.sink)) (sym c.status_of.ensures)
     (grown stored input (tail_status ending) rose left (g.K.Sink.text c.args.sink.now) (g.K.Sink.text c.write_all.new.sink) (text ++ tail_text ending k)
@@ -39,12 +38,12 @@ pub returns-in-Err-Failed-clause-headline : goal.returns-in-Err-Failed-clause-he
 returns-in-Err-Failed-clause-headline g c =
     let input : Bytes = c.args.input.now in
     let rose : Type 0 = Rose (g.C.Store.faults c.args.store) (g.C.Store.faults c.answer_lines-text.result.store) in
-    let left = g.C.Store.items c.answer_lines-text.result.store in
+    let left = g.C.Store.told c.answer_lines-text.result.store in
     let ending = c.answer_lines-text.result.ending in
     let text = c.answer_lines-text.result.text.items in
     let k : ℕ = c.answer_lines-text.result.answered in
     let spelt : c.deref.result.now ≡ text ++ tail_text ending k = c.deref.ensures.value ∙ c.in-Ok.ensures in
-    each_more (told g.C.Store c.args.store) c.answer_lines-text.ensures.machine (λ stored answered.
+    each_more (g.C.Store.told c.args.store) c.answer_lines-text.ensures.machine (λ stored answered.
     let is : IsWhole stored input rose k ending = is_whole stored input rose k ending c.answer_lines-text.ensures.done c.answer_lines-text.ensures.bad c.answer_lines-text.ensures.fault c.answer_lines-text.ensures.short in
     grown_part stored input 4 rose left (g.K.Sink.text c.args.sink.now) (g.K.Sink.text c.write_all.new.sink) (text ++ tail_text ending k)
     (subst (GrowsPart (g.K.Sink.text c.args.sink.now) (g.K.Sink.text c.write_all.new.sink)) spelt c.in-Err-Failed.ensures.err)
@@ -54,12 +53,12 @@ pub returns-clause-headline : goal.returns-clause-headline
 returns-clause-headline g c =
     let input : Bytes = c.args.input.now in
     let rose : Type 0 = Rose (g.C.Store.faults c.args.store) (g.C.Store.faults c.answer_lines-text.result.store) in
-    let left = g.C.Store.items c.answer_lines-text.result.store in
+    let left = g.C.Store.told c.answer_lines-text.result.store in
     let ending = c.answer_lines-text.result.ending in
     let text = c.answer_lines-text.result.text.items in
     let k : ℕ = c.answer_lines-text.result.answered in
     let spelt : c.deref.result.now ≡ text ++ tail_text ending k = c.deref.ensures.value ∙ c.in-Ok.ensures in
-    each_more (told g.C.Store c.args.store) c.answer_lines-text.ensures.machine (λ stored answered.
+    each_more (g.C.Store.told c.args.store) c.answer_lines-text.ensures.machine (λ stored answered.
     let is : IsWhole stored input rose k ending = is_whole stored input rose k ending c.answer_lines-text.ensures.done c.answer_lines-text.ensures.bad c.answer_lines-text.ensures.fault c.answer_lines-text.ensures.short in
     grown_part stored input 5 rose left (g.K.Sink.text c.args.sink.now) (g.K.Sink.text c.write_all.new.sink) (text ++ tail_text ending k)
     (subst (GrowsPart (g.K.Sink.text c.args.sink.now) (g.K.Sink.text c.write_all.new.sink)) spelt c.in-Err-Memory.ensures.err)

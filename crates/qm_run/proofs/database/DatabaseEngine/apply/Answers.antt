@@ -9,6 +9,7 @@ use Rattle.qm_store.specs.Refusals.{refusal_of}
 use Rattle.qm_run.specs.Held.{held}
 use Rattle.qm_model.specs.Batches.{commitment, fits}
 use Rattle.qm_model.specs.Roots.{sha256_root}
+use Rattle.qm_model.specs.StoreModel.{beside_items}
 use Rattle.qm_run.proofs.Engines.{at-made, off-chain, appends-same, held-database, unapplied-untold}
 use Rattle.qm_run.proofs.database.DatabaseEngine.apply.Goals as goal
 
@@ -50,8 +51,8 @@ returns-in-Err-clause-back g c = λ x is.
 pub returns-in-Err-clause-start : goal.returns-in-Err-clause-start
 returns-in-Err-clause-start g c = ap g.C.Store.start c.refusal.ensures.store ∙ c.in-Err.ensures.start
 
-pub returns-in-Err-clause-head : goal.returns-in-Err-clause-head
-returns-in-Err-clause-head g c = ap g.C.Store.head c.refusal.ensures.store ∙ c.in-Err.ensures.head
+pub returns-in-Err-clause-beside : goal.returns-in-Err-clause-beside
+returns-in-Err-clause-beside g c = ap (λ s. beside_items (g.C.Store.told s)) c.refusal.ensures.store ∙ c.in-Err.ensures.beside
 
 pub returns-in-Err-clause-cause : goal.returns-in-Err-clause-cause
 returns-in-Err-clause-cause g c = λ fault.

@@ -11,7 +11,7 @@ use Rattle.qm_run.proofs.Engines.{bare-offered, head-among, head-due, head-unope
 use Rattle.qm_run.proofs.database.DatabaseEngine.open.Goals as goal
 
 pub returns-in-Ok-clause-offered : goal.returns-in-Ok-clause-offered
-returns-in-Ok-clause-offered g c = bare-offered (g.C.Store.head c.args.store) c.in-Ok.ensures.bare
+returns-in-Ok-clause-offered g c = bare-offered (g.C.Store.told c.args.store) c.in-Ok.ensures.bare
 
 pub returns-in-Err-clause-kept : goal.returns-in-Err-clause-kept
 returns-in-Err-clause-kept g c = subst (λ s. AppendedPart g.C.Store c.args.store s (map (spelling variable) fresh)) (sym c.refusal.ensures.store) c.in-Err.ensures.part
@@ -28,13 +28,13 @@ returns-in-Err-clause-causes g c = subst (λ e. IsAmong e (DataCorrupted HeadDoe
 
 pub returns-in-Err-clause-refused : goal.returns-in-Err-clause-refused
 returns-in-Err-clause-refused g c =
-    let head = g.C.Store.head c.args.store in
-    subst (λ e. IfSome head (λ h. IsDue e (head_refusal h))) (sym c.refusal.ensures.error) (head-due head c.in-Err.refused.error c.in-Err.ensures.causes c.in-Err.ensures.head)
+    let told = g.C.Store.told c.args.store in
+    subst (λ e. IfSome told (λ held. IsDue e (head_refusal held.head))) (sym c.refusal.ensures.error) (head-due told c.in-Err.refused.error c.in-Err.ensures.causes c.in-Err.ensures.head)
 
 pub returns-in-Err-clause-unopened : goal.returns-in-Err-clause-unopened
 returns-in-Err-clause-unopened g c =
-    let head = g.C.Store.head c.args.store in
-    subst (λ s. IfSome head (λ h. IsSome (head_refusal h) → IsUnchanged g.C.Store c.args.store s)) (sym c.refusal.ensures.store) (head-unopened _ head c.in-Err.ensures.unopened)
+    let told = g.C.Store.told c.args.store in
+    subst (λ s. IfSome told (λ held. IsSome (head_refusal held.head) → IsUnchanged g.C.Store c.args.store s)) (sym c.refusal.ensures.store) (head-unopened _ told c.in-Err.ensures.unopened)
 
 pub returns-in-Err-clause-back : goal.returns-in-Err-clause-back
 returns-in-Err-clause-back g c = λ x is. c.in-Err.ensures.back x.db (held-database c.in-Err.refused.given x (sym c.refusal.ensures.given ∙ is))
