@@ -1,3 +1,4 @@
 pub mod Caps
 pub mod Maps
+pub mod Trees
 pub mod Visits

@@ -2,10 +2,12 @@
 #![tactic(auto)]
 
 mod bucket;
+pub mod ordered;
 pub mod translator;
 pub mod unordered;
 pub mod value;
 
+pub use ordered::Ordered;
 pub use translator::{EightCap, FourCap, OneCap, OrderedTranslator, Translator, TwoCap};
 pub use unordered::{Factory, Unordered};
 pub use value::IndexValue;
