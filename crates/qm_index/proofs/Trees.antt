@@ -1,5 +1,5 @@
 -- Trees of buckets by index key: the order of numbers tells index keys apart, so that a tree is read as an index.
-use Rattle.std.proofs.Common.{◌≡◌, ℕ, Bool, true, false, cond, nat_eq, nat_lt, List, [], ◌∷◌, Option, Some, None, refl, ap, sym, ◌∙◌, subst, arith, BTreeMap}
+use Rattle.std.proofs.Common.{◌≡◌, ℕ, Bool, true, false, cond, nat_eq, length, ◌<◌, List, [], ◌∷◌, Option, Some, None, refl, ap, sym, ◌∙◌, subst, arith, BTreeMap}
 use Rattle.std.proofs.Math.Path.{fun_ext}
 use Rattle.std.specs.Prelude.{if◌then◌else◌, unwrap_or}
 use Rattle.std.specs.BTreeMap.{get, is_at, Updates, UpdatesBy, WritesThrough, IsOrdered}
@@ -73,3 +73,10 @@ module _ {V : Type 0} where
     -- what was found there, written back
     pub written-back : written ≡ found → n.entries ≡ m.entries
     written-back same = through.0 ∙ ap (set_value (is_at (nat_cmp k)) m.entries) same ∙ set_value_same (is_at (nat_cmp k)) m.entries found (sym is)
+
+    pub place-found : (i : ℕ) → i < length (bucket_at m.entries k) → i < length found
+    place-found i place = subst (λ values. i < length values) (sym (bucket-found m k (Some found) is)) place
+
+  -- no place is in a bucket that is not there
+  pub place-none : (m : BTreeMap ℕ (List V)) (k i : ℕ) → None ≡ get nat_cmp m k → i < length (bucket_at m.entries k) → ⊥
+  place-none m k i is place = let none : i < length {A = V} [] = subst (λ values. i < length values) (sym (bucket-found m k None is)) place in omega (arith, none)
