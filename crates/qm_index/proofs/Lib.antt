@@ -1,4 +1,6 @@
 pub mod Caps
 pub mod Maps
+pub mod Neighbours
+pub mod Picks
 pub mod Trees
 pub mod Visits

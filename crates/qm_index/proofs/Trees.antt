@@ -80,3 +80,10 @@ module _ {V : Type 0} where
   -- no place is in a bucket that is not there
   pub place-none : (m : BTreeMap ℕ (List V)) (k i : ℕ) → None ≡ get nat_cmp m k → i < length (bucket_at m.entries k) → ⊥
   place-none m k i is place = let none : i < length {A = V} [] = subst (λ values. i < length values) (sym (bucket-found m k None is)) place in omega (arith, none)
+
+  -- a tree without buckets is an index
+  pub new-index : (m : BTreeMap ℕ (List V)) → IsOrdered nat_cmp m → m.entries ≡ [] → IsIndex m.entries
+  new-index m rising none = (ordered-distinct (keys_of m.entries) rising, λ k at. apart (sym at ∙ ap (lookup (nat_eq k)) none))
+    where
+      apart : Some {T = List V} [] ≡ None → ⊥
+      apart h = cc
