@@ -1,19 +1,20 @@
 -- Neighbours of an index: what it has of them, and that they have the nearest keys of all.
 use Rattle.std.proofs.Common.{◌≡◌, ◌↔◌, ℕ, ◌<◌, ◌≤◌, Bool, true, false, cond, nat_eq, nat_lt, List, [], ◌∷◌, map, length, Option, Some, None, refl, ap, sym, ◌∙◌, subst, ◌||◌, ◌&&◌, inl, inr, arith}
 use Rattle.std.specs.Prelude.{filter, option_map, option_and_then, unwrap_or, All, ◌==◌, IsPermutation, bytes_eq}
-use Rattle.std.specs.List.{list_any}
+use Rattle.std.specs.List.{list_any, AllByRecursion as Each}
 use Rattle.std.specs.Map.{lookup, keys_of}
 use Rattle.std.specs.Option.{option_or, is_some}
 use Rattle.std.proofs.lemmas.Bool.Decides.{nat_tests}
+use Rattle.std.proofs.lemmas.List.Elements.{recursion_from_All}
 use Rattle.std.proofs.lemmas.List.Sorted.{length_permutation}
 use Rattle.qm_model.specs.Operations.{Bytes}
 use Rattle.qm_model.specs.Keys.{key_lt, contains_key, successor, predecessor, least, greatest}
-use Rattle.qm_model.proofs.KeyOrder.{Has, IsOrder, IsFront, rises, falls, front, nearest, front-is, front-none, is-front, Has-first, Has-later, contains-filter, and-true, and-both, or-left, or-right, or-either, false-not, apart, successor-nearest, predecessor-nearest, least-front, greatest-front}
+use Rattle.qm_model.proofs.KeyOrder.{Has, Has-either, IsOrder, IsFront, rises, falls, front, nearest, front-is, front-none, is-front, Has-first, Has-later, contains-filter, and-true, and-both, or-left, or-right, or-either, false-not, apart, successor-nearest, predecessor-nearest, least-front, greatest-front}
 use Rattle.qm_model.proofs.Maps.{same_key}
 use Rattle.qm_index.specs.Buckets.{bucket_at, IsIndex}
 use Rattle.qm_index.specs.Translated.{AreBytes, IsMonotone}
-use Rattle.qm_index.specs.Neighbours.{picked, least_key, greatest_key, near_or_wrapped, next_key, prev_key, neighbour_at, keys_at, values_at, StandsFor}
-use Rattle.qm_index.proofs.Picks.{has, same_number, number_same, has-filter, has-lookup, IsPick, picks_least, picks_greatest, picked-is, picked-none, is-picked, none-picked, picked-same}
+use Rattle.qm_index.specs.Neighbours.{picked, least_key, greatest_key, near_or_wrapped, next_key, prev_key, neighbour_at, keys_at, next_by_index, prev_by_index, first_by_index, values_at, StandsFor}
+use Rattle.qm_index.proofs.Picks.{has, number_below, number_from, same_number, number_same, has-filter, has-lookup, IsPick, picks_least, picks_greatest, picked-is, picked-none, is-picked, none-picked, picked-same}
 
 -- the key is among those that have its index key
 has-keys_at : (index_key : Bytes → ℕ) (keys : List Bytes) (n : ℕ) (x : Bytes) → Has keys x → index_key x ≡ n → Has (keys_at index_key keys n) x
@@ -183,3 +184,83 @@ module _ {lt : Bytes → Bytes → Bool} (o : IsOrder lt) {pick : ℕ → ℕ �
                       back : (t : Bool) → lt m key ≡ t → Has keys m × (index_key m ≡ n) → R n i
                       back true down there = subst (λ z. R z i) there.1 (keeps m key (later m there.0) (Has-first key keys) down)
                       back false down there = subst (λ z. R z i) (ap index_key (o.total key m up down) ∙ there.1) (p.same i)
+
+-- whether a list has an element
+abbrev some_of : {X : Type 0} → List X → Bool
+some_of [] = false
+some_of (x ∷ xs) = true
+
+some_of-length : {X : Type 0} (xs ys : List X) → length ys ≡ length xs → some_of xs ≡ some_of ys
+some_of-length [] [] h = refl
+some_of-length [] (y ∷ ys) h = absurd (cc)
+some_of-length (x ∷ xs) [] h = absurd (cc)
+some_of-length (x ∷ xs) (y ∷ ys) h = refl
+
+module _ {E V : Type 0} (index_key : Bytes → ℕ) (key : E → Bytes) (value : E → V) where
+  -- an index key is one of the elements' keys where it has values of them
+  has-values : (elements : List E) (n : ℕ) → some_of (values_at index_key key value elements n) ≡ has (map index_key (map key elements)) n
+  has-values [] n = refl
+  has-values (e ∷ es) n = cases (index_key (key e) == n) refl (has-values es n)
+    where
+      cases : (t : Bool) → (index_key (key e) == n) ≡ t → some_of (values_at index_key key value es n) ≡ has (map index_key (map key es)) n →
+          some_of (map value (cond t (e ∷ filter (λ e. index_key (key e) == n) es) (filter (λ e. index_key (key e) == n) es))) ≡ (nat_eq n (index_key (key e)) || has (map index_key (map key es)) n)
+      cases true is later = sym (or-left (nat_eq n (index_key (key e))) (has (map index_key (map key es)) n) (number_same n (index_key (key e)) (sym (same_number (index_key (key e)) n is))))
+      cases false is later =
+          later
+          ∙ sym (ap (λ t. t || has (map index_key (map key es)) n) (false-not (nat_eq n (index_key (key e))) (λ e_is. apart (index_key (key e) == n) (number_same (index_key (key e)) n (sym (same_number n (index_key (key e)) e_is))) is)))
+
+  -- so an index that stands for elements has the index keys of their keys, and no other
+  pub stood-same : (entries : List (ℕ × List V)) (elements : List E) → IsIndex entries → StandsFor index_key key value entries elements → (n : ℕ) → has (keys_of entries) n ≡ has (map index_key (map key elements)) n
+  stood-same entries elements is stands n =
+      has-lookup entries n
+      ∙ found (lookup (nat_eq n) entries) (is.1 n)
+      ∙ sym (some_of-length (values_at index_key key value elements n) (bucket_at entries n) (length_permutation (values_at index_key key value elements n) (bucket_at entries n) (stands n)))
+      ∙ has-values elements n
+    where
+      found : (o : Option (List V)) → (o ≡ Some [] → ⊥) → is_some o ≡ some_of (unwrap_or o [])
+      found None some = refl
+      found (Some []) some = absurd (some refl)
+      found (Some (v ∷ vs)) some = refl
+
+module _ (index_key : Bytes → ℕ) (keys : List Bytes) (index_keys : List ℕ) (same : (n : ℕ) → has index_keys n ≡ has (map index_key keys) n) (monotone : IsMonotone index_key) where
+  bytes-of : (ks : List Bytes) → All AreBytes ks → (x : Bytes) → Has ks x → AreBytes x
+  bytes-of ks all x at = go ks (recursion_from_All AreBytes ks all) at
+    where
+      go : (ks : List Bytes) → Each AreBytes ks → Has ks x → AreBytes x
+      go [] h at = absurd (cc)
+      go (k ∷ ks) h at = elim (Has-either k ks x at) [ inl e ↦ subst AreBytes e h.0 | inr e ↦ go ks h.1 e ]
+
+  pub nearest-next : (key : Bytes) → All AreBytes (key ∷ keys) → successor keys key ≡ next_by_index index_key index_keys keys key
+  nearest-next key bytes =
+      successor-nearest keys key
+      ∙ nearest-picked rises picks_least (λ i q. nat_lt i q) (λ a b le lt. absurd (omega (arith, le, number_below a b lt))) (λ a b not_lt. number_from a b not_lt) index_key keys index_keys same key
+      (λ a b in_a in_b up. monotone a b (bytes-of (key ∷ keys) bytes a in_a) (bytes-of (key ∷ keys) bytes b in_b) up)
+      ∙ ap (λ f. option_or f (option_and_then (λ n. front key_lt (keys_at index_key keys n.0)) (next_key index_keys (index_key key)))) (sym (least-front (filter (λ k. key_lt key k) (keys_at index_key keys (index_key key)))))
+      ∙ ap (option_or (least (filter (λ k. key_lt key k) (keys_at index_key keys (index_key key))))) (fronts (next_key index_keys (index_key key)))
+    where
+      fronts : (f : Option (ℕ × Bool)) → option_and_then (λ n. front key_lt (keys_at index_key keys n.0)) f ≡ option_and_then (λ n. least (keys_at index_key keys n.0)) f
+      fronts None = refl
+      fronts (Some n) = sym (least-front (keys_at index_key keys n.0))
+
+  pub nearest-prev : (key : Bytes) → All AreBytes (key ∷ keys) → predecessor keys key ≡ prev_by_index index_key index_keys keys key
+  nearest-prev key bytes =
+      predecessor-nearest keys key
+      ∙ nearest-picked falls picks_greatest (λ i q. nat_lt q i) (λ a b le lt. absurd (omega (arith, le, number_below b a lt))) (λ a b not_lt. number_from b a not_lt) index_key keys index_keys same key
+      (λ a b in_a in_b up. monotone b a (bytes-of (key ∷ keys) bytes b in_b) (bytes-of (key ∷ keys) bytes a in_a) up)
+      ∙ ap (λ f. option_or f (option_and_then (λ n. front (λ a b. key_lt b a) (keys_at index_key keys n.0)) (prev_key index_keys (index_key key)))) (sym (greatest-front (filter (λ k. key_lt k key) (keys_at index_key keys (index_key key)))))
+      ∙ ap (option_or (greatest (filter (λ k. key_lt k key) (keys_at index_key keys (index_key key))))) (fronts (prev_key index_keys (index_key key)))
+    where
+      fronts : (f : Option (ℕ × Bool)) → option_and_then (λ n. front (λ a b. key_lt b a) (keys_at index_key keys n.0)) f ≡ option_and_then (λ n. greatest (keys_at index_key keys n.0)) f
+      fronts None = refl
+      fronts (Some n) = sym (greatest-front (keys_at index_key keys n.0))
+
+  pub least-first : All AreBytes keys → least keys ≡ first_by_index index_key index_keys keys
+  least-first bytes =
+      least-front keys
+      ∙ front-picked rises picks_least (λ i q. nat_lt i q) (λ a b le lt. absurd (omega (arith, le, number_below a b lt))) (λ a b not_lt. number_from a b not_lt) index_key keys index_keys same
+      (λ a b in_a in_b up. monotone a b (bytes-of keys bytes a in_a) (bytes-of keys bytes b in_b) up)
+      ∙ fronts (least_key index_keys)
+    where
+      fronts : (f : Option ℕ) → option_and_then (λ n. front key_lt (keys_at index_key keys n)) f ≡ option_and_then (λ n. least (keys_at index_key keys n)) f
+      fronts None = refl
+      fronts (Some n) = sym (least-front (keys_at index_key keys n))

@@ -1,5 +1,5 @@
 -- What is picked of numbers, and which numbers a list has.
-use Rattle.std.proofs.Common.{◌≡◌, ℕ, ◌≤◌, min, max, Bool, true, false, cond, nat_eq, List, [], ◌∷◌, Option, Some, None, refl, ap, sym, ◌∙◌, subst, ◌||◌, ◌&&◌, ◌⊎◌, inl, inr, arith}
+use Rattle.std.proofs.Common.{◌≡◌, ℕ, ◌≤◌, min, max, Bool, true, false, cond, nat_eq, nat_lt, ◌<◌, List, [], ◌∷◌, Option, Some, None, refl, ap, sym, ◌∙◌, subst, ◌||◌, ◌&&◌, ◌⊎◌, inl, inr, arith}
 use Rattle.std.specs.Prelude.{filter, fold}
 use Rattle.std.specs.List.{list_any}
 use Rattle.std.specs.Map.{lookup, keys_of}
@@ -20,6 +20,12 @@ same_number a b h = exact_unsigned_eq a b h
 
 pub number_same : (a b : ℕ) → a ≡ b → nat_eq a b ≡ true
 number_same a b h = grind (arith, nat_tests, h)
+
+pub number_below : (a b : ℕ) → nat_lt a b ≡ true → a < b
+number_below a b h = grind (arith, nat_tests, h)
+
+pub number_from : (a b : ℕ) → nat_lt a b ≡ false → b ≤ a
+number_from a b h = grind (arith, nat_tests, h)
 
 pub has-filter : (p : ℕ → Bool) (keys : List ℕ) (x : ℕ) → has (filter p keys) x ≡ (has keys x && p x)
 has-filter p [] x = refl

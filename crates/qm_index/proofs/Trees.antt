@@ -85,5 +85,5 @@ module _ {V : Type 0} where
   pub new-index : (m : BTreeMap ℕ (List V)) → IsOrdered nat_cmp m → m.entries ≡ [] → IsIndex m.entries
   new-index m rising none = (ordered-distinct (keys_of m.entries) rising, λ k at. apart (sym at ∙ ap (lookup (nat_eq k)) none))
     where
-      apart : Some {T = List V} [] ≡ None → ⊥
+      apart : {X : Type 0} {x : X} → Some x ≡ None → ⊥
       apart h = cc

@@ -1,7 +1,8 @@
 -- Neighbours among index keys, which go round: behind the greatest the least comes again.
-use Rattle.std.specs.Prelude.{ℕ, min, max, Bool, true, false, nat_lt, ◌==◌, List, [], ◌∷◌, map, fold, filter, Option, None, Some, option_map, IsPermutation}
+use Rattle.std.specs.Prelude.{ℕ, min, max, Bool, true, false, nat_lt, ◌==◌, List, [], ◌∷◌, map, fold, filter, Option, None, Some, option_map, option_and_then, IsPermutation}
 use Rattle.std.specs.Option.{option_or}
 use Rattle.qm_model.specs.Operations.{Bytes}
+use Rattle.qm_model.specs.Keys.{key_lt, least, greatest}
 use Rattle.qm_index.specs.Buckets.{bucket_at}
 
 -- what is picked of all the numbers, where they are compared two at a time
@@ -34,6 +35,20 @@ neighbour_at entries found = option_map (λ n. (bucket_at entries n.0, n.1)) fou
 -- the keys that have this index key
 abbrev pub keys_at : (Bytes → ℕ) → List Bytes → ℕ → List Bytes
 keys_at index_key keys k = filter (λ key. index_key key == k) keys
+
+-- the least key above the given one in its own bucket, or else the least in the bucket behind
+abbrev pub next_by_index : (Bytes → ℕ) → List ℕ → List Bytes → Bytes → Option Bytes
+next_by_index index_key index_keys keys key =
+    option_or (least (filter (λ k. key_lt key k) (keys_at index_key keys (index_key key)))) (option_and_then (λ n. least (keys_at index_key keys n.0)) (next_key index_keys (index_key key)))
+
+-- the greatest key below the given one in its own bucket, or else the greatest in the bucket before
+abbrev pub prev_by_index : (Bytes → ℕ) → List ℕ → List Bytes → Bytes → Option Bytes
+prev_by_index index_key index_keys keys key =
+    option_or (greatest (filter (λ k. key_lt k key) (keys_at index_key keys (index_key key)))) (option_and_then (λ n. greatest (keys_at index_key keys n.0)) (prev_key index_keys (index_key key)))
+
+-- the least key in the first bucket
+abbrev pub first_by_index : (Bytes → ℕ) → List ℕ → List Bytes → Option Bytes
+first_by_index index_key index_keys keys = option_and_then (λ n. least (keys_at index_key keys n)) (least_key index_keys)
 
 -- the values of the elements whose keys have this index key
 abbrev pub values_at : {E V : Type 0} → (Bytes → ℕ) → (E → Bytes) → (E → V) → List E → ℕ → List V

@@ -2,6 +2,7 @@
 #![tactic(auto)]
 
 mod bucket;
+pub mod laws;
 pub mod ordered;
 pub mod translator;
 pub mod unordered;

@@ -1,4 +1,3 @@
-use Rattle.qm_index.proofs.Neighbours.{nearest-picked}
 use Rattle.qm_index.proofs.Trees.{new-index}
 use Rattle.qm_index.proofs.ordered.IndexFactory.new.Goals as goal
 
