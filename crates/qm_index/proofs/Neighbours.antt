@@ -1,20 +1,19 @@
 -- Neighbours of an index: what it has of them, and that they have the nearest keys of all.
-use Rattle.std.proofs.Common.{◌≡◌, ◌↔◌, ℕ, ◌<◌, ◌≤◌, Bool, true, false, cond, nat_eq, nat_lt, List, [], ◌∷◌, map, length, Option, Some, None, refl, ap, sym, ◌∙◌, subst, ◌||◌, ◌&&◌, inl, inr, arith}
-use Rattle.std.specs.Prelude.{filter, option_map, option_and_then, unwrap_or, All, ◌==◌, IsPermutation, bytes_eq}
-use Rattle.std.specs.List.{list_any, AllByRecursion as Each}
+use Rattle.std.proofs.Common.{◌≡◌, ℕ, Bool, true, false, cond, nat_eq, nat_lt, List, [], ◌∷◌, map, length, Option, Some, None, refl, ap, sym, ◌∙◌, subst, ◌||◌, inl, inr, arith}
+use Rattle.std.specs.Prelude.{filter, option_and_then, unwrap_or, All, ◌==◌, bytes_eq}
+use Rattle.std.specs.List.{AllByRecursion as Each}
 use Rattle.std.specs.Map.{lookup, keys_of}
 use Rattle.std.specs.Option.{option_or, is_some}
-use Rattle.std.proofs.lemmas.Bool.Decides.{nat_tests}
 use Rattle.std.proofs.lemmas.List.Elements.{recursion_from_All}
 use Rattle.std.proofs.lemmas.List.Sorted.{length_permutation}
 use Rattle.qm_model.specs.Operations.{Bytes}
 use Rattle.qm_model.specs.Keys.{key_lt, contains_key, successor, predecessor, least, greatest}
-use Rattle.qm_model.proofs.KeyOrder.{Has, Has-either, IsOrder, IsFront, rises, falls, front, nearest, front-is, front-none, is-front, Has-first, Has-later, contains-filter, and-true, and-both, or-left, or-right, or-either, false-not, apart, successor-nearest, predecessor-nearest, least-front, greatest-front}
+use Rattle.qm_model.proofs.KeyOrder.{Has, Has-either, IsOrder, rises, falls, front, nearest, front-is, front-none, is-front, Has-first, Has-later, contains-filter, and-true, and-both, or-left, or-right, or-either, false-not, apart, successor-nearest, predecessor-nearest, least-front, greatest-front}
 use Rattle.qm_model.proofs.Maps.{same_key}
 use Rattle.qm_index.specs.Buckets.{bucket_at, IsIndex}
 use Rattle.qm_index.specs.Translated.{AreBytes, IsMonotone}
-use Rattle.qm_index.specs.Neighbours.{picked, least_key, greatest_key, near_or_wrapped, next_key, prev_key, neighbour_at, keys_at, next_by_index, prev_by_index, first_by_index, values_at, StandsFor}
-use Rattle.qm_index.proofs.Picks.{has, number_below, number_from, same_number, number_same, has-filter, has-lookup, IsPick, picks_least, picks_greatest, picked-is, picked-none, is-picked, none-picked, picked-same}
+use Rattle.qm_index.specs.Neighbours.{picked, least_key, near_or_wrapped, next_key, prev_key, keys_at, next_by_index, prev_by_index, first_by_index, values_at, StandsFor}
+use Rattle.qm_index.proofs.Picks.{has, number_below, number_from, same_number, number_same, has-filter, has-lookup, IsPick, picks_least, picks_greatest, picked-is, picked-none}
 
 -- the key is among those that have its index key
 has-keys_at : (index_key : Bytes → ℕ) (keys : List Bytes) (n : ℕ) (x : Bytes) → Has keys x → index_key x ≡ n → Has (keys_at index_key keys n) x
@@ -42,7 +41,6 @@ index_key-has index_key (k ∷ ks) n h = elim (or-either (nat_eq n (index_key k)
 module _ {lt : Bytes → Bytes → Bool} (o : IsOrder lt) {pick : ℕ → ℕ → ℕ} {R : ℕ → ℕ → Type 0} (p : IsPick pick R) (beside : ℕ → ℕ → Bool)
     (past : (a b : ℕ) → R b a → beside a b ≡ true → ⊥) (not_past : (a b : ℕ) → beside a b ≡ false → R b a)
     (index_key : Bytes → ℕ) (keys : List Bytes) (index_keys : List ℕ) (same : (n : ℕ) → has index_keys n ≡ has (map index_key keys) n) where
-
   -- where the index key keeps the order of the keys, the first of them is among those of the first index key
   pub front-picked : ((a b : Bytes) → Has keys a → Has keys b → lt a b ≡ true → R (index_key a) (index_key b)) → front lt keys ≡ option_and_then (λ n. front lt (keys_at index_key keys n)) (picked pick index_keys)
   front-picked keeps = cases (picked pick index_keys) refl

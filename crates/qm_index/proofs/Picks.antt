@@ -8,7 +8,7 @@ use Rattle.std.proofs.Math.Nat.{min-eq_left, min_comm, max-eq_left, max-eq_right
 use Rattle.std.proofs.lemmas.Bool.{cases_lt}
 use Rattle.std.proofs.lemmas.Bool.Decides.{nat_tests}
 use Rattle.std.proofs.lemmas.Map.Views.{exact_unsigned_eq}
-use Rattle.qm_model.proofs.KeyOrder.{or-left, or-right, or-either, and-right, false-not, apart}
+use Rattle.qm_model.proofs.KeyOrder.{or-left, or-right, or-either, and-right, apart}
 use Rattle.qm_index.specs.Neighbours.{picked}
 
 -- the list has the number
@@ -80,10 +80,10 @@ module _ {pick : ℕ → ℕ → ℕ} {R : ℕ → ℕ → Type 0} (o : IsPick p
   fold-has k [] = or-left (nat_eq k k) false (number_same k k refl)
   fold-has k (x ∷ ks) = elim (or-either (nat_eq m (pick k x)) (has ks m) (fold-has (pick k x) ks)) [
     | inl e ↦
-      elim (o.either k x) [
-        | inl f ↦ or-left (nat_eq m k) (has (x ∷ ks) m) (number_same m k (same_number m (pick k x) e ∙ f))
-        | inr f ↦ or-right (nat_eq m k) (has (x ∷ ks) m) (or-left (nat_eq m x) (has ks m) (number_same m x (same_number m (pick k x) e ∙ f)))
-      ]
+        elim (o.either k x) [
+          | inl f ↦ or-left (nat_eq m k) (has (x ∷ ks) m) (number_same m k (same_number m (pick k x) e ∙ f))
+          | inr f ↦ or-right (nat_eq m k) (has (x ∷ ks) m) (or-left (nat_eq m x) (has ks m) (number_same m x (same_number m (pick k x) e ∙ f)))
+        ]
     | inr e ↦ or-right (nat_eq m k) (has (x ∷ ks) m) (or-right (nat_eq m x) (has ks m) e)
   ]
     where
@@ -99,10 +99,10 @@ module _ {pick : ℕ → ℕ → ℕ} {R : ℕ → ℕ → Type 0} (o : IsPick p
       elim (or-either (nat_eq y k) (has (x ∷ ks) y) h) [
         | inl e ↦ subst (R m) (sym (same_number y k e)) (o.trans m a k low (o.first k x))
         | inr e ↦
-          elim (or-either (nat_eq y x) (has ks y) e) [
-            | inl f ↦ subst (R m) (sym (same_number y x f)) (o.trans m a x low (o.second k x))
-            | inr f ↦ fold-before a ks y (or-right (nat_eq y a) (has ks y) f)
-          ]
+            elim (or-either (nat_eq y x) (has ks y) e) [
+              | inl f ↦ subst (R m) (sym (same_number y x f)) (o.trans m a x low (o.second k x))
+              | inr f ↦ fold-before a ks y (or-right (nat_eq y a) (has ks y) f)
+            ]
       ]
 
   -- what is picked is there, before all others
@@ -126,11 +126,3 @@ module _ {pick : ℕ → ℕ → ℕ} {R : ℕ → ℕ → Type 0} (o : IsPick p
   pub none-picked : (keys : List ℕ) → ((x : ℕ) → has keys x ≡ false) → picked pick keys ≡ None
   none-picked [] h = refl
   none-picked (k ∷ ks) h = absurd (apart (has (k ∷ ks) k) (or-left (nat_eq k k) (has ks k) (number_same k k refl)) (h k))
-
-  -- which one is picked depends on which numbers there are
-  pub picked-same : (xs ys : List ℕ) → ((x : ℕ) → has xs x ≡ has ys x) → picked pick xs ≡ picked pick ys
-  picked-same xs ys same = cases (picked pick ys) refl
-    where
-      cases : (p : Option ℕ) → picked pick ys ≡ p → picked pick xs ≡ p
-      cases None h = none-picked xs (λ x. same x ∙ picked-none ys h x)
-      cases (Some m) h = let is = picked-is ys m h in is-picked xs m (same m ∙ is.0) (λ x at. is.1 x (sym (same x) ∙ at))

@@ -1,18 +1,17 @@
 -- Neighbours of an index key in a tree, from its ranges and its ends.
-use Rattle.std.proofs.Common.{◌≡◌, ℕ, ◌≤◌, min, max, Bool, true, false, cond, nat_lt, List, [], ◌∷◌, ◌++◌, Option, Some, None, refl, ap, sym, ◌∙◌, subst, BTreeMap}
+use Rattle.std.proofs.Common.{◌≡◌, ℕ, Bool, true, false, cond, nat_lt, List, [], ◌∷◌, ◌++◌, Option, Some, None, refl, ap, sym, ◌∙◌, BTreeMap}
 use Rattle.std.specs.Prelude.{filter, option_map, ◌==◌}
 use Rattle.std.specs.BTreeMap.{get, IsLowerBound, IsUpperBound}
 use Rattle.std.specs.BTreeMap.Range.{IsRangeOf}
 use Rattle.std.specs.Map.{keys_of}
 use Rattle.std.specs.Option.{is_some}
 use Rattle.std.specs.Ordering.{nat_cmp}
-use Rattle.std.specs.declared.cmp.Ordering.{Ordering}
 use Rattle.std.specs.declared.cmp.Ordering.TheVariants.{Less, Equal, Greater}
 use Rattle.std.specs.declared.ops.Bound.TheVariants.{Excluded, Unbounded}
 use Rattle.std.proofs.lemmas.Map.Keys.{le_from_not_gt, ge_from_not_lt}
 use Rattle.qm_model.proofs.KeyOrder.{and-true, and-both, false-not, apart}
 use Rattle.qm_index.specs.Buckets.{bucket_at}
-use Rattle.qm_index.specs.Neighbours.{picked, least_key, greatest_key, near_or_wrapped, next_key, prev_key, neighbour_at}
+use Rattle.qm_index.specs.Neighbours.{least_key, greatest_key, near_or_wrapped, next_key, prev_key, neighbour_at}
 use Rattle.qm_index.proofs.Picks.{has, has-filter, has-lookup, picks_least, picks_greatest, is-picked, none-picked}
 use Rattle.qm_index.proofs.Trees.{looked_up, bucket-found}
 

@@ -1,8 +1,8 @@
 -- Trees of buckets by index key: the order of numbers tells index keys apart, so that a tree is read as an index.
-use Rattle.std.proofs.Common.{◌≡◌, ℕ, Bool, true, false, cond, nat_eq, length, ◌<◌, List, [], ◌∷◌, Option, Some, None, refl, ap, sym, ◌∙◌, subst, arith, BTreeMap}
+use Rattle.std.proofs.Common.{◌≡◌, ℕ, Bool, true, false, cond, nat_eq, length, ◌<◌, List, [], Option, Some, None, refl, ap, sym, ◌∙◌, subst, arith, BTreeMap}
 use Rattle.std.proofs.Math.Path.{fun_ext}
 use Rattle.std.specs.Prelude.{if◌then◌else◌, unwrap_or}
-use Rattle.std.specs.BTreeMap.{get, is_at, Updates, UpdatesBy, WritesThrough, IsOrdered}
+use Rattle.std.specs.BTreeMap.{get, is_at, Updates, WritesThrough, IsOrdered}
 use Rattle.std.specs.List.{IsDistinct}
 use Rattle.std.specs.List.Sorted.{IsStrictlySortedBy}
 use Rattle.std.specs.Map.{lookup, keys_of, set_value}

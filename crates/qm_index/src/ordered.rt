@@ -7,14 +7,14 @@ ghost use Rattle.qm_index.specs.Neighbours.{least_key, next_key, prev_key, neigh
 
 use crate::bucket::Bucket;
 use crate::translator::{OrderedTranslator, Translator};
-use crate::unordered::{show, Factory, Unordered};
+use crate::unordered::{Factory, Unordered, show};
 use crate::value::IndexValue;
 use std::alloc::{AllocError, Global};
 use std::collections::BTreeMap;
 use std::marker::Model;
 use std::ops::Bound;
 
-/// An index that finds the buckets beside a key's. They go round: behind the greatest index key comes the least.
+/// An index that finds the buckets beside a key's. They go round: behind the greatest index key comes the least. Each call takes one descent of the map, a second one where it wraps, and no memory.
 pub trait Ordered: Unordered {
     /// The bucket of the greatest index key below the key's, or else, flagged as wrapped, of the greatest of all; none only where the index is empty.
     fn prev_bucket(&self, key: &[u8]) -> Option<(&[Self::Value], bool)>
@@ -129,7 +129,8 @@ impl<T: OrderedTranslator, V: IndexValue> Ordered for Index<T, V> {
     }
 
     fn next_bucket(&self, key: &[u8]) -> Option<(&[V], bool)> {
-        let above = (Bound::Excluded(self.translator.index_key(key)), Bound::Unbounded);
+        let index_key = self.translator.index_key(key);
+        let above = (Bound::Excluded(index_key), Bound::Unbounded);
         match self.buckets.range(above).next() {
             Some((_, bucket)) => Some((bucket.values(), false)),
             None => match self.first_bucket() {

@@ -1,10 +1,8 @@
-use Rattle.std.proofs.Common.{◌≡◌, ℕ, [], Some, true, false, ap, ap₂, sym, ◌∙◌, subst}
-use Rattle.std.specs.Prelude.{option_map}
+use Rattle.std.proofs.Common.{Some, true, false, ap, ap₂, sym, ◌∙◌, subst}
 use Rattle.std.specs.BTreeMap.Range.{IsRangeOf}
 use Rattle.std.specs.Map.{keys_of}
 use Rattle.std.specs.Ordering.{nat_cmp}
 use Rattle.std.specs.declared.ops.Bound.TheVariants.{Excluded, Unbounded}
-use Rattle.qm_index.specs.Buckets.{bucket_at}
 use Rattle.qm_index.specs.Neighbours.{prev_key, neighbour_at}
 use Rattle.qm_index.proofs.TreeNeighbours.{prev-found, prev-wrapped, greatest-found}
 use Rattle.qm_index.proofs.ordered.IndexOrdered.prev_bucket.Goals as goal

@@ -1,7 +1,7 @@
-use Rattle.std.proofs.Common.{◌≡◌, Some, None, refl, ap, ◌∙◌, sym, subst, subst₂, List, ◌∷◌, ◌++◌, []}
+use Rattle.std.proofs.Common.{Some, None, ◌∙◌, subst, subst₂, ◌∷◌, ◌++◌, []}
 use Rattle.std.specs.BTreeMap.{Updates}
 use Rattle.std.specs.Ordering.{nat_cmp}
-use Rattle.qm_index.specs.Buckets.{IsIndex, Puts, bucket_at}
+use Rattle.qm_index.specs.Buckets.{Puts, bucket_at}
 use Rattle.qm_index.proofs.Trees.{stays_index, puts, bucket-found, written-index, written-puts, written-back}
 use Rattle.std.proofs.lemmas.Result.{on_ok_weaker, on_err_weaker}
 use Rattle.qm_index.proofs.ordered.IndexUnordered.insert.Goals as goal

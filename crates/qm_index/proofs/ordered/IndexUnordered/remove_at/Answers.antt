@@ -1,4 +1,4 @@
-use Rattle.std.proofs.Common.{◌≡◌, ◌<◌, ◌≤◌, arith, ap₂, Some, None, refl, ap, ◌∙◌, sym, subst, subst₂, List, [], length}
+use Rattle.std.proofs.Common.{◌≡◌, ◌<◌, ◌≤◌, arith, ap₂, Some, None, refl, ap, ◌∙◌, sym, subst, subst₂, [], length}
 use Rattle.std.specs.Prelude.{remove}
 use Rattle.qm_index.specs.Buckets.{IsIndex, Puts, bucket_at}
 use Rattle.qm_index.proofs.Maps.{remove_last}
