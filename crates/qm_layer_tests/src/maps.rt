@@ -40,107 +40,67 @@ fn keys_share_buckets(rt: HostRuntime) -> Result<(), Fail> {
     Ok(())
 }
 
-// A bucket beside a key's, and whether it wrapped.
-type Neighbour<'a> = Option<(&'a [u64], bool)>;
-
-// Keys, one of them or another, and the buckets before it, behind it and at the front: the places of their keys.
-#[derive(Clone, Copy)]
-struct Beside<'a> {
-    keys: &'a [&'a str],
-    key: &'a str,
-    prev: Neighbour<'a>,
-    next: Neighbour<'a>,
-    first: Option<&'a [u64]>,
-}
-
-// An ordered index by the first two bytes, with the place of each key under it.
-fn placed(alloc: Global, keys: &[&str]) -> Result<ordered::Index<TwoCap, u64>, AllocError> {
+// An ordered index by the first two bytes of keys, one a line, with the digit of its line under each.
+fn placed(alloc: Global, keys: &str) -> Result<ordered::Index<TwoCap, u64>, AllocError> {
     let mut index = ordered::Index::new(alloc, TwoCap);
-    let mut place = 0u64;
-    for key in keys {
-        index.insert(key.as_bytes(), place)?;
-        place = place.wrapping_add(1);
+    let mut digit = u64::from(b'0');
+    for key in keys.lines() {
+        index.insert(key.as_bytes(), digit)?;
+        digit = digit.wrapping_add(1);
     }
     Ok(index)
 }
 
-// Whether an index has these neighbours, through the bound.
-fn has_beside<I: Ordered<Value = u64>>(index: &I, want: &Beside<'_>) -> bool {
-    let key = want.key.as_bytes();
-    index.prev_bucket(key) == want.prev
-        && index.next_bucket(key) == want.next
-        && index.first_bucket() == want.first
+// Whether the values have these digits.
+fn are(values: &[u64], digits: &str) -> bool {
+    values.len() == digits.len()
+        && values
+            .iter()
+            .zip(digits.as_bytes())
+            .all(|(value, digit)| *value == u64::from(*digit))
+}
+
+// Whether this is the bucket with these digits, and wrapped or not; no bucket where there are none.
+fn is_bucket(found: Option<(&[u64], bool)>, want: (&str, bool)) -> bool {
+    match found {
+        Some((values, wrapped)) => are(values, want.0) && wrapped == want.1,
+        None => want.0.is_empty(),
+    }
+}
+
+// Whether an index has these buckets before a key's, behind it and at the front, through the bound.
+fn has_beside<I: Ordered<Value = u64>>(
+    index: &I,
+    key: &str,
+    prev: (&str, bool),
+    next: (&str, bool),
+    first: &str,
+) -> bool {
+    is_bucket(index.prev_bucket(key.as_bytes()), prev)
+        && is_bucket(index.next_bucket(key.as_bytes()), next)
+        && is_bucket(
+            index.first_bucket().map(|values| (values, false)),
+            (first, false),
+        )
 }
 
 #[test]
 fn neighbours_go_round(rt: HostRuntime) -> Result<(), Fail> {
-    for want in [
-        Beside {
-            keys: &[],
-            key: "ab",
-            prev: None,
-            next: None,
-            first: None,
-        },
-        Beside {
-            keys: &["ab"],
-            key: "ab",
-            prev: Some((&[0], true)),
-            next: Some((&[0], true)),
-            first: Some(&[0]),
-        },
-        Beside {
-            keys: &["ab"],
-            key: "a",
-            prev: Some((&[0], true)),
-            next: Some((&[0], false)),
-            first: Some(&[0]),
-        },
-        Beside {
-            keys: &["abc", "xyz", "abd"],
-            key: "abx",
-            prev: Some((&[1], true)),
-            next: Some((&[1], false)),
-            first: Some(&[0, 2]),
-        },
-        Beside {
-            keys: &["abc", "xyz", "abd"],
-            key: "xa",
-            prev: Some((&[0, 2], false)),
-            next: Some((&[1], false)),
-            first: Some(&[0, 2]),
-        },
-        Beside {
-            keys: &["b1", "a1", "c1"],
-            key: "a1",
-            prev: Some((&[2], true)),
-            next: Some((&[0], false)),
-            first: Some(&[1]),
-        },
-        Beside {
-            keys: &["b1", "a1", "c1"],
-            key: "c1",
-            prev: Some((&[0], false)),
-            next: Some((&[1], true)),
-            first: Some(&[1]),
-        },
-        Beside {
-            keys: &["b", "", "ba", "b\0"],
-            key: "",
-            prev: Some((&[2], true)),
-            next: Some((&[0, 3], false)),
-            first: Some(&[1]),
-        },
-        Beside {
-            keys: &["b", "", "ba", "b\0"],
-            key: "b",
-            prev: Some((&[1], false)),
-            next: Some((&[2], false)),
-            first: Some(&[1]),
-        },
+    for (keys, key, prev, next, first) in [
+        ("", "ab", ("", false), ("", false), ""),
+        ("ab", "ab", ("0", true), ("0", true), "0"),
+        ("ab", "a", ("0", true), ("0", false), "0"),
+        ("ab", "b", ("0", false), ("0", true), "0"),
+        ("abc\nxyz\nabd", "abx", ("1", true), ("1", false), "02"),
+        ("abc\nxyz\nabd", "xa", ("02", false), ("1", false), "02"),
+        ("b1\na1\nc1", "a1", ("2", true), ("0", false), "1"),
+        ("b1\na1\nc1", "b1", ("1", false), ("2", false), "1"),
+        ("b1\na1\nc1", "c1", ("0", false), ("1", true), "1"),
+        ("b\n\nba\nb\0", "", ("2", true), ("03", false), "1"),
+        ("b\n\nba\nb\0", "b", ("1", false), ("2", false), "1"),
     ] {
-        let index = placed(rt.alloc(), want.keys)?;
-        assert!(rt; has_beside(&index, &want));
+        let index = placed(rt.alloc(), keys)?;
+        assert!(rt; has_beside(&index, key, prev, next, first));
     }
     Ok(())
 }
