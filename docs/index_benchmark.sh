@@ -1,5 +1,6 @@
 #!/bin/sh
-# Prints how long a million inserts and look-ups take in an index, and how many bytes it takes for a key, beside a plain map of vectors.
+# Prints how long a million inserts, look-ups and neighbours take in an index by hash and in an ordered one, and how many bytes
+# each takes for a key, beside plain maps of vectors.
 # Run it by hand at the top of the repository: `sh docs/index_benchmark.sh`, which proves what is not proved yet and runs what LLVM builds,
 # or `KEYS=100000 sh docs/index_benchmark.sh try`, which runs fewer in a slower build that nothing was proved of.
 # It writes to a temporary folder only.
@@ -16,25 +17,74 @@ echo 'qm_bench: qm_index' >> "$copy/crates.txt"
 cp "$top/HANDLES" "$copy"
 git init -q "$copy"
 cat > "$copy/crates/qm_bench/src/main.rt" <<'PROGRAM'
-//! An index, and a plain map of vectors, over the same keys.
+//! Indices, and plain maps of vectors, over the same keys.
 #![tactic(auto)]
 
-ghost use Rattle.std.specs.Prelude.{◌<◌};
-
-use qm_index::unordered::Index;
-use qm_index::{Factory, FourCap, Translator, Unordered};
+use qm_index::{Factory, FourCap, Ordered, Translator, Unordered, ordered, unordered};
 use std::alloc::{AllocError, Global};
-use std::collections::HashMap;
+use std::collections::{BTreeMap, HashMap};
 use std::fs;
+use std::ops::Bound;
 use std::test::Fail;
 use std::time::Instant;
-
-type Plain = HashMap<u64, Vec<u64>>;
 
 const KEYS: u64 = 1_000_000;
 
 // So many index keys are drawn from, so that about one key in eight meets another.
 const INDEX_KEYS: u64 = 4_000_000;
+
+// Microseconds for all keys, and how many were found.
+#[derive(Clone, Copy)]
+struct Times {
+    inserts: u128,
+    lookups: u128,
+    found: u64,
+}
+
+// A plain map of vectors.
+trait Plain {
+    fn put(&mut self, alloc: Global, index_key: u64, i: u64) -> Result<(), AllocError>;
+
+    fn has(&self, index_key: u64, i: u64) -> bool;
+}
+
+impl Plain for HashMap<u64, Vec<u64>> {
+    fn put(&mut self, alloc: Global, index_key: u64, i: u64) -> Result<(), AllocError> {
+        match self.get_mut(&index_key) {
+            Some(values) => values.push(i)?,
+            None => {
+                self.insert(index_key, vec![in alloc; i]?)?;
+            }
+        }
+        Ok(())
+    }
+
+    fn has(&self, index_key: u64, i: u64) -> bool {
+        match self.get(&index_key) {
+            Some(values) => values.as_slice().contains(&i),
+            None => false,
+        }
+    }
+}
+
+impl Plain for BTreeMap<u64, Vec<u64>> {
+    fn put(&mut self, alloc: Global, index_key: u64, i: u64) -> Result<(), AllocError> {
+        match self.get_mut(&index_key) {
+            Some(values) => values.push(i)?,
+            None => {
+                self.insert(index_key, vec![in alloc; i]?)?;
+            }
+        }
+        Ok(())
+    }
+
+    fn has(&self, index_key: u64, i: u64) -> bool {
+        match self.get(&index_key) {
+            Some(values) => values.as_slice().contains(&i),
+            None => false,
+        }
+    }
+}
 
 // The key of this number: 32 bytes, of which the first four are scattered.
 fn key_of(i: u64) -> [u8; 32] {
@@ -61,8 +111,13 @@ fn resident(rt: &HostRuntime) -> u64 {
     }
 }
 
+// How many bytes for a key the process holds beyond these.
+fn bytes_since(rt: &HostRuntime, before: u64) -> u64 {
+    resident(rt).saturating_sub(before) / KEYS
+}
+
 // Puts each key's number under it.
-fn fill(index: &mut Index<FourCap, u64>) -> Result<(), AllocError> {
+fn fill<I: Unordered<Value = u64>>(index: &mut I) -> Result<(), AllocError> {
     for i in 0..KEYS {
         index.insert(&key_of(i), i)?;
     }
@@ -70,7 +125,7 @@ fn fill(index: &mut Index<FourCap, u64>) -> Result<(), AllocError> {
 }
 
 // How many keys have their number in their bucket.
-fn found(index: &Index<FourCap, u64>) -> u64 {
+fn found<I: Unordered<Value = u64>>(index: &I) -> u64 {
     let mut count = 0u64;
     for i in 0..KEYS {
         if index.bucket(&key_of(i)).contains(&i) {
@@ -81,56 +136,134 @@ fn found(index: &Index<FourCap, u64>) -> u64 {
 }
 
 // The same in a plain map.
-fn fill_plain(alloc: Global, plain: &mut Plain) -> Result<(), AllocError> {
+fn fill_plain<M: Plain>(alloc: Global, plain: &mut M) -> Result<(), AllocError> {
     for i in 0..KEYS {
-        let index_key = FourCap.index_key(&key_of(i));
-        match plain.get_mut(&index_key) {
-            Some(values) => values.push(i)?,
-            None => {
-                plain.insert(index_key, vec![in alloc; i]?)?;
-            }
-        }
+        plain.put(alloc, FourCap.index_key(&key_of(i)), i)?;
     }
     Ok(())
 }
 
 // The same in a plain map.
-fn found_plain(plain: &Plain) -> u64 {
+fn found_plain<M: Plain>(plain: &M) -> u64 {
     let mut count = 0u64;
     for i in 0..KEYS {
-        if let Some(values) = plain.get(&FourCap.index_key(&key_of(i))) {
-            if values.as_slice().contains(&i) {
-                count = count.wrapping_add(1);
-            }
+        if plain.has(FourCap.index_key(&key_of(i)), i) {
+            count = count.wrapping_add(1);
         }
     }
     count
 }
 
-fn main(rt: HostRuntime) -> Result<(), Fail> {
-    let alloc = rt.alloc();
-    let before = resident(&rt);
-    let mut index = Index::new(alloc, FourCap);
-    let start = Instant::now(&rt)?;
-    fill(&mut index)?;
-    let filled = start.elapsed(&rt)?.as_micros();
-    let start = Instant::now(&rt)?;
-    let count = found(&index);
-    let looked = start.elapsed(&rt)?.as_micros();
-    let between = resident(&rt);
-    let mut plain = HashMap::new(alloc);
-    let start = Instant::now(&rt)?;
-    fill_plain(alloc, &mut plain)?;
-    let filled_plain = start.elapsed(&rt)?.as_micros();
-    let start = Instant::now(&rt)?;
-    let count_plain = found_plain(&plain);
-    let looked_plain = start.elapsed(&rt)?.as_micros();
-    let after = resident(&rt);
-    let buckets = plain.len();
-    println!(rt; "{KEYS} keys in {buckets} buckets")?;
-    println!(rt; "index: {filled} microseconds to insert, {looked} to look up ({count} found), {} bytes a key", between.saturating_sub(before) / KEYS)?;
-    println!(rt; "plain map of vectors: {filled_plain} microseconds to insert, {looked_plain} to look up ({count_plain} found), {} bytes a key", after.saturating_sub(between) / KEYS)?;
+// How many values stand in the buckets behind those of all keys.
+fn beside<I: Ordered<Value = u64>>(index: &I) -> u64 {
+    let mut count = 0u64;
+    for i in 0..KEYS {
+        if let Some((values, _)) = index.next_bucket(&key_of(i)) {
+            count = count.wrapping_add(values.len() as u64);
+        }
+    }
+    count
+}
+
+// The same in a plain map.
+fn beside_plain(plain: &BTreeMap<u64, Vec<u64>>) -> u64 {
+    let mut count = 0u64;
+    for i in 0..KEYS {
+        let above = (Bound::Excluded(FourCap.index_key(&key_of(i))), Bound::Unbounded);
+        let next = match plain.range(above).next() {
+            Some((_, values)) => Some(values),
+            None => match plain.first_key_value() {
+                Some((_, values)) => Some(values),
+                None => None,
+            },
+        };
+        if let Some(values) = next {
+            count = count.wrapping_add(values.len() as u64);
+        }
+    }
+    count
+}
+
+fn time<I: Unordered<Value = u64>>(rt: &HostRuntime, index: &mut I) -> Result<Times, Fail> {
+    let start = Instant::now(rt)?;
+    fill(index)?;
+    let inserts = start.elapsed(rt)?.as_micros();
+    let start = Instant::now(rt)?;
+    let found = found(index);
+    let lookups = start.elapsed(rt)?.as_micros();
+    Ok(Times {
+        inserts,
+        lookups,
+        found,
+    })
+}
+
+fn time_plain<M: Plain>(rt: &HostRuntime, plain: &mut M) -> Result<Times, Fail> {
+    let start = Instant::now(rt)?;
+    fill_plain(rt.alloc(), plain)?;
+    let inserts = start.elapsed(rt)?.as_micros();
+    let start = Instant::now(rt)?;
+    let found = found_plain(plain);
+    let lookups = start.elapsed(rt)?.as_micros();
+    Ok(Times {
+        inserts,
+        lookups,
+        found,
+    })
+}
+
+// The times as text, in microseconds.
+fn text(alloc: Global, times: &Times) -> Result<String, AllocError> {
+    format!(in alloc; "{} microseconds to insert, {} to look up ({} found)", times.inserts, times.lookups, times.found)
+}
+
+// Prints the times of an index by hash and of a plain map.
+fn by_hash(
+    rt: &HostRuntime,
+    index: &mut unordered::Index<FourCap, u64>,
+    plain: &mut HashMap<u64, Vec<u64>>,
+) -> Result<(), Fail> {
+    let before = resident(rt);
+    let times = text(rt.alloc(), &time(rt, index)?)?;
+    println!(rt; "hash index: {}, {} bytes a key", times.as_str(), bytes_since(rt, before))?;
+    let before = resident(rt);
+    let times = text(rt.alloc(), &time_plain(rt, plain)?)?;
+    println!(rt; "plain hash map: {}, {} bytes a key", times.as_str(), bytes_since(rt, before))?;
+    println!(rt; "{KEYS} keys in {} buckets", plain.len())?;
     Ok(())
+}
+
+// The same of those in order, with neighbours.
+fn in_order(
+    rt: &HostRuntime,
+    index: &mut ordered::Index<FourCap, u64>,
+    plain: &mut BTreeMap<u64, Vec<u64>>,
+) -> Result<(), Fail> {
+    let before = resident(rt);
+    let times = text(rt.alloc(), &time(rt, index)?)?;
+    let bytes = bytes_since(rt, before);
+    let start = Instant::now(rt)?;
+    let count = beside(index);
+    let neighbours = start.elapsed(rt)?.as_micros();
+    println!(rt; "ordered index: {}, {neighbours} for neighbours ({count} values), {bytes} bytes a key", times.as_str())?;
+    let before = resident(rt);
+    let times = text(rt.alloc(), &time_plain(rt, plain)?)?;
+    let bytes = bytes_since(rt, before);
+    let start = Instant::now(rt)?;
+    let count = beside_plain(plain);
+    let neighbours = start.elapsed(rt)?.as_micros();
+    println!(rt; "plain ordered map: {}, {neighbours} for neighbours ({count} values), {bytes} bytes a key", times.as_str())?;
+    Ok(())
+}
+
+fn main(rt: HostRuntime) -> Result<(), Fail> {
+    // All are there from the start and stay, so that none takes memory that another one gave back.
+    let mut hash = unordered::Index::new(rt.alloc(), FourCap);
+    let mut plain_hash = HashMap::new(rt.alloc());
+    let mut ordered = ordered::Index::new(rt.alloc(), FourCap);
+    let mut plain_ordered = BTreeMap::new(rt.alloc());
+    by_hash(&rt, &mut hash, &mut plain_hash)?;
+    in_order(&rt, &mut ordered, &mut plain_ordered)
 }
 PROGRAM
 cd "$copy/crates/qm_bench"

@@ -2,3 +2,5 @@ pub mod Translated
 pub mod Buckets
 pub mod Held
 pub mod Monotone
+pub mod Neighbours
+pub mod NeighbourRows

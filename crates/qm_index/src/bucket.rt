@@ -57,6 +57,7 @@ impl<V: IndexValue> Bucket<V> {
     pub fn push(&mut self, alloc: Global, value: V) -> Result<(), AllocError>
         ensures ok { OnOk result (self.new ≡ self.old ++ value ∷ []) }
         ensures err { OnErr result (self.new ≡ self.old) }
+        ensures some { self.new ≢ [] }
     {
         let held = replace(&mut self.held, Held::More(Vec::new(alloc)));
         let (held, pushed) = with_one_more(alloc, held, value);
@@ -67,7 +68,8 @@ impl<V: IndexValue> Bucket<V> {
     // Puts a value in the place of one.
     pub fn set(&mut self, i: usize, value: V)
         requires { i < length self.old }
-        ensures { self.new ≡ set self.old i value }
+        ensures value { self.new ≡ set self.old i value }
+        ensures some { self.new ≢ [] }
     {
         match &mut self.held {
             Held::One(only) => *only = value,

@@ -2,10 +2,13 @@
 #![tactic(auto)]
 
 mod bucket;
+pub mod laws;
+pub mod ordered;
 pub mod translator;
 pub mod unordered;
 pub mod value;
 
+pub use ordered::Ordered;
 pub use translator::{EightCap, FourCap, OneCap, OrderedTranslator, Translator, TwoCap};
 pub use unordered::{Factory, Unordered};
 pub use value::IndexValue;

@@ -148,7 +148,7 @@ impl<T: Translator, V: IndexValue> Unordered for Index<T, V> {
 }
 
 // Shows each value in order, and gives the visitor back.
-fn show<V, F: FnMut(&V)>(values: &[V], mut visit: F) -> F
+pub(crate) fn show<V, F: FnMut(&V)>(values: &[V], mut visit: F) -> F
     requires { F.IsAlwaysCallable visit }
     ensures shown { FoldsTo (λ p x q. CalledAt F.FnMut p x tt q) visit values.now result }
     ensures again { F.IsAlwaysCallable result }

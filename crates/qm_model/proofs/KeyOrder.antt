@@ -464,19 +464,19 @@ module _ {lt : Bytes → Bytes → Bool} (o : IsOrder lt) where
 
 -- successors and predecessors
 
-least-front : (keys : List Bytes) → least keys ≡ front key_lt keys
+pub least-front : (keys : List Bytes) → least keys ≡ front key_lt keys
 least-front [] = refl
 least-front (k ∷ ks) = refl
 
-greatest-front : (keys : List Bytes) → greatest keys ≡ front (λ a b. key_lt b a) keys
+pub greatest-front : (keys : List Bytes) → greatest keys ≡ front (λ a b. key_lt b a) keys
 greatest-front [] = refl
 greatest-front (k ∷ ks) = refl
 
-successor-nearest : (keys : List Bytes) (key : Bytes) → successor keys key ≡ nearest key_lt keys key
+pub successor-nearest : (keys : List Bytes) (key : Bytes) → successor keys key ≡ nearest key_lt keys key
 successor-nearest keys key =
     ap (λ f. option_or f (least keys)) (least-front (filter (λ k. key_lt key k) keys)) ∙ ap (option_or (front key_lt (filter (λ k. key_lt key k) keys))) (least-front keys)
 
-predecessor-nearest : (keys : List Bytes) (key : Bytes) → predecessor keys key ≡ nearest (λ a b. key_lt b a) keys key
+pub predecessor-nearest : (keys : List Bytes) (key : Bytes) → predecessor keys key ≡ nearest (λ a b. key_lt b a) keys key
 predecessor-nearest keys key =
     ap (λ f. option_or f (greatest keys)) (greatest-front (filter (λ k. key_lt k key) keys)) ∙ ap (option_or (front (λ a b. key_lt b a) (filter (λ k. key_lt k key) keys))) (greatest-front keys)
 

@@ -1,18 +1,18 @@
 -- How many keys are live: no key is live twice, and what ordered writes change.
-use Rattle.std.proofs.Common.{◌≡◌, ℕ, suc, ◌+◌, Bool, true, false, List, [], ◌∷◌, ◌++◌, length, map, refl, ap, sym, ◌∙◌, Option, Some, None, ◌||◌, ◌&&◌, arith, length-append}
-use Rattle.std.specs.Prelude.{cond, not, filter, is_some, is_none, if◌then◌else◌, bytes_eq}
+use Rattle.std.proofs.Common.{◌≡◌, ℕ, suc, ◌+◌, ◌*◌, Bool, true, false, List, [], ◌∷◌, ◌++◌, length, map, refl, ap, sym, ◌∙◌, Option, Some, None, ◌||◌, ◌&&◌, arith, length-append}
+use Rattle.std.specs.Prelude.{cond, not, filter, filter_map, option_map, option_and_then, is_some, is_none, if◌then◌else◌, bytes_eq}
 use Rattle.std.specs.List.{cons_option, AllByRecursion as Each, IsDistinct}
 use Rattle.std.proofs.lemmas.List.{length-map}
 use Rattle.qm_model.specs.Operations.{Bytes, Operation, update, delete, commit}
 use Rattle.qm_model.specs.Live.{Live, live, live_from, live_of, live_keys, touched}
 use Rattle.qm_model.specs.Keys.{contains_key, without}
-use Rattle.qm_model.specs.Writes.{Write, last_writes, write_of}
-use Rattle.qm_model.specs.Ordered.{deleted_keys, created_keys, ordered_writes}
+use Rattle.qm_model.specs.Writes.{Write, last_writes, write_of, made_inactive}
+use Rattle.qm_model.specs.Ordered.{linked, rewritten, put_of, deleted_keys, updated_keys, created_keys, relinked_keys, ordered_writes}
 use Rattle.qm_model.proofs.LastWrites.{bytes_same, last_writes-Rising}
 use Rattle.qm_model.proofs.Maps.{same_key}
-use Rattle.qm_model.proofs.KeyOrder.{Has, or-left, or-right, and-true, false-not, apart, contains-filter}
+use Rattle.qm_model.proofs.KeyOrder.{Has, Has-first, Has-later, or-left, or-right, and-true, false-not, apart, contains-filter}
 use Rattle.qm_model.proofs.OrderedLists.{Each-all, Each-filter, Single, Rising-single, picked, live-contains}
-use Rattle.qm_model.proofs.OrderedWrites.{in_deleted, in_created, in_kept, written-keys}
+use Rattle.qm_model.proofs.OrderedWrites.{in_deleted, in_updated, in_created, in_kept, in_relinked, before_them, before_them-kept, rewritten-some, written-keys}
 use Rattle.qm_model.proofs.Decisions.{Single-distinct}
 use Rattle.qm_model.proofs.KeySorts.{same-length, filter-distinct, append-distinct, filter-length}
 
@@ -99,3 +99,49 @@ ordered-count ops ws =
     inside true b h = refl
     inside false false h = refl
     inside false true h = h refl
+
+-- as many are made as there are keys, where each key makes one
+length-full : {X Y : Type 0} (f : X → Option Y) (xs : List X) → Each (λ x. is_some (f x) ≡ true) xs → length (filter_map f xs) ≡ length xs
+length-full f [] h = refl
+length-full f (x ∷ xs) h = cases (f x) h.0 (length-full f xs h.1)
+  where
+    cases : (o : Option _) → is_some o ≡ true → length (filter_map f xs) ≡ length xs → length (cons_option o (filter_map f xs)) ≡ suc (length xs)
+    cases None some later = absurd (cc)
+    cases (Some y) some later = ap suc later
+
+Each-key : (P : Bytes → Type 0) (keys : List Bytes) → ((x : Bytes) → Has keys x → P x) → Each P keys
+Each-key P [] h = tt
+Each-key P (k ∷ ks) h = (h k (Has-first k ks), Each-key P ks (λ x at. h x (Has-later k ks x at)))
+
+given-some : (q : Option Live → Bool) (o : Option Write) (l : Option Live) (key : Bytes) → picked is_some q o l ≡ true → is_some (option_map (λ value. update key value None) (option_and_then (λ w. w.value) o)) ≡ true
+given-some q None l key h = absurd (cc)
+given-some q (Some w) l key h = cases w.value (and-true (is_some w.value) (q l) h).0
+  where
+    cases : (v : Option Bytes) → is_some v ≡ true → is_some (option_map (λ value. update key value None) v) ≡ true
+    cases None h = absurd (cc)
+    cases (Some x) h = refl
+
+-- ordered writes make inactive: a delete itself and the update before it, and each update that is written anew
+pub ordered-inactive : (ops : List Operation) (ws : List Write) → let last = last_writes ws in
+    made_inactive ops (ordered_writes ops ws) ≡ 2 * length (deleted_keys (live ops) last) + length (updated_keys (live ops) last) + length (relinked_keys (live ops) last)
+ordered-inactive ops ws =
+    let last = last_writes ws in
+    let deleted = deleted_keys (live ops) last in
+    let updated = updated_keys (live ops) last in
+    let created = created_keys (live ops) last in
+    let again = relinked_keys (live ops) last in
+    let ds = map delete deleted in
+    let us = filter_map (put_of last) updated in
+    let cs = filter_map (put_of last) created in
+    let bs = filter_map (rewritten (live ops)) again in
+    let u : length us ≡ length updated =
+    length-full (put_of last) updated (Each-key (λ x. is_some (put_of last x) ≡ true) updated (λ x at. given-some is_some (write_of last x) (live_of (live ops) x) x (sym (in_updated ops ws x) ∙ at))) in
+    let c : length cs ≡ length created =
+    length-full (put_of last) created (Each-key (λ x. is_some (put_of last x) ≡ true) created (λ x at. given-some is_none (write_of last x) (live_of (live ops) x) x (sym (in_created ops ws x) ∙ at))) in
+    let b : length bs ≡ length again =
+    length-full (rewritten (live ops)) again (Each-key (λ x. is_some (rewritten (live ops) x) ≡ true) again (λ x at.
+    let before = (and-true (contains_key (before_them ops ws) x) (not (contains_key updated x)) (sym (in_relinked ops ws x) ∙ at)).0 in
+    let lives = (and-true (contains_key (live_keys ops) x) (not (contains_key deleted x)) (sym (in_kept ops ws x) ∙ before_them-kept ops ws x before)).0 in
+    ap is_some (rewritten-some (live ops) x lives).1)) in
+    let all : length (ordered_writes ops ws) ≡ length (ds ++ us ++ cs ++ bs) = length-map (ds ++ us ++ cs ++ bs) (linked (without deleted (live_keys ops) ++ created)) in
+    omega (arith, ordered-count ops ws, all, u, c, b, length-map deleted delete, length-append (ds ++ us ++ cs) bs, length-append (ds ++ us) cs, length-append ds us)

@@ -57,7 +57,7 @@ alive None (Some e) = refl
 alive (Some w) l = alive_at w.value l
 
 -- a written value is put
-put-some : (o : Option Write) (l : Option Live) (key : Bytes) → picked is_some is_some o l ≡ true → (v : Bytes) × (option_map (λ value. update key value None) (option_and_then (λ w. w.value) o) ≡ Some (update key v None))
+pub put-some : (o : Option Write) (l : Option Live) (key : Bytes) → picked is_some is_some o l ≡ true → (v : Bytes) × (option_map (λ value. update key value None) (option_and_then (λ w. w.value) o) ≡ Some (update key v None))
 put-some None l key h = absurd (cc)
 put-some (Some w) l key h = cases w.value h
   where
@@ -90,10 +90,10 @@ module _ (ops : List Operation) (ws : List Write) where
   kept = without deleted (live_keys ops)
 
   -- the keys before those that are created or deleted
-  abbrev before_them : List Bytes
+  abbrev pub before_them : List Bytes
   before_them = filter_map (predecessor kept) (created ++ deleted)
 
-  abbrev relinked : List Bytes
+  abbrev pub relinked : List Bytes
   relinked = without updated (once before_them)
 
   abbrev plain : List Operation
@@ -114,10 +114,10 @@ module _ (ops : List Operation) (ws : List Write) where
   pub in_kept : (key : Bytes) → contains_key kept key ≡ (contains_key (live_keys ops) key && not (contains_key deleted key))
   in_kept key = contains-without deleted (live_keys ops) key
 
-  in_relinked : (key : Bytes) → contains_key relinked key ≡ (contains_key before_them key && not (contains_key updated key))
+  pub in_relinked : (key : Bytes) → contains_key relinked key ≡ (contains_key before_them key && not (contains_key updated key))
   in_relinked key = contains-without updated (once before_them) key ∙ ap (λ t. t && not (contains_key updated key)) (contains-once before_them key)
 
-  before_them-kept : (key : Bytes) → Has before_them key → Has kept key
+  pub before_them-kept : (key : Bytes) → Has before_them key → Has kept key
   before_them-kept key h = Has-within (predecessor kept) kept (λ x y e. let is = predecessor-is kept x y e in is.has) (created ++ deleted) key h
 
   relinked-updated : (key : Bytes) → Has relinked key → contains_key updated key ≡ false

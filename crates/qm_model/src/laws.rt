@@ -11,7 +11,7 @@ ghost use Rattle.qm_model.specs.Live.{live, live_keys, floor, value_of, touched}
 ghost use Rattle.qm_model.specs.Keys.{key_lt, successor, predecessor, contains_key, without, once, by_key, between, IsNext, IsPrevious};
 ghost use Rattle.qm_model.specs.Writes.{Write, last_writes, write_of, overwritten, unordered_writes, made_inactive};
 ghost use Rattle.qm_model.specs.Walk.{Rules, Limits, walk};
-ghost use Rattle.qm_model.specs.Ordered.{ordered_writes, deleted_keys, created_keys, IsRing};
+ghost use Rattle.qm_model.specs.Ordered.{ordered_writes, deleted_keys, updated_keys, created_keys, relinked_keys, IsRing};
 ghost use Rattle.qm_model.specs.Step.{unordered, ordered, step, Made, IsGood, IsOrderedGood, Kind};
 ghost use Rattle.qm_model.specs.Batches.{Begins};
 ghost use Rattle.qm_model.specs.Policies.{OnlyKeeps, NeverMoves};
@@ -71,11 +71,13 @@ pub fn writes_change_the_map()
     ensures ordered { (ops : List Operation) (ws : List Write) (key : Bytes) → value_of (ops ++ ordered_writes ops ws) key ≡ overwritten (write_of (last_writes ws) key) (value_of ops key) }
 {}
 
-/// No key is live twice, and ordered writes change how many are by those that they create and delete.
+/// No key is live twice, and ordered writes change how many are by those that they create and delete. A delete makes itself and the update before it inactive, and each other write of a live key the update before it.
 pub fn live_keys_are_counted()
     ensures once { (ops : List Operation) → IsDistinct bytes_eq (live_keys ops) }
     ensures ordered { (ops : List Operation) (ws : List Write) →
         length (live (ops ++ ordered_writes ops ws)) + length (deleted_keys (live ops) (last_writes ws)) ≡ length (live ops) + length (created_keys (live ops) (last_writes ws)) }
+    ensures inactive { (ops : List Operation) (ws : List Write) →
+        made_inactive ops (ordered_writes ops ws) ≡ 2 * length (deleted_keys (live ops) (last_writes ws)) + length (updated_keys (live ops) (last_writes ws)) + length (relinked_keys (live ops) (last_writes ws)) }
 {}
 
 /// A walk decides live keys, each once.

@@ -1,8 +1,9 @@
-use Rattle.std.proofs.Common.{ap, sym, subst, ◌∙◌}
+use Rattle.std.proofs.Common.{ap, subst, ◌∙◌}
 use Rattle.std.specs.List.{FoldsTo, flat_map}
 use Rattle.std.specs.Map.{values_of}
 use Rattle.std.specs.Fn.{CalledAt}
-use Rattle.qm_index.proofs.Visits.{FoldsTo-append}
+use Rattle.qm_index.specs.Buckets.{all_values}
+use Rattle.qm_index.proofs.Visits.{LeadOn-next}
 use Rattle.qm_index.proofs.unordered.IndexUnordered.for_each_value.Goals as goal
 
 pub loop-bucket-init : goal.loop-bucket-init
@@ -19,8 +20,6 @@ loop-bucket-preserved g c = (
   tt,
   tt,
   c.show-visit.ensures.again,
-  λ last later. c.loop-bucket.invariant.3 last
-      (subst (λ buckets. FoldsTo (λ p x q. CalledAt g.F.FnMut p x tt q) c.loop-bucket.visit (flat_map (λ bucket. bucket) buckets) last) (sym c.in-Some.ensures.steps)
-      (FoldsTo-append (λ p x q. CalledAt g.F.FnMut p x tt q) c.loop-bucket.visit c.show-visit.result last c.in-Some.bucket.now _
-      (subst (λ values. FoldsTo (λ p x q. CalledAt g.F.FnMut p x tt q) c.loop-bucket.visit values c.show-visit.result) c.values.ensures.value c.show-visit.ensures.shown) later)),
+  LeadOn-next (λ p x q. CalledAt g.F.FnMut p x tt q) c.args.visit (all_values c.args.self.now) c.loop-bucket.visit c.show-visit.result _ _ c.in-Some.bucket.now c.values.result.now c.in-Some.ensures.steps c.values.ensures.value c.show-visit.ensures.shown
+      c.loop-bucket.invariant.3,
 )
