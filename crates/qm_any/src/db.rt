@@ -1,6 +1,7 @@
 //! The database.
 
 ghost use Rattle.std.specs.Prelude.{◌≡◌, ◌≢◌, ◌⊎◌, ◌≤◌, ◌+◌, ◌^◌, ◌++◌, ◌∷◌, ℕ, [], List, nat_lt, true, false, length, map, drop, option_map, Contains, if◌then◌else◌, IfOk, IfErr, OnOk};
+ghost use Rattle.qm_model.specs.StoreModel.{beside_items};
 ghost use Rattle.qm_model.specs.Batches.{Chain, IsOnChain, begun_on};
 ghost use Rattle.qm_model.specs.Causes.{IsCause};
 ghost use Rattle.qm_model.specs.Live as lives;

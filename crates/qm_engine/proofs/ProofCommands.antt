@@ -64,7 +64,7 @@ module _ {X C B M K V D : Type 0} (members : stores.Ghosts C) (means : words.Gho
       → ((list : List Operation) → means.stands x list → IsDue error (pins_refusal list n))
       → Goes (turn_of_error error) (Database x) table opened (machine.pins means.scheme s n)
   pins_err x table opened n error s k is =
-      unless_err members means key value digest x x table opened error s (λ list. pins_refusal list n) (λ list. lines.Pinned (means.scheme.pins list n)) k (λ l h. h, record { start = refl; head = refl; items = refl }) is
+      unless_err members means key value digest x x table opened error s (λ list. pins_refusal list n) (λ list. lines.Pinned (means.scheme.pins list n)) k (λ l h. h, record { start = refl; told = refl }) is
 
   -- the proof of a batch
   proof_state-in : (s : State) (h : ℕ) (list : List Operation) (named : machine.Slot) → (proof_in means.scheme s h list named).1 ≡ s
