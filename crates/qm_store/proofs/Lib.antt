@@ -5,3 +5,4 @@ pub mod Shown
 pub mod Kept
 pub mod Cuts
 pub mod Mems
+pub mod Changes

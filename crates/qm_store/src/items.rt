@@ -83,11 +83,28 @@ impl Items {
         move_down(&mut self.ends, gone);
     }
 
-    pub(crate) fn clear(&mut self)
-        ensures { self.new ≡ [] }
+    // A copy of the first items, so many.
+    pub(crate) fn first(&self, alloc: Global, count: usize) -> Result<Items, AllocError>
+        requires { count ≤ length self.now }
+        ensures { IfOk result (λ items. items ≡ take count self.now) }
     {
-        self.bytes.clear();
-        self.ends.clear();
+        let end = end_of_first(&self.ends, count);
+        Ok(Items {
+            bytes: self.bytes[..end].to_vec(alloc)?,
+            ends: self.ends[..count].to_vec(alloc)?,
+        })
+    }
+
+    // A copy of the items behind the first ones, so many.
+    pub(crate) fn behind(&self, alloc: Global, count: usize) -> Result<Items, AllocError>
+        requires { count ≤ length self.now }
+        ensures { IfOk result (λ items. items ≡ drop count self.now) }
+    {
+        let gone = end_of_first(&self.ends, count);
+        let bytes = self.bytes[gone..].to_vec(alloc)?;
+        let mut ends = self.ends[count..].to_vec(alloc)?;
+        move_down(&mut ends, gone);
+        Ok(Items { bytes, ends })
     }
 }
 
