@@ -11,7 +11,8 @@ use Rattle.std.proofs.lemmas.List.Elements.{All-filter, filter_passes, All-tail}
 use Rattle.std.proofs.lemmas.Slice.Eq.{bytes_eq-Decides}
 use Rattle.qm_model.specs.Operations.{Bytes}
 use Rattle.qm_model.specs.StoreModel.{Entry, Named, Stored, appended, settled, rewound, pruned, with_metadata, restarted, destroyed}
-use Rattle.qm_store.specs.Changes.{Change, put_new, put_over, AreNamedOnce, appending, settling, rewinding, pruning, restarting, emptying, place_of, replaced, putting, undone}
+use Rattle.qm_store.specs.Changes.{Change, put_new, put_over, AreNamedOnce, appending, settling, rewinding, pruning, restarting, emptying, place_of, replaced, putting, undone, before}
+use Rattle.qm_store.specs.Mem.{Mem, made}
 
 -- Metadata by name.
 
@@ -118,3 +119,7 @@ pub undone-put : (name : Bytes) (entries : List Entry) (s : Stored) → AreNamed
 undone-put name entries s once =
     undone-replaced (place_of name s.metadata) (slice_get s.metadata (place_of name s.metadata)) (record { name = name; entries = entries }) (others name s.metadata) s
     ∙ ap {B = Stored} (λ ms. record s { metadata = ms }) (others-back name s.metadata once)
+
+-- The states before a call's state are the state that it was made in, and those before that.
+pub before-made : (change : Stored → Change) (f : Stored → Stored) (m : Mem) → undone (change m.held) (f m.held) ≡ m.held → before (made change f m).changes (made change f m).held ≡ m.held ∷ before m.changes m.held
+before-made change f m is = ap (λ s. s ∷ before m.changes s) is

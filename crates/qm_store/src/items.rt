@@ -90,8 +90,8 @@ impl Items {
     {
         let end = end_of_first(&self.ends, count);
         Ok(Items {
-            bytes: self.bytes[..end].to_vec(alloc)?,
-            ends: self.ends[..count].to_vec(alloc)?,
+            bytes: copy_of_front(alloc, &self.bytes, end)?,
+            ends: copy_of_front(alloc, &self.ends, count)?,
         })
     }
 
@@ -101,8 +101,8 @@ impl Items {
         ensures { IfOk result (λ items. items ≡ drop count self.now) }
     {
         let gone = end_of_first(&self.ends, count);
-        let bytes = self.bytes[gone..].to_vec(alloc)?;
-        let mut ends = self.ends[count..].to_vec(alloc)?;
+        let bytes = copy_behind(alloc, &self.bytes, gone)?;
+        let mut ends = copy_behind(alloc, &self.ends, count)?;
         move_down(&mut ends, gone);
         Ok(Items { bytes, ends })
     }
@@ -132,6 +132,22 @@ fn remove_front<T: Copy>(items: &mut Vec<T>, count: usize)
 {
     items.copy_within(count.., 0);
     items.truncate(items.len() - count);
+}
+
+// A copy of the first elements, so many.
+fn copy_of_front<T: Copy>(alloc: Global, items: &[T], count: usize) -> Result<Vec<T>, AllocError>
+    requires { count ≤ length items.now }
+    ensures { IfOk result (λ copy. copy.items ≡ take count items.now) }
+{
+    Vec::from_slice(alloc, &items[..count])
+}
+
+// A copy of the elements behind the first ones, so many.
+fn copy_behind<T: Copy>(alloc: Global, items: &[T], count: usize) -> Result<Vec<T>, AllocError>
+    requires { count ≤ length items.now }
+    ensures { IfOk result (λ copy. copy.items ≡ drop count items.now) }
+{
+    Vec::from_slice(alloc, &items[count..])
 }
 
 // Takes this from each end.

@@ -37,8 +37,7 @@ pub struct MemStore {
 }
 
 impl Model for MemStore {
-    ghost use Rattle.std.specs.Prelude.{◌+◌, ◌^◌, ◌≤◌, length};
-    ghost use Rattle.std.specs.List.{reverse};
+    ghost use Rattle.std.specs.Prelude.{◌+◌, ◌^◌, ◌≤◌, length, reverse};
     ghost use Rattle.qm_store.specs.Changes.{AreNamedOnce};
     ghost use Rattle.qm_store.specs.Mem.{Mem};
 
@@ -200,7 +199,9 @@ impl Store for MemStore {
         self.call()?;
         self.changes.reserve(1)?;
         self.kept.append(added)?;
-        self.changes.push_reserved(Change { kind: Kind::Grew(added.len() as u64) });
+        self.changes.push_reserved(Change {
+            kind: Kind::Grew(added.len() as u64),
+        });
         Ok(())
     }
 
@@ -216,7 +217,9 @@ impl Store for MemStore {
     {
         self.call()?;
         self.changes.reserve(1)?;
-        self.changes.push_reserved(Change { kind: Kind::SettledFrom(self.stable) });
+        self.changes.push_reserved(Change {
+            kind: Kind::SettledFrom(self.stable),
+        });
         self.stable = self.first + self.kept.len() as u64;
         Ok(())
     }
@@ -233,7 +236,9 @@ impl Store for MemStore {
     {
         self.call()?;
         self.changes.reserve(1)?;
-        self.changes.push_reserved(Change { kind: Kind::SettledFrom(self.stable) });
+        self.changes.push_reserved(Change {
+            kind: Kind::SettledFrom(self.stable),
+        });
         self.stable = self.first + self.kept.len() as u64;
         Ok(())
     }
@@ -260,7 +265,9 @@ impl Store for MemStore {
         let cut = Box::new(self.alloc, cut)?;
         self.kept.truncate(count);
         self.stable = self.stable.min(to);
-        self.changes.push_reserved(Change { kind: Kind::RewoundFrom(cut) });
+        self.changes.push_reserved(Change {
+            kind: Kind::RewoundFrom(cut),
+        });
         Ok(())
     }
 
@@ -290,7 +297,9 @@ impl Store for MemStore {
         pruned.head = replace(&mut self.head, head);
         self.kept.remove_first(count);
         self.first = to;
-        self.changes.push_reserved(Change { kind: Kind::PrunedFrom(pruned) });
+        self.changes.push_reserved(Change {
+            kind: Kind::PrunedFrom(pruned),
+        });
         Ok(())
     }
 
@@ -337,7 +346,9 @@ impl Store for MemStore {
         self.ends.push(to)?;
         self.kept.truncate(count);
         self.stable = to;
-        self.changes.push_reserved(Change { kind: Kind::RestartedFrom(cut) });
+        self.changes.push_reserved(Change {
+            kind: Kind::RestartedFrom(cut),
+        });
         Ok(())
     }
 
@@ -363,7 +374,9 @@ impl Store for MemStore {
         };
         self.first = 0;
         self.stable = 0;
-        self.changes.push_reserved(Change { kind: Kind::Emptied(dropped) });
+        self.changes.push_reserved(Change {
+            kind: Kind::Emptied(dropped),
+        });
         Ok(())
     }
 }

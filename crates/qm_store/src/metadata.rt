@@ -28,7 +28,11 @@ impl Model for Metadata {
 
 impl Metadata {
     // Copies of a name and its entries.
-    pub(crate) fn of(alloc: Global, name: &str, entries: &[MetaEntry]) -> Result<Metadata, AllocError>
+    pub(crate) fn of(
+        alloc: Global,
+        name: &str,
+        entries: &[MetaEntry],
+    ) -> Result<Metadata, AllocError>
         ensures { IfOk result (λ m. m ≡ record { name = name.now; entries = entries.now }) }
     {
         Ok(Metadata {
@@ -96,7 +100,11 @@ fn place_of(metadata: &[Metadata], name: &str) -> usize
 }
 
 // Takes the metadata of a name away, if there are any, and notes them. After an error nothing has changed.
-pub(crate) fn take_out(alloc: Global, metadata: &mut Vec<Metadata>, name: &str) -> Result<Change, AllocError>
+pub(crate) fn take_out(
+    alloc: Global,
+    metadata: &mut Vec<Metadata>,
+    name: &str,
+) -> Result<Change, AllocError>
     requires { AreNamedOnce metadata.old.items }
     ensures change { IfOk result (λ change. change ≡ putting name.now metadata.old.items) }
     ensures rest { OnOk result (metadata.new.items ≡ filter (λ m. not (bytes_eq name.now m.name)) metadata.old.items) }

@@ -1,6 +1,6 @@
-use Rattle.std.proofs.Common.{◌≡◌, ◌∙◌, ◌<◌, length, get_or, ap, sym, subst, arith}
+use Rattle.std.proofs.Common.{◌≡◌, ◌∙◌, ◌<◌, length, get_or, ap, sym, arith}
 use Rattle.std.specs.List.{remove}
-use Rattle.qm_store.specs.Changes.{place_of, put_over, putting}
+use Rattle.qm_store.specs.Changes.{place_of, put_over}
 use Rattle.qm_store.proofs.Changes.{others-removed, others-absent, place-within, putting-over}
 use Rattle.qm_store.proofs.metadata.take_out.Goals as goal
 
