@@ -7,3 +7,4 @@ pub mod Heads
 pub mod Kept
 pub mod Cuts
 pub mod Mems
+pub mod Changes

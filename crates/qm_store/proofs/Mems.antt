@@ -6,13 +6,8 @@ use Rattle.qm_model.specs.StoreModel.{Entry, Named, Stored, with_metadata, resta
 use Rattle.qm_model.proofs.Stores as stored
 use Rattle.qm_store.specs.declared.StoreError.{StoreError}
 use Rattle.qm_store.specs.declared.StoreError.TheVariants as stores
+use Rattle.qm_store.specs.Changes.{restarting}
 use Rattle.qm_store.specs.Mem.{Mem, IsInside, called, failed, made, chosen}
-
--- one whose metadata of a name was replaced
-pub put-made : {mem : Mem} (old : Mem) {metadata : List Named} (name : Bytes) (entries : List Entry) → mem ≡ called old → metadata ≡ record { name = name; entries = entries } ∷ filter (λ m. not (bytes_eq name m.name)) mem.held.metadata
-    → ◌≡◌ {A = Mem} (record mem { held = record mem.held { metadata = metadata } }) (made (with_metadata name entries) old)
-put-made {mem} old {metadata} name entries is put =
-    ap {B = Mem} (λ ms. record mem { held = record mem.held { metadata = ms } }) put ∙ ap {B = Mem} (λ m. record m { held = with_metadata name entries m.held }) is
 
 -- A call that failed.
 
@@ -27,12 +22,12 @@ pub kept-on_err : {T E : Type 0} (result : Result T E) (old new : Stored) (R : S
 kept-on_err (Ok x) old new R same kept = tt
 kept-on_err (Err e) old new R same kept = subst (λ s. R old s) (sym same) kept
 
--- what a memory holds has its stable length inside
+-- what a store in memory holds has its stable length inside
 pub held-inside : (m : Mem) → IsInside m → stored.IsInside m.held
 held-inside m inside = record { start = inside.start; stable = inside.stable }
 
 -- a restart chose an end
-pub restart-chose : {T E : Type 0} (result : Result T E) (old new : Mem) (keep : ℕ) → IsInside old → OnOk result (new ≡ made (λ s. restarted (chosen keep s) s) old) → OnOk result (HasRestarted old.held new.held)
+pub restart-chose : {T E : Type 0} (result : Result T E) (old new : Mem) (keep : ℕ) → IsInside old → OnOk result (new ≡ made (λ s. restarting (chosen keep s) s) (λ s. restarted (chosen keep s) s) old) → OnOk result (HasRestarted old.held new.held)
 restart-chose (Err e) old new keep inside is = tt
 restart-chose (Ok x) old new keep inside is = record {
   to = chosen keep old.held;

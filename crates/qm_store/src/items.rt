@@ -83,11 +83,28 @@ impl Items {
         move_down(&mut self.ends, gone);
     }
 
-    pub(crate) fn clear(&mut self)
-        ensures { self.new ≡ [] }
+    // A copy of the first items, so many.
+    pub(crate) fn first(&self, alloc: Global, count: usize) -> Result<Items, AllocError>
+        requires { count ≤ length self.now }
+        ensures { IfOk result (λ items. items ≡ take count self.now) }
     {
-        self.bytes.clear();
-        self.ends.clear();
+        let end = end_of_first(&self.ends, count);
+        Ok(Items {
+            bytes: copy_of_front(alloc, &self.bytes, end)?,
+            ends: copy_of_front(alloc, &self.ends, count)?,
+        })
+    }
+
+    // A copy of the items behind the first ones, so many.
+    pub(crate) fn behind(&self, alloc: Global, count: usize) -> Result<Items, AllocError>
+        requires { count ≤ length self.now }
+        ensures { IfOk result (λ items. items ≡ drop count self.now) }
+    {
+        let gone = end_of_first(&self.ends, count);
+        let bytes = copy_behind(alloc, &self.bytes, gone)?;
+        let mut ends = copy_behind(alloc, &self.ends, count)?;
+        move_down(&mut ends, gone);
+        Ok(Items { bytes, ends })
     }
 }
 
@@ -115,6 +132,22 @@ fn remove_front<T: Copy>(items: &mut Vec<T>, count: usize)
 {
     items.copy_within(count.., 0);
     items.truncate(items.len() - count);
+}
+
+// A copy of the first elements, so many.
+fn copy_of_front<T: Copy>(alloc: Global, items: &[T], count: usize) -> Result<Vec<T>, AllocError>
+    requires { count ≤ length items.now }
+    ensures { IfOk result (λ copy. copy.items ≡ take count items.now) }
+{
+    Vec::from_slice(alloc, &items[..count])
+}
+
+// A copy of the elements behind the first ones, so many.
+fn copy_behind<T: Copy>(alloc: Global, items: &[T], count: usize) -> Result<Vec<T>, AllocError>
+    requires { count ≤ length items.now }
+    ensures { IfOk result (λ copy. copy.items ≡ drop count items.now) }
+{
+    Vec::from_slice(alloc, &items[count..])
 }
 
 // Takes this from each end.

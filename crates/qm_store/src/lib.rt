@@ -6,10 +6,12 @@ ghost use Rattle.std.specs.Prelude.{Option, Some, IfSome, IfOk, OnOk, OnErr, IsE
 ghost use Rattle.qm_model.specs.Causes.{IsCause};
 ghost use Rattle.qm_model.specs.StoreModel.{Stored, end_of, metadata_in, appended, settled, rewound, pruned, with_metadata, destroyed, IsImage, IsOldOrNew, RewindLeaves, DestroyLeaves, HasRestarted, ReadsAs, HasAppended, Turns, Becomes};
 
+mod change;
 mod items;
 mod kept_tree;
 mod log;
 mod mem_store;
+mod metadata;
 mod refusal;
 
 pub use kept_tree::KeptTree;

@@ -1,44 +1,26 @@
 // A store in memory, which fails exactly at the listed calls.
-ghost use Rattle.std.specs.Prelude.{◌≡◌, ◌≢◌, ℕ, ◌+◌, ◌-◌, ◌^◌, ◌<◌, ◌≤◌, ◌↔◌, List, [], length, map, take, slice_get, bytes_eq, Contains};
+ghost use Rattle.std.specs.Prelude.{◌≡◌, ◌≢◌, ℕ, ◌+◌, ◌-◌, ◌^◌, ◌<◌, ◌≤◌, ◌↔◌, List, [], length, map, take, slice_get, Contains};
 ghost use Rattle.std.specs.Prelude.{IsTrue, Some, IfSome, IfOk, OnOk, OnErr, IsErrOf};
 ghost use Rattle.std.proofs.Common.{refl};
 ghost use Rattle.std.proofs.Math.Nat.{le-add_right};
 ghost use Rattle.qm_model.specs.Causes.{IsCause};
 ghost use Rattle.qm_model.specs.StoreModel.{metadata_in, appended, settled, rewound, pruned, with_metadata, restarted, destroyed, end_of};
+ghost use Rattle.qm_store.specs.Changes.{appending, settling, rewinding, pruning, putting, restarting, emptying};
 ghost use Rattle.qm_store.specs.Mem.{Mem, at_start, called, failed, made, chosen, IsInside};
 
+use crate::change::{Change, Cut, Dropped, Kind, Pruned};
 use crate::items::Items;
+use crate::metadata::{Metadata, entries_of, take_out};
 use crate::{MetaEntry, Store, StoreError};
-use std::alloc::{AllocError, Global};
+use std::alloc::Global;
 use std::marker::Model;
-
-/// Metadata under a name.
-#[derive(Drop)]
-struct Metadata {
-    name: String,
-    entries: Vec<MetaEntry>,
-}
-
-impl Model for Metadata {
-    ghost use Rattle.std.specs.String.{string_bytes};
-    ghost use Rattle.qm_model.specs.StoreModel.{Named};
-
-    ghost Value = { Named };
-
-    ghost view = { λ m. record { name = string_bytes m.name; entries = m.entries.items } };
-}
-
-impl Metadata {
-    // Whether it is that of a name.
-    fn is_of(&self, name: &str) -> bool
-        ensures { result ≡ bytes_eq name.now self.now.name }
-    {
-        name == self.name.as_str()
-    }
-}
+use std::mem::replace;
 
 /// A store in memory. Its calls that may fail are numbered from 0 on, and those fail whose numbers are listed. The numbers
 /// stand still at their greatest value.
+///
+/// It notes what each call changed, and what it replaced, so that each earlier state can be told from the present one: 24 bytes a
+/// call, and what was cut off or dropped.
 #[derive(Drop)]
 pub struct MemStore {
     alloc: Global,
@@ -48,26 +30,28 @@ pub struct MemStore {
     metadata: Vec<Metadata>,
     stable: u64,
     ends: Vec<u64>,
+    changes: Vec<Change>,
     listed: Vec<u64>,
     called: u64,
     failed: u64,
 }
 
 impl Model for MemStore {
-    ghost use Rattle.std.specs.Prelude.{◌+◌, ◌^◌, ◌≤◌, length};
+    ghost use Rattle.std.specs.Prelude.{◌+◌, ◌^◌, ◌≤◌, length, reverse};
+    ghost use Rattle.qm_store.specs.Changes.{AreNamedOnce};
     ghost use Rattle.qm_store.specs.Mem.{Mem};
 
     ghost Value = { Mem };
 
-    ghost view = { λ s. record { held = record { start = s.first; items = s.kept; head = s.head.items; metadata = s.metadata.items; stable = s.stable; ends = s.ends.items }; fail = s.listed.items; calls = s.called; faults = s.failed } };
+    ghost view = { λ s. record { held = record { start = s.first; items = s.kept; head = s.head.items; metadata = s.metadata.items; stable = s.stable; ends = s.ends.items }; changes = reverse s.changes.items; fail = s.listed.items; calls = s.called; faults = s.failed } };
 
-    ghost invariant = { λ s. (s.first ≤ s.stable) × (s.stable ≤ s.first + length s.kept) × (s.first + length s.kept ≤ 2 ^ 62) };
+    ghost invariant = { λ s. (s.first ≤ s.stable) × (s.stable ≤ s.first + length s.kept) × (s.first + length s.kept ≤ 2 ^ 62) × AreNamedOnce s.metadata.items };
 }
 
 impl MemStore {
     /// An empty store, which fails at the calls of these numbers.
     pub fn new(alloc: Global, fail: Vec<u64>) -> MemStore
-        ensures { result ≡ record { held = at_start 0 []; fail = fail.items; calls = 0; faults = 0 } }
+        ensures { result ≡ record { held = at_start 0 []; changes = []; fail = fail.items; calls = 0; faults = 0 } }
     {
         MemStore::with_head(alloc, 0, Vec::new(alloc), fail)
     }
@@ -75,7 +59,7 @@ impl MemStore {
     /// An empty store whose first item will be at this location, with this head.
     pub fn with_head(alloc: Global, start: u64, head: Vec<u8>, fail: Vec<u64>) -> MemStore
         requires { start ≤ 2 ^ 62 }
-        ensures { result ≡ record { held = at_start start head.items; fail = fail.items; calls = 0; faults = 0 } }
+        ensures { result ≡ record { held = at_start start head.items; changes = []; fail = fail.items; calls = 0; faults = 0 } }
     {
         MemStore {
             alloc,
@@ -85,6 +69,7 @@ impl MemStore {
             metadata: Vec::new(alloc),
             stable: start,
             ends: Vec::new(alloc),
+            changes: Vec::new(alloc),
             listed: fail,
             called: 0,
             failed: 0,
@@ -208,11 +193,15 @@ impl Store for MemStore {
         // It fails at the listed calls alone.
         ensures fails { (result ≡ Err StoreError.Failed) ↔ Contains self.old.fail self.old.calls }
         ensures fault { result ≡ Err StoreError.Failed → self.new ≡ failed self.old }
-        ensures ok { OnOk result (self.new ≡ made (appended (map (λ v. v.items) added.now)) self.old) }
+        ensures ok { OnOk result (self.new ≡ made (appending (map (λ v. v.items) added.now)) (appended (map (λ v. v.items) added.now)) self.old) }
         ensures memory { result ≡ Err StoreError.Memory → self.new ≡ called self.old }
     {
         self.call()?;
+        self.changes.reserve(1)?;
         self.kept.append(added)?;
+        self.changes.push_reserved(Change {
+            kind: Kind::Grew(added.len() as u64),
+        });
         Ok(())
     }
 
@@ -223,10 +212,14 @@ impl Store for MemStore {
         // It fails at the listed calls alone.
         ensures fails { (result ≡ Err StoreError.Failed) ↔ Contains self.old.fail self.old.calls }
         ensures fault { result ≡ Err StoreError.Failed → self.new ≡ failed self.old }
-        ensures ok { OnOk result (self.new ≡ made settled self.old) }
-        ensures never { result ≢ Err StoreError.Memory }
+        ensures ok { OnOk result (self.new ≡ made settling settled self.old) }
+        ensures memory { result ≡ Err StoreError.Memory → self.new ≡ called self.old }
     {
         self.call()?;
+        self.changes.reserve(1)?;
+        self.changes.push_reserved(Change {
+            kind: Kind::SettledFrom(self.stable),
+        });
         self.stable = self.first + self.kept.len() as u64;
         Ok(())
     }
@@ -238,10 +231,14 @@ impl Store for MemStore {
         // It fails at the listed calls alone.
         ensures fails { (result ≡ Err StoreError.Failed) ↔ Contains self.old.fail self.old.calls }
         ensures fault { result ≡ Err StoreError.Failed → self.new ≡ failed self.old }
-        ensures ok { OnOk result (self.new ≡ made settled self.old) }
-        ensures never { result ≢ Err StoreError.Memory }
+        ensures ok { OnOk result (self.new ≡ made settling settled self.old) }
+        ensures memory { result ≡ Err StoreError.Memory → self.new ≡ called self.old }
     {
         self.call()?;
+        self.changes.reserve(1)?;
+        self.changes.push_reserved(Change {
+            kind: Kind::SettledFrom(self.stable),
+        });
         self.stable = self.first + self.kept.len() as u64;
         Ok(())
     }
@@ -255,12 +252,22 @@ impl Store for MemStore {
         // It fails at the listed calls alone.
         ensures fails { (result ≡ Err StoreError.Failed) ↔ Contains self.old.fail self.old.calls }
         ensures fault { result ≡ Err StoreError.Failed → self.new ≡ failed self.old }
-        ensures ok { OnOk result (self.new ≡ made (rewound to) self.old) }
-        ensures never { result ≢ Err StoreError.Memory }
+        ensures ok { OnOk result (self.new ≡ made (rewinding to) (rewound to) self.old) }
+        ensures memory { result ≡ Err StoreError.Memory → self.new ≡ called self.old }
     {
         self.call()?;
-        self.kept.truncate((to - self.first) as usize);
+        self.changes.reserve(1)?;
+        let count = (to - self.first) as usize;
+        let cut = Cut {
+            items: self.kept.behind(self.alloc, count)?,
+            stable: self.stable,
+        };
+        let cut = Box::new(self.alloc, cut)?;
+        self.kept.truncate(count);
         self.stable = self.stable.min(to);
+        self.changes.push_reserved(Change {
+            kind: Kind::RewoundFrom(cut),
+        });
         Ok(())
     }
 
@@ -274,14 +281,25 @@ impl Store for MemStore {
         // It fails at the listed calls alone.
         ensures fails { (result ≡ Err StoreError.Failed) ↔ Contains self.old.fail self.old.calls }
         ensures fault { result ≡ Err StoreError.Failed → self.new ≡ failed self.old }
-        ensures ok { OnOk result (self.new ≡ made (pruned to head.now) self.old) }
+        ensures ok { OnOk result (self.new ≡ made (pruning to) (pruned to head.now) self.old) }
         ensures memory { result ≡ Err StoreError.Memory → self.new ≡ called self.old }
     {
         self.call()?;
+        self.changes.reserve(1)?;
+        let count = (to - self.first) as usize;
         let head = head.to_vec(self.alloc)?;
-        self.kept.remove_first((to - self.first) as usize);
+        let pruned = Pruned {
+            start: self.first,
+            head: Vec::new(self.alloc),
+            items: self.kept.first(self.alloc, count)?,
+        };
+        let mut pruned = Box::new(self.alloc, pruned)?;
+        pruned.head = replace(&mut self.head, head);
+        self.kept.remove_first(count);
         self.first = to;
-        self.head = head;
+        self.changes.push_reserved(Change {
+            kind: Kind::PrunedFrom(pruned),
+        });
         Ok(())
     }
 
@@ -292,17 +310,16 @@ impl Store for MemStore {
         // It fails at the listed calls alone.
         ensures fails { (result ≡ Err StoreError.Failed) ↔ Contains self.old.fail self.old.calls }
         ensures fault { result ≡ Err StoreError.Failed → self.new ≡ failed self.old }
-        ensures ok { OnOk result (self.new ≡ made (with_metadata name.now entries.now) self.old) }
+        ensures ok { OnOk result (self.new ≡ made (λ s. putting name.now s.metadata) (with_metadata name.now entries.now) self.old) }
         ensures memory { result ≡ Err StoreError.Memory → self.new ≡ called self.old }
     {
         self.call()?;
-        let named = Metadata {
-            name: String::from_str(self.alloc, name)?,
-            entries: copied(self.alloc, entries)?,
-        };
+        self.changes.reserve(1)?;
         self.metadata.reserve(1)?;
-        self.metadata.retain(|other| !other.is_of(name));
+        let named = Metadata::of(self.alloc, name, entries)?;
+        let change = take_out(self.alloc, &mut self.metadata, name)?;
         self.metadata.insert(0, named).unwrap();
+        self.changes.push_reserved(change);
         Ok(())
     }
 
@@ -313,15 +330,25 @@ impl Store for MemStore {
         // It fails at the listed calls alone.
         ensures fails { (result ≡ Err StoreError.Failed) ↔ Contains self.old.fail self.old.calls }
         ensures fault { result ≡ Err StoreError.Failed → self.new ≡ failed self.old }
-        ensures ok { OnOk result (self.new ≡ made (λ s. restarted (chosen keep s) s) self.old) }
+        ensures ok { OnOk result (self.new ≡ made (λ s. restarting (chosen keep s) s) (λ s. restarted (chosen keep s) s) self.old) }
         ensures memory { result ≡ Err StoreError.Memory → self.new ≡ called self.old }
     {
         self.call()?;
         let end = self.first + self.kept.len() as u64;
         let to = self.stable.max(end.min(keep));
+        let count = (to - self.first) as usize;
+        self.changes.reserve(1)?;
+        let cut = Cut {
+            items: self.kept.behind(self.alloc, count)?,
+            stable: self.stable,
+        };
+        let cut = Box::new(self.alloc, cut)?;
         self.ends.push(to)?;
-        self.kept.truncate((to - self.first) as usize);
+        self.kept.truncate(count);
         self.stable = to;
+        self.changes.push_reserved(Change {
+            kind: Kind::RestartedFrom(cut),
+        });
         Ok(())
     }
 
@@ -332,45 +359,24 @@ impl Store for MemStore {
         // It fails at the listed calls alone.
         ensures fails { (result ≡ Err StoreError.Failed) ↔ Contains self.old.fail self.old.calls }
         ensures fault { result ≡ Err StoreError.Failed → self.new ≡ failed self.old }
-        ensures ok { OnOk result (self.new ≡ made destroyed self.old) }
-        ensures never { result ≢ Err StoreError.Memory }
+        ensures ok { OnOk result (self.new ≡ made emptying destroyed self.old) }
+        ensures memory { result ≡ Err StoreError.Memory → self.new ≡ called self.old }
     {
         self.call()?;
+        self.changes.reserve(1)?;
+        let mut dropped = Box::new(self.alloc, Dropped::none(self.alloc))?;
+        *dropped = Dropped {
+            start: self.first,
+            items: replace(&mut self.kept, Items::new(self.alloc)),
+            head: replace(&mut self.head, Vec::new(self.alloc)),
+            metadata: replace(&mut self.metadata, Vec::new(self.alloc)),
+            stable: self.stable,
+        };
         self.first = 0;
-        self.head.clear();
-        self.kept.clear();
-        self.metadata.clear();
         self.stable = 0;
+        self.changes.push_reserved(Change {
+            kind: Kind::Emptied(dropped),
+        });
         Ok(())
     }
-}
-
-// A copy of entries.
-fn copied(alloc: Global, entries: &[MetaEntry]) -> Result<Vec<MetaEntry>, AllocError>
-    ensures { IfOk result (λ v. v.items ≡ entries.now) }
-{
-    let mut copy = Vec::with_capacity(alloc, entries.len())?;
-    for entry in entries {
-        copy.push(MetaEntry {
-            key: entry.key,
-            value: entry.value.as_slice().to_vec(alloc)?,
-        })?;
-    }
-    Ok(copy)
-}
-
-// A copy of the metadata of a name.
-fn entries_of(
-    alloc: Global,
-    metadata: &[Metadata],
-    name: &str,
-) -> Result<Vec<MetaEntry>, AllocError>
-    ensures { IfOk result (λ v. v.items ≡ metadata_in metadata.now name.now) }
-{
-    for named in metadata {
-        if named.is_of(name) {
-            return copied(alloc, &named.entries);
-        }
-    }
-    Ok(Vec::new(alloc))
 }

@@ -27,7 +27,7 @@ commit-tells x c =
       same_start = search rules;
       within = search rules;
       cause = search rules;
-      err = kept-on_err c.result old.held c.new.self.now.held (λ s. ReadsAs s.stable (IsImage s)) (held-on_err c.result old c.new.self.now c.ensures.fault (λ is. absurd (c.ensures.never is))) (reads-kept old.held (held-inside old c.ensures.inside));
+      err = kept-on_err c.result old.held c.new.self.now.held (λ s. ReadsAs s.stable (IsImage s)) (held-on_err c.result old c.new.self.now c.ensures.fault c.ensures.memory) (reads-kept old.held (held-inside old c.ensures.inside));
     }
 
 pub sync-tells : goal.sync-tells
@@ -39,7 +39,7 @@ sync-tells x c =
       same_start = search rules;
       within = search rules;
       cause = search rules;
-      err = kept-on_err c.result old.held c.new.self.now.held (λ s. ReadsAs s.stable (IsImage s)) (held-on_err c.result old c.new.self.now c.ensures.fault (λ is. absurd (c.ensures.never is))) (reads-kept old.held (held-inside old c.ensures.inside));
+      err = kept-on_err c.result old.held c.new.self.now.held (λ s. ReadsAs s.stable (IsImage s)) (held-on_err c.result old c.new.self.now c.ensures.fault c.ensures.memory) (reads-kept old.held (held-inside old c.ensures.inside));
     }
 
 pub rewind-tells : goal.rewind-tells
@@ -51,7 +51,7 @@ rewind-tells x c =
       same_start = search rules;
       within = search rules;
       cause = search rules;
-      err = kept-on_err c.result old.held c.new.self.now.held (λ s. ReadsAs (min s.stable c.args.to) (RewindLeaves c.args.to s)) (held-on_err c.result old c.new.self.now c.ensures.fault (λ is. absurd (c.ensures.never is))) (reads-kept-rewind c.args.to old.held (held-inside old c.ensures.inside));
+      err = kept-on_err c.result old.held c.new.self.now.held (λ s. ReadsAs (min s.stable c.args.to) (RewindLeaves c.args.to s)) (held-on_err c.result old c.new.self.now c.ensures.fault c.ensures.memory) (reads-kept-rewind c.args.to old.held (held-inside old c.ensures.inside));
     }
 
 pub prune-tells : goal.prune-tells
@@ -98,5 +98,5 @@ destroy-tells x c =
       ok_end = search rules;
       within = search rules;
       cause = search rules;
-      err = kept-on_err c.result old.held c.new.self.now.held DestroyLeaves (held-on_err c.result old c.new.self.now c.ensures.fault (λ is. absurd (c.ensures.never is))) (reads-kept-destroy old.held (held-inside old c.ensures.inside));
+      err = kept-on_err c.result old.held c.new.self.now.held DestroyLeaves (held-on_err c.result old c.new.self.now c.ensures.fault c.ensures.memory) (reads-kept-destroy old.held (held-inside old c.ensures.inside));
     }

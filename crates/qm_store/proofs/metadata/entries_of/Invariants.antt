@@ -1,6 +1,6 @@
 use Rattle.std.proofs.Common.{◌≡◌, drop}
 use Rattle.qm_model.specs.StoreModel.{metadata_in}
-use Rattle.qm_store.proofs.mem_store.entries_of.Given as goal
+use Rattle.qm_store.proofs.metadata.entries_of.Given as goal
 
 -- the metadata of the name stand among the rest
 abbrev pub invariant-loop-named : goal.invariant-loop-named

@@ -1,5 +1,5 @@
 use Rattle.std.proofs.Common.{◌≡◌, take}
-use Rattle.qm_store.proofs.mem_store.copied.Given as goal
+use Rattle.qm_store.proofs.metadata.copied.Given as goal
 
 -- the entries so far are copied
 abbrev pub invariant-loop-entry : goal.invariant-loop-entry
