@@ -116,16 +116,22 @@ cut-down down from (to ∷ ends) bytes last below are =
     (ap₂ (λ n xs. take n xs) count (drop-drop (from - down) down bytes ∙ ap (λ n. drop n bytes) place))
     (cut-down down to ends bytes last (omega (arith, below, are.0)) are.1)
 
--- where the first items end is within the bytes
-pub first-end : (ends bytes : List ℕ) (n : ℕ) → AreEnds 0 ends (length bytes) → n ≤ length ends → get_or (0 ∷ ends) n 0 ≤ length bytes
-first-end ends bytes n are within = ends-order (get_or (0 ∷ ends) n 0) (drop n ends) (length bytes) (ends-drop 0 ends (length bytes) n are within)
+-- there are ends for the first items
+pub ends-count : (ends bytes : List ℕ) (items : List (List ℕ)) (n : ℕ) → cut 0 ends bytes ≡ items → n ≤ length items → n ≤ length ends
+ends-count ends bytes items n is within = omega (arith, within, ap length is, length-cut 0 ends bytes)
+
+-- where these end is within the bytes
+pub first-end : (ends bytes : List ℕ) (items : List (List ℕ)) (n end : ℕ) → AreEnds 0 ends (length bytes) → cut 0 ends bytes ≡ items → n ≤ length items → end ≡ get_or (0 ∷ ends) n 0 → end ≤ length bytes
+first-end ends bytes items n end are is within at =
+    let there : n ≤ length ends = ends-count ends bytes items n is within in
+    omega (arith, at, ends-order (get_or (0 ∷ ends) n 0) (drop n ends) (length bytes) (ends-drop 0 ends (length bytes) n are there))
 
 -- the first items, and the bytes up to their end
 pub items-take : (ends bytes : List ℕ) (items : List (List ℕ)) (n end : ℕ) → AreEnds 0 ends (length bytes) → cut 0 ends bytes ≡ items → n ≤ length items → end ≡ get_or (0 ∷ ends) n 0
     → AreEnds 0 (take n ends) (length (take end bytes)) × (cut 0 (take n ends) (take end bytes) ≡ take n items)
 items-take ends bytes items n end are is within at =
-    let there : n ≤ length ends = omega (arith, within, ap length is, length-cut 0 ends bytes) in
-    let inside : end ≤ length bytes = omega (arith, at, first-end ends bytes n are there) in
+    let there : n ≤ length ends = ends-count ends bytes items n is within in
+    let inside : end ≤ length bytes = first-end ends bytes items n end are is within at in
     let count : get_or (0 ∷ ends) n 0 ≡ length (take end bytes) = omega (arith, at, inside, length-take end bytes) in
     let first : AreEnds 0 (take n ends) (length (take end bytes)) = subst (λ k. AreEnds 0 (take n ends) k) count (ends-take 0 ends (length bytes) n are there) in (
       first,
@@ -137,7 +143,7 @@ items-take ends bytes items n end are is within at =
 pub items-drop : (ends bytes : List ℕ) (items : List (List ℕ)) (n gone : ℕ) → AreEnds 0 ends (length bytes) → cut 0 ends bytes ≡ items → n ≤ length items → gone ≡ get_or (0 ∷ ends) n 0
     → AreEnds 0 (map (λ end. end - gone) (drop n ends)) (length (drop gone bytes)) × (cut 0 (map (λ end. end - gone) (drop n ends)) (drop gone bytes) ≡ drop n items)
 items-drop ends bytes items n gone are is within at =
-    let there : n ≤ length ends = omega (arith, within, ap length is, length-cut 0 ends bytes) in
+    let there : n ≤ length ends = ends-count ends bytes items n is within in
     let later : AreEnds gone (drop n ends) (length bytes) = subst (λ k. AreEnds k (drop n ends) (length bytes)) (sym at) (ends-drop 0 ends (length bytes) n are there) in
     let none : gone - gone ≡ 0 = omega arith in (
       subst (λ k. AreEnds k (map (λ end. end - gone) (drop n ends)) (length (drop gone bytes))) none
@@ -149,7 +155,7 @@ items-drop ends bytes items n gone are is within at =
 -- the items behind the first ones end where these end, or later
 pub ends-behind : (ends bytes : List ℕ) (items : List (List ℕ)) (n gone : ℕ) → AreEnds 0 ends (length bytes) → cut 0 ends bytes ≡ items → n ≤ length items → gone ≡ get_or (0 ∷ ends) n 0 → All (λ end. gone ≤ end) (drop n ends)
 ends-behind ends bytes items n gone are is within at =
-    let there : n ≤ length ends = omega (arith, within, ap length is, length-cut 0 ends bytes) in
+    let there : n ≤ length ends = ends-count ends bytes items n is within in
     ends-past gone (drop n ends) (length bytes) (subst (λ k. AreEnds k (drop n ends) (length bytes)) (sym at) (ends-drop 0 ends (length bytes) n are there))
 
 -- lists with the same rest have the same next element

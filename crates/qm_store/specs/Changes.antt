@@ -1,5 +1,5 @@
 -- What a store in memory notes of its calls, so that each earlier state can be told.
-use Rattle.std.specs.Prelude.{◌≡◌, ℕ, ◌-◌, Bool, false, List, [], ◌∷◌, ◌++◌, length, take, drop, All, Option, None, Some, slice_get, bytes_eq, ⊤}
+use Rattle.std.specs.Prelude.{◌≡◌, ℕ, ◌-◌, false, List, [], ◌∷◌, ◌++◌, length, take, drop, All, Option, None, Some, slice_get, bytes_eq, ⊤}
 use Rattle.std.specs.List.{insert, position_or_len}
 use Rattle.qm_model.specs.Operations.{Bytes}
 use Rattle.qm_model.specs.StoreModel.{Named, Stored}

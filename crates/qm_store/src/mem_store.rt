@@ -19,8 +19,8 @@ use std::mem::replace;
 /// A store in memory. Its calls that may fail are numbered from 0 on, and those fail whose numbers are listed. The numbers
 /// stand still at their greatest value.
 ///
-/// It notes what each call changed, and what it replaced, so that each earlier state can be told from the present one: 24 bytes a
-/// call, and what was cut off or dropped.
+/// It notes what each call changed, and what it replaced, so that each earlier state can be told from the present one: some
+/// 24 bytes a call, and what was cut off or dropped.
 #[derive(Drop)]
 pub struct MemStore {
     alloc: Global,

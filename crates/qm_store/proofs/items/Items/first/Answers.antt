@@ -1,22 +1,15 @@
-use Rattle.std.proofs.Common.{◌≡◌, ◌∙◌, ◌∷◌, take, length, get_or, ap, arith}
-use Rattle.qm_store.proofs.Cuts.{length-cut, first-end, items-take}
+use Rattle.std.proofs.Common.{◌≡◌, ◌∙◌, take, ap}
+use Rattle.qm_store.proofs.Cuts.{ends-count, first-end, items-take}
 use Rattle.qm_store.proofs.items.Items.first.Goals as goal
 
 pub end_of_first-end-requires : goal.end_of_first-end-requires
-end_of_first-end-requires c = omega (arith, c.deref.ensures.len, c.self.inside.ends.ok.0, c.requires, ap length c.self.view_is, length-cut 0 c.self.inside.ends.items c.self.inside.bytes.items)
+end_of_first-end-requires c = rw c.deref.ensures.value (ends-count c.self.inside.ends.items c.self.inside.bytes.items c.args.self.now c.args.count c.self.view_is c.requires)
 
 pub copy_of_front-requires : goal.copy_of_front-requires
-copy_of_front-requires c =
-    let at : c.end_of_first-end.result ≡ get_or (0 ∷ c.self.inside.ends.items) c.args.count 0 = rw (← c.deref.ensures.value) c.end_of_first-end.ensures in
-    omega (
-      arith,
-      at,
-      ap length c.deref-2.ensures.value,
-      first-end c.self.inside.ends.items c.self.inside.bytes.items c.args.count c.self.invariant (omega (arith, c.requires, ap length c.self.view_is, length-cut 0 c.self.inside.ends.items c.self.inside.bytes.items)),
-    )
+copy_of_front-requires c = rw c.deref-2.ensures.value (first-end c.self.inside.ends.items c.self.inside.bytes.items c.args.self.now c.args.count c.end_of_first-end.result c.self.invariant c.self.view_is c.requires (rw (← c.deref.ensures.value) c.end_of_first-end.ensures))
 
 pub copy_of_front-requires-2 : goal.copy_of_front-requires-2
-copy_of_front-requires-2 c = omega (arith, ap length c.deref-3.ensures.value, c.requires, ap length c.self.view_is, length-cut 0 c.self.inside.ends.items c.self.inside.bytes.items)
+copy_of_front-requires-2 c = rw c.deref-3.ensures.value (ends-count c.self.inside.ends.items c.self.inside.bytes.items c.args.self.now c.args.count c.self.view_is c.requires)
 
 pub invariant_of-result : goal.invariant_of-result
 invariant_of-result c =

@@ -1,22 +1,16 @@
-use Rattle.std.proofs.Common.{◌≡◌, ◌∷◌, length, get_or, ap, arith}
-use Rattle.qm_store.proofs.Cuts.{length-cut, first-end, items-drop, ends-behind}
+use Rattle.std.proofs.Common.{arith}
+use Rattle.qm_store.proofs.Cuts.{ends-count, first-end, items-drop, ends-behind}
 use Rattle.qm_store.proofs.items.Items.remove_first.Goals as goal
 
 pub end_of_first-gone-requires : goal.end_of_first-gone-requires
-end_of_first-gone-requires c = omega (arith, c.deref.ensures.len, c.self.inside.ends.ok.0, c.requires, ap length c.self.view_is, length-cut 0 c.self.inside.ends.items c.self.inside.bytes.items)
+end_of_first-gone-requires c = rw c.deref.ensures.value (ends-count c.self.inside.ends.items c.self.inside.bytes.items c.args.self.now c.args.count c.self.view_is c.requires)
 
 pub remove_front-requires : goal.remove_front-requires
-remove_front-requires c = omega (arith, c.self.inside.ends.ok.0, c.requires, ap length c.self.view_is, length-cut 0 c.self.inside.ends.items c.self.inside.bytes.items)
+remove_front-requires c = omega (arith, c.self.inside.ends.ok.0, ends-count c.self.inside.ends.items c.self.inside.bytes.items c.args.self.now c.args.count c.self.view_is c.requires)
 
 pub remove_front-requires-2 : goal.remove_front-requires-2
 remove_front-requires-2 c =
-    let at : c.end_of_first-gone.result ≡ get_or (0 ∷ c.self.inside.ends.items) c.args.count 0 = rw (← c.deref.ensures.value) c.end_of_first-gone.ensures in
-    omega (
-      arith,
-      at,
-      c.self.inside.bytes.ok.0,
-      first-end c.self.inside.ends.items c.self.inside.bytes.items c.args.count c.self.invariant (omega (arith, c.requires, ap length c.self.view_is, length-cut 0 c.self.inside.ends.items c.self.inside.bytes.items)),
-    )
+    omega (arith, c.self.inside.bytes.ok.0, first-end c.self.inside.ends.items c.self.inside.bytes.items c.args.self.now c.args.count c.end_of_first-gone.result c.self.invariant c.self.view_is c.requires (rw (← c.deref.ensures.value) c.end_of_first-gone.ensures))
 
 pub move_down-requires : goal.move_down-requires
 move_down-requires c =
