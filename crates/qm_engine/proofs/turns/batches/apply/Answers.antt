@@ -2,6 +2,7 @@ use Rattle.std.proofs.Common.{length, sym, map, drop}
 use Rattle.qm_model.specs.Forms.{spelling, variable}
 use Rattle.qm_store.specs.Given.{store_given}
 use Rattle.qm_store.proofs.Told.{appended-part}
+use Rattle.qm_engine.proofs.Commands.{left_none}
 use Rattle.qm_engine.proofs.BatchCommands.{not_merkleized, apply_ok, apply_err, apply_left}
 use Rattle.qm_engine.proofs.turns.batches.apply.Goals as goal
 
@@ -31,3 +32,9 @@ pub returns-in-Err-clause-left : goal.returns-in-Err-clause-left
 returns-in-Err-clause-left g c = λ s k apart.
     apply_left g.C.Store g.X.Words g.X.Key.ByteString.bytes g.X.Value.ByteString.bytes g.X.Digest.Digest.bytes c.in-Database.x (g.C.Store.told (store_given g.X.Words.inside c.in-Err.refusal.given)) c.args.session.table.items c.args.session.opened c.args.number c.in-Some.batch.now s (rw c.in-Database.is at k) apart
     (λ list chain tip stands is on. (c.in-Err.ensures.kept list chain tip stands is).told) (sym c.in-Some.ensures)
+
+pub returns-in-Store-clause-left : goal.returns-in-Store-clause-left
+returns-in-Store-clause-left g c = λ s k apart. let held = rw c.in-Store.is at k in left_none s.store _ (g.C.Store.told c.in-Store.store) held.store.told
+
+pub returns-in-None-clause-left : goal.returns-in-None-clause-left
+returns-in-None-clause-left g c = λ s k apart. let held = rw c.in-Database.is at k in left_none s.store _ (g.C.Store.told (g.X.Words.inside c.in-Database.x)) held.store.told
