@@ -70,7 +70,7 @@ returns-in-Err-clause-back g c = λ x given.
 pub returns-in-Err-clause-part : goal.returns-in-Err-clause-part
 returns-in-Err-clause-part g c =
     let more = map (λ v. v.items) c.args.lacking.items.items in
-    let part = refused-appended-part g.C.Store c.self.inside.log (map (λ v. v.items) c.deref.result.now) c.in-Err.given c.in-Err.error c.in-Err.ensures.refused in
-    let due = subst (λ items. AppendedPart g.C.Store c.self.inside.log.store (logs.store_given c.in-Err.given) (map (λ v. v.items) items)) c.deref.ensures.value part in
-    let here = subst (λ s. AppendedPart g.C.Store s (logs.store_given c.in-Err.given) more) (ap (λ db. db.log.store) c.self.view_is) due in
+    let part = refused-appended-part g.C.Store c.self.inside.log (map (λ v. v.items) c.deref.result.now) c.in-Err.field-0.given c.in-Err.field-0.error c.in-Err.ensures.refused in
+    let due = subst (λ items. AppendedPart g.C.Store c.self.inside.log.store (logs.store_given c.in-Err.field-0.given) (map (λ v. v.items) items)) c.deref.ensures.value part in
+    let here = subst (λ s. AppendedPart g.C.Store s (logs.store_given c.in-Err.field-0.given) more) (ap (λ db. db.log.store) c.self.view_is) due in
     subst (λ s. AppendedPart g.C.Store c.args.self.log.store s more) (sym c.given_back.ensures.store) here
