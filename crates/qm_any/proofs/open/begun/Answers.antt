@@ -2,7 +2,10 @@ use Rattle.std.proofs.Common.{◌∙◌, [], map, ap, ap₂, sym, subst, None}
 use Rattle.qm_model.specs.StoreModel.{Becomes, appended}
 use Rattle.qm_model.specs.Operations.{fresh}
 use Rattle.qm_model.specs.Trees.{inactive_peaks}
-use Rattle.qm_store.specs.Log.{IsLog}
+use Rattle.qm_model.specs.Forms.{spelling}
+use Rattle.qm_store.specs.Log.{IsLog, store_given}
+use Rattle.qm_store.specs.Given.{AppendedPart}
+use Rattle.qm_store.proofs.Told.{refused-appended-part}
 use Rattle.qm_any.specs.Layouts.{layout_of}
 use Rattle.qm_any.proofs.Telling.{root-spelled, grown-told, fresh-stands}
 use Rattle.qm_any.proofs.open.begun.Goals as goal
@@ -23,3 +26,10 @@ returns-in-Ok-append_batch-clause-stands g c =
     (c.of_parts.ensures ∙ ap₂ (λ entries floor. record { entries = entries; log = log; commitment = record { size = 1; root = bytes c.in-Ok.root }; floor = floor; live = 0; metadata = None }) c.new-index.ensures c.new-in-Ok-append_batch.ensures)
     (ap (λ r. record { size = 1; root = r }) rooted) told
     (subst (IsLog g.C.Store shape bytes hash log) c.requires.items (c.in-Ok-append_batch.ensures.stands [] empty)))
+
+pub returns-in-Err-clause-part : goal.returns-in-Err-clause-part
+returns-in-Err-clause-part g c =
+    let given = c.in-Err.refusal.given in
+    let part = refused-appended-part g.C.Store c.root_with.new.self (map (λ v. v.items) c.args.items.now) given c.in-Err.refusal.error c.in-Err.ensures.refused in
+    let here = subst (λ l. AppendedPart g.C.Store l.store (store_given given) (map (λ v. v.items) c.args.items.now)) c.root_with.ensures.same part in
+    subst (λ s. AppendedPart g.C.Store c.args.log.store s (map (spelling g.U.Update.form) fresh)) (sym c.store_of.ensures) (subst (AppendedPart g.C.Store c.args.log.store (store_given given)) c.requires.items here)

@@ -3,10 +3,11 @@ use Rattle.qm_model.proofs.Results.{err-then, ok-then}
 use Rattle.qm_model.specs.Operations.{Bytes}
 use Rattle.qm_store.specs.KeptTrees.{KeptTree, IsKeptTree}
 use Rattle.qm_store.specs.Log.{Log, IsLog}
+use Rattle.qm_store.specs.Log as logs
 use Rattle.qm_batch.specs.Lent.{IsIndexed}
 use Rattle.qm_store.specs.Given.{Appended, AppendedPart, store_given}
 use Rattle.qm_any.proofs.Telling.{three}
-use Rattle.qm_store.proofs.Told.{grown-appended, appended-part}
+use Rattle.qm_store.proofs.Told.{grown-appended, appended-part, refused-appended-part}
 use Rattle.qm_any.proofs.Unapplied.{same-database, memory-cause}
 use Rattle.qm_any.proofs.db.Db.moved.Goals as goal
 
@@ -65,3 +66,11 @@ returns-in-Err-clause-back g c = λ x given.
     let at = c.given_back.ensures.back x given in
     let was = c.in-Err.ensures.refused.back x.log at.0 in
     (same-database _ c.args.self x c.self.view_is at.1 was.0, was.1)
+
+pub returns-in-Err-clause-part : goal.returns-in-Err-clause-part
+returns-in-Err-clause-part g c =
+    let more = map (λ v. v.items) c.args.lacking.items.items in
+    let part = refused-appended-part g.C.Store c.self.inside.log (map (λ v. v.items) c.deref.result.now) c.in-Err.field-0.given c.in-Err.field-0.error c.in-Err.ensures.refused in
+    let due = subst (λ items. AppendedPart g.C.Store c.self.inside.log.store (logs.store_given c.in-Err.field-0.given) (map (λ v. v.items) items)) c.deref.ensures.value part in
+    let here = subst (λ s. AppendedPart g.C.Store s (logs.store_given c.in-Err.field-0.given) more) (ap (λ db. db.log.store) c.self.view_is) due in
+    subst (λ s. AppendedPart g.C.Store c.args.self.log.store s more) (sym c.given_back.ensures.store) here
