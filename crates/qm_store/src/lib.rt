@@ -6,12 +6,14 @@ ghost use Rattle.std.specs.Prelude.{Option, Some, IfSome, IfOk, OnOk, OnErr, IsE
 ghost use Rattle.qm_model.specs.Causes.{IsCause};
 ghost use Rattle.qm_model.specs.StoreModel.{Stored, end_of, metadata_in, appended, settled, rewound, pruned, with_metadata, destroyed, IsImage, IsOldOrNew, RewindLeaves, DestroyLeaves, HasRestarted, ReadsAs, HasAppended, Turns, Becomes};
 
+mod file_store;
 mod items;
 mod kept_tree;
 mod log;
 mod mem_store;
 mod refusal;
 
+pub use file_store::FileStore;
 pub use kept_tree::KeptTree;
 pub use log::{AuthLog, LogGiven, LogRefusal};
 pub use mem_store::MemStore;
