@@ -40,7 +40,6 @@
 //! What files really hold is outside of what is proved.
 
 ghost use Rattle.std.specs.Prelude.{◌≡◌, ◌+◌, ◌^◌, ◌≤◌, ◌<◌, ℕ, length, None, IfOk, OnOk, OnErr, IsErrOf};
-ghost use Rattle.std.proofs.Common.{refl, tt};
 ghost use Rattle.std.proofs.Math.Nat.{le-add_right};
 ghost use Rattle.qm_model.specs.Causes.{IsCause};
 ghost use Rattle.qm_store.specs.Files.{Counted, end_of};
@@ -190,7 +189,8 @@ impl<R: Files + Clone + Drop> FileStore<R> {
             return Ok(());
         }
         if !self.log.has_file() {
-            self.replace_log(self.log.start(), &[])?;
+            let start = self.log.start();
+            self.replace_log(start, &[])?;
         }
         self.log.append(self.folder.alloc(), added)
     }

