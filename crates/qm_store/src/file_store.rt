@@ -37,7 +37,7 @@
 //! A write that fails may have put bytes behind the last item that counts. They are cut before the next write, and are no whole
 //! item for a store that opens the log before that.
 //!
-//! What files really hold is outside of what is proved.
+//! One store at a time has a folder: nothing is locked. What files really hold is outside of what is proved.
 
 ghost use Rattle.std.specs.Prelude.{◌≡◌, ◌+◌, ◌^◌, ◌≤◌, ◌<◌, ℕ, length, None, IfOk, OnOk, OnErr, IsErrOf};
 ghost use Rattle.std.proofs.Math.Nat.{le-add_right};
@@ -45,7 +45,7 @@ ghost use Rattle.qm_model.specs.Causes.{IsCause};
 ghost use Rattle.qm_store.specs.Files.{Counted, end_of};
 
 use crate::{MetaEntry, Store, StoreError};
-use folder::Folder;
+use folder::{Folder, LOG};
 use log_file::LogFile;
 use spelled::{read_entries, spelled_entries, spelled_head};
 use std::alloc::{AllocError, Global};
@@ -57,9 +57,6 @@ use std::rt::Files;
 mod folder;
 mod log_file;
 mod spelled;
-
-// The name of the file that has the items.
-const LOG: &str = "log";
 
 // Whether the files can be read.
 #[derive(Clone, Copy, PartialEq, Eq)]

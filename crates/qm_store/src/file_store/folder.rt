@@ -10,6 +10,9 @@ use std::path::{Path, PathBuf};
 use std::rt::Files;
 use std::{fs, io};
 
+// The name of the file that has the items.
+pub(super) const LOG: &str = "log";
+
 // What the names of files of metadata begin with.
 const META: &str = "meta-";
 
@@ -23,6 +26,11 @@ fn found<T>(answer: io::Result<T>) -> Result<Option<T>, StoreError> {
         Err(error) if error.kind() == ErrorKind::NotFound => Ok(None),
         Err(error) => Err(error.into()),
     }
+}
+
+// Whether a file of this name is a store's, and not its log.
+fn is_other(name: &str) -> bool {
+    name.starts_with(META) || name.strip_suffix(NEW) == Some(LOG)
 }
 
 // A folder that may not be there yet.
@@ -101,7 +109,7 @@ impl<R: Files + Clone + Drop> Folder<R> {
         Ok(())
     }
 
-    // Removes the files of metadata, and new files that took no place.
+    // Removes the files of metadata, and new files that took no place. Files that are no store's stay.
     pub(super) fn remove_others(&self) -> Result<(), StoreError> {
         let rt = (&self.rt, self.alloc);
         let Some(entries) = found(fs::read_dir(&rt, &self.path))? else {
@@ -119,9 +127,7 @@ impl<R: Files + Clone + Drop> Folder<R> {
         entry: io::Result<DirEntry<(&'a R, Global)>>,
     ) -> Result<(), StoreError> {
         match entry {
-            Ok(entry) if entry.file_name().starts_with(META) || entry.file_name().ends_with(NEW) => {
-                Ok(fs::remove_file(&self.rt, entry.path())?)
-            }
+            Ok(entry) if is_other(entry.file_name()) => Ok(fs::remove_file(&self.rt, entry.path())?),
             Ok(_) => Ok(()),
             Err(error) if error.kind() == ErrorKind::InvalidFilename => Ok(()),
             Err(error) => Err(error.into()),

@@ -156,9 +156,9 @@ impl<F: Read + Write + Seek + OpenFile + Drop> LogFile<F> {
         let end = self.place(count);
         self.note(added)?;
         let written = write_at(&mut self.file, end, &spelled);
-        if let Err(reached) = written {
-            self.keep_written(count, reached);
-            return Err(StoreError::Failed);
+        if let Err(torn) = written {
+            self.keep_written(count, torn.reached);
+            return Err(torn.error);
         }
         Ok(())
     }
@@ -271,16 +271,28 @@ fn at<F: Seek>(file: &mut Option<F>, place: u64) -> Result<&mut F, StoreError> {
     Ok(file)
 }
 
-// Writes bytes at a place. Where that fails it tells the place that was reached, or the first one where the system does not
-// tell it.
-fn write_at<F: Write + Seek>(file: &mut Option<F>, place: u64, bytes: &[u8]) -> Result<(), u64> {
-    let Ok(file) = at(file, place) else {
-        return Err(place);
+// A write that failed: the place up to which bytes were written, and why no more.
+#[derive(Clone, Copy)]
+struct Torn {
+    reached: u64,
+    error: StoreError,
+}
+
+// Writes bytes at a place. Where the system does not tell what a failed write reached, that is the place itself.
+fn write_at<F: Write + Seek>(file: &mut Option<F>, place: u64, bytes: &[u8]) -> Result<(), Torn> {
+    let file = match at(file, place) {
+        Ok(file) => file,
+        Err(error) => {
+            return Err(Torn {
+                reached: place,
+                error,
+            });
+        }
     };
-    match file.write_all(bytes) {
-        Ok(()) => Ok(()),
-        Err(_) => Err(file.stream_position().unwrap_or(place)),
-    }
+    file.write_all(bytes).map_err(|error| Torn {
+        reached: file.stream_position().unwrap_or(place),
+        error: error.into(),
+    })
 }
 
 // Notes where these items end that begin at a place.

@@ -16,6 +16,13 @@ const ENTRY_SIZE: u64 = 9 + LENGTH_SIZE;
 
 // A refusal of memory is want of memory, and whatever else the system refuses is a fault.
 impl From<io::Error> for StoreError {
+    ghost use Rattle.std.specs.Prelude.{◌≡◌, ◌↔◌};
+    ghost use Rattle.std.specs.IoError.{error_kind};
+    ghost use Rattle.std.specs.declared.io.ErrorKind.TheVariants.{OutOfMemory};
+    ghost use Rattle.qm_store.specs.declared.StoreError.TheVariants.{Memory};
+
+    ghost from_gives = { λ e s. (s ≡ Memory) ↔ (error_kind e ≡ OutOfMemory) };
+
     fn from(error: io::Error) -> Self {
         match error.kind() {
             ErrorKind::OutOfMemory => StoreError::Memory,
