@@ -94,9 +94,7 @@ fn reading() -> OpenOptions {
 }
 
 // The log of a folder.
-fn read_log<R: Files + Clone + Drop>(
-    folder: &Folder<R>,
-) -> Result<LogFile<R::File>, StoreError> {
+fn read_log<R: Files + Clone + Drop>(folder: &Folder<R>) -> Result<LogFile<R::File>, StoreError> {
     let mut how = reading();
     how.write(true);
     match folder.open(&how, LOG)? {
@@ -221,7 +219,8 @@ impl<R: Files + Clone + Drop> FileStore<R> {
         let spelled = spelled_head(self.folder.alloc(), to, head)?;
         let mut file = self.folder.create(LOG)?;
         file.write_all(&spelled)?;
-        self.log.copy_items((to - self.log.start()) as usize, &mut file)?;
+        self.log
+            .copy_items((to - self.log.start()) as usize, &mut file)?;
         file.sync_all()?;
         let log = LogFile::of(self.folder.alloc(), file)?;
         if log.start() != to || log.end() != self.log.end() {

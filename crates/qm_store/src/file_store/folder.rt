@@ -127,7 +127,10 @@ impl<R: Files + Clone + Drop> Folder<R> {
         entry: io::Result<DirEntry<(&'a R, Global)>>,
     ) -> Result<(), StoreError> {
         match entry {
-            Ok(entry) if is_other(entry.file_name()) => Ok(fs::remove_file(&self.rt, entry.path())?),
+            Ok(entry) if is_other(entry.file_name()) => Ok(fs::remove_file(
+                &self.rt,
+                entry.path(),
+            )?),
             Ok(_) => Ok(()),
             Err(error) if error.kind() == ErrorKind::InvalidFilename => Ok(()),
             Err(error) => Err(error.into()),
@@ -136,7 +139,10 @@ impl<R: Files + Clone + Drop> Folder<R> {
 
     // Makes the folder's names outlive a crash.
     pub(super) fn sync(&self) -> Result<(), StoreError> {
-        let folder = fs::open(&self.rt, Path::new(&self.path).join(self.alloc, ".")?.as_path())?;
+        let folder = fs::open(
+            &self.rt,
+            Path::new(&self.path).join(self.alloc, ".")?.as_path(),
+        )?;
         folder.sync_all()?;
         Ok(())
     }
