@@ -35,7 +35,7 @@ fn last_items(alloc: Global) -> Result<Vec<Vec<u8>>, AllocError>
 
 // A store of five items.
 fn five(alloc: Global) -> Result<MemStore, StoreError>
-    ensures { IfOk result (λ s. (s.start ≡ 0) × (length s.items ≡ 5)) }
+    ensures { IfOk result (λ s. (s.held.start ≡ 0) × (length s.held.items ≡ 5)) }
 {
     let mut store = MemStore::new(alloc, Vec::new(alloc));
     store.append(&first_items(alloc)?)?;

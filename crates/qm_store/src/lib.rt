@@ -7,6 +7,7 @@ ghost use Rattle.qm_model.specs.Causes.{IsCause};
 ghost use Rattle.qm_model.specs.StoreModel.{Stored, end_of, metadata_in, appended, settled, rewound, pruned, with_metadata, destroyed, IsImage, IsOldOrNew, RewindLeaves, DestroyLeaves, HasRestarted, ReadsAs, HasAppended, Turns, Becomes};
 
 mod change;
+mod file_store;
 mod items;
 mod kept_tree;
 mod log;
@@ -14,6 +15,7 @@ mod mem_store;
 mod metadata;
 mod refusal;
 
+pub use file_store::FileStore;
 pub use kept_tree::KeptTree;
 pub use log::{AuthLog, LogGiven, LogRefusal};
 pub use mem_store::MemStore;

@@ -1,0 +1,306 @@
+//! That a store over files has in its folder what its format says, reads it again, and fails where the files do.
+
+use qm_store::{FileStore, MetaEntry, Store, StoreError};
+use std::alloc::{AllocError, Global};
+use std::fs;
+use std::fs::{OpenFile, OpenOptions};
+use std::io::{self, Write};
+use std::test::Fail;
+
+const FOLDER: &str = "qm_layer_tests_files";
+
+const LOG: &str = "qm_layer_tests_files/log";
+
+const META: &str = "qm_layer_tests_files/meta-grafted";
+
+// Three items from location 0 on, with no head.
+const THREE: &[u8] = b"\0\0\0\0\0\0\0\0\0\0\0\0\0\0\0\x03one\0\0\0\0\0\0\0\x05three";
+
+// The last two of them, with a head.
+const PRUNED: &[u8] = b"\0\0\0\0\0\0\0\x01\0\0\0\x02ab\0\0\0\0\0\0\0\x05three";
+
+// The same with one more.
+const LONGER: &[u8] = b"\0\0\0\0\0\0\0\x01\0\0\0\x02ab\0\0\0\0\0\0\0\x05three\0\0\0\x04four";
+
+// An entry whose key is nine times the byte 1, and one with nine times the byte 2.
+const ENTRIES: &[u8] =
+    b"\x01\x01\x01\x01\x01\x01\x01\x01\x01\0\0\0\x01x\x02\x02\x02\x02\x02\x02\x02\x02\x02\0\0\0\0";
+
+type Files<'a> = FileStore<&'a HostRuntime>;
+
+fn open(rt: &HostRuntime) -> Result<Files<'_>, AllocError> {
+    FileStore::open(rt, rt.alloc(), FOLDER)
+}
+
+// Puts one item behind the last.
+fn append(store: &mut Files<'_>, alloc: Global, item: &[u8]) -> Result<(), StoreError> {
+    let (_, end) = store.bounds();
+    if end == 1 << 62 {
+        return Err(StoreError::Failed);
+    }
+    store.append(&vec![in alloc; item.to_vec(alloc)?]?)
+}
+
+fn append_none(store: &mut Files<'_>) -> Result<(), StoreError> {
+    let _bounds = store.bounds();
+    store.append(&[])
+}
+
+// The item at a location. There is none outside of the bounds.
+fn read(store: &mut Files<'_>, at: u64) -> Result<Option<Vec<u8>>, StoreError> {
+    let (start, end) = store.bounds();
+    if at < start || end <= at {
+        return Ok(None);
+    }
+    Ok(Some(store.read(at)?))
+}
+
+// Whether the item at a location is this one.
+fn has(store: &mut Files<'_>, at: u64, item: &[u8]) -> bool {
+    matches!(read(store, at), Ok(Some(found)) if found.as_slice() == item)
+}
+
+// Whether the items from location 1 on begin with the last two of the three.
+fn has_rest(store: &mut Files<'_>) -> bool {
+    has(store, 1, b"") && has(store, 2, b"three")
+}
+
+fn has_head(store: &mut Files<'_>, head: &[u8]) -> bool {
+    matches!(store.head(), Ok(found) if found.as_slice() == head)
+}
+
+// Takes the items from a location on away, where it is within the bounds.
+fn rewind(store: &mut Files<'_>, to: u64) -> Result<(), StoreError> {
+    let (start, end) = store.bounds();
+    if to < start || end < to {
+        return Ok(());
+    }
+    store.rewind(to)
+}
+
+// Takes the items before a location away, where it is within the bounds.
+fn prune(store: &mut Files<'_>, to: u64, head: &[u8]) -> Result<(), StoreError> {
+    let (start, end) = store.bounds();
+    if to < start || end < to {
+        return Ok(());
+    }
+    store.prune(to, head)
+}
+
+// An entry whose key has one byte nine times.
+fn entry(alloc: Global, byte: u8, value: &[u8]) -> Result<MetaEntry, AllocError> {
+    Ok(MetaEntry {
+        key: [byte; 9],
+        value: value.to_vec(alloc)?,
+    })
+}
+
+fn is_entry(entry: &MetaEntry, byte: u8, value: &[u8]) -> bool {
+    entry.key == [byte; 9] && entry.value.as_slice() == value
+}
+
+fn has_entries(store: &mut Files<'_>) -> bool {
+    match store.meta("grafted") {
+        Ok(found) => match found.as_slice() {
+            [first, second] => is_entry(first, 1, b"x") && is_entry(second, 2, b""),
+            _ => false,
+        },
+        Err(_) => false,
+    }
+}
+
+fn has_no_entry(store: &mut Files<'_>, name: &str) -> bool {
+    matches!(store.meta(name), Ok(found) if found.is_empty())
+}
+
+// Puts bytes behind those of a file.
+fn add_to_file(rt: &HostRuntime, path: &str, bytes: &[u8]) -> io::Result<()> {
+    let mut how = OpenOptions::new();
+    how.append(true);
+    let mut file = how.open(rt, path)?;
+    file.write_all(bytes)
+}
+
+// Cuts a file.
+fn cut_file(rt: &HostRuntime, path: &str, size: u64) -> io::Result<()> {
+    let mut how = OpenOptions::new();
+    how.write(true);
+    let file = how.open(rt, path)?;
+    file.set_len(size)
+}
+
+// Whether a file has these bytes.
+fn file_has(rt: &HostRuntime, path: &str, bytes: &[u8]) -> bool {
+    matches!(fs::read(rt, path), Ok(found) if found.as_slice() == bytes)
+}
+
+fn is_fault<T: Drop>(answer: Result<T, StoreError>) -> bool {
+    matches!(answer, Err(StoreError::Failed))
+}
+
+// Three items, by way of a fourth that is taken away.
+fn writes_three(store: &mut Files<'_>, alloc: Global) -> bool {
+    append(store, alloc, b"one").is_ok()
+        && append(store, alloc, b"wrong").is_ok()
+        && rewind(store, 1).is_ok()
+        && append(store, alloc, b"").is_ok()
+        && append(store, alloc, b"three").is_ok()
+        && store.commit().is_ok()
+}
+
+// A missing folder is an empty store. What is put there has its format.
+fn writes_items(rt: &HostRuntime) -> Result<bool, AllocError> {
+    let mut store = open(rt)?;
+    Ok(
+        store.bounds() == (0, 0)
+            && has_head(&mut store, b"")
+            && writes_three(&mut store, rt.alloc())
+            && file_has(rt, LOG, THREE),
+    )
+}
+
+// The next store has it.
+fn reads_items(rt: &HostRuntime) -> Result<bool, AllocError> {
+    let mut store = open(rt)?;
+    Ok(store.bounds() == (0, 3) && has(&mut store, 0, b"one") && has_rest(&mut store))
+}
+
+// What stands before a location goes, with a new head, in this store and in the next.
+fn prunes(rt: &HostRuntime) -> Result<bool, AllocError> {
+    let mut store = open(rt)?;
+    Ok(prune(&mut store, 1, b"ab").is_ok() && file_has(rt, LOG, PRUNED) && has_rest(&mut store))
+}
+
+fn reads_pruned(rt: &HostRuntime) -> Result<bool, AllocError> {
+    let mut store = open(rt)?;
+    Ok(store.bounds() == (1, 3) && has_head(&mut store, b"ab") && has_rest(&mut store))
+}
+
+// The old entries of a name, and those in their place.
+fn old_entries(alloc: Global) -> Result<Vec<MetaEntry>, AllocError> {
+    Ok(vec![in alloc; entry(alloc, 9, b"old")?]?)
+}
+
+fn new_entries(alloc: Global) -> Result<Vec<MetaEntry>, AllocError> {
+    Ok(vec![in alloc; entry(alloc, 1, b"x")?, entry(alloc, 2, b"")?]?)
+}
+
+// Metadata has its format, and is replaced whole.
+fn writes_metadata(store: &mut Files<'_>, alloc: Global) -> Result<bool, AllocError> {
+    let old = old_entries(alloc)?;
+    let new = new_entries(alloc)?;
+    Ok(store.put_meta("grafted", &old).is_ok() && store.put_meta("grafted", &new).is_ok())
+}
+
+// A tail that is no whole entry is dropped, and another name has none.
+fn keeps_metadata(rt: &HostRuntime) -> Result<bool, AllocError> {
+    let mut store = open(rt)?;
+    Ok(
+        writes_metadata(&mut store, rt.alloc())?
+            && file_has(rt, META, ENTRIES)
+            && add_to_file(rt, META, b"\x03\x03\x03\x03\x03\x03\x03\x03\x03\0\0\0\x02y").is_ok()
+            && has_entries(&mut store)
+            && has_no_entry(&mut store, "other"),
+    )
+}
+
+// A tail that is no whole item is dropped, and the next item takes its place.
+fn drops_a_tail(rt: &HostRuntime) -> Result<bool, AllocError> {
+    let is_torn = add_to_file(rt, LOG, b"\0\0\0\x09torn").is_ok();
+    let mut store = open(rt)?;
+    Ok(
+        is_torn
+            && store.bounds() == (1, 3)
+            && append(&mut store, rt.alloc(), b"four").is_ok()
+            && store.sync().is_ok()
+            && file_has(rt, LOG, LONGER)
+            && has(&mut store, 3, b"four"),
+    )
+}
+
+// A file that is cut fails a read past its end, and after a restart its end is that of the items that are left.
+fn sees_a_cut(rt: &HostRuntime) -> Result<bool, AllocError> {
+    let mut store = open(rt)?;
+    Ok(
+        cut_file(rt, LOG, 30).is_ok()
+            && is_fault(read(&mut store, 3))
+            && has_rest(&mut store)
+            && store.bounds() == (1, 4)
+            && store.restart(4).is_ok()
+            && has_rest(&mut store)
+            && store.bounds() == (1, 3)
+            && store.faults() == 1,
+    )
+}
+
+// A log that has others' bytes when it is read again breaks the store.
+fn sees_another(rt: &HostRuntime, log: &[u8]) -> Result<bool, AllocError> {
+    let is_first = fs::write(rt, LOG, PRUNED).is_ok();
+    let mut store = open(rt)?;
+    Ok(
+        is_first
+            && fs::write(rt, LOG, log).is_ok()
+            && is_fault(store.restart(3))
+            && is_fault(store.head())
+            && store.faults() == 2
+            && store.bounds() == (1, 1),
+    )
+}
+
+// Whether each call fails that reads or settles.
+fn reads_fail(store: &mut Files<'_>) -> bool {
+    is_fault(store.head())
+        && is_fault(store.meta("grafted"))
+        && is_fault(store.commit())
+        && is_fault(store.sync())
+        && is_fault(store.restart(0))
+}
+
+// Whether each call fails that writes.
+fn writes_fail(store: &mut Files<'_>) -> bool {
+    is_fault(append_none(store))
+        && is_fault(rewind(store, 0))
+        && is_fault(prune(store, 0, &[]))
+        && is_fault(store.put_meta("grafted", &[]))
+        && is_fault(store.destroy())
+}
+
+// Nothing is left in the folder.
+fn destroys(rt: &HostRuntime) -> Result<bool, AllocError> {
+    let mut store = open(rt)?;
+    Ok(
+        store.destroy().is_ok()
+            && store.bounds() == (0, 0)
+            && has_no_entry(&mut store, "grafted")
+            && fs::remove_dir(rt, FOLDER).is_ok(),
+    )
+}
+
+// Where no folder can be, each call fails and is counted.
+fn fails_without_a_folder(rt: &HostRuntime) -> Result<bool, AllocError> {
+    let is_file = fs::write(rt, FOLDER, b"no folder".as_slice()).is_ok();
+    let mut store = open(rt)?;
+    Ok(
+        is_file
+            && store.bounds() == (0, 0)
+            && reads_fail(&mut store)
+            && writes_fail(&mut store)
+            && store.faults() == 10
+            && fs::remove_file(rt, FOLDER).is_ok(),
+    )
+}
+
+#[test]
+fn a_folder_keeps_a_store(rt: HostRuntime) -> Result<(), Fail> {
+    let _ = fs::remove_dir_all(&rt, FOLDER);
+    let _ = fs::remove_file(&rt, FOLDER);
+    assert!(rt; writes_items(&rt)? && reads_items(&rt)?);
+    assert!(rt; prunes(&rt)? && reads_pruned(&rt)?);
+    assert!(rt; keeps_metadata(&rt)?);
+    assert!(rt; drops_a_tail(&rt)?);
+    assert!(rt; sees_a_cut(&rt)?);
+    assert!(rt; sees_another(&rt, THREE)? && sees_another(&rt, LONGER)?);
+    assert!(rt; destroys(&rt)?);
+    assert!(rt; fails_without_a_folder(&rt)?);
+    Ok(())
+}

@@ -1,0 +1,149 @@
+// The folder of a store: its files by their names.
+
+ghost use Rattle.std.specs.Prelude.{◌≡◌};
+
+use crate::StoreError;
+use std::alloc::{AllocError, Global};
+use std::fs::{DirEntry, OpenFile, OpenOptions};
+use std::io::ErrorKind;
+use std::path::{Path, PathBuf};
+use std::rt::Files;
+use std::{fs, io};
+
+// The name of the file that has the items.
+pub(super) const LOG: &str = "log";
+
+// What the names of files of metadata begin with.
+const META: &str = "meta-";
+
+// What the name of a new file ends with, until it takes the place of the old one.
+const NEW: &str = ".new";
+
+// What a call of the system gave, or none where a name is missing.
+fn found<T>(answer: io::Result<T>) -> Result<Option<T>, StoreError> {
+    match answer {
+        Ok(value) => Ok(Some(value)),
+        Err(error) if error.kind() == ErrorKind::NotFound => Ok(None),
+        Err(error) => Err(error.into()),
+    }
+}
+
+// Whether a file of this name is a store's, and not its log.
+fn is_other(name: &str) -> bool {
+    name.starts_with(META) || name.strip_suffix(NEW) == Some(LOG)
+}
+
+// A folder that may not be there yet.
+#[derive(Drop)]
+pub(super) struct Folder<R> {
+    rt: R,
+    alloc: Global,
+    path: String,
+}
+
+impl<R: Files + Clone + Drop> Folder<R> {
+    pub(super) fn new(rt: R, alloc: Global, path: &str) -> Result<Folder<R>, AllocError> {
+        let path = String::from_str(alloc, path)?;
+        Ok(Folder { rt, alloc, path })
+    }
+
+    // What allocates.
+    pub(super) fn alloc(&self) -> Global {
+        self.alloc
+    }
+
+    // The name of the file that has the metadata of a name. A name with a slash names no file of the folder, and one that
+    // ends as a new file's does is that of a file which is not finished: both are faults.
+    pub(super) fn meta_name(&self, name: &str) -> Result<String, StoreError> {
+        if name.contains('/') || name.ends_with(NEW) {
+            return Err(StoreError::Failed);
+        }
+        let mut file = String::from_str(self.alloc, META)?;
+        file.push_str(name)?;
+        Ok(file)
+    }
+
+    // Where a file of this name lies.
+    fn path_of(&self, name: &str) -> Result<PathBuf, AllocError> {
+        Path::new(&self.path).join(self.alloc, name)
+    }
+
+    // Where a new file lies that is to take the place of the one with this name.
+    fn path_of_new(&self, name: &str) -> Result<PathBuf, AllocError> {
+        let mut new = String::from_str(self.alloc, name)?;
+        new.push_str(NEW)?;
+        self.path_of(&new)
+    }
+
+    // Opens a file, if there is one of this name.
+    pub(super) fn open(
+        &self,
+        how: &OpenOptions,
+        name: &str,
+    ) -> Result<Option<R::File>, StoreError> {
+        let path = self.path_of(name)?;
+        found(how.open(&self.rt, path.as_path()))
+    }
+
+    // Makes an empty file that is to take the place of the one with this name, and the folder where it is missing.
+    pub(super) fn create(&self, name: &str) -> Result<R::File, StoreError> {
+        fs::create_dir_all(&self.rt, &self.path)?;
+        let path = self.path_of_new(name)?;
+        let mut how = OpenOptions::new();
+        how.read(true).write(true).create(true).truncate(true);
+        Ok(how.open(&self.rt, path.as_path())?)
+    }
+
+    // Puts the new file in the place of the one with this name.
+    pub(super) fn put(&self, name: &str) -> Result<(), StoreError> {
+        let new = self.path_of_new(name)?;
+        let old = self.path_of(name)?;
+        fs::rename(&self.rt, new.as_path(), old.as_path())?;
+        Ok(())
+    }
+
+    // Removes a file, if there is one of this name.
+    pub(super) fn remove(&self, name: &str) -> Result<(), StoreError> {
+        let path = self.path_of(name)?;
+        found(fs::remove_file(&self.rt, path.as_path()))?;
+        Ok(())
+    }
+
+    // Removes the files of metadata, and new files that took no place. Files that are no store's stay.
+    pub(super) fn remove_others(&self) -> Result<(), StoreError> {
+        let rt = (&self.rt, self.alloc);
+        let Some(entries) = found(fs::read_dir(&rt, &self.path))? else {
+            return Ok(());
+        };
+        for entry in entries {
+            self.remove_other(entry)?;
+        }
+        Ok(())
+    }
+
+    // Removes a file where it is one of those. A name that is no text is none of them.
+    fn remove_other<'a>(
+        &self,
+        entry: io::Result<DirEntry<(&'a R, Global)>>,
+    ) -> Result<(), StoreError> {
+        match entry {
+            Ok(entry) if is_other(entry.file_name()) => Ok(fs::remove_file(
+                &self.rt,
+                entry.path(),
+            )?),
+            Ok(_) => Ok(()),
+            Err(error) if error.kind() == ErrorKind::InvalidFilename => Ok(()),
+            Err(error) => Err(error.into()),
+        }
+    }
+
+    // Makes the folder's names outlive a crash.
+    pub(super) fn sync(&self) -> Result<(), StoreError> {
+        let folder = fs::open(
+            &self.rt,
+            Path::new(&self.path).join(self.alloc, ".")?.as_path(),
+        )?;
+        folder.sync_all()?;
+        Ok(())
+    }
+}
