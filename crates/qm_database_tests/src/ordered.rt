@@ -46,7 +46,7 @@ fn update(
 
 // A store of a commit, and updates of two keys.
 fn store(alloc: Global) -> Result<MemStore, StoreError>
-    ensures { IfOk result (λ s. (s.start ≡ 0) × (length s.items ≡ 3)) }
+    ensures { IfOk result (λ s. (s.held.start ≡ 0) × (length s.held.items ≡ 3)) }
 {
     let commit: Operation<Family, Pair> = Operation::CommitFloor(None, Location::new(0));
     let items = vec![in alloc;
