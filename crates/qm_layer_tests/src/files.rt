@@ -3,7 +3,7 @@
 use qm_store::{FileStore, MetaEntry, Store, StoreError};
 use std::alloc::{AllocError, Global};
 use std::fs;
-use std::fs::{OpenFile, OpenOptions};
+use std::fs::OpenOptions;
 use std::io::{self, Write};
 use std::test::Fail;
 

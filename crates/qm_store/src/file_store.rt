@@ -39,10 +39,10 @@
 //!
 //! One store at a time has a folder: nothing is locked. What files really hold is outside of what is proved.
 
-ghost use Rattle.std.specs.Prelude.{◌≡◌, ◌+◌, ◌^◌, ◌≤◌, ◌<◌, ℕ, length, None, IfOk, OnOk, OnErr, IsErrOf};
+ghost use Rattle.std.specs.Prelude.{◌≡◌, ◌+◌, ◌^◌, ◌≤◌, ◌<◌, length, None, IfOk, OnOk, IsErrOf};
 ghost use Rattle.std.proofs.Math.Nat.{le-add_right};
 ghost use Rattle.qm_model.specs.Causes.{IsCause};
-ghost use Rattle.qm_store.specs.Files.{Counted, end_of};
+ghost use Rattle.qm_store.specs.Files.{end_of};
 
 use crate::{MetaEntry, Store, StoreError};
 use folder::{Folder, LOG};

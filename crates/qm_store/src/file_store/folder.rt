@@ -1,7 +1,5 @@
 // The folder of a store: its files by their names.
 
-ghost use Rattle.std.specs.Prelude.{◌≡◌};
-
 use crate::StoreError;
 use std::alloc::{AllocError, Global};
 use std::fs::{DirEntry, OpenFile, OpenOptions};

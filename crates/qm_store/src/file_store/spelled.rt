@@ -1,12 +1,11 @@
 // How the files of a store spell what is in them: numbers with the highest byte first, and strings of bytes behind their
 // lengths.
 
-ghost use Rattle.std.specs.Prelude.{◌≡◌, ◌<◌, ◌≤◌, IfOk, IfSome};
+ghost use Rattle.std.specs.Prelude.{◌<◌, IfOk, IfSome};
 
 use crate::{MetaEntry, StoreError};
 use std::alloc::Global;
-use std::io::{ErrorKind, Read};
-use std::{fs, io};
+use std::io::{self, ErrorKind, Read};
 
 // The bytes of a length.
 pub(super) const LENGTH_SIZE: u64 = 4;
