@@ -1,6 +1,7 @@
 //! That a store over files has in its folder what its format says, reads it again, and fails where the files do.
 
-use qm_store::{FileStore, MetaEntry, Store, StoreError};
+use qm_files::FileStore;
+use qm_store::{MetaEntry, Store, StoreError};
 use std::alloc::{AllocError, Global};
 use std::fs;
 use std::fs::OpenOptions;

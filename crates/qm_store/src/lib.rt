@@ -7,7 +7,6 @@ ghost use Rattle.qm_model.specs.Causes.{IsCause};
 ghost use Rattle.qm_model.specs.StoreModel.{Stored, end_of, metadata_in, appended, settled, rewound, pruned, with_metadata, destroyed, IsImage, IsOldOrNew, RewindLeaves, DestroyLeaves, HasRestarted, ReadsAs, HasAppended, Turns, Becomes};
 
 mod change;
-mod file_store;
 mod items;
 mod kept_tree;
 mod log;
@@ -15,12 +14,12 @@ mod mem_store;
 mod metadata;
 mod refusal;
 
-pub use file_store::FileStore;
 pub use kept_tree::KeptTree;
 pub use log::{AuthLog, LogGiven, LogRefusal};
 pub use mem_store::MemStore;
 pub use refusal::{Given, Refusal};
 use std::alloc::{AllocError, AllocFailed};
+use std::io::{self, ErrorKind};
 use std::marker::Model;
 use thiserror::Error;
 
@@ -52,6 +51,23 @@ impl<T: Drop> From<AllocFailed<T>> for StoreError {
 
     fn from(_: AllocFailed<T>) -> Self {
         StoreError::Memory
+    }
+}
+
+// A refusal of memory is want of memory, and whatever else the system refuses is a fault.
+impl From<io::Error> for StoreError {
+    ghost use Rattle.std.specs.Prelude.{◌≡◌, ◌↔◌};
+    ghost use Rattle.std.specs.IoError.{error_kind};
+    ghost use Rattle.std.specs.declared.io.ErrorKind.TheVariants.{OutOfMemory};
+    ghost use Rattle.qm_store.specs.declared.StoreError.TheVariants.{Memory};
+
+    ghost from_gives = { λ e s. (s ≡ Memory) ↔ (error_kind e ≡ OutOfMemory) };
+
+    fn from(error: io::Error) -> Self {
+        match error.kind() {
+            ErrorKind::OutOfMemory => StoreError::Memory,
+            _ => StoreError::Failed,
+        }
     }
 }
 

@@ -1,10 +1,10 @@
 // The file that has a store's items: where each stands in it.
 
 ghost use Rattle.std.specs.Prelude.{◌≡◌, ◌+◌, ◌^◌, ◌<◌, ◌≤◌, IsTrue, length, IfOk, IfSome, OnOk, OnErr};
-ghost use Rattle.qm_store.specs.Files.{end_of};
+ghost use Rattle.qm_files.specs.Files.{end_of};
 
-use super::spelled::{LENGTH_SIZE, read_bytes, read_length, read_location, spelled_items};
-use crate::StoreError;
+use crate::spelled::{LENGTH_SIZE, read_bytes, read_length, read_location, spelled_items};
+use qm_store::StoreError;
 use std::alloc::Global;
 use std::fs::OpenFile;
 use std::io::{self, BufReader, Read, Seek, SeekFrom, Write};
@@ -21,7 +21,7 @@ const LAST: u64 = 1 << 62;
 
 // A log's file, if there is one, and where its items stand.
 #[derive(Drop)]
-pub(super) struct LogFile<F> {
+pub(crate) struct LogFile<F> {
     file: Option<F>,
     start: u64,
     // where the first item begins
@@ -34,7 +34,7 @@ pub(super) struct LogFile<F> {
 
 impl<F> Model for LogFile<F> {
     ghost use Rattle.std.specs.Prelude.{◌+◌, ◌^◌, ◌≤◌, length};
-    ghost use Rattle.qm_store.specs.Files.{Extent};
+    ghost use Rattle.qm_files.specs.Files.{Extent};
 
     ghost Value = { Extent };
 
@@ -45,7 +45,7 @@ impl<F> Model for LogFile<F> {
 
 impl<F> LogFile<F> {
     // No file, and no item.
-    pub(super) fn none(alloc: Global, start: u64) -> LogFile<F>
+    pub(crate) fn none(alloc: Global, start: u64) -> LogFile<F>
         requires { start ≤ 2 ^ 62 }
         ensures { result ≡ record { start = start; count = 0 } }
     {
@@ -59,12 +59,12 @@ impl<F> LogFile<F> {
     }
 
     // Whether there is a file.
-    pub(super) fn has_file(&self) -> bool {
+    pub(crate) fn has_file(&self) -> bool {
         self.file.is_some()
     }
 
     // The location of the first item.
-    pub(super) fn start(&self) -> u64
+    pub(crate) fn start(&self) -> u64
         ensures value { result ≡ self.now.start }
         ensures limit { result + self.now.count ≤ 2 ^ 62 }
     {
@@ -72,14 +72,14 @@ impl<F> LogFile<F> {
     }
 
     // How many items there are.
-    pub(super) fn len(&self) -> usize
+    pub(crate) fn len(&self) -> usize
         ensures { result ≡ self.now.count }
     {
         self.ends.len()
     }
 
     // The location after the last item.
-    pub(super) fn end(&self) -> u64
+    pub(crate) fn end(&self) -> u64
         ensures value { result ≡ end_of self.now }
         ensures limit { result ≤ 2 ^ 62 }
     {
@@ -99,7 +99,7 @@ impl<F> LogFile<F> {
 
 impl<F: Read + Write + Seek + OpenFile + Drop> LogFile<F> {
     // The log in a file. The file is read once, through a buffer of fixed size, and each item takes 8 bytes of memory.
-    pub(super) fn of(alloc: Global, file: F) -> Result<LogFile<F>, StoreError> {
+    pub(crate) fn of(alloc: Global, file: F) -> Result<LogFile<F>, StoreError> {
         let size = file.metadata()?.len();
         let mut reader = BufReader::with_capacity(alloc, BUFFER, file)?;
         reader.rewind()?;
@@ -120,7 +120,7 @@ impl<F: Read + Write + Seek + OpenFile + Drop> LogFile<F> {
     }
 
     // The head, which is empty where there is no file.
-    pub(super) fn head(&mut self, alloc: Global) -> Result<Vec<u8>, StoreError>
+    pub(crate) fn head(&mut self, alloc: Global) -> Result<Vec<u8>, StoreError>
         ensures { self.new ≡ self.old }
     {
         if self.file.is_none() {
@@ -132,7 +132,7 @@ impl<F: Read + Write + Seek + OpenFile + Drop> LogFile<F> {
     }
 
     // The item of this number.
-    pub(super) fn item(&mut self, alloc: Global, index: usize) -> Result<Vec<u8>, StoreError>
+    pub(crate) fn item(&mut self, alloc: Global, index: usize) -> Result<Vec<u8>, StoreError>
         requires { index < self.old.count }
         ensures { self.new ≡ self.old }
     {
@@ -143,7 +143,7 @@ impl<F: Read + Write + Seek + OpenFile + Drop> LogFile<F> {
     }
 
     // Writes these behind the last item, by one write. Where that fails, those count that were written whole.
-    pub(super) fn append(&mut self, alloc: Global, added: &[Vec<u8>]) -> Result<(), StoreError>
+    pub(crate) fn append(&mut self, alloc: Global, added: &[Vec<u8>]) -> Result<(), StoreError>
         requires room { end_of self.old + length added.now ≤ 2 ^ 62 }
         ensures ok { OnOk result (self.new.count ≡ self.old.count + length added.now) }
         ensures start { self.new.start ≡ self.old.start }
@@ -202,7 +202,7 @@ impl<F: Read + Write + Seek + OpenFile + Drop> LogFile<F> {
     }
 
     // Takes the items from this number on away, and whatever else the file has behind them.
-    pub(super) fn cut(&mut self, count: usize) -> Result<(), StoreError>
+    pub(crate) fn cut(&mut self, count: usize) -> Result<(), StoreError>
         requires { count ≤ self.old.count }
         ensures ok { OnOk result (self.new ≡ record self.old { count = count }) }
         ensures err { OnErr result (self.new ≡ self.old) }
@@ -217,7 +217,7 @@ impl<F: Read + Write + Seek + OpenFile + Drop> LogFile<F> {
     }
 
     // Makes what was written outlive a crash.
-    pub(super) fn sync(&self) -> Result<(), StoreError> {
+    pub(crate) fn sync(&self) -> Result<(), StoreError> {
         if let Some(file) = &self.file {
             file.sync_all()?;
         }
@@ -225,7 +225,7 @@ impl<F: Read + Write + Seek + OpenFile + Drop> LogFile<F> {
     }
 
     // Copies the items from this number on into another file, through a buffer of fixed size.
-    pub(super) fn copy_items(&mut self, index: usize, into: &mut F) -> Result<(), StoreError>
+    pub(crate) fn copy_items(&mut self, index: usize, into: &mut F) -> Result<(), StoreError>
         requires { index ≤ self.old.count }
         ensures { self.new ≡ self.old }
     {

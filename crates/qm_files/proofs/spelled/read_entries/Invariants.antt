@@ -1,4 +1,4 @@
-use Rattle.qm_store.proofs.file_store.spelled.read_entries.Given as goal
+use Rattle.qm_files.proofs.spelled.read_entries.Given as goal
 
 abbrev pub decreases-loop-entries : goal.decreases-loop-entries
 decreases-loop-entries g l = l.left

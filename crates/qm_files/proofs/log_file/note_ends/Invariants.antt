@@ -1,5 +1,5 @@
 use Rattle.std.proofs.Common.{◌≡◌, ◌+◌, length}
-use Rattle.qm_store.proofs.file_store.log_file.note_ends.Given as goal
+use Rattle.qm_files.proofs.log_file.note_ends.Given as goal
 
 abbrev pub invariant-loop-item : goal.invariant-loop-item
 invariant-loop-item l = length l.ends.items ≡ length l.initial.ends.items + l.item-index

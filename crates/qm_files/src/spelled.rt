@@ -3,35 +3,18 @@
 
 ghost use Rattle.std.specs.Prelude.{◌<◌, IfOk, IfSome};
 
-use crate::{MetaEntry, StoreError};
+use qm_store::{MetaEntry, StoreError};
 use std::alloc::Global;
 use std::io::{self, ErrorKind, Read};
 
 // The bytes of a length.
-pub(super) const LENGTH_SIZE: u64 = 4;
+pub(crate) const LENGTH_SIZE: u64 = 4;
 
 // The bytes of an entry's key and of the length of its value.
 const ENTRY_SIZE: u64 = 9 + LENGTH_SIZE;
 
-// A refusal of memory is want of memory, and whatever else the system refuses is a fault.
-impl From<io::Error> for StoreError {
-    ghost use Rattle.std.specs.Prelude.{◌≡◌, ◌↔◌};
-    ghost use Rattle.std.specs.IoError.{error_kind};
-    ghost use Rattle.std.specs.declared.io.ErrorKind.TheVariants.{OutOfMemory};
-    ghost use Rattle.qm_store.specs.declared.StoreError.TheVariants.{Memory};
-
-    ghost from_gives = { λ e s. (s ≡ Memory) ↔ (error_kind e ≡ OutOfMemory) };
-
-    fn from(error: io::Error) -> Self {
-        match error.kind() {
-            ErrorKind::OutOfMemory => StoreError::Memory,
-            _ => StoreError::Failed,
-        }
-    }
-}
-
 // A length as it is spelled. One that has no spelling is a fault.
-pub(super) fn spelled_length(bytes: &[u8]) -> Result<[u8; 4], StoreError> {
+pub(crate) fn spelled_length(bytes: &[u8]) -> Result<[u8; 4], StoreError> {
     match u32::try_from(bytes.len()) {
         Ok(length) => Ok(length.to_be_bytes()),
         Err(_) => Err(StoreError::Failed),
@@ -39,7 +22,7 @@ pub(super) fn spelled_length(bytes: &[u8]) -> Result<[u8; 4], StoreError> {
 }
 
 // Puts a string of bytes behind its length.
-pub(super) fn put_field(spelled: &mut Vec<u8>, field: &[u8]) -> Result<(), StoreError> {
+pub(crate) fn put_field(spelled: &mut Vec<u8>, field: &[u8]) -> Result<(), StoreError> {
     let length = spelled_length(field)?;
     spelled.extend_from_slice(&length)?;
     spelled.extend_from_slice(field)?;
@@ -47,7 +30,7 @@ pub(super) fn put_field(spelled: &mut Vec<u8>, field: &[u8]) -> Result<(), Store
 }
 
 // These items as a log has them.
-pub(super) fn spelled_items(alloc: Global, items: &[Vec<u8>]) -> Result<Vec<u8>, StoreError> {
+pub(crate) fn spelled_items(alloc: Global, items: &[Vec<u8>]) -> Result<Vec<u8>, StoreError> {
     let mut spelled = Vec::new(alloc);
     for item in items {
         put_field(&mut spelled, item)?;
@@ -56,7 +39,7 @@ pub(super) fn spelled_items(alloc: Global, items: &[Vec<u8>]) -> Result<Vec<u8>,
 }
 
 // What stands in a log before its items.
-pub(super) fn spelled_head(alloc: Global, start: u64, head: &[u8]) -> Result<Vec<u8>, StoreError> {
+pub(crate) fn spelled_head(alloc: Global, start: u64, head: &[u8]) -> Result<Vec<u8>, StoreError> {
     let mut spelled = Vec::new(alloc);
     spelled.extend_from_slice(&start.to_be_bytes())?;
     put_field(&mut spelled, head)?;
@@ -64,7 +47,7 @@ pub(super) fn spelled_head(alloc: Global, start: u64, head: &[u8]) -> Result<Vec
 }
 
 // These entries as a file of metadata has them.
-pub(super) fn spelled_entries(alloc: Global, entries: &[MetaEntry]) -> Result<Vec<u8>, StoreError> {
+pub(crate) fn spelled_entries(alloc: Global, entries: &[MetaEntry]) -> Result<Vec<u8>, StoreError> {
     let mut spelled = Vec::new(alloc);
     for entry in entries {
         spelled.extend_from_slice(&entry.key)?;
@@ -74,21 +57,21 @@ pub(super) fn spelled_entries(alloc: Global, entries: &[MetaEntry]) -> Result<Ve
 }
 
 // The location that a log begins with.
-pub(super) fn read_location(from: &mut impl Read) -> Result<u64, StoreError> {
+pub(crate) fn read_location(from: &mut impl Read) -> Result<u64, StoreError> {
     let mut bytes = [0; 8];
     from.read_exact(&mut bytes)?;
     Ok(u64::from_be_bytes(bytes))
 }
 
 // A length.
-pub(super) fn read_length(from: &mut impl Read) -> Result<u32, StoreError> {
+pub(crate) fn read_length(from: &mut impl Read) -> Result<u32, StoreError> {
     let mut bytes = [0; 4];
     from.read_exact(&mut bytes)?;
     Ok(u32::from_be_bytes(bytes))
 }
 
 // So many bytes.
-pub(super) fn read_bytes(
+pub(crate) fn read_bytes(
     alloc: Global,
     from: &mut impl Read,
     count: u64,
@@ -99,7 +82,7 @@ pub(super) fn read_bytes(
 }
 
 // The entries in a file of metadata that has so many bytes. A tail that is no whole entry is dropped.
-pub(super) fn read_entries(
+pub(crate) fn read_entries(
     alloc: Global,
     from: &mut impl Read,
     size: u64,

@@ -38,13 +38,14 @@
 //! item for a store that opens the log before that.
 //!
 //! One store at a time has a folder: nothing is locked. What files really hold is outside of what is proved.
+#![tactic(auto)]
 
 ghost use Rattle.std.specs.Prelude.{◌≡◌, ◌+◌, ◌^◌, ◌≤◌, ◌<◌, length, None, IfOk, OnOk, IsErrOf};
 ghost use Rattle.std.proofs.Math.Nat.{le-add_right};
 ghost use Rattle.qm_model.specs.Causes.{IsCause};
-ghost use Rattle.qm_store.specs.Files.{end_of};
+ghost use Rattle.qm_files.specs.Files.{end_of};
 
-use crate::{MetaEntry, Store, StoreError};
+use qm_store::{MetaEntry, Store, StoreError};
 use folder::{Folder, LOG};
 use log_file::LogFile;
 use spelled::{read_entries, spelled_entries, spelled_head};
@@ -79,7 +80,7 @@ pub struct FileStore<R: Files> {
 }
 
 impl<R: Files> Model for FileStore<R> {
-    ghost use Rattle.qm_store.specs.Files.{Counted};
+    ghost use Rattle.qm_files.specs.Files.{Counted};
 
     ghost Value = { Counted };
 

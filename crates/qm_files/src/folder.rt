@@ -1,6 +1,6 @@
 // The folder of a store: its files by their names.
 
-use crate::StoreError;
+use qm_store::StoreError;
 use std::alloc::{AllocError, Global};
 use std::fs::{DirEntry, OpenFile, OpenOptions};
 use std::io::ErrorKind;
@@ -9,7 +9,7 @@ use std::rt::Files;
 use std::{fs, io};
 
 // The name of the file that has the items.
-pub(super) const LOG: &str = "log";
+pub(crate) const LOG: &str = "log";
 
 // What the names of files of metadata begin with.
 const META: &str = "meta-";
@@ -33,26 +33,26 @@ fn is_other(name: &str) -> bool {
 
 // A folder that may not be there yet.
 #[derive(Drop)]
-pub(super) struct Folder<R> {
+pub(crate) struct Folder<R> {
     rt: R,
     alloc: Global,
     path: String,
 }
 
 impl<R: Files + Clone + Drop> Folder<R> {
-    pub(super) fn new(rt: R, alloc: Global, path: &str) -> Result<Folder<R>, AllocError> {
+    pub(crate) fn new(rt: R, alloc: Global, path: &str) -> Result<Folder<R>, AllocError> {
         let path = String::from_str(alloc, path)?;
         Ok(Folder { rt, alloc, path })
     }
 
     // What allocates.
-    pub(super) fn alloc(&self) -> Global {
+    pub(crate) fn alloc(&self) -> Global {
         self.alloc
     }
 
     // The name of the file that has the metadata of a name. A name with a slash names no file of the folder, and one that
     // ends as a new file's does is that of a file which is not finished: both are faults.
-    pub(super) fn meta_name(&self, name: &str) -> Result<String, StoreError> {
+    pub(crate) fn meta_name(&self, name: &str) -> Result<String, StoreError> {
         if name.contains('/') || name.ends_with(NEW) {
             return Err(StoreError::Failed);
         }
@@ -74,7 +74,7 @@ impl<R: Files + Clone + Drop> Folder<R> {
     }
 
     // Opens a file, if there is one of this name.
-    pub(super) fn open(
+    pub(crate) fn open(
         &self,
         how: &OpenOptions,
         name: &str,
@@ -84,7 +84,7 @@ impl<R: Files + Clone + Drop> Folder<R> {
     }
 
     // Makes an empty file that is to take the place of the one with this name, and the folder where it is missing.
-    pub(super) fn create(&self, name: &str) -> Result<R::File, StoreError> {
+    pub(crate) fn create(&self, name: &str) -> Result<R::File, StoreError> {
         fs::create_dir_all(&self.rt, &self.path)?;
         let path = self.path_of_new(name)?;
         let mut how = OpenOptions::new();
@@ -93,7 +93,7 @@ impl<R: Files + Clone + Drop> Folder<R> {
     }
 
     // Puts the new file in the place of the one with this name.
-    pub(super) fn put(&self, name: &str) -> Result<(), StoreError> {
+    pub(crate) fn put(&self, name: &str) -> Result<(), StoreError> {
         let new = self.path_of_new(name)?;
         let old = self.path_of(name)?;
         fs::rename(&self.rt, new.as_path(), old.as_path())?;
@@ -101,14 +101,14 @@ impl<R: Files + Clone + Drop> Folder<R> {
     }
 
     // Removes a file, if there is one of this name.
-    pub(super) fn remove(&self, name: &str) -> Result<(), StoreError> {
+    pub(crate) fn remove(&self, name: &str) -> Result<(), StoreError> {
         let path = self.path_of(name)?;
         found(fs::remove_file(&self.rt, path.as_path()))?;
         Ok(())
     }
 
     // Removes the files of metadata, and new files that took no place. Files that are no store's stay.
-    pub(super) fn remove_others(&self) -> Result<(), StoreError> {
+    pub(crate) fn remove_others(&self) -> Result<(), StoreError> {
         let rt = (&self.rt, self.alloc);
         let Some(entries) = found(fs::read_dir(&rt, &self.path))? else {
             return Ok(());
@@ -136,7 +136,7 @@ impl<R: Files + Clone + Drop> Folder<R> {
     }
 
     // Makes the folder's names outlive a crash.
-    pub(super) fn sync(&self) -> Result<(), StoreError> {
+    pub(crate) fn sync(&self) -> Result<(), StoreError> {
         let folder = fs::open(
             &self.rt,
             Path::new(&self.path).join(self.alloc, ".")?.as_path(),
