@@ -1,13 +1,13 @@
 //! Replies as text.
 
 ghost use Rattle.std.specs.Prelude.{◌≡◌, ◌++◌, codes, decimal, flat_map, map, IfOk, option_map};
-ghost use Rattle.std.specs.String.{string_bytes};
 ghost use Rattle.hex.specs.Hex.{encode_lower};
 ghost use Rattle.qm_model.specs.Operations.{update};
 ghost use Rattle.qm_model.specs.Refused as refusals;
 ghost use Rattle.qm_base.specs.Views.{corrupt_view};
 ghost use Rattle.qm_machine.specs.Lines as lines;
 ghost use Rattle.qm_machine.specs.Text as texts;
+ghost use Rattle.qm_lines.specs.Written.{Adds};
 ghost use Rattle.qm_lines.specs.Views.{tree_view, log_view, refused_view, listed_view, answer_view};
 
 use crate::reply::{Listed, LogRefused, Refused, Reply, TreeRefused};
@@ -16,8 +16,7 @@ use std::alloc::{AllocError, Global};
 use std::fmt::Write;
 
 fn write_hex(out: &mut String, bytes: &[u8]) -> Result<(), AllocError>
-    ensures { IfOk result (λ _.
-        string_bytes out.new ≡ string_bytes out.old ++ encode_lower bytes.now) }
+    ensures { Adds out.old out.new result (encode_lower bytes.now) }
 {
     let text = hex::encode(*out.allocator(), bytes)?;
     out.push_str(&text)
@@ -25,8 +24,7 @@ fn write_hex(out: &mut String, bytes: &[u8]) -> Result<(), AllocError>
 
 // The empty bytes as a dash.
 fn write_bytes(out: &mut String, bytes: &[u8]) -> Result<(), AllocError>
-    ensures { IfOk result (λ _.
-        string_bytes out.new ≡ string_bytes out.old ++ texts.hex_text bytes.now) }
+    ensures { Adds out.old out.new result (texts.hex_text bytes.now) }
 {
     if bytes.is_empty() {
         return out.push_str("-");
@@ -35,8 +33,7 @@ fn write_bytes(out: &mut String, bytes: &[u8]) -> Result<(), AllocError>
 }
 
 fn write_optional<B: ByteString>(out: &mut String, value: &Option<B>) -> Result<(), AllocError>
-    ensures { IfOk result (λ _.
-        string_bytes out.new ≡ string_bytes out.old ++ texts.optional_text (option_map B.bytes value.now)) }
+    ensures { Adds out.old out.new result (texts.optional_text (option_map B.bytes value.now)) }
 {
     match value {
         None => out.push_str("none"),
@@ -44,21 +41,8 @@ fn write_optional<B: ByteString>(out: &mut String, value: &Option<B>) -> Result<
     }
 }
 
-// The values, each after a space.
-fn write_values<B: ByteString>(out: &mut String, values: &[Option<B>]) -> Result<(), AllocError>
-    ensures { IfOk result (λ _.
-        string_bytes out.new ≡ string_bytes out.old ++ texts.values_text (map (option_map B.bytes) values.now)) }
-{
-    for value in values {
-        out.push_str(" ")?;
-        write_optional(out, value)?;
-    }
-    Ok(())
-}
-
 fn write_next<B: ByteString>(out: &mut String, next: &Option<B>) -> Result<(), AllocError>
-    ensures { IfOk result (λ _.
-        string_bytes out.new ≡ string_bytes out.old ++ texts.next_text (option_map B.bytes next.now)) }
+    ensures { Adds out.old out.new result (texts.next_text (option_map B.bytes next.now)) }
 {
     let Some(key) = next else {
         return Ok(());
@@ -73,8 +57,7 @@ fn write_update<K: Key, V: VariableValue>(
     value: &V,
     next: &Option<K>,
 ) -> Result<(), AllocError>
-    ensures { IfOk result (λ _.
-        string_bytes out.new ≡ string_bytes out.old ++ texts.operation_text (update (K.bytes key.now) (V.bytes value.now) (option_map K.bytes next.now))) }
+    ensures { Adds out.old out.new result (texts.operation_text (update (K.bytes key.now) (V.bytes value.now) (option_map K.bytes next.now))) }
 {
     out.push_str("U:")?;
     write_bytes(out, key.as_bytes())?;
@@ -87,8 +70,7 @@ fn write_operation<K: Key, V: VariableValue>(
     out: &mut String,
     op: &Listed<K, V>,
 ) -> Result<(), AllocError>
-    ensures { IfOk result (λ _.
-        string_bytes out.new ≡ string_bytes out.old ++ texts.operation_text (listed_view K.bytes V.bytes op.now)) }
+    ensures { Adds out.old out.new result (texts.operation_text (listed_view K.bytes V.bytes op.now)) }
 {
     match op {
         Listed::Update(key, value, next) => write_update(out, key, value, next),
@@ -109,8 +91,7 @@ fn write_operations<K: Key, V: VariableValue>(
     out: &mut String,
     ops: &[Listed<K, V>],
 ) -> Result<(), AllocError>
-    ensures { IfOk result (λ _.
-        string_bytes out.new ≡ string_bytes out.old ++ texts.operations_text (map (listed_view K.bytes V.bytes) ops.now)) }
+    ensures { Adds out.old out.new result (texts.operations_text (map (listed_view K.bytes V.bytes) ops.now)) }
 {
     for op in ops {
         out.push_str(" ")?;
@@ -121,8 +102,7 @@ fn write_operations<K: Key, V: VariableValue>(
 
 // The digests, each after a space.
 fn write_digests<D: Digest>(out: &mut String, digests: &[D]) -> Result<(), AllocError>
-    ensures { IfOk result (λ _.
-        string_bytes out.new ≡ string_bytes out.old ++ texts.digests_text (map D.bytes digests.now)) }
+    ensures { Adds out.old out.new result (texts.digests_text (map D.bytes digests.now)) }
 {
     for digest in digests {
         out.push_str(" ")?;
@@ -132,8 +112,7 @@ fn write_digests<D: Digest>(out: &mut String, digests: &[D]) -> Result<(), Alloc
 }
 
 fn write_tree(out: &mut String, refused: TreeRefused) -> Result<(), AllocError>
-    ensures { IfOk result (λ _.
-        string_bytes out.new ≡ string_bytes out.old ++ texts.tree_text (tree_view refused)) }
+    ensures { Adds out.old out.new result (texts.tree_text (tree_view refused)) }
 {
     match refused {
         TreeRefused::RangeOutOfBounds(at) => write!(out, "RangeOutOfBounds {at}"),
@@ -144,8 +123,7 @@ fn write_tree(out: &mut String, refused: TreeRefused) -> Result<(), AllocError>
 }
 
 fn write_log(out: &mut String, refused: LogRefused) -> Result<(), AllocError>
-    ensures { IfOk result (λ _.
-        string_bytes out.new ≡ string_bytes out.old ++ texts.log_text (log_view refused)) }
+    ensures { Adds out.old out.new result (texts.log_text (log_view refused)) }
 {
     match refused {
         LogRefused::ItemPruned(location) => write!(out, "ItemPruned {location}"),
@@ -154,16 +132,14 @@ fn write_log(out: &mut String, refused: LogRefused) -> Result<(), AllocError>
 }
 
 fn write_corrupt(out: &mut String, corrupt: Corrupt) -> Result<(), AllocError>
-    ensures { IfOk result (λ _.
-        string_bytes out.new ≡ string_bytes out.old ++ texts.refused_text (refusals.DataCorrupted (corrupt_view corrupt))) }
+    ensures { Adds out.old out.new result (texts.refused_text (refusals.DataCorrupted (corrupt_view corrupt))) }
 {
     out.push_str("DataCorrupted ")?;
     out.push_str(corrupt.text())
 }
 
 fn write_refused(out: &mut String, refused: Refused) -> Result<(), AllocError>
-    ensures { IfOk result (λ _.
-        string_bytes out.new ≡ string_bytes out.old ++ texts.refused_text (refused_view refused)) }
+    ensures { Adds out.old out.new result (texts.refused_text (refused_view refused)) }
 {
     match refused {
         Refused::NotOffered => out.push_str("NotOffered"),
@@ -186,8 +162,7 @@ fn write_refused(out: &mut String, refused: Refused) -> Result<(), AllocError>
 
 // A name, and the numbers, each after a space.
 fn write_numbers(out: &mut String, name: &str, numbers: &[u64]) -> Result<(), AllocError>
-    ensures { IfOk result (λ _.
-        string_bytes out.new ≡ string_bytes out.old ++ (name.now ++ flat_map (λ n. codes " " ++ decimal n) numbers.now)) }
+    ensures { Adds out.old out.new result (name.now ++ flat_map (λ n. codes " " ++ decimal n) numbers.now) }
 {
     out.push_str(name)?;
     for number in numbers {
@@ -197,16 +172,14 @@ fn write_numbers(out: &mut String, name: &str, numbers: &[u64]) -> Result<(), Al
 }
 
 fn write_info(out: &mut String, numbers: &[u64; 4], is_live: bool) -> Result<(), AllocError>
-    ensures { IfOk result (λ _.
-        string_bytes out.new ≡ string_bytes out.old ++ (codes "info" ++ (flat_map (λ n. codes " " ++ decimal n) numbers.now ++ (codes " " ++ texts.live_text is_live)))) }
+    ensures { Adds out.old out.new result (codes "info" ++ (flat_map (λ n. codes " " ++ decimal n) numbers.now ++ (codes " " ++ texts.live_text is_live))) }
 {
     write_numbers(out, "info", numbers)?;
     out.push_str(if is_live { " live" } else { " empty" })
 }
 
 fn write_roots<D: Digest>(out: &mut String, root: &D, operations: &D) -> Result<(), AllocError>
-    ensures { IfOk result (λ _.
-        string_bytes out.new ≡ string_bytes out.old ++ (codes "root " ++ (encode_lower (D.bytes root.now) ++ (codes " " ++ encode_lower (D.bytes operations.now))))) }
+    ensures { Adds out.old out.new result (codes "root " ++ (encode_lower (D.bytes root.now) ++ (codes " " ++ encode_lower (D.bytes operations.now)))) }
 {
     out.push_str("root ")?;
     write_hex(out, root.bytes())?;
@@ -221,8 +194,7 @@ fn write_proof<D: Digest>(
     inactive: u64,
     digests: &[D],
 ) -> Result<(), AllocError>
-    ensures { IfOk result (λ _.
-        string_bytes out.new ≡ string_bytes out.old ++ (codes "proof " ++ (decimal leaves ++ (codes " " ++ (decimal inactive ++ (texts.digests_text (map D.bytes digests.now) ++ codes " /")))))) }
+    ensures { Adds out.old out.new result (codes "proof " ++ (decimal leaves ++ (codes " " ++ (decimal inactive ++ (texts.digests_text (map D.bytes digests.now) ++ codes " /"))))) }
 {
     write_numbers(out, "proof", &[leaves, inactive])?;
     write_digests(out, digests)?;
@@ -236,8 +208,7 @@ fn write_proved<K: Key, V: VariableValue, D: Digest>(
     digests: &[D],
     ops: &[Listed<K, V>],
 ) -> Result<(), AllocError>
-    ensures { IfOk result (λ _.
-        string_bytes out.new ≡ string_bytes out.old ++ texts.reply_line (lines.Proved (record { leaves = leaves; inactive = inactive; digests = map D.bytes digests.now }) (map (listed_view K.bytes V.bytes) ops.now))) }
+    ensures { Adds out.old out.new result (texts.reply_line (lines.Proved (record { leaves = leaves; inactive = inactive; digests = map D.bytes digests.now }) (map (listed_view K.bytes V.bytes) ops.now))) }
 {
     write_proof(out, leaves, inactive, digests)?;
     write_operations(out, ops)
@@ -250,8 +221,7 @@ fn write_batch_proof<D: Digest>(
     digests: &[D],
     pins: &[D],
 ) -> Result<(), AllocError>
-    ensures { IfOk result (λ _.
-        string_bytes out.new ≡ string_bytes out.old ++ texts.reply_line (lines.BatchProved (record { leaves = leaves; inactive = inactive; digests = map D.bytes digests.now }) (map D.bytes pins.now))) }
+    ensures { Adds out.old out.new result (texts.reply_line (lines.BatchProved (record { leaves = leaves; inactive = inactive; digests = map D.bytes digests.now }) (map D.bytes pins.now))) }
 {
     write_proof(out, leaves, inactive, digests)?;
     write_digests(out, pins)
@@ -262,43 +232,42 @@ fn write_listed<K: Key, V: VariableValue>(
     base: u64,
     ops: &[Listed<K, V>],
 ) -> Result<(), AllocError>
-    ensures { IfOk result (λ _.
-        string_bytes out.new ≡ string_bytes out.old ++ texts.reply_line (lines.Listed base (map (listed_view K.bytes V.bytes) ops.now))) }
+    ensures { Adds out.old out.new result (texts.reply_line (lines.Listed base (map (listed_view K.bytes V.bytes) ops.now))) }
 {
     write_numbers(out, "ops", &[base])?;
     write_operations(out, ops)
 }
 
 fn write_read<V: VariableValue>(out: &mut String, values: &[Option<V>]) -> Result<(), AllocError>
-    ensures { IfOk result (λ _.
-        string_bytes out.new ≡ string_bytes out.old ++ texts.reply_line (lines.Read (map (option_map V.bytes) values.now))) }
+    ensures { Adds out.old out.new result (texts.reply_line (lines.Read (map (option_map V.bytes) values.now))) }
 {
     out.push_str("read")?;
-    write_values(out, values)
+    for value in values {
+        out.push_str(" ")?;
+        write_optional(out, value)?;
+    }
+    Ok(())
 }
 
 fn write_metadata<V: VariableValue>(
     out: &mut String,
     metadata: &Option<V>,
 ) -> Result<(), AllocError>
-    ensures { IfOk result (λ _.
-        string_bytes out.new ≡ string_bytes out.old ++ texts.reply_line (lines.Metadata (option_map V.bytes metadata.now))) }
+    ensures { Adds out.old out.new result (texts.reply_line (lines.Metadata (option_map V.bytes metadata.now))) }
 {
     out.push_str("meta ")?;
     write_optional(out, metadata)
 }
 
 fn write_pins<D: Digest>(out: &mut String, digests: &[D]) -> Result<(), AllocError>
-    ensures { IfOk result (λ _.
-        string_bytes out.new ≡ string_bytes out.old ++ texts.reply_line (lines.Pinned (map D.bytes digests.now))) }
+    ensures { Adds out.old out.new result (texts.reply_line (lines.Pinned (map D.bytes digests.now))) }
 {
     out.push_str("pins")?;
     write_digests(out, digests)
 }
 
 fn write_refusal(out: &mut String, refused: Refused) -> Result<(), AllocError>
-    ensures { IfOk result (λ _.
-        string_bytes out.new ≡ string_bytes out.old ++ texts.reply_line (lines.Refuses (refused_view refused))) }
+    ensures { Adds out.old out.new result (texts.reply_line (lines.Refuses (refused_view refused))) }
 {
     out.push_str("refused ")?;
     write_refused(out, refused)
@@ -308,8 +277,7 @@ fn write_line<K: Key, V: VariableValue, D: Digest>(
     out: &mut String,
     reply: &Reply<K, V, D>,
 ) -> Result<(), AllocError>
-    ensures { IfOk result (λ _.
-        string_bytes out.new ≡ string_bytes out.old ++ texts.reply_line (answer_view K.bytes V.bytes D.bytes reply.now)) }
+    ensures { Adds out.old out.new result (texts.reply_line (answer_view K.bytes V.bytes D.bytes reply.now)) }
 {
     match reply {
         Reply::Opened(opening, start, size) => write_numbers(
