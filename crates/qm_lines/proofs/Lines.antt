@@ -1,17 +1,8 @@
--- Words that are no line, and words that are lent.
-use Rattle.std.proofs.Common.{◌≡◌, ◌+◌, ◌<◌, ◌≤◌, ℕ, List, [], ◌∷◌, drop, length, get_or, map, None, refl, ◌∙◌, ap, arith}
+-- Words that are lent.
+use Rattle.std.proofs.Common.{◌≡◌, ◌+◌, ◌<◌, ℕ, List, ◌∷◌, drop, length, get_or, map, ◌∙◌, ap}
 use Rattle.std.specs.Borrow.{Bor}
 use Rattle.std.proofs.lemmas.List.{drop_more, get_or-map, length-map}
 use Rattle.qm_model.specs.Operations.{Bytes}
-use Rattle.qm_machine.specs.Grammar.{of_few}
-
--- only one to four words can be a line that reads no keys
-pub no_line : (word : Bytes) (refs : List (Bor Bytes)) → 4 ≤ length refs → None ≡ of_few word (map (λ (x : Bor Bytes). x.now) refs)
-no_line w [] more = absurd (omega (arith, more))
-no_line w (a ∷ []) more = absurd (omega (arith, more))
-no_line w (a ∷ b ∷ []) more = absurd (omega (arith, more))
-no_line w (a ∷ b ∷ c ∷ []) more = absurd (omega (arith, more))
-no_line w (a ∷ b ∷ c ∷ d ∷ ws) more = refl
 
 -- the i-th of those that are lent, and those behind it
 pub opened : (refs : List (Bor Bytes)) (i : ℕ) (d : Bor Bytes) → i < length refs → drop i (map (λ (x : Bor Bytes). x.now) refs) ≡ (get_or refs i d).now ∷ drop (i + 1) (map (λ (x : Bor Bytes). x.now) refs)

@@ -1,3 +1,4 @@
 pub mod Parsed
 pub mod Ports
 pub mod Views
+pub mod Written

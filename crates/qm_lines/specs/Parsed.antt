@@ -1,5 +1,6 @@
 -- The commands that lines are read as.
-use Rattle.std.specs.Prelude.{List, [], ◌∷◌, ◌++◌, Option, Some, option_map, option_and_then}
+use Rattle.std.specs.Prelude.{List, [], ◌∷◌, ◌++◌, Option, Some, map, option_map, option_and_then}
+use Rattle.std.specs.Borrow.{Bor}
 use Rattle.qm_model.specs.Operations.{Bytes}
 use Rattle.qm_model.specs.Policies.{Policy}
 use Rattle.qm_machine.specs.Lines.{Line}
@@ -11,6 +12,10 @@ use Rattle.qm_lines.specs.Views.{policy_view, line_view}
 -- a command whose keys and values are seen as their bytes
 abbrev pub byte_line : Command Bytes Bytes AnyPolicy → Line Policy
 byte_line = line_view (λ k. k) (λ v. v) policy_view
+
+-- words that are lent
+abbrev pub lent : List (Bor Bytes) → List Bytes
+lent words = map (λ (w : Bor Bytes). w.now) words
 
 -- words as keys, if each is one
 abbrev pub keys_of : List Bytes → Option (List Bytes)

@@ -1,222 +1,314 @@
 //! Replies as text.
 
-ghost use Rattle.std.specs.Prelude.{◌≡◌, map, IfOk, option_map};
-ghost use Rattle.std.specs.String.{string_bytes};
+ghost use Rattle.std.specs.Prelude.{◌≡◌, ◌++◌, codes, decimal, flat_map, map, IfOk, option_map};
+ghost use Rattle.hex.specs.Hex.{encode_lower};
+ghost use Rattle.qm_model.specs.Operations.{update};
+ghost use Rattle.qm_model.specs.Refused as refusals;
+ghost use Rattle.qm_base.specs.Views.{corrupt_view};
+ghost use Rattle.qm_machine.specs.Lines as lines;
 ghost use Rattle.qm_machine.specs.Text as texts;
+ghost use Rattle.qm_lines.specs.Written.{Adds};
 ghost use Rattle.qm_lines.specs.Views.{tree_view, log_view, refused_view, listed_view, answer_view};
 
 use crate::reply::{Listed, LogRefused, Refused, Reply, TreeRefused};
-use qm_base::{ByteString, Digest, Key, VariableValue};
+use qm_base::{ByteString, Corrupt, Digest, Key, VariableValue};
 use std::alloc::{AllocError, Global};
+use std::fmt::Write;
 
-fn hex_text(alloc: Global, bytes: &[u8]) -> Result<String, AllocError>
-    ensures { IfOk result (λ text. string_bytes text ≡ texts.hex_text bytes.now) }
+fn write_hex(out: &mut String, bytes: &[u8]) -> Result<(), AllocError>
+    ensures { Adds out.old out.new result (encode_lower bytes.now) }
+{
+    let text = hex::encode(*out.allocator(), bytes)?;
+    out.push_str(&text)
+}
+
+// The empty bytes as a dash.
+fn write_bytes(out: &mut String, bytes: &[u8]) -> Result<(), AllocError>
+    ensures { Adds out.old out.new result (texts.hex_text bytes.now) }
 {
     if bytes.is_empty() {
-        return String::from_str(alloc, "-");
+        return out.push_str("-");
     }
-    hex::encode(alloc, bytes)
+    write_hex(out, bytes)
 }
 
-fn optional_text<B: ByteString>(alloc: Global, value: &Option<B>) -> Result<String, AllocError>
-    ensures { IfOk result (λ text.
-        string_bytes text ≡ texts.optional_text (option_map B.bytes value.now)) }
+fn write_optional<B: ByteString>(out: &mut String, value: &Option<B>) -> Result<(), AllocError>
+    ensures { Adds out.old out.new result (texts.optional_text (option_map B.bytes value.now)) }
 {
     match value {
-        None => String::from_str(alloc, "none"),
-        Some(value) => hex_text(alloc, value.as_bytes()),
+        None => out.push_str("none"),
+        Some(value) => write_bytes(out, value.as_bytes()),
     }
 }
 
-// The values, each after a space.
-fn values_text<B: ByteString>(alloc: Global, values: &[Option<B>]) -> Result<String, AllocError>
-    ensures { IfOk result (λ text.
-        string_bytes text ≡ texts.values_text (map (option_map B.bytes) values.now)) }
+fn write_next<B: ByteString>(out: &mut String, next: &Option<B>) -> Result<(), AllocError>
+    ensures { Adds out.old out.new result (texts.next_text (option_map B.bytes next.now)) }
 {
-    let mut out = String::new(alloc);
-    for value in values {
-        let text = optional_text(alloc, value)?;
-        out.push_str(" ")?;
-        out.push_str(&text)?;
-    }
-    Ok(out)
+    let Some(key) = next else {
+        return Ok(());
+    };
+    out.push_str(">")?;
+    write_bytes(out, key.as_bytes())
 }
 
-fn next_text<B: ByteString>(alloc: Global, next: &Option<B>) -> Result<String, AllocError>
-    ensures { IfOk result (λ text. string_bytes text ≡ texts.next_text (option_map B.bytes next.now)) }
+fn write_update<K: Key, V: VariableValue>(
+    out: &mut String,
+    key: &K,
+    value: &V,
+    next: &Option<K>,
+) -> Result<(), AllocError>
+    ensures { Adds out.old out.new result (texts.operation_text (update (K.bytes key.now) (V.bytes value.now) (option_map K.bytes next.now))) }
 {
-    match next {
-        None => Ok(String::new(alloc)),
-        Some(key) => {
-            let key = hex_text(alloc, key.as_bytes())?;
-            format!(in alloc; ">{key}")
-        }
-    }
+    out.push_str("U:")?;
+    write_bytes(out, key.as_bytes())?;
+    out.push_str("=")?;
+    write_bytes(out, value.as_bytes())?;
+    write_next(out, next)
 }
 
-fn operation_text<K: Key, V: VariableValue>(
-    alloc: Global,
+fn write_operation<K: Key, V: VariableValue>(
+    out: &mut String,
     op: &Listed<K, V>,
-) -> Result<String, AllocError>
-    ensures { IfOk result (λ text.
-        string_bytes text ≡ texts.operation_text (listed_view K.bytes V.bytes op.now)) }
+) -> Result<(), AllocError>
+    ensures { Adds out.old out.new result (texts.operation_text (listed_view K.bytes V.bytes op.now)) }
 {
     match op {
-        Listed::Update(key, value, next) => {
-            let key = hex_text(alloc, key.as_bytes())?;
-            let value = hex_text(alloc, value.as_bytes())?;
-            let next = next_text(alloc, next)?;
-            format!(in alloc; "U:{key}={value}{next}")
-        }
+        Listed::Update(key, value, next) => write_update(out, key, value, next),
         Listed::Delete(key) => {
-            let key = hex_text(alloc, key.as_bytes())?;
-            format!(in alloc; "D:{key}")
+            out.push_str("D:")?;
+            write_bytes(out, key.as_bytes())
         }
         Listed::Commit(metadata, floor) => {
-            let metadata = optional_text(alloc, metadata)?;
-            format!(in alloc; "C:{metadata}@{floor}")
+            out.push_str("C:")?;
+            write_optional(out, metadata)?;
+            write!(out, "@{floor}")
         }
     }
 }
 
 // The operations, each after a space.
-fn operations_text<K: Key, V: VariableValue>(
-    alloc: Global,
+fn write_operations<K: Key, V: VariableValue>(
+    out: &mut String,
     ops: &[Listed<K, V>],
-) -> Result<String, AllocError>
-    ensures { IfOk result (λ text.
-        string_bytes text ≡ texts.operations_text (map (listed_view K.bytes V.bytes) ops.now)) }
+) -> Result<(), AllocError>
+    ensures { Adds out.old out.new result (texts.operations_text (map (listed_view K.bytes V.bytes) ops.now)) }
 {
-    let mut out = String::new(alloc);
     for op in ops {
-        let text = operation_text(alloc, op)?;
         out.push_str(" ")?;
-        out.push_str(&text)?;
+        write_operation(out, op)?;
     }
-    Ok(out)
+    Ok(())
 }
 
 // The digests, each after a space.
-fn digests_text<D: Digest>(alloc: Global, digests: &[D]) -> Result<String, AllocError>
-    ensures { IfOk result (λ text. string_bytes text ≡ texts.digests_text (map D.bytes digests.now)) }
+fn write_digests<D: Digest>(out: &mut String, digests: &[D]) -> Result<(), AllocError>
+    ensures { Adds out.old out.new result (texts.digests_text (map D.bytes digests.now)) }
 {
-    let mut out = String::new(alloc);
     for digest in digests {
-        let text = hex::encode(alloc, digest.bytes())?;
         out.push_str(" ")?;
-        out.push_str(&text)?;
+        write_hex(out, digest.bytes())?;
     }
-    Ok(out)
+    Ok(())
 }
 
-fn tree_text(alloc: Global, refused: TreeRefused) -> Result<String, AllocError>
-    ensures { IfOk result (λ text. string_bytes text ≡ texts.tree_text (tree_view refused)) }
+fn write_tree(out: &mut String, refused: TreeRefused) -> Result<(), AllocError>
+    ensures { Adds out.old out.new result (texts.tree_text (tree_view refused)) }
 {
     match refused {
-        TreeRefused::RangeOutOfBounds(at) => format!(in alloc; "RangeOutOfBounds {at}"),
-        TreeRefused::ElementPruned(position) => format!(in alloc; "ElementPruned {position}"),
-        TreeRefused::MissingNode(position) => format!(in alloc; "MissingNode {position}"),
-        TreeRefused::LocationOverflow(count) => format!(in alloc; "LocationOverflow {count}"),
-    }
-}
-
-fn log_text(alloc: Global, refused: LogRefused) -> Result<String, AllocError>
-    ensures { IfOk result (λ text. string_bytes text ≡ texts.log_text (log_view refused)) }
-{
-    match refused {
-        LogRefused::ItemPruned(location) => format!(in alloc; "ItemPruned {location}"),
-        LogRefused::ItemTooLarge(length) => format!(in alloc; "ItemTooLarge {length}"),
+        TreeRefused::RangeOutOfBounds(at) => write!(out, "RangeOutOfBounds {at}"),
+        TreeRefused::ElementPruned(position) => write!(out, "ElementPruned {position}"),
+        TreeRefused::MissingNode(position) => write!(out, "MissingNode {position}"),
+        TreeRefused::LocationOverflow(count) => write!(out, "LocationOverflow {count}"),
     }
 }
 
-fn refused_text(alloc: Global, refused: Refused) -> Result<String, AllocError>
-    ensures { IfOk result (λ text. string_bytes text ≡ texts.refused_text (refused_view refused)) }
+fn write_log(out: &mut String, refused: LogRefused) -> Result<(), AllocError>
+    ensures { Adds out.old out.new result (texts.log_text (log_view refused)) }
 {
     match refused {
-        Refused::NotOffered => String::from_str(alloc, "NotOffered"),
-        Refused::NoDatabase => String::from_str(alloc, "NoDatabase"),
-        Refused::NoSuchHandle(handle) => format!(in alloc; "NoSuchHandle {handle}"),
-        Refused::StaleBatch => String::from_str(alloc, "StaleBatch"),
-        Refused::StaleRead => String::from_str(alloc, "StaleRead"),
-        Refused::HistoricalFloorPruned(size) => format!(in alloc; "HistoricalFloorPruned {size}"),
-        Refused::DataCorrupted(corrupt) => {
-            let corrupt = corrupt.text();
-            format!(in alloc; "DataCorrupted {corrupt}")
-        }
+        LogRefused::ItemPruned(location) => write!(out, "ItemPruned {location}"),
+        LogRefused::ItemTooLarge(length) => write!(out, "ItemTooLarge {length}"),
+    }
+}
+
+fn write_corrupt(out: &mut String, corrupt: Corrupt) -> Result<(), AllocError>
+    ensures { Adds out.old out.new result (texts.refused_text (refusals.DataCorrupted (corrupt_view corrupt))) }
+{
+    out.push_str("DataCorrupted ")?;
+    out.push_str(corrupt.text())
+}
+
+fn write_refused(out: &mut String, refused: Refused) -> Result<(), AllocError>
+    ensures { Adds out.old out.new result (texts.refused_text (refused_view refused)) }
+{
+    match refused {
+        Refused::NotOffered => out.push_str("NotOffered"),
+        Refused::NoDatabase => out.push_str("NoDatabase"),
+        Refused::NoSuchHandle(handle) => write!(out, "NoSuchHandle {handle}"),
+        Refused::StaleBatch => out.push_str("StaleBatch"),
+        Refused::StaleRead => out.push_str("StaleRead"),
+        Refused::HistoricalFloorPruned(size) => write!(out, "HistoricalFloorPruned {size}"),
+        Refused::DataCorrupted(corrupt) => write_corrupt(out, corrupt),
         Refused::Merkle(refused) => {
-            let refused = tree_text(alloc, refused)?;
-            format!(in alloc; "Merkle {refused}")
+            out.push_str("Merkle ")?;
+            write_tree(out, refused)
         }
         Refused::Journal(refused) => {
-            let refused = log_text(alloc, refused)?;
-            format!(in alloc; "Journal {refused}")
+            out.push_str("Journal ")?;
+            write_log(out, refused)
         }
     }
 }
 
-fn live_text(is_live: bool) -> &'static str
-    ensures { result.now ≡ texts.live_text is_live }
+// A name, and the numbers, each after a space.
+fn write_numbers(out: &mut String, name: &str, numbers: &[u64]) -> Result<(), AllocError>
+    ensures { Adds out.old out.new result (name.now ++ flat_map (λ n. codes " " ++ decimal n) numbers.now) }
 {
-    if is_live { "live" } else { "empty" }
+    out.push_str(name)?;
+    for number in numbers {
+        write!(out, " {number}")?;
+    }
+    Ok(())
 }
 
-fn line_text<K: Key, V: VariableValue, D: Digest>(
-    alloc: Global,
+fn write_info(out: &mut String, numbers: &[u64; 4], is_live: bool) -> Result<(), AllocError>
+    ensures { Adds out.old out.new result (codes "info" ++ (flat_map (λ n. codes " " ++ decimal n) numbers.now ++ (codes " " ++ texts.live_text is_live))) }
+{
+    write_numbers(out, "info", numbers)?;
+    out.push_str(if is_live { " live" } else { " empty" })
+}
+
+fn write_roots<D: Digest>(out: &mut String, root: &D, operations: &D) -> Result<(), AllocError>
+    ensures { Adds out.old out.new result (codes "root " ++ (encode_lower (D.bytes root.now) ++ (codes " " ++ encode_lower (D.bytes operations.now)))) }
+{
+    out.push_str("root ")?;
+    write_hex(out, root.bytes())?;
+    out.push_str(" ")?;
+    write_hex(out, operations.bytes())
+}
+
+// A proof, and a slash for what is behind it.
+fn write_proof<D: Digest>(
+    out: &mut String,
+    leaves: u64,
+    inactive: u64,
+    digests: &[D],
+) -> Result<(), AllocError>
+    ensures { Adds out.old out.new result (codes "proof " ++ (decimal leaves ++ (codes " " ++ (decimal inactive ++ (texts.digests_text (map D.bytes digests.now) ++ codes " /"))))) }
+{
+    write_numbers(out, "proof", &[leaves, inactive])?;
+    write_digests(out, digests)?;
+    out.push_str(" /")
+}
+
+fn write_proved<K: Key, V: VariableValue, D: Digest>(
+    out: &mut String,
+    leaves: u64,
+    inactive: u64,
+    digests: &[D],
+    ops: &[Listed<K, V>],
+) -> Result<(), AllocError>
+    ensures { Adds out.old out.new result (texts.reply_line (lines.Proved (record { leaves = leaves; inactive = inactive; digests = map D.bytes digests.now }) (map (listed_view K.bytes V.bytes) ops.now))) }
+{
+    write_proof(out, leaves, inactive, digests)?;
+    write_operations(out, ops)
+}
+
+fn write_batch_proof<D: Digest>(
+    out: &mut String,
+    leaves: u64,
+    inactive: u64,
+    digests: &[D],
+    pins: &[D],
+) -> Result<(), AllocError>
+    ensures { Adds out.old out.new result (texts.reply_line (lines.BatchProved (record { leaves = leaves; inactive = inactive; digests = map D.bytes digests.now }) (map D.bytes pins.now))) }
+{
+    write_proof(out, leaves, inactive, digests)?;
+    write_digests(out, pins)
+}
+
+fn write_listed<K: Key, V: VariableValue>(
+    out: &mut String,
+    base: u64,
+    ops: &[Listed<K, V>],
+) -> Result<(), AllocError>
+    ensures { Adds out.old out.new result (texts.reply_line (lines.Listed base (map (listed_view K.bytes V.bytes) ops.now))) }
+{
+    write_numbers(out, "ops", &[base])?;
+    write_operations(out, ops)
+}
+
+fn write_read<V: VariableValue>(out: &mut String, values: &[Option<V>]) -> Result<(), AllocError>
+    ensures { Adds out.old out.new result (texts.reply_line (lines.Read (map (option_map V.bytes) values.now))) }
+{
+    out.push_str("read")?;
+    for value in values {
+        out.push_str(" ")?;
+        write_optional(out, value)?;
+    }
+    Ok(())
+}
+
+fn write_metadata<V: VariableValue>(
+    out: &mut String,
+    metadata: &Option<V>,
+) -> Result<(), AllocError>
+    ensures { Adds out.old out.new result (texts.reply_line (lines.Metadata (option_map V.bytes metadata.now))) }
+{
+    out.push_str("meta ")?;
+    write_optional(out, metadata)
+}
+
+fn write_pins<D: Digest>(out: &mut String, digests: &[D]) -> Result<(), AllocError>
+    ensures { Adds out.old out.new result (texts.reply_line (lines.Pinned (map D.bytes digests.now))) }
+{
+    out.push_str("pins")?;
+    write_digests(out, digests)
+}
+
+fn write_refusal(out: &mut String, refused: Refused) -> Result<(), AllocError>
+    ensures { Adds out.old out.new result (texts.reply_line (lines.Refuses (refused_view refused))) }
+{
+    out.push_str("refused ")?;
+    write_refused(out, refused)
+}
+
+fn write_line<K: Key, V: VariableValue, D: Digest>(
+    out: &mut String,
     reply: &Reply<K, V, D>,
-) -> Result<String, AllocError>
-    ensures { IfOk result (λ text.
-        string_bytes text ≡ texts.reply_line (answer_view K.bytes V.bytes D.bytes reply.now)) }
+) -> Result<(), AllocError>
+    ensures { Adds out.old out.new result (texts.reply_line (answer_view K.bytes V.bytes D.bytes reply.now)) }
 {
     match reply {
-        Reply::Opened(opening, start, size) => format!(in alloc; "open {opening} {start} {size}"),
-        Reply::Batch(handle) => format!(in alloc; "batch {handle}"),
-        Reply::Done => String::from_str(alloc, "ok"),
+        Reply::Opened(opening, start, size) => write_numbers(
+            out,
+            "open",
+            &[*opening, *start, *size],
+        ),
+        Reply::Batch(handle) => write_numbers(out, "batch", &[*handle]),
+        Reply::Done => out.push_str("ok"),
         Reply::Merkleized(handle, base, size, floor) => {
-            format!(in alloc; "merkleized {handle} {base} {size} {floor}")
+            write_numbers(out, "merkleized", &[*handle, *base, *size, *floor])
         }
-        Reply::Applied(size) => format!(in alloc; "applied {size}"),
-        Reply::Ops(base, ops) => {
-            let ops = operations_text(alloc, ops)?;
-            format!(in alloc; "ops {base}{ops}")
-        }
-        Reply::Read(values) => {
-            let values = values_text(alloc, values)?;
-            format!(in alloc; "read{values}")
-        }
+        Reply::Applied(size) => write_numbers(out, "applied", &[*size]),
+        Reply::Ops(base, ops) => write_listed(out, *base, ops),
+        Reply::Read(values) => write_read(out, values),
         Reply::Info(start, size, floor, boundary, is_live) => {
-            let live = live_text(*is_live);
-            format!(in alloc; "info {start} {size} {floor} {boundary} {live}")
+            write_info(out, &[*start, *size, *floor, *boundary], *is_live)
         }
         Reply::BatchInfo(base, size, floor, boundary) => {
-            format!(in alloc; "info {base} {size} {floor} {boundary}")
+            write_numbers(out, "info", &[*base, *size, *floor, *boundary])
         }
-        Reply::Root(root, operations) => {
-            let root = hex::encode(alloc, root.bytes())?;
-            let operations = hex::encode(alloc, operations.bytes())?;
-            format!(in alloc; "root {root} {operations}")
-        }
-        Reply::Meta(metadata) => {
-            let metadata = optional_text(alloc, metadata)?;
-            format!(in alloc; "meta {metadata}")
-        }
+        Reply::Root(root, operations) => write_roots(out, root, operations),
+        Reply::Meta(metadata) => write_metadata(out, metadata),
         Reply::Proof(leaves, inactive, digests, ops) => {
-            let digests = digests_text(alloc, digests)?;
-            let ops = operations_text(alloc, ops)?;
-            format!(in alloc; "proof {leaves} {inactive}{digests} /{ops}")
+            write_proved(out, *leaves, *inactive, digests, ops)
         }
         Reply::BatchProof(leaves, inactive, digests, pins) => {
-            let digests = digests_text(alloc, digests)?;
-            let pins = digests_text(alloc, pins)?;
-            format!(in alloc; "proof {leaves} {inactive}{digests} /{pins}")
+            write_batch_proof(out, *leaves, *inactive, digests, pins)
         }
-        Reply::Pins(digests) => {
-            let digests = digests_text(alloc, digests)?;
-            format!(in alloc; "pins{digests}")
-        }
-        Reply::Refused(refused) => {
-            let refused = refused_text(alloc, *refused)?;
-            format!(in alloc; "refused {refused}")
-        }
+        Reply::Pins(digests) => write_pins(out, digests),
+        Reply::Refused(refused) => write_refusal(out, *refused),
     }
 }
 
@@ -228,5 +320,7 @@ pub fn reply_text<K: Key, V: VariableValue, D: Digest>(
     ensures { IfOk result (λ text.
         text.items ≡ texts.reply_line (answer_view K.bytes V.bytes D.bytes reply.now)) }
 {
-    Ok(line_text(alloc, reply)?.into_bytes())
+    let mut out = String::new(alloc);
+    write_line(&mut out, reply)?;
+    Ok(out.into_bytes())
 }

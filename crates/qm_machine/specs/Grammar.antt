@@ -26,6 +26,13 @@ is_padded (c ∷ d ∷ cs) = c == 48
 abbrev pub number_of : Bytes → Option ℕ
 number_of word = if is_padded word then None else digits_from 0 word
 
+-- a number that is at least 1
+abbrev pub positive : ℕ → Option ℕ
+positive n = if n == 0 then None else Some n
+
+abbrev pub positive_of : Bytes → Option ℕ
+positive_of word = option_and_then positive (number_of word)
+
 -- as many bytes as lie between the bounds
 abbrev pub within : ℕ → ℕ → Result Bytes FromHexError → Option Bytes
 within low high (Ok bytes) = if nat_le low (length bytes) && nat_le (length bytes) high then Some bytes else None
@@ -71,81 +78,94 @@ reading_of [] = None
 reading_of (w ∷ []) = last_reading w
 reading_of (w ∷ v ∷ ws) = option_and_then (λ k. option_map (with_key k) (reading_of (v ∷ ws))) (key_of w)
 
--- the commands that read
-abbrev pub get_of : Reading → Option (Line Policy)
-get_of ([], from) = None
-get_of (k ∷ [], from) = Some (Get k from)
-get_of (k ∷ l ∷ ks, from) = None
+-- no word more
+abbrev pub alone : Line Policy → List Bytes → Option (Line Policy)
+alone line [] = Some line
+alone line words = None
 
-abbrev pub many_of : Reading → Option (Line Policy)
-many_of ([], from) = None
-many_of (k ∷ ks, from) = Some (Many (k ∷ ks) from)
+-- one number more
+abbrev pub only_number : List Bytes → Option ℕ
+only_number (a ∷ []) = number_of a
+only_number words = None
 
--- the other commands, of one to four words
-abbrev pub of_one : Bytes → Option (Line Policy)
-of_one w =
-    if bytes_eq w (codes "open") then Some Open
-    else (if bytes_eq w (codes "batch") then Some Batch
-    else (if bytes_eq w (codes "tip") then Some Tip
-    else (if bytes_eq w (codes "info") then Some Info
-    else (if bytes_eq w (codes "root") then Some Root
-    else (if bytes_eq w (codes "meta") then Some Meta else None)))))
+abbrev pub numbered : (ℕ → Line Policy) → List Bytes → Option (Line Policy)
+numbered line words = option_map line (only_number words)
 
-abbrev pub of_two : Bytes → Bytes → Option (Line Policy)
-of_two w a =
-    if bytes_eq w (codes "apply") then option_map (λ h. Apply h) (number_of a)
-    else (if bytes_eq w (codes "ops") then option_map (λ h. Ops h) (number_of a)
-    else (if bytes_eq w (codes "child") then option_map (λ h. Child h None) (number_of a)
-    else (if bytes_eq w (codes "info") then option_map (λ h. BatchInfo h) (number_of a)
-    else (if bytes_eq w (codes "root") then option_map (λ h. BatchRoot h) (number_of a)
-    else (if bytes_eq w (codes "proof") then option_map (λ h. BatchProof h) (number_of a)
-    else (if bytes_eq w (codes "pins") then option_map (λ n. Pins n) (number_of a) else None))))))
+-- The commands that need more, each of the words behind its name.
 
-abbrev pub del_of : Bytes → Bytes → Option (Line Policy)
-del_of a b = option_and_then (λ h. option_map (λ k. Del h k) (key_of b)) (number_of a)
+abbrev pub info_of : List Bytes → Option (Line Policy)
+info_of [] = Some Info
+info_of words = numbered BatchInfo words
 
-abbrev pub keeping_of : Bytes → Bytes → Option (Line Policy)
-keeping_of a b = option_and_then (λ h. option_map (λ n. Child h (Some n)) (named_number (codes "keep=") b)) (number_of a)
+abbrev pub root_of : List Bytes → Option (Line Policy)
+root_of [] = Some Root
+root_of words = numbered BatchRoot words
 
-abbrev pub of_three : Bytes → Bytes → Bytes → Option (Line Policy)
-of_three w a b =
-    if bytes_eq w (codes "del") then del_of a b
-    else (if bytes_eq w (codes "child") then keeping_of a b else None)
+abbrev pub child_of : List Bytes → Option (Line Policy)
+child_of (a ∷ []) = option_map (λ h. Child h None) (number_of a)
+child_of (a ∷ b ∷ []) = option_and_then (λ h. option_map (λ n. Child h (Some n)) (named_number (codes "keep=") b)) (number_of a)
+child_of words = None
 
-abbrev pub put_of : Bytes → Bytes → Bytes → Option (Line Policy)
-put_of a b c = option_and_then (λ h. option_and_then (λ k. option_map (λ v. Put h k v) (value_of c)) (key_of b)) (number_of a)
+abbrev pub put_of : List Bytes → Option (Line Policy)
+put_of (a ∷ b ∷ c ∷ []) = option_and_then (λ h. option_and_then (λ k. option_map (λ v. Put h k v) (value_of c)) (key_of b)) (number_of a)
+put_of words = None
 
-abbrev pub merkleize_of : Bytes → Bytes → Bytes → Option (Line Policy)
-merkleize_of a b c = option_and_then (λ h. option_and_then (λ p. option_map (λ meta. Merkleize h p meta) (metadata_of c)) (policy_of b)) (number_of a)
+abbrev pub del_of : List Bytes → Option (Line Policy)
+del_of (a ∷ b ∷ []) = option_and_then (λ h. option_map (λ k. Del h k) (key_of b)) (number_of a)
+del_of words = None
 
--- a number that is at least 1
-abbrev pub positive : ℕ → Option ℕ
-positive n = if n == 0 then None else Some n
+abbrev pub merkleize_of : List Bytes → Option (Line Policy)
+merkleize_of (a ∷ b ∷ c ∷ []) = option_and_then (λ h. option_and_then (λ p. option_map (λ meta. Merkleize h p meta) (metadata_of c)) (policy_of b)) (number_of a)
+merkleize_of words = None
 
-abbrev pub positive_of : Bytes → Option ℕ
-positive_of word = option_and_then positive (number_of word)
+abbrev pub prove_of : List Bytes → Option (Line Policy)
+prove_of (a ∷ b ∷ c ∷ []) = option_and_then (λ size. option_and_then (λ start. option_map (λ max. Prove size start max) (positive_of c)) (number_of b)) (number_of a)
+prove_of words = None
 
-abbrev pub prove_of : Bytes → Bytes → Bytes → Option (Line Policy)
-prove_of a b c = option_and_then (λ size. option_and_then (λ start. option_map (λ max. Prove size start max) (positive_of c)) (number_of b)) (number_of a)
+abbrev pub one_read : Reading → Option (Line Policy)
+one_read (k ∷ [], from) = Some (Get k from)
+one_read reading = None
 
-abbrev pub of_four : Bytes → Bytes → Bytes → Bytes → Option (Line Policy)
-of_four w a b c =
-    if bytes_eq w (codes "put") then put_of a b c
-    else (if bytes_eq w (codes "merkleize") then merkleize_of a b c
-    else (if bytes_eq w (codes "prove") then prove_of a b c else None))
+abbrev pub get_of : List Bytes → Option (Line Policy)
+get_of words = option_and_then one_read (reading_of words)
 
-abbrev pub of_few : Bytes → List Bytes → Option (Line Policy)
-of_few w [] = of_one w
-of_few w (a ∷ []) = of_two w a
-of_few w (a ∷ b ∷ []) = of_three w a b
-of_few w (a ∷ b ∷ c ∷ []) = of_four w a b c
-of_few w (a ∷ b ∷ c ∷ d ∷ ws) = None
+abbrev pub some_read : Reading → Option (Line Policy)
+some_read ([], from) = None
+some_read (keys, from) = Some (Many keys from)
+
+abbrev pub many_of : List Bytes → Option (Line Policy)
+many_of words = option_and_then some_read (reading_of words)
+
+-- each command's name, and what the words behind it say
+abbrev pub forms : List (Bytes × (List Bytes → Option (Line Policy)))
+forms =
+    (codes "open", alone Open)
+    ∷ (codes "batch", alone Batch)
+    ∷ (codes "child", child_of)
+    ∷ (codes "tip", alone Tip)
+    ∷ (codes "put", put_of)
+    ∷ (codes "del", del_of)
+    ∷ (codes "merkleize", merkleize_of)
+    ∷ (codes "apply", numbered Apply)
+    ∷ (codes "ops", numbered Ops)
+    ∷ (codes "get", get_of)
+    ∷ (codes "many", many_of)
+    ∷ (codes "info", info_of)
+    ∷ (codes "root", root_of)
+    ∷ (codes "proof", numbered BatchProof)
+    ∷ (codes "meta", alone Meta)
+    ∷ (codes "prove", prove_of)
+    ∷ (codes "pins", numbered Pins)
+    ∷ []
+
+-- what the first of these forms with this name says
+abbrev pub form_of : Bytes → List Bytes → List (Bytes × (List Bytes → Option (Line Policy))) → Option (Line Policy)
+form_of name words [] = None
+form_of name words ((known, form) ∷ more) = if bytes_eq name known then form words else form_of name words more
 
 abbrev pub of_words : List Bytes → Option (Line Policy)
 of_words [] = None
-of_words (w ∷ ws) =
-    if bytes_eq w (codes "get") then option_and_then get_of (reading_of ws)
-    else (if bytes_eq w (codes "many") then option_and_then many_of (reading_of ws) else of_few w ws)
+of_words (name ∷ words) = form_of name words forms
 
 -- the command that a line is, if it is one
 abbrev pub line_of : Bytes → Option (Line Policy)

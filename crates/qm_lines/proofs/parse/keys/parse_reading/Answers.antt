@@ -1,6 +1,6 @@
 use Rattle.std.proofs.Common.{◌≡◌, IfOk, option_map, sym, ◌∙◌, ap, subst}
 use Rattle.qm_lines.proofs.Readings.{reading-lent}
-use Rattle.qm_lines.proofs.parse.parse_reading.Goals as goal
+use Rattle.qm_lines.proofs.parse.keys.parse_reading.Goals as goal
 
 pub returns-in-None : goal.returns-in-None
 returns-in-None c =

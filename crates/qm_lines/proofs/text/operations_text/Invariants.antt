@@ -1,8 +1,0 @@
-use Rattle.std.proofs.Common.{◌≡◌, map, take}
-use Rattle.std.specs.String.{string_bytes}
-use Rattle.qm_machine.specs.Text as texts
-use Rattle.qm_lines.specs.Views.{listed_view}
-use Rattle.qm_lines.proofs.text.operations_text.Given as goal
-
-abbrev pub invariant-loop-op : goal.invariant-loop-op
-invariant-loop-op g l = string_bytes l.out ≡ texts.operations_text (map (listed_view g.K.ByteString.bytes g.V.ByteString.bytes) (take l.op-index l.ops))

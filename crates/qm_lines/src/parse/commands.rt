@@ -1,0 +1,205 @@
+// Each command, of the words behind its name.
+ghost use Rattle.std.specs.Prelude.{◌≡◌, IfOk, option_map};
+ghost use Rattle.qm_machine.specs.Grammar as grammar;
+ghost use Rattle.qm_lines.specs.Parsed.{byte_line, lent};
+ghost use Rattle.qm_lines.specs.Views.{policy_view};
+
+use super::ByteCommand;
+use super::keys::{Reading, key, metadata, parse_reading, value};
+use super::numbers::{named_number, number, positive};
+use crate::command::Command;
+use crate::policy::AnyPolicy;
+use std::alloc::{AllocError, Global};
+
+// No word more.
+fn alone(words: &[&[u8]], command: ByteCommand) -> Option<ByteCommand>
+    ensures { option_map byte_line result ≡ grammar.alone (byte_line command) (lent words.now) }
+{
+    words.is_empty().then_some(command)
+}
+
+// One number more.
+fn only_number(words: &[&[u8]]) -> Option<u64>
+    ensures { result ≡ grammar.only_number (lent words.now) }
+{
+    match words {
+        [word] => number(word),
+        _ => None,
+    }
+}
+
+fn info(words: &[&[u8]]) -> Option<ByteCommand>
+    ensures { option_map byte_line result ≡ grammar.info_of (lent words.now) }
+{
+    if words.is_empty() {
+        return Some(Command::Info);
+    }
+    only_number(words).map(Command::BatchInfo)
+}
+
+fn root(words: &[&[u8]]) -> Option<ByteCommand>
+    ensures { option_map byte_line result ≡ grammar.root_of (lent words.now) }
+{
+    if words.is_empty() {
+        return Some(Command::Root);
+    }
+    only_number(words).map(Command::BatchRoot)
+}
+
+// Of a batch, and perhaps of how many ancestors are kept.
+fn child(words: &[&[u8]]) -> Option<ByteCommand>
+    ensures { option_map byte_line result ≡ grammar.child_of (lent words.now) }
+{
+    match words {
+        [handle] => Some(Command::Child(number(handle)?, None)),
+        [handle, kept] => {
+            let keep = named_number(b"keep=", kept)?;
+            Some(Command::Child(number(handle)?, Some(keep)))
+        }
+        _ => None,
+    }
+}
+
+fn put(alloc: Global, words: &[&[u8]]) -> Result<Option<ByteCommand>, AllocError>
+    ensures { IfOk result (λ command. option_map byte_line command ≡ grammar.put_of (lent words.now)) }
+{
+    let [handle, key_word, value_word] = words else {
+        return Ok(None);
+    };
+    let Some(handle) = number(handle) else {
+        return Ok(None);
+    };
+    let Some(key) = key(alloc, key_word)? else {
+        return Ok(None);
+    };
+    let Some(value) = value(alloc, value_word)? else {
+        return Ok(None);
+    };
+    Ok(Some(Command::Put(handle, key, value)))
+}
+
+fn del(alloc: Global, words: &[&[u8]]) -> Result<Option<ByteCommand>, AllocError>
+    ensures { IfOk result (λ command. option_map byte_line command ≡ grammar.del_of (lent words.now)) }
+{
+    let [handle, key_word] = words else {
+        return Ok(None);
+    };
+    let Some(handle) = number(handle) else {
+        return Ok(None);
+    };
+    let Some(key) = key(alloc, key_word)? else {
+        return Ok(None);
+    };
+    Ok(Some(Command::Del(handle, key)))
+}
+
+fn policy(word: &[u8]) -> Option<AnyPolicy>
+    ensures { option_map policy_view result ≡ grammar.policy_of word.now }
+{
+    (word == b"prop".as_slice()).then_some(AnyPolicy::Proportional)
+}
+
+fn merkleize(alloc: Global, words: &[&[u8]]) -> Result<Option<ByteCommand>, AllocError>
+    ensures { IfOk result (λ command. option_map byte_line command ≡ grammar.merkleize_of (lent words.now)) }
+{
+    let [handle, policy_word, metadata_word] = words else {
+        return Ok(None);
+    };
+    let Some(handle) = number(handle) else {
+        return Ok(None);
+    };
+    let Some(policy) = policy(policy_word) else {
+        return Ok(None);
+    };
+    let Some(metadata) = metadata(alloc, metadata_word)? else {
+        return Ok(None);
+    };
+    Ok(Some(Command::Merkleize(handle, policy, metadata)))
+}
+
+fn prove(words: &[&[u8]]) -> Option<ByteCommand>
+    ensures { option_map byte_line result ≡ grammar.prove_of (lent words.now) }
+{
+    let [size, start, most] = words else {
+        return None;
+    };
+    let size = number(size)?;
+    let start = number(start)?;
+    let most = positive(most)?;
+    Some(Command::Prove(size, start, most))
+}
+
+fn one_read(mut reading: Reading) -> Option<ByteCommand>
+    ensures { option_map byte_line result ≡ grammar.one_read reading }
+{
+    let key = reading.keys.pop()?;
+    let from = reading.from;
+    reading.keys.is_empty().then_some(Command::Get(key, from))
+}
+
+fn get(alloc: Global, words: &[&[u8]]) -> Result<Option<ByteCommand>, AllocError>
+    ensures { IfOk result (λ command. option_map byte_line command ≡ grammar.get_of (lent words.now)) }
+{
+    Ok(parse_reading(alloc, words)?.and_then(one_read))
+}
+
+fn some_read(reading: Reading) -> Option<ByteCommand>
+    ensures { option_map byte_line result ≡ grammar.some_read reading }
+{
+    if reading.keys.is_empty() {
+        return None;
+    }
+    Some(Command::Many(reading.keys, reading.from))
+}
+
+fn many(alloc: Global, words: &[&[u8]]) -> Result<Option<ByteCommand>, AllocError>
+    ensures { IfOk result (λ command. option_map byte_line command ≡ grammar.many_of (lent words.now)) }
+{
+    Ok(parse_reading(alloc, words)?.and_then(some_read))
+}
+
+/// The command that words are, by the first.
+pub fn of_words(alloc: Global, words: &[&[u8]]) -> Result<Option<ByteCommand>, AllocError>
+    ensures { IfOk result (λ command. option_map byte_line command ≡ grammar.of_words (lent words.now)) }
+{
+    let Some((name, words)) = words.split_first() else {
+        return Ok(None);
+    };
+    if *name == b"open".as_slice() {
+        Ok(alone(words, Command::Open))
+    } else if *name == b"batch".as_slice() {
+        Ok(alone(words, Command::Batch))
+    } else if *name == b"child".as_slice() {
+        Ok(child(words))
+    } else if *name == b"tip".as_slice() {
+        Ok(alone(words, Command::Tip))
+    } else if *name == b"put".as_slice() {
+        put(alloc, words)
+    } else if *name == b"del".as_slice() {
+        del(alloc, words)
+    } else if *name == b"merkleize".as_slice() {
+        merkleize(alloc, words)
+    } else if *name == b"apply".as_slice() {
+        Ok(only_number(words).map(Command::Apply))
+    } else if *name == b"ops".as_slice() {
+        Ok(only_number(words).map(Command::Ops))
+    } else if *name == b"get".as_slice() {
+        get(alloc, words)
+    } else if *name == b"many".as_slice() {
+        many(alloc, words)
+    } else if *name == b"info".as_slice() {
+        Ok(info(words))
+    } else if *name == b"root".as_slice() {
+        Ok(root(words))
+    } else if *name == b"proof".as_slice() {
+        Ok(only_number(words).map(Command::BatchProof))
+    } else if *name == b"meta".as_slice() {
+        Ok(alone(words, Command::Meta))
+    } else if *name == b"prove".as_slice() {
+        Ok(prove(words))
+    } else if *name == b"pins".as_slice() {
+        Ok(only_number(words).map(Command::Pins))
+    } else {
+        Ok(None)
+    }
+}
