@@ -45,9 +45,9 @@ ghost use Rattle.std.proofs.Math.Nat.{le-add_right};
 ghost use Rattle.qm_model.specs.Causes.{IsCause};
 ghost use Rattle.qm_files.specs.Files.{end_of};
 
-use qm_store::{MetaEntry, Store, StoreError};
 use folder::{Folder, LOG};
 use log_file::LogFile;
+use qm_store::{MetaEntry, Store, StoreError};
 use spelled::{read_entries, spelled_entries, spelled_head};
 use std::alloc::{AllocError, Global};
 use std::fs::{OpenFile, OpenOptions};

@@ -198,11 +198,7 @@ impl<F: Family, C: Store, H: Hasher + Drop> AuthLog<F, C, H> {
     }
 
     /// Replaces the metadata of a name in the store.
-    pub fn put_meta(
-        self,
-        name: &str,
-        entries: &[MetaEntry],
-    ) -> Result<Self, LogRefusal<Self, C>>
+    pub fn put_meta(self, name: &str, entries: &[MetaEntry]) -> Result<Self, LogRefusal<Self, C>>
         requires last { C.end self.store ≡ self.tree.leaves }
         ensures stands { (list : List (List ℕ)) → IsLog C.Store F.shape H.Digest.bytes H.hash self list → IfOk result (λ log. IsLog C.Store F.shape H.Digest.bytes H.hash log list) }
         ensures tree { IfOk result (λ log. log.tree ≡ self.tree) }
