@@ -22,7 +22,7 @@ use Rattle.qm_batch.specs.Layers.{Layer, LeadThrough}
 use Rattle.qm_batch.proofs.Members.{first_or_later, Contains-first, Contains-later}
 use Rattle.qm_store.specs.KeptTrees.{IsKeptTree}
 use Rattle.qm_any.specs.Layouts.{Layout, spellings}
-use Rattle.qm_store.specs.Given.{Appended, AppendedPart}
+use Rattle.qm_store.specs.Given.{Appended}
 use Rattle.qm_any.specs.Databases.{Database, Made, IsDatabase, IsMade, bases_of, unapplied, operations_in, bases, AreJoined}
 use Rattle.qm_any.proofs.Known.{contains-mapped, on_chain-base}
 

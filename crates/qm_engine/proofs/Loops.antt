@@ -2,7 +2,6 @@
 use Rattle.std.proofs.Common.{◌≡◌, ◌≤◌, ◌<◌, ℕ, suc, ◌+◌, List, [], ◌∷◌, ◌++◌, length, get_or, take, map, Option, Some, None, IfSome, arith, refl, sym, ◌∙◌, ap, subst, add-one}
 use Rattle.std.proofs.lemmas.List.{take_all, take_more, get_or-map}
 use Rattle.qm_model.specs.Causes.{Rose}
-use Rattle.qm_model.specs.Operations.{Bytes}
 use Rattle.qm_model.specs.StoreModel.{Stored}
 use Rattle.qm_model.specs.Batches.{Apart}
 use Rattle.qm_machine.specs.Lines.{Line, Answer}

@@ -1,6 +1,6 @@
 //! That batches behind a log's list answer, and a root that was computed by another program.
 
-ghost use Rattle.std.specs.Prelude.{◌≡◌, ◌+◌, IfOk, length};
+ghost use Rattle.std.specs.Prelude.{◌≡◌, IfOk, length};
 
 use qm_base::{Digest, Error, Location, Sha256, Sha256Digest};
 use qm_merkle::StandardHasher;

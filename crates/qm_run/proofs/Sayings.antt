@@ -1,5 +1,5 @@
 -- What each status says, from what the lines' answering gave.
-use Rattle.std.proofs.Common.{◌≡◌, ◌⊎◌, ◌+◌, ◌<◌, ℕ, List, [], ◌++◌, length, take, Option, Some, None, arith, refl, sym, ◌∙◌, ap, subst, inl, inr, append-nil, IfSome}
+use Rattle.std.proofs.Common.{◌≡◌, ◌⊎◌, ◌+◌, ◌<◌, ℕ, [], ◌++◌, length, take, Option, Some, None, arith, refl, sym, ◌∙◌, ap, subst, inl, inr, append-nil, IfSome}
 use Rattle.std.proofs.lemmas.List.{take_all}
 use Rattle.qm_model.specs.Causes.{Grows, GrowsPart}
 use Rattle.qm_model.specs.Operations.{Bytes}

@@ -1,5 +1,5 @@
 -- What a store in memory notes of its calls tells each earlier state.
-use Rattle.std.proofs.Common.{◌≡◌, ◌∙◌, ℕ, suc, ◌+◌, ◌-◌, ◌<◌, ◌≤◌, Bool, true, false, List, [], ◌∷◌, ◌++◌, length, take, drop, get_or, refl, sym, ap, ap₂, subst, arith, append-nil, Option, Some, None}
+use Rattle.std.proofs.Common.{◌≡◌, ◌∙◌, ℕ, suc, ◌+◌, ◌-◌, ◌<◌, ◌≤◌, Bool, true, false, List, [], ◌∷◌, ◌++◌, length, take, get_or, refl, sym, ap, ap₂, subst, arith, append-nil, Option, Some, None}
 use Rattle.std.specs.Prelude.{All, bytes_eq, filter, not, slice_get}
 use Rattle.std.specs.List.{insert, remove}
 use Rattle.std.proofs.lemmas.List.{take_all, take-append-drop, length-append}
@@ -11,7 +11,7 @@ use Rattle.std.proofs.lemmas.List.Elements.{All-filter, filter_passes, All-tail}
 use Rattle.std.proofs.lemmas.Slice.Eq.{bytes_eq-Decides}
 use Rattle.qm_model.specs.Operations.{Bytes}
 use Rattle.qm_model.specs.StoreModel.{Entry, Named, Stored, appended, settled, rewound, pruned, with_metadata, restarted, destroyed}
-use Rattle.qm_store.specs.Changes.{Change, put_new, put_over, AreNamedOnce, appending, settling, rewinding, pruning, restarting, emptying, place_of, replaced, putting, undone, before}
+use Rattle.qm_store.specs.Changes.{Change, put_over, AreNamedOnce, appending, settling, rewinding, pruning, restarting, emptying, place_of, replaced, putting, undone, before}
 use Rattle.qm_store.specs.Mem.{Mem, made}
 
 -- Metadata by name.

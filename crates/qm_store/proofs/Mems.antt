@@ -1,8 +1,7 @@
 -- What a store in memory is after its calls.
-use Rattle.std.proofs.Common.{◌≡◌, ◌∙◌, ◌∷◌, ℕ, List, ap, sym, subst, refl, arith, Result, Ok, Err}
-use Rattle.std.specs.Prelude.{bytes_eq, filter, not, OnOk, OnErr}
-use Rattle.qm_model.specs.Operations.{Bytes}
-use Rattle.qm_model.specs.StoreModel.{Entry, Named, Stored, with_metadata, restarted, HasRestarted}
+use Rattle.std.proofs.Common.{◌≡◌, ℕ, ap, sym, subst, refl, arith, Result, Ok, Err}
+use Rattle.std.specs.Prelude.{OnOk, OnErr}
+use Rattle.qm_model.specs.StoreModel.{Stored, restarted, HasRestarted}
 use Rattle.qm_model.proofs.Stores as stored
 use Rattle.qm_store.specs.declared.StoreError.{StoreError}
 use Rattle.qm_store.specs.declared.StoreError.TheVariants as stores

@@ -1,7 +1,7 @@
 -- What a store in memory chooses and notes, computed.
-use Rattle.std.specs.Prelude.{◌≡◌, ℕ, List, [], ◌∷◌, refl}
-use Rattle.qm_model.specs.StoreModel.{Entry, Named, Stored, empty, appended, settled, rewound, pruned, with_metadata, restarted, destroyed}
-use Rattle.qm_store.specs.Changes.{Change, grew, settled_from, rewound_from, pruned_from, put_new, put_over, restarted_from, emptied, appending, settling, rewinding, pruning, putting, restarting, emptying, before}
+use Rattle.std.specs.Prelude.{◌≡◌, ℕ, [], ◌∷◌, refl}
+use Rattle.qm_model.specs.StoreModel.{Named, Stored, appended, settled, rewound, pruned, with_metadata, restarted, destroyed}
+use Rattle.qm_store.specs.Changes.{rewound_from, pruned_from, put_new, put_over, appending, settling, rewinding, pruning, putting, restarting, emptying, before}
 use Rattle.qm_store.specs.Mem.{chosen}
 
 -- four items from location 10 on, of which the first two are stable

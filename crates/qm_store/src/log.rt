@@ -5,7 +5,7 @@ ghost use Rattle.std.specs.Prelude.{Ok, Err, Some, None, IfSome, IfOk, IfErr, On
 ghost use Rattle.std.specs.Int.NonZero.{non_zero_u64_get};
 ghost use Rattle.std.specs.List.{concat};
 ghost use Rattle.qm_model.specs.Causes.{IsCause};
-ghost use Rattle.qm_model.specs.StoreModel.{settled, rewound, pruned, with_metadata, IsImage, IsOldOrNew, RewindLeaves, ReadsAs, Turns, Becomes};
+ghost use Rattle.qm_model.specs.StoreModel.{settled, rewound, pruned, with_metadata, IsImage, IsOldOrNew, RewindLeaves, ReadsAs, Becomes};
 ghost use Rattle.qm_model.specs.Trees as trees;
 ghost use Rattle.qm_model.specs.Proofs.{proof_of};
 ghost use Rattle.qm_merkle.specs.Mems.{Stands, IsWhole, node_at};

@@ -1,6 +1,6 @@
 // A store in memory, which fails exactly at the listed calls.
-ghost use Rattle.std.specs.Prelude.{◌≡◌, ◌≢◌, ℕ, ◌+◌, ◌-◌, ◌^◌, ◌<◌, ◌≤◌, ◌↔◌, List, [], length, map, take, slice_get, Contains};
-ghost use Rattle.std.specs.Prelude.{IsTrue, Some, IfSome, IfOk, OnOk, OnErr, IsErrOf};
+ghost use Rattle.std.specs.Prelude.{◌≡◌, ◌≢◌, ◌+◌, ◌-◌, ◌^◌, ◌<◌, ◌≤◌, ◌↔◌, [], length, map, slice_get, Contains};
+ghost use Rattle.std.specs.Prelude.{IsTrue, Some, IfOk, OnOk, OnErr, IsErrOf};
 ghost use Rattle.std.proofs.Common.{refl};
 ghost use Rattle.std.proofs.Math.Nat.{le-add_right};
 ghost use Rattle.qm_model.specs.Causes.{IsCause};

@@ -1,4 +1,4 @@
-use Rattle.std.proofs.Common.{◌≢◌, ◌≡◌, min, map, rules, arith, Err}
+use Rattle.std.proofs.Common.{min, map, rules, arith}
 use Rattle.std.proofs.lemmas.Grind.{common_steps}
 use Rattle.qm_model.specs.StoreModel.{IsImage, IsOldOrNew, RewindLeaves, ReadsAs, HasAppended, DestroyLeaves, pruned, with_metadata}
 use Rattle.qm_model.proofs.Stores.{reads-kept, reads-kept-or, reads-kept-rewind, reads-kept-append, reads-kept-destroy}
