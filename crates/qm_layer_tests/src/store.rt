@@ -33,11 +33,11 @@ fn last_items(alloc: Global) -> Result<Vec<Vec<u8>>, AllocError>
     ]?)
 }
 
-// A store of five items.
-fn five(alloc: Global) -> Result<MemStore, StoreError>
+// A store of five items, which fails at the listed calls.
+pub(crate) fn five(alloc: Global, fail: Vec<u64>) -> Result<MemStore, StoreError>
     ensures { IfOk result (λ s. (s.held.start ≡ 0) × (length s.held.items ≡ 5)) }
 {
-    let mut store = MemStore::new(alloc, Vec::new(alloc));
+    let mut store = MemStore::new(alloc, fail);
     store.append(&first_items(alloc)?)?;
     Ok(store)
 }
@@ -66,7 +66,7 @@ fn in_steps(alloc: Global, log: &mut Log, more: &[Vec<u8>]) -> Result<(Sha256Dig
 #[test]
 fn batches_stand_behind_a_log(rt: HostRuntime) -> Result<(), Fail> {
     let alloc = rt.alloc();
-    let store = five(alloc)?;
+    let store = five(alloc, Vec::new(alloc))?;
     let more = last_items(alloc)?;
     match Log::open(alloc, store, Sha256::new(), 5) {
         Ok(mut log) => {
