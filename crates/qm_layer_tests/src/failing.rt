@@ -7,7 +7,7 @@ use crate::store::five;
 use qm_base::{Error, JournalError, Sha256};
 use qm_merkle::mmr::Family;
 use qm_store::{AuthLog, LogGiven, LogRefusal, MemStore, Store};
-use std::alloc::{AllocError, Global};
+use std::alloc::Global;
 use std::test::Fail;
 
 type Log = AuthLog<Family, MemStore, Sha256>;
