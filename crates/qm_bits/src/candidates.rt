@@ -1,0 +1,1 @@
+//! Locations that may hold live updates.
