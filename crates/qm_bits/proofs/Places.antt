@@ -44,7 +44,7 @@ unfolding is_set
 with_clear words n i = ap (λ w. bit_at w (i % 64) == 1) (same (cases_lt (i / 64) (length words)))
   where
     zeros : (k : ℕ) → get_or {A = ℕ} (replicate n 0) k 0 ≡ 0
-    zeros k = ⊎_elim (λ (low : k < n). get_or-replicate n k 0 0 low) (λ (past : n ≤ k). let long = length-replicate n 0 in get_or_past (replicate n 0) k 0 (omega arith)) (cases_lt k n)
+    zeros k = ⊎_elim (λ (low : k < n). get_or-replicate n k 0 0 low) (λ (past : n ≤ k). let long = length-replicate {A = ℕ} n 0 in get_or_past (replicate n 0) k 0 (omega arith)) (cases_lt k n)
 
     same : (i / 64 < length words) ⊎ (length words ≤ i / 64) → get_or (words ++ replicate n 0) (i / 64) 0 ≡ get_or words (i / 64) 0
     same (inl low) = get_or_append_left words (replicate n 0) 0 (i / 64) low
@@ -146,3 +146,8 @@ bits_behind n count words =
     let left = length-drop (64 * count) (bits_of n words) in
     bits_are (n - 64 * count) (drop count words) (drop (64 * count) (bits_of n words)) (omega arith) (λ i lt.
     get_or-drop (64 * count) (bits_of n words) i false ∙ bit_of n words (64 * count + i) false (omega arith) ∙ sym (behind words count i))
+
+-- no words have no bit
+pub no_words : (i : ℕ) → is_set [] i ≡ false
+unfolding is_set
+no_words i = ap (λ n. n == 1) (bit_at-zero (i % 64))

@@ -121,9 +121,10 @@ impl<N: Chunks> Prunable<N> {
         requires { at ≤ bit_count N.LEN self.old }
         ensures { self.new ≡ record { pruned = max self.old.pruned (at / (8 * N.LEN)); kept = drop ((at / (8 * N.LEN) - self.old.pruned) * (8 * N.LEN)) self.old.kept } }
     {
-        let chunks = (at / N::span()) as usize;
+        let span = N::span();
+        let chunks = (at / span) as usize;
         if self.pruned < chunks {
-            let bits = (chunks - self.pruned) as u64 * N::span();
+            let bits = (chunks - self.pruned) as u64 * span;
             words::drop_first(&mut self.words, (bits / 64) as usize);
             self.length -= bits;
             self.pruned = chunks;

@@ -15,11 +15,11 @@ pub(crate) fn get(words: &[u64], at: usize) -> bool
 }
 
 // Sets or clears a bit.
-pub(crate) fn put(words: &mut [u64], at: usize, value: bool)
-    requires { at < 64 * length words.old }
-    ensures len { length words.new ≡ length words.old }
-    ensures here { is_set words.new at ≡ value }
-    ensures others { (i : ℕ) → i ≢ at → is_set words.new i ≡ is_set words.old i }
+pub(crate) fn put(words: &mut Vec<u64>, at: usize, value: bool)
+    requires { at < 64 * length words.old.items }
+    ensures len { length words.new.items ≡ length words.old.items }
+    ensures here { is_set words.new.items at ≡ value }
+    ensures others { (i : ℕ) → i ≢ at → is_set words.new.items i ≡ is_set words.old.items i }
 {
     words[at / 64] = with_bit(words[at / 64], at % 64, value);
 }
