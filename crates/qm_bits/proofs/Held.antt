@@ -1,8 +1,10 @@
 -- A bitmap whose bits are held in words.
-use Rattle.std.proofs.Common.{◌≡◌, ◌≢◌, ℕ, ◌+◌, ◌-◌, ◌*◌, ◌/◌, ◌%◌, ◌^◌, ◌<◌, ◌≤◌, Bool, false, List, [], ◌∷◌, ◌++◌, length, drop, get_or, set, replicate, max, arith, ap, ap₂, sym, subst, ◌∙◌, refl}
-use Rattle.std.proofs.lemmas.List.{set_at, nil_from_length, length-drop}
+use Rattle.std.proofs.Common.{◌≡◌, ◌≢◌, ℕ, ◌+◌, ◌-◌, ◌*◌, ◌/◌, ◌%◌, ◌^◌, ◌<◌, ◌≤◌, Bool, true, false, List, [], ◌∷◌, ◌++◌, length, drop, get_or, set, replicate, min, max, ⊎_elim, arith, ap, ap₂, sym, subst, ◌∙◌, refl}
+use Rattle.std.proofs.lemmas.List.{set_at, nil_from_length, length-drop, length-append, length-replicate, get_or_append_left, get_or-append_right, get_or-replicate, get_or_past, get_or_default}
+use Rattle.std.proofs.lemmas.Bool.{cases_lt}
 use Rattle.std.proofs.lemmas.Nat.{div-add-mod'}
-use Rattle.qm_bits.specs.Bitmaps.{Bitmap, start, bit_count}
+use Rattle.qm_bits.specs.Bitmaps.{Bitmap, start, bit_count, all_bits}
+use Rattle.qm_bits.specs.Candidates.{is_candidate}
 use Rattle.qm_bits.specs.Words.{is_set, bits_of, AreHeld}
 use Rattle.qm_bits.proofs.Places.{length-bits_of, bit_of, bits_set, bits_more, bits_behind, behind}
 
@@ -42,6 +44,47 @@ module _ (size pruned n : ℕ) (words : List ℕ) (map : Bitmap) (is : held prun
       ap (λ k. record { pruned = pruned; kept = bits_of k new }) total
       ∙ ap (λ bits. record { pruned = pruned; kept = bits }) (bits_more n (len - bit_count size map) words new same clear)
       ∙ ap (λ m. record { pruned = m.pruned; kept = m.kept ++ replicate (len - bit_count size map) false }) is
+
+-- What is a candidate.
+
+-- not where bits are no longer kept
+pub pruned_clear : (size : ℕ) (map : Bitmap) (i : ℕ) → i < start size map → is_candidate (all_bits size map) i ≡ false
+pruned_clear size map i low =
+    let long = length-replicate {A = Bool} (start size map) false in
+    get_or_append_left (replicate (start size map) false) map.kept true i (omega arith) ∙ get_or-replicate (start size map) i false true low
+
+-- each location that has no bit yet
+pub later_found : (size : ℕ) (map : Bitmap) (i : ℕ) → bit_count size map ≤ i → is_candidate (all_bits size map) i ≡ true
+later_found size map i past =
+    let long = length-append (replicate (start size map) false) map.kept in
+    let front = length-replicate {A = Bool} (start size map) false in
+    get_or_past (all_bits size map) i true (omega arith)
+
+-- between these, by the bit
+pub kept_found : (size pruned n : ℕ) (words : List ℕ) (map : Bitmap) → held pruned n words ≡ map → (i : ℕ) → start size map ≤ i → i < bit_count size map
+    → is_candidate (all_bits size map) i ≡ is_set words (i - start size map)
+kept_found size pruned n words map is i from within =
+    let front = length-replicate {A = Bool} (start size map) false in
+    get_or-append_right (replicate (start size map) false) map.kept (start size map) i true front from
+    ∙ get_or_default map.kept (i - start size map) true false (omega arith)
+    ∙ sym (bit_is size pruned n words map is i from within)
+
+-- What a search in the words finds, between the first kept bit and the end of the bits or the tip.
+module _ (size pruned n : ℕ) (words : List ℕ) (map : Bitmap) (is : held pruned n words ≡ map) (from tip at first end found : ℕ) (at_is : at ≡ start size map) (first_is : first ≡ max from at) (end_is : end ≡ min tip (bit_count size map)) (low : first - at ≤ found) (high : found ≤ end - at) (some : first < end) where
+  pub search_clear : ((i : ℕ) → first - at ≤ i → i < found → is_set words i ≡ false) → (i : ℕ) → from ≤ i → i < at + found → is_candidate (all_bits size map) i ≡ false
+  search_clear clear i after before = ⊎_elim
+      (λ (gone : i < start size map). pruned_clear size map i gone)
+      (λ (kept : start size map ≤ i).
+      kept_found size pruned n words map is i kept (omega arith) ∙ clear (i - start size map) (omega arith) (omega arith))
+      (cases_lt i (start size map))
+
+  pub search_found : (found < end - at → is_set words found ≡ true) → at + found < tip → is_candidate (all_bits size map) (at + found) ≡ true
+  search_found set_there before = ⊎_elim
+      (λ (inside : found < end - at).
+      let place : at + found - start size map ≡ found = omega arith in
+      kept_found size pruned n words map is (at + found) (omega arith) (omega arith) ∙ ap (is_set words) place ∙ set_there inside)
+      (λ (past : end - at ≤ found). later_found size map (at + found) (omega arith))
+      (cases_lt found (end - at))
 
 -- one more bit, put behind as a clear one and then set
 pub held_push : (size : ℕ) (old more new : Bitmap) (at : ℕ) (value : Bool) → at ≡ bit_count size old → more ≡ record { pruned = old.pruned; kept = old.kept ++ replicate (at + 1 - bit_count size old) false }

@@ -6,6 +6,7 @@ pub mod chunks;
 pub mod prunable;
 mod words;
 
+pub use candidates::Candidates;
 
 pub use chunks::{Chunk32, Chunk64, Chunks};
 pub use prunable::Prunable;

@@ -1,7 +1,8 @@
 //! Bits in words, from the first chunk that is kept.
 
-ghost use Rattle.std.specs.Prelude.{◌≡◌, ◌+◌, ◌-◌, ◌*◌, ◌/◌, ◌^◌, ◌<◌, ◌≤◌, ℕ, [], ◌∷◌, ◌++◌, false, length, set, max, drop, replicate, slice_index_or, OnOk, OnErr};
-ghost use Rattle.qm_bits.specs.Bitmaps.{start, bit_count};
+ghost use Rattle.std.specs.Prelude.{◌≡◌, ◌+◌, ◌-◌, ◌*◌, ◌/◌, ◌^◌, ◌<◌, ◌≤◌, ℕ, [], ◌∷◌, ◌++◌, true, false, length, set, max, drop, replicate, slice_index_or, OnOk, OnErr};
+ghost use Rattle.qm_bits.specs.Bitmaps.{start, bit_count, all_bits};
+ghost use Rattle.qm_bits.specs.Candidates.{is_candidate};
 
 use crate::chunks::Chunks;
 use crate::words;
@@ -129,5 +130,21 @@ impl<N: Chunks> Prunable<N> {
             self.length -= bits;
             self.pruned = chunks;
         }
+    }
+
+    // The first candidate from a place on, or the tip where there is none before it. Clear bits are passed 64 in a step.
+    pub(crate) fn next_candidate(&self, from: u64, tip: u64) -> u64
+        requires { from ≤ tip }
+        ensures between { (from ≤ result) × (result ≤ tip) }
+        ensures clear { (i : ℕ) → from ≤ i → i < result → is_candidate (all_bits N.LEN self.now) i ≡ false }
+        ensures found { result < tip → is_candidate (all_bits N.LEN self.now) result ≡ true }
+    {
+        let start = self.start();
+        let end = tip.min(self.len());
+        let first = from.max(start);
+        if end <= first {
+            return from.max(end);
+        }
+        start + words::next_set(&self.words, (first - start) as usize, (end - start) as usize) as u64
     }
 }
