@@ -1,3 +1,5 @@
 pub mod Finding
 pub mod Held
+pub mod Packing
 pub mod Places
+pub mod Reading

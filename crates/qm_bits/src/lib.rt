@@ -4,9 +4,11 @@
 pub mod candidates;
 pub mod chunks;
 pub mod prunable;
+pub mod readable;
 mod words;
 
 pub use candidates::Candidates;
 
 pub use chunks::{Chunk32, Chunk64, Chunks};
 pub use prunable::Prunable;
+pub use readable::Readable;

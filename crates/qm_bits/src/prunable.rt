@@ -1,6 +1,7 @@
 //! Bits in words, from the first chunk that is kept.
 
-ghost use Rattle.std.specs.Prelude.{◌≡◌, ◌+◌, ◌-◌, ◌*◌, ◌/◌, ◌^◌, ◌<◌, ◌≤◌, ℕ, [], ◌∷◌, ◌++◌, true, false, length, set, max, drop, replicate, slice_index_or, OnOk, OnErr};
+ghost use Rattle.std.specs.Prelude.{◌≡◌, ◌+◌, ◌-◌, ◌*◌, ◌/◌, ◌^◌, ◌<◌, ◌≤◌, ℕ, [], ◌∷◌, ◌++◌, true, false, length, set, max, drop, replicate, slice_index_or, OnOk, OnErr, IfOk};
+ghost use Rattle.qm_model.specs.Bits.{chunk};
 ghost use Rattle.qm_bits.specs.Bitmaps.{start, bit_count, all_bits};
 ghost use Rattle.qm_bits.specs.Candidates.{is_candidate};
 
@@ -146,5 +147,17 @@ impl<N: Chunks> Prunable<N> {
             return from.max(end);
         }
         start + words::next_set(&self.words, (first - start) as usize, (end - start) as usize) as u64
+    }
+
+    // The bytes of a chunk that is not pruned, zeros behind the last bit.
+    pub(crate) fn chunk_bytes(&self, alloc: Global, at: usize) -> Result<Vec<u8>, AllocError>
+        requires not_pruned { self.now.pruned ≤ at }
+        requires begun { at * (8 * N.LEN) ≤ bit_count N.LEN self.now }
+        ensures { IfOk result (λ bytes. bytes.items ≡ chunk N.LEN (all_bits N.LEN self.now) at) }
+    {
+        let span = N::span();
+        let first = (at - self.pruned) as u64 * span / 64;
+        let bytes = words::bytes(alloc, &self.words, first as usize, (span / 64) as usize)?;
+        Ok(bytes)
     }
 }

@@ -1,10 +1,11 @@
 //! Bits in words.
 
-ghost use Rattle.std.specs.Prelude.{◌≡◌, ◌≢◌, ℕ, ◌*◌, ◌^◌, ◌<◌, ◌≤◌, true, false, if◌then◌else◌, length, drop, OnOk, OnErr};
+ghost use Rattle.std.specs.Prelude.{◌≡◌, ◌≢◌, ℕ, ◌*◌, ◌^◌, ◌<◌, ◌≤◌, true, false, if◌then◌else◌, List, Bool, ◌+◌, length, drop, slice_index, slice_index_or, IfOk, OnOk, OnErr};
+ghost use Rattle.qm_model.specs.Bits.{packed};
 ghost use Rattle.std.specs.Int.{bit_at};
 ghost use Rattle.qm_bits.specs.Words.{is_set};
 
-use std::alloc::AllocError;
+use std::alloc::{AllocError, Global};
 
 // Whether a bit is set.
 pub(crate) fn get(words: &[u64], at: usize) -> bool
@@ -75,4 +76,26 @@ pub(crate) fn drop_first(words: &mut Vec<u64>, count: usize)
     words.rotate_left(count);
     let left = words.len() - count;
     words.truncate(left);
+}
+
+// The word at a place, 0 where none is left.
+fn word_at(words: &[u64], at: usize) -> u64
+    ensures { result ≡ slice_index words.now at }
+{
+    match words.get(at) {
+        Some(word) => *word,
+        None => 0,
+    }
+}
+
+// The bytes of so many words from one on, zeros where no word is left.
+pub(crate) fn bytes(alloc: Global, words: &[u64], first: usize, count: usize) -> Result<Vec<u8>, AllocError>
+    requires { first + count ≤ 2 ^ 60 }
+    ensures { IfOk result (λ bytes. (bits : List Bool) → ((i : ℕ) → i < 64 * count → slice_index_or bits i false ≡ is_set words.now (64 * first + i)) → bytes.items ≡ packed (8 * count) bits) }
+{
+    let mut bytes = Vec::with_capacity(alloc, count * 8)?;
+    for k in 0..count {
+        bytes.extend_from_slice(&word_at(words, first + k).to_le_bytes())?;
+    }
+    Ok(bytes)
 }
