@@ -1,6 +1,6 @@
 -- Bytes of words, and bytes of bits.
 use Rattle.std.proofs.Common.{◌≡◌, ℕ, zero, suc, ◌+◌, ◌-◌, ◌*◌, ◌/◌, ◌%◌, ◌^◌, ◌<◌, ◌≤◌, Bool, true, false, List, [], ◌∷◌, ◌++◌, length, take, drop, get_or, min, arith, ap, ap₂, sym, subst, ◌∙◌, refl, ⊎_elim, w64}
-use Rattle.std.specs.Prelude.{◌==◌, if◌then◌else◌, bit_and}
+use Rattle.std.specs.Prelude.{◌==◌, if◌then◌else◌}
 use Rattle.std.specs.Int.{bit_at, byte_at, bytes_low_first, to_le_bytes}
 use Rattle.std.proofs.lemmas.Bool.{cases_lt}
 use Rattle.std.proofs.lemmas.List.{length-append, get_or_append_left, get_or-append_right, ext_get_or, get_or_past}
@@ -62,7 +62,7 @@ bytes_more words first count bytes were = record {
       let word : (64 * first + i) / 64 ≡ first + count = omega arith in
       let place : 8 * (i / 8 - 8 * count) + i % 8 ≡ (64 * first + i) % 64 = omega arith in
       ap (λ b. bit_at b (i % 8) == 1)
-          (get_or-append_right bytes added (8 * count) (i / 8) 0 were.long (omega arith) ∙ word_read (get_or words (first + count) 0) (i / 8 - 8 * count) (omega arith))
+      (get_or-append_right bytes added (8 * count) (i / 8) 0 were.long (omega arith) ∙ word_read (get_or words (first + count) 0) (i / 8 - 8 * count) (omega arith))
       ∙ ap (λ n. n == 1) (byte_bits (i / 8 - 8 * count) (get_or words (first + count) 0) (i % 8) (omega arith))
       ∙ ap₂ (λ k p. bit_at (get_or words k 0) p == 1) (sym word) place)
       (cases_lt i (64 * count));

@@ -1,14 +1,13 @@
 -- Bits by their place in words, and lists of bits.
-use Rattle.std.proofs.Common.{◌≡◌, ◌≢◌, ℕ, suc, ◌+◌, ◌-◌, ◌*◌, ◌/◌, ◌%◌, ◌^◌, ◌<◌, ◌≤◌, Bool, true, false, List, [], ◌∷◌, ◌++◌, length, take, drop, get_or, set, map, replicate, arith, ap, ap₂, sym, ◌∙◌, refl, subst, ⊎_elim, ◌⊎◌, inl, inr, w64}
+use Rattle.std.proofs.Common.{◌≡◌, ◌≢◌, ℕ, ◌+◌, ◌-◌, ◌*◌, ◌/◌, ◌%◌, ◌^◌, ◌<◌, ◌≤◌, Bool, true, false, List, [], ◌++◌, length, drop, get_or, set, replicate, arith, ap, ap₂, sym, ◌∙◌, refl, subst, ⊎_elim, ◌⊎◌, inl, inr, w64}
 use Rattle.std.specs.Prelude.{◌==◌, if◌then◌else◌, bit_and}
-use Rattle.std.specs.List.{range_with_len}
 use Rattle.std.specs.Int.{bit_at, trailing_zeros}
 use Rattle.std.proofs.lemmas.Bool.{cases_lt, cases_eq}
-use Rattle.std.proofs.lemmas.List.{length-set, length-append, length-replicate, length-drop, get_or-drop, get_or-set_same, get_or-set_other, get_or_append_left, get_or-append_right, get_or-replicate, get_or_past, set_at}
-use Rattle.std.proofs.lemmas.List.FromFn.{length-map-range_with_len, get_or-map-range_with_len, fill_by_all, map-range_with_len_more}
+use Rattle.std.proofs.lemmas.List.{length-set, length-append, length-replicate, length-drop, get_or-drop, get_or-set_same, get_or-set_other, get_or_append_left, get_or-append_right, get_or-replicate, get_or_past}
+use Rattle.std.proofs.lemmas.List.FromFn.{length-map-range_with_len, get_or-map-range_with_len, fill_by_all}
 use Rattle.std.proofs.lemmas.Nat.{shr-shr, shr_le}
 use Rattle.std.proofs.lemmas.Nat.Bits.{shr_and_one, bit_at-zero, bit_at-trailing_zeros, bit_at_above}
-use Rattle.qm_bits.specs.Words.{is_set, bits_of, AreHeld}
+use Rattle.qm_bits.specs.Words.{is_set, bits_of}
 
 -- Bits of words.
 
@@ -124,9 +123,9 @@ bits_set n old new at value within here others =
     let long = length-bits_of n old in
     let same = length-set (bits_of n old) at value in
     bits_are n new (set (bits_of n old) at value) (omega arith) (λ i lt. ⊎_elim
-        (λ (e : i ≡ at). ap (λ j. get_or (set (bits_of n old) at value) j false) e ∙ get_or-set_same (bits_of n old) at value false (omega arith) ∙ sym here ∙ ap (is_set new) (sym e))
-        (λ (apart : i ≢ at). get_or-set_other (bits_of n old) at i value false apart ∙ bit_of n old i false lt ∙ sym (others i apart))
-        (cases_eq i at))
+    (λ (e : i ≡ at). ap (λ j. get_or (set (bits_of n old) at value) j false) e ∙ get_or-set_same (bits_of n old) at value false (omega arith) ∙ sym here ∙ ap (is_set new) (sym e))
+    (λ (apart : i ≢ at). get_or-set_other (bits_of n old) at i value false apart ∙ bit_of n old i false lt ∙ sym (others i apart))
+    (cases_eq i at))
 
 -- clear bits behind those that there were
 pub bits_more : (n more : ℕ) (old new : List ℕ) → ((i : ℕ) → is_set new i ≡ is_set old i) → ((i : ℕ) → n ≤ i → is_set old i ≡ false) → bits_of (n + more) new ≡ bits_of n old ++ replicate more false
@@ -135,9 +134,9 @@ bits_more n more old new same clear =
     let both = length-append (bits_of n old) (replicate more false) in
     let rest = length-replicate more false in
     bits_are (n + more) new (bits_of n old ++ replicate more false) (omega arith) (λ i lt. ⊎_elim
-        (λ (low : i < n). get_or_append_left (bits_of n old) (replicate more false) false i (omega arith) ∙ bit_of n old i false low ∙ sym (same i))
-        (λ (past : n ≤ i). get_or-append_right (bits_of n old) (replicate more false) n i false long past ∙ get_or-replicate more (i - n) false false (omega arith) ∙ sym (same i ∙ clear i past))
-        (cases_lt i n))
+    (λ (low : i < n). get_or_append_left (bits_of n old) (replicate more false) false i (omega arith) ∙ bit_of n old i false low ∙ sym (same i))
+    (λ (past : n ≤ i). get_or-append_right (bits_of n old) (replicate more false) n i false long past ∙ get_or-replicate more (i - n) false false (omega arith) ∙ sym (same i ∙ clear i past))
+    (cases_lt i n))
 
 -- the bits behind so many words
 pub bits_behind : (n count : ℕ) (words : List ℕ) → bits_of (n - 64 * count) (drop count words) ≡ drop (64 * count) (bits_of n words)

@@ -1,5 +1,5 @@
 -- Chunks of a bitmap whose bits are held in words.
-use Rattle.std.proofs.Common.{◌≡◌, ℕ, ◌+◌, ◌-◌, ◌*◌, ◌/◌, ◌%◌, ◌^◌, ◌<◌, ◌≤◌, Bool, false, List, ◌++◌, length, drop, get_or, replicate, arith, ap, sym, subst, ◌∙◌, ⊎_elim}
+use Rattle.std.proofs.Common.{◌≡◌, ℕ, ◌+◌, ◌-◌, ◌*◌, ◌/◌, ◌%◌, ◌^◌, ◌<◌, ◌≤◌, Bool, false, List, drop, get_or, replicate, arith, ap, sym, ◌∙◌, ⊎_elim}
 use Rattle.std.proofs.lemmas.Bool.{cases_lt}
 use Rattle.std.proofs.lemmas.List.{length-replicate, get_or-append_right, get_or_past, get_or-drop}
 use Rattle.qm_model.specs.Bits.{packed, chunk}
@@ -16,9 +16,9 @@ module _ (size pruned n : ℕ) (words : List ℕ) (map : Bitmap) (is : held prun
       let front = length-replicate {A = Bool} (start size map) false in
       get_or-append_right (replicate (start size map) false) map.kept (start size map) i false front from
       ∙ ⊎_elim
-          (λ (inside : i < bit_count size map). sym (bit_is size pruned n words map is i from inside))
-          (λ (past : bit_count size map ≤ i). get_or_past map.kept (i - start size map) false (omega arith) ∙ sym (are.clear (i - start size map) (omega arith)))
-          (cases_lt i (bit_count size map))
+      (λ (inside : i < bit_count size map). sym (bit_is size pruned n words map is i from inside))
+      (λ (past : bit_count size map ≤ i). get_or_past map.kept (i - start size map) false (omega arith) ∙ sym (are.clear (i - start size map) (omega arith)))
+      (cases_lt i (bit_count size map))
 
   -- the words of a chunk
   chunk_place : (c : ℕ) → size % 8 ≡ 0 → pruned ≤ c → c * (8 * size) ≡ start size map + 64 * ((c - pruned) * (8 * size) / 64)

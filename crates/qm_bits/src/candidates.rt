@@ -15,7 +15,13 @@ pub trait Candidates<F> {
     ghost activity: { Self → List Bool };
 
     /// Puts the locations from `floor` on, up to and without `tip`, behind the others in order, until these are `limit`: of those that have a bit the set ones, of the later ones each. It answers where to go on: at the tip, or where `limit` was met. Want of memory is the only error; what was put there until then stays.
-    fn fill(&self, floor: Location<F>, tip: Location<F>, limit: usize, out: &mut Vec<Location<F>>) -> Result<Location<F>, AllocError>
+    fn fill(
+        &self,
+        floor: Location<F>,
+        tip: Location<F>,
+        limit: usize,
+        out: &mut Vec<Location<F>>,
+    ) -> Result<Location<F>, AllocError>
         ensures ok { IfOk result (λ next. IsFilled (activity self.now) floor tip limit out.old.items out.new.items next) }
         ensures rest { IfOk result (λ next. candidates (activity self.now) floor tip ≡ candidates (activity self.now) floor next ++ candidates (activity self.now) next tip) }
         ensures whole { IfOk result (λ next. length out.new.items < limit → next ≡ max floor tip) }
@@ -25,7 +31,13 @@ pub trait Candidates<F> {
 impl<F, N: Chunks> Candidates<F> for Prunable<N> {
     ghost activity = { all_bits N.LEN };
 
-    fn fill(&self, floor: Location<F>, tip: Location<F>, limit: usize, out: &mut Vec<Location<F>>) -> Result<Location<F>, AllocError>
+    fn fill(
+        &self,
+        floor: Location<F>,
+        tip: Location<F>,
+        limit: usize,
+        out: &mut Vec<Location<F>>,
+    ) -> Result<Location<F>, AllocError>
         ensures ok { IfOk result (λ next. IsFilled (all_bits N.LEN self.now) floor tip limit out.old.items out.new.items next) }
         ensures rest { IfOk result (λ next. candidates (all_bits N.LEN self.now) floor tip ≡ candidates (all_bits N.LEN self.now) floor next ++ candidates (all_bits N.LEN self.now) next tip) }
         ensures whole { IfOk result (λ next. length out.new.items < limit → next ≡ max floor tip) }

@@ -8,7 +8,6 @@ pub mod readable;
 mod words;
 
 pub use candidates::Candidates;
-
 pub use chunks::{Chunk32, Chunk64, Chunks};
 pub use prunable::Prunable;
 pub use readable::Readable;

@@ -146,7 +146,12 @@ impl<N: Chunks> Prunable<N> {
         if end <= first {
             return from.max(end);
         }
-        start + words::next_set(&self.words, (first - start) as usize, (end - start) as usize) as u64
+        start
+            + words::next_set(
+                &self.words,
+                (first - start) as usize,
+                (end - start) as usize,
+            ) as u64
     }
 
     // The bytes of a chunk that is not pruned, zeros behind the last bit.

@@ -89,7 +89,12 @@ fn word_at(words: &[u64], at: usize) -> u64
 }
 
 // The bytes of so many words from one on, zeros where no word is left.
-pub(crate) fn bytes(alloc: Global, words: &[u64], first: usize, count: usize) -> Result<Vec<u8>, AllocError>
+pub(crate) fn bytes(
+    alloc: Global,
+    words: &[u64],
+    first: usize,
+    count: usize,
+) -> Result<Vec<u8>, AllocError>
     requires { first + count ≤ 2 ^ 60 }
     ensures { IfOk result (λ bytes. (bits : List Bool) → ((i : ℕ) → i < 64 * count → slice_index_or bits i false ≡ is_set words.now (64 * first + i)) → bytes.items ≡ packed (8 * count) bits) }
 {

@@ -1,4 +1,4 @@
-use Rattle.std.proofs.Common.{◌-◌, ◌∙◌, ap, replicate, take, ◌++◌, vec_len, arith}
+use Rattle.std.proofs.Common.{◌-◌, ◌∙◌, ap, replicate, ◌++◌, vec_len, arith}
 use Rattle.std.proofs.lemmas.List.{take_all}
 use Rattle.qm_bits.specs.Words.{is_set}
 use Rattle.qm_bits.proofs.Places.{with_clear}

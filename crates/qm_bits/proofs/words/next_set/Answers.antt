@@ -21,7 +21,10 @@ returns-then-rest-ne0-clause-set c = λ before.
     (get_or c.args.words.now (c.loop-at.at / 64) 0 / 2 ^ (c.loop-at.at % 64)) (trailing_zeros w64 (get_or c.args.words.now (c.loop-at.at / 64) 0 / 2 ^ (c.loop-at.at % 64))) refl refl
 
 pub loop-at-preserved : goal.loop-at-preserved
-loop-at-preserved c = (omega arith, λ i from before. ⊎_elim
-    (λ (old : i < c.loop-at.at). c.loop-at.invariant.1 i from old)
-    (λ (new : c.loop-at.at ≤ i). none_left c.args.words.now c.loop-at.at (omega arith) i new before)
-    (cases_lt i c.loop-at.at))
+loop-at-preserved c = (
+  omega arith,
+  λ i from before. ⊎_elim
+      (λ (old : i < c.loop-at.at). c.loop-at.invariant.1 i from old)
+      (λ (new : c.loop-at.at ≤ i). none_left c.args.words.now c.loop-at.at (omega arith) i new before)
+      (cases_lt i c.loop-at.at),
+)

@@ -1,6 +1,6 @@
-use Rattle.std.proofs.Common.{◌≡◌, ◌+◌, ◌<◌, ◌≤◌, ◌∙◌, ◌++◌, ◌∷◌, [], ap, ap₂, sym, subst, length, arith, rules}
+use Rattle.std.proofs.Common.{◌≡◌, ◌∙◌, ◌++◌, ◌∷◌, [], ap, sym, subst, arith}
 use Rattle.qm_bits.specs.Bitmaps.{all_bits}
-use Rattle.qm_bits.specs.Candidates.{is_candidate, candidates, IsFilled}
+use Rattle.qm_bits.specs.Candidates.{candidates, IsFilled}
 use Rattle.qm_bits.proofs.Finding.{filled_none, filled_past, filled_more, filled_rest}
 use Rattle.qm_bits.proofs.candidates.PrunableCandidates.fill.Goals as goal
 

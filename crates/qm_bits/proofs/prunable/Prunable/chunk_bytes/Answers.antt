@@ -1,4 +1,4 @@
-use Rattle.std.proofs.Common.{◌≡◌, ℕ, ◌-◌, ◌+◌, ◌*◌, ◌/◌, ◌^◌, ◌<◌, ◌≤◌, ◌∙◌, ap, sym, subst, arith, rules, false, List, Bool, get_or}
+use Rattle.std.proofs.Common.{◌≡◌, ℕ, ◌-◌, ◌+◌, ◌*◌, ◌/◌, ◌^◌, ◌<◌, ◌≤◌, sym, subst, arith, rules, false, List, Bool, get_or}
 use Rattle.qm_model.specs.Bits.{packed}
 use Rattle.qm_bits.specs.Words.{is_set}
 use Rattle.qm_bits.proofs.Reading.{chunk_is, chunk_fits}

@@ -1,7 +1,5 @@
-use Rattle.std.proofs.Common.{◌≡◌, ◌-◌, ◌+◌, ◌*◌, ◌∙◌, ap, ap₂, sym, subst, arith, length}
-use Rattle.qm_bits.specs.Words.{is_set, AreHeld}
-use Rattle.qm_bits.specs.Bitmaps.{start, bit_count}
-use Rattle.qm_bits.proofs.Held.{held, held_none, start_is, count_is, bit_is, held_set, held_more, held_push}
+use Rattle.std.proofs.Common.{◌-◌, ◌∙◌, ap, arith}
+use Rattle.qm_bits.proofs.Held.{held, start_is, count_is, held_more}
 use Rattle.qm_bits.proofs.prunable.Prunable.extend_to.Goals as goal
 
 pub invariant_of-self-2 : goal.invariant_of-self-2

@@ -1,8 +1,7 @@
-use Rattle.std.proofs.Common.{◌≡◌, ◌-◌, ◌+◌, ◌*◌, ◌∙◌, ap, ap₂, sym, subst, arith, length}
-use Rattle.qm_bits.specs.Words.{is_set, AreHeld}
-use Rattle.qm_bits.specs.Bitmaps.{start, bit_count}
+use Rattle.std.proofs.Common.{sym, subst, arith}
+use Rattle.qm_bits.specs.Words.{AreHeld}
 use Rattle.qm_bits.proofs.Places.{no_words}
-use Rattle.qm_bits.proofs.Held.{held_none, start_is, count_is, bit_is, held_set, held_more, held_push}
+use Rattle.qm_bits.proofs.Held.{held_none}
 use Rattle.qm_bits.proofs.prunable.Prunable.new_with_pruned_chunks.Goals as goal
 
 pub invariant_of-result : goal.invariant_of-result

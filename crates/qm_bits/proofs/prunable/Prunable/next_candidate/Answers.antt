@@ -1,7 +1,5 @@
-use Rattle.std.proofs.Common.{◌≡◌, ℕ, ◌-◌, ◌+◌, ◌*◌, ◌<◌, ◌≤◌, ◌∙◌, ap, ap₂, sym, subst, true, false, length, min, arith}
+use Rattle.std.proofs.Common.{◌∙◌, ap, sym, length, min, arith}
 use Rattle.qm_bits.specs.Words.{is_set}
-use Rattle.qm_bits.specs.Bitmaps.{start, bit_count, all_bits}
-use Rattle.qm_bits.specs.Candidates.{is_candidate}
 use Rattle.qm_bits.proofs.Held.{start_is, count_is, search_clear, search_found}
 use Rattle.qm_bits.proofs.prunable.Prunable.next_candidate.Goals as goal
 

@@ -1,4 +1,4 @@
-use Rattle.std.proofs.Common.{◌≡◌, ◌-◌, ◌+◌, ◌*◌, ◌/◌, ◌<◌, ◌≤◌, ◌∙◌, ap, sym, subst, drop, length, arith}
+use Rattle.std.proofs.Common.{◌-◌, ◌+◌, ◌*◌, ◌/◌, ◌<◌, ◌≤◌, ◌∙◌, ap, sym, subst, drop, length, arith}
 use Rattle.qm_bits.specs.Words.{AreHeld}
 use Rattle.qm_bits.proofs.Held.{held, count_is, bits_within, held_pruned, pruned_is}
 use Rattle.qm_bits.proofs.prunable.Prunable.prune_to_bit.Goals as goal

@@ -1,7 +1,4 @@
-use Rattle.std.proofs.Common.{◌≡◌, ◌-◌, ◌+◌, ◌*◌, ◌∙◌, ap, ap₂, sym, subst, arith, length}
-use Rattle.qm_bits.specs.Words.{is_set, AreHeld}
-use Rattle.qm_bits.specs.Bitmaps.{start, bit_count}
-use Rattle.qm_bits.proofs.Held.{held_none, start_is, count_is, bit_is, held_set, held_more, held_push}
+use Rattle.qm_bits.proofs.Held.{held_push}
 use Rattle.qm_bits.proofs.prunable.Prunable.push.Goals as goal
 
 pub returns-clause-ok : goal.returns-clause-ok
