@@ -1,3 +1,4 @@
+pub mod Activity
 pub mod Finding
 pub mod Held
 pub mod Packing
