@@ -3,7 +3,7 @@
 ghost use Rattle.std.specs.Prelude.{◌≡◌, ℕ, ◌*◌, ◌%◌, ◌^◌, ◌≤◌, refl};
 ghost use Rattle.std.proofs.Common.{arith};
 
-/// How many bytes a chunk has: a power of two, at least 32.
+/// How many bytes a chunk has: a power of two, at least 32 and at most 65,536.
 pub trait Chunks {
     ghost LEN: { ℕ };
 
