@@ -5,6 +5,8 @@
 #[cfg(test)]
 mod base;
 #[cfg(test)]
+mod bits;
+#[cfg(test)]
 mod failing;
 #[cfg(test)]
 mod files;

@@ -1,0 +1,6 @@
+pub mod Activity
+pub mod Finding
+pub mod Held
+pub mod Packing
+pub mod Places
+pub mod Reading
