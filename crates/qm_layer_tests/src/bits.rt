@@ -1,7 +1,7 @@
 //! Bits in chunks, and the walk over them.
 
-use qm_bits::{Candidates, Chunk32, Chunk64, Chunks, Prunable, Readable};
 use qm_base::Location;
+use qm_bits::{Candidates, Chunk32, Chunk64, Chunks, Prunable, Readable};
 use std::alloc::Global;
 use std::process::Abort;
 use std::test::Fail;
