@@ -8,6 +8,7 @@ use Rattle.qm_model.specs.Operations.{Bytes, Operation, update}
 use Rattle.qm_model.specs.Forms.{Form}
 use Rattle.qm_model.specs.Live.{live}
 use Rattle.qm_model.specs.Step.{committed}
+use Rattle.qm_model.specs.Walk.{Rules}
 use Rattle.qm_model.specs.Writes.{Write}
 use Rattle.qm_base.specs.Views.{operation_view}
 use Rattle.qm_base.specs.declared.operation.Operation as operation
@@ -18,7 +19,7 @@ use Rattle.qm_batch.specs.declared.plan.writes.Site as site
 use Rattle.qm_batch.specs.declared.plan.diff.Noted as noted
 use Rattle.qm_batch.specs.Changes.{Change, change_of, place_in}
 use Rattle.qm_batch.specs.Touches.{Touch, IsFrom, operations_of}
-use Rattle.qm_batch.specs.Views.{write_view, stepped}
+use Rattle.qm_batch.specs.Views.{write_view, stepped, left_after}
 
 -- a write by its key
 abbrev pub keyed : Write → Bytes × Write
@@ -36,11 +37,13 @@ noted_view value n = record { now = option_map (λ p. (p.0, value p.1.now)) n.no
 abbrev pub IsNoted : {V : Type 0} → (V → Bytes) → BTreeMap (Bor Bytes) (noted.Noted V) → List Operation → List Operation → Type 0
 IsNoted value notes base list = (key : Bytes) → option_map (noted_view value) (get_by (λ k. slice_cmp nat_cmp key k.now) notes) ≡ change_of base list key
 
--- these own operations of a step touch keys of its base list, leave so many keys live, and make with a floor the step's list
-pub record AreOwn (touches : List Touch) (keys end : ℕ) (base : List Operation) (ws : List Write) : Type 0 where
+-- these own operations of a step touch keys of its base list, leave so many keys live, and make with a floor the step's
+-- list; the policy before it and after it is this one
+pub record AreOwn {P : Type 0} (rules : Rules P) (policy next : P) (touches : List Touch) (keys end : ℕ) (base : List Operation) (ws : List Write) : Type 0 where
   pub from : All (IsFrom base) touches
   pub count : keys ≡ length (live (base ++ operations_of touches))
-  pub list : (meta : Option Bytes) → committed (base ++ operations_of touches) end meta ≡ stepped base ws meta
+  pub list : (meta : Option Bytes) → committed (base ++ operations_of touches) end meta ≡ stepped rules base ws policy meta
+  pub left : next ≡ left_after rules base ws policy
 
 module _ {U K V : Type 0} (update_view : U → Operation) (key : K → Bytes) (value : V → Bytes) where
   -- an operation of a step

@@ -3,6 +3,7 @@
 ghost use Rattle.std.specs.Prelude.{◌≡◌, ◌≢◌, ◌≤◌, ◌^◌, ◌++◌, ◌+◌, ◌-◌, ◌==◌, ℕ, List, length, map, count_by, option_map, is_some, All, IfSome, IfOk, IfErr, OnOk, if◌then◌else◌};
 ghost use Rattle.qm_base.specs.Parts as parts;
 ghost use Rattle.qm_base.specs.Views.{operation_view};
+ghost use Rattle.qm_model.specs.Bits.{bits};
 ghost use Rattle.qm_model.specs.Live as lives;
 ghost use Rattle.qm_model.specs.Operations as model;
 ghost use Rattle.qm_model.specs.Step.{committed};
@@ -10,7 +11,7 @@ ghost use Rattle.qm_batch.specs.Bases.{base_view, IsBase};
 ghost use Rattle.qm_batch.specs.Lent.{IsLent, IsRead, IsReadError, NoneBelow};
 ghost use Rattle.qm_batch.specs.PlanViews.{touch_views, unordered_touches, AreOwn};
 ghost use Rattle.qm_batch.specs.Touches.{IsFrom, operations_of};
-ghost use Rattle.qm_batch.specs.Views.{write_view, IsPlan, stepped};
+ghost use Rattle.qm_batch.specs.Views.{write_view, IsPlan, stepped, left_after};
 
 mod diff;
 mod touch;
@@ -25,7 +26,8 @@ use crate::base::Base;
 use crate::write::Write;
 use qm_base::update::{Unordered, Update};
 use qm_base::{ByteString, Error, Hasher, JournalError, Location, Operation, ValueEncoding};
-use qm_chain::Diff;
+use qm_bits::Candidates;
+use qm_chain::{Diff, Policy};
 use qm_merkle::Family;
 use qm_store::{AuthLog, Store};
 use std::alloc::{AllocError, Global};
@@ -111,26 +113,29 @@ fn append<F, U: Update>(
     Ok(())
 }
 
-// The own operations of a step, found over its base list: those of the writes, and the moves of a walk that may move
-// one live update more than the writes made inactive.
+// The own operations of a step, found over its base list: those of the writes, and what the policy decides.
 fn own_operations<
     F: Family,
     I: qm_index::Unordered<Value = Location<F>>,
+    B: Candidates<F>,
     C: Store,
     H: Hasher + Drop,
     K: ByteString,
     V: ValueEncoding<K>,
+    P: Policy<F, K, V::Value>,
 >(
     alloc: Global,
     index: &I,
+    _candidates: &B,
     log: &mut AuthLog<F, C, H>,
     base: &Base<'_, F, Unordered<K, V>>,
     writes: &[Write<K, V::Value>],
+    _policy: &mut P,
 ) -> Result<Own<F, Unordered<K, V>>, Error>
     requires size { base.now.size ≤ 2 ^ 62 }
     requires live { base.now.live ≤ base.now.size }
-    ensures own { (lent list : List model.Operation) → IsLent C.Store F.shape H.Digest.bytes H.hash ⟦<Unordered<K, V> as Update>⟧.form I.index_key (I.entries index.now) log.old lent → IsBase (base_view base.now) lent list
-        → IfSome (C.told log.old.store) (λ _. IfOk result (λ own. AreOwn (unordered_touches K.bytes V.Value.bytes own.touches.items) own.live own.floor list (map (write_view K.bytes V.Value.bytes) writes.now))) }
+    ensures own { (lent list : List model.Operation) → IsLent C.Store F.shape H.Digest.bytes H.hash ⟦<Unordered<K, V> as Update>⟧.form I.index_key (I.entries index.now) log.old lent → B.activity _candidates.now ≡ bits lent → IsBase (base_view base.now) lent list
+        → IfSome (C.told log.old.store) (λ _. IfOk result (λ own. AreOwn P.rules _policy.old _policy.new (unordered_touches K.bytes V.Value.bytes own.touches.items) own.live own.floor list (map (write_view K.bytes V.Value.bytes) writes.now))) }
     ensures count { IfOk result (λ own. own.live ≤ base.now.size + length own.touches.items) }
     ensures read { IsRead C.Store F.shape H.Digest.bytes H.hash log.old log.new }
     ensures error { IfErr result (IsReadError C.Store log.old log.new) }
@@ -199,36 +204,43 @@ fn planned<F, U: Update>(
     })
 }
 
-/// What writes and metadata make of the base list of a batch: the operations of the writes, then the live updates that
-/// are moved, one more than the writes made inactive, then a commit. Index and log are lent for the base list or a list
-/// on the way to it. Each write takes one look-up; each location that is walked over takes one read, where no layer has
-/// it.
+/// What writes and metadata make of the base list of a batch: the operations of the writes, then what the policy decides
+/// of the live updates from the floor on, then a commit. Index, log and candidates are lent for the base list or a list on
+/// the way to it. Each write takes one look-up; each candidate that the walk comes to takes one read, where no layer has it.
+/// Where this is refused the policy may have moved on.
+#[allow(clippy::too_many_arguments)]
 pub fn plain<
     F: Family,
     I: qm_index::Unordered<Value = Location<F>>,
+    B: Candidates<F>,
     C: Store,
     H: Hasher + Drop,
     K: ByteString,
     V: ValueEncoding<K>,
+    P: Policy<F, K, V::Value>,
 >(
     alloc: Global,
     index: &I,
+    candidates: &B,
     log: &mut AuthLog<F, C, H>,
     base: &Base<'_, F, Unordered<K, V>>,
     writes: &[Write<K, V::Value>],
     metadata: Option<V::Value>,
+    policy: &mut P,
 ) -> Result<Plan<F, Unordered<K, V>>, Error>
     requires size { base.now.size ≤ 2 ^ 62 }
     requires live { base.now.live ≤ base.now.size }
-    ensures plan { (lent list : List model.Operation) → IsLent C.Store F.shape H.Digest.bytes H.hash ⟦<Unordered<K, V> as Update>⟧.form I.index_key (I.entries index.now) log.old lent → IsBase (base_view base.now) lent list
-        → IfSome (C.told log.old.store) (λ _. IfOk result (λ plan. IsPlan plan list (stepped list (map (write_view K.bytes V.Value.bytes) writes.now) (option_map V.Value.bytes metadata)))) }
+    ensures plan { (lent list : List model.Operation) → IsLent C.Store F.shape H.Digest.bytes H.hash ⟦<Unordered<K, V> as Update>⟧.form I.index_key (I.entries index.now) log.old lent → B.activity candidates.now ≡ bits lent → IsBase (base_view base.now) lent list
+        → IfSome (C.told log.old.store) (λ _. IfOk result (λ plan. IsPlan plan list (stepped P.rules list (map (write_view K.bytes V.Value.bytes) writes.now) policy.old (option_map V.Value.bytes metadata)))) }
+    ensures next { (lent list : List model.Operation) → IsLent C.Store F.shape H.Digest.bytes H.hash ⟦<Unordered<K, V> as Update>⟧.form I.index_key (I.entries index.now) log.old lent → B.activity candidates.now ≡ bits lent → IsBase (base_view base.now) lent list
+        → IfSome (C.told log.old.store) (λ _. IfOk result (λ _. policy.new ≡ left_after P.rules list (map (write_view K.bytes V.Value.bytes) writes.now) policy.old)) }
     ensures live { IfOk result (λ plan. plan.live ≤ base.now.size + length plan.operations) }
     ensures read { IsRead C.Store F.shape H.Digest.bytes H.hash log.old log.new }
     ensures error { IfErr result (IsReadError C.Store log.old log.new) }
     ensures whole { (lent : List model.Operation) → IsLent C.Store F.shape H.Digest.bytes H.hash ⟦<Unordered<K, V> as Update>⟧.form I.index_key (I.entries index.now) log.old lent → NoneBelow log.old.tree.start lent
         → log.old.tree.start ≤ base.now.floor → IfErr result (λ e. (n : ℕ) → e ≢ Error.Journal (JournalError.ItemPruned n)) }
 {
-    match own_operations(alloc, index, log, base, writes) {
+    match own_operations(alloc, index, candidates, log, base, writes, policy) {
         Ok(own) => Ok(planned(alloc, base.size, own, metadata)?),
         Err(error) => Err(error),
     }

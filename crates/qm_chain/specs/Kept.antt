@@ -1,0 +1,19 @@
+-- Policies that write each value, or stop at each.
+use Rattle.std.specs.Prelude.{◌≡◌, ℕ, Bool, false, refl}
+use Rattle.qm_model.specs.Operations.{Bytes}
+use Rattle.qm_model.specs.Walk.{Action, Limits, Rules, write, stop, evict}
+use Rattle.qm_chain.specs.Policies.{Keeps}
+
+write-evict : (value : Bytes) → write value ≡ evict → ⊥
+write-evict value h = cc
+
+stop-evict : stop ≡ evict → ⊥
+stop-evict h = cc
+
+pub keeping : {P : Type 0} (limits : P → ℕ → Limits) (p : P) (location : ℕ) (key value : Bytes) → false ≡ false →
+    Keeps (record { limits = limits; decide = λ p location key value. (write value, p) }) (λ _. false) p location key value
+keeping limits p location key value calm = record { not_evicted = write-evict value; kept = refl }
+
+pub stopping : {P : Type 0} (limits : P → ℕ → Limits) (p : P) (location : ℕ) (key value : Bytes) → false ≡ false →
+    Keeps (record { limits = limits; decide = λ p location key value. (stop, p) }) (λ _. false) p location key value
+stopping limits p location key value calm = record { not_evicted = stop-evict; kept = refl }

@@ -1,0 +1,138 @@
+//! What a policy is asked about, and what it answers.
+
+ghost use Rattle.std.specs.Prelude.{◌≡◌};
+ghost use Rattle.qm_chain.specs.declared.entry.Action.TheVariants as actions;
+
+use qm_base::Location;
+use std::marker::{Model, PhantomData};
+
+/// What a walk does with a live update.
+#[derive(Drop)]
+pub enum Action<V> {
+    /// It writes the key with this value.
+    Write(V),
+    /// It ends before the update.
+    Stop,
+    /// It deletes the key.
+    Evict,
+}
+
+/// A live update at the floor. It borrows the key and owns the value.
+#[derive(Drop)]
+pub struct Entry<'a, F, K, V> {
+    location: Location<F>,
+    key: &'a K,
+    value: V,
+}
+
+impl<'a, F, K, V> Model for Entry<'a, F, K, V> {
+    ghost use Rattle.qm_chain.specs.Seen.{Seen};
+
+    ghost Value = { Seen K V };
+
+    ghost view = { λ e. record { location = e.location; key = e.key.now; value = e.value } };
+}
+
+/// What a policy decides of an entry. Only an entry makes one.
+#[derive(Drop)]
+pub struct Decision<'a, V> {
+    action: Action<V>,
+    entry: PhantomData<&'a ()>,
+}
+
+impl<'a, V> Model for Decision<'a, V> {
+    ghost use Rattle.qm_chain.specs.declared.entry.Action.{Action};
+
+    ghost Value = { Action V };
+
+    ghost view = { λ d. d.action };
+}
+
+impl<'a, F, K, V> Entry<'a, F, K, V> {
+    /// The entry of a live update.
+    pub fn new(location: Location<F>, key: &'a K, value: V) -> Self
+        ensures { result ≡ record { location = location; key = key.now; value = value } }
+    {
+        Entry {
+            location,
+            key,
+            value,
+        }
+    }
+
+    /// Where the update stands.
+    pub fn location(&self) -> Location<F>
+        ensures { result ≡ self.now.location }
+    {
+        Location::new(self.location.get())
+    }
+
+    /// Its key.
+    pub fn key(&self) -> &K
+        ensures { result.now ≡ self.now.key }
+    {
+        self.key
+    }
+
+    /// Its value.
+    pub fn value(&self) -> &V
+        ensures { result.now ≡ self.now.value }
+    {
+        &self.value
+    }
+
+    /// Writes the key with its value.
+    pub fn keep(self) -> Decision<'a, V>
+        ensures { result ≡ actions.Write self.entry.value }
+    {
+        Decision {
+            action: Action::Write(self.value),
+            entry: PhantomData,
+        }
+    }
+
+    /// Writes the key with another value.
+    pub fn replace(self, value: V) -> Decision<'a, V>
+    where
+        V: Drop,
+        ensures { result ≡ actions.Write value }
+    {
+        Decision {
+            action: Action::Write(value),
+            entry: PhantomData,
+        }
+    }
+
+    /// Ends the walk.
+    pub fn stop(self) -> Decision<'a, V>
+    where
+        V: Drop,
+        ensures { result ≡ actions.Stop }
+    {
+        Decision {
+            action: Action::Stop,
+            entry: PhantomData,
+        }
+    }
+
+    /// Deletes the key, and gives its value.
+    pub fn evict(self) -> (Decision<'a, V>, V)
+        ensures decision { result.0 ≡ actions.Evict }
+        ensures value { result.1 ≡ self.entry.value }
+    {
+        let decision = Decision {
+            action: Action::Evict,
+            entry: PhantomData,
+        };
+        (decision, self.value)
+    }
+}
+
+impl<'a, V> Decision<'a, V> {
+    /// The action.
+    pub fn into_action(self) -> Action<V>
+        ensures { result ≡ self.entry }
+    {
+        self.action
+    }
+}
