@@ -4,13 +4,14 @@ use Rattle.qm_model.specs.Operations.{Bytes, Operation}
 use Rattle.qm_model.specs.Batches.{Commitment, Kept, Chain, commitment}
 use Rattle.qm_model.specs.Forms.{IsOf}
 use Rattle.qm_model.specs.Live.{live, floor, last_metadata}
-use Rattle.qm_model.specs.Policies.{Policy, policies}
-use Rattle.qm_model.specs.Step.{step, unordered}
+use Rattle.qm_model.specs.Bits.{bits}
+use Rattle.qm_model.specs.Step.{IsGood}
 use Rattle.qm_model.specs.Writes.{Write}
 use Rattle.qm_merkle.specs.Batches.{stops}
 use Rattle.qm_chain.specs.Bounds.{Bounds, IsBounds, is_at}
 use Rattle.qm_store.specs.declared.Store as store
 use Rattle.qm_store.specs.Log.{Log}
+use Rattle.qm_bits.specs.Bitmaps.{Bitmap, all_bits}
 use Rattle.qm_batch.specs.Bases.{Base}
 use Rattle.qm_batch.specs.Layers.{Layer, LeadThrough}
 use Rattle.qm_batch.specs.Lent.{IsLent, IsRead}
@@ -18,10 +19,11 @@ use Rattle.qm_batch.specs.Views.{Plan}
 use Rattle.qm_store.specs.KeptTrees.{KeptTree, IsKeptTree}
 use Rattle.qm_any.specs.Layouts.{Hashing, Layout, list_root, spellings}
 
--- a database: the locations of live keys by index key, its log, what stands for its list, and this list's floor, count
--- of live keys and metadata
+-- a database: the locations of live keys by index key, the bits of its locations, its log, what stands for its list, and
+-- this list's floor, count of live keys and metadata
 pub record Database (C D : Type 0) : Type 0 where
   pub entries : List (ℕ × List ℕ)
+  pub activity : Bitmap
   pub log : Log C D
   pub commitment : Commitment
   pub floor : ℕ
@@ -123,10 +125,6 @@ child_made parent keep plan tree root meta = record {
   metadata = meta;
 }
 
--- what a batch's writes make of its base list in an unordered database, under a policy, with this metadata
-abbrev pub stepped : List Operation → List Write → Policy → Option Bytes → List Operation
-stepped base ws policy meta = step unordered policies base ws policy meta
-
 -- each kept ancestor makes the list from which the newer one starts, and the newest makes this one
 abbrev pub AreLinked : List Operation → List Kept → Type 0
 AreLinked base [] = ⊤
@@ -159,6 +157,7 @@ module _ {D : Type 0} (hashing : Hashing D) where
     pub steps : LeadThrough batch.layers tip (bases_of chain)
     pub tree : IsTree batch.tree tip (bases_of chain)
     pub of : All (IsOf hashing.form) tip
+    pub good : IsGood tip
 
   -- the batch is of this chain, and its parent of that one
   pub record IsBegun (batch : Begun D) (chain above : Chain) : Type 0 where
@@ -174,6 +173,8 @@ module _ {C D : Type 0} (members : store.Ghosts C) where
     pub floor : db.floor ≡ floor list
     pub live : db.live ≡ length (live list)
     pub metadata : db.metadata ≡ last_metadata list
+    pub active : all_bits 64 db.activity ≡ bits list
+    pub good : IsGood list
 
   -- reads left the database as it was, but for its store's count of faults, which did not fall
   pub record IsLeft (hashing : Hashing D) (old new : Database C D) : Type 0 where

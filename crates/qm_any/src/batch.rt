@@ -6,7 +6,6 @@ ghost use Rattle.qm_model.specs.Causes.{Rose};
 ghost use Rattle.qm_model.specs.Live as lives;
 ghost use Rattle.qm_model.specs.Forms.{IsOf, spelling};
 ghost use Rattle.qm_model.specs.Operations.{Operation};
-ghost use Rattle.qm_model.specs.Policies.{proportional};
 ghost use Rattle.qm_model.specs.Proofs.{ops_proof, pins_at};
 ghost use Rattle.qm_model.specs.Refusals.{too_long};
 ghost use Rattle.qm_model.specs.Trees as trees;
@@ -16,28 +15,27 @@ ghost use Rattle.qm_proofs.specs.Proofs.{proof_view, first_lacked, needed_positi
 ghost use Rattle.qm_chain.specs.Bounds.{commitment_view, is_at, knows};
 ghost use Rattle.qm_batch.specs.Bases.{IsBase, base_view};
 ghost use Rattle.qm_batch.specs.Lent.{IsReadError, NoneBelow};
-ghost use Rattle.qm_batch.specs.Views.{changes_view, IsPlan};
-ghost use Rattle.qm_any.specs.Databases.{IsDatabase, IsBegun, IsMade, IsLeft, base_of, bases, child_boundary, child_made, child_tips, is_on, kept_by, operations_in, stepped, unapplied};
+ghost use Rattle.qm_batch.specs.Views.{changes_view, IsPlan, stepped, left_after};
+ghost use Rattle.qm_any.specs.Databases.{IsDatabase, IsBegun, IsMade, IsLeft, base_of, bases, child_boundary, child_made, child_tips, is_on, kept_by, operations_in, unapplied};
 ghost use Rattle.qm_store.specs.Log.{IsLacked};
 ghost use Rattle.qm_store.specs.KeptTrees.{held_at};
 ghost use Rattle.qm_any.specs.Reasons.{IsMakingError};
 ghost use Rattle.qm_any.specs.Tips.{IsLow, IsTaken, IsRefused};
 ghost use Rattle.qm_base.specs.Views.{operation_views};
 ghost use Rattle.qm_any.specs.Layouts.{Hashing};
-ghost use Rattle.qm_any.specs.Views.{policy_view, write_views};
+ghost use Rattle.qm_any.specs.Views.{write_views};
 
 use crate::db::{Db, LaidOut};
 use crate::operations::{
     Step, diffs_of, refuse, share, shared, spelled, spelled_steps, twin_option, unapplied_of,
 };
-use crate::policy::Proportional;
 use qm_base::update::{Unordered, Update};
 use qm_base::{
     ByteString, Commitment, Digest, Error, Hasher, JournalError, Location, MerkleError,
     ValueEncoding,
 };
 use qm_batch::{Base, Layer, Plan, Write, Writes};
-use qm_chain::{Bounds, Diff, validate_batch_applicable};
+use qm_chain::{Bounds, Diff, Policy, validate_batch_applicable};
 use qm_merkle::Family;
 use qm_proofs::Proof;
 use qm_store::{KeptTree, Store};
@@ -182,29 +180,33 @@ impl<F: Family, D: Digest, K: ByteString, V: ValueEncoding<K>> UnmerkleizedBatch
     D,
     Unordered<K, V>,
 > {
-    /// Makes the list of the batch: its writes on its base list, then what the policy moves, then a commit with the
+    /// Makes the list of the batch: its writes on its base list, then what the policy decides, then a commit with the
     /// metadata. The database is at the batch's boundary or at a kept ancestor's tip, else the batch is refused as stale;
     /// then come the first spelling of more than 65,536 bytes, and a list of more than 2^62 operations. The batch is gone
-    /// also where this is refused. k writes take k look-ups and k log k comparisons; each location that is walked over
-    /// takes one read of the log, where no kept step has it; only the own operations are hashed.
+    /// also where this is refused, and the policy may have moved on. k writes take k look-ups and k log k comparisons; each
+    /// candidate that the walk comes to takes one read of the log, where no kept step has it, and 64 locations of dead ones
+    /// a step; only the own operations are hashed.
     pub fn merkleize<
         C: Store,
         I: qm_index::Unordered<Value = Location<F>>,
         H: Hasher<Digest = D> + Drop,
+        P: Policy<F, K, V::Value>,
     >(
         self,
         alloc: Global,
         db: &mut Db<F, C, I, H, Unordered<K, V>>,
         metadata: Option<V::Value>,
-        policy: &mut Proportional,
+        policy: &mut P,
     ) -> Result<Rc<MerkleizedBatch<F, D, Unordered<K, V>>>, Error>
         ensures fits { OnOk result (is_on db.old.commitment self ≡ true) }
         ensures made { (list : List Operation) (chain above : Chain) → IsDatabase C.Store ⟦<Db<F, C, I, H, Unordered<K, V>> as LaidOut>⟧.layout db.old list → IsBegun ⟦<Db<F, C, I, H, Unordered<K, V>> as LaidOut>⟧.layout.hashing self chain above → IsOnChain list chain
-            → IfOk result (λ b. IsMade ⟦<Db<F, C, I, H, Unordered<K, V>> as LaidOut>⟧.layout.hashing b.value chain (stepped chain.base self.writes (policy_view policy.old) (option_map V.Value.bytes metadata))) }
+            → IfOk result (λ b. IsMade ⟦<Db<F, C, I, H, Unordered<K, V>> as LaidOut>⟧.layout.hashing b.value chain (stepped P.rules chain.base self.writes policy.old (option_map V.Value.bytes metadata))) }
         ensures taken { (list : List Operation) (chain above : Chain) → IsDatabase C.Store ⟦<Db<F, C, I, H, Unordered<K, V>> as LaidOut>⟧.layout db.old list → IsBegun ⟦<Db<F, C, I, H, Unordered<K, V>> as LaidOut>⟧.layout.hashing self chain above → IsOnChain list chain
-            → OnOk result (IsTaken ⟦<Unordered<K, V> as Update>⟧.form chain.base (stepped chain.base self.writes (policy_view policy.old) (option_map V.Value.bytes metadata))) }
+            → OnOk result (IsTaken ⟦<Unordered<K, V> as Update>⟧.form chain.base (stepped P.rules chain.base self.writes policy.old (option_map V.Value.bytes metadata))) }
         ensures refused { (list : List Operation) (chain above : Chain) → IsDatabase C.Store ⟦<Db<F, C, I, H, Unordered<K, V>> as LaidOut>⟧.layout db.old list → IsBegun ⟦<Db<F, C, I, H, Unordered<K, V>> as LaidOut>⟧.layout.hashing self chain above → IsOnChain list chain
-            → IfErr result (λ e. IsRefused ⟦<Unordered<K, V> as Update>⟧.form chain.base (stepped chain.base self.writes (policy_view policy.old) (option_map V.Value.bytes metadata)) e ⊎ IsReadError C.Store db.old.log db.new.log e) }
+            → IfErr result (λ e. IsRefused ⟦<Unordered<K, V> as Update>⟧.form chain.base (stepped P.rules chain.base self.writes policy.old (option_map V.Value.bytes metadata)) e ⊎ IsReadError C.Store db.old.log db.new.log e) }
+        ensures next { (list : List Operation) (chain above : Chain) → IsDatabase C.Store ⟦<Db<F, C, I, H, Unordered<K, V>> as LaidOut>⟧.layout db.old list → IsBegun ⟦<Db<F, C, I, H, Unordered<K, V>> as LaidOut>⟧.layout.hashing self chain above → IsOnChain list chain
+            → OnOk result (policy.new ≡ left_after P.rules chain.base self.writes policy.old) }
         ensures above { IfOk result (λ b. All (λ n. b.value.bounds.db.size ≤ n) (stops b.value.tree.leaves b.value.tree.layers)) }
         ensures stale { IfErr result (λ e. e ≡ Error.StaleBatch → is_on db.old.commitment self ≡ false) }
         ensures order { IfErr result (λ e. e ≢ Error.Memory → e ≢ Error.StaleBatch → is_on db.old.commitment self ≡ true) }
@@ -232,6 +234,7 @@ impl<F: Family, D: Digest, K: ByteString, V: ValueEncoding<K>> UnmerkleizedBatch
                 tips,
                 writes.as_slice(),
                 metadata,
+                policy,
             ),
         }
     }
@@ -564,6 +567,7 @@ fn made_on<
     H: Hasher<Digest = D> + Drop,
     K: ByteString,
     V: ValueEncoding<K>,
+    P: Policy<F, K, V::Value>,
 >(
     alloc: Global,
     db: &mut Db<F, C, I, H, Unordered<K, V>>,
@@ -573,17 +577,20 @@ fn made_on<
     tips: Vec<Commitment<D>>,
     writes: &[Write<K, V::Value>],
     metadata: Option<V::Value>,
+    policy: &mut P,
 ) -> Result<Rc<MerkleizedBatch<F, D, Unordered<K, V>>>, Error>
     requires keep { keep ≤ suc (length parent.now.bounds.ancestors) }
     requires boundary { commitment_view D.bytes boundary ≡ child_boundary keep parent.now.bounds }
     requires tips { map (commitment_view D.bytes) tips.items ≡ child_tips keep parent.now.bounds }
     requires on { is_at db.old.commitment (child_boundary keep parent.now.bounds) (child_tips keep parent.now.bounds) ≡ true }
     ensures made { (list : List Operation) (chain above : Chain) → IsDatabase C.Store ⟦<Db<F, C, I, H, Unordered<K, V>> as LaidOut>⟧.layout db.old list → IsMade ⟦<Db<F, C, I, H, Unordered<K, V>> as LaidOut>⟧.layout.hashing parent.now above chain.base → chain.kept ≡ kept_by keep above chain.base → IsOnChain list chain
-        → IfOk result (λ b. IsMade ⟦<Db<F, C, I, H, Unordered<K, V>> as LaidOut>⟧.layout.hashing b.value chain (stepped chain.base (write_views K.bytes V.Value.bytes writes.now) proportional (option_map V.Value.bytes metadata))) }
+        → IfOk result (λ b. IsMade ⟦<Db<F, C, I, H, Unordered<K, V>> as LaidOut>⟧.layout.hashing b.value chain (stepped P.rules chain.base (write_views K.bytes V.Value.bytes writes.now) policy.old (option_map V.Value.bytes metadata))) }
     ensures taken { (list : List Operation) (chain above : Chain) → IsDatabase C.Store ⟦<Db<F, C, I, H, Unordered<K, V>> as LaidOut>⟧.layout db.old list → IsMade ⟦<Db<F, C, I, H, Unordered<K, V>> as LaidOut>⟧.layout.hashing parent.now above chain.base → chain.kept ≡ kept_by keep above chain.base → IsOnChain list chain
-        → OnOk result (IsTaken ⟦<Unordered<K, V> as Update>⟧.form chain.base (stepped chain.base (write_views K.bytes V.Value.bytes writes.now) proportional (option_map V.Value.bytes metadata))) }
+        → OnOk result (IsTaken ⟦<Unordered<K, V> as Update>⟧.form chain.base (stepped P.rules chain.base (write_views K.bytes V.Value.bytes writes.now) policy.old (option_map V.Value.bytes metadata))) }
     ensures refused { (list : List Operation) (chain above : Chain) → IsDatabase C.Store ⟦<Db<F, C, I, H, Unordered<K, V>> as LaidOut>⟧.layout db.old list → IsMade ⟦<Db<F, C, I, H, Unordered<K, V>> as LaidOut>⟧.layout.hashing parent.now above chain.base → chain.kept ≡ kept_by keep above chain.base → IsOnChain list chain
-        → IfErr result (λ e. IsRefused ⟦<Unordered<K, V> as Update>⟧.form chain.base (stepped chain.base (write_views K.bytes V.Value.bytes writes.now) proportional (option_map V.Value.bytes metadata)) e ⊎ IsReadError C.Store db.old.log db.new.log e) }
+        → IfErr result (λ e. IsRefused ⟦<Unordered<K, V> as Update>⟧.form chain.base (stepped P.rules chain.base (write_views K.bytes V.Value.bytes writes.now) policy.old (option_map V.Value.bytes metadata)) e ⊎ IsReadError C.Store db.old.log db.new.log e) }
+    ensures next { (list : List Operation) (chain above : Chain) → IsDatabase C.Store ⟦<Db<F, C, I, H, Unordered<K, V>> as LaidOut>⟧.layout db.old list → IsMade ⟦<Db<F, C, I, H, Unordered<K, V>> as LaidOut>⟧.layout.hashing parent.now above chain.base → chain.kept ≡ kept_by keep above chain.base → IsOnChain list chain
+        → OnOk result (policy.new ≡ left_after P.rules chain.base (write_views K.bytes V.Value.bytes writes.now) policy.old) }
     ensures above { IfOk result (λ b. All (λ n. b.value.bounds.db.size ≤ n) (stops b.value.tree.leaves b.value.tree.layers)) }
     ensures causes { IfErr result (IsMakingError C.Store db.old.log db.new.log) }
     ensures whole { (list : List Operation) → IsDatabase C.Store ⟦<Db<F, C, I, H, Unordered<K, V>> as LaidOut>⟧.layout db.old list → NoneBelow db.old.log.tree.start list → db.old.log.tree.start ≤ parent.now.bounds.inactivity_floor
@@ -593,7 +600,7 @@ fn made_on<
     ensures left { IsLeft C.Store ⟦<Db<F, C, I, H, Unordered<K, V>> as LaidOut>⟧.layout.hashing db.old db.new }
 {
     let copy = shared(alloc, twin_option(alloc, &metadata)?)?;
-    let (plan, items) = planned(alloc, db, parent, writes, metadata)?;
+    let (plan, items) = planned(alloc, db, parent, writes, metadata, policy)?;
     let floor = plan.floor.get();
     let (tree, root) = db.grown(alloc, &parent.tree, &items, floor, boundary.size)?;
     let batch = sealed(alloc, parent, keep, boundary, tips, plan, tree, root, copy)?;
@@ -609,22 +616,26 @@ fn planned<
     H: Hasher<Digest = D> + Drop,
     K: ByteString,
     V: ValueEncoding<K>,
+    P: Policy<F, K, V::Value>,
 >(
     alloc: Global,
     db: &mut Db<F, C, I, H, Unordered<K, V>>,
     parent: &MerkleizedBatch<F, D, Unordered<K, V>>,
     writes: &[Write<K, V::Value>],
     metadata: Option<V::Value>,
+    policy: &mut P,
 ) -> Result<(Plan<F, Unordered<K, V>>, Vec<Vec<u8>>), Error>
     ensures plan { (list base : List Operation) → IsDatabase C.Store ⟦<Db<F, C, I, H, Unordered<K, V>> as LaidOut>⟧.layout db.old list → IsBase (base_of parent.now) list base
-        → IfOk result (λ made. IsPlan made.0 base (stepped base (write_views K.bytes V.Value.bytes writes.now) proportional (option_map V.Value.bytes metadata))) }
+        → IfOk result (λ made. IsPlan made.0 base (stepped P.rules base (write_views K.bytes V.Value.bytes writes.now) policy.old (option_map V.Value.bytes metadata))) }
+    ensures next { (list base : List Operation) → IsDatabase C.Store ⟦<Db<F, C, I, H, Unordered<K, V>> as LaidOut>⟧.layout db.old list → IsBase (base_of parent.now) list base
+        → OnOk result (policy.new ≡ left_after P.rules base (write_views K.bytes V.Value.bytes writes.now) policy.old) }
     ensures items { IfOk result (λ made. map (λ v. v.items) made.1.items ≡ map (spelling ⟦<Unordered<K, V> as Update>⟧.form) (made.0).operations) }
     ensures of { IfOk result (λ made. All IsLow (made.0).operations → All (IsOf ⟦<Unordered<K, V> as Update>⟧.form) (made.0).operations) }
     ensures room { IfOk result (λ made. parent.now.bounds.tip.size + length made.1.items ≤ 2 ^ 62) }
     ensures short { IfOk result (λ made. too_long (map (λ v. v.items) made.1.items) ≡ None) }
     ensures live { IfOk result (λ made. (made.0).live ≤ parent.now.bounds.tip.size + length made.1.items) }
     ensures refused { (list base : List Operation) → IsDatabase C.Store ⟦<Db<F, C, I, H, Unordered<K, V>> as LaidOut>⟧.layout db.old list → IsBase (base_of parent.now) list base
-        → IfErr result (λ e. IsRefused ⟦<Unordered<K, V> as Update>⟧.form base (stepped base (write_views K.bytes V.Value.bytes writes.now) proportional (option_map V.Value.bytes metadata)) e ⊎ IsReadError C.Store db.old.log db.new.log e) }
+        → IfErr result (λ e. IsRefused ⟦<Unordered<K, V> as Update>⟧.form base (stepped P.rules base (write_views K.bytes V.Value.bytes writes.now) policy.old (option_map V.Value.bytes metadata)) e ⊎ IsReadError C.Store db.old.log db.new.log e) }
     ensures causes { IfErr result (IsMakingError C.Store db.old.log db.new.log) }
     ensures whole { (list : List Operation) → IsDatabase C.Store ⟦<Db<F, C, I, H, Unordered<K, V>> as LaidOut>⟧.layout db.old list → NoneBelow db.old.log.tree.start list → db.old.log.tree.start ≤ parent.now.bounds.inactivity_floor
         → IfErr result (λ e. (n : ℕ) → e ≢ Error.Journal (JournalError.ItemPruned n)) }
@@ -633,7 +644,7 @@ fn planned<
     ensures left { IsLeft C.Store ⟦<Db<F, C, I, H, Unordered<K, V>> as LaidOut>⟧.layout.hashing db.old db.new }
 {
     let base = parent.base();
-    let plan = db.plan(alloc, &base, writes, metadata)?;
+    let plan = db.plan(alloc, &base, writes, metadata, policy)?;
     let items = spelled(alloc, &plan.operations)?;
     match refuse(&items, base.size + items.len() as u64) {
         Ok(()) => Ok((plan, items)),

@@ -6,8 +6,7 @@ ghost use Rattle.qm_model.specs.Batches.{Chain, IsOnChain, begun_on};
 ghost use Rattle.qm_model.specs.Causes.{IsCause};
 ghost use Rattle.qm_model.specs.Live as lives;
 ghost use Rattle.qm_model.specs.Forms.{spelling};
-ghost use Rattle.qm_model.specs.Operations.{Operation};
-ghost use Rattle.qm_model.specs.Policies.{proportional};
+ghost use Rattle.qm_model.specs.Operations.{Operation, IsCommitEnded};
 ghost use Rattle.qm_model.specs.Proofs.{ops_proof, pins_at};
 ghost use Rattle.qm_model.specs.Trees as trees;
 ghost use Rattle.qm_model.specs.Trees.{ops_root};
@@ -17,12 +16,14 @@ ghost use Rattle.qm_proofs.specs.Proofs.{proof_view, first_lacked, needed_positi
 ghost use Rattle.qm_store.specs.Log as logs;
 ghost use Rattle.qm_store.specs.Log.{IsLacked};
 ghost use Rattle.qm_chain.specs.Bounds.{commitment_view, is_at};
+ghost use Rattle.qm_model.specs.Bits.{bits};
+ghost use Rattle.qm_bits.specs.Bitmaps.{Bitmap, all_bits, bit_count};
 ghost use Rattle.qm_batch.specs.Bases.{IsBase, base_view};
 ghost use Rattle.qm_batch.specs.Layers.{LeadOver};
 ghost use Rattle.qm_batch.specs.Changes.{LeadTo};
 ghost use Rattle.qm_batch.specs.Lent.{IsIndexed, IsReadError, NoneBelow};
-ghost use Rattle.qm_batch.specs.Views.{changes_view, IsPlan};
-ghost use Rattle.qm_any.specs.Databases.{Database, IsBegun, IsDatabase, IsLeft, IsMade, IsTree, at_rest, stepped};
+ghost use Rattle.qm_batch.specs.Views.{changes_view, IsPlan, stepped, left_after};
+ghost use Rattle.qm_any.specs.Databases.{Database, IsBegun, IsDatabase, IsLeft, IsMade, IsTree, at_rest};
 ghost use Rattle.qm_store.specs.Given.{Appended, AppendedPart, store_given, store_after};
 ghost use Rattle.qm_store.specs.KeptTrees.{IsKeptTree, held_at};
 ghost use Rattle.qm_any.specs.Views.{write_views};
@@ -34,8 +35,9 @@ use qm_base::{
     ByteString, Commitment, Digest, Error, Hasher, JournalError, Location, MerkleError,
     ValueEncoding,
 };
-use qm_batch::{Base, Plan, Write, Writes, apply_diffs, plain, read_key};
-use qm_chain::Diff;
+use qm_batch::{Base, Plan, Write, Writes, apply_bits, apply_diffs, plain, read_key};
+use qm_bits::{Chunk64, Prunable};
+use qm_chain::{Diff, Policy};
 use qm_merkle::Family;
 use qm_proofs::Proof;
 use qm_store::{AuthLog, Given, KeptTree, LogGiven, LogRefusal, Refusal, Store};
@@ -56,6 +58,7 @@ pub struct Db<
     U: Update,
 > {
     index: I,
+    activity: Prunable<Chunk64>,
     pub(crate) log: AuthLog<F, C, H>,
     commitment: Commitment<H::Digest>,
     floor: Location<F>,
@@ -66,14 +69,15 @@ pub struct Db<
 impl<F: Family, C: Store, I: qm_index::Unordered<Value = Location<F>>, H: Hasher, U: Update> Model
     for Db<F, C, I, H, U> {
     ghost use Rattle.std.specs.Prelude.{◌≡◌, ◌≤◌, option_map};
+    ghost use Rattle.qm_bits.specs.Bitmaps.{bit_count};
     ghost use Rattle.qm_chain.specs.Bounds.{commitment_view};
     ghost use Rattle.qm_any.specs.Databases.{Database};
 
     ghost Value = { Database C H.Digest };
 
-    ghost view = { λ db. record { entries = I.entries db.index; log = db.log; commitment = commitment_view H.Digest.bytes db.commitment; floor = db.floor; live = db.live; metadata = option_map (λ m. U.Value.bytes m.value) db.metadata } };
+    ghost view = { λ db. record { entries = I.entries db.index; activity = db.activity; log = db.log; commitment = commitment_view H.Digest.bytes db.commitment; floor = db.floor; live = db.live; metadata = option_map (λ m. U.Value.bytes m.value) db.metadata } };
 
-    ghost invariant = { λ db. (db.commitment.size ≡ db.log.tree.leaves) × (C.end db.log.store ≡ db.log.tree.leaves) × (db.live ≤ db.commitment.size) };
+    ghost invariant = { λ db. (db.commitment.size ≡ db.log.tree.leaves) × (C.end db.log.store ≡ db.log.tree.leaves) × (db.live ≤ db.commitment.size) × (bit_count 64 db.activity ≡ db.commitment.size) };
 }
 
 /// How the lists of a database are hashed and indexed, by its type.
@@ -104,6 +108,7 @@ impl<
     // The database of an index, a log and what these stand for.
     pub(crate) fn of_parts(
         index: I,
+        activity: Prunable<Chunk64>,
         log: AuthLog<F, C, H>,
         commitment: Commitment<H::Digest>,
         floor: Location<F>,
@@ -111,12 +116,14 @@ impl<
         metadata: Option<Rc<U::Value>>,
     ) -> Self
         requires size { commitment.size ≡ log.tree.leaves }
+        requires bits { bit_count 64 activity ≡ commitment.size }
         requires end { C.end log.store ≡ log.tree.leaves }
         requires live { live ≤ commitment.size }
-        ensures { result ≡ record { entries = I.entries index; log = log; commitment = commitment_view H.Digest.bytes commitment; floor = floor; live = live; metadata = option_map (λ m. U.Value.bytes m.value) metadata } }
+        ensures { result ≡ record { entries = I.entries index; activity = activity; log = log; commitment = commitment_view H.Digest.bytes commitment; floor = floor; live = live; metadata = option_map (λ m. U.Value.bytes m.value) metadata } }
     {
         Db {
             index,
+            activity,
             log,
             commitment,
             floor,
@@ -202,6 +209,7 @@ impl<
             → IsKeptTree H.Digest.bytes H.hash F.shape batch.now.tree (list ++ map (λ v. v.items) lacking.entry.items.items) older → Contains ((list ++ map (λ v. v.items) lacking.entry.items.items) ∷ older) list
             → logs.IsLog C.Store F.shape H.Digest.bytes H.hash next.log (list ++ map (λ v. v.items) lacking.entry.items.items)) }
         ensures index { IfOk result (λ next. (list tip : List Operation) → LeadTo (map (λ d. changes_view U.Key.bytes U.Value.bytes d.value) lacking.entry.diffs.now) list tip → IsIndexed I.index_key self.entries list → IsIndexed I.index_key next.entries tip) }
+        ensures active { IfOk result (λ next. (list tip : List Operation) → LeadTo (map (λ d. changes_view U.Key.bytes U.Value.bytes d.value) lacking.entry.diffs.now) list tip → IsCommitEnded list → batch.now.bounds.tip.size ≡ length tip → all_bits 64 self.activity ≡ bits list → all_bits 64 next.activity ≡ bits tip) }
         ensures rest { IfOk result (λ next. (next.commitment ≡ batch.now.bounds.tip) × (next.floor ≡ batch.now.bounds.inactivity_floor) × (next.live ≡ batch.now.live) × (next.metadata ≡ option_map (λ m. U.Value.bytes m.value) lacking.entry.metadata)) }
         ensures grown { IfOk result (λ next. Appended C.Store self.log.store next.log.store (map (λ v. v.items) lacking.entry.items.items)) }
         ensures later { IfOk result (λ next. C.faults self.log.store ≤ C.faults next.log.store) }
@@ -212,6 +220,7 @@ impl<
     {
         let Db {
             index,
+            activity,
             log,
             commitment,
             floor,
@@ -219,9 +228,9 @@ impl<
             metadata,
         } = self;
         match log.append_tree(&lacking.items, &batch.tree) {
-            Ok(log) => indexed(index, log, lacking.diffs, batch, lacking.metadata),
+            Ok(log) => indexed(index, activity, log, lacking.diffs, batch, lacking.metadata),
             Err(LogRefusal { given, error }) => Err(Refusal {
-                given: given_back(index, commitment, floor, live, metadata, given),
+                given: given_back(index, activity, commitment, floor, live, metadata, given),
                 error,
             }),
         }
@@ -460,25 +469,37 @@ impl<
     K: ByteString,
     V: ValueEncoding<K>,
 > Db<F, C, I, H, Unordered<K, V>> {
-    // What writes and metadata make of a base list.
-    pub(crate) fn plan(
+    // What writes and metadata make of a base list, under a policy.
+    pub(crate) fn plan<P: Policy<F, K, V::Value>>(
         &mut self,
         alloc: Global,
         base: &Base<'_, F, Unordered<K, V>>,
         writes: &[Write<K, V::Value>],
         metadata: Option<V::Value>,
+        policy: &mut P,
     ) -> Result<Plan<F, Unordered<K, V>>, Error>
         requires size { base.now.size ≤ 2 ^ 62 }
         requires live { base.now.live ≤ base.now.size }
         ensures plan { (list known : List Operation) → IsDatabase C.Store ⟦<Self as LaidOut>⟧.layout self.old list → IsBase (base_view base.now) list known
-            → IfOk result (λ plan. IsPlan plan known (stepped known (write_views K.bytes V.Value.bytes writes.now) proportional (option_map V.Value.bytes metadata))) }
+            → IfOk result (λ plan. IsPlan plan known (stepped P.rules known (write_views K.bytes V.Value.bytes writes.now) policy.old (option_map V.Value.bytes metadata))) }
+        ensures next { (list known : List Operation) → IsDatabase C.Store ⟦<Self as LaidOut>⟧.layout self.old list → IsBase (base_view base.now) list known
+            → IfOk result (λ _. policy.new ≡ left_after P.rules known (write_views K.bytes V.Value.bytes writes.now) policy.old) }
         ensures live { IfOk result (λ plan. plan.live ≤ base.now.size + length plan.operations) }
         ensures error { IfErr result (IsReadError C.Store self.old.log self.new.log) }
         ensures whole { (list : List Operation) → IsDatabase C.Store ⟦<Self as LaidOut>⟧.layout self.old list → NoneBelow self.old.log.tree.start list → self.old.log.tree.start ≤ base.now.floor
             → IfErr result (λ e. (n : ℕ) → e ≢ Error.Journal (JournalError.ItemPruned n)) }
         ensures left { IsLeft C.Store ⟦<Self as LaidOut>⟧.layout.hashing self.old self.new }
     {
-        plain(alloc, &self.index, &mut self.log, base, writes, metadata)
+        plain(
+            alloc,
+            &self.index,
+            &self.activity,
+            &mut self.log,
+            base,
+            writes,
+            metadata,
+            policy,
+        )
     }
 }
 
@@ -508,22 +529,26 @@ fn indexed<
     U: Update,
 >(
     index: I,
+    activity: Prunable<Chunk64>,
     log: AuthLog<F, C, H>,
     diffs: &[Rc<Diff<F, U::Key, U::Value>>],
     batch: &MerkleizedBatch<F, H::Digest, U>,
     metadata: Option<Rc<U::Value>>,
 ) -> Result<Db<F, C, I, H, U>, Refusal<Db<F, C, I, H, U>, C>>
     requires size { batch.now.bounds.tip.size ≡ log.tree.leaves }
+    requires bits { bit_count 64 activity ≤ log.tree.leaves }
     requires end { C.end log.store ≡ log.tree.leaves }
     ensures log { IfOk result (λ next. next.log ≡ log) }
     ensures index { IfOk result (λ next. (list tip : List Operation) → LeadTo (map (λ d. changes_view U.Key.bytes U.Value.bytes d.value) diffs.now) list tip → IsIndexed I.index_key (I.entries index) list → IsIndexed I.index_key next.entries tip) }
+    ensures active { IfOk result (λ next. (list tip : List Operation) → LeadTo (map (λ d. changes_view U.Key.bytes U.Value.bytes d.value) diffs.now) list tip → IsCommitEnded list → batch.now.bounds.tip.size ≡ length tip → all_bits 64 activity ≡ bits list → all_bits 64 next.activity ≡ bits tip) }
     ensures rest { IfOk result (λ next. (next.commitment ≡ batch.now.bounds.tip) × (next.floor ≡ batch.now.bounds.inactivity_floor) × (next.live ≡ batch.now.live) × (next.metadata ≡ option_map (λ m. U.Value.bytes m.value) metadata)) }
     ensures back { IfErr result (λ r. (r.given ≡ Given.Store log.store) × (r.error ≡ Error.Memory)) }
 {
-    let mut index = index;
-    match apply_diffs(&mut index, diffs) {
+    let (mut index, mut activity) = (index, activity);
+    match brought_up(&mut index, &mut activity, batch.bounds.tip.size, diffs) {
         Ok(()) => Ok(Db {
             index,
+            activity,
             log,
             commitment: batch.bounds.tip,
             floor: Location::new(batch.bounds.inactivity_floor.get()),
@@ -537,6 +562,23 @@ fn indexed<
     }
 }
 
+// Index and bits of a batch's list, of which the database lacked the steps that make these differences.
+fn brought_up<F: Family, I: qm_index::Unordered<Value = Location<F>>, K: ByteString, V: ByteString>(
+    index: &mut I,
+    activity: &mut Prunable<Chunk64>,
+    size: u64,
+    diffs: &[Rc<Diff<F, K, V>>],
+) -> Result<(), AllocError>
+    requires bits { bit_count 64 activity.old ≤ size }
+    requires few { size ≤ 2 ^ 62 }
+    ensures index { OnOk result ((list tip : List Operation) → LeadTo (map (λ d. changes_view K.bytes V.bytes d.value) diffs.now) list tip → IsIndexed I.index_key (I.entries index.old) list → IsIndexed I.index_key (I.entries index.new) tip) }
+    ensures count { OnOk result (bit_count 64 activity.new ≡ size) }
+    ensures active { OnOk result ((list tip : List Operation) → LeadTo (map (λ d. changes_view K.bytes V.bytes d.value) diffs.now) list tip → IsCommitEnded list → size ≡ length tip → all_bits 64 activity.old ≡ bits list → all_bits 64 activity.new ≡ bits tip) }
+{
+    apply_diffs(index, diffs)?;
+    apply_bits(activity, size, diffs)
+}
+
 // What a database gives back where its log refused.
 fn given_back<
     F: Family,
@@ -546,6 +588,7 @@ fn given_back<
     U: Update,
 >(
     index: I,
+    activity: Prunable<Chunk64>,
     commitment: Commitment<H::Digest>,
     floor: Location<F>,
     live: u64,
@@ -554,13 +597,15 @@ fn given_back<
 ) -> Given<Db<F, C, I, H, U>, C>
     requires whole { (log : logs.Log C H.Digest) → given ≡ LogGiven.Log log → (commitment.size ≡ log.tree.leaves) × (C.end log.store ≡ log.tree.leaves) }
     requires live { live ≤ commitment.size }
+    requires bits { bit_count 64 activity ≡ commitment.size }
     ensures store { store_given (λ db. db.log.store) result ≡ logs.store_given given }
     ensures back { (x : Database C H.Digest) → result ≡ Given.Database x → (given ≡ LogGiven.Log x.log)
-        × (x ≡ record { entries = I.entries index; log = x.log; commitment = commitment_view H.Digest.bytes commitment; floor = floor; live = live; metadata = option_map (λ m. U.Value.bytes m.value) metadata }) }
+        × (x ≡ record { entries = I.entries index; activity = activity; log = x.log; commitment = commitment_view H.Digest.bytes commitment; floor = floor; live = live; metadata = option_map (λ m. U.Value.bytes m.value) metadata }) }
 {
     match given {
         LogGiven::Log(log) => Given::Database(Db {
             index,
+            activity,
             log,
             commitment,
             floor,

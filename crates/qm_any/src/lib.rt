@@ -5,8 +5,6 @@ pub mod batch;
 pub mod db;
 mod open;
 mod operations;
-pub mod policy;
 pub mod proof;
 
 pub use open::{hasher, init, initial_root};
-pub use policy::Proportional;

@@ -1,6 +1,7 @@
 //! How a database is opened, and the root of a fresh one.
 
 ghost use Rattle.std.specs.Prelude.{◌≡◌, ◌≢◌, ◌⊎◌, ◌≤◌, ◌<◌, ◌∷◌, [], length, map, IfSome, IfOk, IfErr};
+ghost use Rattle.qm_model.specs.Bits.{bits};
 ghost use Rattle.qm_model.specs.Causes.{IsCause};
 ghost use Rattle.qm_model.specs.Forms.{spelling};
 ghost use Rattle.qm_model.specs.Operations.{fresh};
@@ -17,6 +18,7 @@ use qm_base::update::Update;
 use qm_base::{
     Commitment, Corrupt, Digest, Error, Hasher, JournalError, Location, Operation, Spelled,
 };
+use qm_bits::{Chunk64, Prunable};
 use qm_index::Factory;
 use qm_merkle::{Family, StandardHasher};
 use qm_store::{AuthLog, Given, LogGiven, Refusal, Store};
@@ -147,6 +149,15 @@ fn empty_log<F: Family, C: Store, H: Hasher + Drop, X: Drop>(
     }
 }
 
+// The bits of a fresh list: its commit is active.
+fn first_bit(alloc: Global) -> Result<Prunable<Chunk64>, AllocError>
+    ensures { IfOk result (λ activity. activity ≡ record { pruned = 0; kept = bits fresh }) }
+{
+    let mut activity = Prunable::new(alloc);
+    activity.push(true)?;
+    Ok(activity)
+}
+
 // The database of a fresh list, whose spelling is put into an empty log.
 fn begun<F: Family, C: Store, I: Factory<Value = Location<F>>, H: Hasher + Drop, U: Update>(
     alloc: Global,
@@ -174,11 +185,17 @@ fn begun<F: Family, C: Store, I: Factory<Value = Location<F>>, H: Hasher + Drop,
             error: Error::Memory,
         });
     };
+    let Ok(activity) = first_bit(alloc) else {
+        return Err(Refusal {
+            given: Given::Store(log.close()),
+            error: Error::Memory,
+        });
+    };
     match log.append_batch(alloc, items) {
         Ok(log) => {
             let index = I::new(alloc, translator);
             let commitment = Commitment { size: 1, root };
-            Ok(Db::of_parts(index, log, commitment, Location::new(0), 0, None))
+            Ok(Db::of_parts(index, activity, log, commitment, Location::new(0), 0, None))
         }
         Err(refusal) => Err(Refusal {
             given: Given::Store(store_of(refusal.given)),

@@ -9,7 +9,7 @@ pub mod read;
 pub mod write;
 pub mod writes;
 
-pub use apply::apply_diffs;
+pub use apply::{apply_bits, apply_diffs};
 pub use base::Base;
 pub use layer::Layer;
 pub use plan::{Plan, plain};
