@@ -2,6 +2,7 @@
 use Rattle.std.specs.Prelude.{◌≡◌, ◌≢◌, List, true, Option, None}
 use Rattle.qm_model.specs.Causes.{IsCause}
 use Rattle.qm_model.specs.Operations.{Bytes, Operation}
+use Rattle.qm_model.specs.Walk.{Rules}
 use Rattle.qm_model.specs.Writes.{Write}
 use Rattle.qm_model.specs.Step.{step}
 use Rattle.qm_machine.specs.Machine.{Scheme}
@@ -13,9 +14,9 @@ use Rattle.qm_store.specs.Given.{IsUnchanged}
 use Rattle.qm_store.specs.Refusals.{refusal_of}
 use Rattle.qm_engine.specs.declared.words.Words as words
 
--- the list that writes make of a chain's base list
-abbrev pub tip_of : {P : Type 0} → Scheme P → Chain → List Write → P → Option Bytes → List Operation
-tip_of m chain ws policy meta = step m.kind m.rules chain.base ws policy meta
+-- the list that writes make of a chain's base list, under a policy
+abbrev pub tip_of : {P : Type 0} → Scheme → Rules P → Chain → List Write → P → Option Bytes → List Operation
+tip_of m rules chain ws policy meta = step m.kind rules chain.base ws policy meta
 
 module _ {X C B M : Type 0} (means : words.Ghosts X C B M) where
   -- at each list that the database stands for, and each chain and writes of the batch

@@ -12,7 +12,7 @@ ghost use Rattle.qm_model.specs.Batches.{Chain, begun_on, child_of, IsOnChain, I
 ghost use Rattle.qm_model.specs.Refusals.{tip_refusal, proof_refusal, proof_count, pins_refusal};
 ghost use Rattle.qm_model.specs.Refused as refusals;
 ghost use Rattle.qm_machine.specs.Machine.{head_refusal};
-ghost use Rattle.qm_lines.specs.Views.{policy_view, listed_view};
+ghost use Rattle.qm_lines.specs.Views.{listed_view};
 ghost use Rattle.qm_proofs.specs.Proofs.{proof_view};
 ghost use Rattle.qm_store.specs.Given.{store_given, store_after, Appended, AppendedPart, IsUnchanged, TellsAll};
 ghost use Rattle.qm_store.specs.Refusals.{refusal_of, IsAmong, IsDue};
@@ -20,7 +20,8 @@ ghost use Rattle.qm_engine.specs.Words.{AtBatch, AtTip, Fits, CanRead, IsReadFai
 
 use crate::words::Words;
 use qm_base::{Digest, Error, JournalError, Key, VariableValue};
-use qm_lines::{AnyPolicy, Listed};
+use qm_chain::Policy;
+use qm_lines::Listed;
 use qm_proofs::Proof;
 use qm_store::{Given, Refusal, Store};
 use std::alloc::{AllocError, Global};
@@ -56,6 +57,8 @@ pub struct BatchSizes {
 
 /// A kind of database: one call for each command of a run.
 pub trait Engine<C: Store>: Words<C> + Drop + Sized {
+    type Family;
+
     type Key: Key;
 
     type Value: VariableValue;
@@ -129,21 +132,21 @@ pub trait Engine<C: Store>: Words<C> + Drop + Sized {
     /// Makes the batch's tip list: a step of its base list, under the policy. The batch is consumed also where
     /// this is refused, and the policy may have moved on. It is refused where the batch is stale, where an own
     /// operation's spelling has more than 65,536 bytes, and where the list has more than 2^62 operations.
-    fn merkleize(
+    fn merkleize<P: Policy<Self::Family, Self::Key, Self::Value>>(
         &mut self,
         alloc: Global,
         batch: Self::Batch,
-        policy: &mut AnyPolicy,
+        policy: &mut P,
         metadata: &Option<Self::Value>,
     ) -> Result<Self::Merkleized, Error>
         ensures fits { IfOk result (λ _. AtBatch Self.Words self.old batch (λ list chain above ws. Fits Self.Words list chain)) }
         ensures made { IfOk result (λ b. AtBatch Self.Words self.old batch (λ list chain above ws. IsOnChain list chain
-            → let tip = tip_of Self.scheme chain ws (policy_view policy.old) (option_map Self.Value.bytes metadata.now) in
+            → let tip = tip_of Self.scheme P.rules chain ws policy.old (option_map Self.Value.bytes metadata.now) in
             (tip_refusal variable chain tip ≡ None) × Self.is_merkleized b chain tip)) }
         ensures stale { IfErr result (λ e. e ≡ Error.StaleBatch → AtBatch Self.Words self.old batch (λ list chain above ws. ¬ IsOnChain list chain)) }
         ensures refused { IfErr result (λ e. e ≢ Error.StaleBatch → TellsAll C.Store (Self.inside self.old) → AtBatch Self.Words self.old batch (λ list chain above ws.
             IfSome (refusal_of e) (λ r. Fits Self.Words list chain
-            × (IsOnChain list chain → tip_refusal variable chain (tip_of Self.scheme chain ws (policy_view policy.old) (option_map Self.Value.bytes metadata.now)) ≡ Some r)))) }
+            × (IsOnChain list chain → tip_refusal variable chain (tip_of Self.scheme P.rules chain ws policy.old (option_map Self.Value.bytes metadata.now)) ≡ Some r)))) }
         ensures reads { ReadsOnly Self.Words C.Store self.old self.new (IsErrOf result (Error.Journal JournalError.Store)) };
 
     /// The sizes of a merkleized batch.

@@ -4,7 +4,6 @@ ghost use Rattle.std.specs.Prelude.{List};
 ghost use Rattle.qm_model.specs.Operations.{Operation};
 ghost use Rattle.qm_model.specs.Writes.{Write};
 ghost use Rattle.qm_model.specs.Batches.{Chain};
-ghost use Rattle.qm_model.specs.Policies.{Policy};
 ghost use Rattle.qm_machine.specs.Machine.{Scheme};
 
 use qm_store::Store;
@@ -30,5 +29,5 @@ pub trait Words<C: Store> {
 
     /// What its machine stands on: what writes and decisions append, the root of a list, which tells a batch whether it fits,
     /// up to where a list may be pruned, and its proofs and pins.
-    ghost scheme: { Scheme Policy };
+    ghost scheme: { Scheme };
 }

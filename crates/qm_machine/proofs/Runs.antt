@@ -2,6 +2,7 @@
 use Rattle.std.proofs.Common.{◌≡◌, ℕ, Bool, true, false, cond, List, [], ◌∷◌, ◌++◌, Option, Some, None, refl, ap}
 use Rattle.std.specs.Prelude.{Contains}
 use Rattle.qm_model.specs.Operations.{Bytes, Operation, fresh}
+use Rattle.qm_model.specs.Walk.{Rules}
 use Rattle.qm_model.specs.Writes.{Write}
 use Rattle.qm_model.specs.Batches.{Chain, Apart, commitment, fits, readable}
 use Rattle.qm_machine.specs.Lines.{Line, Open, Batch, Child, Tip, Put, Del, Merkleize, Apply, Ops, Get, Many, Info, BatchInfo, Root, BatchRoot, BatchProof, Meta, Prove, Pins, Answer}
@@ -11,13 +12,13 @@ use Rattle.qm_model.specs.Forms.{variable}
 use Rattle.qm_model.specs.Refusals.{tip_refusal, proof_refusal, pins_refusal}
 use Rattle.qm_model.proofs.Chains.{Contains-more}
 
-pub state_after-push : {P : Type 0} (m : Scheme P) (s : State) (lines : List (Line P)) (line : Line P) → state_after m s (lines ++ line ∷ []) ≡ (turn m (state_after m s lines) line).1
-state_after-push m s [] line = refl
-state_after-push m s (l ∷ lines) line = state_after-push m (turn m s l).1 lines line
+pub state_after-push : (m : Scheme) {P : Type 0} (rules : Rules P) (s : State) (lines : List (Line P)) (line : Line P) → state_after m rules s (lines ++ line ∷ []) ≡ (turn m rules (state_after m rules s lines) line).1
+state_after-push m rules s [] line = refl
+state_after-push m rules s (l ∷ lines) line = state_after-push m rules (turn m rules s l).1 lines line
 
-pub answers-push : {P : Type 0} (m : Scheme P) (s : State) (lines : List (Line P)) (line : Line P) → answers m s (lines ++ line ∷ []) ≡ answers m s lines ++ (turn m (state_after m s lines) line).0 ∷ []
-answers-push m s [] line = refl
-answers-push m s (l ∷ lines) line = ap (λ r. (turn m s l).0 ∷ r) (answers-push m (turn m s l).1 lines line)
+pub answers-push : (m : Scheme) {P : Type 0} (rules : Rules P) (s : State) (lines : List (Line P)) (line : Line P) → answers m rules s (lines ++ line ∷ []) ≡ answers m rules s lines ++ (turn m rules (state_after m rules s lines) line).0 ∷ []
+answers-push m rules s [] line = refl
+answers-push m rules s (l ∷ lines) line = ap (λ r. (turn m rules s l).0 ∷ r) (answers-push m rules (turn m rules s l).1 lines line)
 
 -- what an answer leaves keeps each list that was had
 abbrev Keeps : State → Answer × State → Type 0
@@ -54,17 +55,11 @@ unless_keeps : (s : State) (due : Option Refused) (answer : Answer) → Keeps s 
 unless_keeps s None answer = λ x a. a
 unless_keeps s (Some r) answer = λ x a. a
 
-module _ {P : Type 0} (m : Scheme P) where
-  tip_keeps : (s : State) (h : ℕ) (chain : Chain) (tip : List Operation) (due : Option Refused) → Keeps s (merkleize_tip m s h chain tip due)
-  tip_keeps s h chain tip None = λ x a. Contains-more s.had tip x a
-  tip_keeps s h chain tip (Some r) = λ x a. a
+tip_keeps : (s : State) (h : ℕ) (chain : Chain) (tip : List Operation) (due : Option Refused) → Keeps s (merkleize_tip s h chain tip due)
+tip_keeps s h chain tip None = λ x a. Contains-more s.had tip x a
+tip_keeps s h chain tip (Some r) = λ x a. a
 
-  merkleize_keeps : (s : State) (h : ℕ) (policy : P) (meta : Option Bytes) (list : List Operation) (slot : Slot) → Keeps s (merkleize_in m s h policy meta list slot)
-  merkleize_keeps s h policy meta list gone = λ x a. a
-  merkleize_keeps s h policy meta list (merkleized chain tip) = λ x a. a
-  merkleize_keeps s h policy meta list (writing chain parent ws) =
-      either s (fits m.root (commitment m.root list) chain) _ _ (tip_keeps s h chain _ (tip_refusal variable chain _)) (λ x a. a)
-
+module _ (m : Scheme) where
   apply_keeps : (s : State) (h : ℕ) (list : List Operation) (slot : Slot) → Keeps s (apply_in m s h list slot)
   apply_keeps s h list gone = λ x a. a
   apply_keeps s h list (writing chain parent ws) = λ x a. a
@@ -97,7 +92,14 @@ module _ {P : Type 0} (m : Scheme P) where
   proof_keeps s h list (writing chain parent ws) = λ x a. a
   proof_keeps s h list (merkleized chain tip) = readable_keeps s list chain tip _
 
-  turn_keeps : (s : State) (line : Line P) → Keeps s (turn m s line)
+module _ (m : Scheme) {P : Type 0} (rules : Rules P) where
+  merkleize_keeps : (s : State) (h : ℕ) (policy : P) (meta : Option Bytes) (list : List Operation) (slot : Slot) → Keeps s (merkleize_in m rules s h policy meta list slot)
+  merkleize_keeps s h policy meta list gone = λ x a. a
+  merkleize_keeps s h policy meta list (merkleized chain tip) = λ x a. a
+  merkleize_keeps s h policy meta list (writing chain parent ws) =
+      either s (fits m.root (commitment m.root list) chain) _ _ (tip_keeps s h chain _ (tip_refusal variable chain _)) (λ x a. a)
+
+  turn_keeps : (s : State) (line : Line P) → Keeps s (turn m rules s line)
   turn_keeps s Open = opened s (opening_refusal s.store)
   turn_keeps s Batch = with_list s s.database _ (λ list x a. a)
   turn_keeps s (Child h keep) = child_keeps s h keep (slot_at s.table h)
@@ -105,19 +107,19 @@ module _ {P : Type 0} (m : Scheme P) where
   turn_keeps s (Put h key value) = put_keeps s h _ (slot_at s.table h)
   turn_keeps s (Del h key) = put_keeps s h _ (slot_at s.table h)
   turn_keeps s (Merkleize h policy meta) = with_list s s.database _ (λ list. merkleize_keeps s h policy meta list (slot_at s.table h))
-  turn_keeps s (Apply h) = with_list s s.database _ (λ list. apply_keeps s h list (slot_at s.table h))
+  turn_keeps s (Apply h) = with_list s s.database _ (λ list. apply_keeps m s h list (slot_at s.table h))
   turn_keeps s (Ops h) = listed_keeps s h (slot_at s.table h)
-  turn_keeps s (Get key from) = read_keeps s (key ∷ []) from
-  turn_keeps s (Many keys from) = read_keeps s keys from
+  turn_keeps s (Get key from) = read_keeps m s (key ∷ []) from
+  turn_keeps s (Many keys from) = read_keeps m s keys from
   turn_keeps s Info = with_list s s.database _ (λ list x a. a)
-  turn_keeps s (BatchInfo h) = info_keeps s h (slot_at s.table h)
+  turn_keeps s (BatchInfo h) = info_keeps m s h (slot_at s.table h)
   turn_keeps s Root = with_list s s.database _ (λ list x a. a)
-  turn_keeps s (BatchRoot h) = root_keeps s h (slot_at s.table h)
-  turn_keeps s (BatchProof h) = with_list s s.database _ (λ list. proof_keeps s h list (slot_at s.table h))
+  turn_keeps s (BatchRoot h) = root_keeps m s h (slot_at s.table h)
+  turn_keeps s (BatchProof h) = with_list s s.database _ (λ list. proof_keeps m s h list (slot_at s.table h))
   turn_keeps s Meta = with_list s s.database _ (λ list x a. a)
   turn_keeps s (Prove size start max) = with_list s s.database _ (λ list. unless_keeps s (proof_refusal s.store.start list size start) _)
   turn_keeps s (Pins n) = with_list s s.database _ (λ list. unless_keeps s (pins_refusal list n) _)
 
   -- what a longer run keeps apart, a shorter one does
-  pub Apart-before : (s : State) (line : Line P) → Apart m.root ((turn m s line).1).had → Apart m.root s.had
+  pub Apart-before : (s : State) (line : Line P) → Apart m.root ((turn m rules s line).1).had → Apart m.root s.had
   Apart-before s line apart = λ a b in_a in_b e. apart a b (turn_keeps s line a in_a) (turn_keeps s line b in_b) e

@@ -5,7 +5,8 @@ use Rattle.std.specs.Char.{is_ascii_digit}
 use Rattle.hex.specs.Hex.{decode_of}
 use Rattle.hex.specs.declared.error.FromHexError.{FromHexError}
 use Rattle.qm_model.specs.Operations.{Bytes}
-use Rattle.qm_model.specs.Policies.{Policy, proportional}
+use Rattle.qm_model.specs.Walk.{Limits}
+use Rattle.qm_model.specs.Policies.{Policy, proportional, hold, bounded, rule}
 use Rattle.qm_machine.specs.Lines.{Line, Open, Batch, Child, Tip, Put, Del, Merkleize, Apply, Ops, Get, Many, Info, BatchInfo, Root, BatchRoot, BatchProof, Meta, Prove, Pins}
 
 -- the number with one decimal digit more, below 2 ^ 64
@@ -46,16 +47,72 @@ key_of word = within 1 32 (decode_of word)
 abbrev pub value_of : Bytes → Option Bytes
 value_of word = if bytes_eq word (codes "-") then Some [] else within 1 64 (decode_of word)
 
+-- whether a word begins with a name, and what stands behind that
+abbrev pub begins_with : Bytes → Bytes → Bool
+begins_with name word = bytes_eq (take (length name) word) name
+
+abbrev pub behind : Bytes → Bytes → Bytes
+behind name word = drop (length name) word
+
+-- What the first of some parts says behind this name, and the parts after it; none, and all parts, where it has another name.
+abbrev pub optional : {A : Type 0} → Bytes → (Bytes → Option A) → List Bytes → Option (Option A × List Bytes)
+optional name read [] = Some (None, [])
+optional name read (part ∷ parts) =
+    if begins_with name part then option_map (λ a. (Some a, parts)) (read (behind name part)) else Some (None, part ∷ parts)
+
+-- two values with a sign between them
+abbrev pub swap_of_words : List Bytes → Option (Bytes × Bytes)
+swap_of_words (a ∷ b ∷ []) = option_and_then (λ from. option_map (λ to. (from, to)) (value_of b)) (value_of a)
+swap_of_words words = None
+
+abbrev pub swap_of : Bytes → Option (Bytes × Bytes)
+swap_of word = swap_of_words (slice_split (λ c. c == 62) word)
+
+-- the policy of these numbers and values, where no part is left
+abbrev pub rule_of : ℕ → ℕ → Option Bytes → Option Bytes → Option (Bytes × Bytes) × List Bytes → Option Policy
+rule_of entries skips drops stops (swap, []) = Some (rule entries skips drops stops swap)
+rule_of entries skips drops stops (swap, part ∷ parts) = None
+
+-- a value to drop, one to stop at, and two to swap, each where it is given, in this order
+abbrev pub rule_with : ℕ → ℕ → List Bytes → Option Policy
+rule_with entries skips parts =
+    option_and_then (λ d. option_and_then (λ s. option_and_then (rule_of entries skips d.0 s.0) (optional (codes "swap=") swap_of s.1)) (optional (codes "stop=") value_of d.1)) (optional (codes "drop=") value_of parts)
+
+-- entries and skips
+abbrev pub limits_of : Bytes → Bytes → Option Limits
+limits_of a b = option_and_then (λ entries. option_map (λ skips. record { entries = entries; skips = skips }) (number_of b)) (number_of a)
+
+abbrev pub bounded_of : List Bytes → Option Policy
+bounded_of (a ∷ b ∷ []) = option_map (λ l. bounded l.entries l.skips) (limits_of a b)
+bounded_of parts = None
+
+abbrev pub ruled_of : List Bytes → Option Policy
+ruled_of (a ∷ b ∷ parts) = option_and_then (λ l. rule_with l.entries l.skips parts) (limits_of a b)
+ruled_of parts = None
+
+abbrev pub only_policy : Policy → List Bytes → Option Policy
+only_policy policy [] = Some policy
+only_policy policy parts = None
+
+-- a name, and the parts behind it
+abbrev pub policy_of_words : List Bytes → Option Policy
+policy_of_words [] = None
+policy_of_words (name ∷ parts) =
+    if bytes_eq name (codes "prop") then only_policy proportional parts
+    else (if bytes_eq name (codes "hold") then only_policy hold parts
+    else (if bytes_eq name (codes "bounded") then bounded_of parts
+    else (if bytes_eq name (codes "rule") then ruled_of parts else None)))
+
+-- parts with colons between them
 abbrev pub policy_of : Bytes → Option Policy
-policy_of word = if bytes_eq word (codes "prop") then Some proportional else None
+policy_of word = policy_of_words (slice_split (λ c. c == 58) word)
 
 abbrev pub metadata_of : Bytes → Option (Option Bytes)
 metadata_of word = if bytes_eq word (codes "none") then Some None else option_map (λ v. Some v) (value_of word)
 
 -- the number behind a word and an equals sign
 abbrev pub named_number : Bytes → Bytes → Option ℕ
-named_number name word =
-    if bytes_eq (take (length name) word) name then number_of (drop (length name) word) else None
+named_number name word = if begins_with name word then number_of (behind name word) else None
 
 -- what is read: keys, and the batch through which they are
 abbrev pub Reading : Type 0

@@ -8,7 +8,7 @@ use Rattle.qm_model.specs.Forms.{variable}
 use Rattle.qm_model.specs.Live.{floor}
 use Rattle.qm_model.specs.Mmr.{mmr, digits_below}
 use Rattle.qm_model.specs.Proofs.{ops_proof, pins_at}
-use Rattle.qm_model.specs.Policies.{Policy, policies, proportional}
+use Rattle.qm_model.specs.Policies.{Policy, policies, proportional, hold, bounded, rule}
 use Rattle.qm_model.specs.Step.{unordered}
 use Rattle.qm_machine.specs.Lines.{Child, Put, Del, Merkleize, Get, Many, Prove, Pins}
 use Rattle.qm_model.specs.Refused.{Merkle, LocationOverflow}
@@ -23,8 +23,8 @@ abbrev same : Bytes → Bytes
 same bytes = 0x00 ∷ 0x2a ∷ []
 
 -- a root under which lists of one length collide, which these rows do not tell from a real one
-abbrev toy : Scheme Policy
-toy = record { kind = unordered; rules = policies; root = λ ops. same []; boundary = floor; proof = ops_proof same mmr variable; pins = pins_at same mmr variable }
+abbrev toy : Scheme
+toy = record { kind = unordered; root = λ ops. same []; boundary = floor; proof = ops_proof same mmr variable; pins = pins_at same mmr variable }
 
 -- the keys and values of a list's operations, which tell its lists apart here
 abbrev said : Operation → Bytes
@@ -32,21 +32,21 @@ said (update k v n) = k ++ v
 said (delete k) = k
 said (commit m f) = []
 
-abbrev telling : Scheme Policy
+abbrev telling : Scheme
 telling = record toy { root = λ ops. flat_map said ops }
 
 abbrev lines : List Bytes → Bytes
 lines ls = join_with_byte 10 ls ++ 10 ∷ []
 
 abbrev text : Bytes → Bytes
-text input = text_of (answers toy (initial empty) (commands_in input))
+text input = text_of (answers toy policies (initial empty) (commands_in input))
 
 abbrev forked : Bytes → Bytes
-forked input = text_of (answers telling (initial empty) (commands_in input))
+forked input = text_of (answers telling policies (initial empty) (commands_in input))
 
 -- over a store
 abbrev over : Stored → Bytes → Bytes
-over stored input = text_of (answers toy (initial stored) (commands_in input))
+over stored input = text_of (answers toy policies (initial stored) (commands_in input))
 
 -- stores that start above 0, that have an item, and that have a head where nothing was pruned
 start_text : over (record empty { start = 2 }) (lines (codes "open" ∷ codes "info" ∷ [])) ≡ lines (codes "refused NotOffered" ∷ codes "refused NoDatabase" ∷ [])
@@ -221,3 +221,55 @@ read_no_key = refl
 from_in_the_middle : line_of (codes "many 6b from=3 6b") ≡ None
 unfolding decode_pairs
 from_in_the_middle = refl
+
+-- policies
+merkleize_at : Policy → Bytes → Type 0
+merkleize_at policy word = line_of (codes "merkleize 2 " ++ (word ++ codes " none")) ≡ Some (Merkleize 2 policy None)
+
+hold_line : merkleize_at hold (codes "hold")
+unfolding merkleize_at
+hold_line = refl
+
+bounded_line : merkleize_at (bounded 3 18446744073709551615) (codes "bounded:3:18446744073709551615")
+unfolding merkleize_at
+bounded_line = refl
+
+rule_line : merkleize_at (rule 2 9 None None None) (codes "rule:2:9")
+unfolding merkleize_at
+rule_line = refl
+
+whole_rule_line : merkleize_at (rule 2 9 (Some (2 ∷ [])) (Some []) (Some (1 ∷ [], 0x0a ∷ []))) (codes "rule:2:9:drop=02:stop=-:swap=01>0A")
+unfolding merkleize_at decode_pairs
+whole_rule_line = refl
+
+-- what is no policy: other words, parts in another order or twice, no value, half a swap
+no_policy : Bytes → Type 0
+no_policy word = line_of (codes "merkleize 2 " ++ (word ++ codes " none")) ≡ None
+
+hold_with_part : no_policy (codes "hold:1")
+unfolding no_policy
+hold_with_part = refl
+
+bounded_without_skips : no_policy (codes "bounded:1")
+unfolding no_policy
+bounded_without_skips = refl
+
+padded_entries : no_policy (codes "bounded:01:1")
+unfolding no_policy
+padded_entries = refl
+
+other_order : no_policy (codes "rule:1:1:stop=01:drop=02")
+unfolding no_policy decode_pairs
+other_order = refl
+
+drop_twice : no_policy (codes "rule:1:1:drop=01:drop=02")
+unfolding no_policy decode_pairs
+drop_twice = refl
+
+no_value : no_policy (codes "rule:1:1:drop=")
+unfolding no_policy decode_pairs
+no_value = refl
+
+half_swap : no_policy (codes "rule:1:1:swap=01")
+unfolding no_policy decode_pairs
+half_swap = refl

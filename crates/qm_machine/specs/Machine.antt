@@ -14,11 +14,10 @@ use Rattle.qm_machine.specs.Lines.{Line, Open, Batch, Child, Tip, Put, Del, Merk
 use Rattle.qm_model.specs.Refused.{Refused, NotOffered, NoDatabase, NoSuchHandle, StaleBatch, StaleRead, DataCorrupted, HeadDoesNotMatch}
 use Rattle.qm_model.specs.Refusals.{tip_refusal, proof_refusal, proof_count, pins_refusal}
 
--- what a machine stands on: the kind of database, its policies, and a list's operations root and boundary,
--- the proofs of its operations and its pins
-pub record Scheme (P : Type 0) : Type 0 where
+-- what a machine stands on: the kind of database, a list's operations root and boundary, the proofs of its operations and
+-- its pins
+pub record Scheme : Type 0 where
   pub kind : Kind
-  pub rules : Rules P
   pub root : List Operation → Bytes
   pub boundary : List Operation → ℕ
   -- of the whole list, for the operations from a up to b
@@ -127,26 +126,13 @@ ops s h = list_operations s h (slot_at s.table h)
 abbrev pub meta : State → Answer × State
 meta s = with_database s s.database (λ list. (Metadata (last_metadata list), s))
 
-module _ {P : Type 0} (m : Scheme P) where
-  -- the batch gets its tip list, or is used up where that is refused
-  abbrev pub merkleize_tip : State → ℕ → Chain → List Operation → Option Refused → Answer × State
-  merkleize_tip s h chain tip None =
-      (Merkleized h (length chain.base) (length tip) (floor tip), record (with_slot s h (merkleized chain tip)) { had = tip ∷ s.had })
-  merkleize_tip s h chain tip (Some r) = refuse (with_slot s h gone) r
+-- the batch gets its tip list, or is used up where that is refused
+abbrev pub merkleize_tip : State → ℕ → Chain → List Operation → Option Refused → Answer × State
+merkleize_tip s h chain tip None =
+    (Merkleized h (length chain.base) (length tip) (floor tip), record (with_slot s h (merkleized chain tip)) { had = tip ∷ s.had })
+merkleize_tip s h chain tip (Some r) = refuse (with_slot s h gone) r
 
-  -- the batch is also used up where the database has moved on
-  abbrev pub merkleize_in : State → ℕ → P → Option Bytes → List Operation → Slot → Answer × State
-  merkleize_in s h policy meta list (writing chain parent ws) =
-      let tip = steps.step m.kind m.rules chain.base ws policy meta in
-      if fits m.root (commitment m.root list) chain
-      then merkleize_tip s h chain tip (tip_refusal variable chain tip)
-      else refuse (with_slot s h gone) StaleBatch
-  merkleize_in s h policy meta list gone = refuse s (NoSuchHandle h)
-  merkleize_in s h policy meta list (merkleized chain tip) = refuse s (NoSuchHandle h)
-
-  abbrev pub merkleize : State → ℕ → P → Option Bytes → Answer × State
-  merkleize s h policy meta = with_database s s.database (λ list. merkleize_in s h policy meta list (slot_at s.table h))
-
+module _ (m : Scheme) where
   -- the database takes the tip list, and the store what it lacks of it
   abbrev pub apply_in : State → ℕ → List Operation → Slot → Answer × State
   apply_in s h list (merkleized chain tip) =
@@ -215,6 +201,21 @@ module _ {P : Type 0} (m : Scheme P) where
   abbrev pub pins : State → ℕ → Answer × State
   pins s n = with_database s s.database (λ list. unless s (pins_refusal list n) (Pinned (m.pins list n)))
 
+-- under policies with these rules
+module _ (m : Scheme) {P : Type 0} (rules : Rules P) where
+  -- the batch is also used up where the database has moved on
+  abbrev pub merkleize_in : State → ℕ → P → Option Bytes → List Operation → Slot → Answer × State
+  merkleize_in s h policy meta list (writing chain parent ws) =
+      let tip = steps.step m.kind rules chain.base ws policy meta in
+      if fits m.root (commitment m.root list) chain
+      then merkleize_tip s h chain tip (tip_refusal variable chain tip)
+      else refuse (with_slot s h gone) StaleBatch
+  merkleize_in s h policy meta list gone = refuse s (NoSuchHandle h)
+  merkleize_in s h policy meta list (merkleized chain tip) = refuse s (NoSuchHandle h)
+
+  abbrev pub merkleize : State → ℕ → P → Option Bytes → Answer × State
+  merkleize s h policy meta = with_database s s.database (λ list. merkleize_in s h policy meta list (slot_at s.table h))
+
   -- one command: the answer, and the state after it
   abbrev pub turn : State → Line P → Answer × State
   turn s Open = open_store s
@@ -224,18 +225,18 @@ module _ {P : Type 0} (m : Scheme P) where
   turn s (Put h key value) = put s h key value
   turn s (Del h key) = del s h key
   turn s (Merkleize h policy meta) = merkleize s h policy meta
-  turn s (Apply h) = apply s h
+  turn s (Apply h) = apply m s h
   turn s (Ops h) = ops s h
-  turn s (Get key from) = read s (key ∷ []) from
-  turn s (Many keys from) = read s keys from
-  turn s Info = info s
-  turn s (BatchInfo h) = batch_info s h
-  turn s Root = root s
-  turn s (BatchRoot h) = batch_root s h
-  turn s (BatchProof h) = batch_proof s h
+  turn s (Get key from) = read m s (key ∷ []) from
+  turn s (Many keys from) = read m s keys from
+  turn s Info = info m s
+  turn s (BatchInfo h) = batch_info m s h
+  turn s Root = root m s
+  turn s (BatchRoot h) = batch_root m s h
+  turn s (BatchProof h) = batch_proof m s h
   turn s Meta = meta s
-  turn s (Prove size start max) = prove s size start max
-  turn s (Pins n) = pins s n
+  turn s (Prove size start max) = prove m s size start max
+  turn s (Pins n) = pins m s n
 
   -- the answers to commands in order, and the state after them
   abbrev pub answers : State → List (Line P) → List Answer
