@@ -1,4 +1,5 @@
 pub mod Parsed
+pub mod Policies
 pub mod Ports
 pub mod Views
 pub mod Written

@@ -7,7 +7,8 @@ use Rattle.qm_machine.specs.Lines.{Line}
 use Rattle.qm_machine.specs.Grammar.{key_of, Reading}
 use Rattle.qm_lines.specs.declared.policy.AnyPolicy.{AnyPolicy}
 use Rattle.qm_lines.specs.declared.command.Command.{Command}
-use Rattle.qm_lines.specs.Views.{policy_view, line_view}
+use Rattle.qm_lines.specs.Policies.{policy_view}
+use Rattle.qm_lines.specs.Views.{line_view}
 
 -- a command whose keys and values are seen as their bytes
 abbrev pub byte_line : Command Bytes Bytes AnyPolicy → Line Policy

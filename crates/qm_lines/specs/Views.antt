@@ -6,8 +6,6 @@ use Rattle.qm_model.specs.Policies.{Policy, proportional}
 use Rattle.qm_machine.specs.Lines as lines
 use Rattle.qm_model.specs.Refused as refusals
 use Rattle.qm_base.specs.Views.{corrupt_view}
-use Rattle.qm_lines.specs.declared.policy.AnyPolicy.{AnyPolicy}
-use Rattle.qm_lines.specs.declared.policy.AnyPolicy.TheVariants.{Proportional}
 use Rattle.qm_lines.specs.declared.command.Command.{Command}
 use Rattle.qm_lines.specs.declared.command.Command.TheVariants as commands
 use Rattle.qm_lines.specs.declared.reply.Listed.{Listed}
@@ -20,9 +18,6 @@ use Rattle.qm_lines.specs.declared.reply.Refused.{Refused}
 use Rattle.qm_lines.specs.declared.reply.Refused.TheVariants as refused
 use Rattle.qm_lines.specs.declared.reply.Reply.{Reply}
 use Rattle.qm_lines.specs.declared.reply.Reply.TheVariants as replies
-
-abbrev pub policy_view : AnyPolicy → Policy
-policy_view Proportional = proportional
 
 abbrev pub tree_view : TreeRefused → refusals.TreeRefused
 tree_view (tree.RangeOutOfBounds n) = refusals.RangeOutOfBounds n

@@ -2,13 +2,14 @@
 ghost use Rattle.std.specs.Prelude.{◌≡◌, IfOk, option_map};
 ghost use Rattle.qm_machine.specs.Grammar as grammar;
 ghost use Rattle.qm_lines.specs.Parsed.{byte_line, lent};
-ghost use Rattle.qm_lines.specs.Views.{policy_view};
+ghost use Rattle.qm_lines.specs.Policies.{policy_view};
 
 use super::ByteCommand;
 use super::keys::{Reading, key, metadata, parse_reading, value};
 use super::numbers::{named_number, number, positive};
 use crate::command::Command;
 use crate::policy::AnyPolicy;
+use qm_chain::Proportional;
 use std::alloc::{AllocError, Global};
 
 // No word more.
@@ -96,7 +97,7 @@ fn del(alloc: Global, words: &[&[u8]]) -> Result<Option<ByteCommand>, AllocError
 fn policy(word: &[u8]) -> Option<AnyPolicy>
     ensures { option_map policy_view result ≡ grammar.policy_of word.now }
 {
-    (word == b"prop".as_slice()).then_some(AnyPolicy::Proportional)
+    (word == b"prop".as_slice()).then_some(AnyPolicy::Proportional(Proportional))
 }
 
 fn merkleize(alloc: Global, words: &[&[u8]]) -> Result<Option<ByteCommand>, AllocError>
