@@ -17,7 +17,7 @@ import fuzz  # noqa: E402
 import model  # noqa: E402
 import qmdb  # noqa: E402
 
-STAGE = qmdb.stage_number('forks')
+STAGE = qmdb.stage_number('policies')
 WORDS = 'run any unordered mmr'
 inp, out = [], []
 def section(text):
@@ -105,17 +105,24 @@ worked('proofs, numbers and roots of batches', "open\nbatch\nput 1 6b 76\nchild 
 section('Each form of a line, with no database.')
 modelled('lines', ''.join(x + '\n' for x in (
  'batch', 'info', 'root', 'meta', 'tip', 'put 1 6b 76', 'put 0 00fF -', 'del 7 6B', 'merkleize 1 prop none', 'merkleize 1 prop -', 'merkleize 1 prop 0f',
+ 'merkleize 1 hold none', 'merkleize 1 bounded:0:18446744073709551615 none', 'merkleize 1 rule:2:9 none', 'merkleize 1 rule:2:9:drop=02 none', 'merkleize 1 rule:2:9:stop=-:swap=0A>%s none' % ('62' * 64), 'merkleize 1 rule:2:9:drop=%s:stop=02:swap=->- 0f' % ('61' * 64),
  'apply 10', 'ops 18446744073709551615', 'get 4a4A', 'get 4a from=3', 'many 4a', 'many 4a 6b 4a from=0', 'child 2', 'child 2 keep=0', 'child 2 keep=18446744073709551615',
  'info 1', 'root 1', 'proof 1', 'prove 4 0 9', 'prove 18446744073709551615 0 18446744073709551615', 'pins 0', 'open')))
 modelled('keys of 32 bytes, values of 64', 'open\nbatch\nput 1 %s %s\nmerkleize 1 prop %s\nops 1\napply 1\nget %s\nmeta\n' % ('61' * 32, '62' * 64, '63' * 64, '61' * 32), items=True)
 modelled('numbers past the end', 'open\nprove 18446744073709551615 0 1\nprove 4611686018427387905 0 1\nprove 4611686018427387904 0 1\nprove 1 18446744073709551615 1\nprove 1 0 18446744073709551615\npins 18446744073709551615\npins 4611686018427387905\npins 4611686018427387904\nget 61 from=18446744073709551615\nchild 18446744073709551615\n')
 section('Lines that are none.')
 for bad in ('', ' ', 'Open', 'open ', ' open', 'open x', 'apply', 'apply ', 'apply 01', 'apply +1', 'apply -1', 'apply 18446744073709551616', 'ops 1 2',
- 'get', 'get -', 'get 6', 'get 6g', 'put  1 6b 76', 'put 1 6b', 'put 1 - 76', 'put 1 6b 767', 'put 1 6b 76 77', 'merkleize 1 prop', 'merkleize 1 hold none', 'merkleize 1 prop non',
+ 'get', 'get -', 'get 6', 'get 6g', 'put  1 6b 76', 'put 1 6b', 'put 1 - 76', 'put 1 6b 767', 'put 1 6b 76 77', 'merkleize 1 prop', 'merkleize 1 prop non',
  'merkleize 1 prop none ', 'del 1', 'del 1 -', 'del 1 6b 76', 'get 4a 6b', 'get from=3', 'many', 'many from=3', 'many 4a from=3 6b', 'many 4a from=', 'many 4a from=03',
  'child 2 keep', 'child 2 keep=', 'child 2 from=1', 'tip 1', 'batch 1', 'info 1 2', 'proof', 'prove 4 0 0', 'prove 4 0', 'prove 4 0 01', 'pins', 'nothing', 'next 61',
  'get ' + '61' * 33, 'put 1 %s 76' % ('61' * 33), 'put 1 6b ' + '61' * 65, 'merkleize 1 prop ' + '61' * 65):
     t, s, _ = modelled('bad line: ' + (bad if len(bad) < 40 else bad[:20] + '.. (%d characters)' % len(bad)), bad + '\n')
+    assert (t, s) == ('bad line 1\n', 2)
+section('Words that are no policy.')
+for bad in ('held', 'Hold', '', 'prop:', 'prop:1', 'hold:1:1', 'bounded', 'bounded:1', 'bounded:1:', 'bounded:1:2:3', 'bounded:01:2', 'bounded:1:18446744073709551616', 'rule', 'rule:1',
+ 'rule:1:1:', 'rule:1:1:drop', 'rule:1:1:drop=', 'rule:1:1:drop=0', 'rule:1:1:drop=02:', 'rule:1:1:drop=01:drop=02', 'rule:1:1:stop=01:drop=02', 'rule:1:1:swap=01>02:stop=03', 'rule:1:1:swap=01',
+ 'rule:1:1:swap=01>', 'rule:1:1:swap=>01', 'rule:1:1:swap=01>02>03', 'rule:1:1:spare=1', 'rule:1:1:keep=01', 'rule:1:1:drop=' + '61' * 65):
+    t, s, _ = modelled('no policy: ' + (bad if len(bad) < 40 else bad[:20] + '.. (%d characters)' % len(bad)), 'merkleize 1 %s none\n' % bad)
     assert (t, s) == ('bad line 1\n', 2)
 section('Bytes that are no lines of text.')
 for name, data in (('a carriage return', b'open\r\n'), ('a zero byte', b'open\0\n'), ('no UTF-8', b'open\nbatch\n\xff\n'), ('a tab', b'get\t61\n')):
@@ -190,6 +197,15 @@ put('kept, with other words', ['keep', 'words run', '| open'], '', 1, 0, 1)
 put('an opening whose append fails', ['fail store 1 3', '| open'], 'store fault\n', 6, 0, 0)
 put('kept, and fails once more', ['keep', '| open'], 'store fault\n', 6, 0, 0)
 put('kept, and opened at last', ['keep', '| open', '| info'], 'open 1 0 1\ninfo 0 1 0 0 empty\n', 0, 0, 1)
+section('Policies: three keys written under hold, then an empty batch under each of these, and what is left after it.')
+HELD = 'open\nbatch\nput 1 61 01\nput 1 62 02\nput 1 63 03\nmerkleize 1 hold none\napply 1\n'
+for policy in ('prop', 'hold', 'bounded:0:9', 'bounded:9:0', 'bounded:9:1', 'bounded:2:1', 'bounded:2:2', 'bounded:9:9', 'bounded:18446744073709551615:18446744073709551615',
+ 'rule:9:9', 'rule:9:9:drop=01', 'rule:9:9:drop=02', 'rule:9:9:drop=03', 'rule:1:9:drop=02', 'rule:0:9:drop=01', 'rule:9:9:stop=01', 'rule:9:9:stop=02', 'rule:9:9:drop=01:stop=01', 'rule:9:9:drop=01:stop=03',
+ 'rule:9:9:swap=01>03', 'rule:9:9:drop=03:swap=01>03', 'rule:9:9:swap=02>-', 'rule:9:9:drop=02:stop=03:swap=01>0a'):
+    modelled('policy ' + policy, HELD + 'batch\nmerkleize 2 %s none\nops 2\napply 2\nmany 61 62 63\ninfo\nbatch\nput 3 62 04\nmerkleize 3 prop none\nops 3\napply 3\nmany 61 62 63\nroot\n' % policy)
+modelled('all keys dropped', HELD + 'batch\nput 2 62 01\nput 2 63 01\nmerkleize 2 rule:9:9:drop=01 none\nops 2\napply 2\ninfo\nbatch\nmerkleize 3 prop none\nops 3\n')
+modelled('what an ancestor made inactive is passed', HELD + 'batch\nput 2 61 04\ndel 2 62\nmerkleize 2 hold none\nchild 2\nmerkleize 3 bounded:1:9 none\nops 3\nchild 3 keep=0\nmerkleize 4 rule:9:9:drop=04 none\napply 3\nchild 3\nmerkleize 5 rule:9:9:drop=04 none\nops 5\napply 5\nmany 61 62 63\ninfo\n')
+modelled('rounds of candidates', 'open\n' + 'batch\n' + ''.join('put 1 %04x 01\n' % i for i in range(1100)) + 'merkleize 1 hold none\napply 1\nbatch\n' + ''.join('del 2 %04x\n' % i for i in range(3, 1090)) + 'merkleize 2 hold none\napply 2\nbatch\nput 3 0001 02\nmerkleize 3 rule:8:1085 none\nops 3\nbatch\nmerkleize 4 bounded:10:2186 none\nops 4\nbatch\nmerkleize 5 bounded:14:9999 none\nops 5\napply 5\ninfo\nroot\n')
 section('Scripts of an independent model.')
 for seed in range(100):
     size = (12, 25, 25, 40, 60)[seed % 5]

@@ -3,10 +3,11 @@
 
 use qm_any::batch::MerkleizedBatch;
 use qm_any::db::Db;
-use qm_any::{Proportional, hasher, init};
+use qm_any::{hasher, init};
 use qm_base::{
     ByteString, Digest, Error, FixedBytes, FixedEncoding, Location, Sha256, Sha256Digest, Unordered,
 };
+use qm_chain::Proportional;
 use qm_index::FourCap;
 use qm_index::unordered::Index;
 use qm_merkle::mmr::Family;

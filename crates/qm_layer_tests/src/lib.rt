@@ -18,3 +18,5 @@ mod maps;
 mod store;
 #[cfg(test)]
 mod trees;
+#[cfg(test)]
+mod walks;
