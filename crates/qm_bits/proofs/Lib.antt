@@ -4,3 +4,4 @@ pub mod Held
 pub mod Packing
 pub mod Places
 pub mod Reading
+pub mod Rounds
