@@ -1,6 +1,7 @@
 pub mod Activity
 pub mod Finding
 pub mod Held
+pub mod Marks
 pub mod Packing
 pub mod Places
 pub mod Reading
