@@ -13,7 +13,7 @@ use Rattle.qm_model.proofs.LastWrites.{bytes_same}
 use Rattle.qm_bits.specs.Bitmaps.{Bitmap, start, bit_count, all_bits}
 use Rattle.qm_chain.specs.Ascending.{IsAscending}
 use Rattle.qm_chain.specs.Merges.{keys_of}
-use Rattle.qm_batch.specs.Changes.{Change, Changes, AreChanges, LeadTo, change_in, change_of, place_in, stands_at}
+use Rattle.qm_batch.specs.Changes.{Change, Changes, AreChanges, LeadTo, change_in, place_in, stands_at}
 use Rattle.qm_batch.specs.Marks.{AreMarked, HasLive, IsAlike, cleared, marked}
 use Rattle.qm_batch.proofs.Basics.{or-none}
 use Rattle.qm_batch.proofs.Marking.{place-within, place-behind, place-once, ended-some, bit-last, begun, done, key-cleared, key-marked, marked-same}
@@ -134,16 +134,23 @@ alike-start size old new same = ap (λ n. n * (8 * size)) same
 pub alike-then : (size : ℕ) (old mid new : Bitmap) → IsAlike size old mid → IsAlike size mid new → IsAlike size old new
 alike-then size old mid new first next = record { pruned = next.pruned ∙ first.pruned; count = next.count ∙ first.count }
 
+pub extended-count : (size : ℕ) (old more : Bitmap) (len : ℕ) → bit_count size old ≤ len → more ≡ record { pruned = old.pruned; kept = old.kept ++ replicate (len - bit_count size old) false } → bit_count size more ≡ len
+extended-count size old more len enough is =
+    let same = ap (bit_count size) is in
+    let both = length-append old.kept (replicate (len - bit_count size old) false) in
+    let rest = length-replicate (len - bit_count size old) false in
+    omega (arith, same, both, rest, enough)
+
 -- a list's bits, with clear ones behind them and without that of its last commit
-pub bits-begun : (size : ℕ) (old more new : Bitmap) (len last : ℕ) (from : List Operation) → all_bits size old ≡ bits from → IsCommitEnded from
-    → more ≡ record { pruned = old.pruned; kept = old.kept ++ replicate (len - bit_count size old) false } → last ≡ bit_count size old - 1 → new.pruned ≡ more.pruned → all_bits size new ≡ set (all_bits size more) last false → HasLive size new from
-bits-begun size old more new len last from same ended is last_is pruned cleared_is =
+pub bits-begun : (size : ℕ) (old more new : Bitmap) (len before last : ℕ) (from : List Operation) → all_bits size old ≡ bits from → IsCommitEnded from
+    → more ≡ record { pruned = old.pruned; kept = old.kept ++ replicate (len - bit_count size old) false } → before ≡ bit_count size old → last ≡ before - 1 → new.pruned ≡ more.pruned → all_bits size new ≡ set (all_bits size more) last false → HasLive size new from
+bits-begun size old more new len before last from same ended is before_is last_is pruned cleared_is =
     let n = len - bit_count size old in
     let long : bit_count size old ≡ length from = sym (length-all size old) ∙ ap length same ∙ length-bits from in
     let some = ended-some from ended in
     let all : all_bits size more ≡ bits from ++ replicate n false =
     ap (all_bits size) is ∙ sym (append_assoc (replicate (start size old) false) old.kept (replicate n false)) ∙ ap (λ bs. bs ++ replicate n false) same in
-    let place : last ≡ length from - 1 = last_is ∙ ap (λ k. k - 1) long in
+    let place : last ≡ length from - 1 = last_is ∙ ap (λ k. k - 1) (before_is ∙ long) in
     let start_is = alike-start size old new (pruned ∙ ap (λ m. m.pruned) is) in
     record {
       live = subst (λ bs. AreMarked bs (place_in from)) (sym (cleared_is ∙ ap₂ (λ bs k. set bs k false) all place)) (begun from n ended);
@@ -158,11 +165,12 @@ bits-begun size old more new len last from same ended is last_is pruned cleared_
     }
 
 -- with that of the last operation, they are the list's bits
-pub bits-done : (size : ℕ) (now new : Bitmap) (last : ℕ) (tip : List Operation) → HasLive size now tip → bit_count size now ≡ length tip → last ≡ length tip - 1 → (start size now ≤ last → all_bits size new ≡ set (all_bits size now) last true)
+pub bits-done : (size : ℕ) (now new : Bitmap) (len last : ℕ) (tip : List Operation) → HasLive size now tip → bit_count size now ≡ length tip → len ≡ length tip → last ≡ len - 1 → (start size now ≤ last → all_bits size new ≡ set (all_bits size now) last true)
     → all_bits size new ≡ bits tip
-bits-done size now new last tip has count last_is sets =
+bits-done size now new len last tip has count len_is last_is sets =
     let low = has.kept in
-    sets (omega arith) ∙ ap (λ k. set (all_bits size now) k true) last_is ∙ done tip (all_bits size now) has.live (length-all size now ∙ count)
+    let place : last ≡ length tip - 1 = last_is ∙ ap (λ k. k - 1) len_is in
+    sets (omega arith) ∙ ap (λ k. set (all_bits size now) k true) place ∙ done tip (all_bits size now) has.live (length-all size now ∙ count)
 
 -- over the entries of a diff, at place i
 module _ {K E : Type 0} (key : K → Bytes) (what : E → Change) (xs : List (K × E)) (i : ℕ) (d : K × E) (within : i < length xs) (here : d ≡ get_or xs i d) (size : ℕ) (first old mid new : Bitmap) (base tip : List Operation) where

@@ -1,4 +1,4 @@
-use Rattle.std.proofs.Common.{◌∙◌, refl, sym, subst, take, arith}
+use Rattle.std.proofs.Common.{◌∙◌, refl, sym, subst, arith}
 use Rattle.std.proofs.lemmas.List.{take_all}
 use Rattle.qm_bits.specs.Bitmaps.{all_bits}
 use Rattle.qm_batch.specs.Marks.{AreMarked}
@@ -19,8 +19,7 @@ loop-entry-preserved g c =
     let new = c.mark_at.new.activity in
     let value = g.V.ByteString.bytes in
     let entry = c.entry-item.result in
-    let alike = c.loop-entry.invariant.0 in
-    (
+    let alike = c.loop-entry.invariant.0 in (
       alike-then size first mid new (alike-then size first old mid alike c.clear_at.ensures.alike) c.mark_at.ensures.alike,
       λ base tip are few has.
           stage-next g.K.ByteString.bytes (change_view value) c.args.entries.now c.loop-entry.entry-index entry c.loop-entry-test.true c.entry-item.is size first old mid new base tip c.base_old_loc.result c.loc.result
