@@ -1,5 +1,5 @@
 -- Bits where keys stand: those of a list, and what becomes of them where a key moves.
-use Rattle.std.proofs.Common.{◌≡◌, ◌≢◌, ℕ, suc, ◌+◌, ◌-◌, ◌<◌, ◌≤◌, Bool, true, false, List, [], ◌∷◌, ◌++◌, length, map, set, get_or, replicate, refl, ap, sym, ◌∙◌, Option, Some, None, arith, ⊎_elim, ◌||◌, true≢false}
+use Rattle.std.proofs.Common.{◌≡◌, ◌≢◌, ℕ, suc, ◌-◌, ◌<◌, ◌≤◌, Bool, true, false, List, [], ◌∷◌, ◌++◌, length, map, set, get_or, replicate, refl, ap, sym, ◌∙◌, Option, Some, None, arith, ⊎_elim, ◌||◌, true≢false}
 use Rattle.std.specs.Prelude.{◌==◌, Contains, IfSome, bytes_eq, option_map}
 use Rattle.std.specs.List.{list_any}
 use Rattle.std.proofs.Math.Bool.{or-false}
