@@ -1,6 +1,6 @@
 //! Bits in words, from the first chunk that is kept.
 
-ghost use Rattle.std.specs.Prelude.{◌≡◌, ◌+◌, ◌-◌, ◌*◌, ◌/◌, ◌^◌, ◌<◌, ◌≤◌, ℕ, [], ◌∷◌, ◌++◌, true, false, length, set, max, drop, replicate, slice_index_or, OnOk, OnErr, IfOk};
+ghost use Rattle.std.specs.Prelude.{◌≡◌, ◌⊎◌, ◌+◌, ◌-◌, ◌*◌, ◌/◌, ◌^◌, ◌<◌, ◌≤◌, ℕ, [], ◌∷◌, ◌++◌, true, false, length, set, max, drop, replicate, slice_index_or, OnOk, OnErr, IfOk};
 ghost use Rattle.qm_model.specs.Bits.{chunk};
 ghost use Rattle.qm_bits.specs.Bitmaps.{start, bit_count, all_bits};
 ghost use Rattle.qm_bits.specs.Candidates.{is_candidate};
@@ -91,6 +91,36 @@ impl<N: Chunks> Prunable<N> {
     {
         let place = (at - self.start()) as usize;
         words::put(&mut self.words, place, value);
+    }
+
+    /// Sets the bit at a place that is kept; elsewhere nothing changes.
+    pub fn mark(&mut self, at: u64)
+        ensures pruned { self.new.pruned ≡ self.old.pruned }
+        ensures count { bit_count N.LEN self.new ≡ bit_count N.LEN self.old }
+        ensures bits { start N.LEN self.old ≤ at → all_bits N.LEN self.new ≡ set (all_bits N.LEN self.old) at true }
+    {
+        if self.is_kept(at) {
+            self.set_bit(at, true);
+        }
+    }
+
+    /// Clears the bit at a place. Where none is kept nothing changes: pruned bits are clear.
+    pub fn unmark(&mut self, at: u64)
+        ensures pruned { self.new.pruned ≡ self.old.pruned }
+        ensures count { bit_count N.LEN self.new ≡ bit_count N.LEN self.old }
+        ensures bits { all_bits N.LEN self.new ≡ set (all_bits N.LEN self.old) at false }
+    {
+        if self.is_kept(at) {
+            self.set_bit(at, false);
+        }
+    }
+
+    // Whether the bit at a place is kept.
+    fn is_kept(&self, at: u64) -> bool
+        ensures yes { result ≡ true → (start N.LEN self.now ≤ at) × (at < bit_count N.LEN self.now) }
+        ensures no { result ≡ false → (at < start N.LEN self.now) ⊎ (bit_count N.LEN self.now ≤ at) }
+    {
+        self.start() <= at && at < self.len()
     }
 
     /// Puts a bit behind the others. Want of memory is the only error, and leaves them as they were.

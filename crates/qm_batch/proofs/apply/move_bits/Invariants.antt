@@ -1,0 +1,15 @@
+use Rattle.std.proofs.Common.{◌≤◌, take, length, List, map}
+use Rattle.qm_model.specs.Operations.{Operation}
+use Rattle.qm_bits.specs.Bitmaps.{bit_count}
+use Rattle.qm_batch.specs.Changes.{LeadTo}
+use Rattle.qm_batch.specs.Marks.{HasLive, IsAlike}
+use Rattle.qm_batch.specs.Views.{changes_view}
+use Rattle.qm_batch.proofs.apply.move_bits.Given as goal
+
+abbrev pub invariant-loop-step : goal.invariant-loop-step
+invariant-loop-step g l =
+    let views = changes_view g.K.ByteString.bytes g.V.ByteString.bytes in
+    let size = g.N.Chunks.LEN in
+    IsAlike size l.initial.activity l.activity
+    × ((from tip : List Operation) → LeadTo (map (λ d. views d.value) l.diffs) from tip → length tip ≤ bit_count size l.initial.activity → HasLive size l.initial.activity from
+    → (now : List Operation) × LeadTo (map (λ d. views d.value) (take l.step l.diffs)) now tip × HasLive size l.activity now)
