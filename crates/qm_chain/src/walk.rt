@@ -78,7 +78,7 @@ impl<F> Walk<F> {
                 return count;
             }
             skips -= gap;
-            floor = at.get() + 1;
+            floor = at.get().saturating_add(1);
             count += 1;
         }
         count

@@ -14,10 +14,6 @@ overflow_sub-gap g c = ?
 pub returns-then-count-self : goal.returns-then-count-self
 returns-then-count-self g c = ?
 
--- src/walk.rt:81:21
-pub overflow_add-floor : goal.overflow_add-floor
-overflow_add-floor g c = ?
-
 -- src/walk.rt:82:13
 pub overflow_add-count : goal.overflow_add-count
 overflow_add-count g c = ?
