@@ -5,9 +5,6 @@ use Rattle.std.proofs.lemmas.Bool.Decides.{nat_tests}
 use Rattle.qm_chain.specs.Walks.{reachable_from, IsRising}
 
 -- the first candidate is not come to
-none-more : (floor skips at : ℕ) (later : List ℕ) → reachable_from floor 0 skips (at ∷ later) ≡ 0
-none-more floor skips at later = refl
-
 too_far : (floor entries skips at : ℕ) (later : List ℕ) → skips < at - floor → reachable_from floor entries skips (at ∷ later) ≡ 0
 too_far floor zero skips at later far = refl
 too_far floor (suc entries) skips at later far =

@@ -2,4 +2,5 @@ pub mod Lines
 pub mod Readings
 pub mod Told
 pub mod Inputs
+pub mod Parts
 pub mod SameWalks

@@ -2,7 +2,6 @@
 use Rattle.std.specs.Prelude.{map, option_map}
 use Rattle.std.specs.Int.NonZero.{non_zero_u64_get}
 use Rattle.qm_model.specs.Operations.{Bytes, Operation, update, delete, commit}
-use Rattle.qm_model.specs.Policies.{Policy, proportional}
 use Rattle.qm_machine.specs.Lines as lines
 use Rattle.qm_model.specs.Refused as refusals
 use Rattle.qm_base.specs.Views.{corrupt_view}

@@ -1,34 +1,30 @@
 //! Lines to commands.
 
 ghost use Rattle.std.specs.Prelude.{◌≡◌, ◌≢◌, ◌==◌, ◌+◌, ◌<◌, ◌≤◌, ℕ, ◌∷◌, [], slice_index, length, IfOk, IfNone, IfSome, option_map};
-ghost use Rattle.std.specs.List.{slice_split};
 ghost use Rattle.qm_machine.specs.Grammar as grammar;
-ghost use Rattle.qm_lines.specs.Parsed.{byte_line, lent};
+ghost use Rattle.qm_lines.specs.Parsed.{byte_line};
 
 mod commands;
 mod keys;
 mod numbers;
+mod pieces;
+mod policies;
 
 use crate::command::Command;
 use crate::policy::AnyPolicy;
 use commands::of_words;
+use pieces::pieces;
 use qm_base::{ByteKey, ByteValue};
 use std::alloc::{AllocError, Global};
 
 /// A command that a line can ask for.
 pub type ByteCommand = Command<ByteKey, ByteValue, AnyPolicy>;
 
-fn words(alloc: Global, line: &[u8]) -> Result<Vec<&[u8]>, AllocError>
-    ensures { IfOk result (λ words. lent words.items ≡ slice_split (λ c. c == 32) line.now) }
-{
-    line.split(|c| *c == b' ').collect(alloc)
-}
-
 /// The command that a line is, if it is one. Want of memory is the only error.
 pub fn parse_line(alloc: Global, line: &[u8]) -> Result<Option<ByteCommand>, AllocError>
     ensures { IfOk result (λ command. option_map byte_line command ≡ grammar.line_of line.now) }
 {
-    let words = words(alloc, line)?;
+    let words = pieces(alloc, line, b' ')?;
     of_words(alloc, &words)
 }
 

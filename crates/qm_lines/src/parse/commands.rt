@@ -2,14 +2,12 @@
 ghost use Rattle.std.specs.Prelude.{◌≡◌, IfOk, option_map};
 ghost use Rattle.qm_machine.specs.Grammar as grammar;
 ghost use Rattle.qm_lines.specs.Parsed.{byte_line, lent};
-ghost use Rattle.qm_lines.specs.Policies.{policy_view};
 
 use super::ByteCommand;
 use super::keys::{Reading, key, metadata, parse_reading, value};
 use super::numbers::{named_number, number, positive};
+use super::policies::policy;
 use crate::command::Command;
-use crate::policy::AnyPolicy;
-use qm_chain::Proportional;
 use std::alloc::{AllocError, Global};
 
 // No word more.
@@ -94,12 +92,6 @@ fn del(alloc: Global, words: &[&[u8]]) -> Result<Option<ByteCommand>, AllocError
     Ok(Some(Command::Del(handle, key)))
 }
 
-fn policy(word: &[u8]) -> Option<AnyPolicy>
-    ensures { option_map policy_view result ≡ grammar.policy_of word.now }
-{
-    (word == b"prop".as_slice()).then_some(AnyPolicy::Proportional(Proportional))
-}
-
 fn merkleize(alloc: Global, words: &[&[u8]]) -> Result<Option<ByteCommand>, AllocError>
     ensures { IfOk result (λ command. option_map byte_line command ≡ grammar.merkleize_of (lent words.now)) }
 {
@@ -109,7 +101,7 @@ fn merkleize(alloc: Global, words: &[&[u8]]) -> Result<Option<ByteCommand>, Allo
     let Some(handle) = number(handle) else {
         return Ok(None);
     };
-    let Some(policy) = policy(policy_word) else {
+    let Some(policy) = policy(alloc, policy_word)? else {
         return Ok(None);
     };
     let Some(metadata) = metadata(alloc, metadata_word)? else {
