@@ -17,14 +17,14 @@ use std::num::NonZeroU64;
 use std::rc::Rc;
 use std::test::Fail;
 
-type Pair = Unordered<FixedBytes<4>, FixedEncoding<FixedBytes<8>>>;
+pub(crate) type Pair = Unordered<FixedBytes<4>, FixedEncoding<FixedBytes<8>>>;
 
-type Database = Db<Family, MemStore, Index<FourCap, Location<Family>>, Sha256, Pair>;
+pub(crate) type Database = Db<Family, MemStore, Index<FourCap, Location<Family>>, Sha256, Pair>;
 
-type Batch = MerkleizedBatch<Family, Sha256Digest, Pair>;
+pub(crate) type Batch = MerkleizedBatch<Family, Sha256Digest, Pair>;
 
 // A fresh database over an empty store.
-fn opened(alloc: Global) -> Result<Database, Error> {
+pub(crate) fn opened(alloc: Global) -> Result<Database, Error> {
     let store = MemStore::new(alloc, Vec::new(alloc));
     match init(alloc, store, Sha256::new(), FourCap) {
         Ok(db) => Ok(db),
@@ -32,7 +32,7 @@ fn opened(alloc: Global) -> Result<Database, Error> {
     }
 }
 
-fn key(alloc: Global) -> Result<FixedBytes<4>, AllocError> {
+pub(crate) fn key(alloc: Global) -> Result<FixedBytes<4>, AllocError> {
     FixedBytes::from_bytes(alloc, &[1, 2, 3, 4])
 }
 
@@ -44,7 +44,7 @@ fn batch_of(alloc: Global, db: &mut Database) -> Result<Rc<Batch>, Error> {
 }
 
 // The database after a batch.
-fn applied(alloc: Global, db: Database, batch: &Batch) -> Result<Database, Error> {
+pub(crate) fn applied(alloc: Global, db: Database, batch: &Batch) -> Result<Database, Error> {
     match db.apply_batch(alloc, batch) {
         Ok(db) => Ok(db),
         Err(refusal) => Err(refusal.error),

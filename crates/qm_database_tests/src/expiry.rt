@@ -1,0 +1,79 @@
+//! A policy of one's own: values carry the block up to which they are valid, and a batch drops what has expired.
+
+ghost use Rattle.std.specs.Prelude.{◌≡◌, ◌^◌, ◌-◌, ℕ, Bool, true, nat_lt, if◌then◌else◌, slice_index_or, IfOk};
+ghost use Rattle.qm_model.specs.Walk.{write, evict};
+ghost use Rattle.qm_chain.specs.Policies.{action_view};
+
+use crate::fixed::{Batch, Database, Pair, applied, key, opened};
+use qm_base::{ByteString, Error, FixedBytes};
+use qm_chain::{Decision, Entry, Limits, Policy};
+use std::alloc::{AllocError, Global};
+use std::rc::Rc;
+use std::test::Fail;
+
+/// Drops each value whose first byte is below that of the block, and keeps the others.
+#[derive(Drop)]
+struct Expiry {
+    block: u8,
+}
+
+impl<F, K: ByteString, V: ByteString> Policy<F, K, V> for Expiry {
+    ghost rules = { record {
+      limits = λ p n. record { entries = 2 ^ 64 - 1; skips = 2 ^ 64 - 1 };
+      decide = λ p location key value. (if nat_lt (slice_index_or value 0 0) p.block then evict else write value, p);
+    } };
+
+    ghost may_evict = { λ _. true };
+
+    ghost keeps = { λ p location key value never. cc };
+
+    fn evicts(&self) -> bool {
+        true
+    }
+
+    fn limits(&self, _made_inactive: u64) -> Limits {
+        Limits {
+            entries: u64::MAX,
+            skips: u64::MAX,
+        }
+    }
+
+    fn decide<'a>(
+        &mut self,
+        _alloc: Global,
+        live: Entry<'a, F, K, V>,
+    ) -> Result<Decision<'a, V>, AllocError>
+        ensures action { IfOk result (λ d. action_view V.bytes d ≡ (if nat_lt (slice_index_or (V.bytes live.entry.value) 0 0) self.old.block then evict else write (V.bytes live.entry.value))) }
+        ensures next { IfOk result (λ _. self.new ≡ self.old) }
+    {
+        let first = live.value().as_bytes().first().copied().unwrap_or(0);
+        if first < self.block {
+            let (decision, _) = live.evict();
+            Ok(decision)
+        } else {
+            Ok(live.keep())
+        }
+    }
+}
+
+// The batch that writes nothing, at this block.
+fn batch_at(alloc: Global, db: &mut Database, block: u8) -> Result<Rc<Batch>, Error> {
+    let batch = db.new_batch(alloc)?;
+    batch.merkleize(alloc, db, None, &mut Expiry { block })
+}
+
+#[test]
+fn expired_values_are_dropped(rt: HostRuntime) -> Result<(), Fail> {
+    let alloc = rt.alloc();
+    let mut db = opened(alloc)?;
+    let value = FixedBytes::from_bytes(alloc, &[7, 0, 0, 0, 0, 0, 0, 0])?;
+    let batch = db.new_batch(alloc)?.write(key(alloc)?, Some(value))?;
+    let batch = batch.merkleize(alloc, &mut db, None, &mut Expiry { block: 1 })?;
+    let mut db = applied(alloc, db, &batch)?;
+    let kept = batch_at(alloc, &mut db, 7)?;
+    assert!(rt; kept.get(alloc, &key(alloc)?, &mut db)?.is_some());
+    let dropped = batch_at(alloc, &mut db, 8)?;
+    let db = applied(alloc, db, &dropped)?;
+    assert!(rt; db.is_empty());
+    Ok(())
+}
