@@ -306,3 +306,7 @@ at-or-past a b past = omega (arith, past)
 -- what holds of three things holds of others that are the same
 pub three : {A B C : Type 0} (T : A → B → C → Type 0) {a a2 : A} {b b2 : B} {c c2 : C} → a ≡ a2 → b ≡ b2 → c ≡ c2 → T a b c → T a2 b2 c2
 three T {a} {a2} {b} {b2} {c} {c2} p q r is = subst (λ x. T a2 b2 x) r (subst (λ x. T a2 x c) q (subst (λ x. T x b c) p is))
+
+-- what three things make is what others make that are the same
+pub same-three : {A B C D : Type 0} (f : A → B → C → D) {a a2 : A} {b b2 : B} {c c2 : C} → a ≡ a2 → b ≡ b2 → c ≡ c2 → f a b c ≡ f a2 b2 c2
+same-three f {a} {a2} {b} {b2} {c} {c2} p q r = ap (λ x. f x b c) p ∙ ap (λ x. f a2 x c) q ∙ ap (f a2 b2) r
