@@ -170,10 +170,10 @@ lacked-behind layers tip older n leads among =
 pub memory-cause : (before now : ℕ) (e : Error) → before ≤ now → e ≡ errors.Memory → IsCause before now (e ≡ errors.Journal journal.Store)
 memory-cause before now e later is = record { later = later; failed = λ fault. absurd (cc (is, fault)) }
 
--- what holds of a value by one more clause
-pub ok-more : {X E : Type 0} (r : Result X E) {P Q : X → Type 0} → IfOk r P → IfOk r (λ x. P x → Q x) → IfOk r Q
-ok-more (Ok x) p give = give p
-ok-more (Err e) p give = tt
+-- what holds of a value by five clauses holds of it by all
+pub ok-five : {X E : Type 0} (r : Result X E) {P Q R S T : X → Type 0} → IfOk r P → IfOk r Q → IfOk r R → IfOk r S → IfOk r T → {U : X → Type 0} → ((x : X) → P x → Q x → R x → S x → T x → U x) → IfOk r U
+ok-five (Ok x) p q r s t give = give x p q r s t
+ok-five (Err e) p q r s t give = tt
 
 -- a database is another one where it has what that has, and the same log
 pub same-database : {C D : Type 0} (old db x : Database C D) → old ≡ db → x ≡ record old { log = x.log } → x.log ≡ old.log → x ≡ db

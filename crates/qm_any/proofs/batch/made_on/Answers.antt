@@ -108,6 +108,16 @@ returns-clause-taken g c = λ list chain above is made kept on.
       omega (arith, room, size, count, plan-length c.in_ok-plan.plan base tip plan),
     )
 
+pub returns-in_err-batch-clause-refused : goal.returns-in_err-batch-clause-refused
+returns-in_err-batch-clause-refused g c = λ list chain above is made kept on.
+    let exit = err_from_is_err_and c.from_residual-in_err-batch.result c.from_residual-in_err-batch.ensures.1 in
+    rw (exit.1, exit.2) (inl (inl refl))
+
+pub returns-in_err-batch-clause-whole : goal.returns-in_err-batch-clause-whole
+returns-in_err-batch-clause-whole g c = λ list is none low.
+    let exit = err_from_is_err_and c.from_residual-in_err-batch.result c.from_residual-in_err-batch.ensures.1 in
+    rw (exit.1, exit.2) (λ n pruned. cc)
+
 pub returns-clause-next : goal.returns-clause-next
 returns-clause-next g c = λ list chain above is made kept on.
     c.in_ok-plan.ensures.next list chain.base is (child-base c.args.parent.now c.args.keep list chain above made kept on)
