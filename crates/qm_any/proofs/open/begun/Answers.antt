@@ -1,11 +1,11 @@
-use Rattle.std.proofs.Common.{◌∙◌, [], map, ap, ap₂, sym, subst, None}
+use Rattle.std.proofs.Common.{◌∙◌, [], map, ap, ap₂, refl, sym, subst, None}
 use Rattle.qm_model.specs.StoreModel.{Becomes, appended}
 use Rattle.qm_model.specs.Operations.{fresh}
 use Rattle.qm_model.specs.Trees.{inactive_peaks}
 use Rattle.qm_model.specs.Forms.{spelling}
 use Rattle.qm_store.specs.Log.{IsLog, store_given}
 use Rattle.qm_store.specs.Given.{AppendedPart}
-use Rattle.qm_store.proofs.Told.{refused-appended-part}
+use Rattle.qm_store.proofs.Told.{refused-appended-part, unchanged-appended-part}
 use Rattle.qm_any.specs.Layouts.{layout_of}
 use Rattle.qm_any.proofs.Telling.{root-spelled, grown-told, fresh-stands, same-three}
 use Rattle.qm_any.proofs.open.begun.Goals as goal
@@ -33,3 +33,10 @@ returns-in-Err-clause-part g c =
     let part = refused-appended-part g.C.Store c.root_with.new.self (map (λ v. v.items) c.args.items.now) given c.in-Err.refusal.error c.in-Err.ensures.refused in
     let here = subst (λ l. AppendedPart g.C.Store l.store (store_given given) (map (λ v. v.items) c.args.items.now)) c.root_with.ensures.same part in
     subst (λ s. AppendedPart g.C.Store c.args.log.store s (map (spelling g.U.Update.form) fresh)) (sym c.store_of.ensures) (subst (AppendedPart g.C.Store c.args.log.store (store_given given)) c.requires.items here)
+
+pub returns-in_default-first_bit-clause-part : goal.returns-in_default-first_bit-clause-part
+returns-in_default-first_bit-clause-part g c =
+    let own = map (spelling g.U.Update.form) fresh in
+    let closed = c.close-in_default-first_bit.ensures ∙ ap (λ l. l.store) c.root_with.ensures.same in
+    subst (λ s. AppendedPart g.C.Store c.args.log.store s own) (sym closed)
+    (unchanged-appended-part g.C.Store c.args.log.store c.args.log.store own (record { start = refl; told = refl }))
