@@ -9,7 +9,8 @@ use Rattle.qm_model.specs.Forms.{Form, IsOf, spelling}
 use Rattle.qm_model.specs.Operations.{Bytes, Operation, update, delete, commit}
 use Rattle.qm_model.specs.Batches.{Commitment, Chain, Kept, oldest_base}
 use Rattle.qm_model.specs.Live.{live, live_of, floor, floor_after, last_metadata, metadata_after}
-use Rattle.qm_model.specs.Policies.{Policy, policies}
+use Rattle.qm_model.specs.Step.{IsGood}
+use Rattle.qm_model.specs.Walk.{Rules}
 use Rattle.qm_model.specs.Writes.{Write, write_of, last_writes, operation_of, rewrite_of, create_of, unordered_writes}
 use Rattle.qm_model.proofs.Steps.{walked, moved, walked-walks}
 use Rattle.qm_model.proofs.Walks.{walks_within}
@@ -22,8 +23,8 @@ use Rattle.qm_store.specs.KeptTrees.{KeptTree, IsKeptTree}
 use Rattle.qm_store.proofs.Kept.{kept-fewer}
 use Rattle.qm_chain.specs.Bounds.{Bounds}
 use Rattle.qm_batch.specs.Layers.{Layer, LeadThrough}
-use Rattle.qm_batch.specs.Views.{Plan, IsPlan}
-use Rattle.qm_any.specs.Databases.{Made, AreAgreed, AreLinked, IsMade, IsTree, bases, bases_of, child_boundary, child_made, child_tips, kept_by, stepped}
+use Rattle.qm_batch.specs.Views.{Plan, IsPlan, stepped}
+use Rattle.qm_any.specs.Databases.{Made, AreAgreed, AreLinked, IsMade, IsTree, bases, bases_of, child_boundary, child_made, child_tips, kept_by}
 use Rattle.qm_any.proofs.Agreed.{child-starts, child-bases-above, joined-first}
 use Rattle.qm_any.specs.Layouts.{Hashing, list_root, spellings}
 use Rattle.qm_any.specs.Reasons.{IsSizeError}
@@ -215,8 +216,8 @@ module _ {D : Type 0} {hashing : Hashing D} (parent : Made D) (keep : ℕ) (chai
   -- a plan on the parent's list makes a batch of the child's chain
   pub child-is_made : (plan : Plan) (tree : KeptTree D) (root : Bytes) (meta : Option Bytes) (tip : List Operation) → IsPlan plan chain.base tip
       → IsKeptTree hashing.bytes hashing.hash hashing.shape tree (spellings hashing tip) (lists_since (child_boundary keep parent.bounds).size (map (spellings hashing) (chain.base ∷ bases_of above)))
-      → root ≡ list_root hashing tip → meta ≡ last_metadata tip → All (IsOf hashing.form) tip → IsMade hashing (child_made parent keep plan tree root meta) chain tip
-  child-is_made plan tree root meta tip is grown standing last all =
+      → root ≡ list_root hashing tip → meta ≡ last_metadata tip → All (IsOf hashing.form) tip → IsGood tip → IsMade hashing (child_made parent keep plan tree root meta) chain tip
+  child-is_made plan tree root meta tip is grown standing last all good =
       record {
         bounds = record {
           base = made.bounds.tip;
@@ -234,6 +235,7 @@ module _ {D : Type 0} {hashing : Hashing D} (parent : Made D) (keep : ℕ) (chai
         );
         tree = child-tree tree tip grown;
         of = all;
+        good = good;
       }
 
 -- an operation of a form has a low floor
@@ -292,20 +294,20 @@ last-commit before (delete key ∷ ops) meta low = last-commit before ops meta l
 last-commit before (commit m f ∷ ops) meta low = last-commit m ops meta low
 
 -- what a step makes of a list of an unordered database
-module _ (base : List Operation) (ws : List Write) (policy : Policy) (meta : Option Bytes) where
+module _ {P : Type 0} (rules : Rules P) (base : List Operation) (ws : List Write) (policy : P) (meta : Option Bytes) where
   -- its metadata is the one given
-  pub stepped-metadata : meta ≡ last_metadata (stepped base ws policy meta)
+  pub stepped-metadata : meta ≡ last_metadata (stepped rules base ws policy meta)
   stepped-metadata =
-      let list = moved policies base ws policy meta in
-      sym (last-commit None list meta (if length (live list) == 0 then length list else (walked policies base ws policy meta).floor))
+      let list = moved rules base ws policy meta in
+      sym (last-commit None list meta (if length (live list) == 0 then length list else (walked rules base ws policy meta).floor))
 
-  stepped-low : All IsLow base → length (stepped base ws policy meta) ≤ 2 ^ 62 → All IsLow (stepped base ws policy meta)
+  stepped-low : All IsLow base → length (stepped rules base ws policy meta) ≤ 2 ^ 62 → All IsLow (stepped rules base ws policy meta)
   stepped-low lows few =
       let made = unordered_writes base ws in
-      let walk = walked policies base ws policy meta in
-      let list = moved policies base ws policy meta in
+      let walk = walked rules base ws policy meta in
+      let list = moved rules base ws policy meta in
       let below = low-floor 0 base (omega arith) (recursion_from_All IsLow base lows) in
-      let within = walks_within policies (walked-walks policies base ws policy meta) in
+      let within = walks_within rules (walked-walks rules base ws policy meta) in
       let count = length-append list (commit meta (if length (live list) == 0 then length list else walk.floor) ∷ []) in
       let size : length list ≤ 2 ^ 62 = omega (arith, few, count) in
       let first : length (base ++ made) ≤ 2 ^ 62 = omega (arith, size, length-append (base ++ made) (map operation_of walk.decisions)) in
@@ -320,10 +322,10 @@ module _ (base : List Operation) (ws : List Write) (policy : Policy) (meta : Opt
       by false n f one other = other
 
   -- it is of the form of its base list, where operations with low floors behind that are and it is not too long
-  pub stepped-of : (form : Form) (own : List Operation) → All (IsOf form) base → take (length base) (stepped base ws policy meta) ≡ base → own ≡ drop (length base) (stepped base ws policy meta)
-      → (All IsLow own → All (IsOf form) own) → length (stepped base ws policy meta) ≤ 2 ^ 62 → All (IsOf form) (stepped base ws policy meta)
+  pub stepped-of : (form : Form) (own : List Operation) → All (IsOf form) base → take (length base) (stepped rules base ws policy meta) ≡ base → own ≡ drop (length base) (stepped rules base ws policy meta)
+      → (All IsLow own → All (IsOf form) own) → length (stepped rules base ws policy meta) ≤ 2 ^ 62 → All (IsOf form) (stepped rules base ws policy meta)
   stepped-of form own all begins is of few =
-      let tip = stepped base ws policy meta in
+      let tip = stepped rules base ws policy meta in
       let lows = All-drop IsLow (length base) tip (stepped-low (All-weaker (IsOf form) IsLow (low-from form) base all) few) in
       subst (All (IsOf form)) (take-append-drop (length base) tip)
       (All-append (IsOf form) (take (length base) tip) (drop (length base) tip) (subst (All (IsOf form)) (sym begins) all)

@@ -44,6 +44,8 @@ left-database members layout old new list left is =
       floor = is.floor;
       live = is.live;
       metadata = is.metadata;
+      active = is.active;
+      good = is.good;
     })
 
 -- no steps lead from a list to itself

@@ -46,6 +46,7 @@ module _ {C D : Type 0} {members : store.Ghosts C} {layout : Layout D} where
           through = All-one (λ l. Contains (leaves_of by.hash by.shape own ∷ []) (leaves_of by.hash by.shape l)) own (Contains-first (leaves_of by.hash by.shape own) []);
         };
         of = is.lent.of;
+        good = is.good;
       }
 
 module _ {D : Type 0} {hashing : Hashing D} where

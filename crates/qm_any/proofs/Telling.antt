@@ -7,6 +7,7 @@ use Rattle.std.proofs.lemmas.List.{nil_from_length, length-take-le, length-map, 
 use Rattle.std.proofs.lemmas.List.Elements.{All-cons, All-nil, All-take, All-drop}
 use Rattle.std.proofs.lemmas.List.Sorted.{IsPermutation-refl}
 use Rattle.qm_model.specs.Batches.{Commitment}
+use Rattle.qm_model.specs.Bits.{bits}
 use Rattle.qm_model.specs.StoreModel.{Stored, Becomes}
 use Rattle.qm_model.specs.Refused as refusals
 use Rattle.qm_model.specs.Refused.{HistoricalFloorPruned, DataCorrupted, Merkle, Journal, FloorExceedsCommit, RangeOutOfBounds, ItemPruned}
@@ -17,6 +18,7 @@ use Rattle.qm_model.specs.Proofs.{Proof, proof_of, ops_proof}
 use Rattle.qm_model.specs.Refusals.{commit_floor, floor_before, item_refusal, last_refusal, end_refusal, proof_refusal, proof_count}
 use Rattle.qm_model.specs.Trees.{Shape, Node, leaf, end_of, peaks, row_from, digest_of, leaf_digest, root_of, root, ops_root, inactive_peaks}
 use Rattle.qm_model.proofs.Forms.{IsSpelling-once}
+use Rattle.qm_model.proofs.Steps.{fresh-good}
 use Rattle.qm_model.specs.Families.{Births, IsFamily, HasPeaks, over}
 use Rattle.qm_base.specs.Parts.{floor_of}
 use Rattle.qm_base.specs.declared.error.Corrupt.TheVariants as corrupt
@@ -122,9 +124,9 @@ grown-told (Some s) (Some t) f P grows give = give refl
 fresh-of : (form : Form) → All (IsOf form) fresh
 fresh-of form = All-cons (IsOf form) (commit None 0) [] (tt, omega arith) (All-nil (IsOf form))
 
--- an empty index, a log of the fresh list and its commitment are a database of the fresh list
+-- an empty index, the fresh list's bits, a log of it and its commitment are a database of it
 pub fresh-stands : {C D : Type 0} (members : store.Ghosts C) (layout : Layout D) (db : Database C D) (log : Log C D) (first : Commitment)
-    → db ≡ record { entries = []; log = log; commitment = first; floor = 0; live = 0; metadata = None }
+    → db ≡ record { entries = []; activity = record { pruned = 0; kept = bits fresh }; log = log; commitment = first; floor = 0; live = 0; metadata = None }
     → first ≡ record { size = 1; root = list_root layout.hashing fresh } → IsSome (members.told log.store)
     → IsLog members layout.hashing.shape layout.hashing.bytes layout.hashing.hash log (map (spelling layout.hashing.form) fresh) → IsDatabase members layout db fresh
 fresh-stands members layout db log first is committed told logged = subst (λ d. IsDatabase members layout d fresh) (sym is) (record {
@@ -134,6 +136,8 @@ fresh-stands members layout db log first is committed told logged = subst (λ d.
   floor = refl;
   live = refl;
   metadata = refl;
+  active = refl;
+  good = fresh-good;
 })
 
 -- the floor of a commit, in the words of refusals
@@ -302,3 +306,7 @@ at-or-past a b past = omega (arith, past)
 -- what holds of three things holds of others that are the same
 pub three : {A B C : Type 0} (T : A → B → C → Type 0) {a a2 : A} {b b2 : B} {c c2 : C} → a ≡ a2 → b ≡ b2 → c ≡ c2 → T a b c → T a2 b2 c2
 three T {a} {a2} {b} {b2} {c} {c2} p q r is = subst (λ x. T a2 b2 x) r (subst (λ x. T a2 x c) q (subst (λ x. T x b c) p is))
+
+-- what three things make is what others make that are the same
+pub same-three : {A B C D : Type 0} (f : A → B → C → D) {a a2 : A} {b b2 : B} {c c2 : C} → a ≡ a2 → b ≡ b2 → c ≡ c2 → f a b c ≡ f a2 b2 c2
+same-three f {a} {a2} {b} {b2} {c} {c2} p q r = ap (λ x. f x b c) p ∙ ap (λ x. f a2 x c) q ∙ ap (f a2 b2) r

@@ -1,6 +1,6 @@
 -- What a list lacks of the list that layers lead to, and the loops over these.
 use Rattle.std.proofs.Common.{◌≡◌, ℕ, ◌≤◌, ◌<◌, ◌+◌, true, false, List, [], ◌∷◌, ◌++◌, refl, ap, ap₂, sym, ◌∙◌, subst, arith, append_assoc, length, take, drop, map, get_or, ⊎_elim}
-use Rattle.std.specs.Prelude.{All, Contains, nat_le, if◌then◌else◌, Option, Some, None, IsSome}
+use Rattle.std.specs.Prelude.{All, Contains, nat_le, if◌then◌else◌, Option, Some, None, IsSome, Result, Ok, Err, IfOk}
 use Rattle.std.proofs.lemmas.Bool.Decides.{leb_tells}
 use Rattle.std.proofs.lemmas.List.{take-map, take_all, append-nil, length-append, map_more, map-append, nil_from_length}
 use Rattle.std.proofs.lemmas.List.Elements.{All-nil, All-cons, All-head, All-append, All-take, All-drop}
@@ -9,13 +9,15 @@ use Rattle.qm_model.specs.Causes.{IsCause}
 use Rattle.qm_model.specs.StoreModel.{Stored, Becomes}
 use Rattle.qm_model.specs.StoreModel as model
 use Rattle.qm_model.specs.Forms.{spelling}
-use Rattle.qm_model.specs.Operations.{Bytes, Operation}
+use Rattle.qm_model.specs.Bits.{bits}
+use Rattle.qm_model.specs.Operations.{Bytes, Operation, IsCommitEnded}
 use Rattle.qm_model.specs.Batches.{Chain, IsOnChain}
 use Rattle.qm_base.specs.declared.error.Error.{Error}
 use Rattle.qm_base.specs.declared.error.Error.TheVariants as errors
 use Rattle.qm_base.specs.declared.error.JournalError.TheVariants as journal
 use Rattle.qm_store.specs.declared.Store as store
 use Rattle.qm_store.specs.Log.{IsLog}
+use Rattle.qm_bits.specs.Bitmaps.{all_bits}
 use Rattle.qm_batch.specs.Changes.{Changes, LeadTo}
 use Rattle.qm_batch.specs.Lent.{IsIndexed}
 use Rattle.qm_batch.specs.Layers.{Layer, LeadThrough}
@@ -168,6 +170,11 @@ lacked-behind layers tip older n leads among =
 pub memory-cause : (before now : ℕ) (e : Error) → before ≤ now → e ≡ errors.Memory → IsCause before now (e ≡ errors.Journal journal.Store)
 memory-cause before now e later is = record { later = later; failed = λ fault. absurd (cc (is, fault)) }
 
+-- what holds of a value by five clauses holds of it by all
+pub ok-five : {X E : Type 0} (r : Result X E) {P Q R S T : X → Type 0} → IfOk r P → IfOk r Q → IfOk r R → IfOk r S → IfOk r T → {U : X → Type 0} → ((x : X) → P x → Q x → R x → S x → T x → U x) → IfOk r U
+ok-five (Ok x) p q r s t give = give x p q r s t
+ok-five (Err e) p q r s t give = tt
+
 -- a database is another one where it has what that has, and the same log
 pub same-database : {C D : Type 0} (old db x : Database C D) → old ≡ db → x ≡ record old { log = x.log } → x.log ≡ old.log → x ≡ db
 same-database old db x is rest same = rest ∙ ap (λ l. record old { log = l }) same ∙ is
@@ -186,10 +193,11 @@ module _ {C D : Type 0} (members : store.Ghosts C) (layout : Layout D) where
       → ((l : List Bytes) (older : List (List Bytes)) → IsLog members layout.hashing.shape layout.hashing.bytes layout.hashing.hash db.log l
       → IsKeptTree layout.hashing.bytes layout.hashing.hash layout.hashing.shape batch.tree (l ++ items) older → Contains ((l ++ items) ∷ older) l → IsLog members layout.hashing.shape layout.hashing.bytes layout.hashing.hash next.log (l ++ items))
       → ((l t : List Operation) → LeadTo changes l t → IsIndexed layout.index_key db.entries l → IsIndexed layout.index_key next.entries t)
+      → ((l t : List Operation) → LeadTo changes l t → IsCommitEnded l → batch.bounds.tip.size ≡ length t → all_bits 64 db.activity ≡ bits l → all_bits 64 next.activity ≡ bits t)
       → (next.commitment ≡ batch.bounds.tip) × (next.floor ≡ batch.bounds.inactivity_floor) × (next.live ≡ batch.live) × (next.metadata ≡ batch.metadata)
       → Appended members db.log.store next.log.store items
       → IsDatabase members layout next tip
-  applied db next batch list chain tip n items changes is made on at spelled done log index rest grown =
+  applied db next batch list chain tip n items changes is made on at spelled done log index active rest grown =
       let size : length list ≡ n = sym (at ∙ ap (λ k. k.size) is.commitment) in
       let lacked : IsLacked (unapplied n batch.layers) list tip = subst (λ m. IsLacked (unapplied m batch.layers) list tip) size
       (lacked-lists batch.layers tip (bases_of chain) list made.steps (Contains-later tip (bases_of chain) list (on_chain-base list chain made.linked on))) in
@@ -198,10 +206,11 @@ module _ {C D : Type 0} (members : store.Ghosts C) (layout : Layout D) where
       let among = contains-mapped spelled_list (bases_of chain) list (on_chain-base list chain made.linked on) in
       let all : map (spelling layout.hashing.form) list ++ items ≡ map (spelling layout.hashing.form) tip =
       ap (λ xs. map (spelling layout.hashing.form) list ++ xs) spelled ∙ sym (map-append (spelling layout.hashing.form) list (operations_in (unapplied n batch.layers))) ∙ ap (map (spelling layout.hashing.form)) (sym lacked.0) in
+      let lead = subst (λ cs. LeadTo cs list tip) (sym done) lacked.1 in
       record {
         told = grown-told (members.told db.log.store) (members.told next.log.store) (model.appended items) is.told grown.told;
         lent = record {
-          indexed = index list tip (subst (λ cs. LeadTo cs list tip) (sym done) lacked.1) is.lent.indexed;
+          indexed = index list tip lead is.lent.indexed;
           logged = subst (IsLog members layout.hashing.shape layout.hashing.bytes layout.hashing.hash next.log) all (log (spelled_list list) older is.lent.logged
               (subst (λ xs. IsKeptTree layout.hashing.bytes layout.hashing.hash layout.hashing.shape batch.tree xs older) (sym all) made.tree)
               (Contains-later (spelled_list list ++ items) older (spelled_list list) among));
@@ -211,6 +220,8 @@ module _ {C D : Type 0} (members : store.Ghosts C) (layout : Layout D) where
         floor = rest.1 ∙ made.lowest;
         live = rest.2 ∙ made.live;
         metadata = rest.3 ∙ made.metadata;
+        active = active list tip lead is.good.commit_ended (ap (λ k. k.size) made.bounds.tip) is.active;
+        good = made.good;
       }
 
   -- what a database lacks of a batch's list is what lies behind its size

@@ -453,6 +453,13 @@ impl<
         self.log.store()
     }
 
+    /// The bits of the list: set where a live update stands and at the last commit.
+    pub fn bitmap(&self) -> &Prunable<Chunk64>
+        ensures { result.now ≡ self.now.activity }
+    {
+        &self.activity
+    }
+
     /// Gives the store back, as it is.
     pub fn close(self) -> C
         ensures { result ≡ self.log.store }
@@ -571,9 +578,9 @@ fn brought_up<F: Family, I: qm_index::Unordered<Value = Location<F>>, K: ByteStr
 ) -> Result<(), AllocError>
     requires bits { bit_count 64 activity.old ≤ size }
     requires few { size ≤ 2 ^ 62 }
-    ensures index { OnOk result ((list tip : List Operation) → LeadTo (map (λ d. changes_view K.bytes V.bytes d.value) diffs.now) list tip → IsIndexed I.index_key (I.entries index.old) list → IsIndexed I.index_key (I.entries index.new) tip) }
+    ensures index { (list tip : List Operation) → LeadTo (map (λ d. changes_view K.bytes V.bytes d.value) diffs.now) list tip → IsIndexed I.index_key (I.entries index.old) list → OnOk result (IsIndexed I.index_key (I.entries index.new) tip) }
     ensures count { OnOk result (bit_count 64 activity.new ≡ size) }
-    ensures active { OnOk result ((list tip : List Operation) → LeadTo (map (λ d. changes_view K.bytes V.bytes d.value) diffs.now) list tip → IsCommitEnded list → size ≡ length tip → all_bits 64 activity.old ≡ bits list → all_bits 64 activity.new ≡ bits tip) }
+    ensures active { (list tip : List Operation) → LeadTo (map (λ d. changes_view K.bytes V.bytes d.value) diffs.now) list tip → IsCommitEnded list → size ≡ length tip → all_bits 64 activity.old ≡ bits list → OnOk result (all_bits 64 activity.new ≡ bits tip) }
 {
     apply_diffs(index, diffs)?;
     apply_bits(activity, size, diffs)

@@ -3,6 +3,7 @@
 
 pub mod batch;
 pub mod db;
+pub mod laws;
 mod open;
 mod operations;
 pub mod proof;

@@ -3,12 +3,13 @@ use Rattle.std.specs.Prelude.{Contains}
 use Rattle.std.proofs.lemmas.List.{length-map}
 use Rattle.std.proofs.lemmas.Result.{err_from_is_err_and}
 use Rattle.qm_model.specs.Forms.{spelling}
-use Rattle.qm_model.specs.Policies.{proportional}
 use Rattle.qm_model.specs.Refusals.{too_long}
 use Rattle.qm_merkle.specs.Batches.{stops}
+use Rattle.qm_model.proofs.Steps.{step-good}
+use Rattle.qm_batch.specs.Views.{stepped}
 use Rattle.qm_batch.specs.PlanViews.{unordered_form}
 use Rattle.qm_any.specs.Layouts.{hashing_with, spellings}
-use Rattle.qm_any.specs.Databases.{AreAgreed, AreLinked, IsMade, IsTree, bases_of, child_boundary, child_made, stepped}
+use Rattle.qm_any.specs.Databases.{AreAgreed, AreLinked, IsMade, IsTree, bases_of, child_boundary, child_made}
 use Rattle.qm_merkle.specs.Batches.{lists_since}
 use Rattle.qm_store.specs.KeptTrees.{KeptTree, IsKeptTree}
 use Rattle.qm_any.specs.Views.{write_views}
@@ -64,7 +65,7 @@ returns-clause-made g c = λ list chain above is made kept on.
     let base = chain.base in
     let ws = write_views g.K.ByteString.bytes g.V.Value.ByteString.bytes c.args.writes.now in
     let meta = option_map g.V.Value.ByteString.bytes c.args.metadata in
-    let tip = stepped base ws proportional meta in
+    let tip = stepped g.P.Policy.rules base ws c.args.policy.now meta in
     let items = map (λ v. v.items) c.in_ok-plan.items.items in
     let size = ap (λ k. k.size) made.bounds.tip in
     let from = child-base parent c.args.keep list chain above made kept on in
@@ -85,9 +86,9 @@ returns-clause-made g c = λ list chain above is made kept on.
     (c.in_ok-tree.ensures.tree list base (bases_of above) stands kept_tree among)) in
     let root = c.in_ok-tree.ensures.root list base tip (bases_of above) stands kept_tree among spelled low in
     let metadata = c.in_ok-copy.ensures ∙ ap (option_map g.V.Value.ByteString.bytes) c.in_ok-twin_option.ensures in
-    let all = stepped-of base ws proportional meta form c.in_ok-plan.plan.operations made.of plan.changes.begins plan.operations c.in_ok-plan.ensures.of few in
+    let all = stepped-of g.P.Policy.rules base ws c.args.policy.now meta form c.in_ok-plan.plan.operations made.of plan.changes.begins plan.operations c.in_ok-plan.ensures.of few in
     subst (λ b. IsMade hashing b chain tip) (sym (c.in_ok-batch.ensures.value ∙ ap (λ m. child_made parent c.args.keep c.in_ok-plan.plan c.in_ok-tree.tree (bytes c.in_ok-tree.root) m) metadata))
-    (child-is_made parent c.args.keep chain above c.requires.keep made kept c.in_ok-plan.plan c.in_ok-tree.tree (bytes c.in_ok-tree.root) meta tip plan tree root (stepped-metadata base ws proportional meta) all)
+    (child-is_made parent c.args.keep chain above c.requires.keep made kept c.in_ok-plan.plan c.in_ok-tree.tree (bytes c.in_ok-tree.root) meta tip plan tree root (stepped-metadata g.P.Policy.rules base ws c.args.policy.now meta) all (step-good g.P.Policy.rules base ws c.args.policy.now meta made.good))
 
 pub returns-clause-taken : goal.returns-clause-taken
 returns-clause-taken g c = λ list chain above is made kept on.
@@ -97,7 +98,7 @@ returns-clause-taken g c = λ list chain above is made kept on.
     let base = chain.base in
     let ws = write_views g.K.ByteString.bytes g.V.Value.ByteString.bytes c.args.writes.now in
     let meta = option_map g.V.Value.ByteString.bytes c.args.metadata in
-    let tip = stepped base ws proportional meta in
+    let tip = stepped g.P.Policy.rules base ws c.args.policy.now meta in
     let size = ap (λ k. k.size) made.bounds.tip in
     let from = child-base c.args.parent.now c.args.keep list chain above made kept on in
     let plan = c.in_ok-plan.ensures.plan list base is from in
@@ -106,6 +107,20 @@ returns-clause-taken g c = λ list chain above is made kept on.
       subst (λ xs. too_long xs ≡ None) (c.in_ok-plan.ensures.items ∙ ap (map (spelling (unordered_form g.K.ByteString.has g.V.Value.ByteString.has g.V.ValueEncoding.fixed))) plan.operations) c.in_ok-plan.ensures.short,
       omega (arith, room, size, count, plan-length c.in_ok-plan.plan base tip plan),
     )
+
+pub returns-in_err-batch-clause-refused : goal.returns-in_err-batch-clause-refused
+returns-in_err-batch-clause-refused g c = λ list chain above is made kept on.
+    let exit = err_from_is_err_and c.from_residual-in_err-batch.result c.from_residual-in_err-batch.ensures.1 in
+    rw (exit.1, exit.2) (inl (inl refl))
+
+pub returns-in_err-batch-clause-whole : goal.returns-in_err-batch-clause-whole
+returns-in_err-batch-clause-whole g c = λ list is none low.
+    let exit = err_from_is_err_and c.from_residual-in_err-batch.result c.from_residual-in_err-batch.ensures.1 in
+    rw (exit.1, exit.2) (λ n pruned. cc)
+
+pub returns-clause-next : goal.returns-clause-next
+returns-clause-next g c = λ list chain above is made kept on.
+    c.in_ok-plan.ensures.next list chain.base is (child-base c.args.parent.now c.args.keep list chain above made kept on)
 
 pub returns-in_err-tree-clause-whole : goal.returns-in_err-tree-clause-whole
 returns-in_err-tree-clause-whole g c = λ list is none low.

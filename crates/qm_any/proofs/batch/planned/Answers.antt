@@ -12,6 +12,9 @@ use Rattle.qm_any.proofs.batch.planned.Goals as goal
 pub returns-in-Ok-clause-plan : goal.returns-in-Ok-clause-plan
 returns-in-Ok-clause-plan g c = λ list base is from. c.in_ok-plan.ensures.plan list base is (subst (λ b. IsBase b list base) (sym c.base-base.ensures.value) from)
 
+pub returns-in-Ok-clause-next : goal.returns-in-Ok-clause-next
+returns-in-Ok-clause-next g c = λ list base is from. c.in_ok-plan.ensures.next list base is (subst (λ b. IsBase b list base) (sym c.base-base.ensures.value) from)
+
 pub returns-in-Ok-clause-of : goal.returns-in-Ok-clause-of
 returns-in-Ok-clause-of g c =
     let view = operation_views (unordered_update g.K.ByteString.bytes g.V.Value.ByteString.bytes) g.K.ByteString.bytes g.V.Value.ByteString.bytes in

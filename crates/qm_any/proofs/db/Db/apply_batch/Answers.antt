@@ -1,13 +1,13 @@
 use Rattle.std.proofs.Common.{◌≡◌, ◌∙◌, true, [], ap, sym, subst, inr, map, drop}
 use Rattle.std.specs.Prelude.{Contains, if◌then◌else◌}
-use Rattle.qm_model.proofs.Results.{err-then, ok-four, ok-then}
+use Rattle.qm_model.proofs.Results.{err-then, ok-then}
 use Rattle.qm_model.specs.Forms.{spelling}
 use Rattle.qm_merkle.specs.Batches.{stops}
 use Rattle.qm_chain.specs.Bounds.{is_at}
 use Rattle.qm_batch.specs.Views.{changes_view}
 use Rattle.qm_any.specs.Layouts.{layout_of}
 use Rattle.qm_store.specs.Given.{Appended, AppendedPart, store_given}
-use Rattle.qm_any.proofs.Unapplied.{applied, lacked-spelled}
+use Rattle.qm_any.proofs.Unapplied.{applied, lacked-spelled, ok-five}
 use Rattle.qm_any.proofs.db.Db.apply_batch.Goals as goal
 
 pub moved-requires-clause-reach : goal.moved-requires-clause-reach
@@ -20,9 +20,9 @@ returns-in-Ok-clause-stands g c = λ list chain tip is made on.
     let n = c.self.inside.commitment.size in
     let items = map (λ v. v.items) c.in-Ok.lacking.items.items in
     let changes = map (λ d. changes_view g.U.Key.ByteString.bytes g.U.Value.ByteString.bytes d.value) c.in-Ok.lacking.diffs.now in
-    ok-four c.moved.result c.moved.ensures.log c.moved.ensures.index c.moved.ensures.rest c.moved.ensures.grown (λ next log index rest grown.
+    ok-five c.moved.result c.moved.ensures.log c.moved.ensures.index c.moved.ensures.active c.moved.ensures.rest c.moved.ensures.grown (λ next log index active rest grown.
     applied g.C.Store (layout_of g.H.Digest.Digest.bytes g.H.Hasher g.F.Family g.U.Update g.I.Unordered) c.args.self next c.args.batch.now list chain tip n items changes is made on
-    (ap (λ db. db.commitment.size) c.self.view_is) c.in-Ok.ensures.items c.in-Ok.ensures.diffs log index
+    (ap (λ db. db.commitment.size) c.self.view_is) c.in-Ok.ensures.items c.in-Ok.ensures.diffs log index active
     (rest.0, rest.1, rest.2, rest.3 ∙ c.in-Ok.ensures.metadata) grown)
 
 pub returns-in-Ok-clause-grown : goal.returns-in-Ok-clause-grown

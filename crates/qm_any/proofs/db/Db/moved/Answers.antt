@@ -1,6 +1,8 @@
-use Rattle.std.proofs.Common.{◌≡◌, ◌≤◌, ◌∙◌, ◌∷◌, ◌++◌, ℕ, List, Contains, ap, sym, subst, refl, map}
+use Rattle.std.proofs.Common.{arith, ◌≡◌, ◌≤◌, ◌∙◌, ◌∷◌, ◌++◌, ℕ, List, Contains, ap, sym, subst, refl, map}
 use Rattle.qm_model.proofs.Results.{err-then, ok-then}
+use Rattle.qm_model.specs.Bits.{bits}
 use Rattle.qm_model.specs.Operations.{Bytes}
+use Rattle.qm_bits.specs.Bitmaps.{all_bits}
 use Rattle.qm_store.specs.KeptTrees.{KeptTree, IsKeptTree}
 use Rattle.qm_store.specs.Log.{Log, IsLog}
 use Rattle.qm_store.specs.Log as logs
@@ -10,6 +12,9 @@ use Rattle.qm_any.proofs.Telling.{three}
 use Rattle.qm_store.proofs.Told.{grown-appended, appended-part, refused-appended-part}
 use Rattle.qm_any.proofs.Unapplied.{same-database, memory-cause}
 use Rattle.qm_any.proofs.db.Db.moved.Goals as goal
+
+pub indexed-requires-clause-bits : goal.indexed-requires-clause-bits
+indexed-requires-clause-bits g c = omega (arith, c.self.invariant.0, c.self.invariant.3, c.in-Ok.ensures.size)
 
 pub given_back-requires-clause-whole : goal.given_back-requires-clause-whole
 given_back-requires-clause-whole g c = λ log given.
@@ -51,6 +56,11 @@ pub returns-in-Ok-clause-index : goal.returns-in-Ok-clause-index
 returns-in-Ok-clause-index g c =
     ok-then c.indexed.result c.indexed.ensures.index (λ next takes. λ list tip lead indexed.
     takes list tip lead (subst (λ db. IsIndexed g.I.Unordered.index_key db.entries list) (sym c.self.view_is) indexed))
+
+pub returns-in-Ok-clause-active : goal.returns-in-Ok-clause-active
+returns-in-Ok-clause-active g c =
+    ok-then c.indexed.result c.indexed.ensures.active (λ next takes. λ list tip lead ended size from.
+    takes list tip lead ended size (subst (λ db. all_bits 64 db.activity ≡ bits list) (sym c.self.view_is) from))
 
 pub returns-in-Ok-clause-part : goal.returns-in-Ok-clause-part
 returns-in-Ok-clause-part g c =
