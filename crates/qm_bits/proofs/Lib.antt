@@ -1,8 +1,8 @@
 pub mod Activity
 pub mod Finding
 pub mod Held
+pub mod Kept
 pub mod Marks
 pub mod Packing
 pub mod Places
-pub mod Reading
 pub mod Rounds

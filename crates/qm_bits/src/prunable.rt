@@ -1,33 +1,32 @@
-//! Bits in words, from the first chunk that is kept.
+//! Bits from the first chunk that is kept.
 
 ghost use Rattle.std.specs.Prelude.{◌≡◌, ◌⊎◌, ◌+◌, ◌-◌, ◌*◌, ◌/◌, ◌^◌, ◌<◌, ◌≤◌, ℕ, [], ◌∷◌, ◌++◌, true, false, length, set, max, drop, replicate, slice_index_or, OnOk, OnErr, IfOk};
 ghost use Rattle.qm_model.specs.Bits.{chunk};
 ghost use Rattle.qm_bits.specs.Bitmaps.{start, bit_count, all_bits};
 ghost use Rattle.qm_bits.specs.Candidates.{is_candidate};
 
+use crate::bitmap::BitMap;
 use crate::chunks::Chunks;
-use crate::words;
 use std::alloc::{AllocError, Global};
 use std::marker::{Model, PhantomData};
 
 /// One bit for each location of a list, in chunks of which the first ones may be pruned: they are no longer kept, and count. Places are counted from the list's first bit.
 #[derive(Drop)]
 pub struct Prunable<N: Chunks> {
-    words: Vec<u64>,
-    length: u64,
+    bits: BitMap,
     pruned: usize,
     chunks: PhantomData<N>,
 }
 
 impl<N: Chunks> Model for Prunable<N> {
+    ghost use Rattle.std.specs.Prelude.{◌+◌, ◌*◌, ◌^◌, ◌≤◌, length};
     ghost use Rattle.qm_bits.specs.Bitmaps.{Bitmap};
-    ghost use Rattle.qm_bits.specs.Words.{bits_of, AreHeld};
 
     ghost Value = { Bitmap };
 
-    ghost view = { λ b. record { pruned = b.pruned; kept = bits_of b.length b.words.items } };
+    ghost view = { λ b. record { pruned = b.pruned; kept = b.bits } };
 
-    ghost invariant = { λ b. AreHeld N.LEN b.pruned b.length b.words.items };
+    ghost invariant = { λ b. b.pruned * (8 * N.LEN) + length b.bits ≤ 2 ^ 62 };
 }
 
 impl<N: Chunks> Prunable<N> {
@@ -44,8 +43,7 @@ impl<N: Chunks> Prunable<N> {
         ensures { result ≡ record { pruned = chunks; kept = [] } }
     {
         Prunable {
-            words: Vec::new(alloc),
-            length: 0,
+            bits: BitMap::new(alloc),
             pruned: chunks,
             chunks: PhantomData,
         }
@@ -56,7 +54,7 @@ impl<N: Chunks> Prunable<N> {
         ensures value { result ≡ bit_count N.LEN self.now }
         ensures bounded { result ≤ 2 ^ 62 }
     {
-        self.start() + self.length
+        self.start() + self.bits.len()
     }
 
     /// How many chunks are pruned.
@@ -80,7 +78,7 @@ impl<N: Chunks> Prunable<N> {
         requires within { at < bit_count N.LEN self.now }
         ensures { result ≡ slice_index_or self.now.kept (at - start N.LEN self.now) false }
     {
-        words::get(&self.words, (at - self.start()) as usize)
+        self.bits.get_bit(at - self.start())
     }
 
     /// Sets or clears the bit at a place.
@@ -89,8 +87,8 @@ impl<N: Chunks> Prunable<N> {
         requires within { at < bit_count N.LEN self.old }
         ensures { self.new ≡ record { pruned = self.old.pruned; kept = set self.old.kept (at - start N.LEN self.old) value } }
     {
-        let place = (at - self.start()) as usize;
-        words::put(&mut self.words, place, value);
+        let place = at - self.start();
+        self.bits.set_bit(place, value);
     }
 
     /// Sets the bit at a place that is kept; elsewhere nothing changes.
@@ -129,10 +127,7 @@ impl<N: Chunks> Prunable<N> {
         ensures ok { OnOk result (self.new ≡ record { pruned = self.old.pruned; kept = self.old.kept ++ value ∷ [] }) }
         ensures err { OnErr result (self.new ≡ self.old) }
     {
-        let at = self.len();
-        self.extend_to(at + 1)?;
-        self.set_bit(at, value);
-        Ok(())
+        self.bits.push(value)
     }
 
     /// Puts clear bits behind the others until there are `len`. Want of memory is the only error, and leaves them as they were.
@@ -143,9 +138,7 @@ impl<N: Chunks> Prunable<N> {
         ensures err { OnErr result (self.new ≡ self.old) }
     {
         let length = len - self.start();
-        words::hold(&mut self.words, length as usize)?;
-        self.length = length;
-        Ok(())
+        self.bits.extend_to(length)
     }
 
     /// Prunes the chunks that end at or before a place; those that are pruned already stay pruned. It takes no memory.
@@ -157,8 +150,7 @@ impl<N: Chunks> Prunable<N> {
         let chunks = (at / span) as usize;
         if self.pruned < chunks {
             let bits = (chunks - self.pruned) as u64 * span;
-            words::drop_first(&mut self.words, (bits / 64) as usize);
-            self.length -= bits;
+            self.bits.drop_words((bits / 64) as usize);
             self.pruned = chunks;
         }
     }
@@ -176,12 +168,7 @@ impl<N: Chunks> Prunable<N> {
         if end <= first {
             return from.max(end);
         }
-        start
-            + words::next_set(
-                &self.words,
-                (first - start) as usize,
-                (end - start) as usize,
-            ) as u64
+        start + self.bits.next_set(first - start, end - start)
     }
 
     // The bytes of a chunk that is not pruned, zeros behind the last bit.
@@ -192,7 +179,6 @@ impl<N: Chunks> Prunable<N> {
     {
         let span = N::span();
         let first = (at - self.pruned) as u64 * span / 64;
-        let bytes = words::bytes(alloc, &self.words, first as usize, (span / 64) as usize)?;
-        Ok(bytes)
+        self.bits.bytes(alloc, first as usize, (span / 64) as usize)
     }
 }
