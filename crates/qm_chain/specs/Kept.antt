@@ -1,7 +1,7 @@
 -- Policies that write each value, or stop at each.
-use Rattle.std.specs.Prelude.{◌≡◌, ℕ, Bool, false, refl}
+use Rattle.std.specs.Prelude.{◌≡◌, ℕ, false, refl}
 use Rattle.qm_model.specs.Operations.{Bytes}
-use Rattle.qm_model.specs.Walk.{Action, Limits, Rules, write, stop, evict}
+use Rattle.qm_model.specs.Walk.{Limits, write, stop, evict}
 use Rattle.qm_chain.specs.Policies.{Keeps}
 
 write-evict : (value : Bytes) → write value ≡ evict → ⊥

@@ -1,5 +1,5 @@
 -- Actions, limits and rules of the program over byte strings.
-use Rattle.std.specs.Prelude.{◌≡◌, ℕ, Bool, false, Option, option_map}
+use Rattle.std.specs.Prelude.{◌≡◌, ℕ, Bool, false}
 use Rattle.qm_model.specs.Operations.{Bytes}
 use Rattle.qm_model.specs.Walk as walks
 use Rattle.qm_model.specs.Walk.{Rules, write, stop, evict}

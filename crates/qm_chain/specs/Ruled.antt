@@ -1,7 +1,7 @@
 -- The rules of the policy that goes by values.
-use Rattle.std.specs.Prelude.{◌≡◌, ℕ, Bool, true, false, Option, Some, None, option_map, is_some, if◌then◌else◌, refl}
+use Rattle.std.specs.Prelude.{◌≡◌, ℕ, Bool, true, false, Option, Some, None, option_map, is_some, if◌then◌else◌}
 use Rattle.qm_model.specs.Operations.{Bytes}
-use Rattle.qm_model.specs.Walk.{Action, Limits, Rules, write, stop, evict}
+use Rattle.qm_model.specs.Walk.{Action, Rules, write, stop, evict}
 use Rattle.qm_model.specs.Policies as policies
 use Rattle.qm_chain.specs.declared.rule.Rule.{Rule}
 use Rattle.qm_chain.specs.Policies.{Keeps}

@@ -6,18 +6,8 @@ ghost use Rattle.qm_chain.specs.declared.entry.Action.TheVariants as actions;
 use qm_base::Location;
 use std::marker::{Model, PhantomData};
 
-/// What a walk does with a live update.
-#[derive(Drop)]
-pub enum Action<V> {
-    /// It writes the key with this value.
-    Write(V),
-    /// It ends before the update.
-    Stop,
-    /// It deletes the key.
-    Evict,
-}
-
-/// A live update at the floor. It borrows the key and owns the value.
+/// A live update that a walk came to. It borrows the key and owns the value, so that no decision but one with a value of its
+/// own takes memory.
 #[derive(Drop)]
 pub struct Entry<'a, F, K, V> {
     location: Location<F>,
@@ -33,21 +23,6 @@ impl<'a, F, K, V> Model for Entry<'a, F, K, V> {
     ghost view = { λ e. record { location = e.location; key = e.key.now; value = e.value } };
 }
 
-/// What a policy decides of an entry. Only an entry makes one.
-#[derive(Drop)]
-pub struct Decision<'a, V> {
-    action: Action<V>,
-    entry: PhantomData<&'a ()>,
-}
-
-impl<'a, V> Model for Decision<'a, V> {
-    ghost use Rattle.qm_chain.specs.declared.entry.Action.{Action};
-
-    ghost Value = { Action V };
-
-    ghost view = { λ d. d.action };
-}
-
 impl<'a, F, K, V> Entry<'a, F, K, V> {
     /// The entry of a live update.
     pub fn new(location: Location<F>, key: &'a K, value: V) -> Self
@@ -60,7 +35,7 @@ impl<'a, F, K, V> Entry<'a, F, K, V> {
         }
     }
 
-    /// Where the update stands.
+    /// Where the update stands: the floor, when the policy is asked.
     pub fn location(&self) -> Location<F>
         ensures { result ≡ self.now.location }
     {
@@ -81,7 +56,7 @@ impl<'a, F, K, V> Entry<'a, F, K, V> {
         &self.value
     }
 
-    /// Writes the key with its value.
+    /// Writes the key again with its value, and goes on.
     pub fn keep(self) -> Decision<'a, V>
         ensures { result ≡ actions.Write self.entry.value }
     {
@@ -91,7 +66,7 @@ impl<'a, F, K, V> Entry<'a, F, K, V> {
         }
     }
 
-    /// Writes the key with another value.
+    /// Writes the key with another value, and goes on.
     pub fn replace(self, value: V) -> Decision<'a, V>
     where
         V: Drop,
@@ -103,7 +78,7 @@ impl<'a, F, K, V> Entry<'a, F, K, V> {
         }
     }
 
-    /// Ends the walk.
+    /// Ends the walk before the update.
     pub fn stop(self) -> Decision<'a, V>
     where
         V: Drop,
@@ -115,7 +90,7 @@ impl<'a, F, K, V> Entry<'a, F, K, V> {
         }
     }
 
-    /// Deletes the key, and gives its value.
+    /// Deletes the key, and goes on. The value is handed back.
     pub fn evict(self) -> (Decision<'a, V>, V)
         ensures decision { result.0 ≡ actions.Evict }
         ensures value { result.1 ≡ self.entry.value }
@@ -128,11 +103,38 @@ impl<'a, F, K, V> Entry<'a, F, K, V> {
     }
 }
 
+/// What a policy decides of an entry. Only an entry makes one, and it is used up by that; its lifetime is the entry's, so that
+/// no policy keeps one for another entry.
+#[derive(Drop)]
+pub struct Decision<'a, V> {
+    action: Action<V>,
+    entry: PhantomData<&'a ()>,
+}
+
+impl<'a, V> Model for Decision<'a, V> {
+    ghost use Rattle.qm_chain.specs.declared.entry.Action.{Action};
+
+    ghost Value = { Action V };
+
+    ghost view = { λ d. d.action };
+}
+
 impl<'a, V> Decision<'a, V> {
-    /// The action.
+    /// What the walk is to do.
     pub fn into_action(self) -> Action<V>
         ensures { result ≡ self.entry }
     {
         self.action
     }
+}
+
+/// What a walk does with the live update that it came to.
+#[derive(Drop)]
+pub enum Action<V> {
+    /// It writes the key with this value, and goes on.
+    Write(V),
+    /// It ends before the update.
+    Stop,
+    /// It deletes the key, and goes on.
+    Evict,
 }

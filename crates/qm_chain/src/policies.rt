@@ -1,4 +1,4 @@
-//! The policies that only keep.
+//! The policies that change no value and evict no key.
 
 ghost use Rattle.std.specs.Prelude.{◌≡◌, ◌+◌, ◌-◌, ◌^◌, min, ℕ, Bool, false, IfOk};
 ghost use Rattle.qm_model.specs.Walk.{write, stop};
@@ -10,15 +10,16 @@ use crate::policy::{Limits, Policy};
 use qm_base::{ByteString, Twin};
 use std::alloc::{AllocError, Global};
 
-/// Moves one live update more than operations were made inactive.
+/// Moves one live update more than operations were made inactive, however many other locations it passes: so the floor keeps
+/// up with the writes.
 #[derive(Clone, Copy, Debug, Default, Drop, PartialEq, Eq)]
 pub struct Proportional;
 
-/// Moves nothing.
+/// Moves nothing: the floor stays where it is.
 #[derive(Clone, Copy, Debug, Default, Drop, PartialEq, Eq)]
 pub struct Hold;
 
-/// Moves within these limits.
+/// Moves within these limits, however many operations were made inactive.
 #[derive(Clone, Copy, Debug, Drop, PartialEq, Eq)]
 pub struct Bounded {
     /// How many live updates it may move.

@@ -17,24 +17,26 @@ pub struct Limits {
     pub skips: u64,
 }
 
-/// How a walk from the floor goes.
+/// What becomes of live updates when a batch is merkleized. A walk from the floor asks for limits once, and then for a
+/// decision on one live update after another, in the order of their locations. What a policy learns it may keep, and decide
+/// the next ones by; its rules say how. A policy of one's own states its rules and proves that it follows them.
 pub trait Policy<F, K: ByteString, V: ByteString>: Drop {
     /// Its limits, and what it decides and then is.
     ghost rules: { Rules Self };
 
-    /// Whether it may evict.
+    /// Whether it may evict a key, now or after more decisions.
     ghost may_evict: { Self → Bool };
 
-    /// Whether it may evict a key.
+    /// Whether it may evict a key, now or after more decisions.
     fn evicts(&self) -> bool
         ensures { result ≡ may_evict self.now };
 
-    /// The limits of a walk, where writes made so many operations inactive.
+    /// The limits of a walk after writes that made so many operations inactive.
     fn limits(&self, made_inactive: u64) -> Limits
         ensures entries { result.entries ≡ (rules.limits self.now made_inactive).entries }
         ensures skips { result.skips ≡ (rules.limits self.now made_inactive).skips };
 
-    /// Decides an entry. Want of memory is the only error.
+    /// Decides a live update. Want of memory is the only error, and the walk ends with it.
     fn decide<'a>(
         &mut self,
         alloc: Global,
@@ -43,5 +45,6 @@ pub trait Policy<F, K: ByteString, V: ByteString>: Drop {
         ensures action { IfOk result (λ d. action_view V.bytes d ≡ (rules.decide self.old live.entry.location (K.bytes live.entry.key) (V.bytes live.entry.value)).0) }
         ensures next { IfOk result (λ _. self.new ≡ (rules.decide self.old live.entry.location (K.bytes live.entry.key) (V.bytes live.entry.value)).1) };
 
+    /// Where it may not evict, it does not, and may not after it decided.
     ghost keeps: { (p : Self) (location : ℕ) (key value : List ℕ) → may_evict p ≡ false → Keeps rules may_evict p location key value };
 }

@@ -11,29 +11,31 @@ use crate::policy::{Limits, Policy};
 use qm_base::{ByteString, Twin};
 use std::alloc::{AllocError, Global};
 
-/// Within these limits, drops a value, stops at a value, or swaps a value for another.
+/// Within these limits, drops a value, stops at a value, or swaps a value for another. It tests them in this order, and keeps
+/// a value that is none of them; values are compared by their bytes. A value that is written by a swap is copied, which may
+/// take memory.
 #[derive(Drop)]
 pub struct Rule<V> {
     /// How many live updates it may decide.
     pub entries: u64,
     /// How many other locations it may pass.
     pub skips: u64,
-    /// The value whose key goes.
+    /// The value whose key is deleted.
     pub drop: Option<V>,
-    /// The value that it stops at.
+    /// The value that it ends before.
     pub stop: Option<V>,
-    /// The value that is swapped, and what for.
+    /// The value that is swapped, and the one that is written for it.
     pub swap: Option<(V, V)>,
 }
 
-// Whether it is this value.
+// Whether a value is this one.
 fn is_value<V: ByteString>(one: &V, value: &V) -> bool
     ensures { result ≡ bytes_eq (V.bytes value.now) (V.bytes one.now) }
 {
     one.as_bytes() == value.as_bytes()
 }
 
-// Whether it is this value, where there is one.
+// Whether a value is this one, where there is one.
 fn is_it<V: ByteString>(one: &Option<V>, value: &V) -> bool
     ensures { result ≡ model.is_it (option_map V.bytes one.now) (V.bytes value.now) }
 {
@@ -65,7 +67,7 @@ fn swapped<'a, F, K, V: ByteString>(
 }
 
 // Decides an entry.
-pub(crate) fn decided<'a, F, K, V: ByteString>(
+fn decided<'a, F, K, V: ByteString>(
     alloc: Global,
     rule: &Rule<V>,
     live: Entry<'a, F, K, V>,

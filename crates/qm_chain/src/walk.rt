@@ -1,17 +1,22 @@
 //! The course of a walk from a floor, without what it decides.
 
-ghost use Rattle.std.specs.Prelude.{◌≡◌, ◌+◌, ◌-◌, ◌^◌, ◌<◌, ◌≤◌, nat_le, min, All};
+ghost use Rattle.std.specs.Prelude.{◌≡◌, ◌+◌, ◌-◌, ◌^◌, ◌<◌, ◌≤◌, nat_le, min};
 ghost use Rattle.qm_chain.specs.Walks.{reachable_from, IsRising};
 
 use qm_base::Location;
 
-/// Where a walk is and what it has left. It passes locations without a live update, a skip for each, and decides live
-/// updates, an entry for each. None of its calls takes memory.
+/// Where a walk is and what it has left. From its floor on it decides each live update, which spends an entry, and passes
+/// each other location, which spends a skip; either way the floor is then one higher. With no entry left it ends where it is,
+/// with no skip left at the first location without a live update, and at the latest at its end. Who walks looks for the live
+/// updates before that end, reaches and decides one after another while there is an entry, and spends the skips behind the
+/// last one by `exhaust`. A policy may stop the walk at an update that was reached: it is then left where it is.
+///
+/// No call takes memory, and each but `reachable` takes the same few steps.
 #[derive(Drop)]
 pub struct Walk<F> {
-    /// Where it is: each location below is passed or decided.
+    /// Where it is: from where it started up to here each location is passed or decided.
     pub floor: Location<F>,
-    /// It looks at nothing from here on: the tip, or where entries and skips run out.
+    /// The tip, or where entries and skips run out if that is before it. It stays the same.
     pub end: Location<F>,
     /// How many live updates it may still decide.
     pub entries: u64,
@@ -20,7 +25,7 @@ pub struct Walk<F> {
 }
 
 impl<F> Walk<F> {
-    /// A walk from a floor, up to a tip at most, with so many entries and skips.
+    /// A walk from a floor, up to a tip at most, with so many entries and skips. Limits beyond the tip do no harm.
     pub fn new(floor: Location<F>, tip: Location<F>, entries: u64, skips: u64) -> Self
         requires { floor ≤ tip }
         ensures { result ≡ record { floor = floor; end = min tip (floor + entries + skips); entries = entries; skips = skips } }
@@ -35,8 +40,8 @@ impl<F> Walk<F> {
         }
     }
 
-    /// Goes to the live update at a location, past the ones before, and tells whether it came there: where the skips do not
-    /// suffice it spends them, and the walk ends there.
+    /// Passes the locations up to the next live update, and tells whether it came there. Where the skips do not suffice it
+    /// spends them, and the walk has ended.
     pub fn reach(&mut self, at: Location<F>) -> bool
         requires { self.old.floor ≤ at }
         ensures reached { result ≡ nat_le (at - self.old.floor) self.old.skips }
@@ -54,7 +59,7 @@ impl<F> Walk<F> {
         true
     }
 
-    /// Decides the live update at the floor, and passes it.
+    /// Spends an entry on the live update at the floor.
     pub fn decide(&mut self)
         requires entries { 0 < self.old.entries }
         requires floor { self.old.floor < 2 ^ 64 - 1 }
@@ -64,7 +69,7 @@ impl<F> Walk<F> {
         self.floor = Location::new(self.floor.get() + 1);
     }
 
-    /// How many of these live updates, the first ones, the walk comes to if it decides each.
+    /// How many of these live updates, the first ones, the walk comes to if it decides each. It looks at those and one more.
     pub fn reachable(&self, candidates: &[Location<F>]) -> usize
         requires { IsRising self.now.floor candidates.now }
         ensures { result ≡ reachable_from self.now.floor self.now.entries self.now.skips candidates.now }
@@ -73,18 +78,20 @@ impl<F> Walk<F> {
         let mut skips = self.skips;
         let mut count = 0;
         for at in candidates {
-            let gap = at.get() - floor;
+            let at = at.get();
+            let gap = at - floor;
             if count as u64 == self.entries || gap > skips {
                 return count;
             }
             skips -= gap;
-            floor = at.get() + 1;
+            floor = at.saturating_add(1);
             count += 1;
         }
         count
     }
 
-    /// Passes what is left where no live update is: up to the end, or as far as the skips go.
+    /// Passes what is left where no live update is: up to the end, or as far as the skips go. A walk without entries has ended
+    /// before.
     pub fn exhaust(&mut self)
         requires { self.old.floor ≤ self.old.end }
         ensures { self.new ≡ record self.old { floor = min self.old.end (self.old.floor + self.old.skips); skips = self.old.skips - (self.old.end - self.old.floor) } }

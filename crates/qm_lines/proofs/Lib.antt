@@ -2,3 +2,4 @@ pub mod Lines
 pub mod Readings
 pub mod Told
 pub mod Inputs
+pub mod SameWalks
