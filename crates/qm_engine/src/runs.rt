@@ -105,12 +105,7 @@ pub(crate) fn begin<X: Engine<C>, C: Store>(alloc: Global, store: C) -> Result<O
 
 /// Runs the commands over the store, from no database, up to their end or to the first for which memory or the
 /// store fails. Accepted openings are numbered from 1, batches too. The gate holds the workers of an opening.
-pub fn run<
-    X: Engine<C>,
-    C: Store,
-    P: Policy<X::Family, X::Key, X::Value> + Twin,
-    G: Gate,
->(
+pub fn run<X: Engine<C>, C: Store, P: Policy<X::Family, X::Key, X::Value> + Twin, G: Gate>(
     alloc: Global,
     store: C,
     config: X::Config,
