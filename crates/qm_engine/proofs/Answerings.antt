@@ -1,15 +1,23 @@
 -- The loop over the lines of an input: one line more, and its ends.
-use Rattle.std.proofs.Common.{◌≡◌, ◌≤◌, ◌<◌, ℕ, suc, ◌+◌, List, [], ◌∷◌, ◌++◌, length, take, Option, Some, None, IfSome, arith, refl, sym, subst}
+use Rattle.std.proofs.Common.{◌≡◌, ◌≤◌, ◌<◌, ℕ, suc, ◌+◌, List, [], ◌∷◌, ◌++◌, length, take, Option, Some, None, IfSome, arith, refl, sym, ◌∙◌, ap, subst}
 use Rattle.std.specs.Prelude.{IsSome}
 use Rattle.std.proofs.lemmas.List.{flat_map_more}
 use Rattle.qm_model.specs.Operations.{Bytes}
 use Rattle.qm_model.specs.StoreModel.{Stored}
 use Rattle.qm_model.specs.Batches.{Apart}
-use Rattle.qm_model.specs.Policies.{Policy}
+use Rattle.qm_model.specs.Policies.{Policy, policies}
 use Rattle.qm_machine.specs.Lines.{Line, Answer}
 use Rattle.qm_machine.specs.Machine.{Scheme, State, initial, turn, answers}
 use Rattle.qm_machine.specs.Grammar.{lines_of, line_of, commands_in}
 use Rattle.qm_machine.specs.Text.{reply_line, text_of}
+use Rattle.qm_machine.proofs.Relabelled.{relabelled, turn_relabelled}
+use Rattle.qm_lines.specs.declared.policy.AnyPolicy.{AnyPolicy}
+use Rattle.qm_lines.specs.declared.command.Command.{Command}
+use Rattle.qm_lines.specs.declared.command.Command.TheVariants as commands
+use Rattle.qm_lines.specs.Policies.{policy_view, rules_of}
+use Rattle.qm_lines.specs.Parsed.{byte_line}
+use Rattle.qm_lines.specs.Views.{line_view}
+use Rattle.qm_lines.proofs.SameWalks.{same_step}
 use Rattle.qm_lines.proofs.Inputs.{IsAt, at_within, at_command, at_more, at_bad}
 use Rattle.qm_engine.specs.Session.{IsLeft}
 use Rattle.qm_engine.specs.Runs.{after}
@@ -23,6 +31,34 @@ with_line text answer = text ++ (reply_line answer ++ 10 ∷ [])
 text_of-push : (given : List Answer) (a : Answer) → text_of (given ++ a ∷ []) ≡ with_line (text_of given) a
 text_of-push given a = sym (flat_map_more (λ r. reply_line r ++ 10 ∷ []) [] given a)
 
+-- a command as it stands, and under the definitions' policies
+abbrev pub own_line : Command Bytes Bytes AnyPolicy → Line AnyPolicy
+own_line = line_view (λ k. k) (λ v. v) (λ p. p)
+
+relabelled_line : (c : Command Bytes Bytes AnyPolicy) → relabelled policy_view (own_line c) ≡ byte_line c
+relabelled_line commands.Open = refl
+relabelled_line commands.Batch = refl
+relabelled_line (commands.Child h keep) = refl
+relabelled_line commands.Tip = refl
+relabelled_line (commands.Put h key value) = refl
+relabelled_line (commands.Del h key) = refl
+relabelled_line (commands.Merkleize h policy meta) = refl
+relabelled_line (commands.Apply h) = refl
+relabelled_line (commands.Ops h) = refl
+relabelled_line (commands.Get key from) = refl
+relabelled_line (commands.Many keys from) = refl
+relabelled_line commands.Info = refl
+relabelled_line (commands.BatchInfo h) = refl
+relabelled_line commands.Root = refl
+relabelled_line (commands.BatchRoot h) = refl
+relabelled_line (commands.BatchProof h) = refl
+relabelled_line commands.Meta = refl
+relabelled_line (commands.Prove size start max) = refl
+relabelled_line (commands.Pins n) = refl
+
+pub same_turn : (m : Scheme) (s : State) (c : Command Bytes Bytes AnyPolicy) → turn m rules_of s (own_line c) ≡ turn m policies s (byte_line c)
+same_turn m s c = turn_relabelled policy_view rules_of policies same_step m s (own_line c) ∙ ap (turn m policies s) (relabelled_line c)
+
 -- the next line of an input
 module _ (input rest line behind : Bytes) (k : ℕ) (at : IsAt input rest k) (found : lines_of rest ≡ line ∷ lines_of behind) where
   pub at_next : (o : Option (Line Policy)) → line_of line ≡ o → IsSome o → IsAt input behind (k + 1)
@@ -34,42 +70,42 @@ module _ (input rest line behind : Bytes) (k : ℕ) (at : IsAt input rest k) (fo
   at_short None e some = absurd (cc some)
   at_short (Some c) e some = at_within input rest line behind k at found c e
 
-  module _ (m : Scheme Policy) (stored : Stored) where
+  module _ (m : Scheme) (stored : Stored) where
     -- it was answered
     pub line_step : (o : Option (Line Policy)) → line_of line ≡ o → IsSome o → (old new : Bytes) (Before After : State → Type 0)
-        → (Apart m.root (after m stored (commands_in input) k).had → (old ≡ text_of (answers m (initial stored) (take k (commands_in input)))) × Before (after m stored (commands_in input) k))
-        → ((s : State) → Before s → IfSome o (λ c. Apart m.root ((turn m s c).1).had → (new ≡ with_line old (turn m s c).0) × After (turn m s c).1))
-        → Apart m.root (after m stored (commands_in input) (k + 1)).had → (new ≡ text_of (answers m (initial stored) (take (k + 1) (commands_in input)))) × After (after m stored (commands_in input) (k + 1))
+        → (Apart m.root (after m policies stored (commands_in input) k).had → (old ≡ text_of (answers m policies (initial stored) (take k (commands_in input)))) × Before (after m policies stored (commands_in input) k))
+        → ((s : State) → Before s → IfSome o (λ c. Apart m.root ((turn m policies s c).1).had → (new ≡ with_line old (turn m policies s c).0) × After (turn m policies s c).1))
+        → Apart m.root (after m policies stored (commands_in input) (k + 1)).had → (new ≡ text_of (answers m policies (initial stored) (take (k + 1) (commands_in input)))) × After (after m policies stored (commands_in input) (k + 1))
     line_step None e some old new Before After so_far one = absurd (cc some)
     line_step (Some c) e some old new Before After so_far one =
-        loop_step m stored (commands_in input) text_of with_line text_of-push k c old new Before After
+        loop_step m policies stored (commands_in input) text_of with_line text_of-push k c old new Before After
         (at_within input rest line behind k at found c e) (at_command input rest line behind k at found c e) so_far one
 
     -- what is left where the loop ended at it
     line_left : (o : Option (Line Policy)) → line_of line ≡ o → (left : Option Stored) (Before : State → Type 0)
-        → (Apart m.root (after m stored (commands_in input) k).had → Before (after m stored (commands_in input) k))
-        → ((s : State) → Before s → Apart m.root s.had → IsLeft left s.store (after_line m s o).store)
-        → Apart m.root (after m stored (commands_in input) k).had → IsLeft left (after m stored (commands_in input) k).store (after m stored (commands_in input) (suc k)).store
+        → (Apart m.root (after m policies stored (commands_in input) k).had → Before (after m policies stored (commands_in input) k))
+        → ((s : State) → Before s → Apart m.root s.had → IsLeft left s.store (after_line m policies s o).store)
+        → Apart m.root (after m policies stored (commands_in input) k).had → IsLeft left (after m policies stored (commands_in input) k).store (after m policies stored (commands_in input) (suc k)).store
     line_left None e left Before so_far leaves = λ apart.
-        let s : State = after m stored (commands_in input) k in
-        subst (IsLeft left s.store) (sym (after_all m stored (commands_in input) k (omega (arith, (at_bad input rest line behind k at found e).0)))) (leaves s (so_far apart) apart)
+        let s : State = after m policies stored (commands_in input) k in
+        subst (IsLeft left s.store) (sym (after_all m policies stored (commands_in input) k (omega (arith, (at_bad input rest line behind k at found e).0)))) (leaves s (so_far apart) apart)
     line_left (Some c) e left Before so_far leaves =
-        left_in m stored (commands_in input) k c left Before (at_within input rest line behind k at found c e) (at_command input rest line behind k at found c e) so_far leaves
+        left_in m policies stored (commands_in input) k c left Before (at_within input rest line behind k at found c e) (at_command input rest line behind k at found c e) so_far leaves
 
     -- what is left where all commands were answered before it
     line_whole : (o : Option (Line Policy)) → line_of line ≡ o → (left : Option Stored) (Before : State → Type 0)
-        → (Apart m.root (after m stored (commands_in input) k).had → Before (after m stored (commands_in input) k))
+        → (Apart m.root (after m policies stored (commands_in input) k).had → Before (after m policies stored (commands_in input) k))
         → ((s : State) → Before s → o ≡ None → left ≡ Some s.store)
-        → k ≡ length (commands_in input) → Apart m.root (after m stored (commands_in input) k).had → left ≡ Some (after m stored (commands_in input) k).store
-    line_whole None e left Before so_far stays all = λ apart. stays (after m stored (commands_in input) k) (so_far apart) refl
+        → k ≡ length (commands_in input) → Apart m.root (after m policies stored (commands_in input) k).had → left ≡ Some (after m policies stored (commands_in input) k).store
+    line_whole None e left Before so_far stays all = λ apart. stays (after m policies stored (commands_in input) k) (so_far apart) refl
     line_whole (Some c) e left Before so_far stays all = let short = at_within input rest line behind k at found c e in absurd (omega (arith, short, all))
 
     -- the loop ended at it
     pub answered_in : (text : Bytes) (left : Option Stored) (Before : State → Type 0)
-        → (Apart m.root (after m stored (commands_in input) k).had → (text ≡ text_of (answers m (initial stored) (take k (commands_in input)))) × Before (after m stored (commands_in input) k))
+        → (Apart m.root (after m policies stored (commands_in input) k).had → (text ≡ text_of (answers m policies (initial stored) (take k (commands_in input)))) × Before (after m policies stored (commands_in input) k))
         → ((s : State) → Before s → line_of line ≡ None → left ≡ Some s.store)
-        → ((s : State) → Before s → Apart m.root s.had → IsLeft left s.store (after_line m s (line_of line)).store)
-        → IsAnswered m stored (commands_in input) k text left
+        → ((s : State) → Before s → Apart m.root s.had → IsLeft left s.store (after_line m policies s (line_of line)).store)
+        → IsAnswered m policies stored (commands_in input) k text left
     answered_in text left Before so_far stays leaves = record {
       few = at.few;
       same = λ apart. (so_far apart).0;
@@ -78,12 +114,12 @@ module _ (input rest line behind : Bytes) (k : ℕ) (at : IsAt input rest k) (fo
     }
 
 -- the loop ended behind the last line, or before the first
-pub answered_at : (m : Scheme Policy) (stored : Stored) (input : Bytes) (k : ℕ) (text : Bytes) (left : Option Stored) → k ≤ length (commands_in input)
-    → (Apart m.root (after m stored (commands_in input) k).had → (text ≡ text_of (answers m (initial stored) (take k (commands_in input)))) × (left ≡ Some (after m stored (commands_in input) k).store))
-    → IsAnswered m stored (commands_in input) k text left
+pub answered_at : (m : Scheme) (stored : Stored) (input : Bytes) (k : ℕ) (text : Bytes) (left : Option Stored) → k ≤ length (commands_in input)
+    → (Apart m.root (after m policies stored (commands_in input) k).had → (text ≡ text_of (answers m policies (initial stored) (take k (commands_in input)))) × (left ≡ Some (after m policies stored (commands_in input) k).store))
+    → IsAnswered m policies stored (commands_in input) k text left
 answered_at m stored input k text left few so_far = record {
   few = few;
   same = λ apart. (so_far apart).0;
   whole = λ all apart. (so_far apart).1;
-  left = λ apart. left_none (after m stored (commands_in input) k).store (after m stored (commands_in input) (suc k)).store left (so_far apart).1;
+  left = λ apart. left_none (after m policies stored (commands_in input) k).store (after m policies stored (commands_in input) (suc k)).store left (so_far apart).1;
 }

@@ -6,6 +6,7 @@ use Rattle.qm_model.specs.StoreModel as model
 use Rattle.qm_model.specs.Operations.{Bytes, Operation}
 use Rattle.qm_model.specs.Forms.{spelling, variable}
 use Rattle.qm_model.specs.Live.{floor}
+use Rattle.qm_model.specs.Walk.{Rules}
 use Rattle.qm_model.specs.Writes.{Write}
 use Rattle.qm_model.specs.Batches.{Chain, child_of, IsOnChain, Apart, commitment, fits}
 use Rattle.qm_model.specs.Refusals.{tip_refusal}
@@ -23,7 +24,6 @@ use Rattle.qm_lines.specs.declared.reply.Refused.{Refused}
 use Rattle.qm_lines.specs.declared.reply.Refused.TheVariants as refused
 use Rattle.qm_store.specs.declared.Store as stores
 use Rattle.qm_engine.specs.declared.words.Words as words
-use Rattle.qm_model.specs.Policies.{Policy}
 use Rattle.qm_store.specs.declared.refusal.Given.{Given}
 use Rattle.qm_store.specs.declared.refusal.Given.TheVariants.{Database}
 use Rattle.qm_engine.specs.declared.table.Slot.{Slot}
@@ -115,135 +115,137 @@ module _ {X C B M K V D : Type 0} (members : stores.Ghosts C) (means : words.Gho
       with_list members means x s.had s.database s (λ list. apply_in means.scheme s h list (slot_at s.table h)) (Goes (Reply (replies.Refused (refused.NoSuchHandle h))) (Database x) table opened) k.database (λ list stands in_had.
       apply_none (Database x) table opened h list s k (get_or table h Gone) (slot_at s.table h) (k.slots h) e)
 
-  -- a merkleize that was accepted
-  merkleized_in : (x after : X) (table : List (Slot B M)) (opened : ℕ) (h : ℕ) (policy : Policy) (meta : Option Bytes) (batch : B) (made : M) (low high bottom : ℕ) (s : State) (list : List Operation)
-      → Holds members means (Database x) table opened s → Contains s.had list → ((l : List Operation) → means.stands x l → means.stands after l)
-      → IsUnchanged members (means.inside x) (means.inside after)
-      → ((chain above : Chain) (ws : List Write) → means.is_batch batch chain above ws → fits root (commitment root list) chain ≡ true)
-      → ((chain above : Chain) (ws : List Write) → means.is_batch batch chain above ws → IsOnChain list chain → let tip = tip_of means.scheme chain ws policy meta in (tip_refusal variable chain tip ≡ None) × means.is_merkleized made chain tip)
-      → ((chain : Chain) (tip : List Operation) → means.is_merkleized made chain tip → (low ≡ length chain.base) × (high ≡ length tip) × (bottom ≡ floor tip))
-      → (a : Slot B M) (b : machine.Slot) → SlotIs members means s.had a b → writing_of a ≡ Some batch
-      → Goes (Reply (replies.Merkleized h low high bottom)) (Database after) (set (set table h Gone) h (Merkleized made)) opened (merkleize_in means.scheme s h policy meta list b)
-  merkleized_in x after table opened h policy meta batch made low high bottom s list k in_had keeps same_store fit_of did sized (Writing w) (machine.writing chain above ws) is e =
-      let same : w ≡ batch = cc in
-      let batch_is : means.is_batch batch chain above ws = subst (λ v. means.is_batch v chain above ws) same is.0 in
-      let fit : fits root (commitment root list) chain ≡ true = fit_of chain above ws batch_is in
-      subst (λ t. Goal (cond t (merkleize_tip means.scheme s h chain tip (tip_refusal variable chain tip)) (refuse (with_slot s h machine.gone) refusals.StaleBatch))) (sym fit) (by_due fit batch_is (tip_refusal variable chain tip) refl)
-    where
-      tip : List Operation
-      tip = tip_of means.scheme chain ws policy meta
+  -- under policies with these rules
+  module _ {P : Type 0} (rules : Rules P) where
+    -- a merkleize that was accepted
+    merkleized_in : (x after : X) (table : List (Slot B M)) (opened : ℕ) (h : ℕ) (policy : P) (meta : Option Bytes) (batch : B) (made : M) (low high bottom : ℕ) (s : State) (list : List Operation)
+        → Holds members means (Database x) table opened s → Contains s.had list → ((l : List Operation) → means.stands x l → means.stands after l)
+        → IsUnchanged members (means.inside x) (means.inside after)
+        → ((chain above : Chain) (ws : List Write) → means.is_batch batch chain above ws → fits root (commitment root list) chain ≡ true)
+        → ((chain above : Chain) (ws : List Write) → means.is_batch batch chain above ws → IsOnChain list chain → let tip = tip_of means.scheme rules chain ws policy meta in (tip_refusal variable chain tip ≡ None) × means.is_merkleized made chain tip)
+        → ((chain : Chain) (tip : List Operation) → means.is_merkleized made chain tip → (low ≡ length chain.base) × (high ≡ length tip) × (bottom ≡ floor tip))
+        → (a : Slot B M) (b : machine.Slot) → SlotIs members means s.had a b → writing_of a ≡ Some batch
+        → Goes (Reply (replies.Merkleized h low high bottom)) (Database after) (set (set table h Gone) h (Merkleized made)) opened (merkleize_in means.scheme rules s h policy meta list b)
+    merkleized_in x after table opened h policy meta batch made low high bottom s list k in_had keeps same_store fit_of did sized (Writing w) (machine.writing chain above ws) is e =
+        let same : w ≡ batch = cc in
+        let batch_is : means.is_batch batch chain above ws = subst (λ v. means.is_batch v chain above ws) same is.0 in
+        let fit : fits root (commitment root list) chain ≡ true = fit_of chain above ws batch_is in
+        subst (λ t. Goal (cond t (merkleize_tip s h chain tip (tip_refusal variable chain tip)) (refuse (with_slot s h machine.gone) refusals.StaleBatch))) (sym fit) (by_due fit batch_is (tip_refusal variable chain tip) refl)
+      where
+        tip : List Operation
+        tip = tip_of means.scheme rules chain ws policy meta
 
-      Goal : Answer × State → Type 0
-      Goal next = Goes (Reply (replies.Merkleized h low high bottom)) (Database after) (set (set table h Gone) h (Merkleized made)) opened next
+        Goal : Answer × State → Type 0
+        Goal next = Goes (Reply (replies.Merkleized h low high bottom)) (Database after) (set (set table h Gone) h (Merkleized made)) opened next
 
-      by_due : fits root (commitment root list) chain ≡ true → means.is_batch batch chain above ws → (due : Option refusals.Refused) → tip_refusal variable chain tip ≡ due → Goal (merkleize_tip means.scheme s h chain tip due)
-      by_due fit batch_is (Some r) is_due = λ apart. absurd (none_some (did chain above ws batch_is (on_chain-fits root s.had list chain apart in_had is.1 fit)).0 is_due)
-      by_due fit batch_is None is_due = λ apart.
-          let now = (did chain above ws batch_is (on_chain-fits root (tip ∷ s.had) list chain apart (Contains-more s.had tip list in_had) (IsAmong-more s.had tip chain is.1) fit)).1 in
-          let sizes = sized chain tip now in (
-            rw (sizes.0, sizes.1, sizes.2) refl,
-            record {
-              database = HeldIs-more members means s.had tip (Database after) s.database (HeldIs-kept members means x after s.had s.database keeps k.database);
-              store = stored-same members (means.inside x) (means.inside after) s.store same_store k.store;
-              whole = k.whole;
-              count = k.count;
-              lengths = rw set_set (lengths_set members means table s h (Merkleized made) (machine.merkleized chain tip) k.lengths);
-              slots = rw set_set (set_at (SlotIs members means (tip ∷ s.had)) Gone machine.gone tt table s.table h (Merkleized made) (machine.merkleized chain tip) k.lengths (λ i. SlotIs-more members means s.had tip (get_or table i Gone) (slot_at s.table i) (k.slots i)) (now, IsAmong-more s.had tip chain is.1, Contains-first tip s.had));
-            },
-          )
-  merkleized_in x after table opened h policy meta batch made low high bottom s list k in_had keeps same_store fit_of did sized (Writing w) machine.gone is e = absurd is
-  merkleized_in x after table opened h policy meta batch made low high bottom s list k in_had keeps same_store fit_of did sized (Writing w) (machine.merkleized chain tip) is e = absurd is
-  merkleized_in x after table opened h policy meta batch made low high bottom s list k in_had keeps same_store fit_of did sized Gone b is e = absurd (cc)
-  merkleized_in x after table opened h policy meta batch made low high bottom s list k in_had keeps same_store fit_of did sized (Merkleized w) b is e = absurd (cc)
+        by_due : fits root (commitment root list) chain ≡ true → means.is_batch batch chain above ws → (due : Option refusals.Refused) → tip_refusal variable chain tip ≡ due → Goal (merkleize_tip s h chain tip due)
+        by_due fit batch_is (Some r) is_due = λ apart. absurd (none_some (did chain above ws batch_is (on_chain-fits root s.had list chain apart in_had is.1 fit)).0 is_due)
+        by_due fit batch_is None is_due = λ apart.
+            let now = (did chain above ws batch_is (on_chain-fits root (tip ∷ s.had) list chain apart (Contains-more s.had tip list in_had) (IsAmong-more s.had tip chain is.1) fit)).1 in
+            let sizes = sized chain tip now in (
+              rw (sizes.0, sizes.1, sizes.2) refl,
+              record {
+                database = HeldIs-more members means s.had tip (Database after) s.database (HeldIs-kept members means x after s.had s.database keeps k.database);
+                store = stored-same members (means.inside x) (means.inside after) s.store same_store k.store;
+                whole = k.whole;
+                count = k.count;
+                lengths = rw set_set (lengths_set members means table s h (Merkleized made) (machine.merkleized chain tip) k.lengths);
+                slots = rw set_set (set_at (SlotIs members means (tip ∷ s.had)) Gone machine.gone tt table s.table h (Merkleized made) (machine.merkleized chain tip) k.lengths (λ i. SlotIs-more members means s.had tip (get_or table i Gone) (slot_at s.table i) (k.slots i)) (now, IsAmong-more s.had tip chain is.1, Contains-first tip s.had));
+              },
+            )
+    merkleized_in x after table opened h policy meta batch made low high bottom s list k in_had keeps same_store fit_of did sized (Writing w) machine.gone is e = absurd is
+    merkleized_in x after table opened h policy meta batch made low high bottom s list k in_had keeps same_store fit_of did sized (Writing w) (machine.merkleized chain tip) is e = absurd is
+    merkleized_in x after table opened h policy meta batch made low high bottom s list k in_had keeps same_store fit_of did sized Gone b is e = absurd (cc)
+    merkleized_in x after table opened h policy meta batch made low high bottom s list k in_had keeps same_store fit_of did sized (Merkleized w) b is e = absurd (cc)
 
-  -- one that found the batch left behind
-  stale_in : (x after : X) (table : List (Slot B M)) (opened : ℕ) (h : ℕ) (policy : Policy) (meta : Option Bytes) (batch : B) (s : State) (list : List Operation)
-      → Holds members means (Database x) table opened s → Contains s.had list → ((l : List Operation) → means.stands x l → means.stands after l)
-      → IsUnchanged members (means.inside x) (means.inside after)
-      → ((chain above : Chain) (ws : List Write) → means.is_batch batch chain above ws → IsOnChain list chain → ⊥)
-      → (a : Slot B M) (b : machine.Slot) → SlotIs members means s.had a b → writing_of a ≡ Some batch
-      → Goes (Reply (replies.Refused refused.StaleBatch)) (Database after) (set table h Gone) opened (merkleize_in means.scheme s h policy meta list b)
-  stale_in x after table opened h policy meta batch s list k in_had keeps same_store off (Writing w) (machine.writing chain above ws) is e =
-      let same : w ≡ batch = cc in
-      let batch_is : means.is_batch batch chain above ws = subst (λ v. means.is_batch v chain above ws) same is.0 in
-      choice (fits root (commitment root list) chain) (merkleize_tip means.scheme s h chain tip (tip_refusal variable chain tip)) (refuse (with_slot s h machine.gone) refusals.StaleBatch) Goal
-      (λ fit. by_due fit batch_is (tip_refusal variable chain tip))
-      (λ fit apart. (refl, Holds-used members means x after table opened h s (keeps, same_store) k))
-    where
-      tip : List Operation
-      tip = tip_of means.scheme chain ws policy meta
+    -- one that found the batch left behind
+    stale_in : (x after : X) (table : List (Slot B M)) (opened : ℕ) (h : ℕ) (policy : P) (meta : Option Bytes) (batch : B) (s : State) (list : List Operation)
+        → Holds members means (Database x) table opened s → Contains s.had list → ((l : List Operation) → means.stands x l → means.stands after l)
+        → IsUnchanged members (means.inside x) (means.inside after)
+        → ((chain above : Chain) (ws : List Write) → means.is_batch batch chain above ws → IsOnChain list chain → ⊥)
+        → (a : Slot B M) (b : machine.Slot) → SlotIs members means s.had a b → writing_of a ≡ Some batch
+        → Goes (Reply (replies.Refused refused.StaleBatch)) (Database after) (set table h Gone) opened (merkleize_in means.scheme rules s h policy meta list b)
+    stale_in x after table opened h policy meta batch s list k in_had keeps same_store off (Writing w) (machine.writing chain above ws) is e =
+        let same : w ≡ batch = cc in
+        let batch_is : means.is_batch batch chain above ws = subst (λ v. means.is_batch v chain above ws) same is.0 in
+        choice (fits root (commitment root list) chain) (merkleize_tip s h chain tip (tip_refusal variable chain tip)) (refuse (with_slot s h machine.gone) refusals.StaleBatch) Goal
+        (λ fit. by_due fit batch_is (tip_refusal variable chain tip))
+        (λ fit apart. (refl, Holds-used members means x after table opened h s (keeps, same_store) k))
+      where
+        tip : List Operation
+        tip = tip_of means.scheme rules chain ws policy meta
 
-      Goal : Answer × State → Type 0
-      Goal next = Goes (Reply (replies.Refused refused.StaleBatch)) (Database after) (set table h Gone) opened next
+        Goal : Answer × State → Type 0
+        Goal next = Goes (Reply (replies.Refused refused.StaleBatch)) (Database after) (set table h Gone) opened next
 
-      by_due : fits root (commitment root list) chain ≡ true → means.is_batch batch chain above ws → (due : Option refusals.Refused) → Goal (merkleize_tip means.scheme s h chain tip due)
-      by_due fit batch_is None = λ apart. absurd (off chain above ws batch_is (on_chain-fits root (tip ∷ s.had) list chain apart (Contains-more s.had tip list in_had) (IsAmong-more s.had tip chain is.1) fit))
-      by_due fit batch_is (Some r) = λ apart. absurd (off chain above ws batch_is (on_chain-fits root s.had list chain apart in_had is.1 fit))
-  stale_in x after table opened h policy meta batch s list k in_had keeps same_store off (Writing w) machine.gone is e = absurd is
-  stale_in x after table opened h policy meta batch s list k in_had keeps same_store off (Writing w) (machine.merkleized chain tip) is e = absurd is
-  stale_in x after table opened h policy meta batch s list k in_had keeps same_store off Gone b is e = absurd (cc)
-  stale_in x after table opened h policy meta batch s list k in_had keeps same_store off (Merkleized w) b is e = absurd (cc)
+        by_due : fits root (commitment root list) chain ≡ true → means.is_batch batch chain above ws → (due : Option refusals.Refused) → Goal (merkleize_tip s h chain tip due)
+        by_due fit batch_is None = λ apart. absurd (off chain above ws batch_is (on_chain-fits root (tip ∷ s.had) list chain apart (Contains-more s.had tip list in_had) (IsAmong-more s.had tip chain is.1) fit))
+        by_due fit batch_is (Some r) = λ apart. absurd (off chain above ws batch_is (on_chain-fits root s.had list chain apart in_had is.1 fit))
+    stale_in x after table opened h policy meta batch s list k in_had keeps same_store off (Writing w) machine.gone is e = absurd is
+    stale_in x after table opened h policy meta batch s list k in_had keeps same_store off (Writing w) (machine.merkleized chain tip) is e = absurd is
+    stale_in x after table opened h policy meta batch s list k in_had keeps same_store off Gone b is e = absurd (cc)
+    stale_in x after table opened h policy meta batch s list k in_had keeps same_store off (Merkleized w) b is e = absurd (cc)
 
-  -- one whose tip list is refused
-  too_large_in : (x after : X) (table : List (Slot B M)) (opened : ℕ) (h : ℕ) (policy : Policy) (meta : Option Bytes) (batch : B) (r : Refused) (s : State) (list : List Operation)
-      → Holds members means (Database x) table opened s → Contains s.had list → Keeps members means x after
-      → ((chain above : Chain) (ws : List Write) → means.is_batch batch chain above ws → (fits root (commitment root list) chain ≡ true)
-      × (IsOnChain list chain → tip_refusal variable chain (tip_of means.scheme chain ws policy meta) ≡ Some (refused_view r)))
-      → (a : Slot B M) (b : machine.Slot) → SlotIs members means s.had a b → writing_of a ≡ Some batch
-      → Goes (Reply (replies.Refused r)) (Database after) (set table h Gone) opened (merkleize_in means.scheme s h policy meta list b)
-  too_large_in x after table opened h policy meta batch r s list k in_had keeps why (Writing w) (machine.writing chain above ws) is e =
-      let same : w ≡ batch = cc in
-      let batch_is : means.is_batch batch chain above ws = subst (λ v. means.is_batch v chain above ws) same is.0 in
-      let fit : fits root (commitment root list) chain ≡ true = (why chain above ws batch_is).0 in
-      subst (λ t. Goal (cond t (merkleize_tip means.scheme s h chain tip (tip_refusal variable chain tip)) (refuse (with_slot s h machine.gone) refusals.StaleBatch))) (sym fit) (by_due fit batch_is (tip_refusal variable chain tip) refl)
-    where
-      tip : List Operation
-      tip = tip_of means.scheme chain ws policy meta
+    -- one whose tip list is refused
+    too_large_in : (x after : X) (table : List (Slot B M)) (opened : ℕ) (h : ℕ) (policy : P) (meta : Option Bytes) (batch : B) (r : Refused) (s : State) (list : List Operation)
+        → Holds members means (Database x) table opened s → Contains s.had list → Keeps members means x after
+        → ((chain above : Chain) (ws : List Write) → means.is_batch batch chain above ws → (fits root (commitment root list) chain ≡ true)
+        × (IsOnChain list chain → tip_refusal variable chain (tip_of means.scheme rules chain ws policy meta) ≡ Some (refused_view r)))
+        → (a : Slot B M) (b : machine.Slot) → SlotIs members means s.had a b → writing_of a ≡ Some batch
+        → Goes (Reply (replies.Refused r)) (Database after) (set table h Gone) opened (merkleize_in means.scheme rules s h policy meta list b)
+    too_large_in x after table opened h policy meta batch r s list k in_had keeps why (Writing w) (machine.writing chain above ws) is e =
+        let same : w ≡ batch = cc in
+        let batch_is : means.is_batch batch chain above ws = subst (λ v. means.is_batch v chain above ws) same is.0 in
+        let fit : fits root (commitment root list) chain ≡ true = (why chain above ws batch_is).0 in
+        subst (λ t. Goal (cond t (merkleize_tip s h chain tip (tip_refusal variable chain tip)) (refuse (with_slot s h machine.gone) refusals.StaleBatch))) (sym fit) (by_due fit batch_is (tip_refusal variable chain tip) refl)
+      where
+        tip : List Operation
+        tip = tip_of means.scheme rules chain ws policy meta
 
-      Goal : Answer × State → Type 0
-      Goal next = Goes (Reply (replies.Refused r)) (Database after) (set table h Gone) opened next
+        Goal : Answer × State → Type 0
+        Goal next = Goes (Reply (replies.Refused r)) (Database after) (set table h Gone) opened next
 
-      by_due : fits root (commitment root list) chain ≡ true → means.is_batch batch chain above ws → (due : Option refusals.Refused) → tip_refusal variable chain tip ≡ due → Goal (merkleize_tip means.scheme s h chain tip due)
-      by_due fit batch_is None is_due = λ apart. absurd (none_some is_due ((why chain above ws batch_is).1 (on_chain-fits root (tip ∷ s.had) list chain apart (Contains-more s.had tip list in_had) (IsAmong-more s.had tip chain is.1) fit)))
-      by_due fit batch_is (Some q) is_due = λ apart. (
-        ap refuses (sym ((why chain above ws batch_is).1 (on_chain-fits root s.had list chain apart in_had is.1 fit)) ∙ is_due),
-        Holds-used members means x after table opened h s keeps k,
-      )
-  too_large_in x after table opened h policy meta batch r s list k in_had keeps why (Writing w) machine.gone is e = absurd is
-  too_large_in x after table opened h policy meta batch r s list k in_had keeps why (Writing w) (machine.merkleized chain tip) is e = absurd is
-  too_large_in x after table opened h policy meta batch r s list k in_had keeps why Gone b is e = absurd (cc)
-  too_large_in x after table opened h policy meta batch r s list k in_had keeps why (Merkleized w) b is e = absurd (cc)
+        by_due : fits root (commitment root list) chain ≡ true → means.is_batch batch chain above ws → (due : Option refusals.Refused) → tip_refusal variable chain tip ≡ due → Goal (merkleize_tip s h chain tip due)
+        by_due fit batch_is None is_due = λ apart. absurd (none_some is_due ((why chain above ws batch_is).1 (on_chain-fits root (tip ∷ s.had) list chain apart (Contains-more s.had tip list in_had) (IsAmong-more s.had tip chain is.1) fit)))
+        by_due fit batch_is (Some q) is_due = λ apart. (
+          ap refuses (sym ((why chain above ws batch_is).1 (on_chain-fits root s.had list chain apart in_had is.1 fit)) ∙ is_due),
+          Holds-used members means x after table opened h s keeps k,
+        )
+    too_large_in x after table opened h policy meta batch r s list k in_had keeps why (Writing w) machine.gone is e = absurd is
+    too_large_in x after table opened h policy meta batch r s list k in_had keeps why (Writing w) (machine.merkleized chain tip) is e = absurd is
+    too_large_in x after table opened h policy meta batch r s list k in_had keeps why Gone b is e = absurd (cc)
+    too_large_in x after table opened h policy meta batch r s list k in_had keeps why (Merkleized w) b is e = absurd (cc)
 
-  pub merkleize_ok : (x after : X) (table : List (Slot B M)) (opened : ℕ) (h : ℕ) (policy : Policy) (meta : Option Bytes) (batch : B) (made : M) (low high bottom : ℕ) (s : State)
-      → Holds members means (Database x) table opened s → ((l : List Operation) → means.stands x l → means.stands after l)
-      → IsUnchanged members (means.inside x) (means.inside after)
-      → AtBatch means x batch (λ list chain above ws. Fits means list chain)
-      → AtBatch means x batch (λ list chain above ws. IsOnChain list chain → let tip = tip_of means.scheme chain ws policy meta in (tip_refusal variable chain tip ≡ None) × means.is_merkleized made chain tip)
-      → ((chain : Chain) (tip : List Operation) → means.is_merkleized made chain tip → (low ≡ length chain.base) × (high ≡ length tip) × (bottom ≡ floor tip))
-      → writing_of (get_or table h Gone) ≡ Some batch
-      → Goes (Reply (replies.Merkleized h low high bottom)) (Database after) (set (set table h Gone) h (Merkleized made)) opened (machine.merkleize means.scheme s h policy meta)
-  merkleize_ok x after table opened h policy meta batch made low high bottom s k keeps same_store fit did sized e =
-      with_list members means x s.had s.database s (λ list. merkleize_in means.scheme s h policy meta list (slot_at s.table h)) (Goes (Reply (replies.Merkleized h low high bottom)) (Database after) (set (set table h Gone) h (Merkleized made)) opened) k.database
-      (λ list stands in_had. merkleized_in x after table opened h policy meta batch made low high bottom s list k in_had keeps same_store (λ chain above ws. fit list chain above ws stands) (λ chain above ws. did list chain above ws stands) sized
-      (get_or table h Gone) (slot_at s.table h) (k.slots h) e)
+    pub merkleize_ok : (x after : X) (table : List (Slot B M)) (opened : ℕ) (h : ℕ) (policy : P) (meta : Option Bytes) (batch : B) (made : M) (low high bottom : ℕ) (s : State)
+        → Holds members means (Database x) table opened s → ((l : List Operation) → means.stands x l → means.stands after l)
+        → IsUnchanged members (means.inside x) (means.inside after)
+        → AtBatch means x batch (λ list chain above ws. Fits means list chain)
+        → AtBatch means x batch (λ list chain above ws. IsOnChain list chain → let tip = tip_of means.scheme rules chain ws policy meta in (tip_refusal variable chain tip ≡ None) × means.is_merkleized made chain tip)
+        → ((chain : Chain) (tip : List Operation) → means.is_merkleized made chain tip → (low ≡ length chain.base) × (high ≡ length tip) × (bottom ≡ floor tip))
+        → writing_of (get_or table h Gone) ≡ Some batch
+        → Goes (Reply (replies.Merkleized h low high bottom)) (Database after) (set (set table h Gone) h (Merkleized made)) opened (machine.merkleize means.scheme rules s h policy meta)
+    merkleize_ok x after table opened h policy meta batch made low high bottom s k keeps same_store fit did sized e =
+        with_list members means x s.had s.database s (λ list. merkleize_in means.scheme rules s h policy meta list (slot_at s.table h)) (Goes (Reply (replies.Merkleized h low high bottom)) (Database after) (set (set table h Gone) h (Merkleized made)) opened) k.database
+        (λ list stands in_had. merkleized_in x after table opened h policy meta batch made low high bottom s list k in_had keeps same_store (λ chain above ws. fit list chain above ws stands) (λ chain above ws. did list chain above ws stands) sized
+        (get_or table h Gone) (slot_at s.table h) (k.slots h) e)
 
-  pub merkleize_err : (x after : X) (table : List (Slot B M)) (opened : ℕ) (h : ℕ) (policy : Policy) (meta : Option Bytes) (batch : B) (error : Error) (s : State)
-      → Holds members means (Database x) table opened s → ((l : List Operation) → means.stands x l → means.stands after l)
-      → IsUnchanged members (means.inside x) (means.inside after)
-      → (error ≡ errors.StaleBatch → AtBatch means x batch (λ list chain above ws. ¬ IsOnChain list chain))
-      → (error ≢ errors.StaleBatch → AtBatch means x batch (λ list chain above ws. IfSome (refusal_of error) (λ r. Fits means list chain
-      × (IsOnChain list chain → tip_refusal variable chain (tip_of means.scheme chain ws policy meta) ≡ Some r))))
-      → writing_of (get_or table h Gone) ≡ Some batch
-      → Goes (turn_of_error error) (Database after) (set table h Gone) opened (machine.merkleize means.scheme s h policy meta)
-  merkleize_err x after table opened h policy meta batch error s k keeps same_store stale why e =
-      by_error error _
-      (λ is_stale. with_list members means x s.had s.database s (λ list. merkleize_in means.scheme s h policy meta list (slot_at s.table h)) (Goes (Reply (replies.Refused refused.StaleBatch)) (Database after) (set table h Gone) opened) k.database
-      (λ list stands in_had. stale_in x after table opened h policy meta batch s list k in_had keeps same_store (λ chain above ws. stale is_stale list chain above ws stands)
-      (get_or table h Gone) (slot_at s.table h) (k.slots h) e))
-      (λ r other told. with_list members means x s.had s.database s (λ list. merkleize_in means.scheme s h policy meta list (slot_at s.table h)) (Goes (Reply (replies.Refused r)) (Database after) (set table h Gone) opened) k.database
-      (λ list stands in_had. too_large_in x after table opened h policy meta batch r s list k in_had (keeps, same_store)
-      (λ chain above ws is. subst (λ o. IfSome o (λ r. (fits root (commitment root list) chain ≡ true) × (IsOnChain list chain → tip_refusal variable chain (tip_of means.scheme chain ws policy meta) ≡ Some r))) told (why other list chain above ws stands is))
-      (get_or table h Gone) (slot_at s.table h) (k.slots h) e))
+    pub merkleize_err : (x after : X) (table : List (Slot B M)) (opened : ℕ) (h : ℕ) (policy : P) (meta : Option Bytes) (batch : B) (error : Error) (s : State)
+        → Holds members means (Database x) table opened s → ((l : List Operation) → means.stands x l → means.stands after l)
+        → IsUnchanged members (means.inside x) (means.inside after)
+        → (error ≡ errors.StaleBatch → AtBatch means x batch (λ list chain above ws. ¬ IsOnChain list chain))
+        → (error ≢ errors.StaleBatch → AtBatch means x batch (λ list chain above ws. IfSome (refusal_of error) (λ r. Fits means list chain
+        × (IsOnChain list chain → tip_refusal variable chain (tip_of means.scheme rules chain ws policy meta) ≡ Some r))))
+        → writing_of (get_or table h Gone) ≡ Some batch
+        → Goes (turn_of_error error) (Database after) (set table h Gone) opened (machine.merkleize means.scheme rules s h policy meta)
+    merkleize_err x after table opened h policy meta batch error s k keeps same_store stale why e =
+        by_error error _
+        (λ is_stale. with_list members means x s.had s.database s (λ list. merkleize_in means.scheme rules s h policy meta list (slot_at s.table h)) (Goes (Reply (replies.Refused refused.StaleBatch)) (Database after) (set table h Gone) opened) k.database
+        (λ list stands in_had. stale_in x after table opened h policy meta batch s list k in_had keeps same_store (λ chain above ws. stale is_stale list chain above ws stands)
+        (get_or table h Gone) (slot_at s.table h) (k.slots h) e))
+        (λ r other told. with_list members means x s.had s.database s (λ list. merkleize_in means.scheme rules s h policy meta list (slot_at s.table h)) (Goes (Reply (replies.Refused r)) (Database after) (set table h Gone) opened) k.database
+        (λ list stands in_had. too_large_in x after table opened h policy meta batch r s list k in_had (keeps, same_store)
+        (λ chain above ws is. subst (λ o. IfSome o (λ r. (fits root (commitment root list) chain ≡ true) × (IsOnChain list chain → tip_refusal variable chain (tip_of means.scheme rules chain ws policy meta) ≡ Some r))) told (why other list chain above ws stands is))
+        (get_or table h Gone) (slot_at s.table h) (k.slots h) e))
 
   -- an apply that was accepted
   applied_in : (x after : X) (table : List (Slot B M)) (opened : ℕ) (h : ℕ) (batch : M) (size : ℕ) (s : State) (list : List Operation)

@@ -4,9 +4,10 @@ ghost use Rattle.std.specs.Prelude.{◌≡◌, ◌≢◌, ◌+◌, ◌++◌, ◌
 ghost use Rattle.qm_model.specs.Causes.{Rose};
 ghost use Rattle.qm_model.specs.Batches.{Apart};
 ghost use Rattle.qm_machine.specs.Grammar.{line_of, commands_in, bad_in};
+ghost use Rattle.qm_model.specs.Policies.{policies};
 ghost use Rattle.qm_machine.specs.Machine as machine;
 ghost use Rattle.qm_machine.specs.Text.{reply_line};
-ghost use Rattle.qm_lines.specs.Views.{policy_view, line_view, answer_view};
+ghost use Rattle.qm_lines.specs.Views.{line_view, answer_view};
 ghost use Rattle.qm_store.specs.Given.{store_given};
 ghost use Rattle.qm_engine.specs.Session.{Stands, Leaves, IsLeft};
 ghost use Rattle.qm_model.specs.StoreModel.{beside_items};
@@ -16,7 +17,8 @@ use crate::engine::Engine;
 use crate::runs::begin;
 use crate::session::{Of, Turn, close};
 use crate::turns::turn;
-use qm_base::{ByteKey, ByteValue, Digest, Gate, Key, VariableValue};
+use qm_base::{ByteKey, ByteValue, Digest, Gate, Key, Twin, VariableValue};
+use qm_chain::Policy;
 use qm_lines::{AnyPolicy, Command, Reply, next_line, parse_line, reply_text};
 use qm_store::Store;
 use std::alloc::{AllocError, Global};
@@ -59,20 +61,20 @@ fn push_line<K: Key, V: VariableValue, D: Digest>(
 }
 
 // One command, whose answer goes behind the text. An ending tells why there is none.
-fn answer<X: Engine<C>, C: Store>(
+fn answer<X: Engine<C>, C: Store, P: Policy<X::Family, X::Key, X::Value> + Twin>(
     alloc: Global,
     config: &X::Config,
     session: Of<X, C>,
     text: &mut Vec<u8>,
-    command: &Command<X::Key, X::Value, AnyPolicy>,
+    command: &Command<X::Key, X::Value, P>,
 ) -> (Of<X, C>, Option<Ending>)
     requires { session.opened + 1 < 2 ^ 64 }
     ensures machine { (s : machine.State) → Stands C.Store X.Words session s → IfNone result.1
-        (let next = machine.turn X.scheme s (line_view X.Key.bytes X.Value.bytes policy_view command.now) in
+        (let next = machine.turn X.scheme P.rules s (line_view X.Key.bytes X.Value.bytes (λ p. p) command.now) in
         Apart X.scheme.root next.1.had → (text.new.items ≡ text.old.items ++ (reply_line next.0 ++ 10 ∷ []))
         × Stands C.Store X.Words result.0 next.1) }
     ensures left { Leaves C.Store X.Words session result.0
-        (λ s. machine.turn X.scheme s (line_view X.Key.bytes X.Value.bytes policy_view command.now)) }
+        (λ s. machine.turn X.scheme P.rules s (line_view X.Key.bytes X.Value.bytes (λ p. p) command.now)) }
     ensures kept { OnSome result.1 (text.new.items ≡ text.old.items) }
     ensures cause { IfSome result.1 (λ e. (e ≢ Ending.Done) × (e ≢ Ending.BadLine)) }
     ensures start { C.start (store_given X.inside result.0.held) ≡ C.start (store_given X.inside session.held) }
@@ -81,7 +83,7 @@ fn answer<X: Engine<C>, C: Store>(
     ensures fault { result.1 ≡ Some Ending.StoreFault → Rose (C.faults (store_given X.inside session.held)) (C.faults (store_given X.inside result.0.held)) }
     ensures opened { result.0.opened ≤ session.opened + 1 }
 {
-    let (session, turn) = turn::<X, C>(alloc, config, session, command);
+    let (session, turn) = turn::<X, C, P>(alloc, config, session, command);
     match turn {
         Turn::Memory => (session, Some(Ending::Memory)),
         Turn::StoreFault => (session, Some(Ending::StoreFault)),
@@ -102,11 +104,11 @@ fn answer_line<X: Engine<C, Key = ByteKey, Value = ByteValue>, C: Store>(
 ) -> (Of<X, C>, Option<Ending>)
     requires { session.opened + 1 < 2 ^ 64 }
     ensures machine { (s : machine.State) → Stands C.Store X.Words session s → IfNone result.1 (IfSome (line_of line.now) (λ command.
-        let next = machine.turn X.scheme s command in
+        let next = machine.turn X.scheme policies s command in
         Apart X.scheme.root next.1.had → (text.new.items ≡ text.old.items ++ (reply_line next.0 ++ 10 ∷ []))
         × Stands C.Store X.Words result.0 next.1)) }
     ensures left { (s : machine.State) → Stands C.Store X.Words session s → Apart X.scheme.root s.had
-        → IsLeft (C.told (store_given X.inside result.0.held)) s.store (after_line X.scheme s (line_of line.now)).store }
+        → IsLeft (C.told (store_given X.inside result.0.held)) s.store (after_line X.scheme policies s (line_of line.now)).store }
     ensures kept { OnSome result.1 (text.new.items ≡ text.old.items) }
     ensures command { IfNone result.1 (IsSome (line_of line.now)) }
     ensures unused { line_of line.now ≡ None → C.told (store_given X.inside result.0.held) ≡ C.told (store_given X.inside session.held) }
@@ -122,7 +124,7 @@ fn answer_line<X: Engine<C, Key = ByteKey, Value = ByteValue>, C: Store>(
     match parse_line(alloc, line) {
         Err(_) => (session, Some(Ending::Memory)),
         Ok(None) => (session, Some(Ending::BadLine)),
-        Ok(Some(command)) => answer::<X, C>(alloc, config, session, text, &command),
+        Ok(Some(command)) => answer::<X, C, AnyPolicy>(alloc, config, session, text, &command),
     }
 }
 
@@ -137,7 +139,7 @@ pub fn answer_lines<X: Engine<C, Key = ByteKey, Value = ByteValue>, C: Store, G:
     _gate: &G,
 ) -> Answered<C>
     ensures machine { IfSome (C.told store) (λ stored.
-        IsAnswered X.scheme stored (commands_in input.now) result.answered result.text.items (C.told result.store)) }
+        IsAnswered X.scheme policies stored (commands_in input.now) result.answered result.text.items (C.told result.store)) }
     ensures done { result.ending ≡ Ending.Done → (result.answered ≡ length (commands_in input.now)) × (bad_in input.now ≡ None) }
     ensures bad { result.ending ≡ Ending.BadLine → (result.answered ≡ length (commands_in input.now)) × (bad_in input.now ≡ Some (result.answered + 1)) }
     ensures short { result.ending ≡ Ending.StoreFault → result.answered < length (commands_in input.now) }

@@ -4,7 +4,7 @@ ghost use Rattle.std.specs.Prelude.{◌≡◌, ◌≢◌, ◌+◌, ◌++◌, ◌
 ghost use Rattle.qm_model.specs.Causes.{Rose};
 ghost use Rattle.qm_model.specs.Batches.{Apart};
 ghost use Rattle.qm_machine.specs.Machine as machine;
-ghost use Rattle.qm_lines.specs.Views.{policy_view, line_view, answer_view};
+ghost use Rattle.qm_lines.specs.Views.{line_view, answer_view};
 ghost use Rattle.qm_store.specs.Given.{store_given};
 ghost use Rattle.qm_engine.specs.Session.{Stands, Leaves};
 ghost use Rattle.qm_model.specs.StoreModel.{Stored, beside_items};
@@ -14,8 +14,9 @@ use crate::engine::Engine;
 use crate::session::{Of, Session, Turn, close};
 use crate::table::{Slot, push_slot};
 use crate::turns::turn;
-use qm_base::Gate;
-use qm_lines::{AnyPolicy, Command, Reply};
+use qm_base::{Gate, Twin};
+use qm_chain::Policy;
+use qm_lines::{Command, Reply};
 use qm_store::{Given, Store};
 use std::alloc::{AllocError, Global};
 
@@ -50,20 +51,20 @@ fn push_reply<K: Drop, V: Drop, D: Drop>(
 }
 
 // One command, whose reply goes last. An end tells why there is none.
-fn step<X: Engine<C>, C: Store>(
+fn step<X: Engine<C>, C: Store, P: Policy<X::Family, X::Key, X::Value> + Twin>(
     alloc: Global,
     config: &X::Config,
     session: Of<X, C>,
     replies: &mut Vec<Reply<X::Key, X::Value, X::Digest>>,
-    command: &Command<X::Key, X::Value, AnyPolicy>,
+    command: &Command<X::Key, X::Value, P>,
 ) -> (Of<X, C>, Option<End>)
     requires { session.opened + 1 < 2 ^ 64 }
     ensures machine { (s : machine.State) → Stands C.Store X.Words session s → IfNone result.1
-        (let next = machine.turn X.scheme s (line_view X.Key.bytes X.Value.bytes policy_view command.now) in
+        (let next = machine.turn X.scheme P.rules s (line_view X.Key.bytes X.Value.bytes (λ p. p) command.now) in
         Apart X.scheme.root next.1.had → (map (answer_view X.Key.bytes X.Value.bytes X.Digest.bytes) replies.new.items ≡ map (answer_view X.Key.bytes X.Value.bytes X.Digest.bytes) replies.old.items ++ next.0 ∷ [])
         × Stands C.Store X.Words result.0 next.1) }
     ensures left { Leaves C.Store X.Words session result.0
-        (λ s. machine.turn X.scheme s (line_view X.Key.bytes X.Value.bytes policy_view command.now)) }
+        (λ s. machine.turn X.scheme P.rules s (line_view X.Key.bytes X.Value.bytes (λ p. p) command.now)) }
     ensures grown { IfNone result.1 (length replies.new.items ≡ length replies.old.items + 1) }
     ensures kept { OnSome result.1 (replies.new.items ≡ replies.old.items) }
     ensures not_done { IfSome result.1 (λ e. e ≢ End.Done) }
@@ -73,7 +74,7 @@ fn step<X: Engine<C>, C: Store>(
     ensures fault { result.1 ≡ Some End.StoreFault → Rose (C.faults (store_given X.inside session.held)) (C.faults (store_given X.inside result.0.held)) }
     ensures opened { result.0.opened ≤ session.opened + 1 }
 {
-    let (session, turn) = turn::<X, C>(alloc, config, session, command);
+    let (session, turn) = turn::<X, C, P>(alloc, config, session, command);
     match turn {
         Turn::Memory => (session, Some(End::Memory)),
         Turn::StoreFault => (session, Some(End::StoreFault)),
@@ -104,15 +105,15 @@ pub(crate) fn begin<X: Engine<C>, C: Store>(alloc: Global, store: C) -> Result<O
 
 /// Runs the commands over the store, from no database, up to their end or to the first for which memory or the
 /// store fails. Accepted openings are numbered from 1, batches too. The gate holds the workers of an opening.
-pub fn run<X: Engine<C>, C: Store, G: Gate>(
+pub fn run<X: Engine<C>, C: Store, P: Policy<X::Family, X::Key, X::Value> + Twin, G: Gate>(
     alloc: Global,
     store: C,
     config: X::Config,
-    commands: &[Command<X::Key, X::Value, AnyPolicy>],
+    commands: &[Command<X::Key, X::Value, P>],
     _gate: &G,
 ) -> Outcome<X, C>
-    ensures machine { IfSome (C.told store) (λ stored. IsRun X.scheme stored
-        (map (line_view X.Key.bytes X.Value.bytes policy_view) commands.now) (map (answer_view X.Key.bytes X.Value.bytes X.Digest.bytes) result.replies.items) (C.told result.store)) }
+    ensures machine { IfSome (C.told store) (λ stored. IsRun X.scheme P.rules stored
+        (map (line_view X.Key.bytes X.Value.bytes (λ p. p)) commands.now) (map (answer_view X.Key.bytes X.Value.bytes X.Digest.bytes) result.replies.items) (C.told result.store)) }
     ensures done { result.end ≡ End.Done → length result.replies.items ≡ length commands.now }
     ensures short { result.end ≡ End.StoreFault → length result.replies.items < length commands.now }
     ensures start { C.start result.store ≡ C.start store }
@@ -132,7 +133,7 @@ pub fn run<X: Engine<C>, C: Store, G: Gate>(
         }
     };
     for command in commands {
-        let (next, ended) = step::<X, C>(alloc, &config, session, &mut replies, command);
+        let (next, ended) = step::<X, C, P>(alloc, &config, session, &mut replies, command);
         session = next;
         if let Some(end) = ended {
             return Outcome {

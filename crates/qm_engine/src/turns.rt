@@ -1,7 +1,7 @@
 // One command over what a run holds.
 ghost use Rattle.std.specs.Prelude.{◌≡◌, ◌+◌, ◌^◌, ◌<◌, ◌≤◌, IfOk, IfErr};
 ghost use Rattle.qm_machine.specs.Machine as machine;
-ghost use Rattle.qm_lines.specs.Views.{policy_view, line_view};
+ghost use Rattle.qm_lines.specs.Views.{line_view};
 ghost use Rattle.qm_store.specs.Given.{store_given};
 ghost use Rattle.qm_engine.specs.Session.{Obeys, Leaves, Uses};
 
@@ -13,7 +13,9 @@ use crate::engine::Engine;
 use crate::session::{Of, Session, Turn, turn_of};
 use batches::{apply, batch, child, del, merkleize, put, tip};
 use proofs::{batch_proof, pins, prove};
-use qm_lines::{AnyPolicy, Command, Refused, Reply};
+use qm_base::Twin;
+use qm_chain::Policy;
+use qm_lines::{Command, Refused, Reply};
 use qm_store::{Given, Refusal, Store};
 use reads::{batch_info, batch_root, info, meta, ops, read, read_key, root};
 use std::alloc::Global;
@@ -92,17 +94,17 @@ fn open<X: Engine<C>, C: Store>(
 
 /// One command: the machine's turn.
 #[tactic(auto, using(crate::proofs::Commands::left_none))]
-pub fn turn<X: Engine<C>, C: Store>(
+pub fn turn<X: Engine<C>, C: Store, P: Policy<X::Family, X::Key, X::Value> + Twin>(
     alloc: Global,
     config: &X::Config,
     mut session: Of<X, C>,
-    command: &Command<X::Key, X::Value, AnyPolicy>,
+    command: &Command<X::Key, X::Value, P>,
 ) -> (Of<X, C>, Turn<X::Key, X::Value, X::Digest>)
     requires { session.opened + 1 < 2 ^ 64 }
     ensures machine { Obeys C.Store X.Words X.Key.bytes X.Value.bytes X.Digest.bytes session result.0 result.1
-        (λ s. machine.turn X.scheme s (line_view X.Key.bytes X.Value.bytes policy_view command.now)) }
+        (λ s. machine.turn X.scheme P.rules s (line_view X.Key.bytes X.Value.bytes (λ p. p) command.now)) }
     ensures left { Leaves C.Store X.Words session result.0
-        (λ s. machine.turn X.scheme s (line_view X.Key.bytes X.Value.bytes policy_view command.now)) }
+        (λ s. machine.turn X.scheme P.rules s (line_view X.Key.bytes X.Value.bytes (λ p. p) command.now)) }
     ensures uses { Uses C.Store (store_given X.inside session.held) (store_given X.inside result.0.held) result.1 }
     ensures opened { result.0.opened ≤ session.opened + 1 }
 {
@@ -129,7 +131,7 @@ pub fn turn<X: Engine<C>, C: Store>(
             (session, turn)
         }
         Command::Merkleize(number, policy, metadata) => {
-            let turn = merkleize::<X, C>(alloc, &mut session, *number, policy, metadata);
+            let turn = merkleize::<X, C, P>(alloc, &mut session, *number, policy, metadata);
             (session, turn)
         }
         Command::Apply(number) => apply::<X, C>(alloc, session, *number),

@@ -24,17 +24,15 @@ use Rattle.qm_model.specs.Roots.{sha256_root, sha256_proof, sha256_pins}
 use Rattle.qm_model.specs.Trees.{leaf, peaks, inactive_peaks, leaf_digest, digest_of, root, leaves_from}
 use Rattle.qm_model.specs.Live.{floor}
 use Rattle.qm_model.specs.Proofs.{ops_proof, pins_at, proof_of}
-use Rattle.qm_model.specs.Policies.{Policy, proportional}
+use Rattle.qm_model.specs.Walk.{Rules}
 use Rattle.qm_model.specs.Writes.{Write}
 use Rattle.qm_model.proofs.Chains.{fits-on_chain, readable-known}
 use Rattle.qm_chain.specs.Bounds.{Bounds, IsBounds, is_at, knows}
 use Rattle.qm_chain.proofs.Fits.{at-fits, at-readable}
 use Rattle.qm_base.specs.declared.sha256.Sha256Digest.{Sha256Digest}
-use Rattle.qm_lines.specs.Views.{policy_view}
 use Rattle.qm_run.specs.Databases.{form, hashing}
-use Rattle.qm_lines.specs.declared.policy.AnyPolicy.{AnyPolicy}
-use Rattle.qm_lines.specs.declared.policy.AnyPolicy.TheVariants.{Proportional}
-use Rattle.qm_any.specs.Databases.{Database, IsLeft, Begun, Made, IsBegun, IsMade, is_on, list_commitment, stepped}
+use Rattle.qm_batch.specs.Views.{stepped}
+use Rattle.qm_any.specs.Databases.{Database, IsLeft, Begun, Made, IsBegun, IsMade, is_on, list_commitment}
 use Rattle.qm_any.specs.Layouts.{Hashing, list_root}
 use Rattle.qm_any.proofs.Known.{child-boundary, child-tips}
 use Rattle.qm_any.specs.Tips.{own_spellings, IsTaken, IsRefused}
@@ -199,10 +197,6 @@ appends-same list chain tip current made is batch =
     ap (λ b. if b then map (spelling variable) (drop current.size tip) else []) (at-made list chain tip current made is batch)
     ∙ ap (λ (n : ℕ). if fits (sha256_root mmr) (commitment (sha256_root mmr) list) chain then map (spelling variable) (drop n tip) else []) (ap (λ c. c.size) is)
 
--- the program's one policy
-pub only : (p : AnyPolicy) → policy_view p ≡ proportional
-only Proportional = refl
-
 pub proved : (ops : List Operation) (a b : ℕ) → ops_proof sha256 mmr form ops a b ≡ sha256_proof mmr ops a b
 unfolding sha256_proof
 proved ops a b = ap (λ ls. proof_of sha256 mmr ls (inactive_peaks mmr (length ops) (floor ops)) a b) (leaves-same 0 ops)
@@ -247,25 +241,25 @@ module _ (chain : Chain) (tip : List Operation) where
       either r told (inr read) = absurd (none-some r (sym (log-untold members old new e whole read) ∙ told))
 
 -- a merkleize's batch makes a tip that is not refused
-pub made-ok : {X E : Type 0} (r : Result X E) (made : X → Made Sha256Digest) (begun : Begun Sha256Digest) (policy : Policy) (meta : Option Bytes) (S : List Operation → Type 0)
-    → ((list : List Operation) (chain above : Chain) → S list → IsBegun hashing begun chain above → IsOnChain list chain → IfOk r (λ x. IsMade hashing (made x) chain (stepped chain.base begun.writes policy meta)))
-    → ((list : List Operation) (chain above : Chain) → S list → IsBegun hashing begun chain above → IsOnChain list chain → IfOk r (λ x. IsTaken form chain.base (stepped chain.base begun.writes policy meta)))
+pub made-ok : {P X E : Type 0} (rules : Rules P) (r : Result X E) (made : X → Made Sha256Digest) (begun : Begun Sha256Digest) (policy : P) (meta : Option Bytes) (S : List Operation → Type 0)
+    → ((list : List Operation) (chain above : Chain) → S list → IsBegun hashing begun chain above → IsOnChain list chain → IfOk r (λ x. IsMade hashing (made x) chain (stepped rules chain.base begun.writes policy meta)))
+    → ((list : List Operation) (chain above : Chain) → S list → IsBegun hashing begun chain above → IsOnChain list chain → IfOk r (λ x. IsTaken form chain.base (stepped rules chain.base begun.writes policy meta)))
     → IfOk r (λ x. (list : List Operation) (chain above : Chain) (ws : List Write) → S list → IsBegun hashing begun chain above × (begun.writes ≡ ws) → IsOnChain list chain
-    → (tip_refusal variable chain (stepped chain.base ws policy meta) ≡ None) × IsMade hashing (made x) chain (stepped chain.base ws policy meta))
-made-ok (Ok x) made begun policy meta S given taken = λ list chain above ws is batch on. (
-  taken-offered chain (stepped chain.base ws policy meta) (subst (λ w. IsTaken form chain.base (stepped chain.base w policy meta)) batch.1 (taken list chain above is batch.0 on)),
-  subst (λ w. IsMade hashing (made x) chain (stepped chain.base w policy meta)) batch.1 (given list chain above is batch.0 on),
+    → (tip_refusal variable chain (stepped rules chain.base ws policy meta) ≡ None) × IsMade hashing (made x) chain (stepped rules chain.base ws policy meta))
+made-ok rules (Ok x) made begun policy meta S given taken = λ list chain above ws is batch on. (
+  taken-offered chain (stepped rules chain.base ws policy meta) (subst (λ w. IsTaken form chain.base (stepped rules chain.base w policy meta)) batch.1 (taken list chain above is batch.0 on)),
+  subst (λ w. IsMade hashing (made x) chain (stepped rules chain.base w policy meta)) batch.1 (given list chain above is batch.0 on),
 )
-made-ok (Err e) made begun policy meta S given taken = tt
+made-ok rules (Err e) made begun policy meta S given taken = tt
 
 -- and one that fails is refused, or failed at the log
-pub made-err : {X : Type 0} (r : Result X Error) (begun : Begun Sha256Digest) (policy : Policy) (meta : Option Bytes) (R : Error → Type 0) (S : List Operation → Type 0)
-    → ((list : List Operation) (chain above : Chain) → S list → IsBegun hashing begun chain above → IsOnChain list chain → IfErr r (λ e. IsRefused form chain.base (stepped chain.base begun.writes policy meta) e ⊎ R e))
+pub made-err : {P X : Type 0} (rules : Rules P) (r : Result X Error) (begun : Begun Sha256Digest) (policy : P) (meta : Option Bytes) (R : Error → Type 0) (S : List Operation → Type 0)
+    → ((list : List Operation) (chain above : Chain) → S list → IsBegun hashing begun chain above → IsOnChain list chain → IfErr r (λ e. IsRefused form chain.base (stepped rules chain.base begun.writes policy meta) e ⊎ R e))
     → IfErr r (λ e. (list : List Operation) (chain above : Chain) (ws : List Write) → S list → IsBegun hashing begun chain above × (begun.writes ≡ ws) → IsOnChain list chain
-    → IsRefused form chain.base (stepped chain.base ws policy meta) e ⊎ R e)
-made-err (Ok x) begun policy meta R S given = tt
-made-err (Err e) begun policy meta R S given = λ list chain above ws is batch on.
-    subst (λ w. IsRefused form chain.base (stepped chain.base w policy meta) e ⊎ R e) batch.1 (given list chain above is batch.0 on)
+    → IsRefused form chain.base (stepped rules chain.base ws policy meta) e ⊎ R e)
+made-err rules (Ok x) begun policy meta R S given = tt
+made-err rules (Err e) begun policy meta R S given = λ list chain above ws is batch on.
+    subst (λ w. IsRefused form chain.base (stepped rules chain.base w policy meta) e ⊎ R e) batch.1 (given list chain above is batch.0 on)
 
 -- what a fault tells
 pub err-of : {X E : Type 0} (r : Result X E) (x : E) (P : Type 0) → IfErr r (λ e. e ≡ x → P) → IsErrOf r x → P

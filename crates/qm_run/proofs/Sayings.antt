@@ -4,6 +4,7 @@ use Rattle.std.proofs.lemmas.List.{take_all}
 use Rattle.qm_model.specs.Causes.{Grows, GrowsPart}
 use Rattle.qm_model.specs.Operations.{Bytes}
 use Rattle.qm_model.specs.StoreModel.{Stored}
+use Rattle.qm_model.specs.Policies.{policies}
 use Rattle.qm_machine.specs.Grammar.{commands_in, bad_in}
 use Rattle.qm_engine.specs.Answered.{IsAnswered}
 use Rattle.qm_run.specs.Program.{scheme, count, state, model_text, IsApart, bad_text, fault_text, IsPartial, Says}
@@ -53,7 +54,7 @@ module _ (stored : Stored) (input : Bytes) (rose : Type 0) where
   is_whole k Memory done bad fault short = tt
   is_whole k StoreFault done bad fault short = (fault refl, short refl)
 
-  module _ (text : Bytes) (k : ℕ) (left : Option Stored) (answered : IsAnswered scheme stored (commands_in input) k text left) where
+  module _ (text : Bytes) (k : ℕ) (left : Option Stored) (answered : IsAnswered scheme policies stored (commands_in input) k text left) where
     pub partial : (ending : Ending) → IsWhole k ending → (n : ℕ) → IsPartial stored input rose (take n (text ++ tail_text ending k)) left k
     partial Done is n = record { few = answered.few; part = λ apart. inl (n, rw append-nil (ap (take n) (answered.same apart))); store_left = answered.left }
     partial BadLine is n = record { few = answered.few; part = λ apart. inr (inr (k + 1, is.1, is.0, (n, ap (λ t. take n (t ++ bad_text (k + 1))) (answered.same apart)))); store_left = answered.left }

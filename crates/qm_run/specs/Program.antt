@@ -3,7 +3,7 @@ use Rattle.std.specs.Prelude.{◌≡◌, ◌≤◌, ◌<◌, ◌⊎◌, ℕ, suc
 use Rattle.qm_model.specs.Operations.{Bytes}
 use Rattle.qm_model.specs.StoreModel.{Stored}
 use Rattle.qm_model.specs.Live.{floor}
-use Rattle.qm_model.specs.Policies.{Policy, policies}
+use Rattle.qm_model.specs.Policies.{policies}
 use Rattle.qm_model.specs.Step.{unordered}
 use Rattle.qm_model.specs.Mmr.{mmr}
 use Rattle.qm_model.specs.Roots.{sha256_root, sha256_proof, sha256_pins}
@@ -24,8 +24,8 @@ are_words (a ∷ b ∷ c ∷ d ∷ []) = bytes_eq a (codes "run") && (bytes_eq b
 are_words (a ∷ b ∷ c ∷ d ∷ e ∷ ws) = false
 
 -- the machine of these words
-abbrev pub scheme : Scheme Policy
-scheme = record { kind = unordered; rules = policies; root = sha256_root mmr; boundary = floor; proof = sha256_proof mmr; pins = sha256_pins mmr }
+abbrev pub scheme : Scheme
+scheme = record { kind = unordered; root = sha256_root mmr; boundary = floor; proof = sha256_proof mmr; pins = sha256_pins mmr }
 
 abbrev pub bad_text : ℕ → Bytes
 bad_text n = codes "bad line " ++ (decimal n ++ 10 ∷ [])
@@ -45,11 +45,11 @@ module _ (stored : Stored) (input : Bytes) where
 
   -- the machine's state after the first k commands
   abbrev pub state : ℕ → State
-  state k = after scheme stored (commands_in input) k
+  state k = after scheme policies stored (commands_in input) k
 
   -- the text of the machine's answers to the first k commands
   abbrev pub model_text : ℕ → Bytes
-  model_text k = text_of (answers scheme (initial stored) (take k (commands_in input)))
+  model_text k = text_of (answers scheme policies (initial stored) (take k (commands_in input)))
 
   -- the lists of the machine's run over the first k commands are apart
   abbrev pub IsApart : ℕ → Type 0

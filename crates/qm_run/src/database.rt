@@ -9,14 +9,15 @@ ghost use Rattle.qm_run.specs.Program as program;
 use crate::listed::{listed, twin_option};
 use qm_any::batch::{MerkleizedBatch, UnmerkleizedBatch};
 use qm_any::db::Db;
-use qm_any::{Proportional, init};
+use qm_any::init;
 use qm_base::{
     ByteKey, ByteValue, Error, Location, Sha256, Sha256Digest, Unordered, VariableEncoding,
 };
+use qm_chain::Policy;
 use qm_engine::{BatchSizes, Engine, Numbers, Words};
 use qm_index::FourCap;
 use qm_index::unordered::Index;
-use qm_lines::{AnyPolicy, Listed};
+use qm_lines::Listed;
 use qm_merkle::mmr;
 use qm_proofs::Proof;
 use qm_store::{Given, Refusal, Store};
@@ -69,6 +70,8 @@ impl<C: Store> Words<C> for Database<C> {
 }
 
 impl<C: Store> Engine<C> for Database<C> {
+    type Family = mmr::Family;
+
     type Key = ByteKey;
 
     type Value = ByteValue;
@@ -135,19 +138,15 @@ impl<C: Store> Engine<C> for Database<C> {
         batch.write(key, None)
     }
 
-    fn merkleize(
+    fn merkleize<P: Policy<mmr::Family, ByteKey, ByteValue>>(
         &mut self,
         alloc: Global,
         batch: Self::Batch,
-        policy: &mut AnyPolicy,
+        policy: &mut P,
         metadata: &Option<ByteValue>,
     ) -> Result<Self::Merkleized, Error> {
         let metadata = twin_option(alloc, metadata)?;
-        match policy {
-            AnyPolicy::Proportional => {
-                batch.merkleize(alloc, &mut self.db, metadata, &mut Proportional)
-            }
-        }
+        batch.merkleize(alloc, &mut self.db, metadata, policy)
     }
 
     fn sizes(batch: &Self::Merkleized) -> BatchSizes {

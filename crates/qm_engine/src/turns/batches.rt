@@ -6,7 +6,6 @@ ghost use Rattle.qm_model.specs.Batches.{Chain, IsOnChain, fits};
 ghost use Rattle.qm_model.specs.Refusals.{tip_refusal};
 ghost use Rattle.qm_machine.specs.Machine.{State};
 ghost use Rattle.qm_machine.specs.Machine as machine;
-ghost use Rattle.qm_lines.specs.Views.{policy_view};
 ghost use Rattle.qm_store.specs.Given.{store_given, IsUnchanged, TellsAll};
 ghost use Rattle.qm_store.specs.Refusals.{refusal_of};
 ghost use Rattle.qm_engine.specs.Words.{AtBatch, Fits, ReadsOnly, tip_of};
@@ -16,7 +15,8 @@ use crate::engine::Engine;
 use crate::session::{Of, Session, Turn, turn_of};
 use crate::table::{Slot, merkleized_at, push_slot, put_slot, take_writing};
 use qm_base::{Error, JournalError, Twin};
-use qm_lines::{AnyPolicy, Refused, Reply};
+use qm_chain::Policy;
+use qm_lines::{Refused, Reply};
 use qm_store::{Given, Store};
 use std::alloc::{AllocError, Global};
 
@@ -174,21 +174,21 @@ pub fn del<X: Engine<C>, C: Store>(
 }
 
 // Merkleizes under a twin of the policy.
-fn merkleize_batch<X: Engine<C>, C: Store>(
+fn merkleize_batch<X: Engine<C>, C: Store, P: Policy<X::Family, X::Key, X::Value> + Twin>(
     alloc: Global,
     database: &mut X,
     batch: X::Batch,
-    policy: &AnyPolicy,
+    policy: &P,
     metadata: &Option<X::Value>,
 ) -> Result<X::Merkleized, Error>
     ensures fits { IfOk result (λ _. AtBatch X.Words database.old batch (λ list chain above ws. Fits X.Words list chain)) }
     ensures made { IfOk result (λ b. AtBatch X.Words database.old batch (λ list chain above ws. IsOnChain list chain
-        → let tip = tip_of X.scheme chain ws (policy_view policy.now) (option_map X.Value.bytes metadata.now) in
+        → let tip = tip_of X.scheme P.rules chain ws policy.now (option_map X.Value.bytes metadata.now) in
         (tip_refusal variable chain tip ≡ None) × X.is_merkleized b chain tip)) }
     ensures stale { IfErr result (λ e. e ≡ Error.StaleBatch → AtBatch X.Words database.old batch (λ list chain above ws. ¬ IsOnChain list chain)) }
     ensures refused { IfErr result (λ e. e ≢ Error.StaleBatch → TellsAll C.Store (X.inside database.old) → AtBatch X.Words database.old batch (λ list chain above ws.
         IfSome (refusal_of e) (λ r. Fits X.Words list chain
-        × (IsOnChain list chain → tip_refusal variable chain (tip_of X.scheme chain ws (policy_view policy.now) (option_map X.Value.bytes metadata.now)) ≡ Some r)))) }
+        × (IsOnChain list chain → tip_refusal variable chain (tip_of X.scheme P.rules chain ws policy.now (option_map X.Value.bytes metadata.now)) ≡ Some r)))) }
     ensures reads { ReadsOnly X.Words C.Store database.old database.new (IsErrOf result (Error.Journal JournalError.Store)) }
 {
     let mut policy = policy.twin(alloc)?;
@@ -196,15 +196,15 @@ fn merkleize_batch<X: Engine<C>, C: Store>(
 }
 
 /// Merkleizes a batch, which keeps its number.
-pub fn merkleize<X: Engine<C>, C: Store>(
+pub fn merkleize<X: Engine<C>, C: Store, P: Policy<X::Family, X::Key, X::Value> + Twin>(
     alloc: Global,
     session: &mut Of<X, C>,
     number: u64,
-    policy: &AnyPolicy,
+    policy: &P,
     metadata: &Option<X::Value>,
 ) -> Turn<X::Key, X::Value, X::Digest>
     ensures machine { Obeys C.Store X.Words X.Key.bytes X.Value.bytes X.Digest.bytes session.old session.new result
-        (λ s. machine.merkleize X.scheme s number (policy_view policy.now) (option_map X.Value.bytes metadata.now)) }
+        (λ s. machine.merkleize X.scheme P.rules s number policy.now (option_map X.Value.bytes metadata.now)) }
     ensures store { IsUnchanged C.Store (store_given X.inside session.old.held) (store_given X.inside session.new.held) }
     ensures uses { Uses C.Store (store_given X.inside session.old.held) (store_given X.inside session.new.held) result }
     ensures opened { session.new.opened ≡ session.old.opened }
@@ -215,7 +215,7 @@ pub fn merkleize<X: Engine<C>, C: Store>(
     let Some(batch) = take_writing(&mut session.table, number) else {
         return Turn::Reply(Reply::Refused(Refused::NoSuchHandle(number)));
     };
-    match merkleize_batch::<X, C>(alloc, x, batch, policy, metadata) {
+    match merkleize_batch::<X, C, P>(alloc, x, batch, policy, metadata) {
         Err(error) => turn_of(error),
         Ok(batch) => {
             let sizes = X::sizes(&batch);

@@ -2,23 +2,26 @@ use Rattle.std.proofs.Common.{◌≡◌, ◌++◌, ◌∷◌, [], Option, Some, 
 use Rattle.std.specs.Prelude.{IfNone}
 use Rattle.qm_model.specs.Batches.{Apart}
 use Rattle.qm_machine.specs.Grammar.{line_of}
-use Rattle.qm_machine.specs.Lines.{Line}
-use Rattle.qm_machine.specs.Machine.{turn}
-use Rattle.qm_model.specs.Policies.{Policy}
+use Rattle.qm_machine.specs.Lines.{Line, Answer}
+use Rattle.qm_machine.specs.Machine.{State, turn}
+use Rattle.qm_model.specs.Policies.{Policy, policies}
 use Rattle.qm_machine.specs.Text.{reply_line}
 use Rattle.qm_lines.specs.Parsed.{byte_line}
 use Rattle.qm_engine.specs.Session.{Holds, IsLeft}
 use Rattle.qm_store.specs.Given.{store_given}
 use Rattle.qm_engine.specs.Answered.{after_line}
 use Rattle.qm_engine.proofs.Commands.{left_none}
+use Rattle.qm_engine.proofs.Answerings.{same_turn}
 use Rattle.qm_engine.proofs.answers.answer_line.Goals as goal
 
 pub returns-in-Ok-Some-clause-machine : goal.returns-in-Ok-Some-clause-machine
 returns-in-Ok-Some-clause-machine g c = λ s k.
     let line : Some (byte_line c.in-Ok-Some.command) ≡ line_of c.args.line.now = rw c.in-Ok-Some.field-0-is at c.in-Ok-Some.ensures in
-    subst (λ (o : Option (Line Policy)). IfNone c.answer.result.1 (IfSome o (λ command. Apart g.X.Words.scheme.root (turn g.X.Words.scheme s command).1.had
-    → (c.answer.new.text.items ≡ c.args.text.now.items ++ (reply_line (turn g.X.Words.scheme s command).0 ++ 10 ∷ []))
-    × Holds g.C.Store g.X.Words c.answer.result.0.held c.answer.result.0.table.items c.answer.result.0.opened (turn g.X.Words.scheme s command).1))) line (c.answer.ensures.machine s k)
+    subst (λ (o : Option (Line Policy)). IfNone c.answer.result.1 (IfSome o (λ command. Apart g.X.Words.scheme.root (turn g.X.Words.scheme policies s command).1.had
+    → (c.answer.new.text.items ≡ c.args.text.now.items ++ (reply_line (turn g.X.Words.scheme policies s command).0 ++ 10 ∷ []))
+    × Holds g.C.Store g.X.Words c.answer.result.0.held c.answer.result.0.table.items c.answer.result.0.opened (turn g.X.Words.scheme policies s command).1))) line
+    (subst (λ (next : Answer × State). IfNone c.answer.result.1 (Apart g.X.Words.scheme.root next.1.had → (c.answer.new.text.items ≡ c.args.text.now.items ++ (reply_line next.0 ++ 10 ∷ []))
+    × Holds g.C.Store g.X.Words c.answer.result.0.held c.answer.result.0.table.items c.answer.result.0.opened next.1)) (same_turn g.X.Words.scheme s c.in-Ok-Some.command) (c.answer.ensures.machine s k))
 
 pub returns-in-Err-clause-left : goal.returns-in-Err-clause-left
 returns-in-Err-clause-left g c = λ s k apart. left_none s.store _ (g.C.Store.told (store_given g.X.Words.inside c.args.session.held)) k.store.told
@@ -29,4 +32,5 @@ returns-in-Ok-None-clause-left g c = λ s k apart. left_none s.store _ (g.C.Stor
 pub returns-in-Ok-Some-clause-left : goal.returns-in-Ok-Some-clause-left
 returns-in-Ok-Some-clause-left g c = λ s k apart.
     let line : Some (byte_line c.in-Ok-Some.command) ≡ line_of c.args.line.now = rw c.in-Ok-Some.field-0-is at c.in-Ok-Some.ensures in
-    subst (λ (o : Option (Line Policy)). IsLeft (g.C.Store.told (store_given g.X.Words.inside c.answer.result.0.held)) s.store (after_line g.X.Words.scheme s o).store) line (c.answer.ensures.left s k apart)
+    subst (λ (o : Option (Line Policy)). IsLeft (g.C.Store.told (store_given g.X.Words.inside c.answer.result.0.held)) s.store (after_line g.X.Words.scheme policies s o).store) line
+    (subst (λ (next : Answer × State). IsLeft (g.C.Store.told (store_given g.X.Words.inside c.answer.result.0.held)) s.store next.1.store) (same_turn g.X.Words.scheme s c.in-Ok-Some.command) (c.answer.ensures.left s k apart))

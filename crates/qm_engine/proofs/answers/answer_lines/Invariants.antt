@@ -1,5 +1,6 @@
 use Rattle.std.proofs.Common.{◌≡◌, ◌≤◌, ◌+◌, Some, take, length}
 use Rattle.qm_model.specs.Batches.{Apart}
+use Rattle.qm_model.specs.Policies.{policies}
 use Rattle.qm_machine.specs.Grammar.{commands_in}
 use Rattle.qm_model.specs.StoreModel.{Stored}
 use Rattle.qm_machine.specs.Machine.{initial, answers}
@@ -21,9 +22,9 @@ invariant-loop-line g l =
       beside : beside_items (g.C.Store.told (store_given g.X.Words.inside l.session.held)) ≡ beside_items (g.C.Store.told l.fn.store);
       later : g.C.Store.faults l.fn.store ≤ g.C.Store.faults (store_given g.X.Words.inside l.session.held);
       machine : (stored : Stored) → g.C.Store.told l.fn.store ≡ Some stored
-          → Apart g.X.Words.scheme.root (after g.X.Words.scheme stored (commands_in l.input) l.answered).had
-          → (l.text.items ≡ text_of (answers g.X.Words.scheme (initial stored) (take l.answered (commands_in l.input))))
-          × Holds g.C.Store g.X.Words l.session.held l.session.table.items l.session.opened (after g.X.Words.scheme stored (commands_in l.input) l.answered);
+          → Apart g.X.Words.scheme.root (after g.X.Words.scheme policies stored (commands_in l.input) l.answered).had
+          → (l.text.items ≡ text_of (answers g.X.Words.scheme policies (initial stored) (take l.answered (commands_in l.input))))
+          × Holds g.C.Store g.X.Words l.session.held l.session.table.items l.session.opened (after g.X.Words.scheme policies stored (commands_in l.input) l.answered);
     }
 
 abbrev pub decreases-loop-line : goal.decreases-loop-line

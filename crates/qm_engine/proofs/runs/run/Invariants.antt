@@ -2,7 +2,7 @@ use Rattle.std.proofs.Common.{◌≡◌, ◌≤◌, Some, map, take, length}
 use Rattle.qm_model.specs.Batches.{Apart}
 use Rattle.qm_model.specs.StoreModel.{Stored}
 use Rattle.qm_machine.specs.Machine.{initial, answers}
-use Rattle.qm_lines.specs.Views.{policy_view, line_view, answer_view}
+use Rattle.qm_lines.specs.Views.{line_view, answer_view}
 use Rattle.qm_store.specs.Given.{store_given}
 use Rattle.qm_model.specs.StoreModel.{beside_items}
 use Rattle.qm_engine.specs.Session.{Holds}
@@ -18,7 +18,7 @@ invariant-loop-command g l =
       beside : beside_items (g.C.Store.told (store_given g.X.Words.inside l.session.held)) ≡ beside_items (g.C.Store.told l.fn.store);
       later : g.C.Store.faults l.fn.store ≤ g.C.Store.faults (store_given g.X.Words.inside l.session.held);
       machine : (stored : Stored) → g.C.Store.told l.fn.store ≡ Some stored
-          → Apart g.X.Words.scheme.root (after g.X.Words.scheme stored (map (line_view g.X.Key.ByteString.bytes g.X.Value.ByteString.bytes policy_view) l.commands) l.command-index).had
-          → (map (answer_view g.X.Key.ByteString.bytes g.X.Value.ByteString.bytes g.X.Digest.Digest.bytes) l.replies.items ≡ answers g.X.Words.scheme (initial stored) (take l.command-index (map (line_view g.X.Key.ByteString.bytes g.X.Value.ByteString.bytes policy_view) l.commands)))
-          × Holds g.C.Store g.X.Words l.session.held l.session.table.items l.session.opened (after g.X.Words.scheme stored (map (line_view g.X.Key.ByteString.bytes g.X.Value.ByteString.bytes policy_view) l.commands) l.command-index);
+          → Apart g.X.Words.scheme.root (after g.X.Words.scheme g.P.Policy.rules stored (map (line_view g.X.Key.ByteString.bytes g.X.Value.ByteString.bytes (λ p. p)) l.commands) l.command-index).had
+          → (map (answer_view g.X.Key.ByteString.bytes g.X.Value.ByteString.bytes g.X.Digest.Digest.bytes) l.replies.items ≡ answers g.X.Words.scheme g.P.Policy.rules (initial stored) (take l.command-index (map (line_view g.X.Key.ByteString.bytes g.X.Value.ByteString.bytes (λ p. p)) l.commands)))
+          × Holds g.C.Store g.X.Words l.session.held l.session.table.items l.session.opened (after g.X.Words.scheme g.P.Policy.rules stored (map (line_view g.X.Key.ByteString.bytes g.X.Value.ByteString.bytes (λ p. p)) l.commands) l.command-index);
     }

@@ -1,17 +1,16 @@
 use Rattle.std.proofs.Common.{◌≡◌, ◌≤◌, suc, length, ◌∙◌, ap, sym, subst, IfOk, IfErr, option_map, ◌⊎◌}
 use Rattle.qm_model.proofs.Results.{err-both, err-then, ok-then}
 use Rattle.qm_model.specs.Batches.{IsOnChain}
-use Rattle.qm_model.specs.Policies.{proportional}
 use Rattle.qm_batch.specs.Lent.{IsReadError}
-use Rattle.qm_lines.specs.Views.{policy_view}
+use Rattle.qm_batch.specs.Views.{stepped}
 use Rattle.qm_base.specs.declared.sha256.Sha256Digest.{Sha256Digest}
-use Rattle.qm_any.specs.Databases.{Begun, IsDatabase, IsMade, stepped}
+use Rattle.qm_any.specs.Databases.{Begun, IsDatabase, IsMade}
 use Rattle.qm_any.specs.Tips.{IsTaken, IsRefused}
 use Rattle.qm_any.proofs.Reading.{left-database}
 use Rattle.qm_base.specs.declared.error.Error.TheVariants.{Journal}
 use Rattle.qm_base.specs.declared.error.JournalError.TheVariants.{Store}
 use Rattle.qm_run.specs.Databases.{form, hashing, layout}
-use Rattle.qm_run.proofs.Engines.{err-of, left-store, on-begun, off-chain, made-ok, made-err, refused-due, only}
+use Rattle.qm_run.proofs.Engines.{err-of, left-store, on-begun, off-chain, made-ok, made-err, refused-due}
 use Rattle.qm_run.proofs.database.DatabaseEngine.merkleize.Goals as goal
 
 pub returns-clause-fits : goal.returns-clause-fits
@@ -21,18 +20,18 @@ returns-clause-fits g c =
 
 pub returns-clause-made : goal.returns-clause-made
 returns-clause-made g c =
-    let policy = policy_view c.args.policy.now in
+    let rules = g.P.Policy.rules in
+    let policy = c.args.policy.now in
     let meta = option_map (λ v. v) c.args.metadata.now in
     let made = option_map (λ v. v) c.in_ok-metadata.metadata in
     let same : made ≡ meta = ap (option_map (λ v. v)) c.in_ok-metadata.ensures in
-    let one : proportional ≡ policy = sym (only c.args.policy.now) in
-    made-ok c.merkleize.result (λ b. b.value) c.args.batch policy meta (IsDatabase g.C.Store layout c.args.self.now.db)
+    made-ok rules c.merkleize.result (λ b. b.value) c.args.batch policy meta (IsDatabase g.C.Store layout c.args.self.now.db)
     (λ list chain above is begun on.
-    subst (λ m. IfOk c.merkleize.result (λ b. IsMade hashing b.value chain (stepped chain.base c.args.batch.writes policy m))) same
-    (subst (λ p. IfOk c.merkleize.result (λ b. IsMade hashing b.value chain (stepped chain.base c.args.batch.writes p made))) one (c.merkleize.ensures.made list chain above is begun on)))
+    subst (λ m. IfOk c.merkleize.result (λ b. IsMade hashing b.value chain (stepped rules chain.base c.args.batch.writes policy m))) same
+    (c.merkleize.ensures.made list chain above is begun on))
     (λ list chain above is begun on.
-    subst (λ m. IfOk c.merkleize.result (λ b. IsTaken form chain.base (stepped chain.base c.args.batch.writes policy m))) same
-    (subst (λ p. IfOk c.merkleize.result (λ b. IsTaken form chain.base (stepped chain.base c.args.batch.writes p made))) one (c.merkleize.ensures.taken list chain above is begun on)))
+    subst (λ m. IfOk c.merkleize.result (λ b. IsTaken form chain.base (stepped rules chain.base c.args.batch.writes policy m))) same
+    (c.merkleize.ensures.taken list chain above is begun on))
 
 pub returns-clause-stale : goal.returns-clause-stale
 returns-clause-stale g c =
@@ -41,20 +40,20 @@ returns-clause-stale g c =
 
 pub returns-clause-refused : goal.returns-clause-refused
 returns-clause-refused g c =
-    let policy = policy_view c.args.policy.now in
+    let rules = g.P.Policy.rules in
+    let policy = c.args.policy.now in
     let meta = option_map (λ v. v) c.args.metadata.now in
     let made = option_map (λ v. v) c.in_ok-metadata.metadata in
     let same : made ≡ meta = ap (option_map (λ v. v)) c.in_ok-metadata.ensures in
-    let one : proportional ≡ policy = sym (only c.args.policy.now) in
     let read = IsReadError g.C.Store c.args.self.now.db.log c.merkleize.new.db.log in
     err-both c.merkleize.result
-    (made-err c.merkleize.result c.args.batch policy meta read (IsDatabase g.C.Store layout c.args.self.now.db)
+    (made-err rules c.merkleize.result c.args.batch policy meta read (IsDatabase g.C.Store layout c.args.self.now.db)
     (λ list chain above is begun on.
-    subst (λ m. IfErr c.merkleize.result (λ e. IsRefused form chain.base (stepped chain.base c.args.batch.writes policy m) e ⊎ read e)) same
-    (subst (λ p. IfErr c.merkleize.result (λ e. IsRefused form chain.base (stepped chain.base c.args.batch.writes p made) e ⊎ read e)) one (c.merkleize.ensures.refused list chain above is begun on))))
+    subst (λ m. IfErr c.merkleize.result (λ e. IsRefused form chain.base (stepped rules chain.base c.args.batch.writes policy m) e ⊎ read e)) same
+    (c.merkleize.ensures.refused list chain above is begun on)))
     c.merkleize.ensures.order
     (λ e refused order fresh tells list chain above ws is batch.
-    refused-due chain (stepped chain.base ws policy meta) g.C.Store c.args.self.now.db.log c.merkleize.new.db.log _ (IsOnChain list chain) e fresh (is.lent.logged.start ∙ tells.0) (refused list chain above ws is batch)
+    refused-due chain (stepped rules chain.base ws policy meta) g.C.Store c.args.self.now.db.log c.merkleize.new.db.log _ (IsOnChain list chain) e fresh (is.lent.logged.start ∙ tells.0) (refused list chain above ws is batch)
     (λ memory. sym (on-begun list chain above c.args.self.now.db.commitment c.args.batch (subst (λ (b : Begun Sha256Digest). b.keep ≤ suc (length b.parent.bounds.ancestors)) c.batch.view_is c.batch.invariant) is.commitment batch.0) ∙ order memory fresh))
 
 pub returns-clause-reads : goal.returns-clause-reads

@@ -1,0 +1,71 @@
+-- The same commands, with policies under another name.
+use Rattle.std.proofs.Common.{◌≡◌, ℕ, List, cond, Option, Some, None, refl, ap}
+use Rattle.qm_model.specs.Operations.{Bytes, Operation}
+use Rattle.qm_model.specs.Walk.{Rules}
+use Rattle.qm_model.specs.Writes.{Write}
+use Rattle.qm_model.specs.Batches.{commitment, fits}
+use Rattle.qm_model.specs.Forms.{variable}
+use Rattle.qm_model.specs.Refused.{StaleBatch}
+use Rattle.qm_model.specs.Refusals.{tip_refusal}
+use Rattle.qm_model.specs.Step.{Kind, step}
+use Rattle.qm_machine.specs.Lines.{Line, Open, Batch, Child, Tip, Put, Del, Merkleize, Apply, Ops, Get, Many, Info, BatchInfo, Root, BatchRoot, BatchProof, Meta, Prove, Pins}
+use Rattle.qm_machine.specs.Machine.{Scheme, State, Slot, gone, writing, merkleized, slot_at, with_slot, with_database, refuse, merkleize_tip, merkleize_in, merkleize, turn}
+
+-- a line with its policy under this name
+abbrev pub relabelled : {P Q : Type 0} → (P → Q) → Line P → Line Q
+relabelled f Open = Open
+relabelled f Batch = Batch
+relabelled f (Child h keep) = Child h keep
+relabelled f Tip = Tip
+relabelled f (Put h key value) = Put h key value
+relabelled f (Del h key) = Del h key
+relabelled f (Merkleize h policy meta) = Merkleize h (f policy) meta
+relabelled f (Apply h) = Apply h
+relabelled f (Ops h) = Ops h
+relabelled f (Get key from) = Get key from
+relabelled f (Many keys from) = Many keys from
+relabelled f Info = Info
+relabelled f (BatchInfo h) = BatchInfo h
+relabelled f Root = Root
+relabelled f (BatchRoot h) = BatchRoot h
+relabelled f (BatchProof h) = BatchProof h
+relabelled f Meta = Meta
+relabelled f (Prove size start max) = Prove size start max
+relabelled f (Pins n) = Pins n
+
+-- where each policy makes the steps of its other name
+module _ {P Q : Type 0} (f : P → Q) (a : Rules P) (b : Rules Q)
+    (same : (kind : Kind) (ops : List Operation) (ws : List Write) (p : P) (meta : Option Bytes) → step kind a ops ws p meta ≡ step kind b ops ws (f p) meta) (m : Scheme) where
+  same_in : (s : State) (h : ℕ) (policy : P) (meta : Option Bytes) (list : List Operation) (slot : Slot) → merkleize_in m a s h policy meta list slot ≡ merkleize_in m b s h (f policy) meta list slot
+  same_in s h policy meta list (writing chain above ws) =
+      ap (λ tip. cond (fits m.root (commitment m.root list) chain) (merkleize_tip s h chain tip (tip_refusal variable chain tip)) (refuse (with_slot s h gone) StaleBatch)) (same m.kind chain.base ws policy meta)
+  same_in s h policy meta list gone = refl
+  same_in s h policy meta list (merkleized chain tip) = refl
+
+  same_merkleize : (s : State) (h : ℕ) (policy : P) (meta : Option Bytes) → merkleize m a s h policy meta ≡ merkleize m b s h (f policy) meta
+  same_merkleize s h policy meta = in_database s.database
+    where
+      in_database : (database : Option (List Operation)) → with_database s database (λ list. merkleize_in m a s h policy meta list (slot_at s.table h)) ≡ with_database s database (λ list. merkleize_in m b s h (f policy) meta list (slot_at s.table h))
+      in_database None = refl
+      in_database (Some list) = same_in s h policy meta list (slot_at s.table h)
+
+  pub turn_relabelled : (s : State) (line : Line P) → turn m a s line ≡ turn m b s (relabelled f line)
+  turn_relabelled s Open = refl
+  turn_relabelled s Batch = refl
+  turn_relabelled s (Child h keep) = refl
+  turn_relabelled s Tip = refl
+  turn_relabelled s (Put h key value) = refl
+  turn_relabelled s (Del h key) = refl
+  turn_relabelled s (Merkleize h policy meta) = same_merkleize s h policy meta
+  turn_relabelled s (Apply h) = refl
+  turn_relabelled s (Ops h) = refl
+  turn_relabelled s (Get key from) = refl
+  turn_relabelled s (Many keys from) = refl
+  turn_relabelled s Info = refl
+  turn_relabelled s (BatchInfo h) = refl
+  turn_relabelled s Root = refl
+  turn_relabelled s (BatchRoot h) = refl
+  turn_relabelled s (BatchProof h) = refl
+  turn_relabelled s Meta = refl
+  turn_relabelled s (Prove size start max) = refl
+  turn_relabelled s (Pins n) = refl
