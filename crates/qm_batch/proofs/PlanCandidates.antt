@@ -1,8 +1,8 @@
 -- What the activity bits of a list say of the live updates of a longer one.
-use Rattle.std.proofs.Common.{◌≡◌, ℕ, zero, suc, Bool, true, false, List, [], ◌∷◌, ◌++◌, drop, refl, ap, sym, ◌∙◌, Option, Some, None, add-one}
+use Rattle.std.proofs.Common.{◌≡◌, ℕ, zero, suc, Bool, true, false, List, [], ◌∷◌, ◌++◌, drop, refl, ap, ◌∙◌, Some, None, add-one}
 use Rattle.std.specs.Prelude.{slice_get, is_some, option_map, option_and_then, if◌then◌else◌, ◌||◌}
 use Rattle.std.proofs.lemmas.List.Folds.{list_any-append}
-use Rattle.qm_model.specs.Operations.{Bytes, Operation, update, delete, commit}
+use Rattle.qm_model.specs.Operations.{Operation, update, delete, commit}
 use Rattle.qm_model.specs.Live.{Live, live_at, touches, touched}
 use Rattle.qm_model.specs.Bits.{is_last, is_active, bits}
 use Rattle.qm_model.proofs.KeyOrder.{or-false}

@@ -249,7 +249,7 @@ all-kept : (k : Bytes) (es : List Live) → Each (λ u. bytes_eq k u.key ≡ fal
 all-kept k [] h = refl
 all-kept k (e ∷ es) h = ap (λ t. length (cond (not (t || false)) (e ∷ filter (λ u. not (bytes_eq k u.key || false)) es) (filter (λ u. not (bytes_eq k u.key || false)) es))) h.0 ∙ ap suc (all-kept k es h.1)
 
-one-dropped : (k : Bytes) (es : List Live) → AreApart es → is_some (live_of es k) ≡ true → suc (length (filter (λ u. not (bytes_eq k u.key || false)) es)) ≡ length es
+pub one-dropped : (k : Bytes) (es : List Live) → AreApart es → is_some (live_of es k) ≡ true → suc (length (filter (λ u. not (bytes_eq k u.key || false)) es)) ≡ length es
 one-dropped k [] apart h = absurd (true≢false (sym h))
 one-dropped k (e ∷ es) apart h = by (bytes_eq e.key k) refl h (one-dropped k es apart.1)
   where
