@@ -77,18 +77,15 @@ le-false : (a b : ℕ) → nat_le a b ≡ false → b < a
 le-false a b h = grind (arith, h)
 
 module _ {P F : Type 0} (rules : Rules P) (base list : List Operation) where
-  abbrev tip : ℕ
-  tip = max (floor base) (length list)
-
-  pub going-begins : (ds : List Decided) (w : Walk F) (p : P) (t e s : ℕ) → ds ≡ [] → t ≡ tip → w ≡ record { floor = floor base; end = min t (floor base + e + s); entries = e; skips = s } →
+  pub going-begins : (ds : List Decided) (w : Walk F) (p : P) (t e s : ℕ) → ds ≡ [] → t ≡ max (floor base) (length list) → w ≡ record { floor = floor base; end = min t (floor base + e + s); entries = e; skips = s } →
       IsGoing rules base list ds w p (walk rules list (floor base) (record { entries = e; skips = s }) p)
   going-begins ds w p t e s none top is =
-      subst (λ (w : Walk F). IsGoing rules base list ds w p (walk rules list (floor base) (record { entries = e; skips = s }) p)) (sym is)
-      (subst (λ ds. IsGoing rules base list ds (record { floor = floor base; end = min t (floor base + e + s); entries = e; skips = s }) p (walk rules list (floor base) (record { entries = e; skips = s }) p)) (sym none)
+      subst (λ (w : Walk F). IsGoing {F = F} rules base list ds w p (walk rules list (floor base) (record { entries = e; skips = s }) p)) (sym is)
+      (subst (λ ds. IsGoing {F = F} rules base list ds (record { floor = floor base; end = min t (floor base + e + s); entries = e; skips = s }) p (walk rules list (floor base) (record { entries = e; skips = s }) p)) (sym none)
       (record {
         from = All-nil (λ (d : Decided). d.before ≡ place_in base d.key);
         above = omega arith;
-        end = ap (λ n. min n (floor base + e + s)) top;
+        end = omega (arith, top);
         rest = refl;
       }))
 
@@ -100,7 +97,7 @@ module _ {P F : Type 0} (rules : Rules P) (base list : List Operation) where
     ends : (g : ℕ) (q : P) → left w.floor w.entries w.skips p ≡ ended g q → AreDecided base ds g q whole
     ends g q same = record {
       from = going.from;
-      whole = ap (λ us. record { floor = g; decisions = us; policy = q }) (sym (append-nil (map write_for ds))) ∙ ap (resumed (map write_for ds)) (sym same) ∙ going.rest;
+      makes = ap (λ us. record { floor = g; decisions = us; policy = q }) (sym (append-nil (map write_for ds))) ∙ ap (resumed (map write_for ds)) (sym same) ∙ going.rest;
     }
 
     pub going-spent : w.entries ≡ 0 → AreDecided base ds w.floor p whole
@@ -164,7 +161,7 @@ module _ {P F : Type 0} (rules : Rules P) (base list : List Operation) where
           enough : w.end - w.floor ≤ w.skips → AreDecided base ds next.floor p whole
           enough h = ⊎_elim before past (cases_lt w.floor (length list))
             where
-              top : w.end ≡ tip
+              top : w.end ≡ max (floor base) (length list)
               top = let end = going.end in omega (arith, h, some, low, end)
 
               before : w.floor < length list → AreDecided base ds next.floor p whole
@@ -243,3 +240,19 @@ module _ {P F : Type 0} (rules : Rules P) (base list : List Operation) where
             by stop same pushed true o is = cc
             by stop same pushed false o is =
                 subst (λ xs. AreDecided base xs next.floor q whole) (sym (pushed ∙ append-nil ds)) (subst (λ (x : Walk F). AreDecided base ds x.floor q whole) (sym is) (ends w.floor q same))
+
+-- how far a decided walk is
+pub passed : {F : Type 0} (on : Bool) (w next : Walk F) → next ≡ (if on then record w { floor = w.floor + 1; entries = w.entries - 1 } else w) → on ≡ true → next.floor ≡ w.floor + 1
+passed true w next is goes = ap (λ (x : Walk _). x.floor) is
+passed false w next is goes = cc
+
+-- the first of two facts, where it is chosen
+pub chosen : (b : Bool) {P Q R : Type 0} → MatchBool b P R → (b ≡ true → P → Q) → MatchBool b Q R
+chosen true h next = next refl h
+chosen false h next = h
+
+pub dead-none : (list : List Operation) (from to : ℕ) → to ≤ from → AreDead list from to
+dead-none list from to past = λ i low high. absurd (omega (arith, past, low, high))
+
+pub reached-at : (at f s next : ℕ) → f ≤ at → next ≡ min at (f + s) → nat_le (at - f) s ≡ true → next ≡ at
+reached-at at f s next low place h = let fits = le-true (at - f) s h in omega (arith, low, place, fits)

@@ -1,5 +1,5 @@
 -- Live updates of a base list and the operations of writes behind it.
-use Rattle.std.proofs.Common.{◌≡◌, ℕ, ◌+◌, ◌-◌, ◌≤◌, List, ◌++◌, length, map, drop, ap, sym, ◌∙◌, subst, Option, Some, None, arith, length-append}
+use Rattle.std.proofs.Common.{◌≡◌, ℕ, ◌+◌, ◌-◌, ◌≤◌, List, ◌++◌, length, map, drop, refl, ap, sym, ◌∙◌, subst, Option, Some, None, arith, length-append}
 use Rattle.std.specs.Prelude.{option_map, option_and_then, All, slice_get, IfSome}
 use Rattle.std.proofs.lemmas.List.{length-map}
 use Rattle.std.proofs.lemmas.Option.{same_Some, slice_get-map, slice_get_within, get_or_from_slice_get}

@@ -63,8 +63,11 @@ module _ {P : Type 0} (rules : Rules P) (policy next : P) (base : List Operation
   abbrev limits : Limits
   limits = rules.limits policy (made_inactive base writes)
 
-  module _ (are : AreDecided base ds end next (walk rules (base ++ writes) (floor base) limits policy)) where
-    decisions : List Operation
+  abbrev walked : Walked P
+  walked = walk rules (base ++ writes) (floor base) limits policy
+
+  module _ (are : AreDecided base ds end next walked) where
+    abbrev decisions : List Operation
     decisions = map operation_of (map write_for ds)
 
     own-operations : operations_of (made ++ map touch_for ds) ≡ writes ++ decisions
@@ -74,12 +77,16 @@ module _ {P : Type 0} (rules : Rules P) (policy next : P) (base : List Operation
 
     own-count : behind - count_by (λ d. is_none d.value) ds ≡ length (live (base ++ operations_of (made ++ map touch_for ds)))
     own-count =
-        let gone = count_decided rules (base ++ writes) (floor base) limits.entries limits.skips policy in
-        let same = ap (λ (x : Walked P). length (live ((base ++ writes) ++ map operation_of x.decisions)) + count_by (λ (d : Write). is_none d.value) x.decisions) are.whole in
+        let gone : length (live ((base ++ writes) ++ map operation_of walked.decisions)) + count_by (λ (d : Write). is_none d.value) walked.decisions ≡ length (live (base ++ writes)) =
+        count_decided rules (base ++ writes) (floor base) limits.entries limits.skips policy in
+        let same : length (live ((base ++ writes) ++ decisions)) ≡ length (live ((base ++ writes) ++ map operation_of walked.decisions)) =
+        ap (λ (x : Walked P). length (live ((base ++ writes) ++ map operation_of x.decisions))) are.makes in
+        let counts : count_by (λ (d : Write). is_none d.value) (map write_for ds) ≡ count_by (λ (d : Write). is_none d.value) walked.decisions =
+        ap (λ (x : Walked P). count_by (λ (d : Write). is_none d.value) x.decisions) are.makes in
         let shown : count_by (λ (d : Decided). is_none d.value) ds ≡ count_by (λ (d : Write). is_none d.value) (map write_for ds) = count-shown (λ (d : Write). is_none d.value) write_for ds in
         let list : length (live ((base ++ writes) ++ decisions)) ≡ length (live (base ++ operations_of (made ++ map touch_for ds))) =
         ap (λ ops. length (live ops)) (append_assoc base writes decisions ∙ ap (λ ops. base ++ ops) (sym own-operations)) in
-        omega (arith, gone, same, shown, list, counted)
+        omega (arith, gone, same, counts, shown, list, counted)
 
     pub are-own : AreOwn rules policy next (made ++ map touch_for ds) (behind - count_by (λ d. is_none d.value) ds) end base ws
     are-own = record {
@@ -88,8 +95,8 @@ module _ {P : Type 0} (rules : Rules P) (policy next : P) (base : List Operation
       count = own-count;
       list = λ meta.
           ap (λ ops. committed (base ++ ops) end meta) own-operations ∙ ap (λ ops. committed ops end meta) (sym (append_assoc base writes decisions))
-          ∙ ap (λ (x : Walked P). committed ((base ++ writes) ++ map operation_of x.decisions) x.floor meta) are.whole;
-      left = ap (λ (x : Walked P). x.policy) are.whole;
+          ∙ ap (λ (x : Walked P). committed ((base ++ writes) ++ map operation_of x.decisions) x.floor meta) are.makes;
+      left = ap (λ (x : Walked P). x.policy) are.makes;
     }
 
 -- the sites of the last writes

@@ -60,4 +60,4 @@ module _ {P : Type 0} where
   -- these are the decisions of this whole, with its end and the policy that it left
   pub record AreDecided (base : List Operation) (decided : List Decided) (end : ℕ) (policy : P) (whole : Walked P) : Type 0 where
     pub from : All (λ d. d.before ≡ place_in base d.key) decided
-    pub whole : record { floor = end; decisions = map write_for decided; policy = policy } ≡ whole
+    pub makes : record { floor = end; decisions = map write_for decided; policy = policy } ≡ whole

@@ -149,7 +149,7 @@ fn own_of<F, K: ByteString, V: ValueEncoding<K>>(
     walked: Walked<K, V::Value>,
     behind: u64,
 ) -> Result<Own<F, Unordered<K, V>>, AllocError>
-    ensures touches { IfOk result (λ own. unordered_touches K.bytes V.Value.bytes own.touches.items ≡ unordered_touches K.bytes V.Value.bytes touches.entry.items ++ map touch_for (decided_views K.bytes V.Value.bytes walked.decided.items)) }
+    ensures touches { IfOk result (λ own. unordered_touches K.bytes V.Value.bytes own.touches.items ≡ unordered_touches K.bytes V.Value.bytes touches.items ++ map touch_for (decided_views K.bytes V.Value.bytes walked.decided.items)) }
     ensures live { IfOk result (λ own. own.live ≡ behind - count_by (λ d. is_none d.value) walked.decided.items) }
     ensures floor { IfOk result (λ own. own.floor ≡ walked.floor) }
 {

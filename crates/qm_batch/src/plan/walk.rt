@@ -1,6 +1,6 @@
 //! The walk from the floor, over a base list and the operations of writes behind it.
 
-ghost use Rattle.std.specs.Prelude.{◌≡◌, ◌≢◌, ◌≤◌, ◌<◌, ◌+◌, ◌-◌, ◌^◌, ◌++◌, ◌==◌, ℕ, List, length, map, Option, option_map, slice_get, IfSome, IfOk, IfErr, MatchBool, MatchOption, OnOk, None, Some, option_to_list, is_some, if◌then◌else◌};
+ghost use Rattle.std.specs.Prelude.{◌≡◌, ◌≢◌, true, ◌≤◌, ◌<◌, ◌+◌, ◌-◌, ◌^◌, ◌++◌, ◌==◌, ℕ, List, length, map, Option, option_map, slice_get, IfSome, IfOk, IfErr, MatchBool, MatchOption, OnOk, None, Some, option_to_list, is_some, if◌then◌else◌};
 ghost use Rattle.std.specs.List.{list_any};
 ghost use Rattle.qm_base.specs.Parts.{update_key};
 ghost use Rattle.qm_base.specs.Views.{operation_view};
@@ -40,12 +40,12 @@ const ROUND: usize = 1_024;
 /// What a walk goes over: a base list, and the operations that the last writes put behind it. Index and candidates are lent
 /// for the base list or one on the way to it.
 #[derive(Drop)]
-pub(crate) struct Path<'a, 'b, 'w, F, I, B, U: Update> {
+pub(crate) struct Path<'a, 'b, 'l, 'w, F, I, B, U: Update> {
     pub(crate) index: &'a I,
     pub(crate) candidates: &'a B,
     pub(crate) base: &'a Base<'b, F, U>,
-    pub(crate) last: &'a Last<'w, U::Key, U::Value>,
-    pub(crate) made: &'a [Touch<F, U>],
+    pub(crate) last: &'l Last<'w, U::Key, U::Value>,
+    pub(crate) made: &'l [Touch<F, U>],
 }
 
 /// What a walk decided, and where it ended.
@@ -226,7 +226,7 @@ fn live_at<
     U: Update,
 >(
     alloc: Global,
-    path: &Path<'_, '_, '_, F, I, B, U>,
+    path: &Path<'_, '_, '_, '_, F, I, B, U>,
     log: &mut AuthLog<F, C, H>,
     at: u64,
 ) -> Result<Option<Found<U>>, Error>
@@ -259,9 +259,8 @@ fn ask<F, K: ByteString, V: ByteString, P: Policy<F, K, V>>(
     key: &K,
     value: V,
 ) -> Result<Action<V>, AllocError>
-    ensures action { IfOk result (λ action. action_view V.bytes action ≡ (P.rules.decide policy.old at (K.bytes key.now) (V.bytes value.entry)).0) }
-    ensures low { IfOk result (λ _. going.old.walk.floor ≤ going.new.walk.floor) }
-    ensures next { IfOk result (λ _. policy.new ≡ (P.rules.decide policy.old at (K.bytes key.now) (V.bytes value.entry)).1) }
+    ensures action { IfOk result (λ action. action_view V.bytes action ≡ (P.rules.decide policy.old at (K.bytes key.now) (V.bytes value)).0) }
+    ensures next { IfOk result (λ _. policy.new ≡ (P.rules.decide policy.old at (K.bytes key.now) (V.bytes value)).1) }
 {
     let decision = policy.decide(alloc, Entry::new(at, key, value))?;
     Ok(decision.into_action())
@@ -287,8 +286,8 @@ fn note<F, K: ByteString, V: ByteString>(
 ) -> Result<bool, AllocError>
     requires entries { 0 < going.old.walk.entries }
     requires floor { going.old.walk.floor < 2 ^ 64 - 1 }
-    ensures goes { IfOk result (λ goes. goes ≡ is_some (decided_for (K.bytes key) before.entry (action_view V.bytes action))) }
-    ensures decided { IfOk result (λ _. decided_views K.bytes V.bytes going.new.decided.items ≡ decided_views K.bytes V.bytes going.old.decided.items ++ option_to_list (decided_for (K.bytes key) before.entry (action_view V.bytes action))) }
+    ensures goes { IfOk result (λ goes. goes ≡ is_some (decided_for (K.bytes key) before (action_view V.bytes action))) }
+    ensures decided { IfOk result (λ _. decided_views K.bytes V.bytes going.new.decided.items ≡ decided_views K.bytes V.bytes going.old.decided.items ++ option_to_list (decided_for (K.bytes key) before (action_view V.bytes action))) }
     ensures walk { IfOk result (λ goes. going.new.walk ≡ (if goes then record going.old.walk { floor = going.old.walk.floor + 1; entries = going.old.walk.entries - 1 } else going.old.walk)) }
 {
     let Some(value) = value_of(action) else {
@@ -308,11 +307,12 @@ fn decide<F, U: Update, P: Policy<F, U::Key, U::Value>>(
 ) -> Result<bool, AllocError>
     requires entries { 0 < going.old.walk.entries }
     requires floor { going.old.walk.floor < 2 ^ 64 - 1 }
-    ensures value { IfOk result (λ goes. (base list : List model.Operation) (all : walks.Walked P) → IsMoveAt (Some (found_view U.view found.entry)) base list going.old.walk.floor
+    ensures value { IfOk result (λ goes. (base list : List model.Operation) (all : walks.Walked P) → IsMoveAt (Some (found_view U.view found)) base list going.old.walk.floor
         → IsGoing P.rules base list (decided_views U.Key.bytes U.Value.bytes going.old.decided.items) going.old.walk policy.old all
         → MatchBool goes (IsGoing P.rules base list (decided_views U.Key.bytes U.Value.bytes going.new.decided.items) going.new.walk policy.new all) (AreDecided base (decided_views U.Key.bytes U.Value.bytes going.new.decided.items) going.new.walk.floor policy.new all)) }
     ensures low { IfOk result (λ _. going.old.walk.floor ≤ going.new.walk.floor) }
     ensures high { IfOk result (λ _. going.new.walk.floor ≤ going.old.walk.floor + 1) }
+    ensures passed { IfOk result (λ goes. goes ≡ true → going.new.walk.floor ≡ going.old.walk.floor + 1) }
     ensures end { IfOk result (λ _. going.new.walk.end ≡ going.old.walk.end) }
 {
     let Found { update, before } = found;
@@ -333,7 +333,7 @@ fn visit<
     P: Policy<F, U::Key, U::Value>,
 >(
     alloc: Global,
-    path: &Path<'_, '_, '_, F, I, B, U>,
+    path: &Path<'_, '_, '_, '_, F, I, B, U>,
     log: &mut AuthLog<F, C, H>,
     policy: &mut P,
     going: &mut Going<F, U::Key, U::Value>,
@@ -353,6 +353,7 @@ fn visit<
     ensures error { IfErr result (IsReadError C.Store log.old log.new) }
     ensures pruned { log.old.tree.start ≤ at → IfErr result (λ e. (n : ℕ) → e ≢ Error.Journal (JournalError.ItemPruned n)) }
 {
+    prove!(at < going.walk.end.get());
     if going.walk.entries == 0 {
         return Ok(false);
     }
@@ -376,7 +377,7 @@ fn visit_all<
     P: Policy<F, U::Key, U::Value>,
 >(
     alloc: Global,
-    path: &Path<'_, '_, '_, F, I, B, U>,
+    path: &Path<'_, '_, '_, '_, F, I, B, U>,
     log: &mut AuthLog<F, C, H>,
     policy: &mut P,
     going: &mut Going<F, U::Key, U::Value>,
@@ -414,7 +415,7 @@ fn walk_round<
     P: Policy<F, U::Key, U::Value>,
 >(
     alloc: Global,
-    path: &Path<'_, '_, '_, F, I, B, U>,
+    path: &Path<'_, '_, '_, '_, F, I, B, U>,
     log: &mut AuthLog<F, C, H>,
     policy: &mut P,
     going: &mut Going<F, U::Key, U::Value>,
@@ -460,7 +461,7 @@ fn walk_on<
     P: Policy<F, U::Key, U::Value>,
 >(
     alloc: Global,
-    path: &Path<'_, '_, '_, F, I, B, U>,
+    path: &Path<'_, '_, '_, '_, F, I, B, U>,
     log: &mut AuthLog<F, C, H>,
     policy: &mut P,
     going: &mut Going<F, U::Key, U::Value>,
@@ -498,7 +499,7 @@ pub(crate) fn walk_from<
     P: Policy<F, U::Key, U::Value>,
 >(
     alloc: Global,
-    path: &Path<'_, '_, '_, F, I, B, U>,
+    path: &Path<'_, '_, '_, '_, F, I, B, U>,
     log: &mut AuthLog<F, C, H>,
     policy: &mut P,
     limits: Limits,

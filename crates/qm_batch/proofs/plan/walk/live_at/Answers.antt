@@ -16,7 +16,7 @@ returns-in_ok-again-in-Some-clause-value g c = λ lent base ws is on.
     let made = c.args.path.now.made.now in
     let before = c.args.path.now.base.now.size in
     told-any _ (g.C.Store.told c.args.log.now.store)
-    (again-is base ws c.args.at (omega (arith, size, c.if-base-at.true)) (touch_views g.U.Update.view g.U.Key.ByteString.bytes g.U.Value.ByteString.bytes made) on.made (view c.in-Some.touch.now) _
+    (again-is base ws c.args.at (omega (arith, size, c.if-path-at.true)) (touch_views g.U.Update.view g.U.Key.ByteString.bytes g.U.Value.ByteString.bytes made) on.made (view c.in-Some.touch.now) _
     (got-one view c.get.result made (c.args.at - before) (c.args.at - length base) c.in-Some.touch c.get.ensures.lookup c.in-Some.is (ap (λ n. c.args.at - n) size))
     (shown-operation (found_view g.U.Update.view) found ∙ c.in_ok-again-in-Some.ensures.operation) (shown-each (found_view g.U.Update.view) found _ c.in_ok-again-in-Some.ensures.before))
 
@@ -27,19 +27,19 @@ returns-in-None-clause-value g c = λ lent base ws is on.
     let made = c.args.path.now.made.now in
     let before = c.args.path.now.base.now.size in
     told-any _ (g.C.Store.told c.args.log.now.store)
-    (again-none base ws c.args.at (omega (arith, size, c.if-base-at.true)) (touch_views g.U.Update.view g.U.Key.ByteString.bytes g.U.Value.ByteString.bytes made) on.made
+    (again-none base ws c.args.at (omega (arith, size, c.if-path-at.true)) (touch_views g.U.Update.view g.U.Key.ByteString.bytes g.U.Value.ByteString.bytes made) on.made
     (got-none view c.get.result made (c.args.at - before) (c.args.at - length base) c.get.ensures.lookup c.in-None.is (ap (λ n. c.args.at - n) size)))
 
 pub returns-in-Some-2-clause-value : goal.returns-in-Some-2-clause-value
 returns-in-Some-2-clause-value g c = λ lent base ws is on.
     let size = (on.known).size in
     let list = base ++ unordered_writes base ws in
-    told-one _ _ (g.C.Store.told c.args.log.now.store) (c.in_ok-update.ensures.value lent base ws is (on.known).leads (omega (arith, size, c.if-base-at.false)) on.last) (λ standing.
+    told-one _ _ (g.C.Store.told c.args.log.now.store) (c.in_ok-update.ensures.value lent base ws is (on.known).leads (omega (arith, size, c.if-path-at.false)) on.last) (λ standing.
     subst (λ found. IsMoveAt (option_map (λ u. moved_touch (c.args.at, g.U.Update.view u)) found) base list c.args.at) c.in-Some-2.is standing)
 
 pub returns-in-None-2-clause-value : goal.returns-in-None-2-clause-value
 returns-in-None-2-clause-value g c = λ lent base ws is on.
     let size = (on.known).size in
     let list = base ++ unordered_writes base ws in
-    told-one _ _ (g.C.Store.told c.args.log.now.store) (c.in_ok-update.ensures.value lent base ws is (on.known).leads (omega (arith, size, c.if-base-at.false)) on.last) (λ standing.
+    told-one _ _ (g.C.Store.told c.args.log.now.store) (c.in_ok-update.ensures.value lent base ws is (on.known).leads (omega (arith, size, c.if-path-at.false)) on.last) (λ standing.
     subst (λ found. IsMoveAt (option_map (λ u. moved_touch (c.args.at, g.U.Update.view u)) found) base list c.args.at) c.in-None-2.is standing)
