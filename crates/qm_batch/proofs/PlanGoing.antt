@@ -181,6 +181,12 @@ module _ {P F : Type 0} (rules : Rules P) (base list : List Operation) where
                   let here : w.floor ≡ next.floor = omega (arith, above, over, top, low, place) in
                   ends next.floor p (at_end rules list w.floor w.entries w.skips p over ∙ ap (λ n. ended n p) here)
 
+    -- the walk is at its end
+    pub going-finished : (next : Walk F) → w.floor ≤ w.end → AreDead list w.floor w.end → (w.entries ≡ 0 → next.floor ≡ w.floor) → (0 < w.entries → next.floor ≡ min w.end (w.floor + w.skips)) → AreDecided base ds next.floor p whole
+    going-finished next low dead none some =
+        ⊎_elim (λ more. going-exhausted more next low dead (some more)) (λ h. let is : w.entries ≡ 0 = omega (arith, h) in subst (λ n. AreDecided base ds n p whole) (sym (none is)) (going-spent is)) (cases_lt 0 w.entries)
+
+    module _ (some : 0 < w.entries) where
       -- the policy has decided the live update at the floor
       module _ (t : Touch) (move : IsMoveAt (Some t) base list w.floor) (key value : Bytes) (is_key : key_of t.operation ≡ Some key) (is_value : value_of t.operation ≡ Some value)
           (action : Action) (q : P) (answer : rules.decide p w.floor key value ≡ (action, q)) where
@@ -197,7 +203,7 @@ module _ {P F : Type 0} (rules : Rules P) (base list : List Operation) where
 
         onward : left w.floor w.entries w.skips p ≡ decided (λ f e s p. left f e s p) w.floor (w.entries - 1) w.skips key (action, q)
         onward =
-            more w.floor w.skips
+            more some w.floor w.skips
             ∙ decides rules list w.floor (w.entries - 1) w.skips p key value entry.0 (sym move.operation ∙ ap (λ op. Some op) entry.1)
             ∙ ap (λ a. decided (λ f e s p. left f e s p) w.floor (w.entries - 1) w.skips key a) answer
 
@@ -247,9 +253,9 @@ passed true w next is goes = ap (λ (x : Walk _). x.floor) is
 passed false w next is goes = cc
 
 -- the first of two facts, where it is chosen
-pub chosen : (b : Bool) {P Q R : Type 0} → MatchBool b P R → (b ≡ true → P → Q) → MatchBool b Q R
-chosen true h next = next refl h
-chosen false h next = h
+pub chosen : (b : Bool) (P Q R : Type 0) → MatchBool b P R → (b ≡ true → P → Q) → MatchBool b Q R
+chosen true P Q R h next = next refl h
+chosen false P Q R h next = h
 
 pub dead-none : (list : List Operation) (from to : ℕ) → to ≤ from → AreDead list from to
 dead-none list from to past = λ i low high. absurd (omega (arith, past, low, high))

@@ -1,6 +1,6 @@
 //! The walk from the floor, over a base list and the operations of writes behind it.
 
-ghost use Rattle.std.specs.Prelude.{◌≡◌, ◌≢◌, true, ◌≤◌, ◌<◌, ◌+◌, ◌-◌, ◌^◌, ◌++◌, ◌==◌, ℕ, List, length, map, Option, option_map, slice_get, IfSome, IfOk, IfErr, MatchBool, MatchOption, OnOk, None, Some, option_to_list, is_some, if◌then◌else◌};
+ghost use Rattle.std.specs.Prelude.{◌≡◌, ◌≢◌, true, ◌≤◌, ◌<◌, ◌+◌, ◌-◌, ◌^◌, ◌++◌, ◌==◌, ℕ, min, List, length, map, Option, option_map, slice_get, IfSome, IfOk, IfErr, MatchBool, MatchOption, OnOk, None, Some, option_to_list, is_some, if◌then◌else◌};
 ghost use Rattle.std.specs.List.{list_any};
 ghost use Rattle.qm_base.specs.Parts.{update_key};
 ghost use Rattle.qm_base.specs.Views.{operation_view};
@@ -397,7 +397,8 @@ fn visit_all<
     ensures pruned { log.old.tree.start ≤ going.old.walk.floor → IfErr result (λ e. (n : ℕ) → e ≢ Error.Journal (JournalError.ItemPruned n)) }
 {
     for at in round {
-        if !visit(alloc, path, log, policy, going, at.get())? {
+        let goes = visit(alloc, path, log, policy, going, at.get())?;
+        if !goes {
             return Ok(false);
         }
     }
@@ -443,11 +444,20 @@ fn walk_round<
         ROUND,
         &mut round,
     )?;
-    if visit_all(alloc, path, log, policy, going, &round)? {
-        Ok(Some(next))
-    } else {
-        Ok(None)
+    let goes = visit_all(alloc, path, log, policy, going, &round)?;
+    if goes { Ok(Some(next)) } else { Ok(None) }
+}
+
+// Passes what is left where no live update is, if the walk may still decide one.
+fn finish<F>(walk: &mut Walk<F>)
+    requires { walk.old.floor ≤ walk.old.end }
+    ensures none { walk.old.entries ≡ 0 → walk.new.floor ≡ walk.old.floor }
+    ensures some { 0 < walk.old.entries → walk.new.floor ≡ min walk.old.end (walk.old.floor + walk.old.skips) }
+{
+    if walk.entries == 0 {
+        return;
     }
+    walk.exhaust();
 }
 
 // Walks to the end of the course, or to where the walk ends before.
@@ -475,16 +485,16 @@ fn walk_on<
     ensures pruned { log.old.tree.start ≤ going.old.walk.floor → IfErr result (λ e. (n : ℕ) → e ≢ Error.Journal (JournalError.ItemPruned n)) }
 {
     let end = going.walk.end.get();
-    let mut from = going.walk.floor.get();
+    let floor = going.walk.floor.get();
+    let mut from = floor;
     while from < end {
-        match walk_round(alloc, path, log, policy, going, Location::new(from))? {
-            Some(next) => from = next.get(),
-            None => return Ok(()),
-        }
+        let next = walk_round(alloc, path, log, policy, going, Location::new(from))?;
+        let Some(next) = next else {
+            return Ok(());
+        };
+        from = next.get();
     }
-    if going.walk.entries > 0 {
-        going.walk.exhaust();
-    }
+    finish(&mut going.walk);
     Ok(())
 }
 

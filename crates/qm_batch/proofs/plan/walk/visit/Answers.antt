@@ -45,7 +45,7 @@ returns-in_ok-decide-in-Some-clause-value g c = λ lent base ws all is on dead g
     (c.reach.ensures.rest ∙ ap (λ n. record w { floor = next.floor; skips = w.skips - (n - w.floor) }) c.new.ensures) fits in
     told-one _ _ (g.C.Store.told c.args.log.now.store) (c.in_ok-found.ensures.value lent base ws is on) (λ move.
     let there = subst (λ n. IsMoveAt (Some (found_view g.U.Update.view c.in-Some.found)) base list n) (sym here) (subst (λ found. IsMoveAt (option_map (found_view g.U.Update.view) found) base list c.args.at) c.in-Some.is move) in
-    chosen c.in_ok-decide-in-Some.field-0 (c.in_ok-decide-in-Some.ensures.value base list all there come) (λ goes on_way.
+    chosen c.in_ok-decide-in-Some.field-0 _ _ _ (c.in_ok-decide-in-Some.ensures.value base list all there come) (λ goes on_way.
     let past = c.in_ok-decide-in-Some.ensures.passed goes in
     let beyond : c.args.at + 1 ≤ c.decide.new.going.walk.floor = omega (arith, past, here) in
     (dead-none list c.decide.new.going.walk.floor (c.args.at + 1) beyond, on_way)))
