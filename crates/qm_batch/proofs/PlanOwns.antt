@@ -1,6 +1,6 @@
 -- The own operations of a step: those of its writes, and those of what was decided behind them.
-use Rattle.std.proofs.Common.{◌≡◌, ℕ, Bool, ◌+◌, ◌-◌, cond, List, [], ◌∷◌, ◌++◌, length, length-append, map, count_by, refl, ap, ap₂, sym, ◌∙◌, subst, Option, arith, append_assoc}
-use Rattle.std.specs.Prelude.{is_none, is_some, All}
+use Rattle.std.proofs.Common.{◌≡◌, ℕ, Bool, ◌+◌, ◌-◌, cond, List, [], ◌∷◌, ◌++◌, length, length-append, map, count_by, refl, ap, ap₂, sym, ◌∙◌, subst, Option, None, Some, arith, append_assoc}
+use Rattle.std.specs.Prelude.{is_none, is_some, option_map, All}
 use Rattle.std.specs.List.{AllByRecursion as Each}
 use Rattle.std.proofs.lemmas.List.{map-append, length-map}
 use Rattle.std.proofs.lemmas.List.Sums.{sum_by-cons}
@@ -14,7 +14,8 @@ use Rattle.qm_model.specs.Walk.{Limits, Rules, Walked, walk}
 use Rattle.qm_model.proofs.Maps.{same_key}
 use Rattle.qm_batch.specs.Changes.{place_in}
 use Rattle.qm_batch.specs.Going.{Decided, write_for, touch_for, AreDecided}
-use Rattle.qm_batch.specs.PlanViews.{AreOwn, keyed, site_in}
+use Rattle.qm_batch.specs.PlanViews.{decided_view, decided_views, AreOwn, keyed, site_in}
+use Rattle.qm_batch.specs.declared.plan.decided.Decided as declared
 use Rattle.qm_batch.specs.Touches.{Touch, IsFrom, operations_of, written_touches}
 use Rattle.qm_batch.proofs.PlanCounts.{count_decided}
 use Rattle.qm_batch.proofs.PlanPlaces.{written-from, written-operations, written-stood}
@@ -98,6 +99,18 @@ module _ {P : Type 0} (rules : Rules P) (policy next : P) (base : List Operation
           ∙ ap (λ (x : Walked P). committed ((base ++ writes) ++ map operation_of x.decisions) x.floor meta) are.makes;
       left = ap (λ (x : Walked P). x.policy) are.makes;
     }
+
+-- how many of the decided keys go
+pub evicted-shown : {K V : Type 0} (key : K → Bytes) (value : V → Bytes) (ds : List (declared.Decided K V)) → count_by (λ d. is_none d.value) (decided_views key value ds) ≡ count_by (λ d. is_none d.value) ds
+evicted-shown key value [] = refl
+evicted-shown {K} {V} key value (d ∷ ds) =
+    sum_by-cons (λ (d : Decided). cond (is_none d.value) 1 0) (decided_view key value d) (decided_views key value ds)
+    ∙ ap₂ (λ (a : Bool) (b : ℕ). cond a 1 0 + b) (none d.value) (evicted-shown key value ds)
+    ∙ sym (sum_by-cons (λ (d : declared.Decided K V). cond (is_none d.value) 1 0) d ds)
+  where
+    none : (o : Option V) → is_none (option_map value o) ≡ is_none o
+    none None = refl
+    none (Some v) = refl
 
 -- the sites of the last writes
 pub sites-last : {A : Type 0} (view : A → Bytes × Write) (base : List Operation) (es : List A) (us : List Write) → map view es ≡ map keyed us → map (λ e. site_in base (view e).1) es ≡ map (site_in base) us

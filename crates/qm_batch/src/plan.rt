@@ -205,7 +205,8 @@ fn own_operations<
         made: &touches,
     };
     let walked = walk_from(alloc, &path, log, policy, limits)?;
-    Ok(own_of(touches, walked, behind)?)
+    let own = own_of(touches, walked, behind)?;
+    Ok(own)
 }
 
 // The floor of a commit at this location: where the walk ended, or the location where no key is live.

@@ -40,12 +40,12 @@ const ROUND: usize = 1_024;
 /// What a walk goes over: a base list, and the operations that the last writes put behind it. Index and candidates are lent
 /// for the base list or one on the way to it.
 #[derive(Drop)]
-pub(crate) struct Path<'a, 'b, 'l, 'w, F, I, B, U: Update> {
+pub(crate) struct Path<'a, 'b, 'l, 'm, 'w, F, I, B, U: Update> {
     pub(crate) index: &'a I,
     pub(crate) candidates: &'a B,
     pub(crate) base: &'a Base<'b, F, U>,
     pub(crate) last: &'l Last<'w, U::Key, U::Value>,
-    pub(crate) made: &'l [Touch<F, U>],
+    pub(crate) made: &'m [Touch<F, U>],
 }
 
 /// What a walk decided, and where it ended.
@@ -226,7 +226,7 @@ fn live_at<
     U: Update,
 >(
     alloc: Global,
-    path: &Path<'_, '_, '_, '_, F, I, B, U>,
+    path: &Path<'_, '_, '_, '_, '_, F, I, B, U>,
     log: &mut AuthLog<F, C, H>,
     at: u64,
 ) -> Result<Option<Found<U>>, Error>
@@ -333,7 +333,7 @@ fn visit<
     P: Policy<F, U::Key, U::Value>,
 >(
     alloc: Global,
-    path: &Path<'_, '_, '_, '_, F, I, B, U>,
+    path: &Path<'_, '_, '_, '_, '_, F, I, B, U>,
     log: &mut AuthLog<F, C, H>,
     policy: &mut P,
     going: &mut Going<F, U::Key, U::Value>,
@@ -377,7 +377,7 @@ fn visit_all<
     P: Policy<F, U::Key, U::Value>,
 >(
     alloc: Global,
-    path: &Path<'_, '_, '_, '_, F, I, B, U>,
+    path: &Path<'_, '_, '_, '_, '_, F, I, B, U>,
     log: &mut AuthLog<F, C, H>,
     policy: &mut P,
     going: &mut Going<F, U::Key, U::Value>,
@@ -416,7 +416,7 @@ fn walk_round<
     P: Policy<F, U::Key, U::Value>,
 >(
     alloc: Global,
-    path: &Path<'_, '_, '_, '_, F, I, B, U>,
+    path: &Path<'_, '_, '_, '_, '_, F, I, B, U>,
     log: &mut AuthLog<F, C, H>,
     policy: &mut P,
     going: &mut Going<F, U::Key, U::Value>,
@@ -471,7 +471,7 @@ fn walk_on<
     P: Policy<F, U::Key, U::Value>,
 >(
     alloc: Global,
-    path: &Path<'_, '_, '_, '_, F, I, B, U>,
+    path: &Path<'_, '_, '_, '_, '_, F, I, B, U>,
     log: &mut AuthLog<F, C, H>,
     policy: &mut P,
     going: &mut Going<F, U::Key, U::Value>,
@@ -509,7 +509,7 @@ pub(crate) fn walk_from<
     P: Policy<F, U::Key, U::Value>,
 >(
     alloc: Global,
-    path: &Path<'_, '_, '_, '_, F, I, B, U>,
+    path: &Path<'_, '_, '_, '_, '_, F, I, B, U>,
     log: &mut AuthLog<F, C, H>,
     policy: &mut P,
     limits: Limits,
