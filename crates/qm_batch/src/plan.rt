@@ -25,7 +25,7 @@ mod writes;
 use self::decided::{add_decided, evicted};
 use self::diff::diff_of_touches;
 use self::touch::Touch;
-use self::walk::{Path, Walked, walk_from};
+use self::walk::{Walked, walk_over};
 use self::writes::{Last, find_sites, last_writes, written};
 use crate::base::Base;
 use crate::layer::Layer;
@@ -165,7 +165,6 @@ fn own_of<F, K: ByteString, V: ValueEncoding<K>>(
 
 // The own operations of a step, found over its base list: those of the writes, and what the policy decides.
 fn own_operations<
-    'a,
     F: Family,
     I: qm_index::Unordered<Value = Location<F>>,
     B: Candidates<F>,
@@ -176,10 +175,10 @@ fn own_operations<
     P: Policy<F, K, V::Value>,
 >(
     alloc: Global,
-    index: &'a I,
-    candidates: &'a B,
+    index: &I,
+    candidates: &B,
     log: &mut AuthLog<F, C, H>,
-    base: &'a Base<'_, F, Unordered<K, V>>,
+    base: &Base<'_, F, Unordered<K, V>>,
     writes: &[Write<K, V::Value>],
     policy: &mut P,
 ) -> Result<Own<F, Unordered<K, V>>, Error>
@@ -197,14 +196,9 @@ fn own_operations<
     let touches = written_over(alloc, index, log, base.layers, &last)?;
     let behind = live_behind(&touches, base.live);
     let limits = policy.limits(made_inactive(&touches, base.live, behind));
-    let path = Path {
-        index,
-        candidates,
-        base,
-        last: &last,
-        made: &touches,
-    };
-    let walked = walk_from(alloc, &path, log, policy, limits)?;
+    let walked = walk_over(
+        alloc, index, candidates, log, base, &last, &touches, policy, limits,
+    )?;
     let own = own_of(touches, walked, behind)?;
     Ok(own)
 }

@@ -11,12 +11,13 @@ ghost use Rattle.qm_model.specs.Operations as model;
 ghost use Rattle.qm_model.specs.Operations.{update};
 ghost use Rattle.qm_model.specs.Walk as walks;
 ghost use Rattle.qm_model.specs.Writes.{last_writes, unordered_writes, Write};
+ghost use Rattle.qm_batch.specs.Bases.{base_view, IsBase};
 ghost use Rattle.qm_batch.specs.Changes.{said_by, stands_at, update_at};
 ghost use Rattle.qm_batch.specs.Going.{decided_for, value_for, AreDead, AreDeadBetween, AreDecided, IsGoing, IsSpaced};
 ghost use Rattle.qm_batch.specs.Layers.{LeadOver};
 ghost use Rattle.qm_batch.specs.Lent.{IsIndexed, IsLent, IsRead, IsReadError};
-ghost use Rattle.qm_batch.specs.PlanViews.{decided_views, found_view, keyed, last_view, path_view, IsPath};
-ghost use Rattle.qm_batch.specs.Touches.{is_there, moved_touch, IsMoveAt};
+ghost use Rattle.qm_batch.specs.PlanViews.{decided_views, found_view, keyed, last_view, path_view, touch_views, IsPath};
+ghost use Rattle.qm_batch.specs.Touches.{is_there, moved_touch, written_touches, IsMoveAt};
 ghost use Rattle.qm_batch.specs.Views.{change_view};
 
 use super::decided::Decided;
@@ -37,15 +38,15 @@ use std::rc::Rc;
 /// How many candidates a walk reads at a time.
 const ROUND: usize = 1_024;
 
-/// What a walk goes over: a base list, and the operations that the last writes put behind it. Index and candidates are lent
-/// for the base list or one on the way to it.
+// What a walk goes over: a base list, and the operations that the last writes put behind it. Index and candidates are lent
+// for the base list or one on the way to it.
 #[derive(Drop)]
-pub(crate) struct Path<'a, 'b, 'l, 'm, 'w, F, I, B, U: Update> {
-    pub(crate) index: &'a I,
-    pub(crate) candidates: &'a B,
-    pub(crate) base: &'a Base<'b, F, U>,
-    pub(crate) last: &'l Last<'w, U::Key, U::Value>,
-    pub(crate) made: &'m [Touch<F, U>],
+struct Path<'a, 'b, 'l, 'm, 'w, F, I, B, U: Update> {
+    index: &'a I,
+    candidates: &'a B,
+    base: &'a Base<'b, F, U>,
+    last: &'l Last<'w, U::Key, U::Value>,
+    made: &'m [Touch<F, U>],
 }
 
 /// What a walk decided, and where it ended.
@@ -498,8 +499,8 @@ fn walk_on<
     Ok(())
 }
 
-/// Walks from the floor on, to the end of the operations of writes at most, as the policy decides, within these limits.
-pub(crate) fn walk_from<
+// Walks from the floor on, to the end of the operations of writes at most, as the policy decides, within these limits.
+fn walk_from<
     F: Family,
     I: qm_index::Unordered<Value = Location<F>>,
     B: Candidates<F>,
@@ -540,4 +541,49 @@ pub(crate) fn walk_from<
         decided: going.decided,
         floor: going.walk.floor.get(),
     })
+}
+
+/// Walks over a base list and the operations that the last writes put behind it, within these limits.
+#[allow(clippy::too_many_arguments)]
+pub(crate) fn walk_over<
+    'a,
+    'b: 'a,
+    'l,
+    'm,
+    'w: 'l,
+    F: Family,
+    I: qm_index::Unordered<Value = Location<F>>,
+    B: Candidates<F>,
+    C: Store,
+    H: Hasher + Drop,
+    U: Update,
+    P: Policy<F, U::Key, U::Value>,
+>(
+    alloc: Global,
+    index: &'a I,
+    candidates: &'a B,
+    log: &mut AuthLog<F, C, H>,
+    base: &'a Base<'b, F, U>,
+    last: &'l Last<'w, U::Key, U::Value>,
+    made: &'m [Touch<F, U>],
+    policy: &mut P,
+    limits: Limits,
+) -> Result<Walked<U::Key, U::Value>, Error>
+    requires { base.now.size ≤ 2 ^ 62 }
+    ensures value { (lent list : List model.Operation) (ws : List Write) → IsLent C.Store F.shape H.Digest.bytes H.hash U.form I.index_key (I.entries index.now) log.old lent → B.activity candidates.now ≡ bits lent
+        → IsBase (base_view base.now) lent list → map (last_view U.Key.bytes U.Value.bytes) last.now.entries ≡ map keyed (last_writes ws) → touch_views U.view U.Key.bytes U.Value.bytes made.now ≡ written_touches list (last_writes ws)
+        → IfSome (C.told log.old.store) (λ _. IfOk result (λ walked. AreDecided list (decided_views U.Key.bytes U.Value.bytes walked.decided.items) walked.floor policy.new
+        (walks.walk P.rules (list ++ unordered_writes list ws) (floor list) (record { entries = limits.entries; skips = limits.skips }) policy.old))) }
+    ensures read { IsRead C.Store F.shape H.Digest.bytes H.hash log.old log.new }
+    ensures error { IfErr result (IsReadError C.Store log.old log.new) }
+    ensures pruned { log.old.tree.start ≤ base.now.floor → IfErr result (λ e. (n : ℕ) → e ≢ Error.Journal (JournalError.ItemPruned n)) }
+{
+    let path = Path {
+        index,
+        candidates,
+        base,
+        last,
+        made,
+    };
+    walk_from(alloc, &path, log, policy, limits)
 }

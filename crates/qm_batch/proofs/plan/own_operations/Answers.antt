@@ -16,12 +16,12 @@ use Rattle.qm_batch.proofs.Reading.{read-then, error-then, lent-then, told}
 use Rattle.qm_batch.proofs.plan.own_operations.Goals as goal
 
 pub returns-in_err-walked-clause-read : goal.returns-in_err-walked-clause-read
-returns-in_err-walked-clause-read g c = read-then g.C.Store g.F.Family.shape g.H.Digest.Digest.bytes g.H.Hasher.hash c.args.log.now c.written_over.new.log c.walk_from.new.log c.written_over.ensures.read c.walk_from.ensures.read
+returns-in_err-walked-clause-read g c = read-then g.C.Store g.F.Family.shape g.H.Digest.Digest.bytes g.H.Hasher.hash c.args.log.now c.written_over.new.log c.walk_over.new.log c.written_over.ensures.read c.walk_over.ensures.read
 
 pub returns-in_err-walked-clause-error : goal.returns-in_err-walked-clause-error
 returns-in_err-walked-clause-error g c =
     let exit = err_from_is_err_and c.from_residual-in_err-walked.result c.from_residual-in_err-walked.ensures.1 in
-    rw (exit.1, exit.2) (error-then g.C.Store g.F.Family.shape g.H.Digest.Digest.bytes g.H.Hasher.hash c.args.log.now c.written_over.new.log c.walk_from.new.log _ c.written_over.ensures.read c.in_err-walked.ensures.error)
+    rw (exit.1, exit.2) (error-then g.C.Store g.F.Family.shape g.H.Digest.Digest.bytes g.H.Hasher.hash c.args.log.now c.written_over.new.log c.walk_over.new.log _ c.written_over.ensures.read c.in_err-walked.ensures.error)
 
 pub returns-in_err-walked-clause-whole : goal.returns-in_err-walked-clause-whole
 returns-in_err-walked-clause-whole g c = λ lent is none above.
@@ -30,10 +30,10 @@ returns-in_err-walked-clause-whole g c = λ lent is none above.
     rw (exit.1, exit.2) (c.in_err-walked.ensures.pruned (omega (arith, same, above)))
 
 pub returns-in_err-own-clause-read : goal.returns-in_err-own-clause-read
-returns-in_err-own-clause-read g c = read-then g.C.Store g.F.Family.shape g.H.Digest.Digest.bytes g.H.Hasher.hash c.args.log.now c.written_over.new.log c.walk_from.new.log c.written_over.ensures.read c.walk_from.ensures.read
+returns-in_err-own-clause-read g c = read-then g.C.Store g.F.Family.shape g.H.Digest.Digest.bytes g.H.Hasher.hash c.args.log.now c.written_over.new.log c.walk_over.new.log c.written_over.ensures.read c.walk_over.ensures.read
 
 pub returns-clause-read : goal.returns-clause-read
-returns-clause-read g c = read-then g.C.Store g.F.Family.shape g.H.Digest.Digest.bytes g.H.Hasher.hash c.args.log.now c.written_over.new.log c.walk_from.new.log c.written_over.ensures.read c.walk_from.ensures.read
+returns-clause-read g c = read-then g.C.Store g.F.Family.shape g.H.Digest.Digest.bytes g.H.Hasher.hash c.args.log.now c.written_over.new.log c.walk_over.new.log c.written_over.ensures.read c.walk_over.ensures.read
 
 pub returns-clause-own : goal.returns-clause-own
 returns-clause-own g c = λ lent base is active from.
@@ -48,7 +48,7 @@ returns-clause-own g c = λ lent base is active from.
     let touches = c.in_ok-touches.touches.items in
     let behind = c.live_behind-behind.result in
     let policy = c.args.policy.now in
-    let next = c.walk_from.new.policy in
+    let next = c.walk_over.new.policy in
     let ds = decided_views key value c.in_ok-walked.walked.decided.items in
     let end = c.in_ok-walked.walked.floor in
     let stood : count_by (λ t. is_some t.before) c.deref.result.now ≡ count_by (λ (t : Touch). is_some t.before) (map view touches) =
@@ -61,8 +61,7 @@ returns-clause-own g c = λ lent base is active from.
     let inactive : c.made_inactive.result ≡ made_inactive base (unordered_writes base ws) =
     c.made_inactive.ensures ∙ ap (λ n. n + c.args.base.now.live - behind) (ap length c.deref-2.ensures.value ∙ sym (length-map touches view))
     ∙ are-inactive rules policy next base ws (map view touches) ds c.args.base.now.live behind end made from.live count in
-    let on = record { known = from; last = c.in_ok-last.ensures; made = ap (map view) c.deref-3.ensures.value ∙ made } in
-    told-one _ _ items (told _ _ _ read.kept.told (c.in_ok-walked.ensures.value lent base ws mid active on)) (λ are.
+    told-one _ _ items (told _ _ _ read.kept.told (c.in_ok-walked.ensures.value lent base ws mid active from c.in_ok-last.ensures (ap (map view) c.deref-3.ensures.value ∙ made))) (λ are.
     let limits = ap₂ (λ e s. walk rules (base ++ unordered_writes base ws) (floor base) (record { entries = e; skips = s }) policy)
     (c.limits.ensures.entries ∙ ap (λ n. (rules.limits policy n).entries) inactive) (c.limits.ensures.skips ∙ ap (λ n. (rules.limits policy n).skips) inactive) in
     let all_own = are-own rules policy next base ws (map view touches) ds c.args.base.now.live behind end made from.live count (subst (λ all. AreDecided base ds end next all) limits are) in

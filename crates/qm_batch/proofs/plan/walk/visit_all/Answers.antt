@@ -112,3 +112,21 @@ returns-clause-value g c = λ lent base ws next all is on dead going.
 
 pub returns-clause-high : goal.returns-clause-high
 returns-clause-high g c = λ next spaced. subst (λ xs. IsSpaced c.loop-at.going.walk.floor xs next) (drop_all c.loop-at.at-index c.args.round.now c.loop-at-test.false) (c.loop-at.invariant.spaced next spaced)
+
+pub returns-then-not-goes-clause-read : goal.returns-then-not-goes-clause-read
+returns-then-not-goes-clause-read g c = read-then g.C.Store g.F.Family.shape g.H.Digest.Digest.bytes g.H.Hasher.hash c.args.log.now c.loop-at.log c.visit.new.log c.loop-at.invariant.read c.visit.ensures.read
+
+pub returns-then-not-goes-clause-low : goal.returns-then-not-goes-clause-low
+returns-then-not-goes-clause-low g c = let low = c.loop-at.invariant.low in let later = c.in_ok-goes.ensures.low in omega (arith, low, later)
+
+pub returns-then-not-goes-clause-end : goal.returns-then-not-goes-clause-end
+returns-then-not-goes-clause-end g c = c.in_ok-goes.ensures.end ∙ c.loop-at.invariant.end
+
+pub returns-clause-read : goal.returns-clause-read
+returns-clause-read g c = c.loop-at.invariant.read
+
+pub returns-clause-low : goal.returns-clause-low
+returns-clause-low g c = c.loop-at.invariant.low
+
+pub returns-clause-end : goal.returns-clause-end
+returns-clause-end g c = c.loop-at.invariant.end

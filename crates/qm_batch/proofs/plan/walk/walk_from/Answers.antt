@@ -1,8 +1,9 @@
-use Rattle.std.proofs.Common.{◌≡◌, ◌∙◌, ◌+◌, ◌++◌, length, map, max, min, ap, ap₂, sym, subst, arith}
-use Rattle.qm_chain.specs.declared.walk.Walk.{Walk}
+use Rattle.std.proofs.Common.{◌≡◌, ◌∙◌, ◌+◌, ◌++◌, length, map, max, min, ap, sym, subst, arith, ℕ}
 use Rattle.qm_model.proofs.Results.{told-one}
 use Rattle.qm_model.specs.Live.{floor}
+use Rattle.qm_model.specs.Walk.{walk}
 use Rattle.qm_model.specs.Writes.{unordered_writes}
+use Rattle.qm_batch.specs.Going.{AreDecided}
 use Rattle.qm_batch.specs.PlanViews.{decided_view, decided_views, touch_view}
 use Rattle.qm_batch.proofs.PlanGoing.{going-begins}
 use Rattle.qm_batch.proofs.PlanMoves.{written-long}
@@ -23,5 +24,5 @@ returns-clause-value g c = λ lent base ws is active on.
     let begun : c.new-walk.result ≡ record { floor = floor base; end = min c.new-2.result (floor base + c.args.limits.entries + c.args.limits.skips); entries = c.args.limits.entries; skips = c.args.limits.skips } =
     c.new-walk.ensures ∙ ap (λ n. record { floor = n; end = min c.new-2.result (n + c.args.limits.entries + c.args.limits.skips); entries = c.args.limits.entries; skips = c.args.limits.skips }) at in
     told-one _ _ (g.C.Store.told c.args.log.now.store) (c.in_ok-walk_on.ensures.value lent base ws _ is active on
-    (going-begins g.P.Policy.rules base list _ c.new-walk.result c.args.policy.now c.new-2.result c.args.limits.entries c.args.limits.skips (ap (map (decided_view key value)) c.new-going.ensures.items) top begun)) (λ decided.
-    ?)
+    (going-begins g.P.Policy.rules base list _ c.new-walk.result c.args.policy.now c.new-2.result c.args.limits.entries c.args.limits.skips (ap (map (decided_view key value)) c.new-3.ensures.items) top begun)) (λ decided.
+    subst (λ (n : ℕ). AreDecided base (decided_views key value c.walk_on.new.going.decided.items) n c.walk_on.new.policy (walk g.P.Policy.rules list (floor base) (record { entries = c.args.limits.entries; skips = c.args.limits.skips }) c.args.policy.now)) (sym c.get.ensures) decided)

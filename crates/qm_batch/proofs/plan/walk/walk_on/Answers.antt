@@ -110,3 +110,6 @@ returns-clause-value g c = λ lent base ws all is active on going.
     told-one _ _ (g.C.Store.told c.args.log.now.store) (c.loop-from.invariant.value lent base ws all is active on going) (λ so_far.
     going-finished g.P.Policy.rules base list (decided_views g.U.Key.ByteString.bytes g.U.Value.ByteString.bytes c.loop-from.going.decided.items) w c.loop-from.policy all so_far.1 c.finish.new.walk (omega (arith, here, within))
     (subst (λ n. AreDead list w.floor n) last so_far.0) c.finish.ensures.none c.finish.ensures.some)
+
+pub returns-clause-read : goal.returns-clause-read
+returns-clause-read g c = c.loop-from.invariant.read

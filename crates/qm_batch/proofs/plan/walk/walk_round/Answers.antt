@@ -21,8 +21,8 @@ returns-then-goes-clause-value g c = λ lent base ws all is active on dead going
     let between = between-then list c.args.going.now.walk.floor c.args.from c.in_ok-next.next round dead (path-dead path lent base ws c.args.from c.in_ok-next.next round on found) in
     told-one _ _ (g.C.Store.told c.args.log.now.store) (c.in_ok-goes.ensures.value lent base ws c.in_ok-next.next all is on between going) (λ walked. chosen-true c.in_ok-goes.goes _ _ c.if-goes.true walked)
 
-pub returns-else-goes-clause-value : goal.returns-else-goes-clause-value
-returns-else-goes-clause-value g c = λ lent base ws all is active on dead going.
+pub returns-clause-value : goal.returns-clause-value
+returns-clause-value g c = λ lent base ws all is active on dead going.
     let list = base ++ unordered_writes base ws in
     let round = c.deref.result.now in
     let path = path_view g.U.Update.view g.U.Key.ByteString.bytes g.U.Value.ByteString.bytes c.args.path.now in
