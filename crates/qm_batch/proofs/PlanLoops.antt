@@ -183,3 +183,8 @@ insert-kept {K} {X} P cmp es new k x is here all = All-same (λ (e : K × X). P 
 
 pub none-kept : {K X : Type 0} (P : K → Type 0) (es : List (K × X)) → es ≡ [] → All (λ e. P e.0) es
 none-kept {K} {X} P es is = All-same (λ (e : K × X). P e.0) es [] is (All-nil (λ (e : K × X). P e.0))
+
+-- one more of what is put behind others
+pub pushed-more : {A B Y : Type 0} (f : A → Y) (h : B → Y) (made made' : List A) (front : List Y) (seen : List B) (a : A) (b : B) → made' ≡ made ++ a ∷ [] → f a ≡ h b → map f made ≡ front ++ map h seen → map f made' ≡ front ++ map h (seen ++ b ∷ [])
+pushed-more f h made made' front seen a b pushed same so_far =
+    ap (map f) pushed ∙ map-append f made (a ∷ []) ∙ ap₂ (λ xs y. xs ++ y ∷ []) so_far same ∙ append_assoc front (map h seen) (h b ∷ []) ∙ ap (λ xs. front ++ xs) (sym (map-append h seen (b ∷ [])))

@@ -1,33 +1,16 @@
--- Steps of the walk's loop.
-use Rattle.std.proofs.Common.{◌≡◌, ℕ, ◌+◌, ◌-◌, ◌≤◌, ◌<◌, List, [], ◌∷◌, ◌++◌, length, map, drop, refl, ap, ap₂, sym, ◌∙◌, subst, Option, Some, None, arith, append-nil, length-append}
-use Rattle.std.specs.Prelude.{option_map, option_and_then, option_to_list, is_some, All, if◌then◌else◌, slice_get, IfSome}
-use Rattle.std.proofs.lemmas.List.{length-map, map-append}
-use Rattle.std.proofs.lemmas.List.Elements.{All-nil, All-push}
+-- Live updates of a base list and the operations of writes behind it.
+use Rattle.std.proofs.Common.{◌≡◌, ℕ, ◌+◌, ◌-◌, ◌≤◌, List, ◌++◌, length, map, drop, refl, ap, sym, ◌∙◌, subst, Option, Some, None, arith, length-append}
+use Rattle.std.specs.Prelude.{option_map, option_and_then, All, slice_get, IfSome}
+use Rattle.std.proofs.lemmas.List.{length-map}
 use Rattle.std.proofs.lemmas.Option.{same_Some, slice_get-map, slice_get_within, get_or_from_slice_get}
 use Rattle.qm_model.specs.Operations.{Bytes, Operation, update, delete, commit}
 use Rattle.qm_model.specs.Live.{Live, live_at, touches}
-use Rattle.qm_model.specs.Writes.{Write, last_writes, operation_of, unordered_writes}
-use Rattle.qm_model.specs.Walk.{Walked, walk_from}
-use Rattle.qm_model.specs.Policies.{Policy, policies, proportional}
-use Rattle.qm_base.specs.declared.operation.Operation as declared
-use Rattle.qm_base.specs.declared.operation.Operation.TheVariants.{Update, Delete, CommitFloor}
-use Rattle.qm_base.specs.declared.update.Unordered.{Unordered}
-use Rattle.qm_batch.specs.declared.plan.touch.Touch as touch
+use Rattle.qm_model.specs.Writes.{Write, last_writes, unordered_writes}
 use Rattle.qm_batch.specs.Changes.{said_by, update_from}
-use Rattle.qm_batch.specs.PlanViews.{unordered_touch, unordered_view}
-use Rattle.qm_batch.specs.Touches.{Touch, IsFrom, IsMoveAt, AreMoves, operations_of, live_update_at, written_touches}
+use Rattle.qm_batch.specs.Touches.{Touch, IsFrom, IsMoveAt, operations_of, live_update_at, written_touches}
 use Rattle.qm_batch.proofs.PlanPlaces.{written-from, written-operations}
 use Rattle.qm_batch.proofs.PlanReads.{behind-said}
 use Rattle.qm_batch.proofs.PlanWrites.{once-writes, said-once}
-use Rattle.qm_batch.proofs.PlanWalks.{resumed, walked-past, walked-over, walked-enough, walked-all}
-
--- these were moved on a walk that has come to this location, with so many moves left
-abbrev pub IsWalking : List Operation → List Operation → ℕ → List Touch → ℕ → ℕ → Walked Policy → Type 0
-IsWalking base list m moves at e all =
-    (ds : List Write) × (operations_of moves ≡ map operation_of ds) × All (IsFrom base) moves × (resumed ds (walk_from policies (drop at list) at e m proportional) ≡ all)
-
-pub walk-begins : (base list : List Operation) (m : ℕ) (moves : List Touch) (at e : ℕ) → moves ≡ [] → IsWalking base list m moves at e (walk_from policies (drop at list) at e m proportional)
-walk-begins base list m moves at e none = ([], ap operations_of none, subst (All (IsFrom base)) (sym none) (All-nil (IsFrom base)), refl)
 
 -- a live update is one
 pub live_update-is : (list : List Operation) (at : ℕ) (op : Operation) → live_update_at list at ≡ Some op → (e : Live) × (op ≡ update_from e)
@@ -40,59 +23,6 @@ live_update-is list at op h = by (slice_get list at) h
     by : (o : Option Operation) → option_and_then (λ op. option_map update_from (live_at at op (drop (at + 1) list))) o ≡ Some op → (e : Live) × (op ≡ update_from e)
     by None h = cc
     by (Some x) h = one (live_at at x (drop (at + 1) list)) h
-
--- the operation names no next key
-abbrev pub NamesNone : Operation → Type 0
-NamesNone (update k v n) = n ≡ None
-NamesNone (delete k) = Unit {0}
-NamesNone (commit m f) = Unit {0}
-
--- no operation of an unordered database does
-pub unordered-names : {F K E V : Type 0} (key : K → Bytes) (value : V → Bytes) (moved : Option (touch.Touch F (Unordered K E V) K V)) → IfSome (option_map (unordered_touch key value) moved) (λ t. NamesNone t.operation)
-unordered-names key value None = tt
-unordered-names {F} {K} {E} {V} key value (Some t) = by t.operation
-  where
-    by : (op : declared.Operation F (Unordered K E V) K V) → NamesNone (unordered_view key value op)
-    by (Update u) = refl
-    by (Delete k) = tt
-    by (CommitFloor m f) = tt
-
-module _ (base list : List Operation) (m : ℕ) (short : length list ≤ m) (moves : List Touch) (at e : ℕ) (all : Walked Policy) (so_far : IsWalking base list m moves at e all) where
-  pub walk-next : (next : List Touch) (moved : Option Touch) (left : ℕ) → 0 < e → at < length list → IfSome moved (λ t. NamesNone t.operation) → IsMoveAt moved base list at → next ≡ moves ++ option_to_list moved →
-      left ≡ (if is_some moved then e - 1 else e) → IsWalking base list m next (at + 1) left all
-  walk-next next None left some within plain move pushed less =
-      let still : next ≡ moves = pushed ∙ append-nil moves in (
-        so_far.0,
-        ap operations_of still ∙ so_far.1,
-        subst (All (IsFrom base)) (sym still) so_far.2,
-        ap (λ n. resumed so_far.0 (walk_from policies (drop (at + 1) list) (at + 1) n m proportional)) less
-            ∙ walked-past list m short at e so_far.0 all some within (sym move.operation) so_far.3,
-      )
-  walk-next next (Some t) left some within plain move pushed less =
-      let found = live_update-is list at t.operation (sym move.operation) in
-      let u = found.0 in
-      let d : Write = record { key = u.key; value = Some u.value } in (
-        so_far.0 ++ d ∷ [],
-        ap operations_of pushed ∙ map-append (λ (t : Touch). t.operation) moves (t ∷ []) ∙ ap₂ (λ ops op. ops ++ op ∷ []) so_far.1 (found.1 ∙ ap (update u.key u.value) (subst NamesNone found.1 plain))
-            ∙ sym (map-append operation_of so_far.0 (d ∷ [])),
-        subst (All (IsFrom base)) (sym pushed) (All-push (IsFrom base) moves t so_far.2 move.from),
-        ap (λ n. resumed (so_far.0 ++ d ∷ []) (walk_from policies (drop (at + 1) list) (at + 1) n m proportional)) less
-            ∙ walked-over list m short at e u.key u.value u.next so_far.0 all some (sym move.operation ∙ ap (λ op. Some op) found.1) so_far.3,
-      )
-
-  pub walk-enough : e ≡ 0 → AreMoves moves at base all
-  walk-enough none = record {
-    operations = so_far.1 ∙ ap (λ (w : Walked Policy). map operation_of w.decisions) (walked-enough list m short at e so_far.0 all none so_far.3);
-    from = so_far.2;
-    floor = ap (λ (w : Walked Policy). w.floor) (walked-enough list m short at e so_far.0 all none so_far.3);
-  }
-
-  pub walk-done : (end : ℕ) → end ≡ at → length list ≤ at → AreMoves moves end base all
-  walk-done end is past = record {
-    operations = so_far.1 ∙ ap (λ (w : Walked Policy). map operation_of w.decisions) (walked-all list m short at e so_far.0 all past so_far.3);
-    from = so_far.2;
-    floor = is ∙ ap (λ (w : Walked Policy). w.floor) (walked-all list m short at e so_far.0 all past so_far.3);
-  }
 
 -- how long a list with the operations of writes is
 pub written-long : {A : Type 0} (f : A → Touch) (base : List Operation) (ws : List Write) (made : List A) → map f made ≡ written_touches base (last_writes ws) → length (base ++ unordered_writes base ws) ≡ length base + length made
@@ -154,11 +84,4 @@ module _ {A : Type 0} (f : A → Touch) (moved : Option A) where
     where
       by : (m : Option A) → IfSome m (λ a. P (f a)) → IfSome (option_map f m) P
       by None h = tt
-      by (Some a) h = h
-
-  pub shown-left : (e left : ℕ) → left ≡ (if is_some moved then e - 1 else e) → left ≡ (if is_some (option_map f moved) then e - 1 else e)
-  shown-left e left h = by moved h
-    where
-      by : (m : Option A) → left ≡ (if is_some m then e - 1 else e) → left ≡ (if is_some (option_map f m) then e - 1 else e)
-      by None h = h
       by (Some a) h = h

@@ -9,7 +9,7 @@ use Rattle.qm_model.specs.Forms.{Form}
 use Rattle.qm_model.specs.Live.{live}
 use Rattle.qm_model.specs.Step.{committed}
 use Rattle.qm_model.specs.Walk.{Rules}
-use Rattle.qm_model.specs.Writes.{Write}
+use Rattle.qm_model.specs.Writes.{Write, last_writes}
 use Rattle.qm_base.specs.Views.{operation_view}
 use Rattle.qm_base.specs.declared.operation.Operation as operation
 use Rattle.qm_base.specs.declared.update.Unordered.{Unordered}
@@ -17,8 +17,13 @@ use Rattle.qm_batch.specs.declared.write.Write as written
 use Rattle.qm_batch.specs.declared.plan.touch.Touch as declared
 use Rattle.qm_batch.specs.declared.plan.writes.Site as site
 use Rattle.qm_batch.specs.declared.plan.diff.Noted as noted
+use Rattle.qm_batch.specs.declared.plan.decided.Decided as decided
+use Rattle.qm_batch.specs.declared.plan.walk.Found as found
+use Rattle.qm_batch.specs.declared.plan.walk.Path as path
+use Rattle.qm_batch.specs.Bases.{Base, IsBase, base_view}
 use Rattle.qm_batch.specs.Changes.{Change, change_of, place_in}
-use Rattle.qm_batch.specs.Touches.{Touch, IsFrom, operations_of}
+use Rattle.qm_batch.specs.Going.{Decided}
+use Rattle.qm_batch.specs.Touches.{Touch, IsFrom, operations_of, written_touches}
 use Rattle.qm_batch.specs.Views.{write_view, stepped, left_after}
 
 -- a write by its key
@@ -33,6 +38,22 @@ site_in base w = (w, place_in base w.key)
 abbrev pub noted_view : {V : Type 0} → (V → Bytes) → noted.Noted V → Change
 noted_view value n = record { now = option_map (λ p. (p.0, value p.1.now)) n.now; before = n.before }
 
+-- what a walk goes over: what is known of a base list, the last writes by key, and the operations that they put behind it
+pub record Path : Type 0 where
+  pub base : Base
+  pub last : List (Bytes × Write)
+  pub made : List Touch
+
+-- these writes make it of this base list
+pub record IsPath (path : Path) (lent base : List Operation) (ws : List Write) : Type 0 where
+  pub known : IsBase path.base lent base
+  pub last : path.last ≡ map keyed (last_writes ws)
+  pub made : path.made ≡ written_touches base (last_writes ws)
+
+-- a live update, with where its key stands in the base list
+abbrev pub found_view : {U : Type 0} → (U → Operation) → found.Found U → Touch
+found_view update_view f = record { operation = update_view f.update; before = f.before }
+
 -- the notes are what the step from the base list to the list does to keys
 abbrev pub IsNoted : {V : Type 0} → (V → Bytes) → BTreeMap (Bor Bytes) (noted.Noted V) → List Operation → List Operation → Type 0
 IsNoted value notes base list = (key : Bytes) → option_map (noted_view value) (get_by (λ k. slice_cmp nat_cmp key k.now) notes) ≡ change_of base list key
@@ -45,6 +66,22 @@ pub record AreOwn {P : Type 0} (rules : Rules P) (policy next : P) (touches : Li
   pub list : (meta : Option Bytes) → committed (base ++ operations_of touches) end meta ≡ stepped rules base ws policy meta
   pub left : next ≡ left_after rules base ws policy
 
+module _ {K V : Type 0} (key : K → Bytes) (value : V → Bytes) where
+  -- an entry of the last writes by key
+  abbrev pub last_view : Bor Bytes × Bor (written.Write K V) → Bytes × Write
+  last_view e = (e.0.now, write_view key value e.1.now)
+
+  -- a write with where its key stands
+  abbrev pub site_view : site.Site K V → Write × Option ℕ
+  site_view s = (write_view key value s.write.now, s.at)
+
+  -- decisions
+  abbrev pub decided_view : decided.Decided K V → Decided
+  decided_view d = record { key = key d.key; value = option_map value d.value; before = d.before }
+
+  abbrev pub decided_views : List (decided.Decided K V) → List Decided
+  decided_views ds = map decided_view ds
+
 module _ {U K V : Type 0} (update_view : U → Operation) (key : K → Bytes) (value : V → Bytes) where
   -- an operation of a step
   abbrev pub touch_view : {F : Type 0} → declared.Touch F U K V → Touch
@@ -54,6 +91,10 @@ module _ {U K V : Type 0} (update_view : U → Operation) (key : K → Bytes) (v
   abbrev pub touch_views : {F : Type 0} → List (declared.Touch F U K V) → List Touch
   touch_views touches = map touch_view touches
 
+  -- what a walk goes over
+  abbrev pub path_view : {F I B : Type 0} → path.Path F I B U K V → Path
+  path_view p = record { base = base_view p.base.now; last = map (last_view key value) p.last.now.entries; made = touch_views p.made.now }
+
 -- how operations of an unordered database are spelled
 abbrev pub unordered_form : (Bytes → Bool) → (Bytes → Bool) → Option (ℕ × ℕ) → Form
 unordered_form is_key is_value sizes = record { ordered = false; sizes = sizes; is_key = is_key; is_value = is_value }
@@ -61,15 +102,6 @@ unordered_form is_key is_value sizes = record { ordered = false; sizes = sizes; 
 -- operations by location
 abbrev pub located_views : {O : Type 0} → (O → Operation) → List (ℕ × O) → List (ℕ × Operation)
 located_views view entries = map (λ e. (e.0, view e.1)) entries
-
-module _ {K V : Type 0} (key : K → Bytes) (value : V → Bytes) where
-  -- an entry of the last writes by key
-  abbrev pub last_view : Bor Bytes × Bor (written.Write K V) → Bytes × Write
-  last_view e = (e.0.now, write_view key value e.1.now)
-
-  -- a write with where its key stands
-  abbrev pub site_view : site.Site K V → Write × Option ℕ
-  site_view s = (write_view key value s.write.now, s.at)
 
 module _ {K E V : Type 0} (key : K → Bytes) (value : V → Bytes) where
   -- an update that names no next key

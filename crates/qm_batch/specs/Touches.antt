@@ -1,10 +1,8 @@
 -- The own operations of a step, and the live updates that it goes by.
-use Rattle.std.specs.Prelude.{◌≡◌, ℕ, ◌+◌, ◌==◌, Bool, true, false, IfSome, List, ◌++◌, map, filter_map, drop, slice_get, All, Option, Some, None, option_map, option_and_then}
+use Rattle.std.specs.Prelude.{◌≡◌, ℕ, ◌+◌, ◌==◌, Bool, true, false, IfSome, List, ◌++◌, map, filter_map, drop, slice_get, Option, Some, None, option_map, option_and_then}
 use Rattle.qm_model.specs.Operations.{Bytes, Operation}
 use Rattle.qm_model.specs.Live.{Live, live, live_at, touches}
-use Rattle.qm_model.specs.Policies.{Policy}
-use Rattle.qm_model.specs.Walk.{Walked}
-use Rattle.qm_model.specs.Writes.{Write, operation_of, rewrite_of, create_of}
+use Rattle.qm_model.specs.Writes.{Write, rewrite_of, create_of}
 use Rattle.qm_batch.specs.Changes.{place_in, update_from}
 
 -- the live update at a location
@@ -47,9 +45,3 @@ new_touch op = record { operation = op; before = None }
 -- the operations of writes: those to live keys by location, then the creates
 abbrev pub written_touches : List Operation → List Write → List Touch
 written_touches base ws = map moved_touch (filter_map (rewrite_here ws) (live base)) ++ map new_touch (filter_map (create_of (live base)) ws)
-
--- the moves are those that the walk decided, and it ended there
-pub record AreMoves (moves : List Touch) (end : ℕ) (base : List Operation) (walked : Walked Policy) : Type 0 where
-  pub operations : operations_of moves ≡ map operation_of walked.decisions
-  pub from : All (IsFrom base) moves
-  pub floor : end ≡ walked.floor

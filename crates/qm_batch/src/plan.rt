@@ -1,28 +1,34 @@
 //! What a batch makes of its base list.
 
-ghost use Rattle.std.specs.Prelude.{◌≡◌, ◌≢◌, ◌≤◌, ◌^◌, ◌++◌, ◌+◌, ◌-◌, ◌==◌, ℕ, List, length, map, count_by, option_map, is_some, All, IfSome, IfOk, IfErr, OnOk, if◌then◌else◌};
+ghost use Rattle.std.specs.Prelude.{◌≡◌, ◌≢◌, ◌≤◌, ◌^◌, ◌++◌, ◌+◌, ◌-◌, ◌==◌, ℕ, List, length, map, count_by, option_map, is_none, is_some, All, IfSome, IfOk, IfErr, OnOk, if◌then◌else◌};
 ghost use Rattle.qm_base.specs.Parts as parts;
 ghost use Rattle.qm_base.specs.Views.{operation_view};
 ghost use Rattle.qm_model.specs.Bits.{bits};
 ghost use Rattle.qm_model.specs.Live as lives;
 ghost use Rattle.qm_model.specs.Operations as model;
 ghost use Rattle.qm_model.specs.Step.{committed};
+ghost use Rattle.qm_model.specs.Writes as writes;
 ghost use Rattle.qm_batch.specs.Bases.{base_view, IsBase};
+ghost use Rattle.qm_batch.specs.Going.{touch_for};
+ghost use Rattle.qm_batch.specs.Layers.{LeadOver};
 ghost use Rattle.qm_batch.specs.Lent.{IsLent, IsRead, IsReadError, NoneBelow};
-ghost use Rattle.qm_batch.specs.PlanViews.{touch_views, unordered_touches, AreOwn};
-ghost use Rattle.qm_batch.specs.Touches.{IsFrom, operations_of};
+ghost use Rattle.qm_batch.specs.PlanViews.{decided_views, keyed, last_view, touch_views, unordered_touches, AreOwn};
+ghost use Rattle.qm_batch.specs.Touches.{IsFrom, operations_of, written_touches};
 ghost use Rattle.qm_batch.specs.Views.{write_view, IsPlan, stepped, left_after};
 
+mod decided;
 mod diff;
 mod touch;
 mod walk;
 mod writes;
 
+use self::decided::{add_decided, evicted};
 use self::diff::diff_of_touches;
 use self::touch::Touch;
-use self::walk::walk_from;
-use self::writes::{find_sites, last_writes, written};
+use self::walk::{Walked, walk_over};
+use self::writes::{Last, find_sites, last_writes, written};
 use crate::base::Base;
+use crate::layer::Layer;
 use crate::write::Write;
 use qm_base::update::{Unordered, Update};
 use qm_base::{ByteString, Error, Hasher, JournalError, Location, Operation, ValueEncoding};
@@ -32,6 +38,7 @@ use qm_merkle::Family;
 use qm_store::{AuthLog, Store};
 use std::alloc::{AllocError, Global};
 use std::marker::Model;
+use std::rc::Rc;
 
 /// What a batch makes of its base list.
 #[derive(Drop)]
@@ -100,17 +107,60 @@ fn live_behind<F, U: Update>(touches: &[Touch<F, U>], live: u64) -> u64
     live.saturating_sub(stood(touches) as u64) + updated(touches) as u64
 }
 
-// Moves the second list to the end of the first.
-fn append<F, U: Update>(
-    touches: &mut Vec<Touch<F, U>>,
-    more: Vec<Touch<F, U>>,
-) -> Result<(), AllocError>
-    ensures { OnOk result (touches.new.items ≡ touches.old.items ++ more.items) }
+// How many operations those of writes make inactive, where so many keys were live before them and are behind them.
+fn made_inactive<F, U: Update>(touches: &[Touch<F, U>], live: u64, behind: u64) -> u64
+    requires { live ≤ 2 ^ 62 }
+    ensures { result ≡ length touches.now + live - behind }
 {
-    for touch in more {
-        touches.push(touch)?;
-    }
-    Ok(())
+    (touches.len() as u64 + live).saturating_sub(behind)
+}
+
+// The operations of the last writes, found over a base list.
+fn written_over<
+    F: Family,
+    I: qm_index::Unordered<Value = Location<F>>,
+    C: Store,
+    H: Hasher + Drop,
+    K: ByteString,
+    V: ValueEncoding<K>,
+>(
+    alloc: Global,
+    index: &I,
+    log: &mut AuthLog<F, C, H>,
+    layers: &[Rc<Layer<F, Unordered<K, V>>>],
+    last: &Last<'_, K, V::Value>,
+) -> Result<Vec<Touch<F, Unordered<K, V>>>, Error>
+    ensures value { (lent base : List model.Operation) (ws : List writes.Write) → IsLent C.Store F.shape H.Digest.bytes H.hash ⟦<Unordered<K, V> as Update>⟧.form I.index_key (I.entries index.now) log.old lent → LeadOver (map (λ l. l.value) layers.now) lent base
+        → map (last_view K.bytes V.Value.bytes) last.now.entries ≡ map keyed (writes.last_writes ws)
+        → IfSome (C.told log.old.store) (λ _. IfOk result (λ touches. unordered_touches K.bytes V.Value.bytes touches.items ≡ written_touches base (writes.last_writes ws))) }
+    ensures read { IsRead C.Store F.shape H.Digest.bytes H.hash log.old log.new }
+    ensures error { IfErr result (IsReadError C.Store log.old log.new) }
+    ensures whole { (lent : List model.Operation) → IsLent C.Store F.shape H.Digest.bytes H.hash ⟦<Unordered<K, V> as Update>⟧.form I.index_key (I.entries index.now) log.old lent → NoneBelow log.old.tree.start lent
+        → IfErr result (λ e. (n : ℕ) → e ≢ Error.Journal (JournalError.ItemPruned n)) }
+{
+    let sites = find_sites(alloc, index, log, layers, last)?;
+    let touches = written(alloc, &sites)?;
+    Ok(touches)
+}
+
+// The own operations of a step: those of its writes, and what was decided, with so many keys live behind the writes.
+fn own_of<F, K: ByteString, V: ValueEncoding<K>>(
+    touches: Vec<Touch<F, Unordered<K, V>>>,
+    walked: Walked<K, V::Value>,
+    behind: u64,
+) -> Result<Own<F, Unordered<K, V>>, AllocError>
+    ensures touches { IfOk result (λ own. unordered_touches K.bytes V.Value.bytes own.touches.items ≡ unordered_touches K.bytes V.Value.bytes touches.items ++ map touch_for (decided_views K.bytes V.Value.bytes walked.decided.items)) }
+    ensures live { IfOk result (λ own. own.live ≡ behind - count_by (λ d. is_none d.value) walked.decided.items) }
+    ensures floor { IfOk result (λ own. own.floor ≡ walked.floor) }
+{
+    let mut touches = touches;
+    let live = behind.saturating_sub(evicted(&walked.decided) as u64);
+    add_decided(&mut touches, walked.decided)?;
+    Ok(Own {
+        touches,
+        live,
+        floor: walked.floor,
+    })
 }
 
 // The own operations of a step, found over its base list: those of the writes, and what the policy decides.
@@ -126,16 +176,16 @@ fn own_operations<
 >(
     alloc: Global,
     index: &I,
-    _candidates: &B,
+    candidates: &B,
     log: &mut AuthLog<F, C, H>,
     base: &Base<'_, F, Unordered<K, V>>,
     writes: &[Write<K, V::Value>],
-    _policy: &mut P,
+    policy: &mut P,
 ) -> Result<Own<F, Unordered<K, V>>, Error>
     requires size { base.now.size ≤ 2 ^ 62 }
     requires live { base.now.live ≤ base.now.size }
-    ensures own { (lent list : List model.Operation) → IsLent C.Store F.shape H.Digest.bytes H.hash ⟦<Unordered<K, V> as Update>⟧.form I.index_key (I.entries index.now) log.old lent → B.activity _candidates.now ≡ bits lent → IsBase (base_view base.now) lent list
-        → IfSome (C.told log.old.store) (λ _. IfOk result (λ own. AreOwn P.rules _policy.old _policy.new (unordered_touches K.bytes V.Value.bytes own.touches.items) own.live own.floor list (map (write_view K.bytes V.Value.bytes) writes.now))) }
+    ensures own { (lent list : List model.Operation) → IsLent C.Store F.shape H.Digest.bytes H.hash ⟦<Unordered<K, V> as Update>⟧.form I.index_key (I.entries index.now) log.old lent → B.activity candidates.now ≡ bits lent → IsBase (base_view base.now) lent list
+        → IfSome (C.told log.old.store) (λ _. IfOk result (λ own. AreOwn P.rules policy.old policy.new (unordered_touches K.bytes V.Value.bytes own.touches.items) own.live own.floor list (map (write_view K.bytes V.Value.bytes) writes.now))) }
     ensures count { IfOk result (λ own. own.live ≤ base.now.size + length own.touches.items) }
     ensures read { IsRead C.Store F.shape H.Digest.bytes H.hash log.old log.new }
     ensures error { IfErr result (IsReadError C.Store log.old log.new) }
@@ -143,18 +193,14 @@ fn own_operations<
         → log.old.tree.start ≤ base.now.floor → IfErr result (λ e. (n : ℕ) → e ≢ Error.Journal (JournalError.ItemPruned n)) }
 {
     let last = last_writes(alloc, writes)?;
-    let sites = find_sites(alloc, index, log, base.layers, &last)?;
-    let mut touches = written(alloc, &sites)?;
+    let touches = written_over(alloc, index, log, base.layers, &last)?;
     let behind = live_behind(&touches, base.live);
-    let inactive = (touches.len() as u64 + base.live).saturating_sub(behind);
-    let entries = inactive.saturating_add(1);
-    let walked = walk_from(alloc, index, log, base, &last, &touches, entries)?;
-    append(&mut touches, walked.moves)?;
-    Ok(Own {
-        touches,
-        live: behind,
-        floor: walked.floor,
-    })
+    let limits = policy.limits(made_inactive(&touches, base.live, behind));
+    let walked = walk_over(
+        alloc, index, candidates, log, base, &last, &touches, policy, limits,
+    )?;
+    let own = own_of(touches, walked, behind)?;
+    Ok(own)
 }
 
 // The floor of a commit at this location: where the walk ended, or the location where no key is live.

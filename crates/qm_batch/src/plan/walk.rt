@@ -1,40 +1,73 @@
 //! The walk from the floor, over a base list and the operations of writes behind it.
 
-ghost use Rattle.std.specs.Prelude.{◌≡◌, ◌≢◌, ◌≤◌, ◌<◌, ◌-◌, ◌^◌, ◌++◌, ◌==◌, ℕ, List, length, map, Option, option_map, slice_get, IfSome, IfOk, IfErr, MatchOption, OnOk, None, Some, option_to_list, is_some, if◌then◌else◌};
+ghost use Rattle.std.specs.Prelude.{◌≡◌, ◌≢◌, true, ◌≤◌, ◌<◌, ◌+◌, ◌-◌, ◌^◌, ◌++◌, ◌==◌, ℕ, min, List, length, map, Option, option_map, slice_get, IfSome, IfOk, IfErr, MatchBool, MatchOption, OnOk, None, Some, option_to_list, is_some, if◌then◌else◌};
 ghost use Rattle.std.specs.List.{list_any};
 ghost use Rattle.qm_base.specs.Parts.{update_key};
 ghost use Rattle.qm_base.specs.Views.{operation_view};
+ghost use Rattle.qm_chain.specs.Policies.{action_view};
+ghost use Rattle.qm_model.specs.Bits.{bits};
+ghost use Rattle.qm_model.specs.Live.{floor};
 ghost use Rattle.qm_model.specs.Operations as model;
 ghost use Rattle.qm_model.specs.Operations.{update};
-ghost use Rattle.qm_model.specs.Policies.{policies, proportional};
 ghost use Rattle.qm_model.specs.Walk as walks;
 ghost use Rattle.qm_model.specs.Writes.{last_writes, unordered_writes, Write};
-ghost use Rattle.qm_batch.specs.Changes.{said_by, stands_at, update_at};
 ghost use Rattle.qm_batch.specs.Bases.{base_view, IsBase};
+ghost use Rattle.qm_batch.specs.Changes.{said_by, stands_at, update_at};
+ghost use Rattle.qm_batch.specs.Going.{decided_for, value_for, AreDead, AreDeadBetween, AreDecided, IsGoing, IsSpaced};
 ghost use Rattle.qm_batch.specs.Layers.{LeadOver};
 ghost use Rattle.qm_batch.specs.Lent.{IsIndexed, IsLent, IsRead, IsReadError};
-ghost use Rattle.qm_batch.specs.PlanViews.{keyed, last_view, touch_view, touch_views, unordered_touches};
-ghost use Rattle.qm_batch.specs.Touches.{is_there, moved_touch, written_touches, AreMoves, IsMoveAt};
+ghost use Rattle.qm_batch.specs.PlanViews.{decided_views, found_view, keyed, last_view, path_view, touch_views, IsPath};
+ghost use Rattle.qm_batch.specs.Touches.{is_there, moved_touch, written_touches, IsMoveAt};
 ghost use Rattle.qm_batch.specs.Views.{change_view};
 
+use super::decided::Decided;
 use super::touch::Touch;
 use super::writes::Last;
 use crate::base::Base;
 use crate::layer::Layer;
 use crate::read::{newest, read_item, twin_update, update_in};
-use qm_base::update::{Unordered, Update};
-use qm_base::{ByteString, Error, Hasher, JournalError, Location, Operation, ValueEncoding};
-use qm_chain::DiffEntry;
+use qm_base::update::Update;
+use qm_base::{ByteString, Error, Hasher, JournalError, Location, Operation, Twin};
+use qm_bits::Candidates;
+use qm_chain::{Action, DiffEntry, Entry, Limits, Policy, Walk};
 use qm_merkle::Family;
 use qm_store::{AuthLog, Store};
 use std::alloc::{AllocError, Global};
 use std::rc::Rc;
 
-/// What a walk moves, and where it ended.
+/// How many candidates a walk reads at a time.
+const ROUND: usize = 1_024;
+
+// What a walk goes over: a base list, and the operations that the last writes put behind it. Index and candidates are lent
+// for the base list or one on the way to it.
 #[derive(Drop)]
-pub(crate) struct Walked<F, U: Update> {
-    pub(crate) moves: Vec<Touch<F, U>>,
+struct Path<'a, 'b, 'l, 'm, 'w, F, I, B, U: Update> {
+    index: &'a I,
+    candidates: &'a B,
+    base: &'a Base<'b, F, U>,
+    last: &'l Last<'w, U::Key, U::Value>,
+    made: &'m [Touch<F, U>],
+}
+
+/// What a walk decided, and where it ended.
+#[derive(Drop)]
+pub(crate) struct Walked<K, V> {
+    pub(crate) decided: Vec<Decided<K, V>>,
     pub(crate) floor: u64,
+}
+
+/// A walk on its way: its course, and what it decided so far.
+#[derive(Drop)]
+struct Going<F, K, V> {
+    walk: Walk<F>,
+    decided: Vec<Decided<K, V>>,
+}
+
+/// A live update, and where its key's live update stands in the base list.
+#[derive(Drop)]
+struct Found<U> {
+    update: U,
+    before: Option<u64>,
 }
 
 // The operation at a location of the base list, where a layer has it; else the list that is lent has the same there.
@@ -167,119 +200,390 @@ fn unwritten_at<
     }
 }
 
-// The move of the update that an operation of writes is.
+// The update that an operation of writes is.
 fn again<F, U: Update>(
     alloc: Global,
     touch: &Touch<F, U>,
-) -> Result<Option<Touch<F, U>>, AllocError>
-    ensures operation { IfOk result (λ moved. option_map (λ t. operation_view U.view U.Key.bytes U.Value.bytes t.operation) moved ≡ said_by (operation_view U.view U.Key.bytes U.Value.bytes touch.now.operation)) }
-    ensures before { IfOk result (λ moved. IfSome moved (λ t. t.before ≡ touch.now.before)) }
+) -> Result<Option<Found<U>>, AllocError>
+    ensures operation { IfOk result (λ found. option_map (λ f. U.view f.update) found ≡ said_by (operation_view U.view U.Key.bytes U.Value.bytes touch.now.operation)) }
+    ensures before { IfOk result (λ found. IfSome found (λ f. f.before ≡ touch.now.before)) }
 {
     match twin_update(alloc, &touch.operation)? {
-        Some(update) => Ok(Some(Touch {
-            operation: Operation::Update(update),
+        Some(update) => Ok(Some(Found {
+            update,
             before: touch.before,
         })),
         None => Ok(None),
     }
 }
 
-// The move of the live update at a location of the base list and the operations of writes behind it.
-fn move_at<
+// The live update at a location of the base list and the operations of writes behind it.
+fn live_at<
     F: Family,
     I: qm_index::Unordered<Value = Location<F>>,
+    B,
     C: Store,
     H: Hasher + Drop,
     U: Update,
 >(
     alloc: Global,
-    index: &I,
+    path: &Path<'_, '_, '_, '_, '_, F, I, B, U>,
     log: &mut AuthLog<F, C, H>,
-    base: &Base<'_, F, U>,
-    last: &Last<'_, U::Key, U::Value>,
-    made: &[Touch<F, U>],
     at: u64,
-) -> Result<Option<Touch<F, U>>, Error>
-    ensures value { (lent list : List model.Operation) (ws : List Write) → IsLent C.Store F.shape H.Digest.bytes H.hash U.form I.index_key (I.entries index.now) log.old lent → IsBase (base_view base.now) lent list
-        → map (last_view U.Key.bytes U.Value.bytes) last.now.entries ≡ map keyed (last_writes ws) → touch_views U.view U.Key.bytes U.Value.bytes made.now ≡ written_touches list (last_writes ws)
-        → IfSome (C.told log.old.store) (λ _. IfOk result (λ moved. IsMoveAt (option_map (touch_view U.view U.Key.bytes U.Value.bytes) moved) list (list ++ unordered_writes list ws) at)) }
+) -> Result<Option<Found<U>>, Error>
+    ensures value { (lent list : List model.Operation) (ws : List Write) → IsLent C.Store F.shape H.Digest.bytes H.hash U.form I.index_key (I.entries path.now.index.now) log.old lent → IsPath (path_view U.view U.Key.bytes U.Value.bytes path.now) lent list ws
+        → IfSome (C.told log.old.store) (λ _. IfOk result (λ found. IsMoveAt (option_map (found_view U.view) found) list (list ++ unordered_writes list ws) at)) }
     ensures read { IsRead C.Store F.shape H.Digest.bytes H.hash log.old log.new }
     ensures error { IfErr result (IsReadError C.Store log.old log.new) }
     ensures pruned { log.old.tree.start ≤ at → IfErr result (λ e. (n : ℕ) → e ≢ Error.Journal (JournalError.ItemPruned n)) }
 {
-    if base.size <= at {
-        return match made.get((at - base.size) as usize) {
+    if path.base.size <= at {
+        return match path.made.get((at - path.base.size) as usize) {
             Some(touch) => Ok(again(alloc, touch)?),
             None => Ok(None),
         };
     }
-    match unwritten_at(alloc, index, log, base.layers, last, at)? {
-        Some(update) => Ok(Some(Touch {
-            operation: Operation::Update(update),
+    match unwritten_at(alloc, path.index, log, path.base.layers, path.last, at)? {
+        Some(update) => Ok(Some(Found {
+            update,
             before: Some(at),
         })),
         None => Ok(None),
     }
 }
 
-// Adds the move, where there is one, and tells how many more there may be.
-fn add_move<F, U: Update>(
-    moves: &mut Vec<Touch<F, U>>,
-    moved: Option<Touch<F, U>>,
-    entries: u64,
-) -> Result<u64, AllocError>
-    requires { 0 < entries }
-    ensures moves { OnOk result (touch_views U.view U.Key.bytes U.Value.bytes moves.new.items ≡ touch_views U.view U.Key.bytes U.Value.bytes moves.old.items ++ option_to_list (option_map (touch_view U.view U.Key.bytes U.Value.bytes) moved)) }
-    ensures left { IfOk result (λ left. left ≡ (if is_some moved then entries - 1 else entries)) }
+// What the policy says of the live update at a location.
+fn ask<F, K: ByteString, V: ByteString, P: Policy<F, K, V>>(
+    alloc: Global,
+    policy: &mut P,
+    at: Location<F>,
+    key: &K,
+    value: V,
+) -> Result<Action<V>, AllocError>
+    ensures action { IfOk result (λ action. action_view V.bytes action ≡ (P.rules.decide policy.old at (K.bytes key.now) (V.bytes value)).0) }
+    ensures next { IfOk result (λ _. policy.new ≡ (P.rules.decide policy.old at (K.bytes key.now) (V.bytes value)).1) }
 {
-    match moved {
-        Some(moved) => {
-            moves.push(moved)?;
-            Ok(entries - 1)
-        }
-        None => Ok(entries),
+    let decision = policy.decide(alloc, Entry::new(at, key, value))?;
+    Ok(decision.into_action())
+}
+
+// What is to be noted of a key: its new value, or none where it goes; nothing where the walk ends.
+fn value_of<V>(action: Action<V>) -> Option<Option<V>>
+    ensures { (bytes : V → model.Bytes) → option_map (λ value. option_map bytes value) result ≡ value_for (action_view bytes action) }
+{
+    match action {
+        Action::Write(value) => Some(Some(value)),
+        Action::Evict => Some(None),
+        Action::Stop => None,
     }
 }
 
-/// Walks from the floor on, to the end of the operations of writes at most, and moves so many live updates at most.
-pub(crate) fn walk_from<
+// Notes what a policy says of the live update at the floor, and tells whether the walk goes on.
+fn note<F, K: ByteString, V: ByteString>(
+    going: &mut Going<F, K, V>,
+    key: K,
+    before: Option<u64>,
+    action: Action<V>,
+) -> Result<bool, AllocError>
+    requires entries { 0 < going.old.walk.entries }
+    requires floor { going.old.walk.floor < 2 ^ 64 - 1 }
+    ensures goes { IfOk result (λ goes. goes ≡ is_some (decided_for (K.bytes key) before (action_view V.bytes action))) }
+    ensures decided { IfOk result (λ _. decided_views K.bytes V.bytes going.new.decided.items ≡ decided_views K.bytes V.bytes going.old.decided.items ++ option_to_list (decided_for (K.bytes key) before (action_view V.bytes action))) }
+    ensures walk { IfOk result (λ goes. going.new.walk ≡ (if goes then record going.old.walk { floor = going.old.walk.floor + 1; entries = going.old.walk.entries - 1 } else going.old.walk)) }
+{
+    let Some(value) = value_of(action) else {
+        return Ok(false);
+    };
+    going.decided.push(Decided { key, value, before })?;
+    going.walk.decide();
+    Ok(true)
+}
+
+// Has the policy decide the live update at the floor, notes that, and tells whether the walk goes on.
+fn decide<F, U: Update, P: Policy<F, U::Key, U::Value>>(
+    alloc: Global,
+    policy: &mut P,
+    going: &mut Going<F, U::Key, U::Value>,
+    found: Found<U>,
+) -> Result<bool, AllocError>
+    requires entries { 0 < going.old.walk.entries }
+    requires floor { going.old.walk.floor < 2 ^ 64 - 1 }
+    ensures value { IfOk result (λ goes. (base list : List model.Operation) (all : walks.Walked P) → IsMoveAt (Some (found_view U.view found)) base list going.old.walk.floor
+        → IsGoing P.rules base list (decided_views U.Key.bytes U.Value.bytes going.old.decided.items) going.old.walk policy.old all
+        → MatchBool goes (IsGoing P.rules base list (decided_views U.Key.bytes U.Value.bytes going.new.decided.items) going.new.walk policy.new all) (AreDecided base (decided_views U.Key.bytes U.Value.bytes going.new.decided.items) going.new.walk.floor policy.new all)) }
+    ensures low { IfOk result (λ _. going.old.walk.floor ≤ going.new.walk.floor) }
+    ensures high { IfOk result (λ _. going.new.walk.floor ≤ going.old.walk.floor + 1) }
+    ensures passed { IfOk result (λ goes. goes ≡ true → going.new.walk.floor ≡ going.old.walk.floor + 1) }
+    ensures end { IfOk result (λ _. going.new.walk.end ≡ going.old.walk.end) }
+{
+    let Found { update, before } = found;
+    let key = update.key().twin(alloc)?;
+    let at = Location::new(going.walk.floor.get());
+    let action = ask(alloc, policy, at, &key, update.into_value())?;
+    note(going, key, before, action)
+}
+
+// Visits the next candidate, and tells whether the walk goes on.
+fn visit<
     F: Family,
     I: qm_index::Unordered<Value = Location<F>>,
+    B,
     C: Store,
     H: Hasher + Drop,
-    K: ByteString,
-    V: ValueEncoding<K>,
+    U: Update,
+    P: Policy<F, U::Key, U::Value>,
 >(
     alloc: Global,
-    index: &I,
+    path: &Path<'_, '_, '_, '_, '_, F, I, B, U>,
     log: &mut AuthLog<F, C, H>,
-    base: &Base<'_, F, Unordered<K, V>>,
-    last: &Last<'_, K, V::Value>,
-    made: &[Touch<F, Unordered<K, V>>],
-    entries: u64,
-) -> Result<Walked<F, Unordered<K, V>>, Error>
+    policy: &mut P,
+    going: &mut Going<F, U::Key, U::Value>,
+    at: u64,
+) -> Result<bool, Error>
+    requires low { going.old.walk.floor ≤ at }
+    requires high { at < going.old.walk.end }
+    ensures value { (lent list : List model.Operation) (ws : List Write) (all : walks.Walked P) → IsLent C.Store F.shape H.Digest.bytes H.hash U.form I.index_key (I.entries path.now.index.now) log.old lent → IsPath (path_view U.view U.Key.bytes U.Value.bytes path.now) lent list ws
+        → AreDead (list ++ unordered_writes list ws) going.old.walk.floor at → IsGoing P.rules list (list ++ unordered_writes list ws) (decided_views U.Key.bytes U.Value.bytes going.old.decided.items) going.old.walk policy.old all
+        → IfSome (C.told log.old.store) (λ _. IfOk result (λ goes. MatchBool goes
+            (AreDead (list ++ unordered_writes list ws) going.new.walk.floor (at + 1) × IsGoing P.rules list (list ++ unordered_writes list ws) (decided_views U.Key.bytes U.Value.bytes going.new.decided.items) going.new.walk policy.new all)
+            (AreDecided list (decided_views U.Key.bytes U.Value.bytes going.new.decided.items) going.new.walk.floor policy.new all))) }
+    ensures low { IfOk result (λ _. going.old.walk.floor ≤ going.new.walk.floor) }
+    ensures high { IfOk result (λ _. going.new.walk.floor ≤ at + 1) }
+    ensures end { IfOk result (λ _. going.new.walk.end ≡ going.old.walk.end) }
+    ensures read { IsRead C.Store F.shape H.Digest.bytes H.hash log.old log.new }
+    ensures error { IfErr result (IsReadError C.Store log.old log.new) }
+    ensures pruned { log.old.tree.start ≤ at → IfErr result (λ e. (n : ℕ) → e ≢ Error.Journal (JournalError.ItemPruned n)) }
+{
+    prove!(at < going.walk.end.get());
+    if going.walk.entries == 0 {
+        return Ok(false);
+    }
+    if !going.walk.reach(Location::new(at)) {
+        return Ok(false);
+    }
+    match live_at(alloc, path, log, at)? {
+        Some(found) => Ok(decide(alloc, policy, going, found)?),
+        None => Ok(true),
+    }
+}
+
+// Visits these candidates, and tells whether the walk goes on behind them.
+fn visit_all<
+    F: Family,
+    I: qm_index::Unordered<Value = Location<F>>,
+    B,
+    C: Store,
+    H: Hasher + Drop,
+    U: Update,
+    P: Policy<F, U::Key, U::Value>,
+>(
+    alloc: Global,
+    path: &Path<'_, '_, '_, '_, '_, F, I, B, U>,
+    log: &mut AuthLog<F, C, H>,
+    policy: &mut P,
+    going: &mut Going<F, U::Key, U::Value>,
+    round: &[Location<F>],
+) -> Result<bool, Error>
+    requires { IsSpaced going.old.walk.floor round.now going.old.walk.end }
+    ensures value { (lent list : List model.Operation) (ws : List Write) (next : ℕ) (all : walks.Walked P) → IsLent C.Store F.shape H.Digest.bytes H.hash U.form I.index_key (I.entries path.now.index.now) log.old lent → IsPath (path_view U.view U.Key.bytes U.Value.bytes path.now) lent list ws
+        → AreDeadBetween (list ++ unordered_writes list ws) going.old.walk.floor round.now next → IsGoing P.rules list (list ++ unordered_writes list ws) (decided_views U.Key.bytes U.Value.bytes going.old.decided.items) going.old.walk policy.old all
+        → IfSome (C.told log.old.store) (λ _. IfOk result (λ goes. MatchBool goes
+            (AreDead (list ++ unordered_writes list ws) going.new.walk.floor next × IsGoing P.rules list (list ++ unordered_writes list ws) (decided_views U.Key.bytes U.Value.bytes going.new.decided.items) going.new.walk policy.new all)
+            (AreDecided list (decided_views U.Key.bytes U.Value.bytes going.new.decided.items) going.new.walk.floor policy.new all))) }
+    ensures low { IfOk result (λ _. going.old.walk.floor ≤ going.new.walk.floor) }
+    ensures high { IfOk result (λ _. (next : ℕ) → IsSpaced going.old.walk.floor round.now next → going.new.walk.floor ≤ next) }
+    ensures end { IfOk result (λ _. going.new.walk.end ≡ going.old.walk.end) }
+    ensures read { IsRead C.Store F.shape H.Digest.bytes H.hash log.old log.new }
+    ensures error { IfErr result (IsReadError C.Store log.old log.new) }
+    ensures pruned { log.old.tree.start ≤ going.old.walk.floor → IfErr result (λ e. (n : ℕ) → e ≢ Error.Journal (JournalError.ItemPruned n)) }
+{
+    for at in round {
+        let goes = visit(alloc, path, log, policy, going, at.get())?;
+        if !goes {
+            return Ok(false);
+        }
+    }
+    Ok(true)
+}
+
+// Visits a round of candidates, those from a location on, and tells where the next one begins, if the walk goes on.
+fn walk_round<
+    F: Family,
+    I: qm_index::Unordered<Value = Location<F>>,
+    B: Candidates<F>,
+    C: Store,
+    H: Hasher + Drop,
+    U: Update,
+    P: Policy<F, U::Key, U::Value>,
+>(
+    alloc: Global,
+    path: &Path<'_, '_, '_, '_, '_, F, I, B, U>,
+    log: &mut AuthLog<F, C, H>,
+    policy: &mut P,
+    going: &mut Going<F, U::Key, U::Value>,
+    from: Location<F>,
+) -> Result<Option<Location<F>>, Error>
+    requires low { going.old.walk.floor ≤ from }
+    requires high { from < going.old.walk.end }
+    ensures value { (lent list : List model.Operation) (ws : List Write) (all : walks.Walked P) → IsLent C.Store F.shape H.Digest.bytes H.hash U.form I.index_key (I.entries path.now.index.now) log.old lent → B.activity path.now.candidates.now ≡ bits lent
+        → IsPath (path_view U.view U.Key.bytes U.Value.bytes path.now) lent list ws → AreDead (list ++ unordered_writes list ws) going.old.walk.floor from
+        → IsGoing P.rules list (list ++ unordered_writes list ws) (decided_views U.Key.bytes U.Value.bytes going.old.decided.items) going.old.walk policy.old all
+        → IfSome (C.told log.old.store) (λ _. IfOk result (λ next. MatchOption next
+            (AreDecided list (decided_views U.Key.bytes U.Value.bytes going.new.decided.items) going.new.walk.floor policy.new all)
+            (λ next. AreDead (list ++ unordered_writes list ws) going.new.walk.floor next × IsGoing P.rules list (list ++ unordered_writes list ws) (decided_views U.Key.bytes U.Value.bytes going.new.decided.items) going.new.walk policy.new all))) }
+    ensures low { IfOk result (λ _. going.old.walk.floor ≤ going.new.walk.floor) }
+    ensures next { IfOk result (λ next. IfSome next (λ next. (from < next) × (going.new.walk.floor ≤ next) × (next ≤ going.new.walk.end))) }
+    ensures end { IfOk result (λ _. going.new.walk.end ≡ going.old.walk.end) }
+    ensures read { IsRead C.Store F.shape H.Digest.bytes H.hash log.old log.new }
+    ensures error { IfErr result (IsReadError C.Store log.old log.new) }
+    ensures pruned { log.old.tree.start ≤ going.old.walk.floor → IfErr result (λ e. (n : ℕ) → e ≢ Error.Journal (JournalError.ItemPruned n)) }
+{
+    let mut round = Vec::new(alloc);
+    let next = path.candidates.fill(
+        from,
+        Location::new(going.walk.end.get()),
+        ROUND,
+        &mut round,
+    )?;
+    let goes = visit_all(alloc, path, log, policy, going, &round)?;
+    if goes { Ok(Some(next)) } else { Ok(None) }
+}
+
+// Passes what is left where no live update is, if the walk may still decide one.
+fn finish<F>(walk: &mut Walk<F>)
+    requires { walk.old.floor ≤ walk.old.end }
+    ensures none { walk.old.entries ≡ 0 → walk.new.floor ≡ walk.old.floor }
+    ensures some { 0 < walk.old.entries → walk.new.floor ≡ min walk.old.end (walk.old.floor + walk.old.skips) }
+{
+    if walk.entries == 0 {
+        return;
+    }
+    walk.exhaust();
+}
+
+// Walks to the end of the course, or to where the walk ends before.
+fn walk_on<
+    F: Family,
+    I: qm_index::Unordered<Value = Location<F>>,
+    B: Candidates<F>,
+    C: Store,
+    H: Hasher + Drop,
+    U: Update,
+    P: Policy<F, U::Key, U::Value>,
+>(
+    alloc: Global,
+    path: &Path<'_, '_, '_, '_, '_, F, I, B, U>,
+    log: &mut AuthLog<F, C, H>,
+    policy: &mut P,
+    going: &mut Going<F, U::Key, U::Value>,
+) -> Result<(), Error>
+    requires { going.old.walk.floor ≤ going.old.walk.end }
+    ensures value { (lent list : List model.Operation) (ws : List Write) (all : walks.Walked P) → IsLent C.Store F.shape H.Digest.bytes H.hash U.form I.index_key (I.entries path.now.index.now) log.old lent → B.activity path.now.candidates.now ≡ bits lent
+        → IsPath (path_view U.view U.Key.bytes U.Value.bytes path.now) lent list ws → IsGoing P.rules list (list ++ unordered_writes list ws) (decided_views U.Key.bytes U.Value.bytes going.old.decided.items) going.old.walk policy.old all
+        → IfSome (C.told log.old.store) (λ _. OnOk result (AreDecided list (decided_views U.Key.bytes U.Value.bytes going.new.decided.items) going.new.walk.floor policy.new all)) }
+    ensures read { IsRead C.Store F.shape H.Digest.bytes H.hash log.old log.new }
+    ensures error { IfErr result (IsReadError C.Store log.old log.new) }
+    ensures pruned { log.old.tree.start ≤ going.old.walk.floor → IfErr result (λ e. (n : ℕ) → e ≢ Error.Journal (JournalError.ItemPruned n)) }
+{
+    let end = going.walk.end.get();
+    let floor = going.walk.floor.get();
+    let mut from = floor;
+    while from < end {
+        let next = walk_round(alloc, path, log, policy, going, Location::new(from))?;
+        let Some(next) = next else {
+            return Ok(());
+        };
+        from = next.get();
+    }
+    finish(&mut going.walk);
+    Ok(())
+}
+
+// Walks from the floor on, to the end of the operations of writes at most, as the policy decides, within these limits.
+fn walk_from<
+    F: Family,
+    I: qm_index::Unordered<Value = Location<F>>,
+    B: Candidates<F>,
+    C: Store,
+    H: Hasher + Drop,
+    U: Update,
+    P: Policy<F, U::Key, U::Value>,
+>(
+    alloc: Global,
+    path: &Path<'_, '_, '_, '_, '_, F, I, B, U>,
+    log: &mut AuthLog<F, C, H>,
+    policy: &mut P,
+    limits: Limits,
+) -> Result<Walked<U::Key, U::Value>, Error>
+    requires { path.now.base.now.size ≤ 2 ^ 62 }
+    ensures value { (lent list : List model.Operation) (ws : List Write) → IsLent C.Store F.shape H.Digest.bytes H.hash U.form I.index_key (I.entries path.now.index.now) log.old lent → B.activity path.now.candidates.now ≡ bits lent
+        → IsPath (path_view U.view U.Key.bytes U.Value.bytes path.now) lent list ws
+        → IfSome (C.told log.old.store) (λ _. IfOk result (λ walked. AreDecided list (decided_views U.Key.bytes U.Value.bytes walked.decided.items) walked.floor policy.new
+        (walks.walk P.rules (list ++ unordered_writes list ws) (floor list) (record { entries = limits.entries; skips = limits.skips }) policy.old))) }
+    ensures read { IsRead C.Store F.shape H.Digest.bytes H.hash log.old log.new }
+    ensures error { IfErr result (IsReadError C.Store log.old log.new) }
+    ensures pruned { log.old.tree.start ≤ path.now.base.now.floor → IfErr result (λ e. (n : ℕ) → e ≢ Error.Journal (JournalError.ItemPruned n)) }
+{
+    let floor = path.base.floor.get();
+    let tip = floor.max(path.base.size + path.made.len() as u64);
+    let walk = Walk::new(
+        Location::new(floor),
+        Location::new(tip),
+        limits.entries,
+        limits.skips,
+    );
+    let mut going = Going {
+        walk,
+        decided: Vec::new(alloc),
+    };
+    walk_on(alloc, path, log, policy, &mut going)?;
+    Ok(Walked {
+        decided: going.decided,
+        floor: going.walk.floor.get(),
+    })
+}
+
+/// Walks over a base list and the operations that the last writes put behind it, within these limits.
+#[allow(clippy::too_many_arguments)]
+pub(crate) fn walk_over<
+    'a,
+    'b: 'a,
+    'l,
+    'm,
+    'w: 'l,
+    F: Family,
+    I: qm_index::Unordered<Value = Location<F>>,
+    B: Candidates<F>,
+    C: Store,
+    H: Hasher + Drop,
+    U: Update,
+    P: Policy<F, U::Key, U::Value>,
+>(
+    alloc: Global,
+    index: &'a I,
+    candidates: &'a B,
+    log: &mut AuthLog<F, C, H>,
+    base: &'a Base<'b, F, U>,
+    last: &'l Last<'w, U::Key, U::Value>,
+    made: &'m [Touch<F, U>],
+    policy: &mut P,
+    limits: Limits,
+) -> Result<Walked<U::Key, U::Value>, Error>
     requires { base.now.size ≤ 2 ^ 62 }
-    ensures value { (lent list : List model.Operation) (ws : List Write) → IsLent C.Store F.shape H.Digest.bytes H.hash ⟦<Unordered<K, V> as Update>⟧.form I.index_key (I.entries index.now) log.old lent → IsBase (base_view base.now) lent list
-        → map (last_view K.bytes V.Value.bytes) last.now.entries ≡ map keyed (last_writes ws) → unordered_touches K.bytes V.Value.bytes made.now ≡ written_touches list (last_writes ws)
-        → IfSome (C.told log.old.store) (λ _. IfOk result (λ walked. AreMoves (unordered_touches K.bytes V.Value.bytes walked.moves.items) walked.floor list
-        (walks.walk policies (list ++ unordered_writes list ws) base.now.floor (record { entries = entries; skips = 2 ^ 64 - 1 }) proportional))) }
+    ensures value { (lent list : List model.Operation) (ws : List Write) → IsLent C.Store F.shape H.Digest.bytes H.hash U.form I.index_key (I.entries index.now) log.old lent → B.activity candidates.now ≡ bits lent
+        → IsBase (base_view base.now) lent list → map (last_view U.Key.bytes U.Value.bytes) last.now.entries ≡ map keyed (last_writes ws) → touch_views U.view U.Key.bytes U.Value.bytes made.now ≡ written_touches list (last_writes ws)
+        → IfSome (C.told log.old.store) (λ _. IfOk result (λ walked. AreDecided list (decided_views U.Key.bytes U.Value.bytes walked.decided.items) walked.floor policy.new
+        (walks.walk P.rules (list ++ unordered_writes list ws) (floor list) (record { entries = limits.entries; skips = limits.skips }) policy.old))) }
     ensures read { IsRead C.Store F.shape H.Digest.bytes H.hash log.old log.new }
     ensures error { IfErr result (IsReadError C.Store log.old log.new) }
     ensures pruned { log.old.tree.start ≤ base.now.floor → IfErr result (λ e. (n : ℕ) → e ≢ Error.Journal (JournalError.ItemPruned n)) }
 {
-    let floor = base.floor.get();
-    let end = base.size + made.len() as u64;
-    let mut entries = entries;
-    let mut moves = Vec::new(alloc);
-    for at in floor..end {
-        if entries == 0 {
-            return Ok(Walked { moves, floor: at });
-        }
-        let moved = move_at(alloc, index, log, base, last, made, at)?;
-        entries = add_move(&mut moves, moved, entries)?;
-    }
-    Ok(Walked {
-        moves,
-        floor: floor.max(end),
-    })
+    let path = Path {
+        index,
+        candidates,
+        base,
+        last,
+        made,
+    };
+    walk_from(alloc, &path, log, policy, limits)
 }

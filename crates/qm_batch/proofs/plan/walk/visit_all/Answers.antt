@@ -1,0 +1,132 @@
+use Rattle.std.proofs.Common.{◌≡◌, ◌∙◌, ◌∷◌, ◌+◌, ◌++◌, ◌≤◌, ap, sym, subst, arith, drop, refl}
+use Rattle.std.proofs.lemmas.List.{drop_all}
+use Rattle.std.proofs.lemmas.Result.{err_from_is_err_and}
+use Rattle.qm_model.proofs.Results.{told-any, told-err, told-one, told-then}
+use Rattle.qm_model.specs.Writes.{unordered_writes}
+use Rattle.qm_batch.specs.Going.{AreDeadBetween, IsSpaced}
+use Rattle.qm_batch.proofs.PlanGoing.{between-then, spaced-below}
+use Rattle.qm_batch.proofs.PlanRounds.{chosen-false, chosen-true, in-round}
+use Rattle.qm_batch.proofs.Reading.{read-none, read-then, error-then, lent-then, told}
+use Rattle.qm_batch.proofs.plan.walk.visit_all.Goals as goal
+
+pub loop-at-init : goal.loop-at-init
+loop-at-init g c = record {
+  read = read-none g.C.Store g.F.Family.shape g.H.Digest.Digest.bytes g.H.Hasher.hash c.args.log.now;
+  low = omega arith;
+  end = refl;
+  spaced = λ next spaced. spaced;
+  value = λ lent list ws next all is on dead going. told-any _ (g.C.Store.told c.args.log.now.store) (dead, going);
+}
+
+pub visit-requires-clause-low : goal.visit-requires-clause-low
+visit-requires-clause-low g c =
+    let here = in-round c.args.round.now c.loop-at.at-index c.at-item.result c.loop-at-test.true c.at-item.is in
+    let spaced = subst (λ xs. IsSpaced c.loop-at.going.walk.floor xs c.args.going.now.walk.end) here (c.loop-at.invariant.spaced c.args.going.now.walk.end c.requires) in
+    let low = spaced.0 in
+    omega (arith, low, c.get.ensures)
+
+pub visit-requires-clause-high : goal.visit-requires-clause-high
+visit-requires-clause-high g c =
+    let here = in-round c.args.round.now c.loop-at.at-index c.at-item.result c.loop-at-test.true c.at-item.is in
+    let spaced = subst (λ xs. IsSpaced c.loop-at.going.walk.floor xs c.args.going.now.walk.end) here (c.loop-at.invariant.spaced c.args.going.now.walk.end c.requires) in
+    let high = spaced.1 in
+    let end = c.loop-at.invariant.end in
+    omega (arith, high, end, c.get.ensures)
+
+pub returns-in_err-goes-clause-value : goal.returns-in_err-goes-clause-value
+returns-in_err-goes-clause-value g c = λ lent list ws next all is on dead going.
+    let exit = err_from_is_err_and c.from_residual.result c.from_residual.ensures.1 in
+    told-err _ (g.C.Store.told c.args.log.now.store) c.from_residual.result exit.0 exit.1
+
+pub returns-in_err-goes-clause-read : goal.returns-in_err-goes-clause-read
+returns-in_err-goes-clause-read g c = read-then g.C.Store g.F.Family.shape g.H.Digest.Digest.bytes g.H.Hasher.hash c.args.log.now c.loop-at.log c.visit.new.log c.loop-at.invariant.read c.visit.ensures.read
+
+pub returns-in_err-goes-clause-error : goal.returns-in_err-goes-clause-error
+returns-in_err-goes-clause-error g c =
+    let exit = err_from_is_err_and c.from_residual.result c.from_residual.ensures.1 in
+    rw (exit.1, exit.2) (error-then g.C.Store g.F.Family.shape g.H.Digest.Digest.bytes g.H.Hasher.hash c.args.log.now c.loop-at.log c.visit.new.log _ c.loop-at.invariant.read c.in_err-goes.ensures.error)
+
+pub returns-in_err-goes-clause-pruned : goal.returns-in_err-goes-clause-pruned
+returns-in_err-goes-clause-pruned g c = λ above.
+    let exit = err_from_is_err_and c.from_residual.result c.from_residual.ensures.1 in
+    let same = ap (λ t. t.start) (c.loop-at.invariant.read).tree in
+    let here = in-round c.args.round.now c.loop-at.at-index c.at-item.result c.loop-at-test.true c.at-item.is in
+    let spaced = subst (λ xs. IsSpaced c.loop-at.going.walk.floor xs c.args.going.now.walk.end) here (c.loop-at.invariant.spaced c.args.going.now.walk.end c.requires) in
+    let first = spaced.0 in
+    let low = c.loop-at.invariant.low in
+    rw (exit.1, exit.2) (c.in_err-goes.ensures.pruned (omega (arith, same, low, first, above, c.get.ensures)))
+
+pub returns-then-not-goes-clause-value : goal.returns-then-not-goes-clause-value
+returns-then-not-goes-clause-value g c = λ lent base ws next all is on dead going.
+    let list = base ++ unordered_writes base ws in
+    let read = c.loop-at.invariant.read in
+    let here = in-round c.args.round.now c.loop-at.at-index c.at-item.result c.loop-at-test.true c.at-item.is ∙ ap (λ x. x ∷ drop (c.loop-at.at-index + 1) c.args.round.now) (sym c.get.ensures) in
+    let mid = lent-then g.C.Store g.F.Family.shape g.H.Digest.Digest.bytes g.H.Hasher.hash _ g.I.Unordered.index_key (g.I.Unordered.entries c.args.path.now.index.now) c.args.log.now c.loop-at.log lent read is in
+    told-then _ _ (g.C.Store.told c.args.log.now.store) (c.loop-at.invariant.value lent base ws next all is on dead going) (λ so_far.
+    let between = subst (λ xs. AreDeadBetween list c.loop-at.going.walk.floor xs next) here so_far.0 in
+    told-one _ _ (g.C.Store.told c.args.log.now.store) (told _ _ _ read.kept.told (c.in_ok-goes.ensures.value lent base ws all mid on between.0 so_far.1)) (λ visited.
+    chosen-false c.in_ok-goes.goes _ _ c.if-not-goes.true visited))
+
+pub returns-then-not-goes-clause-high : goal.returns-then-not-goes-clause-high
+returns-then-not-goes-clause-high g c = λ next spaced.
+    let here = in-round c.args.round.now c.loop-at.at-index c.at-item.result c.loop-at-test.true c.at-item.is in
+    let now = subst (λ xs. IsSpaced c.loop-at.going.walk.floor xs next) here (c.loop-at.invariant.spaced next spaced) in
+    let high = now.1 in
+    let past = c.in_ok-goes.ensures.high in
+    omega (arith, high, past, c.get.ensures)
+
+pub loop-at-preserved : goal.loop-at-preserved
+loop-at-preserved g c =
+    let read = c.loop-at.invariant.read in
+    let low = c.loop-at.invariant.low in
+    let end = c.loop-at.invariant.end in
+    let later = c.in_ok-goes.ensures.low in
+    let past = c.in_ok-goes.ensures.high in
+    let rest = drop (c.loop-at.at-index + 1) c.args.round.now in
+    let same = c.get.ensures in
+    let below : c.visit.new.going.walk.floor ≤ c.at-item.result + 1 = omega (arith, past, same) in
+    let here = in-round c.args.round.now c.loop-at.at-index c.at-item.result c.loop-at-test.true c.at-item.is in
+    record {
+      read = read-then g.C.Store g.F.Family.shape g.H.Digest.Digest.bytes g.H.Hasher.hash c.args.log.now c.loop-at.log c.visit.new.log read c.visit.ensures.read;
+      low = omega (arith, low, later);
+      end = c.in_ok-goes.ensures.end ∙ end;
+      spaced = λ next spaced.
+          let now = subst (λ xs. IsSpaced c.loop-at.going.walk.floor xs next) here (c.loop-at.invariant.spaced next spaced) in
+          spaced-below c.visit.new.going.walk.floor (c.at-item.result + 1) next rest below now.2;
+      value = λ lent base ws next all is on dead going.
+          let list = base ++ unordered_writes base ws in
+          let there = here ∙ ap (λ x. x ∷ rest) (sym same) in
+          let mid = lent-then g.C.Store g.F.Family.shape g.H.Digest.Digest.bytes g.H.Hasher.hash _ g.I.Unordered.index_key (g.I.Unordered.entries c.args.path.now.index.now) c.args.log.now c.loop-at.log lent read is in
+          told-then _ _ (g.C.Store.told c.args.log.now.store) (c.loop-at.invariant.value lent base ws next all is on dead going) (λ so_far.
+          let between = subst (λ xs. AreDeadBetween list c.loop-at.going.walk.floor xs next) there so_far.0 in
+          told-one _ _ (g.C.Store.told c.args.log.now.store) (told _ _ _ read.kept.told (c.in_ok-goes.ensures.value lent base ws all mid on between.0 so_far.1)) (λ visited.
+          let goes = chosen-true c.in_ok-goes.goes _ _ c.if-not-goes.false visited in
+          (between-then list c.visit.new.going.walk.floor (c.get.result + 1) next rest goes.0 between.1, goes.1)));
+    }
+
+pub returns-clause-value : goal.returns-clause-value
+returns-clause-value g c = λ lent base ws next all is on dead going.
+    let list = base ++ unordered_writes base ws in
+    told-one _ _ (g.C.Store.told c.args.log.now.store) (c.loop-at.invariant.value lent base ws next all is on dead going) (λ so_far.
+    (subst (λ xs. AreDeadBetween list c.loop-at.going.walk.floor xs next) (drop_all c.loop-at.at-index c.args.round.now c.loop-at-test.false) so_far.0, so_far.1))
+
+pub returns-clause-high : goal.returns-clause-high
+returns-clause-high g c = λ next spaced. subst (λ xs. IsSpaced c.loop-at.going.walk.floor xs next) (drop_all c.loop-at.at-index c.args.round.now c.loop-at-test.false) (c.loop-at.invariant.spaced next spaced)
+
+pub returns-then-not-goes-clause-read : goal.returns-then-not-goes-clause-read
+returns-then-not-goes-clause-read g c = read-then g.C.Store g.F.Family.shape g.H.Digest.Digest.bytes g.H.Hasher.hash c.args.log.now c.loop-at.log c.visit.new.log c.loop-at.invariant.read c.visit.ensures.read
+
+pub returns-then-not-goes-clause-low : goal.returns-then-not-goes-clause-low
+returns-then-not-goes-clause-low g c = let low = c.loop-at.invariant.low in let later = c.in_ok-goes.ensures.low in omega (arith, low, later)
+
+pub returns-then-not-goes-clause-end : goal.returns-then-not-goes-clause-end
+returns-then-not-goes-clause-end g c = c.in_ok-goes.ensures.end ∙ c.loop-at.invariant.end
+
+pub returns-clause-read : goal.returns-clause-read
+returns-clause-read g c = c.loop-at.invariant.read
+
+pub returns-clause-low : goal.returns-clause-low
+returns-clause-low g c = c.loop-at.invariant.low
+
+pub returns-clause-end : goal.returns-clause-end
+returns-clause-end g c = c.loop-at.invariant.end
