@@ -201,10 +201,7 @@ fn unwritten_at<
 }
 
 // The update that an operation of writes is.
-fn again<F, U: Update>(
-    alloc: Global,
-    touch: &Touch<F, U>,
-) -> Result<Option<Found<U>>, AllocError>
+fn again<F, U: Update>(alloc: Global, touch: &Touch<F, U>) -> Result<Option<Found<U>>, AllocError>
     ensures operation { IfOk result (λ found. option_map (λ f. U.view f.update) found ≡ said_by (operation_view U.view U.Key.bytes U.Value.bytes touch.now.operation)) }
     ensures before { IfOk result (λ found. IfSome found (λ f. f.before ≡ touch.now.before)) }
 {
@@ -345,8 +342,8 @@ fn visit<
     ensures value { (lent list : List model.Operation) (ws : List Write) (all : walks.Walked P) → IsLent C.Store F.shape H.Digest.bytes H.hash U.form I.index_key (I.entries path.now.index.now) log.old lent → IsPath (path_view U.view U.Key.bytes U.Value.bytes path.now) lent list ws
         → AreDead (list ++ unordered_writes list ws) going.old.walk.floor at → IsGoing P.rules list (list ++ unordered_writes list ws) (decided_views U.Key.bytes U.Value.bytes going.old.decided.items) going.old.walk policy.old all
         → IfSome (C.told log.old.store) (λ _. IfOk result (λ goes. MatchBool goes
-            (AreDead (list ++ unordered_writes list ws) going.new.walk.floor (at + 1) × IsGoing P.rules list (list ++ unordered_writes list ws) (decided_views U.Key.bytes U.Value.bytes going.new.decided.items) going.new.walk policy.new all)
-            (AreDecided list (decided_views U.Key.bytes U.Value.bytes going.new.decided.items) going.new.walk.floor policy.new all))) }
+        (AreDead (list ++ unordered_writes list ws) going.new.walk.floor (at + 1) × IsGoing P.rules list (list ++ unordered_writes list ws) (decided_views U.Key.bytes U.Value.bytes going.new.decided.items) going.new.walk policy.new all)
+        (AreDecided list (decided_views U.Key.bytes U.Value.bytes going.new.decided.items) going.new.walk.floor policy.new all))) }
     ensures low { IfOk result (λ _. going.old.walk.floor ≤ going.new.walk.floor) }
     ensures high { IfOk result (λ _. going.new.walk.floor ≤ at + 1) }
     ensures end { IfOk result (λ _. going.new.walk.end ≡ going.old.walk.end) }
@@ -388,8 +385,8 @@ fn visit_all<
     ensures value { (lent list : List model.Operation) (ws : List Write) (next : ℕ) (all : walks.Walked P) → IsLent C.Store F.shape H.Digest.bytes H.hash U.form I.index_key (I.entries path.now.index.now) log.old lent → IsPath (path_view U.view U.Key.bytes U.Value.bytes path.now) lent list ws
         → AreDeadBetween (list ++ unordered_writes list ws) going.old.walk.floor round.now next → IsGoing P.rules list (list ++ unordered_writes list ws) (decided_views U.Key.bytes U.Value.bytes going.old.decided.items) going.old.walk policy.old all
         → IfSome (C.told log.old.store) (λ _. IfOk result (λ goes. MatchBool goes
-            (AreDead (list ++ unordered_writes list ws) going.new.walk.floor next × IsGoing P.rules list (list ++ unordered_writes list ws) (decided_views U.Key.bytes U.Value.bytes going.new.decided.items) going.new.walk policy.new all)
-            (AreDecided list (decided_views U.Key.bytes U.Value.bytes going.new.decided.items) going.new.walk.floor policy.new all))) }
+        (AreDead (list ++ unordered_writes list ws) going.new.walk.floor next × IsGoing P.rules list (list ++ unordered_writes list ws) (decided_views U.Key.bytes U.Value.bytes going.new.decided.items) going.new.walk policy.new all)
+        (AreDecided list (decided_views U.Key.bytes U.Value.bytes going.new.decided.items) going.new.walk.floor policy.new all))) }
     ensures low { IfOk result (λ _. going.old.walk.floor ≤ going.new.walk.floor) }
     ensures high { IfOk result (λ _. (next : ℕ) → IsSpaced going.old.walk.floor round.now next → going.new.walk.floor ≤ next) }
     ensures end { IfOk result (λ _. going.new.walk.end ≡ going.old.walk.end) }
@@ -429,8 +426,8 @@ fn walk_round<
         → IsPath (path_view U.view U.Key.bytes U.Value.bytes path.now) lent list ws → AreDead (list ++ unordered_writes list ws) going.old.walk.floor from
         → IsGoing P.rules list (list ++ unordered_writes list ws) (decided_views U.Key.bytes U.Value.bytes going.old.decided.items) going.old.walk policy.old all
         → IfSome (C.told log.old.store) (λ _. IfOk result (λ next. MatchOption next
-            (AreDecided list (decided_views U.Key.bytes U.Value.bytes going.new.decided.items) going.new.walk.floor policy.new all)
-            (λ next. AreDead (list ++ unordered_writes list ws) going.new.walk.floor next × IsGoing P.rules list (list ++ unordered_writes list ws) (decided_views U.Key.bytes U.Value.bytes going.new.decided.items) going.new.walk policy.new all))) }
+        (AreDecided list (decided_views U.Key.bytes U.Value.bytes going.new.decided.items) going.new.walk.floor policy.new all)
+        (λ next. AreDead (list ++ unordered_writes list ws) going.new.walk.floor next × IsGoing P.rules list (list ++ unordered_writes list ws) (decided_views U.Key.bytes U.Value.bytes going.new.decided.items) going.new.walk policy.new all))) }
     ensures low { IfOk result (λ _. going.old.walk.floor ≤ going.new.walk.floor) }
     ensures next { IfOk result (λ next. IfSome next (λ next. (from < next) × (going.new.walk.floor ≤ next) × (next ≤ going.new.walk.end))) }
     ensures end { IfOk result (λ _. going.new.walk.end ≡ going.old.walk.end) }
@@ -439,12 +436,7 @@ fn walk_round<
     ensures pruned { log.old.tree.start ≤ going.old.walk.floor → IfErr result (λ e. (n : ℕ) → e ≢ Error.Journal (JournalError.ItemPruned n)) }
 {
     let mut round = Vec::new(alloc);
-    let next = path.candidates.fill(
-        from,
-        Location::new(going.walk.end.get()),
-        ROUND,
-        &mut round,
-    )?;
+    let next = path.candidates.fill(from, Location::new(going.walk.end.get()), ROUND, &mut round)?;
     let goes = visit_all(alloc, path, log, policy, going, &round)?;
     if goes { Ok(Some(next)) } else { Ok(None) }
 }
