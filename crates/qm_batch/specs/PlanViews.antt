@@ -93,7 +93,7 @@ module _ {U K V : Type 0} (update_view : U → Operation) (key : K → Bytes) (v
 
   -- what a walk goes over
   abbrev pub path_view : {F I B : Type 0} → path.Path F I B U K V → Path
-  path_view p = record { base = base_view p.base.now; last = map (last_view key value) p.last.now.entries; made = touch_views p.made.now }
+  path_view p = record { base = base_view p.base; last = map (last_view key value) p.last.entries; made = touch_views p.made.items }
 
 -- how operations of an unordered database are spelled
 abbrev pub unordered_form : (Bytes → Bool) → (Bytes → Bool) → Option (ℕ × ℕ) → Form

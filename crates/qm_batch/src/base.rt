@@ -1,5 +1,8 @@
 //! Base lists.
 
+ghost use Rattle.std.specs.Prelude.{◌≡◌};
+ghost use Rattle.qm_batch.specs.Bases.{base_view};
+
 use crate::layer::Layer;
 use qm_base::Location;
 use qm_base::update::Update;
@@ -16,4 +19,18 @@ pub struct Base<'a, F, U: Update> {
     pub floor: Location<F>,
     /// How many keys are live in it.
     pub live: u64,
+}
+
+impl<'a, F, U: Update> Base<'a, F, U> {
+    // The same, of which the layers are lent.
+    pub(crate) fn lent(&self) -> Base<'a, F, U>
+        ensures { base_view result ≡ base_view self.now }
+    {
+        Base {
+            layers: self.layers,
+            size: self.size,
+            floor: Location::new(self.floor.get()),
+            live: self.live,
+        }
+    }
 }

@@ -12,7 +12,7 @@ ghost use Rattle.qm_batch.specs.Bases.{base_view, IsBase};
 ghost use Rattle.qm_batch.specs.Going.{touch_for};
 ghost use Rattle.qm_batch.specs.Layers.{LeadOver};
 ghost use Rattle.qm_batch.specs.Lent.{IsLent, IsRead, IsReadError, NoneBelow};
-ghost use Rattle.qm_batch.specs.PlanViews.{decided_views, keyed, last_view, touch_views, unordered_touches, AreOwn};
+ghost use Rattle.qm_batch.specs.PlanViews.{decided_views, keyed, last_view, touch_views, unordered_touches, AreOwn, IsPath, path_view};
 ghost use Rattle.qm_batch.specs.Touches.{IsFrom, operations_of, written_touches};
 ghost use Rattle.qm_batch.specs.Views.{write_view, IsPlan, stepped, left_after};
 
@@ -25,7 +25,7 @@ mod writes;
 use self::decided::{add_decided, evicted};
 use self::diff::diff_of_touches;
 use self::touch::Touch;
-use self::walk::{Walked, walk_over};
+use self::walk::{Path, Walked, walk_from};
 use self::writes::{Last, find_sites, last_writes, written};
 use crate::base::Base;
 use crate::layer::Layer;
@@ -33,7 +33,7 @@ use crate::write::Write;
 use qm_base::update::{Unordered, Update};
 use qm_base::{ByteString, Error, Hasher, JournalError, Location, Operation, ValueEncoding};
 use qm_bits::Candidates;
-use qm_chain::{Diff, Policy};
+use qm_chain::{Diff, Limits, Policy};
 use qm_merkle::Family;
 use qm_store::{AuthLog, Store};
 use std::alloc::{AllocError, Global};
@@ -163,6 +163,39 @@ fn own_of<F, K: ByteString, V: ValueEncoding<K>>(
     })
 }
 
+// The own operations of a step whose walk goes along a path, within these limits, with so many keys live behind the writes.
+fn own_along<
+    F: Family,
+    I: qm_index::Unordered<Value = Location<F>>,
+    B: Candidates<F>,
+    C: Store,
+    H: Hasher + Drop,
+    K: ByteString,
+    V: ValueEncoding<K>,
+    P: Policy<F, K, V::Value>,
+>(
+    alloc: Global,
+    path: Path<'_, '_, '_, '_, F, I, B, Unordered<K, V>>,
+    log: &mut AuthLog<F, C, H>,
+    policy: &mut P,
+    limits: Limits,
+    behind: u64,
+) -> Result<Own<F, Unordered<K, V>>, Error>
+    requires { path.base.size ≤ 2 ^ 62 }
+    ensures own { (lent list : List model.Operation) (ws : List writes.Write) → IsLent C.Store F.shape H.Digest.bytes H.hash ⟦<Unordered<K, V> as Update>⟧.form I.index_key (I.entries path.index.now) log.old lent → B.activity path.candidates.now ≡ bits lent
+        → IsPath (path_view ⟦<Unordered<K, V> as Update>⟧.view K.bytes V.Value.bytes path) lent list ws → behind ≡ length (lives.live (list ++ writes.unordered_writes list ws))
+        → record { entries = limits.entries; skips = limits.skips } ≡ P.rules.limits policy.old (writes.made_inactive list (writes.unordered_writes list ws))
+        → IfSome (C.told log.old.store) (λ _. IfOk result (λ own. AreOwn P.rules policy.old policy.new (unordered_touches K.bytes V.Value.bytes own.touches.items) own.live own.floor list ws)) }
+    ensures count { IfOk result (λ own. (own.live ≤ behind) × (length path.made.items ≤ length own.touches.items)) }
+    ensures read { IsRead C.Store F.shape H.Digest.bytes H.hash log.old log.new }
+    ensures error { IfErr result (IsReadError C.Store log.old log.new) }
+    ensures pruned { log.old.tree.start ≤ path.base.floor → IfErr result (λ e. (n : ℕ) → e ≢ Error.Journal (JournalError.ItemPruned n)) }
+{
+    let walked = walk_from(alloc, &path, log, policy, limits)?;
+    let own = own_of(path.made, walked, behind)?;
+    Ok(own)
+}
+
 // The own operations of a step, found over its base list: those of the writes, and what the policy decides.
 fn own_operations<
     F: Family,
@@ -193,14 +226,17 @@ fn own_operations<
         → log.old.tree.start ≤ base.now.floor → IfErr result (λ e. (n : ℕ) → e ≢ Error.Journal (JournalError.ItemPruned n)) }
 {
     let last = last_writes(alloc, writes)?;
-    let touches = written_over(alloc, index, log, base.layers, &last)?;
-    let behind = live_behind(&touches, base.live);
-    let limits = policy.limits(made_inactive(&touches, base.live, behind));
-    let walked = walk_over(
-        alloc, index, candidates, log, base, &last, &touches, policy, limits,
-    )?;
-    let own = own_of(touches, walked, behind)?;
-    Ok(own)
+    let made = written_over(alloc, index, log, base.layers, &last)?;
+    let behind = live_behind(&made, base.live);
+    let limits = policy.limits(made_inactive(&made, base.live, behind));
+    let path = Path {
+        index,
+        candidates,
+        base: base.lent(),
+        last,
+        made,
+    };
+    own_along(alloc, path, log, policy, limits, behind)
 }
 
 // The floor of a commit at this location: where the walk ended, or the location where no key is live.

@@ -35,18 +35,18 @@ use qm_store::{AuthLog, Store};
 use std::alloc::{AllocError, Global};
 use std::rc::Rc;
 
-/// How many candidates a walk reads at a time.
-const ROUND: usize = 1_024;
+/// How many candidates a walk takes at a time, at most.
+const ROUND: u64 = 1_024;
 
 // What a walk goes over: a base list, and the operations that the last writes put behind it. Index and candidates are lent
 // for the base list or one on the way to it.
 #[derive(Drop)]
-struct Path<'a, 'b, 'l, 'm, 'w, F, I, B, U: Update> {
-    index: &'a I,
-    candidates: &'a B,
-    base: &'a Base<'b, F, U>,
-    last: &'l Last<'w, U::Key, U::Value>,
-    made: &'m [Touch<F, U>],
+pub(crate) struct Path<'i, 'c, 'b, 'w, F, I, B, U: Update> {
+    pub(crate) index: &'i I,
+    pub(crate) candidates: &'c B,
+    pub(crate) base: Base<'b, F, U>,
+    pub(crate) last: Last<'w, U::Key, U::Value>,
+    pub(crate) made: Vec<Touch<F, U>>,
 }
 
 /// What a walk decided, and where it ended.
@@ -224,7 +224,7 @@ fn live_at<
     U: Update,
 >(
     alloc: Global,
-    path: &Path<'_, '_, '_, '_, '_, F, I, B, U>,
+    path: &Path<'_, '_, '_, '_, F, I, B, U>,
     log: &mut AuthLog<F, C, H>,
     at: u64,
 ) -> Result<Option<Found<U>>, Error>
@@ -240,7 +240,7 @@ fn live_at<
             None => Ok(None),
         };
     }
-    match unwritten_at(alloc, path.index, log, path.base.layers, path.last, at)? {
+    match unwritten_at(alloc, path.index, log, path.base.layers, &path.last, at)? {
         Some(update) => Ok(Some(Found {
             update,
             before: Some(at),
@@ -331,7 +331,7 @@ fn visit<
     P: Policy<F, U::Key, U::Value>,
 >(
     alloc: Global,
-    path: &Path<'_, '_, '_, '_, '_, F, I, B, U>,
+    path: &Path<'_, '_, '_, '_, F, I, B, U>,
     log: &mut AuthLog<F, C, H>,
     policy: &mut P,
     going: &mut Going<F, U::Key, U::Value>,
@@ -375,7 +375,7 @@ fn visit_all<
     P: Policy<F, U::Key, U::Value>,
 >(
     alloc: Global,
-    path: &Path<'_, '_, '_, '_, '_, F, I, B, U>,
+    path: &Path<'_, '_, '_, '_, F, I, B, U>,
     log: &mut AuthLog<F, C, H>,
     policy: &mut P,
     going: &mut Going<F, U::Key, U::Value>,
@@ -403,6 +403,13 @@ fn visit_all<
     Ok(true)
 }
 
+// How many candidates a round has where so many live updates may still be decided: one at least.
+fn round_of(entries: u64) -> usize
+    ensures { 0 < result }
+{
+    entries.clamp(1, ROUND) as usize
+}
+
 // Visits a round of candidates, those from a location on, and tells where the next one begins, if the walk goes on.
 fn walk_round<
     F: Family,
@@ -414,7 +421,7 @@ fn walk_round<
     P: Policy<F, U::Key, U::Value>,
 >(
     alloc: Global,
-    path: &Path<'_, '_, '_, '_, '_, F, I, B, U>,
+    path: &Path<'_, '_, '_, '_, F, I, B, U>,
     log: &mut AuthLog<F, C, H>,
     policy: &mut P,
     going: &mut Going<F, U::Key, U::Value>,
@@ -436,7 +443,8 @@ fn walk_round<
     ensures pruned { log.old.tree.start ≤ going.old.walk.floor → IfErr result (λ e. (n : ℕ) → e ≢ Error.Journal (JournalError.ItemPruned n)) }
 {
     let mut round = Vec::new(alloc);
-    let next = path.candidates.fill(from, Location::new(going.walk.end.get()), ROUND, &mut round)?;
+    let limit = round_of(going.walk.entries);
+    let next = path.candidates.fill(from, Location::new(going.walk.end.get()), limit, &mut round)?;
     let goes = visit_all(alloc, path, log, policy, going, &round)?;
     if goes { Ok(Some(next)) } else { Ok(None) }
 }
@@ -464,7 +472,7 @@ fn walk_on<
     P: Policy<F, U::Key, U::Value>,
 >(
     alloc: Global,
-    path: &Path<'_, '_, '_, '_, '_, F, I, B, U>,
+    path: &Path<'_, '_, '_, '_, F, I, B, U>,
     log: &mut AuthLog<F, C, H>,
     policy: &mut P,
     going: &mut Going<F, U::Key, U::Value>,
@@ -491,8 +499,8 @@ fn walk_on<
     Ok(())
 }
 
-// Walks from the floor on, to the end of the operations of writes at most, as the policy decides, within these limits.
-fn walk_from<
+/// Walks from the floor on, to the end of the operations of writes at most, as the policy decides, within these limits.
+pub(crate) fn walk_from<
     F: Family,
     I: qm_index::Unordered<Value = Location<F>>,
     B: Candidates<F>,
@@ -502,19 +510,19 @@ fn walk_from<
     P: Policy<F, U::Key, U::Value>,
 >(
     alloc: Global,
-    path: &Path<'_, '_, '_, '_, '_, F, I, B, U>,
+    path: &Path<'_, '_, '_, '_, F, I, B, U>,
     log: &mut AuthLog<F, C, H>,
     policy: &mut P,
     limits: Limits,
 ) -> Result<Walked<U::Key, U::Value>, Error>
-    requires { path.now.base.now.size ≤ 2 ^ 62 }
+    requires { path.now.base.size ≤ 2 ^ 62 }
     ensures value { (lent list : List model.Operation) (ws : List Write) → IsLent C.Store F.shape H.Digest.bytes H.hash U.form I.index_key (I.entries path.now.index.now) log.old lent → B.activity path.now.candidates.now ≡ bits lent
         → IsPath (path_view U.view U.Key.bytes U.Value.bytes path.now) lent list ws
         → IfSome (C.told log.old.store) (λ _. IfOk result (λ walked. AreDecided list (decided_views U.Key.bytes U.Value.bytes walked.decided.items) walked.floor policy.new
         (walks.walk P.rules (list ++ unordered_writes list ws) (floor list) (record { entries = limits.entries; skips = limits.skips }) policy.old))) }
     ensures read { IsRead C.Store F.shape H.Digest.bytes H.hash log.old log.new }
     ensures error { IfErr result (IsReadError C.Store log.old log.new) }
-    ensures pruned { log.old.tree.start ≤ path.now.base.now.floor → IfErr result (λ e. (n : ℕ) → e ≢ Error.Journal (JournalError.ItemPruned n)) }
+    ensures pruned { log.old.tree.start ≤ path.now.base.floor → IfErr result (λ e. (n : ℕ) → e ≢ Error.Journal (JournalError.ItemPruned n)) }
 {
     let floor = path.base.floor.get();
     let tip = floor.max(path.base.size + path.made.len() as u64);
@@ -533,49 +541,4 @@ fn walk_from<
         decided: going.decided,
         floor: going.walk.floor.get(),
     })
-}
-
-/// Walks over a base list and the operations that the last writes put behind it, within these limits.
-#[allow(clippy::too_many_arguments)]
-pub(crate) fn walk_over<
-    'a,
-    'b: 'a,
-    'l,
-    'm,
-    'w: 'l,
-    F: Family,
-    I: qm_index::Unordered<Value = Location<F>>,
-    B: Candidates<F>,
-    C: Store,
-    H: Hasher + Drop,
-    U: Update,
-    P: Policy<F, U::Key, U::Value>,
->(
-    alloc: Global,
-    index: &'a I,
-    candidates: &'a B,
-    log: &mut AuthLog<F, C, H>,
-    base: &'a Base<'b, F, U>,
-    last: &'l Last<'w, U::Key, U::Value>,
-    made: &'m [Touch<F, U>],
-    policy: &mut P,
-    limits: Limits,
-) -> Result<Walked<U::Key, U::Value>, Error>
-    requires { base.now.size ≤ 2 ^ 62 }
-    ensures value { (lent list : List model.Operation) (ws : List Write) → IsLent C.Store F.shape H.Digest.bytes H.hash U.form I.index_key (I.entries index.now) log.old lent → B.activity candidates.now ≡ bits lent
-        → IsBase (base_view base.now) lent list → map (last_view U.Key.bytes U.Value.bytes) last.now.entries ≡ map keyed (last_writes ws) → touch_views U.view U.Key.bytes U.Value.bytes made.now ≡ written_touches list (last_writes ws)
-        → IfSome (C.told log.old.store) (λ _. IfOk result (λ walked. AreDecided list (decided_views U.Key.bytes U.Value.bytes walked.decided.items) walked.floor policy.new
-        (walks.walk P.rules (list ++ unordered_writes list ws) (floor list) (record { entries = limits.entries; skips = limits.skips }) policy.old))) }
-    ensures read { IsRead C.Store F.shape H.Digest.bytes H.hash log.old log.new }
-    ensures error { IfErr result (IsReadError C.Store log.old log.new) }
-    ensures pruned { log.old.tree.start ≤ base.now.floor → IfErr result (λ e. (n : ℕ) → e ≢ Error.Journal (JournalError.ItemPruned n)) }
-{
-    let path = Path {
-        index,
-        candidates,
-        base,
-        last,
-        made,
-    };
-    walk_from(alloc, &path, log, policy, limits)
 }

@@ -13,8 +13,8 @@ returns-in_ok-again-in-Some-clause-value g c = λ lent base ws is on.
     let size = (on.known).size in
     let view = touch_view g.U.Update.view g.U.Key.ByteString.bytes g.U.Value.ByteString.bytes in
     let found = c.in_ok-again-in-Some.field-0 in
-    let made = c.args.path.now.made.now in
-    let before = c.args.path.now.base.now.size in
+    let made = c.args.path.now.made.items in
+    let before = c.args.path.now.base.size in
     told-any _ (g.C.Store.told c.args.log.now.store)
     (again-is base ws c.args.at (omega (arith, size, c.if-path-at.true)) (touch_views g.U.Update.view g.U.Key.ByteString.bytes g.U.Value.ByteString.bytes made) on.made (view c.in-Some.touch.now) _
     (got-one view c.get.result made (c.args.at - before) (c.args.at - length base) c.in-Some.touch c.get.ensures.lookup c.in-Some.is (ap (λ n. c.args.at - n) size))
@@ -24,8 +24,8 @@ pub returns-in-None-clause-value : goal.returns-in-None-clause-value
 returns-in-None-clause-value g c = λ lent base ws is on.
     let size = (on.known).size in
     let view = touch_view g.U.Update.view g.U.Key.ByteString.bytes g.U.Value.ByteString.bytes in
-    let made = c.args.path.now.made.now in
-    let before = c.args.path.now.base.now.size in
+    let made = c.args.path.now.made.items in
+    let before = c.args.path.now.base.size in
     told-any _ (g.C.Store.told c.args.log.now.store)
     (again-none base ws c.args.at (omega (arith, size, c.if-path-at.true)) (touch_views g.U.Update.view g.U.Key.ByteString.bytes g.U.Value.ByteString.bytes made) on.made
     (got-none view c.get.result made (c.args.at - before) (c.args.at - length base) c.get.ensures.lookup c.in-None.is (ap (λ n. c.args.at - n) size)))
