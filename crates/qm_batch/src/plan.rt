@@ -175,7 +175,8 @@ fn own_along<
     P: Policy<F, K, V::Value>,
 >(
     alloc: Global,
-    path: Path<'_, '_, '_, '_, F, I, B, Unordered<K, V>>,
+    path: Path<'_, '_, '_, F, I, B, Unordered<K, V>>,
+    last: &Last<'_, K, V::Value>,
     log: &mut AuthLog<F, C, H>,
     policy: &mut P,
     limits: Limits,
@@ -183,7 +184,7 @@ fn own_along<
 ) -> Result<Own<F, Unordered<K, V>>, Error>
     requires { path.base.size ≤ 2 ^ 62 }
     ensures own { (lent list : List model.Operation) (ws : List writes.Write) → IsLent C.Store F.shape H.Digest.bytes H.hash ⟦<Unordered<K, V> as Update>⟧.form I.index_key (I.entries path.index.now) log.old lent → B.activity path.candidates.now ≡ bits lent
-        → IsPath (path_view ⟦<Unordered<K, V> as Update>⟧.view K.bytes V.Value.bytes path) lent list ws → behind ≡ length (lives.live (list ++ writes.unordered_writes list ws))
+        → IsPath (path_view ⟦<Unordered<K, V> as Update>⟧.view K.bytes V.Value.bytes path last.now) lent list ws → behind ≡ length (lives.live (list ++ writes.unordered_writes list ws))
         → record { entries = limits.entries; skips = limits.skips } ≡ P.rules.limits policy.old (writes.made_inactive list (writes.unordered_writes list ws))
         → IfSome (C.told log.old.store) (λ _. IfOk result (λ own. AreOwn P.rules policy.old policy.new (unordered_touches K.bytes V.Value.bytes own.touches.items) own.live own.floor list ws)) }
     ensures count { IfOk result (λ own. (own.live ≤ behind) × (length path.made.items ≤ length own.touches.items)) }
@@ -191,7 +192,7 @@ fn own_along<
     ensures error { IfErr result (IsReadError C.Store log.old log.new) }
     ensures pruned { log.old.tree.start ≤ path.base.floor → IfErr result (λ e. (n : ℕ) → e ≢ Error.Journal (JournalError.ItemPruned n)) }
 {
-    let walked = walk_from(alloc, &path, log, policy, limits)?;
+    let walked = walk_from(alloc, &path, last, log, policy, limits)?;
     let own = own_of(path.made, walked, behind)?;
     Ok(own)
 }
@@ -233,10 +234,9 @@ fn own_operations<
         index,
         candidates,
         base: base.lent(),
-        last,
         made,
     };
-    own_along(alloc, path, log, policy, limits, behind)
+    own_along(alloc, path, &last, log, policy, limits, behind)
 }
 
 // The floor of a commit at this location: where the walk ended, or the location where no key is live.

@@ -41,11 +41,10 @@ const ROUND: u64 = 1_024;
 // What a walk goes over: a base list, and the operations that the last writes put behind it. Index and candidates are lent
 // for the base list or one on the way to it.
 #[derive(Drop)]
-pub(crate) struct Path<'i, 'c, 'b, 'w, F, I, B, U: Update> {
+pub(crate) struct Path<'i, 'c, 'b, F, I, B, U: Update> {
     pub(crate) index: &'i I,
     pub(crate) candidates: &'c B,
     pub(crate) base: Base<'b, F, U>,
-    pub(crate) last: Last<'w, U::Key, U::Value>,
     pub(crate) made: Vec<Touch<F, U>>,
 }
 
@@ -224,11 +223,12 @@ fn live_at<
     U: Update,
 >(
     alloc: Global,
-    path: &Path<'_, '_, '_, '_, F, I, B, U>,
+    path: &Path<'_, '_, '_, F, I, B, U>,
+    last: &Last<'_, U::Key, U::Value>,
     log: &mut AuthLog<F, C, H>,
     at: u64,
 ) -> Result<Option<Found<U>>, Error>
-    ensures value { (lent list : List model.Operation) (ws : List Write) → IsLent C.Store F.shape H.Digest.bytes H.hash U.form I.index_key (I.entries path.now.index.now) log.old lent → IsPath (path_view U.view U.Key.bytes U.Value.bytes path.now) lent list ws
+    ensures value { (lent list : List model.Operation) (ws : List Write) → IsLent C.Store F.shape H.Digest.bytes H.hash U.form I.index_key (I.entries path.now.index.now) log.old lent → IsPath (path_view U.view U.Key.bytes U.Value.bytes path.now last.now) lent list ws
         → IfSome (C.told log.old.store) (λ _. IfOk result (λ found. IsMoveAt (option_map (found_view U.view) found) list (list ++ unordered_writes list ws) at)) }
     ensures read { IsRead C.Store F.shape H.Digest.bytes H.hash log.old log.new }
     ensures error { IfErr result (IsReadError C.Store log.old log.new) }
@@ -240,7 +240,7 @@ fn live_at<
             None => Ok(None),
         };
     }
-    match unwritten_at(alloc, path.index, log, path.base.layers, &path.last, at)? {
+    match unwritten_at(alloc, path.index, log, path.base.layers, last, at)? {
         Some(update) => Ok(Some(Found {
             update,
             before: Some(at),
@@ -331,7 +331,8 @@ fn visit<
     P: Policy<F, U::Key, U::Value>,
 >(
     alloc: Global,
-    path: &Path<'_, '_, '_, '_, F, I, B, U>,
+    path: &Path<'_, '_, '_, F, I, B, U>,
+    last: &Last<'_, U::Key, U::Value>,
     log: &mut AuthLog<F, C, H>,
     policy: &mut P,
     going: &mut Going<F, U::Key, U::Value>,
@@ -339,7 +340,7 @@ fn visit<
 ) -> Result<bool, Error>
     requires low { going.old.walk.floor ≤ at }
     requires high { at < going.old.walk.end }
-    ensures value { (lent list : List model.Operation) (ws : List Write) (all : walks.Walked P) → IsLent C.Store F.shape H.Digest.bytes H.hash U.form I.index_key (I.entries path.now.index.now) log.old lent → IsPath (path_view U.view U.Key.bytes U.Value.bytes path.now) lent list ws
+    ensures value { (lent list : List model.Operation) (ws : List Write) (all : walks.Walked P) → IsLent C.Store F.shape H.Digest.bytes H.hash U.form I.index_key (I.entries path.now.index.now) log.old lent → IsPath (path_view U.view U.Key.bytes U.Value.bytes path.now last.now) lent list ws
         → AreDead (list ++ unordered_writes list ws) going.old.walk.floor at → IsGoing P.rules list (list ++ unordered_writes list ws) (decided_views U.Key.bytes U.Value.bytes going.old.decided.items) going.old.walk policy.old all
         → IfSome (C.told log.old.store) (λ _. IfOk result (λ goes. MatchBool goes
         (AreDead (list ++ unordered_writes list ws) going.new.walk.floor (at + 1) × IsGoing P.rules list (list ++ unordered_writes list ws) (decided_views U.Key.bytes U.Value.bytes going.new.decided.items) going.new.walk policy.new all)
@@ -358,7 +359,7 @@ fn visit<
     if !going.walk.reach(Location::new(at)) {
         return Ok(false);
     }
-    match live_at(alloc, path, log, at)? {
+    match live_at(alloc, path, last, log, at)? {
         Some(found) => Ok(decide(alloc, policy, going, found)?),
         None => Ok(true),
     }
@@ -375,14 +376,15 @@ fn visit_all<
     P: Policy<F, U::Key, U::Value>,
 >(
     alloc: Global,
-    path: &Path<'_, '_, '_, '_, F, I, B, U>,
+    path: &Path<'_, '_, '_, F, I, B, U>,
+    last: &Last<'_, U::Key, U::Value>,
     log: &mut AuthLog<F, C, H>,
     policy: &mut P,
     going: &mut Going<F, U::Key, U::Value>,
     round: &[Location<F>],
 ) -> Result<bool, Error>
     requires { IsSpaced going.old.walk.floor round.now going.old.walk.end }
-    ensures value { (lent list : List model.Operation) (ws : List Write) (next : ℕ) (all : walks.Walked P) → IsLent C.Store F.shape H.Digest.bytes H.hash U.form I.index_key (I.entries path.now.index.now) log.old lent → IsPath (path_view U.view U.Key.bytes U.Value.bytes path.now) lent list ws
+    ensures value { (lent list : List model.Operation) (ws : List Write) (next : ℕ) (all : walks.Walked P) → IsLent C.Store F.shape H.Digest.bytes H.hash U.form I.index_key (I.entries path.now.index.now) log.old lent → IsPath (path_view U.view U.Key.bytes U.Value.bytes path.now last.now) lent list ws
         → AreDeadBetween (list ++ unordered_writes list ws) going.old.walk.floor round.now next → IsGoing P.rules list (list ++ unordered_writes list ws) (decided_views U.Key.bytes U.Value.bytes going.old.decided.items) going.old.walk policy.old all
         → IfSome (C.told log.old.store) (λ _. IfOk result (λ goes. MatchBool goes
         (AreDead (list ++ unordered_writes list ws) going.new.walk.floor next × IsGoing P.rules list (list ++ unordered_writes list ws) (decided_views U.Key.bytes U.Value.bytes going.new.decided.items) going.new.walk policy.new all)
@@ -395,7 +397,7 @@ fn visit_all<
     ensures pruned { log.old.tree.start ≤ going.old.walk.floor → IfErr result (λ e. (n : ℕ) → e ≢ Error.Journal (JournalError.ItemPruned n)) }
 {
     for at in round {
-        let goes = visit(alloc, path, log, policy, going, at.get())?;
+        let goes = visit(alloc, path, last, log, policy, going, at.get())?;
         if !goes {
             return Ok(false);
         }
@@ -421,7 +423,8 @@ fn walk_round<
     P: Policy<F, U::Key, U::Value>,
 >(
     alloc: Global,
-    path: &Path<'_, '_, '_, '_, F, I, B, U>,
+    path: &Path<'_, '_, '_, F, I, B, U>,
+    last: &Last<'_, U::Key, U::Value>,
     log: &mut AuthLog<F, C, H>,
     policy: &mut P,
     going: &mut Going<F, U::Key, U::Value>,
@@ -430,7 +433,7 @@ fn walk_round<
     requires low { going.old.walk.floor ≤ from }
     requires high { from < going.old.walk.end }
     ensures value { (lent list : List model.Operation) (ws : List Write) (all : walks.Walked P) → IsLent C.Store F.shape H.Digest.bytes H.hash U.form I.index_key (I.entries path.now.index.now) log.old lent → B.activity path.now.candidates.now ≡ bits lent
-        → IsPath (path_view U.view U.Key.bytes U.Value.bytes path.now) lent list ws → AreDead (list ++ unordered_writes list ws) going.old.walk.floor from
+        → IsPath (path_view U.view U.Key.bytes U.Value.bytes path.now last.now) lent list ws → AreDead (list ++ unordered_writes list ws) going.old.walk.floor from
         → IsGoing P.rules list (list ++ unordered_writes list ws) (decided_views U.Key.bytes U.Value.bytes going.old.decided.items) going.old.walk policy.old all
         → IfSome (C.told log.old.store) (λ _. IfOk result (λ next. MatchOption next
         (AreDecided list (decided_views U.Key.bytes U.Value.bytes going.new.decided.items) going.new.walk.floor policy.new all)
@@ -445,7 +448,7 @@ fn walk_round<
     let mut round = Vec::new(alloc);
     let limit = round_of(going.walk.entries);
     let next = path.candidates.fill(from, Location::new(going.walk.end.get()), limit, &mut round)?;
-    let goes = visit_all(alloc, path, log, policy, going, &round)?;
+    let goes = visit_all(alloc, path, last, log, policy, going, &round)?;
     if goes { Ok(Some(next)) } else { Ok(None) }
 }
 
@@ -472,14 +475,15 @@ fn walk_on<
     P: Policy<F, U::Key, U::Value>,
 >(
     alloc: Global,
-    path: &Path<'_, '_, '_, '_, F, I, B, U>,
+    path: &Path<'_, '_, '_, F, I, B, U>,
+    last: &Last<'_, U::Key, U::Value>,
     log: &mut AuthLog<F, C, H>,
     policy: &mut P,
     going: &mut Going<F, U::Key, U::Value>,
 ) -> Result<(), Error>
     requires { going.old.walk.floor ≤ going.old.walk.end }
     ensures value { (lent list : List model.Operation) (ws : List Write) (all : walks.Walked P) → IsLent C.Store F.shape H.Digest.bytes H.hash U.form I.index_key (I.entries path.now.index.now) log.old lent → B.activity path.now.candidates.now ≡ bits lent
-        → IsPath (path_view U.view U.Key.bytes U.Value.bytes path.now) lent list ws → IsGoing P.rules list (list ++ unordered_writes list ws) (decided_views U.Key.bytes U.Value.bytes going.old.decided.items) going.old.walk policy.old all
+        → IsPath (path_view U.view U.Key.bytes U.Value.bytes path.now last.now) lent list ws → IsGoing P.rules list (list ++ unordered_writes list ws) (decided_views U.Key.bytes U.Value.bytes going.old.decided.items) going.old.walk policy.old all
         → IfSome (C.told log.old.store) (λ _. OnOk result (AreDecided list (decided_views U.Key.bytes U.Value.bytes going.new.decided.items) going.new.walk.floor policy.new all)) }
     ensures read { IsRead C.Store F.shape H.Digest.bytes H.hash log.old log.new }
     ensures error { IfErr result (IsReadError C.Store log.old log.new) }
@@ -489,7 +493,7 @@ fn walk_on<
     let floor = going.walk.floor.get();
     let mut from = floor;
     while from < end {
-        let next = walk_round(alloc, path, log, policy, going, Location::new(from))?;
+        let next = walk_round(alloc, path, last, log, policy, going, Location::new(from))?;
         let Some(next) = next else {
             return Ok(());
         };
@@ -510,14 +514,15 @@ pub(crate) fn walk_from<
     P: Policy<F, U::Key, U::Value>,
 >(
     alloc: Global,
-    path: &Path<'_, '_, '_, '_, F, I, B, U>,
+    path: &Path<'_, '_, '_, F, I, B, U>,
+    last: &Last<'_, U::Key, U::Value>,
     log: &mut AuthLog<F, C, H>,
     policy: &mut P,
     limits: Limits,
 ) -> Result<Walked<U::Key, U::Value>, Error>
     requires { path.now.base.size ≤ 2 ^ 62 }
     ensures value { (lent list : List model.Operation) (ws : List Write) → IsLent C.Store F.shape H.Digest.bytes H.hash U.form I.index_key (I.entries path.now.index.now) log.old lent → B.activity path.now.candidates.now ≡ bits lent
-        → IsPath (path_view U.view U.Key.bytes U.Value.bytes path.now) lent list ws
+        → IsPath (path_view U.view U.Key.bytes U.Value.bytes path.now last.now) lent list ws
         → IfSome (C.told log.old.store) (λ _. IfOk result (λ walked. AreDecided list (decided_views U.Key.bytes U.Value.bytes walked.decided.items) walked.floor policy.new
         (walks.walk P.rules (list ++ unordered_writes list ws) (floor list) (record { entries = limits.entries; skips = limits.skips }) policy.old))) }
     ensures read { IsRead C.Store F.shape H.Digest.bytes H.hash log.old log.new }
@@ -536,7 +541,7 @@ pub(crate) fn walk_from<
         walk,
         decided: Vec::new(alloc),
     };
-    walk_on(alloc, path, log, policy, &mut going)?;
+    walk_on(alloc, path, last, log, policy, &mut going)?;
     Ok(Walked {
         decided: going.decided,
         floor: going.walk.floor.get(),

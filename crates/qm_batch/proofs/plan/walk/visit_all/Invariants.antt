@@ -18,7 +18,7 @@ invariant-loop-at g l =
       end : l.going.walk.end ≡ l.initial.going.walk.end;
       spaced : (next : ℕ) → IsSpaced l.initial.going.walk.floor l.round next → IsSpaced l.going.walk.floor (drop l.at-index l.round) next;
       value : (lent list : List Operation) (ws : List Write) (next : ℕ) (all : Walked g.row.P.Denot) → IsLent g.C.Store g.F.Family.shape g.H.Digest.Digest.bytes g.H.Hasher.hash g.U.Update.form g.I.Unordered.index_key (g.I.Unordered.entries l.path.index.now) l.initial.log lent →
-          IsPath (path_view g.U.Update.view key value l.path) lent list ws → AreDeadBetween (list ++ unordered_writes list ws) l.initial.going.walk.floor l.round next →
+          IsPath (path_view g.U.Update.view key value l.path l.last) lent list ws → AreDeadBetween (list ++ unordered_writes list ws) l.initial.going.walk.floor l.round next →
           IsGoing g.P.Policy.rules list (list ++ unordered_writes list ws) (decided_views key value l.initial.going.decided.items) l.initial.going.walk l.initial.policy all →
           IfSome (g.C.Store.told l.initial.log.store) (λ _. AreDeadBetween (list ++ unordered_writes list ws) l.going.walk.floor (drop l.at-index l.round) next ×
           IsGoing g.P.Policy.rules list (list ++ unordered_writes list ws) (decided_views key value l.going.decided.items) l.going.walk l.policy all);

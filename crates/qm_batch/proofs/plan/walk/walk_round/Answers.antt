@@ -16,7 +16,7 @@ pub returns-then-goes-clause-value : goal.returns-then-goes-clause-value
 returns-then-goes-clause-value g c = λ lent base ws all is active on dead going.
     let list = base ++ unordered_writes base ws in
     let round = c.deref.result.now in
-    let path = path_view g.U.Update.view g.U.Key.ByteString.bytes g.U.Value.ByteString.bytes c.args.path.now in
+    let path = path_view g.U.Update.view g.U.Key.ByteString.bytes g.U.Value.ByteString.bytes c.args.path.now c.args.last.now in
     let found = ap (λ bs. candidates bs c.args.from c.in_ok-next.next) (sym active) ∙ filled-round _ c.args.from c.new.result _ c.new-round.result.items c.fill.new.out.items round c.in_ok-next.next c.in_ok-next.ensures.ok c.new-round.ensures.items c.deref.ensures.value in
     let between = between-then list c.args.going.now.walk.floor c.args.from c.in_ok-next.next round dead (path-dead path lent base ws c.args.from c.in_ok-next.next round on found) in
     told-one _ _ (g.C.Store.told c.args.log.now.store) (c.in_ok-goes.ensures.value lent base ws c.in_ok-next.next all is on between going) (λ walked. chosen-true c.in_ok-goes.goes _ _ c.if-goes.true walked)
@@ -25,7 +25,7 @@ pub returns-clause-value : goal.returns-clause-value
 returns-clause-value g c = λ lent base ws all is active on dead going.
     let list = base ++ unordered_writes base ws in
     let round = c.deref.result.now in
-    let path = path_view g.U.Update.view g.U.Key.ByteString.bytes g.U.Value.ByteString.bytes c.args.path.now in
+    let path = path_view g.U.Update.view g.U.Key.ByteString.bytes g.U.Value.ByteString.bytes c.args.path.now c.args.last.now in
     let found = ap (λ bs. candidates bs c.args.from c.in_ok-next.next) (sym active) ∙ filled-round _ c.args.from c.new.result _ c.new-round.result.items c.fill.new.out.items round c.in_ok-next.next c.in_ok-next.ensures.ok c.new-round.ensures.items c.deref.ensures.value in
     let between = between-then list c.args.going.now.walk.floor c.args.from c.in_ok-next.next round dead (path-dead path lent base ws c.args.from c.in_ok-next.next round on found) in
     told-one _ _ (g.C.Store.told c.args.log.now.store) (c.in_ok-goes.ensures.value lent base ws c.in_ok-next.next all is on between going) (λ walked. chosen-false c.in_ok-goes.goes _ _ c.if-goes.false walked)
