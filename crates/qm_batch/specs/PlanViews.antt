@@ -92,7 +92,7 @@ module _ {U K V : Type 0} (update_view : U → Operation) (key : K → Bytes) (v
   touch_views touches = map touch_view touches
 
   -- what a walk goes over
-  abbrev pub path_view : {F I B : Type 0} → path.Path F I B U K V → BTreeMap (Bor Bytes) (Bor (written.Write K V)) → Path
+  abbrev pub path_view : {F I : Type 0} → path.Path F I U K V → BTreeMap (Bor Bytes) (Bor (written.Write K V)) → Path
   path_view p last = record { base = base_view p.base; last = map (last_view key value) last.entries; made = touch_views p.made.items }
 
 -- how operations of an unordered database are spelled

@@ -33,7 +33,7 @@ use crate::write::Write;
 use qm_base::update::{Unordered, Update};
 use qm_base::{ByteString, Error, Hasher, JournalError, Location, Operation, ValueEncoding};
 use qm_bits::Candidates;
-use qm_chain::{Diff, Limits, Policy};
+use qm_chain::{Diff, Policy};
 use qm_merkle::Family;
 use qm_store::{AuthLog, Store};
 use std::alloc::{AllocError, Global};
@@ -163,7 +163,7 @@ fn own_of<F, K: ByteString, V: ValueEncoding<K>>(
     })
 }
 
-// The own operations of a step whose walk goes along a path, within these limits, with so many keys live behind the writes.
+// The own operations of a step whose walk goes along a path: those of the writes, and what the policy decides.
 fn own_along<
     F: Family,
     I: qm_index::Unordered<Value = Location<F>>,
@@ -175,24 +175,25 @@ fn own_along<
     P: Policy<F, K, V::Value>,
 >(
     alloc: Global,
-    path: Path<'_, '_, '_, F, I, B, Unordered<K, V>>,
+    activity: &B,
+    path: Path<'_, '_, F, I, Unordered<K, V>>,
     last: &Last<'_, K, V::Value>,
     log: &mut AuthLog<F, C, H>,
     policy: &mut P,
-    limits: Limits,
-    behind: u64,
 ) -> Result<Own<F, Unordered<K, V>>, Error>
-    requires { path.base.size ≤ 2 ^ 62 }
-    ensures own { (lent list : List model.Operation) (ws : List writes.Write) → IsLent C.Store F.shape H.Digest.bytes H.hash ⟦<Unordered<K, V> as Update>⟧.form I.index_key (I.entries path.index.now) log.old lent → B.activity path.candidates.now ≡ bits lent
-        → IsPath (path_view ⟦<Unordered<K, V> as Update>⟧.view K.bytes V.Value.bytes path last.now) lent list ws → behind ≡ length (lives.live (list ++ writes.unordered_writes list ws))
-        → record { entries = limits.entries; skips = limits.skips } ≡ P.rules.limits policy.old (writes.made_inactive list (writes.unordered_writes list ws))
+    requires size { path.base.size ≤ 2 ^ 62 }
+    requires live { path.base.live ≤ path.base.size }
+    ensures own { (lent list : List model.Operation) (ws : List writes.Write) → IsLent C.Store F.shape H.Digest.bytes H.hash ⟦<Unordered<K, V> as Update>⟧.form I.index_key (I.entries path.index.now) log.old lent → B.activity activity.now ≡ bits lent
+        → IsPath (path_view ⟦<Unordered<K, V> as Update>⟧.view K.bytes V.Value.bytes path last.now) lent list ws
         → IfSome (C.told log.old.store) (λ _. IfOk result (λ own. AreOwn P.rules policy.old policy.new (unordered_touches K.bytes V.Value.bytes own.touches.items) own.live own.floor list ws)) }
-    ensures count { IfOk result (λ own. (own.live ≤ behind) × (length path.made.items ≤ length own.touches.items)) }
+    ensures count { IfOk result (λ own. own.live ≤ path.base.size + length own.touches.items) }
     ensures read { IsRead C.Store F.shape H.Digest.bytes H.hash log.old log.new }
     ensures error { IfErr result (IsReadError C.Store log.old log.new) }
     ensures pruned { log.old.tree.start ≤ path.base.floor → IfErr result (λ e. (n : ℕ) → e ≢ Error.Journal (JournalError.ItemPruned n)) }
 {
-    let walked = walk_from(alloc, &path, last, log, policy, limits)?;
+    let behind = live_behind(&path.made, path.base.live);
+    let limits = policy.limits(made_inactive(&path.made, path.base.live, behind));
+    let walked = walk_from(alloc, activity, &path, last, log, policy, limits)?;
     let own = own_of(path.made, walked, behind)?;
     Ok(own)
 }
@@ -228,15 +229,13 @@ fn own_operations<
 {
     let last = last_writes(alloc, writes)?;
     let made = written_over(alloc, index, log, base.layers, &last)?;
-    let behind = live_behind(&made, base.live);
-    let limits = policy.limits(made_inactive(&made, base.live, behind));
     let path = Path {
         index,
-        candidates,
         base: base.lent(),
         made,
     };
-    own_along(alloc, path, &last, log, policy, limits, behind)
+    let own = own_along(alloc, candidates, path, &last, log, policy)?;
+    Ok(own)
 }
 
 // The floor of a commit at this location: where the walk ended, or the location where no key is live.

@@ -11,6 +11,7 @@ ghost use Rattle.qm_model.specs.Operations as model;
 ghost use Rattle.qm_model.specs.Operations.{update};
 ghost use Rattle.qm_model.specs.Walk as walks;
 ghost use Rattle.qm_model.specs.Writes.{last_writes, unordered_writes, Write};
+ghost use Rattle.qm_bits.specs.Candidates.{candidates};
 ghost use Rattle.qm_batch.specs.Bases.{base_view, IsBase};
 ghost use Rattle.qm_batch.specs.Changes.{said_by, stands_at, update_at};
 ghost use Rattle.qm_batch.specs.Going.{decided_for, value_for, AreDead, AreDeadBetween, AreDecided, IsGoing, IsSpaced};
@@ -38,12 +39,11 @@ use std::rc::Rc;
 /// How many candidates a walk takes at a time, at most.
 const ROUND: u64 = 1_024;
 
-// What a walk goes over: a base list, and the operations that the last writes put behind it. Index and candidates are lent
-// for the base list or one on the way to it.
+// What a walk goes over: a base list, and the operations that the last writes put behind it. The index is lent for the
+// base list or one on the way to it.
 #[derive(Drop)]
-pub(crate) struct Path<'i, 'c, 'b, F, I, B, U: Update> {
+pub(crate) struct Path<'i, 'b, F, I, U: Update> {
     pub(crate) index: &'i I,
-    pub(crate) candidates: &'c B,
     pub(crate) base: Base<'b, F, U>,
     pub(crate) made: Vec<Touch<F, U>>,
 }
@@ -60,6 +60,13 @@ pub(crate) struct Walked<K, V> {
 struct Going<F, K, V> {
     walk: Walk<F>,
     decided: Vec<Decided<K, V>>,
+}
+
+/// Candidates in order, and where the next ones begin.
+#[derive(Drop)]
+struct Round<F> {
+    locations: Vec<Location<F>>,
+    next: Location<F>,
 }
 
 /// A live update, and where its key's live update stands in the base list.
@@ -217,13 +224,12 @@ fn again<F, U: Update>(alloc: Global, touch: &Touch<F, U>) -> Result<Option<Foun
 fn live_at<
     F: Family,
     I: qm_index::Unordered<Value = Location<F>>,
-    B,
     C: Store,
     H: Hasher + Drop,
     U: Update,
 >(
     alloc: Global,
-    path: &Path<'_, '_, '_, F, I, B, U>,
+    path: &Path<'_, '_, F, I, U>,
     last: &Last<'_, U::Key, U::Value>,
     log: &mut AuthLog<F, C, H>,
     at: u64,
@@ -324,14 +330,13 @@ fn decide<F, U: Update, P: Policy<F, U::Key, U::Value>>(
 fn visit<
     F: Family,
     I: qm_index::Unordered<Value = Location<F>>,
-    B,
     C: Store,
     H: Hasher + Drop,
     U: Update,
     P: Policy<F, U::Key, U::Value>,
 >(
     alloc: Global,
-    path: &Path<'_, '_, '_, F, I, B, U>,
+    path: &Path<'_, '_, F, I, U>,
     last: &Last<'_, U::Key, U::Value>,
     log: &mut AuthLog<F, C, H>,
     policy: &mut P,
@@ -369,14 +374,13 @@ fn visit<
 fn visit_all<
     F: Family,
     I: qm_index::Unordered<Value = Location<F>>,
-    B,
     C: Store,
     H: Hasher + Drop,
     U: Update,
     P: Policy<F, U::Key, U::Value>,
 >(
     alloc: Global,
-    path: &Path<'_, '_, '_, F, I, B, U>,
+    path: &Path<'_, '_, F, I, U>,
     last: &Last<'_, U::Key, U::Value>,
     log: &mut AuthLog<F, C, H>,
     policy: &mut P,
@@ -412,6 +416,24 @@ fn round_of(entries: u64) -> usize
     entries.clamp(1, ROUND) as usize
 }
 
+// A round of candidates from a location on, where it ends before that one, with so many live updates left to be decided.
+fn round_from<F, B: Candidates<F>>(
+    alloc: Global,
+    activity: &B,
+    from: Location<F>,
+    end: Location<F>,
+    entries: u64,
+) -> Result<Round<F>, AllocError>
+    requires { from < end }
+    ensures found { IfOk result (λ round. candidates (B.activity activity.now) from round.next ≡ round.locations.items) }
+    ensures spaced { IfOk result (λ round. IsSpaced from round.locations.items round.next) }
+    ensures next { IfOk result (λ round. (from < round.next) × (round.next ≤ end)) }
+{
+    let mut locations = Vec::new(alloc);
+    let next = activity.fill(from, end, round_of(entries), &mut locations)?;
+    Ok(Round { locations, next })
+}
+
 // Visits a round of candidates, those from a location on, and tells where the next one begins, if the walk goes on.
 fn walk_round<
     F: Family,
@@ -423,7 +445,8 @@ fn walk_round<
     P: Policy<F, U::Key, U::Value>,
 >(
     alloc: Global,
-    path: &Path<'_, '_, '_, F, I, B, U>,
+    activity: &B,
+    path: &Path<'_, '_, F, I, U>,
     last: &Last<'_, U::Key, U::Value>,
     log: &mut AuthLog<F, C, H>,
     policy: &mut P,
@@ -432,7 +455,7 @@ fn walk_round<
 ) -> Result<Option<Location<F>>, Error>
     requires low { going.old.walk.floor ≤ from }
     requires high { from < going.old.walk.end }
-    ensures value { (lent list : List model.Operation) (ws : List Write) (all : walks.Walked P) → IsLent C.Store F.shape H.Digest.bytes H.hash U.form I.index_key (I.entries path.now.index.now) log.old lent → B.activity path.now.candidates.now ≡ bits lent
+    ensures value { (lent list : List model.Operation) (ws : List Write) (all : walks.Walked P) → IsLent C.Store F.shape H.Digest.bytes H.hash U.form I.index_key (I.entries path.now.index.now) log.old lent → B.activity activity.now ≡ bits lent
         → IsPath (path_view U.view U.Key.bytes U.Value.bytes path.now last.now) lent list ws → AreDead (list ++ unordered_writes list ws) going.old.walk.floor from
         → IsGoing P.rules list (list ++ unordered_writes list ws) (decided_views U.Key.bytes U.Value.bytes going.old.decided.items) going.old.walk policy.old all
         → IfSome (C.told log.old.store) (λ _. IfOk result (λ next. MatchOption next
@@ -445,11 +468,10 @@ fn walk_round<
     ensures error { IfErr result (IsReadError C.Store log.old log.new) }
     ensures pruned { log.old.tree.start ≤ going.old.walk.floor → IfErr result (λ e. (n : ℕ) → e ≢ Error.Journal (JournalError.ItemPruned n)) }
 {
-    let mut round = Vec::new(alloc);
-    let limit = round_of(going.walk.entries);
-    let next = path.candidates.fill(from, Location::new(going.walk.end.get()), limit, &mut round)?;
-    let goes = visit_all(alloc, path, last, log, policy, going, &round)?;
-    if goes { Ok(Some(next)) } else { Ok(None) }
+    let end = Location::new(going.walk.end.get());
+    let round = round_from(alloc, activity, from, end, going.walk.entries)?;
+    let goes = visit_all(alloc, path, last, log, policy, going, &round.locations)?;
+    if goes { Ok(Some(round.next)) } else { Ok(None) }
 }
 
 // Passes what is left where no live update is, if the walk may still decide one.
@@ -475,14 +497,15 @@ fn walk_on<
     P: Policy<F, U::Key, U::Value>,
 >(
     alloc: Global,
-    path: &Path<'_, '_, '_, F, I, B, U>,
+    activity: &B,
+    path: &Path<'_, '_, F, I, U>,
     last: &Last<'_, U::Key, U::Value>,
     log: &mut AuthLog<F, C, H>,
     policy: &mut P,
     going: &mut Going<F, U::Key, U::Value>,
 ) -> Result<(), Error>
     requires { going.old.walk.floor ≤ going.old.walk.end }
-    ensures value { (lent list : List model.Operation) (ws : List Write) (all : walks.Walked P) → IsLent C.Store F.shape H.Digest.bytes H.hash U.form I.index_key (I.entries path.now.index.now) log.old lent → B.activity path.now.candidates.now ≡ bits lent
+    ensures value { (lent list : List model.Operation) (ws : List Write) (all : walks.Walked P) → IsLent C.Store F.shape H.Digest.bytes H.hash U.form I.index_key (I.entries path.now.index.now) log.old lent → B.activity activity.now ≡ bits lent
         → IsPath (path_view U.view U.Key.bytes U.Value.bytes path.now last.now) lent list ws → IsGoing P.rules list (list ++ unordered_writes list ws) (decided_views U.Key.bytes U.Value.bytes going.old.decided.items) going.old.walk policy.old all
         → IfSome (C.told log.old.store) (λ _. OnOk result (AreDecided list (decided_views U.Key.bytes U.Value.bytes going.new.decided.items) going.new.walk.floor policy.new all)) }
     ensures read { IsRead C.Store F.shape H.Digest.bytes H.hash log.old log.new }
@@ -493,7 +516,16 @@ fn walk_on<
     let floor = going.walk.floor.get();
     let mut from = floor;
     while from < end {
-        let next = walk_round(alloc, path, last, log, policy, going, Location::new(from))?;
+        let next = walk_round(
+            alloc,
+            activity,
+            path,
+            last,
+            log,
+            policy,
+            going,
+            Location::new(from),
+        )?;
         let Some(next) = next else {
             return Ok(());
         };
@@ -514,14 +546,15 @@ pub(crate) fn walk_from<
     P: Policy<F, U::Key, U::Value>,
 >(
     alloc: Global,
-    path: &Path<'_, '_, '_, F, I, B, U>,
+    activity: &B,
+    path: &Path<'_, '_, F, I, U>,
     last: &Last<'_, U::Key, U::Value>,
     log: &mut AuthLog<F, C, H>,
     policy: &mut P,
     limits: Limits,
 ) -> Result<Walked<U::Key, U::Value>, Error>
     requires { path.now.base.size ≤ 2 ^ 62 }
-    ensures value { (lent list : List model.Operation) (ws : List Write) → IsLent C.Store F.shape H.Digest.bytes H.hash U.form I.index_key (I.entries path.now.index.now) log.old lent → B.activity path.now.candidates.now ≡ bits lent
+    ensures value { (lent list : List model.Operation) (ws : List Write) → IsLent C.Store F.shape H.Digest.bytes H.hash U.form I.index_key (I.entries path.now.index.now) log.old lent → B.activity activity.now ≡ bits lent
         → IsPath (path_view U.view U.Key.bytes U.Value.bytes path.now last.now) lent list ws
         → IfSome (C.told log.old.store) (λ _. IfOk result (λ walked. AreDecided list (decided_views U.Key.bytes U.Value.bytes walked.decided.items) walked.floor policy.new
         (walks.walk P.rules (list ++ unordered_writes list ws) (floor list) (record { entries = limits.entries; skips = limits.skips }) policy.old))) }
@@ -541,7 +574,7 @@ pub(crate) fn walk_from<
         walk,
         decided: Vec::new(alloc),
     };
-    walk_on(alloc, path, last, log, policy, &mut going)?;
+    walk_on(alloc, activity, path, last, log, policy, &mut going)?;
     Ok(Walked {
         decided: going.decided,
         floor: going.walk.floor.get(),

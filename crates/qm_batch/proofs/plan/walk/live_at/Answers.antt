@@ -13,10 +13,11 @@ returns-in_ok-again-in-Some-clause-value g c = λ lent base ws is on.
     let size = (on.known).size in
     let view = touch_view g.U.Update.view g.U.Key.ByteString.bytes g.U.Value.ByteString.bytes in
     let found = c.in_ok-again-in-Some.field-0 in
-    let made = c.args.path.now.made.items in
+    let made = c.deref.result.now in
+    let touches = ap (touch_views g.U.Update.view g.U.Key.ByteString.bytes g.U.Value.ByteString.bytes) c.deref.ensures.value ∙ on.made in
     let before = c.args.path.now.base.size in
     told-any _ (g.C.Store.told c.args.log.now.store)
-    (again-is base ws c.args.at (omega (arith, size, c.if-path-at.true)) (touch_views g.U.Update.view g.U.Key.ByteString.bytes g.U.Value.ByteString.bytes made) on.made (view c.in-Some.touch.now) _
+    (again-is base ws c.args.at (omega (arith, size, c.if-path-at.true)) (touch_views g.U.Update.view g.U.Key.ByteString.bytes g.U.Value.ByteString.bytes made) touches (view c.in-Some.touch.now) _
     (got-one view c.get.result made (c.args.at - before) (c.args.at - length base) c.in-Some.touch c.get.ensures.lookup c.in-Some.is (ap (λ n. c.args.at - n) size))
     (shown-operation (found_view g.U.Update.view) found ∙ c.in_ok-again-in-Some.ensures.operation) (shown-each (found_view g.U.Update.view) found _ c.in_ok-again-in-Some.ensures.before))
 
@@ -24,10 +25,11 @@ pub returns-in-None-clause-value : goal.returns-in-None-clause-value
 returns-in-None-clause-value g c = λ lent base ws is on.
     let size = (on.known).size in
     let view = touch_view g.U.Update.view g.U.Key.ByteString.bytes g.U.Value.ByteString.bytes in
-    let made = c.args.path.now.made.items in
+    let made = c.deref.result.now in
+    let touches = ap (touch_views g.U.Update.view g.U.Key.ByteString.bytes g.U.Value.ByteString.bytes) c.deref.ensures.value ∙ on.made in
     let before = c.args.path.now.base.size in
     told-any _ (g.C.Store.told c.args.log.now.store)
-    (again-none base ws c.args.at (omega (arith, size, c.if-path-at.true)) (touch_views g.U.Update.view g.U.Key.ByteString.bytes g.U.Value.ByteString.bytes made) on.made
+    (again-none base ws c.args.at (omega (arith, size, c.if-path-at.true)) (touch_views g.U.Update.view g.U.Key.ByteString.bytes g.U.Value.ByteString.bytes made) touches
     (got-none view c.get.result made (c.args.at - before) (c.args.at - length base) c.get.ensures.lookup c.in-None.is (ap (λ n. c.args.at - n) size)))
 
 pub returns-in-Some-2-clause-value : goal.returns-in-Some-2-clause-value

@@ -20,7 +20,7 @@ invariant-loop-from g l =
       within : l.from ≤ l.going.walk.end;
       end : l.going.walk.end ≡ l.initial.going.walk.end;
       value : (lent list : List Operation) (ws : List Write) (all : Walked g.row.P.Denot) → IsLent g.C.Store g.F.Family.shape g.H.Digest.Digest.bytes g.H.Hasher.hash g.U.Update.form g.I.Unordered.index_key (g.I.Unordered.entries l.path.index.now) l.initial.log lent →
-          g.B.Candidates.activity l.path.candidates.now ≡ bits lent → IsPath (path_view g.U.Update.view key value l.path l.last) lent list ws →
+          g.B.Candidates.activity l.activity ≡ bits lent → IsPath (path_view g.U.Update.view key value l.path l.last) lent list ws →
           IsGoing g.P.Policy.rules list (list ++ unordered_writes list ws) (decided_views key value l.initial.going.decided.items) l.initial.going.walk l.initial.policy all →
           IfSome (g.C.Store.told l.initial.log.store) (λ _. AreDead (list ++ unordered_writes list ws) l.going.walk.floor l.from ×
           IsGoing g.P.Policy.rules list (list ++ unordered_writes list ws) (decided_views key value l.going.decided.items) l.going.walk l.policy all);
