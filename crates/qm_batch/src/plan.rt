@@ -183,13 +183,13 @@ fn own_along<
 ) -> Result<Own<F, Unordered<K, V>>, Error>
     requires size { path.base.size ≤ 2 ^ 62 }
     requires live { path.base.live ≤ path.base.size }
-    ensures own { (lent list : List model.Operation) (ws : List writes.Write) → IsLent C.Store F.shape H.Digest.bytes H.hash ⟦<Unordered<K, V> as Update>⟧.form I.index_key (I.entries path.index.now) log.old lent → B.activity activity.now ≡ bits lent
-        → IsPath (path_view ⟦<Unordered<K, V> as Update>⟧.view K.bytes V.Value.bytes path last.now) lent list ws
+    ensures own { (lent list : List model.Operation) (ws : List writes.Write) → IsLent C.Store F.shape H.Digest.bytes H.hash ⟦<Unordered<K, V> as Update>⟧.form I.index_key (I.entries path.entry.index.now) log.old lent → B.activity activity.now ≡ bits lent
+        → IsPath (path_view ⟦<Unordered<K, V> as Update>⟧.view K.bytes V.Value.bytes path.entry last.now) lent list ws
         → IfSome (C.told log.old.store) (λ _. IfOk result (λ own. AreOwn P.rules policy.old policy.new (unordered_touches K.bytes V.Value.bytes own.touches.items) own.live own.floor list ws)) }
-    ensures count { IfOk result (λ own. own.live ≤ path.base.size + length own.touches.items) }
+    ensures count { IfOk result (λ own. own.live ≤ path.entry.base.size + length own.touches.items) }
     ensures read { IsRead C.Store F.shape H.Digest.bytes H.hash log.old log.new }
     ensures error { IfErr result (IsReadError C.Store log.old log.new) }
-    ensures pruned { log.old.tree.start ≤ path.base.floor → IfErr result (λ e. (n : ℕ) → e ≢ Error.Journal (JournalError.ItemPruned n)) }
+    ensures pruned { log.old.tree.start ≤ path.entry.base.floor → IfErr result (λ e. (n : ℕ) → e ≢ Error.Journal (JournalError.ItemPruned n)) }
 {
     let behind = live_behind(&path.made, path.base.live);
     let limits = policy.limits(made_inactive(&path.made, path.base.live, behind));
