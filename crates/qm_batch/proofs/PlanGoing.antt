@@ -1,6 +1,6 @@
 -- Steps of a walk on its way.
-use Rattle.std.proofs.Common.{◌≡◌, ℕ, zero, suc, ◌+◌, ◌-◌, ◌≤◌, ◌<◌, nat_le, min, max, Bool, true, false, List, [], ◌∷◌, ◌++◌, length, map, drop, refl, ap, ap₂, sym, ◌∙◌, subst, Option, Some, None, arith, append-nil, append_assoc, ⊎_elim}
-use Rattle.std.specs.Prelude.{option_map, option_to_list, is_some, All, MatchBool, if◌then◌else◌}
+use Rattle.std.proofs.Common.{◌≡◌, ℕ, suc, ◌+◌, ◌-◌, ◌≤◌, ◌<◌, nat_le, min, max, Bool, true, false, List, [], ◌∷◌, ◌++◌, length, map, drop, refl, ap, ap₂, sym, ◌∙◌, subst, Option, Some, None, arith, append-nil, append_assoc, ⊎_elim}
+use Rattle.std.specs.Prelude.{option_to_list, is_some, All, MatchBool, if◌then◌else◌}
 use Rattle.std.proofs.lemmas.Bool.{cases_lt}
 use Rattle.std.proofs.lemmas.List.{map-append}
 use Rattle.std.proofs.lemmas.List.Elements.{All-nil, All-push}
@@ -11,11 +11,10 @@ use Rattle.qm_bits.proofs.Rounds.{candidates_first, candidates_none}
 use Rattle.qm_chain.specs.declared.walk.Walk.{Walk}
 use Rattle.qm_model.specs.Bits.{bits}
 use Rattle.qm_model.specs.Operations.{Bytes, Operation, update}
-use Rattle.qm_model.specs.Live.{Live, floor, touches}
-use Rattle.qm_model.specs.Writes.{Write}
+use Rattle.qm_model.specs.Live.{floor, touches}
 use Rattle.qm_model.specs.Walk.{Action, write, stop, evict, Rules, Walked, ended, decided, walk, walk_from}
 use Rattle.qm_model.proofs.LastWrites.{bytes_same}
-use Rattle.qm_batch.specs.Changes.{place_in, update_from}
+use Rattle.qm_batch.specs.Changes.{place_in}
 use Rattle.qm_batch.specs.Going.{Decided, write_for, decided_for, AreDead, AreDeadBetween, IsSpaced, resumed, IsGoing, AreDecided}
 use Rattle.qm_batch.specs.Touches.{Touch, IsMoveAt, live_update_at}
 use Rattle.qm_batch.proofs.PlanCandidates.{dead_unless_candidate}

@@ -1,4 +1,4 @@
-use Rattle.std.proofs.Common.{◌≡◌, ◌∙◌, ap, sym, arith, map, subst}
+use Rattle.std.proofs.Common.{ap, sym, arith, map, subst}
 use Rattle.std.proofs.lemmas.Result.{err_from_is_err_and}
 use Rattle.qm_model.proofs.Results.{told-then}
 use Rattle.qm_batch.specs.Bases.{Base, IsBase}

@@ -1,4 +1,4 @@
-use Rattle.std.proofs.Common.{◌≡◌, ◌≤◌, ◌++◌, ℕ, List, drop, map}
+use Rattle.std.proofs.Common.{◌≡◌, ◌≤◌, ◌++◌, ℕ, List, drop}
 use Rattle.std.specs.Prelude.{IfSome}
 use Rattle.qm_model.specs.Operations.{Operation}
 use Rattle.qm_model.specs.Walk.{Walked}

@@ -1,4 +1,4 @@
-use Rattle.std.proofs.Common.{◌∙◌, ◌++◌, ◌≤◌, ◌<◌, ap, sym, arith, subst}
+use Rattle.std.proofs.Common.{◌∙◌, ◌++◌, ap, sym, arith, subst}
 use Rattle.qm_bits.specs.Candidates.{candidates}
 use Rattle.qm_model.proofs.Results.{told-one}
 use Rattle.qm_model.specs.Writes.{unordered_writes}
