@@ -1,0 +1,56 @@
+-- What reads of a log leave.
+use Rattle.std.proofs.Common.{◌≡◌, ◌≤◌, ℕ, zero, suc, List, [], ◌∷◌, map, refl, ◌∙◌, subst, Option, Some, arith, inl, inr}
+use Rattle.std.specs.Prelude.{All, IfSome, slice_get}
+use Rattle.std.proofs.lemmas.List.Elements.{All-head, All-tail}
+use Rattle.qm_model.specs.Causes.{Rose}
+use Rattle.qm_model.specs.Operations.{Bytes, Operation}
+use Rattle.qm_model.specs.Trees.{Shape}
+use Rattle.qm_model.specs.Forms.{Form, IsOf, IsSpelling, spelling}
+use Rattle.qm_base.specs.declared.error.Error.{Error}
+use Rattle.qm_store.specs.declared.Store as store
+use Rattle.qm_store.specs.Log.{Log}
+use Rattle.qm_store.proofs.Stores.{kept-then}
+use Rattle.qm_build.specs.Reads.{HasOperations, IsRead, IsReadFault, IsReadError}
+
+rose-later : (a b c : ℕ) → a ≤ b → Rose b c → Rose a c
+rose-later a b c later rose = omega (arith, later, rose)
+
+module _ {C D : Type 0} (members : store.Ghosts C) (shape : Shape) (bytes : D → Bytes) (hash : Bytes → Bytes) where
+  pub read-none : (a : Log C D) → IsRead members shape bytes hash a a
+  read-none a = record { stands = λ list is. is; tree = refl; kept = record { start = refl; end = refl; told = refl }; later = omega arith }
+
+  pub read-then : (a b c : Log C D) → IsRead members shape bytes hash a b → IsRead members shape bytes hash b c → IsRead members shape bytes hash a c
+  read-then a b c before after =
+      let first = before.later in
+      let second = after.later in
+      record {
+        stands = λ list is. after.stands list (before.stands list is);
+        tree = after.tree ∙ before.tree;
+        kept = kept-then members a.store b.store c.store before.kept after.kept;
+        later = omega (arith, first, second);
+      }
+
+  -- a failure after reads
+  pub fault-then : (a b c : Log C D) (e : Error) → IsRead members shape bytes hash a b → IsReadFault members b c e → IsReadFault members a c e
+  fault-then a b c e before (inl memory) = inl memory
+  fault-then a b c e before (inr (fault, rose)) = inr (fault, rose-later (members.faults a.store) (members.faults b.store) (members.faults c.store) before.later rose)
+
+  pub error-then : (a b c : Log C D) (e : Error) → IsRead members shape bytes hash a b → IsReadError members b c e → IsReadError members a c e
+  error-then a b c e before (inl fault) = inl (fault-then a b c e before fault)
+  error-then a b c e before (inr decodes) = inr decodes
+
+  -- reads leave the operations
+  pub operations-then : (form : Form) (a b : Log C D) (ops : List Operation) → IsRead members shape bytes hash a b → HasOperations members shape bytes hash form a ops → HasOperations members shape bytes hash form b ops
+  operations-then form a b ops read has = record { logged = read.stands _ has.logged; of = has.of }
+
+-- what is told of a store that keeps what it has
+pub told : {X : Type 0} (P : Type 0) (o before : Option X) → o ≡ before → IfSome o (λ _. P) → IfSome before (λ _. P)
+told P o before same h = subst (λ x. IfSome x (λ _. P)) same h
+
+-- the bytes at a location among spellings spell the operation there
+pub spelled-there : (form : Form) (ops : List Operation) (at : ℕ) (bs : Bytes) → All (IsOf form) ops → slice_get (map (spelling form) ops) at ≡ Some bs → (op : Operation) × (slice_get ops at ≡ Some op) × IsSpelling form bs op
+spelled-there form [] at bs all is = cc
+spelled-there form (op ∷ rest) zero bs all is =
+    let same : spelling form op ≡ bs = cc in
+    (op, refl, record { of = All-head (IsOf form) op rest all; spelled = same })
+spelled-there form (op ∷ rest) (suc at) bs all is = spelled-there form rest at bs (All-tail (IsOf form) op rest all) is

@@ -1,0 +1,64 @@
+use Rattle.std.proofs.Common.{◌≡◌, ◌-◌, ◌<◌, ◌∙◌, ap, sym, subst, length, set, true, arith}
+use Rattle.std.proofs.lemmas.List.{length-map}
+use Rattle.qm_model.specs.Forms.{spelling}
+use Rattle.qm_model.proofs.Results.{told-one, told-any, told-both, told-then}
+use Rattle.qm_build.specs.Building.{ArePlaced, between}
+use Rattle.qm_build.specs.Built.{NoneBelow, IsBuilt}
+use Rattle.qm_build.proofs.Reading.{read-none, read-then, operations-then, told}
+use Rattle.qm_build.proofs.Within.{within-none}
+use Rattle.qm_build.proofs.Whole.{placed-none, built}
+use Rattle.qm_build.proofs.build.build_snapshot.Goals as goal
+
+pub loop-at-init : goal.loop-at-init
+loop-at-init g c = record {
+  read = read-none g.C.Store g.F.Family.shape g.H.Digest.Digest.bytes g.H.Hasher.hash c.args.log.now;
+  here = omega (arith, ap length c.new-2.ensures);
+  within = within-none (g.I.Unordered.entries c.args.index.now) c.get-floor.result c.get-floor.result c.requires.empty;
+  counted = omega arith;
+  keys = λ ops has. told-any _ (g.C.Store.told c.args.log.now.store) (λ at key holds. absurd (c.in_ok-cache.ensures at key holds));
+  placed = λ ops has.
+      told-any _ (g.C.Store.told c.args.log.now.store)
+      (subst (λ bits. ArePlaced g.I.Unordered.index_key (g.I.Unordered.entries c.args.index.now) 0 bits c.get-floor.result (between c.get-floor.result c.get-floor.result ops)) (sym c.new-2.ensures)
+      (placed-none g.I.Unordered.index_key (g.I.Unordered.entries c.args.index.now) c.get-floor.result ops c.requires.empty));
+}
+
+pub loop-at-preserved : goal.loop-at-preserved
+loop-at-preserved g c =
+    let members = g.C.Store in
+    let shape = g.F.Family.shape in
+    let bytes = g.H.Digest.Digest.bytes in
+    let hash = g.H.Hasher.hash in
+    let form = g.U.Update.form in
+    let before = c.loop-at.invariant.read in
+    let read = read-then members shape bytes hash c.args.log.now c.loop-at.log c.read_operation.new.log before c.read_operation.ensures.read in
+    record {
+      read = read-then members shape bytes hash c.args.log.now c.read_operation.new.log c.put.new.log read c.put.ensures.read;
+      here = omega (arith, c.loop-at.invariant.here, c.in_ok-put.ensures.long);
+      within = c.in_ok-put.ensures.within;
+      counted = c.in_ok-put.ensures.counted;
+      keys = λ ops has.
+          told-both _ _ _ (members.told c.args.log.now.store) (c.loop-at.invariant.keys ops has)
+          (told _ _ _ before.kept.told (c.in_ok-operation.ensures.value ops (operations-then members shape bytes hash form c.args.log.now c.loop-at.log ops before has))) (λ keys here.
+          c.in_ok-put.ensures.keys ops here keys);
+      placed = λ ops has.
+          told-then _ _ (members.told c.args.log.now.store) (c.loop-at.invariant.keys ops has) (λ keys.
+          told-then _ _ (members.told c.args.log.now.store) (told _ _ _ before.kept.told (c.in_ok-operation.ensures.value ops (operations-then members shape bytes hash form c.args.log.now c.loop-at.log ops before has))) (λ here.
+          told-then _ _ (members.told c.args.log.now.store) (c.loop-at.invariant.placed ops has) (λ placed.
+          told _ _ _ read.kept.told (c.in_ok-put.ensures.placed ops (operations-then members shape bytes hash form c.args.log.now c.read_operation.new.log ops read has) here placed keys))));
+    }
+
+pub returns-clause-built : goal.returns-clause-built
+returns-clause-built g c = λ ops has none.
+    let index_key = g.I.Unordered.index_key in
+    let entries = g.I.Unordered.entries c.loop-at.index in
+    let live = c.loop-at.snapshot.live in
+    let floor = c.get-floor.result in
+    let size = c.bounds-size.result.1 in
+    let low : floor < size = omega (arith, c.get-floor.ensures, c.bounds-size.ensures.size, c.requires.below) in
+    let all : size ≡ length ops = c.bounds-size.ensures.size ∙ has.logged.size ∙ length-map ops (spelling g.U.Update.form) in
+    let last : c.loop-at.at ≡ size = omega (arith, c.loop-at.auto.at-end, c.loop-at-test.false) in
+    told-one _ _ (g.C.Store.told c.args.log.now.store) (c.loop-at.invariant.placed ops has) (λ placed.
+    subst (λ bits. IsBuilt index_key entries live bits c.args.floor ops) (sym c.set_bit.ensures)
+    (subst (λ f. IsBuilt index_key entries live (set c.loop-at.snapshot.activity (size - floor - 1) true) f ops) c.get-floor.ensures
+    (built index_key entries live c.loop-at.snapshot.activity floor size ops low all (subst (λ f. NoneBelow f ops) (sym c.get-floor.ensures) none)
+    (subst (λ to. ArePlaced index_key entries live c.loop-at.snapshot.activity floor (between floor to ops)) last placed))))

@@ -1,0 +1,19 @@
+use Rattle.std.proofs.Common.{◌≡◌, ◌+◌, ◌≤◌, List, length}
+use Rattle.std.specs.Prelude.{IfSome}
+use Rattle.qm_model.specs.Operations.{Operation}
+use Rattle.qm_build.specs.Building.{ArePlaced, AreWithin, between}
+use Rattle.qm_build.specs.Cached.{AreKeys}
+use Rattle.qm_build.specs.Reads.{HasOperations, IsRead}
+use Rattle.qm_build.proofs.build.build_snapshot.Given as goal
+
+abbrev pub invariant-loop-at : goal.invariant-loop-at
+invariant-loop-at g l = record {
+  read : IsRead g.C.Store g.F.Family.shape g.H.Digest.Digest.bytes g.H.Hasher.hash l.initial.log l.log;
+  here : l.at ≡ l.floor + length l.snapshot.activity;
+  within : AreWithin l.floor l.at (g.I.Unordered.entries l.index);
+  counted : l.snapshot.live ≤ length l.snapshot.activity;
+  keys : (ops : List Operation) → HasOperations g.C.Store g.F.Family.shape g.H.Digest.Digest.bytes g.H.Hasher.hash g.U.Update.form l.initial.log ops →
+      IfSome (g.C.Store.told l.initial.log.store) (λ _. AreKeys g.U.Key.ByteString.bytes ops l.cache);
+  placed : (ops : List Operation) → HasOperations g.C.Store g.F.Family.shape g.H.Digest.Digest.bytes g.H.Hasher.hash g.U.Update.form l.initial.log ops →
+      IfSome (g.C.Store.told l.initial.log.store) (λ _. ArePlaced g.I.Unordered.index_key (g.I.Unordered.entries l.index) l.snapshot.live l.snapshot.activity l.floor (between l.floor l.at ops));
+}

@@ -1,0 +1,62 @@
+use Rattle.std.proofs.Common.{◌≡◌, ◌+◌, ◌<◌, ◌≤◌, ◌++◌, ◌∷◌, [], ◌∙◌, ap, ap₂, sym, subst, length, Some, arith, ⊎_elim}
+use Rattle.std.specs.Prelude.{All, IfSome, option_map}
+use Rattle.std.specs.Bool.{then_some}
+use Rattle.qm_model.proofs.Results.{told-one, told-any}
+use Rattle.qm_base.specs.Views.{operation_view}
+use Rattle.qm_index.specs.Buckets.{bucket_at}
+use Rattle.qm_build.specs.Places.{HasPlaces, moved}
+use Rattle.qm_build.specs.declared.read.Found.{Found}
+use Rattle.qm_build.specs.Building.{cleared, counted_after}
+use Rattle.qm_build.proofs.Caching.{own-key}
+use Rattle.qm_build.proofs.Pushing.{left_at}
+use Rattle.qm_build.proofs.Putting.{stood, placed-more, placed-commit}
+use Rattle.qm_build.proofs.Within.{within-wider, found-within, found-contained, found-offset, left-within}
+use Rattle.qm_build.proofs.build.put.Goals as goal
+
+pub returns-in_default-clause-placed : goal.returns-in_default-clause-placed
+returns-in_default-clause-placed g c = λ ops has here placed keys.
+    let op = operation_view g.U.Update.view g.U.Key.ByteString.bytes g.U.Value.ByteString.bytes c.args.operation in
+    let low : c.args.floor ≤ c.args.at = omega (arith, c.requires.here) in
+    told-any _ (g.C.Store.told c.args.log.now.store)
+    (placed-commit g.I.Unordered.index_key (g.I.Unordered.entries c.args.index.now) c.args.snapshot.now.live c.args.snapshot.now.activity c.args.floor c.args.at ops op low here placed
+    c.note.new.snapshot.live c.note.new.snapshot.activity (sym c.in_default.ensures) c.in_ok-note.ensures.live c.in_ok-note.ensures.active)
+
+pub note-requires-2-clause-within : goal.note-requires-2-clause-within
+note-requires-2-clause-within g c =
+    let bucket = bucket_at (g.I.Unordered.entries c.args.index.now) (g.I.Unordered.index_key c.as_bytes-bytes.result.now) in
+    found-within bucket (λ n. (c.args.floor ≤ n) × (n < c.args.floor + length c.args.snapshot.now.activity)) c.in_ok-found.found
+    (subst (λ to. All (λ n. (c.args.floor ≤ n) × (n < to)) bucket) c.requires.here (c.requires.within (g.I.Unordered.index_key c.as_bytes-bytes.result.now))) c.in_ok-found.ensures.place
+
+pub returns-clause-within : goal.returns-clause-within
+returns-clause-within g c =
+    let op = operation_view g.U.Update.view g.U.Key.ByteString.bytes g.U.Value.ByteString.bytes c.args.operation in
+    let low : c.args.floor ≤ c.args.at = omega (arith, c.requires.here) in
+    let here : c.then_some.result ≡ left_at op c.args.at = c.then_some.ensures ∙ ap₂ (λ t n. then_some t n) c.is_update-is_update.ensures c.new.ensures in
+    c.in_ok-move_key.ensures.within c.args.floor (c.args.at + 1)
+    (within-wider (g.I.Unordered.entries c.args.index.now) c.args.floor c.args.at (c.args.at + 1) (omega arith) c.requires.within)
+    (subst (λ o. IfSome o (λ n. (c.args.floor ≤ n) × (n < c.args.at + 1))) (sym here) (left-within op c.args.floor c.args.at low))
+
+pub returns-clause-placed : goal.returns-clause-placed
+returns-clause-placed g c = λ ops has here placed keys.
+    let index_key = g.I.Unordered.index_key in
+    let old = g.I.Unordered.entries c.args.index.now in
+    let new = g.I.Unordered.entries c.move_key.new.index in
+    let op = operation_view g.U.Update.view g.U.Key.ByteString.bytes g.U.Value.ByteString.bytes c.args.operation in
+    let key = c.as_bytes-bytes.result.now in
+    let found = option_map (λ (f : Found). f.location) c.in_ok-found.found in
+    let low : c.args.floor ≤ c.args.at = omega (arith, c.requires.here) in
+    let left : c.then_some.result ≡ left_at op c.args.at = c.then_some.ensures ∙ ap₂ (λ t n. then_some t n) c.is_update-is_update.ensures c.new.ensures in
+    told-one _ _ (g.C.Store.told c.args.log.now.store) (c.in_ok-found.ensures.key ops has keys) (λ is.
+    let place = stood index_key old c.args.snapshot.now.live c.args.snapshot.now.activity c.args.floor c.args.at ops op low here placed key found (found-contained (bucket_at old (index_key key)) c.in_ok-found.found c.in_ok-found.ensures.place) is in
+    placed-more index_key old c.args.snapshot.now.live c.args.snapshot.now.activity c.args.floor c.args.at ops op low here placed
+    new c.note-2.new.snapshot.live c.note-2.new.snapshot.activity key found
+    (sym c.in-Some.ensures ∙ ap Some (sym c.as_bytes-bytes.ensures.value)) place
+    (λ ps apart has place. subst (λ o. HasPlaces index_key new (moved ps key o)) left (c.in_ok-move_key.ensures.moved ps apart has place))
+    (c.in_ok-note-2.ensures.live ∙ ap (counted_after c.args.snapshot.now.live found) c.is_update-is_update.ensures)
+    (c.in_ok-note-2.ensures.active ∙ ap₂ (λ o t. cleared c.args.snapshot.now.activity o ++ t ∷ []) (found-offset c.args.floor c.in_ok-found.found) c.is_update-is_update.ensures))
+
+pub returns-clause-keys : goal.returns-clause-keys
+returns-clause-keys g c = λ ops here keys at key holds. ⊎_elim
+    (λ own. own-key g.U.Key.ByteString.bytes ops (operation_view g.U.Update.view g.U.Key.ByteString.bytes g.U.Value.ByteString.bytes c.args.operation) c.args.at at c.in-Some.key key here (sym c.is_update-is_update.ensures ∙ own.0) (sym c.in-Some.ensures) own.1.0 own.1.1)
+    (λ old. keys at key old)
+    (c.keep.ensures at key holds)

@@ -1,0 +1,27 @@
+use Rattle.std.proofs.Common.{◌≢◌, ◌⊎◌, ◌≡◌, ap, subst, length, arith}
+use Rattle.qm_build.specs.Cached.{Holds}
+use Rattle.qm_build.proofs.Caching.{set-ends, filled-slots, filled-holds}
+use Rattle.qm_build.proofs.cache.Cache.put.Goals as goal
+
+pub room_in-room-requires-clause-within : goal.room_in-room-requires-clause-within
+room_in-room-requires-clause-within g c =
+    let ends = set-ends c.set_of.result c.self.inside.sets c.self.inside.ways c.set_of.ensures.below in
+    omega (arith, ends, c.self.invariant.long, c.clear_in.ensures.long, ap length c.deref.ensures.value)
+
+pub index_mut-requires : goal.index_mut-requires
+index_mut-requires g c =
+    let ends = set-ends c.set_of.result c.self.inside.sets c.self.inside.ways c.set_of.ensures.below in
+    omega (arith, ends, c.self.invariant.long, c.clear_in.ensures.long, c.room_in-room.ensures.below)
+
+pub invariant_of-self : goal.invariant_of-self
+invariant_of-self g c =
+    let ends = set-ends c.set_of.result c.self.inside.sets c.self.inside.ways c.set_of.ensures.below in
+    filled-slots c.self.inside.ways c.self.inside.sets c.args.location c.set_of.result c.self.inside.slots.items c.clear_in.new.slots.items c.self.invariant c.set_of.ensures.value c.clear_in.ensures.long c.clear_in.ensures.kept c.clear_in.ensures.clear
+    c.room_in-room.result c.args.key c.room_in-room.ensures.from c.room_in-room.ensures.below (omega (arith, ends, c.self.invariant.long, c.clear_in.ensures.long, c.room_in-room.ensures.below))
+
+pub returns : goal.returns
+returns g c = λ at key holds.
+    let ends = set-ends c.set_of.result c.self.inside.sets c.self.inside.ways c.set_of.ensures.below in
+    subst (λ old. ((at ≡ c.args.location) × (key ≡ c.args.key)) ⊎ ((at ≢ c.args.location) × Holds old at key)) c.self.view_is
+    (filled-holds c.self.inside.ways c.self.inside.sets c.args.location c.set_of.result c.self.inside.slots.items c.clear_in.new.slots.items c.self.invariant c.set_of.ensures.value c.clear_in.ensures.long c.clear_in.ensures.kept c.clear_in.ensures.clear
+    c.room_in-room.result c.args.key c.room_in-room.ensures.from c.room_in-room.ensures.below (omega (arith, ends, c.self.invariant.long, c.clear_in.ensures.long, c.room_in-room.ensures.below)) at key holds)

@@ -1,0 +1,133 @@
+//! The rebuilding of a list, item by item.
+
+ghost use Rattle.std.specs.Prelude.{◌≡◌, ◌≢◌, ◌⊎◌, true, ◌+◌, ◌^◌, ◌<◌, ◌≤◌, ℕ, List, [], Some, length, slice_get, IfSome, IfOk, IfErr, OnOk};
+ghost use Rattle.qm_model.specs.Operations as model;
+ghost use Rattle.qm_base.specs.Views.{operation_view};
+ghost use Rattle.qm_build.specs.Building.{ArePlaced, AreWithin, between};
+ghost use Rattle.qm_build.specs.Built.{IsBuilt, NoneBelow};
+ghost use Rattle.qm_build.specs.Cached.{Holds, AreKeys};
+ghost use Rattle.qm_build.specs.Reads.{HasOperations, IsRead, IsReadError, IsReadFault};
+
+use crate::cache::Cache;
+use crate::moves::{move_key, note};
+use crate::read::{Found, find, read_operation};
+use qm_base::update::Update;
+use qm_base::{ByteString, Corrupt, Error, Hasher, Location, Operation};
+use qm_bits::BitMap;
+use qm_merkle::Family;
+use qm_store::{AuthLog, Store};
+use std::alloc::Global;
+use std::num::NonZeroUsize;
+
+/// What a list has beside its index: how many keys are live, and which locations from a floor on are active.
+#[derive(Drop)]
+pub struct Snapshot {
+    pub live: u64,
+    pub activity: BitMap,
+}
+
+/// Rebuilds the list of a log from its floor on, in an index that is empty. Each item is read once, in order. Keys
+/// with the same index key are told apart by the items in their bucket, of which so many at most keep their keys in memory;
+/// the others are read again.
+pub fn build_snapshot<
+    F: Family,
+    I: qm_index::Unordered<Value = Location<F>>,
+    C: Store,
+    H: Hasher + Drop,
+    U: Update,
+>(
+    alloc: Global,
+    index: &mut I,
+    log: &mut AuthLog<F, C, H>,
+    floor: Location<F>,
+    kept_keys: NonZeroUsize,
+) -> Result<Snapshot, Error>
+    requires empty { I.entries index.old ≡ [] }
+    requires kept { log.old.tree.start ≤ floor }
+    requires below { floor < log.old.tree.leaves }
+    ensures built { (ops : List model.Operation) → HasOperations C.Store F.shape H.Digest.bytes H.hash U.form log.old ops → NoneBelow floor ops
+        → IfSome (C.told log.old.store) (λ _. IfOk result (λ s. IsBuilt I.index_key (I.entries index.new) s.live s.activity floor ops)) }
+    ensures decodes { (ops : List model.Operation) → HasOperations C.Store F.shape H.Digest.bytes H.hash U.form log.old ops
+        → IfSome (C.told log.old.store) (λ _. IfErr result (λ e. e ≢ Error.DataCorrupted Corrupt.ItemDoesNotDecode)) }
+    ensures read { IsRead C.Store F.shape H.Digest.bytes H.hash log.old log.new }
+    ensures error { IfErr result (IsReadError C.Store log.old log.new) }
+{
+    let floor = floor.get();
+    let (_, size) = log.bounds();
+    let mut cache = Cache::new(alloc, kept_keys)?;
+    let mut snapshot = Snapshot {
+        live: 0,
+        activity: BitMap::new(alloc),
+    };
+    for at in floor..size {
+        let operation: Operation<F, U> = read_operation(alloc, log, at)?;
+        put(index, log, &mut cache, &mut snapshot, floor, at, operation)?;
+    }
+    // the last operation is active, whether or not it is a live update
+    snapshot.activity.set_bit(size - floor - 1, true);
+    Ok(snapshot)
+}
+
+// Puts in the operation at a location, behind those from the floor up to there.
+fn put<
+    F: Family,
+    I: qm_index::Unordered<Value = Location<F>>,
+    C: Store,
+    H: Hasher + Drop,
+    U: Update,
+>(
+    index: &mut I,
+    log: &mut AuthLog<F, C, H>,
+    cache: &mut Cache<U::Key>,
+    snapshot: &mut Snapshot,
+    floor: u64,
+    at: u64,
+    operation: Operation<F, U>,
+) -> Result<(), Error>
+    requires kept { log.old.tree.start ≤ floor }
+    requires below { at < log.old.tree.leaves }
+    requires few { at < 2 ^ 62 }
+    requires here { at ≡ floor + length snapshot.old.activity }
+    requires within { AreWithin floor at (I.entries index.old) }
+    requires counted { snapshot.old.live ≤ length snapshot.old.activity }
+    ensures placed { (ops : List model.Operation) → HasOperations C.Store F.shape H.Digest.bytes H.hash U.form log.old ops → slice_get ops at ≡ Some (operation_view U.view U.Key.bytes U.Value.bytes operation)
+        → ArePlaced I.index_key (I.entries index.old) snapshot.old.live snapshot.old.activity floor (between floor at ops) → AreKeys U.Key.bytes ops cache.old
+        → IfSome (C.told log.old.store) (λ _. OnOk result (ArePlaced I.index_key (I.entries index.new) snapshot.new.live snapshot.new.activity floor (between floor (at + 1) ops))) }
+    ensures keys { (ops : List model.Operation) → slice_get ops at ≡ Some (operation_view U.view U.Key.bytes U.Value.bytes operation) → AreKeys U.Key.bytes ops cache.old → OnOk result (AreKeys U.Key.bytes ops cache.new) }
+    ensures long { OnOk result (length snapshot.new.activity ≡ length snapshot.old.activity + 1) }
+    ensures within { OnOk result (AreWithin floor (at + 1) (I.entries index.new)) }
+    ensures counted { OnOk result (snapshot.new.live ≤ length snapshot.new.activity) }
+    ensures read { IsRead C.Store F.shape H.Digest.bytes H.hash log.old log.new }
+    ensures error { IfErr result (IsReadFault C.Store log.old log.new) }
+{
+    let is_update = operation.is_update();
+    let Some(key) = operation.into_key() else {
+        note(snapshot, floor, None, false)?;
+        return Ok(());
+    };
+    let bytes = key.as_bytes();
+    let found = find::<F, I, C, H, U>(index, log, cache, bytes)?;
+    move_key(index, bytes, found, is_update.then_some(Location::new(at)))?;
+    note(snapshot, floor, found, is_update)?;
+    keep(cache, at, key, found, is_update);
+    Ok(())
+}
+
+// Keeps the key of an update, and lets go of that of the update that was found.
+fn keep<K: Drop>(cache: &mut Cache<K>, at: u64, key: K, found: Option<Found>, is_update: bool)
+    ensures { (l : ℕ) (k : K) → Holds cache.new l k → ((is_update ≡ true) × ((l ≡ at) × (k ≡ key))) ⊎ Holds cache.old l k }
+{
+    let_go(cache, found);
+    if is_update {
+        cache.put(at, key);
+    }
+}
+
+// Lets go of the key of the update that was found.
+fn let_go<K: Drop>(cache: &mut Cache<K>, found: Option<Found>)
+    ensures { (l : ℕ) (k : K) → Holds cache.new l k → Holds cache.old l k }
+{
+    if let Some(found) = found {
+        cache.remove(found.location);
+    }
+}

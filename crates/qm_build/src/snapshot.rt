@@ -1,0 +1,62 @@
+//! Indices that an opening can rebuild.
+
+ghost use Rattle.std.specs.Prelude.{◌≡◌, ◌≢◌, ◌<◌, ◌≤◌, List, [], IfSome, IfOk, IfErr};
+ghost use Rattle.qm_model.specs.Operations as model;
+ghost use Rattle.qm_build.specs.Built.{IsBuilt, NoneBelow};
+ghost use Rattle.qm_build.specs.Reads.{HasOperations, IsRead, IsReadError};
+
+use crate::build::{Snapshot, build_snapshot};
+use qm_base::update::Update;
+use qm_base::{Corrupt, Error, Hasher, Location};
+use qm_index::{OrderedTranslator, Translator, ordered, unordered};
+use qm_merkle::Family;
+use qm_store::{AuthLog, Store};
+use std::alloc::Global;
+use std::num::NonZeroUsize;
+
+mod sealed {
+    /// What no other crate can implement.
+    pub trait SnapshotBuildSealed {}
+}
+
+/// An index that an opening rebuilds from the items of a log.
+pub trait SnapshotBuild<F: Family>: qm_index::Unordered<Value = Location<F>>
+    + sealed::SnapshotBuildSealed {
+    /// How many threads a rebuild takes, where there is a choice.
+    type Concurrency: Drop;
+
+    /// Rebuilds the list of a log in this index, as `build_snapshot` does.
+    final fn build<C: Store, H: Hasher + Drop, U: Update>(
+        &mut self,
+        alloc: Global,
+        log: &mut AuthLog<F, C, H>,
+        floor: Location<F>,
+        kept_keys: NonZeroUsize,
+        _concurrency: Self::Concurrency,
+    ) -> Result<Snapshot, Error>
+        requires empty { Self.entries self.old ≡ [] }
+        requires kept { log.old.tree.start ≤ floor }
+        requires below { floor < log.old.tree.leaves }
+        ensures built { (ops : List model.Operation) → HasOperations C.Store F.shape H.Digest.bytes H.hash U.form log.old ops → NoneBelow floor ops
+            → IfSome (C.told log.old.store) (λ _. IfOk result (λ s. IsBuilt Self.index_key (Self.entries self.new) s.live s.activity floor ops)) }
+        ensures decodes { (ops : List model.Operation) → HasOperations C.Store F.shape H.Digest.bytes H.hash U.form log.old ops
+            → IfSome (C.told log.old.store) (λ _. IfErr result (λ e. e ≢ Error.DataCorrupted Corrupt.ItemDoesNotDecode)) }
+        ensures read { IsRead C.Store F.shape H.Digest.bytes H.hash log.old log.new }
+        ensures error { IfErr result (IsReadError C.Store log.old log.new) }
+    {
+        build_snapshot::<F, Self, C, H, U>(alloc, self, log, floor, kept_keys)
+    }
+}
+
+impl<F: Family, T: Translator> sealed::SnapshotBuildSealed for unordered::Index<T, Location<F>> {}
+
+impl<F: Family, T: OrderedTranslator> sealed::SnapshotBuildSealed
+    for ordered::Index<T, Location<F>> {}
+
+impl<F: Family, T: Translator> SnapshotBuild<F> for unordered::Index<T, Location<F>> {
+    type Concurrency = ();
+}
+
+impl<F: Family, T: OrderedTranslator> SnapshotBuild<F> for ordered::Index<T, Location<F>> {
+    type Concurrency = ();
+}
