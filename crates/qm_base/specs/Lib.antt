@@ -1,3 +1,4 @@
 pub mod Parts
 pub mod Sizes
 pub mod Views
+pub mod Slots

@@ -5,6 +5,7 @@ pub mod Forms
 pub mod Live
 pub mod Keys
 pub mod Writes
+pub mod Slots
 pub mod Walk
 pub mod Ordered
 pub mod Step
