@@ -2,7 +2,7 @@
 use Rattle.std.specs.Prelude.{List, map}
 use Rattle.qm_model.specs.Operations.{Bytes}
 use Rattle.qm_model.specs.Writes.{Write}
-use Rattle.qm_batch.specs.declared.write.Write as written
+use Rattle.qm_base.specs.declared.write.Write as written
 use Rattle.qm_batch.specs.Views.{write_view}
 
 -- a list of writes

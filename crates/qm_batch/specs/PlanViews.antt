@@ -13,7 +13,7 @@ use Rattle.qm_model.specs.Writes.{Write, last_writes}
 use Rattle.qm_base.specs.Views.{operation_view}
 use Rattle.qm_base.specs.declared.operation.Operation as operation
 use Rattle.qm_base.specs.declared.update.Unordered.{Unordered}
-use Rattle.qm_batch.specs.declared.write.Write as written
+use Rattle.qm_base.specs.declared.write.Write as written
 use Rattle.qm_batch.specs.declared.plan.touch.Touch as declared
 use Rattle.qm_batch.specs.declared.plan.writes.Site as site
 use Rattle.qm_batch.specs.declared.plan.diff.Noted as noted

@@ -6,7 +6,6 @@ pub mod base;
 pub mod layer;
 pub mod plan;
 pub mod read;
-pub mod write;
 pub mod writes;
 
 pub use apply::{apply_bits, apply_diffs};
@@ -14,5 +13,5 @@ pub use base::Base;
 pub use layer::Layer;
 pub use plan::{Plan, plain};
 pub use read::{read_key, read_keys};
-pub use write::Write;
+pub use qm_base::Write;
 pub use writes::Writes;

@@ -5,8 +5,7 @@ ghost use Rattle.qm_model.specs.Writes as model;
 ghost use Rattle.qm_model.specs.Writes.{last_writes, write_of};
 ghost use Rattle.qm_batch.specs.Views.{write_view};
 
-use crate::write::Write;
-use qm_base::ByteString;
+use qm_base::{ByteString, Write};
 use std::alloc::{AllocError, Global};
 use std::collections::BTreeMap;
 use std::marker::Model;

@@ -25,6 +25,8 @@ pub data Refused : Type 0 where
   NotOffered : Refused
   NoDatabase : Refused
   NoSuchHandle : ℕ → Refused
+  -- how many keys were staged, and how many slots are given
+  SlotCount : ℕ → ℕ → Refused
   StaleBatch : Refused
   StaleRead : Refused
   HistoricalFloorPruned : ℕ → Refused
