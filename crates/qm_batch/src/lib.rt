@@ -6,12 +6,14 @@ pub mod base;
 pub mod layer;
 pub mod plan;
 pub mod read;
+pub mod wanted;
 pub mod writes;
 
 pub use apply::{apply_bits, apply_diffs};
 pub use base::Base;
 pub use layer::Layer;
-pub use plan::{Plan, plain};
-pub use read::{read_key, read_keys};
+pub use plan::{Plan, plain, staged};
 pub use qm_base::Write;
+pub use read::{read_key, read_keys};
+pub use wanted::{Read, Wanted};
 pub use writes::Writes;

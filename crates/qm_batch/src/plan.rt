@@ -14,7 +14,7 @@ ghost use Rattle.qm_batch.specs.Layers.{LeadOver};
 ghost use Rattle.qm_batch.specs.Lent.{IsLent, IsRead, IsReadError, NoneBelow};
 ghost use Rattle.qm_batch.specs.PlanViews.{decided_views, keyed, last_view, touch_views, unordered_touches, AreOwn, IsPath, path_view};
 ghost use Rattle.qm_batch.specs.Touches.{IsFrom, operations_of, written_touches};
-ghost use Rattle.qm_batch.specs.Views.{write_view, IsPlan, stepped, left_after};
+ghost use Rattle.qm_batch.specs.Views.{write_view, wanted_view, AreReads, IsPlan, stepped, left_after};
 
 mod decided;
 mod diff;
@@ -29,6 +29,7 @@ use self::walk::{Path, Walked, walk_from};
 use self::writes::{Last, find_sites, last_writes, written};
 use crate::base::Base;
 use crate::layer::Layer;
+use crate::wanted::Wanted;
 use qm_base::update::{Unordered, Update};
 use qm_base::{ByteString, Error, Hasher, JournalError, Location, Operation, ValueEncoding, Write};
 use qm_bits::Candidates;
@@ -320,7 +321,53 @@ pub fn plain<
     ensures whole { (lent : List model.Operation) → IsLent C.Store F.shape H.Digest.bytes H.hash ⟦<Unordered<K, V> as Update>⟧.form I.index_key (I.entries index.now) log.old lent → NoneBelow log.old.tree.start lent
         → log.old.tree.start ≤ base.now.floor → IfErr result (λ e. (n : ℕ) → e ≢ Error.Journal (JournalError.ItemPruned n)) }
 {
-    match own_operations(alloc, index, candidates, log, base, writes, policy) {
+    let wanted = Wanted {
+        writes,
+        reads: &[],
+        slots: &[],
+        others: &[],
+    };
+    staged(alloc, index, candidates, log, base, wanted, metadata, policy)
+}
+
+/// What the writes that are wanted make of the base list of a batch, as `plain` has it of writes, where the keys that were
+/// read are not looked up again: neither index nor log is asked for them.
+#[allow(clippy::too_many_arguments)]
+pub fn staged<
+    F: Family,
+    I: qm_index::Unordered<Value = Location<F>>,
+    B: Candidates<F>,
+    C: Store,
+    H: Hasher + Drop,
+    K: ByteString,
+    V: ValueEncoding<K>,
+    P: Policy<F, K, V::Value>,
+>(
+    alloc: Global,
+    index: &I,
+    candidates: &B,
+    log: &mut AuthLog<F, C, H>,
+    base: &Base<'_, F, Unordered<K, V>>,
+    wanted: Wanted<'_, F, Unordered<K, V>>,
+    metadata: Option<V::Value>,
+    policy: &mut P,
+) -> Result<Plan<F, Unordered<K, V>>, Error>
+    requires size { base.now.size ≤ 2 ^ 62 }
+    requires live { base.now.live ≤ base.now.size }
+    requires slots { length wanted.slots.now ≡ length wanted.reads.now }
+    ensures plan { (lent list : List model.Operation) → IsLent C.Store F.shape H.Digest.bytes H.hash ⟦<Unordered<K, V> as Update>⟧.form I.index_key (I.entries index.now) log.old lent → B.activity candidates.now ≡ bits lent → IsBase (base_view base.now) lent list
+        → AreReads ⟦<Unordered<K, V> as Update>⟧.view K.bytes wanted.reads.now list
+        → IfSome (C.told log.old.store) (λ _. IfOk result (λ plan. IsPlan plan list (stepped P.rules list (wanted_view K.bytes V.Value.bytes wanted) policy.old (option_map V.Value.bytes metadata)))) }
+    ensures next { (lent list : List model.Operation) → IsLent C.Store F.shape H.Digest.bytes H.hash ⟦<Unordered<K, V> as Update>⟧.form I.index_key (I.entries index.now) log.old lent → B.activity candidates.now ≡ bits lent → IsBase (base_view base.now) lent list
+        → AreReads ⟦<Unordered<K, V> as Update>⟧.view K.bytes wanted.reads.now list
+        → IfSome (C.told log.old.store) (λ _. IfOk result (λ _. policy.new ≡ left_after P.rules list (wanted_view K.bytes V.Value.bytes wanted) policy.old)) }
+    ensures live { IfOk result (λ plan. plan.live ≤ base.now.size + length plan.operations) }
+    ensures read { IsRead C.Store F.shape H.Digest.bytes H.hash log.old log.new }
+    ensures error { IfErr result (IsReadError C.Store log.old log.new) }
+    ensures whole { (lent : List model.Operation) → IsLent C.Store F.shape H.Digest.bytes H.hash ⟦<Unordered<K, V> as Update>⟧.form I.index_key (I.entries index.now) log.old lent → NoneBelow log.old.tree.start lent
+        → log.old.tree.start ≤ base.now.floor → IfErr result (λ e. (n : ℕ) → e ≢ Error.Journal (JournalError.ItemPruned n)) }
+{
+    match own_operations(alloc, index, candidates, log, base, wanted.writes, policy) {
         Ok(own) => Ok(planned(alloc, base.size, own, metadata)?),
         Err(error) => Err(error),
     }
