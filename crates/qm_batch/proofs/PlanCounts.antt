@@ -12,7 +12,7 @@ use Rattle.qm_model.proofs.KeyOrder.{Has}
 use Rattle.qm_model.proofs.OrderedLists.{Each-both, Single, live-contains, live-value}
 use Rattle.qm_model.proofs.Decisions.{walk-single, walk-live}
 use Rattle.qm_batch.proofs.Appends.{live-append}
-use Rattle.qm_batch.proofs.Basics.{bytes-turned}
+use Rattle.qm_index.proofs.Basics.{bytes-turned}
 use Rattle.qm_batch.proofs.PlanWrites.{touches-operation, one-dropped}
 use Rattle.qm_batch.proofs.Standing.{live-apart}
 

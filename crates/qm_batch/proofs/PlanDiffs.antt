@@ -23,7 +23,7 @@ use Rattle.qm_batch.specs.Changes.{Change, Changes, change_in, change_of, stands
 use Rattle.qm_batch.specs.Touches.{Touch, IsFrom}
 use Rattle.qm_batch.proofs.Appends.{live_of-append}
 use Rattle.qm_batch.proofs.PlanLists.{last_of, stands-untouched}
-use Rattle.qm_batch.proofs.Basics.{bytes-turned}
+use Rattle.qm_index.proofs.Basics.{bytes-turned}
 use Rattle.qm_batch.proofs.Entries.{change_in-cons}
 use Rattle.std.proofs.Math.Bool.{or-false, or-true}
 

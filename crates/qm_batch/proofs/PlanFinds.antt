@@ -18,10 +18,10 @@ use Rattle.qm_index.specs.Buckets.{bucket_at}
 use Rattle.qm_base.specs.Parts.{update_key}
 use Rattle.qm_batch.specs.Changes.{place_in, stands_at, update_at, update_from, said_by}
 use Rattle.qm_batch.specs.Layers.{Layer, LeadThrough, LeadOver}
-use Rattle.qm_batch.specs.Lent.{IsIndexed}
+use Rattle.qm_index.specs.Indexed.{IsIndexed}
 use Rattle.qm_batch.specs.PlanViews.{keyed}
 use Rattle.qm_batch.specs.Touches.{is_there, live_update_at, moved_touch, IsMoveAt}
-use Rattle.qm_batch.proofs.Members.{Contains-first, first_or_later}
+use Rattle.qm_index.proofs.Members.{Contains-first, first_or_later}
 use Rattle.qm_batch.proofs.PlanWalks.{none-past}
 use Rattle.qm_batch.proofs.PlanReads.{slice_get-front, slice_get-behind, update-here, front-none, front-touched, front-gone, front-live}
 use Rattle.qm_batch.proofs.PlanWrites.{touched-live, touched-unwritten}
@@ -29,7 +29,7 @@ use Rattle.qm_batch.proofs.Spellings.{keyed-update, keyless-said}
 use Rattle.qm_batch.proofs.WritesByKey.{looked-up}
 use Rattle.qm_batch.proofs.Reading.{in-bucket, own-bucket}
 use Rattle.qm_batch.proofs.Standing.{live-stands, live-of_key}
-use Rattle.qm_batch.proofs.Basics.{or-later}
+use Rattle.qm_index.proofs.Basics.{or-later}
 
 -- the operation at a location, where a layer has it
 abbrev pub found_in : List Layer → ℕ → Option Operation

@@ -19,7 +19,7 @@ use Rattle.qm_batch.specs.Changes.{place_in}
 use Rattle.qm_batch.specs.Touches.{Touch, operations_of, IsFrom, rewrite_here, moved_touch, new_touch, written_touches}
 use Rattle.qm_batch.proofs.PlanWrites.{touches-operation}
 use Rattle.qm_batch.proofs.Standing.{AreApart, live-of_key}
-use Rattle.qm_batch.proofs.Basics.{bytes-turned, or-none}
+use Rattle.qm_index.proofs.Basics.{bytes-turned, or-none}
 
 -- entries ascend by location
 abbrev pub Rises : List Live → Type 0

@@ -18,7 +18,7 @@ use Rattle.qm_batch.specs.Changes.{update_at}
 use Rattle.qm_batch.proofs.Appends.{live-append}
 use Rattle.qm_batch.proofs.PlanReads.{unless_touched}
 use Rattle.qm_batch.proofs.Standing.{AreApart, live-apart, live-of_key}
-use Rattle.qm_batch.proofs.Basics.{bytes-turned, or-later}
+use Rattle.qm_index.proofs.Basics.{bytes-turned, or-later}
 use Rattle.qm_chain.proofs.KeyOrder.{apart, eq_back}
 use Rattle.std.proofs.Math.Bool.{or-false}
 

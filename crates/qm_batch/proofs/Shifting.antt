@@ -15,7 +15,7 @@ use Rattle.qm_chain.specs.Ascending.{IsAscending}
 use Rattle.qm_chain.specs.Merges.{keys_of}
 use Rattle.qm_batch.specs.Changes.{Change, Changes, AreChanges, LeadTo, change_in, place_in, stands_at}
 use Rattle.qm_batch.specs.Marks.{AreMarked, HasLive, IsAlike, cleared, marked}
-use Rattle.qm_batch.proofs.Basics.{or-none}
+use Rattle.qm_index.proofs.Basics.{or-none}
 use Rattle.qm_batch.proofs.Marking.{place-within, place-behind, place-once, ended-some, bit-last, begun, done, key-cleared, key-marked, marked-same}
 use Rattle.qm_batch.proofs.Staging.{staged, change_in-push, entry-fresh, entry-own, entry-more}
 use Rattle.qm_batch.proofs.Steps.{changed, unchanged}

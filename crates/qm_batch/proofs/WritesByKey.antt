@@ -13,7 +13,7 @@ use Rattle.qm_model.specs.Operations.{Bytes}
 use Rattle.qm_model.specs.Writes.{Write, put_write, placed, write_of, last_writes}
 use Rattle.qm_model.proofs.LastWrites.{equal_keys}
 use Rattle.qm_batch.specs.Written.{ArePlaces}
-use Rattle.qm_batch.proofs.Basics.{bytes-turned}
+use Rattle.qm_index.proofs.Basics.{bytes-turned}
 use Rattle.qm_batch.proofs.PlanReads.{slice_get-front}
 
 -- entries by keys with bytes, each of which shows its write's mark

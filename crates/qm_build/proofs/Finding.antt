@@ -12,10 +12,10 @@ use Rattle.qm_model.proofs.LastWrites.{bytes_same}
 use Rattle.qm_model.proofs.Maps.{same_key}
 use Rattle.qm_base.specs.Parts.{update_key}
 use Rattle.qm_index.specs.Buckets.{bucket_at}
-use Rattle.qm_build.specs.Places.{Places, AreApart, HasPlaces, place_of}
-use Rattle.qm_build.proofs.Members.{first_or_later, from_image, from_filtered}
-use Rattle.qm_build.proofs.Placing.{place_of-cons}
-use Rattle.qm_build.proofs.Moving.{place-among, place-within}
+use Rattle.qm_index.specs.Places.{Places, AreApart, HasPlaces, place_of}
+use Rattle.qm_index.proofs.Members.{first_or_later, from_image, from_filtered}
+use Rattle.qm_index.proofs.Placing.{place_of-cons}
+use Rattle.qm_index.proofs.Moving.{place-among, place-within}
 use Rattle.qm_build.specs.Building.{key_at, between, places_from, IsFound}
 use Rattle.qm_build.proofs.Pushing.{pairs}
 

@@ -1,10 +1,5 @@
-pub mod Basics
 pub mod Caching
-pub mod Counts
 pub mod Finding
-pub mod Members
-pub mod Moving
-pub mod Placing
 pub mod Pushing
 pub mod Putting
 pub mod Reading

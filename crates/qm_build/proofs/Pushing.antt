@@ -9,9 +9,9 @@ use Rattle.qm_model.specs.Operations.{Bytes, Operation, update, delete, commit}
 use Rattle.qm_model.specs.Live.{Live, live_from, touches, touched}
 use Rattle.qm_model.proofs.Pushes.{live_from-push, live_from-within, Within}
 use Rattle.qm_base.specs.Parts.{key_of, is_update}
-use Rattle.qm_build.specs.Places.{Places, AreApart, place_of, without, moved}
-use Rattle.qm_build.proofs.Basics.{bytes-turned}
-use Rattle.qm_build.proofs.Placing.{place_of-cons, without-cons, without-other, without-none}
+use Rattle.qm_index.specs.Places.{Places, AreApart, place_of, without, moved}
+use Rattle.qm_index.proofs.Basics.{bytes-turned}
+use Rattle.qm_index.proofs.Placing.{place_of-cons, without-cons, without-other, without-none}
 use Rattle.qm_model.proofs.Maps.{same_key}
 use Rattle.qm_build.specs.Building.{places_from, live_bits, cleared, counted_after}
 

@@ -6,8 +6,8 @@ use Rattle.std.proofs.lemmas.Option.{slice_get_within}
 use Rattle.qm_model.specs.Operations.{Bytes, Operation}
 use Rattle.qm_base.specs.Parts.{key_of, is_update}
 use Rattle.qm_index.specs.Buckets.{bucket_at}
-use Rattle.qm_build.specs.Places.{Places, AreApart, HasPlaces, place_of, moved}
-use Rattle.qm_build.proofs.Placing.{apart-moved}
+use Rattle.qm_index.specs.Places.{Places, AreApart, HasPlaces, place_of, moved}
+use Rattle.qm_index.proofs.Placing.{apart-moved}
 use Rattle.qm_build.specs.Building.{between, places_from, cleared, counted_after, ArePlaced, IsFound}
 use Rattle.qm_build.proofs.Finding.{between-more, found-place, nowhere}
 use Rattle.qm_build.proofs.Pushing.{left_at, offset, places-push, places-commit, length-moved, bits-push, bits-commit}

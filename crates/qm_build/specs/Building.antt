@@ -4,7 +4,7 @@ use Rattle.qm_model.specs.Operations.{Bytes, Operation}
 use Rattle.qm_model.specs.Live.{live_at, live_from}
 use Rattle.qm_base.specs.Parts.{update_key}
 use Rattle.qm_index.specs.Buckets.{bucket_at}
-use Rattle.qm_build.specs.Places.{Places, AreApart, HasPlaces}
+use Rattle.qm_index.specs.Places.{Places, AreApart, HasPlaces}
 
 -- the key of the update at a location
 abbrev pub key_at : List Operation → ℕ → Option Bytes

@@ -3,7 +3,7 @@ use Rattle.std.specs.Prelude.{◌≡◌, ◌≤◌, ℕ, Bool, List, length, dro
 use Rattle.qm_model.specs.Operations.{Bytes, Operation}
 use Rattle.qm_model.specs.Live.{live}
 use Rattle.qm_model.specs.Bits.{bits}
-use Rattle.qm_build.specs.Indexed.{IsIndexed}
+use Rattle.qm_index.specs.Indexed.{IsIndexed}
 
 -- no live update of the list stands below this location
 abbrev pub NoneBelow : ℕ → List Operation → Type 0

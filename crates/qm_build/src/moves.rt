@@ -2,7 +2,7 @@
 
 ghost use Rattle.std.specs.Prelude.{◌≡◌, ◌+◌, ◌-◌, ◌<◌, ◌≤◌, ◌^◌, ℕ, ◌++◌, ◌∷◌, [], length, Some, slice_get, option_map, IfSome, OnOk};
 ghost use Rattle.qm_index.specs.Buckets.{bucket_at};
-ghost use Rattle.qm_build.specs.Places.{Places, AreApart, HasPlaces, place_of, moved};
+ghost use Rattle.qm_index.specs.Places.{Places, AreApart, HasPlaces, place_of, moved};
 ghost use Rattle.qm_build.specs.Building.{AreWithin, cleared, counted_after};
 
 use crate::build::Snapshot;

@@ -1,7 +1,12 @@
+pub mod Basics
 pub mod Caps
+pub mod Counts
 pub mod Maps
+pub mod Members
+pub mod Moving
 pub mod Neighbours
 pub mod Picks
-pub mod Trees
+pub mod Placing
 pub mod TreeNeighbours
+pub mod Trees
 pub mod Visits

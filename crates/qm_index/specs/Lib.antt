@@ -4,3 +4,5 @@ pub mod Held
 pub mod Monotone
 pub mod Neighbours
 pub mod NeighbourRows
+pub mod Indexed
+pub mod Places

@@ -3,8 +3,8 @@ use Rattle.std.specs.Prelude.{IfSome}
 use Rattle.std.proofs.lemmas.Option.{slice_get_within}
 use Rattle.std.proofs.lemmas.Result.{on_ok_weaker}
 use Rattle.qm_index.specs.Buckets.{bucket_at}
-use Rattle.qm_build.specs.Places.{HasPlaces, moved}
-use Rattle.qm_build.proofs.Moving.{updated, removed, inserted, unmoved}
+use Rattle.qm_index.specs.Places.{HasPlaces, moved}
+use Rattle.qm_index.proofs.Moving.{updated, removed, inserted, unmoved}
 use Rattle.qm_build.proofs.Within.{within-push, within-remove}
 use Rattle.qm_build.proofs.moves.move_key.Goals as goal
 

@@ -4,7 +4,7 @@ use Rattle.std.proofs.lemmas.List.{length-map}
 use Rattle.qm_model.specs.Forms.{spelling}
 use Rattle.qm_batch.specs.Layers.{Layer}
 use Rattle.qm_batch.specs.Views.{changes_view}
-use Rattle.qm_batch.proofs.Members.{Contains-later}
+use Rattle.qm_index.proofs.Members.{Contains-later}
 use Rattle.qm_any.specs.Databases.{AreAgreed, bases, unapplied, operations_in}
 use Rattle.qm_any.proofs.Unapplied.{joined-counts, diffs-first}
 use Rattle.qm_any.proofs.batch.MerkleizedBatch.lacking.Goals as goal

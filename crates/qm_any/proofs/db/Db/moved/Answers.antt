@@ -6,7 +6,7 @@ use Rattle.qm_bits.specs.Bitmaps.{all_bits}
 use Rattle.qm_store.specs.KeptTrees.{KeptTree, IsKeptTree}
 use Rattle.qm_store.specs.Log.{Log, IsLog}
 use Rattle.qm_store.specs.Log as logs
-use Rattle.qm_batch.specs.Lent.{IsIndexed}
+use Rattle.qm_index.specs.Indexed.{IsIndexed}
 use Rattle.qm_store.specs.Given.{Appended, AppendedPart, store_given}
 use Rattle.qm_any.proofs.Telling.{three}
 use Rattle.qm_store.proofs.Told.{grown-appended, appended-part, refused-appended-part}
