@@ -2,4 +2,3 @@ pub mod Layouts
 pub mod Databases
 pub mod Reasons
 pub mod Tips
-pub mod Views

@@ -23,7 +23,7 @@ ghost use Rattle.qm_any.specs.Reasons.{IsMakingError};
 ghost use Rattle.qm_any.specs.Tips.{IsLow, IsTaken, IsRefused};
 ghost use Rattle.qm_base.specs.Views.{operation_views};
 ghost use Rattle.qm_any.specs.Layouts.{Hashing};
-ghost use Rattle.qm_any.specs.Views.{write_views};
+ghost use Rattle.qm_base.specs.Slots.{write_views};
 
 use crate::db::{Db, LaidOut};
 use crate::operations::{

@@ -27,7 +27,7 @@ ghost use Rattle.qm_batch.specs.Views.{changes_view, IsPlan, stepped, left_after
 ghost use Rattle.qm_any.specs.Databases.{Database, IsBegun, IsDatabase, IsLeft, IsMade, IsTree, at_rest};
 ghost use Rattle.qm_store.specs.Given.{Appended, AppendedPart, store_given, store_after};
 ghost use Rattle.qm_store.specs.KeptTrees.{IsKeptTree, held_at};
-ghost use Rattle.qm_any.specs.Views.{write_views};
+ghost use Rattle.qm_base.specs.Slots.{write_views};
 
 use crate::batch::{Lacking, MerkleizedBatch, UnmerkleizedBatch};
 use crate::operations::{Step, copy_of, share, twin_option};

@@ -1,15 +1,18 @@
 -- The same commands, with policies under another name.
+use Rattle.std.specs.Prelude.{length, ◌==◌}
 use Rattle.std.proofs.Common.{◌≡◌, ℕ, List, cond, Option, Some, None, refl, ap}
 use Rattle.qm_model.specs.Operations.{Bytes, Operation}
 use Rattle.qm_model.specs.Walk.{Rules}
 use Rattle.qm_model.specs.Writes.{Write}
-use Rattle.qm_model.specs.Batches.{commitment, fits}
+use Rattle.qm_model.specs.Slots.{slotted}
+use Rattle.qm_model.specs.Slots as slots
+use Rattle.qm_model.specs.Batches.{Chain, commitment, fits}
 use Rattle.qm_model.specs.Forms.{variable}
-use Rattle.qm_model.specs.Refused.{StaleBatch}
+use Rattle.qm_model.specs.Refused.{StaleBatch, SlotCount}
 use Rattle.qm_model.specs.Refusals.{tip_refusal}
 use Rattle.qm_model.specs.Step.{Kind, step}
-use Rattle.qm_machine.specs.Lines.{Line, Open, Batch, Child, Tip, Put, Del, Merkleize, Apply, Ops, Get, Many, Info, BatchInfo, Root, BatchRoot, BatchProof, Meta, Prove, Pins}
-use Rattle.qm_machine.specs.Machine.{Scheme, State, Slot, gone, writing, merkleized, slot_at, with_slot, with_database, refuse, merkleize_tip, merkleize_in, merkleize, turn}
+use Rattle.qm_machine.specs.Lines.{Line, Open, Batch, Child, Tip, Put, Del, Merkleize, Stage, Expand, Resolve, Apply, Ops, Get, Many, Info, BatchInfo, Root, BatchRoot, BatchProof, Meta, Prove, Pins}
+use Rattle.qm_machine.specs.Machine.{Scheme, State, Slot, gone, writing, staged, merkleized, slot_at, with_slot, with_database, refuse, merkleize_tip, merkleize_writes, merkleize_in, merkleize, resolve_in, resolve, turn}
 
 -- a line with its policy under this name
 abbrev pub relabelled : {P Q : Type 0} → (P → Q) → Line P → Line Q
@@ -20,6 +23,9 @@ relabelled f Tip = Tip
 relabelled f (Put h key value) = Put h key value
 relabelled f (Del h key) = Del h key
 relabelled f (Merkleize h policy meta) = Merkleize h (f policy) meta
+relabelled f (Stage h keys) = Stage h keys
+relabelled f (Expand h keys) = Expand h keys
+relabelled f (Resolve h policy meta given others) = Resolve h (f policy) meta given others
 relabelled f (Apply h) = Apply h
 relabelled f (Ops h) = Ops h
 relabelled f (Get key from) = Get key from
@@ -36,10 +42,14 @@ relabelled f (Pins n) = Pins n
 -- where each policy makes the steps of its other name
 module _ {P Q : Type 0} (f : P → Q) (a : Rules P) (b : Rules Q)
     (same : (kind : Kind) (ops : List Operation) (ws : List Write) (p : P) (meta : Option Bytes) → step kind a ops ws p meta ≡ step kind b ops ws (f p) meta) (m : Scheme) where
-  same_in : (s : State) (h : ℕ) (policy : P) (meta : Option Bytes) (list : List Operation) (slot : Slot) → merkleize_in m a s h policy meta list slot ≡ merkleize_in m b s h (f policy) meta list slot
-  same_in s h policy meta list (writing chain above ws) =
+  same_writes : (s : State) (h : ℕ) (policy : P) (meta : Option Bytes) (list : List Operation) (chain : Chain) (ws : List Write) → merkleize_writes m a s h policy meta list chain ws ≡ merkleize_writes m b s h (f policy) meta list chain ws
+  same_writes s h policy meta list chain ws =
       ap (λ tip. cond (fits m.root (commitment m.root list) chain) (merkleize_tip s h chain tip (tip_refusal variable chain tip)) (refuse (with_slot s h gone) StaleBatch)) (same m.kind chain.base ws policy meta)
+
+  same_in : (s : State) (h : ℕ) (policy : P) (meta : Option Bytes) (list : List Operation) (slot : Slot) → merkleize_in m a s h policy meta list slot ≡ merkleize_in m b s h (f policy) meta list slot
+  same_in s h policy meta list (writing chain above ws) = same_writes s h policy meta list chain ws
   same_in s h policy meta list gone = refl
+  same_in s h policy meta list (staged chain above ws keys) = refl
   same_in s h policy meta list (merkleized chain tip) = refl
 
   same_merkleize : (s : State) (h : ℕ) (policy : P) (meta : Option Bytes) → merkleize m a s h policy meta ≡ merkleize m b s h (f policy) meta
@@ -49,6 +59,20 @@ module _ {P Q : Type 0} (f : P → Q) (a : Rules P) (b : Rules Q)
       in_database None = refl
       in_database (Some list) = same_in s h policy meta list (slot_at s.table h)
 
+  same_resolve_in : (s : State) (h : ℕ) (policy : P) (meta : Option Bytes) (given : List slots.Slot) (others : List Write) (list : List Operation) (slot : Slot) → resolve_in m a s h policy meta given others list slot ≡ resolve_in m b s h (f policy) meta given others list slot
+  same_resolve_in s h policy meta given others list gone = refl
+  same_resolve_in s h policy meta given others list (writing chain above ws) = refl
+  same_resolve_in s h policy meta given others list (merkleized chain tip) = refl
+  same_resolve_in s h policy meta given others list (staged chain above ws keys) =
+      ap (λ made. cond (length keys == length given) made (refuse s (SlotCount (length keys) (length given)))) (same_writes s h policy meta list chain (slotted ws keys given others))
+
+  same_resolve : (s : State) (h : ℕ) (policy : P) (meta : Option Bytes) (given : List slots.Slot) (others : List Write) → resolve m a s h policy meta given others ≡ resolve m b s h (f policy) meta given others
+  same_resolve s h policy meta given others = in_database s.database
+    where
+      in_database : (database : Option (List Operation)) → with_database s database (λ list. resolve_in m a s h policy meta given others list (slot_at s.table h)) ≡ with_database s database (λ list. resolve_in m b s h (f policy) meta given others list (slot_at s.table h))
+      in_database None = refl
+      in_database (Some list) = same_resolve_in s h policy meta given others list (slot_at s.table h)
+
   pub turn_relabelled : (s : State) (line : Line P) → turn m a s line ≡ turn m b s (relabelled f line)
   turn_relabelled s Open = refl
   turn_relabelled s Batch = refl
@@ -57,6 +81,9 @@ module _ {P Q : Type 0} (f : P → Q) (a : Rules P) (b : Rules Q)
   turn_relabelled s (Put h key value) = refl
   turn_relabelled s (Del h key) = refl
   turn_relabelled s (Merkleize h policy meta) = same_merkleize s h policy meta
+  turn_relabelled s (Stage h keys) = refl
+  turn_relabelled s (Expand h keys) = refl
+  turn_relabelled s (Resolve h policy meta given others) = same_resolve s h policy meta given others
   turn_relabelled s (Apply h) = refl
   turn_relabelled s (Ops h) = refl
   turn_relabelled s (Get key from) = refl

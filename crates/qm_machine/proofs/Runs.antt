@@ -1,13 +1,15 @@
 -- Runs of the machine: one command more, and lists that a run has had stay so.
 use Rattle.std.proofs.Common.{◌≡◌, ℕ, Bool, true, false, cond, List, [], ◌∷◌, ◌++◌, Option, Some, None, refl, ap}
-use Rattle.std.specs.Prelude.{Contains}
+use Rattle.std.specs.Prelude.{Contains, length, ◌==◌}
 use Rattle.qm_model.specs.Operations.{Bytes, Operation, fresh}
 use Rattle.qm_model.specs.Walk.{Rules}
 use Rattle.qm_model.specs.Writes.{Write}
+use Rattle.qm_model.specs.Slots.{slotted}
+use Rattle.qm_model.specs.Slots as slots
 use Rattle.qm_model.specs.Batches.{Chain, Apart, commitment, fits, readable}
-use Rattle.qm_machine.specs.Lines.{Line, Open, Batch, Child, Tip, Put, Del, Merkleize, Apply, Ops, Get, Many, Info, BatchInfo, Root, BatchRoot, BatchProof, Meta, Prove, Pins, Answer}
+use Rattle.qm_machine.specs.Lines.{Line, Open, Batch, Child, Tip, Put, Del, Merkleize, Stage, Expand, Resolve, Apply, Ops, Get, Many, Info, BatchInfo, Root, BatchRoot, BatchProof, Meta, Prove, Pins, Answer}
 use Rattle.qm_model.specs.Refused.{Refused}
-use Rattle.qm_machine.specs.Machine.{Scheme, State, Slot, gone, writing, merkleized, turn, answers, state_after, slot_at, start_child, put_in, list_operations, with_database, opening_refusal, open_unless, unless, merkleize_tip, merkleize_in, apply_in, if_readable, read_in, read, info_in, root_in, proof_in}
+use Rattle.qm_machine.specs.Machine.{Scheme, State, Slot, gone, writing, staged, merkleized, turn, answers, state_after, slot_at, start_child, put_in, list_operations, with_database, opening_refusal, open_unless, unless, merkleize_tip, merkleize_writes, merkleize_in, resolve_in, apply_in, if_readable, if_staged, stage_in, expand_in, read_in, read, info_in, root_in, proof_in}
 use Rattle.qm_model.specs.Forms.{variable}
 use Rattle.qm_model.specs.Refusals.{tip_refusal, proof_refusal, pins_refusal}
 use Rattle.qm_model.proofs.Chains.{Contains-more}
@@ -38,16 +40,19 @@ opened s (Some r) = λ x a. a
 
 put_keeps : (s : State) (h : ℕ) (w : Write) (slot : Slot) → Keeps s (put_in s h w slot)
 put_keeps s h w gone = λ x a. a
+put_keeps s h w (staged chain parent ws keys) = λ x a. a
 put_keeps s h w (writing chain parent ws) = λ x a. a
 put_keeps s h w (merkleized chain tip) = λ x a. a
 
 listed_keeps : (s : State) (h : ℕ) (slot : Slot) → Keeps s (list_operations s h slot)
 listed_keeps s h gone = λ x a. a
+listed_keeps s h (staged chain parent ws keys) = λ x a. a
 listed_keeps s h (writing chain parent ws) = λ x a. a
 listed_keeps s h (merkleized chain tip) = λ x a. a
 
 child_keeps : (s : State) (h : ℕ) (keep : Option ℕ) (slot : Slot) → Keeps s (start_child s h keep slot)
 child_keeps s h keep gone = λ x a. a
+child_keeps s h keep (staged chain parent ws keys) = λ x a. a
 child_keeps s h keep (writing chain parent ws) = λ x a. a
 child_keeps s h keep (merkleized chain tip) = λ x a. a
 
@@ -62,6 +67,7 @@ tip_keeps s h chain tip (Some r) = λ x a. a
 module _ (m : Scheme) where
   apply_keeps : (s : State) (h : ℕ) (list : List Operation) (slot : Slot) → Keeps s (apply_in m s h list slot)
   apply_keeps s h list gone = λ x a. a
+  apply_keeps s h list (staged chain parent ws keys) = λ x a. a
   apply_keeps s h list (writing chain parent ws) = λ x a. a
   apply_keeps s h list (merkleized chain tip) = either s (fits m.root (commitment m.root list) chain) _ _ (λ x a. a) (λ x a. a)
 
@@ -70,8 +76,24 @@ module _ (m : Scheme) where
 
   read_in_keeps : (s : State) (h : ℕ) (keys : List Bytes) (list : List Operation) (slot : Slot) → Keeps s (read_in m s h keys list slot)
   read_in_keeps s h keys list gone = λ x a. a
+  read_in_keeps s h keys list (staged chain parent ws ks) = λ x a. a
   read_in_keeps s h keys list (writing chain parent ws) = readable_keeps s list parent chain.base _
   read_in_keeps s h keys list (merkleized chain tip) = readable_keeps s list chain tip _
+
+  staged_keeps : (s : State) (h : ℕ) (list : List Operation) (chain parent : Chain) (answer : Answer) (slot : Slot) → Keeps s (if_staged m s h list chain parent answer slot)
+  staged_keeps s h list chain parent answer slot = either s (readable m.root (commitment m.root list) parent chain.base) _ _ (λ x a. a) (λ x a. a)
+
+  stage_keeps : (s : State) (h : ℕ) (keys : List Bytes) (list : List Operation) (slot : Slot) → Keeps s (stage_in m s h keys list slot)
+  stage_keeps s h keys list gone = λ x a. a
+  stage_keeps s h keys list (writing chain parent ws) = staged_keeps s h list chain parent _ _
+  stage_keeps s h keys list (staged chain parent ws ks) = λ x a. a
+  stage_keeps s h keys list (merkleized chain tip) = λ x a. a
+
+  expand_keeps : (s : State) (h : ℕ) (keys : List Bytes) (list : List Operation) (slot : Slot) → Keeps s (expand_in m s h keys list slot)
+  expand_keeps s h keys list gone = λ x a. a
+  expand_keeps s h keys list (writing chain parent ws) = λ x a. a
+  expand_keeps s h keys list (staged chain parent ws ks) = staged_keeps s h list chain parent _ _
+  expand_keeps s h keys list (merkleized chain tip) = λ x a. a
 
   read_keeps : (s : State) (keys : List Bytes) (from : Option ℕ) → Keeps s (read m s keys from)
   read_keeps s keys None = with_list s s.database _ (λ list x a. a)
@@ -79,25 +101,38 @@ module _ (m : Scheme) where
 
   info_keeps : (s : State) (h : ℕ) (slot : Slot) → Keeps s (info_in m s h slot)
   info_keeps s h gone = λ x a. a
+  info_keeps s h (staged chain parent ws keys) = λ x a. a
   info_keeps s h (writing chain parent ws) = λ x a. a
   info_keeps s h (merkleized chain tip) = λ x a. a
 
   root_keeps : (s : State) (h : ℕ) (slot : Slot) → Keeps s (root_in m s h slot)
   root_keeps s h gone = λ x a. a
+  root_keeps s h (staged chain parent ws keys) = λ x a. a
   root_keeps s h (writing chain parent ws) = λ x a. a
   root_keeps s h (merkleized chain tip) = λ x a. a
 
   proof_keeps : (s : State) (h : ℕ) (list : List Operation) (slot : Slot) → Keeps s (proof_in m s h list slot)
   proof_keeps s h list gone = λ x a. a
+  proof_keeps s h list (staged chain parent ws keys) = λ x a. a
   proof_keeps s h list (writing chain parent ws) = λ x a. a
   proof_keeps s h list (merkleized chain tip) = readable_keeps s list chain tip _
 
 module _ (m : Scheme) {P : Type 0} (rules : Rules P) where
+  writes_keep : (s : State) (h : ℕ) (policy : P) (meta : Option Bytes) (list : List Operation) (chain : Chain) (ws : List Write) → Keeps s (merkleize_writes m rules s h policy meta list chain ws)
+  writes_keep s h policy meta list chain ws = either s (fits m.root (commitment m.root list) chain) _ _ (tip_keeps s h chain _ (tip_refusal variable chain _)) (λ x a. a)
+
+  resolve_keeps : (s : State) (h : ℕ) (policy : P) (meta : Option Bytes) (given : List slots.Slot) (others : List Write) (list : List Operation) (slot : Slot) → Keeps s (resolve_in m rules s h policy meta given others list slot)
+  resolve_keeps s h policy meta given others list gone = λ x a. a
+  resolve_keeps s h policy meta given others list (writing chain parent ws) = λ x a. a
+  resolve_keeps s h policy meta given others list (merkleized chain tip) = λ x a. a
+  resolve_keeps s h policy meta given others list (staged chain parent ws keys) =
+      either s (length keys == length given) _ _ (writes_keep s h policy meta list chain (slotted ws keys given others)) (λ x a. a)
+
   merkleize_keeps : (s : State) (h : ℕ) (policy : P) (meta : Option Bytes) (list : List Operation) (slot : Slot) → Keeps s (merkleize_in m rules s h policy meta list slot)
   merkleize_keeps s h policy meta list gone = λ x a. a
+  merkleize_keeps s h policy meta list (staged chain parent ws keys) = λ x a. a
   merkleize_keeps s h policy meta list (merkleized chain tip) = λ x a. a
-  merkleize_keeps s h policy meta list (writing chain parent ws) =
-      either s (fits m.root (commitment m.root list) chain) _ _ (tip_keeps s h chain _ (tip_refusal variable chain _)) (λ x a. a)
+  merkleize_keeps s h policy meta list (writing chain parent ws) = writes_keep s h policy meta list chain ws
 
   turn_keeps : (s : State) (line : Line P) → Keeps s (turn m rules s line)
   turn_keeps s Open = opened s (opening_refusal s.store)
@@ -107,6 +142,9 @@ module _ (m : Scheme) {P : Type 0} (rules : Rules P) where
   turn_keeps s (Put h key value) = put_keeps s h _ (slot_at s.table h)
   turn_keeps s (Del h key) = put_keeps s h _ (slot_at s.table h)
   turn_keeps s (Merkleize h policy meta) = with_list s s.database _ (λ list. merkleize_keeps s h policy meta list (slot_at s.table h))
+  turn_keeps s (Stage h keys) = with_list s s.database _ (λ list. stage_keeps m s h keys list (slot_at s.table h))
+  turn_keeps s (Expand h keys) = with_list s s.database _ (λ list. expand_keeps m s h keys list (slot_at s.table h))
+  turn_keeps s (Resolve h policy meta given others) = with_list s s.database _ (λ list. resolve_keeps s h policy meta given others list (slot_at s.table h))
   turn_keeps s (Apply h) = with_list s s.database _ (λ list. apply_keeps m s h list (slot_at s.table h))
   turn_keeps s (Ops h) = listed_keeps s h (slot_at s.table h)
   turn_keeps s (Get key from) = read_keeps m s (key ∷ []) from

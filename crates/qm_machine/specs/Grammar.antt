@@ -6,8 +6,10 @@ use Rattle.hex.specs.Hex.{decode_of}
 use Rattle.hex.specs.declared.error.FromHexError.{FromHexError}
 use Rattle.qm_model.specs.Operations.{Bytes}
 use Rattle.qm_model.specs.Walk.{Limits}
+use Rattle.qm_model.specs.Slots.{Slot, keep, put, away}
+use Rattle.qm_model.specs.Writes.{Write}
 use Rattle.qm_model.specs.Policies.{Policy, proportional, hold, bounded, rule}
-use Rattle.qm_machine.specs.Lines.{Line, Open, Batch, Child, Tip, Put, Del, Merkleize, Apply, Ops, Get, Many, Info, BatchInfo, Root, BatchRoot, BatchProof, Meta, Prove, Pins}
+use Rattle.qm_machine.specs.Lines.{Line, Open, Batch, Child, Tip, Put, Del, Merkleize, Stage, Expand, Resolve, Apply, Ops, Get, Many, Info, BatchInfo, Root, BatchRoot, BatchProof, Meta, Prove, Pins}
 
 -- the number with one decimal digit more, below 2 ^ 64
 abbrev pub next_digit : ℕ → ℕ → Option ℕ
@@ -135,6 +137,46 @@ reading_of [] = None
 reading_of (w ∷ []) = last_reading w
 reading_of (w ∷ v ∷ ws) = option_and_then (λ k. option_map (with_key k) (reading_of (v ∷ ws))) (key_of w)
 
+-- a slot: a name or, behind another, a value
+abbrev pub slot_of : Bytes → Option Slot
+slot_of word =
+    if bytes_eq word (codes "keep") then Some keep
+    else (if bytes_eq word (codes "del") then Some away
+    else (if begins_with (codes "put:") word then option_map put (value_of (behind (codes "put:") word)) else None))
+
+-- a key, an equals sign, and a value or a word for none
+abbrev pub write_of_words : List Bytes → Option Write
+write_of_words (a ∷ b ∷ []) = option_and_then (λ k. option_map (λ v. record { key = k; value = v }) (metadata_of b)) (key_of a)
+write_of_words words = None
+
+abbrev pub write_of : Bytes → Option Write
+write_of word = write_of_words (slice_split (λ c. c == 61) word)
+
+-- keys, one or more, each a word
+abbrev pub each_key : List Bytes → Option (List Bytes)
+each_key [] = Some []
+each_key (w ∷ ws) = option_and_then (λ k. option_map (λ ks. k ∷ ks) (each_key ws)) (key_of w)
+
+abbrev pub some_keys : List Bytes → Option (List Bytes)
+some_keys [] = None
+some_keys (w ∷ ws) = each_key (w ∷ ws)
+
+abbrev pub each_write : List Bytes → Option (List Write)
+each_write [] = Some []
+each_write (w ∷ ws) = option_and_then (λ x. option_map (λ xs. x ∷ xs) (each_write ws)) (write_of w)
+
+-- what becomes of staged keys, and behind that other writes
+abbrev pub Resolution : Type 0
+Resolution = List Slot × List Write
+
+abbrev pub with_slot : Slot → Resolution → Resolution
+with_slot slot (slots, others) = (slot ∷ slots, others)
+
+-- slots as far as there are any, then writes
+abbrev pub resolution_of : List Bytes → Option Resolution
+resolution_of [] = Some ([], [])
+resolution_of (w ∷ ws) = elim (slot_of w) [ Some slot ↦ option_map (with_slot slot) (resolution_of ws) | None ↦ option_map (λ others. ([], others)) (each_write (w ∷ ws)) ]
+
 -- no word more
 abbrev pub alone : Line Policy → List Bytes → Option (Line Policy)
 alone line [] = Some line
@@ -175,6 +217,16 @@ abbrev pub merkleize_of : List Bytes → Option (Line Policy)
 merkleize_of (a ∷ b ∷ c ∷ []) = option_and_then (λ h. option_and_then (λ p. option_map (λ meta. Merkleize h p meta) (metadata_of c)) (policy_of b)) (number_of a)
 merkleize_of words = None
 
+-- a batch, and keys
+abbrev pub keyed_of : (ℕ → List Bytes → Line Policy) → List Bytes → Option (Line Policy)
+keyed_of line [] = None
+keyed_of line (a ∷ ws) = option_and_then (λ h. option_map (line h) (some_keys ws)) (number_of a)
+
+abbrev pub resolve_of : List Bytes → Option (Line Policy)
+resolve_of (a ∷ b ∷ c ∷ ws) =
+    option_and_then (λ h. option_and_then (λ p. option_and_then (λ meta. option_map (λ r. Resolve h p meta r.0 r.1) (resolution_of ws)) (metadata_of c)) (policy_of b)) (number_of a)
+resolve_of words = None
+
 abbrev pub prove_of : List Bytes → Option (Line Policy)
 prove_of (a ∷ b ∷ c ∷ []) = option_and_then (λ size. option_and_then (λ start. option_map (λ max. Prove size start max) (positive_of c)) (number_of b)) (number_of a)
 prove_of words = None
@@ -203,6 +255,9 @@ forms =
     ∷ (codes "put", put_of)
     ∷ (codes "del", del_of)
     ∷ (codes "merkleize", merkleize_of)
+    ∷ (codes "stage", keyed_of Stage)
+    ∷ (codes "expand", keyed_of Expand)
+    ∷ (codes "resolve", resolve_of)
     ∷ (codes "apply", numbered Apply)
     ∷ (codes "ops", numbered Ops)
     ∷ (codes "get", get_of)

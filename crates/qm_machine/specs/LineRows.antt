@@ -273,3 +273,47 @@ no_value = refl
 half_swap : no_policy (codes "rule:1:1:swap=01")
 unfolding no_policy decode_pairs
 half_swap = refl
+
+-- staged reads: slots in order, a write behind them that counts, and slots that are too few
+staged_start : List Bytes
+staged_start = codes "open" ∷ codes "batch" ∷ codes "put 1 61 01" ∷ codes "merkleize 1 prop none" ∷ codes "apply 1" ∷ codes "batch" ∷ codes "stage 2 61 61 61" ∷ []
+
+staged_started : List Bytes
+staged_started = codes "open 1 0 1" ∷ codes "batch 1" ∷ codes "ok" ∷ codes "merkleized 1 1 4 2" ∷ codes "applied 4" ∷ codes "batch 2" ∷ codes "read 01 01 01" ∷ []
+
+slots_text : text (lines (staged_start ++ codes "resolve 2 prop none put:05 del keep" ∷ codes "ops 2" ∷ [])) ≡ lines (staged_started ++ codes "merkleized 2 4 6 5" ∷ codes "ops 4 D:61 C:none@5" ∷ [])
+unfolding staged_start staged_started decode_pairs encode_with digits digits_below four_bytes eight_bytes
+slots_text = refl
+
+others_text : text (lines (staged_start ++ codes "resolve 2 prop none put:05 del keep 61=09" ∷ codes "ops 2" ∷ [])) ≡ lines (staged_started ++ codes "merkleized 2 4 7 5" ∷ codes "ops 4 U:61=09 U:61=09 C:none@5" ∷ [])
+unfolding staged_start staged_started decode_pairs encode_with digits digits_below four_bytes eight_bytes
+others_text = refl
+
+count_text : text (lines (staged_start ++ codes "expand 2 62" ∷ codes "resolve 2 prop none keep keep keep" ∷ codes "get 61 from=2" ∷ codes "stage 2 61" ∷ codes "resolve 1 prop none" ∷ []))
+    ≡ lines (staged_started ++ codes "read 3 4 none" ∷ codes "refused SlotCount 4 3" ∷ codes "refused NoSuchHandle 2" ∷ codes "refused NoSuchHandle 2" ∷ codes "refused NoSuchHandle 1" ∷ [])
+unfolding staged_start staged_started decode_pairs encode_with digits digits_below four_bytes eight_bytes
+count_text = refl
+
+-- staged keys of which an ancestor that was kept is applied meanwhile
+staged_child : forked (lines (codes "open" ∷ codes "batch" ∷ codes "put 1 00 10" ∷ codes "put 1 01 11" ∷ codes "merkleize 1 prop none" ∷ codes "apply 1" ∷ codes "batch" ∷ codes "put 2 00 20" ∷ codes "put 2 64 21"
+    ∷ codes "merkleize 2 prop none" ∷ codes "child 2" ∷ codes "put 3 01 22" ∷ codes "merkleize 3 hold none" ∷ codes "child 3" ∷ codes "stage 4 00 64" ∷ codes "apply 2" ∷ codes "resolve 4 hold none put:30 put:31" ∷ codes "ops 4" ∷ []))
+    ≡ lines (codes "open 1 0 1" ∷ codes "batch 1" ∷ codes "ok" ∷ codes "ok" ∷ codes "merkleized 1 1 5 2" ∷ codes "applied 5" ∷ codes "batch 2" ∷ codes "ok" ∷ codes "ok"
+    ∷ codes "merkleized 2 5 10 6" ∷ codes "batch 3" ∷ codes "ok" ∷ codes "merkleized 3 10 12 6" ∷ codes "batch 4" ∷ codes "read 20 21" ∷ codes "applied 10" ∷ codes "merkleized 4 12 15 6" ∷ codes "ops 12 U:64=31 U:00=30 C:none@6" ∷ [])
+unfolding decode_pairs encode_with digits digits_below four_bytes eight_bytes
+staged_child = refl
+
+-- what is no line: a slot behind a write, a write without a value, no key to stage
+slot_behind_write : line_of (codes "resolve 2 hold none 61=01 keep") ≡ None
+unfolding decode_pairs
+slot_behind_write = refl
+
+write_without_value : line_of (codes "resolve 2 hold none 61=") ≡ None
+unfolding decode_pairs
+write_without_value = refl
+
+nothing_to_stage : line_of (codes "stage 2") ≡ None
+nothing_to_stage = refl
+
+slot_without_value : line_of (codes "resolve 2 hold none put:") ≡ None
+unfolding decode_pairs
+slot_without_value = refl

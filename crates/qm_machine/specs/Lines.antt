@@ -3,6 +3,8 @@ use Rattle.std.specs.Prelude.{ℕ, Bool, List, Option}
 use Rattle.qm_model.specs.Operations.{Bytes, Operation}
 use Rattle.qm_model.specs.Proofs.{Proof}
 use Rattle.qm_model.specs.Refused.{Refused}
+use Rattle.qm_model.specs.Slots.{Slot}
+use Rattle.qm_model.specs.Writes.{Write}
 
 -- what a line asks for; a batch goes by its number
 pub data Line (P : Type 0) : Type 0 where
@@ -15,6 +17,11 @@ pub data Line (P : Type 0) : Type 0 where
   Put : ℕ → Bytes → Bytes → Line P
   Del : ℕ → Bytes → Line P
   Merkleize : ℕ → P → Option Bytes → Line P
+  -- keys, read through a batch, which becomes a staged one; and more of them
+  Stage : ℕ → List Bytes → Line P
+  Expand : ℕ → List Bytes → Line P
+  -- what becomes of the staged keys, and other writes
+  Resolve : ℕ → P → Option Bytes → List Slot → List Write → Line P
   Apply : ℕ → Line P
   Ops : ℕ → Line P
   -- keys, through the database or a batch
@@ -44,6 +51,8 @@ pub data Answer : Type 0 where
   -- the size of the base, and a batch's own operations
   Listed : ℕ → List Operation → Answer
   Read : List (Option Bytes) → Answer
+  -- from which staged key up to which, and what was read of these
+  Expanded : ℕ → ℕ → List (Option Bytes) → Answer
   -- start, size, floor and boundary, and whether a key is live
   Told : ℕ → ℕ → ℕ → ℕ → Bool → Answer
   -- of a batch: the sizes of its base and of its tip, its floor and its boundary

@@ -1,17 +1,19 @@
 -- The machine: databases and batches are operation lists, and each command is a function of the state.
-use Rattle.std.specs.Prelude.{ℕ, ◌+◌, nat_lt, if◌then◌else◌, List, [], ◌∷◌, ◌++◌, length, map, take, drop, slice_index_or, slice_set, Option, Some, None}
+use Rattle.std.specs.Prelude.{ℕ, ◌+◌, nat_lt, ◌==◌, if◌then◌else◌, List, [], ◌∷◌, ◌++◌, length, map, take, drop, slice_index_or, slice_set, Option, Some, None}
 use Rattle.qm_model.specs.Operations.{Bytes, Operation, fresh}
 use Rattle.qm_model.specs.StoreModel.{Stored, appended}
 use Rattle.qm_model.specs.Forms.{spelling, variable}
 use Rattle.qm_model.specs.Live.{live, floor, value_of, last_metadata}
 use Rattle.qm_model.specs.Writes.{Write, read_through}
+use Rattle.qm_model.specs.Slots.{slotted}
+use Rattle.qm_model.specs.Slots as slots
 use Rattle.qm_model.specs.Walk.{Rules}
 use Rattle.qm_model.specs.Step.{Kind}
 use Rattle.qm_model.specs.Step as steps
 use Rattle.qm_model.specs.Proofs.{Proof}
 use Rattle.qm_model.specs.Batches.{Chain, begun_on, child_of, commitment, fits, readable, own_operations}
-use Rattle.qm_machine.specs.Lines.{Line, Open, Batch, Child, Tip, Put, Del, Merkleize, Apply, Ops, Get, Many, Info, BatchInfo, Root, BatchRoot, BatchProof, Meta, Prove, Pins, Answer, Opened, Started, Done, Merkleized, Applied, Listed, Read, Told, BatchTold, Rooted, Metadata, Proved, BatchProved, Pinned, Refuses}
-use Rattle.qm_model.specs.Refused.{Refused, NotOffered, NoDatabase, NoSuchHandle, StaleBatch, StaleRead, DataCorrupted, HeadDoesNotMatch}
+use Rattle.qm_machine.specs.Lines.{Line, Open, Batch, Child, Tip, Put, Del, Merkleize, Stage, Expand, Resolve, Apply, Ops, Get, Many, Info, BatchInfo, Root, BatchRoot, BatchProof, Meta, Prove, Pins, Answer, Opened, Started, Done, Merkleized, Applied, Listed, Read, Expanded, Told, BatchTold, Rooted, Metadata, Proved, BatchProved, Pinned, Refuses}
+use Rattle.qm_model.specs.Refused.{Refused, NotOffered, NoDatabase, NoSuchHandle, SlotCount, StaleBatch, StaleRead, DataCorrupted, HeadDoesNotMatch}
 use Rattle.qm_model.specs.Refusals.{tip_refusal, proof_refusal, proof_count, pins_refusal}
 
 -- what a machine stands on: the kind of database, a list's operations root and boundary, the proofs of its operations and
@@ -24,11 +26,13 @@ pub record Scheme : Type 0 where
   pub proof : List Operation → ℕ → ℕ → Proof
   pub pins : List Operation → ℕ → List Bytes
 
--- a batch number: used up; a batch with the chain of its parent, which made its base, and its writes; a merkleized
--- batch with its tip list. The parent of a batch that was begun on a database is that as a merkleized batch.
+-- a batch number: used up; a batch with the chain of its parent, which made its base, and its writes; the same with the
+-- keys that were staged; a merkleized batch with its tip list. The parent of a batch that was begun on a database is that as
+-- a merkleized batch.
 pub data Slot : Type 0 where
   gone : Slot
   writing : Chain → Chain → List Write → Slot
+  staged : Chain → Chain → List Write → List Bytes → Slot
   merkleized : Chain → List Operation → Slot
 
 pub record State : Type 0 where
@@ -95,6 +99,7 @@ start_batch s = with_database s s.database (λ list. started s (writing (begun_o
 abbrev pub start_child : State → ℕ → Option ℕ → Slot → Answer × State
 start_child s h keep (merkleized chain tip) = started s (writing (child_of keep chain tip) chain [])
 start_child s h keep gone = refuse s (NoSuchHandle h)
+start_child s h keep (staged chain parent ws keys) = refuse s (NoSuchHandle h)
 start_child s h keep (writing chain parent ws) = refuse s (NoSuchHandle h)
 
 abbrev pub child : State → ℕ → Option ℕ → Answer × State
@@ -106,6 +111,7 @@ start_tip s = with_database s s.database (λ list. started s (merkleized (begun_
 abbrev pub put_in : State → ℕ → Write → Slot → Answer × State
 put_in s h w (writing chain parent ws) = (Done, with_slot s h (writing chain parent (ws ++ w ∷ [])))
 put_in s h w gone = refuse s (NoSuchHandle h)
+put_in s h w (staged chain parent ws keys) = refuse s (NoSuchHandle h)
 put_in s h w (merkleized chain tip) = refuse s (NoSuchHandle h)
 
 abbrev pub put : State → ℕ → Bytes → Bytes → Answer × State
@@ -117,6 +123,7 @@ del s h key = put_in s h (record { key = key; value = None }) (slot_at s.table h
 abbrev pub list_operations : State → ℕ → Slot → Answer × State
 list_operations s h (merkleized chain tip) = (Listed (length chain.base) (own_operations chain tip), s)
 list_operations s h gone = refuse s (NoSuchHandle h)
+list_operations s h (staged chain parent ws keys) = refuse s (NoSuchHandle h)
 list_operations s h (writing chain parent ws) = refuse s (NoSuchHandle h)
 
 abbrev pub ops : State → ℕ → Answer × State
@@ -140,6 +147,7 @@ module _ (m : Scheme) where
       then (Applied (length tip), record s { database = Some tip; store = appended (map (spelling variable) (drop (length list) tip)) s.store })
       else refuse s StaleBatch
   apply_in s h list gone = refuse s (NoSuchHandle h)
+  apply_in s h list (staged chain parent ws keys) = refuse s (NoSuchHandle h)
   apply_in s h list (writing chain parent ws) = refuse s (NoSuchHandle h)
 
   abbrev pub apply : State → ℕ → Answer × State
@@ -154,6 +162,33 @@ module _ (m : Scheme) where
   read_in s h keys list (writing chain parent ws) = if_readable s list parent chain.base (Read (map (read_through chain.base ws) keys))
   read_in s h keys list (merkleized chain tip) = if_readable s list chain tip (Read (map (value_of tip) keys))
   read_in s h keys list gone = refuse s (NoSuchHandle h)
+  read_in s h keys list (staged chain parent ws ks) = refuse s (NoSuchHandle h)
+
+  -- the answer, with this in the batch's place, which is used up where the database is at no state of the batch's parent
+  abbrev pub if_staged : State → ℕ → List Operation → Chain → Chain → Answer → Slot → Answer × State
+  if_staged s h list chain parent answer slot =
+      if readable m.root (commitment m.root list) parent chain.base then (answer, with_slot s h slot) else refuse (with_slot s h gone) StaleRead
+
+  -- the values of keys through a batch, which becomes a staged one
+  abbrev pub stage_in : State → ℕ → List Bytes → List Operation → Slot → Answer × State
+  stage_in s h keys list (writing chain parent ws) = if_staged s h list chain parent (Read (map (read_through chain.base ws) keys)) (staged chain parent ws keys)
+  stage_in s h keys list gone = refuse s (NoSuchHandle h)
+  stage_in s h keys list (staged chain parent ws ks) = refuse s (NoSuchHandle h)
+  stage_in s h keys list (merkleized chain tip) = refuse s (NoSuchHandle h)
+
+  abbrev pub stage : State → ℕ → List Bytes → Answer × State
+  stage s h keys = with_database s s.database (λ list. stage_in s h keys list (slot_at s.table h))
+
+  -- those of more keys, behind the staged ones
+  abbrev pub expand_in : State → ℕ → List Bytes → List Operation → Slot → Answer × State
+  expand_in s h keys list (staged chain parent ws ks) =
+      if_staged s h list chain parent (Expanded (length ks) (length ks + length keys) (map (read_through chain.base ws) keys)) (staged chain parent ws (ks ++ keys))
+  expand_in s h keys list gone = refuse s (NoSuchHandle h)
+  expand_in s h keys list (writing chain parent ws) = refuse s (NoSuchHandle h)
+  expand_in s h keys list (merkleized chain tip) = refuse s (NoSuchHandle h)
+
+  abbrev pub expand : State → ℕ → List Bytes → Answer × State
+  expand s h keys = with_database s s.database (λ list. expand_in s h keys list (slot_at s.table h))
 
   -- the values of keys, through a batch where one is given
   abbrev pub read : State → List Bytes → Option ℕ → Answer × State
@@ -167,6 +202,7 @@ module _ (m : Scheme) where
   abbrev pub info_in : State → ℕ → Slot → Answer × State
   info_in s h (merkleized chain tip) = (BatchTold (length chain.base) (length tip) (floor tip) (m.boundary tip), s)
   info_in s h gone = refuse s (NoSuchHandle h)
+  info_in s h (staged chain parent ws keys) = refuse s (NoSuchHandle h)
   info_in s h (writing chain parent ws) = refuse s (NoSuchHandle h)
 
   abbrev pub batch_info : State → ℕ → Answer × State
@@ -179,6 +215,7 @@ module _ (m : Scheme) where
   abbrev pub root_in : State → ℕ → Slot → Answer × State
   root_in s h (merkleized chain tip) = (Rooted (m.root tip) (m.root tip), s)
   root_in s h gone = refuse s (NoSuchHandle h)
+  root_in s h (staged chain parent ws keys) = refuse s (NoSuchHandle h)
   root_in s h (writing chain parent ws) = refuse s (NoSuchHandle h)
 
   abbrev pub batch_root : State → ℕ → Answer × State
@@ -188,6 +225,7 @@ module _ (m : Scheme) where
   abbrev pub proof_in : State → ℕ → List Operation → Slot → Answer × State
   proof_in s h list (merkleized chain tip) = if_readable s list chain tip (BatchProved (m.proof tip (length chain.base) (length tip)) (m.pins tip (length chain.base)))
   proof_in s h list gone = refuse s (NoSuchHandle h)
+  proof_in s h list (staged chain parent ws keys) = refuse s (NoSuchHandle h)
   proof_in s h list (writing chain parent ws) = refuse s (NoSuchHandle h)
 
   abbrev pub batch_proof : State → ℕ → Answer × State
@@ -203,18 +241,35 @@ module _ (m : Scheme) where
 
 -- under policies with these rules
 module _ (m : Scheme) {P : Type 0} (rules : Rules P) where
-  -- the batch is also used up where the database has moved on
-  abbrev pub merkleize_in : State → ℕ → P → Option Bytes → List Operation → Slot → Answer × State
-  merkleize_in s h policy meta list (writing chain parent ws) =
+  -- writes make a batch's tip list; the batch is also used up where the database has moved on
+  abbrev pub merkleize_writes : State → ℕ → P → Option Bytes → List Operation → Chain → List Write → Answer × State
+  merkleize_writes s h policy meta list chain ws =
       let tip = steps.step m.kind rules chain.base ws policy meta in
       if fits m.root (commitment m.root list) chain
       then merkleize_tip s h chain tip (tip_refusal variable chain tip)
       else refuse (with_slot s h gone) StaleBatch
+
+  abbrev pub merkleize_in : State → ℕ → P → Option Bytes → List Operation → Slot → Answer × State
+  merkleize_in s h policy meta list (writing chain parent ws) = merkleize_writes s h policy meta list chain ws
   merkleize_in s h policy meta list gone = refuse s (NoSuchHandle h)
+  merkleize_in s h policy meta list (staged chain parent ws keys) = refuse s (NoSuchHandle h)
   merkleize_in s h policy meta list (merkleized chain tip) = refuse s (NoSuchHandle h)
 
   abbrev pub merkleize : State → ℕ → P → Option Bytes → Answer × State
   merkleize s h policy meta = with_database s s.database (λ list. merkleize_in s h policy meta list (slot_at s.table h))
+
+  -- the recorded writes, then the slots of the staged keys, then the others make a batch's tip list; there are as many slots as keys
+  abbrev pub resolve_in : State → ℕ → P → Option Bytes → List slots.Slot → List Write → List Operation → Slot → Answer × State
+  resolve_in s h policy meta given others list (staged chain parent ws keys) =
+      if length keys == length given
+      then merkleize_writes s h policy meta list chain (slotted ws keys given others)
+      else refuse s (SlotCount (length keys) (length given))
+  resolve_in s h policy meta given others list gone = refuse s (NoSuchHandle h)
+  resolve_in s h policy meta given others list (writing chain parent ws) = refuse s (NoSuchHandle h)
+  resolve_in s h policy meta given others list (merkleized chain tip) = refuse s (NoSuchHandle h)
+
+  abbrev pub resolve : State → ℕ → P → Option Bytes → List slots.Slot → List Write → Answer × State
+  resolve s h policy meta given others = with_database s s.database (λ list. resolve_in s h policy meta given others list (slot_at s.table h))
 
   -- one command: the answer, and the state after it
   abbrev pub turn : State → Line P → Answer × State
@@ -225,6 +280,9 @@ module _ (m : Scheme) {P : Type 0} (rules : Rules P) where
   turn s (Put h key value) = put s h key value
   turn s (Del h key) = del s h key
   turn s (Merkleize h policy meta) = merkleize s h policy meta
+  turn s (Stage h keys) = stage m s h keys
+  turn s (Expand h keys) = expand m s h keys
+  turn s (Resolve h policy meta given others) = resolve s h policy meta given others
   turn s (Apply h) = apply m s h
   turn s (Ops h) = ops s h
   turn s (Get key from) = read m s (key ∷ []) from

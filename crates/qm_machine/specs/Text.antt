@@ -2,8 +2,8 @@
 use Rattle.std.specs.Prelude.{Bool, true, false, List, [], ◌∷◌, ◌++◌, codes, Option, None, Some, flat_map, decimal}
 use Rattle.hex.specs.Hex.{encode_lower}
 use Rattle.qm_model.specs.Operations.{Bytes, Operation, update, delete, commit}
-use Rattle.qm_machine.specs.Lines.{Answer, Opened, Started, Done, Merkleized, Applied, Listed, Read, Told, BatchTold, Rooted, Metadata, Proved, BatchProved, Pinned, Refuses}
-use Rattle.qm_model.specs.Refused.{corrupt_text, TreeRefused, RangeOutOfBounds, ElementPruned, MissingNode, LocationOverflow, LogRefused, ItemPruned, ItemTooLarge, Refused, NotOffered, NoDatabase, NoSuchHandle, StaleBatch, StaleRead, HistoricalFloorPruned, DataCorrupted, Merkle, Journal}
+use Rattle.qm_machine.specs.Lines.{Answer, Opened, Started, Done, Merkleized, Applied, Listed, Read, Expanded, Told, BatchTold, Rooted, Metadata, Proved, BatchProved, Pinned, Refuses}
+use Rattle.qm_model.specs.Refused.{corrupt_text, TreeRefused, RangeOutOfBounds, ElementPruned, MissingNode, LocationOverflow, LogRefused, ItemPruned, ItemTooLarge, Refused, NotOffered, NoDatabase, NoSuchHandle, SlotCount, StaleBatch, StaleRead, HistoricalFloorPruned, DataCorrupted, Merkle, Journal}
 
 -- bytes in hexadecimal, and the empty ones as a dash
 abbrev pub hex_text : Bytes → Bytes
@@ -37,6 +37,7 @@ abbrev pub refused_text : Refused → Bytes
 refused_text NotOffered = codes "NotOffered"
 refused_text NoDatabase = codes "NoDatabase"
 refused_text (NoSuchHandle h) = codes "NoSuchHandle " ++ decimal h
+refused_text (SlotCount staged given) = codes "SlotCount " ++ (decimal staged ++ (codes " " ++ decimal given))
 refused_text StaleBatch = codes "StaleBatch"
 refused_text StaleRead = codes "StaleRead"
 refused_text (HistoricalFloorPruned n) = codes "HistoricalFloorPruned " ++ decimal n
@@ -70,6 +71,7 @@ reply_line (Merkleized h base size floor) =
 reply_line (Applied size) = codes "applied " ++ decimal size
 reply_line (Listed base ops) = codes "ops " ++ (decimal base ++ operations_text ops)
 reply_line (Read values) = codes "read" ++ values_text values
+reply_line (Expanded a b values) = codes "read " ++ (decimal a ++ (codes " " ++ (decimal b ++ values_text values)))
 reply_line (Told start size floor boundary is_live) =
     codes "info " ++ (decimal start ++ (codes " " ++ (decimal size ++ (codes " " ++ (decimal floor ++ (codes " " ++ (decimal boundary ++ (codes " " ++ live_text is_live))))))))
 reply_line (BatchTold base size floor boundary) =

@@ -12,7 +12,7 @@ use Rattle.qm_any.specs.Layouts.{hashing_with, spellings}
 use Rattle.qm_any.specs.Databases.{AreAgreed, AreLinked, IsMade, IsTree, bases_of, child_boundary, child_made}
 use Rattle.qm_merkle.specs.Batches.{lists_since}
 use Rattle.qm_store.specs.KeptTrees.{KeptTree, IsKeptTree}
-use Rattle.qm_any.specs.Views.{write_views}
+use Rattle.qm_base.specs.Slots.{write_views}
 use Rattle.qm_any.proofs.Agreed.{child-reached, child-above}
 use Rattle.qm_any.proofs.Known.{on_chain-base, child-base, child-linked}
 use Rattle.qm_any.proofs.Making.{child-among, child-is_made, plan-length, plan-spelled, stepped-metadata, stepped-of}
