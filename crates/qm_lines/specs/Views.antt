@@ -5,6 +5,7 @@ use Rattle.qm_model.specs.Operations.{Bytes, Operation, update, delete, commit}
 use Rattle.qm_machine.specs.Lines as lines
 use Rattle.qm_model.specs.Refused as refusals
 use Rattle.qm_base.specs.Views.{corrupt_view}
+use Rattle.qm_base.specs.Slots.{slot_views, write_views}
 use Rattle.qm_lines.specs.declared.command.Command.{Command}
 use Rattle.qm_lines.specs.declared.command.Command.TheVariants as commands
 use Rattle.qm_lines.specs.declared.reply.Listed.{Listed}
@@ -32,6 +33,7 @@ abbrev pub refused_view : Refused → refusals.Refused
 refused_view refused.NotOffered = refusals.NotOffered
 refused_view refused.NoDatabase = refusals.NoDatabase
 refused_view (refused.NoSuchHandle h) = refusals.NoSuchHandle h
+refused_view (refused.SlotCount staged given) = refusals.SlotCount staged given
 refused_view refused.StaleBatch = refusals.StaleBatch
 refused_view refused.StaleRead = refusals.StaleRead
 refused_view (refused.HistoricalFloorPruned n) = refusals.HistoricalFloorPruned n
@@ -48,6 +50,9 @@ module _ {K V : Type 0} (key : K → Bytes) (value : V → Bytes) where
   line_view policy (commands.Put h k v) = lines.Put h (key k) (value v)
   line_view policy (commands.Del h k) = lines.Del h (key k)
   line_view policy (commands.Merkleize h p m) = lines.Merkleize h (policy p) (option_map value m)
+  line_view policy (commands.Stage h keys) = lines.Stage h (map key keys.items)
+  line_view policy (commands.Expand h keys) = lines.Expand h (map key keys.items)
+  line_view policy (commands.Resolve h p m r) = lines.Resolve h (policy p) (option_map value m) (slot_views value r.slots.items) (write_views key value r.others.items)
   line_view policy (commands.Apply h) = lines.Apply h
   line_view policy (commands.Ops h) = lines.Ops h
   line_view policy (commands.Get k from) = lines.Get (key k) from
@@ -74,6 +79,7 @@ module _ {K V : Type 0} (key : K → Bytes) (value : V → Bytes) where
   answer_view digest (replies.Applied size) = lines.Applied size
   answer_view digest (replies.Ops base ops) = lines.Listed base (map listed_view ops.items)
   answer_view digest (replies.Read values) = lines.Read (map (option_map value) values.items)
+  answer_view digest (replies.Expanded a b values) = lines.Expanded a b (map (option_map value) values.items)
   answer_view digest (replies.Info start size floor boundary is_live) = lines.Told start size floor boundary is_live
   answer_view digest (replies.BatchInfo base size floor boundary) = lines.BatchTold base size floor boundary
   answer_view digest (replies.Root r o) = lines.Rooted (digest r) (digest o)

@@ -1,6 +1,14 @@
 //! What a line asks for.
 
+use qm_base::{Slot, Write};
 use std::num::NonZeroU64;
+
+/// What becomes of staged keys, a slot for each in their order, and other writes behind these.
+#[derive(Drop)]
+pub struct Resolution<K, V> {
+    pub slots: Vec<Slot<V>>,
+    pub others: Vec<Write<K, V>>,
+}
 
 /// A command with keys, values and policies of these types. A batch goes by the number that the run gave it.
 #[derive(Drop)]
@@ -19,6 +27,12 @@ pub enum Command<K, V, P> {
     Del(u64, K),
     /// Merkleizes the batch of this number under a policy, with this metadata.
     Merkleize(u64, P, Option<V>),
+    /// Reads the values of keys through the batch of this number, which becomes a staged one.
+    Stage(u64, Vec<K>),
+    /// Reads the values of more keys through the staged batch of this number.
+    Expand(u64, Vec<K>),
+    /// Merkleizes the staged batch of this number under a policy, with this metadata and what becomes of its keys.
+    Resolve(u64, P, Option<V>, Resolution<K, V>),
     /// Applies the merkleized batch of this number.
     Apply(u64),
     /// Lists the own operations of the merkleized batch of this number.

@@ -40,6 +40,8 @@ pub enum Refused {
     NotOffered,
     NoDatabase,
     NoSuchHandle(u64),
+    /// How many keys are staged, and how many slots were given.
+    SlotCount(u64, u64),
     StaleBatch,
     StaleRead,
     /// No commit stands at the end of so many operations.
@@ -65,6 +67,8 @@ pub enum Reply<K, V, D> {
     Ops(u64, Vec<Listed<K, V>>),
     /// The values of the keys that were asked, in their order.
     Read(Vec<Option<V>>),
+    /// From which staged key up to which, and the values of these.
+    Expanded(u64, u64, Vec<Option<V>>),
     /// Start, size, floor and boundary, and whether any key is live.
     Info(u64, u64, u64, u64, bool),
     /// The sizes of a batch's base and its tip, its floor and its boundary.
