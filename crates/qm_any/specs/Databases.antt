@@ -13,6 +13,7 @@ use Rattle.qm_store.specs.declared.Store as store
 use Rattle.qm_store.specs.Log.{Log}
 use Rattle.qm_bits.specs.Bitmaps.{Bitmap, all_bits}
 use Rattle.qm_batch.specs.Bases.{Base}
+use Rattle.qm_batch.specs.Changes.{update_of}
 use Rattle.qm_batch.specs.Layers.{Layer, LeadThrough}
 use Rattle.qm_batch.specs.Lent.{IsLent, IsRead}
 use Rattle.qm_batch.specs.Views.{Plan}
@@ -44,6 +45,15 @@ pub record Begun (D : Type 0) : Type 0 where
   pub parent : Made D
   pub keep : ℕ
   pub writes : List Write
+
+-- a staged batch: the batch, and the keys that were read, in order, each with what was found of it and where
+pub record Staged (D : Type 0) : Type 0 where
+  pub batch : Begun D
+  pub reads : List (Bytes × Option (ℕ × Operation))
+
+-- its keys
+abbrev pub staged_keys : {D : Type 0} → Staged D → List Bytes
+staged_keys staged = map (λ r. r.0) staged.reads
 
 -- what a merkleized batch knows of the list that it makes
 abbrev pub base_of : {D : Type 0} → Made D → Base
@@ -163,6 +173,11 @@ module _ {D : Type 0} (hashing : Hashing D) where
   pub record IsBegun (batch : Begun D) (chain above : Chain) : Type 0 where
     pub parent : IsMade batch.parent above chain.base
     pub kept : chain.kept ≡ kept_by batch.keep above chain.base
+
+  -- the staged batch is of this chain, its parent of that one, and what was found of its keys is what its base list has
+  pub record IsStaged (staged : Staged D) (chain above : Chain) : Type 0 where
+    pub begun : IsBegun staged.batch chain above
+    pub reads : All (λ r. r.1 ≡ update_of chain.base r.0) staged.reads
 
 module _ {C D : Type 0} (members : store.Ghosts C) where
   -- the database, of this layout, stands for this list, and its store tells its items

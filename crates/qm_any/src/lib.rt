@@ -7,5 +7,6 @@ pub mod laws;
 mod open;
 mod operations;
 pub mod proof;
+pub mod staged;
 
 pub use open::{hasher, init, initial_root};

@@ -1,0 +1,172 @@
+//! Staged batches: keys that were read through a batch, so that they are not looked up again when it is merkleized.
+
+ghost use Rattle.std.specs.Prelude.{◌≡◌, ◌≢◌, ◌⊎◌, ◌≤◌, ◌+◌, ◌++◌, ℕ, ◌==◌, List, true, false, length, map, option_map, IfOk, All, IfErr, OnOk};
+ghost use Rattle.qm_base.specs.Slots.{slot_views, write_views};
+ghost use Rattle.qm_model.specs.Batches.{Chain, IsKnown, IsOnChain};
+ghost use Rattle.qm_model.specs.Causes.{Rose};
+ghost use Rattle.qm_model.specs.Operations.{Operation};
+ghost use Rattle.qm_model.specs.Slots.{slotted};
+ghost use Rattle.qm_model.specs.Writes.{read_through};
+ghost use Rattle.qm_merkle.specs.Batches.{stops};
+ghost use Rattle.qm_chain.specs.Bounds.{knows};
+ghost use Rattle.qm_batch.specs.Lent.{IsReadError, NoneBelow};
+ghost use Rattle.qm_batch.specs.Views.{stepped, left_after};
+ghost use Rattle.qm_any.specs.Databases.{IsDatabase, IsBegun, IsMade, IsLeft, IsStaged, is_on, staged_keys};
+ghost use Rattle.qm_any.specs.Reasons.{IsMakingError};
+ghost use Rattle.qm_any.specs.Tips.{IsTaken, IsRefused};
+
+use crate::batch::{MerkleizedBatch, UnmerkleizedBatch};
+use crate::db::{Db, LaidOut};
+use qm_base::update::{Unordered, Update};
+use qm_base::{ByteString, Digest, Error, Hasher, JournalError, Location, Slot, ValueEncoding, Write};
+use qm_batch::Read;
+use qm_chain::Policy;
+use qm_merkle::Family;
+use qm_store::Store;
+use std::alloc::Global;
+use std::marker::Model;
+use std::ops::Range;
+use std::rc::Rc;
+
+/// A batch, and keys that were read through it, each with what the batch's base list has of it. Writes that come with the
+/// keys' slots are not seen by later reads. It keeps a copy of what it found.
+#[derive(Drop)]
+pub struct Staged<F: Family, D: Digest, U: Update> {
+    batch: UnmerkleizedBatch<F, D, U>,
+    reads: Vec<Read<F, U>>,
+}
+
+impl<F: Family, D: Digest, U: Update> Model for Staged<F, D, U> {
+    ghost use Rattle.qm_batch.specs.Views.{reads_view};
+    ghost use Rattle.qm_any.specs.Databases.{Staged};
+
+    ghost Value = { Staged D };
+
+    ghost view = { λ s. record { batch = s.batch; reads = reads_view U.view U.Key.bytes s.reads.items } };
+}
+
+impl<F: Family, D: Digest, U: Update> UnmerkleizedBatch<F, D, U> {
+    /// Reads the values of keys, as `get_many` does, and keeps what the base list has of each, so that no staged key is looked
+    /// up again. The batch is gone also where this is refused. A key that the batch's own writes have is looked up like the
+    /// others.
+    pub fn stage<
+        C: Store,
+        I: qm_index::Unordered<Value = Location<F>>,
+        H: Hasher<Digest = D> + Drop,
+    >(
+        self,
+        alloc: Global,
+        keys: Vec<U::Key>,
+        db: &mut Db<F, C, I, H, U>,
+    ) -> Result<(Vec<Option<U::Value>>, Staged<F, D, U>), Error>
+        ensures values { (list : List Operation) (chain above : Chain) → IsDatabase C.Store ⟦<Db<F, C, I, H, U> as LaidOut>⟧.layout db.old list → IsBegun ⟦<Db<F, C, I, H, U> as LaidOut>⟧.layout.hashing self chain above → IsKnown list above chain.base
+            → IfOk result (λ r. map (option_map U.Value.bytes) r.0.items ≡ map (λ k. read_through chain.base self.writes (U.Key.bytes k)) keys.items) }
+        ensures staged { (list : List Operation) (chain above : Chain) → IsDatabase C.Store ⟦<Db<F, C, I, H, U> as LaidOut>⟧.layout db.old list → IsBegun ⟦<Db<F, C, I, H, U> as LaidOut>⟧.layout.hashing self chain above → IsKnown list above chain.base
+            → IfOk result (λ r. IsStaged ⟦<Db<F, C, I, H, U> as LaidOut>⟧.layout.hashing r.1 chain above) }
+        ensures batch { IfOk result (λ r. r.1.batch ≡ self) }
+        ensures keys { IfOk result (λ r. staged_keys r.1 ≡ map U.Key.bytes keys.items) }
+        ensures readable { OnOk result (knows self.parent.bounds db.old.commitment ≡ true) }
+        ensures error { IfErr result (λ e. ((e ≡ Error.StaleRead) × (knows self.parent.bounds db.old.commitment ≡ false))
+            ⊎ ((e ≡ Error.Memory) ⊎ ((knows self.parent.bounds db.old.commitment ≡ true) × IsReadError C.Store db.old.log db.new.log e))) }
+        ensures whole { (list : List Operation) → IsDatabase C.Store ⟦<Db<F, C, I, H, U> as LaidOut>⟧.layout db.old list → NoneBelow db.old.log.tree.start list → IfErr result (λ e. (n : ℕ) → e ≢ Error.Journal (JournalError.ItemPruned n)) }
+        ensures left { IsLeft C.Store ⟦<Db<F, C, I, H, U> as LaidOut>⟧.layout.hashing db.old db.new }
+    {
+        let staged = Staged {
+            batch: self,
+            reads: Vec::new(alloc),
+        };
+        let (_, values, staged) = staged.expand(alloc, keys, db)?;
+        Ok((values, staged))
+    }
+}
+
+impl<F: Family, D: Digest, U: Update> Staged<F, D, U> {
+    /// How many keys are staged: those of `stage`, and of every `expand`.
+    pub fn len(&self) -> usize
+        ensures { result ≡ length (staged_keys self.now) }
+    {
+        self.reads.len()
+    }
+
+    /// Whether no key is staged.
+    pub fn is_empty(&self) -> bool
+        ensures { result ≡ (length (staged_keys self.now) == 0) }
+    {
+        self.reads.is_empty()
+    }
+
+    /// Reads the values of more keys, as `stage` does, and puts them behind the staged ones; a key may be staged again. It
+    /// gives their places among these, and is gone also where this is refused.
+    pub fn expand<
+        C: Store,
+        I: qm_index::Unordered<Value = Location<F>>,
+        H: Hasher<Digest = D> + Drop,
+    >(
+        self,
+        alloc: Global,
+        keys: Vec<U::Key>,
+        db: &mut Db<F, C, I, H, U>,
+    ) -> Result<(Range<usize>, Vec<Option<U::Value>>, Self), Error>
+        ensures range { IfOk result (λ r. (r.0.start ≡ length (staged_keys self)) × (r.0.end ≡ length (staged_keys self) + length keys.items)) }
+        ensures values { (list : List Operation) (chain above : Chain) → IsDatabase C.Store ⟦<Db<F, C, I, H, U> as LaidOut>⟧.layout db.old list → IsStaged ⟦<Db<F, C, I, H, U> as LaidOut>⟧.layout.hashing self chain above → IsKnown list above chain.base
+            → IfOk result (λ r. map (option_map U.Value.bytes) r.1.items ≡ map (λ k. read_through chain.base self.batch.writes (U.Key.bytes k)) keys.items) }
+        ensures staged { (list : List Operation) (chain above : Chain) → IsDatabase C.Store ⟦<Db<F, C, I, H, U> as LaidOut>⟧.layout db.old list → IsStaged ⟦<Db<F, C, I, H, U> as LaidOut>⟧.layout.hashing self chain above → IsKnown list above chain.base
+            → IfOk result (λ r. IsStaged ⟦<Db<F, C, I, H, U> as LaidOut>⟧.layout.hashing r.2 chain above) }
+        ensures batch { IfOk result (λ r. r.2.batch ≡ self.batch) }
+        ensures keys { IfOk result (λ r. staged_keys r.2 ≡ staged_keys self ++ map U.Key.bytes keys.items) }
+        ensures readable { OnOk result (knows self.batch.parent.bounds db.old.commitment ≡ true) }
+        ensures error { IfErr result (λ e. ((e ≡ Error.StaleRead) × (knows self.batch.parent.bounds db.old.commitment ≡ false))
+            ⊎ ((e ≡ Error.Memory) ⊎ ((knows self.batch.parent.bounds db.old.commitment ≡ true) × IsReadError C.Store db.old.log db.new.log e))) }
+        ensures whole { (list : List Operation) → IsDatabase C.Store ⟦<Db<F, C, I, H, U> as LaidOut>⟧.layout db.old list → NoneBelow db.old.log.tree.start list → IfErr result (λ e. (n : ℕ) → e ≢ Error.Journal (JournalError.ItemPruned n)) }
+        ensures left { IsLeft C.Store ⟦<Db<F, C, I, H, U> as LaidOut>⟧.layout.hashing db.old db.new }
+    {
+        let Staged { batch, reads } = self;
+        let (found, values) = batch.located(alloc, &keys, db)?;
+        let start = reads.len();
+        let reads = remembered(reads, keys, found)?;
+        let range = start..reads.len();
+        Ok((range, values, Staged { batch, reads }))
+    }
+}
+
+impl<F: Family, D: Digest, K: ByteString, V: ValueEncoding<K>> Staged<F, D, Unordered<K, V>> {
+    /// Makes the list of the batch, as `merkleize` of the batch itself would do whose writes are the recorded ones, then the
+    /// slots of the staged keys that are not `Keep`, in their order, then the others; the last of a key counts. There are as
+    /// many slots as staged keys. No staged key is looked up again, whichever of the batch's lists the database has now.
+    pub fn merkleize<
+        C: Store,
+        I: qm_index::Unordered<Value = Location<F>>,
+        H: Hasher<Digest = D> + Drop,
+        P: Policy<F, K, V::Value>,
+    >(
+        self,
+        alloc: Global,
+        slots: &[Slot<V::Value>],
+        others: &[Write<K, V::Value>],
+        db: &mut Db<F, C, I, H, Unordered<K, V>>,
+        metadata: Option<V::Value>,
+        policy: &mut P,
+    ) -> Result<Rc<MerkleizedBatch<F, D, Unordered<K, V>>>, Error>
+        requires { length slots.now ≡ length (staged_keys self) }
+        ensures fits { OnOk result (is_on db.old.commitment self.batch ≡ true) }
+        ensures made { (list : List Operation) (chain above : Chain) → IsDatabase C.Store ⟦<Db<F, C, I, H, Unordered<K, V>> as LaidOut>⟧.layout db.old list → IsStaged ⟦<Db<F, C, I, H, Unordered<K, V>> as LaidOut>⟧.layout.hashing self chain above → IsOnChain list chain
+            → IfOk result (λ b. IsMade ⟦<Db<F, C, I, H, Unordered<K, V>> as LaidOut>⟧.layout.hashing b.value chain (stepped P.rules chain.base (slotted self.batch.writes (staged_keys self) (slot_views V.Value.bytes slots.now) (write_views K.bytes V.Value.bytes others.now)) policy.old (option_map V.Value.bytes metadata))) }
+        ensures taken { (list : List Operation) (chain above : Chain) → IsDatabase C.Store ⟦<Db<F, C, I, H, Unordered<K, V>> as LaidOut>⟧.layout db.old list → IsStaged ⟦<Db<F, C, I, H, Unordered<K, V>> as LaidOut>⟧.layout.hashing self chain above → IsOnChain list chain
+            → OnOk result (IsTaken ⟦<Unordered<K, V> as Update>⟧.form chain.base (stepped P.rules chain.base (slotted self.batch.writes (staged_keys self) (slot_views V.Value.bytes slots.now) (write_views K.bytes V.Value.bytes others.now)) policy.old (option_map V.Value.bytes metadata))) }
+        ensures refused { (list : List Operation) (chain above : Chain) → IsDatabase C.Store ⟦<Db<F, C, I, H, Unordered<K, V>> as LaidOut>⟧.layout db.old list → IsStaged ⟦<Db<F, C, I, H, Unordered<K, V>> as LaidOut>⟧.layout.hashing self chain above → IsOnChain list chain
+            → IfErr result (λ e. IsRefused ⟦<Unordered<K, V> as Update>⟧.form chain.base (stepped P.rules chain.base (slotted self.batch.writes (staged_keys self) (slot_views V.Value.bytes slots.now) (write_views K.bytes V.Value.bytes others.now)) policy.old (option_map V.Value.bytes metadata)) e ⊎ IsReadError C.Store db.old.log db.new.log e) }
+        ensures next { (list : List Operation) (chain above : Chain) → IsDatabase C.Store ⟦<Db<F, C, I, H, Unordered<K, V>> as LaidOut>⟧.layout db.old list → IsStaged ⟦<Db<F, C, I, H, Unordered<K, V>> as LaidOut>⟧.layout.hashing self chain above → IsOnChain list chain
+            → OnOk result (policy.new ≡ left_after P.rules chain.base (slotted self.batch.writes (staged_keys self) (slot_views V.Value.bytes slots.now) (write_views K.bytes V.Value.bytes others.now)) policy.old) }
+        ensures above { IfOk result (λ b. All (λ n. b.value.bounds.db.size ≤ n) (stops b.value.tree.leaves b.value.tree.layers)) }
+        ensures stale { IfErr result (λ e. e ≡ Error.StaleBatch → is_on db.old.commitment self.batch ≡ false) }
+        ensures order { IfErr result (λ e. e ≢ Error.Memory → e ≢ Error.StaleBatch → is_on db.old.commitment self.batch ≡ true) }
+        ensures causes { IfErr result (λ e. (e ≡ Error.StaleBatch) ⊎ IsMakingError C.Store db.old.log db.new.log e) }
+        ensures whole { (list : List Operation) → IsDatabase C.Store ⟦<Db<F, C, I, H, Unordered<K, V>> as LaidOut>⟧.layout db.old list → NoneBelow db.old.log.tree.start list → db.old.log.tree.start ≤ self.batch.parent.bounds.inactivity_floor
+            → IfErr result (λ e. (n : ℕ) → e ≢ Error.Journal (JournalError.ItemPruned n)) }
+        ensures cause { IfErr result (λ e. e ≡ Error.Journal JournalError.Store → Rose (C.faults db.old.log.store) (C.faults db.new.log.store)) }
+        ensures left { IsLeft C.Store ⟦<Db<F, C, I, H, Unordered<K, V>> as LaidOut>⟧.layout.hashing db.old db.new }
+    {
+        let Staged { batch, reads } = self;
+        batch.merkleized(alloc, &reads, slots, others, db, metadata, policy)
+    }
+}
