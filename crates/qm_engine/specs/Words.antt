@@ -18,10 +18,14 @@ use Rattle.qm_engine.specs.declared.words.Words as words
 abbrev pub tip_of : {P : Type 0} → Scheme → Rules P → Chain → List Write → P → Option Bytes → List Operation
 tip_of m rules chain ws policy meta = step m.kind rules chain.base ws policy meta
 
-module _ {X C B M : Type 0} (means : words.Ghosts X C B M) where
+module _ {X C B S M : Type 0} (means : words.Ghosts X C B S M) where
   -- at each list that the database stands for, and each chain and writes of the batch
   abbrev pub AtBatch : X → B → (List Operation → Chain → Chain → List Write → Type 0) → Type 0
   AtBatch db batch P = (list : List Operation) (chain above : Chain) (ws : List Write) → means.stands db list → means.is_batch batch chain above ws → P list chain above ws
+
+  -- at each list that the database stands for, and each chain, writes and keys of the staged batch
+  abbrev pub AtStaged : X → S → (List Operation → Chain → Chain → List Write → List Bytes → Type 0) → Type 0
+  AtStaged db batch P = (list : List Operation) (chain above : Chain) (ws : List Write) (keys : List Bytes) → means.stands db list → means.is_staged batch chain above ws keys → P list chain above ws keys
 
   -- at each list that the database stands for, and each chain and tip of the merkleized batch
   abbrev pub AtTip : X → M → (List Operation → Chain → List Operation → Type 0) → Type 0

@@ -16,16 +16,19 @@ ghost use Rattle.qm_lines.specs.Views.{listed_view};
 ghost use Rattle.qm_proofs.specs.Proofs.{proof_view};
 ghost use Rattle.qm_store.specs.Given.{store_given, store_after, Appended, AppendedPart, IsUnchanged, TellsAll};
 ghost use Rattle.qm_store.specs.Refusals.{refusal_of, IsAmong, IsDue};
-ghost use Rattle.qm_engine.specs.Words.{AtBatch, AtTip, Fits, CanRead, IsReadFailure, ReadsOnly, tip_of};
+ghost use Rattle.qm_base.specs.Slots.{slot_views, write_views};
+ghost use Rattle.qm_model.specs.Slots.{slotted};
+ghost use Rattle.qm_engine.specs.Words.{AtBatch, AtStaged, AtTip, Fits, CanRead, IsReadFailure, ReadsOnly, tip_of};
 
 use crate::words::Words;
 use qm_base::{Digest, Error, JournalError, Key, VariableValue};
 use qm_chain::Policy;
-use qm_lines::Listed;
+use qm_lines::{Listed, Resolution};
 use qm_proofs::Proof;
 use qm_store::{Given, Refusal, Store};
 use std::alloc::{AllocError, Global};
 use std::num::NonZeroU64;
+use std::ops::Range;
 
 /// The numbers of a database.
 #[derive(Clone, Copy, Debug, PartialEq, Eq)]
@@ -147,6 +150,65 @@ pub trait Engine<C: Store>: Words<C> + Drop + Sized {
         ensures refused { IfErr result (λ e. e ≢ Error.StaleBatch → TellsAll C.Store (Self.inside self.old) → AtBatch Self.Words self.old batch (λ list chain above ws.
             IfSome (refusal_of e) (λ r. Fits Self.Words list chain
             × (IsOnChain list chain → tip_refusal variable chain (tip_of Self.scheme P.rules chain ws policy.old (option_map Self.Value.bytes metadata.now)) ≡ Some r)))) }
+        ensures reads { ReadsOnly Self.Words C.Store self.old self.new (IsErrOf result (Error.Journal JournalError.Store)) };
+
+    /// Reads the values of keys through a batch, as `get_through` does, and makes it a staged one with these keys. The batch
+    /// is gone also where this is refused.
+    fn stage(
+        &mut self,
+        alloc: Global,
+        batch: Self::Batch,
+        keys: &[Self::Key],
+    ) -> Result<(Vec<Option<Self::Value>>, Self::Staged), Error>
+        ensures readable { IfOk result (λ _. AtBatch Self.Words self.old batch (λ list chain above ws. CanRead Self.Words list above chain.base)) }
+        ensures values { IfOk result (λ r. AtBatch Self.Words self.old batch (λ list chain above ws. IsKnown list above chain.base
+            → (map (option_map Self.Value.bytes) r.0.items ≡ map (λ k. read_through chain.base ws (Self.Key.bytes k)) keys.now)
+            × Self.is_staged r.1 chain above ws (map Self.Key.bytes keys.now))) }
+        ensures failure { IfErr result (λ e. AtBatch Self.Words self.old batch (λ list chain above ws.
+            IsReadFailure Self.Words (TellsAll C.Store (Self.inside self.old)) list above chain.base e)) }
+        ensures reads { ReadsOnly Self.Words C.Store self.old self.new (IsErrOf result (Error.Journal JournalError.Store)) }
+        ensures never { IfErr result (λ e. e ≢ Error.StaleBatch) };
+
+    /// Reads the values of more keys, as `stage` does, and puts them behind the staged ones; their places are told.
+    fn expand(
+        &mut self,
+        alloc: Global,
+        batch: Self::Staged,
+        keys: &[Self::Key],
+    ) -> Result<(Range<usize>, Vec<Option<Self::Value>>, Self::Staged), Error>
+        ensures readable { IfOk result (λ _. AtStaged Self.Words self.old batch (λ list chain above ws staged. CanRead Self.Words list above chain.base)) }
+        ensures range { IfOk result (λ r. (r.0.start ≡ Self.count batch) × (r.0.end ≡ Self.count batch + length keys.now)) }
+        ensures values { IfOk result (λ r. AtStaged Self.Words self.old batch (λ list chain above ws staged. IsKnown list above chain.base
+            → (map (option_map Self.Value.bytes) r.1.items ≡ map (λ k. read_through chain.base ws (Self.Key.bytes k)) keys.now)
+            × Self.is_staged r.2 chain above ws (staged ++ map Self.Key.bytes keys.now))) }
+        ensures failure { IfErr result (λ e. AtStaged Self.Words self.old batch (λ list chain above ws staged.
+            IsReadFailure Self.Words (TellsAll C.Store (Self.inside self.old)) list above chain.base e)) }
+        ensures reads { ReadsOnly Self.Words C.Store self.old self.new (IsErrOf result (Error.Journal JournalError.Store)) }
+        ensures never { IfErr result (λ e. e ≢ Error.StaleBatch) };
+
+    /// How many keys a staged batch has.
+    fn staged_count(batch: &Self::Staged) -> usize
+        ensures { result ≡ Self.count batch.now };
+
+    /// Makes the tip list of a staged batch, as `merkleize` does of a batch whose writes are the recorded ones, then the slots
+    /// of the staged keys that are not to be kept, then the others. There are as many slots as staged keys.
+    fn resolve<P: Policy<Self::Family, Self::Key, Self::Value>>(
+        &mut self,
+        alloc: Global,
+        batch: Self::Staged,
+        resolution: &Resolution<Self::Key, Self::Value>,
+        policy: &mut P,
+        metadata: &Option<Self::Value>,
+    ) -> Result<Self::Merkleized, Error>
+        requires { length resolution.now.slots.items ≡ Self.count batch }
+        ensures fits { IfOk result (λ _. AtStaged Self.Words self.old batch (λ list chain above ws keys. Fits Self.Words list chain)) }
+        ensures made { IfOk result (λ b. AtStaged Self.Words self.old batch (λ list chain above ws keys. IsOnChain list chain
+            → let tip = tip_of Self.scheme P.rules chain (slotted ws keys (slot_views Self.Value.bytes resolution.now.slots.items) (write_views Self.Key.bytes Self.Value.bytes resolution.now.others.items)) policy.old (option_map Self.Value.bytes metadata.now) in
+            (tip_refusal variable chain tip ≡ None) × Self.is_merkleized b chain tip)) }
+        ensures stale { IfErr result (λ e. e ≡ Error.StaleBatch → AtStaged Self.Words self.old batch (λ list chain above ws keys. ¬ IsOnChain list chain)) }
+        ensures refused { IfErr result (λ e. e ≢ Error.StaleBatch → TellsAll C.Store (Self.inside self.old) → AtStaged Self.Words self.old batch (λ list chain above ws keys.
+            IfSome (refusal_of e) (λ r. Fits Self.Words list chain
+            × (IsOnChain list chain → tip_refusal variable chain (tip_of Self.scheme P.rules chain (slotted ws keys (slot_views Self.Value.bytes resolution.now.slots.items) (write_views Self.Key.bytes Self.Value.bytes resolution.now.others.items)) policy.old (option_map Self.Value.bytes metadata.now)) ≡ Some r)))) }
         ensures reads { ReadsOnly Self.Words C.Store self.old self.new (IsErrOf result (Error.Journal JournalError.Store)) };
 
     /// The sizes of a merkleized batch.

@@ -1,7 +1,7 @@
 //! What a database means to a run, with no call.
 
-ghost use Rattle.std.specs.Prelude.{List};
-ghost use Rattle.qm_model.specs.Operations.{Operation};
+ghost use Rattle.std.specs.Prelude.{◌≡◌, ℕ, List, length};
+ghost use Rattle.qm_model.specs.Operations.{Bytes, Operation};
 ghost use Rattle.qm_model.specs.Writes.{Write};
 ghost use Rattle.qm_model.specs.Batches.{Chain};
 ghost use Rattle.qm_machine.specs.Machine.{Scheme};
@@ -11,6 +11,8 @@ use qm_store::Store;
 /// The words that an engine's clauses are said by.
 pub trait Words<C: Store> {
     type Batch: Drop;
+
+    type Staged: Drop;
 
     type Merkleized: Drop;
 
@@ -23,6 +25,15 @@ pub trait Words<C: Store> {
     /// A batch of this chain, whose parent is of that one and made its base, with these writes. The parent of a batch that
     /// was begun on a database is that as a merkleized batch.
     ghost is_batch: { Self.Batch → Chain → Chain → List Write → Type 0 };
+
+    /// A staged batch: the same with these keys, in order.
+    ghost is_staged: { Self.Staged → Chain → Chain → List Write → List Bytes → Type 0 };
+
+    /// How many keys it has.
+    ghost count: { Self.Staged → ℕ };
+
+    /// They are as many as its keys.
+    ghost counted: { (batch : Self.Staged) (chain above : Chain) (ws : List Write) (keys : List Bytes) → is_staged batch chain above ws keys → count batch ≡ length keys };
 
     /// A merkleized batch of this chain with this tip list.
     ghost is_merkleized: { Self.Merkleized → Chain → List Operation → Type 0 };
