@@ -7,3 +7,5 @@ mod expiry;
 mod fixed;
 #[cfg(test)]
 mod ordered;
+#[cfg(test)]
+mod staged;
