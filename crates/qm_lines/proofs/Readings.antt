@@ -4,8 +4,8 @@ use Rattle.std.specs.Prelude.{option_and_then}
 use Rattle.std.specs.Borrow.{Bor}
 use Rattle.std.proofs.lemmas.List.{map-append}
 use Rattle.qm_model.specs.Operations.{Bytes}
-use Rattle.qm_machine.specs.Grammar.{Reading, key_of, with_key, last_reading, reading_of}
-use Rattle.qm_lines.specs.Parsed.{keys_of, with_keys}
+use Rattle.qm_machine.specs.Grammar.{Reading, key_of, each_key, with_key, last_reading, reading_of}
+use Rattle.qm_lines.specs.Parsed.{with_keys}
 use Rattle.qm_lines.proofs.Lines.{opened}
 
 -- keys behind the first, if it and they are keys
@@ -21,18 +21,18 @@ module _ (refs : List (Bor Bytes)) (i : ℕ) (d : Bor Bytes) (h : i < length ref
   abbrev words : List Bytes
   words = map (λ (x : Bor Bytes). x.now) refs
 
-  keys_here : keys_of (drop i words) ≡ behind o (keys_of (drop (i + 1) words))
-  keys_here = ap keys_of (opened refs i d h) ∙ ap (λ x. behind x (keys_of (drop (i + 1) words))) (sym parsed)
+  keys_here : each_key (drop i words) ≡ behind o (each_key (drop (i + 1) words))
+  keys_here = ap each_key (opened refs i d h) ∙ ap (λ x. behind x (each_key (drop (i + 1) words))) (sym parsed)
 
-  module _ (so_far : option_map (λ (ks : List Bytes). done ++ ks) (keys_of (drop i words)) ≡ keys_of words) where
-    pub keys-at_other : o ≡ None → None ≡ keys_of words
+  module _ (so_far : option_map (λ (ks : List Bytes). done ++ ks) (each_key (drop i words)) ≡ each_key words) where
+    pub keys-at_other : o ≡ None → None ≡ each_key words
     keys-at_other none =
-        sym (ap (option_map (λ (ks : List Bytes). done ++ ks)) (keys_here ∙ ap (λ x. behind x (keys_of (drop (i + 1) words))) none)) ∙ so_far
+        sym (ap (option_map (λ (ks : List Bytes). done ++ ks)) (keys_here ∙ ap (λ x. behind x (each_key (drop (i + 1) words))) none)) ∙ so_far
 
-    pub keys-at_key : (k : Bytes) → o ≡ Some k → option_map (λ (ks : List Bytes). (done ++ k ∷ []) ++ ks) (keys_of (drop (i + 1) words)) ≡ keys_of words
+    pub keys-at_key : (k : Bytes) → o ≡ Some k → option_map (λ (ks : List Bytes). (done ++ k ∷ []) ++ ks) (each_key (drop (i + 1) words)) ≡ each_key words
     keys-at_key k some =
-        behind_done done k (keys_of (drop (i + 1) words))
-        ∙ sym (ap (option_map (λ (ks : List Bytes). done ++ ks)) (keys_here ∙ ap (λ x. behind x (keys_of (drop (i + 1) words))) some)) ∙ so_far
+        behind_done done k (each_key (drop (i + 1) words))
+        ∙ sym (ap (option_map (λ (ks : List Bytes). done ++ ks)) (keys_here ∙ ap (λ x. behind x (each_key (drop (i + 1) words))) some)) ∙ so_far
 
 -- what keys and a last word are read as
 abbrev ended : Option (List Bytes) → Option Reading → Option Reading
@@ -52,15 +52,15 @@ first_of_more : (w : Bytes) (before : List Bytes) (last : Bytes) → reading_of 
 first_of_more w [] last = refl
 first_of_more w (v ∷ ws) last = refl
 
-pub reading-ended : (before : List Bytes) (last : Bytes) → reading_of (before ++ last ∷ []) ≡ ended (keys_of before) (last_reading last)
+pub reading-ended : (before : List Bytes) (last : Bytes) → reading_of (before ++ last ∷ []) ≡ ended (each_key before) (last_reading last)
 reading-ended [] last = no_more (last_reading last)
 reading-ended (w ∷ ws) last =
     first_of_more w ws last
     ∙ ap (λ r. option_and_then (λ k. option_map (with_key k) r) (key_of w)) (reading-ended ws last)
-    ∙ ended-behind (key_of w) (keys_of ws) (last_reading last)
+    ∙ ended-behind (key_of w) (each_key ws) (last_reading last)
 
 -- of words that are lent
-pub reading-lent : (refs : List (Bor Bytes)) (last : Bor Bytes) (before : List (Bor Bytes)) → refs ≡ before ++ last ∷ [] → (keys : Option (List Bytes)) → keys ≡ keys_of (map (λ (x : Bor Bytes). x.now) before) → ended keys (last_reading last.now) ≡ reading_of (map (λ (x : Bor Bytes). x.now) refs)
+pub reading-lent : (refs : List (Bor Bytes)) (last : Bor Bytes) (before : List (Bor Bytes)) → refs ≡ before ++ last ∷ [] → (keys : Option (List Bytes)) → keys ≡ each_key (map (λ (x : Bor Bytes). x.now) before) → ended keys (last_reading last.now) ≡ reading_of (map (λ (x : Bor Bytes). x.now) refs)
 reading-lent refs last before split keys are =
     ap (λ ks. ended ks (last_reading last.now)) are
     ∙ sym (reading-ended (map (λ (x : Bor Bytes). x.now) before) last.now)

@@ -4,9 +4,10 @@ ghost use Rattle.qm_machine.specs.Grammar as grammar;
 ghost use Rattle.qm_lines.specs.Parsed.{byte_line, lent};
 
 use super::ByteCommand;
-use super::keys::{Reading, key, metadata, parse_reading, value};
+use super::keys::{Reading, key, parse_reading, value};
+use super::merkleize::merkleize;
 use super::numbers::{named_number, number, positive};
-use super::policies::policy;
+use super::staged::{expand, resolve, stage};
 use crate::command::Command;
 use std::alloc::{AllocError, Global};
 
@@ -92,24 +93,6 @@ fn del(alloc: Global, words: &[&[u8]]) -> Result<Option<ByteCommand>, AllocError
     Ok(Some(Command::Del(handle, key)))
 }
 
-fn merkleize(alloc: Global, words: &[&[u8]]) -> Result<Option<ByteCommand>, AllocError>
-    ensures { IfOk result (λ command. option_map byte_line command ≡ grammar.merkleize_of (lent words.now)) }
-{
-    let [handle, policy_word, metadata_word] = words else {
-        return Ok(None);
-    };
-    let Some(handle) = number(handle) else {
-        return Ok(None);
-    };
-    let Some(policy) = policy(alloc, policy_word)? else {
-        return Ok(None);
-    };
-    let Some(metadata) = metadata(alloc, metadata_word)? else {
-        return Ok(None);
-    };
-    Ok(Some(Command::Merkleize(handle, policy, metadata)))
-}
-
 fn prove(words: &[&[u8]]) -> Option<ByteCommand>
     ensures { option_map byte_line result ≡ grammar.prove_of (lent words.now) }
 {
@@ -172,6 +155,12 @@ pub fn of_words(alloc: Global, words: &[&[u8]]) -> Result<Option<ByteCommand>, A
         del(alloc, words)
     } else if *name == b"merkleize".as_slice() {
         merkleize(alloc, words)
+    } else if *name == b"stage".as_slice() {
+        stage(alloc, words)
+    } else if *name == b"expand".as_slice() {
+        expand(alloc, words)
+    } else if *name == b"resolve".as_slice() {
+        resolve(alloc, words)
     } else if *name == b"apply".as_slice() {
         Ok(only_number(words).map(Command::Apply))
     } else if *name == b"ops".as_slice() {

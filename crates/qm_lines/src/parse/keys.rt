@@ -2,7 +2,7 @@
 ghost use Rattle.std.specs.Prelude.{◌≡◌, IfOk, option_map};
 ghost use Rattle.hex.specs.Hex.{decode_of};
 ghost use Rattle.qm_machine.specs.Grammar as grammar;
-ghost use Rattle.qm_lines.specs.Parsed.{lent, keys_of, with_keys};
+ghost use Rattle.qm_lines.specs.Parsed.{lent, with_keys};
 
 use super::numbers::named_number;
 use hex::FromHexError;
@@ -62,8 +62,8 @@ pub fn metadata(alloc: Global, word: &[u8]) -> Result<Option<Option<ByteValue>>,
 }
 
 // These words as keys, if each is one.
-fn keys(alloc: Global, words: &[&[u8]]) -> Result<Option<Vec<ByteKey>>, AllocError>
-    ensures { IfOk result (λ found. option_map (λ keys. keys.items) found ≡ keys_of (lent words.now)) }
+fn each_key(alloc: Global, words: &[&[u8]]) -> Result<Option<Vec<ByteKey>>, AllocError>
+    ensures { IfOk result (λ found. option_map (λ keys. keys.items) found ≡ grammar.each_key (lent words.now)) }
 {
     let mut keys = Vec::new(alloc);
     for word in words {
@@ -73,6 +73,16 @@ fn keys(alloc: Global, words: &[&[u8]]) -> Result<Option<Vec<ByteKey>>, AllocErr
         keys.push(key)?;
     }
     Ok(Some(keys))
+}
+
+/// These words as keys, if each is one and there is any.
+pub fn some_keys(alloc: Global, words: &[&[u8]]) -> Result<Option<Vec<ByteKey>>, AllocError>
+    ensures { IfOk result (λ found. option_map (λ keys. keys.items) found ≡ grammar.some_keys (lent words.now)) }
+{
+    if words.is_empty() {
+        return Ok(None);
+    }
+    each_key(alloc, words)
 }
 
 /// Keys, and the batch through which they are read.
@@ -117,7 +127,7 @@ pub fn parse_reading(alloc: Global, words: &[&[u8]]) -> Result<Option<Reading>, 
     let Some((last, before)) = words.split_last() else {
         return Ok(None);
     };
-    match keys(alloc, before)? {
+    match each_key(alloc, before)? {
         None => Ok(None),
         Some(keys) => end_reading(alloc, keys, last),
     }
