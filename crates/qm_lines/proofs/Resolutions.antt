@@ -1,5 +1,5 @@
 -- Slots and the writes behind them, and what stands before both.
-use Rattle.std.proofs.Common.{◌≡◌, ◌∙◌, ◌+◌, ◌-◌, ◌<◌, ◌≤◌, ℕ, List, [], ◌∷◌, ◌++◌, drop, take, length, get_or, map, Option, Some, None, option_map, refl, sym, ap, arith, append_assoc, append-nil}
+use Rattle.std.proofs.Common.{◌≡◌, ◌∙◌, ◌+◌, ◌-◌, ◌<◌, ◌≤◌, ℕ, List, [], ◌∷◌, ◌++◌, drop, take, length, get_or, map, Option, Some, None, option_map, refl, sym, ap, arith, append_assoc, append-nil, length-drop}
 use Rattle.std.specs.Prelude.{option_and_then}
 use Rattle.std.specs.Borrow.{Bor}
 use Rattle.std.proofs.lemmas.List.{drop_all, drop-map, take_all, length-map}
@@ -21,9 +21,12 @@ abbrev resumed : Option Slot → Option Resolution → Option (List Write) → O
 resumed (Some slot) rest others = option_map (with_slot slot) rest
 resumed None rest others = with_others [] others
 
-one_word : (w : Bytes) (ws : List Bytes) (o : Option Slot) → o ≡ slot_of w → resolution_of (w ∷ ws) ≡ resumed o (resolution_of ws) (each_write (w ∷ ws))
-one_word w ws None is = rw (sym is) refl
-one_word w ws (Some slot) is = rw (sym is) refl
+one_word : (w : Bytes) (ws : List Bytes) → resolution_of (w ∷ ws) ≡ resumed (slot_of w) (resolution_of ws) (each_write (w ∷ ws))
+one_word w ws = cases (slot_of w)
+  where
+    cases : (o : Option Slot) → (elim o [ Some slot ↦ option_map (with_slot slot) (resolution_of ws) | None ↦ option_map (λ others. ([], others)) (each_write (w ∷ ws)) ]) ≡ resumed o (resolution_of ws) (each_write (w ∷ ws))
+    cases None = refl
+    cases (Some slot) = refl
 
 no_more : (done : List Slot) (others : Option (List Write)) → with_others done others ≡ option_map (with_slots done) (with_others [] others)
 no_more done None = refl
@@ -45,9 +48,9 @@ module _ (refs : List (Bor Bytes)) (i : ℕ) (done : List Slot) (so_far : option
     here =
         let w = (get_or refs i d).now in
         let behind = drop (i + 1) (lent refs) in
-        let open = opened refs i d h in
-        ap (λ ws. option_map (with_slots done) (resumed o (resolution_of behind) (each_write ws))) open
-        ∙ sym (ap (λ ws. option_map (with_slots done) (resolution_of ws)) open ∙ ap (option_map (with_slots done)) (one_word w behind o parsed)) ∙ so_far
+        let first = opened refs i d h in
+        ap (λ ws. option_map (with_slots done) (resumed o (resolution_of behind) (each_write ws))) first
+        ∙ sym (ap (λ ws. option_map (with_slots done) (resolution_of ws)) first ∙ ap (option_map (with_slots done)) (one_word w behind ∙ ap (λ s. resumed s (resolution_of behind) (each_write (w ∷ behind))) (sym parsed))) ∙ so_far
 
     pub slots-at_other : o ≡ None → with_others done (each_write (drop i (lent refs))) ≡ resolution_of (lent refs)
     slots-at_other none =
@@ -89,10 +92,29 @@ made_then made (Some a) None z = refl
 made_then made (Some a) (Some b) None = refl
 made_then made (Some a) (Some b) (Some c) = refl
 
--- a batch, a policy and metadata, alone and with what becomes of staged keys
-pub merkleize-made : (a b c : Bytes) → option_map (λ (m : ℕ × Policy × Option Bytes). Merkleize m.0 m.1 m.2) (merkleizing_of a b c) ≡ merkleize_of (a ∷ b ∷ c ∷ [])
+-- a batch, a policy and metadata, of the first three words that are lent: alone, and with what becomes of staged keys
+merkleize-made : (a b c : Bytes) → option_map (λ (m : ℕ × Policy × Option Bytes). Merkleize m.0 m.1 m.2) (merkleizing_of a b c) ≡ merkleize_of (a ∷ b ∷ c ∷ [])
 merkleize-made a b c = made_of (λ h p meta. Merkleize h p meta) (number_of a) (policy_of b) (metadata_of c)
 
-pub resolve-made : (a b c : Bytes) (ws : List Bytes) →
+resolve-made : (a b c : Bytes) (ws : List Bytes) →
     option_and_then (λ (m : ℕ × Policy × Option Bytes). option_map (λ (r : Resolution). Resolve m.0 m.1 m.2 r.0 r.1) (resolution_of ws)) (merkleizing_of a b c) ≡ resolve_of (a ∷ b ∷ c ∷ ws)
 resolve-made a b c ws = made_then (λ h p meta. option_map (λ (r : Resolution). Resolve h p meta r.0 r.1) (resolution_of ws)) (number_of a) (policy_of b) (metadata_of c)
+
+pub merkleize-lent : (words : List (Bor Bytes)) (d : Bor Bytes) → 3 ≤ length words → length words < 4 → (m : Option (ℕ × Policy × Option Bytes)) →
+    m ≡ merkleizing_of (get_or words 0 d).now (get_or words 1 d).now (get_or words 2 d).now → option_map (λ (m : ℕ × Policy × Option Bytes). Merkleize m.0 m.1 m.2) m ≡ merkleize_of (lent words)
+merkleize-lent [] d enough few m is = absurd (omega arith)
+merkleize-lent (a ∷ []) d enough few m is = absurd (omega arith)
+merkleize-lent (a ∷ b ∷ []) d enough few m is = absurd (omega arith)
+merkleize-lent (a ∷ b ∷ c ∷ []) d enough few m is = ap (option_map (λ (m : ℕ × Policy × Option Bytes). Merkleize m.0 m.1 m.2)) is ∙ merkleize-made a.now b.now c.now
+merkleize-lent (a ∷ b ∷ c ∷ e ∷ words) d enough few m is = absurd (omega arith)
+
+pub resolve-lent : (words : List (Bor Bytes)) (d : Bor Bytes) → 3 ≤ length words → (m : Option (ℕ × Policy × Option Bytes)) →
+    m ≡ merkleizing_of (get_or words 0 d).now (get_or words 1 d).now (get_or words 2 d).now → (r : Option Resolution) → r ≡ resolution_of (drop 3 (lent words)) →
+    option_and_then (λ (m : ℕ × Policy × Option Bytes). option_map (λ (r : Resolution). Resolve m.0 m.1 m.2 r.0 r.1) r) m ≡ resolve_of (lent words)
+resolve-lent [] d enough m is r are = absurd (omega arith)
+resolve-lent (a ∷ []) d enough m is r are = absurd (omega arith)
+resolve-lent (a ∷ b ∷ []) d enough m is r are = absurd (omega arith)
+resolve-lent (a ∷ b ∷ c ∷ words) d enough m is r are =
+    ap (λ o. option_and_then (λ (m : ℕ × Policy × Option Bytes). option_map (λ (r : Resolution). Resolve m.0 m.1 m.2 r.0 r.1) o) m) are
+    ∙ ap (option_and_then (λ (m : ℕ × Policy × Option Bytes). option_map (λ (r : Resolution). Resolve m.0 m.1 m.2 r.0 r.1) (resolution_of (lent words)))) is
+    ∙ resolve-made a.now b.now c.now (lent words)

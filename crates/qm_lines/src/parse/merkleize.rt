@@ -33,17 +33,17 @@ pub fn parse_merkleizing(
     let Some(handle) = number(handle) else {
         return Ok(None);
     };
-    let Some(policy) = policy(alloc, policy_word)? else {
-        return Ok(None);
-    };
     let Some(metadata) = metadata(alloc, metadata_word)? else {
         return Ok(None);
     };
-    Ok(Some(Merkleizing {
-        handle,
-        policy,
-        metadata,
-    }))
+    match policy(alloc, policy_word)? {
+        None => Ok(None),
+        Some(policy) => Ok(Some(Merkleizing {
+            handle,
+            policy,
+            metadata,
+        })),
+    }
 }
 
 pub fn merkleize(alloc: Global, words: &[&[u8]]) -> Result<Option<ByteCommand>, AllocError>

@@ -138,11 +138,16 @@ pub fn resolve(alloc: Global, words: &[&[u8]]) -> Result<Option<ByteCommand>, Al
     let [handle, policy, metadata, rest @ ..] = words else {
         return Ok(None);
     };
-    let Some(m) = parse_merkleizing(alloc, handle, policy, metadata)? else {
-        return Ok(None);
-    };
     let Some(resolution) = resolution(alloc, rest)? else {
         return Ok(None);
     };
-    Ok(Some(Command::Resolve(m.handle, m.policy, m.metadata, resolution)))
+    match parse_merkleizing(alloc, handle, policy, metadata)? {
+        None => Ok(None),
+        Some(m) => Ok(Some(Command::Resolve(
+            m.handle,
+            m.policy,
+            m.metadata,
+            resolution,
+        ))),
+    }
 }
