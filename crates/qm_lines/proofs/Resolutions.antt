@@ -67,13 +67,6 @@ pub lent_behind : (refs : List (Bor Bytes)) (n : ℕ) → lent (take (length ref
 lent_behind refs n =
     ap lent (take_all (length refs - n) (drop n refs) (omega (arith, length-drop n refs))) ∙ sym (drop-map (λ (x : Bor Bytes). x.now) n refs)
 
--- fewer than three words resolve nothing
-pub few_words : (words : List (Bor Bytes)) → length words < 3 → None ≡ resolve_of (lent words)
-few_words [] few = refl
-few_words (a ∷ []) few = refl
-few_words (a ∷ b ∷ []) few = refl
-few_words (a ∷ b ∷ c ∷ words) few = absurd (omega arith)
-
 -- what is made of three, if there are all
 abbrev all : {A B C : Type 0} → Option A → Option B → Option C → Option (A × B × C)
 all x y z = option_and_then (λ a. option_and_then (λ b. option_map (λ c. (a, b, c)) z) y) x

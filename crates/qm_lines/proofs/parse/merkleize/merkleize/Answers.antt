@@ -11,4 +11,4 @@ returns-in-Some c =
     let m = c.in-Some.m in
     ap (λ v. Some (Merkleize m.handle (policy_view m.policy) v)) (option_map_id m.metadata)
     ∙ merkleize-lent c.args.words.now _ c.in-len3.len_at_least c.in-len3.len_below _
-        (ap (option_map (λ p. (p.handle, policy_view p.policy, p.metadata))) (sym c.in-Some.is) ∙ c.in_ok-parse_merkleizing.ensures)
+    (ap (option_map (λ p. (p.handle, policy_view p.policy, p.metadata))) (sym c.in-Some.is) ∙ c.in_ok-parse_merkleizing.ensures)

@@ -14,5 +14,5 @@ returns-in-Some-2 c =
     let r = resolution_view c.in-Some.resolution in
     ap (λ v. Some (Resolve m.handle (policy_view m.policy) v r.0 r.1)) (option_map_id m.metadata)
     ∙ resolve-lent c.args.words.now _ c.in-len3-up.len_at_least _
-        (ap (option_map (λ p. (p.handle, policy_view p.policy, p.metadata))) (sym c.in-Some-2.is) ∙ c.in_ok-parse_merkleizing.ensures) _
-        (ap (option_map resolution_view) (sym c.in-Some.is) ∙ c.in_ok-resolution.ensures ∙ ap resolution_of (lent_behind c.args.words.now 3))
+    (ap (option_map (λ p. (p.handle, policy_view p.policy, p.metadata))) (sym c.in-Some-2.is) ∙ c.in_ok-parse_merkleizing.ensures) _
+    (ap (option_map resolution_view) (sym c.in-Some.is) ∙ c.in_ok-resolution.ensures ∙ ap resolution_of (lent_behind c.args.words.now 3))

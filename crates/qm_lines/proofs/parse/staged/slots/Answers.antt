@@ -15,5 +15,6 @@ loop-word-preserved c = record {
 
 pub returns-clause-slots : goal.returns-clause-slots
 returns-clause-slots c = rw c.loop-word.invariant.one_each (elim c.loop-word-test.branch [
-    else-loop-word-test w ↦ slots-at_end _ _ _ c.loop-word.invariant.so_far w.loop-word-test.false
-  | then-loop-word-test+in_ok-slot+in_default w ↦ slots-at_other _ _ _ c.loop-word.invariant.so_far _ w.loop-word-test.true _ w.in_ok-slot.ensures (ap (option_map byte_slot) w.in_default.is) ])
+  | else-loop-word-test w ↦ slots-at_end _ _ _ c.loop-word.invariant.so_far w.loop-word-test.false
+  | then-loop-word-test+in_ok-slot+in_default w ↦ slots-at_other _ _ _ c.loop-word.invariant.so_far _ w.loop-word-test.true _ w.in_ok-slot.ensures (ap (option_map byte_slot) w.in_default.is)
+])

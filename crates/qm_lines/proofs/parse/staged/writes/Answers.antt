@@ -12,4 +12,4 @@ returns-in_default c = each-at_other write_of each_write (λ w ws. refl) _ _ _ c
 pub loop-word-preserved : goal.loop-word-preserved
 loop-word-preserved c =
     rw c.in_ok-push.ensures.items (rw (map-append byte_write c.loop-word.writes.items (c.in-Some.write ∷ []))
-        (each-at_one write_of each_write (λ w ws. refl) _ _ _ c.loop-word-test.true _ c.in_ok-write.ensures _ c.loop-word.invariant (byte_write c.in-Some.write) (ap (option_map byte_write) c.in-Some.is)))
+    (each-at_one write_of each_write (λ w ws. refl) _ _ _ c.loop-word-test.true _ c.in_ok-write.ensures _ c.loop-word.invariant (byte_write c.in-Some.write) (ap (option_map byte_write) c.in-Some.is)))
