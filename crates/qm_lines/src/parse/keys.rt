@@ -5,6 +5,7 @@ ghost use Rattle.qm_machine.specs.Grammar as grammar;
 ghost use Rattle.qm_lines.specs.Parsed.{lent, with_keys};
 
 use super::numbers::named_number;
+use super::pieces::is;
 use hex::FromHexError;
 use qm_base::{ByteKey, ByteString, ByteValue};
 use std::alloc::{AllocError, Global};
@@ -42,7 +43,7 @@ pub fn key(alloc: Global, word: &[u8]) -> Result<Option<ByteKey>, AllocError>
 pub fn value(alloc: Global, word: &[u8]) -> Result<Option<ByteValue>, AllocError>
     ensures { IfOk result (λ found. found ≡ grammar.value_of word.now) }
 {
-    if word == b"-".as_slice() {
+    if is(word, b"-") {
         return Ok(Some(ByteValue::new(Vec::new(alloc))));
     }
     match bytes_within(alloc, word, 1, 64)? {
@@ -55,7 +56,7 @@ pub fn value(alloc: Global, word: &[u8]) -> Result<Option<ByteValue>, AllocError
 pub fn metadata(alloc: Global, word: &[u8]) -> Result<Option<Option<ByteValue>>, AllocError>
     ensures { IfOk result (λ found. found ≡ grammar.metadata_of word.now) }
 {
-    if word == b"none".as_slice() {
+    if is(word, b"none") {
         return Ok(Some(None));
     }
     Ok(value(alloc, word)?.map(Some))

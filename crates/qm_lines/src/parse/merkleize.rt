@@ -1,4 +1,4 @@
-// Batches merkleized.
+// What every merkleize says.
 ghost use Rattle.std.specs.Prelude.{◌≡◌, IfOk, option_map};
 ghost use Rattle.qm_machine.specs.Grammar as grammar;
 ghost use Rattle.qm_lines.specs.Parsed.{byte_line, lent, merkleizing_of};
@@ -46,6 +46,7 @@ pub fn parse_merkleizing(
     }
 }
 
+/// A batch, a policy and metadata, and no word more.
 pub fn merkleize(alloc: Global, words: &[&[u8]]) -> Result<Option<ByteCommand>, AllocError>
     ensures { IfOk result (λ command. option_map byte_line command ≡ grammar.merkleize_of (lent words.now)) }
 {

@@ -8,18 +8,19 @@ use super::ByteCommand;
 use super::keys::{key, metadata, some_keys, value};
 use super::merkleize::parse_merkleizing;
 use super::numbers::number;
-use super::pieces::pieces;
+use super::pieces::{is, pieces};
 use crate::command::{Command, Resolution};
 use qm_base::{ByteKey, ByteValue, Slot, Write};
 use std::alloc::{AllocError, Global};
 
+// A word for itself, or a value behind a name.
 fn slot(alloc: Global, word: &[u8]) -> Result<Option<Slot<ByteValue>>, AllocError>
     ensures { IfOk result (λ found. option_map byte_slot found ≡ grammar.slot_of word.now) }
 {
-    if word == b"keep".as_slice() {
+    if is(word, b"keep") {
         return Ok(Some(Slot::Keep));
     }
-    if word == b"del".as_slice() {
+    if is(word, b"del") {
         return Ok(Some(Slot::Delete));
     }
     match word.strip_prefix(b"put:") {
@@ -98,6 +99,7 @@ struct Keyed {
     keys: Vec<ByteKey>,
 }
 
+// A batch, and one key or more.
 fn parse_keyed(alloc: Global, words: &[&[u8]]) -> Result<Option<Keyed>, AllocError>
     ensures stage { IfOk result (λ found. option_map (λ keyed. lines.Stage keyed.handle keyed.keys.items) found ≡ grammar.keyed_of lines.Stage (lent words.now)) }
     ensures expand { IfOk result (λ found. option_map (λ keyed. lines.Expand keyed.handle keyed.keys.items) found ≡ grammar.keyed_of lines.Expand (lent words.now)) }
@@ -114,6 +116,7 @@ fn parse_keyed(alloc: Global, words: &[&[u8]]) -> Result<Option<Keyed>, AllocErr
     }
 }
 
+/// Keys that are read through a batch, which becomes a staged one.
 pub fn stage(alloc: Global, words: &[&[u8]]) -> Result<Option<ByteCommand>, AllocError>
     ensures { IfOk result (λ command. option_map byte_line command ≡ grammar.keyed_of lines.Stage (lent words.now)) }
 {
@@ -123,6 +126,7 @@ pub fn stage(alloc: Global, words: &[&[u8]]) -> Result<Option<ByteCommand>, Allo
     }
 }
 
+/// More keys of a staged batch.
 pub fn expand(alloc: Global, words: &[&[u8]]) -> Result<Option<ByteCommand>, AllocError>
     ensures { IfOk result (λ command. option_map byte_line command ≡ grammar.keyed_of lines.Expand (lent words.now)) }
 {
@@ -132,6 +136,7 @@ pub fn expand(alloc: Global, words: &[&[u8]]) -> Result<Option<ByteCommand>, All
     }
 }
 
+/// What becomes of the keys of a staged batch, behind what every merkleize says.
 pub fn resolve(alloc: Global, words: &[&[u8]]) -> Result<Option<ByteCommand>, AllocError>
     ensures { IfOk result (λ command. option_map byte_line command ≡ grammar.resolve_of (lent words.now)) }
 {
