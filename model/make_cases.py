@@ -17,7 +17,7 @@ import fuzz  # noqa: E402
 import model  # noqa: E402
 import qmdb  # noqa: E402
 
-STAGE = qmdb.stage_number('policies')
+STAGE = qmdb.stage_number('staged')
 WORDS = 'run any unordered mmr'
 inp, out = [], []
 def section(text):
@@ -106,6 +106,7 @@ section('Each form of a line, with no database.')
 modelled('lines', ''.join(x + '\n' for x in (
  'batch', 'info', 'root', 'meta', 'tip', 'put 1 6b 76', 'put 0 00fF -', 'del 7 6B', 'merkleize 1 prop none', 'merkleize 1 prop -', 'merkleize 1 prop 0f',
  'merkleize 1 hold none', 'merkleize 1 bounded:0:18446744073709551615 none', 'merkleize 1 rule:2:9 none', 'merkleize 1 rule:2:9:drop=02 none', 'merkleize 1 rule:2:9:stop=-:swap=0A>%s none' % ('62' * 64), 'merkleize 1 rule:2:9:drop=%s:stop=02:swap=->- 0f' % ('61' * 64),
+ 'stage 1 6b', 'stage 0 6B 6c 6b', 'expand 1 6b', 'expand 18446744073709551615 6b 6b', 'resolve 1 prop none', 'resolve 1 hold 0f keep del put:- put:0F', 'resolve 1 rule:2:9 - 6b=none 6B=- 6c=none', 'resolve 0 prop none put:%s 00fF=0f' % ('62' * 64),
  'apply 10', 'ops 18446744073709551615', 'get 4a4A', 'get 4a from=3', 'many 4a', 'many 4a 6b 4a from=0', 'child 2', 'child 2 keep=0', 'child 2 keep=18446744073709551615',
  'info 1', 'root 1', 'proof 1', 'prove 4 0 9', 'prove 18446744073709551615 0 18446744073709551615', 'pins 0', 'open')))
 modelled('keys of 32 bytes, values of 64', 'open\nbatch\nput 1 %s %s\nmerkleize 1 prop %s\nops 1\napply 1\nget %s\nmeta\n' % ('61' * 32, '62' * 64, '63' * 64, '61' * 32), items=True)
@@ -115,6 +116,8 @@ for bad in ('', ' ', 'Open', 'open ', ' open', 'open x', 'apply', 'apply ', 'app
  'get', 'get -', 'get 6', 'get 6g', 'put  1 6b 76', 'put 1 6b', 'put 1 - 76', 'put 1 6b 767', 'put 1 6b 76 77', 'merkleize 1 prop', 'merkleize 1 prop non',
  'merkleize 1 prop none ', 'del 1', 'del 1 -', 'del 1 6b 76', 'get 4a 6b', 'get from=3', 'many', 'many from=3', 'many 4a from=3 6b', 'many 4a from=', 'many 4a from=03',
  'child 2 keep', 'child 2 keep=', 'child 2 from=1', 'tip 1', 'batch 1', 'info 1 2', 'proof', 'prove 4 0 0', 'prove 4 0', 'prove 4 0 01', 'pins', 'nothing', 'next 61',
+ 'stage', 'stage 2', 'stage 2 6', 'stage 61 -', 'stage 2 61 from=1', 'expand 2', 'expand 2 61 keep', 'resolve 2 hold', 'resolve 2 hold none keep:', 'resolve 2 hold none put', 'resolve 2 hold none put:', 'resolve 2 hold none put:none',
+ 'resolve 2 hold none 61', 'resolve 2 hold none keep 61=', 'resolve 2 hold none 61=01=02', 'resolve 2 hold none =01', 'resolve 2 hold none 61=01 keep', 'resolve 2 hold none 61=del', 'resolve 2 hold none keep  keep',
  'get ' + '61' * 33, 'put 1 %s 76' % ('61' * 33), 'put 1 6b ' + '61' * 65, 'merkleize 1 prop ' + '61' * 65):
     t, s, _ = modelled('bad line: ' + (bad if len(bad) < 40 else bad[:20] + '.. (%d characters)' % len(bad)), bad + '\n')
     assert (t, s) == ('bad line 1\n', 2)
@@ -206,11 +209,23 @@ for policy in ('prop', 'hold', 'bounded:0:9', 'bounded:9:0', 'bounded:9:1', 'bou
 modelled('all keys dropped', HELD + 'batch\nput 2 62 01\nput 2 63 01\nmerkleize 2 rule:9:9:drop=01 none\nops 2\napply 2\ninfo\nbatch\nmerkleize 3 prop none\nops 3\n')
 modelled('what an ancestor made inactive is passed', HELD + 'batch\nput 2 61 04\ndel 2 62\nmerkleize 2 hold none\nchild 2\nmerkleize 3 bounded:1:9 none\nops 3\nchild 3 keep=0\nmerkleize 4 rule:9:9:drop=04 none\napply 3\nchild 3\nmerkleize 5 rule:9:9:drop=04 none\nops 5\napply 5\nmany 61 62 63\ninfo\n')
 modelled('rounds of candidates', 'open\n' + 'batch\n' + ''.join('put 1 %04x 01\n' % i for i in range(1100)) + 'merkleize 1 hold none\napply 1\nbatch\n' + ''.join('del 2 %04x\n' % i for i in range(3, 1090)) + 'merkleize 2 hold none\napply 2\nbatch\nput 3 0001 02\nmerkleize 3 rule:8:1085 none\nops 3\nbatch\nmerkleize 4 bounded:10:2186 none\nops 4\nbatch\nmerkleize 5 bounded:14:9999 none\nops 5\napply 5\ninfo\nroot\n')
-section('Scripts of an independent model.')
+section('Staged reads: slots, other writes, and batches that are stale or of another kind.')
+STAGED = 'open\nbatch\nput 1 61 01\nmerkleize 1 prop none\napply 1\nbatch\nstage 2 61 61 61\n'
+READ = 'open 1 0 1\nbatch 1\nok\nmerkleized 1 1 4 2\napplied 4\nbatch 2\nread 01 01 01\n'
+worked('more staged keys, and other counts of slots', STAGED + 'expand 2 62\nresolve 2 prop none keep keep keep\nget 61 from=2\nstage 2 61\nresolve 1 prop none\nexpand 2 61 62\nresolve 2 hold none keep keep keep keep keep keep keep\nresolve 2 hold none keep keep keep put:05 put:06 keep\nops 2\nexpand 2 61\n', 0,
+  READ + 'read 3 4 none\nrefused SlotCount 4 3\nrefused NoSuchHandle 2\nrefused NoSuchHandle 2\nrefused NoSuchHandle 1\nread 4 6 01 none\nrefused SlotCount 6 7\nmerkleized 2 4 7 2\nops 4 U:61=06 U:62=05 C:none@2\nrefused NoSuchHandle 2\n', 4)
+worked('a staged batch is no other', STAGED + 'put 2 62 02\ndel 2 61\nmerkleize 2 prop none\napply 2\nops 2\nget 61 from=2\nmany 61 from=2\ninfo 2\nroot 2\nproof 2\nchild 2\nbatch\nexpand 3 61\nresolve 3 prop none keep\nstage 3 61\nexpand 1 61\nstage 1 61\nstage 9 61\nresolve 9 prop none\n', 0,
+  READ + 'refused NoSuchHandle 2\n' * 11 + 'batch 3\nrefused NoSuchHandle 3\nrefused NoSuchHandle 3\nread 01\nrefused NoSuchHandle 1\nrefused NoSuchHandle 1\nrefused NoSuchHandle 9\nrefused NoSuchHandle 9\n', 4)
+worked('staged reads of stale batches', 'open\nbatch\nput 1 61 01\nbatch\nput 2 62 02\nbatch\nstage 3 61\nbatch\nstage 4 61 62\nmerkleize 1 prop none\napply 1\nstage 2 61\nstage 2 61\nput 2 62 02\nexpand 3 61\nexpand 3 61\nresolve 4 hold none keep\nresolve 4 hold none keep put:05\nresolve 4 hold none keep put:05\nget 61\nbatch\nstage 5 61\n', 0,
+  'open 1 0 1\nbatch 1\nok\nbatch 2\nok\nbatch 3\nread none\nbatch 4\nread none none\nmerkleized 1 1 4 2\napplied 4\nrefused StaleRead\nrefused NoSuchHandle 2\nrefused NoSuchHandle 2\nrefused StaleRead\nrefused NoSuchHandle 3\nrefused SlotCount 2 1\nrefused StaleBatch\nrefused NoSuchHandle 4\nread 01\nbatch 5\nread 01\n', 4)
+worked('recorded writes, slots and other writes', 'open\nbatch\nput 1 61 01\nput 1 62 02\nput 1 63 03\nput 1 64 04\nmerkleize 1 hold none\napply 1\nbatch\nput 2 61 11\ndel 2 62\nput 2 65 15\nstage 2 61 62 63 65 66\nexpand 2 64 61\nresolve 2 hold aa keep put:22 del del keep put:- keep 66=26 61=31 66=none\nops 2\napply 2\nmany 61 62 63 64 65 66\nmeta\n', 0,
+  'open 1 0 1\nbatch 1\nok\nok\nok\nok\nmerkleized 1 1 6 0\napplied 6\nbatch 2\nok\nok\nok\nread 11 none 03 15 none\nread 5 7 04 11\nmerkleized 2 6 11 0\nops 6 U:61=31 U:62=22 D:63 U:64=- C:aa@0\napplied 11\nread 31 22 none - none none\nmeta aa\n', 11)
+section('Scripts of an independent model, without the longest.')
 for seed in range(100):
     size = (12, 25, 25, 40, 60)[seed % 5]
     lines = fuzz.script('rows %d' % seed, 'any unordered mmr', STAGE, size, bad=seed % 3 == 0)
-    modelled('script %d' % seed, '\n'.join(lines) + ('\n' if seed % 7 else ''))
+    said = '\n'.join(lines) + ('\n' if seed % 7 else '')
+    if len(said) <= 1800: modelled('script %d' % seed, said)
 section('Chains of three batches: what the second and the third keep, which are applied before each is made, and before the third is asked.')
 def chain(keep2, keep3, before2, before3, before_asked):
     lines = ['open', 'batch', 'put 1 6b6b6b6b01 01', 'merkleize 1 prop none']

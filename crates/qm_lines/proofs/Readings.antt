@@ -1,38 +1,39 @@
--- Words as keys, and a last word behind them.
+-- Words that are read one by one, and a last word behind keys.
 use Rattle.std.proofs.Common.{◌≡◌, ◌+◌, ◌<◌, ℕ, List, [], ◌∷◌, ◌++◌, drop, length, get_or, map, Option, Some, None, option_map, refl, sym, ◌∙◌, ap, append_assoc}
 use Rattle.std.specs.Prelude.{option_and_then}
 use Rattle.std.specs.Borrow.{Bor}
 use Rattle.std.proofs.lemmas.List.{map-append}
 use Rattle.qm_model.specs.Operations.{Bytes}
-use Rattle.qm_machine.specs.Grammar.{Reading, key_of, with_key, last_reading, reading_of}
-use Rattle.qm_lines.specs.Parsed.{keys_of, with_keys}
+use Rattle.qm_machine.specs.Grammar.{Reading, key_of, each_key, with_key, last_reading, reading_of}
+use Rattle.qm_lines.specs.Parsed.{with_keys}
 use Rattle.qm_lines.proofs.Lines.{opened}
 
--- keys behind the first, if it and they are keys
-abbrev behind : Option Bytes → Option (List Bytes) → Option (List Bytes)
+-- the first and the others, if there are both
+abbrev behind : {A : Type 0} → Option A → Option (List A) → Option (List A)
 behind o rest = option_and_then (λ k. option_map (λ ks. k ∷ ks) rest) o
 
-behind_done : (done : List Bytes) (k : Bytes) (rest : Option (List Bytes)) → option_map (λ (ks : List Bytes). (done ++ k ∷ []) ++ ks) rest ≡ option_map (λ (ks : List Bytes). done ++ ks) (behind (Some k) rest)
+behind_done : {A : Type 0} (done : List A) (k : A) (rest : Option (List A)) → option_map (λ (ks : List A). (done ++ k ∷ []) ++ ks) rest ≡ option_map (λ (ks : List A). done ++ ks) (behind (Some k) rest)
 behind_done done k None = refl
 behind_done done k (Some ks) = ap Some (append_assoc done (k ∷ []) ks)
 
--- the i-th word of those that are lent, and the keys so far
-module _ (refs : List (Bor Bytes)) (i : ℕ) (d : Bor Bytes) (h : i < length refs) (o : Option Bytes) (parsed : o ≡ key_of (get_or refs i d).now) (done : List Bytes) where
+-- Words that are read one by one: the i-th of those that are lent, and what is read of those before it.
+module _ {A : Type 0} (read : Bytes → Option A) (each : List Bytes → Option (List A)) (one : (w : Bytes) (ws : List Bytes) → each (w ∷ ws) ≡ behind (read w) (each ws))
+    (refs : List (Bor Bytes)) (i : ℕ) (d : Bor Bytes) (h : i < length refs) (o : Option A) (parsed : o ≡ read (get_or refs i d).now) (done : List A) where
   abbrev words : List Bytes
   words = map (λ (x : Bor Bytes). x.now) refs
 
-  keys_here : keys_of (drop i words) ≡ behind o (keys_of (drop (i + 1) words))
-  keys_here = ap keys_of (opened refs i d h) ∙ ap (λ x. behind x (keys_of (drop (i + 1) words))) (sym parsed)
+  here : each (drop i words) ≡ behind o (each (drop (i + 1) words))
+  here = ap each (opened refs i d h) ∙ one (get_or refs i d).now (drop (i + 1) words) ∙ ap (λ x. behind x (each (drop (i + 1) words))) (sym parsed)
 
-  module _ (so_far : option_map (λ (ks : List Bytes). done ++ ks) (keys_of (drop i words)) ≡ keys_of words) where
-    pub keys-at_other : o ≡ None → None ≡ keys_of words
-    keys-at_other none =
-        sym (ap (option_map (λ (ks : List Bytes). done ++ ks)) (keys_here ∙ ap (λ x. behind x (keys_of (drop (i + 1) words))) none)) ∙ so_far
+  module _ (so_far : option_map (λ (ks : List A). done ++ ks) (each (drop i words)) ≡ each words) where
+    pub each-at_other : o ≡ None → None ≡ each words
+    each-at_other none =
+        sym (ap (option_map (λ (ks : List A). done ++ ks)) (here ∙ ap (λ x. behind x (each (drop (i + 1) words))) none)) ∙ so_far
 
-    pub keys-at_key : (k : Bytes) → o ≡ Some k → option_map (λ (ks : List Bytes). (done ++ k ∷ []) ++ ks) (keys_of (drop (i + 1) words)) ≡ keys_of words
-    keys-at_key k some =
-        behind_done done k (keys_of (drop (i + 1) words))
-        ∙ sym (ap (option_map (λ (ks : List Bytes). done ++ ks)) (keys_here ∙ ap (λ x. behind x (keys_of (drop (i + 1) words))) some)) ∙ so_far
+    pub each-at_one : (k : A) → o ≡ Some k → option_map (λ (ks : List A). (done ++ k ∷ []) ++ ks) (each (drop (i + 1) words)) ≡ each words
+    each-at_one k some =
+        behind_done done k (each (drop (i + 1) words))
+        ∙ sym (ap (option_map (λ (ks : List A). done ++ ks)) (here ∙ ap (λ x. behind x (each (drop (i + 1) words))) some)) ∙ so_far
 
 -- what keys and a last word are read as
 abbrev ended : Option (List Bytes) → Option Reading → Option Reading
@@ -52,15 +53,15 @@ first_of_more : (w : Bytes) (before : List Bytes) (last : Bytes) → reading_of 
 first_of_more w [] last = refl
 first_of_more w (v ∷ ws) last = refl
 
-pub reading-ended : (before : List Bytes) (last : Bytes) → reading_of (before ++ last ∷ []) ≡ ended (keys_of before) (last_reading last)
+pub reading-ended : (before : List Bytes) (last : Bytes) → reading_of (before ++ last ∷ []) ≡ ended (each_key before) (last_reading last)
 reading-ended [] last = no_more (last_reading last)
 reading-ended (w ∷ ws) last =
     first_of_more w ws last
     ∙ ap (λ r. option_and_then (λ k. option_map (with_key k) r) (key_of w)) (reading-ended ws last)
-    ∙ ended-behind (key_of w) (keys_of ws) (last_reading last)
+    ∙ ended-behind (key_of w) (each_key ws) (last_reading last)
 
 -- of words that are lent
-pub reading-lent : (refs : List (Bor Bytes)) (last : Bor Bytes) (before : List (Bor Bytes)) → refs ≡ before ++ last ∷ [] → (keys : Option (List Bytes)) → keys ≡ keys_of (map (λ (x : Bor Bytes). x.now) before) → ended keys (last_reading last.now) ≡ reading_of (map (λ (x : Bor Bytes). x.now) refs)
+pub reading-lent : (refs : List (Bor Bytes)) (last : Bor Bytes) (before : List (Bor Bytes)) → refs ≡ before ++ last ∷ [] → (keys : Option (List Bytes)) → keys ≡ each_key (map (λ (x : Bor Bytes). x.now) before) → ended keys (last_reading last.now) ≡ reading_of (map (λ (x : Bor Bytes). x.now) refs)
 reading-lent refs last before split keys are =
     ap (λ ks. ended ks (last_reading last.now)) are
     ∙ sym (reading-ended (map (λ (x : Bor Bytes). x.now) before) last.now)

@@ -1,14 +1,21 @@
 -- The commands that lines are read as.
-use Rattle.std.specs.Prelude.{if◌then◌else◌, List, [], ◌∷◌, ◌++◌, Option, Some, None, map, option_map, option_and_then}
+use Rattle.std.specs.Prelude.{ℕ, if◌then◌else◌, List, [], ◌∷◌, ◌++◌, Option, Some, None, map, option_map, option_and_then}
 use Rattle.std.specs.Borrow.{Bor}
 use Rattle.qm_model.specs.Operations.{Bytes}
 use Rattle.qm_model.specs.Policies.{Policy}
 use Rattle.qm_model.specs.Walk as walks
+use Rattle.qm_model.specs.Slots as model
+use Rattle.qm_model.specs.Writes as writes
+use Rattle.qm_base.specs.Slots.{slot_view, write_view}
+use Rattle.qm_base.specs.declared.slot.Slot.{Slot}
+use Rattle.qm_base.specs.declared.write.Write.{Write}
 use Rattle.qm_chain.specs.declared.policy.Limits.{Limits}
 use Rattle.qm_machine.specs.Lines.{Line}
-use Rattle.qm_machine.specs.Grammar.{key_of, Reading, begins_with, behind}
+use Rattle.qm_machine.specs.Grammar as grammar
+use Rattle.qm_machine.specs.Grammar.{number_of, policy_of, metadata_of, Reading, begins_with, behind}
 use Rattle.qm_lines.specs.declared.policy.AnyPolicy.{AnyPolicy}
 use Rattle.qm_lines.specs.declared.command.Command.{Command}
+use Rattle.qm_lines.specs.declared.command.Resolution.{Resolution}
 use Rattle.qm_lines.specs.Policies.{policy_view}
 use Rattle.qm_lines.specs.Views.{line_view}
 
@@ -20,10 +27,23 @@ byte_line = line_view (λ k. k) (λ v. v) policy_view
 abbrev pub lent : List (Bor Bytes) → List Bytes
 lent words = map (λ (w : Bor Bytes). w.now) words
 
--- words as keys, if each is one
-abbrev pub keys_of : List Bytes → Option (List Bytes)
-keys_of [] = Some []
-keys_of (w ∷ ws) = option_and_then (λ k. option_map (λ ks. k ∷ ks) (keys_of ws)) (key_of w)
+-- a slot, and a write, whose keys and values are seen as their bytes
+abbrev pub byte_slot : Slot Bytes → model.Slot
+byte_slot = slot_view (λ v. v)
+
+abbrev pub byte_write : Write Bytes Bytes → writes.Write
+byte_write = write_view (λ k. k) (λ v. v)
+
+abbrev pub resolution_view : Resolution Bytes Bytes → grammar.Resolution
+resolution_view r = (map byte_slot r.slots.items, map byte_write r.others.items)
+
+-- a resolution with these slots before its own
+abbrev pub with_slots : List model.Slot → grammar.Resolution → grammar.Resolution
+with_slots before (slots, others) = (before ++ slots, others)
+
+-- the batch, the policy and the metadata that words are
+abbrev pub merkleizing_of : Bytes → Bytes → Bytes → Option (ℕ × Policy × Option Bytes)
+merkleizing_of a b c = option_and_then (λ h. option_and_then (λ p. option_map (λ meta. (h, p, meta)) (metadata_of c)) (policy_of b)) (number_of a)
 
 -- a reading with these keys before its own
 abbrev pub with_keys : List Bytes → Reading → Reading

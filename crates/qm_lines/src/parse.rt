@@ -6,9 +6,11 @@ ghost use Rattle.qm_lines.specs.Parsed.{byte_line};
 
 mod commands;
 mod keys;
+mod merkleize;
 mod numbers;
 mod pieces;
 mod policies;
+mod staged;
 
 use crate::command::Command;
 use crate::policy::AnyPolicy;

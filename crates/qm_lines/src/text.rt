@@ -145,6 +145,7 @@ fn write_refused(out: &mut String, refused: Refused) -> Result<(), AllocError>
         Refused::NotOffered => out.push_str("NotOffered"),
         Refused::NoDatabase => out.push_str("NoDatabase"),
         Refused::NoSuchHandle(handle) => write!(out, "NoSuchHandle {handle}"),
+        Refused::SlotCount(staged, given) => write!(out, "SlotCount {staged} {given}"),
         Refused::StaleBatch => out.push_str("StaleBatch"),
         Refused::StaleRead => out.push_str("StaleRead"),
         Refused::HistoricalFloorPruned(size) => write!(out, "HistoricalFloorPruned {size}"),
@@ -238,15 +239,34 @@ fn write_listed<K: Key, V: VariableValue>(
     write_operations(out, ops)
 }
 
-fn write_read<V: VariableValue>(out: &mut String, values: &[Option<V>]) -> Result<(), AllocError>
-    ensures { Adds out.old out.new result (texts.reply_line (lines.Read (map (option_map V.bytes) values.now))) }
+// What was read, each after a space.
+fn write_values<V: VariableValue>(out: &mut String, values: &[Option<V>]) -> Result<(), AllocError>
+    ensures { Adds out.old out.new result (texts.values_text (map (option_map V.bytes) values.now)) }
 {
-    out.push_str("read")?;
     for value in values {
         out.push_str(" ")?;
         write_optional(out, value)?;
     }
     Ok(())
+}
+
+fn write_read<V: VariableValue>(out: &mut String, values: &[Option<V>]) -> Result<(), AllocError>
+    ensures { Adds out.old out.new result (texts.reply_line (lines.Read (map (option_map V.bytes) values.now))) }
+{
+    out.push_str("read")?;
+    write_values(out, values)
+}
+
+fn write_expanded<V: VariableValue>(
+    out: &mut String,
+    first: u64,
+    end: u64,
+    values: &[Option<V>],
+) -> Result<(), AllocError>
+    ensures { Adds out.old out.new result (texts.reply_line (lines.Expanded first end (map (option_map V.bytes) values.now))) }
+{
+    write_numbers(out, "read", &[first, end])?;
+    write_values(out, values)
 }
 
 fn write_metadata<V: VariableValue>(
@@ -293,6 +313,7 @@ fn write_line<K: Key, V: VariableValue, D: Digest>(
         Reply::Applied(size) => write_numbers(out, "applied", &[*size]),
         Reply::Ops(base, ops) => write_listed(out, *base, ops),
         Reply::Read(values) => write_read(out, values),
+        Reply::Expanded(first, end, values) => write_expanded(out, *first, *end, values),
         Reply::Info(start, size, floor, boundary, is_live) => {
             write_info(out, &[*start, *size, *floor, *boundary], *is_live)
         }

@@ -4,9 +4,11 @@ ghost use Rattle.qm_machine.specs.Grammar as grammar;
 ghost use Rattle.qm_lines.specs.Parsed.{byte_line, lent};
 
 use super::ByteCommand;
-use super::keys::{Reading, key, metadata, parse_reading, value};
+use super::keys::{Reading, key, parse_reading, value};
+use super::merkleize::merkleize;
 use super::numbers::{named_number, number, positive};
-use super::policies::policy;
+use super::pieces::is;
+use super::staged::{expand, resolve, stage};
 use crate::command::Command;
 use std::alloc::{AllocError, Global};
 
@@ -92,24 +94,6 @@ fn del(alloc: Global, words: &[&[u8]]) -> Result<Option<ByteCommand>, AllocError
     Ok(Some(Command::Del(handle, key)))
 }
 
-fn merkleize(alloc: Global, words: &[&[u8]]) -> Result<Option<ByteCommand>, AllocError>
-    ensures { IfOk result (λ command. option_map byte_line command ≡ grammar.merkleize_of (lent words.now)) }
-{
-    let [handle, policy_word, metadata_word] = words else {
-        return Ok(None);
-    };
-    let Some(handle) = number(handle) else {
-        return Ok(None);
-    };
-    let Some(policy) = policy(alloc, policy_word)? else {
-        return Ok(None);
-    };
-    let Some(metadata) = metadata(alloc, metadata_word)? else {
-        return Ok(None);
-    };
-    Ok(Some(Command::Merkleize(handle, policy, metadata)))
-}
-
 fn prove(words: &[&[u8]]) -> Option<ByteCommand>
     ensures { option_map byte_line result ≡ grammar.prove_of (lent words.now) }
 {
@@ -158,39 +142,45 @@ pub fn of_words(alloc: Global, words: &[&[u8]]) -> Result<Option<ByteCommand>, A
     let Some((name, words)) = words.split_first() else {
         return Ok(None);
     };
-    if *name == b"open".as_slice() {
+    if is(name, b"open") {
         Ok(alone(words, Command::Open))
-    } else if *name == b"batch".as_slice() {
+    } else if is(name, b"batch") {
         Ok(alone(words, Command::Batch))
-    } else if *name == b"child".as_slice() {
+    } else if is(name, b"child") {
         Ok(child(words))
-    } else if *name == b"tip".as_slice() {
+    } else if is(name, b"tip") {
         Ok(alone(words, Command::Tip))
-    } else if *name == b"put".as_slice() {
+    } else if is(name, b"put") {
         put(alloc, words)
-    } else if *name == b"del".as_slice() {
+    } else if is(name, b"del") {
         del(alloc, words)
-    } else if *name == b"merkleize".as_slice() {
+    } else if is(name, b"merkleize") {
         merkleize(alloc, words)
-    } else if *name == b"apply".as_slice() {
+    } else if is(name, b"stage") {
+        stage(alloc, words)
+    } else if is(name, b"expand") {
+        expand(alloc, words)
+    } else if is(name, b"resolve") {
+        resolve(alloc, words)
+    } else if is(name, b"apply") {
         Ok(only_number(words).map(Command::Apply))
-    } else if *name == b"ops".as_slice() {
+    } else if is(name, b"ops") {
         Ok(only_number(words).map(Command::Ops))
-    } else if *name == b"get".as_slice() {
+    } else if is(name, b"get") {
         get(alloc, words)
-    } else if *name == b"many".as_slice() {
+    } else if is(name, b"many") {
         many(alloc, words)
-    } else if *name == b"info".as_slice() {
+    } else if is(name, b"info") {
         Ok(info(words))
-    } else if *name == b"root".as_slice() {
+    } else if is(name, b"root") {
         Ok(root(words))
-    } else if *name == b"proof".as_slice() {
+    } else if is(name, b"proof") {
         Ok(only_number(words).map(Command::BatchProof))
-    } else if *name == b"meta".as_slice() {
+    } else if is(name, b"meta") {
         Ok(alone(words, Command::Meta))
-    } else if *name == b"prove".as_slice() {
+    } else if is(name, b"prove") {
         Ok(prove(words))
-    } else if *name == b"pins".as_slice() {
+    } else if is(name, b"pins") {
         Ok(only_number(words).map(Command::Pins))
     } else {
         Ok(None)

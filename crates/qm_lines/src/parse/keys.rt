@@ -2,9 +2,10 @@
 ghost use Rattle.std.specs.Prelude.{◌≡◌, IfOk, option_map};
 ghost use Rattle.hex.specs.Hex.{decode_of};
 ghost use Rattle.qm_machine.specs.Grammar as grammar;
-ghost use Rattle.qm_lines.specs.Parsed.{lent, keys_of, with_keys};
+ghost use Rattle.qm_lines.specs.Parsed.{lent, with_keys};
 
 use super::numbers::named_number;
+use super::pieces::is;
 use hex::FromHexError;
 use qm_base::{ByteKey, ByteString, ByteValue};
 use std::alloc::{AllocError, Global};
@@ -42,7 +43,7 @@ pub fn key(alloc: Global, word: &[u8]) -> Result<Option<ByteKey>, AllocError>
 pub fn value(alloc: Global, word: &[u8]) -> Result<Option<ByteValue>, AllocError>
     ensures { IfOk result (λ found. found ≡ grammar.value_of word.now) }
 {
-    if word == b"-".as_slice() {
+    if is(word, b"-") {
         return Ok(Some(ByteValue::new(Vec::new(alloc))));
     }
     match bytes_within(alloc, word, 1, 64)? {
@@ -55,15 +56,15 @@ pub fn value(alloc: Global, word: &[u8]) -> Result<Option<ByteValue>, AllocError
 pub fn metadata(alloc: Global, word: &[u8]) -> Result<Option<Option<ByteValue>>, AllocError>
     ensures { IfOk result (λ found. found ≡ grammar.metadata_of word.now) }
 {
-    if word == b"none".as_slice() {
+    if is(word, b"none") {
         return Ok(Some(None));
     }
     Ok(value(alloc, word)?.map(Some))
 }
 
 // These words as keys, if each is one.
-fn keys(alloc: Global, words: &[&[u8]]) -> Result<Option<Vec<ByteKey>>, AllocError>
-    ensures { IfOk result (λ found. option_map (λ keys. keys.items) found ≡ keys_of (lent words.now)) }
+fn each_key(alloc: Global, words: &[&[u8]]) -> Result<Option<Vec<ByteKey>>, AllocError>
+    ensures { IfOk result (λ found. option_map (λ keys. keys.items) found ≡ grammar.each_key (lent words.now)) }
 {
     let mut keys = Vec::new(alloc);
     for word in words {
@@ -73,6 +74,16 @@ fn keys(alloc: Global, words: &[&[u8]]) -> Result<Option<Vec<ByteKey>>, AllocErr
         keys.push(key)?;
     }
     Ok(Some(keys))
+}
+
+/// These words as keys, if each is one and there is any.
+pub fn some_keys(alloc: Global, words: &[&[u8]]) -> Result<Option<Vec<ByteKey>>, AllocError>
+    ensures { IfOk result (λ found. option_map (λ keys. keys.items) found ≡ grammar.some_keys (lent words.now)) }
+{
+    if words.is_empty() {
+        return Ok(None);
+    }
+    each_key(alloc, words)
 }
 
 /// Keys, and the batch through which they are read.
@@ -117,7 +128,7 @@ pub fn parse_reading(alloc: Global, words: &[&[u8]]) -> Result<Option<Reading>, 
     let Some((last, before)) = words.split_last() else {
         return Ok(None);
     };
-    match keys(alloc, before)? {
+    match each_key(alloc, before)? {
         None => Ok(None),
         Some(keys) => end_reading(alloc, keys, last),
     }

@@ -6,7 +6,7 @@ ghost use Rattle.qm_lines.specs.Policies.{policy_view};
 
 use super::keys::value;
 use super::numbers::number;
-use super::pieces::pieces;
+use super::pieces::{is, pieces};
 use crate::policy::AnyPolicy;
 use qm_base::ByteValue;
 use qm_chain::{Bounded, Hold, Limits, Proportional, Rule};
@@ -175,13 +175,13 @@ fn of_parts(alloc: Global, parts: &[&[u8]]) -> Result<Option<AnyPolicy>, AllocEr
     let Some((name, parts)) = parts.split_first() else {
         return Ok(None);
     };
-    if *name == b"prop".as_slice() {
+    if is(name, b"prop") {
         Ok(only(parts, AnyPolicy::Proportional(Proportional)))
-    } else if *name == b"hold".as_slice() {
+    } else if is(name, b"hold") {
         Ok(only(parts, AnyPolicy::Hold(Hold)))
-    } else if *name == b"bounded".as_slice() {
+    } else if is(name, b"bounded") {
         Ok(bounded(parts))
-    } else if *name == b"rule".as_slice() {
+    } else if is(name, b"rule") {
         rule(alloc, parts)
     } else {
         Ok(None)
