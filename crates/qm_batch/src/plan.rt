@@ -361,11 +361,11 @@ pub fn staged<
     requires live { base.now.live ≤ base.now.size }
     requires slots { length wanted.slots.now ≡ length wanted.reads.now }
     ensures plan { (lent list : List model.Operation) → IsLent C.Store F.shape H.Digest.bytes H.hash ⟦<Unordered<K, V> as Update>⟧.form I.index_key (I.entries index.now) log.old lent → B.activity candidates.now ≡ bits lent → IsBase (base_view base.now) lent list
-        → AreReads ⟦<Unordered<K, V> as Update>⟧.view K.bytes wanted.reads.now list
-        → IfSome (C.told log.old.store) (λ _. IfOk result (λ plan. IsPlan plan list (stepped P.rules list (wanted_view K.bytes V.Value.bytes wanted) policy.old (option_map V.Value.bytes metadata)))) }
+        → AreReads ⟦<Unordered<K, V> as Update>⟧.view K.bytes wanted.entry.reads.now list
+        → IfSome (C.told log.old.store) (λ _. IfOk result (λ plan. IsPlan plan list (stepped P.rules list (wanted_view K.bytes V.Value.bytes wanted.entry) policy.old (option_map V.Value.bytes metadata)))) }
     ensures next { (lent list : List model.Operation) → IsLent C.Store F.shape H.Digest.bytes H.hash ⟦<Unordered<K, V> as Update>⟧.form I.index_key (I.entries index.now) log.old lent → B.activity candidates.now ≡ bits lent → IsBase (base_view base.now) lent list
-        → AreReads ⟦<Unordered<K, V> as Update>⟧.view K.bytes wanted.reads.now list
-        → IfSome (C.told log.old.store) (λ _. IfOk result (λ _. policy.new ≡ left_after P.rules list (wanted_view K.bytes V.Value.bytes wanted) policy.old)) }
+        → AreReads ⟦<Unordered<K, V> as Update>⟧.view K.bytes wanted.entry.reads.now list
+        → IfSome (C.told log.old.store) (λ _. IfOk result (λ _. policy.new ≡ left_after P.rules list (wanted_view K.bytes V.Value.bytes wanted.entry) policy.old)) }
     ensures live { IfOk result (λ plan. plan.live ≤ base.now.size + length plan.operations) }
     ensures read { IsRead C.Store F.shape H.Digest.bytes H.hash log.old log.new }
     ensures error { IfErr result (IsReadError C.Store log.old log.new) }
