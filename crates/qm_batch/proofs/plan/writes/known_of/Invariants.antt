@@ -1,4 +1,4 @@
-use Rattle.std.proofs.Common.{List, take}
+use Rattle.std.proofs.Common.{List}
 use Rattle.qm_model.specs.Operations.{Operation}
 use Rattle.qm_batch.specs.PlanViews.{AreKnown}
 use Rattle.qm_batch.specs.Views.{AreReads}
