@@ -161,11 +161,11 @@ module _ (index_key : Bytes → ℕ) (entries : List (ℕ × List ℕ)) (layers 
       by false one true two = sym one ∙ in-any bucket (subst (λ xs. Contains xs at) (sym is_bucket) (there-yes two))
 
 -- a map of the last writes has a key where it is written
-pub has-key : {X : Type 0} (view : X → Write) (es : List (Bor Bytes × Bor X)) (us : List Write) (q : Bytes) → map (λ e. (e.0.now, view e.1.now)) es ≡ map keyed us → is_some (lookup (λ k. is_eq (slice_cmp nat_cmp q k.now)) es) ≡ is_some (write_of us q)
-has-key view es us q same =
-    by (lookup (λ k. is_eq (slice_cmp nat_cmp q k.now)) es) (write_of us q) (looked-up (λ (b : Bor Bytes). b.now) (λ (b : Bor _). view b.now) (λ w. w) es us q same)
+pub has-key : {X : Type 0} (view : X → Write) (es : List (Bor Bytes × X)) (us : List Write) (q : Bytes) → map (λ e. (e.0.now, view e.1)) es ≡ map keyed us → is_some (lookup (λ k. is_eq (slice_cmp nat_cmp q k.now)) es) ≡ is_some (write_of us q)
+has-key {X} view es us q same =
+    by (lookup (λ k. is_eq (slice_cmp nat_cmp q k.now)) es) (write_of us q) (looked-up (λ (b : Bor Bytes). b.now) view (λ w. w) es us q same)
   where
-    by : (o : Option (Bor _)) (w : Option Write) → option_map (λ (b : Bor _). view b.now) o ≡ option_map (λ w. w) w → is_some o ≡ is_some w
+    by : (o : Option X) (w : Option Write) → option_map view o ≡ option_map (λ w. w) w → is_some o ≡ is_some w
     by None None h = refl
     by None (Some w) h = cc
     by (Some x) None h = cc

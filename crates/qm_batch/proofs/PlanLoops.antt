@@ -1,17 +1,17 @@
 -- Steps of the loops that make a plan.
 use Rattle.std.proofs.Common.{◌≡◌, ℕ, zero, suc, ◌+◌, ◌≤◌, ◌<◌, cond, List, [], ◌∷◌, ◌++◌, length, length-append, take, map, get_or, refl, ap, ap₂, sym, ◌∙◌, subst, Option, Some, None, arith, Ordering, Less, Equal, Greater, Bor, append_assoc, append-nil}
-use Rattle.std.specs.Prelude.{filter_map, fold, slice_get, option_map, option_to_list, All}
+use Rattle.std.specs.Prelude.{filter_map, slice_get, option_map, option_to_list, All}
 use Rattle.std.specs.BTreeMap.{insert_entry}
 use Rattle.std.specs.List.{cons_option, AllByRecursion as Each}
 use Rattle.std.specs.Cmp.Lexicographic.{slice_cmp}
 use Rattle.std.specs.Ordering.{nat_cmp, is_lt, match_ordering}
 use Rattle.std.proofs.lemmas.List.{take_all, take_more, map-append, map_more, length-map, length-take, get_or-map}
-use Rattle.std.proofs.lemmas.List.Sums.{fold-append}
+use Rattle.std.proofs.lemmas.List.Sums.{fold_push}
 use Rattle.std.proofs.lemmas.List.Elements.{filter_map-append, All-nil, All-cons, All-head, All-tail, All-same}
 use Rattle.std.proofs.lemmas.Option.{same_Some, slice_get-map, slice_get_read, get_or_from_slice_get, slice_get_within}
 use Rattle.qm_model.specs.Operations.{Bytes, Operation}
 use Rattle.qm_model.specs.Live.{Live, live, live_of}
-use Rattle.qm_model.specs.Writes.{Write, put_write, write_of, operation_of, create_of}
+use Rattle.qm_model.specs.Writes.{Write, put_write, last_writes, write_of, operation_of, create_of}
 use Rattle.qm_model.proofs.LastWrites.{Rising}
 use Rattle.qm_batch.specs.Changes.{place_in}
 use Rattle.qm_batch.specs.PlanViews.{keyed, site_in}
@@ -21,21 +21,20 @@ use Rattle.qm_batch.proofs.PlanPlaces.{one-more, none-more, live-rises}
 use Rattle.qm_chain.proofs.KeyOrder.{apart}
 use Rattle.qm_batch.proofs.Standing.{live-apart}
 
--- a map from keys to writes, lent
+-- a map of the last writes by key
 module _ {X : Type 0} (view : X → Write) where
-  abbrev pub shown : Bor Bytes × Bor X → Bytes × Write
-  shown e = (e.0.now, view e.1.now)
+  abbrev pub shown : Bor Bytes × X → Bytes × Write
+  shown e = (e.0.now, view e.1)
 
   abbrev key_cmp : Bor Bytes → Bor Bytes → Ordering
   key_cmp a b = slice_cmp nat_cmp a.now b.now
 
-  -- one write more of a list
-  pub put-more : (es new : List (Bor Bytes × Bor X)) (xs : List X) (i : ℕ) (d : X) (k : Bor Bytes) (x : Bor X) → i < length xs → d ≡ get_or xs i d → x.now ≡ d → k.now ≡ (view d).key →
-      new ≡ insert_entry key_cmp es k x → map shown es ≡ map keyed (fold put_write [] (map view (take i xs))) → map shown new ≡ map keyed (fold put_write [] (map view (take (i + 1) xs)))
-  put-more es new xs i d k x within here is key put so_far =
-      ap (map shown) put ∙ put-shown (λ (b : Bor Bytes). b.now) (λ (b : Bor X). view b.now) (λ w. w) es (fold put_write [] (map view (take i xs))) k x (view x.now) so_far (key ∙ ap (λ z. (view z).key) (sym is)) refl
-      ∙ ap (λ z. map keyed (put_write (fold put_write [] (map view (take i xs))) (view z))) (is ∙ here)
-      ∙ ap (map keyed) (sym (ap (fold put_write []) (map_more view xs i d within) ∙ fold-append put_write [] (map view (take i xs)) (view (get_or xs i d) ∷ [])))
+  -- one write more
+  pub put-more : (es new : List (Bor Bytes × X)) (ws : List Write) (k : Bor Bytes) (x : X) → k.now ≡ (view x).key → new ≡ insert_entry key_cmp es k x → map shown es ≡ map keyed (last_writes ws) →
+      map shown new ≡ map keyed (last_writes (ws ++ view x ∷ []))
+  put-more es new ws k x key put so_far =
+      ap (map shown) put ∙ put-shown (λ (b : Bor Bytes). b.now) view (λ w. w) es (last_writes ws) k x (view x) so_far key refl
+      ∙ ap (map keyed) (sym (fold_push put_write [] ws (view x)))
 
 each-at : {X : Type 0} (P : X → Type 0) (xs : List X) (i : ℕ) (x : X) → Each P xs → slice_get xs i ≡ Some x → P x
 each-at P [] i x each is = cc

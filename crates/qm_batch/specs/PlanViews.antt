@@ -13,8 +13,8 @@ use Rattle.qm_model.specs.Writes.{Write, last_writes}
 use Rattle.qm_base.specs.Views.{operation_view}
 use Rattle.qm_base.specs.declared.operation.Operation as operation
 use Rattle.qm_base.specs.declared.update.Unordered.{Unordered}
-use Rattle.qm_base.specs.declared.write.Write as written
 use Rattle.qm_batch.specs.declared.plan.touch.Touch as declared
+use Rattle.qm_batch.specs.declared.plan.writes.LastWrite as last_write
 use Rattle.qm_batch.specs.declared.plan.writes.Site as site
 use Rattle.qm_batch.specs.declared.plan.diff.Noted as noted
 use Rattle.qm_batch.specs.declared.plan.decided.Decided as decided
@@ -24,7 +24,7 @@ use Rattle.qm_batch.specs.Bases.{Base, IsBase, base_view}
 use Rattle.qm_batch.specs.Changes.{Change, change_of, place_in}
 use Rattle.qm_batch.specs.Going.{Decided}
 use Rattle.qm_batch.specs.Touches.{Touch, IsFrom, operations_of, written_touches}
-use Rattle.qm_batch.specs.Views.{write_view, stepped, left_after}
+use Rattle.qm_batch.specs.Views.{stepped, left_after}
 
 -- a write by its key
 abbrev pub keyed : Write → Bytes × Write
@@ -33,6 +33,10 @@ keyed w = (w.key, w)
 -- a write, and where its key stands
 abbrev pub site_in : List Operation → Write → Write × Option ℕ
 site_in base w = (w, place_in base w.key)
+
+-- keys, each with its place in this list
+abbrev pub AreKnown : List Operation → List (Bor Bytes × Option ℕ) → Type 0
+AreKnown base places = All (λ e. e.1 ≡ place_in base e.0.now) places
 
 -- what is noted of a key
 abbrev pub noted_view : {V : Type 0} → (V → Bytes) → noted.Noted V → Change
@@ -67,13 +71,17 @@ pub record AreOwn {P : Type 0} (rules : Rules P) (policy next : P) (touches : Li
   pub left : next ≡ left_after rules base ws policy
 
 module _ {K V : Type 0} (key : K → Bytes) (value : V → Bytes) where
+  -- a last write
+  abbrev pub last_write_view : last_write.LastWrite K V → Write
+  last_write_view w = record { key = key w.key.now; value = option_map (λ v. value v.now) w.value }
+
   -- an entry of the last writes by key
-  abbrev pub last_view : Bor Bytes × Bor (written.Write K V) → Bytes × Write
-  last_view e = (e.0.now, write_view key value e.1.now)
+  abbrev pub last_view : Bor Bytes × last_write.LastWrite K V → Bytes × Write
+  last_view e = (e.0.now, last_write_view e.1)
 
   -- a write with where its key stands
   abbrev pub site_view : site.Site K V → Write × Option ℕ
-  site_view s = (write_view key value s.write.now, s.at)
+  site_view s = (last_write_view s.write, s.at)
 
   -- decisions
   abbrev pub decided_view : decided.Decided K V → Decided
@@ -92,7 +100,7 @@ module _ {U K V : Type 0} (update_view : U → Operation) (key : K → Bytes) (v
   touch_views touches = map touch_view touches
 
   -- what a walk goes over
-  abbrev pub path_view : {F I : Type 0} → path.Path F I U K V → BTreeMap (Bor Bytes) (Bor (written.Write K V)) → Path
+  abbrev pub path_view : {F I : Type 0} → path.Path F I U K V → BTreeMap (Bor Bytes) (last_write.LastWrite K V) → Path
   path_view p last = record { base = base_view p.base; last = map (last_view key value) last.entries; made = touch_views p.made.items }
 
 -- how operations of an unordered database are spelled

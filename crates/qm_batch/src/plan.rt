@@ -26,10 +26,10 @@ use self::decided::{add_decided, evicted};
 use self::diff::diff_of_touches;
 use self::touch::Touch;
 use self::walk::{Path, Walked, walk_from};
-use self::writes::{Last, find_sites, last_writes, written};
+use self::writes::{Last, find_sites, known_of, last_writes, written};
 use crate::base::Base;
 use crate::layer::Layer;
-use crate::wanted::Wanted;
+use crate::wanted::{Read, Wanted};
 use qm_base::update::{Unordered, Update};
 use qm_base::{ByteString, Error, Hasher, JournalError, Location, Operation, ValueEncoding, Write};
 use qm_bits::Candidates;
@@ -115,7 +115,7 @@ fn made_inactive<F, U: Update>(touches: &[Touch<F, U>], live: u64, behind: u64) 
     (touches.len() as u64 + live).saturating_sub(behind)
 }
 
-// The operations of the last writes, found over a base list.
+// The operations of the last writes, found over a base list where the keys that were read are not looked up.
 fn written_over<
     F: Family,
     I: qm_index::Unordered<Value = Location<F>>,
@@ -128,17 +128,19 @@ fn written_over<
     index: &I,
     log: &mut AuthLog<F, C, H>,
     layers: &[Rc<Layer<F, Unordered<K, V>>>],
+    reads: &[Read<F, Unordered<K, V>>],
     last: &Last<'_, K, V::Value>,
 ) -> Result<Vec<Touch<F, Unordered<K, V>>>, Error>
     ensures value { (lent base : List model.Operation) (ws : List writes.Write) → IsLent C.Store F.shape H.Digest.bytes H.hash ⟦<Unordered<K, V> as Update>⟧.form I.index_key (I.entries index.now) log.old lent → LeadOver (map (λ l. l.value) layers.now) lent base
-        → map (last_view K.bytes V.Value.bytes) last.now.entries ≡ map keyed (writes.last_writes ws)
+        → AreReads ⟦<Unordered<K, V> as Update>⟧.view K.bytes reads.now base → map (last_view K.bytes V.Value.bytes) last.now.entries ≡ map keyed (writes.last_writes ws)
         → IfSome (C.told log.old.store) (λ _. IfOk result (λ touches. unordered_touches K.bytes V.Value.bytes touches.items ≡ written_touches base (writes.last_writes ws))) }
     ensures read { IsRead C.Store F.shape H.Digest.bytes H.hash log.old log.new }
     ensures error { IfErr result (IsReadError C.Store log.old log.new) }
     ensures whole { (lent : List model.Operation) → IsLent C.Store F.shape H.Digest.bytes H.hash ⟦<Unordered<K, V> as Update>⟧.form I.index_key (I.entries index.now) log.old lent → NoneBelow log.old.tree.start lent
         → IfErr result (λ e. (n : ℕ) → e ≢ Error.Journal (JournalError.ItemPruned n)) }
 {
-    let sites = find_sites(alloc, index, log, layers, last)?;
+    let known = known_of(alloc, reads)?;
+    let sites = find_sites(alloc, index, log, layers, &known, last)?;
     let touches = written(alloc, &sites)?;
     Ok(touches)
 }
@@ -214,21 +216,22 @@ fn own_operations<
     candidates: &B,
     log: &mut AuthLog<F, C, H>,
     base: &Base<'_, F, Unordered<K, V>>,
-    writes: &[Write<K, V::Value>],
+    wanted: &Wanted<'_, F, Unordered<K, V>>,
     policy: &mut P,
 ) -> Result<Own<F, Unordered<K, V>>, Error>
     requires size { base.now.size ≤ 2 ^ 62 }
     requires live { base.now.live ≤ base.now.size }
     ensures own { (lent list : List model.Operation) → IsLent C.Store F.shape H.Digest.bytes H.hash ⟦<Unordered<K, V> as Update>⟧.form I.index_key (I.entries index.now) log.old lent → B.activity candidates.now ≡ bits lent → IsBase (base_view base.now) lent list
-        → IfSome (C.told log.old.store) (λ _. IfOk result (λ own. AreOwn P.rules policy.old policy.new (unordered_touches K.bytes V.Value.bytes own.touches.items) own.live own.floor list (map (write_view K.bytes V.Value.bytes) writes.now))) }
+        → AreReads ⟦<Unordered<K, V> as Update>⟧.view K.bytes wanted.now.reads.now list
+        → IfSome (C.told log.old.store) (λ _. IfOk result (λ own. AreOwn P.rules policy.old policy.new (unordered_touches K.bytes V.Value.bytes own.touches.items) own.live own.floor list (wanted_view K.bytes V.Value.bytes wanted.now))) }
     ensures count { IfOk result (λ own. own.live ≤ base.now.size + length own.touches.items) }
     ensures read { IsRead C.Store F.shape H.Digest.bytes H.hash log.old log.new }
     ensures error { IfErr result (IsReadError C.Store log.old log.new) }
     ensures whole { (lent : List model.Operation) → IsLent C.Store F.shape H.Digest.bytes H.hash ⟦<Unordered<K, V> as Update>⟧.form I.index_key (I.entries index.now) log.old lent → NoneBelow log.old.tree.start lent
         → log.old.tree.start ≤ base.now.floor → IfErr result (λ e. (n : ℕ) → e ≢ Error.Journal (JournalError.ItemPruned n)) }
 {
-    let last = last_writes(alloc, writes)?;
-    let made = written_over(alloc, index, log, base.layers, &last)?;
+    let last = last_writes(alloc, wanted)?;
+    let made = written_over(alloc, index, log, base.layers, wanted.reads, &last)?;
     let path = Path {
         index,
         base: base.lent(),
@@ -327,7 +330,9 @@ pub fn plain<
         slots: &[],
         others: &[],
     };
-    staged(alloc, index, candidates, log, base, wanted, metadata, policy)
+    staged(
+        alloc, index, candidates, log, base, wanted, metadata, policy,
+    )
 }
 
 /// What the writes that are wanted make of the base list of a batch, as `plain` has it of writes, where the keys that were
@@ -356,18 +361,18 @@ pub fn staged<
     requires live { base.now.live ≤ base.now.size }
     requires slots { length wanted.slots.now ≡ length wanted.reads.now }
     ensures plan { (lent list : List model.Operation) → IsLent C.Store F.shape H.Digest.bytes H.hash ⟦<Unordered<K, V> as Update>⟧.form I.index_key (I.entries index.now) log.old lent → B.activity candidates.now ≡ bits lent → IsBase (base_view base.now) lent list
-        → AreReads ⟦<Unordered<K, V> as Update>⟧.view K.bytes wanted.reads.now list
-        → IfSome (C.told log.old.store) (λ _. IfOk result (λ plan. IsPlan plan list (stepped P.rules list (wanted_view K.bytes V.Value.bytes wanted) policy.old (option_map V.Value.bytes metadata)))) }
+        → AreReads ⟦<Unordered<K, V> as Update>⟧.view K.bytes wanted.entry.reads.now list
+        → IfSome (C.told log.old.store) (λ _. IfOk result (λ plan. IsPlan plan list (stepped P.rules list (wanted_view K.bytes V.Value.bytes wanted.entry) policy.old (option_map V.Value.bytes metadata)))) }
     ensures next { (lent list : List model.Operation) → IsLent C.Store F.shape H.Digest.bytes H.hash ⟦<Unordered<K, V> as Update>⟧.form I.index_key (I.entries index.now) log.old lent → B.activity candidates.now ≡ bits lent → IsBase (base_view base.now) lent list
-        → AreReads ⟦<Unordered<K, V> as Update>⟧.view K.bytes wanted.reads.now list
-        → IfSome (C.told log.old.store) (λ _. IfOk result (λ _. policy.new ≡ left_after P.rules list (wanted_view K.bytes V.Value.bytes wanted) policy.old)) }
+        → AreReads ⟦<Unordered<K, V> as Update>⟧.view K.bytes wanted.entry.reads.now list
+        → IfSome (C.told log.old.store) (λ _. IfOk result (λ _. policy.new ≡ left_after P.rules list (wanted_view K.bytes V.Value.bytes wanted.entry) policy.old)) }
     ensures live { IfOk result (λ plan. plan.live ≤ base.now.size + length plan.operations) }
     ensures read { IsRead C.Store F.shape H.Digest.bytes H.hash log.old log.new }
     ensures error { IfErr result (IsReadError C.Store log.old log.new) }
     ensures whole { (lent : List model.Operation) → IsLent C.Store F.shape H.Digest.bytes H.hash ⟦<Unordered<K, V> as Update>⟧.form I.index_key (I.entries index.now) log.old lent → NoneBelow log.old.tree.start lent
         → log.old.tree.start ≤ base.now.floor → IfErr result (λ e. (n : ℕ) → e ≢ Error.Journal (JournalError.ItemPruned n)) }
 {
-    match own_operations(alloc, index, candidates, log, base, wanted.writes, policy) {
+    match own_operations(alloc, index, candidates, log, base, &wanted, policy) {
         Ok(own) => Ok(planned(alloc, base.size, own, metadata)?),
         Err(error) => Err(error),
     }

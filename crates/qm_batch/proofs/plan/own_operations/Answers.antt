@@ -1,8 +1,8 @@
-use Rattle.std.proofs.Common.{ap, sym, arith, map, subst}
+use Rattle.std.proofs.Common.{ap, sym, arith, subst}
 use Rattle.std.proofs.lemmas.Result.{err_from_is_err_and}
 use Rattle.qm_model.proofs.Results.{told-then}
 use Rattle.qm_batch.specs.Bases.{Base, IsBase}
-use Rattle.qm_batch.specs.Views.{write_view}
+use Rattle.qm_batch.specs.Views.{wanted_view}
 use Rattle.qm_batch.proofs.Reading.{read-then, error-then, lent-then, told}
 use Rattle.qm_batch.proofs.plan.own_operations.Goals as goal
 
@@ -25,12 +25,12 @@ pub returns-clause-read : goal.returns-clause-read
 returns-clause-read g c = read-then g.C.Store g.F.Family.shape g.H.Digest.Digest.bytes g.H.Hasher.hash c.args.log.now c.written_over.new.log c.own_along.new.log c.written_over.ensures.read c.own_along.ensures.read
 
 pub returns-clause-own : goal.returns-clause-own
-returns-clause-own g c = λ lent base is active from.
-    let ws = map (write_view g.K.ByteString.bytes g.V.Value.ByteString.bytes) c.args.writes.now in
+returns-clause-own g c = λ lent base is active from reads.
+    let ws = wanted_view g.K.ByteString.bytes g.V.Value.ByteString.bytes c.args.wanted.now in
     let items = g.C.Store.told c.args.log.now.store in
     let read = c.written_over.ensures.read in
     let mid = lent-then g.C.Store g.F.Family.shape g.H.Digest.Digest.bytes g.H.Hasher.hash _ g.I.Unordered.index_key (g.I.Unordered.entries c.args.index.now) c.args.log.now c.written_over.new.log lent read is in
-    told-then _ _ items (c.in_ok-made.ensures.value lent base ws is from.leads c.in_ok-last.ensures) (λ made.
+    told-then _ _ items (c.in_ok-made.ensures.value lent base ws is from.leads reads c.in_ok-last.ensures) (λ made.
     told _ _ _ read.kept.told (c.in_ok-own.ensures.own lent base ws mid active (record {
       known = subst (λ b. IsBase b lent base) (sym c.lent.ensures) from;
       last = c.in_ok-last.ensures;

@@ -1,15 +1,18 @@
-use Rattle.std.proofs.Common.{subst, List}
+use Rattle.std.proofs.Common.{◌≡◌, List, map, subst, IfSome, IfOk}
 use Rattle.std.specs.Prelude.{option_map}
-use Rattle.qm_model.proofs.Results.{told-one}
-use Rattle.qm_model.specs.Operations.{Operation}
-use Rattle.qm_batch.specs.Views.{IsPlan}
+use Rattle.std.proofs.lemmas.List.Elements.{All-nil}
+use Rattle.qm_model.specs.Writes.{Write}
+use Rattle.qm_batch.specs.Views.{write_view, stepped, left_after, IsPlan}
+use Rattle.qm_batch.proofs.PlanWanted.{slotted-none}
 use Rattle.qm_batch.proofs.plan.plain.Goals as goal
 
-pub returns-in_ok-planned-in-Ok-clause-plan : goal.returns-in_ok-planned-in-Ok-clause-plan
-returns-in_ok-planned-in-Ok-clause-plan g c = λ lent base is active from.
-    told-one _ _ (g.C.Store.told c.args.log.now.store) (c.in-Ok.ensures.own lent base is active from) (λ own.
-    subst (λ (tip : List Operation). IsPlan c.in_ok-planned-in-Ok.field-0 base tip) (own.list (option_map g.V.Value.ByteString.bytes c.args.metadata)) (c.in_ok-planned-in-Ok.ensures.plan base from.size own.from own.count))
+pub returns-clause-plan : goal.returns-clause-plan
+returns-clause-plan g c = λ lent base is active from.
+    subst
+    (λ (ws : List Write). IfSome (g.C.Store.told c.args.log.now.store) (λ _. IfOk c.staged.result (λ plan. IsPlan plan base (stepped g.P.Policy.rules base ws c.args.policy.now (option_map g.V.Value.ByteString.bytes c.args.metadata)))))
+    (slotted-none (map (write_view g.K.ByteString.bytes g.V.Value.ByteString.bytes) c.args.writes.now)) (c.staged.ensures.plan lent base is active from (All-nil _))
 
-pub returns-in_ok-planned-in-Ok-clause-next : goal.returns-in_ok-planned-in-Ok-clause-next
-returns-in_ok-planned-in-Ok-clause-next g c = λ lent base is active from.
-    told-one _ _ (g.C.Store.told c.args.log.now.store) (c.in-Ok.ensures.own lent base is active from) (λ own. own.left)
+pub returns-clause-next : goal.returns-clause-next
+returns-clause-next g c = λ lent base is active from.
+    subst (λ (ws : List Write). IfSome (g.C.Store.told c.args.log.now.store) (λ _. IfOk c.staged.result (λ _. c.staged.new.policy ≡ left_after g.P.Policy.rules base ws c.args.policy.now)))
+    (slotted-none (map (write_view g.K.ByteString.bytes g.V.Value.ByteString.bytes) c.args.writes.now)) (c.staged.ensures.next lent base is active from (All-nil _))

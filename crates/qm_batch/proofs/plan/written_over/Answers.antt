@@ -6,8 +6,8 @@ use Rattle.qm_batch.proofs.PlanOwns.{sites-last}
 use Rattle.qm_batch.proofs.plan.written_over.Goals as goal
 
 pub returns-clause-value : goal.returns-clause-value
-returns-clause-value g c = λ lent base ws is from last.
+returns-clause-value g c = λ lent base ws is from reads last.
     let key = g.K.ByteString.bytes in
     let value = g.V.Value.ByteString.bytes in
-    told-one _ _ (g.C.Store.told c.args.log.now.store) (c.in_ok-sites.ensures.value lent base is from) (λ sites.
+    told-one _ _ (g.C.Store.told c.args.log.now.store) (c.in_ok-sites.ensures.value lent base is from (c.in_ok-known.ensures base reads)) (λ sites.
     c.in_ok-touches.ensures base ws (ap (map (site_view key value)) c.deref.ensures.value ∙ sites ∙ sites-last (last_view key value) base c.args.last.now.entries (last_writes ws) last))

@@ -3,8 +3,7 @@ use Rattle.std.specs.Prelude.{IfSome}
 use Rattle.qm_model.specs.Operations.{Operation}
 use Rattle.qm_batch.specs.Layers.{LeadOver}
 use Rattle.qm_batch.specs.Lent.{IsRead, IsLent}
-use Rattle.qm_batch.specs.PlanViews.{site_in, site_view}
-use Rattle.qm_batch.specs.Views.{write_view}
+use Rattle.qm_batch.specs.PlanViews.{last_write_view, site_in, site_view, AreKnown}
 use Rattle.qm_batch.proofs.plan.writes.find_sites.Given as goal
 
 abbrev pub invariant-loop-write : goal.invariant-loop-write
@@ -14,6 +13,6 @@ invariant-loop-write g l =
     record {
       read : IsRead g.C.Store g.F.Family.shape g.H.Digest.Digest.bytes g.H.Hasher.hash l.initial.log l.log;
       value : (lent base : List Operation) → IsLent g.C.Store g.F.Family.shape g.H.Digest.Digest.bytes g.H.Hasher.hash g.U.Update.form g.I.Unordered.index_key (g.I.Unordered.entries l.index) l.initial.log lent →
-          LeadOver (map (λ l. l.value) l.layers) lent base → IfSome (g.C.Store.told l.initial.log.store)
-          (λ _. map (site_view key value) l.sites.items ++ map (λ w. site_in base (write_view key value w.now)) l.write-iterator ≡ map (λ e. site_in base (write_view key value e.1.now)) l.last.entries);
+          LeadOver (map (λ l. l.value) l.layers) lent base → AreKnown base l.known.entries → IfSome (g.C.Store.told l.initial.log.store)
+          (λ _. map (site_view key value) l.sites.items ++ map (λ w. site_in base (last_write_view key value w)) l.write-iterator ≡ map (λ e. site_in base (last_write_view key value e.1)) l.last.entries);
     }

@@ -1,9 +1,13 @@
-use Rattle.std.proofs.Common.{refl}
+use Rattle.std.proofs.Common.{◌++◌, [], ap, map}
+use Rattle.qm_batch.specs.PlanViews.{last_view}
 use Rattle.qm_batch.specs.Views.{write_view}
-use Rattle.qm_batch.proofs.PlanLoops.{put-more}
+use Rattle.qm_batch.proofs.PlanWanted.{slot_writes}
 use Rattle.qm_batch.proofs.plan.writes.last_writes.Goals as goal
 
-pub loop-write-preserved : goal.loop-write-preserved
-loop-write-preserved g c =
-    put-more (write_view g.K.ByteString.bytes g.V.ByteString.bytes) c.loop-write.last.entries c.insert.new.self.entries c.args.writes.now c.loop-write.write-index c.write-item.result c.as_bytes.result _
-    c.loop-write-test.true c.write-item.is refl c.as_bytes.ensures.value c.in_ok-insert.ensures.entries c.loop-write.invariant
+pub returns : goal.returns
+returns g c =
+    let key = g.U.Key.ByteString.bytes in
+    let value = g.U.Value.ByteString.bytes in
+    let writes = map (write_view key value) c.args.wanted.now.writes.now in
+    c.in_ok-add_writes-2.ensures (writes ++ slot_writes key value c.args.wanted.now.reads.now c.args.wanted.now.slots.now)
+    (c.in_ok-add_slots.ensures writes (c.in_ok-add_writes.ensures [] (ap (map (last_view key value)) c.new-last.ensures.empty)))
