@@ -1,42 +1,50 @@
-use Rattle.std.proofs.Common.{rules, ◌≡◌, ◌≢◌, ◌⊎◌, ◌≤◌, ◌+◌, ◌^◌, ◌++◌, ◌∷◌, ℕ, suc, min, [], List, None, true, false, length, map, take, drop, option_map, All, Contains, IfOk, IfErr, OnOk, ◌-◌, ◌*◌, ◌<◌, ◌/◌, ◌%◌, Bool, nat_eq, nat_lt, slice_index_or, slice_set, bit_and, bit_or, Fits, w8, w32, w64, Bor, MutBor}
-use Rattle.qm_model.specs.Batches.{Chain, IsKnown, IsOnChain, child_of, own_operations}
-use Rattle.qm_model.specs.Causes.{Rose}
-use Rattle.qm_model.specs.Live as lives
-use Rattle.qm_model.specs.Trees as trees
-use Rattle.qm_model.specs.Forms.{IsOf, spelling}
-use Rattle.qm_model.specs.Operations.{Operation}
-use Rattle.qm_model.specs.Proofs.{ops_proof, pins_at}
-use Rattle.qm_model.specs.Refusals.{too_long}
-use Rattle.qm_model.specs.Slots.{slotted}
-use Rattle.qm_model.specs.Writes.{read_through}
-use Rattle.qm_merkle.specs.Batches.{stops, stops_since}
-use Rattle.qm_proofs.specs.Proofs.{proof_view, first_lacked, needed_positions}
-use Rattle.qm_chain.specs.Bounds.{commitment_view, is_at, knows}
-use Rattle.qm_batch.specs.Bases.{IsBase, base_view}
-use Rattle.qm_batch.specs.Lent.{IsReadError, NoneBelow}
-use Rattle.qm_batch.specs.Views.{changes_view, keys_of, wanted_view, AreReads, IsPlan, stepped, left_after}
-use Rattle.qm_any.specs.Databases.{IsDatabase, IsBegun, IsMade, IsLeft, base_of, bases, child_boundary, child_made, child_tips, is_on, kept_by, operations_in, unapplied}
-use Rattle.qm_store.specs.Log.{IsLacked}
-use Rattle.qm_store.specs.KeptTrees.{held_at}
-use Rattle.qm_any.specs.Reasons.{IsMakingError}
-use Rattle.qm_any.specs.Tips.{IsLow, IsTaken, IsRefused}
-use Rattle.qm_base.specs.Views.{operation_views}
-use Rattle.qm_any.specs.Layouts.{Hashing}
-use Rattle.qm_base.specs.Slots.{slot_views, write_views}
+use Rattle.std.proofs.Common.{◌≡◌, ◌∙◌, option_map}
+use Rattle.std.proofs.Common.{subst}
+use Rattle.std.specs.Prelude.{IfOk, IfErr, OnOk, ◌⊎◌}
+use Rattle.qm_batch.specs.Lent.{IsReadError}
+use Rattle.qm_batch.specs.Views.{stepped, left_after}
+use Rattle.qm_batch.specs.PlanViews.{unordered_form}
+use Rattle.qm_any.specs.Layouts.{hashing_with}
+use Rattle.qm_any.specs.Databases.{IsMade}
+use Rattle.qm_any.specs.Tips.{IsTaken, IsRefused}
+use Rattle.qm_any.proofs.Staging.{reads-none, slotted-none}
 use Rattle.qm_any.proofs.batch.UnmerkleizedBatch+F+D+Unordered+K+V.merkleize.Goals as goal
 
--- src/batch.rt:216:5
 pub returns-clause-made : goal.returns-clause-made
-returns-clause-made g c = ?
+returns-clause-made g c = λ list chain above is begun on.
+    let key = g.K.ByteString.bytes in
+    let value = g.V.Value.ByteString.bytes in
+    let hashing = hashing_with g.D.Digest.bytes g.H.Hasher.hash g.F.Family.shape (unordered_form g.K.ByteString.has g.V.Value.ByteString.has g.V.ValueEncoding.fixed) in
+    let reads = c.deref.ensures.value ∙ c.new-reads.ensures.items in
+    let writes = slotted-none key value c.args.self.writes _ _ _ reads (c.deref-2.ensures.value ∙ c.new-slots.ensures.items) (c.deref-3.ensures.value ∙ c.new-others.ensures.items) in
+    subst (λ ws. IfOk c.merkleized.result (λ b. IsMade hashing b.value chain (stepped g.P.Policy.rules chain.base ws c.args.policy.now (option_map value c.args.metadata)))) writes
+    (c.merkleized.ensures.made list chain above is begun on (reads-none _ key chain.base _ reads))
 
--- src/batch.rt:216:5
 pub returns-clause-taken : goal.returns-clause-taken
-returns-clause-taken g c = ?
+returns-clause-taken g c = λ list chain above is begun on.
+    let key = g.K.ByteString.bytes in
+    let value = g.V.Value.ByteString.bytes in
+    let form = unordered_form g.K.ByteString.has g.V.Value.ByteString.has g.V.ValueEncoding.fixed in
+    let reads = c.deref.ensures.value ∙ c.new-reads.ensures.items in
+    let writes = slotted-none key value c.args.self.writes _ _ _ reads (c.deref-2.ensures.value ∙ c.new-slots.ensures.items) (c.deref-3.ensures.value ∙ c.new-others.ensures.items) in
+    subst (λ ws. OnOk c.merkleized.result (IsTaken form chain.base (stepped g.P.Policy.rules chain.base ws c.args.policy.now (option_map value c.args.metadata)))) writes
+    (c.merkleized.ensures.taken list chain above is begun on (reads-none _ key chain.base _ reads))
 
--- src/batch.rt:216:5
 pub returns-clause-refused : goal.returns-clause-refused
-returns-clause-refused g c = ?
+returns-clause-refused g c = λ list chain above is begun on.
+    let key = g.K.ByteString.bytes in
+    let value = g.V.Value.ByteString.bytes in
+    let form = unordered_form g.K.ByteString.has g.V.Value.ByteString.has g.V.ValueEncoding.fixed in
+    let reads = c.deref.ensures.value ∙ c.new-reads.ensures.items in
+    let writes = slotted-none key value c.args.self.writes _ _ _ reads (c.deref-2.ensures.value ∙ c.new-slots.ensures.items) (c.deref-3.ensures.value ∙ c.new-others.ensures.items) in
+    subst (λ ws. IfErr c.merkleized.result (λ e. IsRefused form chain.base (stepped g.P.Policy.rules chain.base ws c.args.policy.now (option_map value c.args.metadata)) e ⊎ IsReadError g.C.Store c.args.db.now.log c.merkleized.new.db.log e)) writes
+    (c.merkleized.ensures.refused list chain above is begun on (reads-none _ key chain.base _ reads))
 
--- src/batch.rt:216:5
 pub returns-clause-next : goal.returns-clause-next
-returns-clause-next g c = ?
+returns-clause-next g c = λ list chain above is begun on.
+    let key = g.K.ByteString.bytes in
+    let value = g.V.Value.ByteString.bytes in
+    let reads = c.deref.ensures.value ∙ c.new-reads.ensures.items in
+    let writes = slotted-none key value c.args.self.writes _ _ _ reads (c.deref-2.ensures.value ∙ c.new-slots.ensures.items) (c.deref-3.ensures.value ∙ c.new-others.ensures.items) in
+    subst (λ ws. OnOk c.merkleized.result (c.merkleized.new.policy ≡ left_after g.P.Policy.rules chain.base ws c.args.policy.now)) writes
+    (c.merkleized.ensures.next list chain above is begun on (reads-none _ key chain.base _ reads))
