@@ -42,14 +42,14 @@ use Rattle.qm_engine.proofs.Commands.{stored-same, stored-grown, choice, none_so
 longer : {A : Type 0} (xs ys : List A) → 0 < length xs → 0 < length (xs ++ ys)
 longer xs ys some = omega (arith, some, length-append xs ys)
 
-module _ {X C B M K V D : Type 0} (members : stores.Ghosts C) (means : words.Ghosts X C B M) (key : K → Bytes) (value : V → Bytes) (digest : D → Bytes) where
+module _ {X C B S M K V D : Type 0} (members : stores.Ghosts C) (means : words.Ghosts X C B S M) (key : K → Bytes) (value : V → Bytes) (digest : D → Bytes) where
   abbrev root : List Operation → Bytes
   root = means.scheme.root
 
-  abbrev Goes : Turn K V D → Given X C → List (Slot B M) → ℕ → Answer × State → Type 0
+  abbrev Goes : Turn K V D → Given X C → List (Slot B S M) → ℕ → Answer × State → Type 0
   Goes = Turns members means key value digest
 
-  pub started_ok : (held : Given X C) (table : List (Slot B M)) (opened n : ℕ) (slot : Slot B M) (new : machine.Slot) (s : State) → Holds members means held table opened s
+  pub started_ok : (held : Given X C) (table : List (Slot B S M)) (opened n : ℕ) (slot : Slot B S M) (new : machine.Slot) (s : State) → Holds members means held table opened s
       → SlotIs members means s.had slot new → n ≡ length table → Goes (Reply (replies.Batch n)) held (table ++ slot ∷ []) opened (started s new)
   started_ok held table opened n slot new s k is e = λ _. (
     ap lines.Started (e ∙ k.lengths),
@@ -64,7 +64,7 @@ module _ {X C B M K V D : Type 0} (members : stores.Ghosts C) (means : words.Gho
   )
 
   -- a child of what the number names
-  pub child_in : (Q : Answer × State → Type 0) (h : ℕ) (keep : Option ℕ) (batch : M) (made : B) (s : State) (a : Slot B M) (b : machine.Slot) → SlotIs members means s.had a b → merkleized_of a ≡ Some batch
+  pub child_in : (Q : Answer × State → Type 0) (h : ℕ) (keep : Option ℕ) (batch : M) (made : B) (s : State) (a : Slot B S M) (b : machine.Slot) → SlotIs members means s.had a b → merkleized_of a ≡ Some batch
       → ((chain : Chain) (tip : List Operation) → means.is_merkleized batch chain tip → means.is_batch made (child_of keep chain tip) chain [])
       → ((new : machine.Slot) → SlotIs members means s.had (Writing made) new → Q (started s new))
       → Q (start_child s h keep b)
@@ -77,9 +77,9 @@ module _ {X C B M K V D : Type 0} (members : stores.Ghosts C) (means : words.Gho
   child_in Q h keep batch made s Gone b is e begun each = absurd (cc)
   child_in Q h keep batch made s (Writing w) b is e begun each = absurd (cc)
 
-  pub put_ok : (held : Given X C) (table : List (Slot B M)) (opened : ℕ) (h : ℕ) (w : Write) (batch after : B) (s : State) → Holds members means held table opened s
+  pub put_ok : (held : Given X C) (table : List (Slot B S M)) (opened : ℕ) (h : ℕ) (w : Write) (batch after : B) (s : State) → Holds members means held table opened s
       → ((chain above : Chain) (ws : List Write) → means.is_batch batch chain above ws → means.is_batch after chain above (ws ++ w ∷ []))
-      → (a : Slot B M) (b : machine.Slot) → SlotIs members means s.had a b → writing_of a ≡ Some batch
+      → (a : Slot B S M) (b : machine.Slot) → SlotIs members means s.had a b → writing_of a ≡ Some batch
       → Goes (Reply replies.Done) held (set (set table h Gone) h (Writing after)) opened (put_in s h w b)
   put_ok held table opened h w batch after s k wrote (Writing x) (machine.writing chain above ws) is e = λ _. (
     refl,
@@ -98,8 +98,8 @@ module _ {X C B M K V D : Type 0} (members : stores.Ghosts C) (means : words.Gho
   put_ok held table opened h w batch after s k wrote (Merkleized x) b is e = absurd (cc)
 
   -- a batch number that names no merkleized batch
-  apply_none : (held : Given X C) (table : List (Slot B M)) (opened : ℕ) (h : ℕ) (list : List Operation) (s : State) → Holds members means held table opened s
-      → (a : Slot B M) (b : machine.Slot) → SlotIs members means s.had a b → merkleized_of a ≡ None
+  apply_none : (held : Given X C) (table : List (Slot B S M)) (opened : ℕ) (h : ℕ) (list : List Operation) (s : State) → Holds members means held table opened s
+      → (a : Slot B S M) (b : machine.Slot) → SlotIs members means s.had a b → merkleized_of a ≡ None
       → Goes (Reply (replies.Refused (refused.NoSuchHandle h))) held table opened (apply_in means.scheme s h list b)
   apply_none held table opened h list s k Gone machine.gone is e = λ _. (refl, k)
   apply_none held table opened h list s k (Writing w) (machine.writing chain above ws) is e = λ _. (refl, k)
@@ -109,7 +109,7 @@ module _ {X C B M K V D : Type 0} (members : stores.Ghosts C) (means : words.Gho
   apply_none held table opened h list s k (Writing w) (machine.merkleized chain tip) is e = absurd is
   apply_none held table opened h list s k (Merkleized w) b is e = absurd (cc)
 
-  pub not_merkleized : (x : X) (table : List (Slot B M)) (opened : ℕ) (h : ℕ) (s : State) → Holds members means (Database x) table opened s
+  pub not_merkleized : (x : X) (table : List (Slot B S M)) (opened : ℕ) (h : ℕ) (s : State) → Holds members means (Database x) table opened s
       → merkleized_of (get_or table h Gone) ≡ None → Goes (Reply (replies.Refused (refused.NoSuchHandle h))) (Database x) table opened (machine.apply means.scheme s h)
   not_merkleized x table opened h s k e =
       with_list members means x s.had s.database s (λ list. apply_in means.scheme s h list (slot_at s.table h)) (Goes (Reply (replies.Refused (refused.NoSuchHandle h))) (Database x) table opened) k.database (λ list stands in_had.
@@ -118,13 +118,13 @@ module _ {X C B M K V D : Type 0} (members : stores.Ghosts C) (means : words.Gho
   -- under policies with these rules
   module _ {P : Type 0} (rules : Rules P) where
     -- a merkleize that was accepted
-    merkleized_in : (x after : X) (table : List (Slot B M)) (opened : ℕ) (h : ℕ) (policy : P) (meta : Option Bytes) (batch : B) (made : M) (low high bottom : ℕ) (s : State) (list : List Operation)
+    merkleized_in : (x after : X) (table : List (Slot B S M)) (opened : ℕ) (h : ℕ) (policy : P) (meta : Option Bytes) (batch : B) (made : M) (low high bottom : ℕ) (s : State) (list : List Operation)
         → Holds members means (Database x) table opened s → Contains s.had list → ((l : List Operation) → means.stands x l → means.stands after l)
         → IsUnchanged members (means.inside x) (means.inside after)
         → ((chain above : Chain) (ws : List Write) → means.is_batch batch chain above ws → fits root (commitment root list) chain ≡ true)
         → ((chain above : Chain) (ws : List Write) → means.is_batch batch chain above ws → IsOnChain list chain → let tip = tip_of means.scheme rules chain ws policy meta in (tip_refusal variable chain tip ≡ None) × means.is_merkleized made chain tip)
         → ((chain : Chain) (tip : List Operation) → means.is_merkleized made chain tip → (low ≡ length chain.base) × (high ≡ length tip) × (bottom ≡ floor tip))
-        → (a : Slot B M) (b : machine.Slot) → SlotIs members means s.had a b → writing_of a ≡ Some batch
+        → (a : Slot B S M) (b : machine.Slot) → SlotIs members means s.had a b → writing_of a ≡ Some batch
         → Goes (Reply (replies.Merkleized h low high bottom)) (Database after) (set (set table h Gone) h (Merkleized made)) opened (merkleize_in means.scheme rules s h policy meta list b)
     merkleized_in x after table opened h policy meta batch made low high bottom s list k in_had keeps same_store fit_of did sized (Writing w) (machine.writing chain above ws) is e =
         let same : w ≡ batch = cc in
@@ -159,11 +159,11 @@ module _ {X C B M K V D : Type 0} (members : stores.Ghosts C) (means : words.Gho
     merkleized_in x after table opened h policy meta batch made low high bottom s list k in_had keeps same_store fit_of did sized (Merkleized w) b is e = absurd (cc)
 
     -- one that found the batch left behind
-    stale_in : (x after : X) (table : List (Slot B M)) (opened : ℕ) (h : ℕ) (policy : P) (meta : Option Bytes) (batch : B) (s : State) (list : List Operation)
+    stale_in : (x after : X) (table : List (Slot B S M)) (opened : ℕ) (h : ℕ) (policy : P) (meta : Option Bytes) (batch : B) (s : State) (list : List Operation)
         → Holds members means (Database x) table opened s → Contains s.had list → ((l : List Operation) → means.stands x l → means.stands after l)
         → IsUnchanged members (means.inside x) (means.inside after)
         → ((chain above : Chain) (ws : List Write) → means.is_batch batch chain above ws → IsOnChain list chain → ⊥)
-        → (a : Slot B M) (b : machine.Slot) → SlotIs members means s.had a b → writing_of a ≡ Some batch
+        → (a : Slot B S M) (b : machine.Slot) → SlotIs members means s.had a b → writing_of a ≡ Some batch
         → Goes (Reply (replies.Refused refused.StaleBatch)) (Database after) (set table h Gone) opened (merkleize_in means.scheme rules s h policy meta list b)
     stale_in x after table opened h policy meta batch s list k in_had keeps same_store off (Writing w) (machine.writing chain above ws) is e =
         let same : w ≡ batch = cc in
@@ -187,11 +187,11 @@ module _ {X C B M K V D : Type 0} (members : stores.Ghosts C) (means : words.Gho
     stale_in x after table opened h policy meta batch s list k in_had keeps same_store off (Merkleized w) b is e = absurd (cc)
 
     -- one whose tip list is refused
-    too_large_in : (x after : X) (table : List (Slot B M)) (opened : ℕ) (h : ℕ) (policy : P) (meta : Option Bytes) (batch : B) (r : Refused) (s : State) (list : List Operation)
+    too_large_in : (x after : X) (table : List (Slot B S M)) (opened : ℕ) (h : ℕ) (policy : P) (meta : Option Bytes) (batch : B) (r : Refused) (s : State) (list : List Operation)
         → Holds members means (Database x) table opened s → Contains s.had list → Keeps members means x after
         → ((chain above : Chain) (ws : List Write) → means.is_batch batch chain above ws → (fits root (commitment root list) chain ≡ true)
         × (IsOnChain list chain → tip_refusal variable chain (tip_of means.scheme rules chain ws policy meta) ≡ Some (refused_view r)))
-        → (a : Slot B M) (b : machine.Slot) → SlotIs members means s.had a b → writing_of a ≡ Some batch
+        → (a : Slot B S M) (b : machine.Slot) → SlotIs members means s.had a b → writing_of a ≡ Some batch
         → Goes (Reply (replies.Refused r)) (Database after) (set table h Gone) opened (merkleize_in means.scheme rules s h policy meta list b)
     too_large_in x after table opened h policy meta batch r s list k in_had keeps why (Writing w) (machine.writing chain above ws) is e =
         let same : w ≡ batch = cc in
@@ -216,7 +216,7 @@ module _ {X C B M K V D : Type 0} (members : stores.Ghosts C) (means : words.Gho
     too_large_in x after table opened h policy meta batch r s list k in_had keeps why Gone b is e = absurd (cc)
     too_large_in x after table opened h policy meta batch r s list k in_had keeps why (Merkleized w) b is e = absurd (cc)
 
-    pub merkleize_ok : (x after : X) (table : List (Slot B M)) (opened : ℕ) (h : ℕ) (policy : P) (meta : Option Bytes) (batch : B) (made : M) (low high bottom : ℕ) (s : State)
+    pub merkleize_ok : (x after : X) (table : List (Slot B S M)) (opened : ℕ) (h : ℕ) (policy : P) (meta : Option Bytes) (batch : B) (made : M) (low high bottom : ℕ) (s : State)
         → Holds members means (Database x) table opened s → ((l : List Operation) → means.stands x l → means.stands after l)
         → IsUnchanged members (means.inside x) (means.inside after)
         → AtBatch means x batch (λ list chain above ws. Fits means list chain)
@@ -229,7 +229,7 @@ module _ {X C B M K V D : Type 0} (members : stores.Ghosts C) (means : words.Gho
         (λ list stands in_had. merkleized_in x after table opened h policy meta batch made low high bottom s list k in_had keeps same_store (λ chain above ws. fit list chain above ws stands) (λ chain above ws. did list chain above ws stands) sized
         (get_or table h Gone) (slot_at s.table h) (k.slots h) e)
 
-    pub merkleize_err : (x after : X) (table : List (Slot B M)) (opened : ℕ) (h : ℕ) (policy : P) (meta : Option Bytes) (batch : B) (error : Error) (s : State)
+    pub merkleize_err : (x after : X) (table : List (Slot B S M)) (opened : ℕ) (h : ℕ) (policy : P) (meta : Option Bytes) (batch : B) (error : Error) (s : State)
         → Holds members means (Database x) table opened s → ((l : List Operation) → means.stands x l → means.stands after l)
         → IsUnchanged members (means.inside x) (means.inside after)
         → (error ≡ errors.StaleBatch → AtBatch means x batch (λ list chain above ws. ¬ IsOnChain list chain))
@@ -248,13 +248,13 @@ module _ {X C B M K V D : Type 0} (members : stores.Ghosts C) (means : words.Gho
         (get_or table h Gone) (slot_at s.table h) (k.slots h) e))
 
   -- an apply that was accepted
-  applied_in : (x after : X) (table : List (Slot B M)) (opened : ℕ) (h : ℕ) (batch : M) (size : ℕ) (s : State) (list : List Operation)
+  applied_in : (x after : X) (table : List (Slot B S M)) (opened : ℕ) (h : ℕ) (batch : M) (size : ℕ) (s : State) (list : List Operation)
       → Holds members means (Database x) table opened s → Contains s.had list
       → ((chain : Chain) (tip : List Operation) → means.is_merkleized batch chain tip → fits root (commitment root list) chain ≡ true)
       → ((chain : Chain) (tip : List Operation) → means.is_merkleized batch chain tip → IsOnChain list chain → means.stands after tip)
       → ((chain : Chain) (tip : List Operation) → means.is_merkleized batch chain tip → IsOnChain list chain → Appended members (means.inside x) (means.inside after) (map (spelling variable) (drop (length list) tip)))
       → ((l : List Operation) → means.stands after l → size ≡ length l)
-      → (a : Slot B M) (b : machine.Slot) → SlotIs members means s.had a b → merkleized_of a ≡ Some batch
+      → (a : Slot B S M) (b : machine.Slot) → SlotIs members means s.had a b → merkleized_of a ≡ Some batch
       → Goes (Reply (replies.Applied size)) (Database after) table opened (apply_in means.scheme s h list b)
   applied_in x after table opened h batch size s list k in_had fit_of did grown sized (Merkleized w) (machine.merkleized chain tip) is e =
       let same : w ≡ batch = cc in
@@ -281,10 +281,10 @@ module _ {X C B M K V D : Type 0} (members : stores.Ghosts C) (means : words.Gho
   applied_in x after table opened h batch size s list k in_had fit_of did grown sized (Writing w) b is e = absurd (cc)
 
   -- one that found the batch left behind
-  unapplied_in : (x : X) (table : List (Slot B M)) (opened : ℕ) (h : ℕ) (batch : M) (s : State) (list : List Operation)
+  unapplied_in : (x : X) (table : List (Slot B S M)) (opened : ℕ) (h : ℕ) (batch : M) (s : State) (list : List Operation)
       → Holds members means (Database x) table opened s → Contains s.had list
       → ((chain : Chain) (tip : List Operation) → means.is_merkleized batch chain tip → IsOnChain list chain → ⊥)
-      → (a : Slot B M) (b : machine.Slot) → SlotIs members means s.had a b → merkleized_of a ≡ Some batch
+      → (a : Slot B S M) (b : machine.Slot) → SlotIs members means s.had a b → merkleized_of a ≡ Some batch
       → Goes (Reply (replies.Refused refused.StaleBatch)) (Database x) table opened (apply_in means.scheme s h list b)
   unapplied_in x table opened h batch s list k in_had off (Merkleized w) (machine.merkleized chain tip) is e =
       let same : w ≡ batch = cc in
@@ -297,7 +297,7 @@ module _ {X C B M K V D : Type 0} (members : stores.Ghosts C) (means : words.Gho
   unapplied_in x table opened h batch s list k in_had off Gone b is e = absurd (cc)
   unapplied_in x table opened h batch s list k in_had off (Writing w) b is e = absurd (cc)
 
-  pub apply_ok : (x after : X) (table : List (Slot B M)) (opened : ℕ) (h : ℕ) (batch : M) (size : ℕ) (s : State)
+  pub apply_ok : (x after : X) (table : List (Slot B S M)) (opened : ℕ) (h : ℕ) (batch : M) (size : ℕ) (s : State)
       → Holds members means (Database x) table opened s
       → AtTip means x batch (λ list chain tip. Fits means list chain)
       → AtTip means x batch (λ list chain tip. IsOnChain list chain → means.stands after tip)
@@ -310,7 +310,7 @@ module _ {X C B M K V D : Type 0} (members : stores.Ghosts C) (means : words.Gho
       (λ list stands in_had. applied_in x after table opened h batch size s list k in_had (λ chain tip. fit list chain tip stands) (λ chain tip. did list chain tip stands) (λ chain tip. grown list chain tip stands) sized
       (get_or table h Gone) (slot_at s.table h) (k.slots h) e)
 
-  pub apply_err : (x : X) (given : Given X C) (table : List (Slot B M)) (opened : ℕ) (h : ℕ) (batch : M) (error : Error) (s : State)
+  pub apply_err : (x : X) (given : Given X C) (table : List (Slot B S M)) (opened : ℕ) (h : ℕ) (batch : M) (error : Error) (s : State)
       → Holds members means (Database x) table opened s
       → (error ≡ errors.StaleBatch → (given ≡ Database x) × AtTip means x batch (λ list chain tip. ¬ IsOnChain list chain))
       → (error ≢ errors.StaleBatch → refusal_of error ≡ None)
@@ -326,11 +326,11 @@ module _ {X C B M K V D : Type 0} (members : stores.Ghosts C) (means : words.Gho
       (λ r other told. absurd (none_some (none other) told))
 
   -- what an apply leaves in the store
-  left_in : (x : X) (left : Option Stored) (table : List (Slot B M)) (opened : ℕ) (h : ℕ) (batch : M) (s : State) (list : List Operation)
+  left_in : (x : X) (left : Option Stored) (table : List (Slot B S M)) (opened : ℕ) (h : ℕ) (batch : M) (s : State) (list : List Operation)
       → Holds members means (Database x) table opened s → Contains s.had list → Apart root s.had
       → ((chain : Chain) (tip : List Operation) → means.is_merkleized batch chain tip → (fits root (commitment root list) chain ≡ true → IsOnChain list chain)
       → model.Turns (members.told (means.inside x)) left (HasAppended (cond (fits root (commitment root list) chain) (map (spelling variable) (drop (length list) tip)) [])))
-      → (a : Slot B M) (b : machine.Slot) → SlotIs members means s.had a b → merkleized_of a ≡ Some batch
+      → (a : Slot B S M) (b : machine.Slot) → SlotIs members means s.had a b → merkleized_of a ≡ Some batch
       → IsLeft left s.store ((apply_in means.scheme s h list b).1).store
   left_in x left table opened h batch s list k in_had apart grown (Merkleized w) (machine.merkleized chain tip) is e =
       let same : w ≡ batch = cc in
@@ -348,7 +348,7 @@ module _ {X C B M K V D : Type 0} (members : stores.Ghosts C) (means : words.Gho
   left_in x left table opened h batch s list k in_had apart grown Gone b is e = absurd (cc)
   left_in x left table opened h batch s list k in_had apart grown (Writing w) b is e = absurd (cc)
 
-  pub apply_left : (x : X) (left : Option Stored) (table : List (Slot B M)) (opened : ℕ) (h : ℕ) (batch : M) (s : State)
+  pub apply_left : (x : X) (left : Option Stored) (table : List (Slot B S M)) (opened : ℕ) (h : ℕ) (batch : M) (s : State)
       → Holds members means (Database x) table opened s → Apart root s.had
       → ((list : List Operation) (chain : Chain) (tip : List Operation) → means.stands x list → means.is_merkleized batch chain tip → (fits root (commitment root list) chain ≡ true → IsOnChain list chain)
       → model.Turns (members.told (means.inside x)) left (HasAppended (cond (fits root (commitment root list) chain) (map (spelling variable) (drop (length list) tip)) [])))

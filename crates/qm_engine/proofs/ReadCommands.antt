@@ -45,11 +45,11 @@ pub map-through : {A B E : Type 0} (f : A → B) (g : B → E) (xs : List A) →
 map-through f g [] = refl
 map-through f g (x ∷ xs) = ap (λ r. g (f x) ∷ r) (map-through f g xs)
 
-module _ {X C B M K V D : Type 0} (members : stores.Ghosts C) (means : words.Ghosts X C B M) (key : K → Bytes) (value : V → Bytes) (digest : D → Bytes) where
+module _ {X C B S M K V D : Type 0} (members : stores.Ghosts C) (means : words.Ghosts X C B S M) (key : K → Bytes) (value : V → Bytes) (digest : D → Bytes) where
   abbrev root : List Operation → Bytes
   root = means.scheme.root
 
-  abbrev Goes : Turn K V D → Given X C → List (Slot B M) → ℕ → Answer × State → Type 0
+  abbrev Goes : Turn K V D → Given X C → List (Slot B S M) → ℕ → Answer × State → Type 0
   Goes = Turns members means key value digest
 
   -- what is read where that is allowed
@@ -125,7 +125,7 @@ module _ {X C B M K V D : Type 0} (members : stores.Ghosts C) (means : words.Gho
   read_state-in s h keys list (machine.merkleized chain tip) = readable_state s list chain tip (lines.Read (map (value_of tip) keys))
 
   -- over a database, what is read through a batch number
-  pub named_read : (turn : Turn K V D) (x after : X) (table : List (Slot B M)) (opened h : ℕ) (keys : List Bytes) (s : State) → Holds members means (Database x) table opened s
+  pub named_read : (turn : Turn K V D) (x after : X) (table : List (Slot B S M)) (opened h : ℕ) (keys : List Bytes) (s : State) → Holds members means (Database x) table opened s
       → ((l : List Operation) → means.stands x l → means.stands after l) → IsUnchanged members (means.inside x) (means.inside after)
       → ((list : List Operation) (named : machine.Slot) → means.stands x list → Contains s.had list → SlotIs members means s.had (get_or table h Gone) named
       → Answers members means key value digest turn s (read_in means.scheme s h keys list named))
@@ -136,7 +136,7 @@ module _ {X C B M K V D : Type 0} (members : stores.Ghosts C) (means : words.Gho
       (Holds-kept members means x after table opened s (keeps, same_store) k) (told list (slot_at s.table h) stands in_had (k.slots h)))
 
   -- over a database, what is read of it
-  pub database_read : (x after : X) (table : List (Slot B M)) (opened : ℕ) (keys : List Bytes) (values : List (Option Bytes)) (s : State) → Holds members means (Database x) table opened s
+  pub database_read : (x after : X) (table : List (Slot B S M)) (opened : ℕ) (keys : List Bytes) (values : List (Option Bytes)) (s : State) → Holds members means (Database x) table opened s
       → ((l : List Operation) → means.stands x l → means.stands after l) → IsUnchanged members (means.inside x) (means.inside after)
       → ((list : List Operation) → means.stands x list → values ≡ map (value_of list) keys)
       → (lines.Read values ≡ (machine.read means.scheme s keys None).0) × Holds members means (Database after) table opened (machine.read means.scheme s keys None).1
@@ -144,9 +144,9 @@ module _ {X C B M K V D : Type 0} (members : stores.Ghosts C) (means : words.Gho
       with_list members means x s.had s.database s (λ list. (lines.Read (map (value_of list) keys), s)) (λ next. (lines.Read values ≡ next.0) × Holds members means (Database after) table opened next.1) k.database
       (λ list stands in_had. (ap lines.Read (are list stands), Holds-kept members means x after table opened s (keeps, same_store) k))
 
-  pub ops_ok : (held : Given X C) (table : List (Slot B M)) (opened : ℕ) (h base : ℕ) (own : List Operation) (batch : M) (s : State) → Holds members means held table opened s
+  pub ops_ok : (held : Given X C) (table : List (Slot B S M)) (opened : ℕ) (h base : ℕ) (own : List Operation) (batch : M) (s : State) → Holds members means held table opened s
       → ((chain : Chain) (tip : List Operation) → means.is_merkleized batch chain tip → (base ≡ length chain.base) × (own ≡ own_operations chain tip))
-      → (a : Slot B M) (b : machine.Slot) → SlotIs members means s.had a b → merkleized_of a ≡ Some batch
+      → (a : Slot B S M) (b : machine.Slot) → SlotIs members means s.had a b → merkleized_of a ≡ Some batch
       → (lines.Listed base own ≡ (list_operations s h b).0) × Holds members means held table opened (list_operations s h b).1
   ops_ok held table opened h base own batch s k listed (Merkleized w) (machine.merkleized chain tip) is e =
       let same : w ≡ batch = cc in
