@@ -8,7 +8,8 @@ use Rattle.qm_model.specs.StoreModel.{Stored, appended, HasAppended, Becomes}
 use Rattle.qm_model.specs.StoreModel as model
 use Rattle.qm_model.specs.Operations.{Bytes, Operation, fresh}
 use Rattle.qm_model.specs.Forms.{spelling, variable}
-use Rattle.qm_model.specs.Batches.{Apart}
+use Rattle.qm_model.specs.Writes.{Write}
+use Rattle.qm_model.specs.Batches.{Chain, IsAmong, Apart}
 use Rattle.qm_machine.specs.Lines.{Answer}
 use Rattle.qm_machine.specs.Lines as lines
 use Rattle.qm_model.specs.Refused as refusals
@@ -29,10 +30,10 @@ use Rattle.qm_lines.specs.declared.reply.Refused.TheVariants as refused
 use Rattle.qm_store.specs.declared.refusal.Given.{Given}
 use Rattle.qm_store.specs.declared.refusal.Given.TheVariants.{Database, Store}
 use Rattle.qm_engine.specs.declared.table.Slot.{Slot}
-use Rattle.qm_engine.specs.declared.table.Slot.TheVariants.{Gone, Writing, Merkleized}
+use Rattle.qm_engine.specs.declared.table.Slot.TheVariants.{Gone, Writing, Staged, Merkleized}
 use Rattle.qm_engine.specs.declared.session.Turn.{Turn}
 use Rattle.qm_engine.specs.declared.session.Turn.TheVariants.{Reply, Memory, StoreFault}
-use Rattle.qm_engine.specs.Table.{merkleized_of}
+use Rattle.qm_engine.specs.Table.{writing_of, staged_of, merkleized_of}
 use Rattle.qm_engine.specs.Turn.{turn_of_error}
 use Rattle.qm_store.specs.Refusals.{refusal_of, IsDue}
 use Rattle.qm_store.specs.declared.Store as stores
@@ -137,14 +138,10 @@ module _ {X C B S M : Type 0} (members : stores.Ghosts C) (means : words.Ghosts 
 
   pub SlotIs-more : (had : List (List Operation)) (new : List Operation) (a : Slot B S M) (b : machine.Slot) → SlotIs members means had a b → SlotIs members means (new ∷ had) a b
   SlotIs-more had new Gone machine.gone h = tt
-  SlotIs-more had new Gone (machine.writing chain above ws) h = absurd h
-  SlotIs-more had new Gone (machine.merkleized chain tip) h = absurd h
-  SlotIs-more had new (Writing b) machine.gone h = absurd h
   SlotIs-more had new (Writing b) (machine.writing chain above ws) h = (h.0, IsAmong-more had new chain h.1, IsAmong-more had new above h.2)
-  SlotIs-more had new (Writing b) (machine.merkleized chain tip) h = absurd h
-  SlotIs-more had new (Merkleized b) machine.gone h = absurd h
-  SlotIs-more had new (Merkleized b) (machine.writing chain above ws) h = absurd h
+  SlotIs-more had new (Staged b) (machine.staged chain above ws keys) h = (h.0, IsAmong-more had new chain h.1, IsAmong-more had new above h.2)
   SlotIs-more had new (Merkleized b) (machine.merkleized chain tip) h = (h.0, IsAmong-more had new chain h.1, Contains-more had new tip h.2)
+  SlotIs-more had new a b h = absurd h
 
   -- a database is open where one is held
   pub with_list : (x : X) (had : List (List Operation)) (d : Option (List Operation)) (s : State) (f : List Operation → Answer × State) (Q : Answer × State → Type 0)
@@ -194,10 +191,37 @@ module _ {X C B S M : Type 0} (members : stores.Ghosts C) (means : words.Ghosts 
     slots = slots_set table s h Gone machine.gone k.lengths k.slots tt;
   }
 
+  -- over a database, what is done with a batch that a number names
+  module _ (x : X) (table : List (Slot B S M)) (opened h : ℕ) (s : State) (f : List Operation → machine.Slot → Answer × State) (Q : Answer × State → Type 0) (k : Holds members means (Database x) table opened s) where
+    pub with_writing : (batch : B) → writing_of (get_or table h Gone) ≡ Some batch
+        → ((list : List Operation) (chain above : Chain) (ws : List Write) → means.stands x list → Contains s.had list → IsAmong s.had chain → IsAmong s.had above → means.is_batch batch chain above ws
+        → Q (f list (machine.writing chain above ws)))
+        → Q (with_database s s.database (λ list. f list (slot_at s.table h)))
+    with_writing batch e each =
+        with_list x s.had s.database s (λ list. f list (slot_at s.table h)) Q k.database (λ list stands in_had. by list stands in_had (get_or table h Gone) (slot_at s.table h) (k.slots h) e)
+      where
+        by : (list : List Operation) → means.stands x list → Contains s.had list → (a : Slot B S M) (b : machine.Slot) → SlotIs members means s.had a b → writing_of a ≡ Some batch → Q (f list b)
+        by list stands in_had (Writing w) (machine.writing chain above ws) is e =
+            let same : w ≡ batch = cc in each list chain above ws stands in_had is.1 is.2 (subst (λ v. means.is_batch v chain above ws) same is.0)
+        by list stands in_had (Writing w) b is e = absurd is
+        by list stands in_had a b is e = absurd (cc)
+
+    pub with_staged : (batch : S) → staged_of (get_or table h Gone) ≡ Some batch
+        → ((list : List Operation) (chain above : Chain) (ws : List Write) (keys : List Bytes) → means.stands x list → Contains s.had list → IsAmong s.had chain → IsAmong s.had above → means.is_staged batch chain above ws keys
+        → Q (f list (machine.staged chain above ws keys)))
+        → Q (with_database s s.database (λ list. f list (slot_at s.table h)))
+    with_staged batch e each =
+        with_list x s.had s.database s (λ list. f list (slot_at s.table h)) Q k.database (λ list stands in_had. by list stands in_had (get_or table h Gone) (slot_at s.table h) (k.slots h) e)
+      where
+        by : (list : List Operation) → means.stands x list → Contains s.had list → (a : Slot B S M) (b : machine.Slot) → SlotIs members means s.had a b → staged_of a ≡ Some batch → Q (f list b)
+        by list stands in_had (Staged w) (machine.staged chain above ws keys) is e =
+            let same : w ≡ batch = cc in each list chain above ws keys stands in_had is.1 is.2 (subst (λ v. means.is_staged v chain above ws keys) same is.0)
+        by list stands in_had (Staged w) b is e = absurd is
+        by list stands in_had a b is e = absurd (cc)
+
   pub merkleized_slot : (a : Slot B S M) (batch : M) → merkleized_of a ≡ Some batch → a ≡ Merkleized batch
-  merkleized_slot Gone batch e = absurd (cc)
-  merkleized_slot (Writing b) batch e = absurd (cc)
   merkleized_slot (Merkleized b) batch e = ap Merkleized (cc)
+  merkleized_slot a batch e = absurd (cc)
 
 module _ {X C B S M K V D : Type 0} (members : stores.Ghosts C) (means : words.Ghosts X C B S M) (key : K → Bytes) (value : V → Bytes) (digest : D → Bytes) where
   abbrev root : List Operation → Bytes

@@ -70,6 +70,7 @@ module _ {X C B S M K V D : Type 0} (members : stores.Ghosts C) (means : words.G
   proof_state-in : (s : State) (h : ℕ) (list : List Operation) (named : machine.Slot) → (proof_in means.scheme s h list named).1 ≡ s
   proof_state-in s h list machine.gone = refl
   proof_state-in s h list (machine.writing chain above ws) = refl
+  proof_state-in s h list (machine.staged chain above ws keys) = refl
   proof_state-in s h list (machine.merkleized chain tip) =
       readable_state members means key value digest s list chain tip (lines.BatchProved (means.scheme.proof tip (length chain.base) (length tip)) (means.scheme.pins tip (length chain.base)))
 
@@ -93,11 +94,10 @@ module _ {X C B S M K V D : Type 0} (members : stores.Ghosts C) (means : words.G
       by list named stands in_had (subst (λ a. SlotIs members means s.had a named) (merkleized_slot members means (get_or table h Gone) batch e) is))
     where
       by : (list : List Operation) (named : machine.Slot) → means.stands x list → Contains s.had list → SlotIs members means s.had (Merkleized batch) named → Answers members means key value digest (Reply r) s (proof_in means.scheme s h list named)
-      by list machine.gone stands in_had is = absurd is
-      by list (machine.writing chain above ws) stands in_had is = absurd is
       by list (machine.merkleized chain tip) stands in_had is = λ apart. is_view ∙
           readable_ok members means key value digest s list chain tip (lines.BatchProved proof pins) (lines.BatchProved (means.scheme.proof tip (length chain.base) (length tip)) (means.scheme.pins tip (length chain.base))) in_had is.1 is.2
           (can list chain tip stands is.0) (λ known. let facts = are list chain tip stands is.0 known in ap₂ lines.BatchProved facts.0 facts.1) apart
+      by list named stands in_had is = absurd is
 
   pub batch_proof_err : (error : Error) (x : X) (table : List (Slot B S M)) (opened h : ℕ) (batch : M) (s : State) → Holds members means (Database x) table opened s
       → (tells : Type 0) → tells → AtTip means x batch (λ list chain tip. IsReadFailure means tells list chain tip error)
@@ -108,8 +108,7 @@ module _ {X C B S M K V D : Type 0} (members : stores.Ghosts C) (means : words.G
       by list named stands in_had (subst (λ a. SlotIs members means s.had a named) (merkleized_slot members means (get_or table h Gone) batch e) is))
     where
       by : (list : List Operation) (named : machine.Slot) → means.stands x list → Contains s.had list → SlotIs members means s.had (Merkleized batch) named → Answers members means key value digest (turn_of_error error) s (proof_in means.scheme s h list named)
-      by list machine.gone stands in_had is = absurd is
-      by list (machine.writing chain above ws) stands in_had is = absurd is
       by list (machine.merkleized chain tip) stands in_had is =
           readable_err members means key value digest s list chain tip error (lines.BatchProved (means.scheme.proof tip (length chain.base) (length tip)) (means.scheme.pins tip (length chain.base))) in_had is.1 is.2 tells told_all
           (why list chain tip stands is.0)
+      by list named stands in_had is = absurd is

@@ -31,7 +31,7 @@ use Rattle.qm_engine.specs.Session.{SlotIs, Holds, Answers}
 use Rattle.qm_engine.proofs.Commands.{choice, none_some, refuses, by_refusal, with_list, Holds-kept, Turns, answered}
 
 -- whether an error tells that a read is stale
-is_stale_read : (error : Error) → (error ≡ errors.StaleRead) ⊎ (error ≢ errors.StaleRead)
+pub is_stale_read : (error : Error) → (error ≡ errors.StaleRead) ⊎ (error ≢ errors.StaleRead)
 is_stale_read errors.Memory = inr (λ e. absurd (cc))
 is_stale_read errors.StaleBatch = inr (λ e. absurd (cc))
 is_stale_read errors.StaleRead = inl refl
@@ -89,40 +89,37 @@ module _ {X C B S M K V D : Type 0} (members : stores.Ghosts C) (means : words.G
       → ((chain above : Chain) (ws : List Write) → means.is_batch batch chain above ws → CanRead means list above chain.base)
       → ((chain above : Chain) (ws : List Write) → means.is_batch batch chain above ws → IsKnown list above chain.base → values ≡ map (read_through chain.base ws) keys)
       → Apart root s.had → lines.Read values ≡ (read_in means.scheme s h keys list named).0
-  written_ok s list h keys batch values machine.gone in_had is can are = absurd is
-  written_ok s list h keys batch values (machine.merkleized chain tip) in_had is can are = absurd is
   written_ok s list h keys batch values (machine.writing chain above ws) in_had is can are =
       readable_ok s list above chain.base (lines.Read values) (lines.Read (map (read_through chain.base ws) keys)) in_had is.2 (is.1).base (can chain above ws is.0) (λ known. ap lines.Read (are chain above ws is.0 known))
+  written_ok s list h keys batch values named in_had is can are = absurd is
 
   pub written_err : (s : State) (list : List Operation) (h : ℕ) (keys : List Bytes) (batch : B) (error : Error) (named : machine.Slot) → Contains s.had list → SlotIs members means s.had (Writing batch) named
       → (tells : Type 0) → tells → ((chain above : Chain) (ws : List Write) → means.is_batch batch chain above ws → IsReadFailure means tells list above chain.base error)
       → Answers members means key value digest (turn_of_error error) s (read_in means.scheme s h keys list named)
-  written_err s list h keys batch error machine.gone in_had is tells told_all why = absurd is
-  written_err s list h keys batch error (machine.merkleized chain tip) in_had is tells told_all why = absurd is
   written_err s list h keys batch error (machine.writing chain above ws) in_had is tells told_all why =
       readable_err s list above chain.base error (lines.Read (map (read_through chain.base ws) keys)) in_had is.2 (is.1).base tells told_all (why chain above ws is.0)
+  written_err s list h keys batch error named in_had is tells told_all why = absurd is
 
   pub made_ok : (s : State) (list : List Operation) (h : ℕ) (keys : List Bytes) (batch : M) (values : List (Option Bytes)) (named : machine.Slot) → Contains s.had list → SlotIs members means s.had (Merkleized batch) named
       → ((chain : Chain) (tip : List Operation) → means.is_merkleized batch chain tip → CanRead means list chain tip)
       → ((chain : Chain) (tip : List Operation) → means.is_merkleized batch chain tip → IsKnown list chain tip → values ≡ map (value_of tip) keys)
       → Apart root s.had → lines.Read values ≡ (read_in means.scheme s h keys list named).0
-  made_ok s list h keys batch values machine.gone in_had is can are = absurd is
-  made_ok s list h keys batch values (machine.writing chain above ws) in_had is can are = absurd is
   made_ok s list h keys batch values (machine.merkleized chain tip) in_had is can are =
       readable_ok s list chain tip (lines.Read values) (lines.Read (map (value_of tip) keys)) in_had is.1 is.2 (can chain tip is.0) (λ known. ap lines.Read (are chain tip is.0 known))
+  made_ok s list h keys batch values named in_had is can are = absurd is
 
   pub made_err : (s : State) (list : List Operation) (h : ℕ) (keys : List Bytes) (batch : M) (error : Error) (named : machine.Slot) → Contains s.had list → SlotIs members means s.had (Merkleized batch) named
       → (tells : Type 0) → tells → ((chain : Chain) (tip : List Operation) → means.is_merkleized batch chain tip → IsReadFailure means tells list chain tip error)
       → Answers members means key value digest (turn_of_error error) s (read_in means.scheme s h keys list named)
-  made_err s list h keys batch error machine.gone in_had is tells told_all why = absurd is
-  made_err s list h keys batch error (machine.writing chain above ws) in_had is tells told_all why = absurd is
   made_err s list h keys batch error (machine.merkleized chain tip) in_had is tells told_all why =
       readable_err s list chain tip error (lines.Read (map (value_of tip) keys)) in_had is.1 is.2 tells told_all (why chain tip is.0)
+  made_err s list h keys batch error named in_had is tells told_all why = absurd is
 
   read_state-in : (s : State) (h : ℕ) (keys : List Bytes) (list : List Operation) (named : machine.Slot) → (read_in means.scheme s h keys list named).1 ≡ s
-  read_state-in s h keys list machine.gone = refl
   read_state-in s h keys list (machine.writing chain above ws) = readable_state s list above chain.base (lines.Read (map (read_through chain.base ws) keys))
   read_state-in s h keys list (machine.merkleized chain tip) = readable_state s list chain tip (lines.Read (map (value_of tip) keys))
+  read_state-in s h keys list machine.gone = refl
+  read_state-in s h keys list (machine.staged chain above ws ks) = refl
 
   -- over a database, what is read through a batch number
   pub named_read : (turn : Turn K V D) (x after : X) (table : List (Slot B S M)) (opened h : ℕ) (keys : List Bytes) (s : State) → Holds members means (Database x) table opened s
@@ -152,7 +149,5 @@ module _ {X C B S M K V D : Type 0} (members : stores.Ghosts C) (means : words.G
       let same : w ≡ batch = cc in
       let facts = listed chain tip (subst (λ v. means.is_merkleized v chain tip) same is.0) in
       (ap₂ lines.Listed facts.0 facts.1, k)
-  ops_ok held table opened h base own batch s k listed (Merkleized w) machine.gone is e = absurd is
-  ops_ok held table opened h base own batch s k listed (Merkleized w) (machine.writing chain above ws) is e = absurd is
-  ops_ok held table opened h base own batch s k listed Gone b is e = absurd (cc)
-  ops_ok held table opened h base own batch s k listed (Writing w) b is e = absurd (cc)
+  ops_ok held table opened h base own batch s k listed (Merkleized w) b is e = absurd is
+  ops_ok held table opened h base own batch s k listed a b is e = absurd (cc)
