@@ -3,6 +3,7 @@ pub mod Known
 pub mod Making
 pub mod Reading
 pub mod Resting
+pub mod Staging
 pub mod Telling
 pub mod Trees
 pub mod Unapplied

@@ -1,12 +1,13 @@
 -- Databases over an index and a log of their operations' spellings, and their batches.
-use Rattle.std.specs.Prelude.{◌≡◌, ◌≤◌, ◌^◌, ℕ, ◌+◌, nat_le, if◌then◌else◌, Bool, List, [], ◌∷◌, ◌++◌, length, map, take, get_or, All, Contains, Option, IsSome, ⊤}
+use Rattle.std.specs.Prelude.{◌≡◌, ◌≤◌, ◌^◌, ℕ, ◌+◌, nat_le, if◌then◌else◌, Bool, List, [], ◌∷◌, ◌++◌, length, map, take, get_or, All, Contains, Option, option_and_then, IsSome, ⊤}
 use Rattle.qm_model.specs.Operations.{Bytes, Operation}
 use Rattle.qm_model.specs.Batches.{Commitment, Kept, Chain, commitment}
 use Rattle.qm_model.specs.Forms.{IsOf}
 use Rattle.qm_model.specs.Live.{live, floor, last_metadata}
 use Rattle.qm_model.specs.Bits.{bits}
 use Rattle.qm_model.specs.Step.{IsGood}
-use Rattle.qm_model.specs.Writes.{Write}
+use Rattle.qm_model.specs.Writes.{Write, last_writes, overwritten, write_of}
+use Rattle.qm_base.specs.Parts.{value_of}
 use Rattle.qm_merkle.specs.Batches.{stops}
 use Rattle.qm_chain.specs.Bounds.{Bounds, IsBounds, is_at}
 use Rattle.qm_store.specs.declared.Store as store
@@ -54,6 +55,10 @@ pub record Staged (D : Type 0) : Type 0 where
 -- its keys
 abbrev pub staged_keys : {D : Type 0} → Staged D → List Bytes
 staged_keys staged = map (λ r. r.0) staged.reads
+
+-- the value of a key under writes, of which this live update was found
+abbrev pub read_under : List Write → Bytes → Option (ℕ × Operation) → Option Bytes
+read_under ws key found = overwritten (write_of (last_writes ws) key) (option_and_then (λ p. value_of p.1) found)
 
 -- what a merkleized batch knows of the list that it makes
 abbrev pub base_of : {D : Type 0} → Made D → Base

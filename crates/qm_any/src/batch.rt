@@ -8,6 +8,7 @@ ghost use Rattle.qm_model.specs.Forms.{IsOf, spelling};
 ghost use Rattle.qm_model.specs.Operations.{Operation};
 ghost use Rattle.qm_model.specs.Proofs.{ops_proof, pins_at};
 ghost use Rattle.qm_model.specs.Refusals.{too_long};
+ghost use Rattle.qm_model.specs.Slots.{slotted};
 ghost use Rattle.qm_model.specs.Trees as trees;
 ghost use Rattle.qm_model.specs.Writes.{read_through};
 ghost use Rattle.qm_merkle.specs.Batches.{stops, stops_since};
@@ -15,7 +16,7 @@ ghost use Rattle.qm_proofs.specs.Proofs.{proof_view, first_lacked, needed_positi
 ghost use Rattle.qm_chain.specs.Bounds.{commitment_view, is_at, knows};
 ghost use Rattle.qm_batch.specs.Bases.{IsBase, base_view};
 ghost use Rattle.qm_batch.specs.Lent.{IsReadError, NoneBelow};
-ghost use Rattle.qm_batch.specs.Views.{changes_view, IsPlan, stepped, left_after};
+ghost use Rattle.qm_batch.specs.Views.{changes_view, keys_of, wanted_view, AreReads, IsPlan, stepped, left_after};
 ghost use Rattle.qm_any.specs.Databases.{IsDatabase, IsBegun, IsMade, IsLeft, base_of, bases, child_boundary, child_made, child_tips, is_on, kept_by, operations_in, unapplied};
 ghost use Rattle.qm_store.specs.Log.{IsLacked};
 ghost use Rattle.qm_store.specs.KeptTrees.{held_at};
@@ -23,7 +24,7 @@ ghost use Rattle.qm_any.specs.Reasons.{IsMakingError};
 ghost use Rattle.qm_any.specs.Tips.{IsLow, IsTaken, IsRefused};
 ghost use Rattle.qm_base.specs.Views.{operation_views};
 ghost use Rattle.qm_any.specs.Layouts.{Hashing};
-ghost use Rattle.qm_base.specs.Slots.{write_views};
+ghost use Rattle.qm_base.specs.Slots.{slot_views, write_views};
 
 use crate::db::{Db, LaidOut};
 use crate::operations::{
@@ -31,10 +32,10 @@ use crate::operations::{
 };
 use qm_base::update::{Unordered, Update};
 use qm_base::{
-    ByteString, Commitment, Digest, Error, Hasher, JournalError, Location, MerkleError,
+    ByteString, Commitment, Digest, Error, Hasher, JournalError, Location, MerkleError, Slot,
     ValueEncoding,
 };
-use qm_batch::{Base, Layer, Plan, Write, Writes};
+use qm_batch::{Base, Layer, Plan, Read, Wanted, Write, Writes};
 use qm_chain::{Bounds, Diff, Policy, validate_batch_applicable};
 use qm_merkle::Family;
 use qm_proofs::Proof;
@@ -173,6 +174,32 @@ impl<F: Family, D: Digest, U: Update> UnmerkleizedBatch<F, D, U> {
         self.parent.bounds.compatible(db.commitment())?;
         db.read_all(alloc, &self.parent.steps, &self.writes, keys)
     }
+
+    // Keys in their order, each with what the base list has of it, and their values, as `get_many` reads them.
+    pub(crate) fn located<
+        C: Store,
+        I: qm_index::Unordered<Value = Location<F>>,
+        H: Hasher<Digest = D> + Drop,
+    >(
+        &self,
+        alloc: Global,
+        keys: Vec<U::Key>,
+        db: &mut Db<F, C, I, H, U>,
+    ) -> Result<(Vec<Read<F, U>>, Vec<Option<U::Value>>), Error>
+        ensures keys { IfOk result (λ r. keys_of U.Key.bytes r.0.items ≡ map U.Key.bytes keys.items) }
+        ensures reads { (list : List Operation) (chain above : Chain) → IsDatabase C.Store ⟦<Db<F, C, I, H, U> as LaidOut>⟧.layout db.old list → IsBegun ⟦<Db<F, C, I, H, U> as LaidOut>⟧.layout.hashing self.now chain above → IsKnown list above chain.base
+            → IfOk result (λ r. AreReads U.view U.Key.bytes r.0.items chain.base) }
+        ensures values { (list : List Operation) (chain above : Chain) → IsDatabase C.Store ⟦<Db<F, C, I, H, U> as LaidOut>⟧.layout db.old list → IsBegun ⟦<Db<F, C, I, H, U> as LaidOut>⟧.layout.hashing self.now chain above → IsKnown list above chain.base
+            → IfOk result (λ r. map (option_map U.Value.bytes) r.1.items ≡ map (λ k. read_through chain.base self.now.writes (U.Key.bytes k)) keys.items) }
+        ensures readable { OnOk result (knows self.now.parent.bounds db.old.commitment ≡ true) }
+        ensures error { IfErr result (λ e. ((e ≡ Error.StaleRead) × (knows self.now.parent.bounds db.old.commitment ≡ false))
+            ⊎ ((e ≡ Error.Memory) ⊎ ((knows self.now.parent.bounds db.old.commitment ≡ true) × IsReadError C.Store db.old.log db.new.log e))) }
+        ensures whole { (list : List Operation) → IsDatabase C.Store ⟦<Db<F, C, I, H, U> as LaidOut>⟧.layout db.old list → NoneBelow db.old.log.tree.start list → IfErr result (λ e. (n : ℕ) → e ≢ Error.Journal (JournalError.ItemPruned n)) }
+        ensures left { IsLeft C.Store ⟦<Db<F, C, I, H, U> as LaidOut>⟧.layout.hashing db.old db.new }
+    {
+        self.parent.bounds.compatible(db.commitment())?;
+        db.locate_all(alloc, &self.parent.steps, &self.writes, keys)
+    }
 }
 
 impl<F: Family, D: Digest, K: ByteString, V: ValueEncoding<K>> UnmerkleizedBatch<
@@ -216,6 +243,46 @@ impl<F: Family, D: Digest, K: ByteString, V: ValueEncoding<K>> UnmerkleizedBatch
         ensures cause { IfErr result (λ e. e ≡ Error.Journal JournalError.Store → Rose (C.faults db.old.log.store) (C.faults db.new.log.store)) }
         ensures left { IsLeft C.Store ⟦<Db<F, C, I, H, Unordered<K, V>> as LaidOut>⟧.layout.hashing db.old db.new }
     {
+        let (reads, slots, others) = (Vec::new(alloc), Vec::new(alloc), Vec::new(alloc));
+        self.merkleized(alloc, &reads, &slots, &others, db, metadata, policy)
+    }
+
+    // Makes the list of the batch as `merkleize` does, of its writes, then the slots of keys that were read, then others.
+    #[allow(clippy::too_many_arguments)]
+    pub(crate) fn merkleized<
+        C: Store,
+        I: qm_index::Unordered<Value = Location<F>>,
+        H: Hasher<Digest = D> + Drop,
+        P: Policy<F, K, V::Value>,
+    >(
+        self,
+        alloc: Global,
+        reads: &[Read<F, Unordered<K, V>>],
+        slots: &[Slot<V::Value>],
+        others: &[Write<K, V::Value>],
+        db: &mut Db<F, C, I, H, Unordered<K, V>>,
+        metadata: Option<V::Value>,
+        policy: &mut P,
+    ) -> Result<Rc<MerkleizedBatch<F, D, Unordered<K, V>>>, Error>
+        requires { length slots.now ≡ length reads.now }
+        ensures fits { OnOk result (is_on db.old.commitment self ≡ true) }
+        ensures made { (list : List Operation) (chain above : Chain) → IsDatabase C.Store ⟦<Db<F, C, I, H, Unordered<K, V>> as LaidOut>⟧.layout db.old list → IsBegun ⟦<Db<F, C, I, H, Unordered<K, V>> as LaidOut>⟧.layout.hashing self chain above → IsOnChain list chain → AreReads ⟦<Unordered<K, V> as Update>⟧.view K.bytes reads.now chain.base
+            → IfOk result (λ b. IsMade ⟦<Db<F, C, I, H, Unordered<K, V>> as LaidOut>⟧.layout.hashing b.value chain (stepped P.rules chain.base (slotted self.writes (keys_of K.bytes reads.now) (slot_views V.Value.bytes slots.now) (write_views K.bytes V.Value.bytes others.now)) policy.old (option_map V.Value.bytes metadata))) }
+        ensures taken { (list : List Operation) (chain above : Chain) → IsDatabase C.Store ⟦<Db<F, C, I, H, Unordered<K, V>> as LaidOut>⟧.layout db.old list → IsBegun ⟦<Db<F, C, I, H, Unordered<K, V>> as LaidOut>⟧.layout.hashing self chain above → IsOnChain list chain → AreReads ⟦<Unordered<K, V> as Update>⟧.view K.bytes reads.now chain.base
+            → OnOk result (IsTaken ⟦<Unordered<K, V> as Update>⟧.form chain.base (stepped P.rules chain.base (slotted self.writes (keys_of K.bytes reads.now) (slot_views V.Value.bytes slots.now) (write_views K.bytes V.Value.bytes others.now)) policy.old (option_map V.Value.bytes metadata))) }
+        ensures refused { (list : List Operation) (chain above : Chain) → IsDatabase C.Store ⟦<Db<F, C, I, H, Unordered<K, V>> as LaidOut>⟧.layout db.old list → IsBegun ⟦<Db<F, C, I, H, Unordered<K, V>> as LaidOut>⟧.layout.hashing self chain above → IsOnChain list chain → AreReads ⟦<Unordered<K, V> as Update>⟧.view K.bytes reads.now chain.base
+            → IfErr result (λ e. IsRefused ⟦<Unordered<K, V> as Update>⟧.form chain.base (stepped P.rules chain.base (slotted self.writes (keys_of K.bytes reads.now) (slot_views V.Value.bytes slots.now) (write_views K.bytes V.Value.bytes others.now)) policy.old (option_map V.Value.bytes metadata)) e ⊎ IsReadError C.Store db.old.log db.new.log e) }
+        ensures next { (list : List Operation) (chain above : Chain) → IsDatabase C.Store ⟦<Db<F, C, I, H, Unordered<K, V>> as LaidOut>⟧.layout db.old list → IsBegun ⟦<Db<F, C, I, H, Unordered<K, V>> as LaidOut>⟧.layout.hashing self chain above → IsOnChain list chain → AreReads ⟦<Unordered<K, V> as Update>⟧.view K.bytes reads.now chain.base
+            → OnOk result (policy.new ≡ left_after P.rules chain.base (slotted self.writes (keys_of K.bytes reads.now) (slot_views V.Value.bytes slots.now) (write_views K.bytes V.Value.bytes others.now)) policy.old) }
+        ensures above { IfOk result (λ b. All (λ n. b.value.bounds.db.size ≤ n) (stops b.value.tree.leaves b.value.tree.layers)) }
+        ensures stale { IfErr result (λ e. e ≡ Error.StaleBatch → is_on db.old.commitment self ≡ false) }
+        ensures order { IfErr result (λ e. e ≢ Error.Memory → e ≢ Error.StaleBatch → is_on db.old.commitment self ≡ true) }
+        ensures causes { IfErr result (λ e. (e ≡ Error.StaleBatch) ⊎ IsMakingError C.Store db.old.log db.new.log e) }
+        ensures whole { (list : List Operation) → IsDatabase C.Store ⟦<Db<F, C, I, H, Unordered<K, V>> as LaidOut>⟧.layout db.old list → NoneBelow db.old.log.tree.start list → db.old.log.tree.start ≤ self.parent.bounds.inactivity_floor
+            → IfErr result (λ e. (n : ℕ) → e ≢ Error.Journal (JournalError.ItemPruned n)) }
+        ensures cause { IfErr result (λ e. e ≡ Error.Journal JournalError.Store → Rose (C.faults db.old.log.store) (C.faults db.new.log.store)) }
+        ensures left { IsLeft C.Store ⟦<Db<F, C, I, H, Unordered<K, V>> as LaidOut>⟧.layout.hashing db.old db.new }
+    {
         let UnmerkleizedBatch {
             parent,
             keep,
@@ -232,7 +299,12 @@ impl<F: Family, D: Digest, K: ByteString, V: ValueEncoding<K>> UnmerkleizedBatch
                 keep,
                 boundary,
                 tips,
-                writes.as_slice(),
+                Wanted {
+                    writes: writes.as_slice(),
+                    reads,
+                    slots,
+                    others,
+                },
                 metadata,
                 policy,
             ),
@@ -557,7 +629,7 @@ impl<F: Family, D: Digest, U: Update> MerkleizedBatch<F, D, U> {
     }
 }
 
-// The list that writes make on a batch, at a database that is at the child's boundary or one of its kept tips.
+// The list that what is wanted makes on a batch, at a database that is at the child's boundary or one of its kept tips.
 #[allow(clippy::too_many_arguments)]
 fn made_on<
     F: Family,
@@ -575,22 +647,23 @@ fn made_on<
     keep: usize,
     boundary: Commitment<D>,
     tips: Vec<Commitment<D>>,
-    writes: &[Write<K, V::Value>],
+    wanted: Wanted<'_, F, Unordered<K, V>>,
     metadata: Option<V::Value>,
     policy: &mut P,
 ) -> Result<Rc<MerkleizedBatch<F, D, Unordered<K, V>>>, Error>
     requires keep { keep ≤ suc (length parent.now.bounds.ancestors) }
+    requires slots { length wanted.slots.now ≡ length wanted.reads.now }
     requires boundary { commitment_view D.bytes boundary ≡ child_boundary keep parent.now.bounds }
     requires tips { map (commitment_view D.bytes) tips.items ≡ child_tips keep parent.now.bounds }
     requires on { is_at db.old.commitment (child_boundary keep parent.now.bounds) (child_tips keep parent.now.bounds) ≡ true }
-    ensures made { (list : List Operation) (chain above : Chain) → IsDatabase C.Store ⟦<Db<F, C, I, H, Unordered<K, V>> as LaidOut>⟧.layout db.old list → IsMade ⟦<Db<F, C, I, H, Unordered<K, V>> as LaidOut>⟧.layout.hashing parent.now above chain.base → chain.kept ≡ kept_by keep above chain.base → IsOnChain list chain
-        → IfOk result (λ b. IsMade ⟦<Db<F, C, I, H, Unordered<K, V>> as LaidOut>⟧.layout.hashing b.value chain (stepped P.rules chain.base (write_views K.bytes V.Value.bytes writes.now) policy.old (option_map V.Value.bytes metadata))) }
-    ensures taken { (list : List Operation) (chain above : Chain) → IsDatabase C.Store ⟦<Db<F, C, I, H, Unordered<K, V>> as LaidOut>⟧.layout db.old list → IsMade ⟦<Db<F, C, I, H, Unordered<K, V>> as LaidOut>⟧.layout.hashing parent.now above chain.base → chain.kept ≡ kept_by keep above chain.base → IsOnChain list chain
-        → OnOk result (IsTaken ⟦<Unordered<K, V> as Update>⟧.form chain.base (stepped P.rules chain.base (write_views K.bytes V.Value.bytes writes.now) policy.old (option_map V.Value.bytes metadata))) }
-    ensures refused { (list : List Operation) (chain above : Chain) → IsDatabase C.Store ⟦<Db<F, C, I, H, Unordered<K, V>> as LaidOut>⟧.layout db.old list → IsMade ⟦<Db<F, C, I, H, Unordered<K, V>> as LaidOut>⟧.layout.hashing parent.now above chain.base → chain.kept ≡ kept_by keep above chain.base → IsOnChain list chain
-        → IfErr result (λ e. IsRefused ⟦<Unordered<K, V> as Update>⟧.form chain.base (stepped P.rules chain.base (write_views K.bytes V.Value.bytes writes.now) policy.old (option_map V.Value.bytes metadata)) e ⊎ IsReadError C.Store db.old.log db.new.log e) }
-    ensures next { (list : List Operation) (chain above : Chain) → IsDatabase C.Store ⟦<Db<F, C, I, H, Unordered<K, V>> as LaidOut>⟧.layout db.old list → IsMade ⟦<Db<F, C, I, H, Unordered<K, V>> as LaidOut>⟧.layout.hashing parent.now above chain.base → chain.kept ≡ kept_by keep above chain.base → IsOnChain list chain
-        → OnOk result (policy.new ≡ left_after P.rules chain.base (write_views K.bytes V.Value.bytes writes.now) policy.old) }
+    ensures made { (list : List Operation) (chain above : Chain) → IsDatabase C.Store ⟦<Db<F, C, I, H, Unordered<K, V>> as LaidOut>⟧.layout db.old list → IsMade ⟦<Db<F, C, I, H, Unordered<K, V>> as LaidOut>⟧.layout.hashing parent.now above chain.base → chain.kept ≡ kept_by keep above chain.base → IsOnChain list chain → AreReads ⟦<Unordered<K, V> as Update>⟧.view K.bytes wanted.reads.now chain.base
+        → IfOk result (λ b. IsMade ⟦<Db<F, C, I, H, Unordered<K, V>> as LaidOut>⟧.layout.hashing b.value chain (stepped P.rules chain.base (wanted_view K.bytes V.Value.bytes wanted) policy.old (option_map V.Value.bytes metadata))) }
+    ensures taken { (list : List Operation) (chain above : Chain) → IsDatabase C.Store ⟦<Db<F, C, I, H, Unordered<K, V>> as LaidOut>⟧.layout db.old list → IsMade ⟦<Db<F, C, I, H, Unordered<K, V>> as LaidOut>⟧.layout.hashing parent.now above chain.base → chain.kept ≡ kept_by keep above chain.base → IsOnChain list chain → AreReads ⟦<Unordered<K, V> as Update>⟧.view K.bytes wanted.reads.now chain.base
+        → OnOk result (IsTaken ⟦<Unordered<K, V> as Update>⟧.form chain.base (stepped P.rules chain.base (wanted_view K.bytes V.Value.bytes wanted) policy.old (option_map V.Value.bytes metadata))) }
+    ensures refused { (list : List Operation) (chain above : Chain) → IsDatabase C.Store ⟦<Db<F, C, I, H, Unordered<K, V>> as LaidOut>⟧.layout db.old list → IsMade ⟦<Db<F, C, I, H, Unordered<K, V>> as LaidOut>⟧.layout.hashing parent.now above chain.base → chain.kept ≡ kept_by keep above chain.base → IsOnChain list chain → AreReads ⟦<Unordered<K, V> as Update>⟧.view K.bytes wanted.reads.now chain.base
+        → IfErr result (λ e. IsRefused ⟦<Unordered<K, V> as Update>⟧.form chain.base (stepped P.rules chain.base (wanted_view K.bytes V.Value.bytes wanted) policy.old (option_map V.Value.bytes metadata)) e ⊎ IsReadError C.Store db.old.log db.new.log e) }
+    ensures next { (list : List Operation) (chain above : Chain) → IsDatabase C.Store ⟦<Db<F, C, I, H, Unordered<K, V>> as LaidOut>⟧.layout db.old list → IsMade ⟦<Db<F, C, I, H, Unordered<K, V>> as LaidOut>⟧.layout.hashing parent.now above chain.base → chain.kept ≡ kept_by keep above chain.base → IsOnChain list chain → AreReads ⟦<Unordered<K, V> as Update>⟧.view K.bytes wanted.reads.now chain.base
+        → OnOk result (policy.new ≡ left_after P.rules chain.base (wanted_view K.bytes V.Value.bytes wanted) policy.old) }
     ensures above { IfOk result (λ b. All (λ n. b.value.bounds.db.size ≤ n) (stops b.value.tree.leaves b.value.tree.layers)) }
     ensures causes { IfErr result (IsMakingError C.Store db.old.log db.new.log) }
     ensures whole { (list : List Operation) → IsDatabase C.Store ⟦<Db<F, C, I, H, Unordered<K, V>> as LaidOut>⟧.layout db.old list → NoneBelow db.old.log.tree.start list → db.old.log.tree.start ≤ parent.now.bounds.inactivity_floor
@@ -600,14 +673,14 @@ fn made_on<
     ensures left { IsLeft C.Store ⟦<Db<F, C, I, H, Unordered<K, V>> as LaidOut>⟧.layout.hashing db.old db.new }
 {
     let copy = shared(alloc, twin_option(alloc, &metadata)?)?;
-    let (plan, items) = planned(alloc, db, parent, writes, metadata, policy)?;
+    let (plan, items) = planned(alloc, db, parent, wanted, metadata, policy)?;
     let floor = plan.floor.get();
     let (tree, root) = db.grown(alloc, &parent.tree, &items, floor, boundary.size)?;
     let batch = sealed(alloc, parent, keep, boundary, tips, plan, tree, root, copy)?;
     Ok(batch)
 }
 
-// What writes make of the list of a batch, and its spellings, where none is too long and the list is not.
+// What is wanted makes of the list of a batch, and its spellings, where none is too long and the list is not.
 fn planned<
     F: Family,
     C: Store,
@@ -621,21 +694,22 @@ fn planned<
     alloc: Global,
     db: &mut Db<F, C, I, H, Unordered<K, V>>,
     parent: &MerkleizedBatch<F, D, Unordered<K, V>>,
-    writes: &[Write<K, V::Value>],
+    wanted: Wanted<'_, F, Unordered<K, V>>,
     metadata: Option<V::Value>,
     policy: &mut P,
 ) -> Result<(Plan<F, Unordered<K, V>>, Vec<Vec<u8>>), Error>
-    ensures plan { (list base : List Operation) → IsDatabase C.Store ⟦<Db<F, C, I, H, Unordered<K, V>> as LaidOut>⟧.layout db.old list → IsBase (base_of parent.now) list base
-        → IfOk result (λ made. IsPlan made.0 base (stepped P.rules base (write_views K.bytes V.Value.bytes writes.now) policy.old (option_map V.Value.bytes metadata))) }
-    ensures next { (list base : List Operation) → IsDatabase C.Store ⟦<Db<F, C, I, H, Unordered<K, V>> as LaidOut>⟧.layout db.old list → IsBase (base_of parent.now) list base
-        → OnOk result (policy.new ≡ left_after P.rules base (write_views K.bytes V.Value.bytes writes.now) policy.old) }
+    requires slots { length wanted.slots.now ≡ length wanted.reads.now }
+    ensures plan { (list base : List Operation) → IsDatabase C.Store ⟦<Db<F, C, I, H, Unordered<K, V>> as LaidOut>⟧.layout db.old list → IsBase (base_of parent.now) list base → AreReads ⟦<Unordered<K, V> as Update>⟧.view K.bytes wanted.reads.now base
+        → IfOk result (λ made. IsPlan made.0 base (stepped P.rules base (wanted_view K.bytes V.Value.bytes wanted) policy.old (option_map V.Value.bytes metadata))) }
+    ensures next { (list base : List Operation) → IsDatabase C.Store ⟦<Db<F, C, I, H, Unordered<K, V>> as LaidOut>⟧.layout db.old list → IsBase (base_of parent.now) list base → AreReads ⟦<Unordered<K, V> as Update>⟧.view K.bytes wanted.reads.now base
+        → OnOk result (policy.new ≡ left_after P.rules base (wanted_view K.bytes V.Value.bytes wanted) policy.old) }
     ensures items { IfOk result (λ made. map (λ v. v.items) made.1.items ≡ map (spelling ⟦<Unordered<K, V> as Update>⟧.form) (made.0).operations) }
     ensures of { IfOk result (λ made. All IsLow (made.0).operations → All (IsOf ⟦<Unordered<K, V> as Update>⟧.form) (made.0).operations) }
     ensures room { IfOk result (λ made. parent.now.bounds.tip.size + length made.1.items ≤ 2 ^ 62) }
     ensures short { IfOk result (λ made. too_long (map (λ v. v.items) made.1.items) ≡ None) }
     ensures live { IfOk result (λ made. (made.0).live ≤ parent.now.bounds.tip.size + length made.1.items) }
-    ensures refused { (list base : List Operation) → IsDatabase C.Store ⟦<Db<F, C, I, H, Unordered<K, V>> as LaidOut>⟧.layout db.old list → IsBase (base_of parent.now) list base
-        → IfErr result (λ e. IsRefused ⟦<Unordered<K, V> as Update>⟧.form base (stepped P.rules base (write_views K.bytes V.Value.bytes writes.now) policy.old (option_map V.Value.bytes metadata)) e ⊎ IsReadError C.Store db.old.log db.new.log e) }
+    ensures refused { (list base : List Operation) → IsDatabase C.Store ⟦<Db<F, C, I, H, Unordered<K, V>> as LaidOut>⟧.layout db.old list → IsBase (base_of parent.now) list base → AreReads ⟦<Unordered<K, V> as Update>⟧.view K.bytes wanted.reads.now base
+        → IfErr result (λ e. IsRefused ⟦<Unordered<K, V> as Update>⟧.form base (stepped P.rules base (wanted_view K.bytes V.Value.bytes wanted) policy.old (option_map V.Value.bytes metadata)) e ⊎ IsReadError C.Store db.old.log db.new.log e) }
     ensures causes { IfErr result (IsMakingError C.Store db.old.log db.new.log) }
     ensures whole { (list : List Operation) → IsDatabase C.Store ⟦<Db<F, C, I, H, Unordered<K, V>> as LaidOut>⟧.layout db.old list → NoneBelow db.old.log.tree.start list → db.old.log.tree.start ≤ parent.now.bounds.inactivity_floor
         → IfErr result (λ e. (n : ℕ) → e ≢ Error.Journal (JournalError.ItemPruned n)) }
@@ -644,7 +718,7 @@ fn planned<
     ensures left { IsLeft C.Store ⟦<Db<F, C, I, H, Unordered<K, V>> as LaidOut>⟧.layout.hashing db.old db.new }
 {
     let base = parent.base();
-    let plan = db.plan(alloc, &base, writes, metadata, policy)?;
+    let plan = db.plan(alloc, &base, wanted, metadata, policy)?;
     let items = spelled(alloc, &plan.operations)?;
     match refuse(&items, base.size + items.len() as u64) {
         Ok(()) => Ok((plan, items)),

@@ -20,23 +20,22 @@ ghost use Rattle.qm_model.specs.Bits.{bits};
 ghost use Rattle.qm_bits.specs.Bitmaps.{Bitmap, all_bits, bit_count};
 ghost use Rattle.qm_batch.specs.Bases.{IsBase, base_view};
 ghost use Rattle.qm_batch.specs.Layers.{LeadOver};
-ghost use Rattle.qm_batch.specs.Changes.{LeadTo};
+ghost use Rattle.qm_batch.specs.Changes.{LeadTo, update_of};
 ghost use Rattle.qm_index.specs.Indexed.{IsIndexed};
 ghost use Rattle.qm_batch.specs.Lent.{IsReadError, NoneBelow};
-ghost use Rattle.qm_batch.specs.Views.{changes_view, IsPlan, stepped, left_after};
-ghost use Rattle.qm_any.specs.Databases.{Database, IsBegun, IsDatabase, IsLeft, IsMade, IsTree, at_rest};
+ghost use Rattle.qm_batch.specs.Views.{changes_view, keys_of, read_view, wanted_view, AreReads, IsPlan, stepped, left_after};
+ghost use Rattle.qm_any.specs.Databases.{Database, IsBegun, IsDatabase, IsLeft, IsMade, IsTree, at_rest, read_under};
 ghost use Rattle.qm_store.specs.Given.{Appended, AppendedPart, store_given, store_after};
 ghost use Rattle.qm_store.specs.KeptTrees.{IsKeptTree, held_at};
-ghost use Rattle.qm_base.specs.Slots.{write_views};
 
 use crate::batch::{Lacking, MerkleizedBatch, UnmerkleizedBatch};
 use crate::operations::{Step, copy_of, share, twin_option};
 use qm_base::update::{Unordered, Update};
 use qm_base::{
-    ByteString, Commitment, Digest, Error, Hasher, JournalError, Location, MerkleError,
+    ByteString, Commitment, Digest, Error, Hasher, JournalError, Location, MerkleError, Twin,
     ValueEncoding,
 };
-use qm_batch::{Base, Plan, Write, Writes, apply_bits, apply_diffs, plain, read_key};
+use qm_batch::{Base, Plan, Read, Wanted, Writes, apply_bits, apply_diffs, read_key, staged};
 use qm_bits::{Chunk64, Prunable};
 use qm_chain::{Diff, Policy};
 use qm_merkle::Family;
@@ -280,7 +279,7 @@ impl<
         if let Some(write) = writes.last(key.as_bytes()) {
             return Ok(twin_option(alloc, &write.value)?);
         }
-        match read_key(alloc, &self.index, &mut self.log, steps, key)? {
+        match self.find(alloc, steps, key)? {
             Some((_, update)) => Ok(Some(update.into_value())),
             None => Ok(None),
         }
@@ -306,6 +305,66 @@ impl<
             values.push(value)?;
         }
         Ok(values)
+    }
+
+    // A key's live update on the base list of a batch of these steps, with its location.
+    fn find(
+        &mut self,
+        alloc: Global,
+        steps: &[Step<F, U>],
+        key: &U::Key,
+    ) -> Result<Option<(Location<F>, U)>, Error>
+        ensures value { (list base : List Operation) → IsDatabase C.Store ⟦<Self as LaidOut>⟧.layout self.old list → LeadOver (map (λ l. l.value) steps.now) list base
+            → IfOk result (λ found. option_map (read_view U.view) found ≡ update_of base (U.Key.bytes key.now)) }
+        ensures error { IfErr result (IsReadError C.Store self.old.log self.new.log) }
+        ensures whole { (list : List Operation) → IsDatabase C.Store ⟦<Self as LaidOut>⟧.layout self.old list → NoneBelow self.old.log.tree.start list → IfErr result (λ e. (n : ℕ) → e ≢ Error.Journal (JournalError.ItemPruned n)) }
+        ensures left { IsLeft C.Store ⟦<Self as LaidOut>⟧.layout.hashing self.old self.new }
+    {
+        read_key(alloc, &self.index, &mut self.log, steps, key)
+    }
+
+    // Keys in their order, each with its live update on the base list of a batch of these steps.
+    fn find_all(
+        &mut self,
+        alloc: Global,
+        steps: &[Step<F, U>],
+        keys: Vec<U::Key>,
+    ) -> Result<Vec<Read<F, U>>, Error>
+        ensures keys { IfOk result (λ reads. keys_of U.Key.bytes reads.items ≡ map U.Key.bytes keys.items) }
+        ensures reads { (list base : List Operation) → IsDatabase C.Store ⟦<Self as LaidOut>⟧.layout self.old list → LeadOver (map (λ l. l.value) steps.now) list base
+            → IfOk result (λ reads. AreReads U.view U.Key.bytes reads.items base) }
+        ensures error { IfErr result (IsReadError C.Store self.old.log self.new.log) }
+        ensures whole { (list : List Operation) → IsDatabase C.Store ⟦<Self as LaidOut>⟧.layout self.old list → NoneBelow self.old.log.tree.start list → IfErr result (λ e. (n : ℕ) → e ≢ Error.Journal (JournalError.ItemPruned n)) }
+        ensures left { IsLeft C.Store ⟦<Self as LaidOut>⟧.layout.hashing self.old self.new }
+    {
+        let mut reads = Vec::new(alloc);
+        for key in keys {
+            let found = self.find(alloc, steps, &key)?;
+            reads.push(Read { key, found })?;
+        }
+        Ok(reads)
+    }
+
+    // Keys in their order, as they stand on the base list of a batch of these steps, and their values under its writes.
+    pub(crate) fn locate_all(
+        &mut self,
+        alloc: Global,
+        steps: &[Step<F, U>],
+        writes: &Writes<U::Key, U::Value>,
+        keys: Vec<U::Key>,
+    ) -> Result<(Vec<Read<F, U>>, Vec<Option<U::Value>>), Error>
+        ensures keys { IfOk result (λ r. keys_of U.Key.bytes r.0.items ≡ map U.Key.bytes keys.items) }
+        ensures reads { (list base : List Operation) → IsDatabase C.Store ⟦<Self as LaidOut>⟧.layout self.old list → LeadOver (map (λ l. l.value) steps.now) list base
+            → IfOk result (λ r. AreReads U.view U.Key.bytes r.0.items base) }
+        ensures values { (list base : List Operation) → IsDatabase C.Store ⟦<Self as LaidOut>⟧.layout self.old list → LeadOver (map (λ l. l.value) steps.now) list base
+            → IfOk result (λ r. map (option_map U.Value.bytes) r.1.items ≡ map (λ k. read_through base writes.now (U.Key.bytes k)) keys.items) }
+        ensures error { IfErr result (IsReadError C.Store self.old.log self.new.log) }
+        ensures whole { (list : List Operation) → IsDatabase C.Store ⟦<Self as LaidOut>⟧.layout self.old list → NoneBelow self.old.log.tree.start list → IfErr result (λ e. (n : ℕ) → e ≢ Error.Journal (JournalError.ItemPruned n)) }
+        ensures left { IsLeft C.Store ⟦<Self as LaidOut>⟧.layout.hashing self.old self.new }
+    {
+        let reads = self.find_all(alloc, steps, keys)?;
+        let values = values_of(alloc, writes, &reads)?;
+        Ok((reads, values))
     }
 
     // A batch's tree with the leaves of these items behind it, and the root of its list with this floor. It keeps nothing
@@ -477,34 +536,37 @@ impl<
     K: ByteString,
     V: ValueEncoding<K>,
 > Db<F, C, I, H, Unordered<K, V>> {
-    // What writes and metadata make of a base list, under a policy.
+    // What is wanted, and metadata, make of a base list, under a policy.
     pub(crate) fn plan<P: Policy<F, K, V::Value>>(
         &mut self,
         alloc: Global,
         base: &Base<'_, F, Unordered<K, V>>,
-        writes: &[Write<K, V::Value>],
+        wanted: Wanted<'_, F, Unordered<K, V>>,
         metadata: Option<V::Value>,
         policy: &mut P,
     ) -> Result<Plan<F, Unordered<K, V>>, Error>
         requires size { base.now.size ≤ 2 ^ 62 }
         requires live { base.now.live ≤ base.now.size }
+        requires slots { length wanted.slots.now ≡ length wanted.reads.now }
         ensures plan { (list known : List Operation) → IsDatabase C.Store ⟦<Self as LaidOut>⟧.layout self.old list → IsBase (base_view base.now) list known
-            → IfOk result (λ plan. IsPlan plan known (stepped P.rules known (write_views K.bytes V.Value.bytes writes.now) policy.old (option_map V.Value.bytes metadata))) }
+            → AreReads ⟦<Unordered<K, V> as Update>⟧.view K.bytes wanted.reads.now known
+            → IfOk result (λ plan. IsPlan plan known (stepped P.rules known (wanted_view K.bytes V.Value.bytes wanted) policy.old (option_map V.Value.bytes metadata))) }
         ensures next { (list known : List Operation) → IsDatabase C.Store ⟦<Self as LaidOut>⟧.layout self.old list → IsBase (base_view base.now) list known
-            → IfOk result (λ _. policy.new ≡ left_after P.rules known (write_views K.bytes V.Value.bytes writes.now) policy.old) }
+            → AreReads ⟦<Unordered<K, V> as Update>⟧.view K.bytes wanted.reads.now known
+            → IfOk result (λ _. policy.new ≡ left_after P.rules known (wanted_view K.bytes V.Value.bytes wanted) policy.old) }
         ensures live { IfOk result (λ plan. plan.live ≤ base.now.size + length plan.operations) }
         ensures error { IfErr result (IsReadError C.Store self.old.log self.new.log) }
         ensures whole { (list : List Operation) → IsDatabase C.Store ⟦<Self as LaidOut>⟧.layout self.old list → NoneBelow self.old.log.tree.start list → self.old.log.tree.start ≤ base.now.floor
             → IfErr result (λ e. (n : ℕ) → e ≢ Error.Journal (JournalError.ItemPruned n)) }
         ensures left { IsLeft C.Store ⟦<Self as LaidOut>⟧.layout.hashing self.old self.new }
     {
-        plain(
+        staged(
             alloc,
             &self.index,
             &self.activity,
             &mut self.log,
             base,
-            writes,
+            wanted,
             metadata,
             policy,
         )
@@ -526,6 +588,39 @@ impl<
             .field("floor", &self.floor.get())
             .finish()
     }
+}
+
+// The value of a key that was read: that of its last write or, where it has none, the one that was found.
+fn value_of<F, U: Update>(
+    alloc: Global,
+    writes: &Writes<U::Key, U::Value>,
+    read: &Read<F, U>,
+) -> Result<Option<U::Value>, AllocError>
+    ensures { IfOk result (λ value. option_map U.Value.bytes value ≡ read_under writes.now (U.Key.bytes read.now.key) (option_map (read_view U.view) read.now.found)) }
+{
+    if let Some(write) = writes.last(read.key.as_bytes()) {
+        return twin_option(alloc, &write.value);
+    }
+    match &read.found {
+        Some((_, update)) => Ok(Some(update.value().twin(alloc)?)),
+        None => Ok(None),
+    }
+}
+
+// The values of keys that were read, in their order.
+fn values_of<F, U: Update>(
+    alloc: Global,
+    writes: &Writes<U::Key, U::Value>,
+    reads: &[Read<F, U>],
+) -> Result<Vec<Option<U::Value>>, AllocError>
+    ensures { IfOk result (λ values. map (option_map U.Value.bytes) values.items ≡ map (λ r. read_under writes.now (U.Key.bytes r.key) (option_map (read_view U.view) r.found)) reads.now) }
+{
+    let mut values = Vec::with_capacity(alloc, reads.len())?;
+    for read in reads {
+        let value = value_of(alloc, writes, read)?;
+        values.push(value)?;
+    }
+    Ok(values)
 }
 
 // The database of a log that has a batch's list, where the index takes it too.

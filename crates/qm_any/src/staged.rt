@@ -18,12 +18,14 @@ ghost use Rattle.qm_any.specs.Tips.{IsTaken, IsRefused};
 use crate::batch::{MerkleizedBatch, UnmerkleizedBatch};
 use crate::db::{Db, LaidOut};
 use qm_base::update::{Unordered, Update};
-use qm_base::{ByteString, Digest, Error, Hasher, JournalError, Location, Slot, ValueEncoding, Write};
+use qm_base::{
+    ByteString, Digest, Error, Hasher, JournalError, Location, Slot, ValueEncoding, Write,
+};
 use qm_batch::Read;
 use qm_chain::Policy;
 use qm_merkle::Family;
 use qm_store::Store;
-use std::alloc::Global;
+use std::alloc::{AllocError, Global};
 use std::marker::Model;
 use std::ops::Range;
 use std::rc::Rc;
@@ -121,9 +123,9 @@ impl<F: Family, D: Digest, U: Update> Staged<F, D, U> {
         ensures left { IsLeft C.Store ⟦<Db<F, C, I, H, U> as LaidOut>⟧.layout.hashing db.old db.new }
     {
         let Staged { batch, reads } = self;
-        let (found, values) = batch.located(alloc, &keys, db)?;
+        let (found, values) = batch.located(alloc, keys, db)?;
         let start = reads.len();
-        let reads = remembered(reads, keys, found)?;
+        let reads = remembered(reads, found)?;
         let range = start..reads.len();
         Ok((range, values, Staged { batch, reads }))
     }
@@ -169,4 +171,16 @@ impl<F: Family, D: Digest, K: ByteString, V: ValueEncoding<K>> Staged<F, D, Unor
         let Staged { batch, reads } = self;
         batch.merkleized(alloc, &reads, slots, others, db, metadata, policy)
     }
+}
+
+// The reads, with those that were found behind them.
+fn remembered<F, U: Update>(
+    reads: Vec<Read<F, U>>,
+    found: Vec<Read<F, U>>,
+) -> Result<Vec<Read<F, U>>, AllocError>
+    ensures { IfOk result (λ all. all.items ≡ reads.items ++ found.items) }
+{
+    let (mut reads, mut found) = (reads, found);
+    reads.append(&mut found)?;
+    Ok(reads)
 }

@@ -6,13 +6,12 @@ use Rattle.qm_model.specs.Forms.{spelling}
 use Rattle.qm_model.specs.Refusals.{too_long}
 use Rattle.qm_merkle.specs.Batches.{stops}
 use Rattle.qm_model.proofs.Steps.{step-good}
-use Rattle.qm_batch.specs.Views.{stepped}
+use Rattle.qm_batch.specs.Views.{stepped, wanted_view}
 use Rattle.qm_batch.specs.PlanViews.{unordered_form}
 use Rattle.qm_any.specs.Layouts.{hashing_with, spellings}
 use Rattle.qm_any.specs.Databases.{AreAgreed, AreLinked, IsMade, IsTree, bases_of, child_boundary, child_made}
 use Rattle.qm_merkle.specs.Batches.{lists_since}
 use Rattle.qm_store.specs.KeptTrees.{KeptTree, IsKeptTree}
-use Rattle.qm_base.specs.Slots.{write_views}
 use Rattle.qm_any.proofs.Agreed.{child-reached, child-above}
 use Rattle.qm_any.proofs.Known.{on_chain-base, child-base, child-linked}
 use Rattle.qm_any.proofs.Making.{child-among, child-is_made, plan-length, plan-spelled, stepped-metadata, stepped-of}
@@ -20,10 +19,10 @@ use Rattle.qm_any.proofs.Reading.{left-database}
 use Rattle.qm_any.proofs.batch.made_on.Goals as goal
 
 pub returns-in_err-plan-clause-refused : goal.returns-in_err-plan-clause-refused
-returns-in_err-plan-clause-refused g c = λ list chain above is made kept on.
+returns-in_err-plan-clause-refused g c = λ list chain above is made kept on reads.
     let exit = err_from_is_err_and c.from_residual-in_err-plan.result c.from_residual-in_err-plan.ensures.1 in
     let from = child-base c.args.parent.now c.args.keep list chain above made kept on in
-    rw (exit.1, exit.2) (c.in_err-plan.ensures.refused list chain.base is from)
+    rw (exit.1, exit.2) (c.in_err-plan.ensures.refused list chain.base is from reads)
 
 pub grown-requires-clause-reach : goal.grown-requires-clause-reach
 grown-requires-clause-reach g c =
@@ -42,7 +41,7 @@ grown-requires-clause-boundary g c =
     omega (arith, size, low, child-above parent agreed c.args.keep c.args.db.now.commitment c.requires.keep c.requires.on)
 
 pub returns-in_err-tree-clause-refused : goal.returns-in_err-tree-clause-refused
-returns-in_err-tree-clause-refused g c = λ list chain above is made kept on.
+returns-in_err-tree-clause-refused g c = λ list chain above is made kept on reads.
     let exit = err_from_is_err_and c.from_residual-in_err-tree.result c.from_residual-in_err-tree.ensures.1 in
     rw (exit.1, exit.2) (inl (inl refl))
 
@@ -57,19 +56,19 @@ sealed-requires-clause-count g c =
     omega (arith, grown, tree, own, items, count)
 
 pub returns-clause-made : goal.returns-clause-made
-returns-clause-made g c = λ list chain above is made kept on.
+returns-clause-made g c = λ list chain above is made kept on reads.
     let bytes = g.D.Digest.bytes in
     let form = (unordered_form g.K.ByteString.has g.V.Value.ByteString.has g.V.ValueEncoding.fixed) in
     let hashing = hashing_with bytes g.H.Hasher.hash g.F.Family.shape form in
     let parent = c.args.parent.now in
     let base = chain.base in
-    let ws = write_views g.K.ByteString.bytes g.V.Value.ByteString.bytes c.args.writes.now in
+    let ws = wanted_view g.K.ByteString.bytes g.V.Value.ByteString.bytes c.args.wanted in
     let meta = option_map g.V.Value.ByteString.bytes c.args.metadata in
     let tip = stepped g.P.Policy.rules base ws c.args.policy.now meta in
     let items = map (λ v. v.items) c.in_ok-plan.items.items in
     let size = ap (λ k. k.size) made.bounds.tip in
     let from = child-base parent c.args.keep list chain above made kept on in
-    let plan = c.in_ok-plan.ensures.plan list base is from in
+    let plan = c.in_ok-plan.ensures.plan list base is from reads in
     let short = subst (λ xs. too_long xs ≡ None) (c.in_ok-plan.ensures.items ∙ ap (map (spelling (unordered_form g.K.ByteString.has g.V.Value.ByteString.has g.V.ValueEncoding.fixed))) plan.operations) c.in_ok-plan.ensures.short in
     let count : length c.in_ok-plan.items.items ≡ length c.in_ok-plan.plan.operations = sym (length-map c.in_ok-plan.items.items (λ v. v.items)) ∙ ap length c.in_ok-plan.ensures.items ∙ length-map c.in_ok-plan.plan.operations (spelling (unordered_form g.K.ByteString.has g.V.Value.ByteString.has g.V.ValueEncoding.fixed)) in
     let room = c.in_ok-plan.ensures.room in
@@ -91,17 +90,17 @@ returns-clause-made g c = λ list chain above is made kept on.
     (child-is_made parent c.args.keep chain above c.requires.keep made kept c.in_ok-plan.plan c.in_ok-tree.tree (bytes c.in_ok-tree.root) meta tip plan tree root (stepped-metadata g.P.Policy.rules base ws c.args.policy.now meta) all (step-good g.P.Policy.rules base ws c.args.policy.now meta made.good))
 
 pub returns-clause-taken : goal.returns-clause-taken
-returns-clause-taken g c = λ list chain above is made kept on.
+returns-clause-taken g c = λ list chain above is made kept on reads.
     let bytes = g.D.Digest.bytes in
     let form = (unordered_form g.K.ByteString.has g.V.Value.ByteString.has g.V.ValueEncoding.fixed) in
     let hashing = hashing_with bytes g.H.Hasher.hash g.F.Family.shape form in
     let base = chain.base in
-    let ws = write_views g.K.ByteString.bytes g.V.Value.ByteString.bytes c.args.writes.now in
+    let ws = wanted_view g.K.ByteString.bytes g.V.Value.ByteString.bytes c.args.wanted in
     let meta = option_map g.V.Value.ByteString.bytes c.args.metadata in
     let tip = stepped g.P.Policy.rules base ws c.args.policy.now meta in
     let size = ap (λ k. k.size) made.bounds.tip in
     let from = child-base c.args.parent.now c.args.keep list chain above made kept on in
-    let plan = c.in_ok-plan.ensures.plan list base is from in
+    let plan = c.in_ok-plan.ensures.plan list base is from reads in
     let count : length c.in_ok-plan.items.items ≡ length c.in_ok-plan.plan.operations = sym (length-map c.in_ok-plan.items.items (λ v. v.items)) ∙ ap length c.in_ok-plan.ensures.items ∙ length-map c.in_ok-plan.plan.operations (spelling (unordered_form g.K.ByteString.has g.V.Value.ByteString.has g.V.ValueEncoding.fixed)) in
     let room = c.in_ok-plan.ensures.room in (
       subst (λ xs. too_long xs ≡ None) (c.in_ok-plan.ensures.items ∙ ap (map (spelling (unordered_form g.K.ByteString.has g.V.Value.ByteString.has g.V.ValueEncoding.fixed))) plan.operations) c.in_ok-plan.ensures.short,
@@ -109,7 +108,7 @@ returns-clause-taken g c = λ list chain above is made kept on.
     )
 
 pub returns-in_err-batch-clause-refused : goal.returns-in_err-batch-clause-refused
-returns-in_err-batch-clause-refused g c = λ list chain above is made kept on.
+returns-in_err-batch-clause-refused g c = λ list chain above is made kept on reads.
     let exit = err_from_is_err_and c.from_residual-in_err-batch.result c.from_residual-in_err-batch.ensures.1 in
     rw (exit.1, exit.2) (inl (inl refl))
 
@@ -119,8 +118,8 @@ returns-in_err-batch-clause-whole g c = λ list is none low.
     rw (exit.1, exit.2) (λ n pruned. cc)
 
 pub returns-clause-next : goal.returns-clause-next
-returns-clause-next g c = λ list chain above is made kept on.
-    c.in_ok-plan.ensures.next list chain.base is (child-base c.args.parent.now c.args.keep list chain above made kept on)
+returns-clause-next g c = λ list chain above is made kept on reads.
+    c.in_ok-plan.ensures.next list chain.base is (child-base c.args.parent.now c.args.keep list chain above made kept on) reads
 
 pub returns-in_err-tree-clause-whole : goal.returns-in_err-tree-clause-whole
 returns-in_err-tree-clause-whole g c = λ list is none low.

@@ -10,10 +10,10 @@ use Rattle.qm_any.proofs.Making.{too_long-fresh, too_long-cause, too_long-kept, 
 use Rattle.qm_any.proofs.batch.planned.Goals as goal
 
 pub returns-in-Ok-clause-plan : goal.returns-in-Ok-clause-plan
-returns-in-Ok-clause-plan g c = λ list base is from. c.in_ok-plan.ensures.plan list base is (subst (λ b. IsBase b list base) (sym c.base-base.ensures.value) from)
+returns-in-Ok-clause-plan g c = λ list base is from reads. c.in_ok-plan.ensures.plan list base is (subst (λ b. IsBase b list base) (sym c.base-base.ensures.value) from) reads
 
 pub returns-in-Ok-clause-next : goal.returns-in-Ok-clause-next
-returns-in-Ok-clause-next g c = λ list base is from. c.in_ok-plan.ensures.next list base is (subst (λ b. IsBase b list base) (sym c.base-base.ensures.value) from)
+returns-in-Ok-clause-next g c = λ list base is from reads. c.in_ok-plan.ensures.next list base is (subst (λ b. IsBase b list base) (sym c.base-base.ensures.value) from) reads
 
 pub returns-in-Ok-clause-of : goal.returns-in-Ok-clause-of
 returns-in-Ok-clause-of g c =
@@ -30,10 +30,10 @@ returns-in-Ok-clause-live g c =
     omega (arith, live, count, at)
 
 pub returns-in-Err-clause-refused : goal.returns-in-Err-clause-refused
-returns-in-Err-clause-refused g c = λ list base is from.
+returns-in-Err-clause-refused g c = λ list base is from reads.
     let form = (unordered_form g.K.ByteString.has g.V.Value.ByteString.has g.V.ValueEncoding.fixed) in
     let known = subst (λ b. IsBase b list base) (sym c.base-base.ensures.value) from in
-    let plan = c.in_ok-plan.ensures.plan list base is known in
+    let plan = c.in_ok-plan.ensures.plan list base is known reads in
     let spelt = c.in_ok-items.ensures.items ∙ ap (λ xs. map (spelling form) (operation_views (unordered_update g.K.ByteString.bytes g.V.Value.ByteString.bytes) g.K.ByteString.bytes g.V.Value.ByteString.bytes xs)) c.deref.ensures.value ∙ ap (λ p. map (spelling form) p.operations) c.plan-2.view_is in
     let count : length c.in_ok-items.items.items ≡ length c.in_ok-plan.plan.operations = sym (length-map c.in_ok-items.items.items (λ v. v.items)) ∙ ap length spelt ∙ length-map c.in_ok-plan.plan.operations (spelling form) in
     let all : c.base-base.result.size + c.len.result ≡ length base + length c.in_ok-plan.plan.operations = omega (arith, known.size, count, c.len.ensures, c.in_ok-items.items.ok.0) in

@@ -7,16 +7,16 @@ use Rattle.qm_any.specs.Databases.{IsDatabase}
 use Rattle.qm_any.proofs.db.Db+F+C+I+H+Unordered+K+V.plan.Goals as goal
 
 pub returns-clause-plan : goal.returns-clause-plan
-returns-clause-plan g c = λ list known is from.
+returns-clause-plan g c = λ list known is from reads.
     let at = subst (λ db. IsDatabase g.C.Store (record { hashing = hashing_with g.H.Digest.Digest.bytes g.H.Hasher.hash g.F.Family.shape (unordered_form g.K.ByteString.has g.V.Value.ByteString.has g.V.ValueEncoding.fixed); index_key = g.I.Unordered.index_key }) db list) (sym c.self.view_is) is in
-    told-here _ (g.C.Store.told c.self.inside.log.store) at.told (c.plain.ensures.plan list known at.lent at.active from)
+    told-here _ (g.C.Store.told c.self.inside.log.store) at.told (c.staged.ensures.plan list known at.lent at.active from reads)
 
 pub returns-clause-next : goal.returns-clause-next
-returns-clause-next g c = λ list known is from.
+returns-clause-next g c = λ list known is from reads.
     let at = subst (λ db. IsDatabase g.C.Store (record { hashing = hashing_with g.H.Digest.Digest.bytes g.H.Hasher.hash g.F.Family.shape (unordered_form g.K.ByteString.has g.V.Value.ByteString.has g.V.ValueEncoding.fixed); index_key = g.I.Unordered.index_key }) db list) (sym c.self.view_is) is in
-    told-here _ (g.C.Store.told c.self.inside.log.store) at.told (c.plain.ensures.next list known at.lent at.active from)
+    told-here _ (g.C.Store.told c.self.inside.log.store) at.told (c.staged.ensures.next list known at.lent at.active from reads)
 
 pub returns-clause-whole : goal.returns-clause-whole
 returns-clause-whole g c = λ list is none low.
     let at = subst (λ db. IsDatabase g.C.Store (record { hashing = hashing_with g.H.Digest.Digest.bytes g.H.Hasher.hash g.F.Family.shape (unordered_form g.K.ByteString.has g.V.Value.ByteString.has g.V.ValueEncoding.fixed); index_key = g.I.Unordered.index_key }) db list) (sym c.self.view_is) is in
-    c.plain.ensures.whole list at.lent (subst (λ db. NoneBelow db.log.tree.start list) (sym c.self.view_is) none) (subst (λ db. db.log.tree.start ≤ c.args.base.now.floor) (sym c.self.view_is) low)
+    c.staged.ensures.whole list at.lent (subst (λ db. NoneBelow db.log.tree.start list) (sym c.self.view_is) none) (subst (λ db. db.log.tree.start ≤ c.args.base.now.floor) (sym c.self.view_is) low)

@@ -1,14 +1,10 @@
-use Rattle.std.proofs.Common.{◌≡◌, ◌∙◌, ap, sym, subst, ℕ, Option, None}
+use Rattle.std.proofs.Common.{◌≡◌, ◌∙◌, ap, sym, ℕ, Option, None}
 use Rattle.std.specs.Prelude.{option_map, option_and_then}
-use Rattle.qm_model.proofs.Results.{told-here}
 use Rattle.qm_base.specs.Parts as parts
 use Rattle.qm_model.specs.Operations.{Bytes, Operation}
 use Rattle.qm_model.specs.Live.{value_of}
 use Rattle.qm_model.specs.Writes.{read_through, overwritten, write_of, last_writes}
-use Rattle.qm_batch.specs.Changes.{update_of}
 use Rattle.qm_batch.specs.Views.{read_view, write_view}
-use Rattle.qm_any.specs.Layouts.{layout_of}
-use Rattle.qm_any.specs.Databases.{IsDatabase}
 use Rattle.qm_any.proofs.Reading.{value-found}
 use Rattle.qm_any.proofs.db.Db.read_one.Goals.{in-Some-2, in-None}
 use Rattle.qm_any.proofs.db.Db.read_one.Goals as goal
@@ -20,13 +16,10 @@ returns-clause-value g c = λ list base stands from.
     let at = key c.args.key.now in
     let writes = c.args.writes.now in
     let unwritten : write_of (last_writes writes) at ≡ None = ap (write_of (last_writes writes)) (sym c.as_bytes.ensures.value) ∙ sym c.last.ensures ∙ ap (option_map (λ w. write_view key value w.now)) c.in_default.is in
-    let inside = subst (λ db. IsDatabase g.C.Store (layout_of g.H.Digest.Digest.bytes g.H.Hasher g.F.Family g.U.Update g.I.Unordered) db list) (sym c.self.view_is) stands in
     let view = read_view g.U.Update.view in
     let said : ℕ × Operation → Option Bytes = λ p. parts.value_of p.1 in
-    let found : option_map view c.in_ok-update.field-0 ≡ update_of base at =
-    told-here _ (g.C.Store.told ((c.self.inside).log).store) inside.told (c.in_ok-update.ensures.value list base inside.lent from) in
     let shown : option_and_then said (option_map view c.in_ok-update.field-0) ≡ read_through base writes at =
-    ap (option_and_then said) found ∙ value-found base at ∙ sym (ap (λ w. overwritten w (value_of base at)) unwritten) in
+    ap (option_and_then said) (c.in_ok-update.ensures.value list base stands from) ∙ value-found base at ∙ sym (ap (λ w. overwritten w (value_of base at)) unwritten) in
     elim c.match-branch-3.branch [
       | in-Some-2 w ↦ rw w.result-is (sym w.into_value.ensures ∙ ap (λ o. option_and_then said (option_map view o)) (sym w.in-Some-2.is) ∙ shown)
       | in-None w ↦ rw w.result-is (ap (λ o. option_and_then said (option_map view o)) (sym w.in-None.is) ∙ shown)
