@@ -255,6 +255,15 @@ module _ {X C B S M K V D : Type 0} (members : stores.Ghosts C) (means : words.G
   abbrev Opening : Turn K V D → Given X C → List (Slot B S M) → ℕ → State → Option refusals.Refused → Type 0
   Opening turn held table opened s due = Turns turn held table opened (open_unless s due)
 
+  -- what is held has items, or had some, where it is no empty store
+  pub filled_store : (held : Given X C) (table : List (Slot B S M)) (opened : ℕ) (s : State) → Holds members means held table opened s
+      → ((c : C) → held ≡ Store c → 0 < members.«end» c) → ((c : C) → IfSome (members.told c) (λ held. model.end_of held ≡ members.«end» c))
+      → 0 < s.store.start + length s.store.items
+  filled_store (Database x) table opened s k filled law = let some = (k.whole tt).1 in omega (arith, some)
+  filled_store (Store c) table opened s k filled law =
+      let above : 0 < members.«end» c = filled c refl in
+      subst (λ n. 0 < n) (sym (some_is (members.told c) s.store (λ held. model.end_of held ≡ members.«end» c) k.store.told (law c))) above
+
   -- there is a database, or the store is not empty
   pub open_refused : (held : Given X C) (table : List (Slot B S M)) (opened : ℕ) (s : State) → Holds members means held table opened s
       → 0 < s.store.start + length s.store.items
