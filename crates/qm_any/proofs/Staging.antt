@@ -1,7 +1,7 @@
 -- Keys that were read, with what was found of them.
-use Rattle.std.proofs.Common.{◌≡◌, ◌∙◌, ap, ap₂, sym, subst, refl, ℕ, List, [], ◌∷◌, ◌++◌, map, Option}
+use Rattle.std.proofs.Common.{◌≡◌, ◌∙◌, ap, ap₂, sym, subst, refl, ℕ, List, [], ◌∷◌, ◌++◌, length, map, Option}
 use Rattle.std.specs.Prelude.{All, option_map}
-use Rattle.std.proofs.lemmas.List.{append-nil, map-append}
+use Rattle.std.proofs.lemmas.List.{append-nil, length-map, map-append}
 use Rattle.std.proofs.lemmas.List.Elements.{All-append, All-cons, All-head, All-map, All-nil, All-tail}
 use Rattle.qm_model.specs.Operations.{Bytes, Operation}
 use Rattle.qm_model.specs.Live.{value_of}
@@ -9,21 +9,49 @@ use Rattle.qm_model.specs.Slots.{slotted}
 use Rattle.qm_model.specs.Writes.{Write, last_writes, overwritten, read_through, write_of}
 use Rattle.qm_base.specs.Slots.{slot_views, write_views}
 use Rattle.qm_base.specs.declared.slot.Slot.{Slot}
-use Rattle.qm_base.specs.declared.write.Write as base
+use Rattle.qm_base.specs.declared.write.Write as declared
 use Rattle.qm_batch.specs.Changes.{update_of}
 use Rattle.qm_batch.specs.Views.{AreReads, keys_of, read_view, reads_view}
 use Rattle.qm_batch.specs.declared.wanted.Read.{Read}
+use Rattle.qm_batch.proofs.Steps.{map-twice}
 use Rattle.qm_any.specs.Databases.{read_under}
 use Rattle.qm_any.proofs.Reading.{value-found}
 
 -- where nothing was read and nothing else is written, the recorded writes are all
-pub slotted-none : {F U K V : Type 0} (key : K → Bytes) (value : V → Bytes) (ws : List Write) (reads : List (Read F U K V)) (slots : List (Slot V)) (others : List (base.Write K V)) → reads ≡ [] → slots ≡ [] → others ≡ []
+pub slotted-none : {F U K V : Type 0} (key : K → Bytes) (value : V → Bytes) (ws : List Write) (reads : List (Read F U K V)) (slots : List (Slot V)) (others : List (declared.Write K V)) → reads ≡ [] → slots ≡ [] → others ≡ []
     → slotted ws (keys_of key reads) (slot_views value slots) (write_views key value others) ≡ ws
 slotted-none key value ws reads slots others no_reads no_slots no_others =
     ap (λ rs. slotted ws (keys_of key rs) (slot_views value slots) (write_views key value others)) no_reads
     ∙ ap (λ ss. slotted ws [] (slot_views value ss) (write_views key value others)) no_slots
     ∙ ap (λ os. slotted ws [] [] (write_views key value os)) no_others
     ∙ append-nil ws
+
+-- the keys of reads, with one more
+pub keys-more : {F U K V : Type 0} (key : K → Bytes) (reads all : List (Read F U K V)) (r : Read F U K V) (keys : List K) (k : K) → all ≡ reads ++ r ∷ [] → keys_of key reads ≡ map key keys → r.key ≡ k → keys_of key all ≡ map key (keys ++ k ∷ [])
+keys-more key reads all r keys k more same is =
+    ap (keys_of key) more ∙ map-append (λ (r : Read _ _ _ _). key r.key) reads (r ∷ [])
+    ∙ ap₂ (λ ks b. ks ++ b ∷ []) same (ap key is)
+    ∙ sym (map-append key keys (k ∷ []))
+
+-- as many as there are keys
+pub keys-count : {F U K V : Type 0} (key : K → Bytes) (reads : List (Read F U K V)) (keys : List K) → keys_of key reads ≡ map key keys → length reads ≡ length keys
+keys-count key reads keys same = sym (length-map reads (λ r. key r.key)) ∙ ap length same ∙ length-map keys key
+
+-- the keys of a staged batch of these reads
+pub staged-keys : {F U K V : Type 0} (view : U → Operation) (key : K → Bytes) (now reads : List (Read F U K V)) (staged : List (Bytes × Option (ℕ × Operation))) → now ≡ reads → reads_view view key reads ≡ staged
+    → keys_of key now ≡ map (λ r. r.0) staged
+staged-keys view key now reads staged is same =
+    ap (keys_of key) is
+    ∙ sym (map-twice (λ (r : Bytes × Option (ℕ × Operation)). r.0) (λ (r : Read _ _ _ _). (key r.key, option_map (read_view view) r.found)) reads)
+    ∙ ap (map (λ (r : Bytes × Option (ℕ × Operation)). r.0)) same
+
+-- and of one that has more behind these
+pub staged-keys-more : {F U K V : Type 0} (view : U → Operation) (key : K → Bytes) (all reads found : List (Read F U K V)) (staged : List (Bytes × Option (ℕ × Operation))) (keys : List K) → all ≡ reads ++ found → reads_view view key reads ≡ staged
+    → keys_of key found ≡ map key keys → map (λ (r : Bytes × Option (ℕ × Operation)). r.0) (reads_view view key all) ≡ map (λ r. r.0) staged ++ map key keys
+staged-keys-more view key all reads found staged keys more same are =
+    sym (staged-keys view key all all (reads_view view key all) refl refl)
+    ∙ ap (keys_of key) more ∙ map-append (λ (r : Read _ _ _ _). key r.key) reads found
+    ∙ ap₂ (λ xs ys. xs ++ ys) (staged-keys view key reads reads staged refl same) are
 
 module _ {F U K V : Type 0} (view : U → Operation) (key : K → Bytes) (base : List Operation) where
   -- no reads are those of any list
@@ -35,13 +63,26 @@ module _ {F U K V : Type 0} (view : U → Operation) (key : K → Bytes) (base :
   reads-more reads all r more found are = subst (λ rs. AreReads view key rs base) (sym more) (All-append _ reads (r ∷ []) are (All-cons _ r [] found (All-nil _)))
 
   -- as a staged batch has them
-  pub reads-staged : (reads : List (Read F U K V)) → AreReads view key reads base → All (λ (r : Bytes × Option (ℕ × Operation)). r.1 ≡ update_of base r.0) (reads_view view key reads)
+  reads-staged : (reads : List (Read F U K V)) → AreReads view key reads base → All (λ (r : Bytes × Option (ℕ × Operation)). r.1 ≡ update_of base r.0) (reads_view view key reads)
   reads-staged reads are = All-map (λ (r : Bytes × Option (ℕ × Operation)). r.1 ≡ update_of base r.0) (λ (r : Read F U K V). (key r.key, option_map (read_view view) r.found)) reads are
 
+  -- none is staged at first
+  pub staged-none : (reads : List (Read F U K V)) → reads ≡ [] → All (λ (r : Bytes × Option (ℕ × Operation)). r.1 ≡ update_of base r.0) (reads_view view key reads)
+  staged-none reads none = reads-staged reads (reads-none reads none)
+
   -- and back
-  pub staged-reads : (reads : List (Read F U K V)) → All (λ (r : Bytes × Option (ℕ × Operation)). r.1 ≡ update_of base r.0) (reads_view view key reads) → AreReads view key reads base
-  staged-reads [] all = All-nil _
-  staged-reads (r ∷ rs) all = All-cons _ r rs (All-head _ _ (reads_view view key rs) all) (staged-reads rs (All-tail _ _ (reads_view view key rs) all))
+  reads-back : (reads : List (Read F U K V)) → All (λ (r : Bytes × Option (ℕ × Operation)). r.1 ≡ update_of base r.0) (reads_view view key reads) → AreReads view key reads base
+  reads-back [] all = All-nil _
+  reads-back (r ∷ rs) all = All-cons _ r rs (All-head _ _ (reads_view view key rs) all) (reads-back rs (All-tail _ _ (reads_view view key rs) all))
+
+  pub staged-reads : (now reads : List (Read F U K V)) (staged : List (Bytes × Option (ℕ × Operation))) → now ≡ reads → reads_view view key reads ≡ staged → All (λ (r : Bytes × Option (ℕ × Operation)). r.1 ≡ update_of base r.0) staged → AreReads view key now base
+  staged-reads now reads staged is same all = subst (λ rs. AreReads view key rs base) (sym is) (reads-back reads (subst (All (λ (r : Bytes × Option (ℕ × Operation)). r.1 ≡ update_of base r.0)) (sym same) all))
+
+  -- behind those that it had
+  pub staged-more : (all reads found : List (Read F U K V)) (staged : List (Bytes × Option (ℕ × Operation))) → all ≡ reads ++ found → reads_view view key reads ≡ staged
+      → All (λ (r : Bytes × Option (ℕ × Operation)). r.1 ≡ update_of base r.0) staged → AreReads view key found base → All (λ (r : Bytes × Option (ℕ × Operation)). r.1 ≡ update_of base r.0) (reads_view view key all)
+  staged-more all reads found staged more same had are =
+      reads-staged all (subst (λ rs. AreReads view key rs base) (sym more) (All-append _ reads found (staged-reads reads reads staged refl same had) are))
 
   -- what was found and what the list has of keys have the same values under writes
   pub read-through : (ws : List Write) (reads : List (Read F U K V)) → AreReads view key reads base

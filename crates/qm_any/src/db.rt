@@ -549,11 +549,11 @@ impl<
         requires live { base.now.live ≤ base.now.size }
         requires slots { length wanted.slots.now ≡ length wanted.reads.now }
         ensures plan { (list known : List Operation) → IsDatabase C.Store ⟦<Self as LaidOut>⟧.layout self.old list → IsBase (base_view base.now) list known
-            → AreReads ⟦<Unordered<K, V> as Update>⟧.view K.bytes wanted.reads.now known
-            → IfOk result (λ plan. IsPlan plan known (stepped P.rules known (wanted_view K.bytes V.Value.bytes wanted) policy.old (option_map V.Value.bytes metadata))) }
+            → AreReads ⟦<Unordered<K, V> as Update>⟧.view K.bytes wanted.entry.reads.now known
+            → IfOk result (λ plan. IsPlan plan known (stepped P.rules known (wanted_view K.bytes V.Value.bytes wanted.entry) policy.old (option_map V.Value.bytes metadata))) }
         ensures next { (list known : List Operation) → IsDatabase C.Store ⟦<Self as LaidOut>⟧.layout self.old list → IsBase (base_view base.now) list known
-            → AreReads ⟦<Unordered<K, V> as Update>⟧.view K.bytes wanted.reads.now known
-            → IfOk result (λ _. policy.new ≡ left_after P.rules known (wanted_view K.bytes V.Value.bytes wanted) policy.old) }
+            → AreReads ⟦<Unordered<K, V> as Update>⟧.view K.bytes wanted.entry.reads.now known
+            → IfOk result (λ _. policy.new ≡ left_after P.rules known (wanted_view K.bytes V.Value.bytes wanted.entry) policy.old) }
         ensures live { IfOk result (λ plan. plan.live ≤ base.now.size + length plan.operations) }
         ensures error { IfErr result (IsReadError C.Store self.old.log self.new.log) }
         ensures whole { (list : List Operation) → IsDatabase C.Store ⟦<Self as LaidOut>⟧.layout self.old list → NoneBelow self.old.log.tree.start list → self.old.log.tree.start ≤ base.now.floor

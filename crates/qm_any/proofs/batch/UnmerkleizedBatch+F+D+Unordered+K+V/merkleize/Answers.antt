@@ -1,57 +1,50 @@
-use Rattle.std.proofs.Common.{◌≡◌, ◌∙◌, ◌≤◌, ap, sym, subst, inr, option_map}
+use Rattle.std.proofs.Common.{◌≡◌, ◌∙◌, option_map}
+use Rattle.std.proofs.Common.{subst}
 use Rattle.std.specs.Prelude.{IfOk, IfErr, OnOk, ◌⊎◌}
-use Rattle.qm_model.proofs.Results.{err-then}
 use Rattle.qm_batch.specs.Lent.{IsReadError}
 use Rattle.qm_batch.specs.Views.{stepped, left_after}
-use Rattle.qm_any.specs.Layouts.{hashing_with}
 use Rattle.qm_batch.specs.PlanViews.{unordered_form}
-use Rattle.qm_any.specs.Databases.{IsMade, kept_by}
+use Rattle.qm_any.specs.Layouts.{hashing_with}
+use Rattle.qm_any.specs.Databases.{IsMade}
 use Rattle.qm_any.specs.Tips.{IsTaken, IsRefused}
+use Rattle.qm_any.proofs.Staging.{reads-none, slotted-none}
 use Rattle.qm_any.proofs.batch.UnmerkleizedBatch+F+D+Unordered+K+V.merkleize.Goals as goal
 
-pub returns-in-Ok-clause-made : goal.returns-in-Ok-clause-made
-returns-in-Ok-clause-made g c = λ list chain above is begun on.
-    let form = (unordered_form g.K.ByteString.has g.V.Value.ByteString.has g.V.ValueEncoding.fixed) in
-    let hashing = hashing_with g.D.Digest.bytes g.H.Hasher.hash g.F.Family.shape form in
-    let writes = c.as_slice.ensures ∙ ap (λ b. b.writes) c.self.view_is in
-    let parent = c.deref-in-Ok.ensures ∙ ap (λ b. b.parent) c.self.view_is in
-    let keep = ap (λ b. b.keep) c.self.view_is in
-    subst (λ ws. IfOk c.made_on.result (λ b. IsMade hashing b.value chain (stepped g.P.Policy.rules chain.base ws c.args.policy.now (option_map g.V.Value.ByteString.bytes c.args.metadata)))) writes
-    (c.made_on.ensures.made list chain above is (subst (λ p. IsMade hashing p above chain.base) (sym parent) begun.parent) (begun.kept ∙ ap (λ k. kept_by k above chain.base) (sym keep)) on)
-
-pub returns-in-Ok-clause-taken : goal.returns-in-Ok-clause-taken
-returns-in-Ok-clause-taken g c = λ list chain above is begun on.
-    let form = (unordered_form g.K.ByteString.has g.V.Value.ByteString.has g.V.ValueEncoding.fixed) in
-    let hashing = hashing_with g.D.Digest.bytes g.H.Hasher.hash g.F.Family.shape form in
-    let writes = c.as_slice.ensures ∙ ap (λ b. b.writes) c.self.view_is in
-    let parent = c.deref-in-Ok.ensures ∙ ap (λ b. b.parent) c.self.view_is in
-    let keep = ap (λ b. b.keep) c.self.view_is in
-    subst (λ ws. OnOk c.made_on.result (IsTaken form chain.base (stepped g.P.Policy.rules chain.base ws c.args.policy.now (option_map g.V.Value.ByteString.bytes c.args.metadata)))) writes
-    (c.made_on.ensures.taken list chain above is (subst (λ p. IsMade hashing p above chain.base) (sym parent) begun.parent) (begun.kept ∙ ap (λ k. kept_by k above chain.base) (sym keep)) on)
-
-pub returns-in-Ok-clause-refused : goal.returns-in-Ok-clause-refused
-returns-in-Ok-clause-refused g c = λ list chain above is begun on.
-    let form = (unordered_form g.K.ByteString.has g.V.Value.ByteString.has g.V.ValueEncoding.fixed) in
-    let hashing = hashing_with g.D.Digest.bytes g.H.Hasher.hash g.F.Family.shape form in
-    let writes = c.as_slice.ensures ∙ ap (λ b. b.writes) c.self.view_is in
-    let parent = c.deref-in-Ok.ensures ∙ ap (λ b. b.parent) c.self.view_is in
-    let keep = ap (λ b. b.keep) c.self.view_is in
-    subst (λ ws. IfErr c.made_on.result (λ e. IsRefused form chain.base (stepped g.P.Policy.rules chain.base ws c.args.policy.now (option_map g.V.Value.ByteString.bytes c.args.metadata)) e ⊎ IsReadError g.C.Store c.args.db.now.log c.made_on.new.db.log e)) writes
-    (c.made_on.ensures.refused list chain above is (subst (λ p. IsMade hashing p above chain.base) (sym parent) begun.parent) (begun.kept ∙ ap (λ k. kept_by k above chain.base) (sym keep)) on)
-
-pub returns-in-Ok-clause-next : goal.returns-in-Ok-clause-next
-returns-in-Ok-clause-next g c = λ list chain above is begun on.
+pub returns-clause-made : goal.returns-clause-made
+returns-clause-made g c = λ list chain above is begun on.
+    let key = g.K.ByteString.bytes in
+    let value = g.V.Value.ByteString.bytes in
     let hashing = hashing_with g.D.Digest.bytes g.H.Hasher.hash g.F.Family.shape (unordered_form g.K.ByteString.has g.V.Value.ByteString.has g.V.ValueEncoding.fixed) in
-    let writes = c.as_slice.ensures ∙ ap (λ b. b.writes) c.self.view_is in
-    let parent = c.deref-in-Ok.ensures ∙ ap (λ b. b.parent) c.self.view_is in
-    let keep = ap (λ b. b.keep) c.self.view_is in
-    subst (λ ws. OnOk c.made_on.result (c.made_on.new.policy ≡ left_after g.P.Policy.rules chain.base ws c.args.policy.now)) writes
-    (c.made_on.ensures.next list chain above is (subst (λ p. IsMade hashing p above chain.base) (sym parent) begun.parent) (begun.kept ∙ ap (λ k. kept_by k above chain.base) (sym keep)) on)
+    let reads = c.deref.ensures.value ∙ c.new-reads.ensures.items in
+    let writes = slotted-none key value c.args.self.writes _ _ _ reads (c.deref-2.ensures.value ∙ c.new-slots.ensures.items) (c.deref-3.ensures.value ∙ c.new-others.ensures.items) in
+    subst (λ ws. IfOk c.merkleized.result (λ b. IsMade hashing b.value chain (stepped g.P.Policy.rules chain.base ws c.args.policy.now (option_map value c.args.metadata)))) writes
+    (c.merkleized.ensures.made list chain above is begun on (reads-none _ key chain.base _ reads))
 
-pub returns-in-Ok-clause-causes : goal.returns-in-Ok-clause-causes
-returns-in-Ok-clause-causes g c = err-then c.made_on.result c.made_on.ensures.causes (λ e cause. inr cause)
+pub returns-clause-taken : goal.returns-clause-taken
+returns-clause-taken g c = λ list chain above is begun on.
+    let key = g.K.ByteString.bytes in
+    let value = g.V.Value.ByteString.bytes in
+    let form = unordered_form g.K.ByteString.has g.V.Value.ByteString.has g.V.ValueEncoding.fixed in
+    let reads = c.deref.ensures.value ∙ c.new-reads.ensures.items in
+    let writes = slotted-none key value c.args.self.writes _ _ _ reads (c.deref-2.ensures.value ∙ c.new-slots.ensures.items) (c.deref-3.ensures.value ∙ c.new-others.ensures.items) in
+    subst (λ ws. OnOk c.merkleized.result (IsTaken form chain.base (stepped g.P.Policy.rules chain.base ws c.args.policy.now (option_map value c.args.metadata)))) writes
+    (c.merkleized.ensures.taken list chain above is begun on (reads-none _ key chain.base _ reads))
 
-pub returns-in-Ok-clause-whole : goal.returns-in-Ok-clause-whole
-returns-in-Ok-clause-whole g c = λ list is none low.
-    let parent = c.deref-in-Ok.ensures ∙ ap (λ b. b.parent) c.self.view_is in
-    c.made_on.ensures.whole list is none (subst (λ p. c.args.db.now.log.tree.start ≤ p.bounds.inactivity_floor) (sym parent) low)
+pub returns-clause-refused : goal.returns-clause-refused
+returns-clause-refused g c = λ list chain above is begun on.
+    let key = g.K.ByteString.bytes in
+    let value = g.V.Value.ByteString.bytes in
+    let form = unordered_form g.K.ByteString.has g.V.Value.ByteString.has g.V.ValueEncoding.fixed in
+    let reads = c.deref.ensures.value ∙ c.new-reads.ensures.items in
+    let writes = slotted-none key value c.args.self.writes _ _ _ reads (c.deref-2.ensures.value ∙ c.new-slots.ensures.items) (c.deref-3.ensures.value ∙ c.new-others.ensures.items) in
+    subst (λ ws. IfErr c.merkleized.result (λ e. IsRefused form chain.base (stepped g.P.Policy.rules chain.base ws c.args.policy.now (option_map value c.args.metadata)) e ⊎ IsReadError g.C.Store c.args.db.now.log c.merkleized.new.db.log e)) writes
+    (c.merkleized.ensures.refused list chain above is begun on (reads-none _ key chain.base _ reads))
+
+pub returns-clause-next : goal.returns-clause-next
+returns-clause-next g c = λ list chain above is begun on.
+    let key = g.K.ByteString.bytes in
+    let value = g.V.Value.ByteString.bytes in
+    let reads = c.deref.ensures.value ∙ c.new-reads.ensures.items in
+    let writes = slotted-none key value c.args.self.writes _ _ _ reads (c.deref-2.ensures.value ∙ c.new-slots.ensures.items) (c.deref-3.ensures.value ∙ c.new-others.ensures.items) in
+    subst (λ ws. OnOk c.merkleized.result (c.merkleized.new.policy ≡ left_after g.P.Policy.rules chain.base ws c.args.policy.now)) writes
+    (c.merkleized.ensures.next list chain above is begun on (reads-none _ key chain.base _ reads))

@@ -1,0 +1,35 @@
+use Rattle.std.proofs.Common.{refl, subst, sym, rules}
+use Rattle.std.proofs.lemmas.Result.{err_from_is_err_and}
+use Rattle.qm_batch.specs.Lent.{NoneBelow}
+use Rattle.qm_any.specs.Layouts.{hashing_of, layout_of}
+use Rattle.qm_any.proofs.Reading.{left-then, left-database}
+use Rattle.qm_any.proofs.Staging.{keys-more, reads-more}
+use Rattle.qm_any.proofs.db.Db.find_all.Goals as goal
+
+pub returns-in_err-found-clause-whole : goal.returns-in_err-found-clause-whole
+returns-in_err-found-clause-whole g c = λ list is none.
+    let exit = err_from_is_err_and c.from_residual.result c.from_residual.ensures.1 in
+    let left = c.loop-key.invariant.left in
+    let mid = left-database g.C.Store (layout_of g.H.Digest.Digest.bytes g.H.Hasher g.F.Family g.U.Update g.I.Unordered) c.args.self.now c.loop-key.self list left is in
+    rw (exit.1, exit.2) (c.in_err-found.ensures.whole list mid (subst (λ t. NoneBelow t.start list) (sym (left.read).tree) none))
+
+pub returns-in_err-found-clause-left : goal.returns-in_err-found-clause-left
+returns-in_err-found-clause-left g c = left-then g.C.Store (hashing_of g.H.Digest.Digest.bytes g.H.Hasher g.F.Family g.U.Update) c.args.self.now c.loop-key.self c.find.new.self c.loop-key.invariant.left c.find.ensures.left
+
+pub loop-key-preserved : goal.loop-key-preserved
+loop-key-preserved g c =
+    let key = g.U.Key.ByteString.bytes in
+    let left = c.loop-key.invariant.left in
+    record {
+      left = left-then g.C.Store (hashing_of g.H.Digest.Digest.bytes g.H.Hasher g.F.Family g.U.Update) c.args.self.now c.loop-key.self c.find.new.self left c.find.ensures.left;
+      keys = keys-more key c.loop-key.reads.items c.push.new.self.items _ c.loop-key.yielded c.in-Some.key c.in_ok-push.ensures.items c.loop-key.invariant.keys refl;
+      reads = λ list base stands from.
+          let mid = left-database g.C.Store (layout_of g.H.Digest.Digest.bytes g.H.Hasher g.F.Family g.U.Update g.I.Unordered) c.args.self.now c.loop-key.self list left stands in
+          reads-more g.U.Update.view key base c.loop-key.reads.items c.push.new.self.items _ c.in_ok-push.ensures.items (c.in_ok-found.ensures.value list base mid from) (c.loop-key.invariant.reads list base stands from);
+    }
+
+pub returns-in_err-push-clause-left : goal.returns-in_err-push-clause-left
+returns-in_err-push-clause-left g c = left-then g.C.Store (hashing_of g.H.Digest.Digest.bytes g.H.Hasher g.F.Family g.U.Update) c.args.self.now c.loop-key.self c.find.new.self c.loop-key.invariant.left c.find.ensures.left
+
+pub returns-clause-keys : goal.returns-clause-keys
+returns-clause-keys g c = search rules
