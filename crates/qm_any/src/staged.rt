@@ -39,12 +39,15 @@ pub struct Staged<F: Family, D: Digest, U: Update> {
 }
 
 impl<F: Family, D: Digest, U: Update> Model for Staged<F, D, U> {
+    ghost use Rattle.std.specs.Prelude.{◌≤◌, suc, length};
     ghost use Rattle.qm_batch.specs.Views.{reads_view};
     ghost use Rattle.qm_any.specs.Databases.{Staged};
 
     ghost Value = { Staged D };
 
     ghost view = { λ s. record { batch = s.batch; reads = reads_view U.view U.Key.bytes s.reads.items } };
+
+    ghost invariant = { λ s. s.batch.keep ≤ suc (length s.batch.parent.bounds.ancestors) };
 }
 
 impl<F: Family, D: Digest, U: Update> UnmerkleizedBatch<F, D, U> {

@@ -1,5 +1,5 @@
 -- The commands that make, fill and apply batches.
-use Rattle.std.proofs.Common.{◌≡◌, ◌≢◌, ◌<◌, ℕ, Bool, true, false, cond, List, [], ◌∷◌, ◌++◌, length, get_or, set, map, drop, Option, Some, None, arith, refl, sym, ◌∙◌, ap, subst, length-append, IfSome, append-nil}
+use Rattle.std.proofs.Common.{◌≡◌, ◌≢◌, ◌<◌, ℕ, Bool, true, false, cond, List, [], ◌∷◌, ◌++◌, length, get_or, set, map, drop, Option, Some, None, Result, Ok, Err, arith, refl, sym, ◌∙◌, ap, subst, length-append, IfSome, append-nil, IfOk, IfErr}
 use Rattle.std.specs.Prelude.{Contains}
 use Rattle.qm_model.specs.StoreModel.{Stored, appended, HasAppended}
 use Rattle.qm_model.specs.StoreModel as model
@@ -8,7 +8,7 @@ use Rattle.qm_model.specs.Forms.{spelling, variable}
 use Rattle.qm_model.specs.Live.{floor}
 use Rattle.qm_model.specs.Walk.{Rules}
 use Rattle.qm_model.specs.Writes.{Write}
-use Rattle.qm_model.specs.Batches.{Chain, child_of, IsOnChain, Apart, commitment, fits}
+use Rattle.qm_model.specs.Batches.{Chain, child_of, IsAmong, IsOnChain, Apart, commitment, fits}
 use Rattle.qm_model.specs.Refusals.{tip_refusal}
 use Rattle.qm_machine.specs.Lines.{Answer}
 use Rattle.qm_machine.specs.Lines as lines
@@ -27,29 +27,30 @@ use Rattle.qm_engine.specs.declared.words.Words as words
 use Rattle.qm_store.specs.declared.refusal.Given.{Given}
 use Rattle.qm_store.specs.declared.refusal.Given.TheVariants.{Database}
 use Rattle.qm_engine.specs.declared.table.Slot.{Slot}
-use Rattle.qm_engine.specs.declared.table.Slot.TheVariants.{Gone, Writing, Merkleized}
+use Rattle.qm_engine.specs.declared.table.Slot.TheVariants.{Gone, Writing, Staged, Merkleized}
 use Rattle.qm_engine.specs.declared.session.Turn.{Turn}
 use Rattle.qm_engine.specs.declared.session.Turn.TheVariants.{Reply}
 use Rattle.qm_engine.specs.Table.{writing_of, merkleized_of}
 use Rattle.qm_engine.specs.Turn.{turn_of_error}
 use Rattle.qm_store.specs.Refusals.{refusal_of}
 use Rattle.qm_engine.specs.Words.{AtBatch, AtTip, Fits, tip_of}
+use Rattle.qm_engine.specs.Making.{made_into, IsMaking}
 use Rattle.qm_engine.specs.Session.{SlotIs, Holds, IsLeft}
 use Rattle.qm_engine.proofs.Tables.{push_at, set_at, set_set}
 use Rattle.qm_store.specs.Given.{Appended, IsUnchanged}
-use Rattle.qm_engine.proofs.Commands.{stored-same, stored-grown, choice, none_some, left_part, refuses, by_error, HeldIs-more, SlotIs-more, with_list, HeldIs-kept, slots_set, lengths_set, Keeps, Holds-used, Turns}
+use Rattle.qm_engine.proofs.Commands.{stored-same, stored-grown, choice, none_some, left_part, refuses, by_error, HeldIs-more, SlotIs-more, with_list, with_writing, HeldIs-kept, slots_set, lengths_set, Keeps, Holds-used, Turns}
 
 longer : {A : Type 0} (xs ys : List A) → 0 < length xs → 0 < length (xs ++ ys)
 longer xs ys some = omega (arith, some, length-append xs ys)
 
-module _ {X C B M K V D : Type 0} (members : stores.Ghosts C) (means : words.Ghosts X C B M) (key : K → Bytes) (value : V → Bytes) (digest : D → Bytes) where
+module _ {X C B S M K V D : Type 0} (members : stores.Ghosts C) (means : words.Ghosts X C B S M) (key : K → Bytes) (value : V → Bytes) (digest : D → Bytes) where
   abbrev root : List Operation → Bytes
   root = means.scheme.root
 
-  abbrev Goes : Turn K V D → Given X C → List (Slot B M) → ℕ → Answer × State → Type 0
+  abbrev Goes : Turn K V D → Given X C → List (Slot B S M) → ℕ → Answer × State → Type 0
   Goes = Turns members means key value digest
 
-  pub started_ok : (held : Given X C) (table : List (Slot B M)) (opened n : ℕ) (slot : Slot B M) (new : machine.Slot) (s : State) → Holds members means held table opened s
+  pub started_ok : (held : Given X C) (table : List (Slot B S M)) (opened n : ℕ) (slot : Slot B S M) (new : machine.Slot) (s : State) → Holds members means held table opened s
       → SlotIs members means s.had slot new → n ≡ length table → Goes (Reply (replies.Batch n)) held (table ++ slot ∷ []) opened (started s new)
   started_ok held table opened n slot new s k is e = λ _. (
     ap lines.Started (e ∙ k.lengths),
@@ -64,7 +65,7 @@ module _ {X C B M K V D : Type 0} (members : stores.Ghosts C) (means : words.Gho
   )
 
   -- a child of what the number names
-  pub child_in : (Q : Answer × State → Type 0) (h : ℕ) (keep : Option ℕ) (batch : M) (made : B) (s : State) (a : Slot B M) (b : machine.Slot) → SlotIs members means s.had a b → merkleized_of a ≡ Some batch
+  pub child_in : (Q : Answer × State → Type 0) (h : ℕ) (keep : Option ℕ) (batch : M) (made : B) (s : State) (a : Slot B S M) (b : machine.Slot) → SlotIs members means s.had a b → merkleized_of a ≡ Some batch
       → ((chain : Chain) (tip : List Operation) → means.is_merkleized batch chain tip → means.is_batch made (child_of keep chain tip) chain [])
       → ((new : machine.Slot) → SlotIs members means s.had (Writing made) new → Q (started s new))
       → Q (start_child s h keep b)
@@ -72,14 +73,12 @@ module _ {X C B M K V D : Type 0} (members : stores.Ghosts C) (means : words.Gho
       let same : w ≡ batch = cc in
       each (machine.writing (child_of keep chain tip) chain [])
       (begun chain tip (subst (λ v. means.is_merkleized v chain tip) same is.0), child-among s.had keep chain tip is.1 is.2, is.1)
-  child_in Q h keep batch made s (Merkleized w) machine.gone is e begun each = absurd is
-  child_in Q h keep batch made s (Merkleized w) (machine.writing chain above ws) is e begun each = absurd is
-  child_in Q h keep batch made s Gone b is e begun each = absurd (cc)
-  child_in Q h keep batch made s (Writing w) b is e begun each = absurd (cc)
+  child_in Q h keep batch made s (Merkleized w) b is e begun each = absurd is
+  child_in Q h keep batch made s a b is e begun each = absurd (cc)
 
-  pub put_ok : (held : Given X C) (table : List (Slot B M)) (opened : ℕ) (h : ℕ) (w : Write) (batch after : B) (s : State) → Holds members means held table opened s
+  pub put_ok : (held : Given X C) (table : List (Slot B S M)) (opened : ℕ) (h : ℕ) (w : Write) (batch after : B) (s : State) → Holds members means held table opened s
       → ((chain above : Chain) (ws : List Write) → means.is_batch batch chain above ws → means.is_batch after chain above (ws ++ w ∷ []))
-      → (a : Slot B M) (b : machine.Slot) → SlotIs members means s.had a b → writing_of a ≡ Some batch
+      → (a : Slot B S M) (b : machine.Slot) → SlotIs members means s.had a b → writing_of a ≡ Some batch
       → Goes (Reply replies.Done) held (set (set table h Gone) h (Writing after)) opened (put_in s h w b)
   put_ok held table opened h w batch after s k wrote (Writing x) (machine.writing chain above ws) is e = λ _. (
     refl,
@@ -92,169 +91,132 @@ module _ {X C B M K V D : Type 0} (members : stores.Ghosts C) (means : words.Gho
       slots = rw set_set (slots_set members means table s h (Writing after) (machine.writing chain above (ws ++ w ∷ [])) k.lengths k.slots (let same : x ≡ batch = cc in (wrote chain above ws (subst (λ v. means.is_batch v chain above ws) same is.0), is.1, is.2)));
     },
   )
-  put_ok held table opened h w batch after s k wrote (Writing x) machine.gone is e = absurd is
-  put_ok held table opened h w batch after s k wrote (Writing x) (machine.merkleized chain tip) is e = absurd is
-  put_ok held table opened h w batch after s k wrote Gone b is e = absurd (cc)
-  put_ok held table opened h w batch after s k wrote (Merkleized x) b is e = absurd (cc)
+  put_ok held table opened h w batch after s k wrote (Writing x) b is e = absurd is
+  put_ok held table opened h w batch after s k wrote a b is e = absurd (cc)
 
   -- a batch number that names no merkleized batch
-  apply_none : (held : Given X C) (table : List (Slot B M)) (opened : ℕ) (h : ℕ) (list : List Operation) (s : State) → Holds members means held table opened s
-      → (a : Slot B M) (b : machine.Slot) → SlotIs members means s.had a b → merkleized_of a ≡ None
+  apply_none : (held : Given X C) (table : List (Slot B S M)) (opened : ℕ) (h : ℕ) (list : List Operation) (s : State) → Holds members means held table opened s
+      → (a : Slot B S M) (b : machine.Slot) → SlotIs members means s.had a b → merkleized_of a ≡ None
       → Goes (Reply (replies.Refused (refused.NoSuchHandle h))) held table opened (apply_in means.scheme s h list b)
+  apply_none held table opened h list s k (Merkleized w) b is e = absurd (cc)
   apply_none held table opened h list s k Gone machine.gone is e = λ _. (refl, k)
   apply_none held table opened h list s k (Writing w) (machine.writing chain above ws) is e = λ _. (refl, k)
-  apply_none held table opened h list s k Gone (machine.writing chain above ws) is e = absurd is
-  apply_none held table opened h list s k Gone (machine.merkleized chain tip) is e = absurd is
-  apply_none held table opened h list s k (Writing w) machine.gone is e = absurd is
-  apply_none held table opened h list s k (Writing w) (machine.merkleized chain tip) is e = absurd is
-  apply_none held table opened h list s k (Merkleized w) b is e = absurd (cc)
+  apply_none held table opened h list s k (Staged w) (machine.staged chain above ws keys) is e = λ _. (refl, k)
+  apply_none held table opened h list s k a b is e = absurd is
 
-  pub not_merkleized : (x : X) (table : List (Slot B M)) (opened : ℕ) (h : ℕ) (s : State) → Holds members means (Database x) table opened s
+  pub not_merkleized : (x : X) (table : List (Slot B S M)) (opened : ℕ) (h : ℕ) (s : State) → Holds members means (Database x) table opened s
       → merkleized_of (get_or table h Gone) ≡ None → Goes (Reply (replies.Refused (refused.NoSuchHandle h))) (Database x) table opened (machine.apply means.scheme s h)
   not_merkleized x table opened h s k e =
       with_list members means x s.had s.database s (λ list. apply_in means.scheme s h list (slot_at s.table h)) (Goes (Reply (replies.Refused (refused.NoSuchHandle h))) (Database x) table opened) k.database (λ list stands in_had.
       apply_none (Database x) table opened h list s k (get_or table h Gone) (slot_at s.table h) (k.slots h) e)
 
-  -- under policies with these rules
-  module _ {P : Type 0} (rules : Rules P) where
-    -- a merkleize that was accepted
-    merkleized_in : (x after : X) (table : List (Slot B M)) (opened : ℕ) (h : ℕ) (policy : P) (meta : Option Bytes) (batch : B) (made : M) (low high bottom : ℕ) (s : State) (list : List Operation)
-        → Holds members means (Database x) table opened s → Contains s.had list → ((l : List Operation) → means.stands x l → means.stands after l)
-        → IsUnchanged members (means.inside x) (means.inside after)
-        → ((chain above : Chain) (ws : List Write) → means.is_batch batch chain above ws → fits root (commitment root list) chain ≡ true)
-        → ((chain above : Chain) (ws : List Write) → means.is_batch batch chain above ws → IsOnChain list chain → let tip = tip_of means.scheme rules chain ws policy meta in (tip_refusal variable chain tip ≡ None) × means.is_merkleized made chain tip)
+  -- the tip list of a batch whose number is used up
+  module _ (held : Given X C) (table : List (Slot B S M)) (opened h : ℕ) (s : State) (list : List Operation) (chain : Chain) (tip : List Operation)
+      (k : Holds members means held table opened (with_slot s h machine.gone)) (in_had : Contains s.had list) (among : IsAmong s.had chain) where
+    -- it is on the chain where it fits, also beside the list that is made
+    on_chain : Apart root s.had → fits root (commitment root list) chain ≡ true → IsOnChain list chain
+    on_chain apart fit = on_chain-fits root s.had list chain apart in_had among fit
+
+    on_chain-made : Apart root (tip ∷ s.had) → fits root (commitment root list) chain ≡ true → IsOnChain list chain
+    on_chain-made apart fit = on_chain-fits root (tip ∷ s.had) list chain apart (Contains-more s.had tip list in_had) (IsAmong-more s.had tip chain among) fit
+
+    abbrev Chosen : (Answer × State → Type 0) → Bool → Option refusals.Refused → Type 0
+    Chosen Goal fit due = Goal (cond fit (merkleize_tip s h chain tip due) (refuse (with_slot s h machine.gone) refusals.StaleBatch))
+
+    -- it was made
+    pub making_ok : (made : M) (low high bottom : ℕ) → IsMaking means list chain tip (Ok made)
         → ((chain : Chain) (tip : List Operation) → means.is_merkleized made chain tip → (low ≡ length chain.base) × (high ≡ length tip) × (bottom ≡ floor tip))
-        → (a : Slot B M) (b : machine.Slot) → SlotIs members means s.had a b → writing_of a ≡ Some batch
-        → Goes (Reply (replies.Merkleized h low high bottom)) (Database after) (set (set table h Gone) h (Merkleized made)) opened (merkleize_in means.scheme rules s h policy meta list b)
-    merkleized_in x after table opened h policy meta batch made low high bottom s list k in_had keeps same_store fit_of did sized (Writing w) (machine.writing chain above ws) is e =
-        let same : w ≡ batch = cc in
-        let batch_is : means.is_batch batch chain above ws = subst (λ v. means.is_batch v chain above ws) same is.0 in
-        let fit : fits root (commitment root list) chain ≡ true = fit_of chain above ws batch_is in
-        subst (λ t. Goal (cond t (merkleize_tip s h chain tip (tip_refusal variable chain tip)) (refuse (with_slot s h machine.gone) refusals.StaleBatch))) (sym fit) (by_due fit batch_is (tip_refusal variable chain tip) refl)
+        → Goes (Reply (replies.Merkleized h low high bottom)) held (set table h (Merkleized made)) opened (made_into means.scheme s h list chain tip)
+    making_ok made low high bottom making sized =
+        subst (λ t. Chosen Goal t (tip_refusal variable chain tip)) (sym making.fits) (by_due (tip_refusal variable chain tip) refl)
       where
-        tip : List Operation
-        tip = tip_of means.scheme rules chain ws policy meta
-
         Goal : Answer × State → Type 0
-        Goal next = Goes (Reply (replies.Merkleized h low high bottom)) (Database after) (set (set table h Gone) h (Merkleized made)) opened next
+        Goal = Goes (Reply (replies.Merkleized h low high bottom)) held (set table h (Merkleized made)) opened
 
-        by_due : fits root (commitment root list) chain ≡ true → means.is_batch batch chain above ws → (due : Option refusals.Refused) → tip_refusal variable chain tip ≡ due → Goal (merkleize_tip s h chain tip due)
-        by_due fit batch_is (Some r) is_due = λ apart. absurd (none_some (did chain above ws batch_is (on_chain-fits root s.had list chain apart in_had is.1 fit)).0 is_due)
-        by_due fit batch_is None is_due = λ apart.
-            let now = (did chain above ws batch_is (on_chain-fits root (tip ∷ s.had) list chain apart (Contains-more s.had tip list in_had) (IsAmong-more s.had tip chain is.1) fit)).1 in
+        new : machine.Slot
+        new = machine.merkleized chain tip
+
+        by_due : (due : Option refusals.Refused) → tip_refusal variable chain tip ≡ due → Goal (merkleize_tip s h chain tip due)
+        by_due (Some r) is_due = λ apart. absurd (none_some (making.made (on_chain apart making.fits)).0 is_due)
+        by_due None is_due = λ apart.
+            let now = (making.made (on_chain-made apart making.fits)).1 in
             let sizes = sized chain tip now in (
               rw (sizes.0, sizes.1, sizes.2) refl,
               record {
-                database = HeldIs-more members means s.had tip (Database after) s.database (HeldIs-kept members means x after s.had s.database keeps k.database);
-                store = stored-same members (means.inside x) (means.inside after) s.store same_store k.store;
+                database = HeldIs-more members means s.had tip held s.database k.database;
+                store = k.store;
                 whole = k.whole;
                 count = k.count;
-                lengths = rw set_set (lengths_set members means table s h (Merkleized made) (machine.merkleized chain tip) k.lengths);
-                slots = rw set_set (set_at (SlotIs members means (tip ∷ s.had)) Gone machine.gone tt table s.table h (Merkleized made) (machine.merkleized chain tip) k.lengths (λ i. SlotIs-more members means s.had tip (get_or table i Gone) (slot_at s.table i) (k.slots i)) (now, IsAmong-more s.had tip chain is.1, Contains-first tip s.had));
+                lengths = subst (λ t. length (set table h (Merkleized made)) ≡ length t) (set_set s.table h machine.gone new) (lengths_set members means table (with_slot s h machine.gone) h (Merkleized made) new k.lengths);
+                slots = subst (λ t. (i : ℕ) → SlotIs members means (tip ∷ s.had) (get_or (set table h (Merkleized made)) i Gone) (slot_at t i)) (set_set s.table h machine.gone new)
+                    (set_at (SlotIs members means (tip ∷ s.had)) Gone machine.gone tt table (set s.table h machine.gone) h (Merkleized made) new k.lengths
+                    (λ i. SlotIs-more members means s.had tip (get_or table i Gone) (slot_at (set s.table h machine.gone) i) (k.slots i)) (now, IsAmong-more s.had tip chain among, Contains-first tip s.had));
               },
             )
-    merkleized_in x after table opened h policy meta batch made low high bottom s list k in_had keeps same_store fit_of did sized (Writing w) machine.gone is e = absurd is
-    merkleized_in x after table opened h policy meta batch made low high bottom s list k in_had keeps same_store fit_of did sized (Writing w) (machine.merkleized chain tip) is e = absurd is
-    merkleized_in x after table opened h policy meta batch made low high bottom s list k in_had keeps same_store fit_of did sized Gone b is e = absurd (cc)
-    merkleized_in x after table opened h policy meta batch made low high bottom s list k in_had keeps same_store fit_of did sized (Merkleized w) b is e = absurd (cc)
 
-    -- one that found the batch left behind
-    stale_in : (x after : X) (table : List (Slot B M)) (opened : ℕ) (h : ℕ) (policy : P) (meta : Option Bytes) (batch : B) (s : State) (list : List Operation)
-        → Holds members means (Database x) table opened s → Contains s.had list → ((l : List Operation) → means.stands x l → means.stands after l)
-        → IsUnchanged members (means.inside x) (means.inside after)
-        → ((chain above : Chain) (ws : List Write) → means.is_batch batch chain above ws → IsOnChain list chain → ⊥)
-        → (a : Slot B M) (b : machine.Slot) → SlotIs members means s.had a b → writing_of a ≡ Some batch
-        → Goes (Reply (replies.Refused refused.StaleBatch)) (Database after) (set table h Gone) opened (merkleize_in means.scheme rules s h policy meta list b)
-    stale_in x after table opened h policy meta batch s list k in_had keeps same_store off (Writing w) (machine.writing chain above ws) is e =
-        let same : w ≡ batch = cc in
-        let batch_is : means.is_batch batch chain above ws = subst (λ v. means.is_batch v chain above ws) same is.0 in
-        choice (fits root (commitment root list) chain) (merkleize_tip s h chain tip (tip_refusal variable chain tip)) (refuse (with_slot s h machine.gone) refusals.StaleBatch) Goal
-        (λ fit. by_due fit batch_is (tip_refusal variable chain tip))
-        (λ fit apart. (refl, Holds-used members means x after table opened h s (keeps, same_store) k))
-      where
-        tip : List Operation
-        tip = tip_of means.scheme rules chain ws policy meta
-
-        Goal : Answer × State → Type 0
-        Goal next = Goes (Reply (replies.Refused refused.StaleBatch)) (Database after) (set table h Gone) opened next
-
-        by_due : fits root (commitment root list) chain ≡ true → means.is_batch batch chain above ws → (due : Option refusals.Refused) → Goal (merkleize_tip s h chain tip due)
-        by_due fit batch_is None = λ apart. absurd (off chain above ws batch_is (on_chain-fits root (tip ∷ s.had) list chain apart (Contains-more s.had tip list in_had) (IsAmong-more s.had tip chain is.1) fit))
-        by_due fit batch_is (Some r) = λ apart. absurd (off chain above ws batch_is (on_chain-fits root s.had list chain apart in_had is.1 fit))
-    stale_in x after table opened h policy meta batch s list k in_had keeps same_store off (Writing w) machine.gone is e = absurd is
-    stale_in x after table opened h policy meta batch s list k in_had keeps same_store off (Writing w) (machine.merkleized chain tip) is e = absurd is
-    stale_in x after table opened h policy meta batch s list k in_had keeps same_store off Gone b is e = absurd (cc)
-    stale_in x after table opened h policy meta batch s list k in_had keeps same_store off (Merkleized w) b is e = absurd (cc)
-
-    -- one whose tip list is refused
-    too_large_in : (x after : X) (table : List (Slot B M)) (opened : ℕ) (h : ℕ) (policy : P) (meta : Option Bytes) (batch : B) (r : Refused) (s : State) (list : List Operation)
-        → Holds members means (Database x) table opened s → Contains s.had list → Keeps members means x after
-        → ((chain above : Chain) (ws : List Write) → means.is_batch batch chain above ws → (fits root (commitment root list) chain ≡ true)
-        × (IsOnChain list chain → tip_refusal variable chain (tip_of means.scheme rules chain ws policy meta) ≡ Some (refused_view r)))
-        → (a : Slot B M) (b : machine.Slot) → SlotIs members means s.had a b → writing_of a ≡ Some batch
-        → Goes (Reply (replies.Refused r)) (Database after) (set table h Gone) opened (merkleize_in means.scheme rules s h policy meta list b)
-    too_large_in x after table opened h policy meta batch r s list k in_had keeps why (Writing w) (machine.writing chain above ws) is e =
-        let same : w ≡ batch = cc in
-        let batch_is : means.is_batch batch chain above ws = subst (λ v. means.is_batch v chain above ws) same is.0 in
-        let fit : fits root (commitment root list) chain ≡ true = (why chain above ws batch_is).0 in
-        subst (λ t. Goal (cond t (merkleize_tip s h chain tip (tip_refusal variable chain tip)) (refuse (with_slot s h machine.gone) refusals.StaleBatch))) (sym fit) (by_due fit batch_is (tip_refusal variable chain tip) refl)
-      where
-        tip : List Operation
-        tip = tip_of means.scheme rules chain ws policy meta
-
-        Goal : Answer × State → Type 0
-        Goal next = Goes (Reply (replies.Refused r)) (Database after) (set table h Gone) opened next
-
-        by_due : fits root (commitment root list) chain ≡ true → means.is_batch batch chain above ws → (due : Option refusals.Refused) → tip_refusal variable chain tip ≡ due → Goal (merkleize_tip s h chain tip due)
-        by_due fit batch_is None is_due = λ apart. absurd (none_some is_due ((why chain above ws batch_is).1 (on_chain-fits root (tip ∷ s.had) list chain apart (Contains-more s.had tip list in_had) (IsAmong-more s.had tip chain is.1) fit)))
-        by_due fit batch_is (Some q) is_due = λ apart. (
-          ap refuses (sym ((why chain above ws batch_is).1 (on_chain-fits root s.had list chain apart in_had is.1 fit)) ∙ is_due),
-          Holds-used members means x after table opened h s keeps k,
-        )
-    too_large_in x after table opened h policy meta batch r s list k in_had keeps why (Writing w) machine.gone is e = absurd is
-    too_large_in x after table opened h policy meta batch r s list k in_had keeps why (Writing w) (machine.merkleized chain tip) is e = absurd is
-    too_large_in x after table opened h policy meta batch r s list k in_had keeps why Gone b is e = absurd (cc)
-    too_large_in x after table opened h policy meta batch r s list k in_had keeps why (Merkleized w) b is e = absurd (cc)
-
-    pub merkleize_ok : (x after : X) (table : List (Slot B M)) (opened : ℕ) (h : ℕ) (policy : P) (meta : Option Bytes) (batch : B) (made : M) (low high bottom : ℕ) (s : State)
-        → Holds members means (Database x) table opened s → ((l : List Operation) → means.stands x l → means.stands after l)
-        → IsUnchanged members (means.inside x) (means.inside after)
-        → AtBatch means x batch (λ list chain above ws. Fits means list chain)
-        → AtBatch means x batch (λ list chain above ws. IsOnChain list chain → let tip = tip_of means.scheme rules chain ws policy meta in (tip_refusal variable chain tip ≡ None) × means.is_merkleized made chain tip)
-        → ((chain : Chain) (tip : List Operation) → means.is_merkleized made chain tip → (low ≡ length chain.base) × (high ≡ length tip) × (bottom ≡ floor tip))
-        → writing_of (get_or table h Gone) ≡ Some batch
-        → Goes (Reply (replies.Merkleized h low high bottom)) (Database after) (set (set table h Gone) h (Merkleized made)) opened (machine.merkleize means.scheme rules s h policy meta)
-    merkleize_ok x after table opened h policy meta batch made low high bottom s k keeps same_store fit did sized e =
-        with_list members means x s.had s.database s (λ list. merkleize_in means.scheme rules s h policy meta list (slot_at s.table h)) (Goes (Reply (replies.Merkleized h low high bottom)) (Database after) (set (set table h Gone) h (Merkleized made)) opened) k.database
-        (λ list stands in_had. merkleized_in x after table opened h policy meta batch made low high bottom s list k in_had keeps same_store (λ chain above ws. fit list chain above ws stands) (λ chain above ws. did list chain above ws stands) sized
-        (get_or table h Gone) (slot_at s.table h) (k.slots h) e)
-
-    pub merkleize_err : (x after : X) (table : List (Slot B M)) (opened : ℕ) (h : ℕ) (policy : P) (meta : Option Bytes) (batch : B) (error : Error) (s : State)
-        → Holds members means (Database x) table opened s → ((l : List Operation) → means.stands x l → means.stands after l)
-        → IsUnchanged members (means.inside x) (means.inside after)
-        → (error ≡ errors.StaleBatch → AtBatch means x batch (λ list chain above ws. ¬ IsOnChain list chain))
-        → (error ≢ errors.StaleBatch → AtBatch means x batch (λ list chain above ws. IfSome (refusal_of error) (λ r. Fits means list chain
-        × (IsOnChain list chain → tip_refusal variable chain (tip_of means.scheme rules chain ws policy meta) ≡ Some r))))
-        → writing_of (get_or table h Gone) ≡ Some batch
-        → Goes (turn_of_error error) (Database after) (set table h Gone) opened (machine.merkleize means.scheme rules s h policy meta)
-    merkleize_err x after table opened h policy meta batch error s k keeps same_store stale why e =
+    -- it was not
+    pub making_err : (error : Error) → IsMaking means list chain tip (Err error) → Goes (turn_of_error error) held table opened (made_into means.scheme s h list chain tip)
+    making_err error making =
         by_error error _
-        (λ is_stale. with_list members means x s.had s.database s (λ list. merkleize_in means.scheme rules s h policy meta list (slot_at s.table h)) (Goes (Reply (replies.Refused refused.StaleBatch)) (Database after) (set table h Gone) opened) k.database
-        (λ list stands in_had. stale_in x after table opened h policy meta batch s list k in_had keeps same_store (λ chain above ws. stale is_stale list chain above ws stands)
-        (get_or table h Gone) (slot_at s.table h) (k.slots h) e))
-        (λ r other told. with_list members means x s.had s.database s (λ list. merkleize_in means.scheme rules s h policy meta list (slot_at s.table h)) (Goes (Reply (replies.Refused r)) (Database after) (set table h Gone) opened) k.database
-        (λ list stands in_had. too_large_in x after table opened h policy meta batch r s list k in_had (keeps, same_store)
-        (λ chain above ws is. subst (λ o. IfSome o (λ r. (fits root (commitment root list) chain ≡ true) × (IsOnChain list chain → tip_refusal variable chain (tip_of means.scheme rules chain ws policy meta) ≡ Some r))) told (why other list chain above ws stands is))
-        (get_or table h Gone) (slot_at s.table h) (k.slots h) e))
+        (λ is_stale. choice (fits root (commitment root list) chain) (merkleize_tip s h chain tip (tip_refusal variable chain tip)) (refuse (with_slot s h machine.gone) refusals.StaleBatch) (Goal refused.StaleBatch)
+        (λ fit. behind is_stale fit (tip_refusal variable chain tip)) (λ unfit apart. (refl, k)))
+        (λ r other told. let due = subst Due told (making.refused other) in
+        subst (λ t. Chosen (Goal r) t (tip_refusal variable chain tip)) (sym due.0) (refusing r due (tip_refusal variable chain tip) refl))
+      where
+        Goal : Refused → Answer × State → Type 0
+        Goal r = Goes (Reply (replies.Refused r)) held table opened
+
+        Due : Option refusals.Refused → Type 0
+        Due o = IfSome o (λ r. Fits means list chain × (IsOnChain list chain → tip_refusal variable chain tip ≡ Some r))
+
+        behind : error ≡ errors.StaleBatch → fits root (commitment root list) chain ≡ true → (due : Option refusals.Refused) → Goal refused.StaleBatch (merkleize_tip s h chain tip due)
+        behind is_stale fit None = λ apart. absurd (making.stale is_stale (on_chain-made apart fit))
+        behind is_stale fit (Some r) = λ apart. absurd (making.stale is_stale (on_chain apart fit))
+
+        refusing : (r : Refused) → Due (Some (refused_view r)) → (due : Option refusals.Refused) → tip_refusal variable chain tip ≡ due → Goal r (merkleize_tip s h chain tip due)
+        refusing r due None is_due = λ apart. absurd (none_some is_due (due.1 (on_chain-made apart due.0)))
+        refusing r due (Some q) is_due = λ apart. (ap refuses (sym (due.1 (on_chain apart due.0)) ∙ is_due), k)
+
+  -- what a call says that makes a batch's tip list
+  pub batch_making : (x : X) (batch : B) (tip : Chain → List Write → List Operation) (tells : Type 0) (made : Result M Error)
+      → IfOk made (λ _. AtBatch means x batch (λ list chain above ws. Fits means list chain))
+      → IfOk made (λ b. AtBatch means x batch (λ list chain above ws. IsOnChain list chain → (tip_refusal variable chain (tip chain ws) ≡ None) × means.is_merkleized b chain (tip chain ws)))
+      → IfErr made (λ e. e ≡ errors.StaleBatch → AtBatch means x batch (λ list chain above ws. ¬ IsOnChain list chain))
+      → IfErr made (λ e. e ≢ errors.StaleBatch → tells → AtBatch means x batch (λ list chain above ws. IfSome (refusal_of e) (λ r. Fits means list chain × (IsOnChain list chain → tip_refusal variable chain (tip chain ws) ≡ Some r))))
+      → tells → AtBatch means x batch (λ list chain above ws. IsMaking means list chain (tip chain ws) made)
+  batch_making x batch tip tells (Ok b) fits did stale refused told list chain above ws stands is = record {
+    fits = fits list chain above ws stands is;
+    made = did list chain above ws stands is;
+    stale = tt;
+    refused = tt;
+  }
+  batch_making x batch tip tells (Err e) fits did stale refused told list chain above ws stands is = record {
+    fits = tt;
+    made = tt;
+    stale = λ same. stale same list chain above ws stands is;
+    refused = λ other. refused other told list chain above ws stands is;
+  }
+
+  -- a merkleize of a batch whose number is used up, under policies with these rules
+  pub merkleize_made : {P : Type 0} (rules : Rules P) (Q : Answer × State → Type 0) (x after : X) (table : List (Slot B S M)) (opened h : ℕ) (policy : P) (meta : Option Bytes) (batch : B) (made : Result M Error) (s : State)
+      → Holds members means (Database x) table opened s → Keeps members means x after
+      → AtBatch means x batch (λ list chain above ws. IsMaking means list chain (tip_of means.scheme rules chain ws policy meta) made)
+      → writing_of (get_or table h Gone) ≡ Some batch
+      → ((list : List Operation) (chain : Chain) (tip : List Operation) → Holds members means (Database after) (set table h Gone) opened (with_slot s h machine.gone) → Contains s.had list → IsAmong s.had chain
+      → IsMaking means list chain tip made → Q (made_into means.scheme s h list chain tip))
+      → Q (machine.merkleize means.scheme rules s h policy meta)
+  merkleize_made rules Q x after table opened h policy meta batch made s k keeps making e each =
+      with_writing members means x table opened h s (λ list. merkleize_in means.scheme rules s h policy meta list) Q k batch e (λ list chain above ws stands in_had among above_among is.
+      each list chain (tip_of means.scheme rules chain ws policy meta) (Holds-used members means x after table opened h s keeps k) in_had among (making list chain above ws stands is))
 
   -- an apply that was accepted
-  applied_in : (x after : X) (table : List (Slot B M)) (opened : ℕ) (h : ℕ) (batch : M) (size : ℕ) (s : State) (list : List Operation)
+  applied_in : (x after : X) (table : List (Slot B S M)) (opened : ℕ) (h : ℕ) (batch : M) (size : ℕ) (s : State) (list : List Operation)
       → Holds members means (Database x) table opened s → Contains s.had list
       → ((chain : Chain) (tip : List Operation) → means.is_merkleized batch chain tip → fits root (commitment root list) chain ≡ true)
       → ((chain : Chain) (tip : List Operation) → means.is_merkleized batch chain tip → IsOnChain list chain → means.stands after tip)
       → ((chain : Chain) (tip : List Operation) → means.is_merkleized batch chain tip → IsOnChain list chain → Appended members (means.inside x) (means.inside after) (map (spelling variable) (drop (length list) tip)))
       → ((l : List Operation) → means.stands after l → size ≡ length l)
-      → (a : Slot B M) (b : machine.Slot) → SlotIs members means s.had a b → merkleized_of a ≡ Some batch
+      → (a : Slot B S M) (b : machine.Slot) → SlotIs members means s.had a b → merkleized_of a ≡ Some batch
       → Goes (Reply (replies.Applied size)) (Database after) table opened (apply_in means.scheme s h list b)
   applied_in x after table opened h batch size s list k in_had fit_of did grown sized (Merkleized w) (machine.merkleized chain tip) is e =
       let same : w ≡ batch = cc in
@@ -275,16 +237,14 @@ module _ {X C B M K V D : Type 0} (members : stores.Ghosts C) (means : words.Gho
         },
       ))
       (λ unfit. absurd (let fit = fit_of chain tip batch_is in cc))
-  applied_in x after table opened h batch size s list k in_had fit_of did grown sized (Merkleized w) machine.gone is e = absurd is
-  applied_in x after table opened h batch size s list k in_had fit_of did grown sized (Merkleized w) (machine.writing chain above ws) is e = absurd is
-  applied_in x after table opened h batch size s list k in_had fit_of did grown sized Gone b is e = absurd (cc)
-  applied_in x after table opened h batch size s list k in_had fit_of did grown sized (Writing w) b is e = absurd (cc)
+  applied_in x after table opened h batch size s list k in_had fit_of did grown sized (Merkleized w) b is e = absurd is
+  applied_in x after table opened h batch size s list k in_had fit_of did grown sized a b is e = absurd (cc)
 
   -- one that found the batch left behind
-  unapplied_in : (x : X) (table : List (Slot B M)) (opened : ℕ) (h : ℕ) (batch : M) (s : State) (list : List Operation)
+  unapplied_in : (x : X) (table : List (Slot B S M)) (opened : ℕ) (h : ℕ) (batch : M) (s : State) (list : List Operation)
       → Holds members means (Database x) table opened s → Contains s.had list
       → ((chain : Chain) (tip : List Operation) → means.is_merkleized batch chain tip → IsOnChain list chain → ⊥)
-      → (a : Slot B M) (b : machine.Slot) → SlotIs members means s.had a b → merkleized_of a ≡ Some batch
+      → (a : Slot B S M) (b : machine.Slot) → SlotIs members means s.had a b → merkleized_of a ≡ Some batch
       → Goes (Reply (replies.Refused refused.StaleBatch)) (Database x) table opened (apply_in means.scheme s h list b)
   unapplied_in x table opened h batch s list k in_had off (Merkleized w) (machine.merkleized chain tip) is e =
       let same : w ≡ batch = cc in
@@ -292,12 +252,10 @@ module _ {X C B M K V D : Type 0} (members : stores.Ghosts C) (means : words.Gho
       choice (fits root (commitment root list) chain) (lines.Applied (length tip), record s { database = Some tip; store = appended (map (spelling variable) (drop (length list) tip)) s.store }) (refuse s refusals.StaleBatch) (Goes (Reply (replies.Refused refused.StaleBatch)) (Database x) table opened)
       (λ fit apart. absurd (off chain tip batch_is (on_chain-fits root s.had list chain apart in_had is.1 fit)))
       (λ unfit apart. (refl, k))
-  unapplied_in x table opened h batch s list k in_had off (Merkleized w) machine.gone is e = absurd is
-  unapplied_in x table opened h batch s list k in_had off (Merkleized w) (machine.writing chain above ws) is e = absurd is
-  unapplied_in x table opened h batch s list k in_had off Gone b is e = absurd (cc)
-  unapplied_in x table opened h batch s list k in_had off (Writing w) b is e = absurd (cc)
+  unapplied_in x table opened h batch s list k in_had off (Merkleized w) b is e = absurd is
+  unapplied_in x table opened h batch s list k in_had off a b is e = absurd (cc)
 
-  pub apply_ok : (x after : X) (table : List (Slot B M)) (opened : ℕ) (h : ℕ) (batch : M) (size : ℕ) (s : State)
+  pub apply_ok : (x after : X) (table : List (Slot B S M)) (opened : ℕ) (h : ℕ) (batch : M) (size : ℕ) (s : State)
       → Holds members means (Database x) table opened s
       → AtTip means x batch (λ list chain tip. Fits means list chain)
       → AtTip means x batch (λ list chain tip. IsOnChain list chain → means.stands after tip)
@@ -310,7 +268,7 @@ module _ {X C B M K V D : Type 0} (members : stores.Ghosts C) (means : words.Gho
       (λ list stands in_had. applied_in x after table opened h batch size s list k in_had (λ chain tip. fit list chain tip stands) (λ chain tip. did list chain tip stands) (λ chain tip. grown list chain tip stands) sized
       (get_or table h Gone) (slot_at s.table h) (k.slots h) e)
 
-  pub apply_err : (x : X) (given : Given X C) (table : List (Slot B M)) (opened : ℕ) (h : ℕ) (batch : M) (error : Error) (s : State)
+  pub apply_err : (x : X) (given : Given X C) (table : List (Slot B S M)) (opened : ℕ) (h : ℕ) (batch : M) (error : Error) (s : State)
       → Holds members means (Database x) table opened s
       → (error ≡ errors.StaleBatch → (given ≡ Database x) × AtTip means x batch (λ list chain tip. ¬ IsOnChain list chain))
       → (error ≢ errors.StaleBatch → refusal_of error ≡ None)
@@ -326,11 +284,11 @@ module _ {X C B M K V D : Type 0} (members : stores.Ghosts C) (means : words.Gho
       (λ r other told. absurd (none_some (none other) told))
 
   -- what an apply leaves in the store
-  left_in : (x : X) (left : Option Stored) (table : List (Slot B M)) (opened : ℕ) (h : ℕ) (batch : M) (s : State) (list : List Operation)
+  left_in : (x : X) (left : Option Stored) (table : List (Slot B S M)) (opened : ℕ) (h : ℕ) (batch : M) (s : State) (list : List Operation)
       → Holds members means (Database x) table opened s → Contains s.had list → Apart root s.had
       → ((chain : Chain) (tip : List Operation) → means.is_merkleized batch chain tip → (fits root (commitment root list) chain ≡ true → IsOnChain list chain)
       → model.Turns (members.told (means.inside x)) left (HasAppended (cond (fits root (commitment root list) chain) (map (spelling variable) (drop (length list) tip)) [])))
-      → (a : Slot B M) (b : machine.Slot) → SlotIs members means s.had a b → merkleized_of a ≡ Some batch
+      → (a : Slot B S M) (b : machine.Slot) → SlotIs members means s.had a b → merkleized_of a ≡ Some batch
       → IsLeft left s.store ((apply_in means.scheme s h list b).1).store
   left_in x left table opened h batch s list k in_had apart grown (Merkleized w) (machine.merkleized chain tip) is e =
       let same : w ≡ batch = cc in
@@ -343,12 +301,10 @@ module _ {X C B M K V D : Type 0} (members : stores.Ghosts C) (means : words.Gho
           → IsLeft left s.store ((cond t (answer, next) (refuse s refusals.StaleBatch)).1).store
       by_fit true answer next more part is_next = subst (IsLeft left s.store) (sym is_next) (left_part s.store more (members.told (means.inside x)) left k.store.told part)
       by_fit false answer next more part is_next = subst (IsLeft left s.store) (ap (λ xs. record s.store { items = xs }) (append-nil s.store.items)) (left_part s.store [] (members.told (means.inside x)) left k.store.told part)
-  left_in x left table opened h batch s list k in_had apart grown (Merkleized w) machine.gone is e = absurd is
-  left_in x left table opened h batch s list k in_had apart grown (Merkleized w) (machine.writing chain above ws) is e = absurd is
-  left_in x left table opened h batch s list k in_had apart grown Gone b is e = absurd (cc)
-  left_in x left table opened h batch s list k in_had apart grown (Writing w) b is e = absurd (cc)
+  left_in x left table opened h batch s list k in_had apart grown (Merkleized w) b is e = absurd is
+  left_in x left table opened h batch s list k in_had apart grown a b is e = absurd (cc)
 
-  pub apply_left : (x : X) (left : Option Stored) (table : List (Slot B M)) (opened : ℕ) (h : ℕ) (batch : M) (s : State)
+  pub apply_left : (x : X) (left : Option Stored) (table : List (Slot B S M)) (opened : ℕ) (h : ℕ) (batch : M) (s : State)
       → Holds members means (Database x) table opened s → Apart root s.had
       → ((list : List Operation) (chain : Chain) (tip : List Operation) → means.stands x list → means.is_merkleized batch chain tip → (fits root (commitment root list) chain ≡ true → IsOnChain list chain)
       → model.Turns (members.told (means.inside x)) left (HasAppended (cond (fits root (commitment root list) chain) (map (spelling variable) (drop (length list) tip)) [])))

@@ -8,7 +8,8 @@ use Rattle.qm_model.specs.StoreModel.{Stored, appended, HasAppended, Becomes}
 use Rattle.qm_model.specs.StoreModel as model
 use Rattle.qm_model.specs.Operations.{Bytes, Operation, fresh}
 use Rattle.qm_model.specs.Forms.{spelling, variable}
-use Rattle.qm_model.specs.Batches.{Apart}
+use Rattle.qm_model.specs.Writes.{Write}
+use Rattle.qm_model.specs.Batches.{Chain, IsAmong, Apart}
 use Rattle.qm_machine.specs.Lines.{Answer}
 use Rattle.qm_machine.specs.Lines as lines
 use Rattle.qm_model.specs.Refused as refusals
@@ -29,10 +30,10 @@ use Rattle.qm_lines.specs.declared.reply.Refused.TheVariants as refused
 use Rattle.qm_store.specs.declared.refusal.Given.{Given}
 use Rattle.qm_store.specs.declared.refusal.Given.TheVariants.{Database, Store}
 use Rattle.qm_engine.specs.declared.table.Slot.{Slot}
-use Rattle.qm_engine.specs.declared.table.Slot.TheVariants.{Gone, Writing, Merkleized}
+use Rattle.qm_engine.specs.declared.table.Slot.TheVariants.{Gone, Writing, Staged, Merkleized}
 use Rattle.qm_engine.specs.declared.session.Turn.{Turn}
 use Rattle.qm_engine.specs.declared.session.Turn.TheVariants.{Reply, Memory, StoreFault}
-use Rattle.qm_engine.specs.Table.{merkleized_of}
+use Rattle.qm_engine.specs.Table.{writing_of, staged_of, merkleized_of}
 use Rattle.qm_engine.specs.Turn.{turn_of_error}
 use Rattle.qm_store.specs.Refusals.{refusal_of, IsDue}
 use Rattle.qm_store.specs.declared.Store as stores
@@ -128,23 +129,19 @@ by_refusal error Q each = by_error error Q (λ e. each refused.StaleBatch (ap re
 pub no_refusal : {K V D : Type 0} (error : Error) (Q : reply.Reply K V D → Type 0) → refusal_of error ≡ None → IfReply (turn_of_error error) Q
 no_refusal error Q none = by_refusal error Q (λ r told. absurd (none_some none told))
 
-module _ {X C B M : Type 0} (members : stores.Ghosts C) (means : words.Ghosts X C B M) where
+module _ {X C B S M : Type 0} (members : stores.Ghosts C) (means : words.Ghosts X C B S M) where
   pub HeldIs-more : (had : List (List Operation)) (new : List Operation) (held : Given X C) (d : Option (List Operation)) → HeldIs members means had held d → HeldIs members means (new ∷ had) held d
   HeldIs-more had new (Database x) (Some list) h = (h.0, Contains-more had new list h.1)
   HeldIs-more had new (Database x) None h = absurd h
   HeldIs-more had new (Store c) (Some list) h = absurd h
   HeldIs-more had new (Store c) None h = tt
 
-  pub SlotIs-more : (had : List (List Operation)) (new : List Operation) (a : Slot B M) (b : machine.Slot) → SlotIs members means had a b → SlotIs members means (new ∷ had) a b
+  pub SlotIs-more : (had : List (List Operation)) (new : List Operation) (a : Slot B S M) (b : machine.Slot) → SlotIs members means had a b → SlotIs members means (new ∷ had) a b
   SlotIs-more had new Gone machine.gone h = tt
-  SlotIs-more had new Gone (machine.writing chain above ws) h = absurd h
-  SlotIs-more had new Gone (machine.merkleized chain tip) h = absurd h
-  SlotIs-more had new (Writing b) machine.gone h = absurd h
   SlotIs-more had new (Writing b) (machine.writing chain above ws) h = (h.0, IsAmong-more had new chain h.1, IsAmong-more had new above h.2)
-  SlotIs-more had new (Writing b) (machine.merkleized chain tip) h = absurd h
-  SlotIs-more had new (Merkleized b) machine.gone h = absurd h
-  SlotIs-more had new (Merkleized b) (machine.writing chain above ws) h = absurd h
+  SlotIs-more had new (Staged b) (machine.staged chain above ws keys) h = (h.0, IsAmong-more had new chain h.1, IsAmong-more had new above h.2)
   SlotIs-more had new (Merkleized b) (machine.merkleized chain tip) h = (h.0, IsAmong-more had new chain h.1, Contains-more had new tip h.2)
+  SlotIs-more had new a b h = absurd h
 
   -- a database is open where one is held
   pub with_list : (x : X) (had : List (List Operation)) (d : Option (List Operation)) (s : State) (f : List Operation → Answer × State) (Q : Answer × State → Type 0)
@@ -158,22 +155,22 @@ module _ {X C B M : Type 0} (members : stores.Ghosts C) (means : words.Ghosts X 
   HeldIs-kept x after had (Some list) keeps h = (keeps list h.0, h.1)
 
   -- the same places, with one set
-  pub slots_set : (table : List (Slot B M)) (s : State) (h : ℕ) (new : Slot B M) (slot : machine.Slot) → length table ≡ length s.table → ((i : ℕ) → SlotIs members means s.had (get_or table i Gone) (slot_at s.table i))
+  pub slots_set : (table : List (Slot B S M)) (s : State) (h : ℕ) (new : Slot B S M) (slot : machine.Slot) → length table ≡ length s.table → ((i : ℕ) → SlotIs members means s.had (get_or table i Gone) (slot_at s.table i))
       → SlotIs members means s.had new slot → (i : ℕ) → SlotIs members means s.had (get_or (set table h new) i Gone) (slot_at (set s.table h slot) i)
   slots_set table s h new slot e each is = set_at (SlotIs members means s.had) Gone machine.gone tt table s.table h new slot e each is
 
-  pub lengths_set : (table : List (Slot B M)) (s : State) (h : ℕ) (new : Slot B M) (slot : machine.Slot) → length table ≡ length s.table → length (set table h new) ≡ length (set s.table h slot)
+  pub lengths_set : (table : List (Slot B S M)) (s : State) (h : ℕ) (new : Slot B S M) (slot : machine.Slot) → length table ≡ length s.table → length (set table h new) ≡ length (set s.table h slot)
   lengths_set table s h new slot e = length-set table h new ∙ e ∙ sym (length-set s.table h slot)
 
   -- the store of a database starts at 0, and tells its items
-  pub Holds-told : (x : X) (table : List (Slot B M)) (opened : ℕ) (s : State) → Holds members means (Database x) table opened s → TellsAll members (means.inside x)
+  pub Holds-told : (x : X) (table : List (Slot B S M)) (opened : ℕ) (s : State) → Holds members means (Database x) table opened s → TellsAll members (means.inside x)
   Holds-told x table opened s k = (k.store.start ∙ (k.whole tt).0, ap is_some k.store.told)
 
   -- a database that stands for the same lists, over what the store had
   abbrev pub Keeps : X → X → Type 0
   Keeps x after = ((l : List Operation) → means.stands x l → means.stands after l) × IsUnchanged members (means.inside x) (means.inside after)
 
-  pub Holds-kept : (x after : X) (table : List (Slot B M)) (opened : ℕ) (s : State) → Keeps x after → Holds members means (Database x) table opened s → Holds members means (Database after) table opened s
+  pub Holds-kept : (x after : X) (table : List (Slot B S M)) (opened : ℕ) (s : State) → Keeps x after → Holds members means (Database x) table opened s → Holds members means (Database after) table opened s
   Holds-kept x after table opened s keeps k = record {
     database = HeldIs-kept x after s.had s.database keeps.0 k.database;
     store = stored-same members (means.inside x) (means.inside after) s.store keeps.1 k.store;
@@ -184,7 +181,7 @@ module _ {X C B M : Type 0} (members : stores.Ghosts C) (means : words.Ghosts X 
   }
 
   -- and whose batch number h is used up
-  pub Holds-used : (x after : X) (table : List (Slot B M)) (opened : ℕ) (h : ℕ) (s : State) → Keeps x after → Holds members means (Database x) table opened s → Holds members means (Database after) (set table h Gone) opened (with_slot s h machine.gone)
+  pub Holds-used : (x after : X) (table : List (Slot B S M)) (opened : ℕ) (h : ℕ) (s : State) → Keeps x after → Holds members means (Database x) table opened s → Holds members means (Database after) (set table h Gone) opened (with_slot s h machine.gone)
   Holds-used x after table opened h s keeps k = record {
     database = HeldIs-kept x after s.had s.database keeps.0 k.database;
     store = stored-same members (means.inside x) (means.inside after) s.store keeps.1 k.store;
@@ -194,32 +191,59 @@ module _ {X C B M : Type 0} (members : stores.Ghosts C) (means : words.Ghosts X 
     slots = slots_set table s h Gone machine.gone k.lengths k.slots tt;
   }
 
-  pub merkleized_slot : (a : Slot B M) (batch : M) → merkleized_of a ≡ Some batch → a ≡ Merkleized batch
-  merkleized_slot Gone batch e = absurd (cc)
-  merkleized_slot (Writing b) batch e = absurd (cc)
-  merkleized_slot (Merkleized b) batch e = ap Merkleized (cc)
+  -- over a database, what is done with a batch that a number names
+  module _ (x : X) (table : List (Slot B S M)) (opened h : ℕ) (s : State) (f : List Operation → machine.Slot → Answer × State) (Q : Answer × State → Type 0) (k : Holds members means (Database x) table opened s) where
+    pub with_writing : (batch : B) → writing_of (get_or table h Gone) ≡ Some batch
+        → ((list : List Operation) (chain above : Chain) (ws : List Write) → means.stands x list → Contains s.had list → IsAmong s.had chain → IsAmong s.had above → means.is_batch batch chain above ws
+        → Q (f list (machine.writing chain above ws)))
+        → Q (with_database s s.database (λ list. f list (slot_at s.table h)))
+    with_writing batch e each =
+        with_list x s.had s.database s (λ list. f list (slot_at s.table h)) Q k.database (λ list stands in_had. by list stands in_had (get_or table h Gone) (slot_at s.table h) (k.slots h) e)
+      where
+        by : (list : List Operation) → means.stands x list → Contains s.had list → (a : Slot B S M) (b : machine.Slot) → SlotIs members means s.had a b → writing_of a ≡ Some batch → Q (f list b)
+        by list stands in_had (Writing w) (machine.writing chain above ws) is e =
+            let same : w ≡ batch = cc in each list chain above ws stands in_had is.1 is.2 (subst (λ v. means.is_batch v chain above ws) same is.0)
+        by list stands in_had (Writing w) b is e = absurd is
+        by list stands in_had a b is e = absurd (cc)
 
-module _ {X C B M K V D : Type 0} (members : stores.Ghosts C) (means : words.Ghosts X C B M) (key : K → Bytes) (value : V → Bytes) (digest : D → Bytes) where
+    pub with_staged : (batch : S) → staged_of (get_or table h Gone) ≡ Some batch
+        → ((list : List Operation) (chain above : Chain) (ws : List Write) (keys : List Bytes) → means.stands x list → Contains s.had list → IsAmong s.had chain → IsAmong s.had above → means.is_staged batch chain above ws keys
+        → Q (f list (machine.staged chain above ws keys)))
+        → Q (with_database s s.database (λ list. f list (slot_at s.table h)))
+    with_staged batch e each =
+        with_list x s.had s.database s (λ list. f list (slot_at s.table h)) Q k.database (λ list stands in_had. by list stands in_had (get_or table h Gone) (slot_at s.table h) (k.slots h) e)
+      where
+        by : (list : List Operation) → means.stands x list → Contains s.had list → (a : Slot B S M) (b : machine.Slot) → SlotIs members means s.had a b → staged_of a ≡ Some batch → Q (f list b)
+        by list stands in_had (Staged w) (machine.staged chain above ws keys) is e =
+            let same : w ≡ batch = cc in each list chain above ws keys stands in_had is.1 is.2 (subst (λ v. means.is_staged v chain above ws keys) same is.0)
+        by list stands in_had (Staged w) b is e = absurd is
+        by list stands in_had a b is e = absurd (cc)
+
+  pub merkleized_slot : (a : Slot B S M) (batch : M) → merkleized_of a ≡ Some batch → a ≡ Merkleized batch
+  merkleized_slot (Merkleized b) batch e = ap Merkleized (cc)
+  merkleized_slot a batch e = absurd (cc)
+
+module _ {X C B S M K V D : Type 0} (members : stores.Ghosts C) (means : words.Ghosts X C B S M) (key : K → Bytes) (value : V → Bytes) (digest : D → Bytes) where
   abbrev root : List Operation → Bytes
   root = means.scheme.root
 
-  abbrev pub Turns : Turn K V D → Given X C → List (Slot B M) → ℕ → Answer × State → Type 0
+  abbrev pub Turns : Turn K V D → Given X C → List (Slot B S M) → ℕ → Answer × State → Type 0
   Turns turn held table opened next = IfReply turn (λ r. Apart root (next.1).had → (answer_view key value digest r ≡ next.0) × Holds members means held table opened next.1)
 
   -- an answer that leaves the state as it is
-  pub stays : (held : Given X C) (table : List (Slot B M)) (opened : ℕ) (s : State) (answer : Answer) (next : Answer × State) → next.1 ≡ s → Holds members means held table opened s
+  pub stays : (held : Given X C) (table : List (Slot B S M)) (opened : ℕ) (s : State) (answer : Answer) (next : Answer × State) → next.1 ≡ s → Holds members means held table opened s
       → (Apart root s.had → answer ≡ next.0) → Apart root (next.1).had → (answer ≡ next.0) × Holds members means held table opened next.1
   stays held table opened s answer next same k is =
       subst (λ t. Apart root t.had → (answer ≡ next.0) × Holds members means held table opened t) (sym same) (λ apart. (is apart, k))
 
-  pub answered : (turn : Turn K V D) (held : Given X C) (table : List (Slot B M)) (opened : ℕ) (s : State) (next : Answer × State) → next.1 ≡ s → Holds members means held table opened s
+  pub answered : (turn : Turn K V D) (held : Given X C) (table : List (Slot B S M)) (opened : ℕ) (s : State) (next : Answer × State) → next.1 ≡ s → Holds members means held table opened s
       → Answers members means key value digest turn s next → Turns turn held table opened next
   answered (Reply r) held table opened s next same k is = stays held table opened s (answer_view key value digest r) next same k is
   answered Memory held table opened s next same k is = tt
   answered StoreFault held table opened s next same k is = tt
 
   -- an error of a call that changes nothing
-  pub unless_err : (x after : X) (table : List (Slot B M)) (opened : ℕ) (error : Error) (s : State) (due : List Operation → Option refusals.Refused) (answer : List Operation → Answer)
+  pub unless_err : (x after : X) (table : List (Slot B S M)) (opened : ℕ) (error : Error) (s : State) (due : List Operation → Option refusals.Refused) (answer : List Operation → Answer)
       → Holds members means (Database x) table opened s → Keeps members means x after → ((list : List Operation) → means.stands x list → IsDue error (due list))
       → Turns (turn_of_error error) (Database after) table opened (with_database s s.database (λ list. unless s (due list) (answer list)))
   unless_err x after table opened error s due answer k keeps is =
@@ -228,18 +252,27 @@ module _ {X C B M K V D : Type 0} (members : stores.Ghosts C) (means : words.Gho
       (λ apart. (refl, Holds-kept members means x after table opened s keeps k))))
 
   -- an opening, as the machine's store decides it
-  abbrev Opening : Turn K V D → Given X C → List (Slot B M) → ℕ → State → Option refusals.Refused → Type 0
+  abbrev Opening : Turn K V D → Given X C → List (Slot B S M) → ℕ → State → Option refusals.Refused → Type 0
   Opening turn held table opened s due = Turns turn held table opened (open_unless s due)
 
+  -- what is held has items, or had some, where it is no empty store
+  pub filled_store : (held : Given X C) (table : List (Slot B S M)) (opened : ℕ) (s : State) → Holds members means held table opened s
+      → ((c : C) → held ≡ Store c → 0 < members.«end» c) → ((c : C) → IfSome (members.told c) (λ held. model.end_of held ≡ members.«end» c))
+      → 0 < s.store.start + length s.store.items
+  filled_store (Database x) table opened s k filled law = let some = (k.whole tt).1 in omega (arith, some)
+  filled_store (Store c) table opened s k filled law =
+      let above : 0 < members.«end» c = filled c refl in
+      subst (λ n. 0 < n) (sym (some_is (members.told c) s.store (λ held. model.end_of held ≡ members.«end» c) k.store.told (law c))) above
+
   -- there is a database, or the store is not empty
-  pub open_refused : (held : Given X C) (table : List (Slot B M)) (opened : ℕ) (s : State) → Holds members means held table opened s
+  pub open_refused : (held : Given X C) (table : List (Slot B S M)) (opened : ℕ) (s : State) → Holds members means held table opened s
       → 0 < s.store.start + length s.store.items
       → Turns (Reply (replies.Refused refused.NotOffered)) held table opened (machine.open_store s)
   open_refused held table opened s k above =
       subst (λ t. Opening (Reply (replies.Refused refused.NotOffered)) held table opened s (cond t (Some refusals.NotOffered) (head_refusal s.store.head))) (sym (lt-ltb 0 (s.store.start + length s.store.items) above)) (λ apart. (refl, k))
 
   -- a store that ends at 0, with no database
-  module _ (c : C) (table : List (Slot B M)) (opened : ℕ) (s : State) (k : Holds members means (Store c) table opened s) (law : IfSome (members.told c) (λ held. model.end_of held ≡ members.«end» c)) (none : members.«end» c ≡ 0) where
+  module _ (c : C) (table : List (Slot B S M)) (opened : ℕ) (s : State) (k : Holds members means (Store c) table opened s) (law : IfSome (members.told c) (λ held. model.end_of held ≡ members.«end» c)) (none : members.«end» c ≡ 0) where
     -- it starts at 0, and has no items
     counted : s.store.start + length s.store.items ≡ 0
     counted = some_is (members.told c) s.store (λ held. model.end_of held ≡ members.«end» c) k.store.told law ∙ none

@@ -29,15 +29,15 @@ use Rattle.qm_engine.specs.Session.{SlotIs, Holds, Answers}
 use Rattle.qm_engine.proofs.Commands.{with_list, Holds-kept, Turns, unless_err, answered, merkleized_slot}
 use Rattle.qm_engine.proofs.ReadCommands.{readable_ok, readable_err, readable_state}
 
-module _ {X C B M K V D : Type 0} (members : stores.Ghosts C) (means : words.Ghosts X C B M) (key : K → Bytes) (value : V → Bytes) (digest : D → Bytes) where
+module _ {X C B S M K V D : Type 0} (members : stores.Ghosts C) (means : words.Ghosts X C B S M) (key : K → Bytes) (value : V → Bytes) (digest : D → Bytes) where
   abbrev root : List Operation → Bytes
   root = means.scheme.root
 
-  abbrev Goes : Turn K V D → Given X C → List (Slot B M) → ℕ → Answer × State → Type 0
+  abbrev Goes : Turn K V D → Given X C → List (Slot B S M) → ℕ → Answer × State → Type 0
   Goes = Turns members means key value digest
 
   -- proofs and pins
-  pub prove_ok : (x after : X) (table : List (Slot B M)) (opened size start max : ℕ) (proof : Proof) (ops : List Operation) (s : State) → Holds members means (Database x) table opened s
+  pub prove_ok : (x after : X) (table : List (Slot B S M)) (opened size start max : ℕ) (proof : Proof) (ops : List Operation) (s : State) → Holds members means (Database x) table opened s
       → ((l : List Operation) → means.stands x l → means.stands after l) → IsUnchanged members (means.inside x) (means.inside after)
       → ((list : List Operation) → means.stands x list → proof_refusal (members.start (means.inside x)) list size start ≡ None)
       → ((list : List Operation) → means.stands x list → proof ≡ means.scheme.proof (take size list) start (start + proof_count size start max))
@@ -51,7 +51,7 @@ module _ {X C B M K V D : Type 0} (members : stores.Ghosts C) (means : words.Gho
       (λ list stands in_had. subst (λ due. Goal (unless s due (given list))) (sym (subst (λ kept. proof_refusal kept list size start ≡ None) k.store.start (offered list stands)))
       (ap₂ lines.Proved (is_proof list stands) (are_ops list stands), Holds-kept members means x after table opened s (keeps, same_store) k))
 
-  pub prove_err : (x after : X) (table : List (Slot B M)) (opened size start max : ℕ) (error : Error) (s : State) → Holds members means (Database x) table opened s
+  pub prove_err : (x after : X) (table : List (Slot B S M)) (opened size start max : ℕ) (error : Error) (s : State) → Holds members means (Database x) table opened s
       → ((l : List Operation) → means.stands x l → means.stands after l) → IsUnchanged members (means.inside x) (means.inside after)
       → ((list : List Operation) → means.stands x list → IsDue error (proof_refusal (members.start (means.inside x)) list size start))
       → Goes (turn_of_error error) (Database after) table opened (machine.prove means.scheme s size start max)
@@ -60,7 +60,7 @@ module _ {X C B M K V D : Type 0} (members : stores.Ghosts C) (means : words.Gho
       (λ list. lines.Proved (means.scheme.proof (take size list) start (start + proof_count size start max)) (take (proof_count size start max) (drop start list))) k (keeps, same_store)
       (λ list stands. subst (λ kept. IsDue error (proof_refusal kept list size start)) k.store.start (is list stands))
 
-  pub pins_err : (x : X) (table : List (Slot B M)) (opened n : ℕ) (error : Error) (s : State) → Holds members means (Database x) table opened s
+  pub pins_err : (x : X) (table : List (Slot B S M)) (opened n : ℕ) (error : Error) (s : State) → Holds members means (Database x) table opened s
       → ((list : List Operation) → means.stands x list → IsDue error (pins_refusal list n))
       → Goes (turn_of_error error) (Database x) table opened (machine.pins means.scheme s n)
   pins_err x table opened n error s k is =
@@ -70,10 +70,11 @@ module _ {X C B M K V D : Type 0} (members : stores.Ghosts C) (means : words.Gho
   proof_state-in : (s : State) (h : ℕ) (list : List Operation) (named : machine.Slot) → (proof_in means.scheme s h list named).1 ≡ s
   proof_state-in s h list machine.gone = refl
   proof_state-in s h list (machine.writing chain above ws) = refl
+  proof_state-in s h list (machine.staged chain above ws keys) = refl
   proof_state-in s h list (machine.merkleized chain tip) =
       readable_state members means key value digest s list chain tip (lines.BatchProved (means.scheme.proof tip (length chain.base) (length tip)) (means.scheme.pins tip (length chain.base)))
 
-  named_proof : (turn : Turn K V D) (x : X) (table : List (Slot B M)) (opened h : ℕ) (s : State) → Holds members means (Database x) table opened s
+  named_proof : (turn : Turn K V D) (x : X) (table : List (Slot B S M)) (opened h : ℕ) (s : State) → Holds members means (Database x) table opened s
       → ((list : List Operation) (named : machine.Slot) → means.stands x list → Contains s.had list → SlotIs members means s.had (get_or table h Gone) named
       → Answers members means key value digest turn s (proof_in means.scheme s h list named))
       → Goes turn (Database x) table opened (machine.batch_proof means.scheme s h)
@@ -82,7 +83,7 @@ module _ {X C B M K V D : Type 0} (members : stores.Ghosts C) (means : words.Gho
       (λ list stands in_had. answered members means key value digest turn (Database x) table opened s (proof_in means.scheme s h list (slot_at s.table h)) (proof_state-in s h list (slot_at s.table h))
       k (told list (slot_at s.table h) stands in_had (k.slots h)))
 
-  pub batch_proof_ok : (r : reply.Reply K V D) (proof : Proof) (pins : List Bytes) (x : X) (table : List (Slot B M)) (opened h : ℕ) (batch : M) (s : State) → Holds members means (Database x) table opened s
+  pub batch_proof_ok : (r : reply.Reply K V D) (proof : Proof) (pins : List Bytes) (x : X) (table : List (Slot B S M)) (opened h : ℕ) (batch : M) (s : State) → Holds members means (Database x) table opened s
       → answer_view key value digest r ≡ lines.BatchProved proof pins
       → AtTip means x batch (λ list chain tip. CanRead means list chain tip)
       → AtTip means x batch (λ list chain tip. IsKnown list chain tip → (proof ≡ means.scheme.proof tip (length chain.base) (length tip)) × (pins ≡ means.scheme.pins tip (length chain.base)))
@@ -93,13 +94,12 @@ module _ {X C B M K V D : Type 0} (members : stores.Ghosts C) (means : words.Gho
       by list named stands in_had (subst (λ a. SlotIs members means s.had a named) (merkleized_slot members means (get_or table h Gone) batch e) is))
     where
       by : (list : List Operation) (named : machine.Slot) → means.stands x list → Contains s.had list → SlotIs members means s.had (Merkleized batch) named → Answers members means key value digest (Reply r) s (proof_in means.scheme s h list named)
-      by list machine.gone stands in_had is = absurd is
-      by list (machine.writing chain above ws) stands in_had is = absurd is
       by list (machine.merkleized chain tip) stands in_had is = λ apart. is_view ∙
           readable_ok members means key value digest s list chain tip (lines.BatchProved proof pins) (lines.BatchProved (means.scheme.proof tip (length chain.base) (length tip)) (means.scheme.pins tip (length chain.base))) in_had is.1 is.2
           (can list chain tip stands is.0) (λ known. let facts = are list chain tip stands is.0 known in ap₂ lines.BatchProved facts.0 facts.1) apart
+      by list named stands in_had is = absurd is
 
-  pub batch_proof_err : (error : Error) (x : X) (table : List (Slot B M)) (opened h : ℕ) (batch : M) (s : State) → Holds members means (Database x) table opened s
+  pub batch_proof_err : (error : Error) (x : X) (table : List (Slot B S M)) (opened h : ℕ) (batch : M) (s : State) → Holds members means (Database x) table opened s
       → (tells : Type 0) → tells → AtTip means x batch (λ list chain tip. IsReadFailure means tells list chain tip error)
       → merkleized_of (get_or table h Gone) ≡ Some batch
       → Goes (turn_of_error error) (Database x) table opened (machine.batch_proof means.scheme s h)
@@ -108,8 +108,7 @@ module _ {X C B M K V D : Type 0} (members : stores.Ghosts C) (means : words.Gho
       by list named stands in_had (subst (λ a. SlotIs members means s.had a named) (merkleized_slot members means (get_or table h Gone) batch e) is))
     where
       by : (list : List Operation) (named : machine.Slot) → means.stands x list → Contains s.had list → SlotIs members means s.had (Merkleized batch) named → Answers members means key value digest (turn_of_error error) s (proof_in means.scheme s h list named)
-      by list machine.gone stands in_had is = absurd is
-      by list (machine.writing chain above ws) stands in_had is = absurd is
       by list (machine.merkleized chain tip) stands in_had is =
           readable_err members means key value digest s list chain tip error (lines.BatchProved (means.scheme.proof tip (length chain.base) (length tip)) (means.scheme.pins tip (length chain.base))) in_had is.1 is.2 tells told_all
           (why list chain tip stands is.0)
+      by list named stands in_had is = absurd is

@@ -31,7 +31,7 @@ use Rattle.qm_engine.specs.Session.{SlotIs, Holds, Answers}
 use Rattle.qm_engine.proofs.Commands.{choice, none_some, refuses, by_refusal, with_list, Holds-kept, Turns, answered}
 
 -- whether an error tells that a read is stale
-is_stale_read : (error : Error) → (error ≡ errors.StaleRead) ⊎ (error ≢ errors.StaleRead)
+pub is_stale_read : (error : Error) → (error ≡ errors.StaleRead) ⊎ (error ≢ errors.StaleRead)
 is_stale_read errors.Memory = inr (λ e. absurd (cc))
 is_stale_read errors.StaleBatch = inr (λ e. absurd (cc))
 is_stale_read errors.StaleRead = inl refl
@@ -45,11 +45,11 @@ pub map-through : {A B E : Type 0} (f : A → B) (g : B → E) (xs : List A) →
 map-through f g [] = refl
 map-through f g (x ∷ xs) = ap (λ r. g (f x) ∷ r) (map-through f g xs)
 
-module _ {X C B M K V D : Type 0} (members : stores.Ghosts C) (means : words.Ghosts X C B M) (key : K → Bytes) (value : V → Bytes) (digest : D → Bytes) where
+module _ {X C B S M K V D : Type 0} (members : stores.Ghosts C) (means : words.Ghosts X C B S M) (key : K → Bytes) (value : V → Bytes) (digest : D → Bytes) where
   abbrev root : List Operation → Bytes
   root = means.scheme.root
 
-  abbrev Goes : Turn K V D → Given X C → List (Slot B M) → ℕ → Answer × State → Type 0
+  abbrev Goes : Turn K V D → Given X C → List (Slot B S M) → ℕ → Answer × State → Type 0
   Goes = Turns members means key value digest
 
   -- what is read where that is allowed
@@ -89,43 +89,40 @@ module _ {X C B M K V D : Type 0} (members : stores.Ghosts C) (means : words.Gho
       → ((chain above : Chain) (ws : List Write) → means.is_batch batch chain above ws → CanRead means list above chain.base)
       → ((chain above : Chain) (ws : List Write) → means.is_batch batch chain above ws → IsKnown list above chain.base → values ≡ map (read_through chain.base ws) keys)
       → Apart root s.had → lines.Read values ≡ (read_in means.scheme s h keys list named).0
-  written_ok s list h keys batch values machine.gone in_had is can are = absurd is
-  written_ok s list h keys batch values (machine.merkleized chain tip) in_had is can are = absurd is
   written_ok s list h keys batch values (machine.writing chain above ws) in_had is can are =
       readable_ok s list above chain.base (lines.Read values) (lines.Read (map (read_through chain.base ws) keys)) in_had is.2 (is.1).base (can chain above ws is.0) (λ known. ap lines.Read (are chain above ws is.0 known))
+  written_ok s list h keys batch values named in_had is can are = absurd is
 
   pub written_err : (s : State) (list : List Operation) (h : ℕ) (keys : List Bytes) (batch : B) (error : Error) (named : machine.Slot) → Contains s.had list → SlotIs members means s.had (Writing batch) named
       → (tells : Type 0) → tells → ((chain above : Chain) (ws : List Write) → means.is_batch batch chain above ws → IsReadFailure means tells list above chain.base error)
       → Answers members means key value digest (turn_of_error error) s (read_in means.scheme s h keys list named)
-  written_err s list h keys batch error machine.gone in_had is tells told_all why = absurd is
-  written_err s list h keys batch error (machine.merkleized chain tip) in_had is tells told_all why = absurd is
   written_err s list h keys batch error (machine.writing chain above ws) in_had is tells told_all why =
       readable_err s list above chain.base error (lines.Read (map (read_through chain.base ws) keys)) in_had is.2 (is.1).base tells told_all (why chain above ws is.0)
+  written_err s list h keys batch error named in_had is tells told_all why = absurd is
 
   pub made_ok : (s : State) (list : List Operation) (h : ℕ) (keys : List Bytes) (batch : M) (values : List (Option Bytes)) (named : machine.Slot) → Contains s.had list → SlotIs members means s.had (Merkleized batch) named
       → ((chain : Chain) (tip : List Operation) → means.is_merkleized batch chain tip → CanRead means list chain tip)
       → ((chain : Chain) (tip : List Operation) → means.is_merkleized batch chain tip → IsKnown list chain tip → values ≡ map (value_of tip) keys)
       → Apart root s.had → lines.Read values ≡ (read_in means.scheme s h keys list named).0
-  made_ok s list h keys batch values machine.gone in_had is can are = absurd is
-  made_ok s list h keys batch values (machine.writing chain above ws) in_had is can are = absurd is
   made_ok s list h keys batch values (machine.merkleized chain tip) in_had is can are =
       readable_ok s list chain tip (lines.Read values) (lines.Read (map (value_of tip) keys)) in_had is.1 is.2 (can chain tip is.0) (λ known. ap lines.Read (are chain tip is.0 known))
+  made_ok s list h keys batch values named in_had is can are = absurd is
 
   pub made_err : (s : State) (list : List Operation) (h : ℕ) (keys : List Bytes) (batch : M) (error : Error) (named : machine.Slot) → Contains s.had list → SlotIs members means s.had (Merkleized batch) named
       → (tells : Type 0) → tells → ((chain : Chain) (tip : List Operation) → means.is_merkleized batch chain tip → IsReadFailure means tells list chain tip error)
       → Answers members means key value digest (turn_of_error error) s (read_in means.scheme s h keys list named)
-  made_err s list h keys batch error machine.gone in_had is tells told_all why = absurd is
-  made_err s list h keys batch error (machine.writing chain above ws) in_had is tells told_all why = absurd is
   made_err s list h keys batch error (machine.merkleized chain tip) in_had is tells told_all why =
       readable_err s list chain tip error (lines.Read (map (value_of tip) keys)) in_had is.1 is.2 tells told_all (why chain tip is.0)
+  made_err s list h keys batch error named in_had is tells told_all why = absurd is
 
   read_state-in : (s : State) (h : ℕ) (keys : List Bytes) (list : List Operation) (named : machine.Slot) → (read_in means.scheme s h keys list named).1 ≡ s
-  read_state-in s h keys list machine.gone = refl
   read_state-in s h keys list (machine.writing chain above ws) = readable_state s list above chain.base (lines.Read (map (read_through chain.base ws) keys))
   read_state-in s h keys list (machine.merkleized chain tip) = readable_state s list chain tip (lines.Read (map (value_of tip) keys))
+  read_state-in s h keys list machine.gone = refl
+  read_state-in s h keys list (machine.staged chain above ws ks) = refl
 
   -- over a database, what is read through a batch number
-  pub named_read : (turn : Turn K V D) (x after : X) (table : List (Slot B M)) (opened h : ℕ) (keys : List Bytes) (s : State) → Holds members means (Database x) table opened s
+  pub named_read : (turn : Turn K V D) (x after : X) (table : List (Slot B S M)) (opened h : ℕ) (keys : List Bytes) (s : State) → Holds members means (Database x) table opened s
       → ((l : List Operation) → means.stands x l → means.stands after l) → IsUnchanged members (means.inside x) (means.inside after)
       → ((list : List Operation) (named : machine.Slot) → means.stands x list → Contains s.had list → SlotIs members means s.had (get_or table h Gone) named
       → Answers members means key value digest turn s (read_in means.scheme s h keys list named))
@@ -136,7 +133,7 @@ module _ {X C B M K V D : Type 0} (members : stores.Ghosts C) (means : words.Gho
       (Holds-kept members means x after table opened s (keeps, same_store) k) (told list (slot_at s.table h) stands in_had (k.slots h)))
 
   -- over a database, what is read of it
-  pub database_read : (x after : X) (table : List (Slot B M)) (opened : ℕ) (keys : List Bytes) (values : List (Option Bytes)) (s : State) → Holds members means (Database x) table opened s
+  pub database_read : (x after : X) (table : List (Slot B S M)) (opened : ℕ) (keys : List Bytes) (values : List (Option Bytes)) (s : State) → Holds members means (Database x) table opened s
       → ((l : List Operation) → means.stands x l → means.stands after l) → IsUnchanged members (means.inside x) (means.inside after)
       → ((list : List Operation) → means.stands x list → values ≡ map (value_of list) keys)
       → (lines.Read values ≡ (machine.read means.scheme s keys None).0) × Holds members means (Database after) table opened (machine.read means.scheme s keys None).1
@@ -144,15 +141,13 @@ module _ {X C B M K V D : Type 0} (members : stores.Ghosts C) (means : words.Gho
       with_list members means x s.had s.database s (λ list. (lines.Read (map (value_of list) keys), s)) (λ next. (lines.Read values ≡ next.0) × Holds members means (Database after) table opened next.1) k.database
       (λ list stands in_had. (ap lines.Read (are list stands), Holds-kept members means x after table opened s (keeps, same_store) k))
 
-  pub ops_ok : (held : Given X C) (table : List (Slot B M)) (opened : ℕ) (h base : ℕ) (own : List Operation) (batch : M) (s : State) → Holds members means held table opened s
+  pub ops_ok : (held : Given X C) (table : List (Slot B S M)) (opened : ℕ) (h base : ℕ) (own : List Operation) (batch : M) (s : State) → Holds members means held table opened s
       → ((chain : Chain) (tip : List Operation) → means.is_merkleized batch chain tip → (base ≡ length chain.base) × (own ≡ own_operations chain tip))
-      → (a : Slot B M) (b : machine.Slot) → SlotIs members means s.had a b → merkleized_of a ≡ Some batch
+      → (a : Slot B S M) (b : machine.Slot) → SlotIs members means s.had a b → merkleized_of a ≡ Some batch
       → (lines.Listed base own ≡ (list_operations s h b).0) × Holds members means held table opened (list_operations s h b).1
   ops_ok held table opened h base own batch s k listed (Merkleized w) (machine.merkleized chain tip) is e =
       let same : w ≡ batch = cc in
       let facts = listed chain tip (subst (λ v. means.is_merkleized v chain tip) same is.0) in
       (ap₂ lines.Listed facts.0 facts.1, k)
-  ops_ok held table opened h base own batch s k listed (Merkleized w) machine.gone is e = absurd is
-  ops_ok held table opened h base own batch s k listed (Merkleized w) (machine.writing chain above ws) is e = absurd is
-  ops_ok held table opened h base own batch s k listed Gone b is e = absurd (cc)
-  ops_ok held table opened h base own batch s k listed (Writing w) b is e = absurd (cc)
+  ops_ok held table opened h base own batch s k listed (Merkleized w) b is e = absurd is
+  ops_ok held table opened h base own batch s k listed a b is e = absurd (cc)

@@ -1,5 +1,9 @@
 -- A table of slots that stands for one of the machine, place by place.
-use Rattle.std.proofs.Common.{◌≡◌, ℕ, zero, suc, List, [], ◌∷◌, ◌++◌, length, get_or, set, arith, refl, ap}
+use Rattle.std.proofs.Common.{◌≡◌, ◌≢◌, ℕ, zero, suc, List, [], ◌∷◌, ◌++◌, length, get_or, set, Some, None, arith, refl, sym, ◌∙◌, ap}
+use Rattle.std.proofs.lemmas.List.{set-get_or}
+use Rattle.qm_engine.specs.declared.table.Slot.{Slot}
+use Rattle.qm_engine.specs.declared.table.Slot.TheVariants.{Writing, Staged}
+use Rattle.qm_engine.specs.Table.{writing_of, staged_of}
 
 module _ {A B : Type 0} (R : A → B → Type 0) (da : A) (db : B) (past : R da db) where
   pub push_at : (xs : List A) (ys : List B) (x : A) (y : B) → length xs ≡ length ys → ((h : ℕ) → R (get_or xs h da) (get_or ys h db)) → R x y
@@ -25,3 +29,22 @@ pub set_set : {A : Type 0} (l : List A) (i : ℕ) (a b : A) → set (set l i a) 
 set_set [] i a b = refl
 set_set (x ∷ l) zero a b = refl
 set_set (x ∷ l) (suc i) a b = ap (λ r. x ∷ r) (set_set l i a b)
+
+-- a place set to another and back
+pub set_back : {A : Type 0} (l : List A) (i : ℕ) (d b : A) → get_or l i d ≡ b → set (set l i d) i b ≡ l
+set_back l i d b is = set_set l i d b ∙ ap (set l i) (sym is) ∙ set-get_or l i d
+
+module _ {B S M : Type 0} where
+  -- what a slot of another kind has
+  pub not_writing : (a : Slot B S M) → ((b : B) → a ≢ Writing b) → None ≡ writing_of a
+  not_writing (Writing b) other = absurd (other b refl)
+  not_writing a other = refl
+
+  pub not_staged : (a : Slot B S M) → ((b : S) → a ≢ Staged b) → None ≡ staged_of a
+  not_staged (Staged b) other = absurd (other b refl)
+  not_staged a other = refl
+
+  -- the slot of a staged batch
+  pub staged_slot : (a : Slot B S M) (batch : S) → staged_of a ≡ Some batch → a ≡ Staged batch
+  staged_slot (Staged b) batch e = ap Staged (cc)
+  staged_slot a batch e = absurd (cc)

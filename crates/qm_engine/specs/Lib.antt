@@ -3,5 +3,6 @@ pub mod Turn
 pub mod Stores
 pub mod Words
 pub mod Session
+pub mod Making
 pub mod Runs
 pub mod Answered

@@ -14,7 +14,7 @@ use Rattle.qm_engine.specs.declared.words.Words as words
 use Rattle.qm_store.specs.declared.refusal.Given.{Given}
 use Rattle.qm_store.specs.declared.refusal.Given.TheVariants.{Database, Store}
 use Rattle.qm_engine.specs.declared.table.Slot.{Slot}
-use Rattle.qm_engine.specs.declared.table.Slot.TheVariants.{Gone, Writing, Merkleized}
+use Rattle.qm_engine.specs.declared.table.Slot.TheVariants.{Gone, Writing, Staged, Merkleized}
 use Rattle.qm_engine.specs.declared.session.Session.{Session}
 use Rattle.qm_engine.specs.declared.session.Turn.{Turn}
 use Rattle.qm_engine.specs.declared.session.Turn.TheVariants.{Reply, Memory, StoreFault}
@@ -30,7 +30,7 @@ IsOpen (Store c) = ⊥
 abbrev pub IsWhole : Stored → Type 0
 IsWhole stored = (stored.start ≡ 0) × (0 < length stored.items)
 
-module _ {X C B M : Type 0} (members : store.Ghosts C) (means : words.Ghosts X C B M) where
+module _ {X C B S M : Type 0} (members : store.Ghosts C) (means : words.Ghosts X C B S M) where
   -- the database stands for the machine's list, one of those that the run has had; without one there is a store alone
   abbrev pub HeldIs : List (List Operation) → Given X C → Option (List Operation) → Type 0
   HeldIs had (Database x) (Some list) = means.stands x list × Contains had list
@@ -39,19 +39,15 @@ module _ {X C B M : Type 0} (members : store.Ghosts C) (means : words.Ghosts X C
   HeldIs had (Store c) None = Unit {0}
 
   -- a batch stands for the machine's batch of its number
-  abbrev pub SlotIs : List (List Operation) → Slot B M → machine.Slot → Type 0
+  abbrev pub SlotIs : List (List Operation) → Slot B S M → machine.Slot → Type 0
   SlotIs had Gone machine.gone = Unit {0}
-  SlotIs had Gone (machine.writing chain above ws) = ⊥
-  SlotIs had Gone (machine.merkleized chain tip) = ⊥
-  SlotIs had (Writing b) machine.gone = ⊥
   SlotIs had (Writing b) (machine.writing chain above ws) = means.is_batch b chain above ws × IsAmong had chain × IsAmong had above
-  SlotIs had (Writing b) (machine.merkleized chain tip) = ⊥
-  SlotIs had (Merkleized b) machine.gone = ⊥
-  SlotIs had (Merkleized b) (machine.writing chain above ws) = ⊥
+  SlotIs had (Staged b) (machine.staged chain above ws keys) = means.is_staged b chain above ws keys × IsAmong had chain × IsAmong had above
   SlotIs had (Merkleized b) (machine.merkleized chain tip) = means.is_merkleized b chain tip × IsAmong had chain × Contains had tip
+  SlotIs had slot named = ⊥
 
   -- what is held stands for this state
-  pub record Holds (held : Given X C) (table : List (Slot B M)) (opened : ℕ) (s : State) : Type 0 where
+  pub record Holds (held : Given X C) (table : List (Slot B S M)) (opened : ℕ) (s : State) : Type 0 where
     pub database : HeldIs s.had held s.database
     pub store : IsStored members (store_given means.inside held) s.store
     pub whole : IsOpen held → IsWhole s.store
@@ -60,7 +56,7 @@ module _ {X C B M : Type 0} (members : store.Ghosts C) (means : words.Ghosts X C
     pub slots : (h : ℕ) → SlotIs s.had (slice_index_or table h Gone) (slot_at s.table h)
 
   -- a session stands for this state
-  abbrev pub Stands : Session X C B M → State → Type 0
+  abbrev pub Stands : Session X C B S M → State → Type 0
   Stands session s = Holds session.held session.table.items session.opened s
 
 -- P of the reply, where the turn gave one
@@ -76,9 +72,9 @@ pub record IsLeft (left : Option Stored) (before after : Stored) : Type 0 where
   pub least : before.stable ≤ stable
   pub same : left ≡ Some (record before { items = before.items ++ take count (drop (length before.items) after.items); stable = stable })
 
-module _ {X C B M : Type 0} (members : store.Ghosts C) (means : words.Ghosts X C B M) where
+module _ {X C B S M : Type 0} (members : store.Ghosts C) (means : words.Ghosts X C B S M) where
   -- However a command ends, the store is as it was before, with a first part of what the command appends.
-  abbrev pub Leaves : Session X C B M → Session X C B M → (State → Answer × State) → Type 0
+  abbrev pub Leaves : Session X C B S M → Session X C B S M → (State → Answer × State) → Type 0
   Leaves old new next =
       (s : State) → Stands members means old s → Apart means.scheme.root s.had → IsLeft (members.told (store_given means.inside new.held)) s.store ((next s).1).store
 
@@ -89,15 +85,15 @@ module _ {X C B M : Type 0} (members : store.Ghosts C) (means : words.Ghosts X C
 
     -- A turn does what the machine does: a reply is the machine's, and the session stands for its next state, where that
     -- run's lists are apart.
-    abbrev pub Follows : Session X C B M → Turn K V D → Answer × State → Type 0
+    abbrev pub Follows : Session X C B S M → Turn K V D → Answer × State → Type 0
     Follows new turn next = IfReply turn (λ r. Apart means.scheme.root (next.1).had → (answer_view key value digest r ≡ next.0) × Stands members means new next.1)
 
     -- A command does so from each state that the session stood for.
-    abbrev pub Obeys : Session X C B M → Session X C B M → Turn K V D → (State → Answer × State) → Type 0
+    abbrev pub Obeys : Session X C B S M → Session X C B S M → Turn K V D → (State → Answer × State) → Type 0
     Obeys old new turn next = (s : State) → Stands members means old s → Follows new turn (next s)
 
     -- The same of a command that leaves the session as it is.
-    abbrev pub Tells : Session X C B M → Turn K V D → (State → Answer × State) → Type 0
+    abbrev pub Tells : Session X C B S M → Turn K V D → (State → Answer × State) → Type 0
     Tells session turn next = Obeys session session turn next
 
 -- A turn uses the store: it starts where it did, and has what it had beside its items; its count has not fallen, and it rose

@@ -12,13 +12,19 @@ use qm_store::{Given, Store};
 
 /// The database or its store, the batches, and how many openings were accepted.
 #[derive(Drop)]
-pub struct Session<X, C, B, M> {
+pub struct Session<X, C, B, S, M> {
     pub held: Given<X, C>,
-    pub table: Vec<Slot<B, M>>,
+    pub table: Vec<Slot<B, S, M>>,
     pub opened: u64,
 }
 
-pub type Of<X, C> = Session<X, C, <X as Words<C>>::Batch, <X as Words<C>>::Merkleized>;
+pub type Of<X, C> = Session<
+    X,
+    C,
+    <X as Words<C>>::Batch,
+    <X as Words<C>>::Staged,
+    <X as Words<C>>::Merkleized,
+>;
 
 /// What a command comes to: a reply, or why the run ends.
 #[derive(Drop)]

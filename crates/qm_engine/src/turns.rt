@@ -8,6 +8,7 @@ ghost use Rattle.qm_engine.specs.Session.{Obeys, Leaves, Uses};
 mod batches;
 mod proofs;
 mod reads;
+mod staged;
 
 use crate::engine::Engine;
 use crate::session::{Of, Session, Turn, turn_of};
@@ -18,6 +19,7 @@ use qm_chain::Policy;
 use qm_lines::{Command, Refused, Reply};
 use qm_store::{Given, Refusal, Store};
 use reads::{batch_info, batch_root, info, meta, ops, read, read_key, root};
+use staged::{expand, resolve, stage};
 use std::alloc::Global;
 
 // The store, where it is held alone and has nothing.
@@ -132,6 +134,25 @@ pub fn turn<X: Engine<C>, C: Store, P: Policy<X::Family, X::Key, X::Value> + Twi
         }
         Command::Merkleize(number, policy, metadata) => {
             let turn = merkleize::<X, C, P>(alloc, &mut session, *number, policy, metadata);
+            (session, turn)
+        }
+        Command::Stage(number, keys) => {
+            let turn = stage::<X, C>(alloc, &mut session, *number, keys);
+            (session, turn)
+        }
+        Command::Expand(number, keys) => {
+            let turn = expand::<X, C>(alloc, &mut session, *number, keys);
+            (session, turn)
+        }
+        Command::Resolve(number, policy, metadata, resolution) => {
+            let turn = resolve::<X, C, P>(
+                alloc,
+                &mut session,
+                *number,
+                policy,
+                metadata,
+                resolution,
+            );
             (session, turn)
         }
         Command::Apply(number) => apply::<X, C>(alloc, session, *number),

@@ -1,5 +1,5 @@
 -- The program's database as an engine: where its batches fit and can be read, and what its refusals are.
-use Rattle.std.proofs.Common.{◌≡◌, ◌≢◌, ◌≤◌, ◌<◌, ℕ, suc, arith, ◌^◌, ◌∙◌, ◌⊎◌, ap, ap₂, sym, subst, refl, inl, inr, List, [], ◌∷◌, length, map, drop, Option, Some, None, Bool, true, false, IfSome}
+use Rattle.std.proofs.Common.{◌≡◌, ◌≢◌, ◌≤◌, ◌<◌, ℕ, suc, arith, ◌^◌, ◌∙◌, ◌⊎◌, ap, ap₂, sym, subst, refl, inl, inr, List, [], ◌∷◌, ◌++◌, length, map, drop, Option, Some, None, Bool, true, false, IfSome}
 use Rattle.std.specs.Prelude.{Result, Ok, Err, IfOk, IfErr, IsErrOf, IsSome, if◌then◌else◌, option_map}
 use Rattle.std.specs.Option.{option_or}
 use Rattle.std.proofs.lemmas.Bool.{lt-ltb, le-ltb}
@@ -32,7 +32,7 @@ use Rattle.qm_chain.proofs.Fits.{at-fits, at-readable}
 use Rattle.qm_base.specs.declared.sha256.Sha256Digest.{Sha256Digest}
 use Rattle.qm_run.specs.Databases.{form, hashing}
 use Rattle.qm_batch.specs.Views.{stepped}
-use Rattle.qm_any.specs.Databases.{Database, IsLeft, Begun, Made, IsBegun, IsMade, is_on, list_commitment}
+use Rattle.qm_any.specs.Databases.{Database, IsLeft, Begun, Staged, Made, IsBegun, IsStaged, IsMade, staged_keys, is_on, list_commitment}
 use Rattle.qm_any.specs.Layouts.{Hashing, list_root}
 use Rattle.qm_any.proofs.Known.{child-boundary, child-tips}
 use Rattle.qm_any.specs.Tips.{own_spellings, IsTaken, IsRefused}
@@ -190,6 +190,31 @@ pub begun-reads : {X E : Type 0} (r : Result X E) (S : List Operation → Type 0
 begun-reads (Ok x) S begun Q given = λ list chain above ws is batch known. subst (Q x chain.base) batch.1 (given list chain above is batch.0 known)
 begun-reads (Err e) S begun Q given = tt
 
+-- a batch that is staged, and one that gets more keys
+pub begun-staged : {X E : Type 0} (r : Result (X × Staged Sha256Digest) E) (S : List Operation → Type 0) (begun : Begun Sha256Digest) (keys : List Bytes) (Q : X → List Operation → List Write → Type 0)
+    → ((list : List Operation) (chain above : Chain) → S list → IsBegun hashing begun chain above → IsKnown list above chain.base → IfOk r (λ x. Q x.0 chain.base begun.writes))
+    → ((list : List Operation) (chain above : Chain) → S list → IsBegun hashing begun chain above → IsKnown list above chain.base → IfOk r (λ x. IsStaged hashing x.1 chain above))
+    → IfOk r (λ x. (x.1).batch ≡ begun) → IfOk r (λ x. staged_keys x.1 ≡ keys)
+    → IfOk r (λ x. (list : List Operation) (chain above : Chain) (ws : List Write) → S list → IsBegun hashing begun chain above × (begun.writes ≡ ws) → IsKnown list above chain.base
+    → Q x.0 chain.base ws × (IsStaged hashing x.1 chain above × ((x.1).batch.writes ≡ ws) × (staged_keys x.1 ≡ keys)))
+begun-staged (Ok x) S begun keys Q values staged same are = λ list chain above ws is batch known. (
+  subst (Q x.0 chain.base) batch.1 (values list chain above is batch.0 known),
+  (staged list chain above is batch.0 known, ap (λ (b : Begun Sha256Digest). b.writes) same ∙ batch.1, are),
+)
+begun-staged (Err e) S begun keys Q values staged same are = tt
+
+pub more-staged : {R X E : Type 0} (r : Result (R × X × Staged Sha256Digest) E) (S : List Operation → Type 0) (before : Staged Sha256Digest) (keys : List Bytes) (Q : X → List Operation → List Write → Type 0)
+    → ((list : List Operation) (chain above : Chain) → S list → IsStaged hashing before chain above → IsKnown list above chain.base → IfOk r (λ x. Q x.1 chain.base before.batch.writes))
+    → ((list : List Operation) (chain above : Chain) → S list → IsStaged hashing before chain above → IsKnown list above chain.base → IfOk r (λ x. IsStaged hashing x.2 chain above))
+    → IfOk r (λ x. (x.2).batch ≡ before.batch) → IfOk r (λ x. staged_keys x.2 ≡ staged_keys before ++ keys)
+    → IfOk r (λ x. (list : List Operation) (chain above : Chain) (ws : List Write) (staged : List Bytes) → S list → IsStaged hashing before chain above × (before.batch.writes ≡ ws) × (staged_keys before ≡ staged) → IsKnown list above chain.base
+    → Q x.1 chain.base ws × (IsStaged hashing x.2 chain above × ((x.2).batch.writes ≡ ws) × (staged_keys x.2 ≡ staged ++ keys)))
+more-staged (Ok x) S before keys Q values staged same are = λ list chain above ws own is batch known. (
+  subst (Q x.1 chain.base) batch.1 (values list chain above is batch.0 known),
+  (staged list chain above is batch.0 known, ap (λ (b : Begun Sha256Digest). b.writes) same ∙ batch.1, are ∙ ap (λ ks. ks ++ keys) batch.2),
+)
+more-staged (Err e) S before keys Q values staged same are = tt
+
 -- what an apply appends, said of bounds and of lists
 pub appends-same : (list : List Operation) (chain : Chain) (tip : List Operation) (current : Commitment) (made : Made Sha256Digest) → current ≡ list_commitment hashing list → IsMade hashing made chain tip
     → (if is_at current made.bounds.db made.bounds.ancestors then map (spelling variable) (drop current.size tip) else []) ≡ (if fits (sha256_root mmr) (commitment (sha256_root mmr) list) chain then map (spelling variable) (drop (length list) tip) else [])
@@ -240,26 +265,26 @@ module _ (chain : Chain) (tip : List Operation) where
       either r told (inl long) = due e r fresh long told
       either r told (inr read) = absurd (none-some r (sym (log-untold members old new e whole read) ∙ told))
 
--- a merkleize's batch makes a tip that is not refused
-pub made-ok : {P X E : Type 0} (rules : Rules P) (r : Result X E) (made : X → Made Sha256Digest) (begun : Begun Sha256Digest) (policy : P) (meta : Option Bytes) (S : List Operation → Type 0)
-    → ((list : List Operation) (chain above : Chain) → S list → IsBegun hashing begun chain above → IsOnChain list chain → IfOk r (λ x. IsMade hashing (made x) chain (stepped rules chain.base begun.writes policy meta)))
-    → ((list : List Operation) (chain above : Chain) → S list → IsBegun hashing begun chain above → IsOnChain list chain → IfOk r (λ x. IsTaken form chain.base (stepped rules chain.base begun.writes policy meta)))
-    → IfOk r (λ x. (list : List Operation) (chain above : Chain) (ws : List Write) → S list → IsBegun hashing begun chain above × (begun.writes ≡ ws) → IsOnChain list chain
+-- a batch of these writes makes a tip that is not refused
+pub made-ok : {P X E : Type 0} (rules : Rules P) (r : Result X E) (made : X → Made Sha256Digest) (Is : Chain → Chain → Type 0) (own : List Write) (policy : P) (meta : Option Bytes) (S : List Operation → Type 0)
+    → ((list : List Operation) (chain above : Chain) → S list → Is chain above → IsOnChain list chain → IfOk r (λ x. IsMade hashing (made x) chain (stepped rules chain.base own policy meta)))
+    → ((list : List Operation) (chain above : Chain) → S list → Is chain above → IsOnChain list chain → IfOk r (λ x. IsTaken form chain.base (stepped rules chain.base own policy meta)))
+    → IfOk r (λ x. (list : List Operation) (chain above : Chain) → S list → Is chain above → (ws : List Write) → own ≡ ws → IsOnChain list chain
     → (tip_refusal variable chain (stepped rules chain.base ws policy meta) ≡ None) × IsMade hashing (made x) chain (stepped rules chain.base ws policy meta))
-made-ok rules (Ok x) made begun policy meta S given taken = λ list chain above ws is batch on. (
-  taken-offered chain (stepped rules chain.base ws policy meta) (subst (λ w. IsTaken form chain.base (stepped rules chain.base w policy meta)) batch.1 (taken list chain above is batch.0 on)),
-  subst (λ w. IsMade hashing (made x) chain (stepped rules chain.base w policy meta)) batch.1 (given list chain above is batch.0 on),
+made-ok rules (Ok x) made Is own policy meta S given taken = λ list chain above is batch ws same on. (
+  taken-offered chain (stepped rules chain.base ws policy meta) (subst (λ w. IsTaken form chain.base (stepped rules chain.base w policy meta)) same (taken list chain above is batch on)),
+  subst (λ w. IsMade hashing (made x) chain (stepped rules chain.base w policy meta)) same (given list chain above is batch on),
 )
-made-ok rules (Err e) made begun policy meta S given taken = tt
+made-ok rules (Err e) made Is own policy meta S given taken = tt
 
 -- and one that fails is refused, or failed at the log
-pub made-err : {P X : Type 0} (rules : Rules P) (r : Result X Error) (begun : Begun Sha256Digest) (policy : P) (meta : Option Bytes) (R : Error → Type 0) (S : List Operation → Type 0)
-    → ((list : List Operation) (chain above : Chain) → S list → IsBegun hashing begun chain above → IsOnChain list chain → IfErr r (λ e. IsRefused form chain.base (stepped rules chain.base begun.writes policy meta) e ⊎ R e))
-    → IfErr r (λ e. (list : List Operation) (chain above : Chain) (ws : List Write) → S list → IsBegun hashing begun chain above × (begun.writes ≡ ws) → IsOnChain list chain
+pub made-err : {P X : Type 0} (rules : Rules P) (r : Result X Error) (Is : Chain → Chain → Type 0) (own : List Write) (policy : P) (meta : Option Bytes) (R : Error → Type 0) (S : List Operation → Type 0)
+    → ((list : List Operation) (chain above : Chain) → S list → Is chain above → IsOnChain list chain → IfErr r (λ e. IsRefused form chain.base (stepped rules chain.base own policy meta) e ⊎ R e))
+    → IfErr r (λ e. (list : List Operation) (chain above : Chain) → S list → Is chain above → (ws : List Write) → own ≡ ws → IsOnChain list chain
     → IsRefused form chain.base (stepped rules chain.base ws policy meta) e ⊎ R e)
-made-err rules (Ok x) begun policy meta R S given = tt
-made-err rules (Err e) begun policy meta R S given = λ list chain above ws is batch on.
-    subst (λ w. IsRefused form chain.base (stepped rules chain.base w policy meta) e ⊎ R e) batch.1 (given list chain above is batch.0 on)
+made-err rules (Ok x) Is own policy meta R S given = tt
+made-err rules (Err e) Is own policy meta R S given = λ list chain above is batch ws same on.
+    subst (λ w. IsRefused form chain.base (stepped rules chain.base w policy meta) e ⊎ R e) same (given list chain above is batch on)
 
 -- what a fault tells
 pub err-of : {X E : Type 0} (r : Result X E) (x : E) (P : Type 0) → IfErr r (λ e. e ≡ x → P) → IsErrOf r x → P

@@ -1,15 +1,17 @@
 // The program's database as an engine.
-ghost use Rattle.std.specs.Prelude.{◌≡◌};
-ghost use Rattle.qm_any.specs.Databases.{IsDatabase, IsBegun, IsMade};
+ghost use Rattle.std.specs.Prelude.{◌≡◌, length};
+ghost use Rattle.std.proofs.Common.{ap};
+ghost use Rattle.qm_any.specs.Databases.{IsDatabase, IsBegun, IsStaged, IsMade, staged_keys};
 ghost use Rattle.qm_store.specs.Given.{store_given};
 ghost use Rattle.qm_run.specs.Databases.{hashing, layout};
 ghost use Rattle.qm_run.specs.Held.{held};
 ghost use Rattle.qm_run.specs.Program as program;
 
-use crate::listed::{listed, twin_option};
+use crate::listed::{listed, twin_keys, twin_option};
 use qm_any::batch::{MerkleizedBatch, UnmerkleizedBatch};
 use qm_any::db::Db;
 use qm_any::init;
+use qm_any::staged::Staged;
 use qm_base::{
     ByteKey, ByteValue, Error, Location, Sha256, Sha256Digest, Unordered, VariableEncoding,
 };
@@ -17,12 +19,13 @@ use qm_chain::Policy;
 use qm_engine::{BatchSizes, Engine, Numbers, Words};
 use qm_index::FourCap;
 use qm_index::unordered::Index;
-use qm_lines::Listed;
+use qm_lines::{Listed, Resolution};
 use qm_merkle::mmr;
 use qm_proofs::Proof;
 use qm_store::{Given, Refusal, Store};
 use std::alloc::{AllocError, Global};
 use std::num::NonZeroU64;
+use std::ops::Range;
 use std::rc::Rc;
 
 /// What its updates say.
@@ -56,6 +59,8 @@ fn refusal<C: Store>(refused: Refusal<Inside<C>, C>) -> Refusal<Database<C>, C>
 impl<C: Store> Words<C> for Database<C> {
     type Batch = UnmerkleizedBatch<mmr::Family, Sha256Digest, Pair>;
 
+    type Staged = Staged<mmr::Family, Sha256Digest, Pair>;
+
     type Merkleized = Rc<MerkleizedBatch<mmr::Family, Sha256Digest, Pair>>;
 
     ghost inside = { λ x. x.db.log.store };
@@ -63,6 +68,12 @@ impl<C: Store> Words<C> for Database<C> {
     ghost stands = { λ x list. IsDatabase C.Store layout x.db list };
 
     ghost is_batch = { λ b chain above ws. IsBegun hashing b chain above × (b.writes ≡ ws) };
+
+    ghost is_staged = { λ s chain above ws keys. IsStaged hashing s chain above × (s.batch.writes ≡ ws) × (staged_keys s ≡ keys) };
+
+    ghost count = { λ s. length (staged_keys s) };
+
+    ghost counted = { λ s chain above ws keys is. ap length is.2 };
 
     ghost is_merkleized = { λ b chain tip. IsMade hashing b.value chain tip };
 
@@ -147,6 +158,49 @@ impl<C: Store> Engine<C> for Database<C> {
     ) -> Result<Self::Merkleized, Error> {
         let metadata = twin_option(alloc, metadata)?;
         batch.merkleize(alloc, &mut self.db, metadata, policy)
+    }
+
+    fn stage(
+        &mut self,
+        alloc: Global,
+        batch: Self::Batch,
+        keys: &[ByteKey],
+    ) -> Result<(Vec<Option<ByteValue>>, Self::Staged), Error> {
+        let keys = twin_keys(alloc, keys)?;
+        batch.stage(alloc, keys, &mut self.db)
+    }
+
+    fn expand(
+        &mut self,
+        alloc: Global,
+        batch: Self::Staged,
+        keys: &[ByteKey],
+    ) -> Result<(Range<usize>, Vec<Option<ByteValue>>, Self::Staged), Error> {
+        let keys = twin_keys(alloc, keys)?;
+        batch.expand(alloc, keys, &mut self.db)
+    }
+
+    fn staged_count(batch: &Self::Staged) -> usize {
+        batch.len()
+    }
+
+    fn resolve<P: Policy<mmr::Family, ByteKey, ByteValue>>(
+        &mut self,
+        alloc: Global,
+        batch: Self::Staged,
+        resolution: &Resolution<ByteKey, ByteValue>,
+        policy: &mut P,
+        metadata: &Option<ByteValue>,
+    ) -> Result<Self::Merkleized, Error> {
+        let metadata = twin_option(alloc, metadata)?;
+        batch.merkleize(
+            alloc,
+            &resolution.slots,
+            &resolution.others,
+            &mut self.db,
+            metadata,
+            policy,
+        )
     }
 
     fn sizes(batch: &Self::Merkleized) -> BatchSizes {

@@ -1,4 +1,4 @@
-// Operations as replies list them.
+// Operations as replies list them, and copies of what a command has.
 ghost use Rattle.std.specs.Prelude.{◌≡◌, IfOk, map, option_map};
 ghost use Rattle.qm_lines.specs.Views.{listed_view};
 ghost use Rattle.qm_base.specs.Views.{operation_view, operation_views};
@@ -18,6 +18,18 @@ pub fn twin_option<V: ByteString>(alloc: Global, value: &Option<V>) -> Result<Op
             Ok(Some(copy))
         }
     }
+}
+
+/// Copies of keys.
+pub fn twin_keys<K: ByteString>(alloc: Global, keys: &[K]) -> Result<Vec<K>, AllocError>
+    ensures { IfOk result (λ copies. copies.items ≡ keys.now) }
+{
+    let mut copies = Vec::new(alloc);
+    for key in keys {
+        let copy = key.twin(alloc)?;
+        copies.push(copy)?;
+    }
+    Ok(copies)
 }
 
 // An update as a reply lists it.

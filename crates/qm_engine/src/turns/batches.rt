@@ -1,14 +1,13 @@
 // Commands that make, fill and apply batches.
-ghost use Rattle.std.specs.Prelude.{◌≡◌, ◌++◌, ◌∷◌, [], ◌≢◌, List, Some, None, option_map, IfOk, IfErr, IfSome, IsErrOf};
-ghost use Rattle.qm_model.specs.Forms.{variable};
+ghost use Rattle.std.specs.Prelude.{◌≡◌, ◌++◌, ◌∷◌, [], ◌≢◌, List, Some, None, option_map, Contains, IfOk, IsErrOf};
+ghost use Rattle.qm_model.specs.Operations.{Operation};
 ghost use Rattle.qm_model.specs.Writes.{Write};
-ghost use Rattle.qm_model.specs.Batches.{Chain, IsOnChain, fits};
-ghost use Rattle.qm_model.specs.Refusals.{tip_refusal};
+ghost use Rattle.qm_model.specs.Batches.{Chain, IsAmong};
 ghost use Rattle.qm_machine.specs.Machine.{State};
 ghost use Rattle.qm_machine.specs.Machine as machine;
 ghost use Rattle.qm_store.specs.Given.{store_given, IsUnchanged, TellsAll};
-ghost use Rattle.qm_store.specs.Refusals.{refusal_of};
-ghost use Rattle.qm_engine.specs.Words.{AtBatch, Fits, ReadsOnly, tip_of};
+ghost use Rattle.qm_engine.specs.Words.{AtBatch, ReadsOnly, tip_of};
+ghost use Rattle.qm_engine.specs.Making.{IsMaking, made_into};
 ghost use Rattle.qm_engine.specs.Session.{SlotIs, Stands, Follows, Obeys, Leaves, Uses};
 
 use crate::engine::Engine;
@@ -23,7 +22,7 @@ use std::alloc::{AllocError, Global};
 // Gives a batch the next number.
 fn started<X: Engine<C>, C: Store>(
     session: &mut Of<X, C>,
-    slot: Slot<X::Batch, X::Merkleized>,
+    slot: Slot<X::Batch, X::Staged, X::Merkleized>,
 ) -> Turn<X::Key, X::Value, X::Digest>
     ensures machine { (s : State) (new : machine.Slot) → Stands C.Store X.Words session.old s → SlotIs C.Store X.Words s.had slot new
         → Follows C.Store X.Words X.Key.bytes X.Value.bytes X.Digest.bytes session.new result (machine.started s new) }
@@ -181,18 +180,35 @@ fn merkleize_batch<X: Engine<C>, C: Store, P: Policy<X::Family, X::Key, X::Value
     policy: &P,
     metadata: &Option<X::Value>,
 ) -> Result<X::Merkleized, Error>
-    ensures fits { IfOk result (λ _. AtBatch X.Words database.old batch (λ list chain above ws. Fits X.Words list chain)) }
-    ensures made { IfOk result (λ b. AtBatch X.Words database.old batch (λ list chain above ws. IsOnChain list chain
-        → let tip = tip_of X.scheme P.rules chain ws policy.now (option_map X.Value.bytes metadata.now) in
-        (tip_refusal variable chain tip ≡ None) × X.is_merkleized b chain tip)) }
-    ensures stale { IfErr result (λ e. e ≡ Error.StaleBatch → AtBatch X.Words database.old batch (λ list chain above ws. ¬ IsOnChain list chain)) }
-    ensures refused { IfErr result (λ e. e ≢ Error.StaleBatch → TellsAll C.Store (X.inside database.old) → AtBatch X.Words database.old batch (λ list chain above ws.
-        IfSome (refusal_of e) (λ r. Fits X.Words list chain
-        × (IsOnChain list chain → tip_refusal variable chain (tip_of X.scheme P.rules chain ws policy.now (option_map X.Value.bytes metadata.now)) ≡ Some r)))) }
+    ensures made { TellsAll C.Store (X.inside database.old) → AtBatch X.Words database.old batch (λ list chain above ws.
+        IsMaking X.Words list chain (tip_of X.scheme P.rules chain ws policy.now (option_map X.Value.bytes metadata.now)) result) }
     ensures reads { ReadsOnly X.Words C.Store database.old database.new (IsErrOf result (Error.Journal JournalError.Store)) }
 {
     let mut policy = policy.twin(alloc)?;
     database.merkleize(alloc, batch, &mut policy, metadata)
+}
+
+/// Gives a merkleized batch the number under which the batch was taken out of the table, or tells why there is none.
+pub fn put_made<X: Engine<C>, C: Store>(
+    session: &mut Of<X, C>,
+    number: u64,
+    made: Result<X::Merkleized, Error>,
+) -> Turn<X::Key, X::Value, X::Digest>
+    ensures machine { (s : State) (list : List Operation) (chain : Chain) (tip : List Operation)
+        → Stands C.Store X.Words session.old (machine.with_slot s number machine.gone) → Contains s.had list → IsAmong s.had chain
+        → IsMaking X.Words list chain tip made
+        → Follows C.Store X.Words X.Key.bytes X.Value.bytes X.Digest.bytes session.new result (made_into X.scheme s number list chain tip) }
+    ensures rest { session.new ≡ record session.old { table = session.new.table } }
+    ensures fault { result ≡ Turn.StoreFault → IsErrOf made (Error.Journal JournalError.Store) }
+{
+    match made {
+        Err(error) => turn_of(error),
+        Ok(batch) => {
+            let sizes = X::sizes(&batch);
+            put_slot(&mut session.table, number, Slot::Merkleized(batch));
+            Turn::Reply(Reply::Merkleized(number, sizes.base, sizes.tip, sizes.floor))
+        }
+    }
 }
 
 /// Merkleizes a batch, which keeps its number.
@@ -215,16 +231,11 @@ pub fn merkleize<X: Engine<C>, C: Store, P: Policy<X::Family, X::Key, X::Value> 
     let Some(batch) = take_writing(&mut session.table, number) else {
         return Turn::Reply(Reply::Refused(Refused::NoSuchHandle(number)));
     };
-    match merkleize_batch::<X, C, P>(alloc, x, batch, policy, metadata) {
-        Err(error) => turn_of(error),
-        Ok(batch) => {
-            let sizes = X::sizes(&batch);
-            put_slot(&mut session.table, number, Slot::Merkleized(batch));
-            Turn::Reply(Reply::Merkleized(number, sizes.base, sizes.tip, sizes.floor))
-        }
-    }
+    let made = merkleize_batch::<X, C, P>(alloc, x, batch, policy, metadata);
+    put_made::<X, C>(session, number, made)
 }
 
+/// Applies a merkleized batch, which keeps its number.
 pub fn apply<X: Engine<C>, C: Store>(
     alloc: Global,
     session: Of<X, C>,

@@ -19,7 +19,7 @@ fn read_slot<X: Engine<C>, C: Store>(
     alloc: Global,
     database: &mut X,
     number: u64,
-    slot: &Slot<X::Batch, X::Merkleized>,
+    slot: &Slot<X::Batch, X::Staged, X::Merkleized>,
     keys: &[X::Key],
 ) -> Turn<X::Key, X::Value, X::Digest>
     ensures machine { (s : State) (list : List Operation) (named : machine.Slot) → TellsAll C.Store (X.inside database.old) → X.stands database.old list → Contains s.had list
@@ -30,7 +30,7 @@ fn read_slot<X: Engine<C>, C: Store>(
     ensures uses { Uses C.Store (X.inside database.old) (X.inside database.new) result }
 {
     match slot {
-        Slot::Gone => Turn::Reply(Reply::Refused(Refused::NoSuchHandle(number))),
+        Slot::Gone | Slot::Staged(_) => Turn::Reply(Reply::Refused(Refused::NoSuchHandle(number))),
         Slot::Writing(batch) => match database.get_through(alloc, batch, keys) {
             Ok(values) => Turn::Reply(Reply::Read(values)),
             Err(error) => turn_of(error),

@@ -4,7 +4,7 @@ use Rattle.qm_model.specs.Forms.{spelling, variable}
 use Rattle.qm_store.specs.declared.refusal.Given.TheVariants.{Store}
 use Rattle.qm_engine.specs.Session.{Holds}
 use Rattle.qm_store.specs.Given.{store_given}
-use Rattle.qm_engine.proofs.Commands.{open_ok, open_err, open_left, offered-unopened, left_none}
+use Rattle.qm_engine.proofs.Commands.{open_refused, filled_store, open_ok, open_err, open_left, offered-unopened, left_none}
 use Rattle.qm_store.proofs.Told.{appended-part}
 use Rattle.qm_engine.proofs.turns.open.Goals as goal
 
@@ -30,6 +30,10 @@ returns-in-Err-open-clause-machine g c = λ s k.
     let held : Holds g.C.Store g.X.Words (Store store) c.args.session.table.items c.args.session.opened s = subst (λ given. Holds g.C.Store g.X.Words given c.args.session.table.items c.args.session.opened s) c.in-Ok.ensures.ok.0 k in
     rw c.turn_of.ensures (open_err g.C.Store g.X.Words g.X.Key.ByteString.bytes g.X.Value.ByteString.bytes g.X.Digest.Digest.bytes store c.args.session.table.items c.args.session.opened s held (g.met.C.Store.told_end store) c.in-Ok.ensures.ok.1
     c.in-Err-open.field-0.given c.in-Err-open.field-0.error c.in-Err-open.ensures.refused c.in-Err-open.ensures.unopened c.in-Err-open.ensures.back)
+
+pub returns-in-Err-clause-machine : goal.returns-in-Err-clause-machine
+returns-in-Err-clause-machine g c = λ s k.
+    rw c.in-Err.ensures.back (open_refused g.C.Store g.X.Words g.X.Key.ByteString.bytes g.X.Value.ByteString.bytes g.X.Digest.Digest.bytes c.args.session.held c.args.session.table.items c.args.session.opened s k (filled_store g.C.Store g.X.Words g.X.Key.ByteString.bytes g.X.Value.ByteString.bytes g.X.Digest.Digest.bytes c.args.session.held c.args.session.table.items c.args.session.opened s k c.in-Err.ensures.filled g.met.C.Store.told_end))
 
 pub returns-in-Err-clause-left : goal.returns-in-Err-clause-left
 returns-in-Err-clause-left g c = λ s k apart.

@@ -4,7 +4,7 @@ use Rattle.qm_model.specs.Batches.{IsOnChain}
 use Rattle.qm_batch.specs.Lent.{IsReadError}
 use Rattle.qm_batch.specs.Views.{stepped}
 use Rattle.qm_base.specs.declared.sha256.Sha256Digest.{Sha256Digest}
-use Rattle.qm_any.specs.Databases.{Begun, IsDatabase, IsMade}
+use Rattle.qm_any.specs.Databases.{Begun, IsBegun, IsDatabase, IsMade}
 use Rattle.qm_any.specs.Tips.{IsTaken, IsRefused}
 use Rattle.qm_any.proofs.Reading.{left-database}
 use Rattle.qm_base.specs.declared.error.Error.TheVariants.{Journal}
@@ -25,13 +25,14 @@ returns-clause-made g c =
     let meta = option_map (λ v. v) c.args.metadata.now in
     let made = option_map (λ v. v) c.in_ok-metadata.metadata in
     let same : made ≡ meta = ap (option_map (λ v. v)) c.in_ok-metadata.ensures in
-    made-ok rules c.merkleize.result (λ b. b.value) c.args.batch policy meta (IsDatabase g.C.Store layout c.args.self.now.db)
+    ok-then c.merkleize.result (made-ok rules c.merkleize.result (λ b. b.value) (IsBegun hashing c.args.batch) c.args.batch.writes policy meta (IsDatabase g.C.Store layout c.args.self.now.db)
     (λ list chain above is begun on.
     subst (λ m. IfOk c.merkleize.result (λ b. IsMade hashing b.value chain (stepped rules chain.base c.args.batch.writes policy m))) same
     (c.merkleize.ensures.made list chain above is begun on))
     (λ list chain above is begun on.
     subst (λ m. IfOk c.merkleize.result (λ b. IsTaken form chain.base (stepped rules chain.base c.args.batch.writes policy m))) same
-    (c.merkleize.ensures.taken list chain above is begun on))
+    (c.merkleize.ensures.taken list chain above is begun on)))
+    (λ b made list chain above ws is batch. made list chain above is batch.0 ws batch.1)
 
 pub returns-clause-stale : goal.returns-clause-stale
 returns-clause-stale g c =
@@ -47,13 +48,13 @@ returns-clause-refused g c =
     let same : made ≡ meta = ap (option_map (λ v. v)) c.in_ok-metadata.ensures in
     let read = IsReadError g.C.Store c.args.self.now.db.log c.merkleize.new.db.log in
     err-both c.merkleize.result
-    (made-err rules c.merkleize.result c.args.batch policy meta read (IsDatabase g.C.Store layout c.args.self.now.db)
+    (made-err rules c.merkleize.result (IsBegun hashing c.args.batch) c.args.batch.writes policy meta read (IsDatabase g.C.Store layout c.args.self.now.db)
     (λ list chain above is begun on.
     subst (λ m. IfErr c.merkleize.result (λ e. IsRefused form chain.base (stepped rules chain.base c.args.batch.writes policy m) e ⊎ read e)) same
     (c.merkleize.ensures.refused list chain above is begun on)))
     c.merkleize.ensures.order
     (λ e refused order fresh tells list chain above ws is batch.
-    refused-due chain (stepped rules chain.base ws policy meta) g.C.Store c.args.self.now.db.log c.merkleize.new.db.log _ (IsOnChain list chain) e fresh (is.lent.logged.start ∙ tells.0) (refused list chain above ws is batch)
+    refused-due chain (stepped rules chain.base ws policy meta) g.C.Store c.args.self.now.db.log c.merkleize.new.db.log _ (IsOnChain list chain) e fresh (is.lent.logged.start ∙ tells.0) (refused list chain above is batch.0 ws batch.1)
     (λ memory. sym (on-begun list chain above c.args.self.now.db.commitment c.args.batch (subst (λ (b : Begun Sha256Digest). b.keep ≤ suc (length b.parent.bounds.ancestors)) c.batch.view_is c.batch.invariant) is.commitment batch.0) ∙ order memory fresh))
 
 pub returns-clause-reads : goal.returns-clause-reads
