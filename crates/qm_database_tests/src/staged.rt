@@ -27,7 +27,10 @@ type Value = FixedBytes<8>;
 
 // Two keys.
 fn keys(alloc: Global) -> Result<Vec<Key>, AllocError> {
-    vec![in alloc; Key::from_bytes(alloc, &[1, 2, 3, 4])?, Key::from_bytes(alloc, &[5, 6, 7, 8])?]
+    Ok(vec![in alloc;
+        Key::from_bytes(alloc, &[1, 2, 3, 4])?,
+        Key::from_bytes(alloc, &[5, 6, 7, 8])?,
+    ]?)
 }
 
 fn value(alloc: Global) -> Result<Value, AllocError> {
