@@ -1,4 +1,7 @@
-use Rattle.std.proofs.Common.{refl, subst, sym, rules}
+use Rattle.std.proofs.Common.{◌∙◌, ap, map, refl, subst, sym}
+use Rattle.std.proofs.lemmas.List.{map-id}
+use Rattle.std.proofs.lemmas.Iterator.Adapters.{YieldsList-from_vec}
+use Rattle.std.proofs.lemmas.Iterator.Consumers.{YieldsList-end}
 use Rattle.std.proofs.lemmas.Result.{err_from_is_err_and}
 use Rattle.qm_batch.specs.Lent.{NoneBelow}
 use Rattle.qm_any.specs.Layouts.{hashing_of, layout_of}
@@ -32,4 +35,7 @@ pub returns-in_err-push-clause-left : goal.returns-in_err-push-clause-left
 returns-in_err-push-clause-left g c = left-then g.C.Store (hashing_of g.H.Digest.Digest.bytes g.H.Hasher g.F.Family g.U.Update) c.args.self.now c.loop-key.self c.find.new.self c.loop-key.invariant.left c.find.ensures.left
 
 pub returns-clause-keys : goal.returns-clause-keys
-returns-clause-keys g c = search rules
+returns-clause-keys g c =
+    let gives = c.into_iter-key-iterator.ensures.into_iter_gives in
+    let all = YieldsList-end (YieldsList-from_vec c.args.keys.items gives.0 gives.1) c.loop-key.yielded _ c.loop-key.yielded_by _ _ c.in-None.is c.next.ensures.steps in
+    c.loop-key.invariant.keys ∙ ap (map g.U.Key.ByteString.bytes) (sym (map-id c.loop-key.yielded) ∙ all.0)
