@@ -24,7 +24,7 @@ slotted-none key value ws reads slots others no_reads no_slots no_others =
     ap (λ rs. slotted ws (keys_of key rs) (slot_views value slots) (write_views key value others)) no_reads
     ∙ ap (λ ss. slotted ws [] (slot_views value ss) (write_views key value others)) no_slots
     ∙ ap (λ os. slotted ws [] [] (write_views key value os)) no_others
-    ∙ append-nil ws
+    ∙ ap (λ xs. xs ++ []) (append-nil ws) ∙ append-nil ws
 
 -- the keys of reads, with one more
 pub keys-more : {F U K V : Type 0} (key : K → Bytes) (reads all : List (Read F U K V)) (r : Read F U K V) (keys : List K) (k : K) → all ≡ reads ++ r ∷ [] → keys_of key reads ≡ map key keys → r.key ≡ k → keys_of key all ≡ map key (keys ++ k ∷ [])
@@ -54,44 +54,45 @@ staged-keys-more view key all reads found staged keys more same are =
     ∙ ap₂ (λ xs ys. xs ++ ys) (staged-keys view key reads reads staged refl same) are
 
 module _ {F U K V : Type 0} (view : U → Operation) (key : K → Bytes) (base : List Operation) where
-  -- what was found of a key is what the list has of it
-  abbrev Is : Read F U K V → Type 0
-  Is r = option_map (read_view view) r.found ≡ update_of base (key r.key)
+  -- what was found of the key is what the list has of it
+  abbrev IsFound : Read F U K V → Type 0
+  IsFound r = option_map (read_view view) r.found ≡ update_of base (key r.key)
 
-  abbrev Has : Bytes × Option (ℕ × Operation) → Type 0
-  Has r = r.1 ≡ update_of base r.0
+  abbrev IsStagedRead : Bytes × Option (ℕ × Operation) → Type 0
+  IsStagedRead r = r.1 ≡ update_of base r.0
 
   -- no reads are those of any list
   pub reads-none : (reads : List (Read F U K V)) → reads ≡ [] → AreReads view key reads base
-  reads-none reads none = subst (λ rs. AreReads view key rs base) (sym none) (All-nil Is)
+  reads-none reads none = subst (All IsFound) (sym none) (All-nil IsFound)
 
   -- one more
-  pub reads-more : (reads all : List (Read F U K V)) (r : Read F U K V) → all ≡ reads ++ r ∷ [] → Is r → AreReads view key reads base → AreReads view key all base
-  reads-more reads all r more found are = subst (λ rs. AreReads view key rs base) (sym more) (All-append Is reads (r ∷ []) are (All-cons Is r [] found (All-nil Is)))
+  pub reads-more : (reads all : List (Read F U K V)) (r : Read F U K V) → all ≡ reads ++ r ∷ [] → IsFound r → AreReads view key reads base → AreReads view key all base
+  reads-more reads all r more found are = subst (All IsFound) (sym more) (All-append IsFound reads (r ∷ []) are (All-cons IsFound r [] found (All-nil IsFound)))
 
   -- as a staged batch has them
-  reads-staged : (reads : List (Read F U K V)) → AreReads view key reads base → All Has (reads_view view key reads)
-  reads-staged reads are = All-map Has (λ (r : Read F U K V). (key r.key, option_map (read_view view) r.found)) reads are
+  reads-staged : (reads : List (Read F U K V)) → AreReads view key reads base → All IsStagedRead (reads_view view key reads)
+  reads-staged reads are = All-map IsStagedRead (λ (r : Read F U K V). (key r.key, option_map (read_view view) r.found)) reads are
 
   -- none is staged at first
-  pub staged-none : (reads : List (Read F U K V)) → reads ≡ [] → All Has (reads_view view key reads)
+  pub staged-none : (reads : List (Read F U K V)) → reads ≡ [] → All IsStagedRead (reads_view view key reads)
   staged-none reads none = reads-staged reads (reads-none reads none)
 
   -- and back
-  reads-back : (reads : List (Read F U K V)) → All Has (reads_view view key reads) → AreReads view key reads base
-  reads-back [] all = All-nil Is
+  reads-back : (reads : List (Read F U K V)) → All IsStagedRead (reads_view view key reads) → AreReads view key reads base
+  reads-back [] all = All-nil IsFound
   reads-back (r ∷ rs) all =
       let first : Bytes × Option (ℕ × Operation) = (key r.key, option_map (read_view view) r.found) in
-      All-cons Is r rs (All-head Has first (reads_view view key rs) all) (reads-back rs (All-tail Has first (reads_view view key rs) all))
+      All-cons IsFound r rs (All-head IsStagedRead first (reads_view view key rs) all) (reads-back rs (All-tail IsStagedRead first (reads_view view key rs) all))
 
-  pub staged-reads : (now reads : List (Read F U K V)) (staged : List (Bytes × Option (ℕ × Operation))) → now ≡ reads → reads_view view key reads ≡ staged → All Has staged → AreReads view key now base
-  staged-reads now reads staged is same all = subst (λ rs. AreReads view key rs base) (sym is) (reads-back reads (subst (All Has) (sym same) all))
+  -- the reads that a staged batch has
+  pub staged-reads : (now reads : List (Read F U K V)) (staged : List (Bytes × Option (ℕ × Operation))) → now ≡ reads → reads_view view key reads ≡ staged → All IsStagedRead staged → AreReads view key now base
+  staged-reads now reads staged is same all = subst (All IsFound) (sym is) (reads-back reads (subst (All IsStagedRead) (sym same) all))
 
-  -- behind those that it had
+  -- and more behind them
   pub staged-more : (all reads found : List (Read F U K V)) (staged : List (Bytes × Option (ℕ × Operation))) → all ≡ reads ++ found → reads_view view key reads ≡ staged
-      → All Has staged → AreReads view key found base → All Has (reads_view view key all)
+      → All IsStagedRead staged → AreReads view key found base → All IsStagedRead (reads_view view key all)
   staged-more all reads found staged more same had are =
-      reads-staged all (subst (λ rs. AreReads view key rs base) (sym more) (All-append Is reads found (staged-reads reads reads staged refl same had) are))
+      reads-staged all (subst (All IsFound) (sym more) (All-append IsFound reads found (staged-reads reads reads staged refl same had) are))
 
   -- what was found and what the list has of keys have the same values under writes
   pub read-through : (ws : List Write) (reads : List (Read F U K V)) → AreReads view key reads base
@@ -99,5 +100,5 @@ module _ {F U K V : Type 0} (view : U → Operation) (key : K → Bytes) (base :
   read-through ws [] are = refl
   read-through ws (r ∷ rs) are =
       ap₂ (λ v vs. v ∷ vs)
-      (ap (read_under ws (key r.key)) (All-head Is r rs are) ∙ ap (overwritten (write_of (last_writes ws) (key r.key))) (value-found base (key r.key)))
-      (read-through ws rs (All-tail Is r rs are))
+      (ap (read_under ws (key r.key)) (All-head IsFound r rs are) ∙ ap (overwritten (write_of (last_writes ws) (key r.key))) (value-found base (key r.key)))
+      (read-through ws rs (All-tail IsFound r rs are))

@@ -125,3 +125,13 @@ pub returns-in_err-tree-clause-whole : goal.returns-in_err-tree-clause-whole
 returns-in_err-tree-clause-whole g c = λ list is none low.
     let exit = err_from_is_err_and c.from_residual-in_err-tree.result c.from_residual-in_err-tree.ensures.1 in
     rw (exit.1, exit.2) (λ n pruned. cc)
+
+pub returns-in_err-plan-clause-whole : goal.returns-in_err-plan-clause-whole
+returns-in_err-plan-clause-whole g c = λ list is none low.
+    let exit = err_from_is_err_and c.from_residual-in_err-plan.result c.from_residual-in_err-plan.ensures.1 in
+    rw (exit.1, exit.2) (c.in_err-plan.ensures.whole list is none low)
+
+pub returns-in_err-plan-clause-cause : goal.returns-in_err-plan-clause-cause
+returns-in_err-plan-clause-cause g c =
+    let exit = err_from_is_err_and c.from_residual-in_err-plan.result c.from_residual-in_err-plan.ensures.1 in
+    rw (exit.1, exit.2) c.in_err-plan.ensures.cause

@@ -60,3 +60,13 @@ returns-in-Err-clause-whole g c = λ list is none low. too_long-kept (map (λ v.
 
 pub returns-in-Err-clause-causes : goal.returns-in-Err-clause-causes
 returns-in-Err-clause-causes g c = inr (too_long-size (map (λ v. v.items) c.deref-2.result.now) _ c.in-Err.error c.in-Err.ensures.err)
+
+pub returns-in_err-plan-clause-refused : goal.returns-in_err-plan-clause-refused
+returns-in_err-plan-clause-refused g c = λ list base is from reads.
+    let exit = err_from_is_err_and c.from_residual.result c.from_residual.ensures.1 in
+    rw (exit.1, exit.2) (inr c.in_err-plan.ensures.error)
+
+pub returns-in_err-items-clause-whole : goal.returns-in_err-items-clause-whole
+returns-in_err-items-clause-whole g c = λ list is none low.
+    let exit = err_from_is_err_and c.from_residual.result c.from_residual.ensures.1 in
+    rw (exit.1, exit.2) (λ n pruned. cc)

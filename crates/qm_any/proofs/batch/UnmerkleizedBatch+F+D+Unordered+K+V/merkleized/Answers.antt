@@ -69,3 +69,6 @@ pub returns-in-Ok-clause-whole : goal.returns-in-Ok-clause-whole
 returns-in-Ok-clause-whole g c = λ list is none low.
     let parent = c.deref-in-Ok.ensures ∙ ap (λ b. b.parent) c.self.view_is in
     c.made_on.ensures.whole list is none (subst (λ p. c.args.db.now.log.tree.start ≤ p.bounds.inactivity_floor) (sym parent) low)
+
+pub returns-in-Ok-clause-fits : goal.returns-in-Ok-clause-fits
+returns-in-Ok-clause-fits g c = subst (λ b. OnOk c.made_on.result (is_on c.args.db.now.commitment b ≡ true)) c.self.view_is (ok-then c.made_on.result c.made_on-requires.on)

@@ -1,4 +1,5 @@
-use Rattle.std.proofs.Common.{◌≡◌, ◌∙◌, ◌+◌, ap, arith, length, map, subst, sym}
+use Rattle.std.proofs.Common.{◌≡◌, ◌∙◌, ◌+◌, ap, arith, length, map, subst, sym, ℕ, Option}
+use Rattle.qm_model.specs.Operations.{Bytes, Operation}
 use Rattle.std.specs.Prelude.{IfOk, option_map}
 use Rattle.std.proofs.lemmas.List.{length-append, length-map}
 use Rattle.std.proofs.lemmas.Result.{err_from_is_err_and}
@@ -18,7 +19,7 @@ pub returns-clause-range : goal.returns-clause-range
 returns-clause-range g c =
     let key = g.U.Key.ByteString.bytes in
     let reads = ap (λ s. length s.reads) c.self.view_is in
-    let had = length-map c.self.inside.reads.items (λ r. (key r.key, option_map (read_view g.U.Update.view) r.found)) in
+    let had = length-map {B = Bytes × Option (ℕ × Operation)} c.self.inside.reads.items (λ r. (key r.key, option_map (read_view g.U.Update.view) r.found)) in
     let keys = length-map c.args.self.reads (λ r. r.0) in
     let more = keys-count key c.in_ok-found.found.items c.args.keys.items c.in_ok-found.ensures.keys in
     let all = ap length c.in_ok-reads.ensures ∙ length-append c.self.inside.reads.items c.in_ok-found.found.items in
