@@ -164,7 +164,7 @@ module _ {C D : Type 0} (members : store.Ghosts C) (old new : Log C D) (can : Bo
   rose-read (inr (inr told)) fault = log-rose members old new e told.1 fault
 
   -- so it is a failure of a read of the engine
-  pub read-failure : {X B M : Type 0} (means : words.Ghosts X C B M) (list : List Operation) (chain : Chain) (tip : List Operation) → can ≡ readable means.scheme.root (commitment means.scheme.root list) chain tip
+  pub read-failure : {X B S M : Type 0} (means : words.Ghosts X C B S M) (list : List Operation) (chain : Chain) (tip : List Operation) → can ≡ readable means.scheme.root (commitment means.scheme.root list) chain tip
       → old.tree.start ≡ members.start old.store → IsReadErr members old new can e → IsReadFailure means (TellsAll members old.store) list chain tip e
   read-failure means list chain tip is start why = record {
     stale = λ stale known. apart (sym (is ∙ readable-known means.scheme.root list chain tip known) ∙ stale-read why stale);
