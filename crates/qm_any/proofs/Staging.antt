@@ -53,13 +53,14 @@ staged-keys-more view key all reads found staged keys more same are =
     ∙ ap (keys_of key) more ∙ map-append (λ (r : Read _ _ _ _). key r.key) reads found
     ∙ ap₂ (λ xs ys. xs ++ ys) (staged-keys view key reads reads staged refl same) are
 
+-- a staged key has what the list has of it
+abbrev IsStagedRead : List Operation → Bytes × Option (ℕ × Operation) → Type 0
+IsStagedRead base r = r.1 ≡ update_of base r.0
+
 module _ {F U K V : Type 0} (view : U → Operation) (key : K → Bytes) (base : List Operation) where
   -- what was found of the key is what the list has of it
   abbrev IsFound : Read F U K V → Type 0
   IsFound r = option_map (read_view view) r.found ≡ update_of base (key r.key)
-
-  abbrev IsStagedRead : Bytes × Option (ℕ × Operation) → Type 0
-  IsStagedRead r = r.1 ≡ update_of base r.0
 
   -- no reads are those of any list
   pub reads-none : (reads : List (Read F U K V)) → reads ≡ [] → AreReads view key reads base
@@ -70,27 +71,27 @@ module _ {F U K V : Type 0} (view : U → Operation) (key : K → Bytes) (base :
   reads-more reads all r more found are = subst (All IsFound) (sym more) (All-append IsFound reads (r ∷ []) are (All-cons IsFound r [] found (All-nil IsFound)))
 
   -- as a staged batch has them
-  reads-staged : (reads : List (Read F U K V)) → AreReads view key reads base → All IsStagedRead (reads_view view key reads)
-  reads-staged reads are = All-map IsStagedRead (λ (r : Read F U K V). (key r.key, option_map (read_view view) r.found)) reads are
+  reads-staged : (reads : List (Read F U K V)) → AreReads view key reads base → All (IsStagedRead base) (reads_view view key reads)
+  reads-staged reads are = All-map (IsStagedRead base) (λ (r : Read F U K V). (key r.key, option_map (read_view view) r.found)) reads are
 
   -- none is staged at first
-  pub staged-none : (reads : List (Read F U K V)) → reads ≡ [] → All IsStagedRead (reads_view view key reads)
+  pub staged-none : (reads : List (Read F U K V)) → reads ≡ [] → All (IsStagedRead base) (reads_view view key reads)
   staged-none reads none = reads-staged reads (reads-none reads none)
 
   -- and back
-  reads-back : (reads : List (Read F U K V)) → All IsStagedRead (reads_view view key reads) → AreReads view key reads base
+  reads-back : (reads : List (Read F U K V)) → All (IsStagedRead base) (reads_view view key reads) → AreReads view key reads base
   reads-back [] all = All-nil IsFound
   reads-back (r ∷ rs) all =
       let first : Bytes × Option (ℕ × Operation) = (key r.key, option_map (read_view view) r.found) in
-      All-cons IsFound r rs (All-head IsStagedRead first (reads_view view key rs) all) (reads-back rs (All-tail IsStagedRead first (reads_view view key rs) all))
+      All-cons IsFound r rs (All-head (IsStagedRead base) first (reads_view view key rs) all) (reads-back rs (All-tail (IsStagedRead base) first (reads_view view key rs) all))
 
   -- the reads that a staged batch has
-  pub staged-reads : (now reads : List (Read F U K V)) (staged : List (Bytes × Option (ℕ × Operation))) → now ≡ reads → reads_view view key reads ≡ staged → All IsStagedRead staged → AreReads view key now base
-  staged-reads now reads staged is same all = subst (All IsFound) (sym is) (reads-back reads (subst (All IsStagedRead) (sym same) all))
+  pub staged-reads : (now reads : List (Read F U K V)) (staged : List (Bytes × Option (ℕ × Operation))) → now ≡ reads → reads_view view key reads ≡ staged → All (IsStagedRead base) staged → AreReads view key now base
+  staged-reads now reads staged is same all = subst (All IsFound) (sym is) (reads-back reads (subst (All (IsStagedRead base)) (sym same) all))
 
   -- and more behind them
   pub staged-more : (all reads found : List (Read F U K V)) (staged : List (Bytes × Option (ℕ × Operation))) → all ≡ reads ++ found → reads_view view key reads ≡ staged
-      → All IsStagedRead staged → AreReads view key found base → All IsStagedRead (reads_view view key all)
+      → All (IsStagedRead base) staged → AreReads view key found base → All (IsStagedRead base) (reads_view view key all)
   staged-more all reads found staged more same had are =
       reads-staged all (subst (All IsFound) (sym more) (All-append IsFound reads found (staged-reads reads reads staged refl same had) are))
 

@@ -68,5 +68,5 @@ returns-in_err-plan-clause-refused g c = λ list base is from reads.
 
 pub returns-in_err-items-clause-whole : goal.returns-in_err-items-clause-whole
 returns-in_err-items-clause-whole g c = λ list is none low.
-    let exit = err_from_is_err_and c.from_residual.result c.from_residual.ensures.1 in
+    let exit = err_from_is_err_and c.from_residual-in_err-items.result c.from_residual-in_err-items.ensures.1 in
     rw (exit.1, exit.2) (λ n pruned. cc)

@@ -1,13 +1,14 @@
-use Rattle.std.proofs.Common.{◌≡◌, ◌∙◌, ◌≤◌, ap, sym, subst, inr, option_map}
-use Rattle.std.specs.Prelude.{IfOk, IfErr, OnOk, ◌⊎◌}
-use Rattle.qm_model.proofs.Results.{err-then}
+use Rattle.std.proofs.Common.{◌≡◌, ◌∙◌, ◌≤◌, ap, map, sym, subst, true, inr, option_map}
+use Rattle.std.specs.Prelude.{IfOk, IfErr, OnOk, is_ok, ◌⊎◌}
+use Rattle.qm_model.proofs.Results.{err-then, ok-then}
+use Rattle.qm_chain.specs.Bounds.{commitment_view, is_at}
 use Rattle.qm_batch.specs.Lent.{IsReadError}
 use Rattle.qm_base.specs.Slots.{slot_views, write_views}
 use Rattle.qm_model.specs.Slots.{slotted}
 use Rattle.qm_batch.specs.Views.{keys_of, stepped, left_after}
 use Rattle.qm_any.specs.Layouts.{hashing_with}
 use Rattle.qm_batch.specs.PlanViews.{unordered_form}
-use Rattle.qm_any.specs.Databases.{IsMade, kept_by}
+use Rattle.qm_any.specs.Databases.{IsMade, child_boundary, child_tips, is_on, kept_by}
 use Rattle.qm_any.specs.Tips.{IsTaken, IsRefused}
 use Rattle.qm_any.proofs.batch.UnmerkleizedBatch+F+D+Unordered+K+V.merkleized.Goals as goal
 
@@ -71,4 +72,34 @@ returns-in-Ok-clause-whole g c = λ list is none low.
     c.made_on.ensures.whole list is none (subst (λ p. c.args.db.now.log.tree.start ≤ p.bounds.inactivity_floor) (sym parent) low)
 
 pub returns-in-Ok-clause-fits : goal.returns-in-Ok-clause-fits
-returns-in-Ok-clause-fits g c = subst (λ b. OnOk c.made_on.result (is_on c.args.db.now.commitment b ≡ true)) c.self.view_is (ok-then c.made_on.result c.made_on-requires.on)
+returns-in-Ok-clause-fits g c =
+    let at = c.args.db.now.commitment in
+    let view = commitment_view g.D.Digest.bytes in
+    let inside = c.self.inside in
+    let boundary : view c.child_boundary-boundary.result ≡ child_boundary inside.keep inside.parent.value.bounds = c.child_boundary-boundary.ensures ∙ ap (λ p. child_boundary inside.keep p.bounds) c.deref-2.ensures in
+    let tips : map view c.deref-3.result.now ≡ child_tips inside.keep inside.parent.value.bounds = ap (map view) c.deref-3.ensures.value ∙ c.in_ok-tips.ensures ∙ ap (λ p. child_tips inside.keep p.bounds) c.deref.ensures in
+    let tested : is_at (view c.commitment.result.now) (view c.child_boundary-boundary.result) (map view c.deref-3.result.now) ≡ true = sym c.validate_batch_applicable.ensures.exact ∙ ap is_ok c.in-Ok.is in
+    let on : is_on at c.args.self ≡ true =
+    subst (λ b. is_on at b ≡ true) c.self.view_is
+    (subst (λ k. is_at k (child_boundary inside.keep inside.parent.value.bounds) (child_tips inside.keep inside.parent.value.bounds) ≡ true) c.commitment.ensures.value
+    (subst (λ b. is_at (view c.commitment.result.now) b (child_tips inside.keep inside.parent.value.bounds) ≡ true) boundary
+    (subst (λ t. is_at (view c.commitment.result.now) (view c.child_boundary-boundary.result) t ≡ true) tips tested))) in
+    ok-then c.made_on.result c.made_on.ensures.above (λ b above. on)
+
+pub returns-in-Ok-clause-stale : goal.returns-in-Ok-clause-stale
+returns-in-Ok-clause-stale g c = err-then c.made_on.result c.made_on.ensures.never (λ e never stale. absurd (never stale))
+
+pub returns-in-Ok-clause-order : goal.returns-in-Ok-clause-order
+returns-in-Ok-clause-order g c =
+    let at = c.args.db.now.commitment in
+    let view = commitment_view g.D.Digest.bytes in
+    let inside = c.self.inside in
+    let boundary : view c.child_boundary-boundary.result ≡ child_boundary inside.keep inside.parent.value.bounds = c.child_boundary-boundary.ensures ∙ ap (λ p. child_boundary inside.keep p.bounds) c.deref-2.ensures in
+    let tips : map view c.deref-3.result.now ≡ child_tips inside.keep inside.parent.value.bounds = ap (map view) c.deref-3.ensures.value ∙ c.in_ok-tips.ensures ∙ ap (λ p. child_tips inside.keep p.bounds) c.deref.ensures in
+    let tested : is_at (view c.commitment.result.now) (view c.child_boundary-boundary.result) (map view c.deref-3.result.now) ≡ true = sym c.validate_batch_applicable.ensures.exact ∙ ap is_ok c.in-Ok.is in
+    let on : is_on at c.args.self ≡ true =
+    subst (λ b. is_on at b ≡ true) c.self.view_is
+    (subst (λ k. is_at k (child_boundary inside.keep inside.parent.value.bounds) (child_tips inside.keep inside.parent.value.bounds) ≡ true) c.commitment.ensures.value
+    (subst (λ b. is_at (view c.commitment.result.now) b (child_tips inside.keep inside.parent.value.bounds) ≡ true) boundary
+    (subst (λ t. is_at (view c.commitment.result.now) (view c.child_boundary-boundary.result) t ≡ true) tips tested))) in
+    err-then c.made_on.result c.made_on.ensures.never (λ e never memory stale. on)

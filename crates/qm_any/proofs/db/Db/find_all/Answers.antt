@@ -1,4 +1,4 @@
-use Rattle.std.proofs.Common.{◌∙◌, ap, map, refl, subst, sym}
+use Rattle.std.proofs.Common.{◌≡◌, ◌∙◌, ap, arith, length, map, refl, subst, sym}
 use Rattle.std.proofs.lemmas.List.{map-id}
 use Rattle.std.proofs.lemmas.Iterator.Adapters.{YieldsList-from_vec}
 use Rattle.std.proofs.lemmas.Iterator.Consumers.{YieldsList-end}
@@ -37,5 +37,6 @@ returns-in_err-push-clause-left g c = left-then g.C.Store (hashing_of g.H.Digest
 pub returns-clause-keys : goal.returns-clause-keys
 returns-clause-keys g c =
     let gives = c.into_iter-key-iterator.ensures.into_iter_gives in
-    let all = YieldsList-end (YieldsList-from_vec c.args.keys.items gives.0 gives.1) c.loop-key.yielded _ c.loop-key.yielded_by _ _ c.in-None.is c.next.ensures.steps in
+    let count : c.into_iter-key-iterator.result.rest.len ≡ length c.args.keys.items = omega (arith, gives.1, c.args.keys.ok.0) in
+    let all = YieldsList-end (YieldsList-from_vec {s = c.into_iter-key-iterator.result} c.args.keys.items gives.0 count) c.loop-key.yielded _ c.loop-key.yielded_by _ c.next.new.self c.in-None.is c.next.ensures.steps in
     c.loop-key.invariant.keys ∙ ap (map g.U.Key.ByteString.bytes) (sym (map-id c.loop-key.yielded) ∙ all.0)
