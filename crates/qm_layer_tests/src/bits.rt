@@ -55,9 +55,9 @@ fn bits_are_found(rt: HostRuntime) -> Result<(), Fail> {
 fn chunks_are_given(rt: HostRuntime) -> Result<(), Fail> {
     let alloc = rt.alloc();
     let mut bits = set(alloc)?;
+    assert!(rt; bits.len() == 1000);
     bits.prune_to_bit(511);
     assert!(rt; bits.pruned_chunks() == 1);
-    assert!(rt; bits.len() == 1000);
     let bytes = bits.get_chunk(alloc, 1)?;
     assert!(rt; bytes.last() == Some(&128));
     let (bytes, count) = bits.last_chunk(alloc)?;
