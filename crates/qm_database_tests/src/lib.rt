@@ -5,5 +5,3 @@
 mod expiry;
 #[cfg(test)]
 mod fixed;
-#[cfg(test)]
-mod staged;
