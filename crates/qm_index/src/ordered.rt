@@ -4,6 +4,7 @@ ghost use Rattle.std.specs.Prelude.{◌≡◌, ◌↔◌, [], None, option_map, 
 ghost use Rattle.std.specs.Map.{keys_of};
 ghost use Rattle.qm_index.specs.Buckets.{bucket_at, IsIndex};
 ghost use Rattle.qm_index.specs.Neighbours.{least_key, next_key, prev_key, neighbour_at};
+ghost use Rattle.qm_index.specs.Translated.{IsMonotone};
 
 use crate::bucket::Bucket;
 use crate::translator::{OrderedTranslator, Translator};
@@ -16,6 +17,9 @@ use std::ops::Bound;
 
 /// An index that finds the buckets beside a key's. They go round: behind the greatest index key comes the least. Each call takes one descent of the map, a second one where it wraps, and no memory.
 pub trait Ordered: Unordered {
+    /// A key that comes before another has no greater index key.
+    ghost monotone: { IsMonotone Self.index_key };
+
     /// The bucket of the greatest index key below the key's, or else, flagged as wrapped, of the greatest of all; none only where the index is empty.
     fn prev_bucket(&self, key: &[u8]) -> Option<(&[Self::Value], bool)>
         ensures value { option_map (λ b. (b.0.now, b.1)) result ≡ neighbour_at (Self.entries self.now) (prev_key (keys_of (Self.entries self.now)) (Self.index_key key.now)) }
@@ -117,6 +121,8 @@ impl<T: OrderedTranslator, V: IndexValue> Unordered for Index<T, V> {
 }
 
 impl<T: OrderedTranslator, V: IndexValue> Ordered for Index<T, V> {
+    ghost monotone = { T.monotone };
+
     fn prev_bucket(&self, key: &[u8]) -> Option<(&[V], bool)> {
         let index_key = self.translator.index_key(key);
         match self.buckets.range(..index_key).next_back() {
