@@ -17,9 +17,6 @@ use std::ops::Bound;
 
 /// An index that finds the buckets beside a key's. They go round: behind the greatest index key comes the least. Each call takes one descent of the map, a second one where it wraps, and no memory.
 pub trait Ordered: Unordered {
-    /// A key that comes before another has no greater index key.
-    ghost monotone: { IsMonotone Self.index_key };
-
     /// The bucket of the greatest index key below the key's, or else, flagged as wrapped, of the greatest of all; none only where the index is empty.
     fn prev_bucket(&self, key: &[u8]) -> Option<(&[Self::Value], bool)>
         ensures value { option_map (λ b. (b.0.now, b.1)) result ≡ neighbour_at (Self.entries self.now) (prev_key (keys_of (Self.entries self.now)) (Self.index_key key.now)) }
@@ -37,6 +34,9 @@ pub trait Ordered: Unordered {
         ensures value { option_map (λ b. b.now) result ≡ option_map (bucket_at (Self.entries self.now)) (least_key (keys_of (Self.entries self.now))) }
         ensures none { (result ≡ None) ↔ (Self.entries self.now ≡ []) }
         ensures index { IsIndex (Self.entries self.now) };
+
+    /// A key that comes before another has no greater index key.
+    ghost monotone: { IsMonotone Self.index_key };
 }
 
 /// An index in the order of index keys. It keeps an index key and the values for each bucket, and no key.
