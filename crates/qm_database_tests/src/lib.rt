@@ -5,3 +5,5 @@
 mod expiry;
 #[cfg(test)]
 mod fixed;
+#[cfg(test)]
+mod staged;
