@@ -5,3 +5,7 @@
 mod expiry;
 #[cfg(test)]
 mod fixed;
+#[cfg(test)]
+mod ordered;
+#[cfg(test)]
+mod staged;

@@ -6,12 +6,12 @@ use Rattle.std.specs.Map.{lookup, keys_of}
 use Rattle.std.specs.Option.{option_or, is_some}
 use Rattle.std.proofs.lemmas.List.Elements.{recursion_from_All}
 use Rattle.std.proofs.lemmas.List.Sorted.{length_permutation}
-use Rattle.qm_model.specs.Operations.{Bytes}
+use Rattle.qm_model.specs.Operations.{Bytes, AreBytes}
 use Rattle.qm_model.specs.Keys.{key_lt, contains_key, successor, predecessor, least, greatest}
 use Rattle.qm_model.proofs.KeyOrder.{Has, Has-either, IsOrder, rises, falls, front, nearest, front-is, front-none, is-front, Has-first, Has-later, contains-filter, and-true, and-both, or-left, or-right, or-either, false-not, apart, successor-nearest, predecessor-nearest, least-front, greatest-front}
 use Rattle.qm_model.proofs.Maps.{same_key}
 use Rattle.qm_index.specs.Buckets.{bucket_at, IsIndex}
-use Rattle.qm_index.specs.Translated.{AreBytes, IsMonotone}
+use Rattle.qm_index.specs.Translated.{IsMonotone}
 use Rattle.qm_index.specs.Neighbours.{picked, least_key, near_or_wrapped, next_key, prev_key, keys_at, next_by_index, prev_by_index, first_by_index, values_at, StandsFor}
 use Rattle.qm_index.proofs.Picks.{has, number_below, number_from, same_number, number_same, has-filter, has-lookup, IsPick, picks_least, picks_greatest, picked-is, picked-none}
 

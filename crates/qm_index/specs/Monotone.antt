@@ -6,7 +6,8 @@ use Rattle.std.specs.Cmp.Lexicographic.{slice_cmp}
 use Rattle.std.proofs.lemmas.List.Elements.{All-head, All-tail}
 use Rattle.std.proofs.Math.Nat.{pow-suc, mul-le-mul_right}
 use Rattle.qm_model.specs.Keys.{key_lt}
-use Rattle.qm_index.specs.Translated.{first_bytes, capped, AreBytes, IsMonotone}
+use Rattle.qm_index.specs.Translated.{first_bytes, capped, IsMonotone}
+use Rattle.qm_model.specs.Operations.{AreBytes}
 
 -- there are as many as were asked for
 pub length-first_bytes : (n : ℕ) (key : List ℕ) → length (first_bytes n key) ≡ n

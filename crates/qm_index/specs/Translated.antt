@@ -1,6 +1,6 @@
 -- What keys are translated to.
-use Rattle.std.specs.Prelude.{◌≡◌, ℕ, zero, suc, ◌+◌, ◌*◌, ◌^◌, ◌<◌, ◌≤◌, [], ◌∷◌, length, All, true}
-use Rattle.qm_model.specs.Operations.{Bytes}
+use Rattle.std.specs.Prelude.{◌≡◌, ℕ, zero, suc, ◌+◌, ◌*◌, ◌^◌, ◌≤◌, [], ◌∷◌, length, true}
+use Rattle.qm_model.specs.Operations.{Bytes, AreBytes}
 use Rattle.qm_model.specs.Keys.{key_lt}
 
 -- the number of these bytes, the highest first
@@ -17,10 +17,6 @@ first_bytes (suc n) (x ∷ xs) = x ∷ first_bytes n xs
 -- the index key of a translator of this width
 abbrev pub capped : ℕ → Bytes → ℕ
 capped width key = number_of (first_bytes width key)
-
--- each is a byte
-abbrev pub AreBytes : Bytes → Type 0
-AreBytes key = All (λ x. x < 256) key
 
 -- a key that is before another has no greater index key
 abbrev pub IsMonotone : (Bytes → ℕ) → Type 0

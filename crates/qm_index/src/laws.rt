@@ -2,10 +2,10 @@
 
 ghost use Rattle.std.specs.Prelude.{◌≡◌, ℕ, List, ◌∷◌, map, All};
 ghost use Rattle.std.specs.Map.{keys_of};
-ghost use Rattle.qm_model.specs.Operations.{Bytes};
+ghost use Rattle.qm_model.specs.Operations.{Bytes, AreBytes};
 ghost use Rattle.qm_model.specs.Keys.{successor, predecessor, least};
 ghost use Rattle.qm_index.specs.Buckets.{IsIndex};
-ghost use Rattle.qm_index.specs.Translated.{AreBytes, IsMonotone};
+ghost use Rattle.qm_index.specs.Translated.{IsMonotone};
 ghost use Rattle.qm_index.specs.Neighbours.{StandsFor, next_by_index, prev_by_index, first_by_index};
 
 /// Of an index that stands for keys, by a translator that keeps their order: the nearest key to another one is the nearest of those in its own bucket, or else it is in the neighbour; the least of all is in the first bucket.

@@ -4,6 +4,7 @@ ghost use Rattle.std.specs.Prelude.{◌≡◌, ◌↔◌, [], None, option_map, 
 ghost use Rattle.std.specs.Map.{keys_of};
 ghost use Rattle.qm_index.specs.Buckets.{bucket_at, IsIndex};
 ghost use Rattle.qm_index.specs.Neighbours.{least_key, next_key, prev_key, neighbour_at};
+ghost use Rattle.qm_index.specs.Translated.{IsMonotone};
 
 use crate::bucket::Bucket;
 use crate::translator::{OrderedTranslator, Translator};
@@ -33,6 +34,9 @@ pub trait Ordered: Unordered {
         ensures value { option_map (λ b. b.now) result ≡ option_map (bucket_at (Self.entries self.now)) (least_key (keys_of (Self.entries self.now))) }
         ensures none { (result ≡ None) ↔ (Self.entries self.now ≡ []) }
         ensures index { IsIndex (Self.entries self.now) };
+
+    /// A key that comes before another has no greater index key.
+    ghost monotone: { IsMonotone Self.index_key };
 }
 
 /// An index in the order of index keys. It keeps an index key and the values for each bucket, and no key.
@@ -117,6 +121,8 @@ impl<T: OrderedTranslator, V: IndexValue> Unordered for Index<T, V> {
 }
 
 impl<T: OrderedTranslator, V: IndexValue> Ordered for Index<T, V> {
+    ghost monotone = { T.monotone };
+
     fn prev_bucket(&self, key: &[u8]) -> Option<(&[V], bool)> {
         let index_key = self.translator.index_key(key);
         match self.buckets.range(..index_key).next_back() {

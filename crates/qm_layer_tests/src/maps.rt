@@ -59,11 +59,11 @@ fn entry(
     requires { length name.now < 2 ^ 32 }
     ensures { IfOk result (λ e. e.0 ≡ name.now) }
 {
-    let key = ByteKey::from_bytes(alloc, name)?;
+    let key = ByteKey::new(name.to_vec(alloc)?);
     match loc {
         Some(loc) => {
             let active = DiffEntry::Active {
-                value: ByteValue::from_bytes(alloc, name)?,
+                value: ByteValue::new(name.to_vec(alloc)?),
                 loc: Location::new(loc),
                 base_old_loc: None,
             };

@@ -3,6 +3,7 @@ pub mod Options
 pub mod Forms
 pub mod LastWrites
 pub mod KeyOrder
+pub mod ByteLists
 pub mod Pushes
 pub mod Walks
 pub mod Floors

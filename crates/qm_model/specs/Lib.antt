@@ -8,6 +8,7 @@ pub mod Writes
 pub mod Slots
 pub mod Walk
 pub mod Ordered
+pub mod Ranges
 pub mod Step
 pub mod Policies
 pub mod Trees

@@ -1,7 +1,7 @@
 -- The program's database.
-use Rattle.std.specs.Prelude.{false, None, ◌^◌, length, nat_lt}
+use Rattle.std.specs.Prelude.{false, ◌&&◌, None, ◌^◌, length, nat_lt}
 use Rattle.qm_base.specs.declared.sha256.Sha256Digest.{Sha256Digest}
-use Rattle.qm_model.specs.Operations.{Bytes}
+use Rattle.qm_model.specs.Operations.{Bytes, are_bytes}
 use Rattle.qm_model.specs.Forms.{Form}
 use Rattle.qm_model.specs.Mmr.{mmr}
 use Rattle.sha2.specs.Sha256.{sha256}
@@ -12,9 +12,9 @@ use Rattle.qm_any.specs.Layouts.{Hashing, Layout}
 abbrev pub digest_bytes : Sha256Digest → Bytes
 digest_bytes d = d.bytes
 
--- unordered, with lengths; keys and values are any bytes that a length can count
+-- unordered, with lengths; keys and values are all bytes that a length can count
 abbrev pub form : Form
-form = record { ordered = false; sizes = None; is_key = λ bs. nat_lt (length bs) (2 ^ 32); is_value = λ bs. nat_lt (length bs) (2 ^ 32) }
+form = record { ordered = false; sizes = None; is_key = λ bs. nat_lt (length bs) (2 ^ 32) && are_bytes bs; is_value = λ bs. nat_lt (length bs) (2 ^ 32) && are_bytes bs }
 
 abbrev pub hashing : Hashing Sha256Digest
 hashing = record { bytes = digest_bytes; hash = sha256; shape = mmr; form = form }

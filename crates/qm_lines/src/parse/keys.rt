@@ -7,7 +7,7 @@ ghost use Rattle.qm_lines.specs.Parsed.{lent, with_keys};
 use super::numbers::named_number;
 use super::pieces::is;
 use hex::FromHexError;
-use qm_base::{ByteKey, ByteString, ByteValue};
+use qm_base::{ByteKey, ByteValue};
 use std::alloc::{AllocError, Global};
 use std::marker::Model;
 
@@ -35,7 +35,7 @@ pub fn key(alloc: Global, word: &[u8]) -> Result<Option<ByteKey>, AllocError>
 {
     match bytes_within(alloc, word, 1, 32)? {
         None => Ok(None),
-        Some(bytes) => Ok(Some(ByteKey::from_bytes(alloc, &bytes)?)),
+        Some(bytes) => Ok(Some(ByteKey::new(bytes))),
     }
 }
 
@@ -48,7 +48,7 @@ pub fn value(alloc: Global, word: &[u8]) -> Result<Option<ByteValue>, AllocError
     }
     match bytes_within(alloc, word, 1, 64)? {
         None => Ok(None),
-        Some(bytes) => Ok(Some(ByteValue::from_bytes(alloc, &bytes)?)),
+        Some(bytes) => Ok(Some(ByteValue::new(bytes))),
     }
 }
 

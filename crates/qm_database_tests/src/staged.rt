@@ -1,0 +1,101 @@
+//! How often a store is read where keys are staged, seen by the number of the first call that never comes: a store in memory
+//! numbers its calls and fails at those that are listed.
+
+use crate::fixed::{Database, applied};
+use qm_any::init;
+use qm_base::{ByteString, Error, FixedBytes, Sha256, Slot};
+use qm_chain::Hold;
+use qm_index::FourCap;
+use qm_store::MemStore;
+use std::alloc::{AllocError, Global};
+use std::test::Fail;
+
+/// How keys are read and written.
+#[derive(Clone, Copy, PartialEq, Eq)]
+enum Way {
+    /// Neither.
+    Neither,
+    /// Read, and then written one by one.
+    Plain,
+    /// Staged, and written by their slots.
+    Staged,
+}
+
+type Key = FixedBytes<4>;
+
+type Value = FixedBytes<8>;
+
+// Two keys.
+fn keys(alloc: Global) -> Result<Vec<Key>, AllocError> {
+    Ok(vec![in alloc;
+        Key::from_bytes(alloc, &[1, 2, 3, 4])?,
+        Key::from_bytes(alloc, &[5, 6, 7, 8])?,
+    ]?)
+}
+
+fn value(alloc: Global) -> Result<Value, AllocError> {
+    Value::from_bytes(alloc, &[9; 8])
+}
+
+// A database in which the two keys are live, over a store that fails at this call.
+fn filled(alloc: Global, fail: u64) -> Result<Database, Error> {
+    let store = MemStore::new(alloc, vec![in alloc; fail]?);
+    let mut db = match init(alloc, store, Sha256::new(), FourCap) {
+        Ok(db) => db,
+        Err(refusal) => return Err(refusal.error),
+    };
+    let mut batch = db.new_batch(alloc)?;
+    for key in keys(alloc)? {
+        batch = batch.write(key, Some(value(alloc)?))?;
+    }
+    let batch = batch.merkleize(alloc, &mut db, None, &mut Hold)?;
+    applied(alloc, db, &batch)
+}
+
+// Reads the two keys, and writes them again in a batch.
+fn read_and_write(alloc: Global, db: &mut Database) -> Result<(), Error> {
+    let mut batch = db.new_batch(alloc)?;
+    batch.get_many(alloc, &keys(alloc)?, db)?;
+    for key in keys(alloc)? {
+        batch = batch.write(key, Some(value(alloc)?))?;
+    }
+    batch.merkleize(alloc, db, None, &mut Hold)?;
+    Ok(())
+}
+
+// Stages the two keys, and writes them again by their slots.
+fn stage_and_write(alloc: Global, db: &mut Database) -> Result<(), Error> {
+    let (_, staged) = db.new_batch(alloc)?.stage(alloc, keys(alloc)?, db)?;
+    let slots = vec![in alloc; Slot::Put(value(alloc)?), Slot::Put(value(alloc)?)]?;
+    if slots.len() != staged.len() {
+        return Err(Error::StaleBatch);
+    }
+    staged.merkleize(alloc, &slots, &[], db, None, &mut Hold)?;
+    Ok(())
+}
+
+// Does it in this way, over a store that fails at this call.
+fn done(alloc: Global, fail: u64, way: Way) -> Result<(), Error> {
+    let mut db = filled(alloc, fail)?;
+    match way {
+        Way::Neither => Ok(()),
+        Way::Plain => read_and_write(alloc, &mut db),
+        Way::Staged => stage_and_write(alloc, &mut db),
+    }
+}
+
+// How many calls of the store it takes, where these are fewer than a hundred.
+fn calls(alloc: Global, way: Way) -> u64 {
+    (0..100)
+        .find(|fail| done(alloc, *fail, way).is_ok())
+        .unwrap_or(100)
+}
+
+#[test]
+fn a_staged_key_is_read_once(rt: HostRuntime) -> Result<(), Fail> {
+    let alloc = rt.alloc();
+    let before = calls(alloc, Way::Neither);
+    assert_eq!(rt; calls(alloc, Way::Plain), before.saturating_add(4));
+    assert_eq!(rt; calls(alloc, Way::Staged), before.saturating_add(2));
+    Ok(())
+}
