@@ -1,32 +1,26 @@
 -- Where the operations of a base list are found, and where its keys stand.
 use Rattle.std.proofs.Common.{◌≡◌, ℕ, suc, ◌+◌, ◌-◌, ◌≤◌, ◌<◌, Bool, true, false, List, [], ◌∷◌, ◌++◌, length, map, drop, get_or, refl, ap, sym, ◌∙◌, subst, Option, Some, None, arith, ◌||◌, ◌⊎◌, inl, inr, append_assoc, append-nil, length-append, true≢false, Bor, leb}
-use Rattle.std.specs.Prelude.{◌==◌, Contains, slice_get, option_map, option_and_then, MatchOption, is_some, if◌then◌else◌}
+use Rattle.std.specs.Prelude.{◌==◌, Contains, slice_get, option_map, option_and_then, MatchOption, All, if◌then◌else◌}
 use Rattle.std.specs.List.{list_any}
-use Rattle.std.specs.Map.{lookup}
-use Rattle.std.specs.Cmp.Lexicographic.{slice_cmp}
-use Rattle.std.specs.Ordering.{nat_cmp, is_eq}
 use Rattle.std.proofs.lemmas.Bool.{eqb-true, eq-eqb, leb-true, cases_lt, le-leb}
 use Rattle.std.specs.Option.{option_copied}
 use Rattle.std.specs.Slice.{IsItemAt}
 use Rattle.std.proofs.lemmas.List.{drop_more}
 use Rattle.std.proofs.lemmas.Option.{same_Some, slice_get_within, slice_get-map, slice_get_past, slice_get_read}
 use Rattle.qm_model.specs.Operations.{Bytes, Operation, update}
-use Rattle.qm_model.specs.Live.{Live, live, live_of}
-use Rattle.qm_model.specs.Writes.{Write, write_of, last_writes, unordered_writes}
+use Rattle.qm_model.specs.Live.{Live, live, live_of, touched}
 use Rattle.qm_model.proofs.Maps.{same_key}
 use Rattle.qm_index.specs.Buckets.{bucket_at}
 use Rattle.qm_base.specs.Parts.{update_key}
 use Rattle.qm_batch.specs.Changes.{place_in, stands_at, update_at, update_from, said_by}
 use Rattle.qm_batch.specs.Layers.{Layer, LeadThrough, LeadOver}
 use Rattle.qm_index.specs.Indexed.{IsIndexed}
-use Rattle.qm_batch.specs.PlanViews.{keyed}
-use Rattle.qm_batch.specs.Touches.{is_there, live_update_at, moved_touch, IsMoveAt}
+use Rattle.qm_batch.specs.Touches.{Touch, is_replaced, is_there, live_update_at, moved_touch, operations_of, IsFrom, IsKeyed, IsMoveAt}
 use Rattle.qm_index.proofs.Members.{Contains-first, first_or_later}
 use Rattle.qm_batch.proofs.PlanWalks.{none-past}
 use Rattle.qm_batch.proofs.PlanReads.{slice_get-front, slice_get-behind, update-here, front-none, front-touched, front-gone, front-live}
-use Rattle.qm_batch.proofs.PlanWrites.{touched-live, touched-unwritten}
+use Rattle.qm_batch.proofs.PlanReplaced.{touched-replaced}
 use Rattle.qm_batch.proofs.Spellings.{keyed-update, keyless-said}
-use Rattle.qm_batch.proofs.WritesByKey.{looked-up}
 use Rattle.qm_batch.proofs.Reading.{in-bucket, own-bucket}
 use Rattle.qm_batch.proofs.Standing.{live-stands, live-of_key}
 use Rattle.qm_index.proofs.Basics.{or-later}
@@ -160,63 +154,48 @@ module _ (index_key : Bytes → ℕ) (entries : List (ℕ × List ℕ)) (layers 
       by true one false two = sym (yes-there (subst (λ xs. Contains xs at) is_bucket (any-in bucket one))) ∙ two
       by false one true two = sym one ∙ in-any bucket (subst (λ xs. Contains xs at) (sym is_bucket) (there-yes two))
 
--- a map of the last writes has a key where it is written
-pub has-key : {X : Type 0} (view : X → Write) (es : List (Bor Bytes × X)) (us : List Write) (q : Bytes) → map (λ e. (e.0.now, view e.1)) es ≡ map keyed us → is_some (lookup (λ k. is_eq (slice_cmp nat_cmp q k.now)) es) ≡ is_some (write_of us q)
-has-key {X} view es us q same =
-    by (lookup (λ k. is_eq (slice_cmp nat_cmp q k.now)) es) (write_of us q) (looked-up (λ (b : Bor Bytes). b.now) view (λ w. w) es us q same)
-  where
-    by : (o : Option X) (w : Option Write) → option_map view o ≡ option_map (λ w. w) w → is_some o ≡ is_some w
-    by None None h = refl
-    by None (Some w) h = cc
-    by (Some x) None h = cc
-    by (Some x) (Some w) h = refl
-
 place-there : (o : Option (ℕ × Bytes)) (at : ℕ) → is_there o at ≡ true → option_map (λ (p : ℕ × Bytes). p.0) o ≡ Some at
 place-there None at h = absurd (true≢false (sym h))
 place-there (Some p) at h = ap (λ n. Some n) (eqb-true p.0 at h)
 
-live-there : (base : List Operation) (key : Bytes) (at : ℕ) → is_there (stands_at base key) at ≡ true → is_some (live_of (live base) key) ≡ true
-live-there base key at h = by (live_of (live base) key) h
-  where
-    by : (o : Option Live) → is_there (option_map (λ (e : Live). (e.location, e.value)) o) at ≡ true → is_some o ≡ true
-    by None h = absurd (true≢false (sym h))
-    by (Some e) h = refl
+-- what is left of the update at a location of the base list, with operations behind that
+module _ (base : List Operation) (made : List Touch) (at : ℕ) (within : at < length base) (found : Option Operation) (said : found ≡ update_at base at) where
+  abbrev own : List Operation
+  own = operations_of made
 
--- what is left of the update at a location of the base list
-module _ (base : List Operation) (ws : List Write) (at : ℕ) (within : at < length base) (found : Option Operation) (said : found ≡ update_at base at) where
-  abbrev all : List Operation
-  all = base ++ unordered_writes base ws
+  pub standing-none : found ≡ None → IsMoveAt None base (base ++ own) at
+  standing-none none = record { operation = front-none base own at within (sym none ∙ said); from = tt }
 
-  pub standing-none : found ≡ None → IsMoveAt None base all at
-  standing-none none = record { operation = front-none base (unordered_writes base ws) at within (sym none ∙ said); from = tt }
-
-  module _ (k v : Bytes) (n : Option Bytes) (is : found ≡ Some (update k v n)) where
+  module _ (k v : Bytes) (n : Option Bytes) (is : found ≡ Some (update k v n)) (from : All (IsFrom base) made) (keyed : All IsKeyed made) where
     here : update_at base at ≡ Some (update k v n)
     here = sym said ∙ is
 
-    -- its key is written
-    standing-written : is_some (write_of (last_writes ws) k) ≡ true → IsMoveAt None base all at
-    standing-written written = record { operation = by (is_there (stands_at base k) at) refl; from = tt }
+    touched-there : is_there (stands_at base k) at ≡ true → touched k own ≡ is_replaced made at
+    touched-there there = touched-replaced base k v n at here (place-there (stands_at base k) at there) made from keyed
+
+    -- it is replaced
+    pub standing-replaced : is_replaced made at ≡ true → IsMoveAt None base (base ++ own) at
+    standing-replaced replaced = record { operation = by (is_there (stands_at base k) at) refl; from = tt }
       where
-        by : (t : Bool) → is_there (stands_at base k) at ≡ t → None ≡ live_update_at all at
-        by true there = front-touched base (unordered_writes base ws) at within k v n here (touched-live base ws k (live-there base k at there) ∙ written)
-        by false gone = front-gone base (unordered_writes base ws) at within k v n here gone
+        by : (t : Bool) → is_there (stands_at base k) at ≡ t → None ≡ live_update_at (base ++ own) at
+        by true there = front-touched base own at within k v n here (touched-there there ∙ replaced)
+        by false gone = front-gone base own at within k v n here gone
 
     -- its key stands elsewhere or nowhere
-    standing-gone : is_there (stands_at base k) at ≡ false → IsMoveAt None base all at
-    standing-gone gone = record { operation = front-gone base (unordered_writes base ws) at within k v n here gone; from = tt }
+    pub standing-gone : is_there (stands_at base k) at ≡ false → IsMoveAt None base (base ++ own) at
+    standing-gone gone = record { operation = front-gone base own at within k v n here gone; from = tt }
 
-    -- it is live, and its key is not written
-    standing-live : is_some (write_of (last_writes ws) k) ≡ false → is_there (stands_at base k) at ≡ true → IsMoveAt (Some (moved_touch (at, update k v n))) base all at
-    standing-live unwritten there = record {
-      operation = front-live base (unordered_writes base ws) at within k v n here there (touched-unwritten base ws k unwritten);
+    -- it is live, and not replaced
+    pub standing-live : is_replaced made at ≡ false → is_there (stands_at base k) at ≡ true → IsMoveAt (Some (moved_touch (at, update k v n))) base (base ++ own) at
+    standing-live kept there = record {
+      operation = front-live base own at within k v n here there (touched-there there ∙ kept);
       from = λ key hit. sym (ap (place_in base) (sym (same_key k key hit)) ∙ place-there (stands_at base k) at there);
     }
 
 -- what a walk moves of the operation at a location of the base list
-module _ (base : List Operation) (ws : List Write) (at : ℕ) (op : Operation) (there : slice_get base at ≡ Some op) where
+module _ (base : List Operation) (made : List Touch) (at : ℕ) (op : Operation) (there : slice_get base at ≡ Some op) where
   abbrev IsMoved : Option Operation → Type 0
-  IsMoved o = IsMoveAt (option_map (λ said. moved_touch (at, said)) o) base (base ++ unordered_writes base ws) at
+  IsMoved o = IsMoveAt (option_map (λ said. moved_touch (at, said)) o) base (base ++ operations_of made) at
 
   at_within : at < length base
   at_within = slice_get_within base at op there
@@ -226,35 +205,34 @@ module _ (base : List Operation) (ws : List Write) (at : ℕ) (op : Operation) (
 
   -- it is no update
   pub moved-keyless : update_key op ≡ None → IsMoved None
-  moved-keyless none = standing-none base ws at at_within (said_by op) says_it (keyless-said op none)
+  moved-keyless none = standing-none base made at at_within (said_by op) says_it (keyless-said op none)
 
-  -- its key is written
-  pub moved-written : (k : Bytes) → update_key op ≡ Some k → is_some (write_of (last_writes ws) k) ≡ true → IsMoved None
-  moved-written k own written =
-      let parts = keyed-update op k own in
-      standing-written base ws at at_within (said_by op) says_it k parts.0 parts.1 (ap said_by parts.2) written
+  module _ (from : All (IsFrom base) made) (keyed : All IsKeyed made) (k : Bytes) (own : update_key op ≡ Some k) where
+    parts : (v : Bytes) × (n : Option Bytes) × (op ≡ update k v n)
+    parts = keyed-update op k own
 
-  -- its key is not, and it is live or not
-  pub moved-live : (k : Bytes) → update_key op ≡ Some k → is_some (write_of (last_writes ws) k) ≡ false → (live_there : Bool) →
-      ((v : Bytes) (n : Option Bytes) → update_at base at ≡ Some (update k v n) → live_there ≡ is_there (stands_at base k) at) → IsMoved (if live_there then said_by op else None)
-  moved-live k own unwritten live_there tells = by live_there (tells parts.0 parts.1 (sym says_it ∙ is_it))
-    where
-      parts : (v : Bytes) × (n : Option Bytes) × (op ≡ update k v n)
-      parts = keyed-update op k own
+    is_it : said_by op ≡ Some (update k parts.0 parts.1)
+    is_it = ap said_by parts.2
 
-      is_it : said_by op ≡ Some (update k parts.0 parts.1)
-      is_it = ap said_by parts.2
+    -- it is replaced
+    pub moved-replaced : is_replaced made at ≡ true → IsMoved None
+    moved-replaced replaced = standing-replaced base made at at_within (said_by op) says_it k parts.0 parts.1 is_it from keyed replaced
 
-      by : (t : Bool) → t ≡ is_there (stands_at base k) at → IsMoved (if t then said_by op else None)
-      by true h = subst IsMoved (sym is_it) (standing-live base ws at at_within (said_by op) says_it k parts.0 parts.1 is_it unwritten (sym h))
-      by false h = standing-gone base ws at at_within (said_by op) says_it k parts.0 parts.1 is_it (sym h)
+    -- it is not, and it is live or not
+    pub moved-live : is_replaced made at ≡ false → (live_there : Bool) → ((v : Bytes) (n : Option Bytes) → update_at base at ≡ Some (update k v n) → live_there ≡ is_there (stands_at base k) at) →
+        IsMoved (if live_there then said_by op else None)
+    moved-live kept live_there tells = by live_there (tells parts.0 parts.1 (sym says_it ∙ is_it))
+      where
+        by : (t : Bool) → t ≡ is_there (stands_at base k) at → IsMoved (if t then said_by op else None)
+        by true h = subst IsMoved (sym is_it) (standing-live base made at at_within (said_by op) says_it k parts.0 parts.1 is_it from keyed kept (sym h))
+        by false h = standing-gone base made at at_within (said_by op) says_it k parts.0 parts.1 is_it from keyed (sym h)
 
   -- the update that is found is what moves
   pub moved-found : {U : Type 0} (view : U → Operation) (found : Option U) (t : Bool) → t ≡ true → option_map view found ≡ said_by op → IsMoved (if t then said_by op else None) →
-      IsMoveAt (option_map (λ u. moved_touch (at, view u)) found) base (base ++ unordered_writes base ws) at
+      IsMoveAt (option_map (λ u. moved_touch (at, view u)) found) base (base ++ operations_of made) at
   moved-found view found t moves shown moved = by found (subst IsMoved (sym shown) (subst (λ t. IsMoved (if t then said_by op else None)) moves moved))
     where
-      by : (o : Option _) → IsMoved (option_map view o) → IsMoveAt (option_map (λ u. moved_touch (at, view u)) o) base (base ++ unordered_writes base ws) at
+      by : (o : Option _) → IsMoved (option_map view o) → IsMoveAt (option_map (λ u. moved_touch (at, view u)) o) base (base ++ operations_of made) at
       by None h = h
       by (Some u) h = h
 

@@ -14,11 +14,11 @@ use Rattle.qm_model.specs.Operations.{Bytes, Operation, update}
 use Rattle.qm_model.specs.Live.{floor, touches}
 use Rattle.qm_model.specs.Walk.{Action, write, stop, evict, Rules, Walked, ended, decided, walk, walk_from}
 use Rattle.qm_model.proofs.LastWrites.{bytes_same}
-use Rattle.qm_batch.specs.Changes.{place_in}
-use Rattle.qm_batch.specs.Going.{Decided, write_for, decided_for, AreDead, AreDeadBetween, IsSpaced, resumed, IsGoing, AreDecided}
+use Rattle.qm_batch.specs.Changes.{next_in}
+use Rattle.qm_batch.specs.Going.{Decided, write_for, decided_for, AreDead, AreDeadBetween, IsSpaced, resumed, IsDecided, IsGoing, AreDecided}
 use Rattle.qm_batch.specs.Touches.{Touch, IsMoveAt, live_update_at}
 use Rattle.qm_batch.proofs.PlanCandidates.{dead_unless_candidate}
-use Rattle.qm_batch.proofs.PlanMoves.{live_update-is}
+use Rattle.qm_batch.proofs.PlanMoves.{live_update-is, live_update-next}
 use Rattle.qm_batch.proofs.PlanPassing.{passes, falls_short, spent, at_end, decides}
 
 -- locations that ascend from one on do so from one below
@@ -82,7 +82,7 @@ module _ {P F : Type 0} (rules : Rules P) (base list : List Operation) where
       subst (λ (w : Walk F). IsGoing {F = F} rules base list ds w p (walk rules list (floor base) (record { entries = e; skips = s }) p)) (sym is)
       (subst (λ ds. IsGoing {F = F} rules base list ds (record { floor = floor base; end = min t (floor base + e + s); entries = e; skips = s }) p (walk rules list (floor base) (record { entries = e; skips = s }) p)) (sym none)
       (record {
-        from = All-nil (λ (d : Decided). d.before ≡ place_in base d.key);
+        from = All-nil (IsDecided base list);
         above = omega arith;
         end = omega (arith, top);
         rest = refl;
@@ -93,13 +93,13 @@ module _ {P F : Type 0} (rules : Rules P) (base list : List Operation) where
     left f e s p = walk_from rules (drop f list) f e s p
 
     -- where the walk ends
-    ends : (g : ℕ) (q : P) → left w.floor w.entries w.skips p ≡ ended g q → AreDecided base ds g q whole
+    ends : (g : ℕ) (q : P) → left w.floor w.entries w.skips p ≡ ended g q → AreDecided base list ds g q whole
     ends g q same = record {
       from = going.from;
       makes = ap (λ us. record { floor = g; decisions = us; policy = q }) (sym (append-nil (map write_for ds))) ∙ ap (resumed (map write_for ds)) (sym same) ∙ going.rest;
     }
 
-    pub going-spent : w.entries ≡ 0 → AreDecided base ds w.floor p whole
+    pub going-spent : w.entries ≡ 0 → AreDecided base list ds w.floor p whole
     going-spent none = ends w.floor p (ap (λ n. left w.floor n w.skips p) none ∙ spent rules list w.floor w.skips p)
 
     module _ (some : 0 < w.entries) where
@@ -139,17 +139,17 @@ module _ {P F : Type 0} (rules : Rules P) (base list : List Operation) where
             }
 
         -- its skips do not suffice
-        pub going-short : nat_le (at - w.floor) w.skips ≡ false → AreDecided base ds next.floor p whole
+        pub going-short : nat_le (at - w.floor) w.skips ≡ false → AreDecided base list ds next.floor p whole
         going-short h =
             let short = le-false (at - w.floor) w.skips h in
             let here : w.floor + w.skips ≡ next.floor = omega (arith, low, short, place) in
             ends next.floor p (more w.floor w.skips ∙ falls_short rules list w.floor at (w.entries - 1) w.skips p low within dead short ∙ ap (λ n. ended n p) here)
 
       -- nothing is live any more
-      pub going-exhausted : (next : Walk F) → w.floor ≤ w.end → AreDead list w.floor w.end → next.floor ≡ min w.end (w.floor + w.skips) → AreDecided base ds next.floor p whole
+      pub going-exhausted : (next : Walk F) → w.floor ≤ w.end → AreDead list w.floor w.end → next.floor ≡ min w.end (w.floor + w.skips) → AreDecided base list ds next.floor p whole
       going-exhausted next low dead place = ⊎_elim short enough (cases_lt w.skips (w.end - w.floor))
         where
-          short : w.skips < w.end - w.floor → AreDecided base ds next.floor p whole
+          short : w.skips < w.end - w.floor → AreDecided base list ds next.floor p whole
           short h =
               let above = going.above in
               let end = going.end in
@@ -157,13 +157,13 @@ module _ {P F : Type 0} (rules : Rules P) (base list : List Operation) where
               let here : w.floor + w.skips ≡ next.floor = omega (arith, low, h, place) in
               ends next.floor p (more w.floor w.skips ∙ falls_short rules list w.floor w.end (w.entries - 1) w.skips p low within dead h ∙ ap (λ n. ended n p) here)
 
-          enough : w.end - w.floor ≤ w.skips → AreDecided base ds next.floor p whole
+          enough : w.end - w.floor ≤ w.skips → AreDecided base list ds next.floor p whole
           enough h = ⊎_elim before past (cases_lt w.floor (length list))
             where
               top : w.end ≡ max (floor base) (length list)
               top = let end = going.end in omega (arith, h, some, low, end)
 
-              before : w.floor < length list → AreDecided base ds next.floor p whole
+              before : w.floor < length list → AreDecided base list ds next.floor p whole
               before under =
                   let above = going.above in
                   let all : w.end ≡ length list = omega (arith, above, under, top) in
@@ -174,16 +174,16 @@ module _ {P F : Type 0} (rules : Rules P) (base list : List Operation) where
                   (more w.floor w.skips ∙ passes rules list w.floor w.end (w.entries - 1) w.skips p low within dead h
                   ∙ at_end rules list w.end (suc (w.entries - 1)) (w.skips - (w.end - w.floor)) p beyond ∙ ap (λ n. ended n p) here)
 
-              past : length list ≤ w.floor → AreDecided base ds next.floor p whole
+              past : length list ≤ w.floor → AreDecided base list ds next.floor p whole
               past over =
                   let above = going.above in
                   let here : w.floor ≡ next.floor = omega (arith, above, over, top, low, place) in
                   ends next.floor p (at_end rules list w.floor w.entries w.skips p over ∙ ap (λ n. ended n p) here)
 
     -- the walk is at its end
-    pub going-finished : (next : Walk F) → w.floor ≤ w.end → AreDead list w.floor w.end → (w.entries ≡ 0 → next.floor ≡ w.floor) → (0 < w.entries → next.floor ≡ min w.end (w.floor + w.skips)) → AreDecided base ds next.floor p whole
+    pub going-finished : (next : Walk F) → w.floor ≤ w.end → AreDead list w.floor w.end → (w.entries ≡ 0 → next.floor ≡ w.floor) → (0 < w.entries → next.floor ≡ min w.end (w.floor + w.skips)) → AreDecided base list ds next.floor p whole
     going-finished next low dead none some =
-        ⊎_elim (λ more. going-exhausted more next low dead (some more)) (λ h. let is : w.entries ≡ 0 = omega (arith, h) in subst (λ n. AreDecided base ds n p whole) (sym (none is)) (going-spent is)) (cases_lt 0 w.entries)
+        ⊎_elim (λ more. going-exhausted more next low dead (some more)) (λ h. let is : w.entries ≡ 0 = omega (arith, h) in subst (λ n. AreDecided base list ds n p whole) (sym (none is)) (going-spent is)) (cases_lt 0 w.entries)
 
     module _ (some : 0 < w.entries) where
       -- the policy has decided the live update at the floor
@@ -197,20 +197,26 @@ module _ {P F : Type 0} (rules : Rules P) (base list : List Operation) where
             let v : u.value ≡ value = same_Some u.value value (ap value_of (sym found.1) ∙ is_value) in
             (u.next, found.1 ∙ ap₂ (λ a b. update a b u.next) k v)
 
-        stood : t.before ≡ place_in base key
-        stood = move.from key (ap (touches key) entry.1 ∙ bytes_same key)
+        standing : live_update_at list w.floor ≡ Some (update key value entry.0)
+        standing = sym move.operation ∙ ap (λ op. Some op) entry.1
+
+        is_decided : (v : Option Bytes) → IsDecided base list (record { key = key; value = v; next = next_in t.operation; before = t.before })
+        is_decided v = record {
+          live = live_update-next list w.floor key value entry.0 standing ∙ ap (λ op. Some (next_in op)) (sym entry.1);
+          before = move.from key (ap (touches key) entry.1 ∙ bytes_same key);
+        }
 
         onward : left w.floor w.entries w.skips p ≡ decided (λ f e s p. left f e s p) w.floor (w.entries - 1) w.skips key (action, q)
         onward =
             more some w.floor w.skips
-            ∙ decides rules list w.floor (w.entries - 1) w.skips p key value entry.0 (sym move.operation ∙ ap (λ op. Some op) entry.1)
+            ∙ decides rules list w.floor (w.entries - 1) w.skips p key value entry.0 standing
             ∙ ap (λ a. decided (λ f e s p. left f e s p) w.floor (w.entries - 1) w.skips key a) answer
 
-        goes : (v : Option Bytes) (us : List Decided) (next : Walk F) → us ≡ ds ++ record { key = key; value = v; before = t.before } ∷ [] → next ≡ record w { floor = w.floor + 1; entries = w.entries - 1 } →
+        goes : (v : Option Bytes) (us : List Decided) (next : Walk F) → us ≡ ds ++ record { key = key; value = v; next = next_in t.operation; before = t.before } ∷ [] → next ≡ record w { floor = w.floor + 1; entries = w.entries - 1 } →
             left w.floor w.entries w.skips p ≡ record (left (suc w.floor) (w.entries - 1) w.skips q) { decisions = record { key = key; value = v } ∷ (left (suc w.floor) (w.entries - 1) w.skips q).decisions } →
             IsGoing rules base list us next q whole
         goes v us next pushed is same =
-            let d : Decided = record { key = key; value = v; before = t.before } in
+            let d : Decided = record { key = key; value = v; next = next_in t.operation; before = t.before } in
             let here : next.floor ≡ w.floor + 1 = ap (λ (x : Walk F). x.floor) is in
             let end : next.end ≡ w.end = ap (λ (x : Walk F). x.end) is in
             let entries : next.entries ≡ w.entries - 1 = ap (λ (x : Walk F). x.entries) is in
@@ -220,7 +226,7 @@ module _ {P F : Type 0} (rules : Rules P) (base list : List Operation) where
             let place : next.floor ≡ suc w.floor = omega (arith, here) in
             let later = left (suc w.floor) (w.entries - 1) w.skips q in
             record {
-              from = subst (All (λ (d : Decided). d.before ≡ place_in base d.key)) (sym pushed) (All-push (λ (d : Decided). d.before ≡ place_in base d.key) ds d going.from stood);
+              from = subst (All (IsDecided base list)) (sym pushed) (All-push (IsDecided base list) ds d going.from (is_decided v));
               above = omega (arith, above, here);
               end = omega (arith, was, end, entries, skips, here, some);
               rest = ap (λ xs. resumed (map write_for xs) (left next.floor next.entries next.skips q)) pushed
@@ -232,19 +238,19 @@ module _ {P F : Type 0} (rules : Rules P) (base list : List Operation) where
                   ∙ going.rest;
             }
 
-        pub going-decided : (us : List Decided) (next : Walk F) (on : Bool) → on ≡ is_some (decided_for key t.before action) → us ≡ ds ++ option_to_list (decided_for key t.before action) →
-            next ≡ (if on then record w { floor = w.floor + 1; entries = w.entries - 1 } else w) → MatchBool on (IsGoing rules base list us next q whole) (AreDecided base us next.floor q whole)
+        pub going-decided : (us : List Decided) (next : Walk F) (on : Bool) → on ≡ is_some (decided_for key (next_in t.operation) t.before action) → us ≡ ds ++ option_to_list (decided_for key (next_in t.operation) t.before action) →
+            next ≡ (if on then record w { floor = w.floor + 1; entries = w.entries - 1 } else w) → MatchBool on (IsGoing rules base list us next q whole) (AreDecided base list us next.floor q whole)
         going-decided us next on some pushed is = by action onward pushed on some is
           where
-            by : (a : Action) → left w.floor w.entries w.skips p ≡ decided (λ f e s p. left f e s p) w.floor (w.entries - 1) w.skips key (a, q) → us ≡ ds ++ option_to_list (decided_for key t.before a) →
-                (o : Bool) → o ≡ is_some (decided_for key t.before a) → next ≡ (if o then record w { floor = w.floor + 1; entries = w.entries - 1 } else w) → MatchBool o (IsGoing rules base list us next q whole) (AreDecided base us next.floor q whole)
+            by : (a : Action) → left w.floor w.entries w.skips p ≡ decided (λ f e s p. left f e s p) w.floor (w.entries - 1) w.skips key (a, q) → us ≡ ds ++ option_to_list (decided_for key (next_in t.operation) t.before a) →
+                (o : Bool) → o ≡ is_some (decided_for key (next_in t.operation) t.before a) → next ≡ (if o then record w { floor = w.floor + 1; entries = w.entries - 1 } else w) → MatchBool o (IsGoing rules base list us next q whole) (AreDecided base list us next.floor q whole)
             by (write v) same pushed true o is = goes (Some v) us next pushed is same
             by (write v) same pushed false o is = cc
             by evict same pushed true o is = goes None us next pushed is same
             by evict same pushed false o is = cc
             by stop same pushed true o is = cc
             by stop same pushed false o is =
-                subst (λ xs. AreDecided base xs next.floor q whole) (sym (pushed ∙ append-nil ds)) (subst (λ (x : Walk F). AreDecided base ds x.floor q whole) (sym is) (ends w.floor q same))
+                subst (λ xs. AreDecided base list xs next.floor q whole) (sym (pushed ∙ append-nil ds)) (subst (λ (x : Walk F). AreDecided base list ds x.floor q whole) (sym is) (ends w.floor q same))
 
 -- how far a decided walk is
 pub passed : {F : Type 0} (on : Bool) (w next : Walk F) → next ≡ (if on then record w { floor = w.floor + 1; entries = w.entries - 1 } else w) → on ≡ true → next.floor ≡ w.floor + 1

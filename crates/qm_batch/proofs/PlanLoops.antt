@@ -48,21 +48,40 @@ first-of (u ∷ us) zero w rising is = refl
 first-of (u ∷ us) (suc i) w rising is =
     ap (λ t. cond t (Some u) (write_of (take i us) w.key)) (apart u.key w.key (ap is_lt (each-at (λ x. slice_cmp nat_cmp u.key x.key ≡ Less) us i w rising.0 is))) ∙ first-of us i w rising.1 is
 
+-- what is shown of each site is said of the write at its place
+module _ {A X : Type 0} (view : A → X) (what : Write → X) (us : List Write) (sites : List A) (are : map view sites ≡ map what us) (i : ℕ) (d : A) (within : i < length sites) (here : d ≡ get_or sites i d) where
+  -- the write at this place
+  pub write-here : (w : Write) × (slice_get us i ≡ Some w) × (what w ≡ view d)
+  write-here = by (slice_get us i) refl
+      (sym (slice_get-map what us i) ∙ sym (ap (λ l. slice_get l i) are) ∙ slice_get-map view sites i ∙ ap (option_map view) (slice_get_read sites (length sites) i d refl within here))
+    where
+      by : (o : Option Write) → slice_get us i ≡ o → option_map what o ≡ Some (view d) → (w : Write) × (slice_get us i ≡ Some w) × (what w ≡ view d)
+      by None is h = cc
+      by (Some w) is h = (w, is, same_Some (what w) (view d) h)
+
+  pub taken-here : take (i + 1) us ≡ take i us ++ (write-here.0) ∷ []
+  taken-here =
+      let w = write-here.0 in
+      take_more us i w (slice_get_within us i w write-here.1) ∙ ap (λ x. take i us ++ x ∷ []) (get_or_from_slice_get us i w w write-here.1)
+
+  -- one more of what some of the writes make
+  pub made-more : {Y : Type 0} (make : Write → Option Y) (before new : List Y) (y : Option Y) → y ≡ make (write-here.0) → new ≡ before ++ option_to_list y → before ≡ filter_map make (take i us) → new ≡ filter_map make (take (i + 1) us)
+  made-more make before new y makes pushed so_far =
+      let w = write-here.0 in
+      pushed ∙ ap₂ (λ xs o. xs ++ option_to_list o) so_far makes ∙ ap (λ ys. filter_map make (take i us) ++ ys) (one (make w)) ∙ sym (filter_map-append make (take i us) (w ∷ [])) ∙ ap (filter_map make) (sym taken-here)
+    where
+      one : {Y : Type 0} (o : Option Y) → option_to_list o ≡ cons_option o []
+      one None = refl
+      one (Some y) = refl
+
 module _ {A : Type 0} (view : A → Write × Option ℕ) (base : List Operation) (us : List Write) (sites : List A) (are : map view sites ≡ map (site_in base) us) (i : ℕ) (d : A)
     (within : i < length sites) (here : d ≡ get_or sites i d) where
   -- the write at this place
-  site-here : (w : Write) × (slice_get us i ≡ Some w) × (site_in base w ≡ view d)
-  site-here = by (slice_get us i) refl
-      (sym (slice_get-map (site_in base) us i) ∙ sym (ap (λ l. slice_get l i) are) ∙ slice_get-map view sites i ∙ ap (option_map view) (slice_get_read sites (length sites) i d refl within here))
-    where
-      by : (o : Option Write) → slice_get us i ≡ o → option_map (site_in base) o ≡ Some (view d) → (w : Write) × (slice_get us i ≡ Some w) × (site_in base w ≡ view d)
-      by None is h = cc
-      by (Some w) is h = (w, is, same_Some (site_in base w) (view d) h)
+  abbrev site-here : (w : Write) × (slice_get us i ≡ Some w) × (site_in base w ≡ view d)
+  site-here = write-here view (site_in base) us sites are i d within here
 
   taken : take (i + 1) us ≡ take i us ++ (site-here.0) ∷ []
-  taken =
-      let w = site-here.0 in
-      take_more us i w (slice_get_within us i w site-here.1) ∙ ap (λ x. take i us ++ x ∷ []) (get_or_from_slice_get us i w w site-here.1)
+  taken = taken-here view (site_in base) us sites are i d within here
 
   write-is : site-here.0 ≡ (view d).0
   write-is = ap (λ (p : Write × Option ℕ). p.0) site-here.2

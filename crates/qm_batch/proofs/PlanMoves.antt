@@ -1,16 +1,17 @@
--- Live updates of a base list and the operations of writes behind it.
-use Rattle.std.proofs.Common.{◌≡◌, ℕ, ◌+◌, ◌-◌, ◌≤◌, List, ◌++◌, length, map, drop, refl, ap, sym, ◌∙◌, subst, Option, Some, None, arith, length-append}
-use Rattle.std.specs.Prelude.{option_map, option_and_then, All, slice_get, IfSome}
+-- Live updates of a base list and the operations behind it.
+use Rattle.std.proofs.Common.{◌≡◌, ℕ, ◌+◌, ◌-◌, ◌≤◌, Bool, true, false, true≢false, List, ◌++◌, length, map, drop, refl, ap, sym, ◌∙◌, subst, Option, Some, None, arith, length-append}
+use Rattle.std.specs.Prelude.{option_map, option_and_then, All, slice_get, IfSome, not, if◌then◌else◌}
+use Rattle.std.proofs.lemmas.Bool.{eqb-true}
 use Rattle.std.proofs.lemmas.List.{length-map}
 use Rattle.std.proofs.lemmas.Option.{same_Some, slice_get-map, slice_get_within, get_or_from_slice_get}
 use Rattle.qm_model.specs.Operations.{Bytes, Operation, update, delete, commit}
-use Rattle.qm_model.specs.Live.{Live, live_at, touches}
-use Rattle.qm_model.specs.Writes.{Write, last_writes, unordered_writes}
-use Rattle.qm_batch.specs.Changes.{said_by, update_from}
-use Rattle.qm_batch.specs.Touches.{Touch, IsFrom, IsMoveAt, operations_of, live_update_at, written_touches}
-use Rattle.qm_batch.proofs.PlanPlaces.{written-from, written-operations}
-use Rattle.qm_batch.proofs.PlanReads.{behind-said}
-use Rattle.qm_batch.proofs.PlanWrites.{once-writes, said-once}
+use Rattle.qm_base.specs.Parts.{key_of}
+use Rattle.qm_model.specs.Live.{Live, live, live_at, live_of, touches, touched}
+use Rattle.qm_batch.specs.Changes.{next_in, said_by, update_at, update_from}
+use Rattle.qm_batch.specs.Touches.{Touch, IsFrom, IsMoveAt, Once, is_there, operations_of, live_update_at}
+use Rattle.qm_batch.proofs.PlanReads.{behind-said, live_update-update, there-here, unless_touched}
+use Rattle.qm_batch.proofs.PlanWrites.{said-once}
+use Rattle.qm_batch.proofs.Standing.{live-stands, of_key-within}
 
 -- a live update is one
 pub live_update-is : (list : List Operation) (at : ℕ) (op : Operation) → live_update_at list at ≡ Some op → (e : Live) × (op ≡ update_from e)
@@ -24,45 +25,61 @@ live_update-is list at op h = by (slice_get list at) h
     by None h = cc
     by (Some x) h = one (live_at at x (drop (at + 1) list)) h
 
--- how long a list with the operations of writes is
-pub written-long : {A : Type 0} (f : A → Touch) (base : List Operation) (ws : List Write) (made : List A) → map f made ≡ written_touches base (last_writes ws) → length (base ++ unordered_writes base ws) ≡ length base + length made
-written-long f base ws made same =
-    let count : length (map f made) ≡ length (written_touches base (last_writes ws)) = ap length same in
-    let ops : length (operations_of (written_touches base (last_writes ws))) ≡ length (unordered_writes base ws) = ap length (written-operations base ws) in
-    omega (arith, length-append base (unordered_writes base ws), count, ops, length-map made f, length-map (written_touches base (last_writes ws)) (λ (t : Touch). t.operation))
+-- and it is the one of its key
+pub live_update-next : (list : List Operation) (at : ℕ) (k v : Bytes) (n : Option Bytes) → live_update_at list at ≡ Some (update k v n) → option_map (λ (e : Live). e.next) (live_of (live list) k) ≡ Some n
+live_update-next list at k v n h = by (update_at list at) refl (sym (live_update-update list at) ∙ h)
+  where
+    stands : (o : Option Live) → live_of (live list) k ≡ o → is_there (option_map (λ (e : Live). (e.location, e.value)) o) at ≡ true → update_at list at ≡ Some (update k v n) → option_map (λ (e : Live). e.next) o ≡ Some n
+    stands None own there here = absurd (true≢false (sym there))
+    stands (Some e) own there here =
+        let within = of_key-within (live list) k e own in
+        let same : update e.key e.value e.next ≡ update k v n = same_Some (update e.key e.value e.next) (update k v n) (sym (live-stands list e within.0) ∙ ap (update_at list) (eqb-true e.location at there) ∙ here) in
+        ap (λ op. Some (next_in op)) same
+
+    free : (t : Bool) (k2 v2 : Bytes) (n2 : Option Bytes) → ◌≡◌ {A = Option Operation} (if t then None else Some (update k2 v2 n2)) (Some (update k v n)) → (t ≡ false) × (update k2 v2 n2 ≡ update k v n)
+    free true k2 v2 n2 h = cc
+    free false k2 v2 n2 h = (refl, same_Some (update k2 v2 n2) (update k v n) h)
+
+    by : (o : Option Operation) → update_at list at ≡ o → option_and_then (unless_touched (drop (at + 1) list)) o ≡ Some (update k v n) → option_map (λ (e : Live). e.next) (live_of (live list) k) ≡ Some n
+    by None is h = cc
+    by (Some (update k2 v2 n2)) is h =
+        let found = free (touched k2 (drop (at + 1) list)) k2 v2 n2 h in
+        let here : update_at list at ≡ Some (update k v n) = is ∙ ap (λ op. Some op) found.1 in
+        let same : k2 ≡ k = same_Some k2 k (ap key_of found.1) in
+        let untouched : touched k (drop (at + 1) list) ≡ false = ap (λ x. touched x (drop (at + 1) list)) (sym same) ∙ found.0 in
+        stands (live_of (live list) k) refl (there-here list at k v n here ∙ ap not untouched) here
+    by (Some (delete k2)) is h = cc
+    by (Some (commit m f)) is h = cc
+
+-- how long a list with operations behind a base list is
+pub made-long : {A : Type 0} (f : A → Touch) (base list : List Operation) (made : List A) → base ++ operations_of (map f made) ≡ list → length list ≡ length base + length made
+made-long f base list made makes =
+    let whole : length (base ++ operations_of (map f made)) ≡ length list = ap length makes in
+    omega (arith, whole, length-append base (operations_of (map f made)), length-map made f, length-map (map f made) (λ (t : Touch). t.operation))
 
 touches-said : (op said : Operation) (key : Bytes) → said_by op ≡ Some said → touches key said ≡ touches key op
 touches-said (update k v n) said key h = ap (touches key) (sym (same_Some (update k v n) said h))
 touches-said (delete k) said key h = cc
 touches-said (commit m f) said key h = cc
 
--- the move of an update among the operations of writes
-module _ (base : List Operation) (ws : List Write) (at : ℕ) (past : length base ≤ at) (made : List Touch) (is_made : made ≡ written_touches base (last_writes ws)) where
-  abbrev list : List Operation
-  list = base ++ unordered_writes base ws
-
-  operation-there : slice_get (unordered_writes base ws) (at - length base) ≡ option_map (λ (t : Touch). t.operation) (slice_get made (at - length base))
-  operation-there =
-      ap (λ ops. slice_get ops (at - length base)) (sym (ap operations_of is_made ∙ written-operations base ws)) ∙ slice_get-map (λ (t : Touch). t.operation) made (at - length base)
-
+-- the move of an update among operations behind a base list
+module _ (base list : List Operation) (made : List Touch) (makes : base ++ operations_of made ≡ list) (once : Once (operations_of made)) (at : ℕ) (past : length base ≤ at) where
   said-there : live_update_at list at ≡ option_and_then said_by (option_map (λ (t : Touch). t.operation) (slice_get made (at - length base)))
   said-there =
-      behind-said base (unordered_writes base ws) at past ∙ said-once (unordered_writes base ws) (at - length base) (once-writes base ws) ∙ ap (option_and_then said_by) operation-there
+      ap (λ ops. live_update_at ops at) (sym makes) ∙ behind-said base (operations_of made) at past ∙ said-once (operations_of made) (at - length base) once
+      ∙ ap (option_and_then said_by) (slice_get-map (λ (t : Touch). t.operation) made (at - length base))
 
   pub again-none : slice_get made (at - length base) ≡ None → IsMoveAt None base list at
   again-none none = record { operation = sym (said-there ∙ ap (λ o. option_and_then said_by (option_map (λ (t : Touch). t.operation) o)) none); from = tt }
 
-  pub again-is : (t : Touch) (moved : Option Touch) → slice_get made (at - length base) ≡ Some t → option_map (λ (m : Touch). m.operation) moved ≡ said_by t.operation → IfSome moved (λ m. m.before ≡ t.before) → IsMoveAt moved base list at
-  again-is t moved is operation before = record {
+  pub again-is : All (IsFrom base) made → (t : Touch) (moved : Option Touch) → slice_get made (at - length base) ≡ Some t → option_map (λ (m : Touch). m.operation) moved ≡ said_by t.operation → IfSome moved (λ m. m.before ≡ t.before) → IsMoveAt moved base list at
+  again-is from t moved is operation before = record {
     operation = operation ∙ sym (said-there ∙ ap (λ o. option_and_then said_by (option_map (λ (t : Touch). t.operation) o)) is);
     from = by moved (said_by t.operation) refl operation before;
   }
     where
-      all : All (IsFrom base) made
-      all = subst (All (IsFrom base)) (sym is_made) (written-from base (last_writes ws))
-
       here : IsFrom base t
-      here = subst (IsFrom base) (get_or_from_slice_get made (at - length base) t t is) (all (at - length base) t (slice_get_within made (at - length base) t is))
+      here = subst (IsFrom base) (get_or_from_slice_get made (at - length base) t t is) (from (at - length base) t (slice_get_within made (at - length base) t is))
 
       by : (m : Option Touch) (o : Option Operation) → said_by t.operation ≡ o → option_map (λ (m : Touch). m.operation) m ≡ o → IfSome m (λ m. m.before ≡ t.before) → IfSome m (IsFrom base)
       by None o said same kept = tt

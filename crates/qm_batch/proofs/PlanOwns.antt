@@ -1,33 +1,28 @@
 -- The own operations of a step: those of its writes, and those of what was decided behind them.
-use Rattle.std.proofs.Common.{◌≡◌, ℕ, Bool, ◌+◌, ◌-◌, cond, List, [], ◌∷◌, ◌++◌, length, length-append, map, count_by, refl, ap, ap₂, sym, ◌∙◌, subst, Option, None, Some, arith, append_assoc}
-use Rattle.std.specs.Prelude.{is_none, is_some, option_map, All}
-use Rattle.std.specs.List.{AllByRecursion as Each}
-use Rattle.std.proofs.lemmas.List.{map-append, length-map}
+use Rattle.std.proofs.Common.{◌≡◌, ℕ, Bool, true, ◌+◌, ◌-◌, cond, List, [], ◌∷◌, ◌++◌, length, length-append, map, drop, count_by, refl, ap, ap₂, sym, ◌∙◌, subst, Option, None, Some, arith, append_assoc}
+use Rattle.std.specs.Prelude.{bytes_eq, is_none, is_some, option_map, option_and_then, All}
+use Rattle.std.specs.List.{AllByRecursion as Each, IsDistinct}
+use Rattle.std.proofs.lemmas.List.{drop_at, map-append, length-map}
 use Rattle.std.proofs.lemmas.List.Sums.{sum_by-cons}
-use Rattle.std.proofs.lemmas.List.Elements.{All-append, All-from_recursion, recursion_from_All}
-use Rattle.qm_base.specs.Parts.{is_update}
-use Rattle.qm_model.specs.Operations.{Bytes, Operation}
-use Rattle.qm_model.specs.Live.{live, floor}
-use Rattle.qm_model.specs.Writes.{Write, last_writes, operation_of, unordered_writes, made_inactive}
-use Rattle.qm_model.specs.Step.{committed}
+use Rattle.std.proofs.lemmas.List.Elements.{All-append, All-from_recursion, All-weaker, recursion_from_All}
+use Rattle.qm_base.specs.Parts.{is_update, key_of}
+use Rattle.qm_model.specs.Keys.{contains_key}
+use Rattle.qm_model.specs.Operations.{Bytes, Operation, update, delete, commit}
+use Rattle.qm_model.specs.Live.{Live, live, live_keys, live_of, floor, touches}
+use Rattle.qm_model.specs.Writes.{Write, operation_of, made_inactive}
+use Rattle.qm_model.specs.Step.{Kind, committed}
 use Rattle.qm_model.specs.Walk.{Limits, Rules, Walked, walk}
+use Rattle.qm_model.proofs.Decisions.{decided-live, decided-once}
 use Rattle.qm_model.proofs.Maps.{same_key}
-use Rattle.qm_batch.specs.Changes.{place_in}
-use Rattle.qm_batch.specs.Going.{Decided, write_for, touch_for, AreDecided}
-use Rattle.qm_batch.specs.PlanViews.{decided_view, decided_views, AreOwn, keyed, site_in}
+use Rattle.qm_model.proofs.OrderedLists.{some-map}
+use Rattle.qm_batch.specs.Changes.{place_in, stands_at}
+use Rattle.qm_batch.specs.Going.{Decided, write_for, touch_for, AreDecided, IsDecided}
+use Rattle.qm_batch.specs.Kinds.{AreWritten, CountsMoves}
+use Rattle.qm_batch.specs.PlanViews.{Path, decided_view, decided_views, AreOwn, IsPath}
 use Rattle.qm_batch.specs.declared.plan.decided.Decided as declared
-use Rattle.qm_batch.specs.Touches.{Touch, IsFrom, operations_of, written_touches}
-use Rattle.qm_batch.proofs.PlanCounts.{count_decided}
-use Rattle.qm_batch.proofs.PlanPlaces.{written-from, written-operations, written-stood}
-use Rattle.qm_batch.proofs.PlanSteps.{count-written}
-use Rattle.qm_batch.proofs.PlanWrites.{touches-operation}
-use Rattle.qm_batch.proofs.Steps.{map-twice}
-
-count-updates : (ts : List Touch) → count_by (λ t. is_update t.operation) ts ≡ count_by is_update (operations_of ts)
-count-updates [] = refl
-count-updates (t ∷ ts) =
-    sum_by-cons (λ (t : Touch). cond (is_update t.operation) 1 0) t ts ∙ ap (λ n. cond (is_update t.operation) 1 0 + n) (count-updates ts)
-    ∙ sym (sum_by-cons (λ op. cond (is_update op) 1 0) t.operation (operations_of ts))
+use Rattle.qm_batch.specs.Rings.{touch_in}
+use Rattle.qm_batch.specs.Touches.{Touch, IsFrom, IsKeyed, Once, operations_of}
+use Rattle.qm_batch.proofs.PlanCounts.{Stood, count-behind}
 
 -- a count by what is shown
 pub count-shown : {A X : Type 0} (p : X → Bool) (f : A → X) (xs : List A) → count_by (λ x. p (f x)) xs ≡ count_by p (map f xs)
@@ -35,31 +30,56 @@ count-shown p f [] = refl
 count-shown p f (x ∷ xs) =
     sum_by-cons (λ x. cond (p (f x)) 1 0) x xs ∙ ap (λ n. cond (p (f x)) 1 0 + n) (count-shown p f xs) ∙ sym (sum_by-cons (λ y. cond (p y) 1 0) (f x) (map f xs))
 
-decided-from : (base : List Operation) (ds : List Decided) → Each (λ d. d.before ≡ place_in base d.key) ds → Each (IsFrom base) (map touch_for ds)
-decided-from base [] h = tt
-decided-from base (d ∷ ds) h = (
-  λ key hit. h.0 ∙ ap (place_in base) (same_key d.key key (sym (touches-operation (write_for d) key) ∙ hit)),
-  decided-from base ds h.1,
-)
+-- an operation touches its key alone
+pub own-key : (op : Operation) (key : Bytes) → touches key op ≡ true → key_of op ≡ Some key
+own-key (update k v n) key h = ap (λ k. Some k) (same_key k key h)
+own-key (delete k) key h = ap (λ k. Some k) (same_key k key h)
+own-key (commit m f) key h = cc
 
-module _ {P : Type 0} (rules : Rules P) (policy next : P) (base : List Operation) (ws : List Write) (made : List Touch) (ds : List Decided) (live_keys behind end : ℕ) (is_made : made ≡ written_touches base (last_writes ws)) (all : live_keys ≡ length (live base))
-    (count : behind ≡ live_keys - count_by (λ t. is_some t.before) made + count_by (λ t. is_update t.operation) made) where
+-- operations, each with where its key stands, are of a step from there
+pub touched-from : (base : List Operation) (ops : List Operation) → Each (IsFrom base) (map (touch_in base) ops)
+touched-from base [] = tt
+touched-from base (op ∷ ops) = (λ key hit. ap (option_and_then (place_in base)) (own-key op key hit), touched-from base ops)
+
+pub touched-operations : (base ops : List Operation) → operations_of (map (touch_in base) ops) ≡ ops
+touched-operations base [] = refl
+touched-operations base (op ∷ ops) = ap (λ xs. op ∷ xs) (touched-operations base ops)
+
+-- the operation of a decision in an unordered database, with where its key stands
+decided-touch : (base list : List Operation) (d : Decided) → IsDecided base list d → touch_for d ≡ touch_in base (operation_of (write_for d))
+decided-touch base list d is = ap (λ b. record { operation = operation_of (write_for d); before = b }) (is.before ∙ by d.value)
+  where
+    by : (value : Option Bytes) → place_in base d.key ≡ option_and_then (place_in base) (key_of (operation_of (record { key = d.key; value = value })))
+    by None = refl
+    by (Some v) = refl
+
+pub decided-touches : (base list : List Operation) (ds : List Decided) → All (IsDecided base list) ds → map touch_for ds ≡ map (touch_in base) (map operation_of (map write_for ds))
+decided-touches base list ds are = by ds (recursion_from_All (IsDecided base list) ds are)
+  where
+    by : (us : List Decided) → Each (IsDecided base list) us → map touch_for us ≡ map (touch_in base) (map operation_of (map write_for us))
+    by [] h = refl
+    by (u ∷ us) h = ap₂ (λ t ts. t ∷ ts) (decided-touch base list u h.0) (by us h.1)
+
+-- where a key stood, one is live
+stood-live : (base : List Operation) (t : Touch) → IsFrom base t → Stood base t
+stood-live base t from = λ key hit. ap is_some (from key hit) ∙ some-map (λ (p : ℕ × Bytes). p.0) (stands_at base key) ∙ some-map (λ (e : Live). (e.location, e.value)) (live_of (live base) key)
+
+module _ {P : Type 0} (kind : Kind) (rules : Rules P) (policy next : P) (base : List Operation) (ws : List Write) (made : List Touch) (operations : operations_of made ≡ kind.writes base ws)
+    (from : All (IsFrom base) made) (keyed : All IsKeyed made) (once : Once (operations_of made)) (keys behind : ℕ) (all : keys ≡ length (live base))
+    (count : behind ≡ keys - count_by (λ t. is_some t.before) made + count_by (λ t. is_update t.operation) made) where
   abbrev writes : List Operation
-  writes = unordered_writes base ws
-
-  made-operations : operations_of made ≡ writes
-  made-operations = ap operations_of is_made ∙ written-operations base ws
+  writes = kind.writes base ws
 
   counted : behind ≡ length (live (base ++ writes))
   counted =
-      count ∙ count-written base ws live_keys (count_by (λ t. is_some t.before) made) (count_by (λ t. is_update t.operation) made) all
-      (ap (count_by (λ t. is_some t.before)) is_made ∙ written-stood base (last_writes ws)) (count-updates made ∙ ap (count_by is_update) made-operations)
+      count-behind base made (recursion_from_All IsKeyed made keyed) (recursion_from_All (Stood base) made (All-weaker (IsFrom base) (Stood base) (stood-live base) made from)) once keys behind all count
+      ∙ ap (λ ops. length (live (base ++ ops))) operations
 
   -- how many operations the writes make inactive
-  pub are-inactive : length made + live_keys - behind ≡ made_inactive base writes
+  pub are-inactive : length made + keys - behind ≡ made_inactive base writes
   are-inactive =
-      let long : length writes ≡ length made = ap length (sym made-operations) ∙ length-map made (λ (t : Touch). t.operation) in
-      ap₂ (λ a b. a + live_keys - b) (sym long) counted ∙ ap (λ n. length writes + n - length (live (base ++ writes))) all
+      let long : length writes ≡ length made = ap length (sym operations) ∙ length-map made (λ (t : Touch). t.operation) in
+      ap₂ (λ a b. a + keys - b) (sym long) counted ∙ ap (λ n. length writes + n - length (live (base ++ writes))) all
 
   abbrev limits : Limits
   limits = rules.limits policy (made_inactive base writes)
@@ -67,37 +87,58 @@ module _ {P : Type 0} (rules : Rules P) (policy next : P) (base : List Operation
   abbrev walked : Walked P
   walked = walk rules (base ++ writes) (floor base) limits policy
 
-  module _ (are : AreDecided base ds end next walked) where
+  module _ (ds : List Decided) (end : ℕ) (are : AreDecided base (base ++ writes) ds end next walked) (counts : CountsMoves kind.moves) where
     abbrev decisions : List Operation
-    decisions = map operation_of (map write_for ds)
+    decisions = kind.moves (base ++ writes) (map write_for ds)
 
-    own-operations : operations_of (made ++ map touch_for ds) ≡ writes ++ decisions
+    abbrev moved : List Touch
+    moved = map (touch_in base) decisions
+
+    own-operations : operations_of (made ++ moved) ≡ writes ++ decisions
     own-operations =
-        let operation : Touch → Operation = λ t. t.operation in
-        map-append operation made (map touch_for ds) ∙ ap₂ (λ a b. a ++ b) made-operations (map-twice operation touch_for ds ∙ sym (map-twice operation_of write_for ds))
+        map-append (λ (t : Touch). t.operation) made moved ∙ ap₂ (λ a b. a ++ b) operations (touched-operations base decisions)
 
-    own-count : behind - count_by (λ d. is_none d.value) ds ≡ length (live (base ++ operations_of (made ++ map touch_for ds)))
+    own-list : base ++ operations_of (made ++ moved) ≡ (base ++ writes) ++ decisions
+    own-list = ap (λ ops. base ++ ops) own-operations ∙ sym (append_assoc base writes decisions)
+
+    own-count : behind - count_by (λ d. is_none d.value) ds ≡ length (live (base ++ operations_of (made ++ moved)))
     own-count =
-        let gone : length (live ((base ++ writes) ++ map operation_of walked.decisions)) + count_by (λ (d : Write). is_none d.value) walked.decisions ≡ length (live (base ++ writes)) =
-        count_decided rules (base ++ writes) (floor base) limits.entries limits.skips policy in
-        let same : length (live ((base ++ writes) ++ decisions)) ≡ length (live ((base ++ writes) ++ map operation_of walked.decisions)) =
-        ap (λ (x : Walked P). length (live ((base ++ writes) ++ map operation_of x.decisions))) are.makes in
-        let counts : count_by (λ (d : Write). is_none d.value) (map write_for ds) ≡ count_by (λ (d : Write). is_none d.value) walked.decisions =
-        ap (λ (x : Walked P). count_by (λ (d : Write). is_none d.value) x.decisions) are.makes in
+        let same : map write_for ds ≡ walked.decisions = ap (λ (x : Walked P). x.decisions) are.makes in
+        let single : IsDistinct bytes_eq (map (λ (d : Write). d.key) (map write_for ds)) =
+        subst (λ (us : List Write). IsDistinct bytes_eq (map (λ (d : Write). d.key) us)) (sym same) (decided-once rules (base ++ writes) (floor base) limits policy) in
+        let alive : All (λ (d : Write). contains_key (live_keys (base ++ writes)) d.key ≡ true) (map write_for ds) =
+        subst (All (λ (d : Write). contains_key (live_keys (base ++ writes)) d.key ≡ true)) (sym same) (decided-live rules (base ++ writes) (floor base) limits policy) in
+        let gone = counts (base ++ writes) (map write_for ds) single alive in
         let shown : count_by (λ (d : Decided). is_none d.value) ds ≡ count_by (λ (d : Write). is_none d.value) (map write_for ds) = count-shown (λ (d : Write). is_none d.value) write_for ds in
-        let list : length (live ((base ++ writes) ++ decisions)) ≡ length (live (base ++ operations_of (made ++ map touch_for ds))) =
-        ap (λ ops. length (live ops)) (append_assoc base writes decisions ∙ ap (λ ops. base ++ ops) (sym own-operations)) in
-        omega (arith, gone, same, counts, shown, list, counted)
+        let list = ap (λ ops. length (live ops)) own-list in
+        omega (arith, gone, shown, list, counted)
 
-    pub are-own : AreOwn rules policy next (made ++ map touch_for ds) (behind - count_by (λ d. is_none d.value) ds) end base ws
+    pub are-own : AreOwn kind rules policy next (made ++ map (touch_in base) (kind.moves (base ++ kind.writes base ws) (map write_for ds))) (behind - count_by (λ d. is_none d.value) ds) end base ws
     are-own = record {
-      from = All-append (IsFrom base) made (map touch_for ds) (subst (All (IsFrom base)) (sym is_made) (written-from base (last_writes ws)))
-          (All-from_recursion (IsFrom base) (map touch_for ds) (decided-from base ds (recursion_from_All (λ d. d.before ≡ place_in base d.key) ds are.from)));
+      from = All-append (IsFrom base) made moved from (All-from_recursion (IsFrom base) moved (touched-from base decisions));
       count = own-count;
       list = λ meta.
-          ap (λ ops. committed (base ++ ops) end meta) own-operations ∙ ap (λ ops. committed ops end meta) (sym (append_assoc base writes decisions))
-          ∙ ap (λ (x : Walked P). committed ((base ++ writes) ++ map operation_of x.decisions) x.floor meta) are.makes;
+          ap (λ ops. committed ops end meta) own-list
+          ∙ ap (λ (x : Walked P). committed ((base ++ writes) ++ kind.moves (base ++ writes) x.decisions) x.floor meta) are.makes;
       left = ap (λ (x : Walked P). x.policy) are.makes;
+    }
+
+-- a walk decides each key once
+pub decided-apart : {P : Type 0} (rules : Rules P) (base list : List Operation) (from : ℕ) (limits : Limits) (policy next : P) (ds : List Decided) (end : ℕ) → AreDecided base list ds end next (walk rules list from limits policy) →
+    IsDistinct bytes_eq (map (λ d. d.key) (map write_for ds))
+decided-apart {P} rules base list from limits policy next ds end are =
+    subst (λ (us : List Write). IsDistinct bytes_eq (map (λ (d : Write). d.key) us)) (sym (ap (λ (x : Walked P). x.decisions) are.makes)) (decided-once rules list from limits policy)
+
+-- what a path goes over are the operations of writes, where these make its list
+pub path-written : (kind : Kind) (path : Path) (lent base : List Operation) (ws : List Write) → IsPath path lent base (base ++ kind.writes base ws) → AreWritten kind base ws path.made
+path-written kind path lent base ws on =
+    let made = operations_of path.made in
+    let writes = kind.writes base ws in
+    record {
+      operations = sym (drop_at base made (length base) refl) ∙ ap (drop (length base)) on.makes ∙ drop_at base writes (length base) refl;
+      from = on.from;
+      keyed = on.keyed;
+      once = on.once;
     }
 
 -- how many of the decided keys go
@@ -111,12 +152,6 @@ evicted-shown {K} {V} key value (d ∷ ds) =
     none : (o : Option V) → is_none (option_map value o) ≡ is_none o
     none None = refl
     none (Some v) = refl
-
--- the sites of the last writes
-pub sites-last : {A : Type 0} (view : A → Bytes × Write) (base : List Operation) (es : List A) (us : List Write) → map view es ≡ map keyed us → map (λ e. site_in base (view e).1) es ≡ map (site_in base) us
-sites-last view base es us same =
-    let second : Bytes × Write → Write × Option ℕ = λ p. site_in base p.1 in
-    sym (map-twice second view es) ∙ ap (map second) same ∙ map-twice second keyed us
 
 -- a list's operations with one behind them, as the program has them
 pub operations-push : {A O : Type 0} (view : O → Operation) (f : A → Touch) (operation : A → O) (same : (a : A) → (f a).operation ≡ view (operation a)) (touches : List A) (made all : List O) (last : O) (op : Operation) →

@@ -1,5 +1,5 @@
 -- The writes to live keys by location, and where the keys of a step's operations stood before.
-use Rattle.std.proofs.Common.{◌≡◌, ℕ, suc, ◌+◌, ◌<◌, Bool, true, false, cond, List, [], ◌∷◌, ◌++◌, length, map, count_by, refl, ap, ap₂, sym, ◌∙◌, subst, Option, Some, None, arith, Ordering, Less, Equal, Greater, true≢false}
+use Rattle.std.proofs.Common.{◌≡◌, ℕ, suc, ◌<◌, Bool, true, false, cond, List, [], ◌∷◌, ◌++◌, length, map, refl, ap, ap₂, sym, ◌∙◌, subst, Option, Some, None, arith, Ordering, Less, Equal, Greater, true≢false}
 use Rattle.std.specs.Prelude.{◌==◌, nat_lt, filter_map, option_map, bytes_eq, is_some, if◌then◌else◌, All, Contains}
 use Rattle.std.specs.Option.{option_or}
 use Rattle.std.specs.BTreeMap.{insert_entry}
@@ -7,17 +7,19 @@ use Rattle.std.specs.List.{cons_option, AllByRecursion as Each}
 use Rattle.std.specs.Ordering.{nat_cmp, match_ordering}
 use Rattle.std.proofs.lemmas.List.{map-append}
 use Rattle.std.proofs.lemmas.List.Folds.{find-append}
-use Rattle.std.proofs.lemmas.List.Sums.{sum_by-cons}
 use Rattle.std.proofs.lemmas.List.Elements.{All-append, All-from_recursion, recursion_from_All, All-contains_itself}
 use Rattle.qm_model.specs.Operations.{Bytes, Operation, update, delete, commit}
 use Rattle.qm_model.specs.Live.{Live, live, live_from, live_of, touched}
+use Rattle.qm_base.specs.Parts.{key_of}
+use Rattle.qm_model.specs.Step.{unordered}
 use Rattle.qm_model.specs.Writes.{Write, write_of, last_writes, operation_of, rewrite_of, create_of, unordered_writes}
 use Rattle.qm_model.proofs.LastWrites.{bytes_same, write_of-key}
 use Rattle.qm_model.proofs.Maps.{same_key}
 use Rattle.qm_model.proofs.Pushes.{Within, live_from-within, Each-weaker}
 use Rattle.qm_batch.specs.Changes.{place_in}
-use Rattle.qm_batch.specs.Touches.{Touch, operations_of, IsFrom, rewrite_here, moved_touch, new_touch, written_touches}
-use Rattle.qm_batch.proofs.PlanWrites.{touches-operation}
+use Rattle.qm_batch.specs.Kinds.{AreWritten}
+use Rattle.qm_batch.specs.Touches.{Touch, operations_of, IsFrom, IsKeyed, Once, rewrite_here, moved_touch, new_touch, written_touches}
+use Rattle.qm_batch.proofs.PlanWrites.{once-writes, touches-operation}
 use Rattle.qm_batch.proofs.Standing.{AreApart, live-of_key}
 use Rattle.qm_index.proofs.Basics.{bytes-turned, or-none}
 
@@ -168,31 +170,10 @@ creates-operations : (ops : List Operation) → operations_of (map new_touch ops
 creates-operations [] = refl
 creates-operations (op ∷ ops) = ap (λ xs. op ∷ xs) (creates-operations ops)
 
-pub written-operations : (base : List Operation) (ws : List Write) → operations_of (written_touches base (last_writes ws)) ≡ unordered_writes base ws
+written-operations : (base : List Operation) (ws : List Write) → operations_of (written_touches base (last_writes ws)) ≡ unordered_writes base ws
 written-operations base ws =
     map-append (λ (t : Touch). t.operation) (map moved_touch (filter_map (rewrite_here (last_writes ws)) (live base))) (map new_touch (filter_map (create_of (live base)) (last_writes ws)))
     ∙ ap₂ (λ a b. a ++ b) (rewrites-operations (last_writes ws) (live base)) (creates-operations (filter_map (create_of (live base)) (last_writes ws)))
-
--- how many of them stood
-pub written-stood : (base : List Operation) (ws : List Write) → count_by (λ t. is_some t.before) (written_touches base ws) ≡ length (filter_map (rewrite_of ws) (live base))
-written-stood base ws = by (live base)
-  where
-    news : (ops : List Operation) → count_by (λ t. is_some t.before) (map new_touch ops) ≡ 0
-    news [] = refl
-    news (op ∷ ops) = let later = news ops in grind (arith, later)
-
-    by : (es : List Live) → count_by (λ t. is_some t.before) (map moved_touch (filter_map (rewrite_here ws) es) ++ map new_touch (filter_map (create_of (live base)) ws)) ≡ length (filter_map (rewrite_of ws) es)
-    by [] = news (filter_map (create_of (live base)) ws)
-    by (e ∷ es) = one (rewrite_of ws e) (by es)
-      where
-        one : (o : Option Operation) → count_by (λ t. is_some t.before) (map moved_touch (filter_map (rewrite_here ws) es) ++ map new_touch (filter_map (create_of (live base)) ws)) ≡ length (filter_map (rewrite_of ws) es) →
-            count_by (λ t. is_some t.before) (map moved_touch (cons_option (option_map (λ (op : Operation). (e.location, op)) o) (filter_map (rewrite_here ws) es)) ++ map new_touch (filter_map (create_of (live base)) ws)) ≡ length (cons_option o (filter_map (rewrite_of ws) es))
-        one None later = later
-        one (Some op) later =
-            let t = moved_touch (e.location, op) in
-            let rest = map moved_touch (filter_map (rewrite_here ws) es) ++ map new_touch (filter_map (create_of (live base)) ws) in
-            let first : count_by (λ t. is_some t.before) (t ∷ rest) ≡ 1 + count_by (λ t. is_some t.before) rest = sum_by-cons (λ (t : Touch). cond (is_some t.before) 1 0) t rest in
-            omega (arith, first, later)
 
 some-place : (base : List Operation) (key : Bytes) (e : Live) → live_of (live base) key ≡ Some e → place_in base key ≡ Some e.location
 some-place base key e h = ap (λ o. option_map (λ (p : ℕ × Bytes). p.0) (option_map (λ (e : Live). (e.location, e.value)) o)) h
@@ -205,7 +186,7 @@ no-place base key h = by (live_of (live base) key) h
     by (Some e) h = absurd (true≢false h)
 
 -- each is from the base list
-pub written-from : (base : List Operation) (ws : List Write) → All (IsFrom base) (written_touches base ws)
+written-from : (base : List Operation) (ws : List Write) → All (IsFrom base) (written_touches base ws)
 written-from base ws =
     All-append (IsFrom base) (map moved_touch (filter_map (rewrite_here ws) (live base))) (map new_touch (filter_map (create_of (live base)) ws))
     (All-from_recursion (IsFrom base) _ (moved (live base) (recursion_from_All (Contains (live base)) (live base) (All-contains_itself (live base)))))
@@ -234,3 +215,38 @@ written-from base ws =
         by true is value later = later
         by false is None later = later
         by false is (Some v) later = (λ key here. no-place base key (ap (λ k. is_some (live_of (live base) k)) (sym (same_key u.key key here)) ∙ is), later)
+
+-- each is of a key
+written-keyed : (base : List Operation) (ws : List Write) → All IsKeyed (written_touches base ws)
+written-keyed base ws =
+    All-append IsKeyed (map moved_touch (filter_map (rewrite_here ws) (live base))) (map new_touch (filter_map (create_of (live base)) ws)) (All-from_recursion IsKeyed _ (moved (live base))) (All-from_recursion IsKeyed _ (new ws))
+  where
+    one : (w : Write) (value : Option Bytes) → is_some (key_of (operation_of (record { key = w.key; value = value }))) ≡ true
+    one w None = refl
+    one w (Some v) = refl
+
+    moved : (es : List Live) → Each IsKeyed (map moved_touch (filter_map (rewrite_here ws) es))
+    moved [] = tt
+    moved (e ∷ es) = by (write_of ws e.key) (moved es)
+      where
+        by : (o : Option Write) → Each IsKeyed (map moved_touch (filter_map (rewrite_here ws) es)) → Each IsKeyed (map moved_touch (cons_option (option_map (λ (op : Operation). (e.location, op)) (option_map operation_of o)) (filter_map (rewrite_here ws) es)))
+        by None later = later
+        by (Some w) later = (one w w.value, later)
+
+    new : (us : List Write) → Each IsKeyed (map new_touch (filter_map (create_of (live base)) us))
+    new [] = tt
+    new (u ∷ us) = by (is_some (live_of (live base) u.key)) u.value (new us)
+      where
+        by : (l : Bool) (value : Option Bytes) → Each IsKeyed (map new_touch (filter_map (create_of (live base)) us)) → Each IsKeyed (map new_touch (cons_option (if l then None else option_map (λ v. update u.key v None) value) (filter_map (create_of (live base)) us)))
+        by true value later = later
+        by false None later = later
+        by false (Some v) later = (refl, later)
+
+-- what an unordered database appends for writes
+pub written-unordered : (base : List Operation) (ws : List Write) (touches : List Touch) → touches ≡ written_touches base (last_writes ws) → AreWritten unordered base ws touches
+written-unordered base ws touches is = subst (AreWritten unordered base ws) (sym is) (record {
+  operations = written-operations base ws;
+  from = written-from base (last_writes ws);
+  keyed = written-keyed base (last_writes ws);
+  once = subst Once (sym (written-operations base ws)) (once-writes base ws);
+})

@@ -6,9 +6,9 @@ use Rattle.std.proofs.lemmas.List.{drop_more}
 use Rattle.qm_bits.specs.Candidates.{candidates, IsFilled}
 use Rattle.qm_model.specs.Bits.{bits}
 use Rattle.qm_model.specs.Operations.{Operation}
-use Rattle.qm_model.specs.Writes.{Write, unordered_writes}
 use Rattle.qm_batch.specs.Going.{AreDeadBetween, IsSpaced}
 use Rattle.qm_batch.specs.PlanViews.{Path, IsPath}
+use Rattle.qm_batch.specs.Touches.{operations_of}
 use Rattle.qm_batch.proofs.PlanFinds.{begins}
 use Rattle.qm_batch.proofs.PlanGoing.{round-dead, round-none, round-spaced, spaced-above, spaced-below}
 
@@ -51,10 +51,10 @@ module _ (bs : List Bool) (from tip limit : ℕ) (old new round : List ℕ) (nex
             let last = whole (omega (arith, short, some)) in
             omega (arith, last, top, high)
 
--- between the candidates of a base list and the operations of writes nothing is live
-pub path-dead : (path : Path) (lent base : List Operation) (ws : List Write) (from to : ℕ) (round : List ℕ) → IsPath path lent base ws → candidates (bits lent) from to ≡ round → AreDeadBetween (base ++ unordered_writes base ws) from round to
-path-dead path lent base ws from to round on is =
+-- between the candidates of a base list and the operations behind it nothing is live
+pub path-dead : (path : Path) (lent base list : List Operation) (from to : ℕ) (round : List ℕ) → IsPath path lent base list → candidates (bits lent) from to ≡ round → AreDeadBetween list from round to
+path-dead path lent base list from to round on is =
     let leads = (on.known).leads in
     let rest = begins path.base.layers base leads.older lent leads.steps leads.among in
-    let made = unordered_writes base ws in
-    subst (λ ops. AreDeadBetween ops from round to) (sym (append_assoc lent rest.0 made) ∙ ap (λ xs. xs ++ made) (sym rest.1)) (round-dead lent (rest.0 ++ made) from to round is)
+    let made = operations_of path.made in
+    subst (λ ops. AreDeadBetween ops from round to) (sym (append_assoc lent rest.0 made) ∙ ap (λ xs. xs ++ made) (sym rest.1) ∙ on.makes) (round-dead lent (rest.0 ++ made) from to round is)

@@ -1,34 +1,14 @@
 -- The plan of a step, from its parts.
-use Rattle.std.proofs.Common.{◌≡◌, ℕ, suc, ◌+◌, ◌-◌, ◌≤◌, List, [], ◌∷◌, ◌++◌, length, take, drop, count_by, ap, sym, ◌∙◌, subst, Option, Some, None, arith, append_assoc, refl}
-use Rattle.std.specs.Prelude.{◌==◌, filter_map, if◌then◌else◌}
-use Rattle.std.specs.List.{cons_option}
+use Rattle.std.proofs.Common.{◌≡◌, ℕ, List, [], ◌∷◌, ◌++◌, length, take, drop, ap, sym, ◌∙◌, subst, Option, append_assoc, refl}
+use Rattle.std.specs.Prelude.{◌==◌, if◌then◌else◌}
 use Rattle.std.proofs.lemmas.List.{drop_at, take_at}
-use Rattle.qm_base.specs.Parts.{is_update}
 use Rattle.qm_model.specs.Operations.{Bytes, Operation, update, delete, commit}
 use Rattle.qm_model.specs.Live.{live, floor_after}
-use Rattle.qm_model.specs.Writes.{Write, unordered_writes}
 use Rattle.qm_model.specs.Step.{committed}
 use Rattle.qm_model.proofs.Pushes.{live-commit}
 use Rattle.qm_batch.specs.Changes.{Changes, change_of, AreChanges}
 use Rattle.qm_batch.specs.Views.{IsPlan}
 use Rattle.qm_batch.proofs.PlanDiffs.{change-push}
-use Rattle.qm_batch.proofs.PlanWrites.{live-written, rewrites}
-
-length-made : {X Y : Type 0} (h : X → Option Y) (xs : List X) → length (filter_map h xs) ≤ length xs
-length-made h [] = omega arith
-length-made h (x ∷ xs) = by (h x) (length-made h xs)
-  where
-    by : (o : Option _) → length (filter_map h xs) ≤ length xs → length (cons_option o (filter_map h xs)) ≤ suc (length xs)
-    by None later = omega (arith, later)
-    by (Some y) later = omega (arith, later)
-
--- how many keys are live behind the writes: without those that were written, and with those that are updated
-pub count-written : (base : List Operation) (ws : List Write) (live_keys stood updated : ℕ) → live_keys ≡ length (live base) → stood ≡ length (rewrites base ws) → updated ≡ count_by is_update (unordered_writes base ws) →
-    live_keys - stood + updated ≡ length (live (base ++ unordered_writes base ws))
-count-written base ws live_keys stood updated all gone new =
-    let sum = live-written base ws in
-    let fits : length (rewrites base ws) ≤ length (live base) = length-made _ (live base) in
-    omega (arith, sum, fits, all, gone, new)
 
 floor-last : (f : ℕ) (ops : List Operation) (m : Option Bytes) (g : ℕ) → floor_after f (ops ++ commit m g ∷ []) ≡ g
 floor-last f [] m g = refl

@@ -1,26 +1,24 @@
--- Which keys the operations of writes touch, and how many keys are live behind them.
-use Rattle.std.proofs.Common.{◌≡◌, ℕ, zero, suc, ◌+◌, Bool, true, false, cond, List, [], ◌∷◌, ◌++◌, length, drop, count_by, refl, ap, ap₂, sym, ◌∙◌, subst, Option, Some, None, arith, ◌||◌, ◌&&◌, append_assoc, append-nil, length-append, true≢false}
-use Rattle.std.specs.Prelude.{not, filter, filter_map, option_map, option_and_then, bytes_eq, is_some, if◌then◌else◌, Contains}
+-- Which keys the operations of writes touch: each once.
+use Rattle.std.proofs.Common.{◌≡◌, ℕ, zero, suc, ◌+◌, Bool, true, false, cond, List, [], ◌∷◌, ◌++◌, length, drop, count_by, refl, ap, ap₂, sym, ◌∙◌, subst, Option, Some, None, arith, ◌||◌, ◌&&◌, true≢false}
+use Rattle.std.specs.Prelude.{not, filter, filter_map, option_map, option_and_then, bytes_eq, is_some, if◌then◌else◌}
 use Rattle.std.specs.List.{cons_option, list_any, AllByRecursion as Each}
 use Rattle.std.specs.Cmp.Lexicographic.{slice_cmp}
 use Rattle.std.specs.Ordering.{nat_cmp, is_lt}
 use Rattle.std.specs.declared.cmp.Ordering.TheVariants.{Less}
 use Rattle.std.proofs.lemmas.List.Folds.{list_any-append}
 use Rattle.std.proofs.lemmas.List.Sums.{sum_by-cons}
-use Rattle.std.proofs.lemmas.List.Elements.{All-weaker, All-contains_itself, recursion_from_All}
 use Rattle.qm_base.specs.Parts.{is_update}
 use Rattle.qm_model.specs.Operations.{Bytes, Operation, update, delete, commit}
-use Rattle.qm_model.specs.Live.{Live, live, live_from, live_of, touches, touched, value_of}
+use Rattle.qm_model.specs.Live.{Live, live, live_from, live_of, touches, touched}
 use Rattle.qm_model.specs.Writes.{Write, write_of, last_writes, operation_of, rewrite_of, create_of, unordered_writes}
 use Rattle.qm_model.proofs.LastWrites.{bytes_same, write_of-key, Rising, last_writes-Rising}
-use Rattle.qm_model.proofs.Maps.{same_key, value_of-append}
+use Rattle.qm_model.proofs.Maps.{same_key}
 use Rattle.qm_batch.specs.Changes.{update_at}
-use Rattle.qm_batch.proofs.Appends.{live-append}
+use Rattle.qm_batch.specs.Touches.{Once}
 use Rattle.qm_batch.proofs.PlanReads.{unless_touched}
-use Rattle.qm_batch.proofs.Standing.{AreApart, live-apart, live-of_key}
+use Rattle.qm_batch.proofs.Standing.{AreApart, live-apart}
 use Rattle.qm_index.proofs.Basics.{bytes-turned, or-later}
 use Rattle.qm_chain.proofs.KeyOrder.{apart, eq_back}
-use Rattle.std.proofs.Math.Bool.{or-false}
 
 and-false : (a : Bool) → (a && false) ≡ false
 and-false true = refl
@@ -77,12 +75,8 @@ touched-creates es key (w ∷ ws) =
     by false true false None at same later = later
     by false true false (Some v) at same later = ap (λ b. b || touched key more) at
 
--- each key is touched by one operation at most
-abbrev pub Once : List Operation → Type 0
-Once [] = Unit {0}
-Once (op ∷ rest) = ((key : Bytes) → touches key op ≡ true → touched key rest ≡ false) × Once rest
-
-once-append : (xs ys : List Operation) → Once xs → Once ys → ((key : Bytes) → touched key xs ≡ true → touched key ys ≡ false) → Once (xs ++ ys)
+-- so is each of two lists that touch no key both
+pub once-append : (xs ys : List Operation) → Once xs → Once ys → ((key : Bytes) → touched key xs ≡ true → touched key ys ≡ false) → Once (xs ++ ys)
 once-append [] ys first second apart = second
 once-append (x ∷ xs) ys first second apart = (
   λ key here. list_any-append (touches key) xs ys ∙ ap₂ (λ a b. a || b) (first.0 key here) (apart key (ap (λ b. b || touched key xs) here)),
@@ -130,14 +124,11 @@ module _ (base : List Operation) (ws : List Write) where
   abbrev last : List Write
   last = last_writes ws
 
-  abbrev pub rewrites : List Operation
+  abbrev rewrites : List Operation
   rewrites = filter_map (rewrite_of last) (live base)
 
   abbrev creates : List Operation
   creates = filter_map (create_of (live base)) last
-
-  touched-parts : (key : Bytes) → touched key (unordered_writes base ws) ≡ ((is_some (live_of (live base) key) && is_some (write_of last key)) || (not (is_some (live_of (live base) key)) && list_any (gives key) last))
-  touched-parts key = list_any-append (touches key) rewrites creates ∙ ap₂ (λ a b. a || b) (touched-rewrites last key (live base)) (touched-creates (live base) key last)
 
   pub once-writes : Once (unordered_writes base ws)
   once-writes = once-append rewrites creates (once-rewrites last (live base) (live-apart 0 base)) (once-creates (live base) last (last_writes-Rising ws)) (λ key here.
@@ -147,28 +138,8 @@ module _ (base : List Operation) (ws : List Write) where
       both true b h = refl
       both false b h = h
 
-  -- a live key is touched where it is written
-  pub touched-live : (key : Bytes) → is_some (live_of (live base) key) ≡ true → touched key (unordered_writes base ws) ≡ is_some (write_of last key)
-  touched-live key h =
-      touched-parts key ∙ ap (λ a. (a && is_some (write_of last key)) || (not a && list_any (gives key) last)) h ∙ or-false (is_some (write_of last key))
-
-  -- a key that is not written is not touched
-  pub touched-unwritten : (key : Bytes) → is_some (write_of last key) ≡ false → touched key (unordered_writes base ws) ≡ false
-  touched-unwritten key h =
-      touched-parts key
-      ∙ ap₂ (λ a b. (is_some (live_of (live base) key) && a) || (not (is_some (live_of (live base) key)) && b)) h (ungiven last h)
-      ∙ ap₂ (λ a b. a || b) (and-false (is_some (live_of (live base) key))) (and-false (not (is_some (live_of (live base) key))))
-    where
-      ungiven : (us : List Write) → is_some (write_of us key) ≡ false → list_any (gives key) us ≡ false
-      ungiven [] h = refl
-      ungiven (u ∷ us) h = by (bytes_eq u.key key) h (ungiven us)
-        where
-          by : (t : Bool) → is_some (cond t (Some u) (write_of us key)) ≡ false → (is_some (write_of us key) ≡ false → list_any (gives key) us ≡ false) → ((t && is_some u.value) || list_any (gives key) us) ≡ false
-          by true h next = absurd (true≢false h)
-          by false h next = next h
-
 -- a list that touches each key once has a live update for each update
-live-once : (i : ℕ) (ops : List Operation) → Once ops → length (live_from i ops) ≡ count_by is_update ops
+pub live-once : (i : ℕ) (ops : List Operation) → Once ops → length (live_from i ops) ≡ count_by is_update ops
 live-once i [] once = refl
 live-once i (update k v n ∷ rest) once =
     let e : Live = record { location = i; key = k; value = v; next = n } in
@@ -192,60 +163,8 @@ said-once (op ∷ rest) (suc i) once =
     let next : suc i + 1 ≡ suc (i + 1) = omega arith in
     ap (λ n. option_and_then (unless_touched (drop n (op ∷ rest))) (update_at rest i)) next ∙ said-once rest i once.1
 
--- what h makes of entries, and the others
-kept-count : (made : List Operation) (h : Live → Option Operation) (es : List Live) → Each (λ e. touched e.key made ≡ is_some (h e)) es →
-    length (filter (λ e. not (touched e.key made)) es) + length (filter_map h es) ≡ length es
-kept-count made h [] each = refl
-kept-count made h (e ∷ es) each = by (touched e.key made) (h e) each.0 (kept-count made h es each.1)
-  where
-    by : (t : Bool) (o : Option Operation) → t ≡ is_some o → length (filter (λ e. not (touched e.key made)) es) + length (filter_map h es) ≡ length es →
-        length (cond (not t) (e ∷ filter (λ e. not (touched e.key made)) es) (filter (λ e. not (touched e.key made)) es)) + length (cons_option o (filter_map h es)) ≡ suc (length es)
-    by true None same later = absurd (true≢false same)
-    by true (Some op) same later = omega (arith, later)
-    by false None same later = omega (arith, later)
-    by false (Some op) same later = absurd (true≢false (sym same))
-
-some-map : {X Y : Type 0} (f : X → Y) (o : Option X) → is_some (option_map f o) ≡ is_some o
-some-map f None = refl
-some-map f (Some x) = refl
-
--- how many keys are live behind the writes
-pub live-written : (base : List Operation) (ws : List Write) →
-    length (live (base ++ unordered_writes base ws)) + length (rewrites base ws) ≡ length (live base) + count_by is_update (unordered_writes base ws)
-live-written base ws =
-    let made = unordered_writes base ws in
-    let h = rewrite_of (last_writes ws) in
-    let each : Each (λ e. touched e.key made ≡ is_some (h e)) (live base) =
-    recursion_from_All (λ e. touched e.key made ≡ is_some (h e)) (live base)
-    (All-weaker (Contains (live base)) (λ e. touched e.key made ≡ is_some (h e)) (λ e within.
-    touched-live base ws e.key (ap is_some (live-of_key base e within)) ∙ sym (some-map operation_of (write_of (last_writes ws) e.key))) (live base) (All-contains_itself (live base))) in
-    let parts = ap length (live-append 0 base made) in
-    let sizes = length-append (filter (λ e. not (touched e.key made)) (live base)) (live_from (0 + length base) made) in
-    let new = live-once (0 + length base) made (once-writes base ws) in
-    let kept = kept-count made h (live base) each in
-    omega (arith, parts, sizes, new, kept)
-
--- an operation that moves a key of a list: an update of a live key
-abbrev pub IsMove : List Operation → Operation → Type 0
-IsMove list op = (k : Bytes) × (v : Bytes) × (op ≡ update k v None) × (is_some (live_of (live list) k) ≡ true)
-
-some-value : (list : List Operation) (key : Bytes) → is_some (value_of list key) ≡ is_some (live_of (live list) key)
-some-value list key = some-map (λ (e : Live). e.value) (live_of (live list) key)
-
--- a key that is live stays so behind an update
-stays-live : (list : List Operation) (k v key : Bytes) → is_some (live_of (live list) key) ≡ true → is_some (live_of (live (list ++ update k v None ∷ [])) key) ≡ true
-stays-live list k v key h =
-    sym (some-value (list ++ update k v None ∷ []) key) ∙ ap is_some (value_of-append list (update k v None ∷ []) key) ∙ by (bytes_eq k key) ∙ by_value (bytes_eq k key)
-  where
-    by : (t : Bool) → is_some {T = Bytes} (if t then Some v else value_of list key) ≡ (t || is_some (value_of list key))
-    by true = refl
-    by false = refl
-
-    by_value : (t : Bool) → (t || is_some (value_of list key)) ≡ true
-    by_value true = refl
-    by_value false = some-value list key ∙ h
-
-all-kept : (k : Bytes) (es : List Live) → Each (λ u. bytes_eq k u.key ≡ false) es → length (filter (λ u. not (bytes_eq k u.key || false)) es) ≡ length es
+-- no entry goes, or one, where those of a key are dropped
+pub all-kept : (k : Bytes) (es : List Live) → Each (λ u. bytes_eq k u.key ≡ false) es → length (filter (λ u. not (bytes_eq k u.key || false)) es) ≡ length es
 all-kept k [] h = refl
 all-kept k (e ∷ es) h = ap (λ t. length (cond (not (t || false)) (e ∷ filter (λ u. not (bytes_eq k u.key || false)) es) (filter (λ u. not (bytes_eq k u.key || false)) es))) h.0 ∙ ap suc (all-kept k es h.1)
 
@@ -262,30 +181,3 @@ one-dropped k (e ∷ es) apart h = by (bytes_eq e.key k) refl h (one-dropped k e
         ∙ ap suc (all-kept k es (subst (λ x. Each (λ u. bytes_eq x u.key ≡ false) es) (same_key e.key k at) apart.0))
     by false at h later =
         ap (λ t. suc (length (cond (not (t || false)) (e ∷ rest) rest))) (bytes-turned k e.key ∙ at) ∙ ap suc (later h)
-
--- moves change no count
-move-counts : (list : List Operation) (k v : Bytes) → is_some (live_of (live list) k) ≡ true → length (live (list ++ update k v None ∷ [])) ≡ length (live list)
-move-counts list k v h =
-    let parts = ap length (live-append 0 list (update k v None ∷ [])) in
-    let rest = filter (λ (e : Live). not (touched e.key (update k v None ∷ []))) (live list) in
-    let sizes = length-append rest (live_from (0 + length list) (update k v None ∷ [])) in
-    let one = one-dropped k (live list) (live-apart 0 list) h in
-    omega (arith, parts, sizes, one)
-
-pub live-moved : (list moves : List Operation) → Each (IsMove list) moves → length (live (list ++ moves)) ≡ length (live list)
-live-moved list [] h = ap (λ ops. length (live ops)) (append-nil list)
-live-moved list (op ∷ moves) h =
-    let k = (h.0).0 in
-    let v = (h.0).1 in
-    let is = (h.0).2 in
-    ap (λ ops. length (live ops)) (sym (append_assoc list (op ∷ []) moves))
-    ∙ live-moved (list ++ op ∷ []) moves (still moves h.1)
-    ∙ ap (λ o. length (live (list ++ o ∷ []))) is
-    ∙ move-counts list k v (h.0).3
-  where
-    still : (ms : List Operation) → Each (IsMove list) ms → Each (IsMove (list ++ op ∷ [])) ms
-    still [] each = tt
-    still (m ∷ ms) each = (
-      ((each.0).0, (each.0).1, (each.0).2, subst (λ o. is_some (live_of (live (list ++ o ∷ [])) (each.0).0) ≡ true) (sym (h.0).2) (stays-live list (h.0).0 (h.0).1 (each.0).0 (each.0).3)),
-      still ms each.1,
-    )

@@ -1,30 +1,32 @@
 -- The program's parts of a plan over byte strings.
 use Rattle.std.specs.Prelude.{◌≡◌, ℕ, Bool, false, List, ◌++◌, length, map, All, Option, None, option_map}
 use Rattle.std.specs.BTreeMap.{BTreeMap, get_by}
+use Rattle.std.specs.BTreeSet.{BTreeSet}
 use Rattle.std.specs.Cmp.Lexicographic.{slice_cmp}
 use Rattle.std.specs.Ordering.{nat_cmp}
 use denote.Ref.{Bor}
 use Rattle.qm_model.specs.Operations.{Bytes, Operation, update}
 use Rattle.qm_model.specs.Forms.{Form}
 use Rattle.qm_model.specs.Live.{live}
-use Rattle.qm_model.specs.Step.{committed}
+use Rattle.qm_model.specs.Step.{Kind, committed, policy_after, step}
 use Rattle.qm_model.specs.Walk.{Rules}
-use Rattle.qm_model.specs.Writes.{Write, last_writes}
+use Rattle.qm_model.specs.Writes.{Write}
 use Rattle.qm_base.specs.Views.{operation_view}
 use Rattle.qm_base.specs.declared.operation.Operation as operation
 use Rattle.qm_base.specs.declared.update.Unordered.{Unordered}
 use Rattle.qm_batch.specs.declared.plan.touch.Touch as declared
 use Rattle.qm_batch.specs.declared.plan.writes.LastWrite as last_write
-use Rattle.qm_batch.specs.declared.plan.writes.Site as site
+use Rattle.qm_batch.specs.declared.plan.sites.Site as site
+use Rattle.qm_batch.specs.declared.wanted.Read as read
 use Rattle.qm_batch.specs.declared.plan.diff.Noted as noted
 use Rattle.qm_batch.specs.declared.plan.decided.Decided as decided
 use Rattle.qm_batch.specs.declared.plan.walk.Found as found
 use Rattle.qm_batch.specs.declared.plan.walk.Path as path
 use Rattle.qm_batch.specs.Bases.{Base, IsBase, base_view}
-use Rattle.qm_batch.specs.Changes.{Change, change_of, place_in}
+use Rattle.qm_batch.specs.Changes.{Change, change_of, place_in, update_of}
 use Rattle.qm_batch.specs.Going.{Decided}
-use Rattle.qm_batch.specs.Touches.{Touch, IsFrom, operations_of, written_touches}
-use Rattle.qm_batch.specs.Views.{stepped, left_after}
+use Rattle.qm_batch.specs.Touches.{Touch, AreReplaced, IsFrom, IsKeyed, Once, operations_of}
+use Rattle.qm_batch.specs.Views.{read_view, stands_view}
 
 -- a write by its key
 abbrev pub keyed : Write → Bytes × Write
@@ -34,25 +36,29 @@ keyed w = (w.key, w)
 abbrev pub site_in : List Operation → Write → Write × Option ℕ
 site_in base w = (w, place_in base w.key)
 
--- keys, each with its place in this list
-abbrev pub AreKnown : List Operation → List (Bor Bytes × Option ℕ) → Type 0
-AreKnown base places = All (λ e. e.1 ≡ place_in base e.0.now) places
+-- keys, each with what was read of it in this list
+abbrev pub AreKnown : {F U K V : Type 0} → (U → Operation) → List Operation → List (Bor Bytes × Bor (read.Read F U K V)) → Type 0
+AreKnown update_view base known = All (λ e. option_map (read_view update_view) e.1.now.found ≡ update_of base e.0.now) known
 
 -- what is noted of a key
 abbrev pub noted_view : {V : Type 0} → (V → Bytes) → noted.Noted V → Change
 noted_view value n = record { now = option_map (λ p. (p.0, value p.1.now)) n.now; before = n.before }
 
--- what a walk goes over: what is known of a base list, the last writes by key, and the operations that they put behind it
+-- what a walk goes over: what is known of a base list, the operations that are put behind it, and the locations of the base
+-- list whose live updates these replace
 pub record Path : Type 0 where
   pub base : Base
-  pub last : List (Bytes × Write)
   pub made : List Touch
+  pub replaced : BTreeSet ℕ
 
--- these writes make it of this base list
-pub record IsPath (path : Path) (lent base : List Operation) (ws : List Write) : Type 0 where
+-- it goes over this base list, of which the operations make this list; each is of a key, and of each key is one at most
+pub record IsPath (path : Path) (lent base list : List Operation) : Type 0 where
   pub known : IsBase path.base lent base
-  pub last : path.last ≡ map keyed (last_writes ws)
-  pub made : path.made ≡ written_touches base (last_writes ws)
+  pub makes : base ++ operations_of path.made ≡ list
+  pub from : All (IsFrom base) path.made
+  pub keyed : All IsKeyed path.made
+  pub once : Once (operations_of path.made)
+  pub replaced : AreReplaced path.replaced path.made
 
 -- a live update, with where its key stands in the base list
 abbrev pub found_view : {U : Type 0} → (U → Operation) → found.Found U → Touch
@@ -64,11 +70,11 @@ IsNoted value notes base list = (key : Bytes) → option_map (noted_view value) 
 
 -- these own operations of a step touch keys of its base list, leave so many keys live, and make with a floor the step's
 -- list; the policy before it and after it is this one
-pub record AreOwn {P : Type 0} (rules : Rules P) (policy next : P) (touches : List Touch) (keys end : ℕ) (base : List Operation) (ws : List Write) : Type 0 where
+pub record AreOwn {P : Type 0} (kind : Kind) (rules : Rules P) (policy next : P) (touches : List Touch) (keys end : ℕ) (base : List Operation) (ws : List Write) : Type 0 where
   pub from : All (IsFrom base) touches
   pub count : keys ≡ length (live (base ++ operations_of touches))
-  pub list : (meta : Option Bytes) → committed (base ++ operations_of touches) end meta ≡ stepped rules base ws policy meta
-  pub left : next ≡ left_after rules base ws policy
+  pub list : (meta : Option Bytes) → committed (base ++ operations_of touches) end meta ≡ step kind rules base ws policy meta
+  pub left : next ≡ policy_after kind rules base ws policy
 
 module _ {K V : Type 0} (key : K → Bytes) (value : V → Bytes) where
   -- a last write
@@ -81,11 +87,15 @@ module _ {K V : Type 0} (key : K → Bytes) (value : V → Bytes) where
 
   -- a write with where its key stands
   abbrev pub site_view : site.Site K V → Write × Option ℕ
-  site_view s = (last_write_view s.write, s.at)
+  site_view s = (last_write_view s.write, option_map (λ t. t.at) s.stands)
+
+  -- and with the key that the live update there names
+  abbrev pub linked_view : site.Site K V → Write × Option (ℕ × Option Bytes)
+  linked_view s = (last_write_view s.write, option_map (stands_view key) s.stands)
 
   -- decisions
   abbrev pub decided_view : decided.Decided K V → Decided
-  decided_view d = record { key = key d.key; value = option_map value d.value; before = d.before }
+  decided_view d = record { key = key d.key; value = option_map value d.value; next = option_map key d.next; before = d.before }
 
   abbrev pub decided_views : List (decided.Decided K V) → List Decided
   decided_views ds = map decided_view ds
@@ -100,8 +110,8 @@ module _ {U K V : Type 0} (update_view : U → Operation) (key : K → Bytes) (v
   touch_views touches = map touch_view touches
 
   -- what a walk goes over
-  abbrev pub path_view : {F I : Type 0} → path.Path F I U K V → BTreeMap (Bor Bytes) (last_write.LastWrite K V) → Path
-  path_view p last = record { base = base_view p.base; last = map (last_view key value) last.entries; made = touch_views p.made.items }
+  abbrev pub path_view : {F I : Type 0} → path.Path F I U K V → Path
+  path_view p = record { base = base_view p.base; made = touch_views p.made.items; replaced = p.replaced }
 
 -- how operations of an unordered database are spelled
 abbrev pub unordered_form : (Bytes → Bool) → (Bytes → Bool) → Option (ℕ × ℕ) → Form

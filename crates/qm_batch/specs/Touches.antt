@@ -1,7 +1,11 @@
 -- The own operations of a step, and the live updates that it goes by.
-use Rattle.std.specs.Prelude.{◌≡◌, ℕ, ◌+◌, ◌==◌, Bool, true, false, IfSome, List, ◌++◌, map, filter_map, drop, slice_get, Option, Some, None, option_map, option_and_then}
+use Rattle.std.specs.Prelude.{◌≡◌, ℕ, ◌+◌, ◌==◌, Bool, true, false, IfSome, ⊤, List, [], ◌∷◌, ◌++◌, map, filter_map, drop, slice_get, Option, Some, None, option_map, option_and_then, is_some}
+use Rattle.std.specs.BTreeSet.{BTreeSet, contains}
+use Rattle.std.specs.List.{list_any}
+use Rattle.std.specs.Ordering.{nat_cmp}
+use Rattle.qm_base.specs.Parts.{key_of}
 use Rattle.qm_model.specs.Operations.{Bytes, Operation}
-use Rattle.qm_model.specs.Live.{Live, live, live_at, touches}
+use Rattle.qm_model.specs.Live.{Live, live, live_at, touches, touched}
 use Rattle.qm_model.specs.Writes.{Write, rewrite_of, create_of}
 use Rattle.qm_batch.specs.Changes.{place_in, update_from}
 
@@ -25,6 +29,28 @@ operations_of touches = map (λ t. t.operation) touches
 -- the operation is of a step from this list: its key stood there
 abbrev pub IsFrom : List Operation → Touch → Type 0
 IsFrom base t = (key : Bytes) → touches key t.operation ≡ true → t.before ≡ place_in base key
+
+-- the operation is of a key
+abbrev pub IsKeyed : Touch → Type 0
+IsKeyed t = is_some (key_of t.operation) ≡ true
+
+-- each key is updated or deleted by one operation at most
+abbrev pub Once : List Operation → Type 0
+Once [] = ⊤
+Once (op ∷ rest) = ((key : Bytes) → touches key op ≡ true → touched key rest ≡ false) × Once rest
+
+-- whether this is the location
+abbrev pub is_at : ℕ → Option ℕ → Bool
+is_at at None = false
+is_at at (Some n) = n == at
+
+-- whether one of the operations replaces the live update at a location
+abbrev pub is_replaced : List Touch → ℕ → Bool
+is_replaced touches at = list_any (λ t. is_at at t.before) touches
+
+-- these are the locations whose live updates the operations replace
+abbrev pub AreReplaced : BTreeSet ℕ → List Touch → Type 0
+AreReplaced replaced touches = (at : ℕ) → contains nat_cmp replaced at ≡ is_replaced touches at
 
 -- this moves the live update at a location of a list, where one is there
 pub record IsMoveAt (moved : Option Touch) (base list : List Operation) (at : ℕ) : Type 0 where

@@ -3,7 +3,9 @@
 
 pub mod apply;
 pub mod base;
+pub mod kind;
 pub mod layer;
+pub mod neighbours;
 pub mod plan;
 pub mod read;
 pub mod wanted;
@@ -12,8 +14,9 @@ pub mod writes;
 pub use apply::{apply_bits, apply_diffs};
 pub use base::Base;
 pub use layer::Layer;
+pub use neighbours::{holder, next_key, previous, previous_key};
 pub use plan::{Plan, plain, staged};
 pub use qm_base::Write;
-pub use read::{read_key, read_keys};
+pub use read::{read_item, read_key, read_keys, update_in};
 pub use wanted::{Read, Wanted};
 pub use writes::Writes;

@@ -1,44 +1,49 @@
 //! What a batch makes of its base list.
 
-ghost use Rattle.std.specs.Prelude.{◌≡◌, ◌≢◌, ◌≤◌, ◌^◌, ◌++◌, ◌+◌, ◌-◌, ◌==◌, ℕ, List, length, map, count_by, option_map, is_none, is_some, All, IfSome, IfOk, IfErr, OnOk, if◌then◌else◌};
+ghost use Rattle.std.specs.List.{IsDistinct};
+ghost use Rattle.std.specs.Prelude.{bytes_eq, ◌≡◌, ◌≢◌, ◌≤◌, ◌^◌, ◌++◌, ◌+◌, ◌-◌, ◌==◌, ℕ, List, length, map, count_by, option_map, is_none, is_some, All, IfSome, IfOk, IfErr, OnOk, if◌then◌else◌};
 ghost use Rattle.qm_base.specs.Parts as parts;
 ghost use Rattle.qm_base.specs.Views.{operation_view};
 ghost use Rattle.qm_model.specs.Bits.{bits};
 ghost use Rattle.qm_model.specs.Live as lives;
 ghost use Rattle.qm_model.specs.Operations as model;
-ghost use Rattle.qm_model.specs.Step.{committed};
+ghost use Rattle.qm_model.specs.Step.{committed, policy_after, step};
 ghost use Rattle.qm_model.specs.Writes as writes;
 ghost use Rattle.qm_batch.specs.Bases.{base_view, IsBase};
-ghost use Rattle.qm_batch.specs.Going.{touch_for};
-ghost use Rattle.qm_batch.specs.Layers.{LeadOver};
+ghost use Rattle.qm_batch.specs.Going.{write_for, IsDecided};
+ghost use Rattle.qm_batch.specs.Kinds.{kind_of, CountsMoves, HasRing};
 ghost use Rattle.qm_batch.specs.Lent.{IsLent, IsRead, IsReadError, NoneBelow};
-ghost use Rattle.qm_batch.specs.PlanViews.{decided_views, keyed, last_view, touch_views, unordered_touches, AreOwn, IsPath, path_view};
-ghost use Rattle.qm_batch.specs.Touches.{IsFrom, operations_of, written_touches};
-ghost use Rattle.qm_batch.specs.Views.{write_view, wanted_view, AreReads, IsPlan, stepped, left_after};
+ghost use Rattle.qm_batch.specs.PlanViews.{decided_views, touch_views, AreOwn, IsPath, path_view};
+ghost use Rattle.qm_batch.specs.Rings.{touch_in};
+ghost use Rattle.qm_batch.specs.Touches.{IsFrom, operations_of};
+ghost use Rattle.qm_batch.specs.Views.{write_view, wanted_view, AreReads, IsPlan};
 
-mod decided;
+pub(crate) mod decided;
 mod diff;
-mod touch;
+pub(crate) mod ordered;
+mod over;
+pub(crate) mod sites;
+pub(crate) mod touch;
 mod walk;
-mod writes;
+pub(crate) mod writes;
 
-use self::decided::{add_decided, evicted};
+use self::decided::evicted;
 use self::diff::diff_of_touches;
-use self::touch::Touch;
+use self::over::{moved_over, written_over};
+use self::touch::{Touch, replaced_by};
 use self::walk::{Path, Walked, walk_from};
-use self::writes::{Last, find_sites, known_of, last_writes, written};
+use self::writes::last_writes;
 use crate::base::Base;
-use crate::layer::Layer;
-use crate::wanted::{Read, Wanted};
-use qm_base::update::{Unordered, Update};
-use qm_base::{ByteString, Error, Hasher, JournalError, Location, Operation, ValueEncoding, Write};
+use crate::kind::Steps;
+use crate::wanted::Wanted;
+use qm_base::update::Update;
+use qm_base::{Error, Hasher, JournalError, Location, Operation, Write};
 use qm_bits::Candidates;
 use qm_chain::{Diff, Policy};
 use qm_merkle::Family;
 use qm_store::{AuthLog, Store};
 use std::alloc::{AllocError, Global};
 use std::marker::Model;
-use std::rc::Rc;
 
 /// What a batch makes of its base list.
 #[derive(Drop)]
@@ -115,49 +120,45 @@ fn made_inactive<F, U: Update>(touches: &[Touch<F, U>], live: u64, behind: u64) 
     (touches.len() as u64 + live).saturating_sub(behind)
 }
 
-// The operations of the last writes, found over a base list where the keys that were read are not looked up.
-fn written_over<
+// The own operations of a step whose walk went along a path: those of the writes, and what was decided, with so many keys
+// live behind the writes.
+fn own_of<
     F: Family,
     I: qm_index::Unordered<Value = Location<F>>,
     C: Store,
     H: Hasher + Drop,
-    K: ByteString,
-    V: ValueEncoding<K>,
+    U: Steps<F, I>,
 >(
     alloc: Global,
-    index: &I,
+    path: Path<'_, '_, F, I, U>,
     log: &mut AuthLog<F, C, H>,
-    layers: &[Rc<Layer<F, Unordered<K, V>>>],
-    reads: &[Read<F, Unordered<K, V>>],
-    last: &Last<'_, K, V::Value>,
-) -> Result<Vec<Touch<F, Unordered<K, V>>>, Error>
-    ensures value { (lent base : List model.Operation) (ws : List writes.Write) → IsLent C.Store F.shape H.Digest.bytes H.hash ⟦<Unordered<K, V> as Update>⟧.form I.index_key (I.entries index.now) log.old lent → LeadOver (map (λ l. l.value) layers.now) lent base
-        → AreReads ⟦<Unordered<K, V> as Update>⟧.view K.bytes reads.now base → map (last_view K.bytes V.Value.bytes) last.now.entries ≡ map keyed (writes.last_writes ws)
-        → IfSome (C.told log.old.store) (λ _. IfOk result (λ touches. unordered_touches K.bytes V.Value.bytes touches.items ≡ written_touches base (writes.last_writes ws))) }
-    ensures read { IsRead C.Store F.shape H.Digest.bytes H.hash log.old log.new }
-    ensures error { IfErr result (IsReadError C.Store log.old log.new) }
-    ensures whole { (lent : List model.Operation) → IsLent C.Store F.shape H.Digest.bytes H.hash ⟦<Unordered<K, V> as Update>⟧.form I.index_key (I.entries index.now) log.old lent → NoneBelow log.old.tree.start lent
-        → IfErr result (λ e. (n : ℕ) → e ≢ Error.Journal (JournalError.ItemPruned n)) }
-{
-    let known = known_of(alloc, reads)?;
-    let sites = find_sites(alloc, index, log, layers, &known, last)?;
-    let touches = written(alloc, &sites)?;
-    Ok(touches)
-}
-
-// The own operations of a step: those of its writes, and what was decided, with so many keys live behind the writes.
-fn own_of<F, K: ByteString, V: ValueEncoding<K>>(
-    touches: Vec<Touch<F, Unordered<K, V>>>,
-    walked: Walked<K, V::Value>,
+    walked: Walked<U::Key, U::Value>,
     behind: u64,
-) -> Result<Own<F, Unordered<K, V>>, AllocError>
-    ensures touches { IfOk result (λ own. unordered_touches K.bytes V.Value.bytes own.touches.items ≡ unordered_touches K.bytes V.Value.bytes touches.items ++ map touch_for (decided_views K.bytes V.Value.bytes walked.decided.items)) }
+) -> Result<Own<F, U>, Error>
+    requires { path.base.size ≤ 2 ^ 62 }
+    ensures touches { (lent list : List model.Operation) (ws : List writes.Write) → IsLent C.Store F.shape H.Digest.bytes H.hash U.form I.index_key (I.entries path.entry.index.now) log.old lent
+        → IsPath (path_view U.view U.Key.bytes U.Value.bytes path.entry) lent list (list ++ (kind_of U.form).writes list ws) → HasRing U.form lent → HasRing U.form list
+        → All (IsDecided list (list ++ (kind_of U.form).writes list ws)) (decided_views U.Key.bytes U.Value.bytes walked.decided.items)
+        → IsDistinct bytes_eq (map (λ d. d.key) (map write_for (decided_views U.Key.bytes U.Value.bytes walked.decided.items)))
+        → IfSome (C.told log.old.store) (λ _. IfOk result (λ own. touch_views U.view U.Key.bytes U.Value.bytes own.touches.items ≡ touch_views U.view U.Key.bytes U.Value.bytes path.entry.made.items
+        ++ map (touch_in list) ((kind_of U.form).moves (list ++ (kind_of U.form).writes list ws) (map write_for (decided_views U.Key.bytes U.Value.bytes walked.decided.items))))) }
+    ensures moves { IfOk result (λ _. CountsMoves (kind_of U.form).moves) }
     ensures live { IfOk result (λ own. own.live ≡ behind - count_by (λ d. is_none d.value) walked.decided.items) }
     ensures floor { IfOk result (λ own. own.floor ≡ walked.floor) }
+    ensures count { IfOk result (λ own. length path.entry.made.items ≤ length own.touches.items) }
+    ensures read { IsRead C.Store F.shape H.Digest.bytes H.hash log.old log.new }
+    ensures error { IfErr result (IsReadError C.Store log.old log.new) }
+    ensures whole { (lent : List model.Operation) → IsLent C.Store F.shape H.Digest.bytes H.hash U.form I.index_key (I.entries path.entry.index.now) log.old lent → NoneBelow log.old.tree.start lent
+        → IfErr result (λ e. (n : ℕ) → e ≢ Error.Journal (JournalError.ItemPruned n)) }
 {
-    let mut touches = touches;
     let live = behind.saturating_sub(evicted(&walked.decided) as u64);
-    add_decided(&mut touches, walked.decided)?;
+    let Path {
+        index,
+        base,
+        made,
+        ..
+    } = path;
+    let touches = moved_over(alloc, index, log, &base, made, walked.decided)?;
     Ok(Own {
         touches,
         live,
@@ -172,31 +173,30 @@ fn own_along<
     B: Candidates<F>,
     C: Store,
     H: Hasher + Drop,
-    K: ByteString,
-    V: ValueEncoding<K>,
-    P: Policy<F, K, V::Value>,
+    U: Steps<F, I>,
+    P: Policy<F, U::Key, U::Value>,
 >(
     alloc: Global,
     activity: &B,
-    path: Path<'_, '_, F, I, Unordered<K, V>>,
-    last: &Last<'_, K, V::Value>,
+    path: Path<'_, '_, F, I, U>,
     log: &mut AuthLog<F, C, H>,
     policy: &mut P,
-) -> Result<Own<F, Unordered<K, V>>, Error>
+) -> Result<Own<F, U>, Error>
     requires size { path.base.size ≤ 2 ^ 62 }
     requires live { path.base.live ≤ path.base.size }
-    ensures own { (lent list : List model.Operation) (ws : List writes.Write) → IsLent C.Store F.shape H.Digest.bytes H.hash ⟦<Unordered<K, V> as Update>⟧.form I.index_key (I.entries path.entry.index.now) log.old lent → B.activity activity.now ≡ bits lent
-        → IsPath (path_view ⟦<Unordered<K, V> as Update>⟧.view K.bytes V.Value.bytes path.entry last.now) lent list ws
-        → IfSome (C.told log.old.store) (λ _. IfOk result (λ own. AreOwn P.rules policy.old policy.new (unordered_touches K.bytes V.Value.bytes own.touches.items) own.live own.floor list ws)) }
+    ensures own { (lent list : List model.Operation) (ws : List writes.Write) → IsLent C.Store F.shape H.Digest.bytes H.hash U.form I.index_key (I.entries path.entry.index.now) log.old lent → B.activity activity.now ≡ bits lent
+        → IsPath (path_view U.view U.Key.bytes U.Value.bytes path.entry) lent list (list ++ (kind_of U.form).writes list ws) → HasRing U.form lent → HasRing U.form list
+        → IfSome (C.told log.old.store) (λ _. IfOk result (λ own. AreOwn (kind_of U.form) P.rules policy.old policy.new (touch_views U.view U.Key.bytes U.Value.bytes own.touches.items) own.live own.floor list ws)) }
     ensures count { IfOk result (λ own. own.live ≤ path.entry.base.size + length own.touches.items) }
     ensures read { IsRead C.Store F.shape H.Digest.bytes H.hash log.old log.new }
     ensures error { IfErr result (IsReadError C.Store log.old log.new) }
-    ensures pruned { log.old.tree.start ≤ path.entry.base.floor → IfErr result (λ e. (n : ℕ) → e ≢ Error.Journal (JournalError.ItemPruned n)) }
+    ensures whole { (lent : List model.Operation) → IsLent C.Store F.shape H.Digest.bytes H.hash U.form I.index_key (I.entries path.entry.index.now) log.old lent → NoneBelow log.old.tree.start lent
+        → log.old.tree.start ≤ path.entry.base.floor → IfErr result (λ e. (n : ℕ) → e ≢ Error.Journal (JournalError.ItemPruned n)) }
 {
     let behind = live_behind(&path.made, path.base.live);
     let limits = policy.limits(made_inactive(&path.made, path.base.live, behind));
-    let walked = walk_from(alloc, activity, &path, last, log, policy, limits)?;
-    let own = own_of(path.made, walked, behind)?;
+    let walked = walk_from(alloc, activity, &path, log, policy, limits)?;
+    let own = own_of(alloc, path, log, walked, behind)?;
     Ok(own)
 }
 
@@ -207,37 +207,38 @@ fn own_operations<
     B: Candidates<F>,
     C: Store,
     H: Hasher + Drop,
-    K: ByteString,
-    V: ValueEncoding<K>,
-    P: Policy<F, K, V::Value>,
+    U: Steps<F, I>,
+    P: Policy<F, U::Key, U::Value>,
 >(
     alloc: Global,
     index: &I,
     candidates: &B,
     log: &mut AuthLog<F, C, H>,
-    base: &Base<'_, F, Unordered<K, V>>,
-    wanted: &Wanted<'_, F, Unordered<K, V>>,
+    base: &Base<'_, F, U>,
+    wanted: &Wanted<'_, F, U>,
     policy: &mut P,
-) -> Result<Own<F, Unordered<K, V>>, Error>
+) -> Result<Own<F, U>, Error>
     requires size { base.now.size ≤ 2 ^ 62 }
     requires live { base.now.live ≤ base.now.size }
-    ensures own { (lent list : List model.Operation) → IsLent C.Store F.shape H.Digest.bytes H.hash ⟦<Unordered<K, V> as Update>⟧.form I.index_key (I.entries index.now) log.old lent → B.activity candidates.now ≡ bits lent → IsBase (base_view base.now) lent list
-        → AreReads ⟦<Unordered<K, V> as Update>⟧.view K.bytes wanted.now.reads.now list
-        → IfSome (C.told log.old.store) (λ _. IfOk result (λ own. AreOwn P.rules policy.old policy.new (unordered_touches K.bytes V.Value.bytes own.touches.items) own.live own.floor list (wanted_view K.bytes V.Value.bytes wanted.now))) }
+    ensures own { (lent list : List model.Operation) → IsLent C.Store F.shape H.Digest.bytes H.hash U.form I.index_key (I.entries index.now) log.old lent → B.activity candidates.now ≡ bits lent → IsBase (base_view base.now) lent list → HasRing U.form lent → HasRing U.form list
+        → AreReads U.view U.Key.bytes wanted.now.reads.now list
+        → IfSome (C.told log.old.store) (λ _. IfOk result (λ own. AreOwn (kind_of U.form) P.rules policy.old policy.new (touch_views U.view U.Key.bytes U.Value.bytes own.touches.items) own.live own.floor list (wanted_view U.Key.bytes U.Value.bytes wanted.now))) }
     ensures count { IfOk result (λ own. own.live ≤ base.now.size + length own.touches.items) }
     ensures read { IsRead C.Store F.shape H.Digest.bytes H.hash log.old log.new }
     ensures error { IfErr result (IsReadError C.Store log.old log.new) }
-    ensures whole { (lent : List model.Operation) → IsLent C.Store F.shape H.Digest.bytes H.hash ⟦<Unordered<K, V> as Update>⟧.form I.index_key (I.entries index.now) log.old lent → NoneBelow log.old.tree.start lent
+    ensures whole { (lent : List model.Operation) → IsLent C.Store F.shape H.Digest.bytes H.hash U.form I.index_key (I.entries index.now) log.old lent → NoneBelow log.old.tree.start lent
         → log.old.tree.start ≤ base.now.floor → IfErr result (λ e. (n : ℕ) → e ≢ Error.Journal (JournalError.ItemPruned n)) }
 {
     let last = last_writes(alloc, wanted)?;
     let made = written_over(alloc, index, log, base.layers, wanted.reads, &last)?;
+    let replaced = replaced_by(alloc, &made)?;
     let path = Path {
         index,
         base: base.lent(),
         made,
+        replaced,
     };
-    let own = own_along(alloc, candidates, path, &last, log, policy)?;
+    let own = own_along(alloc, candidates, path, log, policy)?;
     Ok(own)
 }
 
@@ -299,29 +300,28 @@ pub fn plain<
     B: Candidates<F>,
     C: Store,
     H: Hasher + Drop,
-    K: ByteString,
-    V: ValueEncoding<K>,
-    P: Policy<F, K, V::Value>,
+    U: Steps<F, I>,
+    P: Policy<F, U::Key, U::Value>,
 >(
     alloc: Global,
     index: &I,
     candidates: &B,
     log: &mut AuthLog<F, C, H>,
-    base: &Base<'_, F, Unordered<K, V>>,
-    writes: &[Write<K, V::Value>],
-    metadata: Option<V::Value>,
+    base: &Base<'_, F, U>,
+    writes: &[Write<U::Key, U::Value>],
+    metadata: Option<U::Value>,
     policy: &mut P,
-) -> Result<Plan<F, Unordered<K, V>>, Error>
+) -> Result<Plan<F, U>, Error>
     requires size { base.now.size ≤ 2 ^ 62 }
     requires live { base.now.live ≤ base.now.size }
-    ensures plan { (lent list : List model.Operation) → IsLent C.Store F.shape H.Digest.bytes H.hash ⟦<Unordered<K, V> as Update>⟧.form I.index_key (I.entries index.now) log.old lent → B.activity candidates.now ≡ bits lent → IsBase (base_view base.now) lent list
-        → IfSome (C.told log.old.store) (λ _. IfOk result (λ plan. IsPlan plan list (stepped P.rules list (map (write_view K.bytes V.Value.bytes) writes.now) policy.old (option_map V.Value.bytes metadata)))) }
-    ensures next { (lent list : List model.Operation) → IsLent C.Store F.shape H.Digest.bytes H.hash ⟦<Unordered<K, V> as Update>⟧.form I.index_key (I.entries index.now) log.old lent → B.activity candidates.now ≡ bits lent → IsBase (base_view base.now) lent list
-        → IfSome (C.told log.old.store) (λ _. IfOk result (λ _. policy.new ≡ left_after P.rules list (map (write_view K.bytes V.Value.bytes) writes.now) policy.old)) }
+    ensures plan { (lent list : List model.Operation) → IsLent C.Store F.shape H.Digest.bytes H.hash U.form I.index_key (I.entries index.now) log.old lent → B.activity candidates.now ≡ bits lent → IsBase (base_view base.now) lent list → HasRing U.form lent → HasRing U.form list
+        → IfSome (C.told log.old.store) (λ _. IfOk result (λ plan. IsPlan plan list (step (kind_of U.form) P.rules list (map (write_view U.Key.bytes U.Value.bytes) writes.now) policy.old (option_map U.Value.bytes metadata)))) }
+    ensures next { (lent list : List model.Operation) → IsLent C.Store F.shape H.Digest.bytes H.hash U.form I.index_key (I.entries index.now) log.old lent → B.activity candidates.now ≡ bits lent → IsBase (base_view base.now) lent list → HasRing U.form lent → HasRing U.form list
+        → IfSome (C.told log.old.store) (λ _. IfOk result (λ _. policy.new ≡ policy_after (kind_of U.form) P.rules list (map (write_view U.Key.bytes U.Value.bytes) writes.now) policy.old)) }
     ensures live { IfOk result (λ plan. plan.live ≤ base.now.size + length plan.operations) }
     ensures read { IsRead C.Store F.shape H.Digest.bytes H.hash log.old log.new }
     ensures error { IfErr result (IsReadError C.Store log.old log.new) }
-    ensures whole { (lent : List model.Operation) → IsLent C.Store F.shape H.Digest.bytes H.hash ⟦<Unordered<K, V> as Update>⟧.form I.index_key (I.entries index.now) log.old lent → NoneBelow log.old.tree.start lent
+    ensures whole { (lent : List model.Operation) → IsLent C.Store F.shape H.Digest.bytes H.hash U.form I.index_key (I.entries index.now) log.old lent → NoneBelow log.old.tree.start lent
         → log.old.tree.start ≤ base.now.floor → IfErr result (λ e. (n : ℕ) → e ≢ Error.Journal (JournalError.ItemPruned n)) }
 {
     let wanted = Wanted {
@@ -344,32 +344,31 @@ pub fn staged<
     B: Candidates<F>,
     C: Store,
     H: Hasher + Drop,
-    K: ByteString,
-    V: ValueEncoding<K>,
-    P: Policy<F, K, V::Value>,
+    U: Steps<F, I>,
+    P: Policy<F, U::Key, U::Value>,
 >(
     alloc: Global,
     index: &I,
     candidates: &B,
     log: &mut AuthLog<F, C, H>,
-    base: &Base<'_, F, Unordered<K, V>>,
-    wanted: Wanted<'_, F, Unordered<K, V>>,
-    metadata: Option<V::Value>,
+    base: &Base<'_, F, U>,
+    wanted: Wanted<'_, F, U>,
+    metadata: Option<U::Value>,
     policy: &mut P,
-) -> Result<Plan<F, Unordered<K, V>>, Error>
+) -> Result<Plan<F, U>, Error>
     requires size { base.now.size ≤ 2 ^ 62 }
     requires live { base.now.live ≤ base.now.size }
     requires slots { length wanted.slots.now ≡ length wanted.reads.now }
-    ensures plan { (lent list : List model.Operation) → IsLent C.Store F.shape H.Digest.bytes H.hash ⟦<Unordered<K, V> as Update>⟧.form I.index_key (I.entries index.now) log.old lent → B.activity candidates.now ≡ bits lent → IsBase (base_view base.now) lent list
-        → AreReads ⟦<Unordered<K, V> as Update>⟧.view K.bytes wanted.entry.reads.now list
-        → IfSome (C.told log.old.store) (λ _. IfOk result (λ plan. IsPlan plan list (stepped P.rules list (wanted_view K.bytes V.Value.bytes wanted.entry) policy.old (option_map V.Value.bytes metadata)))) }
-    ensures next { (lent list : List model.Operation) → IsLent C.Store F.shape H.Digest.bytes H.hash ⟦<Unordered<K, V> as Update>⟧.form I.index_key (I.entries index.now) log.old lent → B.activity candidates.now ≡ bits lent → IsBase (base_view base.now) lent list
-        → AreReads ⟦<Unordered<K, V> as Update>⟧.view K.bytes wanted.entry.reads.now list
-        → IfSome (C.told log.old.store) (λ _. IfOk result (λ _. policy.new ≡ left_after P.rules list (wanted_view K.bytes V.Value.bytes wanted.entry) policy.old)) }
+    ensures plan { (lent list : List model.Operation) → IsLent C.Store F.shape H.Digest.bytes H.hash U.form I.index_key (I.entries index.now) log.old lent → B.activity candidates.now ≡ bits lent → IsBase (base_view base.now) lent list → HasRing U.form lent → HasRing U.form list
+        → AreReads U.view U.Key.bytes wanted.entry.reads.now list
+        → IfSome (C.told log.old.store) (λ _. IfOk result (λ plan. IsPlan plan list (step (kind_of U.form) P.rules list (wanted_view U.Key.bytes U.Value.bytes wanted.entry) policy.old (option_map U.Value.bytes metadata)))) }
+    ensures next { (lent list : List model.Operation) → IsLent C.Store F.shape H.Digest.bytes H.hash U.form I.index_key (I.entries index.now) log.old lent → B.activity candidates.now ≡ bits lent → IsBase (base_view base.now) lent list → HasRing U.form lent → HasRing U.form list
+        → AreReads U.view U.Key.bytes wanted.entry.reads.now list
+        → IfSome (C.told log.old.store) (λ _. IfOk result (λ _. policy.new ≡ policy_after (kind_of U.form) P.rules list (wanted_view U.Key.bytes U.Value.bytes wanted.entry) policy.old)) }
     ensures live { IfOk result (λ plan. plan.live ≤ base.now.size + length plan.operations) }
     ensures read { IsRead C.Store F.shape H.Digest.bytes H.hash log.old log.new }
     ensures error { IfErr result (IsReadError C.Store log.old log.new) }
-    ensures whole { (lent : List model.Operation) → IsLent C.Store F.shape H.Digest.bytes H.hash ⟦<Unordered<K, V> as Update>⟧.form I.index_key (I.entries index.now) log.old lent → NoneBelow log.old.tree.start lent
+    ensures whole { (lent : List model.Operation) → IsLent C.Store F.shape H.Digest.bytes H.hash U.form I.index_key (I.entries index.now) log.old lent → NoneBelow log.old.tree.start lent
         → log.old.tree.start ≤ base.now.floor → IfErr result (λ e. (n : ℕ) → e ≢ Error.Journal (JournalError.ItemPruned n)) }
 {
     match own_operations(alloc, index, candidates, log, base, &wanted, policy) {

@@ -9,12 +9,13 @@ use qm_base::update::Unordered;
 use qm_base::{ByteString, Operation, ValueEncoding};
 use std::alloc::AllocError;
 
-/// What a walk decides of a key: a value to write, or none where the key goes, and where the key's live update stands in the
-/// base list.
+/// What a walk decides of a key: a value to write, or none where the key goes; the key that its live update names, in an
+/// ordered database; and where the key's live update stands in the base list.
 #[derive(Drop)]
-pub(crate) struct Decided<K, V> {
+pub struct Decided<K, V> {
     pub(crate) key: K,
     pub(crate) value: Option<V>,
+    pub(crate) next: Option<K>,
     pub(crate) before: Option<u64>,
 }
 
@@ -38,7 +39,12 @@ fn touch_of<F, K: ByteString, V: ValueEncoding<K>>(
 ) -> Touch<F, Unordered<K, V>>
     ensures { unordered_touch K.bytes V.Value.bytes result ≡ touch_for (decided_view K.bytes V.Value.bytes decided) }
 {
-    let Decided { key, value, before } = decided;
+    let Decided {
+        key,
+        value,
+        before,
+        ..
+    } = decided;
     let operation = match value {
         Some(value) => Operation::Update(Unordered(key, value)),
         None => Operation::Delete(key),

@@ -1,6 +1,6 @@
-//! The walk from the floor, over a base list and the operations of writes behind it.
+//! The walk from the floor, over a base list and the operations that are put behind it.
 
-ghost use Rattle.std.specs.Prelude.{◌≡◌, ◌≢◌, true, ◌≤◌, ◌<◌, ◌+◌, ◌-◌, ◌^◌, ◌++◌, ◌==◌, ℕ, min, List, length, map, Option, option_map, slice_get, IfSome, IfOk, IfErr, MatchBool, MatchOption, OnOk, None, Some, option_to_list, is_some, if◌then◌else◌};
+ghost use Rattle.std.specs.Prelude.{◌≡◌, ◌≢◌, true, ◌≤◌, ◌<◌, ◌+◌, ◌-◌, ◌^◌, ◌++◌, ◌==◌, ℕ, min, List, length, map, All, Option, option_map, slice_get, IfSome, IfOk, IfErr, MatchBool, MatchOption, OnOk, None, Some, option_to_list, is_some, if◌then◌else◌};
 ghost use Rattle.std.specs.List.{list_any};
 ghost use Rattle.qm_base.specs.Parts.{update_key};
 ghost use Rattle.qm_base.specs.Views.{operation_view};
@@ -10,7 +10,6 @@ ghost use Rattle.qm_model.specs.Live.{floor};
 ghost use Rattle.qm_model.specs.Operations as model;
 ghost use Rattle.qm_model.specs.Operations.{update};
 ghost use Rattle.qm_model.specs.Walk as walks;
-ghost use Rattle.qm_model.specs.Writes.{last_writes, unordered_writes, Write};
 ghost use Rattle.qm_bits.specs.Candidates.{candidates};
 ghost use Rattle.qm_batch.specs.Bases.{base_view, IsBase};
 ghost use Rattle.qm_batch.specs.Changes.{said_by, stands_at, update_at};
@@ -18,16 +17,15 @@ ghost use Rattle.qm_batch.specs.Going.{decided_for, value_for, AreDead, AreDeadB
 ghost use Rattle.qm_batch.specs.Layers.{LeadOver};
 ghost use Rattle.qm_index.specs.Indexed.{IsIndexed};
 ghost use Rattle.qm_batch.specs.Lent.{IsLent, IsRead, IsReadError};
-ghost use Rattle.qm_batch.specs.PlanViews.{decided_views, found_view, keyed, last_view, path_view, touch_views, IsPath};
-ghost use Rattle.qm_batch.specs.Touches.{is_there, moved_touch, written_touches, IsMoveAt};
+ghost use Rattle.qm_batch.specs.PlanViews.{decided_views, found_view, path_view, touch_views, IsPath};
+ghost use Rattle.qm_batch.specs.Touches.{is_there, moved_touch, operations_of, AreReplaced, IsFrom, IsKeyed, IsMoveAt, Touch as Made};
 ghost use Rattle.qm_batch.specs.Views.{change_view};
 
 use super::decided::Decided;
 use super::touch::Touch;
-use super::writes::Last;
 use crate::base::Base;
 use crate::layer::Layer;
-use crate::read::{newest, read_item, twin_update, update_in};
+use crate::read::{newest, read_item, twin_next, twin_update, update_in};
 use qm_base::update::Update;
 use qm_base::{ByteString, Error, Hasher, JournalError, Location, Operation, Twin};
 use qm_bits::Candidates;
@@ -35,18 +33,20 @@ use qm_chain::{Action, DiffEntry, Entry, Limits, Policy, Walk};
 use qm_merkle::Family;
 use qm_store::{AuthLog, Store};
 use std::alloc::{AllocError, Global};
+use std::collections::BTreeSet;
 use std::rc::Rc;
 
 /// How many candidates a walk takes at a time, at most.
 const ROUND: u64 = 1_024;
 
-// What a walk goes over: a base list, and the operations that the last writes put behind it. The index is lent for the
-// base list or one on the way to it.
+// What a walk goes over: a base list, the operations that are put behind it, and the locations of the base list whose live
+// updates these replace. The index is lent for the base list or one on the way to it.
 #[derive(Drop)]
 pub(crate) struct Path<'i, 'b, F, I, U: Update> {
     pub(crate) index: &'i I,
     pub(crate) base: Base<'b, F, U>,
     pub(crate) made: Vec<Touch<F, U>>,
+    pub(crate) replaced: BTreeSet<u64>,
 }
 
 /// What a walk decided, and where it ended.
@@ -139,21 +139,21 @@ fn key_of_update<F, U: Update>(operation: &Operation<F, U>) -> Option<&[u8]>
 }
 
 // Whether a walk moves the operation at this location of the base list: an update of this key that is live there, where
-// its key is not written.
+// it is not replaced.
 fn is_moved<F, I: qm_index::Unordered<Value = Location<F>>, U: Update>(
     index: &I,
     layers: &[Rc<Layer<F, U>>],
-    last: &Last<'_, U::Key, U::Value>,
+    replaced: &BTreeSet<u64>,
     key: Option<&[u8]>,
     at: u64,
 ) -> bool
-    ensures { (lent base : List model.Operation) (ws : List Write) (op : model.Operation) → IsIndexed I.index_key (I.entries index.now) lent → LeadOver (map (λ l. l.value) layers.now) lent base
-        → map (last_view U.Key.bytes U.Value.bytes) last.now.entries ≡ map keyed (last_writes ws) → slice_get base at ≡ Some op → option_map (λ k. k.now) key.entry ≡ update_key op
-        → IsMoveAt (option_map (λ said. moved_touch (at, said)) (if result then said_by op else None)) base (base ++ unordered_writes base ws) at }
+    ensures { (lent base : List model.Operation) (made : List Made) (op : model.Operation) → IsIndexed I.index_key (I.entries index.now) lent → LeadOver (map (λ l. l.value) layers.now) lent base
+        → All (IsFrom base) made → All IsKeyed made → AreReplaced replaced.now made → slice_get base at ≡ Some op → option_map (λ k. k.now) key.entry ≡ update_key op
+        → IsMoveAt (option_map (λ said. moved_touch (at, said)) (if result then said_by op else None)) base (base ++ operations_of made) at }
 {
     match key {
         Some(key) => {
-            if last.contains_key(key) {
+            if replaced.contains(&at) {
                 return false;
             }
             is_live_there(index, layers, key, at)
@@ -162,8 +162,8 @@ fn is_moved<F, I: qm_index::Unordered<Value = Location<F>>, U: Update>(
     }
 }
 
-// The live update at a location of the base list whose key is not written. Another operation is not copied.
-fn unwritten_at<
+// The live update at a location of the base list that is not replaced. Another operation is not copied.
+fn unreplaced_at<
     F: Family,
     I: qm_index::Unordered<Value = Location<F>>,
     C: Store,
@@ -174,18 +174,18 @@ fn unwritten_at<
     index: &I,
     log: &mut AuthLog<F, C, H>,
     layers: &[Rc<Layer<F, U>>],
-    last: &Last<'_, U::Key, U::Value>,
+    replaced: &BTreeSet<u64>,
     at: u64,
 ) -> Result<Option<U>, Error>
-    ensures value { (lent base : List model.Operation) (ws : List Write) → IsLent C.Store F.shape H.Digest.bytes H.hash U.form I.index_key (I.entries index.now) log.old lent → LeadOver (map (λ l. l.value) layers.now) lent base → at < length base
-        → map (last_view U.Key.bytes U.Value.bytes) last.now.entries ≡ map keyed (last_writes ws)
-        → IfSome (C.told log.old.store) (λ _. IfOk result (λ found. IsMoveAt (option_map (λ u. moved_touch (at, U.view u)) found) base (base ++ unordered_writes base ws) at)) }
+    ensures value { (lent base : List model.Operation) (made : List Made) → IsLent C.Store F.shape H.Digest.bytes H.hash U.form I.index_key (I.entries index.now) log.old lent → LeadOver (map (λ l. l.value) layers.now) lent base → at < length base
+        → All (IsFrom base) made → All IsKeyed made → AreReplaced replaced.now made
+        → IfSome (C.told log.old.store) (λ _. IfOk result (λ found. IsMoveAt (option_map (λ u. moved_touch (at, U.view u)) found) base (base ++ operations_of made) at)) }
     ensures read { IsRead C.Store F.shape H.Digest.bytes H.hash log.old log.new }
     ensures error { IfErr result (IsReadError C.Store log.old log.new) }
     ensures pruned { log.old.tree.start ≤ at → IfErr result (λ e. (n : ℕ) → e ≢ Error.Journal (JournalError.ItemPruned n)) }
 {
     if let Some(operation) = in_layers(layers, at) {
-        return if is_moved(index, layers, last, key_of_update(operation), at) {
+        return if is_moved(index, layers, replaced, key_of_update(operation), at) {
             Ok(twin_update(alloc, operation)?)
         } else {
             Ok(None)
@@ -197,7 +197,7 @@ fn unwritten_at<
     if is_moved(
         index,
         layers,
-        last,
+        replaced,
         Operation::<F, U>::update_key(&item),
         at,
     ) {
@@ -207,7 +207,7 @@ fn unwritten_at<
     }
 }
 
-// The update that an operation of writes is.
+// The update that an operation behind the base list is.
 fn again<F, U: Update>(alloc: Global, touch: &Touch<F, U>) -> Result<Option<Found<U>>, AllocError>
     ensures operation { IfOk result (λ found. option_map (λ f. U.view f.update) found ≡ said_by (operation_view U.view U.Key.bytes U.Value.bytes touch.now.operation)) }
     ensures before { IfOk result (λ found. IfSome found (λ f. f.before ≡ touch.now.before)) }
@@ -221,7 +221,7 @@ fn again<F, U: Update>(alloc: Global, touch: &Touch<F, U>) -> Result<Option<Foun
     }
 }
 
-// The live update at a location of the base list and the operations of writes behind it.
+// The live update at a location of the base list and the operations behind it.
 fn live_at<
     F: Family,
     I: qm_index::Unordered<Value = Location<F>>,
@@ -231,12 +231,11 @@ fn live_at<
 >(
     alloc: Global,
     path: &Path<'_, '_, F, I, U>,
-    last: &Last<'_, U::Key, U::Value>,
     log: &mut AuthLog<F, C, H>,
     at: u64,
 ) -> Result<Option<Found<U>>, Error>
-    ensures value { (lent list : List model.Operation) (ws : List Write) → IsLent C.Store F.shape H.Digest.bytes H.hash U.form I.index_key (I.entries path.now.index.now) log.old lent → IsPath (path_view U.view U.Key.bytes U.Value.bytes path.now last.now) lent list ws
-        → IfSome (C.told log.old.store) (λ _. IfOk result (λ found. IsMoveAt (option_map (found_view U.view) found) list (list ++ unordered_writes list ws) at)) }
+    ensures value { (lent base list : List model.Operation) → IsLent C.Store F.shape H.Digest.bytes H.hash U.form I.index_key (I.entries path.now.index.now) log.old lent → IsPath (path_view U.view U.Key.bytes U.Value.bytes path.now) lent base list
+        → IfSome (C.told log.old.store) (λ _. IfOk result (λ found. IsMoveAt (option_map (found_view U.view) found) base list at)) }
     ensures read { IsRead C.Store F.shape H.Digest.bytes H.hash log.old log.new }
     ensures error { IfErr result (IsReadError C.Store log.old log.new) }
     ensures pruned { log.old.tree.start ≤ at → IfErr result (λ e. (n : ℕ) → e ≢ Error.Journal (JournalError.ItemPruned n)) }
@@ -247,7 +246,7 @@ fn live_at<
             None => Ok(None),
         };
     }
-    match unwritten_at(alloc, path.index, log, path.base.layers, last, at)? {
+    match unreplaced_at(alloc, path.index, log, path.base.layers, &path.replaced, at)? {
         Some(update) => Ok(Some(Found {
             update,
             before: Some(at),
@@ -286,19 +285,25 @@ fn value_of<V>(action: Action<V>) -> Option<Option<V>>
 fn note<F, K: ByteString, V: ByteString>(
     going: &mut Going<F, K, V>,
     key: K,
+    next: Option<K>,
     before: Option<u64>,
     action: Action<V>,
 ) -> Result<bool, AllocError>
     requires entries { 0 < going.old.walk.entries }
     requires floor { going.old.walk.floor < 2 ^ 64 - 1 }
-    ensures goes { IfOk result (λ goes. goes ≡ is_some (decided_for (K.bytes key) before (action_view V.bytes action))) }
-    ensures decided { IfOk result (λ _. decided_views K.bytes V.bytes going.new.decided.items ≡ decided_views K.bytes V.bytes going.old.decided.items ++ option_to_list (decided_for (K.bytes key) before (action_view V.bytes action))) }
+    ensures goes { IfOk result (λ goes. goes ≡ is_some (decided_for (K.bytes key) (option_map K.bytes next) before (action_view V.bytes action))) }
+    ensures decided { IfOk result (λ _. decided_views K.bytes V.bytes going.new.decided.items ≡ decided_views K.bytes V.bytes going.old.decided.items ++ option_to_list (decided_for (K.bytes key) (option_map K.bytes next) before (action_view V.bytes action))) }
     ensures walk { IfOk result (λ goes. going.new.walk ≡ (if goes then record going.old.walk { floor = going.old.walk.floor + 1; entries = going.old.walk.entries - 1 } else going.old.walk)) }
 {
     let Some(value) = value_of(action) else {
         return Ok(false);
     };
-    going.decided.push(Decided { key, value, before })?;
+    going.decided.push(Decided {
+        key,
+        value,
+        next,
+        before,
+    })?;
     going.walk.decide();
     Ok(true)
 }
@@ -314,7 +319,7 @@ fn decide<F, U: Update, P: Policy<F, U::Key, U::Value>>(
     requires floor { going.old.walk.floor < 2 ^ 64 - 1 }
     ensures value { IfOk result (λ goes. (base list : List model.Operation) (all : walks.Walked P) → IsMoveAt (Some (found_view U.view found)) base list going.old.walk.floor
         → IsGoing P.rules base list (decided_views U.Key.bytes U.Value.bytes going.old.decided.items) going.old.walk policy.old all
-        → MatchBool goes (IsGoing P.rules base list (decided_views U.Key.bytes U.Value.bytes going.new.decided.items) going.new.walk policy.new all) (AreDecided base (decided_views U.Key.bytes U.Value.bytes going.new.decided.items) going.new.walk.floor policy.new all)) }
+        → MatchBool goes (IsGoing P.rules base list (decided_views U.Key.bytes U.Value.bytes going.new.decided.items) going.new.walk policy.new all) (AreDecided base list (decided_views U.Key.bytes U.Value.bytes going.new.decided.items) going.new.walk.floor policy.new all)) }
     ensures low { IfOk result (λ _. going.old.walk.floor ≤ going.new.walk.floor) }
     ensures high { IfOk result (λ _. going.new.walk.floor ≤ going.old.walk.floor + 1) }
     ensures passed { IfOk result (λ goes. goes ≡ true → going.new.walk.floor ≡ going.old.walk.floor + 1) }
@@ -322,9 +327,10 @@ fn decide<F, U: Update, P: Policy<F, U::Key, U::Value>>(
 {
     let Found { update, before } = found;
     let key = update.key().twin(alloc)?;
+    let next = twin_next(alloc, &update)?;
     let at = Location::new(going.walk.floor.get());
     let action = ask(alloc, policy, at, &key, update.into_value())?;
-    note(going, key, before, action)
+    note(going, key, next, before, action)
 }
 
 // Visits the next candidate, and tells whether the walk goes on.
@@ -338,7 +344,6 @@ fn visit<
 >(
     alloc: Global,
     path: &Path<'_, '_, F, I, U>,
-    last: &Last<'_, U::Key, U::Value>,
     log: &mut AuthLog<F, C, H>,
     policy: &mut P,
     going: &mut Going<F, U::Key, U::Value>,
@@ -346,11 +351,11 @@ fn visit<
 ) -> Result<bool, Error>
     requires low { going.old.walk.floor ≤ at }
     requires high { at < going.old.walk.end }
-    ensures value { (lent list : List model.Operation) (ws : List Write) (all : walks.Walked P) → IsLent C.Store F.shape H.Digest.bytes H.hash U.form I.index_key (I.entries path.now.index.now) log.old lent → IsPath (path_view U.view U.Key.bytes U.Value.bytes path.now last.now) lent list ws
-        → AreDead (list ++ unordered_writes list ws) going.old.walk.floor at → IsGoing P.rules list (list ++ unordered_writes list ws) (decided_views U.Key.bytes U.Value.bytes going.old.decided.items) going.old.walk policy.old all
+    ensures value { (lent base list : List model.Operation) (all : walks.Walked P) → IsLent C.Store F.shape H.Digest.bytes H.hash U.form I.index_key (I.entries path.now.index.now) log.old lent → IsPath (path_view U.view U.Key.bytes U.Value.bytes path.now) lent base list
+        → AreDead list going.old.walk.floor at → IsGoing P.rules base list (decided_views U.Key.bytes U.Value.bytes going.old.decided.items) going.old.walk policy.old all
         → IfSome (C.told log.old.store) (λ _. IfOk result (λ goes. MatchBool goes
-        (AreDead (list ++ unordered_writes list ws) going.new.walk.floor (at + 1) × IsGoing P.rules list (list ++ unordered_writes list ws) (decided_views U.Key.bytes U.Value.bytes going.new.decided.items) going.new.walk policy.new all)
-        (AreDecided list (decided_views U.Key.bytes U.Value.bytes going.new.decided.items) going.new.walk.floor policy.new all))) }
+        (AreDead list going.new.walk.floor (at + 1) × IsGoing P.rules base list (decided_views U.Key.bytes U.Value.bytes going.new.decided.items) going.new.walk policy.new all)
+        (AreDecided base list (decided_views U.Key.bytes U.Value.bytes going.new.decided.items) going.new.walk.floor policy.new all))) }
     ensures low { IfOk result (λ _. going.old.walk.floor ≤ going.new.walk.floor) }
     ensures high { IfOk result (λ _. going.new.walk.floor ≤ at + 1) }
     ensures end { IfOk result (λ _. going.new.walk.end ≡ going.old.walk.end) }
@@ -365,7 +370,7 @@ fn visit<
     if !going.walk.reach(Location::new(at)) {
         return Ok(false);
     }
-    match live_at(alloc, path, last, log, at)? {
+    match live_at(alloc, path, log, at)? {
         Some(found) => Ok(decide(alloc, policy, going, found)?),
         None => Ok(true),
     }
@@ -382,18 +387,17 @@ fn visit_all<
 >(
     alloc: Global,
     path: &Path<'_, '_, F, I, U>,
-    last: &Last<'_, U::Key, U::Value>,
     log: &mut AuthLog<F, C, H>,
     policy: &mut P,
     going: &mut Going<F, U::Key, U::Value>,
     round: &[Location<F>],
 ) -> Result<bool, Error>
     requires { IsSpaced going.old.walk.floor round.now going.old.walk.end }
-    ensures value { (lent list : List model.Operation) (ws : List Write) (next : ℕ) (all : walks.Walked P) → IsLent C.Store F.shape H.Digest.bytes H.hash U.form I.index_key (I.entries path.now.index.now) log.old lent → IsPath (path_view U.view U.Key.bytes U.Value.bytes path.now last.now) lent list ws
-        → AreDeadBetween (list ++ unordered_writes list ws) going.old.walk.floor round.now next → IsGoing P.rules list (list ++ unordered_writes list ws) (decided_views U.Key.bytes U.Value.bytes going.old.decided.items) going.old.walk policy.old all
+    ensures value { (lent base list : List model.Operation) (next : ℕ) (all : walks.Walked P) → IsLent C.Store F.shape H.Digest.bytes H.hash U.form I.index_key (I.entries path.now.index.now) log.old lent → IsPath (path_view U.view U.Key.bytes U.Value.bytes path.now) lent base list
+        → AreDeadBetween list going.old.walk.floor round.now next → IsGoing P.rules base list (decided_views U.Key.bytes U.Value.bytes going.old.decided.items) going.old.walk policy.old all
         → IfSome (C.told log.old.store) (λ _. IfOk result (λ goes. MatchBool goes
-        (AreDead (list ++ unordered_writes list ws) going.new.walk.floor next × IsGoing P.rules list (list ++ unordered_writes list ws) (decided_views U.Key.bytes U.Value.bytes going.new.decided.items) going.new.walk policy.new all)
-        (AreDecided list (decided_views U.Key.bytes U.Value.bytes going.new.decided.items) going.new.walk.floor policy.new all))) }
+        (AreDead list going.new.walk.floor next × IsGoing P.rules base list (decided_views U.Key.bytes U.Value.bytes going.new.decided.items) going.new.walk policy.new all)
+        (AreDecided base list (decided_views U.Key.bytes U.Value.bytes going.new.decided.items) going.new.walk.floor policy.new all))) }
     ensures low { IfOk result (λ _. going.old.walk.floor ≤ going.new.walk.floor) }
     ensures high { IfOk result (λ _. (next : ℕ) → IsSpaced going.old.walk.floor round.now next → going.new.walk.floor ≤ next) }
     ensures end { IfOk result (λ _. going.new.walk.end ≡ going.old.walk.end) }
@@ -402,7 +406,7 @@ fn visit_all<
     ensures pruned { log.old.tree.start ≤ going.old.walk.floor → IfErr result (λ e. (n : ℕ) → e ≢ Error.Journal (JournalError.ItemPruned n)) }
 {
     for at in round {
-        let goes = visit(alloc, path, last, log, policy, going, at.get())?;
+        let goes = visit(alloc, path, log, policy, going, at.get())?;
         if !goes {
             return Ok(false);
         }
@@ -448,7 +452,6 @@ fn walk_round<
     alloc: Global,
     activity: &B,
     path: &Path<'_, '_, F, I, U>,
-    last: &Last<'_, U::Key, U::Value>,
     log: &mut AuthLog<F, C, H>,
     policy: &mut P,
     going: &mut Going<F, U::Key, U::Value>,
@@ -456,12 +459,12 @@ fn walk_round<
 ) -> Result<Option<Location<F>>, Error>
     requires low { going.old.walk.floor ≤ from }
     requires high { from < going.old.walk.end }
-    ensures value { (lent list : List model.Operation) (ws : List Write) (all : walks.Walked P) → IsLent C.Store F.shape H.Digest.bytes H.hash U.form I.index_key (I.entries path.now.index.now) log.old lent → B.activity activity.now ≡ bits lent
-        → IsPath (path_view U.view U.Key.bytes U.Value.bytes path.now last.now) lent list ws → AreDead (list ++ unordered_writes list ws) going.old.walk.floor from
-        → IsGoing P.rules list (list ++ unordered_writes list ws) (decided_views U.Key.bytes U.Value.bytes going.old.decided.items) going.old.walk policy.old all
+    ensures value { (lent base list : List model.Operation) (all : walks.Walked P) → IsLent C.Store F.shape H.Digest.bytes H.hash U.form I.index_key (I.entries path.now.index.now) log.old lent → B.activity activity.now ≡ bits lent
+        → IsPath (path_view U.view U.Key.bytes U.Value.bytes path.now) lent base list → AreDead list going.old.walk.floor from
+        → IsGoing P.rules base list (decided_views U.Key.bytes U.Value.bytes going.old.decided.items) going.old.walk policy.old all
         → IfSome (C.told log.old.store) (λ _. IfOk result (λ next. MatchOption next
-        (AreDecided list (decided_views U.Key.bytes U.Value.bytes going.new.decided.items) going.new.walk.floor policy.new all)
-        (λ next. AreDead (list ++ unordered_writes list ws) going.new.walk.floor next × IsGoing P.rules list (list ++ unordered_writes list ws) (decided_views U.Key.bytes U.Value.bytes going.new.decided.items) going.new.walk policy.new all))) }
+        (AreDecided base list (decided_views U.Key.bytes U.Value.bytes going.new.decided.items) going.new.walk.floor policy.new all)
+        (λ next. AreDead list going.new.walk.floor next × IsGoing P.rules base list (decided_views U.Key.bytes U.Value.bytes going.new.decided.items) going.new.walk policy.new all))) }
     ensures low { IfOk result (λ _. going.old.walk.floor ≤ going.new.walk.floor) }
     ensures next { IfOk result (λ next. IfSome next (λ next. (from < next) × (going.new.walk.floor ≤ next) × (next ≤ going.new.walk.end))) }
     ensures end { IfOk result (λ _. going.new.walk.end ≡ going.old.walk.end) }
@@ -471,7 +474,7 @@ fn walk_round<
 {
     let end = Location::new(going.walk.end.get());
     let round = round_from(alloc, activity, from, end, going.walk.entries)?;
-    let goes = visit_all(alloc, path, last, log, policy, going, &round.locations)?;
+    let goes = visit_all(alloc, path, log, policy, going, &round.locations)?;
     if goes { Ok(Some(round.next)) } else { Ok(None) }
 }
 
@@ -500,15 +503,14 @@ fn walk_on<
     alloc: Global,
     activity: &B,
     path: &Path<'_, '_, F, I, U>,
-    last: &Last<'_, U::Key, U::Value>,
     log: &mut AuthLog<F, C, H>,
     policy: &mut P,
     going: &mut Going<F, U::Key, U::Value>,
 ) -> Result<(), Error>
     requires { going.old.walk.floor ≤ going.old.walk.end }
-    ensures value { (lent list : List model.Operation) (ws : List Write) (all : walks.Walked P) → IsLent C.Store F.shape H.Digest.bytes H.hash U.form I.index_key (I.entries path.now.index.now) log.old lent → B.activity activity.now ≡ bits lent
-        → IsPath (path_view U.view U.Key.bytes U.Value.bytes path.now last.now) lent list ws → IsGoing P.rules list (list ++ unordered_writes list ws) (decided_views U.Key.bytes U.Value.bytes going.old.decided.items) going.old.walk policy.old all
-        → IfSome (C.told log.old.store) (λ _. OnOk result (AreDecided list (decided_views U.Key.bytes U.Value.bytes going.new.decided.items) going.new.walk.floor policy.new all)) }
+    ensures value { (lent base list : List model.Operation) (all : walks.Walked P) → IsLent C.Store F.shape H.Digest.bytes H.hash U.form I.index_key (I.entries path.now.index.now) log.old lent → B.activity activity.now ≡ bits lent
+        → IsPath (path_view U.view U.Key.bytes U.Value.bytes path.now) lent base list → IsGoing P.rules base list (decided_views U.Key.bytes U.Value.bytes going.old.decided.items) going.old.walk policy.old all
+        → IfSome (C.told log.old.store) (λ _. OnOk result (AreDecided base list (decided_views U.Key.bytes U.Value.bytes going.new.decided.items) going.new.walk.floor policy.new all)) }
     ensures read { IsRead C.Store F.shape H.Digest.bytes H.hash log.old log.new }
     ensures error { IfErr result (IsReadError C.Store log.old log.new) }
     ensures pruned { log.old.tree.start ≤ going.old.walk.floor → IfErr result (λ e. (n : ℕ) → e ≢ Error.Journal (JournalError.ItemPruned n)) }
@@ -521,7 +523,6 @@ fn walk_on<
             alloc,
             activity,
             path,
-            last,
             log,
             policy,
             going,
@@ -536,7 +537,7 @@ fn walk_on<
     Ok(())
 }
 
-/// Walks from the floor on, to the end of the operations of writes at most, as the policy decides, within these limits.
+/// Walks from the floor on, to the end of the operations behind the base list at most, as the policy decides, within these limits.
 pub(crate) fn walk_from<
     F: Family,
     I: qm_index::Unordered<Value = Location<F>>,
@@ -549,16 +550,15 @@ pub(crate) fn walk_from<
     alloc: Global,
     activity: &B,
     path: &Path<'_, '_, F, I, U>,
-    last: &Last<'_, U::Key, U::Value>,
     log: &mut AuthLog<F, C, H>,
     policy: &mut P,
     limits: Limits,
 ) -> Result<Walked<U::Key, U::Value>, Error>
     requires { path.now.base.size ≤ 2 ^ 62 }
-    ensures value { (lent list : List model.Operation) (ws : List Write) → IsLent C.Store F.shape H.Digest.bytes H.hash U.form I.index_key (I.entries path.now.index.now) log.old lent → B.activity activity.now ≡ bits lent
-        → IsPath (path_view U.view U.Key.bytes U.Value.bytes path.now last.now) lent list ws
-        → IfSome (C.told log.old.store) (λ _. IfOk result (λ walked. AreDecided list (decided_views U.Key.bytes U.Value.bytes walked.decided.items) walked.floor policy.new
-        (walks.walk P.rules (list ++ unordered_writes list ws) (floor list) (record { entries = limits.entries; skips = limits.skips }) policy.old))) }
+    ensures value { (lent base list : List model.Operation) → IsLent C.Store F.shape H.Digest.bytes H.hash U.form I.index_key (I.entries path.now.index.now) log.old lent → B.activity activity.now ≡ bits lent
+        → IsPath (path_view U.view U.Key.bytes U.Value.bytes path.now) lent base list
+        → IfSome (C.told log.old.store) (λ _. IfOk result (λ walked. AreDecided base list (decided_views U.Key.bytes U.Value.bytes walked.decided.items) walked.floor policy.new
+        (walks.walk P.rules list (floor base) (record { entries = limits.entries; skips = limits.skips }) policy.old))) }
     ensures read { IsRead C.Store F.shape H.Digest.bytes H.hash log.old log.new }
     ensures error { IfErr result (IsReadError C.Store log.old log.new) }
     ensures pruned { log.old.tree.start ≤ path.now.base.floor → IfErr result (λ e. (n : ℕ) → e ≢ Error.Journal (JournalError.ItemPruned n)) }
@@ -575,7 +575,7 @@ pub(crate) fn walk_from<
         walk,
         decided: Vec::new(alloc),
     };
-    walk_on(alloc, activity, path, last, log, policy, &mut going)?;
+    walk_on(alloc, activity, path, log, policy, &mut going)?;
     Ok(Walked {
         decided: going.decided,
         floor: going.walk.floor.get(),

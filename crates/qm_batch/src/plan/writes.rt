@@ -15,6 +15,7 @@ ghost use Rattle.qm_batch.specs.PlanViews.{keyed, last_view, last_write_view, lo
 ghost use Rattle.qm_batch.specs.Touches.{rewrite_here, moved_touch, new_touch, written_touches};
 ghost use Rattle.qm_batch.specs.Views.{keys_of, wanted_view, write_view, AreReads};
 
+use super::sites::{Site, find_sites, known_of};
 use super::touch::Touch;
 use crate::layer::Layer;
 use crate::read::locate;
@@ -31,14 +32,14 @@ use std::rc::Rc;
 
 /// A write whose key and value are lent.
 #[derive(Drop)]
-pub(crate) struct LastWrite<'a, K, V> {
-    key: &'a K,
-    value: Option<&'a V>,
+pub struct LastWrite<'a, K, V> {
+    pub(crate) key: &'a K,
+    pub(crate) value: Option<&'a V>,
 }
 
 impl<'a, K, V> LastWrite<'a, K, V> {
-    // The same.
-    fn lent(&self) -> LastWrite<'a, K, V>
+    /// The same.
+    pub(crate) fn lent(&self) -> LastWrite<'a, K, V>
         ensures { result ≡ self.now }
     {
         LastWrite {
@@ -49,20 +50,10 @@ impl<'a, K, V> LastWrite<'a, K, V> {
 }
 
 /// The last write of each key, by key.
-pub(crate) type Last<'a, K, V> = BTreeMap<&'a [u8], LastWrite<'a, K, V>>;
-
-/// Where keys stand in a base list, by key.
-pub(crate) type Known<'a> = BTreeMap<&'a [u8], Option<u64>>;
+pub type Last<'a, K, V> = BTreeMap<&'a [u8], LastWrite<'a, K, V>>;
 
 /// Operations by the location where their keys' live updates stand.
 type ByLocation<F, U> = BTreeMap<u64, Operation<F, U>>;
-
-/// A write, and where its key's live update stands in the base list.
-#[derive(Drop)]
-pub(crate) struct Site<'a, K, V> {
-    write: LastWrite<'a, K, V>,
-    at: Option<u64>,
-}
 
 // Adds a write behind those of which these are the last.
 fn add_write<'a, K: ByteString, V: ByteString>(
@@ -136,102 +127,6 @@ pub(crate) fn last_writes<'a, F, U: Update>(
     Ok(last)
 }
 
-// Where a read says that its key stands.
-fn read_place<F, U: Update>(read: &Read<F, U>) -> Option<u64>
-    ensures { result ≡ option_map (λ p. p.0) read.now.found }
-{
-    match &read.found {
-        Some((at, _)) => Some(at.get()),
-        None => None,
-    }
-}
-
-/// Where the keys that were read stand in the base list. Where none was read it takes no memory.
-pub(crate) fn known_of<'a, F, U: Update>(
-    alloc: Global,
-    reads: &'a [Read<F, U>],
-) -> Result<Known<'a>, AllocError>
-    ensures { IfOk result (λ known. (base : List operations.Operation) → AreReads U.view U.Key.bytes reads.now base → AreKnown base known.entries) }
-{
-    let mut known = BTreeMap::new(alloc);
-    for read in reads {
-        known.insert(read.key.as_bytes(), read_place(read))?;
-    }
-    Ok(known)
-}
-
-// The number of a location, where there is one.
-fn number_of<F>(at: Option<Location<F>>) -> Option<u64>
-    ensures { result ≡ at }
-{
-    match at {
-        Some(at) => Some(at.get()),
-        None => None,
-    }
-}
-
-// Where a key stands in the base list. What is known is not looked up.
-fn place_of<
-    F: Family,
-    I: qm_index::Unordered<Value = Location<F>>,
-    C: Store,
-    H: Hasher + Drop,
-    U: Update,
->(
-    alloc: Global,
-    index: &I,
-    log: &mut AuthLog<F, C, H>,
-    layers: &[Rc<Layer<F, U>>],
-    known: &Known<'_>,
-    key: &U::Key,
-) -> Result<Option<u64>, Error>
-    ensures value { (lent base : List operations.Operation) → IsLent C.Store F.shape H.Digest.bytes H.hash U.form I.index_key (I.entries index.now) log.old lent → LeadOver (map (λ l. l.value) layers.now) lent base
-        → AreKnown base known.now.entries → IfSome (C.told log.old.store) (λ _. IfOk result (λ at. at ≡ place_in base (U.Key.bytes key.now))) }
-    ensures read { IsRead C.Store F.shape H.Digest.bytes H.hash log.old log.new }
-    ensures error { IfErr result (IsReadError C.Store log.old log.new) }
-    ensures whole { (lent : List operations.Operation) → IsLent C.Store F.shape H.Digest.bytes H.hash U.form I.index_key (I.entries index.now) log.old lent → NoneBelow log.old.tree.start lent
-        → IfErr result (λ e. (n : ℕ) → e ≢ Error.Journal (JournalError.ItemPruned n)) }
-{
-    match known.get(key.as_bytes()) {
-        Some(at) => Ok(*at),
-        None => Ok(number_of(locate(alloc, index, log, layers, key)?)),
-    }
-}
-
-/// The last writes, each with where its key stands in the base list, of which some places are known.
-pub(crate) fn find_sites<
-    'a,
-    F: Family,
-    I: qm_index::Unordered<Value = Location<F>>,
-    C: Store,
-    H: Hasher + Drop,
-    U: Update,
->(
-    alloc: Global,
-    index: &I,
-    log: &mut AuthLog<F, C, H>,
-    layers: &[Rc<Layer<F, U>>],
-    known: &Known<'_>,
-    last: &Last<'a, U::Key, U::Value>,
-) -> Result<Vec<Site<'a, U::Key, U::Value>>, Error>
-    ensures value { (lent base : List operations.Operation) → IsLent C.Store F.shape H.Digest.bytes H.hash U.form I.index_key (I.entries index.now) log.old lent → LeadOver (map (λ l. l.value) layers.now) lent base
-        → AreKnown base known.now.entries → IfSome (C.told log.old.store) (λ _. IfOk result (λ sites. map (site_view U.Key.bytes U.Value.bytes) sites.items ≡ map (λ e. site_in base (last_write_view U.Key.bytes U.Value.bytes e.1)) last.now.entries)) }
-    ensures read { IsRead C.Store F.shape H.Digest.bytes H.hash log.old log.new }
-    ensures error { IfErr result (IsReadError C.Store log.old log.new) }
-    ensures whole { (lent : List operations.Operation) → IsLent C.Store F.shape H.Digest.bytes H.hash U.form I.index_key (I.entries index.now) log.old lent → NoneBelow log.old.tree.start lent
-        → IfErr result (λ e. (n : ℕ) → e ≢ Error.Journal (JournalError.ItemPruned n)) }
-{
-    let mut sites = Vec::new(alloc);
-    for write in last.values() {
-        let at = place_of(alloc, index, log, layers, known, write.key)?;
-        sites.push(Site {
-            write: write.lent(),
-            at,
-        })?;
-    }
-    Ok(sites)
-}
-
 // The operation that a write puts.
 fn operation_of<F, K: ByteString, V: ValueEncoding<K>>(
     alloc: Global,
@@ -255,11 +150,11 @@ fn put_rewrite<F, K: ByteString, V: ValueEncoding<K>>(
     rewrites: &mut ByLocation<F, Unordered<K, V>>,
     site: &Site<'_, K, V::Value>,
 ) -> Result<(), AllocError>
-    ensures live { OnOk result ((at : ℕ) → site.now.at ≡ Some at → located_views (unordered_view K.bytes V.Value.bytes) rewrites.new.entries
+    ensures live { OnOk result ((at : ℕ) → (site_view K.bytes V.Value.bytes site.now).1 ≡ Some at → located_views (unordered_view K.bytes V.Value.bytes) rewrites.new.entries
         ≡ insert_entry nat_cmp (located_views (unordered_view K.bytes V.Value.bytes) rewrites.old.entries) at (model.operation_of (last_write_view K.bytes V.Value.bytes site.now.write))) }
-    ensures other { OnOk result (site.now.at ≡ None → rewrites.new.entries ≡ rewrites.old.entries) }
+    ensures other { OnOk result ((site_view K.bytes V.Value.bytes site.now).1 ≡ None → rewrites.new.entries ≡ rewrites.old.entries) }
 {
-    match site.at {
+    match site.at() {
         Some(at) => {
             let operation = operation_of(alloc, &site.write)?;
             rewrites.insert(at, operation)?;
@@ -309,7 +204,7 @@ fn create_of<F, K: ByteString, V: ValueEncoding<K>>(
     ensures { IfOk result (λ made. (base : List operations.Operation) (w : model.Write) → site_view K.bytes V.Value.bytes site.now ≡ site_in base w
         → option_map (unordered_touch K.bytes V.Value.bytes) made ≡ option_map new_touch (model.create_of (live base) w)) }
 {
-    if site.at.is_some() {
+    if site.at().is_some() {
         return Ok(None);
     }
     if site.write.value.is_none() {
@@ -322,16 +217,13 @@ fn create_of<F, K: ByteString, V: ValueEncoding<K>>(
     }))
 }
 
-// Adds the operation, where there is one.
-fn push_some<F, U: Update>(
-    touches: &mut Vec<Touch<F, U>>,
-    touch: Option<Touch<F, U>>,
-) -> Result<(), AllocError>
-    ensures { OnOk result (touch_views U.view U.Key.bytes U.Value.bytes touches.new.items ≡ touch_views U.view U.Key.bytes U.Value.bytes touches.old.items ++ option_to_list (option_map (touch_view U.view U.Key.bytes U.Value.bytes) touch)) }
+/// Adds the thing, where there is one.
+pub(crate) fn push_some<T: Drop>(things: &mut Vec<T>, thing: Option<T>) -> Result<(), AllocError>
+    ensures { OnOk result (things.new.items ≡ things.old.items ++ option_to_list thing) }
 {
-    match touch {
-        Some(touch) => {
-            touches.push(touch)?;
+    match thing {
+        Some(thing) => {
+            things.push(thing)?;
             Ok(())
         }
         None => Ok(()),

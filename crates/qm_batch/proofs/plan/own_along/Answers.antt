@@ -1,22 +1,27 @@
-use Rattle.std.proofs.Common.{◌≡◌, ◌∙◌, ◌++◌, ◌+◌, ◌-◌, ap, ap₂, sym, arith, length, map, count_by, subst, List, ℕ, length-append}
+use Rattle.std.proofs.Common.{◌≡◌, ◌∙◌, ◌++◌, ◌+◌, ◌-◌, ap, ap₂, sym, arith, length, map, count_by, subst, List, ℕ}
 use Rattle.std.specs.Prelude.{is_none, is_some}
 use Rattle.std.proofs.lemmas.List.{length-map}
-use Rattle.qm_model.proofs.Results.{told-one}
+use Rattle.std.proofs.lemmas.Result.{err_from_is_err_and}
+use Rattle.qm_model.proofs.Results.{told-one, told-then}
 use Rattle.qm_base.specs.Parts.{is_update}
 use Rattle.qm_model.specs.Live.{floor}
 use Rattle.qm_model.specs.Walk.{walk}
-use Rattle.qm_model.specs.Writes.{made_inactive, unordered_writes}
-use Rattle.qm_batch.specs.Going.{Decided, touch_for, AreDecided}
-use Rattle.qm_batch.specs.PlanViews.{decided_views, unordered_touch, AreOwn}
+use Rattle.qm_model.specs.Writes.{made_inactive}
+use Rattle.qm_batch.specs.Kinds.{kind_of}
+use Rattle.qm_batch.specs.Going.{Decided, AreDecided}
+use Rattle.qm_batch.specs.Lent.{NoneBelow}
+use Rattle.qm_batch.specs.PlanViews.{decided_views, path_view, touch_view, AreOwn}
 use Rattle.qm_batch.specs.Touches.{Touch}
-use Rattle.qm_batch.proofs.PlanOwns.{are-inactive, are-own, count-shown, evicted-shown}
+use Rattle.qm_batch.proofs.PlanOwns.{are-inactive, are-own, count-shown, decided-apart, evicted-shown, path-written}
+use Rattle.qm_batch.proofs.Reading.{read-then, error-then, lent-then, told}
 use Rattle.qm_batch.proofs.plan.own_along.Goals as goal
 
 pub returns-clause-own : goal.returns-clause-own
-returns-clause-own g c = λ lent base ws is active on.
-    let key = g.K.ByteString.bytes in
-    let value = g.V.Value.ByteString.bytes in
-    let view = unordered_touch key value in
+returns-clause-own g c = λ lent base ws is active on lent_ring ring.
+    let key = g.U.Key.ByteString.bytes in
+    let value = g.U.Value.ByteString.bytes in
+    let view = touch_view g.U.Update.view key value in
+    let kind = (kind_of g.U.Update.form) in
     let rules = g.P.Policy.rules in
     let live = c.args.path.base.live in
     let touches = c.args.path.made.items in
@@ -25,36 +30,56 @@ returns-clause-own g c = λ lent base ws is active on.
     let next = c.walk_from.new.policy in
     let ds = decided_views key value c.in_ok-walked.walked.decided.items in
     let end = c.in_ok-walked.walked.floor in
+    let list = base ++ kind.writes base ws in
+    let written = path-written kind (path_view g.U.Update.view key value c.args.path) lent base ws on in
     let stood : count_by (λ t. is_some t.before) c.deref.result.now ≡ count_by (λ (t : Touch). is_some t.before) (map view touches) =
     ap (count_by (λ t. is_some t.before)) c.deref.ensures.value ∙ count-shown (λ (t : Touch). is_some t.before) view touches in
     let new : count_by (λ t. is_update (view t).operation) c.deref.result.now ≡ count_by (λ (t : Touch). is_update t.operation) (map view touches) =
     ap (count_by (λ t. is_update (view t).operation)) c.deref.ensures.value ∙ count-shown (λ (t : Touch). is_update t.operation) view touches in
     let count : behind ≡ live - count_by (λ (t : Touch). is_some t.before) (map view touches) + count_by (λ (t : Touch). is_update t.operation) (map view touches) =
     c.live_behind-behind.ensures.value ∙ ap₂ (λ a b. live - a + b) stood new in
-    let inactive : c.made_inactive.result ≡ made_inactive base (unordered_writes base ws) =
+    let inactive : c.made_inactive.result ≡ made_inactive base (kind.writes base ws) =
     c.made_inactive.ensures ∙ ap (λ n. n + live - behind) (ap length c.deref-2.ensures.value ∙ sym (length-map touches view))
-    ∙ are-inactive rules policy next base ws (map view touches) ds live behind end on.made (on.known).live count in
-    told-one _ _ (g.C.Store.told c.args.log.now.store) (c.in_ok-walked.ensures.value lent base ws is active on) (λ are.
-    let limits = ap₂ (λ e s. walk rules (base ++ unordered_writes base ws) (floor base) (record { entries = e; skips = s }) policy)
+    ∙ are-inactive kind rules policy next base ws (map view touches) written.operations written.from written.keyed written.once live behind (on.known).live count in
+    let read = c.walk_from.ensures.read in
+    let mid = lent-then g.C.Store g.F.Family.shape g.H.Digest.Digest.bytes g.H.Hasher.hash _ g.I.Unordered.index_key (g.I.Unordered.entries c.args.path.index.now) c.args.log.now c.walk_from.new.log lent read is in
+    told-then _ _ (g.C.Store.told c.args.log.now.store) (c.in_ok-walked.ensures.value lent base list is active on) (λ are.
+    let limits = ap₂ (λ e s. walk rules list (floor base) (record { entries = e; skips = s }) policy)
     (c.limits-limits.ensures.entries ∙ ap (λ n. (rules.limits policy n).entries) inactive) (c.limits-limits.ensures.skips ∙ ap (λ n. (rules.limits policy n).skips) inactive) in
-    let all_own = are-own rules policy next base ws (map view touches) ds live behind end on.made (on.known).live count (subst (λ all. AreDecided base ds end next all) limits are) in
+    let apart = decided-apart rules base list (floor base) _ policy next ds end are in
+    let all_own =
+    are-own kind rules policy next base ws (map view touches) written.operations written.from written.keyed written.once live behind (on.known).live count ds end (subst (λ all. AreDecided base list ds end next all) limits are) c.in_ok-own.ensures.moves in
     let own = c.in_ok-own.own in
     let floors = c.in_ok-own.ensures.floor in
     let keys = c.in_ok-own.ensures.live ∙ ap (λ n. behind - n) (sym (evicted-shown key value c.in_ok-walked.walked.decided.items)) in
-    subst (λ (n : ℕ). AreOwn rules policy next (map view own.touches.items) own.live n base ws) (sym floors)
-    (subst (λ (n : ℕ). AreOwn rules policy next (map view own.touches.items) n end base ws) (sym keys)
-    (subst (λ (ts : List Touch). AreOwn rules policy next ts (behind - count_by (λ (d : Decided). is_none d.value) ds) end base ws) (sym c.in_ok-own.ensures.touches) all_own)))
+    told-one _ _ (g.C.Store.told c.args.log.now.store) (told _ _ _ read.kept.told (c.in_ok-own.ensures.touches lent base ws mid on lent_ring ring are.from apart)) (λ same.
+    subst (λ (n : ℕ). AreOwn kind rules policy next (map view own.touches.items) own.live n base ws) (sym floors)
+    (subst (λ (n : ℕ). AreOwn kind rules policy next (map view own.touches.items) n end base ws) (sym keys)
+    (subst (λ (ts : List Touch). AreOwn kind rules policy next ts (behind - count_by (λ (d : Decided). is_none d.value) ds) end base ws) (sym same) all_own))))
 
 pub returns-clause-count : goal.returns-clause-count
 returns-clause-count g c =
-    let view = unordered_touch g.K.ByteString.bytes g.V.Value.ByteString.bytes in
-    let made = c.args.path.made.items in
-    let own = c.in_ok-own.own.touches.items in
-    let more = map touch_for (decided_views g.K.ByteString.bytes g.V.Value.ByteString.bytes c.in_ok-walked.walked.decided.items) in
-    let long : length own ≡ length made + length more =
-    sym (length-map own view) ∙ ap length c.in_ok-own.ensures.touches ∙ length-append (map view made) more ∙ ap (λ n. n + length more) (length-map made view) in
     let same = ap length c.deref.ensures.value in
     let live = c.in_ok-own.ensures.live in
+    let more = c.in_ok-own.ensures.count in
     let bound = c.live_behind-behind.ensures.bound in
     let low = c.requires.live in
-    omega (arith, long, same, live, bound, low)
+    omega (arith, same, live, more, bound, low)
+
+pub returns-in_err-own-clause-read : goal.returns-in_err-own-clause-read
+returns-in_err-own-clause-read g c = read-then g.C.Store g.F.Family.shape g.H.Digest.Digest.bytes g.H.Hasher.hash c.args.log.now c.walk_from.new.log c.own_of.new.log c.walk_from.ensures.read c.own_of.ensures.read
+
+pub returns-in_err-own-clause-error : goal.returns-in_err-own-clause-error
+returns-in_err-own-clause-error g c =
+    let exit = err_from_is_err_and c.from_residual-in_err-own.result c.from_residual-in_err-own.ensures.1 in
+    rw (exit.1, exit.2) (error-then g.C.Store g.F.Family.shape g.H.Digest.Digest.bytes g.H.Hasher.hash c.args.log.now c.walk_from.new.log c.own_of.new.log _ c.walk_from.ensures.read c.in_err-own.ensures.error)
+
+pub returns-in_err-own-clause-whole : goal.returns-in_err-own-clause-whole
+returns-in_err-own-clause-whole g c = λ lent is none above.
+    let exit = err_from_is_err_and c.from_residual-in_err-own.result c.from_residual-in_err-own.ensures.1 in
+    let read = c.walk_from.ensures.read in
+    let mid = lent-then g.C.Store g.F.Family.shape g.H.Digest.Digest.bytes g.H.Hasher.hash _ g.I.Unordered.index_key (g.I.Unordered.entries c.args.path.index.now) c.args.log.now c.walk_from.new.log lent read is in
+    rw (exit.1, exit.2) (c.in_err-own.ensures.whole lent mid (subst (λ n. NoneBelow n lent) (sym (ap (λ t. t.start) read.tree)) none))
+
+pub returns-clause-read : goal.returns-clause-read
+returns-clause-read g c = read-then g.C.Store g.F.Family.shape g.H.Digest.Digest.bytes g.H.Hasher.hash c.args.log.now c.walk_from.new.log c.own_of.new.log c.walk_from.ensures.read c.own_of.ensures.read

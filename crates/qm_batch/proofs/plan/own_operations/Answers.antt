@@ -1,7 +1,10 @@
-use Rattle.std.proofs.Common.{ap, sym, arith, subst}
+use Rattle.std.proofs.Common.{◌++◌, ap, sym, arith, subst}
 use Rattle.std.proofs.lemmas.Result.{err_from_is_err_and}
 use Rattle.qm_model.proofs.Results.{told-then}
 use Rattle.qm_batch.specs.Bases.{Base, IsBase}
+use Rattle.qm_batch.specs.Lent.{NoneBelow}
+use Rattle.qm_batch.specs.PlanViews.{touch_views}
+use Rattle.qm_batch.specs.Touches.{AreReplaced}
 use Rattle.qm_batch.specs.Views.{wanted_view}
 use Rattle.qm_batch.proofs.Reading.{read-then, error-then, lent-then, told}
 use Rattle.qm_batch.proofs.plan.own_operations.Goals as goal
@@ -17,22 +20,30 @@ returns-in_err-own-clause-error g c =
 pub returns-in_err-own-clause-whole : goal.returns-in_err-own-clause-whole
 returns-in_err-own-clause-whole g c = λ lent is none above.
     let exit = err_from_is_err_and c.from_residual-in_err-own.result c.from_residual-in_err-own.ensures.1 in
-    let same = ap (λ t. t.start) (c.written_over.ensures.read).tree in
+    let read = c.written_over.ensures.read in
+    let same = ap (λ t. t.start) read.tree in
     let low = ap (λ (b : Base). b.floor) c.lent.ensures in
-    rw (exit.1, exit.2) (c.in_err-own.ensures.pruned (omega (arith, same, low, above)))
+    let mid = lent-then g.C.Store g.F.Family.shape g.H.Digest.Digest.bytes g.H.Hasher.hash _ g.I.Unordered.index_key (g.I.Unordered.entries c.args.index.now) c.args.log.now c.written_over.new.log lent read is in
+    rw (exit.1, exit.2) (c.in_err-own.ensures.whole lent mid (subst (λ n. NoneBelow n lent) (sym same) none) (omega (arith, same, low, above)))
 
 pub returns-clause-read : goal.returns-clause-read
 returns-clause-read g c = read-then g.C.Store g.F.Family.shape g.H.Digest.Digest.bytes g.H.Hasher.hash c.args.log.now c.written_over.new.log c.own_along.new.log c.written_over.ensures.read c.own_along.ensures.read
 
 pub returns-clause-own : goal.returns-clause-own
-returns-clause-own g c = λ lent base is active from reads.
-    let ws = wanted_view g.K.ByteString.bytes g.V.Value.ByteString.bytes c.args.wanted.now in
+returns-clause-own g c = λ lent base is active from lent_ring ring reads.
+    let key = g.U.Key.ByteString.bytes in
+    let value = g.U.Value.ByteString.bytes in
+    let views = touch_views g.U.Update.view key value in
+    let ws = wanted_view key value c.args.wanted.now in
     let items = g.C.Store.told c.args.log.now.store in
     let read = c.written_over.ensures.read in
     let mid = lent-then g.C.Store g.F.Family.shape g.H.Digest.Digest.bytes g.H.Hasher.hash _ g.I.Unordered.index_key (g.I.Unordered.entries c.args.index.now) c.args.log.now c.written_over.new.log lent read is in
-    told-then _ _ items (c.in_ok-made.ensures.value lent base ws is from.leads reads c.in_ok-last.ensures) (λ made.
+    told-then _ _ items (c.in_ok-made.ensures.value lent base ws is from.leads lent_ring ring reads c.in_ok-last.ensures) (λ made.
     told _ _ _ read.kept.told (c.in_ok-own.ensures.own lent base ws mid active (record {
       known = subst (λ b. IsBase b lent base) (sym c.lent.ensures) from;
-      last = c.in_ok-last.ensures;
-      made = made;
-    })))
+      makes = ap (λ ops. base ++ ops) made.operations;
+      from = made.from;
+      keyed = made.keyed;
+      once = made.once;
+      replaced = subst (λ ts. AreReplaced c.in_ok-replaced.replaced (views ts)) c.deref.ensures.value c.in_ok-replaced.ensures;
+    }) lent_ring ring))

@@ -2,17 +2,19 @@ use Rattle.std.proofs.Common.{◌≡◌, List, map, subst, IfSome, IfOk}
 use Rattle.std.specs.Prelude.{option_map}
 use Rattle.std.proofs.lemmas.List.Elements.{All-nil}
 use Rattle.qm_model.specs.Writes.{Write}
-use Rattle.qm_batch.specs.Views.{write_view, stepped, left_after, IsPlan}
+use Rattle.qm_model.specs.Step.{policy_after, step}
+use Rattle.qm_batch.specs.Kinds.{kind_of}
+use Rattle.qm_batch.specs.Views.{write_view, IsPlan}
 use Rattle.qm_batch.proofs.PlanWanted.{slotted-none}
 use Rattle.qm_batch.proofs.plan.plain.Goals as goal
 
 pub returns-clause-plan : goal.returns-clause-plan
-returns-clause-plan g c = λ lent base is active from.
+returns-clause-plan g c = λ lent base is active from lent_ring ring.
     subst
-    (λ (ws : List Write). IfSome (g.C.Store.told c.args.log.now.store) (λ _. IfOk c.staged.result (λ plan. IsPlan plan base (stepped g.P.Policy.rules base ws c.args.policy.now (option_map g.V.Value.ByteString.bytes c.args.metadata)))))
-    (slotted-none (map (write_view g.K.ByteString.bytes g.V.Value.ByteString.bytes) c.args.writes.now)) (c.staged.ensures.plan lent base is active from (All-nil _))
+    (λ (ws : List Write). IfSome (g.C.Store.told c.args.log.now.store) (λ _. IfOk c.staged.result (λ plan. IsPlan plan base (step (kind_of g.U.Update.form) g.P.Policy.rules base ws c.args.policy.now (option_map g.U.Value.ByteString.bytes c.args.metadata)))))
+    (slotted-none (map (write_view g.U.Key.ByteString.bytes g.U.Value.ByteString.bytes) c.args.writes.now)) (c.staged.ensures.plan lent base is active from lent_ring ring (All-nil _))
 
 pub returns-clause-next : goal.returns-clause-next
-returns-clause-next g c = λ lent base is active from.
-    subst (λ (ws : List Write). IfSome (g.C.Store.told c.args.log.now.store) (λ _. IfOk c.staged.result (λ _. c.staged.new.policy ≡ left_after g.P.Policy.rules base ws c.args.policy.now)))
-    (slotted-none (map (write_view g.K.ByteString.bytes g.V.Value.ByteString.bytes) c.args.writes.now)) (c.staged.ensures.next lent base is active from (All-nil _))
+returns-clause-next g c = λ lent base is active from lent_ring ring.
+    subst (λ (ws : List Write). IfSome (g.C.Store.told c.args.log.now.store) (λ _. IfOk c.staged.result (λ _. c.staged.new.policy ≡ policy_after (kind_of g.U.Update.form) g.P.Policy.rules base ws c.args.policy.now)))
+    (slotted-none (map (write_view g.U.Key.ByteString.bytes g.U.Value.ByteString.bytes) c.args.writes.now)) (c.staged.ensures.next lent base is active from lent_ring ring (All-nil _))

@@ -1,25 +1,19 @@
 use Rattle.std.proofs.Common.{◌∙◌, ℕ, List, Bor, ap, sym}
 use Rattle.std.specs.Prelude.{option_map}
-use Rattle.qm_model.specs.Writes.{last_writes}
-use Rattle.qm_batch.specs.PlanViews.{last_write_view}
-use Rattle.qm_batch.proofs.PlanFinds.{has-key, moved-keyless, moved-written, moved-live}
+use Rattle.qm_batch.proofs.PlanFinds.{moved-keyless, moved-replaced, moved-live}
 use Rattle.qm_batch.proofs.plan.walk.is_moved.Goals as goal
 
-pub returns-then-contains_key : goal.returns-then-contains_key
-returns-then-contains_key g c = λ lent base ws op indexed from last there is.
-    let key = c.in-Some.key.now in
+pub returns-then-contains : goal.returns-then-contains
+returns-then-contains g c = λ lent base made op indexed leads from keyed replaced there is.
     let own = sym is ∙ ap (option_map (λ (b : Bor (List ℕ)). b.now)) c.in-Some.is in
-    let view = last_write_view g.U.Key.ByteString.bytes g.U.Value.ByteString.bytes in
-    moved-written base ws c.args.at op there key own (sym (has-key view c.args.last.now.entries (last_writes ws) key last) ∙ sym c.contains_key.ensures ∙ c.if-contains_key.true)
+    moved-replaced base made c.args.at op there from keyed c.in-Some.key.now own (sym (replaced c.args.at) ∙ sym c.contains.ensures ∙ c.if-contains.true)
 
-pub returns-else-contains_key : goal.returns-else-contains_key
-returns-else-contains_key g c = λ lent base ws op indexed from last there is.
-    let key = c.in-Some.key.now in
+pub returns-else-contains : goal.returns-else-contains
+returns-else-contains g c = λ lent base made op indexed leads from keyed replaced there is.
     let own = sym is ∙ ap (option_map (λ (b : Bor (List ℕ)). b.now)) c.in-Some.is in
-    let view = last_write_view g.U.Key.ByteString.bytes g.U.Value.ByteString.bytes in
-    moved-live base ws c.args.at op there key own (sym (has-key view c.args.last.now.entries (last_writes ws) key last) ∙ sym c.contains_key.ensures ∙ c.if-contains_key.false) c.is_live_there.result
-    (λ value next here. c.is_live_there.ensures lent base value next indexed from here)
+    moved-live base made c.args.at op there from keyed c.in-Some.key.now own (sym (replaced c.args.at) ∙ sym c.contains.ensures ∙ c.if-contains.false) c.is_live_there.result
+    (λ value next here. c.is_live_there.ensures lent base value next indexed leads here)
 
 pub returns-in-None : goal.returns-in-None
-returns-in-None g c = λ lent base ws op indexed from last there is.
-    moved-keyless base ws c.args.at op there (sym is ∙ ap (option_map (λ (b : Bor (List ℕ)). b.now)) c.in-None.is)
+returns-in-None g c = λ lent base made op indexed leads from keyed replaced there is.
+    moved-keyless base made c.args.at op there (sym is ∙ ap (option_map (λ (b : Bor (List ℕ)). b.now)) c.in-None.is)

@@ -1,8 +1,7 @@
-use Rattle.std.proofs.Common.{◌∙◌, ◌∷◌, ◌+◌, ◌++◌, ◌≤◌, ap, sym, subst, arith, drop, refl}
+use Rattle.std.proofs.Common.{◌∙◌, ◌∷◌, ◌+◌, ◌≤◌, ap, sym, subst, arith, drop, refl}
 use Rattle.std.proofs.lemmas.List.{drop_all}
 use Rattle.std.proofs.lemmas.Result.{err_from_is_err_and}
 use Rattle.qm_model.proofs.Results.{told-any, told-err, told-one, told-then}
-use Rattle.qm_model.specs.Writes.{unordered_writes}
 use Rattle.qm_batch.specs.Going.{AreDeadBetween, IsSpaced}
 use Rattle.qm_batch.proofs.PlanGoing.{between-then, spaced-below}
 use Rattle.qm_batch.proofs.PlanRounds.{chosen-false, chosen-true, in-round}
@@ -15,7 +14,7 @@ loop-at-init g c = record {
   low = omega arith;
   end = refl;
   spaced = λ next spaced. spaced;
-  value = λ lent list ws next all is on dead going. told-any _ (g.C.Store.told c.args.log.now.store) (dead, going);
+  value = λ lent base list next all is on dead going. told-any _ (g.C.Store.told c.args.log.now.store) (dead, going);
 }
 
 pub visit-requires-clause-low : goal.visit-requires-clause-low
@@ -34,7 +33,7 @@ visit-requires-clause-high g c =
     omega (arith, high, end, c.get.ensures)
 
 pub returns-in_err-goes-clause-value : goal.returns-in_err-goes-clause-value
-returns-in_err-goes-clause-value g c = λ lent list ws next all is on dead going.
+returns-in_err-goes-clause-value g c = λ lent base list next all is on dead going.
     let exit = err_from_is_err_and c.from_residual.result c.from_residual.ensures.1 in
     told-err _ (g.C.Store.told c.args.log.now.store) c.from_residual.result exit.0 exit.1
 
@@ -57,14 +56,13 @@ returns-in_err-goes-clause-pruned g c = λ above.
     rw (exit.1, exit.2) (c.in_err-goes.ensures.pruned (omega (arith, same, low, first, above, c.get.ensures)))
 
 pub returns-then-not-goes-clause-value : goal.returns-then-not-goes-clause-value
-returns-then-not-goes-clause-value g c = λ lent base ws next all is on dead going.
-    let list = base ++ unordered_writes base ws in
+returns-then-not-goes-clause-value g c = λ lent base list next all is on dead going.
     let read = c.loop-at.invariant.read in
     let here = in-round c.args.round.now c.loop-at.at-index c.at-item.result c.loop-at-test.true c.at-item.is ∙ ap (λ x. x ∷ drop (c.loop-at.at-index + 1) c.args.round.now) (sym c.get.ensures) in
     let mid = lent-then g.C.Store g.F.Family.shape g.H.Digest.Digest.bytes g.H.Hasher.hash _ g.I.Unordered.index_key (g.I.Unordered.entries c.args.path.now.index.now) c.args.log.now c.loop-at.log lent read is in
-    told-then _ _ (g.C.Store.told c.args.log.now.store) (c.loop-at.invariant.value lent base ws next all is on dead going) (λ so_far.
+    told-then _ _ (g.C.Store.told c.args.log.now.store) (c.loop-at.invariant.value lent base list next all is on dead going) (λ so_far.
     let between = subst (λ xs. AreDeadBetween list c.loop-at.going.walk.floor xs next) here so_far.0 in
-    told-one _ _ (g.C.Store.told c.args.log.now.store) (told _ _ _ read.kept.told (c.in_ok-goes.ensures.value lent base ws all mid on between.0 so_far.1)) (λ visited.
+    told-one _ _ (g.C.Store.told c.args.log.now.store) (told _ _ _ read.kept.told (c.in_ok-goes.ensures.value lent base list all mid on between.0 so_far.1)) (λ visited.
     chosen-false c.in_ok-goes.goes _ _ c.if-not-goes.true visited))
 
 pub returns-then-not-goes-clause-high : goal.returns-then-not-goes-clause-high
@@ -93,21 +91,19 @@ loop-at-preserved g c =
       spaced = λ next spaced.
           let now = subst (λ xs. IsSpaced c.loop-at.going.walk.floor xs next) here (c.loop-at.invariant.spaced next spaced) in
           spaced-below c.visit.new.going.walk.floor (c.at-item.result + 1) next rest below now.2;
-      value = λ lent base ws next all is on dead going.
-          let list = base ++ unordered_writes base ws in
+      value = λ lent base list next all is on dead going.
           let there = here ∙ ap (λ x. x ∷ rest) (sym same) in
           let mid = lent-then g.C.Store g.F.Family.shape g.H.Digest.Digest.bytes g.H.Hasher.hash _ g.I.Unordered.index_key (g.I.Unordered.entries c.args.path.now.index.now) c.args.log.now c.loop-at.log lent read is in
-          told-then _ _ (g.C.Store.told c.args.log.now.store) (c.loop-at.invariant.value lent base ws next all is on dead going) (λ so_far.
+          told-then _ _ (g.C.Store.told c.args.log.now.store) (c.loop-at.invariant.value lent base list next all is on dead going) (λ so_far.
           let between = subst (λ xs. AreDeadBetween list c.loop-at.going.walk.floor xs next) there so_far.0 in
-          told-one _ _ (g.C.Store.told c.args.log.now.store) (told _ _ _ read.kept.told (c.in_ok-goes.ensures.value lent base ws all mid on between.0 so_far.1)) (λ visited.
+          told-one _ _ (g.C.Store.told c.args.log.now.store) (told _ _ _ read.kept.told (c.in_ok-goes.ensures.value lent base list all mid on between.0 so_far.1)) (λ visited.
           let goes = chosen-true c.in_ok-goes.goes _ _ c.if-not-goes.false visited in
           (between-then list c.visit.new.going.walk.floor (c.get.result + 1) next rest goes.0 between.1, goes.1)));
     }
 
 pub returns-clause-value : goal.returns-clause-value
-returns-clause-value g c = λ lent base ws next all is on dead going.
-    let list = base ++ unordered_writes base ws in
-    told-one _ _ (g.C.Store.told c.args.log.now.store) (c.loop-at.invariant.value lent base ws next all is on dead going) (λ so_far.
+returns-clause-value g c = λ lent base list next all is on dead going.
+    told-one _ _ (g.C.Store.told c.args.log.now.store) (c.loop-at.invariant.value lent base list next all is on dead going) (λ so_far.
     (subst (λ xs. AreDeadBetween list c.loop-at.going.walk.floor xs next) (drop_all c.loop-at.at-index c.args.round.now c.loop-at-test.false) so_far.0, so_far.1))
 
 pub returns-clause-high : goal.returns-clause-high

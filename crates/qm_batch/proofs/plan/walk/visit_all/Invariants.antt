@@ -1,8 +1,7 @@
-use Rattle.std.proofs.Common.{◌≡◌, ◌≤◌, ◌++◌, ℕ, List, drop}
+use Rattle.std.proofs.Common.{◌≡◌, ◌≤◌, ℕ, List, drop}
 use Rattle.std.specs.Prelude.{IfSome}
 use Rattle.qm_model.specs.Operations.{Operation}
 use Rattle.qm_model.specs.Walk.{Walked}
-use Rattle.qm_model.specs.Writes.{Write, unordered_writes}
 use Rattle.qm_batch.specs.Going.{AreDeadBetween, IsGoing, IsSpaced}
 use Rattle.qm_batch.specs.Lent.{IsLent, IsRead}
 use Rattle.qm_batch.specs.PlanViews.{decided_views, path_view, IsPath}
@@ -17,9 +16,9 @@ invariant-loop-at g l =
       low : l.initial.going.walk.floor ≤ l.going.walk.floor;
       end : l.going.walk.end ≡ l.initial.going.walk.end;
       spaced : (next : ℕ) → IsSpaced l.initial.going.walk.floor l.round next → IsSpaced l.going.walk.floor (drop l.at-index l.round) next;
-      value : (lent list : List Operation) (ws : List Write) (next : ℕ) (all : Walked g.row.P.Denot) → IsLent g.C.Store g.F.Family.shape g.H.Digest.Digest.bytes g.H.Hasher.hash g.U.Update.form g.I.Unordered.index_key (g.I.Unordered.entries l.path.index.now) l.initial.log lent →
-          IsPath (path_view g.U.Update.view key value l.path l.last) lent list ws → AreDeadBetween (list ++ unordered_writes list ws) l.initial.going.walk.floor l.round next →
-          IsGoing g.P.Policy.rules list (list ++ unordered_writes list ws) (decided_views key value l.initial.going.decided.items) l.initial.going.walk l.initial.policy all →
-          IfSome (g.C.Store.told l.initial.log.store) (λ _. AreDeadBetween (list ++ unordered_writes list ws) l.going.walk.floor (drop l.at-index l.round) next ×
-          IsGoing g.P.Policy.rules list (list ++ unordered_writes list ws) (decided_views key value l.going.decided.items) l.going.walk l.policy all);
+      value : (lent base list : List Operation) (next : ℕ) (all : Walked g.row.P.Denot) → IsLent g.C.Store g.F.Family.shape g.H.Digest.Digest.bytes g.H.Hasher.hash g.U.Update.form g.I.Unordered.index_key (g.I.Unordered.entries l.path.index.now) l.initial.log lent →
+          IsPath (path_view g.U.Update.view key value l.path) lent base list → AreDeadBetween list l.initial.going.walk.floor l.round next →
+          IsGoing g.P.Policy.rules base list (decided_views key value l.initial.going.decided.items) l.initial.going.walk l.initial.policy all →
+          IfSome (g.C.Store.told l.initial.log.store) (λ _. AreDeadBetween list l.going.walk.floor (drop l.at-index l.round) next ×
+          IsGoing g.P.Policy.rules base list (decided_views key value l.going.decided.items) l.going.walk l.policy all);
     }

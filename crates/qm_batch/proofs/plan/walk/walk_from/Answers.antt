@@ -1,21 +1,19 @@
-use Rattle.std.proofs.Common.{◌≡◌, ◌∙◌, ◌+◌, ◌++◌, length, map, max, min, ap, sym, subst, arith, ℕ}
+use Rattle.std.proofs.Common.{◌≡◌, ◌∙◌, ◌+◌, length, map, max, min, ap, sym, subst, arith, ℕ}
 use Rattle.qm_model.proofs.Results.{told-one}
 use Rattle.qm_model.specs.Live.{floor}
 use Rattle.qm_model.specs.Walk.{walk}
-use Rattle.qm_model.specs.Writes.{unordered_writes}
 use Rattle.qm_batch.specs.Going.{AreDecided}
 use Rattle.qm_batch.specs.PlanViews.{decided_view, decided_views, touch_view}
 use Rattle.qm_batch.proofs.PlanGoing.{going-begins}
-use Rattle.qm_batch.proofs.PlanMoves.{written-long}
+use Rattle.qm_batch.proofs.PlanMoves.{made-long}
 use Rattle.qm_batch.proofs.plan.walk.walk_from.Goals as goal
 
 pub returns-clause-value : goal.returns-clause-value
-returns-clause-value g c = λ lent base ws is active on.
+returns-clause-value g c = λ lent base list is active on.
     let key = g.U.Key.ByteString.bytes in
     let value = g.U.Value.ByteString.bytes in
-    let list = base ++ unordered_writes base ws in
     let made = c.args.path.now.made.items in
-    let long = written-long (touch_view g.U.Update.view key value) base ws made on.made in
+    let long = made-long (touch_view g.U.Update.view key value) base list made on.makes in
     let size = (on.known).size in
     let low = (on.known).floor in
     let place = c.get-floor.ensures in
@@ -23,6 +21,6 @@ returns-clause-value g c = λ lent base ws is active on.
     let at : c.new.result ≡ floor base = c.new.ensures ∙ place ∙ low in
     let begun : c.new-walk.result ≡ record { floor = floor base; end = min c.new-2.result (floor base + c.args.limits.entries + c.args.limits.skips); entries = c.args.limits.entries; skips = c.args.limits.skips } =
     c.new-walk.ensures ∙ ap (λ n. record { floor = n; end = min c.new-2.result (n + c.args.limits.entries + c.args.limits.skips); entries = c.args.limits.entries; skips = c.args.limits.skips }) at in
-    told-one _ _ (g.C.Store.told c.args.log.now.store) (c.in_ok-walk_on.ensures.value lent base ws _ is active on
+    told-one _ _ (g.C.Store.told c.args.log.now.store) (c.in_ok-walk_on.ensures.value lent base list _ is active on
     (going-begins g.P.Policy.rules base list _ c.new-walk.result c.args.policy.now c.new-2.result c.args.limits.entries c.args.limits.skips (ap (map (decided_view key value)) c.new-3.ensures.items) top begun)) (λ decided.
-    subst (λ (n : ℕ). AreDecided base (decided_views key value c.walk_on.new.going.decided.items) n c.walk_on.new.policy (walk g.P.Policy.rules list (floor base) (record { entries = c.args.limits.entries; skips = c.args.limits.skips }) c.args.policy.now)) (sym c.get.ensures) decided)
+    subst (λ (n : ℕ). AreDecided base list (decided_views key value c.walk_on.new.going.decided.items) n c.walk_on.new.policy (walk g.P.Policy.rules list (floor base) (record { entries = c.args.limits.entries; skips = c.args.limits.skips }) c.args.policy.now)) (sym c.get.ensures) decided)

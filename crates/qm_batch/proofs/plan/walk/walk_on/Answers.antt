@@ -1,8 +1,7 @@
-use Rattle.std.proofs.Common.{◌≡◌, ◌∙◌, ◌++◌, ◌≤◌, ◌<◌, ap, sym, subst, arith, refl}
+use Rattle.std.proofs.Common.{◌≡◌, ◌∙◌, ◌≤◌, ◌<◌, ap, sym, subst, arith, refl}
 use Rattle.std.specs.Prelude.{IfSome}
 use Rattle.std.proofs.lemmas.Result.{err_from_is_err_and}
 use Rattle.qm_model.proofs.Results.{told-any, told-err, told-one, told-then}
-use Rattle.qm_model.specs.Writes.{unordered_writes}
 use Rattle.qm_batch.specs.Going.{AreDead}
 use Rattle.qm_batch.specs.PlanViews.{decided_views}
 use Rattle.qm_batch.proofs.PlanFinds.{match-none, match-some}
@@ -20,7 +19,7 @@ loop-from-init g c =
       here = omega (arith, floor);
       within = omega (arith, floor, c.requires);
       end = refl;
-      value = λ lent base ws all is active on going. told-any _ (g.C.Store.told c.args.log.now.store) (dead-none (base ++ unordered_writes base ws) c.args.going.now.walk.floor c.get-floor.result start, going);
+      value = λ lent base list all is active on going. told-any _ (g.C.Store.told c.args.log.now.store) (dead-none list c.args.going.now.walk.floor c.get-floor.result start, going);
     }
 
 pub walk_round-requires-clause-low : goal.walk_round-requires-clause-low
@@ -30,7 +29,7 @@ pub walk_round-requires-clause-high : goal.walk_round-requires-clause-high
 walk_round-requires-clause-high g c = let end = c.loop-from.invariant.end in omega (arith, end, c.loop-from-test.true, c.get-end.ensures, c.new.ensures)
 
 pub returns-in_err-next-clause-value : goal.returns-in_err-next-clause-value
-returns-in_err-next-clause-value g c = λ lent base ws all is active on going.
+returns-in_err-next-clause-value g c = λ lent base list all is active on going.
     let exit = err_from_is_err_and c.from_residual.result c.from_residual.ensures.1 in
     told-err _ (g.C.Store.told c.args.log.now.store) c.from_residual.result exit.0 exit.1
 
@@ -50,13 +49,12 @@ returns-in_err-next-clause-pruned g c = λ above.
     rw (exit.1, exit.2) (c.in_err-next.ensures.pruned (omega (arith, same, low, above)))
 
 pub returns-in_default-clause-value : goal.returns-in_default-clause-value
-returns-in_default-clause-value g c = λ lent base ws all is active on going.
+returns-in_default-clause-value g c = λ lent base list all is active on going.
     let read = c.loop-from.invariant.read in
-    let list = base ++ unordered_writes base ws in
     let mid = lent-then g.C.Store g.F.Family.shape g.H.Digest.Digest.bytes g.H.Hasher.hash _ g.I.Unordered.index_key (g.I.Unordered.entries c.args.path.now.index.now) c.args.log.now c.loop-from.log lent read is in
-    told-then _ _ (g.C.Store.told c.args.log.now.store) (c.loop-from.invariant.value lent base ws all is active on going) (λ so_far.
+    told-then _ _ (g.C.Store.told c.args.log.now.store) (c.loop-from.invariant.value lent base list all is active on going) (λ so_far.
     let dead = subst (λ n. AreDead list c.loop-from.going.walk.floor n) (sym c.new.ensures) so_far.0 in
-    told-one _ _ (g.C.Store.told c.args.log.now.store) (told _ _ _ read.kept.told (c.in_ok-next.ensures.value lent base ws all mid active on dead so_far.1)) (λ walked.
+    told-one _ _ (g.C.Store.told c.args.log.now.store) (told _ _ _ read.kept.told (c.in_ok-next.ensures.value lent base list all mid active on dead so_far.1)) (λ walked.
     match-none c.in_ok-next.next _ _ c.in_default.is walked))
 
 pub returns-in_default-clause-read : goal.returns-in_default-clause-read
@@ -83,12 +81,11 @@ loop-from-preserved g c =
       here = omega (arith, here, c.get-from.ensures);
       within = omega (arith, within, c.get-from.ensures);
       end = c.in_ok-next.ensures.end ∙ end;
-      value = λ lent base ws all is active on going.
-          let list = base ++ unordered_writes base ws in
+      value = λ lent base list all is active on going.
           let mid = lent-then g.C.Store g.F.Family.shape g.H.Digest.Digest.bytes g.H.Hasher.hash _ g.I.Unordered.index_key (g.I.Unordered.entries c.args.path.now.index.now) c.args.log.now c.loop-from.log lent read is in
-          told-then _ _ (g.C.Store.told c.args.log.now.store) (c.loop-from.invariant.value lent base ws all is active on going) (λ so_far.
+          told-then _ _ (g.C.Store.told c.args.log.now.store) (c.loop-from.invariant.value lent base list all is active on going) (λ so_far.
           let dead = subst (λ n. AreDead list c.loop-from.going.walk.floor n) (sym c.new.ensures) so_far.0 in
-          told-one _ _ (g.C.Store.told c.args.log.now.store) (told _ _ _ read.kept.told (c.in_ok-next.ensures.value lent base ws all mid active on dead so_far.1)) (λ walked.
+          told-one _ _ (g.C.Store.told c.args.log.now.store) (told _ _ _ read.kept.told (c.in_ok-next.ensures.value lent base list all mid active on dead so_far.1)) (λ walked.
           let goes = match-some c.in_ok-next.next c.in-Some.next _ _ c.in-Some.is walked in
           (subst (λ n. AreDead list c.walk_round.new.going.walk.floor n) (sym c.get-from.ensures) goes.0, goes.1)));
     }
@@ -100,14 +97,13 @@ finish-requires g c =
     omega (arith, here, within)
 
 pub returns-clause-value : goal.returns-clause-value
-returns-clause-value g c = λ lent base ws all is active on going.
-    let list = base ++ unordered_writes base ws in
+returns-clause-value g c = λ lent base list all is active on going.
     let w = c.loop-from.going.walk in
     let here = c.loop-from.invariant.here in
     let within = c.loop-from.invariant.within in
     let end = c.loop-from.invariant.end in
     let last : c.loop-from.from ≡ w.end = omega (arith, within, end, c.loop-from-test.false, c.get-end.ensures) in
-    told-one _ _ (g.C.Store.told c.args.log.now.store) (c.loop-from.invariant.value lent base ws all is active on going) (λ so_far.
+    told-one _ _ (g.C.Store.told c.args.log.now.store) (c.loop-from.invariant.value lent base list all is active on going) (λ so_far.
     going-finished g.P.Policy.rules base list (decided_views g.U.Key.ByteString.bytes g.U.Value.ByteString.bytes c.loop-from.going.decided.items) w c.loop-from.policy all so_far.1 c.finish.new.walk (omega (arith, here, within))
     (subst (λ n. AreDead list w.floor n) last so_far.0) c.finish.ensures.none c.finish.ensures.some)
 

@@ -1,9 +1,8 @@
-use Rattle.std.proofs.Common.{◌≡◌, ◌≤◌, ◌-◌, ◌++◌, List}
+use Rattle.std.proofs.Common.{◌≡◌, ◌≤◌, ◌-◌, List}
 use Rattle.std.specs.Prelude.{IfSome}
 use Rattle.qm_model.specs.Bits.{bits}
 use Rattle.qm_model.specs.Operations.{Operation}
 use Rattle.qm_model.specs.Walk.{Walked}
-use Rattle.qm_model.specs.Writes.{Write, unordered_writes}
 use Rattle.qm_batch.specs.Going.{AreDead, IsGoing}
 use Rattle.qm_batch.specs.Lent.{IsLent, IsRead}
 use Rattle.qm_batch.specs.PlanViews.{decided_views, path_view, IsPath}
@@ -19,11 +18,11 @@ invariant-loop-from g l =
       here : l.going.walk.floor ≤ l.from;
       within : l.from ≤ l.going.walk.end;
       end : l.going.walk.end ≡ l.initial.going.walk.end;
-      value : (lent list : List Operation) (ws : List Write) (all : Walked g.row.P.Denot) → IsLent g.C.Store g.F.Family.shape g.H.Digest.Digest.bytes g.H.Hasher.hash g.U.Update.form g.I.Unordered.index_key (g.I.Unordered.entries l.path.index.now) l.initial.log lent →
-          g.B.Candidates.activity l.activity ≡ bits lent → IsPath (path_view g.U.Update.view key value l.path l.last) lent list ws →
-          IsGoing g.P.Policy.rules list (list ++ unordered_writes list ws) (decided_views key value l.initial.going.decided.items) l.initial.going.walk l.initial.policy all →
-          IfSome (g.C.Store.told l.initial.log.store) (λ _. AreDead (list ++ unordered_writes list ws) l.going.walk.floor l.from ×
-          IsGoing g.P.Policy.rules list (list ++ unordered_writes list ws) (decided_views key value l.going.decided.items) l.going.walk l.policy all);
+      value : (lent base list : List Operation) (all : Walked g.row.P.Denot) → IsLent g.C.Store g.F.Family.shape g.H.Digest.Digest.bytes g.H.Hasher.hash g.U.Update.form g.I.Unordered.index_key (g.I.Unordered.entries l.path.index.now) l.initial.log lent →
+          g.B.Candidates.activity l.activity ≡ bits lent → IsPath (path_view g.U.Update.view key value l.path) lent base list →
+          IsGoing g.P.Policy.rules base list (decided_views key value l.initial.going.decided.items) l.initial.going.walk l.initial.policy all →
+          IfSome (g.C.Store.told l.initial.log.store) (λ _. AreDead list l.going.walk.floor l.from ×
+          IsGoing g.P.Policy.rules base list (decided_views key value l.going.decided.items) l.going.walk l.policy all);
     }
 
 abbrev pub decreases-loop-from : goal.decreases-loop-from

@@ -1,7 +1,6 @@
-use Rattle.std.proofs.Common.{◌∙◌, ◌++◌, ap, sym, arith, subst}
+use Rattle.std.proofs.Common.{◌∙◌, ap, sym, arith, subst}
 use Rattle.qm_bits.specs.Candidates.{candidates}
 use Rattle.qm_model.proofs.Results.{told-one}
-use Rattle.qm_model.specs.Writes.{unordered_writes}
 use Rattle.qm_batch.specs.Going.{IsSpaced}
 use Rattle.qm_batch.specs.PlanViews.{path_view}
 use Rattle.qm_batch.proofs.PlanGoing.{between-then, spaced-above, spaced-below}
@@ -18,24 +17,22 @@ visit_all-requires g c =
     (spaced-below c.args.going.now.walk.floor c.args.from c.in_ok-round.round.next c.in_ok-round.round.locations.items low c.in_ok-round.ensures.spaced))
 
 pub returns-then-goes-clause-value : goal.returns-then-goes-clause-value
-returns-then-goes-clause-value g c = λ lent base ws all is active on dead going.
-    let list = base ++ unordered_writes base ws in
+returns-then-goes-clause-value g c = λ lent base list all is active on dead going.
     let next = c.in_ok-round.round.next in
     let round = c.deref.result.now in
-    let path = path_view g.U.Update.view g.U.Key.ByteString.bytes g.U.Value.ByteString.bytes c.args.path.now c.args.last.now in
+    let path = path_view g.U.Update.view g.U.Key.ByteString.bytes g.U.Value.ByteString.bytes c.args.path.now in
     let found = ap (λ bs. candidates bs c.args.from next) (sym active) ∙ c.in_ok-round.ensures.found ∙ sym c.deref.ensures.value in
-    let between = between-then list c.args.going.now.walk.floor c.args.from next round dead (path-dead path lent base ws c.args.from next round on found) in
-    told-one _ _ (g.C.Store.told c.args.log.now.store) (c.in_ok-goes.ensures.value lent base ws next all is on between going) (λ walked. chosen-true c.in_ok-goes.goes _ _ c.if-goes.true walked)
+    let between = between-then list c.args.going.now.walk.floor c.args.from next round dead (path-dead path lent base list c.args.from next round on found) in
+    told-one _ _ (g.C.Store.told c.args.log.now.store) (c.in_ok-goes.ensures.value lent base list next all is on between going) (λ walked. chosen-true c.in_ok-goes.goes _ _ c.if-goes.true walked)
 
 pub returns-clause-value : goal.returns-clause-value
-returns-clause-value g c = λ lent base ws all is active on dead going.
-    let list = base ++ unordered_writes base ws in
+returns-clause-value g c = λ lent base list all is active on dead going.
     let next = c.in_ok-round.round.next in
     let round = c.deref.result.now in
-    let path = path_view g.U.Update.view g.U.Key.ByteString.bytes g.U.Value.ByteString.bytes c.args.path.now c.args.last.now in
+    let path = path_view g.U.Update.view g.U.Key.ByteString.bytes g.U.Value.ByteString.bytes c.args.path.now in
     let found = ap (λ bs. candidates bs c.args.from next) (sym active) ∙ c.in_ok-round.ensures.found ∙ sym c.deref.ensures.value in
-    let between = between-then list c.args.going.now.walk.floor c.args.from next round dead (path-dead path lent base ws c.args.from next round on found) in
-    told-one _ _ (g.C.Store.told c.args.log.now.store) (c.in_ok-goes.ensures.value lent base ws next all is on between going) (λ walked. chosen-false c.in_ok-goes.goes _ _ c.if-goes.false walked)
+    let between = between-then list c.args.going.now.walk.floor c.args.from next round dead (path-dead path lent base list c.args.from next round on found) in
+    told-one _ _ (g.C.Store.told c.args.log.now.store) (c.in_ok-goes.ensures.value lent base list next all is on between going) (λ walked. chosen-false c.in_ok-goes.goes _ _ c.if-goes.false walked)
 
 pub returns-then-goes-clause-next : goal.returns-then-goes-clause-next
 returns-then-goes-clause-next g c =

@@ -5,6 +5,7 @@ use Rattle.qm_model.specs.Writes.{create_of}
 use Rattle.qm_batch.specs.PlanViews.{site_in, site_view, unordered_touch, unordered_touches}
 use Rattle.qm_batch.specs.Touches.{new_touch}
 use Rattle.qm_batch.proofs.PlanLoops.{create-more, taken-all}
+use Rattle.qm_batch.proofs.PlanSites.{pushed-shown}
 use Rattle.qm_batch.proofs.plan.writes.add_creates.Goals as goal
 
 pub loop-site-init : goal.loop-site-init
@@ -15,8 +16,8 @@ loop-site-preserved g c = λ base us are.
     let key = g.K.ByteString.bytes in
     let value = g.V.Value.ByteString.bytes in
     create-more (site_view key value) base us c.args.sites.now are c.loop-site.site-index c.site-item.result c.loop-site-test.true c.site-item.is
-    (unordered_touches key value c.args.touches.now.items) (unordered_touches key value c.loop-site.touches.items) (unordered_touches key value c.push_some.new.touches.items) (option_map (unordered_touch key value) c.in_ok-touch.touch)
-    (λ w is. c.in_ok-touch.ensures base w is) c.in_ok-push_some.ensures (c.loop-site.invariant base us are)
+    (unordered_touches key value c.args.touches.now.items) (unordered_touches key value c.loop-site.touches.items) (unordered_touches key value c.push_some.new.things.items) (option_map (unordered_touch key value) c.in_ok-touch.touch)
+    (λ w is. c.in_ok-touch.ensures base w is) (pushed-shown (unordered_touch key value) c.push_some.new.things.items c.loop-site.touches.items c.in_ok-touch.touch c.in_ok-push_some.ensures) (c.loop-site.invariant base us are)
 
 pub returns : goal.returns
 returns g c = λ base us are.

@@ -1,0 +1,45 @@
+use Rattle.std.proofs.Common.{◌∙◌, ap, sym, map}
+use Rattle.std.specs.Prelude.{option_map}
+use Rattle.qm_model.proofs.Results.{told-any, told-one}
+use Rattle.qm_batch.specs.Layers.{nearest_layer}
+use Rattle.qm_batch.specs.Views.{change_view}
+use Rattle.qm_batch.proofs.HolderOf.{holder-none, holder-read, holder-some}
+use Rattle.qm_batch.proofs.Layered.{layer-update}
+use Rattle.qm_batch.proofs.Reading.{ok-same}
+use Rattle.qm_batch.proofs.neighbours.holder.Goals as goal
+
+pub returns-in-Some-2-clause-value : goal.returns-in-Some-2-clause-value
+returns-in-Some-2-clause-value g c = λ lent base is from ring_lent ring_base.
+    let key = g.U.Key.ByteString.bytes c.args.key.now in
+    let value = g.U.Value.ByteString.bytes in
+    let layers = map (λ l. l.value) c.args.layers.now in
+    told-any _ (g.C.Store.told c.args.log.now.store)
+    (holder-some _ base key c.in_ok-found-in-Some.field-0 c.in-Some-2.found _
+    (layer-update layers lent base from key c.in-Some.layer.now (change_view value c.in-Some.entry.now)
+    (ap (option_map (λ p. (p.0.now, change_view value p.1.now))) (sym c.in-Some.is) ∙ c.newest.ensures ∙ ap (nearest_layer layers) c.as_bytes.ensures.value))
+    c.in_ok-found-in-Some.ensures c.in-Some-2.is)
+
+pub returns-in-None-2-clause-value : goal.returns-in-None-2-clause-value
+returns-in-None-2-clause-value g c = λ lent base is from ring_lent ring_base.
+    let key = g.U.Key.ByteString.bytes c.args.key.now in
+    let value = g.U.Value.ByteString.bytes in
+    let layers = map (λ l. l.value) c.args.layers.now in
+    told-one _ _ (g.C.Store.told c.args.log.now.store) (c.previous.ensures.value lent base is from ring_lent ring_base) (λ found.
+    ok-same c.previous.result _ _ _
+    (holder-none _ base key c.in_ok-found-in-Some.field-0 _
+    (layer-update layers lent base from key c.in-Some.layer.now (change_view value c.in-Some.entry.now)
+    (ap (option_map (λ p. (p.0.now, change_view value p.1.now))) (sym c.in-Some.is) ∙ c.newest.ensures ∙ ap (nearest_layer layers) c.as_bytes.ensures.value))
+    c.in_ok-found-in-Some.ensures c.in-None-2.is) found)
+
+pub returns-in_ok-own_or_nearer-in-None-clause-value : goal.returns-in_ok-own_or_nearer-in-None-clause-value
+returns-in_ok-own_or_nearer-in-None-clause-value g c = λ lent base is from ring_lent ring_base.
+    let form = g.U.Update.form in
+    let key = g.U.Key.ByteString.bytes c.args.key.now in
+    let value = g.U.Value.ByteString.bytes in
+    let layers = map (λ l. l.value) c.args.layers.now in
+    let key_bytes = g.U.Key.ByteString.are_bytes key (sym (ap g.U.Key.ByteString.has c.as_bytes.ensures.value) ∙ c.as_bytes.ensures.known) in
+    let none = sym (ap (option_map (λ p. (p.0.now, change_view value p.1.now))) (sym c.in-None.is) ∙ c.newest.ensures ∙ ap (nearest_layer layers) c.as_bytes.ensures.value) in
+    told-one _ _ (g.C.Store.told c.args.log.now.store) (c.in_ok-lent-in-None.ensures.value lent is) (λ found.
+    c.in_ok-own_or_nearer-in-None.ensures
+    ∙ holder-read form g.met.U.Steps.known_bytes g.I.Unordered.index_key (g.met.U.Steps.monotone c.requires) (g.I.Unordered.entries c.args.index.now) c.last_lent.ensures.index
+    layers lent base is.indexed is.of from ring_lent ring_base key key_bytes _ _ _ _ c.as_bytes-in-None.ensures.value c.as_bytes-in-None-2.ensures.value c.as_bytes-in-None-3.ensures.value none found)

@@ -1,0 +1,55 @@
+use Rattle.std.proofs.Common.{◌∙◌, ◌≤◌, ap, sym, subst, None}
+use Rattle.std.specs.Prelude.{All, fold, option_map}
+use Rattle.std.proofs.lemmas.Result.{err_from_is_err_and}
+use Rattle.qm_model.proofs.Results.{told-both, told-one}
+use Rattle.qm_batch.specs.Nearest.{later_at, limit_view}
+use Rattle.qm_batch.specs.Views.{read_view}
+use Rattle.qm_batch.proofs.LentKeys.{bucket-above, own-found, prev-above, prev-found, prev-none}
+use Rattle.qm_batch.proofs.Reading.{ok-same, told}
+use Rattle.qm_batch.proofs.neighbours.lent.last_lent.Goals as goal
+
+pub returns-in_err-found-clause-whole : goal.returns-in_err-found-clause-whole
+returns-in_err-found-clause-whole g c = λ lent is none.
+    let exit = err_from_is_err_and c.from_residual.result c.from_residual.ensures.1 in
+    let start = c.args.log.now.tree.start in
+    let index_key = g.I.Unordered.index_key in
+    rw (exit.1, exit.2) (c.in_err-found.ensures.pruned
+    (subst (All (λ at. start ≤ at)) (sym c.bucket.ensures.value) (bucket-above lent index_key (g.I.Unordered.entries c.args.index.now) is.indexed (index_key c.args.key.now) start none)))
+
+pub returns-in-Some-clause-value : goal.returns-in-Some-clause-value
+returns-in-Some-clause-value g c = λ lent is.
+    let limit = limit_view c.args.limit in
+    let view = read_view g.U.Update.view in
+    told-one _ _ (g.C.Store.told c.args.log.now.store) (c.in_ok-found.ensures.value lent is.logged is.of) (λ said.
+    own-found lent g.I.Unordered.index_key (g.I.Unordered.entries c.args.index.now) is.indexed c.args.key.now limit _
+    (sym (ap (option_map view) c.in-Some.is) ∙ said ∙ ap (fold (later_at limit lent) None) c.bucket.ensures.value))
+
+pub returns-in-Some-bucket_before-clause-value : goal.returns-in-Some-bucket_before-clause-value
+returns-in-Some-bucket_before-clause-value g c = λ lent is.
+    let limit = limit_view c.args.limit in
+    let view = read_view g.U.Update.view in
+    let read = c.last_at.ensures.read in
+    told-both _ _ _ (g.C.Store.told c.args.log.now.store) (c.in_ok-found.ensures.value lent is.logged is.of)
+    (told _ _ _ read.kept.told (c.last_at-in-Some-bucket_before.ensures.value lent (read.stands _ is.logged) is.of)) (λ first second.
+    ok-same c.last_at-in-Some-bucket_before.result (option_map view) _ _
+    (prev-found lent g.I.Unordered.index_key (g.I.Unordered.entries c.args.index.now) is.indexed c.args.key.now limit c.in-Some-bucket_before.bucket.now c.in-Some-bucket_before.field-0-1
+    (sym (ap (option_map view) c.in_default.is) ∙ first ∙ ap (fold (later_at limit lent) None) c.bucket.ensures.value)
+    (sym (ap (option_map (λ b. (b.0.now, b.1))) c.in-Some-bucket_before.is) ∙ c.bucket_before.ensures c.requires)) second)
+
+pub returns-in-Some-bucket_before-clause-whole : goal.returns-in-Some-bucket_before-clause-whole
+returns-in-Some-bucket_before-clause-whole g c = λ lent is none.
+    let read = c.last_at.ensures.read in
+    let start = c.args.log.now.tree.start in
+    c.last_at-in-Some-bucket_before.ensures.pruned
+    (subst (λ t. All (λ at. t.start ≤ at) c.in-Some-bucket_before.bucket.now) (sym read.tree)
+    (prev-above lent g.I.Unordered.index_key (g.I.Unordered.entries c.args.index.now) is.indexed c.args.key.now c.in-Some-bucket_before.bucket.now c.in-Some-bucket_before.field-0-1
+    (sym (ap (option_map (λ b. (b.0.now, b.1))) c.in-Some-bucket_before.is) ∙ c.bucket_before.ensures c.requires) start none))
+
+pub returns-in-None-clause-value : goal.returns-in-None-clause-value
+returns-in-None-clause-value g c = λ lent is.
+    let limit = limit_view c.args.limit in
+    let view = read_view g.U.Update.view in
+    told-one _ _ (g.C.Store.told c.args.log.now.store) (c.in_ok-found.ensures.value lent is.logged is.of) (λ first.
+    prev-none lent g.I.Unordered.index_key (g.I.Unordered.entries c.args.index.now) is.indexed c.args.key.now limit
+    (sym (ap (option_map view) c.in_default.is) ∙ first ∙ ap (fold (later_at limit lent) None) c.bucket.ensures.value)
+    (sym (ap (option_map (λ b. (b.0.now, b.1))) c.in-None.is) ∙ c.bucket_before.ensures c.requires))

@@ -1,0 +1,14 @@
+use Rattle.std.proofs.Common.{◌∙◌, Option, ap, sym}
+use Rattle.std.specs.Prelude.{option_map}
+use Rattle.qm_model.proofs.Results.{ok-then, told-one}
+use Rattle.qm_batch.specs.Moves.{before_evicted}
+use Rattle.qm_batch.specs.PlanViews.{decided_view}
+use Rattle.qm_batch.proofs.plan.ordered.moves.before_gone.Goals as goal
+
+pub returns-in-None-clause-value : goal.returns-in-None-clause-value
+returns-in-None-clause-value g c = λ lent list is from ring over.
+    let key = g.U.Key.ByteString.bytes in
+    let value = g.U.Value.ByteString.bytes in
+    let d = decided_view key value c.args.one.now in
+    told-one _ _ (g.C.Store.told c.args.log.now.store) (c.previous.ensures.value lent list is from ring over) (λ found.
+    ok-then c.previous.result found (λ x same. same ∙ sym (ap (λ (o : Option _). before_evicted list (record d { value = option_map value o })) c.in-None.is)))

@@ -1,0 +1,69 @@
+use Rattle.std.proofs.Common.{◌∙◌, ap, sym, map, subst}
+use Rattle.std.specs.Prelude.{filter_map}
+use Rattle.std.proofs.lemmas.List.{take_all}
+use Rattle.std.proofs.lemmas.Result.{err_from_is_err_and}
+use Rattle.qm_model.proofs.Results.{told-any, told-both, told-err, told-one}
+use Rattle.qm_batch.specs.Lent.{NoneBelow}
+use Rattle.qm_batch.specs.Moves.{before_evicted}
+use Rattle.qm_batch.specs.PlanViews.{decided_view}
+use Rattle.qm_batch.specs.Views.{read_view}
+use Rattle.qm_batch.proofs.MovesLoops.{some-more, given-mapped}
+use Rattle.qm_batch.proofs.Reading.{read-none, read-then, lent-then, error-then, told}
+use Rattle.qm_batch.proofs.plan.ordered.moves.find_before.Goals as goal
+
+pub returns-in_err-found-clause-value : goal.returns-in_err-found-clause-value
+returns-in_err-found-clause-value g c = λ lent list is from ring over.
+    let exit = err_from_is_err_and c.from_residual.result c.from_residual.ensures.1 in
+    told-err _ (g.C.Store.told c.args.log.now.store) c.from_residual.result exit.0 exit.1
+
+pub returns-in_err-found-clause-read : goal.returns-in_err-found-clause-read
+returns-in_err-found-clause-read g c = read-then g.C.Store g.F.Family.shape g.H.Digest.Digest.bytes g.H.Hasher.hash c.args.log.now c.loop-one.log c.before_gone.new.log c.loop-one.invariant.read c.before_gone.ensures.read
+
+pub returns-in_err-found-clause-error : goal.returns-in_err-found-clause-error
+returns-in_err-found-clause-error g c =
+    let exit = err_from_is_err_and c.from_residual.result c.from_residual.ensures.1 in
+    rw (exit.1, exit.2) (error-then g.C.Store g.F.Family.shape g.H.Digest.Digest.bytes g.H.Hasher.hash c.args.log.now c.loop-one.log c.before_gone.new.log _ c.loop-one.invariant.read c.in_err-found.ensures.error)
+
+pub returns-in_err-found-clause-whole : goal.returns-in_err-found-clause-whole
+returns-in_err-found-clause-whole g c = λ lent is none.
+    let exit = err_from_is_err_and c.from_residual.result c.from_residual.ensures.1 in
+    let entries = g.I.Unordered.entries c.args.index.now in
+    let read = c.loop-one.invariant.read in
+    let mid = lent-then g.C.Store g.F.Family.shape g.H.Digest.Digest.bytes g.H.Hasher.hash _ g.I.Unordered.index_key entries c.args.log.now c.loop-one.log lent read is in
+    rw (exit.1, exit.2) (c.in_err-found.ensures.whole lent mid (subst (λ t. NoneBelow t.start lent) (sym read.tree) none))
+
+pub returns-in_err-push_some-clause-value : goal.returns-in_err-push_some-clause-value
+returns-in_err-push_some-clause-value g c = λ lent list is from ring over.
+    let exit = err_from_is_err_and c.from_residual-in_err-push_some.result c.from_residual-in_err-push_some.ensures.1 in
+    told-err _ (g.C.Store.told c.args.log.now.store) c.from_residual-in_err-push_some.result exit.0 exit.1
+
+pub returns-in_err-push_some-clause-read : goal.returns-in_err-push_some-clause-read
+returns-in_err-push_some-clause-read g c = read-then g.C.Store g.F.Family.shape g.H.Digest.Digest.bytes g.H.Hasher.hash c.args.log.now c.loop-one.log c.before_gone.new.log c.loop-one.invariant.read c.before_gone.ensures.read
+
+pub loop-one-init : goal.loop-one-init
+loop-one-init g c = record {
+  read = read-none g.C.Store g.F.Family.shape g.H.Digest.Digest.bytes g.H.Hasher.hash c.args.log.now;
+  value = λ lent list is from ring over.
+      told-any _ (g.C.Store.told c.args.log.now.store) (ap (map (read_view g.U.Update.view)) c.new-all.ensures.items);
+}
+
+pub loop-one-preserved : goal.loop-one-preserved
+loop-one-preserved g c =
+    let read = c.loop-one.invariant.read in
+    let key = g.U.Key.ByteString.bytes in
+    let value = g.U.Value.ByteString.bytes in
+    record {
+      read = read-then g.C.Store g.F.Family.shape g.H.Digest.Digest.bytes g.H.Hasher.hash c.args.log.now c.loop-one.log c.before_gone.new.log read c.before_gone.ensures.read;
+      value = λ lent list is from ring over.
+          let mid = lent-then g.C.Store g.F.Family.shape g.H.Digest.Digest.bytes g.H.Hasher.hash _ g.I.Unordered.index_key (g.I.Unordered.entries c.args.index.now) c.args.log.now c.loop-one.log lent read is in
+          told-both _ _ _ (g.C.Store.told c.args.log.now.store) (c.loop-one.invariant.value lent list is from ring over)
+          (told _ _ _ read.kept.told (c.in_ok-found.ensures.value lent list mid from ring over)) (λ before found.
+          some-more (read_view g.U.Update.view) (λ d. before_evicted list (decided_view key value d)) c.loop-one.all.items c.push_some.new.all.items c.in_ok-found.found c.in_ok-push_some.ensures
+          c.args.decided.now c.loop-one.one-index c.one-item.result c.loop-one-test.true c.one-item.is found before);
+    }
+
+pub returns-clause-value : goal.returns-clause-value
+returns-clause-value g c = λ lent list is from ring over.
+    let view = decided_view g.U.Key.ByteString.bytes g.U.Value.ByteString.bytes in
+    told-one _ _ (g.C.Store.told c.args.log.now.store) (c.loop-one.invariant.value lent list is from ring over) (λ found.
+    found ∙ ap (filter_map (λ d. before_evicted list (view d))) (take_all c.loop-one.one-index c.args.decided.now c.loop-one-test.false) ∙ sym (given-mapped (before_evicted list) view c.args.decided.now))

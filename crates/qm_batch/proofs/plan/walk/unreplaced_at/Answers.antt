@@ -1,0 +1,55 @@
+use Rattle.std.proofs.Common.{◌∙◌, None, ap, sym, subst, refl, map}
+use Rattle.std.specs.Prelude.{option_map, option_and_then}
+use Rattle.qm_model.specs.Forms.{IsSpelling, spelling}
+use Rattle.qm_model.proofs.Results.{told-any, told-one}
+use Rattle.qm_base.specs.Views.{operation_view}
+use Rattle.qm_batch.specs.Changes.{said_by}
+use Rattle.qm_batch.proofs.PlanFinds.{match-some, match-none, standing-none, moved-found, moved-not}
+use Rattle.qm_batch.proofs.Spellings.{spelled-there, unspelled-there}
+use Rattle.qm_batch.proofs.plan.walk.unreplaced_at.Goals as goal
+
+pub returns-in_ok-twin_update-clause-value : goal.returns-in_ok-twin_update-clause-value
+returns-in_ok-twin_update-clause-value g c = λ lent base made is leads within from keyed replaced.
+    let op = operation_view g.U.Update.view g.U.Key.ByteString.bytes g.U.Value.ByteString.bytes c.in-Some.operation.now in
+    let there = match-some c.in_layers.result c.in-Some.operation _ _ c.in-Some.is (c.in_layers.ensures lent base leads within) in
+    told-any _ (g.C.Store.told c.args.log.now.store)
+    (moved-found base made c.args.at op there g.U.Update.view c.in_ok-twin_update.field-0 c.is_moved.result c.if-is_moved.true c.in_ok-twin_update.ensures
+    (c.is_moved.ensures lent base made op is.indexed leads from keyed replaced there c.key_of_update.ensures))
+
+pub returns-else-is_moved-clause-value : goal.returns-else-is_moved-clause-value
+returns-else-is_moved-clause-value g c = λ lent base made is leads within from keyed replaced.
+    let op = operation_view g.U.Update.view g.U.Key.ByteString.bytes g.U.Value.ByteString.bytes c.in-Some.operation.now in
+    let there = match-some c.in_layers.result c.in-Some.operation _ _ c.in-Some.is (c.in_layers.ensures lent base leads within) in
+    told-any _ (g.C.Store.told c.args.log.now.store)
+    (moved-not base made c.args.at op there c.is_moved.result c.if-is_moved.false (c.is_moved.ensures lent base made op is.indexed leads from keyed replaced there c.key_of_update.ensures))
+
+pub returns-in_default-2-clause-value : goal.returns-in_default-2-clause-value
+returns-in_default-2-clause-value g c = λ lent base made is leads within from keyed replaced.
+    let form = g.U.Update.form in
+    told-one _ _ (g.C.Store.told c.args.log.now.store) (c.in_ok-item.ensures.value (map (spelling form) lent) is.logged) (λ said.
+    let none = unspelled-there form lent c.args.at (sym said ∙ ap (option_map (λ v. v.items)) c.in_default-2.is) in
+    let same = match-none c.in_layers.result _ _ c.in_default.is (c.in_layers.ensures lent base leads within) in
+    standing-none base made c.args.at within None (sym (ap (option_and_then said_by) (same ∙ none))) refl)
+
+pub returns-then-is_moved-2-clause-value : goal.returns-then-is_moved-2-clause-value
+returns-then-is_moved-2-clause-value g c = λ lent base made is leads within from keyed replaced.
+    let form = g.U.Update.form in
+    let same = match-none c.in_layers.result _ _ c.in_default.is (c.in_layers.ensures lent base leads within) in
+    told-one _ _ (g.C.Store.told c.args.log.now.store) (c.in_ok-item.ensures.value (map (spelling form) lent) is.logged) (λ said.
+    let spelled = spelled-there form lent c.args.at c.in-Some-2.item.items is.of (sym said ∙ ap (option_map (λ v. v.items)) c.in-Some-2.is) in
+    let op = spelled.0 in
+    let there = same ∙ spelled.1 in
+    let lent_key = c.update_key.ensures op (subst (λ bs. IsSpelling form bs op) (sym c.deref.ensures.value) spelled.2) in
+    let found = c.in_ok-update_in.ensures op (subst (λ bs. IsSpelling form bs op) (sym c.deref-then-is_moved-2.ensures.value) spelled.2) in
+    moved-found base made c.args.at op there g.U.Update.view c.in_ok-update_in.field-0 c.is_moved-2.result c.if-is_moved-2.true found (c.is_moved-2.ensures lent base made op is.indexed leads from keyed replaced there lent_key))
+
+pub returns-clause-value : goal.returns-clause-value
+returns-clause-value g c = λ lent base made is leads within from keyed replaced.
+    let form = g.U.Update.form in
+    let same = match-none c.in_layers.result _ _ c.in_default.is (c.in_layers.ensures lent base leads within) in
+    told-one _ _ (g.C.Store.told c.args.log.now.store) (c.in_ok-item.ensures.value (map (spelling form) lent) is.logged) (λ said.
+    let spelled = spelled-there form lent c.args.at c.in-Some-2.item.items is.of (sym said ∙ ap (option_map (λ v. v.items)) c.in-Some-2.is) in
+    let op = spelled.0 in
+    let there = same ∙ spelled.1 in
+    let lent_key = c.update_key.ensures op (subst (λ bs. IsSpelling form bs op) (sym c.deref.ensures.value) spelled.2) in
+    moved-not base made c.args.at op there c.is_moved-2.result c.if-is_moved-2.false (c.is_moved-2.ensures lent base made op is.indexed leads from keyed replaced there lent_key))

@@ -1,0 +1,251 @@
+//! Reads of an ordered base list: the live update before a key, around the ring, and the one whose span holds it.
+
+ghost use Rattle.std.specs.Prelude.{◌≡◌, ◌≢◌, true, ℕ, List, map, option_and_then, option_map, IfSome, IfOk, IfErr};
+ghost use Rattle.qm_model.specs.Keys.{key_lt};
+ghost use Rattle.qm_model.specs.Live.{live_keys};
+ghost use Rattle.qm_model.specs.Operations as model;
+ghost use Rattle.qm_model.specs.Ordered.{IsRing};
+ghost use Rattle.qm_model.specs.Ranges.{key_above, key_below};
+ghost use Rattle.qm_batch.specs.Layers.{LeadOver};
+ghost use Rattle.qm_batch.specs.Lent.{IsLent, IsRead, IsReadError, NoneBelow};
+ghost use Rattle.qm_batch.specs.Changes.{next_in};
+ghost use Rattle.qm_batch.specs.Nearest.{is_nearest, kept, nearer_of, own_or_nearer, said_key};
+ghost use Rattle.qm_batch.specs.Rings.{previous_of, holder_of};
+ghost use Rattle.qm_batch.specs.Views.{read_view};
+
+mod left;
+mod lent;
+mod order;
+
+use self::left::{left_before, update_left};
+use self::lent::last_lent;
+use self::order::{is_below, is_between};
+use crate::kind::Steps;
+use crate::layer::Layer;
+use crate::read::{newest, twin_next, update_from};
+use qm_base::update::Update;
+use qm_base::{ByteString, Error, Hasher, JournalError, Location};
+use qm_merkle::Family;
+use qm_store::{AuthLog, Store};
+use std::alloc::{AllocError, Global};
+use std::ops::Bound;
+use std::rc::Rc;
+
+/// The live update of the nearest key before this one in the base list, around the ring, with its location; none where no
+/// key is live. Index and log are lent for the base list or a list on the way to it. It takes the reads of two buckets at
+/// most.
+pub fn previous<
+    F: Family,
+    I: qm_index::Unordered<Value = Location<F>>,
+    C: Store,
+    H: Hasher + Drop,
+    U: Steps<F, I>,
+>(
+    alloc: Global,
+    index: &I,
+    log: &mut AuthLog<F, C, H>,
+    layers: &[Rc<Layer<F, U>>],
+    key: &U::Key,
+) -> Result<Option<(Location<F>, U)>, Error>
+    requires { U.form.ordered ≡ true }
+    ensures value { (lent base : List model.Operation) → IsLent C.Store F.shape H.Digest.bytes H.hash U.form I.index_key (I.entries index.now) log.old lent → LeadOver (map (λ l. l.value) layers.now) lent base
+        → IsRing lent → IsRing base → IfSome (C.told log.old.store) (λ _. IfOk result (λ found. option_map (read_view U.view) found ≡ previous_of base (U.Key.bytes key.now))) }
+    ensures read { IsRead C.Store F.shape H.Digest.bytes H.hash log.old log.new }
+    ensures error { IfErr result (IsReadError C.Store log.old log.new) }
+    ensures whole { (lent : List model.Operation) → IsLent C.Store F.shape H.Digest.bytes H.hash U.form I.index_key (I.entries index.now) log.old lent → NoneBelow log.old.tree.start lent
+        → IfErr result (λ e. (n : ℕ) → e ≢ Error.Journal (JournalError.ItemPruned n)) }
+{
+    let lent = last_lent(
+        alloc,
+        index,
+        log,
+        key.as_bytes(),
+        Bound::Excluded(key.as_bytes()),
+    )?;
+    Ok(nearer(alloc, layers, key.as_bytes(), lent)?)
+}
+
+/// The live update of the base list whose span holds the key, with its location: the key's own, or else the one before it,
+/// around the ring; none where no key is live.
+pub fn holder<
+    F: Family,
+    I: qm_index::Unordered<Value = Location<F>>,
+    C: Store,
+    H: Hasher + Drop,
+    U: Steps<F, I>,
+>(
+    alloc: Global,
+    index: &I,
+    log: &mut AuthLog<F, C, H>,
+    layers: &[Rc<Layer<F, U>>],
+    key: &U::Key,
+) -> Result<Option<(Location<F>, U)>, Error>
+    requires { U.form.ordered ≡ true }
+    ensures value { (lent base : List model.Operation) → IsLent C.Store F.shape H.Digest.bytes H.hash U.form I.index_key (I.entries index.now) log.old lent → LeadOver (map (λ l. l.value) layers.now) lent base
+        → IsRing lent → IsRing base → IfSome (C.told log.old.store) (λ _. IfOk result (λ found. option_map (read_view U.view) found ≡ holder_of base (U.Key.bytes key.now))) }
+    ensures read { IsRead C.Store F.shape H.Digest.bytes H.hash log.old log.new }
+    ensures error { IfErr result (IsReadError C.Store log.old log.new) }
+    ensures whole { (lent : List model.Operation) → IsLent C.Store F.shape H.Digest.bytes H.hash U.form I.index_key (I.entries index.now) log.old lent → NoneBelow log.old.tree.start lent
+        → IfErr result (λ e. (n : ℕ) → e ≢ Error.Journal (JournalError.ItemPruned n)) }
+{
+    match newest(layers, key.as_bytes()) {
+        Some((layer, entry)) => match update_from(alloc, layer, entry)? {
+            Some(found) => Ok(Some(found)),
+            None => previous(alloc, index, log, layers, key),
+        },
+        None => {
+            let lent = last_lent(
+                alloc,
+                index,
+                log,
+                key.as_bytes(),
+                Bound::Included(key.as_bytes()),
+            )?;
+            Ok(own_or_nearer(alloc, layers, key.as_bytes(), lent)?)
+        }
+    }
+}
+
+/// The nearest live key above this one in the base list, which does not go round.
+pub fn next_key<
+    F: Family,
+    I: qm_index::Unordered<Value = Location<F>>,
+    C: Store,
+    H: Hasher + Drop,
+    U: Steps<F, I>,
+>(
+    alloc: Global,
+    index: &I,
+    log: &mut AuthLog<F, C, H>,
+    layers: &[Rc<Layer<F, U>>],
+    key: &U::Key,
+) -> Result<Option<U::Key>, Error>
+    requires { U.form.ordered ≡ true }
+    ensures value { (lent base : List model.Operation) → IsLent C.Store F.shape H.Digest.bytes H.hash U.form I.index_key (I.entries index.now) log.old lent → LeadOver (map (λ l. l.value) layers.now) lent base
+        → IsRing lent → IsRing base → IfSome (C.told log.old.store) (λ _. IfOk result (λ found. option_map U.Key.bytes found ≡ key_above (live_keys base) (U.Key.bytes key.now))) }
+    ensures read { IsRead C.Store F.shape H.Digest.bytes H.hash log.old log.new }
+    ensures error { IfErr result (IsReadError C.Store log.old log.new) }
+    ensures whole { (lent : List model.Operation) → IsLent C.Store F.shape H.Digest.bytes H.hash U.form I.index_key (I.entries index.now) log.old lent → NoneBelow log.old.tree.start lent
+        → IfErr result (λ e. (n : ℕ) → e ≢ Error.Journal (JournalError.ItemPruned n)) }
+{
+    let found = holder(alloc, index, log, layers, key)?;
+    Ok(next_above(alloc, found, key.as_bytes())?)
+}
+
+/// The nearest live key below this one in the base list, which does not go round.
+pub fn previous_key<
+    F: Family,
+    I: qm_index::Unordered<Value = Location<F>>,
+    C: Store,
+    H: Hasher + Drop,
+    U: Steps<F, I>,
+>(
+    alloc: Global,
+    index: &I,
+    log: &mut AuthLog<F, C, H>,
+    layers: &[Rc<Layer<F, U>>],
+    key: &U::Key,
+) -> Result<Option<U::Key>, Error>
+    requires { U.form.ordered ≡ true }
+    ensures value { (lent base : List model.Operation) → IsLent C.Store F.shape H.Digest.bytes H.hash U.form I.index_key (I.entries index.now) log.old lent → LeadOver (map (λ l. l.value) layers.now) lent base
+        → IsRing lent → IsRing base → IfSome (C.told log.old.store) (λ _. IfOk result (λ found. option_map U.Key.bytes found ≡ key_below (live_keys base) (U.Key.bytes key.now))) }
+    ensures read { IsRead C.Store F.shape H.Digest.bytes H.hash log.old log.new }
+    ensures error { IfErr result (IsReadError C.Store log.old log.new) }
+    ensures whole { (lent : List model.Operation) → IsLent C.Store F.shape H.Digest.bytes H.hash U.form I.index_key (I.entries index.now) log.old lent → NoneBelow log.old.tree.start lent
+        → IfErr result (λ e. (n : ℕ) → e ≢ Error.Journal (JournalError.ItemPruned n)) }
+{
+    let found = previous(alloc, index, log, layers, key)?;
+    Ok(key_under(found, key.as_bytes()))
+}
+
+// Of the live update before a key in the lent list and the one that layers leave there the nearer one.
+fn nearer<F, U: Update>(
+    alloc: Global,
+    layers: &[Rc<Layer<F, U>>],
+    key: &[u8],
+    lent: Option<(Location<F>, U)>,
+) -> Result<Option<(Location<F>, U)>, AllocError>
+    ensures { IfOk result (λ found. option_map (read_view U.view) found ≡ nearer_of (map (λ l. l.value) layers.now) key.now (option_map (read_view U.view) lent)) }
+{
+    let left = left_before(layers, key);
+    if let Some(found) = lent {
+        if is_nearest(layers, key, left, found.1.key().as_bytes()) {
+            return Ok(Some(found));
+        }
+    }
+    match left {
+        Some(left) => update_left(alloc, layers, left),
+        None => Ok(None),
+    }
+}
+
+// Whether layers do nothing to a key, and leave none live between it and the key behind it.
+fn is_nearest<F, U: Update>(
+    layers: &[Rc<Layer<F, U>>],
+    key: &[u8],
+    left: Option<&[u8]>,
+    own: &[u8],
+) -> bool
+    ensures { result ≡ is_nearest (map (λ l. l.value) layers.now) key.now (option_map (λ k. k.now) left.entry) own.now }
+{
+    if newest(layers, own).is_some() {
+        return false;
+    }
+    match left {
+        Some(left) => is_between(left, key, own),
+        None => true,
+    }
+}
+
+// The lent list's update, where it is the key's own, or else the nearer one.
+fn own_or_nearer<F, U: Update>(
+    alloc: Global,
+    layers: &[Rc<Layer<F, U>>],
+    key: &[u8],
+    lent: Option<(Location<F>, U)>,
+) -> Result<Option<(Location<F>, U)>, AllocError>
+    ensures { IfOk result (λ found. option_map (read_view U.view) found ≡ own_or_nearer (map (λ l. l.value) layers.now) key.now (option_map (read_view U.view) lent)) }
+{
+    match lent {
+        Some(found) => {
+            if found.1.key().as_bytes() == key {
+                return Ok(Some(found));
+            }
+            nearer(alloc, layers, key, Some(found))
+        }
+        None => nearer(alloc, layers, key, None),
+    }
+}
+
+// A copy of the next key of an update, where it is above the key.
+fn next_above<F, U: Update>(
+    alloc: Global,
+    found: Option<(Location<F>, U)>,
+    key: &[u8],
+) -> Result<Option<U::Key>, AllocError>
+    ensures { IfOk result (λ next. option_map U.Key.bytes next ≡ kept (λ k. key_lt key.now k) (option_and_then (λ p. next_in p.1) (option_map (read_view U.view) found))) }
+{
+    let Some((_, update)) = found else {
+        return Ok(None);
+    };
+    let Some(next) = twin_next(alloc, &update)? else {
+        return Ok(None);
+    };
+    if is_below(key, next.as_bytes()) {
+        Ok(Some(next))
+    } else {
+        Ok(None)
+    }
+}
+
+// The key of an update, where it is below the key.
+fn key_under<F, U: Update>(found: Option<(Location<F>, U)>, key: &[u8]) -> Option<U::Key>
+    ensures { option_map U.Key.bytes result ≡ kept (λ k. key_lt k key.now) (option_map (λ p. said_key p.1) (option_map (read_view U.view) found)) }
+{
+    let (_, update) = found?;
+    if is_below(update.key().as_bytes(), key) {
+        Some(update.into_key())
+    } else {
+        None
+    }
+}

@@ -1,0 +1,137 @@
+//! The live update before a key in the list that index and log are lent for.
+
+ghost use Rattle.std.specs.Prelude.{◌≡◌, ◌≢◌, ◌≤◌, true, ℕ, List, fold, map, option_map, All, IfSome, IfOk, IfErr};
+ghost use Rattle.std.specs.Option.{option_or};
+ghost use Rattle.qm_index.specs.Buckets.{IsIndex};
+ghost use Rattle.qm_model.specs.Forms.{IsOf, IsSpelling, spelling};
+ghost use Rattle.qm_model.specs.Operations as model;
+ghost use Rattle.qm_store.specs.Log.{IsLog};
+ghost use Rattle.qm_batch.specs.Changes.{said_by, update_at};
+ghost use Rattle.qm_batch.specs.Lent.{IsLent, IsRead, IsReadError, NoneBelow};
+ghost use Rattle.qm_batch.specs.Nearest.{lent_before, later_at, limit_view, only_within, said_key};
+ghost use Rattle.qm_batch.specs.Views.{read_view};
+
+use super::order::is_within;
+use crate::kind::Steps;
+use crate::read::{read_item, update_in};
+use qm_base::update::Update;
+use qm_base::{ByteString, Error, Hasher, JournalError, Location, Operation};
+use qm_merkle::Family;
+use qm_store::{AuthLog, Store};
+use std::alloc::{AllocError, Global};
+use std::ops::Bound;
+
+/// The live update with the greatest key before the limit in the key's own bucket, or else the one with the greatest key in
+/// the bucket before it, with its location.
+pub(crate) fn last_lent<
+    F: Family,
+    I: qm_index::Unordered<Value = Location<F>>,
+    C: Store,
+    H: Hasher + Drop,
+    U: Steps<F, I>,
+>(
+    alloc: Global,
+    index: &I,
+    log: &mut AuthLog<F, C, H>,
+    key: &[u8],
+    limit: Bound<&[u8]>,
+) -> Result<Option<(Location<F>, U)>, Error>
+    requires { U.form.ordered ≡ true }
+    ensures value { (lent : List model.Operation) → IsLent C.Store F.shape H.Digest.bytes H.hash U.form I.index_key (I.entries index.now) log.old lent
+        → IfSome (C.told log.old.store) (λ _. IfOk result (λ found. option_map (read_view U.view) found ≡ lent_before I.index_key (I.entries index.now) lent key.now (limit_view limit.entry))) }
+    ensures read { IsRead C.Store F.shape H.Digest.bytes H.hash log.old log.new }
+    ensures error { IfErr result (IsReadError C.Store log.old log.new) }
+    ensures whole { (lent : List model.Operation) → IsLent C.Store F.shape H.Digest.bytes H.hash U.form I.index_key (I.entries index.now) log.old lent → NoneBelow log.old.tree.start lent
+        → IfErr result (λ e. (n : ℕ) → e ≢ Error.Journal (JournalError.ItemPruned n)) }
+    ensures index { IsIndex (I.entries index.now) }
+{
+    if let Some(found) = last_at(alloc, log, index.bucket(key), limit)? {
+        return Ok(Some(found));
+    }
+    match U::bucket_before(index, key) {
+        Some((bucket, _)) => last_at(alloc, log, bucket, Bound::Unbounded),
+        None => Ok(None),
+    }
+}
+
+// Of the updates at these locations of the log's list the one with the greatest key before the limit, with its location.
+fn last_at<F: Family, C: Store, H: Hasher + Drop, U: Update>(
+    alloc: Global,
+    log: &mut AuthLog<F, C, H>,
+    locations: &[Location<F>],
+    limit: Bound<&[u8]>,
+) -> Result<Option<(Location<F>, U)>, Error>
+    ensures value { (list : List model.Operation) → IsLog C.Store F.shape H.Digest.bytes H.hash log.old (map (spelling U.form) list) → All (IsOf U.form) list
+        → IfSome (C.told log.old.store) (λ _. IfOk result (λ found. option_map (read_view U.view) found ≡ fold (later_at (limit_view limit.entry) list) None locations.now)) }
+    ensures read { IsRead C.Store F.shape H.Digest.bytes H.hash log.old log.new }
+    ensures error { IfErr result (IsReadError C.Store log.old log.new) }
+    ensures pruned { All (λ at. log.old.tree.start ≤ at) locations.now → IfErr result (λ e. (n : ℕ) → e ≢ Error.Journal (JournalError.ItemPruned n)) }
+{
+    let mut last: Option<(Location<F>, U)> = None;
+    for location in locations {
+        let at = location.get();
+        let update = read_within(alloc, log, at, key_in(&last), limit)?;
+        last = or_last(at, update, last);
+    }
+    Ok(last)
+}
+
+// An update with its location, where there is one, or else the last one.
+fn or_last<F, U: Update>(
+    at: u64,
+    update: Option<U>,
+    last: Option<(Location<F>, U)>,
+) -> Option<(Location<F>, U)>
+    ensures { option_map (read_view U.view) result ≡ option_or (option_map (λ op. (at, op)) (option_map U.view update)) (option_map (read_view U.view) last) }
+{
+    match update {
+        Some(update) => Some((Location::new(at), update)),
+        None => last,
+    }
+}
+
+// The key of an update, where there is one.
+fn key_in<F, U: Update>(found: &Option<(Location<F>, U)>) -> Option<&[u8]>
+    ensures { option_map (λ k. k.now) result ≡ option_map (λ p. said_key p.1) (option_map (read_view U.view) found.now) }
+{
+    match found {
+        Some((_, update)) => Some(update.key().as_bytes()),
+        None => None,
+    }
+}
+
+// The update at a location of the log's list, where its key comes behind the one above it and before the limit. Another is
+// read, and not copied.
+fn read_within<F: Family, C: Store, H: Hasher + Drop, U: Update>(
+    alloc: Global,
+    log: &mut AuthLog<F, C, H>,
+    at: u64,
+    above: Option<&[u8]>,
+    limit: Bound<&[u8]>,
+) -> Result<Option<U>, Error>
+    ensures value { (list : List model.Operation) → IsLog C.Store F.shape H.Digest.bytes H.hash log.old (map (spelling U.form) list) → All (IsOf U.form) list
+        → IfSome (C.told log.old.store) (λ _. IfOk result (λ update. option_map U.view update ≡ only_within (option_map (λ k. k.now) above.entry) (limit_view limit.entry) (update_at list at))) }
+    ensures read { IsRead C.Store F.shape H.Digest.bytes H.hash log.old log.new }
+    ensures error { IfErr result (IsReadError C.Store log.old log.new) }
+    ensures pruned { log.old.tree.start ≤ at → IfErr result (λ e. (n : ℕ) → e ≢ Error.Journal (JournalError.ItemPruned n)) }
+{
+    match read_item(log, at)? {
+        Some(item) => Ok(update_within(alloc, &item, above, limit)?),
+        None => Ok(None),
+    }
+}
+
+// The update that the bytes spell, where its key comes behind the one above it and before the limit.
+fn update_within<U: Update>(
+    alloc: Global,
+    item: &[u8],
+    above: Option<&[u8]>,
+    limit: Bound<&[u8]>,
+) -> Result<Option<U>, AllocError>
+    ensures { (op : model.Operation) → IsSpelling U.form item.now op → IfOk result (λ update. option_map U.view update ≡ only_within (option_map (λ k. k.now) above.entry) (limit_view limit.entry) (said_by op)) }
+{
+    match Operation::<(), U>::update_key(item) {
+        Some(own) if is_within(above, limit, own) => update_in(alloc, item),
+        _ => Ok(None),
+    }
+}

@@ -1,0 +1,128 @@
+//! What stands in an ordered base list before the keys that are created or deleted.
+
+ghost use Rattle.std.specs.Prelude.{◌≡◌, ◌≢◌, true, ℕ, List, map, filter_map, option_map, IfSome, IfOk, IfErr};
+ghost use Rattle.qm_model.specs.Live.{live};
+ghost use Rattle.qm_model.specs.Operations as operations;
+ghost use Rattle.qm_model.specs.Ordered.{IsRing};
+ghost use Rattle.qm_model.specs.Writes as model;
+ghost use Rattle.qm_batch.specs.Layers.{LeadOver};
+ghost use Rattle.qm_batch.specs.Lent.{IsLent, IsRead, IsReadError, NoneBelow};
+ghost use Rattle.qm_batch.specs.OrderedViews.{neighbour_view};
+ghost use Rattle.qm_batch.specs.PlanViews.{linked_view};
+ghost use Rattle.qm_batch.specs.Rings.{is_changed, linked_in, neighbour_in};
+
+use super::Neighbour;
+use crate::kind::Steps;
+use crate::layer::Layer;
+use crate::neighbours::previous;
+use crate::plan::sites::Site;
+use crate::plan::writes::push_some;
+use qm_base::{Error, Hasher, JournalError, Location};
+use qm_merkle::Family;
+use qm_store::{AuthLog, Store};
+use std::alloc::Global;
+use std::rc::Rc;
+
+// Whether the write creates its key, or deletes it.
+fn is_changed<K, V>(site: &Site<'_, K, V>) -> bool
+    ensures { (key : K → operations.Bytes) (value : V → operations.Bytes) (base : List operations.Operation) (w : model.Write) → linked_view key value site.now ≡ linked_in base w → result ≡ is_changed (live base) w }
+{
+    site.write.value.is_some() != site.stands.is_some()
+}
+
+// What stands in the base list before the key of a write that creates or deletes it.
+fn find_neighbour<
+    'a,
+    F: Family,
+    I: qm_index::Unordered<Value = Location<F>>,
+    C: Store,
+    H: Hasher + Drop,
+    U: Steps<F, I>,
+>(
+    alloc: Global,
+    index: &I,
+    log: &mut AuthLog<F, C, H>,
+    layers: &[Rc<Layer<F, U>>],
+    site: &Site<'a, U::Key, U::Value>,
+) -> Result<Option<Neighbour<'a, F, U>>, Error>
+    requires { U.form.ordered ≡ true }
+    ensures value { (lent base : List operations.Operation) (w : model.Write) → IsLent C.Store F.shape H.Digest.bytes H.hash U.form I.index_key (I.entries index.now) log.old lent → LeadOver (map (λ l. l.value) layers.now) lent base
+        → IsRing lent → IsRing base → linked_view U.Key.bytes U.Value.bytes site.now ≡ linked_in base w
+        → IfSome (C.told log.old.store) (λ _. IfOk result (λ neighbour. option_map (neighbour_view U.view U.Key.bytes) neighbour ≡ neighbour_in base w)) }
+    ensures read { IsRead C.Store F.shape H.Digest.bytes H.hash log.old log.new }
+    ensures error { IfErr result (IsReadError C.Store log.old log.new) }
+    ensures whole { (lent : List operations.Operation) → IsLent C.Store F.shape H.Digest.bytes H.hash U.form I.index_key (I.entries index.now) log.old lent → NoneBelow log.old.tree.start lent
+        → IfErr result (λ e. (n : ℕ) → e ≢ Error.Journal (JournalError.ItemPruned n)) }
+{
+    if !is_changed(site) {
+        return Ok(None);
+    }
+    let before = previous(alloc, index, log, layers, site.write.key)?;
+    Ok(Some(Neighbour {
+        key: site.write.key,
+        before,
+    }))
+}
+
+// What stands in the base list before each key that a write creates or deletes, in the order of the writes.
+fn find_neighbours<
+    'a,
+    F: Family,
+    I: qm_index::Unordered<Value = Location<F>>,
+    C: Store,
+    H: Hasher + Drop,
+    U: Steps<F, I>,
+>(
+    alloc: Global,
+    index: &I,
+    log: &mut AuthLog<F, C, H>,
+    layers: &[Rc<Layer<F, U>>],
+    sites: &[Site<'a, U::Key, U::Value>],
+) -> Result<Vec<Neighbour<'a, F, U>>, Error>
+    requires { U.form.ordered ≡ true }
+    ensures value { (lent base : List operations.Operation) (ws : List model.Write) → IsLent C.Store F.shape H.Digest.bytes H.hash U.form I.index_key (I.entries index.now) log.old lent → LeadOver (map (λ l. l.value) layers.now) lent base
+        → IsRing lent → IsRing base → map (linked_view U.Key.bytes U.Value.bytes) sites.now ≡ map (linked_in base) ws
+        → IfSome (C.told log.old.store) (λ _. IfOk result (λ neighbours. map (neighbour_view U.view U.Key.bytes) neighbours.items ≡ filter_map (neighbour_in base) ws)) }
+    ensures read { IsRead C.Store F.shape H.Digest.bytes H.hash log.old log.new }
+    ensures error { IfErr result (IsReadError C.Store log.old log.new) }
+    ensures whole { (lent : List operations.Operation) → IsLent C.Store F.shape H.Digest.bytes H.hash U.form I.index_key (I.entries index.now) log.old lent → NoneBelow log.old.tree.start lent
+        → IfErr result (λ e. (n : ℕ) → e ≢ Error.Journal (JournalError.ItemPruned n)) }
+{
+    let mut neighbours = Vec::new(alloc);
+    for site in sites {
+        let neighbour = find_neighbour(alloc, index, log, layers, site)?;
+        push_some(&mut neighbours, neighbour)?;
+    }
+    Ok(neighbours)
+}
+
+/// What stands in an ordered base list before each key that a write creates or deletes, in the order of the writes. In an
+/// unordered database nothing is looked for.
+pub(crate) fn neighbours_of<
+    'a,
+    F: Family,
+    I: qm_index::Unordered<Value = Location<F>>,
+    C: Store,
+    H: Hasher + Drop,
+    U: Steps<F, I>,
+>(
+    alloc: Global,
+    index: &I,
+    log: &mut AuthLog<F, C, H>,
+    layers: &[Rc<Layer<F, U>>],
+    sites: &[Site<'a, U::Key, U::Value>],
+) -> Result<Vec<Neighbour<'a, F, U>>, Error>
+    ensures value { (lent base : List operations.Operation) (ws : List model.Write) → U.form.ordered ≡ true → IsLent C.Store F.shape H.Digest.bytes H.hash U.form I.index_key (I.entries index.now) log.old lent → LeadOver (map (λ l. l.value) layers.now) lent base
+        → IsRing lent → IsRing base → map (linked_view U.Key.bytes U.Value.bytes) sites.now ≡ map (linked_in base) ws
+        → IfSome (C.told log.old.store) (λ _. IfOk result (λ neighbours. map (neighbour_view U.view U.Key.bytes) neighbours.items ≡ filter_map (neighbour_in base) ws)) }
+    ensures read { IsRead C.Store F.shape H.Digest.bytes H.hash log.old log.new }
+    ensures error { IfErr result (IsReadError C.Store log.old log.new) }
+    ensures whole { (lent : List operations.Operation) → IsLent C.Store F.shape H.Digest.bytes H.hash U.form I.index_key (I.entries index.now) log.old lent → NoneBelow log.old.tree.start lent
+        → IfErr result (λ e. (n : ℕ) → e ≢ Error.Journal (JournalError.ItemPruned n)) }
+{
+    if U::is_ordered() {
+        find_neighbours(alloc, index, log, layers, sites)
+    } else {
+        Ok(Vec::new(alloc))
+    }
+}

@@ -1,0 +1,120 @@
+//! Where written keys stand in a base list.
+
+ghost use Rattle.std.specs.Prelude.{◌≡◌, ◌≢◌, ℕ, List, map, option_map, IfSome, IfOk, IfErr};
+ghost use Rattle.qm_model.specs.Operations as operations;
+ghost use Rattle.qm_batch.specs.Changes.{link_in};
+ghost use Rattle.qm_batch.specs.Layers.{LeadOver};
+ghost use Rattle.qm_batch.specs.Lent.{IsLent, IsRead, IsReadError, NoneBelow};
+ghost use Rattle.qm_batch.specs.PlanViews.{last_write_view, linked_view, AreKnown};
+ghost use Rattle.qm_batch.specs.Rings.{linked_in};
+ghost use Rattle.qm_batch.specs.Views.{stands_view, AreReads};
+
+use super::writes::{Last, LastWrite};
+use crate::layer::Layer;
+use crate::read::{Stands, locate, stands_of};
+use crate::wanted::Read;
+use qm_base::update::Update;
+use qm_base::{ByteString, Error, Hasher, JournalError, Location};
+use qm_merkle::Family;
+use qm_store::{AuthLog, Store};
+use std::alloc::{AllocError, Global};
+use std::collections::BTreeMap;
+use std::rc::Rc;
+
+/// What was read of keys, by key.
+pub(crate) type Known<'a, F, U> = BTreeMap<&'a [u8], &'a Read<F, U>>;
+
+/// A write, and where its key's live update stands in the base list.
+#[derive(Drop)]
+pub struct Site<'a, K, V> {
+    pub(crate) write: LastWrite<'a, K, V>,
+    pub(crate) stands: Option<Stands<K>>,
+}
+
+impl<'a, K, V> Site<'a, K, V> {
+    /// The location.
+    pub(crate) fn at(&self) -> Option<u64>
+        ensures { result ≡ option_map (λ t. t.at) self.now.stands }
+    {
+        match &self.stands {
+            Some(stands) => Some(stands.at),
+            None => None,
+        }
+    }
+}
+
+/// What was read, by key; of a key that was read twice, the later read. Where nothing was read it takes no memory.
+pub(crate) fn known_of<'a, F, U: Update>(
+    alloc: Global,
+    reads: &'a [Read<F, U>],
+) -> Result<Known<'a, F, U>, AllocError>
+    ensures { IfOk result (λ known. (base : List operations.Operation) → AreReads U.view U.Key.bytes reads.now base → AreKnown U.view base known.entries) }
+{
+    let mut known = BTreeMap::new(alloc);
+    for read in reads {
+        known.insert(read.key.as_bytes(), read)?;
+    }
+    Ok(known)
+}
+
+// Where a key stands in the base list. A key that was read is not looked up.
+fn place_of<
+    F: Family,
+    I: qm_index::Unordered<Value = Location<F>>,
+    C: Store,
+    H: Hasher + Drop,
+    U: Update,
+>(
+    alloc: Global,
+    index: &I,
+    log: &mut AuthLog<F, C, H>,
+    layers: &[Rc<Layer<F, U>>],
+    known: &Known<'_, F, U>,
+    key: &U::Key,
+) -> Result<Option<Stands<U::Key>>, Error>
+    ensures value { (lent base : List operations.Operation) → IsLent C.Store F.shape H.Digest.bytes H.hash U.form I.index_key (I.entries index.now) log.old lent → LeadOver (map (λ l. l.value) layers.now) lent base
+        → AreKnown U.view base known.now.entries → IfSome (C.told log.old.store) (λ _. IfOk result (λ stands. option_map (stands_view U.Key.bytes) stands ≡ link_in base (U.Key.bytes key.now))) }
+    ensures read { IsRead C.Store F.shape H.Digest.bytes H.hash log.old log.new }
+    ensures error { IfErr result (IsReadError C.Store log.old log.new) }
+    ensures whole { (lent : List operations.Operation) → IsLent C.Store F.shape H.Digest.bytes H.hash U.form I.index_key (I.entries index.now) log.old lent → NoneBelow log.old.tree.start lent
+        → IfErr result (λ e. (n : ℕ) → e ≢ Error.Journal (JournalError.ItemPruned n)) }
+{
+    match known.get(key.as_bytes()) {
+        Some(read) => Ok(stands_of(alloc, &read.found)?),
+        None => locate(alloc, index, log, layers, key),
+    }
+}
+
+/// The last writes, each with where its key stands in the base list. Keys that were read are not looked up.
+pub(crate) fn find_sites<
+    'a,
+    F: Family,
+    I: qm_index::Unordered<Value = Location<F>>,
+    C: Store,
+    H: Hasher + Drop,
+    U: Update,
+>(
+    alloc: Global,
+    index: &I,
+    log: &mut AuthLog<F, C, H>,
+    layers: &[Rc<Layer<F, U>>],
+    known: &Known<'_, F, U>,
+    last: &Last<'a, U::Key, U::Value>,
+) -> Result<Vec<Site<'a, U::Key, U::Value>>, Error>
+    ensures value { (lent base : List operations.Operation) → IsLent C.Store F.shape H.Digest.bytes H.hash U.form I.index_key (I.entries index.now) log.old lent → LeadOver (map (λ l. l.value) layers.now) lent base
+        → AreKnown U.view base known.now.entries → IfSome (C.told log.old.store) (λ _. IfOk result (λ sites. map (linked_view U.Key.bytes U.Value.bytes) sites.items ≡ map (λ e. linked_in base (last_write_view U.Key.bytes U.Value.bytes e.1)) last.now.entries)) }
+    ensures read { IsRead C.Store F.shape H.Digest.bytes H.hash log.old log.new }
+    ensures error { IfErr result (IsReadError C.Store log.old log.new) }
+    ensures whole { (lent : List operations.Operation) → IsLent C.Store F.shape H.Digest.bytes H.hash U.form I.index_key (I.entries index.now) log.old lent → NoneBelow log.old.tree.start lent
+        → IfErr result (λ e. (n : ℕ) → e ≢ Error.Journal (JournalError.ItemPruned n)) }
+{
+    let mut sites = Vec::new(alloc);
+    for write in last.values() {
+        let stands = place_of(alloc, index, log, layers, known, write.key)?;
+        sites.push(Site {
+            write: write.lent(),
+            stands,
+        })?;
+    }
+    Ok(sites)
+}
