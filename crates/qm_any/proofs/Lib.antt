@@ -1,6 +1,7 @@
 pub mod Agreed
 pub mod Known
 pub mod Making
+pub mod OrderedReads
 pub mod Reading
 pub mod Resting
 pub mod Staging

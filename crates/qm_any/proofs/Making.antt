@@ -1,5 +1,5 @@
 -- What a step makes of a list, and the merkleized batch of a plan on its parent.
-use Rattle.std.proofs.Common.{◌≡◌, ◌≢◌, ◌∙◌, ℕ, zero, suc, ◌+◌, ◌-◌, ◌≤◌, ◌<◌, ◌^◌, arith, ap, ap₂, sym, subst, refl, Bool, true, false, List, [], ◌∷◌, ◌++◌, length, take, drop, map, inl, inr, ⊎_elim, Option, Some, None, option_map}
+use Rattle.std.proofs.Common.{◌≡◌, ◌≢◌, ◌∙◌, ℕ, zero, suc, ◌+◌, ◌-◌, ◌≤◌, ◌<◌, ◌^◌, arith, ap, ap₂, sym, subst, refl, Bool, true, false, List, [], ◌∷◌, ◌++◌, length, take, drop, map, inl, inr, ⊎_elim, Option, Some, None, option_map, option_and_then}
 use Rattle.std.specs.Prelude.{All, Contains, IfSome, is_some, nat_le, filter_map, if◌then◌else◌, ◌==◌}
 use Rattle.std.specs.List.{cons_option, AllByRecursion as Each}
 use Rattle.std.proofs.lemmas.Bool.Decides.{leb_tells}
@@ -8,12 +8,16 @@ use Rattle.std.proofs.lemmas.List.Elements.{All-cons, All-nil, All-head, All-tai
 use Rattle.qm_model.specs.Forms.{Form, IsOf, spelling}
 use Rattle.qm_model.specs.Operations.{Bytes, Operation, update, delete, commit}
 use Rattle.qm_model.specs.Batches.{Commitment, Chain, Kept, oldest_base}
-use Rattle.qm_model.specs.Live.{live, live_of, floor, floor_after, last_metadata, metadata_after}
-use Rattle.qm_model.specs.Step.{IsGood}
-use Rattle.qm_model.specs.Walk.{Rules}
-use Rattle.qm_model.specs.Writes.{Write, write_of, last_writes, operation_of, rewrite_of, create_of, unordered_writes}
-use Rattle.qm_model.proofs.Steps.{walked, moved, walked-walks}
-use Rattle.qm_model.proofs.Walks.{walks_within}
+use Rattle.qm_model.specs.Live.{Live, live, live_of, live_keys, floor, floor_after, last_metadata, metadata_after}
+use Rattle.qm_model.specs.Ordered.{IsRing, linked, rewritten, put_of, deleted_keys, updated_keys, created_keys, relinked_keys, evicted_keys, broken_keys, ordered_writes, ordered_moves}
+use Rattle.qm_model.specs.Step.{Kind, IsGood, ordered, unordered, step, walk_after}
+use Rattle.qm_model.specs.Keys.{without}
+use Rattle.qm_model.specs.Walk.{Rules, Walked}
+use Rattle.qm_model.specs.Writes.{Write, write_of, last_writes, operation_of, made_inactive, rewrite_of, create_of, unordered_writes}
+use Rattle.qm_model.proofs.OrderedLists.{Each-append}
+use Rattle.qm_model.proofs.OrderedSteps.{ordered-good, step-ring}
+use Rattle.qm_model.proofs.Steps.{step-good}
+use Rattle.qm_model.proofs.Walks.{Walks, walks, walks_within}
 use Rattle.qm_base.specs.declared.error.Error.{Error}
 use Rattle.qm_base.specs.declared.error.Error.TheVariants as errors
 use Rattle.qm_base.specs.declared.error.JournalError.TheVariants as journal
@@ -22,6 +26,7 @@ use Rattle.qm_merkle.proofs.Since.{stop-since, list-since}
 use Rattle.qm_store.specs.KeptTrees.{KeptTree, IsKeptTree}
 use Rattle.qm_store.proofs.Kept.{kept-fewer}
 use Rattle.qm_chain.specs.Bounds.{Bounds}
+use Rattle.qm_batch.specs.Kinds.{HasRing, kind_of}
 use Rattle.qm_batch.specs.Layers.{Layer, LeadThrough}
 use Rattle.qm_batch.specs.Views.{Plan, IsPlan, stepped}
 use Rattle.qm_any.specs.Databases.{Made, AreAgreed, AreLinked, IsMade, IsTree, bases, bases_of, child_boundary, child_made, child_tips, kept_by}
@@ -216,8 +221,9 @@ module _ {D : Type 0} {hashing : Hashing D} (parent : Made D) (keep : ℕ) (chai
   -- a plan on the parent's list makes a batch of the child's chain
   pub child-is_made : (plan : Plan) (tree : KeptTree D) (root : Bytes) (meta : Option Bytes) (tip : List Operation) → IsPlan plan chain.base tip
       → IsKeptTree hashing.bytes hashing.hash hashing.shape tree (spellings hashing tip) (lists_since (child_boundary keep parent.bounds).size (map (spellings hashing) (chain.base ∷ bases_of above)))
-      → root ≡ list_root hashing tip → meta ≡ last_metadata tip → All (IsOf hashing.form) tip → IsGood tip → IsMade hashing (child_made parent keep plan tree root meta) chain tip
-  child-is_made plan tree root meta tip is grown standing last all good =
+      → root ≡ list_root hashing tip → meta ≡ last_metadata tip → All (IsOf hashing.form) tip → IsGood tip → HasRing hashing.form tip
+      → IsMade hashing (child_made parent keep plan tree root meta) chain tip
+  child-is_made plan tree root meta tip is grown standing last all good ring =
       record {
         bounds = record {
           base = made.bounds.tip;
@@ -236,6 +242,7 @@ module _ {D : Type 0} {hashing : Hashing D} (parent : Made D) (keep : ℕ) (chai
         tree = child-tree tree tip grown;
         of = all;
         good = good;
+        ring = ring;
       }
 
 -- an operation of a form has a low floor
@@ -279,6 +286,51 @@ low-writes base ws =
     (All-from_recursion IsLow (filter_map (rewrite_of last) found) (low-kept (rewrite_of last) (λ e. low-write (write_of last e.key)) found))
     (All-from_recursion IsLow (filter_map (create_of found) last) (low-kept (create_of found) (λ w. low-create w.key (is_some (live_of found w.key)) w.value) last))
 
+low-put : (key : Bytes) (o : Option Bytes) → IfSome (option_map (λ value. update key value None) o) IsLow
+low-put key None = tt
+low-put key (Some value) = tt
+
+low-rewritten : (key : Bytes) (o : Option Live) → IfSome (option_map (λ (e : Live). update key e.value None) o) IsLow
+low-rewritten key None = tt
+low-rewritten key (Some e) = tt
+
+low-deletes : (keys : List Bytes) → Each IsLow (map delete keys)
+low-deletes [] = tt
+low-deletes (key ∷ keys) = (tt, low-deletes keys)
+
+-- so are operations that name their next keys
+low-linked : (keys : List Bytes) (ops : List Operation) → Each IsLow ops → Each IsLow (map (linked keys) ops)
+low-linked keys [] lows = tt
+low-linked keys (update key value next ∷ ops) lows = (tt, low-linked keys ops lows.1)
+low-linked keys (delete key ∷ ops) lows = (tt, low-linked keys ops lows.1)
+low-linked keys (commit meta low ∷ ops) lows = (lows.0, low-linked keys ops lows.1)
+
+low-ordered_writes : (base : List Operation) (ws : List Write) → All IsLow (ordered_writes base ws)
+low-ordered_writes base ws =
+    let last = last_writes ws in
+    let found = live base in
+    let deleted = deleted_keys found last in
+    let updates = filter_map (put_of last) (updated_keys found last) in
+    let creates = filter_map (put_of last) (created_keys found last) in
+    let again = filter_map (rewritten found) (relinked_keys found last) in
+    let put : (key : Bytes) → IfSome (put_of last key) IsLow = λ key. low-put key (option_and_then (λ w. w.value) (write_of last key)) in
+    All-from_recursion IsLow (ordered_writes base ws)
+    (low-linked (without deleted (map (λ e. e.key) found) ++ created_keys found last) (map delete deleted ++ updates ++ creates ++ again)
+    (Each-append IsLow (map delete deleted ++ updates ++ creates) again
+    (Each-append IsLow (map delete deleted ++ updates) creates
+    (Each-append IsLow (map delete deleted) updates (low-deletes deleted) (low-kept (put_of last) put (updated_keys found last)))
+    (low-kept (put_of last) put (created_keys found last)))
+    (low-kept (rewritten found) (λ key. low-rewritten key (live_of found key)) (relinked_keys found last))))
+
+low-ordered_moves : (list : List Operation) (ds : List Write) → All IsLow (ordered_moves list ds)
+low-ordered_moves list ds =
+    let before = live_keys list in
+    let again = filter_map (rewritten (live list)) (broken_keys before ds) in
+    All-from_recursion IsLow (ordered_moves list ds)
+    (low-linked (without (evicted_keys ds) before) (map operation_of ds ++ again)
+    (Each-append IsLow (map operation_of ds) again (low-moves ds)
+    (low-kept (rewritten (live list)) (λ key. low-rewritten key (live_of (live list) key)) (broken_keys before ds))))
+
 -- the floor of operations with low floors is low
 low-floor : (low : ℕ) (ops : List Operation) → low ≤ 2 ^ 62 → Each IsLow ops → floor_after low ops ≤ 2 ^ 62
 low-floor low [] few lows = few
@@ -293,43 +345,87 @@ last-commit before (update key value next ∷ ops) meta low = last-commit before
 last-commit before (delete key ∷ ops) meta low = last-commit before ops meta low
 last-commit before (commit m f ∷ ops) meta low = last-commit m ops meta low
 
--- what a step makes of a list of an unordered database
-module _ {P : Type 0} (rules : Rules P) (base : List Operation) (ws : List Write) (policy : P) (meta : Option Bytes) where
-  -- its metadata is the one given
-  pub stepped-metadata : meta ≡ last_metadata (stepped rules base ws policy meta)
-  stepped-metadata =
-      let list = moved rules base ws policy meta in
-      sym (last-commit None list meta (if length (live list) == 0 then length list else (walked rules base ws policy meta).floor))
+-- what a kind of database appends has low floors: none of it is a commit
+record AreLow (kind : Kind) : Type 0 where
+  writes : (base : List Operation) (ws : List Write) → All IsLow (kind.writes base ws)
+  moves : (list : List Operation) (ds : List Write) → All IsLow (kind.moves list ds)
 
-  stepped-low : All IsLow base → length (stepped rules base ws policy meta) ≤ 2 ^ 62 → All IsLow (stepped rules base ws policy meta)
-  stepped-low lows few =
-      let made = unordered_writes base ws in
-      let walk = walked rules base ws policy meta in
-      let list = moved rules base ws policy meta in
-      let below = low-floor 0 base (omega arith) (recursion_from_All IsLow base lows) in
-      let within = walks_within rules (walked-walks rules base ws policy meta) in
-      let count = length-append list (commit meta (if length (live list) == 0 then length list else walk.floor) ∷ []) in
-      let size : length list ≤ 2 ^ 62 = omega (arith, few, count) in
-      let first : length (base ++ made) ≤ 2 ^ 62 = omega (arith, size, length-append (base ++ made) (map operation_of walk.decisions)) in
-      let end : walk.floor ≤ 2 ^ 62 = omega (arith, within.1, length-drop (floor base) (base ++ made), first, below) in
-      All-append IsLow list (commit meta (if length (live list) == 0 then length list else walk.floor) ∷ [])
-      (All-append IsLow (base ++ made) (map operation_of walk.decisions) (All-append IsLow base made lows (low-writes base ws))
-      (All-from_recursion IsLow (map operation_of walk.decisions) (low-moves walk.decisions)))
-      (All-cons IsLow (commit meta (if length (live list) == 0 then length list else walk.floor)) [] (by (length (live list) == 0) (length list) walk.floor size end) (All-nil IsLow))
-    where
-      by : (t : Bool) (n f : ℕ) → n ≤ 2 ^ 62 → f ≤ 2 ^ 62 → (if t then n else f) ≤ 2 ^ 62
-      by true n f one other = one
-      by false n f one other = other
+unordered-low : AreLow unordered
+unordered-low = record { writes = low-writes; moves = λ list ds. All-from_recursion IsLow (map operation_of ds) (low-moves ds) }
+
+ordered-low : AreLow ordered
+ordered-low = record { writes = low-ordered_writes; moves = low-ordered_moves }
+
+kind-low : (form : Form) → AreLow (kind_of form)
+kind-low form = by form.ordered
+  where
+    by : (o : Bool) → AreLow (if o then ordered else unordered)
+    by true = ordered-low
+    by false = unordered-low
+
+-- the list of a step of such a kind has low floors, where that before it has them
+step-low : {P : Type 0} (kind : Kind) (rules : Rules P) (base : List Operation) (ws : List Write) (policy : P) (meta : Option Bytes) → AreLow kind → All IsLow base
+    → length (step kind rules base ws policy meta) ≤ 2 ^ 62 → All IsLow (step kind rules base ws policy meta)
+step-low {P} kind rules base ws policy meta low lows few =
+    let made = kind.writes base ws in
+    let limits = rules.limits policy (made_inactive base made) in
+    let walk : Walked P = walk_after kind rules base ws policy in
+    let moves = kind.moves (base ++ made) walk.decisions in
+    let list = (base ++ made) ++ moves in
+    let below = low-floor 0 base (omega arith) (recursion_from_All IsLow base lows) in
+    let path : Walks rules (drop (floor base) (base ++ made)) (floor base) walk.floor walk.decisions =
+    walks rules (drop (floor base) (base ++ made)) (floor base) limits.entries limits.skips policy in
+    let within = walks_within rules path in
+    let count = length-append list (commit meta (if length (live list) == 0 then length list else walk.floor) ∷ []) in
+    let size : length list ≤ 2 ^ 62 = omega (arith, few, count) in
+    let first : length (base ++ made) ≤ 2 ^ 62 = omega (arith, size, length-append (base ++ made) moves) in
+    let end : walk.floor ≤ 2 ^ 62 = omega (arith, within.1, length-drop (floor base) (base ++ made), first, below) in
+    All-append IsLow list (commit meta (if length (live list) == 0 then length list else walk.floor) ∷ [])
+    (All-append IsLow (base ++ made) moves (All-append IsLow base made lows (low.writes base ws)) (low.moves (base ++ made) walk.decisions))
+    (All-cons IsLow (commit meta (if length (live list) == 0 then length list else walk.floor)) [] (by (length (live list) == 0) (length list) walk.floor size end) (All-nil IsLow))
+  where
+    by : (t : Bool) (n f : ℕ) → n ≤ 2 ^ 62 → f ≤ 2 ^ 62 → (if t then n else f) ≤ 2 ^ 62
+    by true n f one other = one
+    by false n f one other = other
+
+step-metadata : {P : Type 0} (kind : Kind) (rules : Rules P) (base : List Operation) (ws : List Write) (policy : P) (meta : Option Bytes) → meta ≡ last_metadata (step kind rules base ws policy meta)
+step-metadata {P} kind rules base ws policy meta =
+    let walk : Walked P = walk_after kind rules base ws policy in
+    let written = base ++ kind.writes base ws in
+    let list = written ++ kind.moves written walk.decisions in
+    sym (last-commit None list meta (if length (live list) == 0 then length list else walk.floor))
+
+-- what a step makes of a list of a database
+module _ {P : Type 0} (form : Form) (rules : Rules P) (base : List Operation) (ws : List Write) (policy : P) (meta : Option Bytes) where
+  -- its metadata is the one given
+  pub stepped-metadata : meta ≡ last_metadata (stepped form rules base ws policy meta)
+  stepped-metadata = step-metadata (kind_of form) rules base ws policy meta
 
   -- it is of the form of its base list, where operations with low floors behind that are and it is not too long
-  pub stepped-of : (form : Form) (own : List Operation) → All (IsOf form) base → take (length base) (stepped rules base ws policy meta) ≡ base → own ≡ drop (length base) (stepped rules base ws policy meta)
-      → (All IsLow own → All (IsOf form) own) → length (stepped rules base ws policy meta) ≤ 2 ^ 62 → All (IsOf form) (stepped rules base ws policy meta)
-  stepped-of form own all begins is of few =
-      let tip = stepped rules base ws policy meta in
-      let lows = All-drop IsLow (length base) tip (stepped-low (All-weaker (IsOf form) IsLow (low-from form) base all) few) in
+  pub stepped-of : (own : List Operation) → All (IsOf form) base → take (length base) (stepped form rules base ws policy meta) ≡ base → own ≡ drop (length base) (stepped form rules base ws policy meta)
+      → (All IsLow own → All (IsOf form) own) → length (stepped form rules base ws policy meta) ≤ 2 ^ 62 → All (IsOf form) (stepped form rules base ws policy meta)
+  stepped-of own all begins is of few =
+      let tip = stepped form rules base ws policy meta in
+      let lows = All-drop IsLow (length base) tip (step-low (kind_of form) rules base ws policy meta (kind-low form) (All-weaker (IsOf form) IsLow (low-from form) base all) few) in
       subst (All (IsOf form)) (take-append-drop (length base) tip)
       (All-append (IsOf form) (take (length base) tip) (drop (length base) tip) (subst (All (IsOf form)) (sym begins) all)
       (subst (All (IsOf form)) is (of (subst (All IsLow) (sym is) lows))))
+
+  -- it is good, as its base list is
+  pub stepped-good : IsGood base → IsGood (stepped form rules base ws policy meta)
+  stepped-good good = by form.ordered
+    where
+      by : (o : Bool) → IsGood (step (if o then ordered else unordered) rules base ws policy meta)
+      by true = ordered-good rules base ws policy meta good
+      by false = step-good rules base ws policy meta good
+
+  -- in an ordered database each of its live updates names the next live key, as those of its base list do
+  pub stepped-ring : HasRing form base → HasRing form (stepped form rules base ws policy meta)
+  stepped-ring = by form.ordered
+    where
+      by : (o : Bool) → (o ≡ true → IsRing base) → o ≡ true → IsRing (step (if o then ordered else unordered) rules base ws policy meta)
+      by true ring is = step-ring rules base ws policy meta (ring refl)
+      by false ring is = cc
 
 -- the tips that a child keeps: its parent's own, and the first of those that the parent keeps
 pub kept-tips : {A : Type 0} (view : A → Commitment) (bounds : Bounds) (keep i : ℕ) (older kept tips : List A) → map view older ≡ bounds.ancestors → 0 < keep → keep ≤ suc (length bounds.ancestors)

@@ -46,6 +46,7 @@ left-database members layout old new list left is =
       metadata = is.metadata;
       active = is.active;
       good = is.good;
+      ring = is.ring;
     })
 
 -- no steps lead from a list to itself

@@ -47,6 +47,7 @@ module _ {C D : Type 0} {members : store.Ghosts C} {layout : Layout D} where
         };
         of = is.lent.of;
         good = is.good;
+        ring = is.ring;
       }
 
 module _ {D : Type 0} {hashing : Hashing D} where

@@ -11,7 +11,8 @@ use Rattle.qm_model.specs.Bits.{bits}
 use Rattle.qm_model.specs.StoreModel.{Stored, Becomes}
 use Rattle.qm_model.specs.Refused as refusals
 use Rattle.qm_model.specs.Refused.{HistoricalFloorPruned, DataCorrupted, Merkle, Journal, FloorExceedsCommit, RangeOutOfBounds, ItemPruned}
-use Rattle.qm_model.specs.Live.{floor, floor_after}
+use Rattle.qm_model.specs.Keys.{successor}
+use Rattle.qm_model.specs.Live.{Live, floor, floor_after}
 use Rattle.qm_model.specs.Forms.{Form, IsOf, IsSpelling, spelling}
 use Rattle.qm_model.specs.Operations.{Bytes, Operation, update, delete, commit, fresh}
 use Rattle.qm_model.specs.Proofs.{Proof, proof_of, ops_proof}
@@ -138,6 +139,7 @@ fresh-stands members layout db log first is committed told logged = subst (λ d.
   metadata = refl;
   active = refl;
   good = fresh-good;
+  ring = λ _. All-nil (λ (e : Live). e.next ≡ successor [] e.key);
 })
 
 -- the floor of a commit, in the words of refusals

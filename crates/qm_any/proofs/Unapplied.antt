@@ -222,6 +222,7 @@ module _ {C D : Type 0} (members : store.Ghosts C) (layout : Layout D) where
         metadata = rest.3 ∙ made.metadata;
         active = active list tip lead is.good.commit_ended (ap (λ k. k.size) made.bounds.tip) is.active;
         good = made.good;
+        ring = made.ring;
       }
 
   -- what a database lacks of a batch's list is what lies behind its size

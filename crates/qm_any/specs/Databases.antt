@@ -15,6 +15,7 @@ use Rattle.qm_store.specs.Log.{Log}
 use Rattle.qm_bits.specs.Bitmaps.{Bitmap, all_bits}
 use Rattle.qm_batch.specs.Bases.{Base}
 use Rattle.qm_batch.specs.Changes.{update_of}
+use Rattle.qm_batch.specs.Kinds.{HasRing}
 use Rattle.qm_batch.specs.Layers.{Layer, LeadThrough}
 use Rattle.qm_batch.specs.Lent.{IsLent, IsRead}
 use Rattle.qm_batch.specs.Views.{Plan}
@@ -173,6 +174,7 @@ module _ {D : Type 0} (hashing : Hashing D) where
     pub tree : IsTree batch.tree tip (bases_of chain)
     pub of : All (IsOf hashing.form) tip
     pub good : IsGood tip
+    pub ring : HasRing hashing.form tip
 
   -- the batch is of this chain, and its parent of that one
   pub record IsBegun (batch : Begun D) (chain above : Chain) : Type 0 where
@@ -195,6 +197,7 @@ module _ {C D : Type 0} (members : store.Ghosts C) where
     pub metadata : db.metadata ≡ last_metadata list
     pub active : all_bits 64 db.activity ≡ bits list
     pub good : IsGood list
+    pub ring : HasRing layout.hashing.form list
 
   -- reads left the database as it was, but for its store's count of faults, which did not fall
   pub record IsLeft (hashing : Hashing D) (old new : Database C D) : Type 0 where

@@ -15,6 +15,7 @@ ghost use Rattle.qm_merkle.specs.Batches.{stops, stops_since};
 ghost use Rattle.qm_proofs.specs.Proofs.{proof_view, first_lacked, needed_positions};
 ghost use Rattle.qm_chain.specs.Bounds.{commitment_view, is_at, knows};
 ghost use Rattle.qm_batch.specs.Bases.{IsBase, base_view};
+ghost use Rattle.qm_batch.specs.Kinds.{HasRing};
 ghost use Rattle.qm_batch.specs.Lent.{IsReadError, NoneBelow};
 ghost use Rattle.qm_batch.specs.Views.{changes_view, keys_of, wanted_view, AreReads, IsPlan, stepped, left_after};
 ghost use Rattle.qm_any.specs.Databases.{IsDatabase, IsBegun, IsMade, IsLeft, base_of, bases, child_boundary, child_made, child_tips, is_on, kept_by, operations_in, unapplied};
@@ -30,11 +31,12 @@ use crate::db::{Db, LaidOut};
 use crate::operations::{
     Step, diffs_of, refuse, share, shared, spelled, spelled_steps, twin_option, unapplied_of,
 };
-use qm_base::update::{Unordered, Update};
+use qm_base::update::Update;
 use qm_base::{
     ByteString, Commitment, Digest, Error, Hasher, JournalError, Location, MerkleError, Slot,
     ValueEncoding,
 };
+use qm_batch::kind::Steps;
 use qm_batch::{Base, Layer, Plan, Read, Wanted, Write, Writes};
 use qm_chain::{Bounds, Diff, Policy, validate_batch_applicable};
 use qm_merkle::Family;
@@ -68,7 +70,7 @@ impl<F: Family, D: Digest, U: Update> Model for UnmerkleizedBatch<F, D, U> {
 #[derive(Drop)]
 pub struct MerkleizedBatch<F: Family, D: Digest, U: Update> {
     pub(crate) bounds: Bounds<F, D>,
-    steps: Vec<Rc<Layer<F, U>>>,
+    pub(crate) steps: Vec<Rc<Layer<F, U>>>,
     diffs: Vec<Rc<Diff<F, U::Key, U::Value>>>,
     pub(crate) tree: KeptTree<F, D>,
     pub(crate) live: u64,
@@ -202,11 +204,7 @@ impl<F: Family, D: Digest, U: Update> UnmerkleizedBatch<F, D, U> {
     }
 }
 
-impl<F: Family, D: Digest, K: ByteString, V: ValueEncoding<K>> UnmerkleizedBatch<
-    F,
-    D,
-    Unordered<K, V>,
-> {
+impl<F: Family, D: Digest, U: Update> UnmerkleizedBatch<F, D, U> {
     /// Makes the list of the batch: its writes on its base list, then what the policy decides, then a commit with the
     /// metadata. The database is at the batch's boundary or at a kept ancestor's tip, else the batch is refused as stale;
     /// then come the first spelling of more than 65,536 bytes, and a list of more than 2^62 operations. The batch is gone
@@ -217,31 +215,33 @@ impl<F: Family, D: Digest, K: ByteString, V: ValueEncoding<K>> UnmerkleizedBatch
         C: Store,
         I: qm_index::Unordered<Value = Location<F>>,
         H: Hasher<Digest = D> + Drop,
-        P: Policy<F, K, V::Value>,
+        P: Policy<F, U::Key, U::Value>,
     >(
         self,
         alloc: Global,
-        db: &mut Db<F, C, I, H, Unordered<K, V>>,
-        metadata: Option<V::Value>,
+        db: &mut Db<F, C, I, H, U>,
+        metadata: Option<U::Value>,
         policy: &mut P,
-    ) -> Result<Rc<MerkleizedBatch<F, D, Unordered<K, V>>>, Error>
+    ) -> Result<Rc<MerkleizedBatch<F, D, U>>, Error>
+    where
+        U: Steps<F, I>,
         ensures fits { OnOk result (is_on db.old.commitment self ≡ true) }
-        ensures made { (list : List Operation) (chain above : Chain) → IsDatabase C.Store ⟦<Db<F, C, I, H, Unordered<K, V>> as LaidOut>⟧.layout db.old list → IsBegun ⟦<Db<F, C, I, H, Unordered<K, V>> as LaidOut>⟧.layout.hashing self chain above → IsOnChain list chain
-            → IfOk result (λ b. IsMade ⟦<Db<F, C, I, H, Unordered<K, V>> as LaidOut>⟧.layout.hashing b.value chain (stepped P.rules chain.base self.writes policy.old (option_map V.Value.bytes metadata))) }
-        ensures taken { (list : List Operation) (chain above : Chain) → IsDatabase C.Store ⟦<Db<F, C, I, H, Unordered<K, V>> as LaidOut>⟧.layout db.old list → IsBegun ⟦<Db<F, C, I, H, Unordered<K, V>> as LaidOut>⟧.layout.hashing self chain above → IsOnChain list chain
-            → OnOk result (IsTaken ⟦<Unordered<K, V> as Update>⟧.form chain.base (stepped P.rules chain.base self.writes policy.old (option_map V.Value.bytes metadata))) }
-        ensures refused { (list : List Operation) (chain above : Chain) → IsDatabase C.Store ⟦<Db<F, C, I, H, Unordered<K, V>> as LaidOut>⟧.layout db.old list → IsBegun ⟦<Db<F, C, I, H, Unordered<K, V>> as LaidOut>⟧.layout.hashing self chain above → IsOnChain list chain
-            → IfErr result (λ e. IsRefused ⟦<Unordered<K, V> as Update>⟧.form chain.base (stepped P.rules chain.base self.writes policy.old (option_map V.Value.bytes metadata)) e ⊎ IsReadError C.Store db.old.log db.new.log e) }
-        ensures next { (list : List Operation) (chain above : Chain) → IsDatabase C.Store ⟦<Db<F, C, I, H, Unordered<K, V>> as LaidOut>⟧.layout db.old list → IsBegun ⟦<Db<F, C, I, H, Unordered<K, V>> as LaidOut>⟧.layout.hashing self chain above → IsOnChain list chain
-            → OnOk result (policy.new ≡ left_after P.rules chain.base self.writes policy.old) }
+        ensures made { (list : List Operation) (chain above : Chain) → IsDatabase C.Store ⟦<Db<F, C, I, H, U> as LaidOut>⟧.layout db.old list → IsBegun ⟦<Db<F, C, I, H, U> as LaidOut>⟧.layout.hashing self chain above → IsOnChain list chain
+            → IfOk result (λ b. IsMade ⟦<Db<F, C, I, H, U> as LaidOut>⟧.layout.hashing b.value chain (stepped U.form P.rules chain.base self.writes policy.old (option_map U.Value.bytes metadata))) }
+        ensures taken { (list : List Operation) (chain above : Chain) → IsDatabase C.Store ⟦<Db<F, C, I, H, U> as LaidOut>⟧.layout db.old list → IsBegun ⟦<Db<F, C, I, H, U> as LaidOut>⟧.layout.hashing self chain above → IsOnChain list chain
+            → OnOk result (IsTaken U.form chain.base (stepped U.form P.rules chain.base self.writes policy.old (option_map U.Value.bytes metadata))) }
+        ensures refused { (list : List Operation) (chain above : Chain) → IsDatabase C.Store ⟦<Db<F, C, I, H, U> as LaidOut>⟧.layout db.old list → IsBegun ⟦<Db<F, C, I, H, U> as LaidOut>⟧.layout.hashing self chain above → IsOnChain list chain
+            → IfErr result (λ e. IsRefused U.form chain.base (stepped U.form P.rules chain.base self.writes policy.old (option_map U.Value.bytes metadata)) e ⊎ IsReadError C.Store db.old.log db.new.log e) }
+        ensures next { (list : List Operation) (chain above : Chain) → IsDatabase C.Store ⟦<Db<F, C, I, H, U> as LaidOut>⟧.layout db.old list → IsBegun ⟦<Db<F, C, I, H, U> as LaidOut>⟧.layout.hashing self chain above → IsOnChain list chain
+            → OnOk result (policy.new ≡ left_after U.form P.rules chain.base self.writes policy.old) }
         ensures above { IfOk result (λ b. All (λ n. b.value.bounds.db.size ≤ n) (stops b.value.tree.leaves b.value.tree.layers)) }
         ensures stale { IfErr result (λ e. e ≡ Error.StaleBatch → is_on db.old.commitment self ≡ false) }
         ensures order { IfErr result (λ e. e ≢ Error.Memory → e ≢ Error.StaleBatch → is_on db.old.commitment self ≡ true) }
         ensures causes { IfErr result (λ e. (e ≡ Error.StaleBatch) ⊎ IsMakingError C.Store db.old.log db.new.log e) }
-        ensures whole { (list : List Operation) → IsDatabase C.Store ⟦<Db<F, C, I, H, Unordered<K, V>> as LaidOut>⟧.layout db.old list → NoneBelow db.old.log.tree.start list → db.old.log.tree.start ≤ self.parent.bounds.inactivity_floor
+        ensures whole { (list : List Operation) → IsDatabase C.Store ⟦<Db<F, C, I, H, U> as LaidOut>⟧.layout db.old list → NoneBelow db.old.log.tree.start list → db.old.log.tree.start ≤ self.parent.bounds.inactivity_floor
             → IfErr result (λ e. (n : ℕ) → e ≢ Error.Journal (JournalError.ItemPruned n)) }
         ensures cause { IfErr result (λ e. e ≡ Error.Journal JournalError.Store → Rose (C.faults db.old.log.store) (C.faults db.new.log.store)) }
-        ensures left { IsLeft C.Store ⟦<Db<F, C, I, H, Unordered<K, V>> as LaidOut>⟧.layout.hashing db.old db.new }
+        ensures left { IsLeft C.Store ⟦<Db<F, C, I, H, U> as LaidOut>⟧.layout.hashing db.old db.new }
     {
         let (reads, slots, others) = (Vec::new(alloc), Vec::new(alloc), Vec::new(alloc));
         self.merkleized(alloc, &reads, &slots, &others, db, metadata, policy)
@@ -253,35 +253,37 @@ impl<F: Family, D: Digest, K: ByteString, V: ValueEncoding<K>> UnmerkleizedBatch
         C: Store,
         I: qm_index::Unordered<Value = Location<F>>,
         H: Hasher<Digest = D> + Drop,
-        P: Policy<F, K, V::Value>,
+        P: Policy<F, U::Key, U::Value>,
     >(
         self,
         alloc: Global,
-        reads: &[Read<F, Unordered<K, V>>],
-        slots: &[Slot<V::Value>],
-        others: &[Write<K, V::Value>],
-        db: &mut Db<F, C, I, H, Unordered<K, V>>,
-        metadata: Option<V::Value>,
+        reads: &[Read<F, U>],
+        slots: &[Slot<U::Value>],
+        others: &[Write<U::Key, U::Value>],
+        db: &mut Db<F, C, I, H, U>,
+        metadata: Option<U::Value>,
         policy: &mut P,
-    ) -> Result<Rc<MerkleizedBatch<F, D, Unordered<K, V>>>, Error>
+    ) -> Result<Rc<MerkleizedBatch<F, D, U>>, Error>
+    where
+        U: Steps<F, I>,
         requires { length slots.now ≡ length reads.now }
         ensures fits { OnOk result (is_on db.old.commitment self ≡ true) }
-        ensures made { (list : List Operation) (chain above : Chain) → IsDatabase C.Store ⟦<Db<F, C, I, H, Unordered<K, V>> as LaidOut>⟧.layout db.old list → IsBegun ⟦<Db<F, C, I, H, Unordered<K, V>> as LaidOut>⟧.layout.hashing self chain above → IsOnChain list chain → AreReads ⟦<Unordered<K, V> as Update>⟧.view K.bytes reads.now chain.base
-            → IfOk result (λ b. IsMade ⟦<Db<F, C, I, H, Unordered<K, V>> as LaidOut>⟧.layout.hashing b.value chain (stepped P.rules chain.base (slotted self.writes (keys_of K.bytes reads.now) (slot_views V.Value.bytes slots.now) (write_views K.bytes V.Value.bytes others.now)) policy.old (option_map V.Value.bytes metadata))) }
-        ensures taken { (list : List Operation) (chain above : Chain) → IsDatabase C.Store ⟦<Db<F, C, I, H, Unordered<K, V>> as LaidOut>⟧.layout db.old list → IsBegun ⟦<Db<F, C, I, H, Unordered<K, V>> as LaidOut>⟧.layout.hashing self chain above → IsOnChain list chain → AreReads ⟦<Unordered<K, V> as Update>⟧.view K.bytes reads.now chain.base
-            → OnOk result (IsTaken ⟦<Unordered<K, V> as Update>⟧.form chain.base (stepped P.rules chain.base (slotted self.writes (keys_of K.bytes reads.now) (slot_views V.Value.bytes slots.now) (write_views K.bytes V.Value.bytes others.now)) policy.old (option_map V.Value.bytes metadata))) }
-        ensures refused { (list : List Operation) (chain above : Chain) → IsDatabase C.Store ⟦<Db<F, C, I, H, Unordered<K, V>> as LaidOut>⟧.layout db.old list → IsBegun ⟦<Db<F, C, I, H, Unordered<K, V>> as LaidOut>⟧.layout.hashing self chain above → IsOnChain list chain → AreReads ⟦<Unordered<K, V> as Update>⟧.view K.bytes reads.now chain.base
-            → IfErr result (λ e. IsRefused ⟦<Unordered<K, V> as Update>⟧.form chain.base (stepped P.rules chain.base (slotted self.writes (keys_of K.bytes reads.now) (slot_views V.Value.bytes slots.now) (write_views K.bytes V.Value.bytes others.now)) policy.old (option_map V.Value.bytes metadata)) e ⊎ IsReadError C.Store db.old.log db.new.log e) }
-        ensures next { (list : List Operation) (chain above : Chain) → IsDatabase C.Store ⟦<Db<F, C, I, H, Unordered<K, V>> as LaidOut>⟧.layout db.old list → IsBegun ⟦<Db<F, C, I, H, Unordered<K, V>> as LaidOut>⟧.layout.hashing self chain above → IsOnChain list chain → AreReads ⟦<Unordered<K, V> as Update>⟧.view K.bytes reads.now chain.base
-            → OnOk result (policy.new ≡ left_after P.rules chain.base (slotted self.writes (keys_of K.bytes reads.now) (slot_views V.Value.bytes slots.now) (write_views K.bytes V.Value.bytes others.now)) policy.old) }
+        ensures made { (list : List Operation) (chain above : Chain) → IsDatabase C.Store ⟦<Db<F, C, I, H, U> as LaidOut>⟧.layout db.old list → IsBegun ⟦<Db<F, C, I, H, U> as LaidOut>⟧.layout.hashing self chain above → IsOnChain list chain → AreReads U.view U.Key.bytes reads.now chain.base
+            → IfOk result (λ b. IsMade ⟦<Db<F, C, I, H, U> as LaidOut>⟧.layout.hashing b.value chain (stepped U.form P.rules chain.base (slotted self.writes (keys_of U.Key.bytes reads.now) (slot_views U.Value.bytes slots.now) (write_views U.Key.bytes U.Value.bytes others.now)) policy.old (option_map U.Value.bytes metadata))) }
+        ensures taken { (list : List Operation) (chain above : Chain) → IsDatabase C.Store ⟦<Db<F, C, I, H, U> as LaidOut>⟧.layout db.old list → IsBegun ⟦<Db<F, C, I, H, U> as LaidOut>⟧.layout.hashing self chain above → IsOnChain list chain → AreReads U.view U.Key.bytes reads.now chain.base
+            → OnOk result (IsTaken U.form chain.base (stepped U.form P.rules chain.base (slotted self.writes (keys_of U.Key.bytes reads.now) (slot_views U.Value.bytes slots.now) (write_views U.Key.bytes U.Value.bytes others.now)) policy.old (option_map U.Value.bytes metadata))) }
+        ensures refused { (list : List Operation) (chain above : Chain) → IsDatabase C.Store ⟦<Db<F, C, I, H, U> as LaidOut>⟧.layout db.old list → IsBegun ⟦<Db<F, C, I, H, U> as LaidOut>⟧.layout.hashing self chain above → IsOnChain list chain → AreReads U.view U.Key.bytes reads.now chain.base
+            → IfErr result (λ e. IsRefused U.form chain.base (stepped U.form P.rules chain.base (slotted self.writes (keys_of U.Key.bytes reads.now) (slot_views U.Value.bytes slots.now) (write_views U.Key.bytes U.Value.bytes others.now)) policy.old (option_map U.Value.bytes metadata)) e ⊎ IsReadError C.Store db.old.log db.new.log e) }
+        ensures next { (list : List Operation) (chain above : Chain) → IsDatabase C.Store ⟦<Db<F, C, I, H, U> as LaidOut>⟧.layout db.old list → IsBegun ⟦<Db<F, C, I, H, U> as LaidOut>⟧.layout.hashing self chain above → IsOnChain list chain → AreReads U.view U.Key.bytes reads.now chain.base
+            → OnOk result (policy.new ≡ left_after U.form P.rules chain.base (slotted self.writes (keys_of U.Key.bytes reads.now) (slot_views U.Value.bytes slots.now) (write_views U.Key.bytes U.Value.bytes others.now)) policy.old) }
         ensures above { IfOk result (λ b. All (λ n. b.value.bounds.db.size ≤ n) (stops b.value.tree.leaves b.value.tree.layers)) }
         ensures stale { IfErr result (λ e. e ≡ Error.StaleBatch → is_on db.old.commitment self ≡ false) }
         ensures order { IfErr result (λ e. e ≢ Error.Memory → e ≢ Error.StaleBatch → is_on db.old.commitment self ≡ true) }
         ensures causes { IfErr result (λ e. (e ≡ Error.StaleBatch) ⊎ IsMakingError C.Store db.old.log db.new.log e) }
-        ensures whole { (list : List Operation) → IsDatabase C.Store ⟦<Db<F, C, I, H, Unordered<K, V>> as LaidOut>⟧.layout db.old list → NoneBelow db.old.log.tree.start list → db.old.log.tree.start ≤ self.parent.bounds.inactivity_floor
+        ensures whole { (list : List Operation) → IsDatabase C.Store ⟦<Db<F, C, I, H, U> as LaidOut>⟧.layout db.old list → NoneBelow db.old.log.tree.start list → db.old.log.tree.start ≤ self.parent.bounds.inactivity_floor
             → IfErr result (λ e. (n : ℕ) → e ≢ Error.Journal (JournalError.ItemPruned n)) }
         ensures cause { IfErr result (λ e. e ≡ Error.Journal JournalError.Store → Rose (C.faults db.old.log.store) (C.faults db.new.log.store)) }
-        ensures left { IsLeft C.Store ⟦<Db<F, C, I, H, Unordered<K, V>> as LaidOut>⟧.layout.hashing db.old db.new }
+        ensures left { IsLeft C.Store ⟦<Db<F, C, I, H, U> as LaidOut>⟧.layout.hashing db.old db.new }
     {
         let UnmerkleizedBatch {
             parent,
@@ -637,40 +639,39 @@ fn made_on<
     D: Digest,
     I: qm_index::Unordered<Value = Location<F>>,
     H: Hasher<Digest = D> + Drop,
-    K: ByteString,
-    V: ValueEncoding<K>,
-    P: Policy<F, K, V::Value>,
+    U: Steps<F, I>,
+    P: Policy<F, U::Key, U::Value>,
 >(
     alloc: Global,
-    db: &mut Db<F, C, I, H, Unordered<K, V>>,
-    parent: &MerkleizedBatch<F, D, Unordered<K, V>>,
+    db: &mut Db<F, C, I, H, U>,
+    parent: &MerkleizedBatch<F, D, U>,
     keep: usize,
     boundary: Commitment<D>,
     tips: Vec<Commitment<D>>,
-    wanted: Wanted<'_, F, Unordered<K, V>>,
-    metadata: Option<V::Value>,
+    wanted: Wanted<'_, F, U>,
+    metadata: Option<U::Value>,
     policy: &mut P,
-) -> Result<Rc<MerkleizedBatch<F, D, Unordered<K, V>>>, Error>
+) -> Result<Rc<MerkleizedBatch<F, D, U>>, Error>
     requires keep { keep ≤ suc (length parent.now.bounds.ancestors) }
     requires slots { length wanted.slots.now ≡ length wanted.reads.now }
     requires boundary { commitment_view D.bytes boundary ≡ child_boundary keep parent.now.bounds }
     requires tips { map (commitment_view D.bytes) tips.items ≡ child_tips keep parent.now.bounds }
     requires on { is_at db.old.commitment (child_boundary keep parent.now.bounds) (child_tips keep parent.now.bounds) ≡ true }
-    ensures made { (list : List Operation) (chain above : Chain) → IsDatabase C.Store ⟦<Db<F, C, I, H, Unordered<K, V>> as LaidOut>⟧.layout db.old list → IsMade ⟦<Db<F, C, I, H, Unordered<K, V>> as LaidOut>⟧.layout.hashing parent.now above chain.base → chain.kept ≡ kept_by keep above chain.base → IsOnChain list chain → AreReads ⟦<Unordered<K, V> as Update>⟧.view K.bytes wanted.entry.reads.now chain.base
-        → IfOk result (λ b. IsMade ⟦<Db<F, C, I, H, Unordered<K, V>> as LaidOut>⟧.layout.hashing b.value chain (stepped P.rules chain.base (wanted_view K.bytes V.Value.bytes wanted.entry) policy.old (option_map V.Value.bytes metadata))) }
-    ensures taken { (list : List Operation) (chain above : Chain) → IsDatabase C.Store ⟦<Db<F, C, I, H, Unordered<K, V>> as LaidOut>⟧.layout db.old list → IsMade ⟦<Db<F, C, I, H, Unordered<K, V>> as LaidOut>⟧.layout.hashing parent.now above chain.base → chain.kept ≡ kept_by keep above chain.base → IsOnChain list chain → AreReads ⟦<Unordered<K, V> as Update>⟧.view K.bytes wanted.entry.reads.now chain.base
-        → OnOk result (IsTaken ⟦<Unordered<K, V> as Update>⟧.form chain.base (stepped P.rules chain.base (wanted_view K.bytes V.Value.bytes wanted.entry) policy.old (option_map V.Value.bytes metadata))) }
-    ensures refused { (list : List Operation) (chain above : Chain) → IsDatabase C.Store ⟦<Db<F, C, I, H, Unordered<K, V>> as LaidOut>⟧.layout db.old list → IsMade ⟦<Db<F, C, I, H, Unordered<K, V>> as LaidOut>⟧.layout.hashing parent.now above chain.base → chain.kept ≡ kept_by keep above chain.base → IsOnChain list chain → AreReads ⟦<Unordered<K, V> as Update>⟧.view K.bytes wanted.entry.reads.now chain.base
-        → IfErr result (λ e. IsRefused ⟦<Unordered<K, V> as Update>⟧.form chain.base (stepped P.rules chain.base (wanted_view K.bytes V.Value.bytes wanted.entry) policy.old (option_map V.Value.bytes metadata)) e ⊎ IsReadError C.Store db.old.log db.new.log e) }
-    ensures next { (list : List Operation) (chain above : Chain) → IsDatabase C.Store ⟦<Db<F, C, I, H, Unordered<K, V>> as LaidOut>⟧.layout db.old list → IsMade ⟦<Db<F, C, I, H, Unordered<K, V>> as LaidOut>⟧.layout.hashing parent.now above chain.base → chain.kept ≡ kept_by keep above chain.base → IsOnChain list chain → AreReads ⟦<Unordered<K, V> as Update>⟧.view K.bytes wanted.entry.reads.now chain.base
-        → OnOk result (policy.new ≡ left_after P.rules chain.base (wanted_view K.bytes V.Value.bytes wanted.entry) policy.old) }
+    ensures made { (list : List Operation) (chain above : Chain) → IsDatabase C.Store ⟦<Db<F, C, I, H, U> as LaidOut>⟧.layout db.old list → IsMade ⟦<Db<F, C, I, H, U> as LaidOut>⟧.layout.hashing parent.now above chain.base → chain.kept ≡ kept_by keep above chain.base → IsOnChain list chain → AreReads U.view U.Key.bytes wanted.entry.reads.now chain.base
+        → IfOk result (λ b. IsMade ⟦<Db<F, C, I, H, U> as LaidOut>⟧.layout.hashing b.value chain (stepped U.form P.rules chain.base (wanted_view U.Key.bytes U.Value.bytes wanted.entry) policy.old (option_map U.Value.bytes metadata))) }
+    ensures taken { (list : List Operation) (chain above : Chain) → IsDatabase C.Store ⟦<Db<F, C, I, H, U> as LaidOut>⟧.layout db.old list → IsMade ⟦<Db<F, C, I, H, U> as LaidOut>⟧.layout.hashing parent.now above chain.base → chain.kept ≡ kept_by keep above chain.base → IsOnChain list chain → AreReads U.view U.Key.bytes wanted.entry.reads.now chain.base
+        → OnOk result (IsTaken U.form chain.base (stepped U.form P.rules chain.base (wanted_view U.Key.bytes U.Value.bytes wanted.entry) policy.old (option_map U.Value.bytes metadata))) }
+    ensures refused { (list : List Operation) (chain above : Chain) → IsDatabase C.Store ⟦<Db<F, C, I, H, U> as LaidOut>⟧.layout db.old list → IsMade ⟦<Db<F, C, I, H, U> as LaidOut>⟧.layout.hashing parent.now above chain.base → chain.kept ≡ kept_by keep above chain.base → IsOnChain list chain → AreReads U.view U.Key.bytes wanted.entry.reads.now chain.base
+        → IfErr result (λ e. IsRefused U.form chain.base (stepped U.form P.rules chain.base (wanted_view U.Key.bytes U.Value.bytes wanted.entry) policy.old (option_map U.Value.bytes metadata)) e ⊎ IsReadError C.Store db.old.log db.new.log e) }
+    ensures next { (list : List Operation) (chain above : Chain) → IsDatabase C.Store ⟦<Db<F, C, I, H, U> as LaidOut>⟧.layout db.old list → IsMade ⟦<Db<F, C, I, H, U> as LaidOut>⟧.layout.hashing parent.now above chain.base → chain.kept ≡ kept_by keep above chain.base → IsOnChain list chain → AreReads U.view U.Key.bytes wanted.entry.reads.now chain.base
+        → OnOk result (policy.new ≡ left_after U.form P.rules chain.base (wanted_view U.Key.bytes U.Value.bytes wanted.entry) policy.old) }
     ensures above { IfOk result (λ b. All (λ n. b.value.bounds.db.size ≤ n) (stops b.value.tree.leaves b.value.tree.layers)) }
     ensures causes { IfErr result (IsMakingError C.Store db.old.log db.new.log) }
-    ensures whole { (list : List Operation) → IsDatabase C.Store ⟦<Db<F, C, I, H, Unordered<K, V>> as LaidOut>⟧.layout db.old list → NoneBelow db.old.log.tree.start list → db.old.log.tree.start ≤ parent.now.bounds.inactivity_floor
+    ensures whole { (list : List Operation) → IsDatabase C.Store ⟦<Db<F, C, I, H, U> as LaidOut>⟧.layout db.old list → NoneBelow db.old.log.tree.start list → db.old.log.tree.start ≤ parent.now.bounds.inactivity_floor
         → IfErr result (λ e. (n : ℕ) → e ≢ Error.Journal (JournalError.ItemPruned n)) }
     ensures never { IfErr result (λ e. e ≢ Error.StaleBatch) }
     ensures cause { IfErr result (λ e. e ≡ Error.Journal JournalError.Store → Rose (C.faults db.old.log.store) (C.faults db.new.log.store)) }
-    ensures left { IsLeft C.Store ⟦<Db<F, C, I, H, Unordered<K, V>> as LaidOut>⟧.layout.hashing db.old db.new }
+    ensures left { IsLeft C.Store ⟦<Db<F, C, I, H, U> as LaidOut>⟧.layout.hashing db.old db.new }
 {
     let copy = shared(alloc, twin_option(alloc, &metadata)?)?;
     let (plan, items) = planned(alloc, db, parent, wanted, metadata, policy)?;
@@ -687,35 +688,34 @@ fn planned<
     D: Digest,
     I: qm_index::Unordered<Value = Location<F>>,
     H: Hasher<Digest = D> + Drop,
-    K: ByteString,
-    V: ValueEncoding<K>,
-    P: Policy<F, K, V::Value>,
+    U: Steps<F, I>,
+    P: Policy<F, U::Key, U::Value>,
 >(
     alloc: Global,
-    db: &mut Db<F, C, I, H, Unordered<K, V>>,
-    parent: &MerkleizedBatch<F, D, Unordered<K, V>>,
-    wanted: Wanted<'_, F, Unordered<K, V>>,
-    metadata: Option<V::Value>,
+    db: &mut Db<F, C, I, H, U>,
+    parent: &MerkleizedBatch<F, D, U>,
+    wanted: Wanted<'_, F, U>,
+    metadata: Option<U::Value>,
     policy: &mut P,
-) -> Result<(Plan<F, Unordered<K, V>>, Vec<Vec<u8>>), Error>
+) -> Result<(Plan<F, U>, Vec<Vec<u8>>), Error>
     requires slots { length wanted.slots.now ≡ length wanted.reads.now }
-    ensures plan { (list base : List Operation) → IsDatabase C.Store ⟦<Db<F, C, I, H, Unordered<K, V>> as LaidOut>⟧.layout db.old list → IsBase (base_of parent.now) list base → AreReads ⟦<Unordered<K, V> as Update>⟧.view K.bytes wanted.entry.reads.now base
-        → IfOk result (λ made. IsPlan made.0 base (stepped P.rules base (wanted_view K.bytes V.Value.bytes wanted.entry) policy.old (option_map V.Value.bytes metadata))) }
-    ensures next { (list base : List Operation) → IsDatabase C.Store ⟦<Db<F, C, I, H, Unordered<K, V>> as LaidOut>⟧.layout db.old list → IsBase (base_of parent.now) list base → AreReads ⟦<Unordered<K, V> as Update>⟧.view K.bytes wanted.entry.reads.now base
-        → OnOk result (policy.new ≡ left_after P.rules base (wanted_view K.bytes V.Value.bytes wanted.entry) policy.old) }
-    ensures items { IfOk result (λ made. map (λ v. v.items) made.1.items ≡ map (spelling ⟦<Unordered<K, V> as Update>⟧.form) (made.0).operations) }
-    ensures of { IfOk result (λ made. All IsLow (made.0).operations → All (IsOf ⟦<Unordered<K, V> as Update>⟧.form) (made.0).operations) }
+    ensures plan { (list base : List Operation) → IsDatabase C.Store ⟦<Db<F, C, I, H, U> as LaidOut>⟧.layout db.old list → IsBase (base_of parent.now) list base → HasRing U.form base → AreReads U.view U.Key.bytes wanted.entry.reads.now base
+        → IfOk result (λ made. IsPlan made.0 base (stepped U.form P.rules base (wanted_view U.Key.bytes U.Value.bytes wanted.entry) policy.old (option_map U.Value.bytes metadata))) }
+    ensures next { (list base : List Operation) → IsDatabase C.Store ⟦<Db<F, C, I, H, U> as LaidOut>⟧.layout db.old list → IsBase (base_of parent.now) list base → HasRing U.form base → AreReads U.view U.Key.bytes wanted.entry.reads.now base
+        → OnOk result (policy.new ≡ left_after U.form P.rules base (wanted_view U.Key.bytes U.Value.bytes wanted.entry) policy.old) }
+    ensures items { IfOk result (λ made. map (λ v. v.items) made.1.items ≡ map (spelling U.form) (made.0).operations) }
+    ensures of { IfOk result (λ made. All IsLow (made.0).operations → All (IsOf U.form) (made.0).operations) }
     ensures room { IfOk result (λ made. parent.now.bounds.tip.size + length made.1.items ≤ 2 ^ 62) }
     ensures short { IfOk result (λ made. too_long (map (λ v. v.items) made.1.items) ≡ None) }
     ensures live { IfOk result (λ made. (made.0).live ≤ parent.now.bounds.tip.size + length made.1.items) }
-    ensures refused { (list base : List Operation) → IsDatabase C.Store ⟦<Db<F, C, I, H, Unordered<K, V>> as LaidOut>⟧.layout db.old list → IsBase (base_of parent.now) list base → AreReads ⟦<Unordered<K, V> as Update>⟧.view K.bytes wanted.entry.reads.now base
-        → IfErr result (λ e. IsRefused ⟦<Unordered<K, V> as Update>⟧.form base (stepped P.rules base (wanted_view K.bytes V.Value.bytes wanted.entry) policy.old (option_map V.Value.bytes metadata)) e ⊎ IsReadError C.Store db.old.log db.new.log e) }
+    ensures refused { (list base : List Operation) → IsDatabase C.Store ⟦<Db<F, C, I, H, U> as LaidOut>⟧.layout db.old list → IsBase (base_of parent.now) list base → HasRing U.form base → AreReads U.view U.Key.bytes wanted.entry.reads.now base
+        → IfErr result (λ e. IsRefused U.form base (stepped U.form P.rules base (wanted_view U.Key.bytes U.Value.bytes wanted.entry) policy.old (option_map U.Value.bytes metadata)) e ⊎ IsReadError C.Store db.old.log db.new.log e) }
     ensures causes { IfErr result (IsMakingError C.Store db.old.log db.new.log) }
-    ensures whole { (list : List Operation) → IsDatabase C.Store ⟦<Db<F, C, I, H, Unordered<K, V>> as LaidOut>⟧.layout db.old list → NoneBelow db.old.log.tree.start list → db.old.log.tree.start ≤ parent.now.bounds.inactivity_floor
+    ensures whole { (list : List Operation) → IsDatabase C.Store ⟦<Db<F, C, I, H, U> as LaidOut>⟧.layout db.old list → NoneBelow db.old.log.tree.start list → db.old.log.tree.start ≤ parent.now.bounds.inactivity_floor
         → IfErr result (λ e. (n : ℕ) → e ≢ Error.Journal (JournalError.ItemPruned n)) }
     ensures never { IfErr result (λ e. e ≢ Error.StaleBatch) }
     ensures cause { IfErr result (λ e. e ≡ Error.Journal JournalError.Store → Rose (C.faults db.old.log.store) (C.faults db.new.log.store)) }
-    ensures left { IsLeft C.Store ⟦<Db<F, C, I, H, Unordered<K, V>> as LaidOut>⟧.layout.hashing db.old db.new }
+    ensures left { IsLeft C.Store ⟦<Db<F, C, I, H, U> as LaidOut>⟧.layout.hashing db.old db.new }
 {
     let base = parent.base();
     let plan = db.plan(alloc, &base, wanted, metadata, policy)?;

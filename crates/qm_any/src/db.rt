@@ -19,6 +19,7 @@ ghost use Rattle.qm_chain.specs.Bounds.{commitment_view, is_at};
 ghost use Rattle.qm_model.specs.Bits.{bits};
 ghost use Rattle.qm_bits.specs.Bitmaps.{Bitmap, all_bits, bit_count};
 ghost use Rattle.qm_batch.specs.Bases.{IsBase, base_view};
+ghost use Rattle.qm_batch.specs.Kinds.{HasRing};
 ghost use Rattle.qm_batch.specs.Layers.{LeadOver};
 ghost use Rattle.qm_batch.specs.Changes.{LeadTo, update_of};
 ghost use Rattle.qm_index.specs.Indexed.{IsIndexed};
@@ -30,11 +31,12 @@ ghost use Rattle.qm_store.specs.KeptTrees.{IsKeptTree, held_at};
 
 use crate::batch::{Lacking, MerkleizedBatch, UnmerkleizedBatch};
 use crate::operations::{Step, copy_of, share, twin_option};
-use qm_base::update::{Unordered, Update};
+use qm_base::update::Update;
 use qm_base::{
     ByteString, Commitment, Digest, Error, Hasher, JournalError, Location, MerkleError, Twin,
     ValueEncoding,
 };
+use qm_batch::kind::Steps;
 use qm_batch::{Base, Plan, Read, Wanted, Writes, apply_bits, apply_diffs, read_key, staged};
 use qm_bits::{Chunk64, Prunable};
 use qm_chain::{Diff, Policy};
@@ -57,7 +59,7 @@ pub struct Db<
     H: Hasher,
     U: Update,
 > {
-    index: I,
+    pub(crate) index: I,
     activity: Prunable<Chunk64>,
     pub(crate) log: AuthLog<F, C, H>,
     commitment: Commitment<H::Digest>,
@@ -533,27 +535,26 @@ impl<
     C: Store,
     I: qm_index::Unordered<Value = Location<F>>,
     H: Hasher + Drop,
-    K: ByteString,
-    V: ValueEncoding<K>,
-> Db<F, C, I, H, Unordered<K, V>> {
+    U: Steps<F, I>,
+> Db<F, C, I, H, U> {
     // What is wanted, and metadata, make of a base list, under a policy.
-    pub(crate) fn plan<P: Policy<F, K, V::Value>>(
+    pub(crate) fn plan<P: Policy<F, U::Key, U::Value>>(
         &mut self,
         alloc: Global,
-        base: &Base<'_, F, Unordered<K, V>>,
-        wanted: Wanted<'_, F, Unordered<K, V>>,
-        metadata: Option<V::Value>,
+        base: &Base<'_, F, U>,
+        wanted: Wanted<'_, F, U>,
+        metadata: Option<U::Value>,
         policy: &mut P,
-    ) -> Result<Plan<F, Unordered<K, V>>, Error>
+    ) -> Result<Plan<F, U>, Error>
         requires size { base.now.size ≤ 2 ^ 62 }
         requires live { base.now.live ≤ base.now.size }
         requires slots { length wanted.slots.now ≡ length wanted.reads.now }
         ensures plan { (list known : List Operation) → IsDatabase C.Store ⟦<Self as LaidOut>⟧.layout self.old list → IsBase (base_view base.now) list known
-            → AreReads ⟦<Unordered<K, V> as Update>⟧.view K.bytes wanted.entry.reads.now known
-            → IfOk result (λ plan. IsPlan plan known (stepped P.rules known (wanted_view K.bytes V.Value.bytes wanted.entry) policy.old (option_map V.Value.bytes metadata))) }
+            → HasRing U.form known → AreReads U.view U.Key.bytes wanted.entry.reads.now known
+            → IfOk result (λ plan. IsPlan plan known (stepped U.form P.rules known (wanted_view U.Key.bytes U.Value.bytes wanted.entry) policy.old (option_map U.Value.bytes metadata))) }
         ensures next { (list known : List Operation) → IsDatabase C.Store ⟦<Self as LaidOut>⟧.layout self.old list → IsBase (base_view base.now) list known
-            → AreReads ⟦<Unordered<K, V> as Update>⟧.view K.bytes wanted.entry.reads.now known
-            → IfOk result (λ _. policy.new ≡ left_after P.rules known (wanted_view K.bytes V.Value.bytes wanted.entry) policy.old) }
+            → HasRing U.form known → AreReads U.view U.Key.bytes wanted.entry.reads.now known
+            → IfOk result (λ _. policy.new ≡ left_after U.form P.rules known (wanted_view U.Key.bytes U.Value.bytes wanted.entry) policy.old) }
         ensures live { IfOk result (λ plan. plan.live ≤ base.now.size + length plan.operations) }
         ensures error { IfErr result (IsReadError C.Store self.old.log self.new.log) }
         ensures whole { (list : List Operation) → IsDatabase C.Store ⟦<Self as LaidOut>⟧.layout self.old list → NoneBelow self.old.log.tree.start list → self.old.log.tree.start ≤ base.now.floor

@@ -6,6 +6,7 @@ pub mod db;
 pub mod laws;
 mod open;
 mod operations;
+mod ordered;
 pub mod proof;
 pub mod staged;
 

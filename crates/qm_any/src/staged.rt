@@ -17,11 +17,12 @@ ghost use Rattle.qm_any.specs.Tips.{IsTaken, IsRefused};
 
 use crate::batch::{MerkleizedBatch, UnmerkleizedBatch};
 use crate::db::{Db, LaidOut};
-use qm_base::update::{Unordered, Update};
+use qm_base::update::Update;
 use qm_base::{
     ByteString, Digest, Error, Hasher, JournalError, Location, Slot, ValueEncoding, Write,
 };
 use qm_batch::Read;
+use qm_batch::kind::Steps;
 use qm_chain::Policy;
 use qm_merkle::Family;
 use qm_store::Store;
@@ -134,7 +135,7 @@ impl<F: Family, D: Digest, U: Update> Staged<F, D, U> {
     }
 }
 
-impl<F: Family, D: Digest, K: ByteString, V: ValueEncoding<K>> Staged<F, D, Unordered<K, V>> {
+impl<F: Family, D: Digest, U: Update> Staged<F, D, U> {
     /// Makes the list of the batch, as `merkleize` of the batch itself would do whose writes are the recorded ones, then the
     /// slots of the staged keys that are not `Keep`, in their order, then the others; the last of a key counts. There are as
     /// many slots as staged keys. No staged key is looked up again, whichever of the batch's lists the database has now.
@@ -142,34 +143,36 @@ impl<F: Family, D: Digest, K: ByteString, V: ValueEncoding<K>> Staged<F, D, Unor
         C: Store,
         I: qm_index::Unordered<Value = Location<F>>,
         H: Hasher<Digest = D> + Drop,
-        P: Policy<F, K, V::Value>,
+        P: Policy<F, U::Key, U::Value>,
     >(
         self,
         alloc: Global,
-        slots: &[Slot<V::Value>],
-        others: &[Write<K, V::Value>],
-        db: &mut Db<F, C, I, H, Unordered<K, V>>,
-        metadata: Option<V::Value>,
+        slots: &[Slot<U::Value>],
+        others: &[Write<U::Key, U::Value>],
+        db: &mut Db<F, C, I, H, U>,
+        metadata: Option<U::Value>,
         policy: &mut P,
-    ) -> Result<Rc<MerkleizedBatch<F, D, Unordered<K, V>>>, Error>
+    ) -> Result<Rc<MerkleizedBatch<F, D, U>>, Error>
+    where
+        U: Steps<F, I>,
         requires { length slots.now ≡ length (staged_keys self) }
         ensures fits { OnOk result (is_on db.old.commitment self.batch ≡ true) }
-        ensures made { (list : List Operation) (chain above : Chain) → IsDatabase C.Store ⟦<Db<F, C, I, H, Unordered<K, V>> as LaidOut>⟧.layout db.old list → IsStaged ⟦<Db<F, C, I, H, Unordered<K, V>> as LaidOut>⟧.layout.hashing self chain above → IsOnChain list chain
-            → IfOk result (λ b. IsMade ⟦<Db<F, C, I, H, Unordered<K, V>> as LaidOut>⟧.layout.hashing b.value chain (stepped P.rules chain.base (slotted self.batch.writes (staged_keys self) (slot_views V.Value.bytes slots.now) (write_views K.bytes V.Value.bytes others.now)) policy.old (option_map V.Value.bytes metadata))) }
-        ensures taken { (list : List Operation) (chain above : Chain) → IsDatabase C.Store ⟦<Db<F, C, I, H, Unordered<K, V>> as LaidOut>⟧.layout db.old list → IsStaged ⟦<Db<F, C, I, H, Unordered<K, V>> as LaidOut>⟧.layout.hashing self chain above → IsOnChain list chain
-            → OnOk result (IsTaken ⟦<Unordered<K, V> as Update>⟧.form chain.base (stepped P.rules chain.base (slotted self.batch.writes (staged_keys self) (slot_views V.Value.bytes slots.now) (write_views K.bytes V.Value.bytes others.now)) policy.old (option_map V.Value.bytes metadata))) }
-        ensures refused { (list : List Operation) (chain above : Chain) → IsDatabase C.Store ⟦<Db<F, C, I, H, Unordered<K, V>> as LaidOut>⟧.layout db.old list → IsStaged ⟦<Db<F, C, I, H, Unordered<K, V>> as LaidOut>⟧.layout.hashing self chain above → IsOnChain list chain
-            → IfErr result (λ e. IsRefused ⟦<Unordered<K, V> as Update>⟧.form chain.base (stepped P.rules chain.base (slotted self.batch.writes (staged_keys self) (slot_views V.Value.bytes slots.now) (write_views K.bytes V.Value.bytes others.now)) policy.old (option_map V.Value.bytes metadata)) e ⊎ IsReadError C.Store db.old.log db.new.log e) }
-        ensures next { (list : List Operation) (chain above : Chain) → IsDatabase C.Store ⟦<Db<F, C, I, H, Unordered<K, V>> as LaidOut>⟧.layout db.old list → IsStaged ⟦<Db<F, C, I, H, Unordered<K, V>> as LaidOut>⟧.layout.hashing self chain above → IsOnChain list chain
-            → OnOk result (policy.new ≡ left_after P.rules chain.base (slotted self.batch.writes (staged_keys self) (slot_views V.Value.bytes slots.now) (write_views K.bytes V.Value.bytes others.now)) policy.old) }
+        ensures made { (list : List Operation) (chain above : Chain) → IsDatabase C.Store ⟦<Db<F, C, I, H, U> as LaidOut>⟧.layout db.old list → IsStaged ⟦<Db<F, C, I, H, U> as LaidOut>⟧.layout.hashing self chain above → IsOnChain list chain
+            → IfOk result (λ b. IsMade ⟦<Db<F, C, I, H, U> as LaidOut>⟧.layout.hashing b.value chain (stepped U.form P.rules chain.base (slotted self.batch.writes (staged_keys self) (slot_views U.Value.bytes slots.now) (write_views U.Key.bytes U.Value.bytes others.now)) policy.old (option_map U.Value.bytes metadata))) }
+        ensures taken { (list : List Operation) (chain above : Chain) → IsDatabase C.Store ⟦<Db<F, C, I, H, U> as LaidOut>⟧.layout db.old list → IsStaged ⟦<Db<F, C, I, H, U> as LaidOut>⟧.layout.hashing self chain above → IsOnChain list chain
+            → OnOk result (IsTaken U.form chain.base (stepped U.form P.rules chain.base (slotted self.batch.writes (staged_keys self) (slot_views U.Value.bytes slots.now) (write_views U.Key.bytes U.Value.bytes others.now)) policy.old (option_map U.Value.bytes metadata))) }
+        ensures refused { (list : List Operation) (chain above : Chain) → IsDatabase C.Store ⟦<Db<F, C, I, H, U> as LaidOut>⟧.layout db.old list → IsStaged ⟦<Db<F, C, I, H, U> as LaidOut>⟧.layout.hashing self chain above → IsOnChain list chain
+            → IfErr result (λ e. IsRefused U.form chain.base (stepped U.form P.rules chain.base (slotted self.batch.writes (staged_keys self) (slot_views U.Value.bytes slots.now) (write_views U.Key.bytes U.Value.bytes others.now)) policy.old (option_map U.Value.bytes metadata)) e ⊎ IsReadError C.Store db.old.log db.new.log e) }
+        ensures next { (list : List Operation) (chain above : Chain) → IsDatabase C.Store ⟦<Db<F, C, I, H, U> as LaidOut>⟧.layout db.old list → IsStaged ⟦<Db<F, C, I, H, U> as LaidOut>⟧.layout.hashing self chain above → IsOnChain list chain
+            → OnOk result (policy.new ≡ left_after U.form P.rules chain.base (slotted self.batch.writes (staged_keys self) (slot_views U.Value.bytes slots.now) (write_views U.Key.bytes U.Value.bytes others.now)) policy.old) }
         ensures above { IfOk result (λ b. All (λ n. b.value.bounds.db.size ≤ n) (stops b.value.tree.leaves b.value.tree.layers)) }
         ensures stale { IfErr result (λ e. e ≡ Error.StaleBatch → is_on db.old.commitment self.batch ≡ false) }
         ensures order { IfErr result (λ e. e ≢ Error.Memory → e ≢ Error.StaleBatch → is_on db.old.commitment self.batch ≡ true) }
         ensures causes { IfErr result (λ e. (e ≡ Error.StaleBatch) ⊎ IsMakingError C.Store db.old.log db.new.log e) }
-        ensures whole { (list : List Operation) → IsDatabase C.Store ⟦<Db<F, C, I, H, Unordered<K, V>> as LaidOut>⟧.layout db.old list → NoneBelow db.old.log.tree.start list → db.old.log.tree.start ≤ self.batch.parent.bounds.inactivity_floor
+        ensures whole { (list : List Operation) → IsDatabase C.Store ⟦<Db<F, C, I, H, U> as LaidOut>⟧.layout db.old list → NoneBelow db.old.log.tree.start list → db.old.log.tree.start ≤ self.batch.parent.bounds.inactivity_floor
             → IfErr result (λ e. (n : ℕ) → e ≢ Error.Journal (JournalError.ItemPruned n)) }
         ensures cause { IfErr result (λ e. e ≡ Error.Journal JournalError.Store → Rose (C.faults db.old.log.store) (C.faults db.new.log.store)) }
-        ensures left { IsLeft C.Store ⟦<Db<F, C, I, H, Unordered<K, V>> as LaidOut>⟧.layout.hashing db.old db.new }
+        ensures left { IsLeft C.Store ⟦<Db<F, C, I, H, U> as LaidOut>⟧.layout.hashing db.old db.new }
     {
         let Staged { batch, reads } = self;
         batch.merkleized(alloc, &reads, slots, others, db, metadata, policy)

@@ -6,4 +6,6 @@ mod expiry;
 #[cfg(test)]
 mod fixed;
 #[cfg(test)]
+mod ordered;
+#[cfg(test)]
 mod staged;

@@ -5,16 +5,14 @@ use Rattle.std.proofs.lemmas.Result.{err_from_is_err_and}
 use Rattle.qm_model.specs.Forms.{spelling}
 use Rattle.qm_model.specs.Refusals.{too_long}
 use Rattle.qm_merkle.specs.Batches.{stops}
-use Rattle.qm_model.proofs.Steps.{step-good}
 use Rattle.qm_batch.specs.Views.{stepped, wanted_view}
-use Rattle.qm_batch.specs.PlanViews.{unordered_form}
 use Rattle.qm_any.specs.Layouts.{hashing_with, spellings}
 use Rattle.qm_any.specs.Databases.{AreAgreed, AreLinked, IsMade, IsTree, bases_of, child_boundary, child_made}
 use Rattle.qm_merkle.specs.Batches.{lists_since}
 use Rattle.qm_store.specs.KeptTrees.{KeptTree, IsKeptTree}
 use Rattle.qm_any.proofs.Agreed.{child-reached, child-above}
 use Rattle.qm_any.proofs.Known.{on_chain-base, child-base, child-linked}
-use Rattle.qm_any.proofs.Making.{child-among, child-is_made, plan-length, plan-spelled, stepped-metadata, stepped-of}
+use Rattle.qm_any.proofs.Making.{child-among, child-is_made, plan-length, plan-spelled, stepped-good, stepped-metadata, stepped-of, stepped-ring}
 use Rattle.qm_any.proofs.Reading.{left-database}
 use Rattle.qm_any.proofs.batch.made_on.Goals as goal
 
@@ -22,7 +20,7 @@ pub returns-in_err-plan-clause-refused : goal.returns-in_err-plan-clause-refused
 returns-in_err-plan-clause-refused g c = λ list chain above is made kept on reads.
     let exit = err_from_is_err_and c.from_residual-in_err-plan.result c.from_residual-in_err-plan.ensures.1 in
     let from = child-base c.args.parent.now c.args.keep list chain above made kept on in
-    rw (exit.1, exit.2) (c.in_err-plan.ensures.refused list chain.base is from reads)
+    rw (exit.1, exit.2) (c.in_err-plan.ensures.refused list chain.base is from made.ring reads)
 
 pub grown-requires-clause-reach : goal.grown-requires-clause-reach
 grown-requires-clause-reach g c =
@@ -51,26 +49,26 @@ sealed-requires-clause-count g c =
     let tree : c.parent.inside.tree.leaves ≡ c.args.parent.now.tree.leaves = ap (λ m. m.tree.leaves) c.parent.view_is in
     let own = agreed.leaves in
     let items : length c.deref.result.now ≡ length c.in_ok-plan.items.items = ap length c.deref.ensures.value in
-    let count : length c.in_ok-plan.items.items ≡ length c.in_ok-plan.plan.operations = sym (length-map c.in_ok-plan.items.items (λ v. v.items)) ∙ ap length c.in_ok-plan.ensures.items ∙ length-map c.in_ok-plan.plan.operations (spelling (unordered_form g.K.ByteString.has g.V.Value.ByteString.has g.V.ValueEncoding.fixed)) in
+    let count : length c.in_ok-plan.items.items ≡ length c.in_ok-plan.plan.operations = sym (length-map c.in_ok-plan.items.items (λ v. v.items)) ∙ ap length c.in_ok-plan.ensures.items ∙ length-map c.in_ok-plan.plan.operations (spelling g.U.Update.form) in
     let grown = c.in_ok-tree.ensures.leaves in
     omega (arith, grown, tree, own, items, count)
 
 pub returns-clause-made : goal.returns-clause-made
 returns-clause-made g c = λ list chain above is made kept on reads.
     let bytes = g.D.Digest.bytes in
-    let form = (unordered_form g.K.ByteString.has g.V.Value.ByteString.has g.V.ValueEncoding.fixed) in
+    let form = g.U.Update.form in
     let hashing = hashing_with bytes g.H.Hasher.hash g.F.Family.shape form in
     let parent = c.args.parent.now in
     let base = chain.base in
-    let ws = wanted_view g.K.ByteString.bytes g.V.Value.ByteString.bytes c.args.wanted in
-    let meta = option_map g.V.Value.ByteString.bytes c.args.metadata in
-    let tip = stepped g.P.Policy.rules base ws c.args.policy.now meta in
+    let ws = wanted_view g.U.Key.ByteString.bytes g.U.Value.ByteString.bytes c.args.wanted in
+    let meta = option_map g.U.Value.ByteString.bytes c.args.metadata in
+    let tip = stepped form g.P.Policy.rules base ws c.args.policy.now meta in
     let items = map (λ v. v.items) c.in_ok-plan.items.items in
     let size = ap (λ k. k.size) made.bounds.tip in
     let from = child-base parent c.args.keep list chain above made kept on in
-    let plan = c.in_ok-plan.ensures.plan list base is from reads in
-    let short = subst (λ xs. too_long xs ≡ None) (c.in_ok-plan.ensures.items ∙ ap (map (spelling (unordered_form g.K.ByteString.has g.V.Value.ByteString.has g.V.ValueEncoding.fixed))) plan.operations) c.in_ok-plan.ensures.short in
-    let count : length c.in_ok-plan.items.items ≡ length c.in_ok-plan.plan.operations = sym (length-map c.in_ok-plan.items.items (λ v. v.items)) ∙ ap length c.in_ok-plan.ensures.items ∙ length-map c.in_ok-plan.plan.operations (spelling (unordered_form g.K.ByteString.has g.V.Value.ByteString.has g.V.ValueEncoding.fixed)) in
+    let plan = c.in_ok-plan.ensures.plan list base is from made.ring reads in
+    let short = subst (λ xs. too_long xs ≡ None) (c.in_ok-plan.ensures.items ∙ ap (map (spelling g.U.Update.form)) plan.operations) c.in_ok-plan.ensures.short in
+    let count : length c.in_ok-plan.items.items ≡ length c.in_ok-plan.plan.operations = sym (length-map c.in_ok-plan.items.items (λ v. v.items)) ∙ ap length c.in_ok-plan.ensures.items ∙ length-map c.in_ok-plan.plan.operations (spelling g.U.Update.form) in
     let room = c.in_ok-plan.ensures.room in
     let few : length tip ≤ 2 ^ 62 = omega (arith, room, size, count, plan-length c.in_ok-plan.plan base tip plan) in
     let stands = left-database g.C.Store (record { hashing = hashing; index_key = g.I.Unordered.index_key }) c.args.db.now c.planned.new.db list c.in_ok-plan.ensures.left is in
@@ -84,26 +82,27 @@ returns-clause-made g c = λ list chain above is made kept on reads.
     (subst (λ n. IsKeptTree bytes g.H.Hasher.hash g.F.Family.shape c.in_ok-tree.tree (spellings hashing base ++ map (λ v. v.items) c.deref.result.now) (lists_since n (map (spellings hashing) (base ∷ bases_of above)))) boundary
     (c.in_ok-tree.ensures.tree list base (bases_of above) stands kept_tree among)) in
     let root = c.in_ok-tree.ensures.root list base tip (bases_of above) stands kept_tree among spelled low in
-    let metadata = c.in_ok-copy.ensures ∙ ap (option_map g.V.Value.ByteString.bytes) c.in_ok-twin_option.ensures in
-    let all = stepped-of g.P.Policy.rules base ws c.args.policy.now meta form c.in_ok-plan.plan.operations made.of plan.changes.begins plan.operations c.in_ok-plan.ensures.of few in
+    let metadata = c.in_ok-copy.ensures ∙ ap (option_map g.U.Value.ByteString.bytes) c.in_ok-twin_option.ensures in
+    let all = stepped-of form g.P.Policy.rules base ws c.args.policy.now meta c.in_ok-plan.plan.operations made.of plan.changes.begins plan.operations c.in_ok-plan.ensures.of few in
     subst (λ b. IsMade hashing b chain tip) (sym (c.in_ok-batch.ensures.value ∙ ap (λ m. child_made parent c.args.keep c.in_ok-plan.plan c.in_ok-tree.tree (bytes c.in_ok-tree.root) m) metadata))
-    (child-is_made parent c.args.keep chain above c.requires.keep made kept c.in_ok-plan.plan c.in_ok-tree.tree (bytes c.in_ok-tree.root) meta tip plan tree root (stepped-metadata g.P.Policy.rules base ws c.args.policy.now meta) all (step-good g.P.Policy.rules base ws c.args.policy.now meta made.good))
+    (child-is_made parent c.args.keep chain above c.requires.keep made kept c.in_ok-plan.plan c.in_ok-tree.tree (bytes c.in_ok-tree.root) meta tip plan tree root (stepped-metadata form g.P.Policy.rules base ws c.args.policy.now meta) all
+    (stepped-good form g.P.Policy.rules base ws c.args.policy.now meta made.good) (stepped-ring form g.P.Policy.rules base ws c.args.policy.now meta made.ring))
 
 pub returns-clause-taken : goal.returns-clause-taken
 returns-clause-taken g c = λ list chain above is made kept on reads.
     let bytes = g.D.Digest.bytes in
-    let form = (unordered_form g.K.ByteString.has g.V.Value.ByteString.has g.V.ValueEncoding.fixed) in
+    let form = g.U.Update.form in
     let hashing = hashing_with bytes g.H.Hasher.hash g.F.Family.shape form in
     let base = chain.base in
-    let ws = wanted_view g.K.ByteString.bytes g.V.Value.ByteString.bytes c.args.wanted in
-    let meta = option_map g.V.Value.ByteString.bytes c.args.metadata in
-    let tip = stepped g.P.Policy.rules base ws c.args.policy.now meta in
+    let ws = wanted_view g.U.Key.ByteString.bytes g.U.Value.ByteString.bytes c.args.wanted in
+    let meta = option_map g.U.Value.ByteString.bytes c.args.metadata in
+    let tip = stepped form g.P.Policy.rules base ws c.args.policy.now meta in
     let size = ap (λ k. k.size) made.bounds.tip in
     let from = child-base c.args.parent.now c.args.keep list chain above made kept on in
-    let plan = c.in_ok-plan.ensures.plan list base is from reads in
-    let count : length c.in_ok-plan.items.items ≡ length c.in_ok-plan.plan.operations = sym (length-map c.in_ok-plan.items.items (λ v. v.items)) ∙ ap length c.in_ok-plan.ensures.items ∙ length-map c.in_ok-plan.plan.operations (spelling (unordered_form g.K.ByteString.has g.V.Value.ByteString.has g.V.ValueEncoding.fixed)) in
+    let plan = c.in_ok-plan.ensures.plan list base is from made.ring reads in
+    let count : length c.in_ok-plan.items.items ≡ length c.in_ok-plan.plan.operations = sym (length-map c.in_ok-plan.items.items (λ v. v.items)) ∙ ap length c.in_ok-plan.ensures.items ∙ length-map c.in_ok-plan.plan.operations (spelling g.U.Update.form) in
     let room = c.in_ok-plan.ensures.room in (
-      subst (λ xs. too_long xs ≡ None) (c.in_ok-plan.ensures.items ∙ ap (map (spelling (unordered_form g.K.ByteString.has g.V.Value.ByteString.has g.V.ValueEncoding.fixed))) plan.operations) c.in_ok-plan.ensures.short,
+      subst (λ xs. too_long xs ≡ None) (c.in_ok-plan.ensures.items ∙ ap (map (spelling g.U.Update.form)) plan.operations) c.in_ok-plan.ensures.short,
       omega (arith, room, size, count, plan-length c.in_ok-plan.plan base tip plan),
     )
 
@@ -119,7 +118,7 @@ returns-in_err-batch-clause-whole g c = λ list is none low.
 
 pub returns-clause-next : goal.returns-clause-next
 returns-clause-next g c = λ list chain above is made kept on reads.
-    c.in_ok-plan.ensures.next list chain.base is (child-base c.args.parent.now c.args.keep list chain above made kept on) reads
+    c.in_ok-plan.ensures.next list chain.base is (child-base c.args.parent.now c.args.keep list chain above made kept on) made.ring reads
 
 pub returns-in_err-tree-clause-whole : goal.returns-in_err-tree-clause-whole
 returns-in_err-tree-clause-whole g c = λ list is none low.

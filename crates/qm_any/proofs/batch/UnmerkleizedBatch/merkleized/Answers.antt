@@ -7,60 +7,59 @@ use Rattle.qm_base.specs.Slots.{slot_views, write_views}
 use Rattle.qm_model.specs.Slots.{slotted}
 use Rattle.qm_batch.specs.Views.{keys_of, stepped, left_after}
 use Rattle.qm_any.specs.Layouts.{hashing_with}
-use Rattle.qm_batch.specs.PlanViews.{unordered_form}
 use Rattle.qm_any.specs.Databases.{IsMade, child_boundary, child_tips, is_on, kept_by}
 use Rattle.qm_any.specs.Tips.{IsTaken, IsRefused}
-use Rattle.qm_any.proofs.batch.UnmerkleizedBatch+F+D+Unordered+K+V.merkleized.Goals as goal
+use Rattle.qm_any.proofs.batch.UnmerkleizedBatch.merkleized.Goals as goal
 
 pub returns-in-Ok-clause-made : goal.returns-in-Ok-clause-made
 returns-in-Ok-clause-made g c = λ list chain above is begun on reads.
-    let form = (unordered_form g.K.ByteString.has g.V.Value.ByteString.has g.V.ValueEncoding.fixed) in
+    let form = g.U.Update.form in
     let hashing = hashing_with g.D.Digest.bytes g.H.Hasher.hash g.F.Family.shape form in
     let writes = c.as_slice.ensures ∙ ap (λ b. b.writes) c.self.view_is in
     let parent = c.deref-in-Ok.ensures ∙ ap (λ b. b.parent) c.self.view_is in
     let keep = ap (λ b. b.keep) c.self.view_is in
-    let keys = keys_of g.K.ByteString.bytes c.args.reads.now in
-    let slots = slot_views g.V.Value.ByteString.bytes c.args.slots.now in
-    let others = write_views g.K.ByteString.bytes g.V.Value.ByteString.bytes c.args.others.now in
-    subst (λ ws. IfOk c.made_on.result (λ b. IsMade hashing b.value chain (stepped g.P.Policy.rules chain.base (slotted ws keys slots others) c.args.policy.now (option_map g.V.Value.ByteString.bytes c.args.metadata)))) writes
+    let keys = keys_of g.U.Key.ByteString.bytes c.args.reads.now in
+    let slots = slot_views g.U.Value.ByteString.bytes c.args.slots.now in
+    let others = write_views g.U.Key.ByteString.bytes g.U.Value.ByteString.bytes c.args.others.now in
+    subst (λ ws. IfOk c.made_on.result (λ b. IsMade hashing b.value chain (stepped g.U.Update.form g.P.Policy.rules chain.base (slotted ws keys slots others) c.args.policy.now (option_map g.U.Value.ByteString.bytes c.args.metadata)))) writes
     (c.made_on.ensures.made list chain above is (subst (λ p. IsMade hashing p above chain.base) (sym parent) begun.parent) (begun.kept ∙ ap (λ k. kept_by k above chain.base) (sym keep)) on reads)
 
 pub returns-in-Ok-clause-taken : goal.returns-in-Ok-clause-taken
 returns-in-Ok-clause-taken g c = λ list chain above is begun on reads.
-    let form = (unordered_form g.K.ByteString.has g.V.Value.ByteString.has g.V.ValueEncoding.fixed) in
+    let form = g.U.Update.form in
     let hashing = hashing_with g.D.Digest.bytes g.H.Hasher.hash g.F.Family.shape form in
     let writes = c.as_slice.ensures ∙ ap (λ b. b.writes) c.self.view_is in
     let parent = c.deref-in-Ok.ensures ∙ ap (λ b. b.parent) c.self.view_is in
     let keep = ap (λ b. b.keep) c.self.view_is in
-    let keys = keys_of g.K.ByteString.bytes c.args.reads.now in
-    let slots = slot_views g.V.Value.ByteString.bytes c.args.slots.now in
-    let others = write_views g.K.ByteString.bytes g.V.Value.ByteString.bytes c.args.others.now in
-    subst (λ ws. OnOk c.made_on.result (IsTaken form chain.base (stepped g.P.Policy.rules chain.base (slotted ws keys slots others) c.args.policy.now (option_map g.V.Value.ByteString.bytes c.args.metadata)))) writes
+    let keys = keys_of g.U.Key.ByteString.bytes c.args.reads.now in
+    let slots = slot_views g.U.Value.ByteString.bytes c.args.slots.now in
+    let others = write_views g.U.Key.ByteString.bytes g.U.Value.ByteString.bytes c.args.others.now in
+    subst (λ ws. OnOk c.made_on.result (IsTaken form chain.base (stepped g.U.Update.form g.P.Policy.rules chain.base (slotted ws keys slots others) c.args.policy.now (option_map g.U.Value.ByteString.bytes c.args.metadata)))) writes
     (c.made_on.ensures.taken list chain above is (subst (λ p. IsMade hashing p above chain.base) (sym parent) begun.parent) (begun.kept ∙ ap (λ k. kept_by k above chain.base) (sym keep)) on reads)
 
 pub returns-in-Ok-clause-refused : goal.returns-in-Ok-clause-refused
 returns-in-Ok-clause-refused g c = λ list chain above is begun on reads.
-    let form = (unordered_form g.K.ByteString.has g.V.Value.ByteString.has g.V.ValueEncoding.fixed) in
+    let form = g.U.Update.form in
     let hashing = hashing_with g.D.Digest.bytes g.H.Hasher.hash g.F.Family.shape form in
     let writes = c.as_slice.ensures ∙ ap (λ b. b.writes) c.self.view_is in
     let parent = c.deref-in-Ok.ensures ∙ ap (λ b. b.parent) c.self.view_is in
     let keep = ap (λ b. b.keep) c.self.view_is in
-    let keys = keys_of g.K.ByteString.bytes c.args.reads.now in
-    let slots = slot_views g.V.Value.ByteString.bytes c.args.slots.now in
-    let others = write_views g.K.ByteString.bytes g.V.Value.ByteString.bytes c.args.others.now in
-    subst (λ ws. IfErr c.made_on.result (λ e. IsRefused form chain.base (stepped g.P.Policy.rules chain.base (slotted ws keys slots others) c.args.policy.now (option_map g.V.Value.ByteString.bytes c.args.metadata)) e ⊎ IsReadError g.C.Store c.args.db.now.log c.made_on.new.db.log e)) writes
+    let keys = keys_of g.U.Key.ByteString.bytes c.args.reads.now in
+    let slots = slot_views g.U.Value.ByteString.bytes c.args.slots.now in
+    let others = write_views g.U.Key.ByteString.bytes g.U.Value.ByteString.bytes c.args.others.now in
+    subst (λ ws. IfErr c.made_on.result (λ e. IsRefused form chain.base (stepped g.U.Update.form g.P.Policy.rules chain.base (slotted ws keys slots others) c.args.policy.now (option_map g.U.Value.ByteString.bytes c.args.metadata)) e ⊎ IsReadError g.C.Store c.args.db.now.log c.made_on.new.db.log e)) writes
     (c.made_on.ensures.refused list chain above is (subst (λ p. IsMade hashing p above chain.base) (sym parent) begun.parent) (begun.kept ∙ ap (λ k. kept_by k above chain.base) (sym keep)) on reads)
 
 pub returns-in-Ok-clause-next : goal.returns-in-Ok-clause-next
 returns-in-Ok-clause-next g c = λ list chain above is begun on reads.
-    let hashing = hashing_with g.D.Digest.bytes g.H.Hasher.hash g.F.Family.shape (unordered_form g.K.ByteString.has g.V.Value.ByteString.has g.V.ValueEncoding.fixed) in
+    let hashing = hashing_with g.D.Digest.bytes g.H.Hasher.hash g.F.Family.shape g.U.Update.form in
     let writes = c.as_slice.ensures ∙ ap (λ b. b.writes) c.self.view_is in
     let parent = c.deref-in-Ok.ensures ∙ ap (λ b. b.parent) c.self.view_is in
     let keep = ap (λ b. b.keep) c.self.view_is in
-    let keys = keys_of g.K.ByteString.bytes c.args.reads.now in
-    let slots = slot_views g.V.Value.ByteString.bytes c.args.slots.now in
-    let others = write_views g.K.ByteString.bytes g.V.Value.ByteString.bytes c.args.others.now in
-    subst (λ ws. OnOk c.made_on.result (c.made_on.new.policy ≡ left_after g.P.Policy.rules chain.base (slotted ws keys slots others) c.args.policy.now)) writes
+    let keys = keys_of g.U.Key.ByteString.bytes c.args.reads.now in
+    let slots = slot_views g.U.Value.ByteString.bytes c.args.slots.now in
+    let others = write_views g.U.Key.ByteString.bytes g.U.Value.ByteString.bytes c.args.others.now in
+    subst (λ ws. OnOk c.made_on.result (c.made_on.new.policy ≡ left_after g.U.Update.form g.P.Policy.rules chain.base (slotted ws keys slots others) c.args.policy.now)) writes
     (c.made_on.ensures.next list chain above is (subst (λ p. IsMade hashing p above chain.base) (sym parent) begun.parent) (begun.kept ∙ ap (λ k. kept_by k above chain.base) (sym keep)) on reads)
 
 pub returns-in-Ok-clause-causes : goal.returns-in-Ok-clause-causes

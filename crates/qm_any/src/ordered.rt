@@ -1,0 +1,201 @@
+//! Reads in key order, of an ordered database and through its batches.
+
+ghost use Rattle.std.specs.Prelude.{◌≡◌, ◌≢◌, ◌⊎◌, ℕ, List, Option, Some, true, false, map, option_and_then, option_map, IfOk, IfErr, OnOk};
+ghost use Rattle.qm_model.specs.Batches.{Chain, IsKnown};
+ghost use Rattle.qm_model.specs.Live.{live, live_keys, live_of};
+ghost use Rattle.qm_model.specs.Operations.{Bytes, Operation};
+ghost use Rattle.qm_model.specs.Ordered.{IsRing};
+ghost use Rattle.qm_model.specs.Ranges.{key_above, key_below};
+ghost use Rattle.qm_base.specs.Parts.{value_of};
+ghost use Rattle.qm_chain.specs.Bounds.{knows};
+ghost use Rattle.qm_batch.specs.Changes.{next_in};
+ghost use Rattle.qm_batch.specs.Layers.{LeadOver};
+ghost use Rattle.qm_batch.specs.Lent.{IsReadError, NoneBelow};
+ghost use Rattle.qm_batch.specs.Rings.{holder_of};
+ghost use Rattle.qm_batch.specs.Views.{read_view};
+ghost use Rattle.qm_any.specs.Databases.{IsDatabase, IsLeft, IsMade};
+
+use crate::batch::MerkleizedBatch;
+use crate::db::{Db, LaidOut};
+use crate::operations::Step;
+use qm_base::update::Update;
+use qm_base::{Digest, Error, Hasher, JournalError, Location, Twin};
+use qm_batch::kind::Steps;
+use qm_batch::{holder, next_key, previous_key, read_key};
+use qm_merkle::Family;
+use qm_store::Store;
+use std::alloc::{AllocError, Global};
+
+impl<
+    F: Family,
+    C: Store,
+    I: qm_index::Unordered<Value = Location<F>>,
+    H: Hasher + Drop,
+    U: Steps<F, I>,
+> Db<F, C, I, H, U> {
+    /// The live update whose span holds the key, with its location: the key's own, or else that of the nearest live key
+    /// before it, around the ring; none only where no key is live. It takes the reads of two buckets at most.
+    pub fn get_span(
+        &mut self,
+        alloc: Global,
+        key: &U::Key,
+    ) -> Result<Option<(Location<F>, U)>, Error>
+        requires { U.form.ordered ≡ true }
+        ensures value { (list : List Operation) → IsDatabase C.Store ⟦<Self as LaidOut>⟧.layout self.old list → IfOk result (λ found. option_map (read_view U.view) found ≡ holder_of list (U.Key.bytes key.now)) }
+        ensures error { IfErr result (IsReadError C.Store self.old.log self.new.log) }
+        ensures whole { (list : List Operation) → IsDatabase C.Store ⟦<Self as LaidOut>⟧.layout self.old list → NoneBelow self.old.log.tree.start list → IfErr result (λ e. (n : ℕ) → e ≢ Error.Journal (JournalError.ItemPruned n)) }
+        ensures left { IsLeft C.Store ⟦<Self as LaidOut>⟧.layout.hashing self.old self.new }
+    {
+        holder(alloc, &self.index, &mut self.log, &Vec::new(alloc), key)
+    }
+
+    /// The value of a key and the next live key, around the ring, if the key is live. It takes one read of the log for each
+    /// location in the key's bucket, at most.
+    pub fn get_all(
+        &mut self,
+        alloc: Global,
+        key: &U::Key,
+    ) -> Result<Option<(U::Value, U::Key)>, Error>
+        requires { U.form.ordered ≡ true }
+        ensures value { (list : List Operation) → IsDatabase C.Store ⟦<Self as LaidOut>⟧.layout self.old list
+            → IfOk result (λ found. option_map {U = Bytes × Option Bytes} (λ p. (U.Value.bytes p.0, Some (U.Key.bytes p.1))) found ≡ option_map {U = Bytes × Option Bytes} (λ e. (e.value, e.next)) (live_of (live list) (U.Key.bytes key.now))) }
+        ensures error { IfErr result (IsReadError C.Store self.old.log self.new.log) }
+        ensures whole { (list : List Operation) → IsDatabase C.Store ⟦<Self as LaidOut>⟧.layout self.old list → NoneBelow self.old.log.tree.start list → IfErr result (λ e. (n : ℕ) → e ≢ Error.Journal (JournalError.ItemPruned n)) }
+        ensures left { IsLeft C.Store ⟦<Self as LaidOut>⟧.layout.hashing self.old self.new }
+    {
+        let steps: Vec<Step<F, U>> = Vec::new(alloc);
+        let found = read_key(alloc, &self.index, &mut self.log, &steps, key)?;
+        Ok(value_and_next(alloc, found)?)
+    }
+
+    /// The nearest live key above this one, which does not go round. It takes the reads of two buckets at most.
+    pub fn get_next_key(&mut self, alloc: Global, key: &U::Key) -> Result<Option<U::Key>, Error>
+        requires { U.form.ordered ≡ true }
+        ensures value { (list : List Operation) → IsDatabase C.Store ⟦<Self as LaidOut>⟧.layout self.old list → IfOk result (λ found. option_map U.Key.bytes found ≡ key_above (live_keys list) (U.Key.bytes key.now)) }
+        ensures error { IfErr result (IsReadError C.Store self.old.log self.new.log) }
+        ensures whole { (list : List Operation) → IsDatabase C.Store ⟦<Self as LaidOut>⟧.layout self.old list → NoneBelow self.old.log.tree.start list → IfErr result (λ e. (n : ℕ) → e ≢ Error.Journal (JournalError.ItemPruned n)) }
+        ensures left { IsLeft C.Store ⟦<Self as LaidOut>⟧.layout.hashing self.old self.new }
+    {
+        self.next_over(alloc, &Vec::new(alloc), key)
+    }
+
+    /// The nearest live key below this one, which does not go round. It takes the reads of two buckets at most.
+    pub fn get_prev_key(&mut self, alloc: Global, key: &U::Key) -> Result<Option<U::Key>, Error>
+        requires { U.form.ordered ≡ true }
+        ensures value { (list : List Operation) → IsDatabase C.Store ⟦<Self as LaidOut>⟧.layout self.old list → IfOk result (λ found. option_map U.Key.bytes found ≡ key_below (live_keys list) (U.Key.bytes key.now)) }
+        ensures error { IfErr result (IsReadError C.Store self.old.log self.new.log) }
+        ensures whole { (list : List Operation) → IsDatabase C.Store ⟦<Self as LaidOut>⟧.layout self.old list → NoneBelow self.old.log.tree.start list → IfErr result (λ e. (n : ℕ) → e ≢ Error.Journal (JournalError.ItemPruned n)) }
+        ensures left { IsLeft C.Store ⟦<Self as LaidOut>⟧.layout.hashing self.old self.new }
+    {
+        self.previous_over(alloc, &Vec::new(alloc), key)
+    }
+
+    // The nearest live key above this one on the base list of a batch of these steps.
+    fn next_over(
+        &mut self,
+        alloc: Global,
+        steps: &[Step<F, U>],
+        key: &U::Key,
+    ) -> Result<Option<U::Key>, Error>
+        requires { U.form.ordered ≡ true }
+        ensures value { (list base : List Operation) → IsDatabase C.Store ⟦<Self as LaidOut>⟧.layout self.old list → LeadOver (map (λ l. l.value) steps.now) list base → IsRing base
+            → IfOk result (λ found. option_map U.Key.bytes found ≡ key_above (live_keys base) (U.Key.bytes key.now)) }
+        ensures error { IfErr result (IsReadError C.Store self.old.log self.new.log) }
+        ensures whole { (list : List Operation) → IsDatabase C.Store ⟦<Self as LaidOut>⟧.layout self.old list → NoneBelow self.old.log.tree.start list → IfErr result (λ e. (n : ℕ) → e ≢ Error.Journal (JournalError.ItemPruned n)) }
+        ensures left { IsLeft C.Store ⟦<Self as LaidOut>⟧.layout.hashing self.old self.new }
+    {
+        next_key(alloc, &self.index, &mut self.log, steps, key)
+    }
+
+    // The nearest live key below this one on the base list of a batch of these steps.
+    fn previous_over(
+        &mut self,
+        alloc: Global,
+        steps: &[Step<F, U>],
+        key: &U::Key,
+    ) -> Result<Option<U::Key>, Error>
+        requires { U.form.ordered ≡ true }
+        ensures value { (list base : List Operation) → IsDatabase C.Store ⟦<Self as LaidOut>⟧.layout self.old list → LeadOver (map (λ l. l.value) steps.now) list base → IsRing base
+            → IfOk result (λ found. option_map U.Key.bytes found ≡ key_below (live_keys base) (U.Key.bytes key.now)) }
+        ensures error { IfErr result (IsReadError C.Store self.old.log self.new.log) }
+        ensures whole { (list : List Operation) → IsDatabase C.Store ⟦<Self as LaidOut>⟧.layout self.old list → NoneBelow self.old.log.tree.start list → IfErr result (λ e. (n : ℕ) → e ≢ Error.Journal (JournalError.ItemPruned n)) }
+        ensures left { IsLeft C.Store ⟦<Self as LaidOut>⟧.layout.hashing self.old self.new }
+    {
+        previous_key(alloc, &self.index, &mut self.log, steps, key)
+    }
+}
+
+impl<F: Family, D: Digest, U: Update> MerkleizedBatch<F, D, U> {
+    /// The nearest live key above this one on the list that the batch makes, which does not go round. It is read where `get`
+    /// can read.
+    pub fn get_next_key<
+        C: Store,
+        I: qm_index::Unordered<Value = Location<F>>,
+        H: Hasher<Digest = D> + Drop,
+    >(
+        &self,
+        alloc: Global,
+        key: &U::Key,
+        db: &mut Db<F, C, I, H, U>,
+    ) -> Result<Option<U::Key>, Error>
+    where
+        U: Steps<F, I>,
+        requires { U.form.ordered ≡ true }
+        ensures value { (list : List Operation) (chain : Chain) (tip : List Operation) → IsDatabase C.Store ⟦<Db<F, C, I, H, U> as LaidOut>⟧.layout db.old list → IsMade ⟦<Db<F, C, I, H, U> as LaidOut>⟧.layout.hashing self.now chain tip → IsKnown list chain tip
+            → IfOk result (λ found. option_map U.Key.bytes found ≡ key_above (live_keys tip) (U.Key.bytes key.now)) }
+        ensures readable { OnOk result (knows self.now.bounds db.old.commitment ≡ true) }
+        ensures error { IfErr result (λ e. ((e ≡ Error.StaleRead) × (knows self.now.bounds db.old.commitment ≡ false))
+            ⊎ ((e ≡ Error.Memory) ⊎ ((knows self.now.bounds db.old.commitment ≡ true) × IsReadError C.Store db.old.log db.new.log e))) }
+        ensures whole { (list : List Operation) → IsDatabase C.Store ⟦<Db<F, C, I, H, U> as LaidOut>⟧.layout db.old list → NoneBelow db.old.log.tree.start list → IfErr result (λ e. (n : ℕ) → e ≢ Error.Journal (JournalError.ItemPruned n)) }
+        ensures left { IsLeft C.Store ⟦<Db<F, C, I, H, U> as LaidOut>⟧.layout.hashing db.old db.new }
+    {
+        self.bounds.compatible(db.commitment())?;
+        db.next_over(alloc, &self.steps, key)
+    }
+
+    /// The nearest live key below this one on the list that the batch makes, which does not go round. It is read where `get`
+    /// can read.
+    pub fn get_prev_key<
+        C: Store,
+        I: qm_index::Unordered<Value = Location<F>>,
+        H: Hasher<Digest = D> + Drop,
+    >(
+        &self,
+        alloc: Global,
+        key: &U::Key,
+        db: &mut Db<F, C, I, H, U>,
+    ) -> Result<Option<U::Key>, Error>
+    where
+        U: Steps<F, I>,
+        requires { U.form.ordered ≡ true }
+        ensures value { (list : List Operation) (chain : Chain) (tip : List Operation) → IsDatabase C.Store ⟦<Db<F, C, I, H, U> as LaidOut>⟧.layout db.old list → IsMade ⟦<Db<F, C, I, H, U> as LaidOut>⟧.layout.hashing self.now chain tip → IsKnown list chain tip
+            → IfOk result (λ found. option_map U.Key.bytes found ≡ key_below (live_keys tip) (U.Key.bytes key.now)) }
+        ensures readable { OnOk result (knows self.now.bounds db.old.commitment ≡ true) }
+        ensures error { IfErr result (λ e. ((e ≡ Error.StaleRead) × (knows self.now.bounds db.old.commitment ≡ false))
+            ⊎ ((e ≡ Error.Memory) ⊎ ((knows self.now.bounds db.old.commitment ≡ true) × IsReadError C.Store db.old.log db.new.log e))) }
+        ensures whole { (list : List Operation) → IsDatabase C.Store ⟦<Db<F, C, I, H, U> as LaidOut>⟧.layout db.old list → NoneBelow db.old.log.tree.start list → IfErr result (λ e. (n : ℕ) → e ≢ Error.Journal (JournalError.ItemPruned n)) }
+        ensures left { IsLeft C.Store ⟦<Db<F, C, I, H, U> as LaidOut>⟧.layout.hashing db.old db.new }
+    {
+        self.bounds.compatible(db.commitment())?;
+        db.previous_over(alloc, &self.steps, key)
+    }
+}
+
+// What a live update says of its key: the value and a copy of the next key, where it names one.
+fn value_and_next<F, U: Update>(
+    alloc: Global,
+    found: Option<(Location<F>, U)>,
+) -> Result<Option<(U::Value, U::Key)>, AllocError>
+    ensures { IfOk result (λ said. U.form.ordered ≡ true → option_map {U = Bytes × Option Bytes} (λ p. (U.Value.bytes p.0, Some (U.Key.bytes p.1))) said
+        ≡ option_and_then (λ p. option_map {U = Bytes × Option Bytes} (λ value. (value, next_in p.1)) (value_of p.1)) (option_map (read_view U.view) found)) }
+{
+    let Some((_, update)) = found else {
+        return Ok(None);
+    };
+    let (_, value, Some(next)) = update.parts() else {
+        return Ok(None);
+    };
+    let value = value.twin(alloc)?;
+    let next = next.twin(alloc)?;
+    Ok(Some((value, next)))
+}
