@@ -1,0 +1,9 @@
+use Rattle.std.proofs.Common.{◌≡◌, ◌+◌, map, drop}
+use Rattle.qm_scan.specs.Gathered.{pair_view, place_among}
+use Rattle.qm_scan.proofs.gather.place_among.Given as goal
+
+abbrev pub invariant-loop-pair : goal.invariant-loop-pair
+invariant-loop-pair g l = record {
+  count : l.place ≡ l.pair-index;
+  value : place_among l.key (map (pair_view g.K.ByteString.bytes g.V.ByteString.bytes) l.pairs) ≡ l.pair-index + place_among l.key (map (pair_view g.K.ByteString.bytes g.V.ByteString.bytes) (drop l.pair-index l.pairs));
+}

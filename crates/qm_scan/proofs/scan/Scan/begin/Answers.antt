@@ -1,0 +1,12 @@
+use Rattle.std.proofs.Common.{◌≡◌, ◌∙◌, ap, map}
+use Rattle.qm_model.proofs.Results.{told-one}
+use Rattle.qm_scan.specs.Gathered.{pair_view}
+use Rattle.qm_scan.specs.Scans.{beginning, place_view}
+use Rattle.qm_scan.proofs.Going.{carried}
+use Rattle.qm_scan.proofs.scan.Scan.begin.Goals as goal
+
+pub returns-in_ok-found-in-Beginning-clause-value : goal.returns-in_ok-found-in-Beginning-clause-value
+returns-in_ok-found-in-Beginning-clause-value g c = λ list is.
+    let view = pair_view g.K.ByteString.bytes g.V.Value.ByteString.bytes in
+    told-one _ _ (g.C.Store.told c.args.log.now.store) (c.in_ok-found-in-Beginning.ensures.value list is) (λ next.
+    carried g.I.Unordered.index_key list _ _ c.self.view_is c.requires beginning (ap (place_view g.K.ByteString.bytes) c.in-Beginning.is) _ _ next _ (ap (map view) c.from_vec.ensures.items))

@@ -1,0 +1,33 @@
+use Rattle.std.proofs.Common.{◌∙◌, ◌≤◌, ◌++◌, ap, ap₂, subst, sym, []}
+use Rattle.std.specs.Prelude.{All, fold}
+use Rattle.std.proofs.lemmas.Result.{err_from_is_err_and}
+use Rattle.qm_model.proofs.Results.{told-one}
+use Rattle.qm_index.specs.Buckets.{bucket_at}
+use Rattle.qm_batch.specs.Nearest.{limit_view}
+use Rattle.qm_batch.proofs.LentKeys.{bucket-above}
+use Rattle.qm_scan.specs.Gathered.{put_at}
+use Rattle.qm_scan.specs.Scans.{ahead_of, behind}
+use Rattle.qm_scan.proofs.Ahead.{own-bucket}
+use Rattle.qm_scan.proofs.Gathering.{ordered_form}
+use Rattle.qm_scan.proofs.scan.read_own.Goals as goal
+
+pub returns-in_err-pairs-clause-whole : goal.returns-in_err-pairs-clause-whole
+returns-in_err-pairs-clause-whole g c = λ list is none.
+    let exit = err_from_is_err_and c.from_residual.result c.from_residual.ensures.1 in
+    let start = c.args.log.now.tree.start in
+    rw (exit.1, exit.2) (c.in_err-pairs.ensures.pruned
+    (subst (All (λ at. start ≤ at)) (sym c.bucket.ensures.value) (bucket-above list g.I.Unordered.index_key (g.I.Unordered.entries c.args.index.now) is.indexed (g.I.Unordered.index_key c.as_bytes.result.now) start none)))
+
+pub returns-clause-value : goal.returns-clause-value
+returns-clause-value g c = λ list is begins.
+    let low = limit_view c.args.low in
+    let high = limit_view c.args.high in
+    let index_key = g.I.Unordered.index_key in
+    let entries = g.I.Unordered.entries c.args.index.now in
+    let key = g.K.ByteString.bytes c.args.key.now in
+    let key_bytes = g.K.ByteString.are_bytes key (sym (ap g.K.ByteString.has c.as_bytes.ensures.value) ∙ c.as_bytes.ensures.known) in
+    told-one _ _ (g.C.Store.told c.args.log.now.store) (c.in_ok-pairs.ensures.value list is.logged is.of) (λ found.
+    own-bucket index_key entries c.bucket.ensures.index list is.indexed (ordered_form g.V.ValueEncoding.fixed g.K.ByteString.has g.V.Value.ByteString.has) g.K.ByteString.are_bytes g.met.I.Ordered.monotone is.of key low high key_bytes begins
+    ∙ sym (ap₂ (λ ps k. ps ++ ahead_of index_key low high (behind k) list)
+    (found ∙ ap (fold (put_at low high list) []) (c.bucket.ensures.value ∙ ap (λ k. bucket_at entries (index_key k)) c.as_bytes.ensures.value))
+    (ap g.K.ByteString.bytes c.in_ok-key.ensures)))

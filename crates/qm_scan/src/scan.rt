@@ -1,0 +1,360 @@
+//! Scans, which read a bucket where they have nothing left that is read.
+
+ghost use Rattle.std.specs.Prelude.{◌≡◌, ◌≢◌, ◌≤◌, ℕ, List, [], fold, map, option_map, All, IfSome, IfOk, IfErr, OnOk};
+ghost use Rattle.qm_model.specs.Forms.{IsOf, spelling};
+ghost use Rattle.qm_model.specs.Operations.{Operation};
+ghost use Rattle.qm_model.specs.Ranges.{Limit, unlimited};
+ghost use Rattle.qm_store.specs.Log.{IsLog};
+ghost use Rattle.qm_batch.specs.Lent.{IsLent, IsRead, IsReadError, NoneBelow};
+ghost use Rattle.qm_batch.specs.Nearest.{limit_view};
+ghost use Rattle.qm_scan.specs.Gathered.{limit_of, pair_view, put_at};
+ghost use Rattle.qm_scan.specs.Scans.{AreNext, BeginsAt, IsStep, IsTaken, beginning, behind, nowhere, behind_first, left_of, place_view, unwrapped};
+
+use crate::gather::{bytes_of, pairs_at};
+use qm_base::update::{Ordered, Update};
+use qm_base::{ByteString, Error, Hasher, JournalError, Location, ValueEncoding};
+use qm_merkle::Family;
+use qm_store::{AuthLog, Store};
+use std::alloc::{AllocError, Global};
+use std::collections::VecDeque;
+use std::marker::Model;
+use std::ops::Bound;
+
+// Where a scan reads next: where its range begins, behind the bucket of a key, or nowhere.
+#[derive(Drop)]
+pub enum Place<K> {
+    Beginning,
+    Behind(K),
+    Nowhere,
+}
+
+// Pairs that were read, by key, and where to read next.
+#[derive(Drop)]
+struct Found<K: ByteString, V: ValueEncoding<K>> {
+    pairs: Vec<(K, V::Value)>,
+    place: Place<K>,
+}
+
+/// A scan of the keys in a range with their values, in key order, over an index and a log that are lent to each step.
+#[derive(Drop)]
+pub struct Scan<K: ByteString, V: ValueEncoding<K>> {
+    low: Bound<K>,
+    high: Bound<K>,
+    place: Place<K>,
+    ready: VecDeque<(K, V::Value)>,
+}
+
+impl<K: ByteString, V: ValueEncoding<K>> Model for Scan<K, V> {
+    ghost use Rattle.std.specs.Prelude.{map};
+    ghost use Rattle.qm_scan.specs.Gathered.{limit_of, pair_view};
+    ghost use Rattle.qm_scan.specs.Scans.{Scanning, place_view};
+
+    ghost Value = { Scanning };
+
+    ghost view = { λ s. record { low = limit_of K.bytes s.low; high = limit_of K.bytes s.high; place = place_view K.bytes s.place; ready = map (pair_view K.bytes V.Value.bytes) s.ready.items } };
+}
+
+impl<K: ByteString, V: ValueEncoding<K>> Scan<K, V> {
+    /// A scan of a range, of which nothing is read yet.
+    pub fn new(alloc: Global, low: Bound<K>, high: Bound<K>) -> Self
+        ensures { result ≡ record { low = limit_of K.bytes low; high = limit_of K.bytes high; place = beginning; ready = [] } }
+    {
+        Scan {
+            low,
+            high,
+            place: Place::Beginning,
+            ready: VecDeque::new(alloc),
+        }
+    }
+
+    /// The next key of the range and its value, or nothing where none is left. It reads only where nothing that was read is
+    /// left: the next bucket, and behind a beginning whose own bucket has no key in the range the one behind that too. A
+    /// refused read leaves all that was left, and the next call reads that bucket again.
+    pub fn next<F: Family, I: qm_index::Ordered<Value = Location<F>>, C: Store, H: Hasher + Drop>(
+        &mut self,
+        alloc: Global,
+        index: &I,
+        log: &mut AuthLog<F, C, H>,
+    ) -> Option<Result<(K, V::Value), Error>>
+        ensures value { (list : List Operation) → IsLent C.Store F.shape H.Digest.bytes H.hash ⟦<Ordered<K, V> as Update>⟧.form I.index_key (I.entries index.now) log.old list → IfSome (C.told log.old.store) (λ _. IsStep (pair_view K.bytes V.Value.bytes) (left_of I.index_key self.old list) (left_of I.index_key self.new list) result) }
+        ensures read { IsRead C.Store F.shape H.Digest.bytes H.hash log.old log.new }
+        ensures error { IfSome result (λ r. IfErr r (IsReadError C.Store log.old log.new)) }
+        ensures whole { (list : List Operation) → IsLent C.Store F.shape H.Digest.bytes H.hash ⟦<Ordered<K, V> as Update>⟧.form I.index_key (I.entries index.now) log.old list → NoneBelow log.old.tree.start list
+            → IfSome result (λ r. IfErr r (λ e. (n : ℕ) → e ≢ Error.Journal (JournalError.ItemPruned n))) }
+    {
+        if let Some(pair) = self.take() {
+            return Some(Ok(pair));
+        }
+        if let Err(error) = self.begin(alloc, index, log) {
+            return Some(Err(error));
+        }
+        if let Some(pair) = self.take() {
+            return Some(Ok(pair));
+        }
+        self.next_behind(alloc, index, log)
+    }
+
+    // The same for a scan that has begun and has nothing left that was read.
+    fn next_behind<
+        F: Family,
+        I: qm_index::Ordered<Value = Location<F>>,
+        C: Store,
+        H: Hasher + Drop,
+    >(
+        &mut self,
+        alloc: Global,
+        index: &I,
+        log: &mut AuthLog<F, C, H>,
+    ) -> Option<Result<(K, V::Value), Error>>
+        requires begun { self.old.place ≢ beginning }
+        requires empty { self.old.ready ≡ [] }
+        ensures value { (list : List Operation) → IsLent C.Store F.shape H.Digest.bytes H.hash ⟦<Ordered<K, V> as Update>⟧.form I.index_key (I.entries index.now) log.old list → IfSome (C.told log.old.store) (λ _. IsStep (pair_view K.bytes V.Value.bytes) (left_of I.index_key self.old list) (left_of I.index_key self.new list) result) }
+        ensures read { IsRead C.Store F.shape H.Digest.bytes H.hash log.old log.new }
+        ensures error { IfSome result (λ r. IfErr r (IsReadError C.Store log.old log.new)) }
+        ensures whole { (list : List Operation) → IsLent C.Store F.shape H.Digest.bytes H.hash ⟦<Ordered<K, V> as Update>⟧.form I.index_key (I.entries index.now) log.old list → NoneBelow log.old.tree.start list
+            → IfSome result (λ r. IfErr r (λ e. (n : ℕ) → e ≢ Error.Journal (JournalError.ItemPruned n))) }
+    {
+        match self.go_on(alloc, index, log) {
+            Ok(()) => match self.take() {
+                Some(pair) => Some(Ok(pair)),
+                None => None,
+            },
+            Err(error) => Some(Err(error)),
+        }
+    }
+
+    // The first of the pairs that were read.
+    fn take(&mut self) -> Option<(K, V::Value)>
+        ensures { IsTaken (pair_view K.bytes V.Value.bytes) self.old self.new result }
+    {
+        self.ready.pop_front()
+    }
+
+    // Reads the first bucket of a scan that has read none.
+    fn begin<F: Family, I: qm_index::Ordered<Value = Location<F>>, C: Store, H: Hasher + Drop>(
+        &mut self,
+        alloc: Global,
+        index: &I,
+        log: &mut AuthLog<F, C, H>,
+    ) -> Result<(), Error>
+        requires { self.old.ready ≡ [] }
+        ensures value { (list : List Operation) → IsLent C.Store F.shape H.Digest.bytes H.hash ⟦<Ordered<K, V> as Update>⟧.form I.index_key (I.entries index.now) log.old list → IfSome (C.told log.old.store) (λ _. left_of I.index_key self.new list ≡ left_of I.index_key self.old list) }
+        ensures begun { OnOk result (self.new.place ≢ beginning) }
+        ensures read { IsRead C.Store F.shape H.Digest.bytes H.hash log.old log.new }
+        ensures error { IfErr result (IsReadError C.Store log.old log.new) }
+        ensures whole { (list : List Operation) → IsLent C.Store F.shape H.Digest.bytes H.hash ⟦<Ordered<K, V> as Update>⟧.form I.index_key (I.entries index.now) log.old list → NoneBelow log.old.tree.start list
+            → IfErr result (λ e. (n : ℕ) → e ≢ Error.Journal (JournalError.ItemPruned n)) }
+    {
+        match &self.place {
+            Place::Beginning => {
+                let found: Found<K, V> = read_beginning(alloc, index, log, &self.low, &self.high)?;
+                self.ready = VecDeque::from_vec(found.pairs);
+                self.place = found.place;
+                Ok(())
+            }
+            Place::Behind(_) => Ok(()),
+            Place::Nowhere => Ok(()),
+        }
+    }
+
+    // Reads the next bucket of a scan that has begun.
+    fn go_on<F: Family, I: qm_index::Ordered<Value = Location<F>>, C: Store, H: Hasher + Drop>(
+        &mut self,
+        alloc: Global,
+        index: &I,
+        log: &mut AuthLog<F, C, H>,
+    ) -> Result<(), Error>
+        requires begun { self.old.place ≢ beginning }
+        requires empty { self.old.ready ≡ [] }
+        ensures value { (list : List Operation) → IsLent C.Store F.shape H.Digest.bytes H.hash ⟦<Ordered<K, V> as Update>⟧.form I.index_key (I.entries index.now) log.old list → IfSome (C.told log.old.store) (λ _. left_of I.index_key self.new list ≡ left_of I.index_key self.old list) }
+        ensures over { (list : List Operation) → IsLent C.Store F.shape H.Digest.bytes H.hash ⟦<Ordered<K, V> as Update>⟧.form I.index_key (I.entries index.now) log.old list → IfSome (C.told log.old.store) (λ _. OnOk result (self.new.ready ≡ [] → left_of I.index_key self.new list ≡ [])) }
+        ensures read { IsRead C.Store F.shape H.Digest.bytes H.hash log.old log.new }
+        ensures error { IfErr result (IsReadError C.Store log.old log.new) }
+        ensures whole { (list : List Operation) → IsLent C.Store F.shape H.Digest.bytes H.hash ⟦<Ordered<K, V> as Update>⟧.form I.index_key (I.entries index.now) log.old list → NoneBelow log.old.tree.start list
+            → IfErr result (λ e. (n : ℕ) → e ≢ Error.Journal (JournalError.ItemPruned n)) }
+    {
+        match &self.place {
+            Place::Behind(key) => {
+                let found: Found<K, V> = read_next(alloc, index, log, key, &self.high)?;
+                self.ready = VecDeque::from_vec(found.pairs);
+                self.place = found.place;
+                Ok(())
+            }
+            Place::Beginning => Ok(()),
+            Place::Nowhere => Ok(()),
+        }
+    }
+}
+
+// The first pairs of a range.
+fn read_beginning<
+    F: Family,
+    I: qm_index::Ordered<Value = Location<F>>,
+    C: Store,
+    H: Hasher + Drop,
+    K: ByteString,
+    V: ValueEncoding<K>,
+>(
+    alloc: Global,
+    index: &I,
+    log: &mut AuthLog<F, C, H>,
+    low: &Bound<K>,
+    high: &Bound<K>,
+) -> Result<Found<K, V>, Error>
+    ensures value { (list : List Operation) → IsLent C.Store F.shape H.Digest.bytes H.hash ⟦<Ordered<K, V> as Update>⟧.form I.index_key (I.entries index.now) log.old list → IfSome (C.told log.old.store) (λ _. IfOk result (λ found. AreNext I.index_key (limit_of K.bytes low.now) (limit_of K.bytes high.now) list beginning (map (pair_view K.bytes V.Value.bytes) found.pairs.items) (place_view K.bytes found.place))) }
+    ensures begun { IfOk result (λ found. place_view K.bytes found.place ≢ beginning) }
+    ensures read { IsRead C.Store F.shape H.Digest.bytes H.hash log.old log.new }
+    ensures error { IfErr result (IsReadError C.Store log.old log.new) }
+    ensures whole { (list : List Operation) → IsLent C.Store F.shape H.Digest.bytes H.hash ⟦<Ordered<K, V> as Update>⟧.form I.index_key (I.entries index.now) log.old list → NoneBelow log.old.tree.start list
+        → IfErr result (λ e. (n : ℕ) → e ≢ Error.Journal (JournalError.ItemPruned n)) }
+{
+    match low {
+        Bound::Included(key) | Bound::Excluded(key) => {
+            read_own(alloc, index, log, key, bytes_of(low), bytes_of(high))
+        }
+        Bound::Unbounded => read_first(alloc, index, log, bytes_of(high)),
+    }
+}
+
+// The pairs of a range in the bucket of the key where it begins.
+fn read_own<
+    F: Family,
+    I: qm_index::Ordered<Value = Location<F>>,
+    C: Store,
+    H: Hasher + Drop,
+    K: ByteString,
+    V: ValueEncoding<K>,
+>(
+    alloc: Global,
+    index: &I,
+    log: &mut AuthLog<F, C, H>,
+    key: &K,
+    low: Bound<&[u8]>,
+    high: Bound<&[u8]>,
+) -> Result<Found<K, V>, Error>
+    ensures value { (list : List Operation) → IsLent C.Store F.shape H.Digest.bytes H.hash ⟦<Ordered<K, V> as Update>⟧.form I.index_key (I.entries index.now) log.old list → BeginsAt (K.bytes key.now) (limit_view low.entry)
+        → IfSome (C.told log.old.store) (λ _. IfOk result (λ found. AreNext I.index_key (limit_view low.entry) (limit_view high.entry) list beginning (map (pair_view K.bytes V.Value.bytes) found.pairs.items) (place_view K.bytes found.place))) }
+    ensures begun { IfOk result (λ found. place_view K.bytes found.place ≢ beginning) }
+    ensures read { IsRead C.Store F.shape H.Digest.bytes H.hash log.old log.new }
+    ensures error { IfErr result (IsReadError C.Store log.old log.new) }
+    ensures whole { (list : List Operation) → IsLent C.Store F.shape H.Digest.bytes H.hash ⟦<Ordered<K, V> as Update>⟧.form I.index_key (I.entries index.now) log.old list → NoneBelow log.old.tree.start list
+        → IfErr result (λ e. (n : ℕ) → e ≢ Error.Journal (JournalError.ItemPruned n)) }
+{
+    let pairs = pairs_at::<F, C, H, K, V>(alloc, log, index.bucket(key.as_bytes()), low, high)?;
+    let key = key.twin(alloc)?;
+    Ok(Found {
+        pairs,
+        place: Place::Behind(key),
+    })
+}
+
+// The pairs of a range without a beginning in the first bucket.
+fn read_first<
+    F: Family,
+    I: qm_index::Ordered<Value = Location<F>>,
+    C: Store,
+    H: Hasher + Drop,
+    K: ByteString,
+    V: ValueEncoding<K>,
+>(
+    alloc: Global,
+    index: &I,
+    log: &mut AuthLog<F, C, H>,
+    high: Bound<&[u8]>,
+) -> Result<Found<K, V>, Error>
+    ensures value { (list : List Operation) → IsLent C.Store F.shape H.Digest.bytes H.hash ⟦<Ordered<K, V> as Update>⟧.form I.index_key (I.entries index.now) log.old list → IfSome (C.told log.old.store) (λ _. IfOk result (λ found. AreNext I.index_key unlimited (limit_view high.entry) list beginning (map (pair_view K.bytes V.Value.bytes) found.pairs.items) (place_view K.bytes found.place))) }
+    ensures begun { IfOk result (λ found. place_view K.bytes found.place ≢ beginning) }
+    ensures read { IsRead C.Store F.shape H.Digest.bytes H.hash log.old log.new }
+    ensures error { IfErr result (IsReadError C.Store log.old log.new) }
+    ensures whole { (list : List Operation) → IsLent C.Store F.shape H.Digest.bytes H.hash ⟦<Ordered<K, V> as Update>⟧.form I.index_key (I.entries index.now) log.old list → NoneBelow log.old.tree.start list
+        → IfErr result (λ e. (n : ℕ) → e ≢ Error.Journal (JournalError.ItemPruned n)) }
+{
+    match index.first_bucket() {
+        Some(bucket) => read_bucket(alloc, log, bucket, high),
+        None => Ok(nothing(alloc)),
+    }
+}
+
+// The pairs of a range in the bucket behind a key's, from which on all keys are behind the beginning.
+fn read_next<
+    F: Family,
+    I: qm_index::Ordered<Value = Location<F>>,
+    C: Store,
+    H: Hasher + Drop,
+    K: ByteString,
+    V: ValueEncoding<K>,
+>(
+    alloc: Global,
+    index: &I,
+    log: &mut AuthLog<F, C, H>,
+    key: &K,
+    high: &Bound<K>,
+) -> Result<Found<K, V>, Error>
+    ensures value { (list : List Operation) (low : Limit) → IsLent C.Store F.shape H.Digest.bytes H.hash ⟦<Ordered<K, V> as Update>⟧.form I.index_key (I.entries index.now) log.old list → IfSome (C.told log.old.store) (λ _. IfOk result (λ found. AreNext I.index_key low (limit_of K.bytes high.now) list (behind (K.bytes key.now)) (map (pair_view K.bytes V.Value.bytes) found.pairs.items) (place_view K.bytes found.place) × (map (pair_view K.bytes V.Value.bytes) found.pairs.items ≡ [] → place_view K.bytes found.place ≡ nowhere))) }
+    ensures read { IsRead C.Store F.shape H.Digest.bytes H.hash log.old log.new }
+    ensures error { IfErr result (IsReadError C.Store log.old log.new) }
+    ensures whole { (list : List Operation) → IsLent C.Store F.shape H.Digest.bytes H.hash ⟦<Ordered<K, V> as Update>⟧.form I.index_key (I.entries index.now) log.old list → NoneBelow log.old.tree.start list
+        → IfErr result (λ e. (n : ℕ) → e ≢ Error.Journal (JournalError.ItemPruned n)) }
+{
+    match unwrapped(index.next_bucket(key.as_bytes())) {
+        Some(bucket) => read_bucket(alloc, log, bucket, bytes_of(high)),
+        None => Ok(nothing(alloc)),
+    }
+}
+
+// The bucket behind a key's, unless the way there goes round.
+fn unwrapped<F>(found: Option<(&[Location<F>], bool)>) -> Option<&[Location<F>]>
+    ensures { option_map (λ b. b.now) result ≡ unwrapped (option_map (λ b. (b.0.now, b.1)) found.entry) }
+{
+    match found {
+        Some((_, true)) => None,
+        Some((bucket, false)) => Some(bucket),
+        None => None,
+    }
+}
+
+// The pairs of a bucket before the end of a range. Where it has none the range is over.
+fn read_bucket<F: Family, C: Store, H: Hasher + Drop, K: ByteString, V: ValueEncoding<K>>(
+    alloc: Global,
+    log: &mut AuthLog<F, C, H>,
+    locations: &[Location<F>],
+    high: Bound<&[u8]>,
+) -> Result<Found<K, V>, Error>
+    ensures value { (list : List Operation) → IsLog C.Store F.shape H.Digest.bytes H.hash log.old (map (spelling ⟦<Ordered<K, V> as Update>⟧.form) list) → All (IsOf ⟦<Ordered<K, V> as Update>⟧.form) list
+        → IfSome (C.told log.old.store) (λ _. IfOk result (λ found. map (pair_view K.bytes V.Value.bytes) found.pairs.items ≡ fold (put_at unlimited (limit_view high.entry) list) [] locations.now)) }
+    ensures place { IfOk result (λ found. place_view K.bytes found.place ≡ behind_first (map (pair_view K.bytes V.Value.bytes) found.pairs.items)) }
+    ensures read { IsRead C.Store F.shape H.Digest.bytes H.hash log.old log.new }
+    ensures error { IfErr result (IsReadError C.Store log.old log.new) }
+    ensures pruned { All (λ at. log.old.tree.start ≤ at) locations.now → IfErr result (λ e. (n : ℕ) → e ≢ Error.Journal (JournalError.ItemPruned n)) }
+{
+    let pairs = pairs_at::<F, C, H, K, V>(alloc, log, locations, Bound::Unbounded, high)?;
+    let place = behind(alloc, &pairs)?;
+    Ok(Found { pairs, place })
+}
+
+// The place behind the bucket of the first pair; nowhere where there is none.
+fn behind<K: ByteString, V: ByteString>(
+    alloc: Global,
+    pairs: &[(K, V)],
+) -> Result<Place<K>, AllocError>
+    ensures { IfOk result (λ place. place_view K.bytes place ≡ behind_first (map (pair_view K.bytes V.bytes) pairs.now)) }
+{
+    match pairs.first() {
+        Some((key, _)) => {
+            let key = key.twin(alloc)?;
+            Ok(Place::Behind(key))
+        }
+        None => Ok(Place::Nowhere),
+    }
+}
+
+// No pairs, behind all keys.
+fn nothing<K: ByteString, V: ValueEncoding<K>>(alloc: Global) -> Found<K, V>
+    ensures pairs { result.pairs.items ≡ [] }
+    ensures place { place_view K.bytes result.place ≡ nowhere }
+{
+    Found {
+        pairs: Vec::new(alloc),
+        place: Place::Nowhere,
+    }
+}
