@@ -17,7 +17,7 @@ import fuzz  # noqa: E402
 import model  # noqa: E402
 import qmdb  # noqa: E402
 
-STAGE = qmdb.stage_number('staged')
+STAGE = qmdb.stage_number('ordered')
 WORDS = 'run any unordered mmr'
 inp, out = [], []
 def section(text):
@@ -63,6 +63,7 @@ for row in check_rows.load_rows():
     first, last = check_rows.stages_of(row)
     if first > STAGE or last < STAGE or 'initial' in row or row['store'] == 'mem': continue
     run, = row['runs']
+    if ' '.join(run['words']) != WORDS: continue
     if 'repeat' in run['input']: continue
     data = check_rows.row_input(run)
     name = row['name'].replace(' any unordered mmr', '')
@@ -108,6 +109,7 @@ modelled('lines', ''.join(x + '\n' for x in (
  'merkleize 1 hold none', 'merkleize 1 bounded:0:18446744073709551615 none', 'merkleize 1 rule:2:9 none', 'merkleize 1 rule:2:9:drop=02 none', 'merkleize 1 rule:2:9:stop=-:swap=0A>%s none' % ('62' * 64), 'merkleize 1 rule:2:9:drop=%s:stop=02:swap=->- 0f' % ('61' * 64),
  'stage 1 6b', 'stage 0 6B 6c 6b', 'expand 1 6b', 'expand 18446744073709551615 6b 6b', 'resolve 1 prop none', 'resolve 1 hold 0f keep del put:- put:0F', 'resolve 1 rule:2:9 - 6b=none 6B=- 6c=none', 'resolve 0 prop none put:%s 00fF=0f' % ('62' * 64),
  'apply 10', 'ops 18446744073709551615', 'get 4a4A', 'get 4a from=3', 'many 4a', 'many 4a 6b 4a from=0', 'child 2', 'child 2 keep=0', 'child 2 keep=18446744073709551615',
+ 'next 4a', 'next 4a4A from=3', 'prev 4A', 'prev 4a from=0', 'span 4a', 'all 4a', 'range * *', 'range [4a 4b]', 'range (4a 4b)', 'keys [4A *', 'keys * 4b)',
  'info 1', 'root 1', 'proof 1', 'prove 4 0 9', 'prove 18446744073709551615 0 18446744073709551615', 'pins 0', 'open')))
 modelled('keys of 32 bytes, values of 64', 'open\nbatch\nput 1 %s %s\nmerkleize 1 prop %s\nops 1\napply 1\nget %s\nmeta\n' % ('61' * 32, '62' * 64, '63' * 64, '61' * 32), items=True)
 modelled('numbers past the end', 'open\nprove 18446744073709551615 0 1\nprove 4611686018427387905 0 1\nprove 4611686018427387904 0 1\nprove 1 18446744073709551615 1\nprove 1 0 18446744073709551615\npins 18446744073709551615\npins 4611686018427387905\npins 4611686018427387904\nget 61 from=18446744073709551615\nchild 18446744073709551615\n')
@@ -115,7 +117,7 @@ section('Lines that are none.')
 for bad in ('', ' ', 'Open', 'open ', ' open', 'open x', 'apply', 'apply ', 'apply 01', 'apply +1', 'apply -1', 'apply 18446744073709551616', 'ops 1 2',
  'get', 'get -', 'get 6', 'get 6g', 'put  1 6b 76', 'put 1 6b', 'put 1 - 76', 'put 1 6b 767', 'put 1 6b 76 77', 'merkleize 1 prop', 'merkleize 1 prop non',
  'merkleize 1 prop none ', 'del 1', 'del 1 -', 'del 1 6b 76', 'get 4a 6b', 'get from=3', 'many', 'many from=3', 'many 4a from=3 6b', 'many 4a from=', 'many 4a from=03',
- 'child 2 keep', 'child 2 keep=', 'child 2 from=1', 'tip 1', 'batch 1', 'info 1 2', 'proof', 'prove 4 0 0', 'prove 4 0', 'prove 4 0 01', 'pins', 'nothing', 'next 61',
+ 'child 2 keep', 'child 2 keep=', 'child 2 from=1', 'tip 1', 'batch 1', 'info 1 2', 'proof', 'prove 4 0 0', 'prove 4 0', 'prove 4 0 01', 'pins', 'nothing', 'next', 'next 61 62', 'next 61 from=', 'prev from=1', 'span', 'span 61 from=1', 'all', 'all 61 62', 'range', 'range *', 'range [61', 'range 61 *', 'range [61 62', 'range * [61', 'range 61] *', 'range [ *', 'range * )', 'range [61 62] 63', 'range [61] *', 'keys ** *', 'keys [6 *', 'keys [%s *' % ('61' * 33),
  'stage', 'stage 2', 'stage 2 6', 'stage 61 -', 'stage 2 61 from=1', 'expand 2', 'expand 2 61 keep', 'resolve 2 hold', 'resolve 2 hold none keep:', 'resolve 2 hold none put', 'resolve 2 hold none put:', 'resolve 2 hold none put:none',
  'resolve 2 hold none 61', 'resolve 2 hold none keep 61=', 'resolve 2 hold none 61=01=02', 'resolve 2 hold none =01', 'resolve 2 hold none 61=01 keep', 'resolve 2 hold none 61=del', 'resolve 2 hold none keep  keep',
  'get ' + '61' * 33, 'put 1 %s 76' % ('61' * 33), 'put 1 6b ' + '61' * 65, 'merkleize 1 prop ' + '61' * 65):

@@ -1,6 +1,6 @@
 -- The loop over the lines of an input: one line more, and its ends.
 use Rattle.std.proofs.Common.{◌≡◌, ◌≤◌, ◌<◌, ℕ, suc, ◌+◌, List, [], ◌∷◌, ◌++◌, length, take, Option, Some, None, IfSome, arith, refl, sym, ◌∙◌, ap, subst}
-use Rattle.std.specs.Prelude.{IsSome}
+use Rattle.std.specs.Prelude.{IfNone, IsSome}
 use Rattle.std.proofs.lemmas.List.{flat_map_more}
 use Rattle.qm_model.specs.Operations.{Bytes}
 use Rattle.qm_model.specs.StoreModel.{Stored}
@@ -50,6 +50,12 @@ relabelled_line (commands.Apply h) = refl
 relabelled_line (commands.Ops h) = refl
 relabelled_line (commands.Get key from) = refl
 relabelled_line (commands.Many keys from) = refl
+relabelled_line (commands.Next key from) = refl
+relabelled_line (commands.Prev key from) = refl
+relabelled_line (commands.Span key) = refl
+relabelled_line (commands.All key) = refl
+relabelled_line (commands.Range low high) = refl
+relabelled_line (commands.Keys low high) = refl
 relabelled_line commands.Info = refl
 relabelled_line (commands.BatchInfo h) = refl
 relabelled_line commands.Root = refl
@@ -126,3 +132,12 @@ answered_at m stored input k text left few so_far = record {
   whole = λ all apart. (so_far apart).1;
   left = λ apart. left_none (after m policies stored (commands_in input) k).store (after m policies stored (commands_in input) (suc k)).store left (so_far apart).1;
 }
+
+-- what holds, where there is none; and what follows, where there is one
+pub none-any : {X : Type 0} (o : Option X) {P : Type 0} → P → IfNone o P
+none-any None p = p
+none-any (Some x) p = tt
+
+pub some-then : {X : Type 0} (o : Option X) {P Q : X → Type 0} → IfSome o P → ((x : X) → P x → Q x) → IfSome o Q
+some-then None p next = tt
+some-then (Some x) p next = next x p

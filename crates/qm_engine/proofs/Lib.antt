@@ -3,6 +3,7 @@ pub mod Commands
 pub mod BatchCommands
 pub mod ReadCommands
 pub mod StagedCommands
+pub mod OrderedCommands
 pub mod ProofCommands
 pub mod Loops
 pub mod Answerings

@@ -2,6 +2,7 @@ pub mod Table
 pub mod Turn
 pub mod Stores
 pub mod Words
+pub mod Ordered
 pub mod Session
 pub mod Making
 pub mod Runs

@@ -1,18 +1,19 @@
 //! What a database offers to a run, over any store.
 
-ghost use Rattle.std.specs.Prelude.{◌≡◌, ◌≢◌, ◌≤◌, ◌+◌, ◌++◌, ◌∷◌, [], List, Some, None, map, take, drop, length, nat_lt, option_map, if◌then◌else◌, IfOk, IfErr, IfSome, IsSome, IsErrOf};
+ghost use Rattle.std.specs.Prelude.{true, ◌≡◌, ◌≢◌, ◌≤◌, ◌+◌, ◌++◌, ◌∷◌, [], List, Some, None, map, take, drop, length, nat_lt, option_map, if◌then◌else◌, IfOk, IfErr, IfSome, IsSome, IsErrOf};
 ghost use Rattle.std.specs.Int.NonZero.{non_zero_u64_get};
 ghost use Rattle.qm_model.specs.Causes.{Rose};
 ghost use Rattle.qm_model.specs.StoreModel.{beside_items};
 ghost use Rattle.qm_model.specs.Operations.{Operation, fresh};
 ghost use Rattle.qm_model.specs.Forms.{spelling, variable};
-ghost use Rattle.qm_model.specs.Live.{live, floor, value_of, last_metadata};
+ghost use Rattle.qm_model.specs.Live.{live, live_keys, live_of, floor, value_of, last_metadata};
+ghost use Rattle.qm_model.specs.Ranges.{key_above, key_below, span_of, keys_in, pairs_in};
 ghost use Rattle.qm_model.specs.Writes.{Write, read_through};
 ghost use Rattle.qm_model.specs.Batches.{Chain, begun_on, child_of, IsOnChain, IsKnown, commitment, fits, own_operations};
 ghost use Rattle.qm_model.specs.Refusals.{tip_refusal, proof_refusal, proof_count, pins_refusal};
 ghost use Rattle.qm_model.specs.Refused as refusals;
 ghost use Rattle.qm_machine.specs.Machine.{head_refusal};
-ghost use Rattle.qm_lines.specs.Views.{listed_view};
+ghost use Rattle.qm_lines.specs.Views.{bound_view, listed_view, pair_view, span_view, whole_view};
 ghost use Rattle.qm_proofs.specs.Proofs.{proof_view};
 ghost use Rattle.qm_store.specs.Given.{store_given, store_after, Appended, AppendedPart, IsUnchanged, TellsAll};
 ghost use Rattle.qm_store.specs.Refusals.{refusal_of, IsAmong, IsDue};
@@ -23,12 +24,12 @@ ghost use Rattle.qm_engine.specs.Words.{AtBatch, AtStaged, AtTip, Fits, CanRead,
 use crate::words::Words;
 use qm_base::{Digest, Error, JournalError, Key, VariableValue};
 use qm_chain::Policy;
-use qm_lines::{Listed, Resolution};
+use qm_lines::{Listed, Resolution, Span};
 use qm_proofs::Proof;
 use qm_store::{Given, Refusal, Store};
 use std::alloc::{AllocError, Global};
 use std::num::NonZeroU64;
-use std::ops::Range;
+use std::ops::{Bound, Range};
 
 /// The numbers of a database.
 #[derive(Clone, Copy, Debug, PartialEq, Eq)]
@@ -282,6 +283,106 @@ pub trait Engine<C: Store>: Words<C> + Drop + Sized {
         ensures failure { IfErr result (λ e. AtTip Self.Words self.old batch.now (λ list chain tip. IsReadFailure Self.Words (TellsAll C.Store (Self.inside self.old)) list chain tip e)) }
         ensures reads { ReadsOnly Self.Words C.Store self.old self.new (IsErrOf result (Error.Journal JournalError.Store)) }
         ensures never { IfErr result (λ e. e ≢ Error.StaleBatch) };
+
+    /// Whether it is an ordered database, which alone offers the reads in key order.
+    fn is_ordered() -> bool
+        ensures { result ≡ Self.scheme.is_ordered };
+
+    /// In an ordered database reads the nearest live key above this one.
+    fn next(&mut self, alloc: Global, key: &Self::Key) -> Result<Option<Self::Key>, Error>
+        ensures above { IfOk result (λ k. Self.scheme.is_ordered ≡ true → (list : List Operation) → Self.stands self.old list
+            → option_map Self.Key.bytes k ≡ key_above (live_keys list) (Self.Key.bytes key.now)) }
+        ensures reads { ReadsOnly Self.Words C.Store self.old self.new (IsErrOf result (Error.Journal JournalError.Store)) }
+        ensures never { IfErr result (λ e. e ≢ Error.StaleBatch) }
+        ensures refused { IfErr result (λ e. TellsAll C.Store (Self.inside self.old) → (list : List Operation) → Self.stands self.old list → refusal_of e ≡ None) };
+
+    /// In an ordered database reads the nearest live key below this one.
+    fn prev(&mut self, alloc: Global, key: &Self::Key) -> Result<Option<Self::Key>, Error>
+        ensures below { IfOk result (λ k. Self.scheme.is_ordered ≡ true → (list : List Operation) → Self.stands self.old list
+            → option_map Self.Key.bytes k ≡ key_below (live_keys list) (Self.Key.bytes key.now)) }
+        ensures reads { ReadsOnly Self.Words C.Store self.old self.new (IsErrOf result (Error.Journal JournalError.Store)) }
+        ensures never { IfErr result (λ e. e ≢ Error.StaleBatch) }
+        ensures refused { IfErr result (λ e. TellsAll C.Store (Self.inside self.old) → (list : List Operation) → Self.stands self.old list → refusal_of e ≡ None) };
+
+    /// In an ordered database reads the nearest live key above this one through a merkleized batch, on the list that it makes.
+    /// It is refused where `get_from` is.
+    fn next_from(
+        &mut self,
+        alloc: Global,
+        batch: &Self::Merkleized,
+        key: &Self::Key,
+    ) -> Result<Option<Self::Key>, Error>
+        ensures readable { IfOk result (λ _. Self.scheme.is_ordered ≡ true → AtTip Self.Words self.old batch.now (λ list chain tip. CanRead Self.Words list chain tip)) }
+        ensures above { IfOk result (λ k. Self.scheme.is_ordered ≡ true → AtTip Self.Words self.old batch.now (λ list chain tip. IsKnown list chain tip
+            → option_map Self.Key.bytes k ≡ key_above (live_keys tip) (Self.Key.bytes key.now))) }
+        ensures failure { IfErr result (λ e. AtTip Self.Words self.old batch.now (λ list chain tip. IsReadFailure Self.Words (TellsAll C.Store (Self.inside self.old)) list chain tip e)) }
+        ensures reads { ReadsOnly Self.Words C.Store self.old self.new (IsErrOf result (Error.Journal JournalError.Store)) }
+        ensures never { IfErr result (λ e. e ≢ Error.StaleBatch) };
+
+    /// In an ordered database reads the nearest live key below this one through a merkleized batch, on the list that it makes.
+    /// It is refused where `get_from` is.
+    fn prev_from(
+        &mut self,
+        alloc: Global,
+        batch: &Self::Merkleized,
+        key: &Self::Key,
+    ) -> Result<Option<Self::Key>, Error>
+        ensures readable { IfOk result (λ _. Self.scheme.is_ordered ≡ true → AtTip Self.Words self.old batch.now (λ list chain tip. CanRead Self.Words list chain tip)) }
+        ensures below { IfOk result (λ k. Self.scheme.is_ordered ≡ true → AtTip Self.Words self.old batch.now (λ list chain tip. IsKnown list chain tip
+            → option_map Self.Key.bytes k ≡ key_below (live_keys tip) (Self.Key.bytes key.now))) }
+        ensures failure { IfErr result (λ e. AtTip Self.Words self.old batch.now (λ list chain tip. IsReadFailure Self.Words (TellsAll C.Store (Self.inside self.old)) list chain tip e)) }
+        ensures reads { ReadsOnly Self.Words C.Store self.old self.new (IsErrOf result (Error.Journal JournalError.Store)) }
+        ensures never { IfErr result (λ e. e ≢ Error.StaleBatch) };
+
+    /// In an ordered database reads the live update whose span holds the key.
+    fn span(
+        &mut self,
+        alloc: Global,
+        key: &Self::Key,
+    ) -> Result<Option<Span<Self::Key, Self::Value>>, Error>
+        ensures span { IfOk result (λ s. Self.scheme.is_ordered ≡ true → (list : List Operation) → Self.stands self.old list
+            → option_map (span_view Self.Key.bytes Self.Value.bytes) s ≡ span_of list (Self.Key.bytes key.now)) }
+        ensures reads { ReadsOnly Self.Words C.Store self.old self.new (IsErrOf result (Error.Journal JournalError.Store)) }
+        ensures never { IfErr result (λ e. e ≢ Error.StaleBatch) }
+        ensures refused { IfErr result (λ e. TellsAll C.Store (Self.inside self.old) → (list : List Operation) → Self.stands self.old list → refusal_of e ≡ None) };
+
+    /// In an ordered database reads the value of a key, and the next key.
+    fn all(
+        &mut self,
+        alloc: Global,
+        key: &Self::Key,
+    ) -> Result<Option<(Self::Value, Self::Key)>, Error>
+        ensures whole { IfOk result (λ p. Self.scheme.is_ordered ≡ true → (list : List Operation) → Self.stands self.old list
+            → option_map (whole_view Self.Key.bytes Self.Value.bytes) p ≡ option_map (λ e. (e.value, e.next)) (live_of (live list) (Self.Key.bytes key.now))) }
+        ensures reads { ReadsOnly Self.Words C.Store self.old self.new (IsErrOf result (Error.Journal JournalError.Store)) }
+        ensures never { IfErr result (λ e. e ≢ Error.StaleBatch) }
+        ensures refused { IfErr result (λ e. TellsAll C.Store (Self.inside self.old) → (list : List Operation) → Self.stands self.old list → refusal_of e ≡ None) };
+
+    /// In an ordered database reads the live keys of a range with their values, by key.
+    fn range(
+        &mut self,
+        alloc: Global,
+        low: &Bound<Self::Key>,
+        high: &Bound<Self::Key>,
+    ) -> Result<Vec<(Self::Key, Self::Value)>, Error>
+        ensures pairs { IfOk result (λ pairs. Self.scheme.is_ordered ≡ true → (list : List Operation) → Self.stands self.old list
+            → map (pair_view Self.Key.bytes Self.Value.bytes) pairs.items ≡ pairs_in (bound_view Self.Key.bytes low.now) (bound_view Self.Key.bytes high.now) list) }
+        ensures reads { ReadsOnly Self.Words C.Store self.old self.new (IsErrOf result (Error.Journal JournalError.Store)) }
+        ensures never { IfErr result (λ e. e ≢ Error.StaleBatch) }
+        ensures refused { IfErr result (λ e. TellsAll C.Store (Self.inside self.old) → (list : List Operation) → Self.stands self.old list → refusal_of e ≡ None) };
+
+    /// In an ordered database reads the live keys of a range, by key.
+    fn keys(
+        &mut self,
+        alloc: Global,
+        low: &Bound<Self::Key>,
+        high: &Bound<Self::Key>,
+    ) -> Result<Vec<Self::Key>, Error>
+        ensures keys { IfOk result (λ keys. Self.scheme.is_ordered ≡ true → (list : List Operation) → Self.stands self.old list
+            → map Self.Key.bytes keys.items ≡ keys_in (bound_view Self.Key.bytes low.now) (bound_view Self.Key.bytes high.now) list) }
+        ensures reads { ReadsOnly Self.Words C.Store self.old self.new (IsErrOf result (Error.Journal JournalError.Store)) }
+        ensures never { IfErr result (λ e. e ≢ Error.StaleBatch) }
+        ensures refused { IfErr result (λ e. TellsAll C.Store (Self.inside self.old) → (list : List Operation) → Self.stands self.old list → refusal_of e ≡ None) };
 
     /// The proof of a merkleized batch's own operations in the list that it makes, and the digests of the peaks over its base
     /// list. It is refused where the database is at no state at which the batch can be read.

@@ -6,6 +6,7 @@ ghost use Rattle.qm_store.specs.Given.{store_given};
 ghost use Rattle.qm_engine.specs.Session.{Obeys, Leaves, Uses};
 
 mod batches;
+mod ordered;
 mod proofs;
 mod reads;
 mod staged;
@@ -13,6 +14,7 @@ mod staged;
 use crate::engine::Engine;
 use crate::session::{Of, Session, Turn, turn_of};
 use batches::{apply, batch, child, del, merkleize, put, tip};
+use ordered::{Question, Side, ask, beside};
 use proofs::{batch_proof, pins, prove};
 use qm_base::Twin;
 use qm_chain::Policy;
@@ -166,6 +168,30 @@ pub fn turn<X: Engine<C>, C: Store, P: Policy<X::Family, X::Key, X::Value> + Twi
         }
         Command::Many(keys, from) => {
             let turn = read::<X, C>(alloc, &mut session, keys, *from);
+            (session, turn)
+        }
+        Command::Next(key, from) => {
+            let turn = beside::<X, C>(alloc, &mut session, Side::Above, key, *from);
+            (session, turn)
+        }
+        Command::Prev(key, from) => {
+            let turn = beside::<X, C>(alloc, &mut session, Side::Below, key, *from);
+            (session, turn)
+        }
+        Command::Span(key) => {
+            let turn = ask::<X, C>(alloc, &mut session, Question::Span(key));
+            (session, turn)
+        }
+        Command::All(key) => {
+            let turn = ask::<X, C>(alloc, &mut session, Question::All(key));
+            (session, turn)
+        }
+        Command::Range(low, high) => {
+            let turn = ask::<X, C>(alloc, &mut session, Question::Range(low, high));
+            (session, turn)
+        }
+        Command::Keys(low, high) => {
+            let turn = ask::<X, C>(alloc, &mut session, Question::Keys(low, high));
             (session, turn)
         }
         Command::Info => {

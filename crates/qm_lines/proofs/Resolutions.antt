@@ -1,5 +1,5 @@
 -- Slots and the writes behind them, and what stands before both.
-use Rattle.std.proofs.Common.{◌≡◌, ◌∙◌, ◌+◌, ◌-◌, ◌<◌, ◌≤◌, ℕ, List, [], ◌∷◌, ◌++◌, drop, take, length, get_or, map, Option, Some, None, option_map, refl, sym, ap, arith, append_assoc, append-nil, length-drop}
+use Rattle.std.proofs.Common.{◌≡◌, ◌∙◌, ◌+◌, ◌-◌, ◌<◌, ◌≤◌, ℕ, List, [], ◌∷◌, ◌++◌, drop, take, length, get_or, Option, Some, None, option_map, refl, sym, ap, arith, append_assoc, append-nil, length-drop}
 use Rattle.std.specs.Prelude.{option_and_then}
 use Rattle.std.specs.Borrow.{Bor}
 use Rattle.std.proofs.lemmas.List.{drop_all, drop-map, take_all, length-map}

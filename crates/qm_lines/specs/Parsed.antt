@@ -1,8 +1,10 @@
 -- The commands that lines are read as.
 use Rattle.std.specs.Prelude.{ℕ, if◌then◌else◌, List, [], ◌∷◌, ◌++◌, Option, Some, None, map, option_map, option_and_then}
 use Rattle.std.specs.Borrow.{Bor}
+use Rattle.std.specs.declared.ops.Bound.{Bound}
 use Rattle.qm_model.specs.Operations.{Bytes}
 use Rattle.qm_model.specs.Policies.{Policy}
+use Rattle.qm_model.specs.Ranges.{Limit}
 use Rattle.qm_model.specs.Walk as walks
 use Rattle.qm_model.specs.Slots as model
 use Rattle.qm_model.specs.Writes as writes
@@ -17,7 +19,7 @@ use Rattle.qm_lines.specs.declared.policy.AnyPolicy.{AnyPolicy}
 use Rattle.qm_lines.specs.declared.command.Command.{Command}
 use Rattle.qm_lines.specs.declared.command.Resolution.{Resolution}
 use Rattle.qm_lines.specs.Policies.{policy_view}
-use Rattle.qm_lines.specs.Views.{line_view}
+use Rattle.qm_lines.specs.Views.{bound_view, line_view}
 
 -- a command whose keys and values are seen as their bytes
 abbrev pub byte_line : Command Bytes Bytes AnyPolicy → Line Policy
@@ -33,6 +35,10 @@ byte_slot = slot_view (λ v. v)
 
 abbrev pub byte_write : Write Bytes Bytes → writes.Write
 byte_write = write_view (λ k. k) (λ v. v)
+
+-- where a range of such keys begins or ends
+abbrev pub byte_bound : Bound Bytes → Limit
+byte_bound = bound_view (λ k. k)
 
 abbrev pub resolution_view : Resolution Bytes Bytes → grammar.Resolution
 resolution_view r = (map byte_slot r.slots.items, map byte_write r.others.items)

@@ -2,6 +2,7 @@
 
 use qm_base::{Slot, Write};
 use std::num::NonZeroU64;
+use std::ops::Bound;
 
 /// What becomes of staged keys, a slot for each in their order, and other writes behind these.
 #[derive(Drop)]
@@ -41,6 +42,18 @@ pub enum Command<K, V, P> {
     Get(K, Option<u64>),
     /// Reads the values of keys, in the database or through the batch of this number.
     Many(Vec<K>, Option<u64>),
+    /// Reads the nearest live key above a key, in the database or through the merkleized batch of this number.
+    Next(K, Option<u64>),
+    /// Reads the nearest live key below a key, in the database or through the merkleized batch of this number.
+    Prev(K, Option<u64>),
+    /// Reads the live update whose span holds a key.
+    Span(K),
+    /// Reads the value of a key, and the next key.
+    All(K),
+    /// Reads the live keys of a range with their values.
+    Range(Bound<K>, Bound<K>),
+    /// Reads the live keys of a range.
+    Keys(Bound<K>, Bound<K>),
     /// Tells the database's numbers.
     Info,
     /// Tells the numbers of the merkleized batch of this number.

@@ -17,6 +17,6 @@ pub use memory::{MemSink, MemSource};
 pub use parse::{ByteCommand, next_line, parse_line};
 pub use policy::AnyPolicy;
 pub use ports::{Failed, Sink, SinkError, Source};
-pub use reply::{Listed, LogRefused, Refused, Reply, TreeRefused};
+pub use reply::{Listed, LogRefused, Refused, Reply, Span, TreeRefused};
 pub use text::reply_text;
 pub use whole::{InputError, LIMIT, read_all, write_all};

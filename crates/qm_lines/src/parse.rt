@@ -10,6 +10,7 @@ mod merkleize;
 mod numbers;
 mod pieces;
 mod policies;
+mod ranges;
 mod staged;
 
 use crate::command::Command;

@@ -12,6 +12,15 @@ pub enum Listed<K, V> {
     Commit(Option<V>, u64),
 }
 
+/// A live update of an ordered database as a reply tells it.
+#[derive(Drop)]
+pub struct Span<K, V> {
+    pub location: u64,
+    pub key: K,
+    pub value: V,
+    pub next: K,
+}
+
 /// Why a tree refused.
 #[derive(Clone, Copy, Debug, PartialEq, Eq)]
 pub enum TreeRefused {
@@ -69,6 +78,16 @@ pub enum Reply<K, V, D> {
     Read(Vec<Option<V>>),
     /// From which staged key up to which, and the values of these.
     Expanded(u64, u64, Vec<Option<V>>),
+    /// A key beside the one that was asked, if there is one.
+    Beside(Option<K>),
+    /// The live update whose span holds the key, if any key is live.
+    Span(Option<Span<K, V>>),
+    /// The value of a key and the next key, if the key is live.
+    All(Option<(V, K)>),
+    /// Keys with their values, by key.
+    Range(Vec<(K, V)>),
+    /// Keys, by key.
+    Keys(Vec<K>),
     /// Start, size, floor and boundary, and whether any key is live.
     Info(u64, u64, u64, u64, bool),
     /// The sizes of a batch's base and its tip, its floor and its boundary.

@@ -8,9 +8,9 @@ ghost use Rattle.qm_base.specs.Views.{corrupt_view};
 ghost use Rattle.qm_machine.specs.Lines as lines;
 ghost use Rattle.qm_machine.specs.Text as texts;
 ghost use Rattle.qm_lines.specs.Written.{Adds};
-ghost use Rattle.qm_lines.specs.Views.{tree_view, log_view, refused_view, listed_view, answer_view};
+ghost use Rattle.qm_lines.specs.Views.{tree_view, log_view, refused_view, listed_view, span_view, whole_view, pair_view, answer_view};
 
-use crate::reply::{Listed, LogRefused, Refused, Reply, TreeRefused};
+use crate::reply::{Listed, LogRefused, Refused, Reply, Span, TreeRefused};
 use qm_base::{ByteString, Corrupt, Digest, Key, VariableValue};
 use std::alloc::{AllocError, Global};
 use std::fmt::Write;
@@ -269,6 +269,102 @@ fn write_expanded<V: VariableValue>(
     write_values(out, values)
 }
 
+// A key beside another, if there is one.
+fn write_beside<K: Key>(out: &mut String, key: &Option<K>) -> Result<(), AllocError>
+    ensures { Adds out.old out.new result (texts.beside_text (option_map K.bytes key.now)) }
+{
+    let Some(key) = key else {
+        return out.push_str("none");
+    };
+    out.push_str("key ")?;
+    write_bytes(out, key.as_bytes())
+}
+
+// Location, key, value and next key of a live update.
+fn write_live<K: Key, V: VariableValue>(
+    out: &mut String,
+    span: &Span<K, V>,
+) -> Result<(), AllocError>
+    ensures { Adds out.old out.new result (texts.spanning_text (Some (span_view K.bytes V.bytes span.now))) }
+{
+    write_numbers(out, "span", &[span.location])?;
+    out.push_str(" ")?;
+    write_bytes(out, span.key.as_bytes())?;
+    out.push_str(" ")?;
+    write_bytes(out, span.value.as_bytes())?;
+    out.push_str(" ")?;
+    write_bytes(out, span.next.as_bytes())
+}
+
+// The live update whose span holds a key, if there is one.
+fn write_span<K: Key, V: VariableValue>(
+    out: &mut String,
+    span: &Option<Span<K, V>>,
+) -> Result<(), AllocError>
+    ensures { Adds out.old out.new result (texts.spanning_text (option_map (span_view K.bytes V.bytes) span.now)) }
+{
+    match span {
+        None => out.push_str("none"),
+        Some(span) => write_live(out, span),
+    }
+}
+
+// A value and the next key, if the key is live.
+fn write_whole<K: Key, V: VariableValue>(
+    out: &mut String,
+    whole: &Option<(V, K)>,
+) -> Result<(), AllocError>
+    ensures { Adds out.old out.new result (texts.whole_text (option_map (whole_view K.bytes V.bytes) whole.now)) }
+{
+    let Some((value, next)) = whole else {
+        return out.push_str("none");
+    };
+    out.push_str("all ")?;
+    write_bytes(out, value.as_bytes())?;
+    out.push_str(" ")?;
+    write_bytes(out, next.as_bytes())
+}
+
+// A key with its value, after a space.
+fn write_pair<K: Key, V: VariableValue>(
+    out: &mut String,
+    key: &K,
+    value: &V,
+) -> Result<(), AllocError>
+    ensures { Adds out.old out.new result (codes " " ++ (texts.hex_text (K.bytes key.now) ++ (codes "=" ++ texts.hex_text (V.bytes value.now)))) }
+{
+    out.push_str(" ")?;
+    write_bytes(out, key.as_bytes())?;
+    out.push_str("=")?;
+    write_bytes(out, value.as_bytes())
+}
+
+// Keys with their values, each after a space.
+fn write_range<K: Key, V: VariableValue>(
+    out: &mut String,
+    pairs: &[(K, V)],
+) -> Result<(), AllocError>
+    ensures { Adds out.old out.new result (texts.reply_line (lines.Ranged (map (pair_view K.bytes V.bytes) pairs.now))) }
+{
+    out.push_str("range")?;
+    for (key, value) in pairs {
+        write_pair(out, key, value)?;
+    }
+    Ok(())
+}
+
+// Keys, each after a space.
+fn write_keys<K: Key>(out: &mut String, keys: &[K]) -> Result<(), AllocError>
+    ensures { Adds out.old out.new result (texts.reply_line (lines.Keyed (map K.bytes keys.now))) }
+{
+    out.push_str("keys")?;
+    for key in keys {
+        out.push_str(" ")?;
+        write_bytes(out, key.as_bytes())?;
+    }
+    Ok(())
+}
+
 fn write_metadata<V: VariableValue>(
     out: &mut String,
     metadata: &Option<V>,
@@ -314,6 +410,11 @@ fn write_line<K: Key, V: VariableValue, D: Digest>(
         Reply::Ops(base, ops) => write_listed(out, *base, ops),
         Reply::Read(values) => write_read(out, values),
         Reply::Expanded(first, end, values) => write_expanded(out, *first, *end, values),
+        Reply::Beside(key) => write_beside(out, key),
+        Reply::Span(span) => write_span(out, span),
+        Reply::All(whole) => write_whole(out, whole),
+        Reply::Range(pairs) => write_range(out, pairs),
+        Reply::Keys(keys) => write_keys(out, keys),
         Reply::Info(start, size, floor, boundary, is_live) => {
             write_info(out, &[*start, *size, *floor, *boundary], *is_live)
         }

@@ -11,7 +11,7 @@ use Rattle.qm_model.specs.Forms.{variable}
 use Rattle.qm_model.specs.Refused.{StaleBatch, SlotCount}
 use Rattle.qm_model.specs.Refusals.{tip_refusal}
 use Rattle.qm_model.specs.Step.{Kind, step}
-use Rattle.qm_machine.specs.Lines.{Line, Open, Batch, Child, Tip, Put, Del, Merkleize, Stage, Expand, Resolve, Apply, Ops, Get, Many, Info, BatchInfo, Root, BatchRoot, BatchProof, Meta, Prove, Pins}
+use Rattle.qm_machine.specs.Lines.{Line, Open, Batch, Child, Tip, Put, Del, Merkleize, Stage, Expand, Resolve, Apply, Ops, Get, Many, Next, Prev, Span, All, Range, Keys, Info, BatchInfo, Root, BatchRoot, BatchProof, Meta, Prove, Pins}
 use Rattle.qm_machine.specs.Machine.{Scheme, State, Slot, gone, writing, staged, merkleized, slot_at, with_slot, with_database, refuse, merkleize_tip, merkleize_writes, merkleize_in, merkleize, resolve_in, resolve, turn}
 
 -- a line with its policy under this name
@@ -30,6 +30,12 @@ relabelled f (Apply h) = Apply h
 relabelled f (Ops h) = Ops h
 relabelled f (Get key from) = Get key from
 relabelled f (Many keys from) = Many keys from
+relabelled f (Next key from) = Next key from
+relabelled f (Prev key from) = Prev key from
+relabelled f (Span key) = Span key
+relabelled f (All key) = All key
+relabelled f (Range low high) = Range low high
+relabelled f (Keys low high) = Keys low high
 relabelled f Info = Info
 relabelled f (BatchInfo h) = BatchInfo h
 relabelled f Root = Root
@@ -88,6 +94,12 @@ module _ {P Q : Type 0} (f : P → Q) (a : Rules P) (b : Rules Q)
   turn_relabelled s (Ops h) = refl
   turn_relabelled s (Get key from) = refl
   turn_relabelled s (Many keys from) = refl
+  turn_relabelled s (Next key from) = refl
+  turn_relabelled s (Prev key from) = refl
+  turn_relabelled s (Span key) = refl
+  turn_relabelled s (All key) = refl
+  turn_relabelled s (Range low high) = refl
+  turn_relabelled s (Keys low high) = refl
   turn_relabelled s Info = refl
   turn_relabelled s (BatchInfo h) = refl
   turn_relabelled s Root = refl

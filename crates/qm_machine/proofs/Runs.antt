@@ -7,10 +7,11 @@ use Rattle.qm_model.specs.Writes.{Write}
 use Rattle.qm_model.specs.Slots.{slotted}
 use Rattle.qm_model.specs.Slots as slots
 use Rattle.qm_model.specs.Batches.{Chain, Apart, commitment, fits, readable}
-use Rattle.qm_machine.specs.Lines.{Line, Open, Batch, Child, Tip, Put, Del, Merkleize, Stage, Expand, Resolve, Apply, Ops, Get, Many, Info, BatchInfo, Root, BatchRoot, BatchProof, Meta, Prove, Pins, Answer}
+use Rattle.qm_machine.specs.Lines.{Line, Open, Batch, Child, Tip, Put, Del, Merkleize, Stage, Expand, Resolve, Apply, Ops, Get, Many, Next, Prev, Span, All, Range, Keys, Info, BatchInfo, Root, BatchRoot, BatchProof, Meta, Prove, Pins, Answer}
 use Rattle.qm_model.specs.Refused.{Refused}
-use Rattle.qm_machine.specs.Machine.{Scheme, State, Slot, gone, writing, staged, merkleized, turn, answers, state_after, slot_at, start_child, put_in, list_operations, with_database, opening_refusal, open_unless, unless, merkleize_tip, merkleize_writes, merkleize_in, resolve_in, apply_in, if_readable, if_staged, stage_in, expand_in, read_in, read, info_in, root_in, proof_in}
+use Rattle.qm_machine.specs.Machine.{Scheme, State, Slot, gone, writing, staged, merkleized, turn, answers, state_after, slot_at, start_child, put_in, list_operations, with_database, opening_refusal, open_unless, unless, merkleize_tip, merkleize_writes, merkleize_in, resolve_in, apply_in, if_readable, if_staged, stage_in, expand_in, read_in, read, if_ordered, beside_in, beside_of, info_in, root_in, proof_in}
 use Rattle.qm_model.specs.Forms.{variable}
+use Rattle.qm_model.specs.Ranges.{key_above, key_below}
 use Rattle.qm_model.specs.Refusals.{tip_refusal, proof_refusal, pins_refusal}
 use Rattle.qm_model.proofs.Chains.{Contains-more}
 
@@ -99,6 +100,19 @@ module _ (m : Scheme) where
   read_keeps s keys None = with_list s s.database _ (λ list x a. a)
   read_keeps s keys (Some h) = with_list s s.database _ (λ list. read_in_keeps s h keys list (slot_at s.table h))
 
+  ordered_keeps : (s : State) (offered : Answer × State) → Keeps s offered → Keeps s (if_ordered m s offered)
+  ordered_keeps s offered keeps = either s m.is_ordered _ _ keeps (λ x a. a)
+
+  beside_in_keeps : (s : State) (h : ℕ) (beside : List Bytes → Option Bytes) (list : List Operation) (slot : Slot) → Keeps s (beside_in m s h beside list slot)
+  beside_in_keeps s h beside list gone = λ x a. a
+  beside_in_keeps s h beside list (staged chain parent ws ks) = λ x a. a
+  beside_in_keeps s h beside list (writing chain parent ws) = λ x a. a
+  beside_in_keeps s h beside list (merkleized chain tip) = readable_keeps s list chain tip _
+
+  beside_keeps : (s : State) (beside : List Bytes → Option Bytes) (from : Option ℕ) → Keeps s (beside_of m s beside from)
+  beside_keeps s beside None = with_list s s.database _ (λ list x a. a)
+  beside_keeps s beside (Some h) = with_list s s.database _ (λ list. beside_in_keeps s h beside list (slot_at s.table h))
+
   info_keeps : (s : State) (h : ℕ) (slot : Slot) → Keeps s (info_in m s h slot)
   info_keeps s h gone = λ x a. a
   info_keeps s h (staged chain parent ws keys) = λ x a. a
@@ -149,6 +163,12 @@ module _ (m : Scheme) {P : Type 0} (rules : Rules P) where
   turn_keeps s (Ops h) = listed_keeps s h (slot_at s.table h)
   turn_keeps s (Get key from) = read_keeps m s (key ∷ []) from
   turn_keeps s (Many keys from) = read_keeps m s keys from
+  turn_keeps s (Next key from) = ordered_keeps m s _ (beside_keeps m s (λ keys. key_above keys key) from)
+  turn_keeps s (Prev key from) = ordered_keeps m s _ (beside_keeps m s (λ keys. key_below keys key) from)
+  turn_keeps s (Span key) = ordered_keeps m s _ (with_list s s.database _ (λ list x a. a))
+  turn_keeps s (All key) = ordered_keeps m s _ (with_list s s.database _ (λ list x a. a))
+  turn_keeps s (Range low high) = ordered_keeps m s _ (with_list s s.database _ (λ list x a. a))
+  turn_keeps s (Keys low high) = ordered_keeps m s _ (with_list s s.database _ (λ list x a. a))
   turn_keeps s Info = with_list s s.database _ (λ list x a. a)
   turn_keeps s (BatchInfo h) = info_keeps m s h (slot_at s.table h)
   turn_keeps s Root = with_list s s.database _ (λ list x a. a)

@@ -5,11 +5,12 @@ use Rattle.std.specs.Char.{is_ascii_digit}
 use Rattle.hex.specs.Hex.{decode_of}
 use Rattle.hex.specs.declared.error.FromHexError.{FromHexError}
 use Rattle.qm_model.specs.Operations.{Bytes}
+use Rattle.qm_model.specs.Ranges.{Limit, included, excluded, unlimited}
 use Rattle.qm_model.specs.Walk.{Limits}
 use Rattle.qm_model.specs.Slots.{Slot, keep, put, away}
 use Rattle.qm_model.specs.Writes.{Write}
 use Rattle.qm_model.specs.Policies.{Policy, proportional, hold, bounded, rule}
-use Rattle.qm_machine.specs.Lines.{Line, Open, Batch, Child, Tip, Put, Del, Merkleize, Stage, Expand, Resolve, Apply, Ops, Get, Many, Info, BatchInfo, Root, BatchRoot, BatchProof, Meta, Prove, Pins}
+use Rattle.qm_machine.specs.Lines.{Line, Open, Batch, Child, Tip, Put, Del, Merkleize, Stage, Expand, Resolve, Apply, Ops, Get, Many, Next, Prev, Span, All, Range, Keys, Info, BatchInfo, Root, BatchRoot, BatchProof, Meta, Prove, Pins}
 
 -- the number with one decimal digit more, below 2 ^ 64
 abbrev pub next_digit : ℕ → ℕ → Option ℕ
@@ -231,12 +232,13 @@ abbrev pub prove_of : List Bytes → Option (Line Policy)
 prove_of (a ∷ b ∷ c ∷ []) = option_and_then (λ size. option_and_then (λ start. option_map (λ max. Prove size start max) (positive_of c)) (number_of b)) (number_of a)
 prove_of words = None
 
-abbrev pub one_read : Reading → Option (Line Policy)
-one_read (k ∷ [], from) = Some (Get k from)
-one_read reading = None
+abbrev pub one_read : (Bytes → Option ℕ → Line Policy) → Reading → Option (Line Policy)
+one_read line (k ∷ [], from) = Some (line k from)
+one_read line reading = None
 
-abbrev pub get_of : List Bytes → Option (Line Policy)
-get_of words = option_and_then one_read (reading_of words)
+-- a key, at whose end a batch may stand
+abbrev pub read_of : (Bytes → Option ℕ → Line Policy) → List Bytes → Option (Line Policy)
+read_of line words = option_and_then (one_read line) (reading_of words)
 
 abbrev pub some_read : Reading → Option (Line Policy)
 some_read ([], from) = None
@@ -244,6 +246,34 @@ some_read (keys, from) = Some (Many keys from)
 
 abbrev pub many_of : List Bytes → Option (Line Policy)
 many_of words = option_and_then some_read (reading_of words)
+
+-- a key alone
+abbrev pub only_key : (Bytes → Line Policy) → List Bytes → Option (Line Policy)
+only_key line (a ∷ []) = option_map line (key_of a)
+only_key line words = None
+
+-- a sign for a range's end, or a bracket beside a key: a square one where the key itself is in the range, else a round one
+abbrev pub low_of : Bytes → Option Limit
+low_of [] = None
+low_of (c ∷ cs) =
+    if bytes_eq (c ∷ cs) (codes "*") then Some unlimited
+    else (if c == 91 then option_map included (key_of cs)
+    else (if c == 40 then option_map excluded (key_of cs) else None))
+
+-- what is before the last byte
+abbrev pub before_last : Bytes → Bytes
+before_last word = take (length word - 1) word
+
+abbrev pub high_of : Bytes → Option Limit
+high_of word =
+    if bytes_eq word (codes "*") then Some unlimited
+    else (if slice_index word (length word - 1) == 93 then option_map included (key_of (before_last word))
+    else (if slice_index word (length word - 1) == 41 then option_map excluded (key_of (before_last word)) else None))
+
+-- where a range begins and ends
+abbrev pub range_of : (Limit → Limit → Line Policy) → List Bytes → Option (Line Policy)
+range_of line (a ∷ b ∷ []) = option_and_then (λ low. option_map (line low) (high_of b)) (low_of a)
+range_of line words = None
 
 -- each command's name, and what the words behind it say
 abbrev pub forms : List (Bytes × (List Bytes → Option (Line Policy)))
@@ -260,8 +290,14 @@ forms =
     ∷ (codes "resolve", resolve_of)
     ∷ (codes "apply", numbered Apply)
     ∷ (codes "ops", numbered Ops)
-    ∷ (codes "get", get_of)
+    ∷ (codes "get", read_of Get)
     ∷ (codes "many", many_of)
+    ∷ (codes "next", read_of Next)
+    ∷ (codes "prev", read_of Prev)
+    ∷ (codes "span", only_key Span)
+    ∷ (codes "all", only_key All)
+    ∷ (codes "range", range_of Range)
+    ∷ (codes "keys", range_of Keys)
     ∷ (codes "info", info_of)
     ∷ (codes "root", root_of)
     ∷ (codes "proof", numbered BatchProof)

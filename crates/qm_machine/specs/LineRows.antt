@@ -1,5 +1,5 @@
 -- Worked scripts, from bytes to bytes.
-use Rattle.std.specs.Prelude.{◌≡◌, ◌+◌, ◌^◌, ◌++◌, List, [], ◌∷◌, Some, None, refl, codes, flat_map}
+use Rattle.std.specs.Prelude.{true, false, ◌≡◌, ◌+◌, ◌^◌, ◌++◌, List, [], ◌∷◌, Some, None, refl, codes, flat_map}
 use Rattle.std.specs.List.{join_with_byte}
 use Rattle.std.specs.Fmt.{digits}
 use Rattle.hex.specs.Hex.{decode_pairs, encode_with}
@@ -9,8 +9,9 @@ use Rattle.qm_model.specs.Live.{floor}
 use Rattle.qm_model.specs.Mmr.{mmr, digits_below}
 use Rattle.qm_model.specs.Proofs.{ops_proof, pins_at}
 use Rattle.qm_model.specs.Policies.{Policy, policies, proportional, hold, bounded, rule}
-use Rattle.qm_model.specs.Step.{unordered}
-use Rattle.qm_machine.specs.Lines.{Child, Put, Del, Merkleize, Get, Many, Prove, Pins}
+use Rattle.qm_model.specs.Ranges.{included, excluded, unlimited}
+use Rattle.qm_model.specs.Step.{ordered, unordered}
+use Rattle.qm_machine.specs.Lines.{Child, Put, Del, Merkleize, Get, Many, Next, Prev, Span, Range, Keys, Prove, Pins}
 use Rattle.qm_model.specs.Refused.{Merkle, LocationOverflow}
 use Rattle.qm_model.specs.Refusals.{too_many}
 use Rattle.qm_model.specs.StoreModel.{Stored, empty}
@@ -24,7 +25,7 @@ same bytes = 0x00 ∷ 0x2a ∷ []
 
 -- a root under which lists of one length collide, which these rows do not tell from a real one
 abbrev toy : Scheme
-toy = record { kind = unordered; root = λ ops. same []; boundary = floor; proof = ops_proof same mmr variable; pins = pins_at same mmr variable }
+toy = record { kind = unordered; is_ordered = false; root = λ ops. same []; boundary = floor; proof = ops_proof same mmr variable; pins = pins_at same mmr variable }
 
 -- the keys and values of a list's operations, which tell its lists apart here
 abbrev said : Operation → Bytes
@@ -43,6 +44,10 @@ text input = text_of (answers toy policies (initial empty) (commands_in input))
 
 abbrev forked : Bytes → Bytes
 forked input = text_of (answers telling policies (initial empty) (commands_in input))
+
+-- of an ordered database
+abbrev in_order : Bytes → Bytes
+in_order input = text_of (answers (record toy { kind = ordered; is_ordered = true }) policies (initial empty) (commands_in input))
 
 -- over a store
 abbrev over : Stored → Bytes → Bytes
@@ -317,3 +322,69 @@ nothing_to_stage = refl
 slot_without_value : line_of (codes "resolve 2 hold none put:") ≡ None
 unfolding decode_pairs
 slot_without_value = refl
+
+-- an ordered database of the keys 61 and 63: each update names the next key, neighbours do not go round, spans do
+two_keys : List Bytes
+two_keys = codes "open" ∷ codes "batch" ∷ codes "put 1 61 01" ∷ codes "put 1 63 03" ∷ codes "merkleize 1 hold aa" ∷ codes "ops 1" ∷ codes "apply 1" ∷ []
+
+two_keys_made : List Bytes
+two_keys_made = codes "open 1 0 1" ∷ codes "batch 1" ∷ codes "ok" ∷ codes "ok" ∷ codes "merkleized 1 1 4 0" ∷ codes "ops 1 U:61=01>63 U:63=03>61 C:aa@0" ∷ codes "applied 4" ∷ []
+
+in_order_text : in_order (lines (two_keys ++ codes "next 61" ∷ codes "next 63" ∷ codes "prev 61" ∷ codes "prev 62" ∷ codes "span 62" ∷ codes "all 63" ∷ codes "all 62" ∷ codes "many 61 62" ∷ codes "range [61 63)" ∷ codes "keys * *" ∷ codes "meta" ∷ []))
+    ≡ lines (two_keys_made ++ codes "key 63" ∷ codes "none" ∷ codes "none" ∷ codes "key 61" ∷ codes "span 1 61 01 63" ∷ codes "all 03 61" ∷ codes "none" ∷ codes "read 01 none" ∷ codes "range 61=01" ∷ codes "keys 61 63" ∷ codes "meta aa" ∷ [])
+unfolding two_keys two_keys_made decode_pairs encode_with digits digits_below four_bytes eight_bytes
+in_order_text = refl
+
+-- a third key between them: its neighbour is written again; ranges that are reversed, empty and without an end
+three_keys : List Bytes
+three_keys = two_keys ++ codes "batch" ∷ codes "put 2 62 02" ∷ codes "merkleize 2 hold none" ∷ codes "ops 2" ∷ codes "next 61 from=2" ∷ codes "prev 63 from=2" ∷ codes "next 61" ∷ codes "apply 2" ∷ []
+
+three_keys_made : List Bytes
+three_keys_made = two_keys_made ++ codes "batch 2" ∷ codes "ok" ∷ codes "merkleized 2 4 7 0" ∷ codes "ops 4 U:62=02>63 U:61=01>62 C:none@0" ∷ codes "key 62" ∷ codes "key 62" ∷ codes "key 63" ∷ codes "applied 7" ∷ []
+
+ranges_text : in_order (lines (three_keys ++ codes "range [63 61]" ∷ codes "range [62 62)" ∷ codes "range (61 *" ∷ codes "next 61 from=9" ∷ []))
+    ≡ lines (three_keys_made ++ codes "range" ∷ codes "range" ∷ codes "range 62=02 63=03" ∷ codes "refused NoSuchHandle 9" ∷ [])
+unfolding three_keys three_keys_made two_keys two_keys_made decode_pairs encode_with digits digits_below four_bytes eight_bytes
+ranges_text = refl
+
+-- one of them staged and deleted beside a new one
+in_order_staged : in_order (lines (three_keys ++ codes "batch" ∷ codes "stage 3 62 64" ∷ codes "resolve 3 hold none del put:04" ∷ codes "ops 3" ∷ []))
+    ≡ lines (three_keys_made ++ codes "batch 3" ∷ codes "read 02 none" ∷ codes "merkleized 3 7 12 0" ∷ codes "ops 7 D:62 U:64=04>61 U:63=03>64 U:61=01>63 C:none@0" ∷ [])
+unfolding three_keys three_keys_made two_keys two_keys_made decode_pairs encode_with digits digits_below four_bytes eight_bytes
+in_order_staged = refl
+
+-- an unordered database offers none of these, before it is open and after
+not_offered_text : text (lines (codes "next 61" ∷ codes "span 61" ∷ codes "open" ∷ codes "prev 61 from=9" ∷ codes "all 61" ∷ codes "range * *" ∷ codes "keys * *" ∷ []))
+    ≡ lines (codes "refused NotOffered" ∷ codes "refused NotOffered" ∷ codes "open 1 0 1" ∷ codes "refused NotOffered" ∷ codes "refused NotOffered" ∷ codes "refused NotOffered" ∷ codes "refused NotOffered" ∷ [])
+unfolding decode_pairs digits
+not_offered_text = refl
+
+-- without a database
+not_open_text : in_order (lines (codes "next 61" ∷ codes "next 61 from=9" ∷ codes "span 61" ∷ codes "keys * *" ∷ []))
+    ≡ lines (codes "refused NoDatabase" ∷ codes "refused NoDatabase" ∷ codes "refused NoDatabase" ∷ codes "refused NoDatabase" ∷ [])
+unfolding decode_pairs digits
+not_open_text = refl
+
+next_from : line_of (codes "next 61 from=2") ≡ Some (Next (0x61 ∷ []) (Some 2))
+unfolding decode_pairs
+next_from = refl
+
+span_alone : line_of (codes "span 61 from=2") ≡ None
+unfolding decode_pairs
+span_alone = refl
+
+half_open : line_of (codes "range [61 6B)") ≡ Some (Range (included (0x61 ∷ [])) (excluded (0x6b ∷ [])))
+unfolding decode_pairs
+half_open = refl
+
+from_on : line_of (codes "keys (61 *") ≡ Some (Keys (excluded (0x61 ∷ [])) unlimited)
+unfolding decode_pairs
+from_on = refl
+
+one_bracket : line_of (codes "keys [61 62") ≡ None
+unfolding decode_pairs
+one_bracket = refl
+
+bracket_alone : line_of (codes "keys [ *") ≡ None
+unfolding decode_pairs
+bracket_alone = refl

@@ -1,7 +1,9 @@
 -- Commands and replies over byte strings, with policies of a type P.
 use Rattle.std.specs.Prelude.{ℕ, Bool, List, Option}
+use Rattle.qm_model.specs.Live.{Live}
 use Rattle.qm_model.specs.Operations.{Bytes, Operation}
 use Rattle.qm_model.specs.Proofs.{Proof}
+use Rattle.qm_model.specs.Ranges.{Limit}
 use Rattle.qm_model.specs.Refused.{Refused}
 use Rattle.qm_model.specs.Slots.{Slot}
 use Rattle.qm_model.specs.Writes.{Write}
@@ -27,6 +29,15 @@ pub data Line (P : Type 0) : Type 0 where
   -- keys, through the database or a batch
   Get : Bytes → Option ℕ → Line P
   Many : List Bytes → Option ℕ → Line P
+  -- in an ordered database: the keys beside one, through the database or a batch
+  Next : Bytes → Option ℕ → Line P
+  Prev : Bytes → Option ℕ → Line P
+  -- the live update whose span holds a key, and the key's own
+  Span : Bytes → Line P
+  All : Bytes → Line P
+  -- a range, with values or without
+  Range : Limit → Limit → Line P
+  Keys : Limit → Limit → Line P
   Info : Line P
   BatchInfo : ℕ → Line P
   Root : Line P
@@ -53,6 +64,14 @@ pub data Answer : Type 0 where
   Read : List (Option Bytes) → Answer
   -- from which staged key up to which, and what was read of these
   Expanded : ℕ → ℕ → List (Option Bytes) → Answer
+  -- a key, where there is one
+  Beside : Option Bytes → Answer
+  -- the live update whose span holds a key; and of a key its value, and the next key
+  Spanning : Option Live → Answer
+  Whole : Option (Bytes × Option Bytes) → Answer
+  -- pairs, and keys
+  Ranged : List (Bytes × Bytes) → Answer
+  Keyed : List Bytes → Answer
   -- start, size, floor and boundary, and whether a key is live
   Told : ℕ → ℕ → ℕ → ℕ → Bool → Answer
   -- of a batch: the sizes of its base and of its tip, its floor and its boundary

@@ -1,9 +1,10 @@
 -- The machine: databases and batches are operation lists, and each command is a function of the state.
-use Rattle.std.specs.Prelude.{ℕ, ◌+◌, nat_lt, ◌==◌, if◌then◌else◌, List, [], ◌∷◌, ◌++◌, length, map, take, drop, slice_index_or, slice_set, Option, Some, None}
+use Rattle.std.specs.Prelude.{ℕ, ◌+◌, nat_lt, ◌==◌, if◌then◌else◌, Bool, List, [], ◌∷◌, ◌++◌, length, map, take, drop, slice_index_or, slice_set, Option, Some, None, option_map}
 use Rattle.qm_model.specs.Operations.{Bytes, Operation, fresh}
 use Rattle.qm_model.specs.StoreModel.{Stored, appended}
 use Rattle.qm_model.specs.Forms.{spelling, variable}
-use Rattle.qm_model.specs.Live.{live, floor, value_of, last_metadata}
+use Rattle.qm_model.specs.Live.{live, live_of, live_keys, floor, value_of, last_metadata}
+use Rattle.qm_model.specs.Ranges.{Limit, key_above, key_below, span_of, keys_in, pairs_in}
 use Rattle.qm_model.specs.Writes.{Write, read_through}
 use Rattle.qm_model.specs.Slots.{slotted}
 use Rattle.qm_model.specs.Slots as slots
@@ -12,14 +13,15 @@ use Rattle.qm_model.specs.Step.{Kind}
 use Rattle.qm_model.specs.Step as steps
 use Rattle.qm_model.specs.Proofs.{Proof}
 use Rattle.qm_model.specs.Batches.{Chain, begun_on, child_of, commitment, fits, readable, own_operations}
-use Rattle.qm_machine.specs.Lines.{Line, Open, Batch, Child, Tip, Put, Del, Merkleize, Stage, Expand, Resolve, Apply, Ops, Get, Many, Info, BatchInfo, Root, BatchRoot, BatchProof, Meta, Prove, Pins, Answer, Opened, Started, Done, Merkleized, Applied, Listed, Read, Expanded, Told, BatchTold, Rooted, Metadata, Proved, BatchProved, Pinned, Refuses}
+use Rattle.qm_machine.specs.Lines.{Line, Open, Batch, Child, Tip, Put, Del, Merkleize, Stage, Expand, Resolve, Apply, Ops, Get, Many, Next, Prev, Span, All, Range, Keys, Info, BatchInfo, Root, BatchRoot, BatchProof, Meta, Prove, Pins, Answer, Opened, Started, Done, Merkleized, Applied, Listed, Read, Expanded, Beside, Spanning, Whole, Ranged, Keyed, Told, BatchTold, Rooted, Metadata, Proved, BatchProved, Pinned, Refuses}
 use Rattle.qm_model.specs.Refused.{Refused, NotOffered, NoDatabase, NoSuchHandle, SlotCount, StaleBatch, StaleRead, DataCorrupted, HeadDoesNotMatch}
 use Rattle.qm_model.specs.Refusals.{tip_refusal, proof_refusal, proof_count, pins_refusal}
 
--- what a machine stands on: the kind of database, a list's operations root and boundary, the proofs of its operations and
--- its pins
+-- what a machine stands on: the kind of database, and whether that is the ordered one; a list's operations root and
+-- boundary, the proofs of its operations and its pins
 pub record Scheme : Type 0 where
   pub kind : Kind
+  pub is_ordered : Bool
   pub root : List Operation → Bytes
   pub boundary : List Operation → ℕ
   -- of the whole list, for the operations from a up to b
@@ -195,6 +197,44 @@ module _ (m : Scheme) where
   read s keys None = with_database s s.database (λ list. (Read (map (value_of list) keys), s))
   read s keys (Some h) = with_database s s.database (λ list. read_in s h keys list (slot_at s.table h))
 
+  -- what only an ordered database offers, open or not
+  abbrev pub if_ordered : State → Answer × State → Answer × State
+  if_ordered s offered = if m.is_ordered then offered else refuse s NotOffered
+
+  -- the live key beside one on the list that a merkleized batch makes
+  abbrev pub beside_in : State → ℕ → (List Bytes → Option Bytes) → List Operation → Slot → Answer × State
+  beside_in s h beside list (merkleized chain tip) = if_readable s list chain tip (Beside (beside (live_keys tip)))
+  beside_in s h beside list gone = refuse s (NoSuchHandle h)
+  beside_in s h beside list (writing chain parent ws) = refuse s (NoSuchHandle h)
+  beside_in s h beside list (staged chain parent ws ks) = refuse s (NoSuchHandle h)
+
+  -- the same, or on the database's list where no batch is given
+  abbrev pub beside_of : State → (List Bytes → Option Bytes) → Option ℕ → Answer × State
+  beside_of s beside None = with_database s s.database (λ list. (Beside (beside (live_keys list)), s))
+  beside_of s beside (Some h) = with_database s s.database (λ list. beside_in s h beside list (slot_at s.table h))
+
+  -- the nearest live keys above and below a key
+  abbrev pub next : State → Bytes → Option ℕ → Answer × State
+  next s key from = if_ordered s (beside_of s (λ keys. key_above keys key) from)
+
+  abbrev pub prev : State → Bytes → Option ℕ → Answer × State
+  prev s key from = if_ordered s (beside_of s (λ keys. key_below keys key) from)
+
+  -- the live update whose span holds a key
+  abbrev pub span : State → Bytes → Answer × State
+  span s key = if_ordered s (with_database s s.database (λ list. (Spanning (span_of list key), s)))
+
+  -- a key's value, and the next key
+  abbrev pub all : State → Bytes → Answer × State
+  all s key = if_ordered s (with_database s s.database (λ list. (Whole (option_map (λ e. (e.value, e.next)) (live_of (live list) key)), s)))
+
+  -- the live keys in a range, with their values or without
+  abbrev pub range : State → Limit → Limit → Answer × State
+  range s low high = if_ordered s (with_database s s.database (λ list. (Ranged (pairs_in low high list), s)))
+
+  abbrev pub keys : State → Limit → Limit → Answer × State
+  keys s low high = if_ordered s (with_database s s.database (λ list. (Keyed (keys_in low high list), s)))
+
   abbrev pub info : State → Answer × State
   info s = with_database s s.database (λ list. (Told s.store.start (length list) (floor list) (m.boundary list) (nat_lt 0 (length (live list))), s))
 
@@ -287,6 +327,12 @@ module _ (m : Scheme) {P : Type 0} (rules : Rules P) where
   turn s (Ops h) = ops s h
   turn s (Get key from) = read m s (key ∷ []) from
   turn s (Many keys from) = read m s keys from
+  turn s (Next key from) = next m s key from
+  turn s (Prev key from) = prev m s key from
+  turn s (Span key) = span m s key
+  turn s (All key) = all m s key
+  turn s (Range low high) = range m s low high
+  turn s (Keys low high) = keys m s low high
   turn s Info = info m s
   turn s (BatchInfo h) = batch_info m s h
   turn s Root = root m s

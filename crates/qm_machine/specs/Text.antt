@@ -1,8 +1,9 @@
 -- The text of replies.
 use Rattle.std.specs.Prelude.{Bool, true, false, List, [], ◌∷◌, ◌++◌, codes, Option, None, Some, flat_map, decimal}
 use Rattle.hex.specs.Hex.{encode_lower}
+use Rattle.qm_model.specs.Live.{Live}
 use Rattle.qm_model.specs.Operations.{Bytes, Operation, update, delete, commit}
-use Rattle.qm_machine.specs.Lines.{Answer, Opened, Started, Done, Merkleized, Applied, Listed, Read, Expanded, Told, BatchTold, Rooted, Metadata, Proved, BatchProved, Pinned, Refuses}
+use Rattle.qm_machine.specs.Lines.{Answer, Opened, Started, Done, Merkleized, Applied, Listed, Read, Expanded, Beside, Spanning, Whole, Ranged, Keyed, Told, BatchTold, Rooted, Metadata, Proved, BatchProved, Pinned, Refuses}
 use Rattle.qm_model.specs.Refused.{corrupt_text, TreeRefused, RangeOutOfBounds, ElementPruned, MissingNode, LocationOverflow, LogRefused, ItemPruned, ItemTooLarge, Refused, NotOffered, NoDatabase, NoSuchHandle, SlotCount, StaleBatch, StaleRead, HistoricalFloorPruned, DataCorrupted, Merkle, Journal}
 
 -- bytes in hexadecimal, and the empty ones as a dash
@@ -53,6 +54,29 @@ operations_text ops = flat_map (λ op. codes " " ++ operation_text op) ops
 abbrev pub values_text : List (Option Bytes) → Bytes
 values_text values = flat_map (λ v. codes " " ++ optional_text v) values
 
+-- a key, where there is one
+abbrev pub beside_text : Option Bytes → Bytes
+beside_text None = codes "none"
+beside_text (Some k) = codes "key " ++ hex_text k
+
+-- location, key, value and next key of a live update
+abbrev pub spanning_text : Option Live → Bytes
+spanning_text None = codes "none"
+spanning_text (Some e) =
+    codes "span " ++ (decimal e.location ++ (codes " " ++ (hex_text e.key ++ (codes " " ++ (hex_text e.value ++ (codes " " ++ optional_text e.next))))))
+
+-- a value and the next key
+abbrev pub whole_text : Option (Bytes × Option Bytes) → Bytes
+whole_text None = codes "none"
+whole_text (Some (value, next)) = codes "all " ++ (hex_text value ++ (codes " " ++ optional_text next))
+
+-- pairs, and keys, each after a space
+abbrev pub pairs_text : List (Bytes × Bytes) → Bytes
+pairs_text pairs = flat_map (λ p. codes " " ++ (hex_text p.0 ++ (codes "=" ++ hex_text p.1))) pairs
+
+abbrev pub keys_text : List Bytes → Bytes
+keys_text keys = flat_map (λ k. codes " " ++ hex_text k) keys
+
 -- digests, each after a space
 abbrev pub digests_text : List Bytes → Bytes
 digests_text digests = flat_map (λ d. codes " " ++ encode_lower d) digests
@@ -72,6 +96,11 @@ reply_line (Applied size) = codes "applied " ++ decimal size
 reply_line (Listed base ops) = codes "ops " ++ (decimal base ++ operations_text ops)
 reply_line (Read values) = codes "read" ++ values_text values
 reply_line (Expanded a b values) = codes "read " ++ (decimal a ++ (codes " " ++ (decimal b ++ values_text values)))
+reply_line (Beside key) = beside_text key
+reply_line (Spanning e) = spanning_text e
+reply_line (Whole p) = whole_text p
+reply_line (Ranged pairs) = codes "range" ++ pairs_text pairs
+reply_line (Keyed keys) = codes "keys" ++ keys_text keys
 reply_line (Told start size floor boundary is_live) =
     codes "info " ++ (decimal start ++ (codes " " ++ (decimal size ++ (codes " " ++ (decimal floor ++ (codes " " ++ (decimal boundary ++ (codes " " ++ live_text is_live))))))))
 reply_line (BatchTold base size floor boundary) =

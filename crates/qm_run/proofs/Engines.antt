@@ -267,24 +267,24 @@ module _ (chain : Chain) (tip : List Operation) where
 
 -- a batch of these writes makes a tip that is not refused
 pub made-ok : {P X E : Type 0} (rules : Rules P) (r : Result X E) (made : X → Made Sha256Digest) (Is : Chain → Chain → Type 0) (own : List Write) (policy : P) (meta : Option Bytes) (S : List Operation → Type 0)
-    → ((list : List Operation) (chain above : Chain) → S list → Is chain above → IsOnChain list chain → IfOk r (λ x. IsMade hashing (made x) chain (stepped rules chain.base own policy meta)))
-    → ((list : List Operation) (chain above : Chain) → S list → Is chain above → IsOnChain list chain → IfOk r (λ x. IsTaken form chain.base (stepped rules chain.base own policy meta)))
+    → ((list : List Operation) (chain above : Chain) → S list → Is chain above → IsOnChain list chain → IfOk r (λ x. IsMade hashing (made x) chain (stepped form rules chain.base own policy meta)))
+    → ((list : List Operation) (chain above : Chain) → S list → Is chain above → IsOnChain list chain → IfOk r (λ x. IsTaken form chain.base (stepped form rules chain.base own policy meta)))
     → IfOk r (λ x. (list : List Operation) (chain above : Chain) → S list → Is chain above → (ws : List Write) → own ≡ ws → IsOnChain list chain
-    → (tip_refusal variable chain (stepped rules chain.base ws policy meta) ≡ None) × IsMade hashing (made x) chain (stepped rules chain.base ws policy meta))
+    → (tip_refusal variable chain (stepped form rules chain.base ws policy meta) ≡ None) × IsMade hashing (made x) chain (stepped form rules chain.base ws policy meta))
 made-ok rules (Ok x) made Is own policy meta S given taken = λ list chain above is batch ws same on. (
-  taken-offered chain (stepped rules chain.base ws policy meta) (subst (λ w. IsTaken form chain.base (stepped rules chain.base w policy meta)) same (taken list chain above is batch on)),
-  subst (λ w. IsMade hashing (made x) chain (stepped rules chain.base w policy meta)) same (given list chain above is batch on),
+  taken-offered chain (stepped form rules chain.base ws policy meta) (subst (λ w. IsTaken form chain.base (stepped form rules chain.base w policy meta)) same (taken list chain above is batch on)),
+  subst (λ w. IsMade hashing (made x) chain (stepped form rules chain.base w policy meta)) same (given list chain above is batch on),
 )
 made-ok rules (Err e) made Is own policy meta S given taken = tt
 
 -- and one that fails is refused, or failed at the log
 pub made-err : {P X : Type 0} (rules : Rules P) (r : Result X Error) (Is : Chain → Chain → Type 0) (own : List Write) (policy : P) (meta : Option Bytes) (R : Error → Type 0) (S : List Operation → Type 0)
-    → ((list : List Operation) (chain above : Chain) → S list → Is chain above → IsOnChain list chain → IfErr r (λ e. IsRefused form chain.base (stepped rules chain.base own policy meta) e ⊎ R e))
+    → ((list : List Operation) (chain above : Chain) → S list → Is chain above → IsOnChain list chain → IfErr r (λ e. IsRefused form chain.base (stepped form rules chain.base own policy meta) e ⊎ R e))
     → IfErr r (λ e. (list : List Operation) (chain above : Chain) → S list → Is chain above → (ws : List Write) → own ≡ ws → IsOnChain list chain
-    → IsRefused form chain.base (stepped rules chain.base ws policy meta) e ⊎ R e)
+    → IsRefused form chain.base (stepped form rules chain.base ws policy meta) e ⊎ R e)
 made-err rules (Ok x) Is own policy meta R S given = tt
 made-err rules (Err e) Is own policy meta R S given = λ list chain above is batch ws same on.
-    subst (λ w. IsRefused form chain.base (stepped rules chain.base w policy meta) e ⊎ R e) same (given list chain above is batch on)
+    subst (λ w. IsRefused form chain.base (stepped form rules chain.base w policy meta) e ⊎ R e) same (given list chain above is batch on)
 
 -- what a fault tells
 pub err-of : {X E : Type 0} (r : Result X E) (x : E) (P : Type 0) → IfErr r (λ e. e ≡ x → P) → IsErrOf r x → P

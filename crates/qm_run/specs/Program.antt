@@ -25,7 +25,7 @@ are_words (a ∷ b ∷ c ∷ d ∷ e ∷ ws) = false
 
 -- the machine of these words
 abbrev pub scheme : Scheme
-scheme = record { kind = unordered; root = sha256_root mmr; boundary = floor; proof = sha256_proof mmr; pins = sha256_pins mmr }
+scheme = record { kind = unordered; is_ordered = false; root = sha256_root mmr; boundary = floor; proof = sha256_proof mmr; pins = sha256_pins mmr }
 
 abbrev pub bad_text : ℕ → Bytes
 bad_text n = codes "bad line " ++ (decimal n ++ 10 ∷ [])

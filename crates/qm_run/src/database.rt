@@ -19,13 +19,13 @@ use qm_chain::Policy;
 use qm_engine::{BatchSizes, Engine, Numbers, Words};
 use qm_index::FourCap;
 use qm_index::unordered::Index;
-use qm_lines::{Listed, Resolution};
+use qm_lines::{Listed, Resolution, Span};
 use qm_merkle::mmr;
 use qm_proofs::Proof;
 use qm_store::{Given, Refusal, Store};
 use std::alloc::{AllocError, Global};
 use std::num::NonZeroU64;
-use std::ops::Range;
+use std::ops::{Bound, Range};
 use std::rc::Rc;
 
 /// What its updates say.
@@ -254,6 +254,70 @@ impl<C: Store> Engine<C> for Database<C> {
         keys: &[ByteKey],
     ) -> Result<Vec<Option<ByteValue>>, Error> {
         batch.get_many(alloc, keys, &mut self.db)
+    }
+
+    fn is_ordered() -> bool {
+        false
+    }
+
+    fn next(&mut self, _alloc: Global, _key: &ByteKey) -> Result<Option<ByteKey>, Error> {
+        Ok(None)
+    }
+
+    fn prev(&mut self, _alloc: Global, _key: &ByteKey) -> Result<Option<ByteKey>, Error> {
+        Ok(None)
+    }
+
+    fn next_from(
+        &mut self,
+        _alloc: Global,
+        _batch: &Self::Merkleized,
+        _key: &ByteKey,
+    ) -> Result<Option<ByteKey>, Error> {
+        Ok(None)
+    }
+
+    fn prev_from(
+        &mut self,
+        _alloc: Global,
+        _batch: &Self::Merkleized,
+        _key: &ByteKey,
+    ) -> Result<Option<ByteKey>, Error> {
+        Ok(None)
+    }
+
+    fn span(
+        &mut self,
+        _alloc: Global,
+        _key: &ByteKey,
+    ) -> Result<Option<Span<ByteKey, ByteValue>>, Error> {
+        Ok(None)
+    }
+
+    fn all(
+        &mut self,
+        _alloc: Global,
+        _key: &ByteKey,
+    ) -> Result<Option<(ByteValue, ByteKey)>, Error> {
+        Ok(None)
+    }
+
+    fn range(
+        &mut self,
+        alloc: Global,
+        _low: &Bound<ByteKey>,
+        _high: &Bound<ByteKey>,
+    ) -> Result<Vec<(ByteKey, ByteValue)>, Error> {
+        Ok(Vec::new(alloc))
+    }
+
+    fn keys(
+        &mut self,
+        alloc: Global,
+        _low: &Bound<ByteKey>,
+        _high: &Bound<ByteKey>,
+    ) -> Result<Vec<ByteKey>, Error> {
+        Ok(Vec::new(alloc))
     }
 
     fn proof(

@@ -1,6 +1,10 @@
 // Each command, of the words behind its name.
-ghost use Rattle.std.specs.Prelude.{◌≡◌, IfOk, option_map};
+ghost use Rattle.std.specs.Prelude.{◌≡◌, ℕ, Option, IfOk, option_map};
+ghost use Rattle.qm_model.specs.Operations.{Bytes};
+ghost use Rattle.qm_model.specs.Policies.{Policy};
 ghost use Rattle.qm_machine.specs.Grammar as grammar;
+ghost use Rattle.qm_machine.specs.Lines as lines;
+ghost use Rattle.qm_machine.specs.Lines.{Line};
 ghost use Rattle.qm_lines.specs.Parsed.{byte_line, lent};
 
 use super::ByteCommand;
@@ -8,8 +12,10 @@ use super::keys::{Reading, key, parse_reading, value};
 use super::merkleize::merkleize;
 use super::numbers::{named_number, number, positive};
 use super::pieces::is;
+use super::ranges::{keys, range};
 use super::staged::{expand, resolve, stage};
 use crate::command::Command;
+use qm_base::ByteKey;
 use std::alloc::{AllocError, Global};
 
 // No word more.
@@ -106,18 +112,63 @@ fn prove(words: &[&[u8]]) -> Option<ByteCommand>
     Some(Command::Prove(size, start, most))
 }
 
-fn one_read(mut reading: Reading) -> Option<ByteCommand>
-    ensures { option_map byte_line result ≡ grammar.one_read reading }
+// A key, and the batch through which it is read.
+#[derive(Drop)]
+struct OneRead {
+    key: ByteKey,
+    from: Option<u64>,
+}
+
+fn one_read(mut reading: Reading) -> Option<OneRead>
+    ensures { (line : Bytes → Option ℕ → Line Policy) → option_map (λ read. line read.key read.from) result ≡ grammar.one_read line reading }
 {
     let key = reading.keys.pop()?;
     let from = reading.from;
-    reading.keys.is_empty().then_some(Command::Get(key, from))
+    reading.keys.is_empty().then_some(OneRead { key, from })
+}
+
+// A key, at whose end a batch may stand, whatever is made of them.
+fn read(alloc: Global, words: &[&[u8]]) -> Result<Option<OneRead>, AllocError>
+    ensures { IfOk result (λ found. (line : Bytes → Option ℕ → Line Policy) → option_map (λ read. line read.key read.from) found ≡ grammar.read_of line (lent words.now)) }
+{
+    Ok(parse_reading(alloc, words)?.and_then(one_read))
 }
 
 fn get(alloc: Global, words: &[&[u8]]) -> Result<Option<ByteCommand>, AllocError>
-    ensures { IfOk result (λ command. option_map byte_line command ≡ grammar.get_of (lent words.now)) }
+    ensures { IfOk result (λ command. option_map byte_line command ≡ grammar.read_of lines.Get (lent words.now)) }
 {
-    Ok(parse_reading(alloc, words)?.and_then(one_read))
+    match read(alloc, words)? {
+        None => Ok(None),
+        Some(read) => Ok(Some(Command::Get(read.key, read.from))),
+    }
+}
+
+fn next(alloc: Global, words: &[&[u8]]) -> Result<Option<ByteCommand>, AllocError>
+    ensures { IfOk result (λ command. option_map byte_line command ≡ grammar.read_of lines.Next (lent words.now)) }
+{
+    match read(alloc, words)? {
+        None => Ok(None),
+        Some(read) => Ok(Some(Command::Next(read.key, read.from))),
+    }
+}
+
+fn prev(alloc: Global, words: &[&[u8]]) -> Result<Option<ByteCommand>, AllocError>
+    ensures { IfOk result (λ command. option_map byte_line command ≡ grammar.read_of lines.Prev (lent words.now)) }
+{
+    match read(alloc, words)? {
+        None => Ok(None),
+        Some(read) => Ok(Some(Command::Prev(read.key, read.from))),
+    }
+}
+
+// One key more, whatever is made of it.
+fn only_key(alloc: Global, words: &[&[u8]]) -> Result<Option<ByteKey>, AllocError>
+    ensures { IfOk result (λ found. (line : Bytes → Line Policy) → option_map line found ≡ grammar.only_key line (lent words.now)) }
+{
+    match words {
+        [word] => key(alloc, word),
+        _ => Ok(None),
+    }
 }
 
 fn some_read(reading: Reading) -> Option<ByteCommand>
@@ -170,6 +221,18 @@ pub fn of_words(alloc: Global, words: &[&[u8]]) -> Result<Option<ByteCommand>, A
         get(alloc, words)
     } else if is(name, b"many") {
         many(alloc, words)
+    } else if is(name, b"next") {
+        next(alloc, words)
+    } else if is(name, b"prev") {
+        prev(alloc, words)
+    } else if is(name, b"span") {
+        Ok(only_key(alloc, words)?.map(Command::Span))
+    } else if is(name, b"all") {
+        Ok(only_key(alloc, words)?.map(Command::All))
+    } else if is(name, b"range") {
+        range(alloc, words)
+    } else if is(name, b"keys") {
+        keys(alloc, words)
     } else if is(name, b"info") {
         Ok(info(words))
     } else if is(name, b"root") {

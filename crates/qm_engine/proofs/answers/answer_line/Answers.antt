@@ -1,5 +1,5 @@
-use Rattle.std.proofs.Common.{◌≡◌, ◌++◌, ◌∷◌, [], Option, Some, IfSome, subst}
-use Rattle.std.specs.Prelude.{IfNone}
+use Rattle.std.proofs.Common.{◌≡◌, ◌++◌, ◌∷◌, [], Option, Some, IfSome, ap, subst, sym}
+use Rattle.std.specs.Prelude.{IfNone, is_some}
 use Rattle.qm_model.specs.Batches.{Apart}
 use Rattle.qm_machine.specs.Grammar.{line_of}
 use Rattle.qm_machine.specs.Lines.{Line, Answer}
@@ -11,7 +11,7 @@ use Rattle.qm_engine.specs.Session.{Holds, IsLeft}
 use Rattle.qm_store.specs.Given.{store_given}
 use Rattle.qm_engine.specs.Answered.{after_line}
 use Rattle.qm_engine.proofs.Commands.{left_none}
-use Rattle.qm_engine.proofs.Answerings.{same_turn}
+use Rattle.qm_engine.proofs.Answerings.{none-any, same_turn, some-then}
 use Rattle.qm_engine.proofs.answers.answer_line.Goals as goal
 
 pub returns-in-Ok-Some-clause-machine : goal.returns-in-Ok-Some-clause-machine
@@ -34,3 +34,11 @@ returns-in-Ok-Some-clause-left g c = λ s k apart.
     let line : Some (byte_line c.in-Ok-Some.command) ≡ line_of c.args.line.now = rw c.in-Ok-Some.field-0-is at c.in-Ok-Some.ensures in
     subst (λ (o : Option (Line Policy)). IsLeft (g.C.Store.told (store_given g.X.Words.inside c.answer.result.0.held)) s.store (after_line g.X.Words.scheme policies s o).store) line
     (subst (λ (next : Answer × State). IsLeft (g.C.Store.told (store_given g.X.Words.inside c.answer.result.0.held)) s.store next.1.store) (same_turn g.X.Words.scheme s c.in-Ok-Some.command) (c.answer.ensures.left s k apart))
+
+pub returns-in-Ok-Some-clause-command : goal.returns-in-Ok-Some-clause-command
+returns-in-Ok-Some-clause-command g c =
+    let line : Some (byte_line c.in-Ok-Some.command) ≡ line_of c.args.line.now = rw c.in-Ok-Some.field-0-is at c.in-Ok-Some.ensures in
+    none-any c.answer.result.1 (ap is_some (sym line))
+
+pub returns-in-Ok-Some-clause-not_done : goal.returns-in-Ok-Some-clause-not_done
+returns-in-Ok-Some-clause-not_done g c = some-then c.answer.result.1 c.answer.ensures.cause (λ e why. why.0)

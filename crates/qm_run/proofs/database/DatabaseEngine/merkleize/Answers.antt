@@ -27,10 +27,10 @@ returns-clause-made g c =
     let same : made ≡ meta = ap (option_map (λ v. v)) c.in_ok-metadata.ensures in
     ok-then c.merkleize.result (made-ok rules c.merkleize.result (λ b. b.value) (IsBegun hashing c.args.batch) c.args.batch.writes policy meta (IsDatabase g.C.Store layout c.args.self.now.db)
     (λ list chain above is begun on.
-    subst (λ m. IfOk c.merkleize.result (λ b. IsMade hashing b.value chain (stepped rules chain.base c.args.batch.writes policy m))) same
+    subst (λ m. IfOk c.merkleize.result (λ b. IsMade hashing b.value chain (stepped form rules chain.base c.args.batch.writes policy m))) same
     (c.merkleize.ensures.made list chain above is begun on))
     (λ list chain above is begun on.
-    subst (λ m. IfOk c.merkleize.result (λ b. IsTaken form chain.base (stepped rules chain.base c.args.batch.writes policy m))) same
+    subst (λ m. IfOk c.merkleize.result (λ b. IsTaken form chain.base (stepped form rules chain.base c.args.batch.writes policy m))) same
     (c.merkleize.ensures.taken list chain above is begun on)))
     (λ b made list chain above ws is batch. made list chain above is batch.0 ws batch.1)
 
@@ -50,11 +50,11 @@ returns-clause-refused g c =
     err-both c.merkleize.result
     (made-err rules c.merkleize.result (IsBegun hashing c.args.batch) c.args.batch.writes policy meta read (IsDatabase g.C.Store layout c.args.self.now.db)
     (λ list chain above is begun on.
-    subst (λ m. IfErr c.merkleize.result (λ e. IsRefused form chain.base (stepped rules chain.base c.args.batch.writes policy m) e ⊎ read e)) same
+    subst (λ m. IfErr c.merkleize.result (λ e. IsRefused form chain.base (stepped form rules chain.base c.args.batch.writes policy m) e ⊎ read e)) same
     (c.merkleize.ensures.refused list chain above is begun on)))
     c.merkleize.ensures.order
     (λ e refused order fresh tells list chain above ws is batch.
-    refused-due chain (stepped rules chain.base ws policy meta) g.C.Store c.args.self.now.db.log c.merkleize.new.db.log _ (IsOnChain list chain) e fresh (is.lent.logged.start ∙ tells.0) (refused list chain above is batch.0 ws batch.1)
+    refused-due chain (stepped form rules chain.base ws policy meta) g.C.Store c.args.self.now.db.log c.merkleize.new.db.log _ (IsOnChain list chain) e fresh (is.lent.logged.start ∙ tells.0) (refused list chain above is batch.0 ws batch.1)
     (λ memory. sym (on-begun list chain above c.args.self.now.db.commitment c.args.batch (subst (λ (b : Begun Sha256Digest). b.keep ≤ suc (length b.parent.bounds.ancestors)) c.batch.view_is c.batch.invariant) is.commitment batch.0) ∙ order memory fresh))
 
 pub returns-clause-reads : goal.returns-clause-reads

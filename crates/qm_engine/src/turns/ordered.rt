@@ -1,0 +1,139 @@
+// Commands that only an ordered database offers.
+ghost use Rattle.std.specs.Prelude.{◌≡◌, true, List, IfOk, IfErr, IsErrOf, option_map};
+ghost use Rattle.qm_model.specs.Operations.{Operation};
+ghost use Rattle.qm_model.specs.Live.{live_keys};
+ghost use Rattle.qm_model.specs.Batches.{IsKnown};
+ghost use Rattle.qm_machine.specs.Machine as machine;
+ghost use Rattle.qm_lines.specs.Views.{answer_view};
+ghost use Rattle.qm_store.specs.Given.{store_given, IsUnchanged, TellsAll};
+ghost use Rattle.qm_store.specs.Refusals.{refusal_of};
+ghost use Rattle.qm_engine.specs.Ordered.{key_beside, answer_to};
+ghost use Rattle.qm_engine.specs.Session.{Obeys, Uses};
+ghost use Rattle.qm_engine.specs.Words.{AtTip, CanRead, IsReadFailure, ReadsOnly};
+
+use crate::engine::Engine;
+use crate::session::{Of, Turn, turn_of};
+use crate::table::merkleized_at;
+use qm_base::{Error, JournalError};
+use qm_lines::{Refused, Reply};
+use qm_store::{Given, Store};
+use std::alloc::Global;
+use std::ops::Bound;
+
+/// On which side of a key another is sought.
+#[derive(Clone, Copy)]
+pub enum Side {
+    Above,
+    Below,
+}
+
+/// What is asked of an ordered database.
+#[derive(Drop)]
+pub enum Question<'a, K> {
+    /// The nearest live key on this side of a key.
+    Beside(Side, &'a K),
+    /// The live update whose span holds a key.
+    Span(&'a K),
+    /// The value of a key, and the next key.
+    All(&'a K),
+    /// The live keys of a range with their values.
+    Range(&'a Bound<K>, &'a Bound<K>),
+    /// The live keys of a range.
+    Keys(&'a Bound<K>, &'a Bound<K>),
+}
+
+fn reply_to<X: Engine<C>, C: Store>(
+    alloc: Global,
+    database: &mut X,
+    question: Question<'_, X::Key>,
+) -> Result<Reply<X::Key, X::Value, X::Digest>, Error>
+    ensures reply { IfOk result (λ r. X.scheme.is_ordered ≡ true → (list : List Operation) → X.stands database.old list
+        → answer_view X.Key.bytes X.Value.bytes X.Digest.bytes r ≡ answer_to X.Key.bytes question.entry list) }
+    ensures reads { ReadsOnly X.Words C.Store database.old database.new (IsErrOf result (Error.Journal JournalError.Store)) }
+    ensures refused { IfErr result (λ e. TellsAll C.Store (X.inside database.old) → (list : List Operation) → X.stands database.old list → refusal_of e ≡ None) }
+{
+    match question {
+        Question::Beside(Side::Above, key) => Ok(Reply::Beside(database.next(alloc, key)?)),
+        Question::Beside(Side::Below, key) => Ok(Reply::Beside(database.prev(alloc, key)?)),
+        Question::Span(key) => Ok(Reply::Span(database.span(alloc, key)?)),
+        Question::All(key) => Ok(Reply::All(database.all(alloc, key)?)),
+        Question::Range(low, high) => Ok(Reply::Range(database.range(alloc, low, high)?)),
+        Question::Keys(low, high) => Ok(Reply::Keys(database.keys(alloc, low, high)?)),
+    }
+}
+
+/// Answers a question from the database alone.
+pub fn ask<X: Engine<C>, C: Store>(
+    alloc: Global,
+    session: &mut Of<X, C>,
+    question: Question<'_, X::Key>,
+) -> Turn<X::Key, X::Value, X::Digest>
+    ensures machine { Obeys C.Store X.Words X.Key.bytes X.Value.bytes X.Digest.bytes session.old session.new result
+        (λ s. machine.if_ordered X.scheme s (machine.with_database s s.database (λ list. (answer_to X.Key.bytes question.entry list, s)))) }
+    ensures store { IsUnchanged C.Store (store_given X.inside session.old.held) (store_given X.inside session.new.held) }
+    ensures uses { Uses C.Store (store_given X.inside session.old.held) (store_given X.inside session.new.held) result }
+    ensures opened { session.new.opened ≡ session.old.opened }
+{
+    if !X::is_ordered() {
+        return Turn::Reply(Reply::Refused(Refused::NotOffered));
+    }
+    let Given::Database(x) = &mut session.held else {
+        return Turn::Reply(Reply::Refused(Refused::NoDatabase));
+    };
+    match reply_to::<X, C>(alloc, x, question) {
+        Ok(reply) => Turn::Reply(reply),
+        Err(error) => turn_of(error),
+    }
+}
+
+// The nearest live key on a side of this one, on the list that a merkleized batch makes.
+fn beside_from<X: Engine<C>, C: Store>(
+    alloc: Global,
+    database: &mut X,
+    batch: &X::Merkleized,
+    side: Side,
+    key: &X::Key,
+) -> Result<Option<X::Key>, Error>
+    ensures readable { IfOk result (λ _. X.scheme.is_ordered ≡ true → AtTip X.Words database.old batch.now (λ list chain tip. CanRead X.Words list chain tip)) }
+    ensures beside { IfOk result (λ k. X.scheme.is_ordered ≡ true → AtTip X.Words database.old batch.now (λ list chain tip. IsKnown list chain tip
+        → option_map X.Key.bytes k ≡ key_beside side (X.Key.bytes key.now) (live_keys tip))) }
+    ensures failure { IfErr result (λ e. AtTip X.Words database.old batch.now (λ list chain tip. IsReadFailure X.Words (TellsAll C.Store (X.inside database.old)) list chain tip e)) }
+    ensures reads { ReadsOnly X.Words C.Store database.old database.new (IsErrOf result (Error.Journal JournalError.Store)) }
+{
+    match side {
+        Side::Above => database.next_from(alloc, batch, key),
+        Side::Below => database.prev_from(alloc, batch, key),
+    }
+}
+
+/// The nearest live key on a side of this one, through a merkleized batch where its number is given.
+pub fn beside<X: Engine<C>, C: Store>(
+    alloc: Global,
+    session: &mut Of<X, C>,
+    side: Side,
+    key: &X::Key,
+    from: Option<u64>,
+) -> Turn<X::Key, X::Value, X::Digest>
+    ensures machine { Obeys C.Store X.Words X.Key.bytes X.Value.bytes X.Digest.bytes session.old session.new result
+        (λ s. machine.if_ordered X.scheme s (machine.beside_of X.scheme s (key_beside side (X.Key.bytes key.now)) from)) }
+    ensures store { IsUnchanged C.Store (store_given X.inside session.old.held) (store_given X.inside session.new.held) }
+    ensures uses { Uses C.Store (store_given X.inside session.old.held) (store_given X.inside session.new.held) result }
+    ensures opened { session.new.opened ≡ session.old.opened }
+{
+    let Some(number) = from else {
+        return ask::<X, C>(alloc, session, Question::Beside(side, key));
+    };
+    if !X::is_ordered() {
+        return Turn::Reply(Reply::Refused(Refused::NotOffered));
+    }
+    let Given::Database(x) = &mut session.held else {
+        return Turn::Reply(Reply::Refused(Refused::NoDatabase));
+    };
+    let Some(batch) = merkleized_at(&session.table, number) else {
+        return Turn::Reply(Reply::Refused(Refused::NoSuchHandle(number)));
+    };
+    match beside_from::<X, C>(alloc, x, batch, side, key) {
+        Ok(key) => Turn::Reply(Reply::Beside(key)),
+        Err(error) => turn_of(error),
+    }
+}
