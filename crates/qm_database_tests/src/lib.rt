@@ -9,3 +9,5 @@ mod fixed;
 mod ordered;
 #[cfg(test)]
 mod staged;
+#[cfg(test)]
+mod scans;
