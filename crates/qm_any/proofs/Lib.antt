@@ -8,3 +8,4 @@ pub mod Staging
 pub mod Telling
 pub mod Trees
 pub mod Unapplied
+pub mod ScannedKeys

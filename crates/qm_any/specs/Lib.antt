@@ -2,3 +2,4 @@ pub mod Layouts
 pub mod Databases
 pub mod Reasons
 pub mod Tips
+pub mod Scanned

@@ -486,6 +486,13 @@ impl<
         self.inactivity_floor_loc()
     }
 
+    /// How many keys are live.
+    pub fn active_keys(&self) -> u64
+        ensures { result ≡ self.now.live }
+    {
+        self.live
+    }
+
     /// Whether no key is live.
     pub fn is_empty(&self) -> bool
         ensures { result ≡ (if nat_lt 0 self.now.live then false else true) }

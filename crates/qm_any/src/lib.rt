@@ -8,6 +8,7 @@ mod open;
 mod operations;
 mod ordered;
 pub mod proof;
+pub mod scan;
 pub mod staged;
 
 pub use open::{hasher, init, initial_root};

@@ -19,12 +19,12 @@ use crate::batch::MerkleizedBatch;
 use crate::db::{Db, LaidOut};
 use crate::operations::Step;
 use qm_base::update::Update;
-use qm_base::{Digest, Error, Hasher, JournalError, Location, Twin};
+use qm_base::{Digest, Error, Hasher, JournalError, Location};
 use qm_batch::kind::Steps;
 use qm_batch::{holder, next_key, previous_key, read_key};
 use qm_merkle::Family;
 use qm_store::Store;
-use std::alloc::{AllocError, Global};
+use std::alloc::Global;
 
 impl<
     F: Family,
@@ -65,7 +65,7 @@ impl<
     {
         let steps: Vec<Step<F, U>> = Vec::new(alloc);
         let found = read_key(alloc, &self.index, &mut self.log, &steps, key)?;
-        Ok(value_and_next(alloc, found)?)
+        Ok(value_and_next(found))
     }
 
     /// The nearest live key above this one, which does not go round. It takes the reads of two buckets at most.
@@ -181,21 +181,13 @@ impl<F: Family, D: Digest, U: Update> MerkleizedBatch<F, D, U> {
     }
 }
 
-// What a live update says of its key: the value and a copy of the next key, where it names one.
-fn value_and_next<F, U: Update>(
-    alloc: Global,
-    found: Option<(Location<F>, U)>,
-) -> Result<Option<(U::Value, U::Key)>, AllocError>
-    ensures { IfOk result (λ said. U.form.ordered ≡ true → option_map {U = Bytes × Option Bytes} (λ p. (U.Value.bytes p.0, Some (U.Key.bytes p.1))) said
-        ≡ option_and_then (λ p. option_map {U = Bytes × Option Bytes} (λ value. (value, next_in p.1)) (value_of p.1)) (option_map (read_view U.view) found)) }
+// What a live update says of its key: the value and the next key, where it names one.
+fn value_and_next<F, U: Update>(found: Option<(Location<F>, U)>) -> Option<(U::Value, U::Key)>
+    ensures { U.form.ordered ≡ true → option_map {U = Bytes × Option Bytes} (λ p. (U.Value.bytes p.0, Some (U.Key.bytes p.1))) result
+        ≡ option_and_then (λ p. option_map {U = Bytes × Option Bytes} (λ value. (value, next_in p.1)) (value_of p.1)) (option_map (read_view U.view) found) }
 {
-    let Some((_, update)) = found else {
-        return Ok(None);
-    };
-    let (_, value, Some(next)) = update.parts() else {
-        return Ok(None);
-    };
-    let value = value.twin(alloc)?;
-    let next = next.twin(alloc)?;
-    Ok(Some((value, next)))
+    let (_, update) = found?;
+    let (_, value, next) = update.into_parts();
+    let next = next?;
+    Some((value, next))
 }

@@ -62,6 +62,11 @@ pub trait Update: Twin + Drop {
     fn value(&self) -> &Self::Value
         ensures { value_of (view self.now) ≡ Some (Self.Value.bytes result.now) };
 
+    /// Key, value and next key, by value.
+    fn into_parts(self) -> (Self::Key, Self::Value, Option<Self::Key>)
+        ensures kind { is_some result.2 ≡ form.ordered }
+        ensures parts { view self ≡ model.update (Self.Key.bytes result.0) (Self.Value.bytes result.1) (option_map Self.Key.bytes result.2) };
+
     /// The key, by value.
     fn into_key(self) -> Self::Key
         ensures { key_of (view self) ≡ Some (Self.Key.bytes result) };
@@ -141,6 +146,10 @@ impl<K: ByteString, V: ValueEncoding<K>> Update for Unordered<K, V> {
 
     fn value(&self) -> &V::Value {
         &self.1
+    }
+
+    fn into_parts(self) -> (K, V::Value, Option<K>) {
+        (self.0, self.1, None)
     }
 
     fn into_key(self) -> K {
@@ -234,6 +243,10 @@ impl<K: ByteString, V: ValueEncoding<K>> Update for Ordered<K, V> {
 
     fn value(&self) -> &V::Value {
         &self.value
+    }
+
+    fn into_parts(self) -> (K, V::Value, Option<K>) {
+        (self.key, self.value, Some(self.next_key))
     }
 
     fn into_key(self) -> K {

@@ -4,7 +4,8 @@
 ghost use Rattle.std.specs.List.{IsDistinct};
 ghost use Rattle.std.specs.Map.{keys_of};
 ghost use Rattle.std.specs.Prelude.{bytes_eq, ◌≡◌, ◌≤◌, ◌++◌, true, ℕ, List, length, map, filter_map, option_map, All, IfOk};
-ghost use Rattle.qm_index.specs.Neighbours.{neighbour_at, prev_key};
+ghost use Rattle.qm_index.specs.Buckets.{IsIndex, bucket_at};
+ghost use Rattle.qm_index.specs.Neighbours.{least_key, neighbour_at, next_key, prev_key};
 ghost use Rattle.qm_index.specs.Translated.{IsMonotone};
 ghost use Rattle.qm_model.specs.Operations.{AreBytes};
 ghost use Rattle.qm_model.specs.Operations as model;
@@ -34,6 +35,17 @@ pub trait Steps<F, I: qm_index::Unordered<Value = Location<F>>>: Update {
     /// greatest of all; none only where the index is empty.
     fn bucket_before<'a>(index: &'a I, key: &[u8]) -> Option<(&'a [Location<F>], bool)>
         ensures { Self.form.ordered ≡ true → option_map (λ b. (b.0.now, b.1)) result ≡ neighbour_at (I.entries index.now) (prev_key (keys_of (I.entries index.now)) (I.index_key key.now)) };
+
+    /// In an ordered database the bucket of the least index key above the key's, or else, flagged as wrapped, of the least
+    /// of all; none only where the index is empty.
+    fn bucket_behind<'a>(index: &'a I, key: &[u8]) -> Option<(&'a [Location<F>], bool)>
+        ensures value { Self.form.ordered ≡ true → option_map (λ b. (b.0.now, b.1)) result ≡ neighbour_at (I.entries index.now) (next_key (keys_of (I.entries index.now)) (I.index_key key.now)) }
+        ensures index { Self.form.ordered ≡ true → IsIndex (I.entries index.now) };
+
+    /// In an ordered database the bucket of the least index key; none only where the index is empty.
+    fn first_bucket(index: &I) -> Option<&[Location<F>]>
+        ensures value { Self.form.ordered ≡ true → option_map (λ b. b.now) result ≡ option_map (bucket_at (I.entries index.now)) (least_key (keys_of (I.entries index.now))) }
+        ensures index { Self.form.ordered ≡ true → IsIndex (I.entries index.now) };
 
     /// The operations of the last writes, of which it is known where their keys stand and, in an ordered database, what
     /// stands before those that are created or deleted.
@@ -83,6 +95,14 @@ impl<F, I: qm_index::Unordered<Value = Location<F>>, K: ByteString, V: ValueEnco
         None
     }
 
+    fn bucket_behind<'a>(_index: &'a I, _key: &[u8]) -> Option<(&'a [Location<F>], bool)> {
+        None
+    }
+
+    fn first_bucket(_index: &I) -> Option<&[Location<F>]> {
+        None
+    }
+
     fn written(
         alloc: Global,
         sites: &[Site<'_, K, V::Value>],
@@ -120,6 +140,14 @@ impl<F, I: qm_index::Ordered<Value = Location<F>>, K: ByteString, V: ValueEncodi
 
     fn bucket_before<'a>(index: &'a I, key: &[u8]) -> Option<(&'a [Location<F>], bool)> {
         index.prev_bucket(key)
+    }
+
+    fn bucket_behind<'a>(index: &'a I, key: &[u8]) -> Option<(&'a [Location<F>], bool)> {
+        index.next_bucket(key)
+    }
+
+    fn first_bucket(index: &I) -> Option<&[Location<F>]> {
+        index.first_bucket()
     }
 
     fn written(

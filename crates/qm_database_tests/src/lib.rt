@@ -6,6 +6,6 @@ mod expiry;
 #[cfg(test)]
 mod fixed;
 #[cfg(test)]
-mod ordered;
+mod scans;
 #[cfg(test)]
 mod staged;

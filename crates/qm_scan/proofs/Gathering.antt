@@ -2,7 +2,6 @@
 use Rattle.std.proofs.Common.{Option, ◌≡◌, ◌∙◌, refl, sym, ap, ap₂, ℕ, suc, ◌+◌, ◌<◌, ◌≤◌, Bool, true, false, List, [], ◌∷◌, ◌++◌, map, length, get_or, take, drop, arith}
 use Rattle.std.specs.Prelude.{if◌then◌else◌, insert}
 use Rattle.std.proofs.lemmas.List.{at_drop_more, at_drop_all, map-append, take-map, drop-map}
-use Rattle.qm_model.specs.Forms.{Form}
 use Rattle.qm_model.specs.Operations.{Bytes}
 use Rattle.qm_model.specs.Keys.{key_lt}
 use Rattle.qm_scan.specs.Gathered.{Pair, pair_view, place_among, put_pair}
@@ -47,7 +46,3 @@ module _ {K V : Type 0} (key : K → Bytes) (value : V → Bytes) (k : Bytes) (x
 
   pub place-end : length xs ≤ i → from (drop i xs) ≡ 0
   place-end past = at_drop_all from xs i past
-
--- the form of an ordered database's updates
-abbrev pub ordered_form : Option (ℕ × ℕ) → (Bytes → Bool) → (Bytes → Bool) → Form
-ordered_form sizes key value = record { ordered = true; sizes = sizes; is_key = key; is_value = value }

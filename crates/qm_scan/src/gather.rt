@@ -12,8 +12,8 @@ ghost use Rattle.qm_batch.specs.Lent.{IsRead, IsReadError};
 ghost use Rattle.qm_batch.specs.Nearest.{limit_view};
 ghost use Rattle.qm_scan.specs.Gathered.{is_in, limit_of, only_in, pair_view, place_among, put_at, put_said};
 
-use qm_base::update::{Ordered, Update};
-use qm_base::{ByteString, Error, Hasher, JournalError, Location, Operation, ValueEncoding};
+use qm_base::update::Update;
+use qm_base::{ByteString, Error, Hasher, JournalError, Location, Operation};
 use qm_batch::{read_item, update_in};
 use qm_merkle::Family;
 use qm_store::{AuthLog, Store};
@@ -68,39 +68,37 @@ pub(crate) fn bytes_of<K: ByteString>(limit: &Bound<K>) -> Bound<&[u8]>
 }
 
 /// Of the updates at these locations of the log's list those in a range, by key, each key with its value.
-pub(crate) fn pairs_at<F: Family, C: Store, H: Hasher + Drop, K: ByteString, V: ValueEncoding<K>>(
+pub(crate) fn pairs_at<F: Family, C: Store, H: Hasher + Drop, U: Update>(
     alloc: Global,
     log: &mut AuthLog<F, C, H>,
     locations: &[Location<F>],
     low: Bound<&[u8]>,
     high: Bound<&[u8]>,
-) -> Result<Vec<(K, V::Value)>, Error>
-    ensures value { (list : List model.Operation) → IsLog C.Store F.shape H.Digest.bytes H.hash log.old (map (spelling ⟦<Ordered<K, V> as Update>⟧.form) list) → All (IsOf ⟦<Ordered<K, V> as Update>⟧.form) list
-        → IfSome (C.told log.old.store) (λ _. IfOk result (λ pairs. map (pair_view K.bytes V.Value.bytes) pairs.items ≡ fold (put_at (limit_view low.entry) (limit_view high.entry) list) [] locations.now)) }
+) -> Result<Vec<(U::Key, U::Value)>, Error>
+    ensures value { (list : List model.Operation) → IsLog C.Store F.shape H.Digest.bytes H.hash log.old (map (spelling U.form) list) → All (IsOf U.form) list
+        → IfSome (C.told log.old.store) (λ _. IfOk result (λ pairs. map (pair_view U.Key.bytes U.Value.bytes) pairs.items ≡ fold (put_at (limit_view low.entry) (limit_view high.entry) list) [] locations.now)) }
     ensures read { IsRead C.Store F.shape H.Digest.bytes H.hash log.old log.new }
     ensures error { IfErr result (IsReadError C.Store log.old log.new) }
     ensures pruned { All (λ at. log.old.tree.start ≤ at) locations.now → IfErr result (λ e. (n : ℕ) → e ≢ Error.Journal (JournalError.ItemPruned n)) }
 {
-    let mut pairs: Vec<(K, V::Value)> = Vec::new(alloc);
+    let mut pairs = Vec::new(alloc);
     for location in locations {
-        let update: Option<Ordered<K, V>> = read_in(alloc, log, location.get(), low, high)?;
+        let update: Option<U> = read_in(alloc, log, location.get(), low, high)?;
         put(&mut pairs, update)?;
     }
     Ok(pairs)
 }
 
 // Puts key and value of an update, where there is one, in their place among pairs by key.
-fn put<K: ByteString, V: ValueEncoding<K>>(
-    pairs: &mut Vec<(K, V::Value)>,
-    update: Option<Ordered<K, V>>,
-) -> Result<(), AllocError>
-    ensures { OnOk result (map (pair_view K.bytes V.Value.bytes) pairs.new.items ≡ put_said (map (pair_view K.bytes V.Value.bytes) pairs.old.items) (option_map ⟦<Ordered<K, V> as Update>⟧.view update)) }
+fn put<U: Update>(pairs: &mut Vec<(U::Key, U::Value)>, update: Option<U>) -> Result<(), AllocError>
+    ensures { OnOk result (map (pair_view U.Key.bytes U.Value.bytes) pairs.new.items ≡ put_said (map (pair_view U.Key.bytes U.Value.bytes) pairs.old.items) (option_map U.view update)) }
 {
     let Some(update) = update else {
         return Ok(());
     };
-    let place = place_among(pairs, update.key.as_bytes());
-    pairs.insert(place, (update.key, update.value))?;
+    let (key, value, _) = update.into_parts();
+    let place = place_among(pairs, key.as_bytes());
+    pairs.insert(place, (key, value))?;
     Ok(())
 }
 

@@ -1,6 +1,6 @@
 //! Scans, which read a bucket where they have nothing left that is read.
 
-ghost use Rattle.std.specs.Prelude.{◌≡◌, ◌≢◌, ◌≤◌, ℕ, List, [], fold, map, option_map, All, IfSome, IfOk, IfErr, OnOk};
+ghost use Rattle.std.specs.Prelude.{◌≡◌, ◌≢◌, ◌≤◌, true, ℕ, List, [], fold, map, option_map, All, IfSome, IfOk, IfErr, OnOk};
 ghost use Rattle.qm_model.specs.Forms.{IsOf, spelling};
 ghost use Rattle.qm_model.specs.Operations.{Operation};
 ghost use Rattle.qm_model.specs.Ranges.{Limit, unlimited};
@@ -11,8 +11,9 @@ ghost use Rattle.qm_scan.specs.Gathered.{limit_of, pair_view, put_at};
 ghost use Rattle.qm_scan.specs.Scans.{AreNext, BeginsAt, IsStep, IsTaken, beginning, behind, nowhere, behind_first, left_of, place_view, unwrapped};
 
 use crate::gather::{bytes_of, pairs_at};
-use qm_base::update::{Ordered, Update};
-use qm_base::{ByteString, Error, Hasher, JournalError, Location, ValueEncoding};
+use qm_base::update::Update;
+use qm_base::{ByteString, Error, Hasher, JournalError, Location, Twin};
+use qm_batch::kind::Steps;
 use qm_merkle::Family;
 use qm_store::{AuthLog, Store};
 use std::alloc::{AllocError, Global};
@@ -30,34 +31,34 @@ pub enum Place<K> {
 
 // Pairs that were read, by key, and where to read next.
 #[derive(Drop)]
-struct Found<K: ByteString, V: ValueEncoding<K>> {
-    pairs: Vec<(K, V::Value)>,
-    place: Place<K>,
+struct Found<U: Update> {
+    pairs: Vec<(U::Key, U::Value)>,
+    place: Place<U::Key>,
 }
 
 /// A scan of the keys in a range with their values, in key order, over an index and a log that are lent to each step.
 #[derive(Drop)]
-pub struct Scan<K: ByteString, V: ValueEncoding<K>> {
-    low: Bound<K>,
-    high: Bound<K>,
-    place: Place<K>,
-    ready: VecDeque<(K, V::Value)>,
+pub struct Scan<U: Update> {
+    low: Bound<U::Key>,
+    high: Bound<U::Key>,
+    place: Place<U::Key>,
+    ready: VecDeque<(U::Key, U::Value)>,
 }
 
-impl<K: ByteString, V: ValueEncoding<K>> Model for Scan<K, V> {
+impl<U: Update> Model for Scan<U> {
     ghost use Rattle.std.specs.Prelude.{map};
     ghost use Rattle.qm_scan.specs.Gathered.{limit_of, pair_view};
     ghost use Rattle.qm_scan.specs.Scans.{Scanning, place_view};
 
     ghost Value = { Scanning };
 
-    ghost view = { λ s. record { low = limit_of K.bytes s.low; high = limit_of K.bytes s.high; place = place_view K.bytes s.place; ready = map (pair_view K.bytes V.Value.bytes) s.ready.items } };
+    ghost view = { λ s. record { low = limit_of U.Key.bytes s.low; high = limit_of U.Key.bytes s.high; place = place_view U.Key.bytes s.place; ready = map (pair_view U.Key.bytes U.Value.bytes) s.ready.items } };
 }
 
-impl<K: ByteString, V: ValueEncoding<K>> Scan<K, V> {
+impl<U: Update> Scan<U> {
     /// A scan of a range, of which nothing is read yet.
-    pub fn new(alloc: Global, low: Bound<K>, high: Bound<K>) -> Self
-        ensures { result ≡ record { low = limit_of K.bytes low; high = limit_of K.bytes high; place = beginning; ready = [] } }
+    pub fn new(alloc: Global, low: Bound<U::Key>, high: Bound<U::Key>) -> Self
+        ensures { result ≡ record { low = limit_of U.Key.bytes low; high = limit_of U.Key.bytes high; place = beginning; ready = [] } }
     {
         Scan {
             low,
@@ -70,16 +71,19 @@ impl<K: ByteString, V: ValueEncoding<K>> Scan<K, V> {
     /// The next key of the range and its value, or nothing where none is left. It reads only where nothing that was read is
     /// left: the next bucket, and behind a beginning whose own bucket has no key in the range the one behind that too. A
     /// refused read leaves all that was left, and the next call reads that bucket again.
-    pub fn next<F: Family, I: qm_index::Ordered<Value = Location<F>>, C: Store, H: Hasher + Drop>(
+    pub fn next<F: Family, I: qm_index::Unordered<Value = Location<F>>, C: Store, H: Hasher + Drop>(
         &mut self,
         alloc: Global,
         index: &I,
         log: &mut AuthLog<F, C, H>,
-    ) -> Option<Result<(K, V::Value), Error>>
-        ensures value { (list : List Operation) → IsLent C.Store F.shape H.Digest.bytes H.hash ⟦<Ordered<K, V> as Update>⟧.form I.index_key (I.entries index.now) log.old list → IfSome (C.told log.old.store) (λ _. IsStep (pair_view K.bytes V.Value.bytes) (left_of I.index_key self.old list) (left_of I.index_key self.new list) result) }
+    ) -> Option<Result<(U::Key, U::Value), Error>>
+    where
+        U: Steps<F, I>,
+        requires { U.form.ordered ≡ true }
+        ensures value { (list : List Operation) → IsLent C.Store F.shape H.Digest.bytes H.hash U.form I.index_key (I.entries index.now) log.old list → IfSome (C.told log.old.store) (λ _. IsStep (pair_view U.Key.bytes U.Value.bytes) (left_of I.index_key self.old list) (left_of I.index_key self.new list) result) }
         ensures read { IsRead C.Store F.shape H.Digest.bytes H.hash log.old log.new }
         ensures error { IfSome result (λ r. IfErr r (IsReadError C.Store log.old log.new)) }
-        ensures whole { (list : List Operation) → IsLent C.Store F.shape H.Digest.bytes H.hash ⟦<Ordered<K, V> as Update>⟧.form I.index_key (I.entries index.now) log.old list → NoneBelow log.old.tree.start list
+        ensures whole { (list : List Operation) → IsLent C.Store F.shape H.Digest.bytes H.hash U.form I.index_key (I.entries index.now) log.old list → NoneBelow log.old.tree.start list
             → IfSome result (λ r. IfErr r (λ e. (n : ℕ) → e ≢ Error.Journal (JournalError.ItemPruned n))) }
     {
         if let Some(pair) = self.take() {
@@ -97,7 +101,7 @@ impl<K: ByteString, V: ValueEncoding<K>> Scan<K, V> {
     // The same for a scan that has begun and has nothing left that was read.
     fn next_behind<
         F: Family,
-        I: qm_index::Ordered<Value = Location<F>>,
+        I: qm_index::Unordered<Value = Location<F>>,
         C: Store,
         H: Hasher + Drop,
     >(
@@ -105,13 +109,16 @@ impl<K: ByteString, V: ValueEncoding<K>> Scan<K, V> {
         alloc: Global,
         index: &I,
         log: &mut AuthLog<F, C, H>,
-    ) -> Option<Result<(K, V::Value), Error>>
+    ) -> Option<Result<(U::Key, U::Value), Error>>
+    where
+        U: Steps<F, I>,
+        requires ordered { U.form.ordered ≡ true }
         requires begun { self.old.place ≢ beginning }
         requires empty { self.old.ready ≡ [] }
-        ensures value { (list : List Operation) → IsLent C.Store F.shape H.Digest.bytes H.hash ⟦<Ordered<K, V> as Update>⟧.form I.index_key (I.entries index.now) log.old list → IfSome (C.told log.old.store) (λ _. IsStep (pair_view K.bytes V.Value.bytes) (left_of I.index_key self.old list) (left_of I.index_key self.new list) result) }
+        ensures value { (list : List Operation) → IsLent C.Store F.shape H.Digest.bytes H.hash U.form I.index_key (I.entries index.now) log.old list → IfSome (C.told log.old.store) (λ _. IsStep (pair_view U.Key.bytes U.Value.bytes) (left_of I.index_key self.old list) (left_of I.index_key self.new list) result) }
         ensures read { IsRead C.Store F.shape H.Digest.bytes H.hash log.old log.new }
         ensures error { IfSome result (λ r. IfErr r (IsReadError C.Store log.old log.new)) }
-        ensures whole { (list : List Operation) → IsLent C.Store F.shape H.Digest.bytes H.hash ⟦<Ordered<K, V> as Update>⟧.form I.index_key (I.entries index.now) log.old list → NoneBelow log.old.tree.start list
+        ensures whole { (list : List Operation) → IsLent C.Store F.shape H.Digest.bytes H.hash U.form I.index_key (I.entries index.now) log.old list → NoneBelow log.old.tree.start list
             → IfSome result (λ r. IfErr r (λ e. (n : ℕ) → e ≢ Error.Journal (JournalError.ItemPruned n))) }
     {
         match self.go_on(alloc, index, log) {
@@ -124,30 +131,33 @@ impl<K: ByteString, V: ValueEncoding<K>> Scan<K, V> {
     }
 
     // The first of the pairs that were read.
-    fn take(&mut self) -> Option<(K, V::Value)>
-        ensures { IsTaken (pair_view K.bytes V.Value.bytes) self.old self.new result }
+    fn take(&mut self) -> Option<(U::Key, U::Value)>
+        ensures { IsTaken (pair_view U.Key.bytes U.Value.bytes) self.old self.new result }
     {
         self.ready.pop_front()
     }
 
     // Reads the first bucket of a scan that has read none.
-    fn begin<F: Family, I: qm_index::Ordered<Value = Location<F>>, C: Store, H: Hasher + Drop>(
+    fn begin<F: Family, I: qm_index::Unordered<Value = Location<F>>, C: Store, H: Hasher + Drop>(
         &mut self,
         alloc: Global,
         index: &I,
         log: &mut AuthLog<F, C, H>,
     ) -> Result<(), Error>
-        requires { self.old.ready ≡ [] }
-        ensures value { (list : List Operation) → IsLent C.Store F.shape H.Digest.bytes H.hash ⟦<Ordered<K, V> as Update>⟧.form I.index_key (I.entries index.now) log.old list → IfSome (C.told log.old.store) (λ _. left_of I.index_key self.new list ≡ left_of I.index_key self.old list) }
+    where
+        U: Steps<F, I>,
+        requires ordered { U.form.ordered ≡ true }
+        requires empty { self.old.ready ≡ [] }
+        ensures value { (list : List Operation) → IsLent C.Store F.shape H.Digest.bytes H.hash U.form I.index_key (I.entries index.now) log.old list → IfSome (C.told log.old.store) (λ _. left_of I.index_key self.new list ≡ left_of I.index_key self.old list) }
         ensures begun { OnOk result (self.new.place ≢ beginning) }
         ensures read { IsRead C.Store F.shape H.Digest.bytes H.hash log.old log.new }
         ensures error { IfErr result (IsReadError C.Store log.old log.new) }
-        ensures whole { (list : List Operation) → IsLent C.Store F.shape H.Digest.bytes H.hash ⟦<Ordered<K, V> as Update>⟧.form I.index_key (I.entries index.now) log.old list → NoneBelow log.old.tree.start list
+        ensures whole { (list : List Operation) → IsLent C.Store F.shape H.Digest.bytes H.hash U.form I.index_key (I.entries index.now) log.old list → NoneBelow log.old.tree.start list
             → IfErr result (λ e. (n : ℕ) → e ≢ Error.Journal (JournalError.ItemPruned n)) }
     {
         match &self.place {
             Place::Beginning => {
-                let found: Found<K, V> = read_beginning(alloc, index, log, &self.low, &self.high)?;
+                let found: Found<U> = read_beginning(alloc, index, log, &self.low, &self.high)?;
                 self.ready = VecDeque::from_vec(found.pairs);
                 self.place = found.place;
                 Ok(())
@@ -158,24 +168,27 @@ impl<K: ByteString, V: ValueEncoding<K>> Scan<K, V> {
     }
 
     // Reads the next bucket of a scan that has begun.
-    fn go_on<F: Family, I: qm_index::Ordered<Value = Location<F>>, C: Store, H: Hasher + Drop>(
+    fn go_on<F: Family, I: qm_index::Unordered<Value = Location<F>>, C: Store, H: Hasher + Drop>(
         &mut self,
         alloc: Global,
         index: &I,
         log: &mut AuthLog<F, C, H>,
     ) -> Result<(), Error>
+    where
+        U: Steps<F, I>,
+        requires ordered { U.form.ordered ≡ true }
         requires begun { self.old.place ≢ beginning }
         requires empty { self.old.ready ≡ [] }
-        ensures value { (list : List Operation) → IsLent C.Store F.shape H.Digest.bytes H.hash ⟦<Ordered<K, V> as Update>⟧.form I.index_key (I.entries index.now) log.old list → IfSome (C.told log.old.store) (λ _. left_of I.index_key self.new list ≡ left_of I.index_key self.old list) }
-        ensures over { (list : List Operation) → IsLent C.Store F.shape H.Digest.bytes H.hash ⟦<Ordered<K, V> as Update>⟧.form I.index_key (I.entries index.now) log.old list → IfSome (C.told log.old.store) (λ _. OnOk result (self.new.ready ≡ [] → left_of I.index_key self.new list ≡ [])) }
+        ensures value { (list : List Operation) → IsLent C.Store F.shape H.Digest.bytes H.hash U.form I.index_key (I.entries index.now) log.old list → IfSome (C.told log.old.store) (λ _. left_of I.index_key self.new list ≡ left_of I.index_key self.old list) }
+        ensures over { (list : List Operation) → IsLent C.Store F.shape H.Digest.bytes H.hash U.form I.index_key (I.entries index.now) log.old list → IfSome (C.told log.old.store) (λ _. OnOk result (self.new.ready ≡ [] → left_of I.index_key self.new list ≡ [])) }
         ensures read { IsRead C.Store F.shape H.Digest.bytes H.hash log.old log.new }
         ensures error { IfErr result (IsReadError C.Store log.old log.new) }
-        ensures whole { (list : List Operation) → IsLent C.Store F.shape H.Digest.bytes H.hash ⟦<Ordered<K, V> as Update>⟧.form I.index_key (I.entries index.now) log.old list → NoneBelow log.old.tree.start list
+        ensures whole { (list : List Operation) → IsLent C.Store F.shape H.Digest.bytes H.hash U.form I.index_key (I.entries index.now) log.old list → NoneBelow log.old.tree.start list
             → IfErr result (λ e. (n : ℕ) → e ≢ Error.Journal (JournalError.ItemPruned n)) }
     {
         match &self.place {
             Place::Behind(key) => {
-                let found: Found<K, V> = read_next(alloc, index, log, key, &self.high)?;
+                let found: Found<U> = read_next(alloc, index, log, key, &self.high)?;
                 self.ready = VecDeque::from_vec(found.pairs);
                 self.place = found.place;
                 Ok(())
@@ -189,23 +202,23 @@ impl<K: ByteString, V: ValueEncoding<K>> Scan<K, V> {
 // The first pairs of a range.
 fn read_beginning<
     F: Family,
-    I: qm_index::Ordered<Value = Location<F>>,
+    I: qm_index::Unordered<Value = Location<F>>,
     C: Store,
     H: Hasher + Drop,
-    K: ByteString,
-    V: ValueEncoding<K>,
+    U: Steps<F, I>,
 >(
     alloc: Global,
     index: &I,
     log: &mut AuthLog<F, C, H>,
-    low: &Bound<K>,
-    high: &Bound<K>,
-) -> Result<Found<K, V>, Error>
-    ensures value { (list : List Operation) → IsLent C.Store F.shape H.Digest.bytes H.hash ⟦<Ordered<K, V> as Update>⟧.form I.index_key (I.entries index.now) log.old list → IfSome (C.told log.old.store) (λ _. IfOk result (λ found. AreNext I.index_key (limit_of K.bytes low.now) (limit_of K.bytes high.now) list beginning (map (pair_view K.bytes V.Value.bytes) found.pairs.items) (place_view K.bytes found.place))) }
-    ensures begun { IfOk result (λ found. place_view K.bytes found.place ≢ beginning) }
+    low: &Bound<U::Key>,
+    high: &Bound<U::Key>,
+) -> Result<Found<U>, Error>
+    requires { U.form.ordered ≡ true }
+    ensures value { (list : List Operation) → IsLent C.Store F.shape H.Digest.bytes H.hash U.form I.index_key (I.entries index.now) log.old list → IfSome (C.told log.old.store) (λ _. IfOk result (λ found. AreNext I.index_key (limit_of U.Key.bytes low.now) (limit_of U.Key.bytes high.now) list beginning (map (pair_view U.Key.bytes U.Value.bytes) found.pairs.items) (place_view U.Key.bytes found.place))) }
+    ensures begun { IfOk result (λ found. place_view U.Key.bytes found.place ≢ beginning) }
     ensures read { IsRead C.Store F.shape H.Digest.bytes H.hash log.old log.new }
     ensures error { IfErr result (IsReadError C.Store log.old log.new) }
-    ensures whole { (list : List Operation) → IsLent C.Store F.shape H.Digest.bytes H.hash ⟦<Ordered<K, V> as Update>⟧.form I.index_key (I.entries index.now) log.old list → NoneBelow log.old.tree.start list
+    ensures whole { (list : List Operation) → IsLent C.Store F.shape H.Digest.bytes H.hash U.form I.index_key (I.entries index.now) log.old list → NoneBelow log.old.tree.start list
         → IfErr result (λ e. (n : ℕ) → e ≢ Error.Journal (JournalError.ItemPruned n)) }
 {
     match low {
@@ -219,28 +232,28 @@ fn read_beginning<
 // The pairs of a range in the bucket of the key where it begins.
 fn read_own<
     F: Family,
-    I: qm_index::Ordered<Value = Location<F>>,
+    I: qm_index::Unordered<Value = Location<F>>,
     C: Store,
     H: Hasher + Drop,
-    K: ByteString,
-    V: ValueEncoding<K>,
+    U: Steps<F, I>,
 >(
     alloc: Global,
     index: &I,
     log: &mut AuthLog<F, C, H>,
-    key: &K,
+    key: &U::Key,
     low: Bound<&[u8]>,
     high: Bound<&[u8]>,
-) -> Result<Found<K, V>, Error>
-    ensures value { (list : List Operation) → IsLent C.Store F.shape H.Digest.bytes H.hash ⟦<Ordered<K, V> as Update>⟧.form I.index_key (I.entries index.now) log.old list → BeginsAt (K.bytes key.now) (limit_view low.entry)
-        → IfSome (C.told log.old.store) (λ _. IfOk result (λ found. AreNext I.index_key (limit_view low.entry) (limit_view high.entry) list beginning (map (pair_view K.bytes V.Value.bytes) found.pairs.items) (place_view K.bytes found.place))) }
-    ensures begun { IfOk result (λ found. place_view K.bytes found.place ≢ beginning) }
+) -> Result<Found<U>, Error>
+    requires { U.form.ordered ≡ true }
+    ensures value { (list : List Operation) → IsLent C.Store F.shape H.Digest.bytes H.hash U.form I.index_key (I.entries index.now) log.old list → BeginsAt (U.Key.bytes key.now) (limit_view low.entry)
+        → IfSome (C.told log.old.store) (λ _. IfOk result (λ found. AreNext I.index_key (limit_view low.entry) (limit_view high.entry) list beginning (map (pair_view U.Key.bytes U.Value.bytes) found.pairs.items) (place_view U.Key.bytes found.place))) }
+    ensures begun { IfOk result (λ found. place_view U.Key.bytes found.place ≢ beginning) }
     ensures read { IsRead C.Store F.shape H.Digest.bytes H.hash log.old log.new }
     ensures error { IfErr result (IsReadError C.Store log.old log.new) }
-    ensures whole { (list : List Operation) → IsLent C.Store F.shape H.Digest.bytes H.hash ⟦<Ordered<K, V> as Update>⟧.form I.index_key (I.entries index.now) log.old list → NoneBelow log.old.tree.start list
+    ensures whole { (list : List Operation) → IsLent C.Store F.shape H.Digest.bytes H.hash U.form I.index_key (I.entries index.now) log.old list → NoneBelow log.old.tree.start list
         → IfErr result (λ e. (n : ℕ) → e ≢ Error.Journal (JournalError.ItemPruned n)) }
 {
-    let pairs = pairs_at::<F, C, H, K, V>(alloc, log, index.bucket(key.as_bytes()), low, high)?;
+    let pairs = pairs_at::<F, C, H, U>(alloc, log, index.bucket(key.as_bytes()), low, high)?;
     let key = key.twin(alloc)?;
     Ok(Found {
         pairs,
@@ -251,25 +264,25 @@ fn read_own<
 // The pairs of a range without a beginning in the first bucket.
 fn read_first<
     F: Family,
-    I: qm_index::Ordered<Value = Location<F>>,
+    I: qm_index::Unordered<Value = Location<F>>,
     C: Store,
     H: Hasher + Drop,
-    K: ByteString,
-    V: ValueEncoding<K>,
+    U: Steps<F, I>,
 >(
     alloc: Global,
     index: &I,
     log: &mut AuthLog<F, C, H>,
     high: Bound<&[u8]>,
-) -> Result<Found<K, V>, Error>
-    ensures value { (list : List Operation) → IsLent C.Store F.shape H.Digest.bytes H.hash ⟦<Ordered<K, V> as Update>⟧.form I.index_key (I.entries index.now) log.old list → IfSome (C.told log.old.store) (λ _. IfOk result (λ found. AreNext I.index_key unlimited (limit_view high.entry) list beginning (map (pair_view K.bytes V.Value.bytes) found.pairs.items) (place_view K.bytes found.place))) }
-    ensures begun { IfOk result (λ found. place_view K.bytes found.place ≢ beginning) }
+) -> Result<Found<U>, Error>
+    requires { U.form.ordered ≡ true }
+    ensures value { (list : List Operation) → IsLent C.Store F.shape H.Digest.bytes H.hash U.form I.index_key (I.entries index.now) log.old list → IfSome (C.told log.old.store) (λ _. IfOk result (λ found. AreNext I.index_key unlimited (limit_view high.entry) list beginning (map (pair_view U.Key.bytes U.Value.bytes) found.pairs.items) (place_view U.Key.bytes found.place))) }
+    ensures begun { IfOk result (λ found. place_view U.Key.bytes found.place ≢ beginning) }
     ensures read { IsRead C.Store F.shape H.Digest.bytes H.hash log.old log.new }
     ensures error { IfErr result (IsReadError C.Store log.old log.new) }
-    ensures whole { (list : List Operation) → IsLent C.Store F.shape H.Digest.bytes H.hash ⟦<Ordered<K, V> as Update>⟧.form I.index_key (I.entries index.now) log.old list → NoneBelow log.old.tree.start list
+    ensures whole { (list : List Operation) → IsLent C.Store F.shape H.Digest.bytes H.hash U.form I.index_key (I.entries index.now) log.old list → NoneBelow log.old.tree.start list
         → IfErr result (λ e. (n : ℕ) → e ≢ Error.Journal (JournalError.ItemPruned n)) }
 {
-    match index.first_bucket() {
+    match U::first_bucket(index) {
         Some(bucket) => read_bucket(alloc, log, bucket, high),
         None => Ok(nothing(alloc)),
     }
@@ -278,25 +291,25 @@ fn read_first<
 // The pairs of a range in the bucket behind a key's, from which on all keys are behind the beginning.
 fn read_next<
     F: Family,
-    I: qm_index::Ordered<Value = Location<F>>,
+    I: qm_index::Unordered<Value = Location<F>>,
     C: Store,
     H: Hasher + Drop,
-    K: ByteString,
-    V: ValueEncoding<K>,
+    U: Steps<F, I>,
 >(
     alloc: Global,
     index: &I,
     log: &mut AuthLog<F, C, H>,
-    key: &K,
-    high: &Bound<K>,
-) -> Result<Found<K, V>, Error>
-    ensures value { (list : List Operation) (low : Limit) → IsLent C.Store F.shape H.Digest.bytes H.hash ⟦<Ordered<K, V> as Update>⟧.form I.index_key (I.entries index.now) log.old list → IfSome (C.told log.old.store) (λ _. IfOk result (λ found. AreNext I.index_key low (limit_of K.bytes high.now) list (behind (K.bytes key.now)) (map (pair_view K.bytes V.Value.bytes) found.pairs.items) (place_view K.bytes found.place) × (map (pair_view K.bytes V.Value.bytes) found.pairs.items ≡ [] → place_view K.bytes found.place ≡ nowhere))) }
+    key: &U::Key,
+    high: &Bound<U::Key>,
+) -> Result<Found<U>, Error>
+    requires { U.form.ordered ≡ true }
+    ensures value { (list : List Operation) (low : Limit) → IsLent C.Store F.shape H.Digest.bytes H.hash U.form I.index_key (I.entries index.now) log.old list → IfSome (C.told log.old.store) (λ _. IfOk result (λ found. AreNext I.index_key low (limit_of U.Key.bytes high.now) list (behind (U.Key.bytes key.now)) (map (pair_view U.Key.bytes U.Value.bytes) found.pairs.items) (place_view U.Key.bytes found.place) × (map (pair_view U.Key.bytes U.Value.bytes) found.pairs.items ≡ [] → place_view U.Key.bytes found.place ≡ nowhere))) }
     ensures read { IsRead C.Store F.shape H.Digest.bytes H.hash log.old log.new }
     ensures error { IfErr result (IsReadError C.Store log.old log.new) }
-    ensures whole { (list : List Operation) → IsLent C.Store F.shape H.Digest.bytes H.hash ⟦<Ordered<K, V> as Update>⟧.form I.index_key (I.entries index.now) log.old list → NoneBelow log.old.tree.start list
+    ensures whole { (list : List Operation) → IsLent C.Store F.shape H.Digest.bytes H.hash U.form I.index_key (I.entries index.now) log.old list → NoneBelow log.old.tree.start list
         → IfErr result (λ e. (n : ℕ) → e ≢ Error.Journal (JournalError.ItemPruned n)) }
 {
-    match unwrapped(index.next_bucket(key.as_bytes())) {
+    match unwrapped(U::bucket_behind(index, key.as_bytes())) {
         Some(bucket) => read_bucket(alloc, log, bucket, bytes_of(high)),
         None => Ok(nothing(alloc)),
     }
@@ -314,20 +327,20 @@ fn unwrapped<F>(found: Option<(&[Location<F>], bool)>) -> Option<&[Location<F>]>
 }
 
 // The pairs of a bucket before the end of a range. Where it has none the range is over.
-fn read_bucket<F: Family, C: Store, H: Hasher + Drop, K: ByteString, V: ValueEncoding<K>>(
+fn read_bucket<F: Family, C: Store, H: Hasher + Drop, U: Update>(
     alloc: Global,
     log: &mut AuthLog<F, C, H>,
     locations: &[Location<F>],
     high: Bound<&[u8]>,
-) -> Result<Found<K, V>, Error>
-    ensures value { (list : List Operation) → IsLog C.Store F.shape H.Digest.bytes H.hash log.old (map (spelling ⟦<Ordered<K, V> as Update>⟧.form) list) → All (IsOf ⟦<Ordered<K, V> as Update>⟧.form) list
-        → IfSome (C.told log.old.store) (λ _. IfOk result (λ found. map (pair_view K.bytes V.Value.bytes) found.pairs.items ≡ fold (put_at unlimited (limit_view high.entry) list) [] locations.now)) }
-    ensures place { IfOk result (λ found. place_view K.bytes found.place ≡ behind_first (map (pair_view K.bytes V.Value.bytes) found.pairs.items)) }
+) -> Result<Found<U>, Error>
+    ensures value { (list : List Operation) → IsLog C.Store F.shape H.Digest.bytes H.hash log.old (map (spelling U.form) list) → All (IsOf U.form) list
+        → IfSome (C.told log.old.store) (λ _. IfOk result (λ found. map (pair_view U.Key.bytes U.Value.bytes) found.pairs.items ≡ fold (put_at unlimited (limit_view high.entry) list) [] locations.now)) }
+    ensures place { IfOk result (λ found. place_view U.Key.bytes found.place ≡ behind_first (map (pair_view U.Key.bytes U.Value.bytes) found.pairs.items)) }
     ensures read { IsRead C.Store F.shape H.Digest.bytes H.hash log.old log.new }
     ensures error { IfErr result (IsReadError C.Store log.old log.new) }
     ensures pruned { All (λ at. log.old.tree.start ≤ at) locations.now → IfErr result (λ e. (n : ℕ) → e ≢ Error.Journal (JournalError.ItemPruned n)) }
 {
-    let pairs = pairs_at::<F, C, H, K, V>(alloc, log, locations, Bound::Unbounded, high)?;
+    let pairs = pairs_at::<F, C, H, U>(alloc, log, locations, Bound::Unbounded, high)?;
     let place = behind(alloc, &pairs)?;
     Ok(Found { pairs, place })
 }
@@ -349,9 +362,9 @@ fn behind<K: ByteString, V: ByteString>(
 }
 
 // No pairs, behind all keys.
-fn nothing<K: ByteString, V: ValueEncoding<K>>(alloc: Global) -> Found<K, V>
+fn nothing<U: Update>(alloc: Global) -> Found<U>
     ensures pairs { result.pairs.items ≡ [] }
-    ensures place { place_view K.bytes result.place ≡ nowhere }
+    ensures place { place_view U.Key.bytes result.place ≡ nowhere }
 {
     Found {
         pairs: Vec::new(alloc),

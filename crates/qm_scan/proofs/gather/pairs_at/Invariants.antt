@@ -6,15 +6,14 @@ use Rattle.qm_store.specs.Log.{IsLog}
 use Rattle.qm_batch.specs.Lent.{IsRead}
 use Rattle.qm_batch.specs.Nearest.{limit_view}
 use Rattle.qm_scan.specs.Gathered.{pair_view, put_at}
-use Rattle.qm_scan.proofs.Gathering.{ordered_form}
 use Rattle.qm_scan.proofs.gather.pairs_at.Given as goal
 
 abbrev pub invariant-loop-location : goal.invariant-loop-location
 invariant-loop-location g l =
-    let form = ordered_form g.V.ValueEncoding.fixed g.K.ByteString.has g.V.Value.ByteString.has in
+    let form = g.U.Update.form in
     record {
       read : IsRead g.C.Store g.F.Family.shape g.H.Digest.Digest.bytes g.H.Hasher.hash l.initial.log l.log;
       value : (list : List Operation) → IsLog g.C.Store g.F.Family.shape g.H.Digest.Digest.bytes g.H.Hasher.hash l.initial.log (map (spelling form) list) → All (IsOf form) list →
           IfSome (g.C.Store.told l.initial.log.store)
-          (λ _. map (pair_view g.K.ByteString.bytes g.V.Value.ByteString.bytes) l.pairs.items ≡ fold (put_at (limit_view l.low) (limit_view l.high) list) [] (take l.location-index l.locations));
+          (λ _. map (pair_view g.U.Key.ByteString.bytes g.U.Value.ByteString.bytes) l.pairs.items ≡ fold (put_at (limit_view l.low) (limit_view l.high) list) [] (take l.location-index l.locations));
     }

@@ -1,14 +1,13 @@
-use Rattle.std.proofs.Common.{◌≡◌, ◌∙◌, ap, ap₂, sym, map, arith, Some}
+use Rattle.std.proofs.Common.{◌≡◌, ◌∙◌, ap, ap₂, sym, map, arith}
 use Rattle.std.specs.Prelude.{insert, option_map}
 use Rattle.std.proofs.lemmas.List.{length-map}
-use Rattle.qm_model.specs.Operations as model
-use Rattle.qm_scan.specs.Gathered.{pair_view, place_among, put_said}
+use Rattle.qm_scan.specs.Gathered.{pair_of, pair_view, place_among, put_pair, put_said}
 use Rattle.qm_scan.proofs.Gathering.{map-insert, place-within, put-there}
 use Rattle.qm_scan.proofs.gather.put.Goals as goal
 
 pub insert-requires : goal.insert-requires
 insert-requires g c =
-    let view = pair_view g.K.ByteString.bytes g.V.Value.ByteString.bytes in
+    let view = pair_view g.U.Key.ByteString.bytes g.U.Value.ByteString.bytes in
     let pairs = c.deref.result.now in
     let is = c.place_among-place.ensures in
     let within = place-within c.as_bytes.result.now (map view pairs) in
@@ -18,13 +17,15 @@ insert-requires g c =
 
 pub returns : goal.returns
 returns g c =
-    let view = pair_view g.K.ByteString.bytes g.V.Value.ByteString.bytes in
+    let view = pair_view g.U.Key.ByteString.bytes g.U.Value.ByteString.bytes in
     let old = c.args.pairs.now.items in
-    let update = c.in-Some.update in
-    let place : c.place_among-place.result ≡ place_among (g.K.ByteString.bytes update.key) (map view old) =
+    let key = c.into_parts-key.result.0 in
+    let value = c.into_parts-key.result.1 in
+    let place : c.place_among-place.result ≡ place_among (g.U.Key.ByteString.bytes key) (map view old) =
     c.place_among-place.ensures ∙ ap₂ (λ k xs. place_among k (map view xs)) c.as_bytes.ensures.value c.deref.ensures.value in
     ap (map view) c.in_ok-insert.ensures.items
-    ∙ map-insert view old c.place_among-place.result (update.key, update.value)
-    ∙ ap (λ i. insert (map view old) i (view (update.key, update.value))) place
-    ∙ put-there (map view old) (view (update.key, update.value))
-    ∙ sym (ap (λ o. put_said (map view old) (option_map (λ u. model.update (g.K.ByteString.bytes u.key) (g.V.Value.ByteString.bytes u.value) (Some (g.K.ByteString.bytes u.next_key))) o)) c.in-Some.is)
+    ∙ map-insert view old c.place_among-place.result (key, value)
+    ∙ ap (λ i. insert (map view old) i (view (key, value))) place
+    ∙ put-there (map view old) (view (key, value))
+    ∙ ap (λ op. put_pair (map view old) (pair_of op)) (sym c.into_parts-key.ensures.parts)
+    ∙ sym (ap (λ o. put_said (map view old) (option_map g.U.Update.view o)) c.in-Some.is)

@@ -6,7 +6,6 @@ use Rattle.qm_batch.specs.Nearest.{limit_view}
 use Rattle.qm_scan.specs.Gathered.{pair_view, put_at}
 use Rattle.qm_scan.specs.Scans.{beginning, place_view}
 use Rattle.qm_scan.proofs.Ahead.{first-above, first-bucket, over-first}
-use Rattle.qm_scan.proofs.Gathering.{ordered_form}
 use Rattle.qm_scan.proofs.Going.{not-beginning, ok-two, over, went}
 use Rattle.qm_scan.proofs.scan.read_first.Goals as goal
 
@@ -14,28 +13,28 @@ pub returns-in-Some-clause-value : goal.returns-in-Some-clause-value
 returns-in-Some-clause-value g c = λ list is.
     let high = limit_view c.args.high in
     let locations = c.in-Some.bucket.now in
-    let view = pair_view g.K.ByteString.bytes g.V.Value.ByteString.bytes in
+    let view = pair_view g.U.Key.ByteString.bytes g.U.Value.ByteString.bytes in
     told-one _ _ (g.C.Store.told c.args.log.now.store) (c.read_bucket.ensures.value list is.logged is.of) (λ found.
     ok-two c.read_bucket.result found c.read_bucket.ensures.place (λ f pairs place.
-    went g.I.Unordered.index_key unlimited high list beginning (map view f.pairs.items) (fold (put_at unlimited high list) [] locations) (place_view g.K.ByteString.bytes f.place) pairs place
-    (first-bucket g.I.Unordered.index_key (g.I.Unordered.entries c.args.index.now) c.first_bucket.ensures.index list is.indexed (ordered_form g.V.ValueEncoding.fixed g.K.ByteString.has g.V.Value.ByteString.has) g.K.ByteString.are_bytes g.met.I.Ordered.monotone is.of high locations
-    (sym (ap (option_map (λ b. b.now)) c.in-Some.is) ∙ c.first_bucket.ensures.value))))
+    went g.I.Unordered.index_key unlimited high list beginning (map view f.pairs.items) (fold (put_at unlimited high list) [] locations) (place_view g.U.Key.ByteString.bytes f.place) pairs place
+    (first-bucket g.I.Unordered.index_key (g.I.Unordered.entries c.args.index.now) (c.first_bucket.ensures.index c.requires) list is.indexed g.U.Update.form g.met.U.Steps.known_bytes (g.met.U.Steps.monotone c.requires) is.of high locations
+    (sym (ap (option_map (λ b. b.now)) c.in-Some.is) ∙ c.first_bucket.ensures.value c.requires))))
 
 pub returns-in-Some-clause-begun : goal.returns-in-Some-clause-begun
 returns-in-Some-clause-begun g c =
-    ok-then c.read_bucket.result c.read_bucket.ensures.place (λ f place. not-beginning (map (pair_view g.K.ByteString.bytes g.V.Value.ByteString.bytes) f.pairs.items) (place_view g.K.ByteString.bytes f.place) place)
+    ok-then c.read_bucket.result c.read_bucket.ensures.place (λ f place. not-beginning (map (pair_view g.U.Key.ByteString.bytes g.U.Value.ByteString.bytes) f.pairs.items) (place_view g.U.Key.ByteString.bytes f.place) place)
 
 pub returns-in-Some-clause-whole : goal.returns-in-Some-clause-whole
 returns-in-Some-clause-whole g c = λ list is none.
     c.read_bucket.ensures.pruned
-    (first-above g.I.Unordered.index_key (g.I.Unordered.entries c.args.index.now) c.first_bucket.ensures.index list is.indexed c.in-Some.bucket.now c.args.log.now.tree.start
-    (sym (ap (option_map (λ b. b.now)) c.in-Some.is) ∙ c.first_bucket.ensures.value) none)
+    (first-above g.I.Unordered.index_key (g.I.Unordered.entries c.args.index.now) (c.first_bucket.ensures.index c.requires) list is.indexed c.in-Some.bucket.now c.args.log.now.tree.start
+    (sym (ap (option_map (λ b. b.now)) c.in-Some.is) ∙ c.first_bucket.ensures.value c.requires) none)
 
 pub returns-in-None-clause-value : goal.returns-in-None-clause-value
 returns-in-None-clause-value g c = λ list is.
     let high = limit_view c.args.high in
-    let view = pair_view g.K.ByteString.bytes g.V.Value.ByteString.bytes in
+    let view = pair_view g.U.Key.ByteString.bytes g.U.Value.ByteString.bytes in
     told-any _ (g.C.Store.told c.args.log.now.store)
-    (over g.I.Unordered.index_key unlimited high list beginning (map view c.nothing.result.pairs.items) (place_view g.K.ByteString.bytes c.nothing.result.place) (ap (map view) c.nothing.ensures.pairs) c.nothing.ensures.place
-    (over-first g.I.Unordered.index_key (g.I.Unordered.entries c.args.index.now) c.first_bucket.ensures.index list is.indexed unlimited high
-    (sym (ap (option_map (λ b. b.now)) c.in-None.is) ∙ c.first_bucket.ensures.value)))
+    (over g.I.Unordered.index_key unlimited high list beginning (map view c.nothing.result.pairs.items) (place_view g.U.Key.ByteString.bytes c.nothing.result.place) (ap (map view) c.nothing.ensures.pairs) c.nothing.ensures.place
+    (over-first g.I.Unordered.index_key (g.I.Unordered.entries c.args.index.now) (c.first_bucket.ensures.index c.requires) list is.indexed unlimited high
+    (sym (ap (option_map (λ b. b.now)) c.in-None.is) ∙ c.first_bucket.ensures.value c.requires)))

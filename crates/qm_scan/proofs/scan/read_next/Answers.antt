@@ -7,7 +7,6 @@ use Rattle.qm_index.specs.Neighbours.{neighbour_at, next_key}
 use Rattle.qm_scan.specs.Gathered.{limit_of, pair_view, put_at}
 use Rattle.qm_scan.specs.Scans.{ahead_of, behind, behind_first, place_view, unwrapped}
 use Rattle.qm_scan.proofs.Ahead.{next-above, next-bucket, over-next}
-use Rattle.qm_scan.proofs.Gathering.{ordered_form}
 use Rattle.qm_scan.proofs.Going.{ends-there, ok-two, over, unwrapped-none, unwrapped-some, went}
 use Rattle.qm_scan.proofs.scan.read_next.Goals as goal
 
@@ -15,43 +14,43 @@ pub returns-in-Some-clause-value : goal.returns-in-Some-clause-value
 returns-in-Some-clause-value g c = λ list low is.
     let index_key = g.I.Unordered.index_key in
     let entries = g.I.Unordered.entries c.args.index.now in
-    let key = g.K.ByteString.bytes c.args.key.now in
-    let high = limit_of g.K.ByteString.bytes c.args.high.now in
+    let key = g.U.Key.ByteString.bytes c.args.key.now in
+    let high = limit_of g.U.Key.ByteString.bytes c.args.high.now in
     let locations = c.in-Some.bucket.now in
-    let view = pair_view g.K.ByteString.bytes g.V.Value.ByteString.bytes in
+    let view = pair_view g.U.Key.ByteString.bytes g.U.Value.ByteString.bytes in
     let here : Some (locations, false) ≡ neighbour_at entries (next_key (keys_of entries) (index_key key)) =
     unwrapped-some (neighbour_at entries (next_key (keys_of entries) (index_key key))) locations
-    (sym (ap (option_map (λ b. b.now)) c.in-Some.is) ∙ c.unwrapped.ensures ∙ ap unwrapped (c.next_bucket.ensures.value ∙ ap (λ k. neighbour_at entries (next_key (keys_of entries) (index_key k))) c.as_bytes.ensures.value)) in
+    (sym (ap (option_map (λ b. b.now)) c.in-Some.is) ∙ c.unwrapped.ensures ∙ ap unwrapped (c.bucket_behind.ensures.value c.requires ∙ ap (λ k. neighbour_at entries (next_key (keys_of entries) (index_key k))) c.as_bytes.ensures.value)) in
     told-one _ _ (g.C.Store.told c.args.log.now.store) (c.read_bucket.ensures.value list is.logged is.of) (λ found.
     ok-two c.read_bucket.result found c.read_bucket.ensures.place (λ f pairs place. (
-      went index_key low high list (behind key) (map view f.pairs.items) (fold (put_at unlimited high list) [] locations) (place_view g.K.ByteString.bytes f.place)
+      went index_key low high list (behind key) (map view f.pairs.items) (fold (put_at unlimited high list) [] locations) (place_view g.U.Key.ByteString.bytes f.place)
           (pairs ∙ ap (λ h. fold (put_at unlimited h list) [] locations) c.bytes_of.ensures) place
-          (next-bucket index_key entries c.next_bucket.ensures.index list is.indexed (ordered_form g.V.ValueEncoding.fixed g.K.ByteString.has g.V.Value.ByteString.has) g.K.ByteString.are_bytes g.met.I.Ordered.monotone is.of low high key locations here),
-      ends-there (map view f.pairs.items) (place_view g.K.ByteString.bytes f.place) place,
+          (next-bucket index_key entries (c.bucket_behind.ensures.index c.requires) list is.indexed g.U.Update.form g.met.U.Steps.known_bytes (g.met.U.Steps.monotone c.requires) is.of low high key locations here),
+      ends-there (map view f.pairs.items) (place_view g.U.Key.ByteString.bytes f.place) place,
     )))
 
 pub returns-in-Some-clause-whole : goal.returns-in-Some-clause-whole
 returns-in-Some-clause-whole g c = λ list is none.
     let index_key = g.I.Unordered.index_key in
     let entries = g.I.Unordered.entries c.args.index.now in
-    let key = g.K.ByteString.bytes c.args.key.now in
+    let key = g.U.Key.ByteString.bytes c.args.key.now in
     let locations = c.in-Some.bucket.now in
     let here : Some (locations, false) ≡ neighbour_at entries (next_key (keys_of entries) (index_key key)) =
     unwrapped-some (neighbour_at entries (next_key (keys_of entries) (index_key key))) locations
-    (sym (ap (option_map (λ b. b.now)) c.in-Some.is) ∙ c.unwrapped.ensures ∙ ap unwrapped (c.next_bucket.ensures.value ∙ ap (λ k. neighbour_at entries (next_key (keys_of entries) (index_key k))) c.as_bytes.ensures.value)) in
-    c.read_bucket.ensures.pruned (next-above index_key entries c.next_bucket.ensures.index list is.indexed key locations c.args.log.now.tree.start here none)
+    (sym (ap (option_map (λ b. b.now)) c.in-Some.is) ∙ c.unwrapped.ensures ∙ ap unwrapped (c.bucket_behind.ensures.value c.requires ∙ ap (λ k. neighbour_at entries (next_key (keys_of entries) (index_key k))) c.as_bytes.ensures.value)) in
+    c.read_bucket.ensures.pruned (next-above index_key entries (c.bucket_behind.ensures.index c.requires) list is.indexed key locations c.args.log.now.tree.start here none)
 
 pub returns-in-None-clause-value : goal.returns-in-None-clause-value
 returns-in-None-clause-value g c = λ list low is.
     let index_key = g.I.Unordered.index_key in
     let entries = g.I.Unordered.entries c.args.index.now in
-    let key = g.K.ByteString.bytes c.args.key.now in
-    let high = limit_of g.K.ByteString.bytes c.args.high.now in
-    let view = pair_view g.K.ByteString.bytes g.V.Value.ByteString.bytes in
+    let key = g.U.Key.ByteString.bytes c.args.key.now in
+    let high = limit_of g.U.Key.ByteString.bytes c.args.high.now in
+    let view = pair_view g.U.Key.ByteString.bytes g.U.Value.ByteString.bytes in
     told-any _ (g.C.Store.told c.args.log.now.store) (
-      over index_key low high list (behind key) (map view c.nothing.result.pairs.items) (place_view g.K.ByteString.bytes c.nothing.result.place) (ap (map view) c.nothing.ensures.pairs) c.nothing.ensures.place
-          (over-next index_key entries c.next_bucket.ensures.index list is.indexed low high key
+      over index_key low high list (behind key) (map view c.nothing.result.pairs.items) (place_view g.U.Key.ByteString.bytes c.nothing.result.place) (ap (map view) c.nothing.ensures.pairs) c.nothing.ensures.place
+          (over-next index_key entries (c.bucket_behind.ensures.index c.requires) list is.indexed low high key
           (unwrapped-none (neighbour_at entries (next_key (keys_of entries) (index_key key)))
-          (sym (ap (option_map (λ b. b.now)) c.in-None.is) ∙ c.unwrapped.ensures ∙ ap unwrapped (c.next_bucket.ensures.value ∙ ap (λ k. neighbour_at entries (next_key (keys_of entries) (index_key k))) c.as_bytes.ensures.value)))),
+          (sym (ap (option_map (λ b. b.now)) c.in-None.is) ∙ c.unwrapped.ensures ∙ ap unwrapped (c.bucket_behind.ensures.value c.requires ∙ ap (λ k. neighbour_at entries (next_key (keys_of entries) (index_key k))) c.as_bytes.ensures.value)))),
       λ _. c.nothing.ensures.place,
     )

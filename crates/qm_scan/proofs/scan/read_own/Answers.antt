@@ -8,7 +8,6 @@ use Rattle.qm_batch.proofs.LentKeys.{bucket-above}
 use Rattle.qm_scan.specs.Gathered.{put_at}
 use Rattle.qm_scan.specs.Scans.{ahead_of, behind}
 use Rattle.qm_scan.proofs.Ahead.{own-bucket}
-use Rattle.qm_scan.proofs.Gathering.{ordered_form}
 use Rattle.qm_scan.proofs.scan.read_own.Goals as goal
 
 pub returns-in_err-pairs-clause-whole : goal.returns-in_err-pairs-clause-whole
@@ -24,10 +23,10 @@ returns-clause-value g c = λ list is begins.
     let high = limit_view c.args.high in
     let index_key = g.I.Unordered.index_key in
     let entries = g.I.Unordered.entries c.args.index.now in
-    let key = g.K.ByteString.bytes c.args.key.now in
-    let key_bytes = g.K.ByteString.are_bytes key (sym (ap g.K.ByteString.has c.as_bytes.ensures.value) ∙ c.as_bytes.ensures.known) in
+    let key = g.U.Key.ByteString.bytes c.args.key.now in
+    let key_bytes = g.U.Key.ByteString.are_bytes key (sym (ap g.U.Key.ByteString.has c.as_bytes.ensures.value) ∙ c.as_bytes.ensures.known) in
     told-one _ _ (g.C.Store.told c.args.log.now.store) (c.in_ok-pairs.ensures.value list is.logged is.of) (λ found.
-    own-bucket index_key entries c.bucket.ensures.index list is.indexed (ordered_form g.V.ValueEncoding.fixed g.K.ByteString.has g.V.Value.ByteString.has) g.K.ByteString.are_bytes g.met.I.Ordered.monotone is.of key low high key_bytes begins
+    own-bucket index_key entries c.bucket.ensures.index list is.indexed g.U.Update.form g.met.U.Steps.known_bytes (g.met.U.Steps.monotone c.requires) is.of key low high key_bytes begins
     ∙ sym (ap₂ (λ ps k. ps ++ ahead_of index_key low high (behind k) list)
     (found ∙ ap (fold (put_at low high list) []) (c.bucket.ensures.value ∙ ap (λ k. bucket_at entries (index_key k)) c.as_bytes.ensures.value))
-    (ap g.K.ByteString.bytes c.in_ok-key.ensures)))
+    (ap g.U.Key.ByteString.bytes c.in_ok-key.ensures)))

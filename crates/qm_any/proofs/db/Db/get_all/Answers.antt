@@ -12,4 +12,4 @@ returns-clause-value g c = λ list stands.
     let layout = laid_out g.H.Digest.Digest.bytes g.H.Hasher.hash g.F.Family.shape g.U.Update.form g.I.Unordered.index_key in
     let inside = subst (λ db. IsDatabase g.C.Store layout db list) (sym c.self.view_is) stands in
     let found = told-here _ (g.C.Store.told ((c.self.inside).log).store) inside.told (c.in_ok-found.ensures.value list list inside.lent base) in
-    c.in_ok-value_and_next.ensures c.requires ∙ ap (option_and_then said) found ∙ said-found list (g.U.Key.ByteString.bytes c.args.key.now)
+    c.value_and_next.ensures c.requires ∙ ap (option_and_then said) found ∙ said-found list (g.U.Key.ByteString.bytes c.args.key.now)

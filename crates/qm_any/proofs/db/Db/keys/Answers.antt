@@ -1,0 +1,8 @@
+use Rattle.std.proofs.Common.{◌∙◌, ap, map}
+use Rattle.qm_scan.specs.Gathered.{limit_of}
+use Rattle.qm_any.proofs.ScannedKeys.{keys-of_pairs}
+use Rattle.qm_any.proofs.db.Db.keys.Goals as goal
+
+pub returns-clause-value : goal.returns-clause-value
+returns-clause-value g c = λ list.
+    ap (map (λ p. p.0)) (c.stream_range.ensures.value list) ∙ keys-of_pairs (limit_of g.U.Key.ByteString.bytes c.args.low) (limit_of g.U.Key.ByteString.bytes c.args.high) list

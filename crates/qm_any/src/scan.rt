@@ -1,0 +1,153 @@
+//! Scans of an ordered database: the keys of a range with their values, in key order.
+
+ghost use Rattle.std.specs.Prelude.{◌≡◌, ◌≢◌, true, ℕ, List, IfSome, IfErr};
+ghost use Rattle.qm_model.specs.Operations.{Operation};
+ghost use Rattle.qm_model.specs.Ranges.{keys_in, pairs_in};
+ghost use Rattle.qm_batch.specs.Lent.{IsReadError, NoneBelow};
+ghost use Rattle.qm_scan.specs.Gathered.{limit_of, pair_view};
+ghost use Rattle.qm_scan.specs.Scans.{IsStep, left_of};
+ghost use Rattle.qm_any.specs.Databases.{IsDatabase, IsLeft};
+ghost use Rattle.qm_any.specs.Scanned.{keys_left, lent_to, lent_to_keys, pairs_left};
+
+use crate::db::{Db, LaidOut};
+use qm_base::update::Update;
+use qm_base::{Error, Hasher, JournalError, Location};
+use qm_batch::kind::Steps;
+use qm_merkle::Family;
+use qm_scan::Scan;
+use qm_store::Store;
+use std::alloc::Global;
+use std::ops::Bound;
+
+/// A scan of the keys of a range with their values, in key order. It has the database for itself.
+#[derive(Drop)]
+pub struct RangeScan<
+    'a,
+    F: Family,
+    C: Store,
+    I: qm_index::Unordered<Value = Location<F>>,
+    H: Hasher + Drop,
+    U: Update,
+> {
+    alloc: Global,
+    db: &'a mut Db<F, C, I, H, U>,
+    scan: Scan<U>,
+}
+
+/// A scan of the keys of a range, in key order. It has the database for itself.
+#[derive(Drop)]
+pub struct KeyScan<
+    'a,
+    F: Family,
+    C: Store,
+    I: qm_index::Unordered<Value = Location<F>>,
+    H: Hasher + Drop,
+    U: Update,
+> {
+    pairs: RangeScan<'a, F, C, I, H, U>,
+}
+
+impl<
+    F: Family,
+    C: Store,
+    I: qm_index::Unordered<Value = Location<F>>,
+    H: Hasher + Drop,
+    U: Steps<F, I>,
+> Db<F, C, I, H, U> {
+    /// Begins a scan of the live keys in a range with their values, in key order. It reads nothing yet. A range that ends
+    /// before it begins has nothing.
+    pub fn stream_range(
+        &mut self,
+        alloc: Global,
+        low: Bound<U::Key>,
+        high: Bound<U::Key>,
+    ) -> RangeScan<'_, F, C, I, H, U>
+        ensures value { (list : List Operation) → pairs_left I.index_key result list ≡ pairs_in (limit_of U.Key.bytes low) (limit_of U.Key.bytes high) list }
+        ensures lent { (lent_to result).now ≡ self.old }
+        ensures same { (lent_to result).ghost_name ≡ self.entry.ghost_name }
+    {
+        RangeScan {
+            alloc,
+            db: self,
+            scan: Scan::new(alloc, low, high),
+        }
+    }
+
+    /// Begins a scan of the live keys in a range, in key order. It reads nothing yet. A range that ends before it begins has
+    /// nothing.
+    pub fn keys(
+        &mut self,
+        alloc: Global,
+        low: Bound<U::Key>,
+        high: Bound<U::Key>,
+    ) -> KeyScan<'_, F, C, I, H, U>
+        ensures value { (list : List Operation) → keys_left I.index_key result list ≡ keys_in (limit_of U.Key.bytes low) (limit_of U.Key.bytes high) list }
+        ensures lent { (lent_to_keys result).now ≡ self.old }
+        ensures same { (lent_to_keys result).ghost_name ≡ self.entry.ghost_name }
+    {
+        KeyScan {
+            pairs: self.stream_range(alloc, low, high),
+        }
+    }
+
+    // The next pair of a scan.
+    fn scanned(
+        &mut self,
+        alloc: Global,
+        scan: &mut Scan<U>,
+    ) -> Option<Result<(U::Key, U::Value), Error>>
+        requires { U.form.ordered ≡ true }
+        ensures value { (list : List Operation) → IsDatabase C.Store ⟦<Db<F, C, I, H, U> as LaidOut>⟧.layout self.old list → IsStep (pair_view U.Key.bytes U.Value.bytes) (left_of I.index_key scan.old list) (left_of I.index_key scan.new list) result }
+        ensures error { IfSome result (λ r. IfErr r (IsReadError C.Store self.old.log self.new.log)) }
+        ensures whole { (list : List Operation) → IsDatabase C.Store ⟦<Db<F, C, I, H, U> as LaidOut>⟧.layout self.old list → NoneBelow self.old.log.tree.start list → IfSome result (λ r. IfErr r (λ e. (n : ℕ) → e ≢ Error.Journal (JournalError.ItemPruned n))) }
+        ensures left { IsLeft C.Store ⟦<Db<F, C, I, H, U> as LaidOut>⟧.layout.hashing self.old self.new }
+    {
+        scan.next(alloc, &self.index, &mut self.log)
+    }
+}
+
+impl<
+    F: Family,
+    C: Store,
+    I: qm_index::Unordered<Value = Location<F>>,
+    H: Hasher + Drop,
+    U: Steps<F, I>,
+> RangeScan<'_, F, C, I, H, U> {
+    /// The next live key of the range with its value, or nothing behind the last. A refused read, or want of memory, leaves
+    /// all that was left, and the next call reads the same bucket again. Each call reads two buckets at most, each bucket
+    /// once where no read is refused.
+    pub fn next(&mut self) -> Option<Result<(U::Key, U::Value), Error>>
+        requires { U.form.ordered ≡ true }
+        ensures value { (list : List Operation) → IsDatabase C.Store ⟦<Db<F, C, I, H, U> as LaidOut>⟧.layout (lent_to self.old).now list → IsStep (pair_view U.Key.bytes U.Value.bytes) (pairs_left I.index_key self.old list) (pairs_left I.index_key self.new list) result }
+        ensures error { IfSome result (λ r. IfErr r (IsReadError C.Store (lent_to self.old).now.log (lent_to self.new).now.log)) }
+        ensures whole { (list : List Operation) → IsDatabase C.Store ⟦<Db<F, C, I, H, U> as LaidOut>⟧.layout (lent_to self.old).now list → NoneBelow (lent_to self.old).now.log.tree.start list → IfSome result (λ r. IfErr r (λ e. (n : ℕ) → e ≢ Error.Journal (JournalError.ItemPruned n))) }
+        ensures left { IsLeft C.Store ⟦<Db<F, C, I, H, U> as LaidOut>⟧.layout.hashing (lent_to self.old).now (lent_to self.new).now }
+        ensures same { (lent_to self.new).ghost_name ≡ (lent_to self.old).ghost_name }
+    {
+        self.db.scanned(self.alloc, &mut self.scan)
+    }
+}
+
+impl<
+    F: Family,
+    C: Store,
+    I: qm_index::Unordered<Value = Location<F>>,
+    H: Hasher + Drop,
+    U: Steps<F, I>,
+> KeyScan<'_, F, C, I, H, U> {
+    /// The next live key of the range, or nothing behind the last. It reads as `RangeScan::next` does.
+    pub fn next(&mut self) -> Option<Result<U::Key, Error>>
+        requires { U.form.ordered ≡ true }
+        ensures value { (list : List Operation) → IsDatabase C.Store ⟦<Db<F, C, I, H, U> as LaidOut>⟧.layout (lent_to_keys self.old).now list → IsStep U.Key.bytes (keys_left I.index_key self.old list) (keys_left I.index_key self.new list) result }
+        ensures error { IfSome result (λ r. IfErr r (IsReadError C.Store (lent_to_keys self.old).now.log (lent_to_keys self.new).now.log)) }
+        ensures whole { (list : List Operation) → IsDatabase C.Store ⟦<Db<F, C, I, H, U> as LaidOut>⟧.layout (lent_to_keys self.old).now list → NoneBelow (lent_to_keys self.old).now.log.tree.start list → IfSome result (λ r. IfErr r (λ e. (n : ℕ) → e ≢ Error.Journal (JournalError.ItemPruned n))) }
+        ensures left { IsLeft C.Store ⟦<Db<F, C, I, H, U> as LaidOut>⟧.layout.hashing (lent_to_keys self.old).now (lent_to_keys self.new).now }
+        ensures same { (lent_to_keys self.new).ghost_name ≡ (lent_to_keys self.old).ghost_name }
+    {
+        match self.pairs.next() {
+            Some(Ok((key, _))) => Some(Ok(key)),
+            Some(Err(error)) => Some(Err(error)),
+            None => None,
+        }
+    }
+}
