@@ -78,13 +78,13 @@ fn scanned(alloc: Global, db: &mut Database) -> Result<(Vec<u8>, u8), AllocError
     let mut refused = 0u8;
     let mut scan = db.stream_range(alloc, Bound::Unbounded, Bound::Unbounded);
     for _ in 0..8 {
-        match scan.next() {
-            Some(Ok((_, value))) => values.extend_from_slice(value.as_bytes())?,
-            Some(Err(_)) => refused = refused.saturating_add(1),
-            None => return Ok((values, refused)),
+        let Some(next) = scan.next() else { break };
+        match &next {
+            Ok(pair) => values.extend_from_slice(pair.1.as_bytes())?,
+            Err(_) => refused = refused.saturating_add(1),
         }
     }
-    Err(AllocError)
+    Ok((values, refused))
 }
 
 // Whether a scan of all goes on behind one refused read, over a store that fails at this call.
@@ -112,11 +112,8 @@ fn keys_from(alloc: Global, db: &mut Database, low: Key) -> Result<Vec<u8>, Erro
     let mut bytes = Vec::new(alloc);
     let mut scan = db.keys(alloc, Bound::Excluded(low), Bound::Unbounded);
     for _ in 0..8 {
-        match scan.next() {
-            Some(Ok(key)) => bytes.extend_from_slice(key.as_bytes())?,
-            Some(Err(error)) => return Err(error),
-            None => return Ok(bytes),
-        }
+        let Some(next) = scan.next() else { break };
+        bytes.extend_from_slice(next?.as_bytes())?;
     }
     Ok(bytes)
 }
