@@ -90,8 +90,9 @@ impl<
         }
     }
 
-    // The next pair of a scan.
-    fn scanned(
+    /// The next live key of a scan's range with its value, or nothing behind the last, as `RangeScan::next` gives it, of a
+    /// scan that has not the database for itself. Between two calls the database stays as it is.
+    pub fn scan_next(
         &mut self,
         alloc: Global,
         scan: &mut Scan<U>,
@@ -124,7 +125,7 @@ impl<
         ensures left { IsLeft C.Store ⟦<Db<F, C, I, H, U> as LaidOut>⟧.layout.hashing (lent_to self.old).now (lent_to self.new).now }
         ensures same { (lent_to self.new).ghost_name ≡ (lent_to self.old).ghost_name }
     {
-        self.db.scanned(self.alloc, &mut self.scan)
+        self.db.scan_next(self.alloc, &mut self.scan)
     }
 }
 

@@ -2,7 +2,7 @@ use Rattle.std.proofs.Common.{sym, subst}
 use Rattle.qm_model.proofs.Results.{told-here}
 use Rattle.qm_any.specs.Databases.{IsDatabase}
 use Rattle.qm_any.proofs.OrderedReads.{laid_out}
-use Rattle.qm_any.proofs.db.Db.scanned.Goals as goal
+use Rattle.qm_any.proofs.db.Db.scan_next.Goals as goal
 
 pub returns-clause-value : goal.returns-clause-value
 returns-clause-value g c = λ list stands.
