@@ -19,6 +19,7 @@ import qmdb  # noqa: E402
 
 STAGE = qmdb.stage_number('ordered')
 WORDS = 'run any unordered mmr'
+ORDERED = 'run any ordered mmr'
 inp, out = [], []
 def section(text):
     inp.append('')
@@ -71,6 +72,16 @@ for row in check_rows.load_rows():
     status, text = qmdb.run_program(run['words'], data, store, STAGE)
     assert (status, text.decode()) == (run['status'], run['output'])
     put(name, lines_of(data), run['output'], run['status'], 0, len(store.items), [i.hex() for i in store.items] if name in ('one put', 'put and delete') else None)
+
+section('Worked rows of ordered databases.')
+for row in check_rows.load_rows():
+    first, last = check_rows.stages_of(row)
+    if first > STAGE or last < STAGE or 'initial' in row or row['store'] == 'mem': continue
+    run, = row['runs']
+    data = check_rows.row_input(run)
+    if ' '.join(run['words']) != ORDERED: continue
+    t, s, _ = modelled(row['name'].replace(' any ordered mmr', ''), data, words=ORDERED)
+    assert (s, t) == (run['status'], run['output'])
 
 # ---- inputs of the tests before
 section('Inputs and their replies.')
@@ -146,7 +157,7 @@ put('too long, in lines', ['fill 3355444 6f70656e0a'], '', 7, 0, 0)
 section('Other words.')
 ONE = "open\nbatch\nput 1 6b 76\nmerkleize 1 prop none\napply 1\nops 1\nget 6b\ninfo\n"
 modelled('one put, once more', ONE)
-for words in ('', 'run', 'run any unordered', 'run any unordered mmr mmr', 'run any unordered mmb', 'run any ordered mmr', 'run current unordered mmr', 'walk any unordered mmr', 'run any unordered MMR', 'fill any unordered mmr 1 1', '--help'):
+for words in ('', 'run', 'run any unordered', 'run any unordered mmr mmr', 'run any unordered mmb', 'run any ordered mmb', 'run any Ordered mmr', 'run current unordered mmr', 'walk any unordered mmr', 'run any unordered MMR', 'fill any unordered mmr 1 1', '--help'):
     put('words: ' + words if words else 'no words', ['words ' + words if words else 'words'], '', 1, 0, 0, begin='again')
 put('other words before a source that fails', ['words run', 'fail source 0'], '', 1, 0, 0, begin='again')
 
@@ -228,6 +239,11 @@ for seed in range(100):
     lines = fuzz.script('rows %d' % seed, 'any unordered mmr', STAGE, size, bad=seed % 3 == 0)
     said = '\n'.join(lines) + ('\n' if seed % 7 else '')
     if len(said) <= 1800: modelled('script %d' % seed, said)
+section('Scripts of ordered databases.')
+for seed in range(40):
+    lines = fuzz.script('ordered rows %d' % seed, 'any ordered mmr', STAGE, (12, 25, 40)[seed % 3], bad=seed % 4 == 0)
+    said = '\n'.join(lines) + '\n'
+    if len(said) <= 1800: modelled('ordered script %d' % seed, said, words=ORDERED)
 section('Chains of three batches: what the second and the third keep, which are applied before each is made, and before the third is asked.')
 def chain(keep2, keep3, before2, before3, before_asked):
     lines = ['open', 'batch', 'put 1 6b6b6b6b01 01', 'merkleize 1 prop none']

@@ -1,4 +1,4 @@
--- The program's database as an engine: where its batches fit and can be read, and what its refusals are.
+-- The program's databases as engines: where its batches fit and can be read, and what its refusals are.
 use Rattle.std.proofs.Common.{◌≡◌, ◌≢◌, ◌≤◌, ◌<◌, ℕ, suc, arith, ◌^◌, ◌∙◌, ◌⊎◌, ap, ap₂, sym, subst, refl, inl, inr, List, [], ◌∷◌, ◌++◌, length, map, drop, Option, Some, None, Bool, true, false, IfSome}
 use Rattle.std.specs.Prelude.{Result, Ok, Err, IfOk, IfErr, IsErrOf, IsSome, if◌then◌else◌, option_map}
 use Rattle.std.specs.Option.{option_or}
@@ -9,7 +9,7 @@ use Rattle.qm_base.specs.declared.error.Error.TheVariants as errors
 use Rattle.qm_base.specs.declared.error.JournalError.TheVariants as journal
 use Rattle.qm_model.specs.StoreModel.{Stored}
 use Rattle.qm_model.specs.Operations.{Bytes, Operation}
-use Rattle.qm_model.specs.Forms.{spelling, variable}
+use Rattle.qm_model.specs.Forms.{Form, padded, plain, spelling, variable}
 use Rattle.qm_model.specs.Batches.{Commitment, Chain, boundary_list, IsOnChain, IsKnown, commitment, fits, readable}
 use Rattle.qm_model.specs.Causes.{Rose}
 use Rattle.qm_store.specs.declared.Store as store
@@ -30,7 +30,7 @@ use Rattle.qm_model.proofs.Chains.{fits-on_chain, readable-known}
 use Rattle.qm_chain.specs.Bounds.{Bounds, IsBounds, is_at, knows}
 use Rattle.qm_chain.proofs.Fits.{at-fits, at-readable}
 use Rattle.qm_base.specs.declared.sha256.Sha256Digest.{Sha256Digest}
-use Rattle.qm_run.specs.Databases.{form, hashing}
+use Rattle.qm_run.specs.Databases.{hashing}
 use Rattle.qm_batch.specs.Views.{stepped}
 use Rattle.qm_any.specs.Databases.{Database, IsLeft, Begun, Staged, Made, IsBegun, IsStaged, IsMade, staged_keys, is_on, list_commitment}
 use Rattle.qm_any.specs.Layouts.{Hashing, list_root}
@@ -45,60 +45,67 @@ use Rattle.qm_engine.specs.Words.{IsReadFailure}
 use Rattle.qm_run.specs.declared.database.Database as engine
 use Rattle.qm_run.specs.Held.{held}
 
--- the program's form spells operations as the machine does
-leaves-same : (i : ℕ) (ops : List Operation) → leaves_from sha256 mmr form i ops ≡ leaves_from sha256 mmr variable i ops
-leaves-same i [] = refl
-leaves-same i (op ∷ ops) = ap (λ ds. leaf_digest sha256 (mmr.position (leaf i)) (spelling variable op) ∷ ds) (leaves-same (suc i) ops)
+-- a form with lengths spells operations as the machine does
+module _ (form : Form) (lengths : form.sizes ≡ None) where
+  spelled-same : (op : Operation) → spelling form op ≡ spelling variable op
+  spelled-same op = ap (λ sizes. padded form.ordered sizes (plain sizes op)) lengths
 
-root-same : (list : List Operation) → list_root hashing list ≡ sha256_root mmr list
-unfolding sha256_root
-root-same list = ap (λ ls. root sha256 mmr ls (inactive_peaks mmr (length list) (floor list))) (leaves-same 0 list)
+  pub spellings-same : spelling form ≡ spelling variable
+  spellings-same = λ i op. spelled-same op i
 
-roots-same : list_root hashing ≡ sha256_root mmr
-roots-same = λ i list. root-same list i
+  leaves-same : (i : ℕ) (ops : List Operation) → leaves_from sha256 mmr form i ops ≡ leaves_from sha256 mmr variable i ops
+  leaves-same i [] = refl
+  leaves-same i (op ∷ ops) = ap₂ (λ spelt ds. leaf_digest sha256 (mmr.position (leaf i)) spelt ∷ ds) (spelled-same op) (leaves-same (suc i) ops)
 
--- what stands for a list, under the program's root
-pub standing : (list : List Operation) → list_commitment hashing list ≡ commitment (sha256_root mmr) list
-standing list = ap (λ r. commitment r list) roots-same
+  root-same : (list : List Operation) → list_root (hashing form) list ≡ sha256_root mmr list
+  unfolding sha256_root
+  root-same list = ap (λ ls. root sha256 mmr ls (inactive_peaks mmr (length list) (floor list))) (leaves-same 0 list)
 
-fits-same : (list : List Operation) (chain : Chain) → fits (list_root hashing) (list_commitment hashing list) chain ≡ fits (sha256_root mmr) (commitment (sha256_root mmr) list) chain
-fits-same list chain = ap (λ r. fits r (commitment r list) chain) roots-same
+  roots-same : list_root (hashing form) ≡ sha256_root mmr
+  roots-same = λ i list. root-same list i
 
-readable-same : (list : List Operation) (chain : Chain) (tip : List Operation)
-    → readable (list_root hashing) (list_commitment hashing list) chain tip ≡ readable (sha256_root mmr) (commitment (sha256_root mmr) list) chain tip
-readable-same list chain tip = ap (λ r. readable r (commitment r list) chain tip) roots-same
+  -- what stands for a list, under the program's root
+  pub standing : (list : List Operation) → list_commitment (hashing form) list ≡ commitment (sha256_root mmr) list
+  standing list = ap (λ r. commitment r list) roots-same
 
--- a merkleized batch fits where its bounds say so
-pub at-made : (list : List Operation) (chain : Chain) (tip : List Operation) (current : Commitment) (made : Made Sha256Digest) → current ≡ list_commitment hashing list → IsMade hashing made chain tip
-    → is_at current made.bounds.db made.bounds.ancestors ≡ fits (sha256_root mmr) (commitment (sha256_root mmr) list) chain
-at-made list chain tip current made is batch =
-    ap (λ c. is_at c made.bounds.db made.bounds.ancestors) is ∙ at-fits (list_root hashing) made.bounds chain tip (list_commitment hashing list) batch.bounds ∙ fits-same list chain
+  fits-same : (list : List Operation) (chain : Chain) → fits (list_root (hashing form)) (list_commitment (hashing form) list) chain ≡ fits (sha256_root mmr) (commitment (sha256_root mmr) list) chain
+  fits-same list chain = ap (λ r. fits r (commitment r list) chain) roots-same
 
--- the bounds of a chain
-abbrev bounds_of : Chain → Bounds
-bounds_of chain = record {
-  base = list_commitment hashing chain.base;
-  db = list_commitment hashing (boundary_list chain);
-  tip = list_commitment hashing chain.base;
-  ancestors = map (λ k. list_commitment hashing k.tip) chain.kept;
-  inactivity_floor = 0;
-}
+  readable-same : (list : List Operation) (chain : Chain) (tip : List Operation)
+      → readable (list_root (hashing form)) (list_commitment (hashing form) list) chain tip ≡ readable (sha256_root mmr) (commitment (sha256_root mmr) list) chain tip
+  readable-same list chain tip = ap (λ r. readable r (commitment r list) chain tip) roots-same
 
--- a batch does where the states that it keeps of its parent say so
-pub on-begun : (list : List Operation) (chain above : Chain) (current : Commitment) (begun : Begun Sha256Digest) → begun.keep ≤ suc (length begun.parent.bounds.ancestors) → current ≡ list_commitment hashing list
-    → IsBegun hashing begun chain above → is_on current begun ≡ fits (sha256_root mmr) (commitment (sha256_root mmr) list) chain
-on-begun list chain above current begun few is batch =
-    ap (λ c. is_on c begun) is
-    ∙ ap₂ (is_at (list_commitment hashing list)) (child-boundary begun.parent begun.keep chain above few batch.parent batch.kept)
-    (child-tips begun.parent begun.keep chain above few batch.parent batch.kept)
-    ∙ at-fits (list_root hashing) (bounds_of chain) chain chain.base (list_commitment hashing list) (record { base = refl; db = refl; tip = refl; ancestors = refl })
-    ∙ fits-same list chain
+  -- a merkleized batch fits where its bounds say so
+  pub at-made : (list : List Operation) (chain : Chain) (tip : List Operation) (current : Commitment) (made : Made Sha256Digest) → current ≡ list_commitment (hashing form) list → IsMade (hashing form) made chain tip
+      → is_at current made.bounds.db made.bounds.ancestors ≡ fits (sha256_root mmr) (commitment (sha256_root mmr) list) chain
+  at-made list chain tip current made is batch =
+      ap (λ c. is_at c made.bounds.db made.bounds.ancestors) is ∙ at-fits (list_root (hashing form)) made.bounds chain tip (list_commitment (hashing form) list) batch.bounds ∙ fits-same list chain
 
--- what bounds know is where a batch of them can be read
-pub knows-readable : (list : List Operation) (chain : Chain) (tip : List Operation) (current : Commitment) (bounds : Bounds) → current ≡ list_commitment hashing list → IsBounds (list_root hashing) bounds chain tip
-    → knows bounds current ≡ readable (sha256_root mmr) (commitment (sha256_root mmr) list) chain tip
-knows-readable list chain tip current bounds is of =
-    ap (knows bounds) is ∙ at-readable (list_root hashing) bounds chain tip (list_commitment hashing list) of ∙ readable-same list chain tip
+  -- the bounds of a chain
+  abbrev bounds_of : Chain → Bounds
+  bounds_of chain = record {
+    base = list_commitment (hashing form) chain.base;
+    db = list_commitment (hashing form) (boundary_list chain);
+    tip = list_commitment (hashing form) chain.base;
+    ancestors = map (λ k. list_commitment (hashing form) k.tip) chain.kept;
+    inactivity_floor = 0;
+  }
+
+  -- a batch does where the states that it keeps of its parent say so
+  pub on-begun : (list : List Operation) (chain above : Chain) (current : Commitment) (begun : Begun Sha256Digest) → begun.keep ≤ suc (length begun.parent.bounds.ancestors) → current ≡ list_commitment (hashing form) list
+      → IsBegun (hashing form) begun chain above → is_on current begun ≡ fits (sha256_root mmr) (commitment (sha256_root mmr) list) chain
+  on-begun list chain above current begun few is batch =
+      ap (λ c. is_on c begun) is
+      ∙ ap₂ (is_at (list_commitment (hashing form) list)) (child-boundary begun.parent begun.keep chain above few batch.parent batch.kept)
+      (child-tips begun.parent begun.keep chain above few batch.parent batch.kept)
+      ∙ at-fits (list_root (hashing form)) (bounds_of chain) chain chain.base (list_commitment (hashing form) list) (record { base = refl; db = refl; tip = refl; ancestors = refl })
+      ∙ fits-same list chain
+
+  -- what bounds know is where a batch of them can be read
+  pub knows-readable : (list : List Operation) (chain : Chain) (tip : List Operation) (current : Commitment) (bounds : Bounds) → current ≡ list_commitment (hashing form) list → IsBounds (list_root (hashing form)) bounds chain tip
+      → knows bounds current ≡ readable (sha256_root mmr) (commitment (sha256_root mmr) list) chain tip
+  knows-readable list chain tip current bounds is of =
+      ap (knows bounds) is ∙ at-readable (list_root (hashing form)) bounds chain tip (list_commitment (hashing form) list) of ∙ readable-same list chain tip
 
 apart : true ≡ false → ⊥
 apart is = cc
@@ -184,51 +191,52 @@ pub made-reads : {X E : Type 0} (r : Result X E) (S : List Operation → Type 0)
 made-reads (Ok x) S L Q given = given
 made-reads (Err e) S L Q given = tt
 
-pub begun-reads : {X E : Type 0} (r : Result X E) (S : List Operation → Type 0) (begun : Begun Sha256Digest) (Q : X → List Operation → List Write → Type 0)
-    → ((list : List Operation) (chain above : Chain) → S list → IsBegun hashing begun chain above → IsKnown list above chain.base → IfOk r (λ x. Q x chain.base begun.writes))
-    → IfOk r (λ x. (list : List Operation) (chain above : Chain) (ws : List Write) → S list → IsBegun hashing begun chain above × (begun.writes ≡ ws) → IsKnown list above chain.base → Q x chain.base ws)
-begun-reads (Ok x) S begun Q given = λ list chain above ws is batch known. subst (Q x chain.base) batch.1 (given list chain above is batch.0 known)
-begun-reads (Err e) S begun Q given = tt
+pub begun-reads : (form : Form) {X E : Type 0} (r : Result X E) (S : List Operation → Type 0) (begun : Begun Sha256Digest) (Q : X → List Operation → List Write → Type 0)
+    → ((list : List Operation) (chain above : Chain) → S list → IsBegun (hashing form) begun chain above → IsKnown list above chain.base → IfOk r (λ x. Q x chain.base begun.writes))
+    → IfOk r (λ x. (list : List Operation) (chain above : Chain) (ws : List Write) → S list → IsBegun (hashing form) begun chain above × (begun.writes ≡ ws) → IsKnown list above chain.base → Q x chain.base ws)
+begun-reads form (Ok x) S begun Q given = λ list chain above ws is batch known. subst (Q x chain.base) batch.1 (given list chain above is batch.0 known)
+begun-reads form (Err e) S begun Q given = tt
 
 -- a batch that is staged, and one that gets more keys
-pub begun-staged : {X E : Type 0} (r : Result (X × Staged Sha256Digest) E) (S : List Operation → Type 0) (begun : Begun Sha256Digest) (keys : List Bytes) (Q : X → List Operation → List Write → Type 0)
-    → ((list : List Operation) (chain above : Chain) → S list → IsBegun hashing begun chain above → IsKnown list above chain.base → IfOk r (λ x. Q x.0 chain.base begun.writes))
-    → ((list : List Operation) (chain above : Chain) → S list → IsBegun hashing begun chain above → IsKnown list above chain.base → IfOk r (λ x. IsStaged hashing x.1 chain above))
+pub begun-staged : (form : Form) {X E : Type 0} (r : Result (X × Staged Sha256Digest) E) (S : List Operation → Type 0) (begun : Begun Sha256Digest) (keys : List Bytes) (Q : X → List Operation → List Write → Type 0)
+    → ((list : List Operation) (chain above : Chain) → S list → IsBegun (hashing form) begun chain above → IsKnown list above chain.base → IfOk r (λ x. Q x.0 chain.base begun.writes))
+    → ((list : List Operation) (chain above : Chain) → S list → IsBegun (hashing form) begun chain above → IsKnown list above chain.base → IfOk r (λ x. IsStaged (hashing form) x.1 chain above))
     → IfOk r (λ x. (x.1).batch ≡ begun) → IfOk r (λ x. staged_keys x.1 ≡ keys)
-    → IfOk r (λ x. (list : List Operation) (chain above : Chain) (ws : List Write) → S list → IsBegun hashing begun chain above × (begun.writes ≡ ws) → IsKnown list above chain.base
-    → Q x.0 chain.base ws × (IsStaged hashing x.1 chain above × ((x.1).batch.writes ≡ ws) × (staged_keys x.1 ≡ keys)))
-begun-staged (Ok x) S begun keys Q values staged same are = λ list chain above ws is batch known. (
+    → IfOk r (λ x. (list : List Operation) (chain above : Chain) (ws : List Write) → S list → IsBegun (hashing form) begun chain above × (begun.writes ≡ ws) → IsKnown list above chain.base
+    → Q x.0 chain.base ws × (IsStaged (hashing form) x.1 chain above × ((x.1).batch.writes ≡ ws) × (staged_keys x.1 ≡ keys)))
+begun-staged form (Ok x) S begun keys Q values staged same are = λ list chain above ws is batch known. (
   subst (Q x.0 chain.base) batch.1 (values list chain above is batch.0 known),
   (staged list chain above is batch.0 known, ap (λ (b : Begun Sha256Digest). b.writes) same ∙ batch.1, are),
 )
-begun-staged (Err e) S begun keys Q values staged same are = tt
+begun-staged form (Err e) S begun keys Q values staged same are = tt
 
-pub more-staged : {R X E : Type 0} (r : Result (R × X × Staged Sha256Digest) E) (S : List Operation → Type 0) (before : Staged Sha256Digest) (keys : List Bytes) (Q : X → List Operation → List Write → Type 0)
-    → ((list : List Operation) (chain above : Chain) → S list → IsStaged hashing before chain above → IsKnown list above chain.base → IfOk r (λ x. Q x.1 chain.base before.batch.writes))
-    → ((list : List Operation) (chain above : Chain) → S list → IsStaged hashing before chain above → IsKnown list above chain.base → IfOk r (λ x. IsStaged hashing x.2 chain above))
+pub more-staged : (form : Form) {R X E : Type 0} (r : Result (R × X × Staged Sha256Digest) E) (S : List Operation → Type 0) (before : Staged Sha256Digest) (keys : List Bytes) (Q : X → List Operation → List Write → Type 0)
+    → ((list : List Operation) (chain above : Chain) → S list → IsStaged (hashing form) before chain above → IsKnown list above chain.base → IfOk r (λ x. Q x.1 chain.base before.batch.writes))
+    → ((list : List Operation) (chain above : Chain) → S list → IsStaged (hashing form) before chain above → IsKnown list above chain.base → IfOk r (λ x. IsStaged (hashing form) x.2 chain above))
     → IfOk r (λ x. (x.2).batch ≡ before.batch) → IfOk r (λ x. staged_keys x.2 ≡ staged_keys before ++ keys)
-    → IfOk r (λ x. (list : List Operation) (chain above : Chain) (ws : List Write) (staged : List Bytes) → S list → IsStaged hashing before chain above × (before.batch.writes ≡ ws) × (staged_keys before ≡ staged) → IsKnown list above chain.base
-    → Q x.1 chain.base ws × (IsStaged hashing x.2 chain above × ((x.2).batch.writes ≡ ws) × (staged_keys x.2 ≡ staged ++ keys)))
-more-staged (Ok x) S before keys Q values staged same are = λ list chain above ws own is batch known. (
+    → IfOk r (λ x. (list : List Operation) (chain above : Chain) (ws : List Write) (staged : List Bytes) → S list → IsStaged (hashing form) before chain above × (before.batch.writes ≡ ws) × (staged_keys before ≡ staged) → IsKnown list above chain.base
+    → Q x.1 chain.base ws × (IsStaged (hashing form) x.2 chain above × ((x.2).batch.writes ≡ ws) × (staged_keys x.2 ≡ staged ++ keys)))
+more-staged form (Ok x) S before keys Q values staged same are = λ list chain above ws own is batch known. (
   subst (Q x.1 chain.base) batch.1 (values list chain above is batch.0 known),
   (staged list chain above is batch.0 known, ap (λ (b : Begun Sha256Digest). b.writes) same ∙ batch.1, are ∙ ap (λ ks. ks ++ keys) batch.2),
 )
-more-staged (Err e) S before keys Q values staged same are = tt
+more-staged form (Err e) S before keys Q values staged same are = tt
 
 -- what an apply appends, said of bounds and of lists
-pub appends-same : (list : List Operation) (chain : Chain) (tip : List Operation) (current : Commitment) (made : Made Sha256Digest) → current ≡ list_commitment hashing list → IsMade hashing made chain tip
-    → (if is_at current made.bounds.db made.bounds.ancestors then map (spelling variable) (drop current.size tip) else []) ≡ (if fits (sha256_root mmr) (commitment (sha256_root mmr) list) chain then map (spelling variable) (drop (length list) tip) else [])
-appends-same list chain tip current made is batch =
-    ap (λ b. if b then map (spelling variable) (drop current.size tip) else []) (at-made list chain tip current made is batch)
+pub appends-same : (form : Form) → form.sizes ≡ None → (list : List Operation) (chain : Chain) (tip : List Operation) (current : Commitment) (made : Made Sha256Digest) → current ≡ list_commitment (hashing form) list → IsMade (hashing form) made chain tip
+    → (if is_at current made.bounds.db made.bounds.ancestors then map (spelling form) (drop current.size tip) else []) ≡ (if fits (sha256_root mmr) (commitment (sha256_root mmr) list) chain then map (spelling variable) (drop (length list) tip) else [])
+appends-same form lengths list chain tip current made is batch =
+    ap (λ spell. if is_at current made.bounds.db made.bounds.ancestors then map spell (drop current.size tip) else []) (spellings-same form lengths)
+    ∙ ap (λ b. if b then map (spelling variable) (drop current.size tip) else []) (at-made form lengths list chain tip current made is batch)
     ∙ ap (λ (n : ℕ). if fits (sha256_root mmr) (commitment (sha256_root mmr) list) chain then map (spelling variable) (drop n tip) else []) (ap (λ c. c.size) is)
 
-pub proved : (ops : List Operation) (a b : ℕ) → ops_proof sha256 mmr form ops a b ≡ sha256_proof mmr ops a b
+pub proved : (form : Form) → form.sizes ≡ None → (ops : List Operation) (a b : ℕ) → ops_proof sha256 mmr form ops a b ≡ sha256_proof mmr ops a b
 unfolding sha256_proof
-proved ops a b = ap (λ ls. proof_of sha256 mmr ls (inactive_peaks mmr (length ops) (floor ops)) a b) (leaves-same 0 ops)
+proved form lengths ops a b = ap (λ ls. proof_of sha256 mmr ls (inactive_peaks mmr (length ops) (floor ops)) a b) (leaves-same form lengths 0 ops)
 
-pub pinned : (ops : List Operation) (n : ℕ) → pins_at sha256 mmr form ops n ≡ sha256_pins mmr ops n
+pub pinned : (form : Form) → form.sizes ≡ None → (ops : List Operation) (n : ℕ) → pins_at sha256 mmr form ops n ≡ sha256_pins mmr ops n
 unfolding sha256_pins
-pinned ops n = ap (λ ls. map (digest_of sha256 mmr ls) (peaks mmr n)) (leaves-same 0 ops)
+pinned form lengths ops n = ap (λ ls. map (digest_of sha256 mmr ls) (peaks mmr n)) (leaves-same form lengths 0 ops)
 
 none-some : (r : Refused) → None ≡ Some r → ⊥
 none-some r is = cc
@@ -237,10 +245,13 @@ some-intro : {A : Type 0} (o : Option A) (P : A → Type 0) → ((a : A) → o �
 some-intro None P give = tt
 some-intro (Some a) P give = give a refl
 
-module _ (chain : Chain) (tip : List Operation) where
+module _ (form : Form) (lengths : form.sizes ≡ None) (chain : Chain) (tip : List Operation) where
+  spelt : tip_refusal variable chain tip ≡ tip_refusal form chain tip
+  spelt = ap (λ spell. option_or (option_map (λ n. Journal (ItemTooLarge n)) (too_long (map spell (drop (length chain.base) tip)))) (too_many (length tip))) (sym (spellings-same form lengths))
+
   -- why a tip is refused, where no spelling is too long
   short : too_long (own_spellings form chain.base tip) ≡ None → tip_refusal variable chain tip ≡ too_many (length tip)
-  short none = ap (λ o. option_or (option_map (λ n. Journal (ItemTooLarge n)) o) (too_many (length tip))) none
+  short none = spelt ∙ ap (λ o. option_or (option_map (λ n. Journal (ItemTooLarge n)) o) (too_many (length tip))) none
 
   -- a tip that is taken is not refused
   pub taken-offered : IsTaken form chain.base tip → tip_refusal variable chain tip ≡ None
@@ -251,7 +262,7 @@ module _ (chain : Chain) (tip : List Operation) where
   due e r fresh (inl memory) told = absurd (none-some r (sym (ap refusal_of memory) ∙ told))
   due e r fresh (inr (inl stale)) told = absurd (fresh stale)
   due e r fresh (inr (inr (inl large))) told =
-      ap (λ o. option_or (option_map (λ n. Journal (ItemTooLarge n)) o) (too_many (length tip))) large.1 ∙ sym (ap refusal_of large.2) ∙ told
+      spelt ∙ ap (λ o. option_or (option_map (λ n. Journal (ItemTooLarge n)) o) (too_many (length tip))) large.1 ∙ sym (ap refusal_of large.2) ∙ told
   due e r fresh (inr (inr (inr many))) told =
       short many.0 ∙ ap (λ b. if b then Some (Merkle (LocationOverflow (length tip))) else None) (lt-ltb (2 ^ 62) (length tip) many.1) ∙ sym (ap refusal_of many.2) ∙ told
 
@@ -266,24 +277,24 @@ module _ (chain : Chain) (tip : List Operation) where
       either r told (inr read) = absurd (none-some r (sym (log-untold members old new e whole read) ∙ told))
 
 -- a batch of these writes makes a tip that is not refused
-pub made-ok : {P X E : Type 0} (rules : Rules P) (r : Result X E) (made : X → Made Sha256Digest) (Is : Chain → Chain → Type 0) (own : List Write) (policy : P) (meta : Option Bytes) (S : List Operation → Type 0)
-    → ((list : List Operation) (chain above : Chain) → S list → Is chain above → IsOnChain list chain → IfOk r (λ x. IsMade hashing (made x) chain (stepped form rules chain.base own policy meta)))
+pub made-ok : (form : Form) → form.sizes ≡ None → {P X E : Type 0} (rules : Rules P) (r : Result X E) (made : X → Made Sha256Digest) (Is : Chain → Chain → Type 0) (own : List Write) (policy : P) (meta : Option Bytes) (S : List Operation → Type 0)
+    → ((list : List Operation) (chain above : Chain) → S list → Is chain above → IsOnChain list chain → IfOk r (λ x. IsMade (hashing form) (made x) chain (stepped form rules chain.base own policy meta)))
     → ((list : List Operation) (chain above : Chain) → S list → Is chain above → IsOnChain list chain → IfOk r (λ x. IsTaken form chain.base (stepped form rules chain.base own policy meta)))
     → IfOk r (λ x. (list : List Operation) (chain above : Chain) → S list → Is chain above → (ws : List Write) → own ≡ ws → IsOnChain list chain
-    → (tip_refusal variable chain (stepped form rules chain.base ws policy meta) ≡ None) × IsMade hashing (made x) chain (stepped form rules chain.base ws policy meta))
-made-ok rules (Ok x) made Is own policy meta S given taken = λ list chain above is batch ws same on. (
-  taken-offered chain (stepped form rules chain.base ws policy meta) (subst (λ w. IsTaken form chain.base (stepped form rules chain.base w policy meta)) same (taken list chain above is batch on)),
-  subst (λ w. IsMade hashing (made x) chain (stepped form rules chain.base w policy meta)) same (given list chain above is batch on),
+    → (tip_refusal variable chain (stepped form rules chain.base ws policy meta) ≡ None) × IsMade (hashing form) (made x) chain (stepped form rules chain.base ws policy meta))
+made-ok form lengths rules (Ok x) made Is own policy meta S given taken = λ list chain above is batch ws same on. (
+  taken-offered form lengths chain (stepped form rules chain.base ws policy meta) (subst (λ w. IsTaken form chain.base (stepped form rules chain.base w policy meta)) same (taken list chain above is batch on)),
+  subst (λ w. IsMade (hashing form) (made x) chain (stepped form rules chain.base w policy meta)) same (given list chain above is batch on),
 )
-made-ok rules (Err e) made Is own policy meta S given taken = tt
+made-ok form lengths rules (Err e) made Is own policy meta S given taken = tt
 
 -- and one that fails is refused, or failed at the log
-pub made-err : {P X : Type 0} (rules : Rules P) (r : Result X Error) (Is : Chain → Chain → Type 0) (own : List Write) (policy : P) (meta : Option Bytes) (R : Error → Type 0) (S : List Operation → Type 0)
+pub made-err : (form : Form) {P X : Type 0} (rules : Rules P) (r : Result X Error) (Is : Chain → Chain → Type 0) (own : List Write) (policy : P) (meta : Option Bytes) (R : Error → Type 0) (S : List Operation → Type 0)
     → ((list : List Operation) (chain above : Chain) → S list → Is chain above → IsOnChain list chain → IfErr r (λ e. IsRefused form chain.base (stepped form rules chain.base own policy meta) e ⊎ R e))
     → IfErr r (λ e. (list : List Operation) (chain above : Chain) → S list → Is chain above → (ws : List Write) → own ≡ ws → IsOnChain list chain
     → IsRefused form chain.base (stepped form rules chain.base ws policy meta) e ⊎ R e)
-made-err rules (Ok x) Is own policy meta R S given = tt
-made-err rules (Err e) Is own policy meta R S given = λ list chain above is batch ws same on.
+made-err form rules (Ok x) Is own policy meta R S given = tt
+made-err form rules (Err e) Is own policy meta R S given = λ list chain above is batch ws same on.
     subst (λ w. IsRefused form chain.base (stepped form rules chain.base w policy meta) e ⊎ R e) same (given list chain above is batch on)
 
 -- what a fault tells
@@ -298,16 +309,21 @@ err-exit r y e x is from fault = cc (is, from, fault)
 pub memory-exit : {X : Type 0} (r : Result X Error) (y : Error) → r ≡ Err y → y ≡ errors.Memory → r ≡ Err (errors.Journal journal.Store) → ⊥
 memory-exit r y is memory fault = let same : errors.Memory ≡ errors.Journal journal.Store = err-exit r y errors.Memory (errors.Journal journal.Store) is memory fault in absurd (cc same)
 
+-- want of memory is no fault of the store
+pub memory-fault : {X : Type 0} (r : Result X Error) (P : Type 0) → IfErr r (λ e. e ≡ errors.Memory) → IsErrOf r (errors.Journal journal.Store) → P
+memory-fault (Ok v) P memory fault = absurd (cc fault)
+memory-fault (Err e) P memory fault = let same : errors.Memory ≡ errors.Journal journal.Store = cc (memory, fault) in absurd (cc same)
+
 -- what reads left is what reads leave
 pub left-store : {C D : Type 0} (members : store.Ghosts C) (hash : Hashing D) (old new : Database C D) → IsLeft members hash old new → IsUnchanged members old.log.store new.log.store
 left-store members hash old new left = let kept = (left.read).kept in record { start = kept.start; told = kept.told }
 
 -- an engine's refusal gives back what the database's does
-same-engine : {C : Type 0} (y x : engine.Database C) (a b : Given (engine.Database C) C) → a ≡ given.Database y → b ≡ given.Database x → a ≡ b → y ≡ x
+same-engine : {C I U : Type 0} (y x : engine.Database C I U) (a b : Given (engine.Database C I U) C) → a ≡ given.Database y → b ≡ given.Database x → a ≡ b → y ≡ x
 same-engine y x a b is_y is_x same = cc (is_y, is_x, same)
 
-pub held-database : {C : Type 0} (back : Given (Database C Sha256Digest) C) (x : engine.Database C) → held back ≡ given.Database x → back ≡ given.Database x.db
-held-database {C = C} (given.Database db) x is = ap (λ (y : engine.Database C). given.Database y.db) (same-engine (record { db = db }) x (given.Database (record { db = db })) (given.Database x) refl refl is)
+pub held-database : {C I U : Type 0} (back : Given (Database C Sha256Digest) C) (x : engine.Database C I U) → held back ≡ given.Database x → back ≡ given.Database x.db
+held-database {C = C} {I = I} {U = U} (given.Database db) x is = ap (λ (y : engine.Database C I U). given.Database y.db) (same-engine (record { db = db }) x (given.Database (record { db = db })) (given.Database x) refl refl is)
 held-database (given.Store store) x is = absurd (cc is)
 
 -- an apply that fails and not as stale is for no refusal

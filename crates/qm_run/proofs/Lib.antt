@@ -1,2 +1,4 @@
 pub mod Sayings
 pub mod Engines
+pub mod Spans
+pub mod Collected

@@ -1,10 +1,10 @@
 -- What the program may answer, write and leave.
-use Rattle.std.specs.Prelude.{◌≡◌, ◌≤◌, ◌<◌, ◌⊎◌, ℕ, suc, Bool, false, ◌&&◌, List, [], ◌∷◌, ◌++◌, length, take, codes, Option, None, Some, bytes_eq, decimal}
+use Rattle.std.specs.Prelude.{◌≡◌, ◌≤◌, ◌<◌, ◌⊎◌, ℕ, suc, Bool, true, false, ◌&&◌, if◌then◌else◌, List, [], ◌∷◌, ◌++◌, length, take, codes, Option, None, Some, option_map, is_some, bytes_eq, decimal}
 use Rattle.qm_model.specs.Operations.{Bytes}
 use Rattle.qm_model.specs.StoreModel.{Stored}
 use Rattle.qm_model.specs.Live.{floor}
 use Rattle.qm_model.specs.Policies.{policies}
-use Rattle.qm_model.specs.Step.{unordered}
+use Rattle.qm_model.specs.Step.{ordered, unordered}
 use Rattle.qm_model.specs.Mmr.{mmr}
 use Rattle.qm_model.specs.Roots.{sha256_root, sha256_proof, sha256_pins}
 use Rattle.qm_model.specs.Batches.{Apart}
@@ -14,18 +14,36 @@ use Rattle.qm_machine.specs.Text.{text_of}
 use Rattle.qm_engine.specs.Session.{IsLeft}
 use Rattle.qm_engine.specs.Runs.{after}
 
--- the words of the command line: run any unordered mmr
-abbrev pub are_words : List Bytes → Bool
-are_words [] = false
-are_words (a ∷ []) = false
-are_words (a ∷ b ∷ []) = false
-are_words (a ∷ b ∷ c ∷ []) = false
-are_words (a ∷ b ∷ c ∷ d ∷ []) = bytes_eq a (codes "run") && (bytes_eq b (codes "any") && (bytes_eq c (codes "unordered") && bytes_eq d (codes "mmr")))
-are_words (a ∷ b ∷ c ∷ d ∷ e ∷ ws) = false
+-- whether the word names ordered databases
+abbrev pub kind_word : Bytes → Option Bool
+kind_word word = if bytes_eq word (codes "unordered") then Some false else (if bytes_eq word (codes "ordered") then Some true else None)
 
--- the machine of these words
-abbrev pub scheme : Scheme
-scheme = record { kind = unordered; is_ordered = false; root = sha256_root mmr; boundary = floor; proof = sha256_proof mmr; pins = sha256_pins mmr }
+-- the words of the command line: run any unordered mmr, or run any ordered mmr
+abbrev pub kind_of_words : List Bytes → Option Bool
+kind_of_words [] = None
+kind_of_words (a ∷ []) = None
+kind_of_words (a ∷ b ∷ []) = None
+kind_of_words (a ∷ b ∷ c ∷ []) = None
+kind_of_words (a ∷ b ∷ c ∷ d ∷ []) = if bytes_eq a (codes "run") && (bytes_eq b (codes "any") && bytes_eq d (codes "mmr")) then kind_word c else None
+kind_of_words (a ∷ b ∷ c ∷ d ∷ e ∷ ws) = None
+
+abbrev pub are_words : List Bytes → Bool
+are_words ws = is_some (kind_of_words ws)
+
+-- the machine of ordered or of unordered databases
+abbrev pub scheme : Bool → Scheme
+scheme is_ordered = record {
+  kind = if is_ordered then ordered else unordered;
+  is_ordered = is_ordered;
+  root = sha256_root mmr;
+  boundary = floor;
+  proof = sha256_proof mmr;
+  pins = sha256_pins mmr;
+}
+
+-- the machine of the words
+abbrev pub scheme_of : List Bytes → Option Scheme
+scheme_of ws = option_map scheme (kind_of_words ws)
 
 abbrev pub bad_text : ℕ → Bytes
 bad_text n = codes "bad line " ++ (decimal n ++ 10 ∷ [])
@@ -37,23 +55,23 @@ fault_text = codes "store fault" ++ 10 ∷ []
 abbrev pub IsPartOf : Bytes → Bytes → Type 0
 IsPartOf part whole = (n : ℕ) × (part ≡ take n whole)
 
--- over this store, for an input
-module _ (stored : Stored) (input : Bytes) where
+-- of this machine over this store, for an input
+module _ (m : Scheme) (stored : Stored) (input : Bytes) where
   -- how many commands there are before the first bad line
   abbrev pub count : ℕ
   count = length (commands_in input)
 
   -- the machine's state after the first k commands
   abbrev pub state : ℕ → State
-  state k = after scheme policies stored (commands_in input) k
+  state k = after m policies stored (commands_in input) k
 
   -- the text of the machine's answers to the first k commands
   abbrev pub model_text : ℕ → Bytes
-  model_text k = text_of (answers scheme policies (initial stored) (take k (commands_in input)))
+  model_text k = text_of (answers m policies (initial stored) (take k (commands_in input)))
 
   -- the lists of the machine's run over the first k commands are apart
   abbrev pub IsApart : ℕ → Type 0
-  IsApart k = Apart scheme.root (state k).had
+  IsApart k = Apart m.root (state k).had
 
   -- the machine's store after the first k commands, with a first part of what the next one appends
   abbrev pub IsLeftAt : Option Stored → ℕ → Type 0

@@ -1,5 +1,5 @@
-// The program's database as an engine.
-ghost use Rattle.std.specs.Prelude.{◌≡◌, length};
+// The program's databases as engines: of either kind, by their updates.
+ghost use Rattle.std.specs.Prelude.{◌≡◌, None, length, refl};
 ghost use Rattle.std.proofs.Common.{ap};
 ghost use Rattle.qm_any.specs.Databases.{IsDatabase, IsBegun, IsStaged, IsMade, staged_keys};
 ghost use Rattle.qm_store.specs.Given.{store_given};
@@ -7,18 +7,18 @@ ghost use Rattle.qm_run.specs.Databases.{hashing, layout};
 ghost use Rattle.qm_run.specs.Held.{held};
 ghost use Rattle.qm_run.specs.Program as program;
 
-use crate::listed::{listed, twin_keys, twin_option};
+use crate::listed::{listed, span_from, twin_keys, twin_option};
+use crate::ranges::{keys_of, pairs_of};
 use qm_any::batch::{MerkleizedBatch, UnmerkleizedBatch};
 use qm_any::db::Db;
 use qm_any::init;
 use qm_any::staged::Staged;
-use qm_base::{
-    ByteKey, ByteValue, Error, Location, Sha256, Sha256Digest, Unordered, VariableEncoding,
-};
+use qm_base::update::{Ordered, Unordered, Update};
+use qm_base::{ByteKey, ByteValue, Error, Location, Sha256, Sha256Digest, VariableEncoding};
+use qm_batch::kind::Steps;
 use qm_chain::Policy;
 use qm_engine::{BatchSizes, Engine, Numbers, Words};
-use qm_index::FourCap;
-use qm_index::unordered::Index;
+use qm_index::{Factory, FourCap};
 use qm_lines::{Listed, Resolution, Span};
 use qm_merkle::mmr;
 use qm_proofs::Proof;
@@ -28,22 +28,48 @@ use std::num::NonZeroU64;
 use std::ops::{Bound, Range};
 use std::rc::Rc;
 
-/// What its updates say.
-type Pair = Unordered<ByteKey, VariableEncoding<ByteValue>>;
+/// What the updates of a kind of the program's databases say, over this index. They are spelled with their lengths.
+pub trait Kind<I: qm_index::Unordered<Value = Location<mmr::Family>>>: Steps<
+    mmr::Family,
+    I,
+    Key = ByteKey,
+    Value = ByteValue,
+> {
+    ghost lengths: { Self.form.sizes ≡ None };
+}
 
-/// Where its keys are live, by their first four bytes.
-type Places = Index<FourCap, Location<mmr::Family>>;
+/// What updates of unordered databases say.
+pub type Pair = Unordered<ByteKey, VariableEncoding<ByteValue>>;
 
-type Inside<C> = Db<mmr::Family, C, Places, Sha256, Pair>;
+/// What updates of ordered databases say.
+pub type Link = Ordered<ByteKey, VariableEncoding<ByteValue>>;
 
-/// The program's database over a store.
+impl<I: qm_index::Unordered<Value = Location<mmr::Family>>> Kind<I> for Pair {
+    ghost lengths = { refl };
+}
+
+impl<I: qm_index::Ordered<Value = Location<mmr::Family>>> Kind<I> for Link {
+    ghost lengths = { refl };
+}
+
+type Inside<C, I, U> = Db<mmr::Family, C, I, Sha256, U>;
+
+/// A database of the program over a store: where its keys are live, and what its updates say.
 #[derive(Drop)]
-pub struct Database<C: Store> {
-    db: Inside<C>,
+pub struct Database<
+    C: Store,
+    I: qm_index::Unordered<Value = Location<mmr::Family>>,
+    U: Update<Key = ByteKey, Value = ByteValue>,
+> {
+    db: Inside<C, I, U>,
 }
 
 // A refusal that gives back an engine.
-fn refusal<C: Store>(refused: Refusal<Inside<C>, C>) -> Refusal<Database<C>, C>
+fn refusal<
+    C: Store,
+    I: qm_index::Unordered<Value = Location<mmr::Family>>,
+    U: Update<Key = ByteKey, Value = ByteValue>,
+>(refused: Refusal<Inside<C, I, U>, C>) -> Refusal<Database<C, I, U>, C>
     ensures given { result.given ≡ held refused.given }
     ensures store { store_given (λ x. x.db.log.store) result.given ≡ store_given (λ db. db.log.store) refused.given }
     ensures error { result.error ≡ refused.error }
@@ -56,31 +82,34 @@ fn refusal<C: Store>(refused: Refusal<Inside<C>, C>) -> Refusal<Database<C>, C>
     Refusal { given, error }
 }
 
-impl<C: Store> Words<C> for Database<C> {
-    type Batch = UnmerkleizedBatch<mmr::Family, Sha256Digest, Pair>;
+impl<C: Store, I: Factory<Value = Location<mmr::Family>, Translator = FourCap>, U: Kind<I>> Words<C>
+    for Database<C, I, U> {
+    type Batch = UnmerkleizedBatch<mmr::Family, Sha256Digest, U>;
 
-    type Staged = Staged<mmr::Family, Sha256Digest, Pair>;
+    type Staged = Staged<mmr::Family, Sha256Digest, U>;
 
-    type Merkleized = Rc<MerkleizedBatch<mmr::Family, Sha256Digest, Pair>>;
+    type Merkleized = Rc<MerkleizedBatch<mmr::Family, Sha256Digest, U>>;
 
     ghost inside = { λ x. x.db.log.store };
 
-    ghost stands = { λ x list. IsDatabase C.Store layout x.db list };
+    ghost stands = { λ x list. IsDatabase C.Store (layout U.form I.index_key) x.db list };
 
-    ghost is_batch = { λ b chain above ws. IsBegun hashing b chain above × (b.writes ≡ ws) };
+    ghost is_batch = { λ b chain above ws. IsBegun (hashing U.form) b chain above × (b.writes ≡ ws) };
 
-    ghost is_staged = { λ s chain above ws keys. IsStaged hashing s chain above × (s.batch.writes ≡ ws) × (staged_keys s ≡ keys) };
+    ghost is_staged = { λ s chain above ws keys. IsStaged (hashing U.form) s chain above × (s.batch.writes ≡ ws) × (staged_keys s ≡ keys) };
 
     ghost count = { λ s. length (staged_keys s) };
 
     ghost counted = { λ s chain above ws keys is. ap length is.2 };
 
-    ghost is_merkleized = { λ b chain tip. IsMade hashing b.value chain tip };
+    ghost is_merkleized = { λ b chain tip. IsMade (hashing U.form) b.value chain tip };
 
-    ghost scheme = { program.scheme };
+    ghost scheme = { program.scheme U.form.ordered };
 }
 
-impl<C: Store> Engine<C> for Database<C> {
+impl<C: Store, I: Factory<Value = Location<mmr::Family>, Translator = FourCap>, U: Kind<I>> Engine<
+    C,
+> for Database<C, I, U> {
     type Family = mmr::Family;
 
     type Key = ByteKey;
@@ -257,67 +286,90 @@ impl<C: Store> Engine<C> for Database<C> {
     }
 
     fn is_ordered() -> bool {
-        false
+        U::is_ordered()
     }
 
-    fn next(&mut self, _alloc: Global, _key: &ByteKey) -> Result<Option<ByteKey>, Error> {
-        Ok(None)
+    fn next(&mut self, alloc: Global, key: &ByteKey) -> Result<Option<ByteKey>, Error> {
+        if !U::is_ordered() {
+            return Ok(None);
+        }
+        self.db.get_next_key(alloc, key)
     }
 
-    fn prev(&mut self, _alloc: Global, _key: &ByteKey) -> Result<Option<ByteKey>, Error> {
-        Ok(None)
+    fn prev(&mut self, alloc: Global, key: &ByteKey) -> Result<Option<ByteKey>, Error> {
+        if !U::is_ordered() {
+            return Ok(None);
+        }
+        self.db.get_prev_key(alloc, key)
     }
 
     fn next_from(
         &mut self,
-        _alloc: Global,
-        _batch: &Self::Merkleized,
-        _key: &ByteKey,
+        alloc: Global,
+        batch: &Self::Merkleized,
+        key: &ByteKey,
     ) -> Result<Option<ByteKey>, Error> {
-        Ok(None)
+        if !U::is_ordered() {
+            return Ok(None);
+        }
+        batch.get_next_key(alloc, key, &mut self.db)
     }
 
     fn prev_from(
         &mut self,
-        _alloc: Global,
-        _batch: &Self::Merkleized,
-        _key: &ByteKey,
+        alloc: Global,
+        batch: &Self::Merkleized,
+        key: &ByteKey,
     ) -> Result<Option<ByteKey>, Error> {
-        Ok(None)
+        if !U::is_ordered() {
+            return Ok(None);
+        }
+        batch.get_prev_key(alloc, key, &mut self.db)
     }
 
     fn span(
         &mut self,
-        _alloc: Global,
-        _key: &ByteKey,
+        alloc: Global,
+        key: &ByteKey,
     ) -> Result<Option<Span<ByteKey, ByteValue>>, Error> {
-        Ok(None)
+        if !U::is_ordered() {
+            return Ok(None);
+        }
+        match self.db.get_span(alloc, key) {
+            Ok(found) => span_from(alloc, found),
+            Err(error) => Err(error),
+        }
     }
 
-    fn all(
-        &mut self,
-        _alloc: Global,
-        _key: &ByteKey,
-    ) -> Result<Option<(ByteValue, ByteKey)>, Error> {
-        Ok(None)
+    fn all(&mut self, alloc: Global, key: &ByteKey) -> Result<Option<(ByteValue, ByteKey)>, Error> {
+        if !U::is_ordered() {
+            return Ok(None);
+        }
+        self.db.get_all(alloc, key)
     }
 
     fn range(
         &mut self,
         alloc: Global,
-        _low: &Bound<ByteKey>,
-        _high: &Bound<ByteKey>,
+        low: &Bound<ByteKey>,
+        high: &Bound<ByteKey>,
     ) -> Result<Vec<(ByteKey, ByteValue)>, Error> {
-        Ok(Vec::new(alloc))
+        if !U::is_ordered() {
+            return Ok(Vec::new(alloc));
+        }
+        pairs_of(alloc, &mut self.db, low, high)
     }
 
     fn keys(
         &mut self,
         alloc: Global,
-        _low: &Bound<ByteKey>,
-        _high: &Bound<ByteKey>,
+        low: &Bound<ByteKey>,
+        high: &Bound<ByteKey>,
     ) -> Result<Vec<ByteKey>, Error> {
-        Ok(Vec::new(alloc))
+        if !U::is_ordered() {
+            return Ok(Vec::new(alloc));
+        }
+        keys_of(alloc, &mut self.db, low, high)
     }
 
     fn proof(

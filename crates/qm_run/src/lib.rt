@@ -4,5 +4,6 @@
 mod database;
 mod listed;
 mod program;
+mod ranges;
 
 pub use program::qmdb_main;

@@ -1,41 +1,66 @@
 //! The program's top call.
 
-ghost use Rattle.std.specs.Prelude.{◌≡◌, ◌≢◌, ◌↔◌, ◌≤◌, ◌<◌, ◌+◌, ◌++◌, ◌^◌, ◌⊎◌, ℕ, false, true, Some, None, IfOk, IfSome, IsSome, ◌&&◌, codes, length, map, bytes_eq};
+ghost use Rattle.std.specs.Prelude.{◌≡◌, ◌≢◌, ◌↔◌, ◌≤◌, ◌<◌, ◌+◌, ◌++◌, ◌^◌, ◌⊎◌, ℕ, false, true, Some, None, IfOk, IfSome, IsSome, ◌&&◌, if◌then◌else◌, codes, length, map, bytes_eq};
 ghost use Rattle.std.specs.Io.KnownBytes.{IsAtEnd};
 ghost use Rattle.std.specs.String.{string_bytes};
 ghost use Rattle.qm_model.specs.Causes.{Rose};
 ghost use Rattle.qm_model.specs.Operations.{Bytes};
 ghost use Rattle.qm_machine.specs.Grammar.{bad_in};
 ghost use Rattle.qm_model.specs.StoreModel.{beside_items};
-ghost use Rattle.qm_run.specs.Program.{are_words, Says, bad_text};
+ghost use Rattle.qm_run.specs.Program.{are_words, kind_word, kind_of_words, scheme, scheme_of, Says, bad_text};
 ghost use Rattle.qm_run.specs.Endings.{tail_text, tail_status};
 
-use crate::database::Database;
-use qm_base::Gate;
+use crate::database::{Database, Kind, Link, Pair};
+use qm_base::{Gate, Location};
 use qm_engine::{Answered, Ending, answer_lines};
+use qm_index::{Factory, FourCap, ordered, unordered};
 use qm_lines::{InputError, LIMIT, Sink, SinkError, Source, read_all, write_all};
+use qm_merkle::mmr;
 use qm_store::Store;
 use std::alloc::{AllocError, Global};
 
-fn are_four(a: &str, b: &str, c: &str, d: &str) -> bool
-    ensures { result ≡ (bytes_eq a.now (codes "run") && (bytes_eq b.now (codes "any") && (bytes_eq c.now (codes "unordered") && bytes_eq d.now (codes "mmr")))) }
+/// Where the keys of unordered databases are live, by their first four bytes.
+type Places = unordered::Index<FourCap, Location<mmr::Family>>;
+
+/// Where the keys of ordered databases are live, by their first four bytes.
+type OrderedPlaces = ordered::Index<FourCap, Location<mmr::Family>>;
+
+// Whether the word names ordered databases.
+fn kind_named(word: &str) -> Option<bool>
+    ensures { result ≡ kind_word word.now }
 {
-    a == "run" && b == "any" && c == "unordered" && d == "mmr"
+    if word == "unordered" {
+        Some(false)
+    } else if word == "ordered" {
+        Some(true)
+    } else {
+        None
+    }
 }
 
-// Whether the words are those of the command line.
-fn words_ok(words: &[String]) -> bool
-    ensures { result ≡ are_words (map string_bytes words.now) }
+fn kind_of_four(a: &str, b: &str, c: &str, d: &str) -> Option<bool>
+    ensures { result ≡ (if bytes_eq a.now (codes "run") && (bytes_eq b.now (codes "any") && bytes_eq d.now (codes "mmr")) then kind_word c.now else None) }
+{
+    if a == "run" && b == "any" && d == "mmr" {
+        kind_named(c)
+    } else {
+        None
+    }
+}
+
+// Whether the words of a command line are for ordered databases, where they are those of one.
+fn kind_from(words: &[String]) -> Option<bool>
+    ensures { result ≡ kind_of_words (map string_bytes words.now) }
 {
     if words.len() == 4 {
-        are_four(
+        kind_of_four(
             words[0].as_str(),
             words[1].as_str(),
             words[2].as_str(),
             words[3].as_str(),
         )
     } else {
-        false
+        None
     }
 }
 
@@ -83,17 +108,17 @@ fn with_tail(
     Ok(text)
 }
 
-// Answers the lines of an input, and writes the text.
-fn serve<C: Store, K: Sink, G: Gate>(
-    alloc: Global,
-    input: &[u8],
-    store: C,
-    sink: &mut K,
-    gate: &G,
-) -> (u8, C)
+// Answers the lines of an input by databases of this kind, and writes the text.
+fn serve<
+    C: Store,
+    I: Factory<Value = Location<mmr::Family>, Translator = FourCap>,
+    U: Kind<I>,
+    K: Sink,
+    G: Gate,
+>(alloc: Global, input: &[u8], store: C, sink: &mut K, gate: &G) -> (u8, C)
     ensures headline { IfSome (C.told store) (λ stored. IfSome (K.text sink.old) (λ before.
         (written : Bytes) × (K.text sink.new ≡ Some (before ++ written))
-        × Says stored input.now result.0 (Rose (C.faults store) (C.faults result.1)) written (C.told result.1))) }
+        × Says (scheme U.form.ordered) stored input.now result.0 (Rose (C.faults store) (C.faults result.1)) written (C.told result.1))) }
     ensures start { C.start result.1 ≡ C.start store }
     ensures beside { beside_items (C.told result.1) ≡ beside_items (C.told store) }
     ensures write { result.0 ≡ 4 → Rose (K.faults sink.old) (K.faults sink.new) }
@@ -108,7 +133,7 @@ fn serve<C: Store, K: Sink, G: Gate>(
         answered,
         ending,
         store,
-    } = answer_lines::<Database<C>, C, G>(alloc, store, (), input, gate);
+    } = answer_lines::<Database<C, I, U>, C, G>(alloc, store, (), input, gate);
     let text = match with_tail(alloc, text, ending, answered) {
         Ok(text) => text,
         Err(_) => return (5, store),
@@ -120,9 +145,37 @@ fn serve<C: Store, K: Sink, G: Gate>(
     }
 }
 
-/// The program. The words are those after its name: `run any unordered mmr`. It reads the source to its end, runs
-/// the commands of its lines over the store, up to the first line that is none, and writes the replies, one line
-/// each. It answers a status and the store.
+// Answers the lines of an input by ordered databases or by unordered ones, and writes the text.
+fn run<C: Store, K: Sink, G: Gate>(
+    is_ordered: bool,
+    alloc: Global,
+    input: &[u8],
+    store: C,
+    sink: &mut K,
+    gate: &G,
+) -> (u8, C)
+    ensures headline { IfSome (C.told store) (λ stored. IfSome (K.text sink.old) (λ before.
+        (written : Bytes) × (K.text sink.new ≡ Some (before ++ written))
+        × Says (scheme is_ordered) stored input.now result.0 (Rose (C.faults store) (C.faults result.1)) written (C.told result.1))) }
+    ensures start { C.start result.1 ≡ C.start store }
+    ensures beside { beside_items (C.told result.1) ≡ beside_items (C.told store) }
+    ensures write { result.0 ≡ 4 → Rose (K.faults sink.old) (K.faults sink.new) }
+    ensures store { result.0 ≡ 6 → Rose (C.faults store) (C.faults result.1) }
+    ensures codes { (result.0 ≡ 0) ⊎ ((result.0 ≡ 2) ⊎ ((result.0 ≡ 4) ⊎ ((result.0 ≡ 5) ⊎ (result.0 ≡ 6)))) }
+    ensures bad { result.0 ≡ 2 → IsSome (bad_in input.now) }
+    ensures good { result.0 ≡ 0 → bad_in input.now ≡ None }
+    ensures later { (K.faults sink.old ≤ K.faults sink.new) × (C.faults store ≤ C.faults result.1) }
+{
+    if is_ordered {
+        serve::<C, OrderedPlaces, Link, K, G>(alloc, input, store, sink, gate)
+    } else {
+        serve::<C, Places, Pair, K, G>(alloc, input, store, sink, gate)
+    }
+}
+
+/// The program. The words are those after its name: `run any unordered mmr` or `run any ordered mmr`. It reads the
+/// source to its end, runs the commands of its lines over the store, up to the first line that is none, and writes the
+/// replies, one line each. It answers a status and the store.
 ///
 /// The statuses: 0, every line has its reply; 1, other words; 2, a line that is none, after whose replies
 /// `bad line` and its number were written; 3, the source failed; 4, the sink failed; 5, want of memory; 6, the
@@ -136,9 +189,9 @@ pub fn qmdb_main<C: Store, S: Source, K: Sink, G: Gate>(
     gate: &G,
 ) -> (u8, C)
     // From a store that tells what it holds, the source and the sink telling their bytes.
-    ensures headline { IfSome (C.told store) (λ stored. IfSome (S.left source.old) (λ input. IfSome (K.text sink.old) (λ before.
+    ensures headline { IfSome (scheme_of (map string_bytes words.now)) (λ m. IfSome (C.told store) (λ stored. IfSome (S.left source.old) (λ input. IfSome (K.text sink.old) (λ before.
         (written : Bytes) × (K.text sink.new ≡ Some (before ++ written))
-        × Says stored input result.0 (Rose (C.faults store) (C.faults result.1)) written (C.told result.1)))) }
+        × Says m stored input result.0 (Rose (C.faults store) (C.faults result.1)) written (C.told result.1))))) }
 
     // What stays as it was.
     ensures untouched { (result.0 ≡ 1) ⊎ ((result.0 ≡ 3) ⊎ (result.0 ≡ 7)) → (result.1 ≡ store) × (sink.new ≡ sink.old) }
@@ -167,13 +220,13 @@ pub fn qmdb_main<C: Store, S: Source, K: Sink, G: Gate>(
         → ¬ Rose (S.faults source.old) (S.faults source.new) → ¬ Rose (K.faults sink.old) (K.faults sink.new) → ¬ Rose (C.faults store) (C.faults result.1)
         → (result.0 ≡ 2) ⊎ (result.0 ≡ 5)) }
 {
-    if !words_ok(words) {
+    let Some(is_ordered) = kind_from(words) else {
         return (1, store);
-    }
+    };
     match read_all(alloc, source) {
         Err(InputError::Memory) => (5, store),
         Err(InputError::Failed) => (3, store),
         Err(InputError::TooLong) => (7, store),
-        Ok(input) => serve(alloc, &input, store, sink, gate),
+        Ok(input) => run(is_ordered, alloc, &input, store, sink, gate),
     }
 }

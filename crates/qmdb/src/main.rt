@@ -1,4 +1,4 @@
-//! `qmdb run any unordered mmr`: the lines of standard input over a store in memory, the replies on standard output.
+//! `qmdb run any (unordered|ordered) mmr`: the lines of standard input over a store in memory, the replies on standard output.
 #![tactic(auto)]
 
 ghost use Rattle.std.specs.Prelude.{◌≡◌, ◌⊎◌, IfErr};
@@ -12,7 +12,7 @@ use std::process::ExitCode;
 use std::rt::Env;
 use std::{env, io};
 
-const HELP: &str = "usage: qmdb run any unordered mmr
+const HELP: &str = "usage: qmdb run any (unordered|ordered) mmr
 Reads the commands of standard input, one a line, runs them over an empty store in memory and writes a reply for each.";
 
 const VERSION: &str = "qmdb 0.1.0";
@@ -46,7 +46,7 @@ fn answer(words: &[String]) -> Option<&'static str> {
 // What a status other than 0 says.
 fn reason(status: u8) -> &'static str {
     match status {
-        OTHER_WORDS => "other words; usage: qmdb run any unordered mmr",
+        OTHER_WORDS => "other words; usage: qmdb run any (unordered|ordered) mmr",
         2 => "a line is no command; the last line of the output has its number",
         3 => "the input can not be read",
         NOT_WRITTEN => "the output can not be written",

@@ -1,6 +1,7 @@
 use Rattle.std.proofs.Common.{◌≡◌, ℕ, ◌++◌, [], take, refl, sym, ◌∙◌, subst, inl, inr}
 use Rattle.qm_model.specs.Causes.{Rose, Grows, GrowsPart}
 use Rattle.qm_model.specs.Operations.{Bytes}
+use Rattle.qm_run.specs.Program.{scheme}
 use Rattle.qm_run.specs.Endings.{tail_text, tail_status}
 use Rattle.qm_run.proofs.Sayings.{Told, IsWhole, is_whole, each_more, says_part, partial, whole, unchanged, grown, grown_part}
 use Rattle.qm_run.proofs.program.serve.Goals as goal
@@ -14,9 +15,9 @@ returns-in-Err-clause-headline g c =
     let text = c.answer_lines-text.result.text.items in
     let k : ℕ = c.answer_lines-text.result.answered in
     each_more (g.C.Store.told c.args.store) c.answer_lines-text.ensures.machine (λ stored answered.
-    let is : IsWhole stored input rose k ending = is_whole stored input rose k ending c.answer_lines-text.ensures.done c.answer_lines-text.ensures.bad c.answer_lines-text.ensures.fault c.answer_lines-text.ensures.short in
-    unchanged stored input 5 rose left (g.K.Sink.text c.args.sink.now)
-    (says_part stored input rose 5 [] left k (inr refl) (partial stored input rose text k left answered ending is 0)))
+    let is : IsWhole (scheme g.U.Update.form.ordered) stored input rose k ending = is_whole (scheme g.U.Update.form.ordered) stored input rose k ending c.answer_lines-text.ensures.done c.answer_lines-text.ensures.bad c.answer_lines-text.ensures.fault c.answer_lines-text.ensures.short in
+    unchanged (scheme g.U.Update.form.ordered) stored input 5 rose left (g.K.Sink.text c.args.sink.now)
+    (says_part (scheme g.U.Update.form.ordered) stored input rose 5 [] left k (inr refl) (partial (scheme g.U.Update.form.ordered) stored input rose text k left answered ending is 0)))
 
 pub returns-in-Ok-write_all-clause-headline : goal.returns-in-Ok-write_all-clause-headline
 returns-in-Ok-write_all-clause-headline g c =
@@ -28,11 +29,11 @@ returns-in-Ok-write_all-clause-headline g c =
     let k : ℕ = c.answer_lines-text.result.answered in
     let spelt : c.deref.result.now ≡ text ++ tail_text ending k = c.deref.ensures.value ∙ c.in-Ok.ensures in
     each_more (g.C.Store.told c.args.store) c.answer_lines-text.ensures.machine (λ stored answered.
-    let is : IsWhole stored input rose k ending = is_whole stored input rose k ending c.answer_lines-text.ensures.done c.answer_lines-text.ensures.bad c.answer_lines-text.ensures.fault c.answer_lines-text.ensures.short in
-    subst (λ s. Told stored input s rose left (g.K.Sink.text c.args.sink.now) (g.K.Sink.text c.write_all.new.sink)) (sym c.status_of.ensures)
-    (grown stored input (tail_status ending) rose left (g.K.Sink.text c.args.sink.now) (g.K.Sink.text c.write_all.new.sink) (text ++ tail_text ending k)
+    let is : IsWhole (scheme g.U.Update.form.ordered) stored input rose k ending = is_whole (scheme g.U.Update.form.ordered) stored input rose k ending c.answer_lines-text.ensures.done c.answer_lines-text.ensures.bad c.answer_lines-text.ensures.fault c.answer_lines-text.ensures.short in
+    subst (λ s. Told (scheme g.U.Update.form.ordered) stored input s rose left (g.K.Sink.text c.args.sink.now) (g.K.Sink.text c.write_all.new.sink)) (sym c.status_of.ensures)
+    (grown (scheme g.U.Update.form.ordered) stored input (tail_status ending) rose left (g.K.Sink.text c.args.sink.now) (g.K.Sink.text c.write_all.new.sink) (text ++ tail_text ending k)
     (subst (Grows (g.K.Sink.text c.args.sink.now) (g.K.Sink.text c.write_all.new.sink)) spelt c.in-Ok-write_all.ensures.ok)
-    (whole stored input rose text k left answered ending is)))
+    (whole (scheme g.U.Update.form.ordered) stored input rose text k left answered ending is)))
 
 pub returns-in-Err-Failed-clause-headline : goal.returns-in-Err-Failed-clause-headline
 returns-in-Err-Failed-clause-headline g c =
@@ -44,10 +45,10 @@ returns-in-Err-Failed-clause-headline g c =
     let k : ℕ = c.answer_lines-text.result.answered in
     let spelt : c.deref.result.now ≡ text ++ tail_text ending k = c.deref.ensures.value ∙ c.in-Ok.ensures in
     each_more (g.C.Store.told c.args.store) c.answer_lines-text.ensures.machine (λ stored answered.
-    let is : IsWhole stored input rose k ending = is_whole stored input rose k ending c.answer_lines-text.ensures.done c.answer_lines-text.ensures.bad c.answer_lines-text.ensures.fault c.answer_lines-text.ensures.short in
-    grown_part stored input 4 rose left (g.K.Sink.text c.args.sink.now) (g.K.Sink.text c.write_all.new.sink) (text ++ tail_text ending k)
+    let is : IsWhole (scheme g.U.Update.form.ordered) stored input rose k ending = is_whole (scheme g.U.Update.form.ordered) stored input rose k ending c.answer_lines-text.ensures.done c.answer_lines-text.ensures.bad c.answer_lines-text.ensures.fault c.answer_lines-text.ensures.short in
+    grown_part (scheme g.U.Update.form.ordered) stored input 4 rose left (g.K.Sink.text c.args.sink.now) (g.K.Sink.text c.write_all.new.sink) (text ++ tail_text ending k)
     (subst (GrowsPart (g.K.Sink.text c.args.sink.now) (g.K.Sink.text c.write_all.new.sink)) spelt c.in-Err-Failed.ensures.err)
-    (λ n. says_part stored input rose 4 (take n (text ++ tail_text ending k)) left k (inl refl) (partial stored input rose text k left answered ending is n)))
+    (λ n. says_part (scheme g.U.Update.form.ordered) stored input rose 4 (take n (text ++ tail_text ending k)) left k (inl refl) (partial (scheme g.U.Update.form.ordered) stored input rose text k left answered ending is n)))
 
 pub returns-clause-headline : goal.returns-clause-headline
 returns-clause-headline g c =
@@ -59,7 +60,7 @@ returns-clause-headline g c =
     let k : ℕ = c.answer_lines-text.result.answered in
     let spelt : c.deref.result.now ≡ text ++ tail_text ending k = c.deref.ensures.value ∙ c.in-Ok.ensures in
     each_more (g.C.Store.told c.args.store) c.answer_lines-text.ensures.machine (λ stored answered.
-    let is : IsWhole stored input rose k ending = is_whole stored input rose k ending c.answer_lines-text.ensures.done c.answer_lines-text.ensures.bad c.answer_lines-text.ensures.fault c.answer_lines-text.ensures.short in
-    grown_part stored input 5 rose left (g.K.Sink.text c.args.sink.now) (g.K.Sink.text c.write_all.new.sink) (text ++ tail_text ending k)
+    let is : IsWhole (scheme g.U.Update.form.ordered) stored input rose k ending = is_whole (scheme g.U.Update.form.ordered) stored input rose k ending c.answer_lines-text.ensures.done c.answer_lines-text.ensures.bad c.answer_lines-text.ensures.fault c.answer_lines-text.ensures.short in
+    grown_part (scheme g.U.Update.form.ordered) stored input 5 rose left (g.K.Sink.text c.args.sink.now) (g.K.Sink.text c.write_all.new.sink) (text ++ tail_text ending k)
     (subst (GrowsPart (g.K.Sink.text c.args.sink.now) (g.K.Sink.text c.write_all.new.sink)) spelt c.in-Err-Memory.ensures.err)
-    (λ n. says_part stored input rose 5 (take n (text ++ tail_text ending k)) left k (inr refl) (partial stored input rose text k left answered ending is n)))
+    (λ n. says_part (scheme g.U.Update.form.ordered) stored input rose 5 (take n (text ++ tail_text ending k)) left k (inr refl) (partial (scheme g.U.Update.form.ordered) stored input rose text k left answered ending is n)))

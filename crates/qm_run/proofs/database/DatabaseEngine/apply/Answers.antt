@@ -10,25 +10,26 @@ use Rattle.qm_run.specs.Held.{held}
 use Rattle.qm_model.specs.Batches.{commitment, fits}
 use Rattle.qm_model.specs.Roots.{sha256_root}
 use Rattle.qm_model.specs.StoreModel.{beside_items}
-use Rattle.qm_run.proofs.Engines.{at-made, off-chain, appends-same, held-database, unapplied-untold}
+use Rattle.qm_run.proofs.Engines.{spellings-same, at-made, off-chain, appends-same, held-database, unapplied-untold}
 use Rattle.qm_run.proofs.database.DatabaseEngine.apply.Goals as goal
 
 pub returns-in-Ok-clause-fits : goal.returns-in-Ok-clause-fits
 returns-in-Ok-clause-fits g c = λ list chain tip is batch.
-    sym (at-made list chain tip c.args.self.db.commitment c.deref.result.now is.commitment (subst (λ b. IsMade hashing b chain tip) (sym c.deref.ensures) batch)) ∙ c.in-Ok.ensures.fits
+    sym (at-made g.U.Update.form g.met.U.Kind.lengths list chain tip c.args.self.db.commitment c.deref.result.now is.commitment (subst (λ b. IsMade (hashing g.U.Update.form) b chain tip) (sym c.deref.ensures) batch)) ∙ c.in-Ok.ensures.fits
 
 pub returns-in-Ok-clause-applied : goal.returns-in-Ok-clause-applied
-returns-in-Ok-clause-applied g c = λ list chain tip is batch on. c.in-Ok.ensures.stands list chain tip is (subst (λ b. IsMade hashing b chain tip) (sym c.deref.ensures) batch) on
+returns-in-Ok-clause-applied g c = λ list chain tip is batch on. c.in-Ok.ensures.stands list chain tip is (subst (λ b. IsMade (hashing g.U.Update.form) b chain tip) (sym c.deref.ensures) batch) on
 
 pub returns-in-Ok-clause-grown : goal.returns-in-Ok-clause-grown
 returns-in-Ok-clause-grown g c = λ list chain tip is batch on.
-    subst (λ n. Appended g.C.Store c.args.self.db.log.store c.in-Ok.db.log.store (map (spelling variable) (drop n tip))) (ap (λ k. k.size) is.commitment) (c.in-Ok.ensures.grown chain tip (subst (λ b. IsMade hashing b chain tip) (sym c.deref.ensures) batch))
+    subst (λ spell. Appended g.C.Store c.args.self.db.log.store c.in-Ok.db.log.store (map spell (drop (length list) tip))) (spellings-same g.U.Update.form g.met.U.Kind.lengths)
+    (subst (λ n. Appended g.C.Store c.args.self.db.log.store c.in-Ok.db.log.store (map (spelling g.U.Update.form) (drop n tip))) (ap (λ k. k.size) is.commitment) (c.in-Ok.ensures.grown chain tip (subst (λ b. IsMade (hashing g.U.Update.form) b chain tip) (sym c.deref.ensures) batch)))
 
 pub returns-in-Err-clause-stale : goal.returns-in-Err-clause-stale
 returns-in-Err-clause-stale g c = λ stale.
     let told = c.in-Err.ensures.stale (sym c.refusal.ensures.error ∙ stale) in (
       c.refusal.ensures.given ∙ ap held told.0,
-      λ list chain tip is batch. off-chain list chain (sym (at-made list chain tip c.args.self.db.commitment c.deref.result.now is.commitment (subst (λ b. IsMade hashing b chain tip) (sym c.deref.ensures) batch)) ∙ told.1),
+      λ list chain tip is batch. off-chain list chain (sym (at-made g.U.Update.form g.met.U.Kind.lengths list chain tip c.args.self.db.commitment c.deref.result.now is.commitment (subst (λ b. IsMade (hashing g.U.Update.form) b chain tip) (sym c.deref.ensures) batch)) ∙ told.1),
     )
 
 pub returns-in-Err-clause-refused : goal.returns-in-Err-clause-refused
@@ -37,11 +38,11 @@ returns-in-Err-clause-refused g c = λ fresh.
 
 pub returns-in-Err-clause-kept : goal.returns-in-Err-clause-kept
 returns-in-Err-clause-kept g c = λ list chain tip is batch.
-    let made = (subst (λ b. IsMade hashing b chain tip) (sym c.deref.ensures) batch) in
+    let made = (subst (λ b. IsMade (hashing g.U.Update.form) b chain tip) (sym c.deref.ensures) batch) in
     let more = if fits (sha256_root mmr) (commitment (sha256_root mmr) list) chain then map (spelling variable) (drop (length list) tip) else [] in
     subst (λ s. AppendedPart g.C.Store c.args.self.db.log.store s more) (sym c.refusal.ensures.store)
     (subst (AppendedPart g.C.Store c.args.self.db.log.store (store_given (λ db. db.log.store) c.in-Err.refused.given))
-    (appends-same list chain tip c.args.self.db.commitment c.deref.result.now is.commitment made) (c.in-Err.ensures.part chain tip made))
+    (appends-same g.U.Update.form g.met.U.Kind.lengths list chain tip c.args.self.db.commitment c.deref.result.now is.commitment made) (c.in-Err.ensures.part chain tip made))
 
 pub returns-in-Err-clause-back : goal.returns-in-Err-clause-back
 returns-in-Err-clause-back g c = λ x is.

@@ -8,6 +8,6 @@ use Rattle.qm_run.proofs.database.DatabaseEngine.batch.Goals as goal
 
 pub returns : goal.returns
 returns g c = ok-then c.new_batch.result c.new_batch.ensures.value (λ b begun list is. (
-  subst (λ x. IsBegun hashing x (begun_on list) (begun_on list)) (sym begun) (record { parent = rest-made c.args.self.now.db list is; kept = refl }),
+  subst (λ x. IsBegun (hashing g.U.Update.form) x (begun_on list) (begun_on list)) (sym begun) (record { parent = rest-made c.args.self.now.db list is; kept = refl }),
   ap (λ x. x.writes) begun,
 ))

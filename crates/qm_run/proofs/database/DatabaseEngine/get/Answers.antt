@@ -10,12 +10,12 @@ use Rattle.qm_run.proofs.Engines.{err-of, left-store, log-untold, log-rose, log-
 use Rattle.qm_run.proofs.database.DatabaseEngine.get.Goals as goal
 
 pub returns-clause-values : goal.returns-clause-values
-returns-clause-values g c = ok-each (IsDatabase g.C.Store layout c.args.self.now.db) (λ list v. map (option_map (λ x. x)) v.items ≡ map (λ k. value_of list k) c.args.keys.now) c.get_many.result c.get_many.ensures.values
+returns-clause-values g c = ok-each (IsDatabase g.C.Store (layout g.U.Update.form g.I.Unordered.index_key) c.args.self.now.db) (λ list v. map (option_map (λ x. x)) v.items ≡ map (λ k. value_of list k) c.args.keys.now) c.get_many.result c.get_many.ensures.values
 
 pub returns-clause-reads : goal.returns-clause-reads
 returns-clause-reads g c = record {
-  same = λ list is. left-database g.C.Store layout c.args.self.now.db c.get_many.new.self list c.get_many.ensures.left is;
-  store = left-store g.C.Store hashing c.args.self.now.db c.get_many.new.self c.get_many.ensures.left;
+  same = λ list is. left-database g.C.Store (layout g.U.Update.form g.I.Unordered.index_key) c.args.self.now.db c.get_many.new.self list c.get_many.ensures.left is;
+  store = left-store g.C.Store (hashing g.U.Update.form) c.args.self.now.db c.get_many.new.self c.get_many.ensures.left;
   faults = record {
     later = (c.get_many.ensures.left).read.later;
     failed = err-of c.get_many.result (Journal Store) _ (err-then c.get_many.result c.get_many.ensures.error (λ e why fault. log-rose g.C.Store c.args.self.now.db.log c.get_many.new.self.log e why fault));

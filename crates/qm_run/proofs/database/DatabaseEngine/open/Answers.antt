@@ -2,19 +2,24 @@ use Rattle.std.proofs.Common.{◌≤◌, ◌∙◌, [], ◌∷◌, IfSome, map, 
 use Rattle.std.specs.Prelude.{IsSome}
 use Rattle.qm_model.specs.Causes.{Rose}
 use Rattle.qm_model.specs.Operations.{fresh}
-use Rattle.qm_model.specs.Forms.{spelling, variable}
+use Rattle.qm_model.specs.Forms.{spelling}
 use Rattle.qm_model.specs.Refused.{DataCorrupted, HeadDoesNotMatch}
 use Rattle.qm_machine.specs.Machine.{head_refusal}
-use Rattle.qm_store.specs.Given.{AppendedPart, IsUnchanged}
+use Rattle.qm_store.specs.Given.{Appended, AppendedPart, IsUnchanged, store_given}
 use Rattle.qm_store.specs.Refusals.{IsAmong, IsDue}
-use Rattle.qm_run.proofs.Engines.{bare-offered, head-among, head-due, head-unopened, held-database}
+use Rattle.qm_run.proofs.Engines.{spellings-same, bare-offered, head-among, head-due, head-unopened, held-database}
 use Rattle.qm_run.proofs.database.DatabaseEngine.open.Goals as goal
 
 pub returns-in-Ok-clause-offered : goal.returns-in-Ok-clause-offered
 returns-in-Ok-clause-offered g c = bare-offered (g.C.Store.told c.args.store) c.in-Ok.ensures.bare
 
+pub returns-in-Ok-clause-grown : goal.returns-in-Ok-clause-grown
+returns-in-Ok-clause-grown g c = subst (λ spell. Appended g.C.Store c.args.store c.in-Ok.db.log.store (map spell fresh)) (spellings-same g.U.Update.form g.met.U.Kind.lengths) c.in-Ok.ensures.grown
+
 pub returns-in-Err-clause-kept : goal.returns-in-Err-clause-kept
-returns-in-Err-clause-kept g c = subst (λ s. AppendedPart g.C.Store c.args.store s (map (spelling variable) fresh)) (sym c.refusal.ensures.store) c.in-Err.ensures.part
+returns-in-Err-clause-kept g c =
+    subst (λ spell. AppendedPart g.C.Store c.args.store (store_given (λ x. x.db.log.store) c.refusal.result.given) (map spell fresh)) (spellings-same g.U.Update.form g.met.U.Kind.lengths)
+    (subst (λ s. AppendedPart g.C.Store c.args.store s (map (spelling g.U.Update.form) fresh)) (sym c.refusal.ensures.store) c.in-Err.ensures.part)
 
 pub returns-in-Err-clause-cause : goal.returns-in-Err-clause-cause
 returns-in-Err-clause-cause g c = λ fault.

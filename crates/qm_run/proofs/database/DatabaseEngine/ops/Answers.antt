@@ -5,7 +5,7 @@ use Rattle.qm_run.proofs.database.DatabaseEngine.ops.Goals as goal
 
 pub returns : goal.returns
 returns g c = λ chain tip batch.
-    let made = subst (λ b. IsMade hashing b chain tip) (sym c.deref.ensures) batch in (
+    let made = subst (λ b. IsMade (hashing g.U.Update.form) b chain tip) (sym c.deref.ensures) batch in (
       c.get.ensures ∙ c.operations-base.ensures.base ∙ ap (λ k. k.size) made.bounds.base,
-      c.in_ok-own.ensures ∙ c.operations-base.ensures.own hashing chain tip made,
+      c.in_ok-own.ensures ∙ c.operations-base.ensures.own (hashing g.U.Update.form) chain tip made,
     )

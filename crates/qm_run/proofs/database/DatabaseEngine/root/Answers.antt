@@ -3,4 +3,4 @@ use Rattle.qm_run.proofs.Engines.{standing}
 use Rattle.qm_run.proofs.database.DatabaseEngine.root.Goals as goal
 
 pub returns : goal.returns
-returns g c = λ list is. c.root.ensures ∙ ap (λ k. k.root) (is.commitment ∙ standing list)
+returns g c = λ list is. c.root.ensures ∙ ap (λ k. k.root) (is.commitment ∙ standing g.U.Update.form g.met.U.Kind.lengths list)
