@@ -14,7 +14,10 @@ use qm_any::db::Db;
 use qm_any::init;
 use qm_any::staged::Staged;
 use qm_base::update::{Ordered, Unordered, Update};
-use qm_base::{ByteKey, ByteValue, Error, Location, Sha256, Sha256Digest, VariableEncoding};
+use qm_base::{
+    ByteKey, ByteString, ByteValue, Error, Location, Sha256, Sha256Digest, VariableEncoding,
+    VariableValue,
+};
 use qm_batch::kind::Steps;
 use qm_chain::Policy;
 use qm_engine::{BatchSizes, Engine, Numbers, Words};
@@ -29,12 +32,7 @@ use std::ops::{Bound, Range};
 use std::rc::Rc;
 
 /// What the updates of a kind of the program's databases say, over this index. They are spelled with their lengths.
-pub trait Kind<I: qm_index::Unordered<Value = Location<mmr::Family>>>: Steps<
-    mmr::Family,
-    I,
-    Key = ByteKey,
-    Value = ByteValue,
-> {
+pub trait Kind<I: qm_index::Unordered<Value = Location<mmr::Family>>>: Steps<mmr::Family, I> {
     ghost lengths: { Self.form.sizes ≡ None };
 }
 
@@ -44,11 +42,13 @@ pub type Pair = Unordered<ByteKey, VariableEncoding<ByteValue>>;
 /// What updates of ordered databases say.
 pub type Link = Ordered<ByteKey, VariableEncoding<ByteValue>>;
 
-impl<I: qm_index::Unordered<Value = Location<mmr::Family>>> Kind<I> for Pair {
+impl<I: qm_index::Unordered<Value = Location<mmr::Family>>, K: ByteString, V: VariableValue> Kind<I>
+    for Unordered<K, VariableEncoding<V>> {
     ghost lengths = { refl };
 }
 
-impl<I: qm_index::Ordered<Value = Location<mmr::Family>>> Kind<I> for Link {
+impl<I: qm_index::Ordered<Value = Location<mmr::Family>>, K: ByteString, V: VariableValue> Kind<I>
+    for Ordered<K, VariableEncoding<V>> {
     ghost lengths = { refl };
 }
 
@@ -82,8 +82,11 @@ fn refusal<
     Refusal { given, error }
 }
 
-impl<C: Store, I: Factory<Value = Location<mmr::Family>, Translator = FourCap>, U: Kind<I>> Words<C>
-    for Database<C, I, U> {
+impl<
+    C: Store,
+    I: Factory<Value = Location<mmr::Family>, Translator = FourCap>,
+    U: Kind<I, Key = ByteKey, Value = ByteValue>,
+> Words<C> for Database<C, I, U> {
     type Batch = UnmerkleizedBatch<mmr::Family, Sha256Digest, U>;
 
     type Staged = Staged<mmr::Family, Sha256Digest, U>;
@@ -107,9 +110,11 @@ impl<C: Store, I: Factory<Value = Location<mmr::Family>, Translator = FourCap>, 
     ghost scheme = { program.scheme U.form.ordered };
 }
 
-impl<C: Store, I: Factory<Value = Location<mmr::Family>, Translator = FourCap>, U: Kind<I>> Engine<
-    C,
-> for Database<C, I, U> {
+impl<
+    C: Store,
+    I: Factory<Value = Location<mmr::Family>, Translator = FourCap>,
+    U: Kind<I, Key = ByteKey, Value = ByteValue>,
+> Engine<C> for Database<C, I, U> {
     type Family = mmr::Family;
 
     type Key = ByteKey;

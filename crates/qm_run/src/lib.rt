@@ -1,4 +1,4 @@
-//! The program's database as an engine, and its top call.
+//! The program's databases as engines, and its top call.
 #![tactic(auto)]
 
 mod database;

@@ -11,7 +11,7 @@ ghost use Rattle.qm_run.specs.Program.{are_words, kind_word, kind_of_words, sche
 ghost use Rattle.qm_run.specs.Endings.{tail_text, tail_status};
 
 use crate::database::{Database, Kind, Link, Pair};
-use qm_base::{Gate, Location};
+use qm_base::{ByteKey, ByteValue, Gate, Location};
 use qm_engine::{Answered, Ending, answer_lines};
 use qm_index::{Factory, FourCap, ordered, unordered};
 use qm_lines::{InputError, LIMIT, Sink, SinkError, Source, read_all, write_all};
@@ -112,7 +112,7 @@ fn with_tail(
 fn serve<
     C: Store,
     I: Factory<Value = Location<mmr::Family>, Translator = FourCap>,
-    U: Kind<I>,
+    U: Kind<I, Key = ByteKey, Value = ByteValue>,
     K: Sink,
     G: Gate,
 >(alloc: Global, input: &[u8], store: C, sink: &mut K, gate: &G) -> (u8, C)
