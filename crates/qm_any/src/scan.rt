@@ -4,7 +4,7 @@ ghost use Rattle.std.specs.Prelude.{◌≡◌, ◌≢◌, true, ℕ, List, IfSom
 ghost use Rattle.qm_model.specs.Operations.{Operation};
 ghost use Rattle.qm_model.specs.Ranges.{keys_in, pairs_in};
 ghost use Rattle.qm_batch.specs.Lent.{IsReadError, NoneBelow};
-ghost use Rattle.qm_scan.specs.Gathered.{limit_of, pair_view};
+ghost use Rattle.qm_base.specs.Views.{limit_of, pair_view};
 ghost use Rattle.qm_scan.specs.Scans.{IsStep, left_of};
 ghost use Rattle.qm_any.specs.Databases.{IsDatabase, IsLeft};
 ghost use Rattle.qm_any.specs.Scanned.{keys_left, lent_to, lent_to_keys, pairs_left};

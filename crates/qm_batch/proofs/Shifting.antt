@@ -12,7 +12,7 @@ use Rattle.qm_model.proofs.BitLemmas.{length-bits}
 use Rattle.qm_model.proofs.LastWrites.{bytes_same}
 use Rattle.qm_bits.specs.Bitmaps.{Bitmap, start, bit_count, all_bits}
 use Rattle.qm_chain.specs.Ascending.{IsAscending}
-use Rattle.qm_chain.specs.Merges.{keys_of}
+use Rattle.qm_chain.specs.Entries.{keys_of}
 use Rattle.qm_batch.specs.Changes.{Change, Changes, AreChanges, LeadTo, change_in, place_in, stands_at}
 use Rattle.qm_batch.specs.Marks.{AreMarked, HasLive, IsAlike, cleared, marked}
 use Rattle.qm_index.proofs.Basics.{or-none}

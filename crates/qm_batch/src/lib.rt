@@ -14,6 +14,7 @@ pub mod writes;
 pub use apply::{apply_bits, apply_diffs};
 pub use base::Base;
 pub use layer::Layer;
+pub use neighbours::order::{is_before, is_below};
 pub use neighbours::{holder, next_key, previous, previous_key};
 pub use plan::{Plan, plain, staged};
 pub use qm_base::Write;

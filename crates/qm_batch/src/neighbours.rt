@@ -15,7 +15,7 @@ ghost use Rattle.qm_batch.specs.Views.{read_view};
 
 mod left;
 mod lent;
-mod order;
+pub mod order;
 
 use self::left::{left_before, update_left};
 use self::lent::last_lent;

@@ -4,7 +4,7 @@ use Rattle.qm_model.specs.Operations.{Bytes, Operation}
 use Rattle.qm_model.specs.Live.{live, live_of, live_keys}
 use Rattle.qm_model.specs.Ranges.{key_above, key_below, span_of, keys_in, pairs_in}
 use Rattle.qm_machine.specs.Lines as lines
-use Rattle.qm_lines.specs.Views.{bound_view}
+use Rattle.qm_base.specs.Views.{limit_of}
 use Rattle.qm_engine.specs.declared.turns.ordered.Side.{Side}
 use Rattle.qm_engine.specs.declared.turns.ordered.Side.TheVariants.{Above, Below}
 use Rattle.qm_engine.specs.declared.turns.ordered.Question.{Question}
@@ -20,5 +20,5 @@ abbrev pub answer_to : {K : Type 0} → (K → Bytes) → Question K → List Op
 answer_to key (Beside side k) list = lines.Beside (key_beside side (key k.now) (live_keys list))
 answer_to key (Span k) list = lines.Spanning (span_of list (key k.now))
 answer_to key (All k) list = lines.Whole (option_map (λ e. (e.value, e.next)) (live_of (live list) (key k.now)))
-answer_to key (Range low high) list = lines.Ranged (pairs_in (bound_view key low.now) (bound_view key high.now) list)
-answer_to key (Keys low high) list = lines.Keyed (keys_in (bound_view key low.now) (bound_view key high.now) list)
+answer_to key (Range low high) list = lines.Ranged (pairs_in (limit_of key low.now) (limit_of key high.now) list)
+answer_to key (Keys low high) list = lines.Keyed (keys_in (limit_of key low.now) (limit_of key high.now) list)

@@ -13,7 +13,8 @@ ghost use Rattle.qm_model.specs.Batches.{Chain, begun_on, child_of, IsOnChain, I
 ghost use Rattle.qm_model.specs.Refusals.{tip_refusal, proof_refusal, proof_count, pins_refusal};
 ghost use Rattle.qm_model.specs.Refused as refusals;
 ghost use Rattle.qm_machine.specs.Machine.{head_refusal};
-ghost use Rattle.qm_lines.specs.Views.{bound_view, listed_view, pair_view, span_view, whole_view};
+ghost use Rattle.qm_base.specs.Views.{limit_of, pair_view};
+ghost use Rattle.qm_lines.specs.Views.{listed_view, span_view, whole_view};
 ghost use Rattle.qm_proofs.specs.Proofs.{proof_view};
 ghost use Rattle.qm_store.specs.Given.{store_given, store_after, Appended, AppendedPart, IsUnchanged, TellsAll};
 ghost use Rattle.qm_store.specs.Refusals.{refusal_of, IsAmong, IsDue};
@@ -366,7 +367,7 @@ pub trait Engine<C: Store>: Words<C> + Drop + Sized {
         high: &Bound<Self::Key>,
     ) -> Result<Vec<(Self::Key, Self::Value)>, Error>
         ensures pairs { IfOk result (λ pairs. Self.scheme.is_ordered ≡ true → (list : List Operation) → Self.stands self.old list
-            → map (pair_view Self.Key.bytes Self.Value.bytes) pairs.items ≡ pairs_in (bound_view Self.Key.bytes low.now) (bound_view Self.Key.bytes high.now) list) }
+            → map (pair_view Self.Key.bytes Self.Value.bytes) pairs.items ≡ pairs_in (limit_of Self.Key.bytes low.now) (limit_of Self.Key.bytes high.now) list) }
         ensures reads { ReadsOnly Self.Words C.Store self.old self.new (IsErrOf result (Error.Journal JournalError.Store)) }
         ensures never { IfErr result (λ e. e ≢ Error.StaleBatch) }
         ensures refused { IfErr result (λ e. TellsAll C.Store (Self.inside self.old) → (list : List Operation) → Self.stands self.old list → refusal_of e ≡ None) };
@@ -379,7 +380,7 @@ pub trait Engine<C: Store>: Words<C> + Drop + Sized {
         high: &Bound<Self::Key>,
     ) -> Result<Vec<Self::Key>, Error>
         ensures keys { IfOk result (λ keys. Self.scheme.is_ordered ≡ true → (list : List Operation) → Self.stands self.old list
-            → map Self.Key.bytes keys.items ≡ keys_in (bound_view Self.Key.bytes low.now) (bound_view Self.Key.bytes high.now) list) }
+            → map Self.Key.bytes keys.items ≡ keys_in (limit_of Self.Key.bytes low.now) (limit_of Self.Key.bytes high.now) list) }
         ensures reads { ReadsOnly Self.Words C.Store self.old self.new (IsErrOf result (Error.Journal JournalError.Store)) }
         ensures never { IfErr result (λ e. e ≢ Error.StaleBatch) }
         ensures refused { IfErr result (λ e. TellsAll C.Store (Self.inside self.old) → (list : List Operation) → Self.stands self.old list → refusal_of e ≡ None) };

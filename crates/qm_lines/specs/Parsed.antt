@@ -19,7 +19,8 @@ use Rattle.qm_lines.specs.declared.policy.AnyPolicy.{AnyPolicy}
 use Rattle.qm_lines.specs.declared.command.Command.{Command}
 use Rattle.qm_lines.specs.declared.command.Resolution.{Resolution}
 use Rattle.qm_lines.specs.Policies.{policy_view}
-use Rattle.qm_lines.specs.Views.{bound_view, line_view}
+use Rattle.qm_base.specs.Views.{limit_of}
+use Rattle.qm_lines.specs.Views.{line_view}
 
 -- a command whose keys and values are seen as their bytes
 abbrev pub byte_line : Command Bytes Bytes AnyPolicy → Line Policy
@@ -38,7 +39,7 @@ byte_write = write_view (λ k. k) (λ v. v)
 
 -- where a range of such keys begins or ends
 abbrev pub byte_bound : Bound Bytes → Limit
-byte_bound = bound_view (λ k. k)
+byte_bound = limit_of (λ k. k)
 
 abbrev pub resolution_view : Resolution Bytes Bytes → grammar.Resolution
 resolution_view r = (map byte_slot r.slots.items, map byte_write r.others.items)

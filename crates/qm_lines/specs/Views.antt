@@ -1,14 +1,11 @@
 -- Commands and replies over byte strings.
 use Rattle.std.specs.Prelude.{Option, Some, map, option_map}
-use Rattle.std.specs.declared.ops.Bound.{Bound}
-use Rattle.std.specs.declared.ops.Bound.TheVariants as bounds
 use Rattle.std.specs.Int.NonZero.{non_zero_u64_get}
 use Rattle.qm_model.specs.Live.{Live}
 use Rattle.qm_model.specs.Operations.{Bytes, Operation, update, delete, commit}
-use Rattle.qm_model.specs.Ranges.{Limit, included, excluded, unlimited}
 use Rattle.qm_machine.specs.Lines as lines
 use Rattle.qm_model.specs.Refused as refusals
-use Rattle.qm_base.specs.Views.{corrupt_view}
+use Rattle.qm_base.specs.Views.{corrupt_view, limit_of, pair_view}
 use Rattle.qm_base.specs.Slots.{slot_views, write_views}
 use Rattle.qm_lines.specs.declared.command.Command.{Command}
 use Rattle.qm_lines.specs.declared.command.Command.TheVariants as commands
@@ -46,12 +43,6 @@ refused_view (refused.DataCorrupted c) = refusals.DataCorrupted (corrupt_view c)
 refused_view (refused.Merkle e) = refusals.Merkle (tree_view e)
 refused_view (refused.Journal e) = refusals.Journal (log_view e)
 
--- where a range of keys begins or ends
-abbrev pub bound_view : {K : Type 0} → (K → Bytes) → Bound K → Limit
-bound_view key (bounds.Included k) = included (key k)
-bound_view key (bounds.Excluded k) = excluded (key k)
-bound_view key bounds.Unbounded = unlimited
-
 module _ {K V : Type 0} (key : K → Bytes) (value : V → Bytes) where
   abbrev pub line_view : {P Q : Type 0} → (P → Q) → Command K V P → lines.Line Q
   line_view policy commands.Open = lines.Open
@@ -72,8 +63,8 @@ module _ {K V : Type 0} (key : K → Bytes) (value : V → Bytes) where
   line_view policy (commands.Prev k from) = lines.Prev (key k) from
   line_view policy (commands.Span k) = lines.Span (key k)
   line_view policy (commands.All k) = lines.All (key k)
-  line_view policy (commands.Range low high) = lines.Range (bound_view key low) (bound_view key high)
-  line_view policy (commands.Keys low high) = lines.Keys (bound_view key low) (bound_view key high)
+  line_view policy (commands.Range low high) = lines.Range (limit_of key low) (limit_of key high)
+  line_view policy (commands.Keys low high) = lines.Keys (limit_of key low) (limit_of key high)
   line_view policy commands.Info = lines.Info
   line_view policy (commands.BatchInfo h) = lines.BatchInfo h
   line_view policy commands.Root = lines.Root
@@ -96,9 +87,6 @@ module _ {K V : Type 0} (key : K → Bytes) (value : V → Bytes) where
   abbrev pub whole_view : V × K → Bytes × Option Bytes
   whole_view p = (value p.0, Some (key p.1))
 
-  abbrev pub pair_view : K × V → Bytes × Bytes
-  pair_view p = (key p.0, value p.1)
-
   abbrev pub answer_view : {D : Type 0} → (D → Bytes) → Reply K V D → lines.Answer
   answer_view digest (replies.Opened i start size) = lines.Opened i start size
   answer_view digest (replies.Batch h) = lines.Started h
@@ -111,7 +99,7 @@ module _ {K V : Type 0} (key : K → Bytes) (value : V → Bytes) where
   answer_view digest (replies.Beside k) = lines.Beside (option_map key k)
   answer_view digest (replies.Span s) = lines.Spanning (option_map span_view s)
   answer_view digest (replies.All p) = lines.Whole (option_map whole_view p)
-  answer_view digest (replies.Range pairs) = lines.Ranged (map pair_view pairs.items)
+  answer_view digest (replies.Range pairs) = lines.Ranged (map (pair_view key value) pairs.items)
   answer_view digest (replies.Keys keys) = lines.Keyed (map key keys.items)
   answer_view digest (replies.Info start size floor boundary is_live) = lines.Told start size floor boundary is_live
   answer_view digest (replies.BatchInfo base size floor boundary) = lines.BatchTold base size floor boundary

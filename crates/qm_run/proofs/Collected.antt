@@ -9,10 +9,6 @@ use Rattle.qm_model.specs.Live.{live, live_keys, value_of}
 use Rattle.qm_model.specs.Keys.{by_key}
 use Rattle.qm_model.specs.Ranges.{Limit, is_after, is_before, keys_in, pairs_in}
 use Rattle.qm_model.proofs.KeySorts.{by_key-permutation}
-use Rattle.std.specs.declared.ops.Bound.{Bound}
-use Rattle.std.specs.declared.ops.Bound.TheVariants.{Included, Excluded, Unbounded}
-use Rattle.qm_lines.specs.Views.{bound_view}
-use Rattle.qm_scan.specs.Gathered.{limit_of}
 
 filter-few : {X : Type 0} (p : X → Bool) (xs : List X) → length (filter p xs) ≤ length xs
 filter-few p [] = omega arith
@@ -44,9 +40,3 @@ few-pairs low high list =
 pub one-more : {X Y : Type 0} (view : X → Y) (items : List X) (x : X) (rest : List Y) → map view items ++ view x ∷ rest ≡ map view (items ++ x ∷ []) ++ rest
 one-more view [] x rest = refl
 one-more view (item ∷ items) x rest = ap (λ ys. view item ∷ ys) (one-more view items x rest)
-
--- where a range begins or ends, said of scans and of lines
-pub limits-same : {K : Type 0} (key : K → Bytes) (limit : Bound K) → limit_of key limit ≡ bound_view key limit
-limits-same key (Included k) = refl
-limits-same key (Excluded k) = refl
-limits-same key Unbounded = refl

@@ -306,13 +306,9 @@ err-of (Err e) x P given is = given (cc is)
 pub err-exit : {X E : Type 0} (r : Result X E) (y e x : E) → r ≡ Err y → y ≡ e → r ≡ Err x → e ≡ x
 err-exit r y e x is from fault = cc (is, from, fault)
 
+-- want of memory is no fault of the store
 pub memory-exit : {X : Type 0} (r : Result X Error) (y : Error) → r ≡ Err y → y ≡ errors.Memory → r ≡ Err (errors.Journal journal.Store) → ⊥
 memory-exit r y is memory fault = let same : errors.Memory ≡ errors.Journal journal.Store = err-exit r y errors.Memory (errors.Journal journal.Store) is memory fault in absurd (cc same)
-
--- want of memory is no fault of the store
-pub memory-fault : {X : Type 0} (r : Result X Error) (P : Type 0) → IfErr r (λ e. e ≡ errors.Memory) → IsErrOf r (errors.Journal journal.Store) → P
-memory-fault (Ok v) P memory fault = absurd (cc fault)
-memory-fault (Err e) P memory fault = let same : errors.Memory ≡ errors.Journal journal.Store = cc (memory, fault) in absurd (cc same)
 
 -- what reads left is what reads leave
 pub left-store : {C D : Type 0} (members : store.Ghosts C) (hash : Hashing D) (old new : Database C D) → IsLeft members hash old new → IsUnchanged members old.log.store new.log.store

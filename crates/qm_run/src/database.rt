@@ -341,7 +341,7 @@ impl<
             return Ok(None);
         }
         match self.db.get_span(alloc, key) {
-            Ok(found) => span_from(alloc, found),
+            Ok(found) => Ok(span_from(found)),
             Err(error) => Err(error),
         }
     }

@@ -1,11 +1,11 @@
 // Operations as replies list them, and copies of what a command has.
-ghost use Rattle.std.specs.Prelude.{◌≡◌, true, IfOk, IfErr, map, option_map};
+ghost use Rattle.std.specs.Prelude.{◌≡◌, true, IfOk, map, option_map};
 ghost use Rattle.qm_batch.specs.Changes.{located};
 ghost use Rattle.qm_batch.specs.Views.{read_view};
 ghost use Rattle.qm_lines.specs.Views.{listed_view, span_view};
 ghost use Rattle.qm_base.specs.Views.{operation_view, operation_views};
 
-use qm_base::{ByteString, Error, Location, Operation, Twin, Update};
+use qm_base::{ByteString, Location, Operation, Twin, Update};
 use qm_lines::{Listed, Span};
 use std::alloc::{AllocError, Global};
 
@@ -88,27 +88,16 @@ pub fn listed<F, U: Update>(
     Ok(list)
 }
 
-/// A live update that was found, as a reply lists it, where it names a next key. Want of memory is the only error.
-pub fn span_from<F, U: Update>(
-    alloc: Global,
-    found: Option<(Location<F>, U)>,
-) -> Result<Option<Span<U::Key, U::Value>>, Error>
-    ensures span { IfOk result (λ span. U.form.ordered ≡ true → option_map located (option_map (span_view U.Key.bytes U.Value.bytes) span) ≡ option_map (read_view U.view) found) }
-    ensures memory { IfErr result (λ e. e ≡ Error.Memory) }
+/// A live update that was found, as a reply lists it, where it names a next key.
+pub fn span_from<F, U: Update>(found: Option<(Location<F>, U)>) -> Option<Span<U::Key, U::Value>>
+    ensures { U.form.ordered ≡ true → option_map located (option_map (span_view U.Key.bytes U.Value.bytes) result) ≡ option_map (read_view U.view) found }
 {
-    let Some((location, update)) = found else {
-        return Ok(None);
-    };
-    let (key, value, Some(next)) = update.parts() else {
-        return Ok(None);
-    };
-    let key = key.twin(alloc)?;
-    let value = value.twin(alloc)?;
-    let next = next.twin(alloc)?;
-    Ok(Some(Span {
+    let (location, update) = found?;
+    let (key, value, next) = update.into_parts();
+    Some(Span {
         location: location.get(),
         key,
         value,
-        next,
-    }))
+        next: next?,
+    })
 }

@@ -4,7 +4,7 @@ ghost use Rattle.qm_model.specs.Operations.{Operation};
 ghost use Rattle.qm_model.specs.Ranges.{keys_in, pairs_in};
 ghost use Rattle.qm_any.specs.Databases.{IsDatabase, IsLeft};
 ghost use Rattle.qm_batch.specs.Lent.{IsReadError};
-ghost use Rattle.qm_scan.specs.Gathered.{limit_of, pair_view};
+ghost use Rattle.qm_base.specs.Views.{limit_of, pair_view};
 ghost use Rattle.qm_scan.specs.Scans.{left_of};
 
 use qm_any::db::{Db, LaidOut};

@@ -4,7 +4,8 @@ use Rattle.std.specs.Prelude.{if◌then◌else◌, insert}
 use Rattle.std.proofs.lemmas.List.{at_drop_more, at_drop_all, map-append, take-map, drop-map}
 use Rattle.qm_model.specs.Operations.{Bytes}
 use Rattle.qm_model.specs.Keys.{key_lt}
-use Rattle.qm_scan.specs.Gathered.{Pair, pair_view, place_among, put_pair}
+use Rattle.qm_base.specs.Views.{pair_view}
+use Rattle.qm_scan.specs.Gathered.{Pair, place_among, put_pair}
 
 -- what is put where a key goes
 pub put-there : (ps : List Pair) (p : Pair) → insert ps (place_among p.0 ps) p ≡ put_pair ps p

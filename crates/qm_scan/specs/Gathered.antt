@@ -1,25 +1,14 @@
 -- What is gathered of a bucket: the pairs of the updates in a range, by key.
 use Rattle.std.specs.Prelude.{ℕ, suc, Bool, ◌&&◌, if◌then◌else◌, List, [], ◌∷◌, Option, Some, None}
-use Rattle.std.specs.declared.ops.Bound.{Bound}
-use Rattle.std.specs.declared.ops.Bound.TheVariants.{Included, Excluded, Unbounded}
 use Rattle.qm_model.specs.Operations.{Bytes, Operation, update, delete, commit}
 use Rattle.qm_model.specs.Keys.{key_lt}
-use Rattle.qm_model.specs.Ranges.{Limit, included, excluded, unlimited, is_after, is_before}
+use Rattle.qm_model.specs.Ranges.{Limit, is_after, is_before}
 use Rattle.qm_batch.specs.Changes.{update_at}
 use Rattle.qm_batch.specs.Nearest.{said_key}
 
 -- a key and its value
 abbrev pub Pair : Type 0
 Pair = Bytes × Bytes
-
-abbrev pub pair_view : {K V : Type 0} → (K → Bytes) → (V → Bytes) → K × V → Pair
-pair_view key value p = (key p.0, value p.1)
-
--- where a range begins or ends
-abbrev pub limit_of : {K : Type 0} → (K → Bytes) → Bound K → Limit
-limit_of key (Included k) = included (key k)
-limit_of key (Excluded k) = excluded (key k)
-limit_of key Unbounded = unlimited
 
 -- the key is in the range
 abbrev pub is_in : Limit → Limit → Bytes → Bool

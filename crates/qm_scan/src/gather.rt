@@ -3,29 +3,22 @@
 ghost use Rattle.std.specs.Prelude.{◌≡◌, ◌≢◌, ◌≤◌, ℕ, List, [], fold, map, option_map, All, IfSome, IfOk, IfErr, OnOk};
 ghost use Rattle.qm_base.specs.Views.{operation_view};
 ghost use Rattle.qm_model.specs.Forms.{IsOf, IsSpelling, spelling};
-ghost use Rattle.qm_model.specs.Keys.{key_lt};
 ghost use Rattle.qm_model.specs.Operations as model;
 ghost use Rattle.qm_model.specs.Ranges as ranges;
 ghost use Rattle.qm_store.specs.Log.{IsLog};
 ghost use Rattle.qm_batch.specs.Changes.{said_by, update_at};
 ghost use Rattle.qm_batch.specs.Lent.{IsRead, IsReadError};
 ghost use Rattle.qm_batch.specs.Nearest.{limit_view};
-ghost use Rattle.qm_scan.specs.Gathered.{is_in, limit_of, only_in, pair_view, place_among, put_at, put_said};
+ghost use Rattle.qm_base.specs.Views.{limit_of, pair_view};
+ghost use Rattle.qm_scan.specs.Gathered.{is_in, only_in, place_among, put_at, put_said};
 
 use qm_base::update::Update;
 use qm_base::{ByteString, Error, Hasher, JournalError, Location, Operation};
-use qm_batch::{read_item, update_in};
+use qm_batch::{is_before, is_below, read_item, update_in};
 use qm_merkle::Family;
 use qm_store::{AuthLog, Store};
 use std::alloc::{AllocError, Global};
 use std::ops::Bound;
-
-// Whether a key is below another, in byte order.
-fn is_below(key: &[u8], other: &[u8]) -> bool
-    ensures { result ≡ key_lt key.now other.now }
-{
-    key < other
-}
 
 // Whether a key doesn't come before where a range begins.
 fn is_after(low: Bound<&[u8]>, key: &[u8]) -> bool
@@ -34,17 +27,6 @@ fn is_after(low: Bound<&[u8]>, key: &[u8]) -> bool
     match low {
         Bound::Included(first) => !is_below(key, first),
         Bound::Excluded(before) => is_below(before, key),
-        Bound::Unbounded => true,
-    }
-}
-
-// Whether a key doesn't come behind where a range ends.
-fn is_before(high: Bound<&[u8]>, key: &[u8]) -> bool
-    ensures { result ≡ ranges.is_before (limit_view high.entry) key.now }
-{
-    match high {
-        Bound::Included(last) => !is_below(last, key),
-        Bound::Excluded(end) => is_below(key, end),
         Bound::Unbounded => true,
     }
 }

@@ -7,7 +7,8 @@ ghost use Rattle.qm_model.specs.Ranges.{Limit, unlimited};
 ghost use Rattle.qm_store.specs.Log.{IsLog};
 ghost use Rattle.qm_batch.specs.Lent.{IsLent, IsRead, IsReadError, NoneBelow};
 ghost use Rattle.qm_batch.specs.Nearest.{limit_view};
-ghost use Rattle.qm_scan.specs.Gathered.{limit_of, pair_view, put_at};
+ghost use Rattle.qm_base.specs.Views.{limit_of, pair_view};
+ghost use Rattle.qm_scan.specs.Gathered.{put_at};
 ghost use Rattle.qm_scan.specs.Scans.{AreNext, BeginsAt, IsStep, IsTaken, beginning, behind, nowhere, behind_first, left_of, place_view, unwrapped};
 
 use crate::gather::{bytes_of, pairs_at};
@@ -47,7 +48,7 @@ pub struct Scan<U: Update> {
 
 impl<U: Update> Model for Scan<U> {
     ghost use Rattle.std.specs.Prelude.{map};
-    ghost use Rattle.qm_scan.specs.Gathered.{limit_of, pair_view};
+    ghost use Rattle.qm_base.specs.Views.{limit_of, pair_view};
     ghost use Rattle.qm_scan.specs.Scans.{Scanning, place_view};
 
     ghost Value = { Scanning };

@@ -8,14 +8,14 @@ ghost use Rattle.qm_batch.specs.Nearest.{limit_view, is_within, later_key};
 use std::ops::Bound;
 
 /// Whether a key is below another, in byte order.
-pub(crate) fn is_below(key: &[u8], other: &[u8]) -> bool
+pub fn is_below(key: &[u8], other: &[u8]) -> bool
     ensures { result ≡ key_lt key.now other.now }
 {
     key < other
 }
 
 /// Whether a key comes before a limit.
-pub(crate) fn is_before(limit: Bound<&[u8]>, key: &[u8]) -> bool
+pub fn is_before(limit: Bound<&[u8]>, key: &[u8]) -> bool
     ensures { result ≡ is_before (limit_view limit.entry) key.now }
 {
     match limit {

@@ -1,7 +1,7 @@
 use Rattle.std.proofs.Common.{◌≡◌, ◌++◌, codes, map, take}
 use Rattle.std.specs.String.{string_bytes}
 use Rattle.qm_machine.specs.Text as texts
-use Rattle.qm_lines.specs.Views.{pair_view}
+use Rattle.qm_base.specs.Views.{pair_view}
 use Rattle.qm_lines.proofs.text.write_range.Given as goal
 
 abbrev pub invariant-loop-key : goal.invariant-loop-key

@@ -5,7 +5,7 @@ use Rattle.std.proofs.lemmas.Result.{err_from_is_err_and}
 use Rattle.qm_any.proofs.OrderedReads.{laid_out}
 use Rattle.qm_any.proofs.Reading.{left-then, left-error, left-database}
 use Rattle.qm_batch.specs.Lent.{IsReadError}
-use Rattle.qm_scan.specs.Gathered.{pair_view}
+use Rattle.qm_base.specs.Views.{pair_view}
 use Rattle.qm_scan.specs.Scans.{IsStep, left_of}
 use Rattle.qm_run.proofs.Collected.{one-more}
 use Rattle.qm_run.proofs.ranges.collected.Goals as goal

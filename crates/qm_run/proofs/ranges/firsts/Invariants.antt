@@ -1,5 +1,5 @@
 use Rattle.std.proofs.Common.{◌≡◌, map, take}
-use Rattle.qm_scan.specs.Gathered.{pair_view}
+use Rattle.qm_base.specs.Views.{pair_view}
 use Rattle.qm_run.proofs.ranges.firsts.Given as goal
 
 abbrev pub invariant-loop-key : goal.invariant-loop-key

@@ -1,6 +1,6 @@
 use Rattle.std.proofs.Common.{◌≡◌, ◌∙◌, ap, map}
 use Rattle.qm_any.proofs.ScannedKeys.{keys-of_pairs}
-use Rattle.qm_scan.specs.Gathered.{limit_of}
+use Rattle.qm_base.specs.Views.{limit_of}
 use Rattle.qm_run.proofs.ranges.keys_of.Goals as goal
 
 pub returns-clause-keys : goal.returns-clause-keys

@@ -4,7 +4,7 @@ use Rattle.qm_model.specs.Live.{live}
 use Rattle.qm_model.specs.Ranges.{pairs_in}
 use Rattle.qm_any.specs.Databases.{IsDatabase}
 use Rattle.qm_any.proofs.OrderedReads.{laid_out}
-use Rattle.qm_scan.specs.Gathered.{limit_of, pair_view}
+use Rattle.qm_base.specs.Views.{limit_of, pair_view}
 use Rattle.qm_scan.specs.Scans.{left_of}
 use Rattle.qm_run.proofs.Collected.{few-pairs}
 use Rattle.qm_run.proofs.ranges.pairs_of.Goals as goal

@@ -6,7 +6,8 @@ use Rattle.std.proofs.lemmas.Result.{err_from_is_err_and}
 use Rattle.qm_model.proofs.Results.{told-both, told-one}
 use Rattle.qm_batch.specs.Nearest.{limit_view}
 use Rattle.qm_batch.proofs.Reading.{read-then, error-then, told}
-use Rattle.qm_scan.specs.Gathered.{pair_view, put_at, put_said}
+use Rattle.qm_base.specs.Views.{pair_view}
+use Rattle.qm_scan.specs.Gathered.{put_at, put_said}
 use Rattle.qm_scan.proofs.gather.pairs_at.Goals as goal
 
 pub loop-location-preserved : goal.loop-location-preserved

@@ -5,7 +5,8 @@ use Rattle.qm_model.specs.Operations.{Operation}
 use Rattle.qm_store.specs.Log.{IsLog}
 use Rattle.qm_batch.specs.Lent.{IsRead}
 use Rattle.qm_batch.specs.Nearest.{limit_view}
-use Rattle.qm_scan.specs.Gathered.{pair_view, put_at}
+use Rattle.qm_base.specs.Views.{pair_view}
+use Rattle.qm_scan.specs.Gathered.{put_at}
 use Rattle.qm_scan.proofs.gather.pairs_at.Given as goal
 
 abbrev pub invariant-loop-location : goal.invariant-loop-location

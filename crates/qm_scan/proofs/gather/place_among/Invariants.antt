@@ -1,5 +1,6 @@
 use Rattle.std.proofs.Common.{◌≡◌, ◌+◌, map, drop}
-use Rattle.qm_scan.specs.Gathered.{pair_view, place_among}
+use Rattle.qm_base.specs.Views.{pair_view}
+use Rattle.qm_scan.specs.Gathered.{place_among}
 use Rattle.qm_scan.proofs.gather.place_among.Given as goal
 
 abbrev pub invariant-loop-pair : goal.invariant-loop-pair

@@ -1,7 +1,8 @@
 use Rattle.std.proofs.Common.{◌≡◌, ◌∙◌, ap, ap₂, sym, map, arith}
 use Rattle.std.specs.Prelude.{insert, option_map}
 use Rattle.std.proofs.lemmas.List.{length-map}
-use Rattle.qm_scan.specs.Gathered.{pair_of, pair_view, place_among, put_pair, put_said}
+use Rattle.qm_base.specs.Views.{pair_view}
+use Rattle.qm_scan.specs.Gathered.{pair_of, place_among, put_pair, put_said}
 use Rattle.qm_scan.proofs.Gathering.{map-insert, place-within, put-there}
 use Rattle.qm_scan.proofs.gather.put.Goals as goal
 

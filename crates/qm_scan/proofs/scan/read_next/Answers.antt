@@ -4,7 +4,8 @@ use Rattle.std.specs.Map.{keys_of}
 use Rattle.qm_model.specs.Ranges.{unlimited}
 use Rattle.qm_model.proofs.Results.{told-any, told-one}
 use Rattle.qm_index.specs.Neighbours.{neighbour_at, next_key}
-use Rattle.qm_scan.specs.Gathered.{limit_of, pair_view, put_at}
+use Rattle.qm_base.specs.Views.{limit_of, pair_view}
+use Rattle.qm_scan.specs.Gathered.{put_at}
 use Rattle.qm_scan.specs.Scans.{ahead_of, behind, behind_first, place_view, unwrapped}
 use Rattle.qm_scan.proofs.Ahead.{next-above, next-bucket, over-next}
 use Rattle.qm_scan.proofs.Going.{ends-there, ok-two, over, unwrapped-none, unwrapped-some, went}

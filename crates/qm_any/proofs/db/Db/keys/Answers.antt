@@ -1,5 +1,5 @@
 use Rattle.std.proofs.Common.{◌∙◌, ap, map}
-use Rattle.qm_scan.specs.Gathered.{limit_of}
+use Rattle.qm_base.specs.Views.{limit_of}
 use Rattle.qm_any.proofs.ScannedKeys.{keys-of_pairs}
 use Rattle.qm_any.proofs.db.Db.keys.Goals as goal
 

@@ -1,6 +1,6 @@
 use Rattle.std.proofs.Common.{◌≡◌, length}
 use Rattle.qm_chain.specs.Ascending.{IsAscending}
-use Rattle.qm_chain.specs.Merges.{keys_of, entry_of}
+use Rattle.qm_chain.specs.Entries.{keys_of, entry_of}
 use Rattle.qm_chain.proofs.diff.Diff.get.Given as goal
 
 abbrev pub invariant-loop-key : goal.invariant-loop-key

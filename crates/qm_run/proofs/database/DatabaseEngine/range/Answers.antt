@@ -1,13 +1,12 @@
-use Rattle.std.proofs.Common.{◌≡◌, ◌∙◌, ap₂, map}
+use Rattle.std.proofs.Common.{◌≡◌, ◌∙◌, map}
 use Rattle.qm_model.proofs.Results.{err-then, ok-each, ok-then}
 use Rattle.qm_model.specs.Ranges.{pairs_in}
 use Rattle.qm_any.specs.Databases.{IsDatabase}
 use Rattle.qm_any.proofs.Reading.{left-database}
 use Rattle.qm_base.specs.declared.error.Error.TheVariants.{Journal}
 use Rattle.qm_base.specs.declared.error.JournalError.TheVariants.{Store}
-use Rattle.qm_scan.specs.Gathered.{limit_of, pair_view}
+use Rattle.qm_base.specs.Views.{limit_of, pair_view}
 use Rattle.qm_run.specs.Databases.{hashing, layout}
-use Rattle.qm_run.proofs.Collected.{limits-same}
 use Rattle.qm_run.proofs.Engines.{err-of, left-store, log-untold, log-rose, log-kept}
 use Rattle.qm_run.proofs.database.DatabaseEngine.range.Goals as goal
 
@@ -15,7 +14,7 @@ pub returns-clause-pairs : goal.returns-clause-pairs
 returns-clause-pairs g c =
     ok-then c.pairs_of.result (ok-each (IsDatabase g.C.Store (layout g.U.Update.form g.I.Unordered.index_key) c.args.self.now.db)
     (λ list found. map (pair_view (λ x. x) (λ x. x)) found.items ≡ pairs_in (limit_of (λ x. x) c.args.low.now) (limit_of (λ x. x) c.args.high.now) list) c.pairs_of.result c.pairs_of.ensures.pairs)
-    (λ found given ordered list is. given list is ∙ ap₂ (λ low high. pairs_in low high list) (limits-same (λ x. x) c.args.low.now) (limits-same (λ x. x) c.args.high.now))
+    (λ found given ordered list is. given list is)
 
 pub returns-clause-reads : goal.returns-clause-reads
 returns-clause-reads g c = record {

@@ -1,24 +1,22 @@
 use Rattle.std.proofs.Common.{◌≡◌, ◌∙◌, sym, option_map}
-use Rattle.qm_model.proofs.Results.{err-then, ok-then}
 use Rattle.qm_model.specs.Ranges.{span_of}
 use Rattle.qm_lines.specs.Views.{span_view}
 use Rattle.qm_any.specs.Databases.{IsDatabase}
 use Rattle.qm_any.proofs.Reading.{left-database}
 use Rattle.qm_run.specs.Databases.{hashing, layout}
-use Rattle.qm_run.proofs.Engines.{memory-fault, left-store, log-untold, log-rose, log-kept}
+use Rattle.qm_run.proofs.Engines.{left-store, log-untold, log-rose, log-kept}
 use Rattle.qm_run.proofs.Spans.{same-located}
 use Rattle.qm_run.proofs.database.DatabaseEngine.span.Goals as goal
 
 pub returns-in-Ok-clause-span : goal.returns-in-Ok-clause-span
 returns-in-Ok-clause-span g c =
-    ok-then c.span_from.result c.span_from.ensures.span
-    (λ s same ordered list is. same-located (option_map (span_view (λ k. k) (λ v. v)) s) (span_of list c.args.key.now) (same ordered ∙ c.in-Ok.ensures.value list is))
+    λ ordered list is. same-located (option_map (span_view (λ k. k) (λ v. v)) c.span_from.result) (span_of list c.args.key.now) (c.span_from.ensures ordered ∙ c.in-Ok.ensures.value list is)
 
 pub returns-in-Ok-clause-reads : goal.returns-in-Ok-clause-reads
 returns-in-Ok-clause-reads g c = record {
   same = λ list is. left-database g.C.Store (layout g.U.Update.form g.I.Unordered.index_key) c.args.self.now.db c.get_span.new.self list c.get_span.ensures.left is;
   store = left-store g.C.Store (hashing g.U.Update.form) c.args.self.now.db c.get_span.new.self c.get_span.ensures.left;
-  faults = record { later = (c.get_span.ensures.left).read.later; failed = memory-fault c.span_from.result _ c.span_from.ensures.memory };
+  faults = record { later = (c.get_span.ensures.left).read.later; failed = λ fault. absurd (cc fault) };
 }
 
 pub returns-in-Err-clause-reads : goal.returns-in-Err-clause-reads

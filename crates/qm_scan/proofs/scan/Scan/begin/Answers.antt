@@ -1,6 +1,6 @@
 use Rattle.std.proofs.Common.{◌≡◌, ◌∙◌, ap, map}
 use Rattle.qm_model.proofs.Results.{told-one}
-use Rattle.qm_scan.specs.Gathered.{pair_view}
+use Rattle.qm_base.specs.Views.{pair_view}
 use Rattle.qm_scan.specs.Scans.{beginning, place_view}
 use Rattle.qm_scan.proofs.Going.{carried}
 use Rattle.qm_scan.proofs.scan.Scan.begin.Goals as goal

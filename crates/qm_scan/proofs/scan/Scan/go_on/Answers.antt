@@ -1,6 +1,6 @@
 use Rattle.std.proofs.Common.{◌≡◌, ◌∙◌, ap, sym, map}
 use Rattle.qm_model.proofs.Results.{told-any, told-one}
-use Rattle.qm_scan.specs.Gathered.{limit_of, pair_view}
+use Rattle.qm_base.specs.Views.{limit_of, pair_view}
 use Rattle.qm_scan.specs.Scans.{behind, place_view}
 use Rattle.qm_scan.proofs.Going.{carried, ended, rests}
 use Rattle.qm_scan.proofs.scan.Scan.go_on.Goals as goal
