@@ -110,6 +110,7 @@ pub by_error : {K V D : Type 0} (error : Error) (Q : reply.Reply K V D → Type 
 by_error errors.Memory Q stale other = tt
 by_error errors.StaleBatch Q stale other = stale refl
 by_error errors.StaleRead Q stale other = other refused.StaleRead (λ e. absurd (cc)) refl
+by_error (errors.PruneBeyondMinRequired p m) Q stale other = other (refused.PruneBeyondMinRequired p m) (λ e. absurd (cc)) refl
 by_error (errors.HistoricalFloorPruned n) Q stale other = other (refused.HistoricalFloorPruned n) (λ e. absurd (cc)) refl
 by_error (errors.DataCorrupted c) Q stale other = other (refused.DataCorrupted c) (λ e. absurd (cc)) refl
 by_error (errors.Merkle merkle.Memory) Q stale other = tt

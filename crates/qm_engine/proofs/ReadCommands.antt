@@ -35,6 +35,7 @@ pub is_stale_read : (error : Error) → (error ≡ errors.StaleRead) ⊎ (error 
 is_stale_read errors.Memory = inr (λ e. absurd (cc))
 is_stale_read errors.StaleBatch = inr (λ e. absurd (cc))
 is_stale_read errors.StaleRead = inl refl
+is_stale_read (errors.PruneBeyondMinRequired p m) = inr (λ e. absurd (cc))
 is_stale_read (errors.HistoricalFloorPruned n) = inr (λ e. absurd (cc))
 is_stale_read (errors.DataCorrupted c) = inr (λ e. absurd (cc))
 is_stale_read (errors.Merkle e) = inr (λ e. absurd (cc))

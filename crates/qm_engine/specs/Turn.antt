@@ -28,6 +28,7 @@ abbrev pub turn_of_error : {K V D : Type 0} → Error → Turn K V D
 turn_of_error errors.Memory = Memory
 turn_of_error errors.StaleBatch = Reply (Refused refused.StaleBatch)
 turn_of_error errors.StaleRead = Reply (Refused refused.StaleRead)
+turn_of_error (errors.PruneBeyondMinRequired p m) = Reply (Refused (refused.PruneBeyondMinRequired p m))
 turn_of_error (errors.HistoricalFloorPruned n) = Reply (Refused (refused.HistoricalFloorPruned n))
 turn_of_error (errors.DataCorrupted c) = Reply (Refused (refused.DataCorrupted c))
 turn_of_error (errors.Merkle e) = turn_of_tree e

@@ -70,6 +70,9 @@ pub fn turn_of<K: Drop, V: Drop, D: Drop>(error: Error) -> Turn<K, V, D>
         Error::Journal(error) => return turn_of_log(error),
         Error::StaleBatch => Refused::StaleBatch,
         Error::StaleRead => Refused::StaleRead,
+        Error::PruneBeyondMinRequired(location, boundary) => {
+            Refused::PruneBeyondMinRequired(location, boundary)
+        }
         Error::HistoricalFloorPruned(size) => Refused::HistoricalFloorPruned(size),
         Error::DataCorrupted(corrupt) => Refused::DataCorrupted(corrupt),
     };

@@ -23,6 +23,10 @@ fn errors_have_text(rt: HostRuntime) -> Result<(), Fail> {
             "stale read: database is at no state of the batch's chain",
         ),
         (
+            Error::PruneBeyondMinRequired(9, 4),
+            "prune location 9 beyond minimum required location 4",
+        ),
+        (
             Error::HistoricalFloorPruned(3),
             "historical floor pruned for size: 3",
         ),

@@ -38,6 +38,7 @@ refused_view (refused.NoSuchHandle h) = refusals.NoSuchHandle h
 refused_view (refused.SlotCount staged given) = refusals.SlotCount staged given
 refused_view refused.StaleBatch = refusals.StaleBatch
 refused_view refused.StaleRead = refusals.StaleRead
+refused_view (refused.PruneBeyondMinRequired p m) = refusals.PruneBeyondMinRequired p m
 refused_view (refused.HistoricalFloorPruned n) = refusals.HistoricalFloorPruned n
 refused_view (refused.DataCorrupted c) = refusals.DataCorrupted (corrupt_view c)
 refused_view (refused.Merkle e) = refusals.Merkle (tree_view e)

@@ -53,6 +53,8 @@ pub enum Refused {
     SlotCount(u64, u64),
     StaleBatch,
     StaleRead,
+    /// Where the database was to be pruned to, and up to where it may be.
+    PruneBeyondMinRequired(u64, u64),
     /// No commit stands at the end of so many operations.
     HistoricalFloorPruned(u64),
     DataCorrupted(Corrupt),

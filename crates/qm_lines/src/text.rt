@@ -149,6 +149,9 @@ fn write_refused(out: &mut String, refused: Refused) -> Result<(), AllocError>
         Refused::SlotCount(staged, given) => write!(out, "SlotCount {staged} {given}"),
         Refused::StaleBatch => out.push_str("StaleBatch"),
         Refused::StaleRead => out.push_str("StaleRead"),
+        Refused::PruneBeyondMinRequired(location, boundary) => {
+            write!(out, "PruneBeyondMinRequired {location} {boundary}")
+        }
         Refused::HistoricalFloorPruned(size) => write!(out, "HistoricalFloorPruned {size}"),
         Refused::DataCorrupted(corrupt) => write_corrupt(out, corrupt),
         Refused::Merkle(refused) => {

@@ -29,6 +29,8 @@ pub data Refused : Type 0 where
   SlotCount : ℕ → ℕ → Refused
   StaleBatch : Refused
   StaleRead : Refused
+  -- where a list was to be pruned to, and up to where it may be
+  PruneBeyondMinRequired : ℕ → ℕ → Refused
   HistoricalFloorPruned : ℕ → Refused
   DataCorrupted : Corrupt → Refused
   Merkle : TreeRefused → Refused

@@ -28,6 +28,7 @@ abbrev pub refusal_of : Error → Option refusals.Refused
 refusal_of errors.Memory = None
 refusal_of errors.StaleBatch = Some refusals.StaleBatch
 refusal_of errors.StaleRead = Some refusals.StaleRead
+refusal_of (errors.PruneBeyondMinRequired p m) = Some (refusals.PruneBeyondMinRequired p m)
 refusal_of (errors.HistoricalFloorPruned n) = Some (refusals.HistoricalFloorPruned n)
 refusal_of (errors.DataCorrupted c) = Some (refusals.DataCorrupted (corrupt_view c))
 refusal_of (errors.Merkle e) = option_map refusals.Merkle (tree_refusal e)
