@@ -35,3 +35,4 @@ pub mod KeySpeaking
 pub mod GraftedLemmas
 pub mod CheckProving
 pub mod Stores
+pub mod Openings

@@ -25,9 +25,12 @@ pub mod Checks
 pub mod Batches
 pub mod Refused
 pub mod Refusals
+pub mod Opening
+pub mod Own
 pub mod Rows
 pub mod TreeRows
 pub mod CurrentRows
 pub mod ShaRow
 pub mod RandomSteps
 pub mod StoreRows
+pub mod OpeningRows

@@ -4,9 +4,16 @@ use Rattle.qm_model.specs.Operations.{Bytes}
 
 -- what is wrong with what a store keeps
 pub data Corrupt : Type 0 where
+  CountNotValid : Corrupt
+  CountTooLarge : Corrupt
+  MissingPin : Corrupt
+  InvalidPin : Corrupt
+  NoRetainedCommit : Corrupt
   FloorExceedsCommit : Corrupt
-  ItemDoesNotDecode : Corrupt
+  PrunedPastBits : Corrupt
   HeadDoesNotMatch : Corrupt
+  ItemDoesNotDecode : Corrupt
+  LinksFormNoRing : Corrupt
 
 -- why a tree refused: a location or size out of range, a node that is pruned or missing, too many leaves
 pub data TreeRefused : Type 0 where
@@ -37,6 +44,13 @@ pub data Refused : Type 0 where
   Journal : LogRefused → Refused
 
 abbrev pub corrupt_text : Corrupt → Bytes
+corrupt_text CountNotValid = codes "pruned chunks value not a valid u64"
+corrupt_text CountTooLarge = codes "pruned chunks exceeds MAX_LEAVES"
+corrupt_text MissingPin = codes "missing pinned node in grafted tree metadata"
+corrupt_text InvalidPin = codes "invalid pinned node digest"
+corrupt_text NoRetainedCommit = codes "no retained commit"
 corrupt_text FloorExceedsCommit = codes "inactivity floor exceeds commit location"
-corrupt_text ItemDoesNotDecode = codes "item does not decode"
+corrupt_text PrunedPastBits = codes "log pruned past the bits"
 corrupt_text HeadDoesNotMatch = codes "head does not match the start"
+corrupt_text ItemDoesNotDecode = codes "item does not decode"
+corrupt_text LinksFormNoRing = codes "links form no ring"

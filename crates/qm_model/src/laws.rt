@@ -17,6 +17,9 @@ ghost use Rattle.qm_model.specs.Batches.{Begins};
 ghost use Rattle.qm_model.specs.Policies.{OnlyKeeps, NeverMoves};
 ghost use Rattle.qm_model.specs.Proofs.{item_leaves, proof_of, verdict};
 ghost use Rattle.qm_model.specs.Trees.{Shape, peaks, root, leaves_from};
+ghost use Rattle.qm_model.specs.StoreModel.{Stored, empty, IsImage};
+ghost use Rattle.qm_model.specs.Opening.{found};
+ghost use Rattle.qm_model.specs.Own.{Engine, any_engine, Log, no_log, left_at, IsOwn, found_in, OpensParts};
 ghost use Rattle.qm_model.specs.Bits.{bits};
 ghost use Rattle.qm_model.specs.Grafted.{chunk_size, chunk_of, canonical};
 ghost use Rattle.qm_model.specs.RangeProofs.{chunks_of, range_proof, range_verdict};
@@ -225,4 +228,28 @@ pub fn a_step_clears_what_it_supersedes<P: Ruled>()
 pub fn a_range_proof_of_a_list_verifies()
     ensures { (hash : Bytes → Bytes) (shape : Shape) (g : ℕ) (form : Form) (ops : List Operation) (a b : ℕ) → a < b → b ≤ length ops → length ops ≤ 2 ^ 62
         → range_verdict hash shape g (take (b - a) (drop a (map (spelling form) ops))) a (chunks_of g ops a b) (range_proof hash shape g form ops a b) (canonical hash shape g form ops) ≡ true }
+{}
+
+/// What an opening finds in an own store is what it finds in the store's list.
+pub fn own_stores_open_alike<P>()
+    ensures { (e : Engine P) (log : Log) (s : Stored) → IsOwn e log s → found e.layout s ≡ found_in e log }
+{}
+
+/// The empty store is an own store.
+pub fn the_empty_store_is_own<P>()
+    ensures { (e : Engine P) → peaks e.layout.shape 0 ≡ [] → IsOwn e no_log empty }
+{}
+
+/// An accepted opening of any databases takes up the longest commit-ended beginning of the store's list within the bound or, of an empty store, the fresh list, and the store stays own.
+pub fn openings_take_up_beginnings<P: Ruled>()
+    ensures unordered { (hash : Bytes → Bytes) (form : Form) (shape : Shape) (digest_size : ℕ) → OpensParts (any_engine unordered P.rules hash form shape digest_size) }
+    ensures ordered { (hash : Bytes → Bytes) (form : Form) (shape : Shape) (digest_size : ℕ) → OpensParts (any_engine ordered P.rules hash form shape digest_size) }
+{}
+
+/// A crash leaves of an own store of any databases, at rest, an own store of a beginning of its list.
+pub fn crashes_leave_own_stores<P: Ruled>()
+    ensures unordered { (hash : Bytes → Bytes) (form : Form) (shape : Shape) (digest_size : ℕ) (log : Log) (s image : Stored) →
+        let e = any_engine unordered P.rules hash form shape digest_size in IsOwn e log s → (i : IsImage s image) → IsOwn e (left_at i.to log) image }
+    ensures ordered { (hash : Bytes → Bytes) (form : Form) (shape : Shape) (digest_size : ℕ) (log : Log) (s image : Stored) →
+        let e = any_engine ordered P.rules hash form shape digest_size in IsOwn e log s → (i : IsImage s image) → IsOwn e (left_at i.to log) image }
 {}

@@ -1,0 +1,500 @@
+-- What an opening of an own store takes up, and what a crash leaves of one.
+use Rattle.std.proofs.Common.{◌≡◌, ◌⊎◌, inl, inr, ℕ, suc, zero, ◌+◌, ◌-◌, ◌<◌, ◌≤◌, Bool, true, false, List, [], ◌∷◌, ◌++◌, length, take, drop, map, refl, sym, ap, ◌∙◌, Option, Some, None, subst, arith, take_all, length-take-le, length-drop, le_refl}
+use Rattle.std.specs.Prelude.{nat_lt, is_none, ◌^◌, ◌==◌, ◌&&◌, unwrap_or, slice_index_or, option_map, IfSome}
+use native.Mathlib.Nat.{zero-div}
+use Rattle.std.specs.List.{concat, list_any, AllByRecursion as Each}
+use Rattle.std.specs.Option.{option_or}
+use Rattle.std.proofs.Math.Nat.{le_trans}
+use Rattle.std.proofs.Math.Seq.{take-add, take-length}
+use Rattle.std.proofs.lemmas.Option.{none-some}
+use Rattle.std.proofs.lemmas.Bool.{ltb-false, eqb-true}
+use Rattle.std.proofs.lemmas.List.{take-map, drop-take, length-map, length-take}
+use Rattle.std.proofs.lemmas.List.Elements.{All-nil, All-drop, All-take, All-from_recursion, recursion_from_All}
+use Rattle.qm_model.specs.Operations.{Bytes, Operation, update, delete, commit, fresh, IsCommitEnded, eight_bytes}
+use Rattle.qm_model.specs.Forms.{Form, IsOf, spelling, decoded, number_of_eight}
+use Rattle.qm_model.specs.Live.{floor, floor_after}
+use Rattle.qm_model.specs.Trees.{Shape, peaks, digest_of, leaves_from}
+use Rattle.qm_model.specs.Grafted.{chunk_of, value_over}
+use Rattle.qm_model.specs.Refused.{CountNotValid, CountTooLarge, MissingPin, InvalidPin}
+use Rattle.qm_model.specs.Proofs.{pins_at}
+use Rattle.qm_model.specs.Walk.{Rules}
+use Rattle.qm_model.specs.Step.{Kind, unordered, ordered, Made, first}
+use Rattle.qm_model.specs.Batches.{Begins}
+use Rattle.qm_model.specs.StoreModel.{Stored, empty, IsImage, end_of}
+use Rattle.qm_model.specs.Opening.{Chunks, Unopened, HistoricalFloorPruned, DataCorrupted, Selected, Opening, refuses, opens, commit_at, last_commit, below_bound, selected, size_of, floor_of, is_empty, when, first_refusal, is_wrong_size, pruned_bits, pins_found, numbered_pins, commit_refusal, checks, opening_refusal, opening_of, opened_list, found, found_with}
+use Rattle.qm_model.specs.Own.{Engine, any_engine, Log, no_log, ArePruned, taken_up, left_at, ended_size, ended_part, MetadataIs, IsStored, IsPartMade, IsKept, IsOwn, found_in, Takes, OpensParts}
+use Rattle.qm_model.proofs.Forms.{decoded-spelling}
+use Rattle.qm_model.proofs.Chains.{take-least, Begins-self, Begins-length, Begins-through}
+use Rattle.qm_model.proofs.Steps.{made-good}
+use Rattle.qm_model.proofs.OrderedSteps.{made-ordered}
+use Rattle.qm_model.proofs.Prefixes.{unordered-begins, ordered-begins}
+
+-- What an opening finds.
+
+read_all : (form : Form) (ops : List Operation) → Each (IsOf form) ops → map (decoded form) (map (spelling form) ops) ≡ map (λ op. Some op) ops
+read_all form [] each = refl
+read_all form (op ∷ ops) (is, each) = ap (λ o. o ∷ map (decoded form) (map (spelling form) ops)) (decoded-spelling form op is) ∙ ap (λ os. Some op ∷ os) (read_all form ops each)
+
+module _ {P : Type 0} (e : Engine P) where
+  items_read : (log : Log) (s : Stored) → IsOwn e log s → map (decoded e.layout.form) s.items ≡ map (λ op. Some op) (drop log.start log.list)
+  items_read log s own =
+      let each = recursion_from_All (IsOf e.layout.form) (drop log.start log.list) (All-drop (IsOf e.layout.form) log.start log.list own.kept.made.of_form) in
+      ap (map (decoded e.layout.form)) own.stored.items ∙ read_all e.layout.form (drop log.start log.list) each
+
+  found_alike : (chunks : Option Chunks) (log : Log) (s : Stored) → IsOwn e log s → MetadataIs e chunks log s → found_with e.layout s chunks ≡ found_in e log
+  found_alike None log s own is =
+      λ i. record { start = own.stored.start i; items = items_read log s own i; head = own.stored.head i; metadata = None; count = sym is i }
+  found_alike (Some c) log s own is =
+      λ i. record { start = own.stored.start i; items = items_read log s own i; head = own.stored.head i; metadata = is.readable i; count = is.count i }
+
+  pub opens-alike : (log : Log) (s : Stored) → IsOwn e log s → found e.layout s ≡ found_in e log
+  opens-alike log s own = found_alike e.layout.chunks log s own own.stored.metadata
+
+-- The empty store.
+
+-- metadata without a pruned chunk, and without pins, is read
+read_without : (bits size : ℕ) (pins : List (Option Bytes)) → bits ≡ 0 → pins ≡ []
+    → first_refusal (when false CountNotValid ∷ when (nat_lt (2 ^ 62) bits) CountTooLarge ∷ when (list_any is_none pins) MissingPin ∷ when (list_any (is_wrong_size size) pins) InvalidPin ∷ []) ≡ None
+read_without bits size pins none bare =
+    ap (λ n. first_refusal (when false CountNotValid ∷ when (nat_lt (2 ^ 62) n) CountTooLarge ∷ when (list_any is_none pins) MissingPin ∷ when (list_any (is_wrong_size size) pins) InvalidPin ∷ [])) none
+    ∙ ap (λ ps. first_refusal (None ∷ None ∷ when (list_any is_none ps) MissingPin ∷ when (list_any (is_wrong_size size) ps) InvalidPin ∷ [])) bare
+
+no_bits : (chunks : Option Chunks) → pruned_bits chunks 0 ≡ 0
+no_bits None = refl
+no_bits (Some c) = omega arith
+
+module _ {P : Type 0} (e : Engine P) (bare : peaks e.layout.shape 0 ≡ []) where
+  empty-metadata : (chunks : Option Chunks) → MetadataIs e chunks no_log empty
+  unfolding eight_bytes number_of_eight
+  empty-metadata None = refl
+  empty-metadata (Some c) = record {
+    readable = read_without (pruned_bits e.layout.chunks 0) e.layout.digest_size (pins_found e.layout.shape [] 0) (no_bits e.layout.chunks) (ap (numbered_pins [] 0) bare);
+    count = refl;
+    pins = ap (numbered_pins [] 0) bare ∙ sym (ap (λ ps. map (λ (pin : Bytes). Some pin) (map (λ p. value_over e.hash e.layout.shape c.height (leaves_from e.hash e.layout.shape e.layout.form 0 []) (chunk_of c.height []) p.height p.index) ps)) bare);
+  }
+
+  empty-pruned : (chunks : Option Chunks) → ArePruned e chunks no_log
+  empty-pruned None = tt
+  empty-pruned (Some c) = (omega (arith, zero-div (2 ^ c.height)), omega arith)
+
+  pub empty-own : IsOwn e no_log empty
+  empty-own = record {
+    stored = record {
+      start = refl;
+      items = refl;
+      head = sym (ap (λ ps. concat (map (digest_of e.hash e.layout.shape (leaves_from e.hash e.layout.shape e.layout.form 0 [])) ps)) bare);
+      metadata = empty-metadata e.layout.chunks;
+      stable = refl;
+    };
+    kept = record {
+      made = record { whole = fresh; made = first; begins = refl; of_form = All-nil (IsOf e.layout.form) };
+      start = le_refl 0;
+      stable = le_refl 0;
+      chunks = empty-pruned e.layout.chunks;
+    };
+  }
+
+-- The last commit.
+
+-- the last commit of items from location i on: the one before them, or one of theirs, at which they are cut
+abbrev Last : ℕ → Option Selected → List Operation → Selected → Type 0
+Last i before ops c =
+    (before ≡ Some c) ⊎ ((n : ℕ) × (c.size ≡ i + suc n) × (suc n ≤ length ops) × ((f : ℕ) → floor_after f (take (suc n) ops) ≡ c.floor) × IsCommitEnded (take (suc n) ops))
+
+ended_on : (op : Operation) (n : ℕ) (rest : List Operation) → suc n ≤ length rest → IsCommitEnded (take (suc n) rest) → IsCommitEnded (op ∷ take (suc n) rest)
+ended_on op n [] less ended = absurd (omega (arith, less))
+ended_on op n (r ∷ rest) less ended = ended
+
+onto : (i : ℕ) (before : Option Selected) (op : Operation) (rest : List Operation) (c : Selected) → Last (suc i) (option_or (commit_at i (Some op)) before) rest c → Last i before (op ∷ rest) c
+onto i before (update k v x) rest c (inl e) = inl e
+onto i before (delete k) rest c (inl e) = inl e
+onto i before (commit m g) rest c (inl e) =
+    let same = ap (λ o. unwrap_or o c) e in
+    inr (0, sym (ap (λ s. s.size) same) ∙ omega arith, omega arith, λ f. ap (λ s. s.floor) same, tt)
+onto i before (update k v x) rest c (inr (n, size, less, fl, ended)) = inr (suc n, size ∙ omega arith, omega (arith, less), fl, ended_on (update k v x) n rest less ended)
+onto i before (delete k) rest c (inr (n, size, less, fl, ended)) = inr (suc n, size ∙ omega arith, omega (arith, less), fl, ended_on (delete k) n rest less ended)
+onto i before (commit m g) rest c (inr (n, size, less, fl, ended)) = inr (suc n, size ∙ omega arith, omega (arith, less), λ f. fl g, ended_on (commit m g) n rest less ended)
+
+last : (i : ℕ) (before : Option Selected) (ops : List Operation) (c : Selected) → last_commit i before (map (λ op. Some op) ops) ≡ Some c → Last i before ops c
+last i before [] c e = inl e
+last i before (op ∷ rest) c e = onto i before op rest c (last (suc i) (option_or (commit_at i (Some op)) before) rest c e)
+
+-- it is not before the one before
+later : (i : ℕ) (before : Option Selected) (ops : List Operation) → size_of before ≤ i → size_of before ≤ size_of (last_commit i before (map (λ op. Some op) ops))
+later i before [] low = le_refl (size_of before)
+later i before (update k v x ∷ rest) low = later (suc i) before rest (omega (arith, low))
+later i before (delete k ∷ rest) low = later (suc i) before rest (omega (arith, low))
+later i before (commit m g ∷ rest) low = let up = later (suc i) (Some (record { size = suc i; floor = g })) rest (le_refl (suc i)) in omega (arith, low, up)
+
+-- nor before any at which the items can be cut
+longest : (i n : ℕ) (before : Option Selected) (ops : List Operation) → size_of before ≤ i → suc n ≤ length ops → IsCommitEnded (take (suc n) ops) → i + suc n ≤ size_of (last_commit i before (map (λ op. Some op) ops))
+longest i n before [] low less ended = absurd (omega (arith, less))
+longest i zero before (update k v x ∷ rest) low less ended = absurd ended
+longest i zero before (delete k ∷ rest) low less ended = absurd ended
+longest i zero before (commit m g ∷ rest) low less ended =
+    let up = later (suc i) (Some (record { size = suc i; floor = g })) rest (le_refl (suc i)) in
+    omega (arith, up)
+longest i (suc n) before (op ∷ []) low less ended = absurd (omega (arith, less))
+longest i (suc n) before (update k v x ∷ y ∷ rest) low less ended = let up = longest (suc i) n before (y ∷ rest) (omega (arith, low)) (omega (arith, less)) ended in omega (arith, up)
+longest i (suc n) before (delete k ∷ y ∷ rest) low less ended = let up = longest (suc i) n before (y ∷ rest) (omega (arith, low)) (omega (arith, less)) ended in omega (arith, up)
+longest i (suc n) before (commit m g ∷ y ∷ rest) low less ended =
+    let up = longest (suc i) n (Some (record { size = suc i; floor = g })) (y ∷ rest) (le_refl (suc i)) (omega (arith, less)) ended in omega (arith, up)
+
+-- The longest beginning that ends with a commit.
+
+-- it is none, or one
+abbrev IsPart : List Operation → ℕ → Type 0
+IsPart ops n = (n ≡ 0) ⊎ ((0 < n) × (n ≤ length ops) × IsCommitEnded (take n ops))
+
+part_of : (ops : List Operation) (at : Option Selected) → last_commit 0 None (map (λ op. Some op) ops) ≡ at → IsPart ops (size_of at)
+part_of ops None is = inl refl
+part_of ops (Some c) is = of (last 0 None ops c is)
+  where
+    of : Last 0 None ops c → IsPart ops c.size
+    of (inl e) = absurd (none-some c e)
+    of (inr (n, size, less, fl, ended)) = let is : c.size ≡ suc n = omega (arith, size) in inr (omega (arith, is), omega (arith, is, less), subst (λ k. IsCommitEnded (take k ops)) (sym is) ended)
+
+ended-part : (ops : List Operation) → IsPart ops (ended_size ops)
+ended-part ops = part_of ops (last_commit 0 None (map (λ op. Some op) ops)) refl
+
+ended-longest : (ops : List Operation) (n : ℕ) → n ≤ length ops → IsCommitEnded (take n ops) → n ≤ ended_size ops
+ended-longest ops zero less ended = omega arith
+ended-longest ops (suc n) less ended = let up = longest 0 n None ops (le_refl 0) less ended in omega (arith, up)
+
+-- a commit-ended list is the longest one of its own
+ended-whole : (ops : List Operation) → IsCommitEnded ops → ended_part ops ≡ ops
+ended-whole ops ended = take_all (ended_size ops) ops (ended-longest ops (length ops) (le_refl (length ops)) (subst IsCommitEnded (sym (take-length ops)) ended))
+
+begins_take : (n : ℕ) (xs : List Operation) → Begins (take n xs) xs
+begins_take zero xs = refl
+begins_take (suc n) [] = refl
+begins_take (suc n) (x ∷ xs) = ap (λ ys. x ∷ ys) (begins_take n xs)
+
+-- a shorter beginning begins a longer one
+begins_both : (a b : ℕ) (xs : List Operation) → a ≤ b → Begins (take a xs) (take b xs)
+begins_both a b xs low = subst (λ ys. Begins ys (take b xs)) (take-least a b xs low) (begins_take a (take b xs))
+
+-- Settled lists of made ones.
+
+-- the commit-ended beginnings of a kind's made lists are made, and their floors don't fall and are inside
+record Keeps {P : Type 0} (kind : Kind) (rules : Rules P) : Type 0 where
+  begins : (prefix ops : List Operation) → Made kind rules ops → Begins prefix ops → IsCommitEnded prefix → Made kind rules prefix × (floor prefix ≤ floor ops)
+  within : (ops : List Operation) → Made kind rules ops → floor ops < length ops
+
+unordered-keeps : {P : Type 0} (rules : Rules P) → Keeps unordered rules
+unordered-keeps rules = record { begins = unordered-begins rules; within = λ ops made. (made-good rules ops made).floor_within }
+
+ordered-keeps : {P : Type 0} (rules : Rules P) → Keeps ordered rules
+ordered-keeps rules = record { begins = ordered-begins rules; within = λ ops made. (made-ordered rules ops made).good.floor_within }
+
+-- a list without a commit has the floor 0
+no_floor : (ops : List Operation) (n : ℕ) → n ≡ 0 → floor (take n ops) ≡ 0
+no_floor ops n z = ap (λ k. floor (take k ops)) z
+
+module _ {P : Type 0} {kind : Kind} {rules : Rules P} (keeps : Keeps kind rules) where
+  floor-within : (part whole : List Operation) → Made kind rules whole → Begins part whole → floor (ended_part part) ≤ length part
+  floor-within part whole made begins = cases (ended-part part)
+    where
+      cases : IsPart part (ended_size part) → floor (ended_part part) ≤ length part
+      cases (inl z) = let none = no_floor part (ended_size part) z in omega (arith, none)
+      cases (inr (some, less, ended)) =
+          let is_made = (keeps.begins (ended_part part) whole made (Begins-through (ended_part part) part whole (begins_take (ended_size part) part) begins) ended).0 in
+          let low = keeps.within (ended_part part) is_made in
+          omega (arith, low, less, length-take-le (ended_size part) part less)
+
+  floor-rises : (xs ys whole : List Operation) → Made kind rules whole → Begins xs ys → Begins ys whole → floor (ended_part xs) ≤ floor (ended_part ys)
+  floor-rises xs ys whole made front begins = cases (ended-part xs) (ended-part ys)
+    where
+      n : ℕ
+      n = ended_size xs
+
+      cases : IsPart xs (ended_size xs) → IsPart ys (ended_size ys) → floor (ended_part xs) ≤ floor (ended_part ys)
+      cases (inl z) other = let none = no_floor xs (ended_size xs) z in omega (arith, none)
+      cases (inr (some, less, ended)) other =
+          let same : take n xs ≡ take n ys = ap (take n) (sym front) ∙ take-least n (length xs) ys less in
+          let up : n ≤ ended_size ys = ended-longest ys n (le_trans less (Begins-length xs ys front)) (subst IsCommitEnded same ended) in
+          subst (λ t. floor t ≤ floor (ended_part ys)) (sym same) (next up other)
+        where
+          next : ended_size xs ≤ ended_size ys → IsPart ys (ended_size ys) → floor (take (ended_size xs) ys) ≤ floor (ended_part ys)
+          next up (inl z) = absurd (omega (arith, up, z, some))
+          next up (inr (more, inside, last_is)) =
+              let same : take n xs ≡ take n ys = ap (take n) (sym front) ∙ take-least n (length xs) ys less in
+              let is_made = (keeps.begins (ended_part ys) whole made (Begins-through (ended_part ys) ys whole (begins_take (ended_size ys) ys) begins) last_is).0 in
+              (keeps.begins (take n ys) (ended_part ys) is_made (begins_both n (ended_size ys) ys up) (subst IsCommitEnded same ended)).1
+
+-- The checks, one after another.
+
+passes : (r : Option Unopened) (rs : List (Option Unopened)) → first_refusal (r ∷ rs) ≡ None → (r ≡ None) × (first_refusal rs ≡ None)
+passes None rs e = (refl, e)
+passes (Some r) rs e = absurd (none-some r (sym e))
+
+all_pass : (rs : List (Option Unopened)) (k : ℕ) → first_refusal rs ≡ None → slice_index_or rs k None ≡ None
+all_pass [] k e = refl
+all_pass (r ∷ rs) zero e = (passes r rs e).0
+all_pass (r ∷ rs) (suc k) e = all_pass rs k (passes r rs e).1
+
+not_when : (b : Bool) (r : Unopened) → when b r ≡ None → b ≡ false
+not_when false r e = refl
+not_when true r e = absurd (none-some r (sym e))
+
+size_in : Opening → Option ℕ
+size_in (refuses r) = None
+size_in (opens size) = Some size
+
+accepted : (r : Option Unopened) (k size : ℕ) → opening_of r k ≡ opens size → (r ≡ None) × (k ≡ size)
+unfolding size_in
+accepted None k size e = (refl, ap (λ o. unwrap_or (size_in o) 0) e)
+accepted (Some r) k size e = absurd (none-some size (ap size_in e))
+
+-- where no commit is selected, the store is empty
+found_empty : (b : Bool) → option_map DataCorrupted (commit_refusal b None) ≡ None → b ≡ true
+found_empty true e = refl
+found_empty false e = absurd (none-some _ (sym e))
+
+both_true : (a b : Bool) → (a && b) ≡ true → (a ≡ true) × (b ≡ true)
+both_true true b h = (refl, h)
+both_true false b h = cc
+
+no_operations : (list : List Operation) → length list ≡ 0 → list ≡ []
+no_operations [] h = refl
+no_operations (op ∷ list) h = absurd (omega (arith, h))
+
+none_left : (start : ℕ) (list : List Operation) → (start == 0 && length (map (λ (op : Operation). Some op) (drop start list)) == 0) ≡ true → list ≡ []
+none_left start list h =
+    let p = both_true (start == 0) (length (map (λ (op : Operation). Some op) (drop start list)) == 0) h in
+    let at : start ≡ 0 = eqb-true start 0 p.0 in
+    let none : length (map (λ (op : Operation). Some op) (drop start list)) ≡ 0 = eqb-true _ 0 p.1 in
+    no_operations list (omega (arith, at, none, length-map (drop start list) (λ (op : Operation). Some op), length-drop start list))
+
+-- What an opening takes up.
+
+floor_after-append : (f : ℕ) (xs ys : List Operation) → floor_after f (xs ++ ys) ≡ floor_after (floor_after f xs) ys
+floor_after-append f [] ys = refl
+floor_after-append f (update k v x ∷ rest) ys = floor_after-append f rest ys
+floor_after-append f (delete k ∷ rest) ys = floor_after-append f rest ys
+floor_after-append f (commit m g ∷ rest) ys = floor_after-append g rest ys
+
+ended_append : (xs ys : List Operation) → IsCommitEnded ys → IsCommitEnded (xs ++ ys)
+ended_append [] ys e = e
+ended_append (x ∷ []) [] e = absurd e
+ended_append (x ∷ []) (y ∷ ys) e = e
+ended_append (x ∷ z ∷ xs) ys e = ended_append (z ∷ xs) ys e
+
+ended_behind : (xs ys : List Operation) → 0 < length ys → IsCommitEnded (xs ++ ys) → IsCommitEnded ys
+ended_behind [] ys some e = e
+ended_behind (x ∷ []) [] some e = absurd (omega (arith, some))
+ended_behind (x ∷ []) (y ∷ ys) some e = e
+ended_behind (x ∷ z ∷ xs) ys some e = ended_behind (z ∷ xs) ys some e
+
+-- a selected commit: the list up to it ends with it, and has its floor
+record Taken (log : Log) (bound : Option ℕ) (c : Selected) : Type 0 where
+  within : c.size ≤ length log.list
+  floor_is : floor (take c.size log.list) ≡ c.floor
+  some : 0 < c.size
+  ended : IsCommitEnded (take c.size log.list)
+  bounded : IfSome bound (λ b. c.size ≤ b)
+
+opened_some : (n : ℕ) (list : List Operation) → 0 < n → opened_list n list ≡ take n list
+opened_some zero list h = absurd (omega (arith, h))
+opened_some (suc n) list h = refl
+
+module _ {P : Type 0} (e : Engine P) (log : Log) where
+  -- the items that an opening looks at are a beginning of those that are kept, up to the bound
+  record Looks (bound : Option ℕ) : Type 0 where
+    ops : List Operation
+    are : below_bound bound (found_in e log) ≡ map (λ op. Some op) ops
+    begins : Begins ops (drop log.start log.list)
+    bounded : IfSome bound (λ b. length ops ≤ b - log.start)
+    all : (n : ℕ) → n ≤ length log.list - log.start → IfSome bound (λ b. n ≤ b - log.start) → n ≤ length ops
+
+  looks : (bound : Option ℕ) → Looks bound
+  looks None = record { ops = drop log.start log.list; are = refl; begins = Begins-self (drop log.start log.list); bounded = tt; all = λ n less within. omega (arith, less, length-drop log.start log.list) }
+  looks (Some b) = record {
+    ops = take (b - log.start) (drop log.start log.list);
+    are = take-map (λ op. Some op) (b - log.start) (drop log.start log.list);
+    begins = begins_take (b - log.start) (drop log.start log.list);
+    bounded = omega (arith, length-take (b - log.start) (drop log.start log.list));
+    all = λ n less within. omega (arith, less, within, length-take (b - log.start) (drop log.start log.list), length-drop log.start log.list);
+  }
+
+  -- a size that is past the start is not above the bound, nor is what stands behind the start
+  bound_above : (bound : Option ℕ) (n k : ℕ) → n ≤ log.start + k → 0 < k → IfSome bound (λ b. k ≤ b - log.start) → IfSome bound (λ b. n ≤ b)
+  bound_above None n k up some h = tt
+  bound_above (Some b) n k up some h = omega (arith, up, some, h)
+
+  bound_below : (bound : Option ℕ) (n k : ℕ) → log.start + k ≤ n → IfSome bound (λ b. n ≤ b) → IfSome bound (λ b. k ≤ b - log.start)
+  bound_below None n k up h = tt
+  bound_below (Some b) n k up h = omega (arith, up, h)
+
+  bound_less : (bound : Option ℕ) (n k : ℕ) → n ≤ k → IfSome bound (λ b. k ≤ b - log.start) → IfSome bound (λ b. n ≤ b - log.start)
+  bound_less None n k up h = tt
+  bound_less (Some b) n k up h = omega (arith, up, h)
+
+  from_last : (bound : Option ℕ) (l : Looks bound) (c : Selected) → log.start ≤ length log.list → Last log.start None l.ops c → Taken log bound c
+  from_last bound l c low (inl is) = absurd (none-some c is)
+  from_last bound l c low (inr (n, size, less, fl, ended)) =
+      let kept = drop log.start log.list in
+      let before = take log.start log.list in
+      let fits = Begins-length l.ops kept l.begins in
+      let cut : take (suc n) kept ≡ take (suc n) l.ops = sym (take-least (suc n) (length l.ops) kept less) ∙ ap (take (suc n)) l.begins in
+      let parts : take c.size log.list ≡ before ++ take (suc n) l.ops = ap (λ k. take k log.list) size ∙ (take-add log.start (suc n) log.list ∙ ap (λ xs. before ++ xs) cut) in
+      record {
+        within = omega (arith, less, fits, size, length-drop log.start log.list);
+        floor_is = ap floor parts ∙ (floor_after-append 0 before (take (suc n) l.ops) ∙ fl (floor before));
+        some = omega (arith, size);
+        ended = subst IsCommitEnded (sym parts) (ended_append before (take (suc n) l.ops) ended);
+        bounded = bound_above bound c.size (suc n) (omega (arith, size)) (omega arith) (bound_less bound (suc n) (length l.ops) less l.bounded);
+      }
+
+  -- none that ends with a commit within the bound is longer than what is selected
+  selected-longest : (bound : Option ℕ) (n : ℕ) → log.start < n → n ≤ length log.list → IfSome bound (λ b. n ≤ b) → IsCommitEnded (take n log.list) → n ≤ size_of (selected (found_in e log) bound)
+  selected-longest bound n past less within ended =
+      let l = looks bound in
+      let kept = drop log.start log.list in
+      let before = take log.start log.list in
+      let k = n - log.start - 1 in
+      let place : n ≡ log.start + suc k = omega (arith, past) in
+      let few : suc k ≤ length l.ops = l.all (suc k) (omega (arith, less, past)) (bound_below bound n (suc k) (omega (arith, place)) within) in
+      let cut : take (suc k) kept ≡ take (suc k) l.ops = sym (take-least (suc k) (length l.ops) kept few) ∙ ap (take (suc k)) l.begins in
+      let parts : take n log.list ≡ before ++ take (suc k) l.ops = ap (λ j. take j log.list) place ∙ (take-add log.start (suc k) log.list ∙ ap (λ xs. before ++ xs) cut) in
+      let behind = ended_behind before (take (suc k) l.ops) (omega (arith, length-take-le (suc k) l.ops few)) (subst IsCommitEnded parts ended) in
+      let up = longest log.start k None l.ops (omega arith) few behind in
+      subst (λ items. n ≤ size_of (last_commit log.start None items)) (sym l.are) (omega (arith, up, place))
+
+-- Any databases of both kinds.
+
+module _ {P : Type 0} {kind : Kind} {rules : Rules P} (keeps : Keeps kind rules) (hash : Bytes → Bytes) (form : Form) (shape : Shape) (digest_size : ℕ) where
+  abbrev own : Engine P
+  own = any_engine kind rules hash form shape digest_size
+
+  settled-begins : (log : Log) (kept : IsKept own log) → Begins (take log.stable log.list) kept.made.whole
+  settled-begins log kept = Begins-through (take log.stable log.list) log.list kept.made.whole (begins_take log.stable log.list) kept.made.begins
+
+  start-stable : (log : Log) → IsKept own log → log.start ≤ log.stable
+  start-stable log kept =
+      let low = floor-within keeps (take log.stable log.list) kept.made.whole kept.made.made (settled-begins log kept) in
+      let start = kept.start in
+      omega (arith, start, low, length-take-le log.stable log.list kept.stable)
+
+  start-within : (log : Log) → IsKept own log → log.start ≤ length log.list
+  start-within log kept = le_trans (start-stable log kept) kept.stable
+
+  part-made : (log : Log) (n : ℕ) → IsKept own log → IsPartMade own (take n log.list)
+  part-made log n kept = record {
+    whole = kept.made.whole;
+    made = kept.made.made;
+    begins = Begins-through (take n log.list) log.list kept.made.whole (begins_take n log.list) kept.made.begins;
+    of_form = All-take (IsOf form) n log.list kept.made.of_form;
+  }
+
+  crash-keeps : (log : Log) (to : ℕ) → IsKept own log → log.stable ≤ to → to ≤ length log.list → IsKept own (left_at to log)
+  crash-keeps log to kept low within = record {
+    made = part-made log to kept;
+    start =
+        let up = floor-rises keeps (take log.stable log.list) (take to log.list) kept.made.whole kept.made.made (begins_both log.stable to log.list low)
+        (Begins-through (take to log.list) log.list kept.made.whole (begins_take to log.list) kept.made.begins) in
+        subst (λ xs. log.start ≤ floor (ended_part xs)) (sym (take-least to to log.list (le_refl to))) (le_trans kept.start up);
+    stable = omega (arith, length-take-le to log.list within);
+    chunks = tt;
+  }
+
+  cut-keeps : (log : Log) (n : ℕ) → IsKept own log → IsCommitEnded (take n log.list) → log.start ≤ floor (take n log.list) → IsKept own (taken_up (take n log.list) log)
+  cut-keeps log n kept ended low = record {
+    made = part-made log n kept;
+    start = subst (λ xs. log.start ≤ floor xs) (sym (ap ended_part (take-length (take n log.list)) ∙ ended-whole (take n log.list) ended)) low;
+    stable = le_refl (length (take n log.list));
+    chunks = tt;
+  }
+
+  fresh-keeps : (log : Log) → log.start ≤ 0 → IsKept own (taken_up fresh log)
+  fresh-keeps log low = record {
+    made = record { whole = fresh; made = first; begins = refl; of_form = All-from_recursion (IsOf form) fresh ((tt, omega arith), tt) };
+    start = low;
+    stable = le_refl 1;
+    chunks = tt;
+  }
+
+  bounded_zero : (bound : Option ℕ) → IfSome bound (λ b. 0 ≤ b)
+  bounded_zero None = tt
+  bounded_zero (Some b) = omega arith
+
+  takes : (log : Log) (bound : Option ℕ) (at : Option Selected) (r : Unopened) → IsKept own log → selected (found_in own log) bound ≡ at
+      → option_map DataCorrupted (commit_refusal (is_empty (found_in own log)) at) ≡ None → when (nat_lt (floor_of at) log.start) r ≡ None → Takes own log bound (size_of at)
+  takes log bound None r kept is passed low =
+      record {
+        kept = fresh-keeps log (ltb-false 0 log.start (not_when _ r low));
+        part = inr (none_left log.start log.list (found_empty _ passed), refl);
+        ended = tt;
+        bounded = bounded_zero bound;
+        longest = λ n past less within ended. subst (λ at. n ≤ size_of at) is (selected-longest own log bound n past less within ended);
+      }
+  takes log bound (Some c) r kept is passed low =
+      let l = looks own log bound in
+      let t = from_last own log bound l c (start-within log kept) (last log.start None l.ops c (ap (last_commit log.start None) (sym l.are) ∙ is)) in
+      let list_is = opened_some c.size log.list t.some in
+      record {
+        kept = subst (λ xs. IsKept own (taken_up xs log)) (sym list_is) (cut-keeps log c.size kept t.ended (subst (λ k. log.start ≤ k) (sym t.floor_is) (ltb-false c.floor log.start (not_when _ r low))));
+        part = inl (subst (λ xs. Begins xs log.list) (sym list_is) (begins_take c.size log.list));
+        ended = subst IsCommitEnded (sym list_is) t.ended;
+        bounded = t.bounded;
+        longest = λ n past less within ended. subst (λ at. n ≤ size_of at) is (selected-longest own log bound n past less within ended);
+      }
+
+  any-takes : OpensParts own
+  any-takes log bound size kept e =
+      let f = found_in own log in
+      let at = selected f bound in
+      let a = accepted (opening_refusal own.layout f bound) (size_of at) size e in
+      subst (Takes own log bound) a.1
+      (takes log bound at (HistoricalFloorPruned (size_of at)) kept refl (all_pass (checks own.layout f bound) 3 a.0) (all_pass (checks own.layout f bound) 4 a.0))
+
+  -- what a crash leaves of an own store is one, of a beginning of its list
+  any-image : (log : Log) (s image : Stored) → IsOwn own log s → (i : IsImage s image) → IsOwn own (left_at i.to log) image
+  any-image log s image is i = record {
+    stored = record {
+      start = ap (λ t. t.start) i.same ∙ stored.start;
+      items = ap (λ t. t.items) i.same ∙ items;
+      head = ap (λ t. t.head) i.same ∙ (stored.head ∙ ap (λ xs. concat (pins_at hash shape form xs log.start)) (sym (take-least log.start i.to log.list start_to)));
+      metadata = stored.metadata;
+      stable = ap (λ t. t.stable) i.same;
+    };
+    kept = crash-keeps log i.to is.kept low within;
+  }
+    where
+      stored : IsStored own log s
+      stored = is.stored
+
+      low : log.stable ≤ i.to
+      low = subst (λ n. n ≤ i.to) stored.stable i.may.stable
+
+      start_to : log.start ≤ i.to
+      start_to = le_trans (start-stable log is.kept) low
+
+      size : end_of s ≡ length log.list
+      size =
+          let fits = start-within log is.kept in
+          ap (λ n. n + length s.items) stored.start ∙ (ap (λ xs. log.start + length xs) stored.items
+          ∙ omega (arith, fits, length-map (drop log.start log.list) (spelling form), length-drop log.start log.list))
+
+      within : i.to ≤ length log.list
+      within = subst (λ n. i.to ≤ n) size i.may.within
+
+      items : take (i.to - s.start) s.items ≡ map (spelling form) (drop log.start (take i.to log.list))
+      items =
+          ap (λ n. take (i.to - n) s.items) stored.start ∙ (ap (take (i.to - log.start)) stored.items ∙ (take-map (spelling form) (i.to - log.start) (drop log.start log.list)
+          ∙ ap (map (spelling form)) (sym (drop-take log.start (i.to - log.start) log.list) ∙ ap (λ k. drop log.start (take k log.list)) (omega (arith, start_to)))))
+
+module _ {P : Type 0} (rules : Rules P) (hash : Bytes → Bytes) (form : Form) (shape : Shape) (digest_size : ℕ) where
+  pub unordered-takes : OpensParts (any_engine unordered rules hash form shape digest_size)
+  unordered-takes = any-takes (unordered-keeps rules) hash form shape digest_size
+
+  pub ordered-takes : OpensParts (any_engine ordered rules hash form shape digest_size)
+  ordered-takes = any-takes (ordered-keeps rules) hash form shape digest_size
+
+  pub unordered-image : (log : Log) (s image : Stored) → IsOwn (any_engine unordered rules hash form shape digest_size) log s → (i : IsImage s image)
+      → IsOwn (any_engine unordered rules hash form shape digest_size) (left_at i.to log) image
+  unordered-image = any-image (unordered-keeps rules) hash form shape digest_size
+
+  pub ordered-image : (log : Log) (s image : Stored) → IsOwn (any_engine ordered rules hash form shape digest_size) log s → (i : IsImage s image)
+      → IsOwn (any_engine ordered rules hash form shape digest_size) (left_at i.to log) image
+  ordered-image = any-image (ordered-keeps rules) hash form shape digest_size

@@ -1,0 +1,129 @@
+-- Own stores: those that a database of one kind, family and spelling leaves.
+use Rattle.std.specs.Prelude.{◌≡◌, ◌⊎◌, ◌≤◌, ◌<◌, ℕ, ◌*◌, ◌/◌, ◌^◌, List, [], length, map, take, drop, All, Option, None, Some, IfSome, ⊤}
+use Rattle.std.specs.List.{concat}
+use Rattle.qm_model.specs.Operations.{Bytes, Operation, fresh, IsCommitEnded}
+use Rattle.qm_model.specs.Forms.{Form, IsOf, spelling}
+use Rattle.qm_model.specs.Live.{floor}
+use Rattle.qm_model.specs.Trees.{Shape}
+use Rattle.qm_model.specs.Proofs.{pins_at}
+use Rattle.qm_model.specs.Grafted.{boundary, grafted_pins}
+use Rattle.qm_model.specs.Walk.{Rules}
+use Rattle.qm_model.specs.Step.{Kind, Made}
+use Rattle.qm_model.specs.Batches.{Begins}
+use Rattle.qm_model.specs.StoreModel.{Entry, Stored, metadata_in}
+use Rattle.qm_model.specs.Opening.{Chunks, Layout, Found, opens, size_of, last_commit, metadata_refusal, count_in, pins_found, opened_list, opening}
+
+-- what makes the lists of a database, and how they lie in a store
+pub record Engine (P : Type 0) : Type 0 where
+  pub kind : Kind
+  pub rules : Rules P
+  pub hash : Bytes → Bytes
+  pub layout : Layout
+
+-- an engine of any databases, which have no chunks
+abbrev pub any_engine : {P : Type 0} → Kind → Rules P → (Bytes → Bytes) → Form → Shape → ℕ → Engine P
+any_engine kind rules hash form shape digest_size =
+    record { kind = kind; rules = rules; hash = hash; layout = record { form = form; shape = shape; digest_size = digest_size; chunks = None } }
+
+-- a store by its list: from which location on it has the operations, how many chunks of bits are pruned, and up to which
+-- size the list outlives a crash
+pub record Log : Type 0 where
+  pub list : List Operation
+  pub start : ℕ
+  pub chunks : ℕ
+  pub stable : ℕ
+
+-- the empty store
+abbrev pub no_log : Log
+no_log = record { list = []; start = 0; chunks = 0; stable = 0 }
+
+-- after an opening that takes up this list
+abbrev pub taken_up : List Operation → Log → Log
+taken_up list log = record log { list = list; stable = length list }
+
+-- after a crash that left the operations up to this end
+abbrev pub left_at : ℕ → Log → Log
+left_at to log = record log { list = take to log.list; stable = to }
+
+-- the size of the longest beginning of a list that ends with a commit, 0 where none does
+abbrev pub ended_size : List Operation → ℕ
+ended_size list = size_of (last_commit 0 None (map (λ op. Some op) list))
+
+-- that beginning
+abbrev pub ended_part : List Operation → List Operation
+ended_part list = take (ended_size list) list
+
+-- the longest commit-ended list that outlives every crash
+abbrev pub settled_list : Log → List Operation
+settled_list log = ended_part (take log.stable log.list)
+
+module _ {P : Type 0} (e : Engine P) where
+  -- What a store holds of a list.
+
+  -- the metadata is readable, and has the count of pruned chunks and the pins of the list's grafted tree there; none means no chunk
+  pub record IsCounted (c : Chunks) (log : Log) (entries : List Entry) : Type 0 where
+    pub readable : metadata_refusal e.layout entries ≡ None
+    pub count : count_in entries ≡ log.chunks
+    pub pins : pins_found e.layout.shape entries log.chunks ≡ map (λ pin. Some pin) (grafted_pins e.hash e.layout.shape c.height e.layout.form log.list log.chunks)
+
+  -- an any database has no pruned chunk, and looks at no metadata
+  abbrev pub MetadataIs : Option Chunks → Log → Stored → Type 0
+  MetadataIs None log s = log.chunks ≡ 0
+  MetadataIs (Some c) log s = IsCounted c log (metadata_in s.metadata c.name)
+
+  -- the pins of what stands before the start, one behind another
+  abbrev pub head_of : Log → Bytes
+  head_of log = concat (pins_at e.hash e.layout.shape e.layout.form (take log.start log.list) log.start)
+
+  -- the bytes of a store are those of the list from its start on, with the pins of what is before it
+  pub record IsStored (log : Log) (s : Stored) : Type 0 where
+    pub start : s.start ≡ log.start
+    pub items : s.items ≡ map (spelling e.layout.form) (drop log.start log.list)
+    pub head : s.head ≡ head_of log
+    pub metadata : MetadataIs e.layout.chunks log s
+    pub stable : s.stable ≡ log.stable
+
+  -- Which lists, starts and counts a database leaves.
+
+  -- a beginning of a list that steps made, of operations of the database's form
+  pub record IsPartMade (list : List Operation) : Type 0 where
+    pub whole : List Operation
+    pub made : Made e.kind e.rules whole
+    pub begins : Begins list whole
+    pub of_form : All (IsOf e.layout.form) list
+
+  -- no more whole chunks stand below the start than are pruned, and these end within the settled list's boundary
+  abbrev pub ArePruned : Option Chunks → Log → Type 0
+  ArePruned None log = ⊤
+  ArePruned (Some c) log = (log.start / 2 ^ c.height ≤ log.chunks) × (log.chunks * 2 ^ c.height ≤ boundary e.layout.shape c.height (settled_list log))
+
+  -- no settled commit needs an operation below the start, and all that is stable is there
+  pub record IsKept (log : Log) : Type 0 where
+    pub made : IsPartMade log.list
+    pub start : log.start ≤ floor (settled_list log)
+    pub stable : log.stable ≤ length log.list
+    pub chunks : ArePruned e.layout.chunks log
+
+  -- a store of this engine
+  pub record IsOwn (log : Log) (s : Stored) : Type 0 where
+    pub stored : IsStored log s
+    pub kept : IsKept log
+
+  -- What an opening makes of an own store.
+
+  -- what an opening finds in a store, by its list
+  abbrev pub found_in : Log → Found
+  found_in log = record { start = log.start; items = map (λ op. Some op) (drop log.start log.list); head = head_of log; metadata = None; count = log.chunks }
+
+  -- an accepted opening takes up a list of this size: a beginning of the store's list or, of an empty store, the fresh
+  -- list. It ends with a commit, is the longest that does within the bound, and the store stays own.
+  pub record Takes (log : Log) (bound : Option ℕ) (size : ℕ) : Type 0 where
+    pub kept : IsKept (taken_up (opened_list size log.list) log)
+    pub part : Begins (opened_list size log.list) log.list ⊎ ((log.list ≡ []) × (opened_list size log.list ≡ fresh))
+    pub ended : IsCommitEnded (opened_list size log.list)
+    pub bounded : IfSome bound (λ b. size ≤ b)
+    pub longest : (n : ℕ) → log.start < n → n ≤ length log.list → IfSome bound (λ b. n ≤ b) → IsCommitEnded (take n log.list) → n ≤ size
+
+  -- each accepted opening does
+  abbrev pub OpensParts : Type 0
+  OpensParts = (log : Log) (bound : Option ℕ) (size : ℕ) → IsKept log → opening e.layout (found_in log) bound ≡ opens size → Takes log bound size
