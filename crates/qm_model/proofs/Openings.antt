@@ -1,28 +1,35 @@
 -- What an opening of an own store takes up, and what a crash leaves of one.
 use Rattle.std.proofs.Common.{◌≡◌, ◌⊎◌, inl, inr, ℕ, suc, zero, ◌+◌, ◌-◌, ◌<◌, ◌≤◌, Bool, true, false, List, [], ◌∷◌, ◌++◌, length, take, drop, map, refl, sym, ap, ◌∙◌, Option, Some, None, subst, arith, take_all, length-take-le, length-drop, le_refl}
-use Rattle.std.specs.Prelude.{nat_lt, is_none, ◌^◌, ◌==◌, ◌&&◌, unwrap_or, slice_index_or, option_map, IfSome}
+use Rattle.std.specs.Prelude.{nat_lt, ◌||◌, is_some, if◌then◌else◌, not, filter_map, ◌*◌, is_none, ◌^◌, ◌==◌, ◌&&◌, unwrap_or, slice_index_or, option_map, IfSome}
 use native.Mathlib.Nat.{zero-div}
-use Rattle.std.specs.List.{concat, list_any, AllByRecursion as Each}
+use Rattle.std.specs.Prelude.{All}
+use Rattle.qm_model.proofs.KeyOrder.{successor-some}
+use Rattle.qm_model.specs.Opening.{is_ring, is_link, same_key, items_between}
+use Rattle.std.specs.List.{concat, list_any, list_all, cons_option, AllByRecursion as Each}
 use Rattle.std.specs.Option.{option_or}
 use Rattle.std.proofs.Math.Nat.{le_trans}
 use Rattle.std.proofs.Math.Seq.{take-add, take-length}
 use Rattle.std.proofs.lemmas.Option.{none-some}
-use Rattle.std.proofs.lemmas.Bool.{ltb-false, eqb-true}
-use Rattle.std.proofs.lemmas.List.{take-map, drop-take, length-map, length-take}
+use Rattle.std.proofs.lemmas.Bool.{ltb-false, eqb-true, le-ltb, eq-eqb, cases_lt}
+use Rattle.std.proofs.lemmas.List.{take-append-drop, drop-drop, take-map, drop-take, length-map, length-take}
 use Rattle.std.proofs.lemmas.List.Elements.{All-nil, All-drop, All-take, All-from_recursion, recursion_from_All}
 use Rattle.qm_model.specs.Operations.{Bytes, Operation, update, delete, commit, fresh, IsCommitEnded, eight_bytes}
 use Rattle.qm_model.specs.Forms.{Form, IsOf, spelling, decoded, number_of_eight}
-use Rattle.qm_model.specs.Live.{floor, floor_after}
+use Rattle.qm_model.specs.Live.{Live, live, live_keys, live_from, touched, floor, floor_after}
+use Rattle.qm_model.specs.Keys.{successor, contains_key}
+use Rattle.qm_model.proofs.LastWrites.{bytes_same}
+use Rattle.qm_model.proofs.Floors.{live_from-front}
+use Rattle.std.specs.Option.{option_map_or}
 use Rattle.qm_model.specs.Trees.{Shape, peaks, digest_of, leaves_from}
 use Rattle.qm_model.specs.Grafted.{chunk_of, value_over}
-use Rattle.qm_model.specs.Refused.{CountNotValid, CountTooLarge, MissingPin, InvalidPin}
+use Rattle.qm_model.specs.Refused.{FloorExceedsCommit, HeadDoesNotMatch, ItemDoesNotDecode, LinksFormNoRing, CountNotValid, CountTooLarge, MissingPin, InvalidPin}
 use Rattle.qm_model.specs.Proofs.{pins_at}
 use Rattle.qm_model.specs.Walk.{Rules}
-use Rattle.qm_model.specs.Step.{Kind, unordered, ordered, Made, first}
+use Rattle.qm_model.specs.Step.{IsOrderedGood, Kind, unordered, ordered, Made, first, next, walk_after}
 use Rattle.qm_model.specs.Batches.{Begins}
 use Rattle.qm_model.specs.StoreModel.{Stored, empty, IsImage, end_of}
 use Rattle.qm_model.specs.Opening.{Chunks, Unopened, HistoricalFloorPruned, DataCorrupted, Selected, Opening, refuses, opens, commit_at, last_commit, below_bound, selected, size_of, floor_of, is_empty, when, first_refusal, is_wrong_size, pruned_bits, pins_found, numbered_pins, commit_refusal, checks, opening_refusal, opening_of, opened_list, found, found_with}
-use Rattle.qm_model.specs.Own.{Engine, any_engine, Log, no_log, ArePruned, taken_up, left_at, ended_size, ended_part, MetadataIs, IsStored, IsPartMade, IsKept, IsOwn, found_in, Takes, OpensParts}
+use Rattle.qm_model.specs.Own.{Engine, OpensWhole, head_of, settled_list, any_engine, Log, no_log, ArePruned, taken_up, left_at, ended_size, ended_part, MetadataIs, IsStored, IsPartMade, IsKept, IsOwn, found_in, Takes, OpensParts}
 use Rattle.qm_model.proofs.Forms.{decoded-spelling}
 use Rattle.qm_model.proofs.Chains.{take-least, Begins-self, Begins-length, Begins-through}
 use Rattle.qm_model.proofs.Steps.{made-good}
@@ -484,6 +491,232 @@ module _ {P : Type 0} {kind : Kind} {rules : Rules P} (keeps : Keeps kind rules)
           ap (λ n. take (i.to - n) s.items) stored.start ∙ (ap (take (i.to - log.start)) stored.items ∙ (take-map (spelling form) (i.to - log.start) (drop log.start log.list)
           ∙ ap (map (spelling form)) (sym (drop-take log.start (i.to - log.start) log.list) ∙ ap (λ k. drop log.start (take k log.list)) (omega (arith, start_to)))))
 
+-- An opening without a bound.
+
+-- the size of a log's settled list
+abbrev settled_size : Log → ℕ
+settled_size log = ended_size (take log.stable log.list)
+
+all_none : (rs : List (Option Unopened)) → Each (λ r. r ≡ None) rs → first_refusal rs ≡ None
+all_none [] each = refl
+all_none (r ∷ rs) (is, each) = ap (λ o. option_or o (first_refusal rs)) is ∙ all_none rs each
+
+all_some : (n : ℕ) (ops : List Operation) → list_any is_none (drop n (map (λ op. Some op) ops)) ≡ false
+all_some zero [] = refl
+all_some zero (op ∷ ops) = all_some zero ops
+all_some (suc n) [] = refl
+all_some (suc n) (op ∷ ops) = all_some n ops
+
+operations_of : (n : ℕ) (ops : List Operation) → filter_map (λ item. item) (drop n (map (λ op. Some op) ops)) ≡ drop n ops
+operations_of zero [] = refl
+operations_of zero (op ∷ ops) = ap (λ rest. op ∷ rest) (operations_of zero ops)
+operations_of (suc n) [] = refl
+operations_of (suc n) (op ∷ ops) = operations_of n ops
+
+-- keys and links are the same wherever a list begins
+
+abbrev live_here : Bool → ℕ → Bytes → Bytes → Option Bytes → Option Live
+live_here b i k v n = if b then None else Some (record { location = i; key = k; value = v; next = n })
+
+keys_with : (b : Bool) (i j : ℕ) (k v : Bytes) (n : Option Bytes) (xs ys : List Live) → map (λ (e : Live). e.key) xs ≡ map (λ (e : Live). e.key) ys
+    → map (λ (e : Live). e.key) (cons_option (live_here b i k v n) xs) ≡ map (λ (e : Live). e.key) (cons_option (live_here b j k v n) ys)
+keys_with true i j k v n xs ys h = h
+keys_with false i j k v n xs ys h = ap (λ ks. k ∷ ks) h
+
+keys_moved : (i j : ℕ) (ops : List Operation) → map (λ (e : Live). e.key) (live_from i ops) ≡ map (λ (e : Live). e.key) (live_from j ops)
+keys_moved i j [] = refl
+keys_moved i j (update k v n ∷ ops) = keys_with (touched k ops) i j k v n (live_from (suc i) ops) (live_from (suc j) ops) (keys_moved (suc i) (suc j) ops)
+keys_moved i j (delete k ∷ ops) = keys_moved (suc i) (suc j) ops
+keys_moved i j (commit m f ∷ ops) = keys_moved (suc i) (suc j) ops
+
+links_with : (keys : List Bytes) (b : Bool) (i j : ℕ) (k v : Bytes) (n : Option Bytes) (xs ys : List Live) → list_all (is_link keys) xs ≡ list_all (is_link keys) ys
+    → list_all (is_link keys) (cons_option (live_here b i k v n) xs) ≡ list_all (is_link keys) (cons_option (live_here b j k v n) ys)
+links_with keys true i j k v n xs ys h = h
+links_with keys false i j k v n xs ys h = ap (λ b. is_link keys (record { location = j; key = k; value = v; next = n }) && b) h
+
+links_moved : (keys : List Bytes) (i j : ℕ) (ops : List Operation) → list_all (is_link keys) (live_from i ops) ≡ list_all (is_link keys) (live_from j ops)
+links_moved keys i j [] = refl
+links_moved keys i j (update k v n ∷ ops) = links_with keys (touched k ops) i j k v n (live_from (suc i) ops) (live_from (suc j) ops) (links_moved keys (suc i) (suc j) ops)
+links_moved keys i j (delete k ∷ ops) = links_moved keys (suc i) (suc j) ops
+links_moved keys i j (commit m f ∷ ops) = links_moved keys (suc i) (suc j) ops
+
+same_self : (o : Option Bytes) → is_some o ≡ true → option_map_or (same_key o) o false ≡ true
+same_self None h = cc
+same_self (Some k) h = bytes_same k
+
+links_hold : (keys : List Bytes) (es : List Live) → ((key : Bytes) → is_some (successor keys key) ≡ true) → Each (λ e. e.next ≡ successor keys e.key) es → list_all (is_link keys) es ≡ true
+links_hold keys [] some each = refl
+links_hold keys (e ∷ es) some (is, each) =
+    ap (λ o. option_map_or (same_key o) (successor keys e.key) false && list_all (is_link keys) es) is
+    ∙ (ap (λ b. b && list_all (is_link keys) es) (same_self (successor keys e.key) (some e.key)) ∙ links_hold keys es some each)
+
+ring_holds : (es : List Live) → All (λ e. e.next ≡ successor (map (λ (x : Live). x.key) es) e.key) es → list_all (is_link (map (λ (x : Live). x.key) es)) es ≡ true
+ring_holds [] ring = refl
+ring_holds (e ∷ es) ring =
+    let keys = map (λ (x : Live). x.key) (e ∷ es) in
+    let has : contains_key keys e.key ≡ true = ap (λ b. b || contains_key (map (λ (x : Live). x.key) es) e.key) (bytes_same e.key) in
+    links_hold keys (e ∷ es) (λ key. ap is_some (successor-some keys key e.key has).1) (recursion_from_All (λ x. x.next ≡ successor keys x.key) (e ∷ es) ring)
+
+-- what stands from the floor on has all live updates
+ring-from : (ops : List Operation) → IsOrderedGood ops → is_ring (drop (floor ops) ops) ≡ true
+ring-from ops ordered_good =
+    let f = floor ops in
+    let front = take f ops in
+    let rest = drop f ops in
+    let inside = ordered_good.good.floor_within in
+    let parts : front ++ rest ≡ ops = take-append-drop f ops in
+    let place : f ≡ 0 + length front = omega (arith, inside, length-take f ops) in
+    let above : Each (λ e. f ≤ e.location) (live ops) = recursion_from_All (λ e. f ≤ e.location) (live ops) ordered_good.good.above_floor in
+    let cut : Each (λ e. 0 + length front ≤ e.location) (live_from 0 (front ++ rest)) = subst (λ j. Each (λ e. j ≤ e.location) (live_from 0 (front ++ rest))) place (subst (λ t. Each (λ e. f ≤ e.location) (live t)) (sym parts) above) in
+    let same : live ops ≡ live_from (0 + length front) rest = ap live (sym parts) ∙ live_from-front 0 front rest cut in
+    ap (λ ks. list_all (is_link ks) (live_from 0 rest)) (keys_moved 0 (0 + length front) rest ∙ ap (map (λ (e : Live). e.key)) (sym same))
+    ∙ (links_moved (live_keys ops) 0 (0 + length front) rest ∙ (ap (list_all (is_link (live_keys ops))) (sym same) ∙ ring_holds (live ops) ordered_good.ring))
+
+and_false : (b : Bool) → (b && false) ≡ false
+and_false true = refl
+and_false false = refl
+
+-- a made list begins with the fresh one
+begins_more : (xs ys : List Operation) → take 1 xs ≡ fresh → take 1 (xs ++ ys) ≡ fresh
+begins_more [] ys h = cc
+begins_more (x ∷ xs) ys h = h
+
+made-begins : {P : Type 0} {kind : Kind} {rules : Rules P} (ops : List Operation) → Made kind rules ops → take 1 ops ≡ fresh
+made-begins _ first = refl
+made-begins {kind = kind} {rules = rules} _ (next ops ws policy meta before short) =
+    let written = ops ++ kind.writes ops ws in
+    begins_more (written ++ kind.moves written (walk_after kind rules ops ws policy).decisions) _ (begins_more written _ (begins_more ops (kind.writes ops ws) (made-begins ops before)))
+
+module _ {P : Type 0} {kind : Kind} {rules : Rules P} (keeps : Keeps kind rules) (hash : Bytes → Bytes) (form : Form) (shape : Shape) (digest_size : ℕ) where
+  abbrev whole : Engine P
+  whole = any_engine kind rules hash form shape digest_size
+
+  module _ (log : Log) (kept : IsKept whole log) where
+    -- where something is settled, its commit stands behind the start
+    settled : IsPart (take log.stable log.list) (settled_size log) → (settled_size log ≡ 0) ⊎ ((log.start < settled_size log) × (settled_size log ≤ log.stable) × IsCommitEnded (take (settled_size log) log.list))
+    settled (inl z) = inl z
+    settled (inr (some, less, ended)) =
+        let n = settled_size log in
+        let is_made = (keeps.begins (settled_list log) kept.made.whole kept.made.made (Begins-through (settled_list log) (take log.stable log.list) kept.made.whole (begins_take n (take log.stable log.list)) (settled-begins keeps hash form shape digest_size log kept)) ended).0 in
+        let low = keeps.within (settled_list log) is_made in
+        let start = kept.start in
+        let size = length-take-le log.stable log.list kept.stable in
+        let short : n ≤ log.stable = omega (arith, less, size) in
+        inr (omega (arith, start, low, length-take-le n (take log.stable log.list) less), short, subst IsCommitEnded (take-least n log.stable log.list short) ended)
+
+    -- an opening selects no less
+    selects : settled_size log ≤ size_of (selected (found_in whole log) None)
+    selects = cases (settled (ended-part (take log.stable log.list)))
+      where
+        cases : (settled_size log ≡ 0) ⊎ ((log.start < settled_size log) × (settled_size log ≤ log.stable) × IsCommitEnded (take (settled_size log) log.list)) → settled_size log ≤ size_of (selected (found_in whole log) None)
+        cases (inl z) = omega (arith, z)
+        cases (inr (past, less, ended)) = selected-longest whole log None (settled_size log) past (le_trans less kept.stable) tt ended
+
+    -- something, where there is an operation
+    selects_some : log.start ≡ 0 → 0 < length log.list → 0 < size_of (selected (found_in whole log) None)
+    selects_some at some =
+        let front : take 1 log.list ≡ fresh = ap (take 1) (sym kept.made.begins) ∙ take-least 1 (length log.list) kept.made.whole some ∙ made-begins kept.made.whole kept.made.made in
+        selected-longest whole log None 1 (omega (arith, at)) some tt (subst IsCommitEnded (sym front) tt)
+
+    commits : (at : Option Selected) → selected (found_in whole log) None ≡ at → (option_map DataCorrupted (commit_refusal (is_empty (found_in whole log)) at) ≡ None) × (log.start ≤ floor_of at)
+    commits None is =
+        let up = selects in
+        let none : settled_size log ≡ 0 = omega (arith, up, ap size_of is) in
+        let start = kept.start in
+        let at : log.start ≡ 0 = omega (arith, start, no_floor (take log.stable log.list) (settled_size log) none) in
+        let bare : length log.list ≡ 0 = elim (cases_lt 0 (length log.list)) [ inl some ↦ absurd (let has = selects_some at some in omega (arith, has, ap size_of is)) | inr few ↦ omega (arith, few) ] in
+        let gone : length (map (λ (op : Operation). Some op) (drop log.start log.list)) ≡ 0 = omega (arith, bare, length-map (drop log.start log.list) (λ (op : Operation). Some op), length-drop log.start log.list) in
+        let found_bare : is_empty (found_in whole log) ≡ true = ap (λ n. n == 0 && length (map (λ (op : Operation). Some op) (drop log.start log.list)) == 0) at ∙ ap (λ n. n == 0) gone in
+        (ap (λ b. option_map DataCorrupted (commit_refusal b None)) found_bare, omega (arith, at))
+    commits (Some c) is =
+        let l = looks whole log None in
+        let t = from_last whole log None l c (start-within keeps hash form shape digest_size log kept) (last log.start None l.ops c (ap (last_commit log.start None) (sym l.are) ∙ is)) in
+        let begins = Begins-through (take c.size log.list) log.list kept.made.whole (begins_take c.size log.list) kept.made.begins in
+        let is_made = (keeps.begins (take c.size log.list) kept.made.whole kept.made.made begins t.ended).0 in
+        let low = keeps.within (take c.size log.list) is_made in
+        let inside : c.floor ≤ c.size - 1 = omega (arith, low, t.floor_is, length-take-le c.size log.list t.within) in
+        let up : settled_size log ≤ c.size = subst (λ n. settled_size log ≤ n) (ap size_of is) selects in
+        let start = kept.start in
+        let rise : log.start ≤ c.floor = elim (settled (ended-part (take log.stable log.list))) [
+          | inl z ↦ omega (arith, start, no_floor (take log.stable log.list) (settled_size log) z)
+          | inr (past, less, ended) ↦
+              let same = take-least (settled_size log) log.stable log.list less in
+              let rises = (keeps.begins (take (settled_size log) log.list) (take c.size log.list) is_made (begins_both (settled_size log) c.size log.list up) ended).1 in
+              omega (arith, start, ap floor same, rises, t.floor_is)
+        ] in
+        (ap (option_map DataCorrupted) (ap (λ b. when b FloorExceedsCommit) (le-ltb (c.size - 1) c.floor inside)), rise)
+
+    -- what is found of the selected list has its ring
+    found-ring : ((ops : List Operation) → Made kind rules ops → is_ring (drop (floor ops) ops) ≡ true) → (at : Option Selected) → selected (found_in whole log) None ≡ at → log.start ≤ floor_of at
+        → is_ring (filter_map (λ item. item) (items_between (found_in whole log) (floor_of at) (size_of at))) ≡ true
+    found-ring rings None is low =
+        let none : 0 - log.start ≡ 0 = omega arith in
+        ap (λ n. is_ring (filter_map (λ item. item) (drop n (take n (map (λ (op : Operation). Some op) (drop log.start log.list)))))) none
+    found-ring rings (Some c) is low =
+        let l = looks whole log None in
+        let t = from_last whole log None l c (start-within keeps hash form shape digest_size log kept) (last log.start None l.ops c (ap (last_commit log.start None) (sym l.are) ∙ is)) in
+        let begins = Begins-through (take c.size log.list) log.list kept.made.whole (begins_take c.size log.list) kept.made.begins in
+        let is_made = (keeps.begins (take c.size log.list) kept.made.whole kept.made.made begins t.ended).0 in
+        let inside = keeps.within (take c.size log.list) is_made in
+        let past : log.start ≤ c.size = omega (arith, low, inside, t.floor_is, length-take-le c.size log.list t.within) in
+        let items = drop log.start log.list in
+        let cut : take (c.size - log.start) items ≡ drop log.start (take c.size log.list) = sym (drop-take log.start (c.size - log.start) log.list) ∙ ap (λ k. drop log.start (take k log.list)) (omega (arith, past)) in
+        let found_ops = ap (λ xs. filter_map (λ item. item) (drop (c.floor - log.start) xs)) (take-map (λ op. Some op) (c.size - log.start) items) ∙ operations_of (c.floor - log.start) (take (c.size - log.start) items) in
+        let list = take c.size log.list in
+        let from_floor : drop (c.floor - log.start) (take (c.size - log.start) items) ≡ drop (floor list) list =
+        ap (drop (c.floor - log.start)) cut ∙ (drop-drop (c.floor - log.start) log.start list ∙ ap (λ n. drop n list) (omega (arith, low, t.floor_is))) in
+        ap is_ring (found_ops ∙ from_floor) ∙ rings (take c.size log.list) is_made
+
+    opens-whole : (form.ordered ≡ false) ⊎ ((ops : List Operation) → Made kind rules ops → is_ring (drop (floor ops) ops) ≡ true) → length (head_of whole log) ≡ digest_size * length (peaks shape log.start) → OpensWhole whole log
+    opens-whole plain pinned = record {
+      size = size_of at;
+      accepted = ap (λ r. opening_of r (size_of at)) passed;
+      settled = omega (arith, selects, length-take (settled_size log) (take log.stable log.list));
+    }
+      where
+        at : Option Selected
+        at = selected (found_in whole log) None
+
+        passed : first_refusal (checks whole.layout (found_in whole log) None) ≡ None
+        passed =
+            let c = commits (selected (found_in whole log) None) refl in
+            all_none (checks whole.layout (found_in whole log) None) (
+              refl,
+              (
+                refl,
+                (
+                  ap (λ b. when b (HistoricalFloorPruned (size_of (selected (found_in whole log) None)))) (le-ltb (size_of (selected (found_in whole log) None)) 0 (omega arith)),
+                  (
+                    c.0,
+                    (
+                      ap (λ b. when b (HistoricalFloorPruned (size_of (selected (found_in whole log) None)))) (le-ltb (floor_of (selected (found_in whole log) None)) log.start c.1),
+                      (
+                        ap (λ b. when b (HistoricalFloorPruned (size_of (selected (found_in whole log) None)))) (le-ltb (floor_of (selected (found_in whole log) None)) 0 (omega arith)),
+                        (
+                          refl,
+                          (
+                            refl,
+                            (
+                              ap (λ b. when (not b) (DataCorrupted HeadDoesNotMatch)) (eq-eqb (length (head_of whole log)) (digest_size * length (peaks shape log.start)) pinned),
+                              (
+                                ap (λ b. when b (DataCorrupted ItemDoesNotDecode)) (ap (λ items. list_any is_none (drop ((floor_of (selected (found_in whole log) None)) - log.start) items)) (take-map (λ op. Some op) ((size_of (selected (found_in whole log) None)) - log.start) (drop log.start log.list)) ∙ all_some ((floor_of (selected (found_in whole log) None)) - log.start) (take ((size_of (selected (found_in whole log) None)) - log.start) (drop log.start log.list))),
+                                (ap (λ b. when b (DataCorrupted LinksFormNoRing)) (linked plain), tt),
+                              ),
+                            ),
+                          ),
+                        ),
+                      ),
+                    ),
+                  ),
+                ),
+              ),
+            )
+          where
+            linked : (form.ordered ≡ false) ⊎ ((ops : List Operation) → Made kind rules ops → is_ring (drop (floor ops) ops) ≡ true)
+                → (form.ordered && not (is_ring (filter_map (λ item. item) (items_between (found_in whole log) (floor_of (selected (found_in whole log) None)) (size_of (selected (found_in whole log) None)))))) ≡ false
+            linked (inl is) = ap (λ b. b && not (is_ring (filter_map (λ item. item) (items_between (found_in whole log) (floor_of (selected (found_in whole log) None)) (size_of (selected (found_in whole log) None)))))) is
+            linked (inr rings) = ap (λ b. form.ordered && not b) (found-ring rings (selected (found_in whole log) None) refl (commits (selected (found_in whole log) None) refl).1) ∙ and_false form.ordered
+
 module _ {P : Type 0} (rules : Rules P) (hash : Bytes → Bytes) (form : Form) (shape : Shape) (digest_size : ℕ) where
   pub unordered-takes : OpensParts (any_engine unordered rules hash form shape digest_size)
   unordered-takes = any-takes (unordered-keeps rules) hash form shape digest_size
@@ -498,3 +731,11 @@ module _ {P : Type 0} (rules : Rules P) (hash : Bytes → Bytes) (form : Form) (
   pub ordered-image : (log : Log) (s image : Stored) → IsOwn (any_engine ordered rules hash form shape digest_size) log s → (i : IsImage s image)
       → IsOwn (any_engine ordered rules hash form shape digest_size) (left_at i.to log) image
   ordered-image = any-image (ordered-keeps rules) hash form shape digest_size
+
+  pub unordered-whole : (log : Log) → form.ordered ≡ false → IsKept (any_engine unordered rules hash form shape digest_size) log
+      → length (head_of (any_engine unordered rules hash form shape digest_size) log) ≡ digest_size * length (peaks shape log.start) → OpensWhole (any_engine unordered rules hash form shape digest_size) log
+  unordered-whole log plain kept pinned = opens-whole (unordered-keeps rules) hash form shape digest_size log kept (inl plain) pinned
+
+  pub ordered-whole : (log : Log) → IsKept (any_engine ordered rules hash form shape digest_size) log
+      → length (head_of (any_engine ordered rules hash form shape digest_size) log) ≡ digest_size * length (peaks shape log.start) → OpensWhole (any_engine ordered rules hash form shape digest_size) log
+  ordered-whole log kept pinned = opens-whole (ordered-keeps rules) hash form shape digest_size log kept (inr (λ ops made. ring-from ops (made-ordered rules ops made))) pinned

@@ -127,3 +127,9 @@ module _ {P : Type 0} (e : Engine P) where
   -- each accepted opening does
   abbrev pub OpensParts : Type 0
   OpensParts = (log : Log) (bound : Option ℕ) (size : ℕ) → IsKept log → opening e.layout (found_in log) bound ≡ opens size → Takes log bound size
+
+  -- without a bound it is opened, to a list that is no shorter than what is settled
+  pub record OpensWhole (log : Log) : Type 0 where
+    pub size : ℕ
+    pub accepted : opening e.layout (found_in log) None ≡ opens size
+    pub settled : length (settled_list log) ≤ size

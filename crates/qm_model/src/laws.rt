@@ -19,7 +19,7 @@ ghost use Rattle.qm_model.specs.Proofs.{item_leaves, proof_of, verdict};
 ghost use Rattle.qm_model.specs.Trees.{Shape, peaks, root, leaves_from};
 ghost use Rattle.qm_model.specs.StoreModel.{Stored, empty, IsImage};
 ghost use Rattle.qm_model.specs.Opening.{found};
-ghost use Rattle.qm_model.specs.Own.{Engine, any_engine, Log, no_log, left_at, IsOwn, found_in, OpensParts};
+ghost use Rattle.qm_model.specs.Own.{Engine, any_engine, Log, no_log, left_at, IsKept, IsOwn, head_of, found_in, OpensParts, OpensWhole};
 ghost use Rattle.qm_model.specs.Bits.{bits};
 ghost use Rattle.qm_model.specs.Grafted.{chunk_size, chunk_of, canonical};
 ghost use Rattle.qm_model.specs.RangeProofs.{chunks_of, range_proof, range_verdict};
@@ -252,4 +252,12 @@ pub fn crashes_leave_own_stores<P: Ruled>()
         let e = any_engine unordered P.rules hash form shape digest_size in IsOwn e log s → (i : IsImage s image) → IsOwn e (left_at i.to log) image }
     ensures ordered { (hash : Bytes → Bytes) (form : Form) (shape : Shape) (digest_size : ℕ) (log : Log) (s image : Stored) →
         let e = any_engine ordered P.rules hash form shape digest_size in IsOwn e log s → (i : IsImage s image) → IsOwn e (left_at i.to log) image }
+{}
+
+/// Where the head of an own store of any databases has the length of the pins at its start, an opening without a bound accepts it, and takes up no less than what is settled. An unordered database's form is that of updates without a next key.
+pub fn own_stores_are_opened<P: Ruled>()
+    ensures unordered { (hash : Bytes → Bytes) (form : Form) (shape : Shape) (digest_size : ℕ) (log : Log) →
+        let e = any_engine unordered P.rules hash form shape digest_size in form.ordered ≡ false → IsKept e log → length (head_of e log) ≡ digest_size * length (peaks shape log.start) → OpensWhole e log }
+    ensures ordered { (hash : Bytes → Bytes) (form : Form) (shape : Shape) (digest_size : ℕ) (log : Log) →
+        let e = any_engine ordered P.rules hash form shape digest_size in IsKept e log → length (head_of e log) ≡ digest_size * length (peaks shape log.start) → OpensWhole e log }
 {}
