@@ -1,5 +1,6 @@
 pub mod Agreed
 pub mod Known
+pub mod Lasting
 pub mod Making
 pub mod OrderedReads
 pub mod Reading

@@ -33,6 +33,19 @@ pub record Database (C D : Type 0) : Type 0 where
   pub live : ℕ
   pub metadata : Option Bytes
 
+-- what a database has beside its log
+pub record Beside : Type 0 where
+  pub entries : List (ℕ × List ℕ)
+  pub activity : Bitmap
+  pub commitment : Commitment
+  pub floor : ℕ
+  pub live : ℕ
+  pub metadata : Option Bytes
+
+-- the database of that over a log
+abbrev pub over : {C D : Type 0} → Beside → Log C D → Database C D
+over beside log = record { entries = beside.entries; activity = beside.activity; log = log; commitment = beside.commitment; floor = beside.floor; live = beside.live; metadata = beside.metadata }
+
 -- a merkleized batch: its bounds, its own step and those of its kept ancestors, newest first, its tree, and the count of
 -- live keys and the metadata of the list that it makes
 pub record Made (D : Type 0) : Type 0 where

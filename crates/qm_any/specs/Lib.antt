@@ -1,3 +1,4 @@
+pub mod Lasting
 pub mod Layouts
 pub mod Databases
 pub mod Reasons

@@ -25,7 +25,7 @@ ghost use Rattle.qm_batch.specs.Changes.{LeadTo, update_of};
 ghost use Rattle.qm_index.specs.Indexed.{IsIndexed};
 ghost use Rattle.qm_batch.specs.Lent.{IsReadError, NoneBelow};
 ghost use Rattle.qm_batch.specs.Views.{changes_view, keys_of, read_view, wanted_view, AreReads, IsPlan, stepped, left_after};
-ghost use Rattle.qm_any.specs.Databases.{Database, IsBegun, IsDatabase, IsLeft, IsMade, IsTree, at_rest, read_under};
+ghost use Rattle.qm_any.specs.Databases.{Database, over, IsBegun, IsDatabase, IsLeft, IsMade, IsTree, at_rest, read_under};
 ghost use Rattle.qm_store.specs.Given.{Appended, AppendedPart, store_given, store_after};
 ghost use Rattle.qm_store.specs.KeptTrees.{IsKeptTree, held_at};
 
@@ -82,6 +82,58 @@ impl<F: Family, C: Store, I: qm_index::Unordered<Value = Location<F>>, H: Hasher
     ghost invariant = { λ db. (db.commitment.size ≡ db.log.tree.leaves) × (C.end db.log.store ≡ db.log.tree.leaves) × (db.live ≤ db.commitment.size) × (bit_count 64 db.activity ≡ db.commitment.size) };
 }
 
+/// What a database has beside its log.
+#[derive(Drop)]
+pub(crate) struct Beside<F, I: qm_index::Unordered<Value = Location<F>>, D: Digest, U: Update> {
+    index: I,
+    pub(crate) activity: Prunable<Chunk64>,
+    commitment: Commitment<D>,
+    floor: Location<F>,
+    live: u64,
+    metadata: Option<Rc<U::Value>>,
+}
+
+impl<F, I: qm_index::Unordered<Value = Location<F>>, D: Digest, U: Update> Model
+    for Beside<F, I, D, U> {
+    ghost use Rattle.std.specs.Prelude.{◌≡◌, ◌≤◌, option_map};
+    ghost use Rattle.qm_bits.specs.Bitmaps.{bit_count};
+    ghost use Rattle.qm_chain.specs.Bounds.{commitment_view};
+    ghost use Rattle.qm_any.specs.Databases.{Beside};
+
+    ghost Value = { Beside };
+
+    ghost view = { λ b. record { entries = I.entries b.index; activity = b.activity; commitment = commitment_view D.bytes b.commitment; floor = b.floor; live = b.live; metadata = option_map (λ m. U.Value.bytes m.value) b.metadata } };
+
+    ghost invariant = { λ b. (b.live ≤ b.commitment.size) × (bit_count 64 b.activity ≡ b.commitment.size) };
+}
+
+impl<F: Family, I: qm_index::Unordered<Value = Location<F>>, D: Digest, U: Update> Beside<
+    F,
+    I,
+    D,
+    U,
+> {
+    // The database of this over a log.
+    pub(crate) fn over<C: Store, H: Hasher<Digest = D> + Drop>(
+        self,
+        log: AuthLog<F, C, H>,
+    ) -> Db<F, C, I, H, U>
+        requires size { self.commitment.size ≡ log.tree.leaves }
+        requires end { C.end log.store ≡ log.tree.leaves }
+        ensures { result ≡ over self log }
+    {
+        Db {
+            index: self.index,
+            activity: self.activity,
+            log,
+            commitment: self.commitment,
+            floor: self.floor,
+            live: self.live,
+            metadata: self.metadata,
+        }
+    }
+}
+
 /// How the lists of a database are hashed and indexed, by its type.
 pub trait LaidOut {
     ghost use Rattle.qm_any.specs.Layouts.{Layout};
@@ -132,6 +184,32 @@ impl<
             live,
             metadata,
         }
+    }
+
+    // The log, and what the database has beside it.
+    pub(crate) fn apart(self) -> (AuthLog<F, C, H>, Beside<F, I, H::Digest, U>)
+        ensures whole { self ≡ over result.1 result.0 }
+        ensures size { result.1.commitment.size ≡ result.0.tree.leaves }
+        ensures end { C.end result.0.store ≡ result.0.tree.leaves }
+    {
+        let Db {
+            index,
+            activity,
+            log,
+            commitment,
+            floor,
+            live,
+            metadata,
+        } = self;
+        let beside = Beside {
+            index,
+            activity,
+            commitment,
+            floor,
+            live,
+            metadata,
+        };
+        (log, beside)
     }
 
     /// Begins a batch on the database as it is.

@@ -3,6 +3,7 @@
 
 pub mod batch;
 pub mod db;
+mod durable;
 pub mod laws;
 mod open;
 mod operations;

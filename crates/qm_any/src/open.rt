@@ -111,7 +111,9 @@ fn fresh_items<F, U: Update>(alloc: Global) -> Result<Vec<Vec<u8>>, AllocError>
 }
 
 // The store that a log gave back.
-fn store_of<F: Family, C: Store, H: Hasher + Drop>(given: LogGiven<AuthLog<F, C, H>, C>) -> C
+pub(crate) fn store_of<F: Family, C: Store, H: Hasher + Drop>(
+    given: LogGiven<AuthLog<F, C, H>, C>,
+) -> C
     ensures { result ≡ logs.store_given given }
 {
     match given {

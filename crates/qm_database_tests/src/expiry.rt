@@ -4,7 +4,7 @@ ghost use Rattle.std.specs.Prelude.{◌≡◌, ◌^◌, ◌-◌, ℕ, Bool, true
 ghost use Rattle.qm_model.specs.Walk.{write, evict};
 ghost use Rattle.qm_chain.specs.Policies.{action_view};
 
-use crate::fixed::{Batch, Database, Pair, applied, key, opened};
+use crate::fixed::{Batch, Database, kept, key, opened};
 use qm_base::{ByteString, Error, FixedBytes};
 use qm_chain::{Decision, Entry, Limits, Policy};
 use std::alloc::{AllocError, Global};
@@ -71,9 +71,9 @@ fn dated(alloc: Global, db: &mut Database) -> Result<Rc<Batch>, Error> {
 
 // A database with this value.
 fn filled(alloc: Global) -> Result<Database, Error> {
-    let mut db = opened(alloc)?;
+    let mut db = opened(alloc, Vec::new(alloc))?;
     let batch = dated(alloc, &mut db)?;
-    applied(alloc, db, &batch)
+    kept(db.apply_batch(alloc, &batch))
 }
 
 // Whether the key has a value in the batch at this block.

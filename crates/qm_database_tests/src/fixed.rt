@@ -11,7 +11,7 @@ use qm_chain::Proportional;
 use qm_index::FourCap;
 use qm_index::unordered::Index;
 use qm_merkle::mmr::Family;
-use qm_store::MemStore;
+use qm_store::{MemStore, Refusal};
 use std::alloc::{AllocError, Global};
 use std::num::NonZeroU64;
 use std::rc::Rc;
@@ -23,13 +23,17 @@ pub(crate) type Database = Db<Family, MemStore, Index<FourCap, Location<Family>>
 
 pub(crate) type Batch = MerkleizedBatch<Family, Sha256Digest, Pair>;
 
-// A fresh database over an empty store.
-pub(crate) fn opened(alloc: Global) -> Result<Database, Error> {
-    let store = MemStore::new(alloc, Vec::new(alloc));
-    match init(alloc, store, Sha256::new(), FourCap) {
-        Ok(db) => Ok(db),
+// What a call answers, or why it was refused.
+pub(crate) fn kept<T: Drop, X: Drop>(done: Result<T, Refusal<X, MemStore>>) -> Result<T, Error> {
+    match done {
+        Ok(answer) => Ok(answer),
         Err(refusal) => Err(refusal.error),
     }
+}
+
+// A fresh database over an empty store that fails at these calls.
+pub(crate) fn opened(alloc: Global, fail: Vec<u64>) -> Result<Database, Error> {
+    kept(init(alloc, MemStore::new(alloc, fail), Sha256::new(), FourCap))
 }
 
 pub(crate) fn key(alloc: Global) -> Result<FixedBytes<4>, AllocError> {
@@ -37,18 +41,10 @@ pub(crate) fn key(alloc: Global) -> Result<FixedBytes<4>, AllocError> {
 }
 
 // The batch that gives the key a value.
-fn batch_of(alloc: Global, db: &mut Database) -> Result<Rc<Batch>, Error> {
+pub(crate) fn batch_of(alloc: Global, db: &mut Database) -> Result<Rc<Batch>, Error> {
     let value = FixedBytes::from_bytes(alloc, &[10, 11, 12, 13, 14, 15, 16, 17])?;
     let batch = db.new_batch(alloc)?.write(key(alloc)?, Some(value))?;
     batch.merkleize(alloc, db, None, &mut Proportional)
-}
-
-// The database after a batch.
-pub(crate) fn applied(alloc: Global, db: Database, batch: &Batch) -> Result<Database, Error> {
-    match db.apply_batch(alloc, batch) {
-        Ok(db) => Ok(db),
-        Err(refusal) => Err(refusal.error),
-    }
 }
 
 // The last byte of a value.
@@ -80,12 +76,12 @@ fn read(alloc: Global, db: &mut Database) -> Result<Option<u8>, Error> {
 
 // The database after the batch, and the last byte of the key's value without it, through it and behind it.
 fn read_in_turn(alloc: Global) -> Result<(Database, [Option<u8>; 3]), Error> {
-    let mut db = opened(alloc)?;
+    let mut db = opened(alloc, Vec::new(alloc))?;
     let before = read_begun(alloc, &mut db)?;
     let batch = batch_of(alloc, &mut db)?;
     let through = read_made(alloc, &batch, &mut db)?;
     db.validate_batch(&batch)?;
-    let mut db = applied(alloc, db, &batch)?;
+    let mut db = kept(db.apply_batch(alloc, &batch))?;
     let behind = read(alloc, &mut db)?;
     Ok((db, [before, through, behind]))
 }
@@ -102,9 +98,9 @@ fn keys_are_read(rt: HostRuntime) -> Result<(), Fail> {
 #[test]
 fn operations_are_proved(rt: HostRuntime) -> Result<(), Fail> {
     let alloc = rt.alloc();
-    let mut db = opened(alloc)?;
+    let mut db = opened(alloc, Vec::new(alloc))?;
     let batch = batch_of(alloc, &mut db)?;
-    let mut db = applied(alloc, db, &batch)?;
+    let mut db = kept(db.apply_batch(alloc, &batch))?;
     let root = db.root();
     assert!(rt;
         root.bytes()

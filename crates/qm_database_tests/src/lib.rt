@@ -2,6 +2,8 @@
 #![tactic(auto)]
 
 #[cfg(test)]
+mod durable;
+#[cfg(test)]
 mod expiry;
 #[cfg(test)]
 mod fixed;

@@ -1,5 +1,6 @@
 //! Scans of an ordered database: one over a store that refuses a read, and one of keys.
 
+use crate::fixed::kept;
 use qm_any::batch::UnmerkleizedBatch;
 use qm_any::db::Db;
 use qm_any::init;
@@ -55,10 +56,7 @@ fn written(alloc: Global, batch: Batch) -> Result<Batch, AllocError> {
 
 // A fresh database over a store that fails at these calls.
 fn opened(alloc: Global, fail: Vec<u64>) -> Result<Database, Error> {
-    match init(alloc, MemStore::new(alloc, fail), Sha256::new(), OneCap) {
-        Ok(db) => Ok(db),
-        Err(refusal) => Err(refusal.error),
-    }
+    kept(init(alloc, MemStore::new(alloc, fail), Sha256::new(), OneCap))
 }
 
 // The same with five keys.
@@ -66,10 +64,7 @@ fn filled(alloc: Global, fail: Vec<u64>) -> Result<Database, Error> {
     let mut db = opened(alloc, fail)?;
     let batch = written(alloc, db.new_batch(alloc)?)?;
     let batch = batch.merkleize(alloc, &mut db, None, &mut Hold)?;
-    match db.apply_batch(alloc, &batch) {
-        Ok(db) => Ok(db),
-        Err(refusal) => Err(refusal.error),
-    }
+    kept(db.apply_batch(alloc, &batch))
 }
 
 // The values that a scan of all gives, in order, and how often it was refused.

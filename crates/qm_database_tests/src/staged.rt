@@ -1,12 +1,9 @@
 //! How often a store is read where keys are staged, seen by the number of the first call that never comes: a store in memory
 //! numbers its calls and fails at those that are listed.
 
-use crate::fixed::{Database, applied};
-use qm_any::init;
-use qm_base::{ByteString, Error, FixedBytes, Sha256, Slot};
+use crate::fixed::{Database, kept, opened};
+use qm_base::{ByteString, Error, FixedBytes, Slot};
 use qm_chain::Hold;
-use qm_index::FourCap;
-use qm_store::MemStore;
 use std::alloc::{AllocError, Global};
 use std::test::Fail;
 
@@ -39,17 +36,13 @@ fn value(alloc: Global) -> Result<Value, AllocError> {
 
 // A database in which the two keys are live, over a store that fails at this call.
 fn filled(alloc: Global, fail: u64) -> Result<Database, Error> {
-    let store = MemStore::new(alloc, vec![in alloc; fail]?);
-    let mut db = match init(alloc, store, Sha256::new(), FourCap) {
-        Ok(db) => db,
-        Err(refusal) => return Err(refusal.error),
-    };
+    let mut db = opened(alloc, vec![in alloc; fail]?)?;
     let mut batch = db.new_batch(alloc)?;
     for key in keys(alloc)? {
         batch = batch.write(key, Some(value(alloc)?))?;
     }
     let batch = batch.merkleize(alloc, &mut db, None, &mut Hold)?;
-    applied(alloc, db, &batch)
+    kept(db.apply_batch(alloc, &batch))
 }
 
 // Reads the two keys, and writes them again in a batch.

@@ -1,0 +1,42 @@
+use Rattle.std.proofs.Common.{map, subst}
+use Rattle.qm_model.proofs.Results.{err-both, ok-each, ok-four}
+use Rattle.qm_model.specs.Forms.{spelling}
+use Rattle.qm_model.specs.StoreModel.{settled}
+use Rattle.qm_store.specs.Log.{IsLog}
+use Rattle.qm_any.specs.Databases.{IsDatabase}
+use Rattle.qm_any.specs.Layouts.{layout_of, hashing_of}
+use Rattle.qm_any.specs.Lasting.{HasLasted, HasLeftStable, IsGivenUp}
+use Rattle.qm_any.proofs.Lasting.{ok-two, still-told, ok-over, err-over, joined, relogged, lasted, given-up}
+use Rattle.qm_any.proofs.db.Db.commit.Goals as goal
+
+pub over-requires : goal.over-requires
+over-requires g c =
+    ok-two c.commit.result c.commit.ensures.tree c.commit.ensures.committed
+    (λ log tree become. joined g.C.Store c.apart-log.result.1 c.apart-log.result.0 log c.apart-log.ensures.size c.apart-log.ensures.end tree become.end)
+
+pub returns-clause-stands : goal.returns-clause-stands
+returns-clause-stands g c = λ list is.
+    let layout = layout_of g.H.Digest.Digest.bytes g.H.Hasher g.F.Family g.U.Update g.I.Unordered in
+    let beside = c.apart-log.result.1 in
+    let old = c.apart-log.result.0 in
+    let was = subst (λ db. IsDatabase g.C.Store layout db list) c.apart-log.ensures.whole is in
+    ok-over g.C.Store beside c.commit.result c.over.result (λ db. IsDatabase g.C.Store layout db list) c.over.ensures
+    (ok-two c.commit.result (c.commit.ensures.stands (map (spelling g.U.Update.form) list) was.lent.logged) c.commit.ensures.committed
+    (λ log stands become. relogged g.C.Store layout beside old log list (still-told (g.C.Store.told old.store) (g.C.Store.told log.store) settled become.told) stands was))
+
+pub returns-clause-committed : goal.returns-clause-committed
+returns-clause-committed g c =
+    let hashing = hashing_of g.H.Digest.Digest.bytes g.H.Hasher g.F.Family g.U.Update in
+    let beside = c.apart-log.result.1 in
+    let old = c.apart-log.result.0 in
+    ok-over g.C.Store beside c.commit.result c.over.result (HasLasted g.C.Store hashing settled c.args.self) c.over.ensures
+    (ok-four c.commit.result (ok-each (IsLog g.C.Store hashing.shape hashing.bytes hashing.hash old) (λ items log. IsLog g.C.Store hashing.shape hashing.bytes hashing.hash log items) c.commit.result c.commit.ensures.stands) c.commit.ensures.tree c.commit.ensures.committed c.commit.ensures.later
+    (λ log stands tree become later. lasted g.C.Store hashing settled c.args.self beside old log c.apart-log.ensures.whole stands tree become later))
+
+pub returns-clause-refused : goal.returns-clause-refused
+returns-clause-refused g c =
+    let beside = c.apart-log.result.1 in
+    let old = c.apart-log.result.0 in
+    err-over g.C.Store beside c.commit.result c.over.result (IsGivenUp g.C.Store (HasLeftStable g.C.Store) c.args.self.log.store) c.over.ensures
+    (err-both c.commit.result c.commit.ensures.refused c.commit.ensures.given
+    (λ r refused never. given-up g.C.Store (HasLeftStable g.C.Store) c.args.self beside old r c.apart-log.ensures.whole refused never))

@@ -1,0 +1,136 @@
+//! What makes a database outlive a crash, and what ends it: commits and syncs, metadata, pruning, and its end.
+
+ghost use Rattle.std.specs.Prelude.{◌≡◌, ◌⊎◌, ◌≤◌, ◌<◌, ℕ, List, IfOk, IfErr, IfSome, OnOk};
+ghost use Rattle.qm_model.specs.Live as lives;
+ghost use Rattle.qm_model.specs.Operations.{Operation};
+ghost use Rattle.qm_model.specs.StoreModel.{end_of, settled, with_metadata, IsImage, IsOldOrNew, ReadsAs};
+ghost use Rattle.qm_store.specs.Log.{HasLeft};
+ghost use Rattle.qm_batch.specs.Lent.{NoneBelow};
+ghost use Rattle.qm_any.specs.Databases.{IsDatabase};
+ghost use Rattle.qm_any.specs.Lasting.{boundary_of, over_log, HasLasted, HasLeftPruned, HasLeftDestroyed, HasLeftStable, HasPruned, IsDestroyed, IsGivenUp};
+
+use crate::db::{Beside, Db, LaidOut};
+use crate::open::store_of;
+use qm_base::update::Update;
+use qm_base::{Error, Hasher, Location};
+use qm_merkle::Family;
+use qm_store::{AuthLog, Given, LogRefusal, MetaEntry, Refusal, Store};
+use std::alloc::Global;
+
+impl<
+    F: Family,
+    C: Store,
+    I: qm_index::Unordered<Value = Location<F>>,
+    H: Hasher + Drop,
+    U: Update,
+> Db<F, C, I, H, U> {
+    /// Makes the operations stable: from then on a crash leaves them all. It takes one call of the store and no memory. A
+    /// refusal gives back the store.
+    pub fn commit(self) -> Result<Self, Refusal<Self, C>>
+        ensures stands { (list : List Operation) → IsDatabase C.Store ⟦<Self as LaidOut>⟧.layout self list → IfOk result (λ db. IsDatabase C.Store ⟦<Self as LaidOut>⟧.layout db list) }
+        ensures committed { IfOk result (HasLasted C.Store ⟦<Self as LaidOut>⟧.layout.hashing settled self) }
+        ensures refused { IfErr result (IsGivenUp C.Store (HasLeftStable C.Store) self.log.store) }
+    {
+        let (log, beside) = self.apart();
+        over(beside, log.commit())
+    }
+
+    /// Makes all that the store holds stable. It takes one call of the store and no memory. A refusal gives back the store.
+    pub fn sync(self) -> Result<Self, Refusal<Self, C>>
+        ensures stands { (list : List Operation) → IsDatabase C.Store ⟦<Self as LaidOut>⟧.layout self list → IfOk result (λ db. IsDatabase C.Store ⟦<Self as LaidOut>⟧.layout db list) }
+        ensures synced { IfOk result (HasLasted C.Store ⟦<Self as LaidOut>⟧.layout.hashing settled self) }
+        ensures refused { IfErr result (IsGivenUp C.Store (HasLeftStable C.Store) self.log.store) }
+    {
+        let (log, beside) = self.apart();
+        over(beside, log.sync())
+    }
+
+    /// Replaces the metadata that the store has under a name. A refusal gives back the store.
+    pub fn put_meta(self, name: &str, entries: &[MetaEntry]) -> Result<Self, Refusal<Self, C>>
+        ensures stands { (list : List Operation) → IsDatabase C.Store ⟦<Self as LaidOut>⟧.layout self list → IfOk result (λ db. IsDatabase C.Store ⟦<Self as LaidOut>⟧.layout db list) }
+        ensures put { IfOk result (HasLasted C.Store ⟦<Self as LaidOut>⟧.layout.hashing (with_metadata name.now entries.now) self) }
+        ensures refused { IfErr result (IsGivenUp C.Store (HasLeft C.Store (λ s. ReadsAs s.stable (IsOldOrNew (with_metadata name.now entries.now) s))) self.log.store) }
+    {
+        let (log, beside) = self.apart();
+        over(beside, log.put_meta(name, entries))
+    }
+
+    /// Takes the operations before a location away from the store, which keeps the digests of the peaks there, and makes all
+    /// others stable first: roots, reads and later batches stay what they were. A store that starts there or behind is not
+    /// pruned. The database comes back as it was where the location is past its boundary; every other refusal gives back the
+    /// store.
+    pub fn prune(self, alloc: Global, loc: Location<F>) -> Result<Self, Refusal<Self, C>>
+        ensures stands { (list : List Operation) → IsDatabase C.Store ⟦<Self as LaidOut>⟧.layout self list → IfOk result (λ db. IsDatabase C.Store ⟦<Self as LaidOut>⟧.layout db list) }
+        ensures whole { (list : List Operation) → IsDatabase C.Store ⟦<Self as LaidOut>⟧.layout self list → NoneBelow self.log.tree.start list → IfOk result (λ db. NoneBelow db.log.tree.start list) }
+        ensures pruned { IfOk result (HasPruned C.Store ⟦<Self as LaidOut>⟧.layout.hashing settled loc self) }
+        ensures boundary { (list : List Operation) → IsDatabase C.Store ⟦<Self as LaidOut>⟧.layout self list → boundary_of self ≡ lives.floor list }
+        ensures fits { OnOk result (loc ≤ boundary_of self) }
+        ensures beyond { IfErr result (λ r. boundary_of self < loc → (r.given ≡ Given.Database self) × (r.error ≡ Error.PruneBeyondMinRequired loc (boundary_of self))) }
+        ensures refused { IfErr result (λ r. loc ≤ boundary_of self → IsGivenUp C.Store (λ old new. HasLeftStable C.Store old new ⊎ HasLeftPruned C.Store ⟦<Self as LaidOut>⟧.layout.hashing settled loc self.log new) self.log.store r) }
+    {
+        let boundary = self.sync_boundary().get().min(self.size().get());
+        if loc.get() > boundary {
+            let error = Error::PruneBeyondMinRequired(loc.get(), boundary);
+            return Err(Refusal {
+                given: Given::Database(self),
+                error,
+            });
+        }
+        self.commit()?.cut(alloc, loc.get())
+    }
+
+    // The database without what stands before a location, where all is stable.
+    fn cut(self, alloc: Global, to: u64) -> Result<Self, Refusal<Self, C>>
+        requires size { to ≤ self.commitment.size }
+        requires stable { IfSome (C.told self.log.store) (λ s. s.stable ≡ end_of s) }
+        ensures stands { (list : List Operation) → to ≤ lives.floor list → IsDatabase C.Store ⟦<Self as LaidOut>⟧.layout self list → IfOk result (λ db. IsDatabase C.Store ⟦<Self as LaidOut>⟧.layout db list) }
+        ensures pruned { IfOk result (HasPruned C.Store ⟦<Self as LaidOut>⟧.layout.hashing (λ s. s) to self) }
+        ensures refused { IfErr result (IsGivenUp C.Store (λ _. HasLeftPruned C.Store ⟦<Self as LaidOut>⟧.layout.hashing (λ s. s) to self.log) self.log.store) }
+    {
+        let (log, mut beside) = self.apart();
+        beside.activity.prune_to_bit(to);
+        let (start, _) = log.bounds();
+        if to <= start {
+            return Ok(beside.over(log));
+        }
+        over(beside, log.prune(alloc, to))
+    }
+
+    /// Empties the store: a database that is opened on it then is fresh. A refusal gives back the store.
+    pub fn destroy(self) -> Result<C, Refusal<Self, C>>
+        ensures destroyed { IfOk result (IsDestroyed C.Store self.log.store) }
+        ensures refused { IfErr result (IsGivenUp C.Store (HasLeftDestroyed C.Store) self.log.store) }
+    {
+        let mut store = self.close();
+        match store.destroy() {
+            Ok(()) => Ok(store),
+            Err(error) => Err(Refusal {
+                given: Given::Store(store),
+                error: Error::from(error),
+            }),
+        }
+    }
+}
+
+// The database over the log that a call left, or the store where the call was refused.
+fn over<
+    F: Family,
+    C: Store,
+    I: qm_index::Unordered<Value = Location<F>>,
+    H: Hasher + Drop,
+    U: Update,
+>(
+    beside: Beside<F, I, H::Digest, U>,
+    done: Result<AuthLog<F, C, H>, LogRefusal<AuthLog<F, C, H>, C>>,
+) -> Result<Db<F, C, I, H, U>, Refusal<Db<F, C, I, H, U>, C>>
+    requires { IfOk done (λ log. (beside.commitment.size ≡ log.tree.leaves) × (C.end log.store ≡ log.tree.leaves)) }
+    ensures { result ≡ over_log beside done }
+{
+    match done {
+        Ok(log) => Ok(beside.over(log)),
+        Err(refusal) => Err(Refusal {
+            given: Given::Store(store_of(refusal.given)),
+            error: refusal.error,
+        }),
+    }
+}
