@@ -10,8 +10,9 @@ use qm_base::{
 use qm_chain::Proportional;
 use qm_index::FourCap;
 use qm_index::unordered::Index;
+use qm_memory::MemStore;
 use qm_merkle::mmr::Family;
-use qm_store::{MemStore, Refusal};
+use qm_store::Refusal;
 use std::alloc::{AllocError, Global};
 use std::num::NonZeroU64;
 use std::rc::Rc;

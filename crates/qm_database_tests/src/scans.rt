@@ -10,8 +10,8 @@ use qm_base::{
 use qm_chain::Hold;
 use qm_index::OneCap;
 use qm_index::ordered::Index;
+use qm_memory::MemStore;
 use qm_merkle::mmr::Family;
-use qm_store::MemStore;
 use std::alloc::{AllocError, Global};
 use std::ops::Bound;
 use std::test::Fail;

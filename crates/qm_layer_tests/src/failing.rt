@@ -5,8 +5,9 @@ ghost use Rattle.std.specs.Prelude.{◌≡◌, ◌≤◌, IfOk};
 
 use crate::store::five;
 use qm_base::{Error, JournalError, Sha256};
+use qm_memory::MemStore;
 use qm_merkle::mmr::Family;
-use qm_store::{AuthLog, LogGiven, LogRefusal, MemStore, Store};
+use qm_store::{AuthLog, LogGiven, LogRefusal, Store};
 use std::alloc::Global;
 use std::test::Fail;
 

@@ -3,9 +3,10 @@
 ghost use Rattle.std.specs.Prelude.{◌≡◌, IfOk, length};
 
 use qm_base::{Digest, Error, Location, Sha256, Sha256Digest};
+use qm_memory::MemStore;
 use qm_merkle::StandardHasher;
 use qm_merkle::mmr::Family;
-use qm_store::{AuthLog, MemStore, Store, StoreError};
+use qm_store::{AuthLog, Store, StoreError};
 use std::alloc::{AllocError, Global};
 use std::test::Fail;
 

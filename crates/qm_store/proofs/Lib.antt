@@ -5,6 +5,3 @@ pub mod Stores
 pub mod Shown
 pub mod Heads
 pub mod Kept
-pub mod Cuts
-pub mod Mems
-pub mod Changes

@@ -1,4 +1,4 @@
-//! Where a database's operations are kept: what a store promises, and a store in memory.
+//! Where a database's operations are kept: what a store promises, and logs over stores.
 #![tactic(auto)]
 
 ghost use Rattle.std.specs.Prelude.{◌≡◌, ℕ, ◌+◌, ◌-◌, ◌^◌, ◌<◌, ◌≤◌, min, length, map, slice_get};
@@ -6,17 +6,12 @@ ghost use Rattle.std.specs.Prelude.{Option, Some, IfSome, IfOk, OnOk, OnErr, IsE
 ghost use Rattle.qm_model.specs.Causes.{IsCause};
 ghost use Rattle.qm_model.specs.StoreModel.{Stored, end_of, metadata_in, appended, settled, rewound, pruned, with_metadata, destroyed, IsImage, IsOldOrNew, RewindLeaves, DestroyLeaves, HasRestarted, ReadsAs, HasAppended, Turns, Becomes};
 
-mod change;
-mod items;
 mod kept_tree;
 mod log;
-mod mem_store;
-mod metadata;
 mod refusal;
 
 pub use kept_tree::KeptTree;
 pub use log::{AuthLog, LogGiven, LogRefusal};
-pub use mem_store::MemStore;
 pub use refusal::{Given, Refusal};
 use std::alloc::{AllocError, AllocFailed};
 use std::io::{self, ErrorKind};

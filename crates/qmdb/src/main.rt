@@ -5,8 +5,8 @@ ghost use Rattle.std.specs.Prelude.{◌≡◌, ◌⊎◌, IfErr};
 
 use qm_base::OpenGate;
 use qm_lines::{StdSink, StdSource};
+use qm_memory::MemStore;
 use qm_run::qmdb_main;
-use qm_store::MemStore;
 use std::io::ErrorKind;
 use std::process::ExitCode;
 use std::rt::Env;

@@ -27,7 +27,7 @@ mod cases;
 mod runs;
 
 use anyhow::{Context, Result};
-use qm_store::MemStore;
+use qm_memory::MemStore;
 use std::io::{self, BufWriter, Write};
 
 fn main(rt: HostRuntime) -> Result<()> {

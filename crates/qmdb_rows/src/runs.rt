@@ -3,8 +3,9 @@ use crate::cases::{Case, NewStore, StoreOf};
 use anyhow::{Result, ensure};
 use qm_base::OpenGate;
 use qm_lines::{MemSink, MemSource};
+use qm_memory::MemStore;
 use qm_run::qmdb_main;
-use qm_store::{MemStore, Store};
+use qm_store::Store;
 use std::alloc::Global;
 use std::io::Write;
 

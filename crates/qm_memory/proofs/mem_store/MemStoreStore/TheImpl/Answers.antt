@@ -1,0 +1,102 @@
+use Rattle.std.proofs.Common.{min, map, rules, arith}
+use Rattle.std.proofs.lemmas.Grind.{common_steps}
+use Rattle.qm_model.specs.StoreModel.{IsImage, IsOldOrNew, RewindLeaves, ReadsAs, HasAppended, DestroyLeaves, pruned, with_metadata}
+use Rattle.qm_model.proofs.Stores.{reads-kept, reads-kept-or, reads-kept-rewind, reads-kept-append, reads-kept-destroy}
+use Rattle.qm_memory.proofs.Mems.{held-on_err, kept-on_err, held-inside, restart-chose}
+use Rattle.qm_memory.proofs.mem_store.MemStoreStore.TheImpl.Goals as goal
+
+pub append-tells : goal.append-tells
+append-tells x c =
+    let old = c.args.self.now in
+    record {
+      ok = search rules;
+      ok_end = grind (arith, common_steps);
+      same_start = search rules;
+      grows = grind (arith, common_steps);
+      within = grind (arith, common_steps);
+      cause = search rules;
+      err = kept-on_err c.result old.held c.new.self.now.held (λ s. HasAppended (map (λ v. v.items) c.args.added.now) s) (held-on_err c.result old c.new.self.now c.ensures.fault c.ensures.memory) (reads-kept-append (map (λ v. v.items) c.args.added.now) old.held (held-inside old c.ensures.inside));
+    }
+
+pub commit-tells : goal.commit-tells
+commit-tells x c =
+    let old = c.args.self.now in
+    record {
+      ok = search rules;
+      ok_end = search rules;
+      same_start = search rules;
+      within = search rules;
+      cause = search rules;
+      err = kept-on_err c.result old.held c.new.self.now.held (λ s. ReadsAs s.stable (IsImage s)) (held-on_err c.result old c.new.self.now c.ensures.fault c.ensures.memory) (reads-kept old.held (held-inside old c.ensures.inside));
+    }
+
+pub sync-tells : goal.sync-tells
+sync-tells x c =
+    let old = c.args.self.now in
+    record {
+      ok = search rules;
+      ok_end = search rules;
+      same_start = search rules;
+      within = search rules;
+      cause = search rules;
+      err = kept-on_err c.result old.held c.new.self.now.held (λ s. ReadsAs s.stable (IsImage s)) (held-on_err c.result old c.new.self.now c.ensures.fault c.ensures.memory) (reads-kept old.held (held-inside old c.ensures.inside));
+    }
+
+pub rewind-tells : goal.rewind-tells
+rewind-tells x c =
+    let old = c.args.self.now in
+    record {
+      ok = search rules;
+      ok_end = search rules;
+      same_start = search rules;
+      within = search rules;
+      cause = search rules;
+      err = kept-on_err c.result old.held c.new.self.now.held (λ s. ReadsAs (min s.stable c.args.to) (RewindLeaves c.args.to s)) (held-on_err c.result old c.new.self.now c.ensures.fault c.ensures.memory) (reads-kept-rewind c.args.to old.held (held-inside old c.ensures.inside));
+    }
+
+pub prune-tells : goal.prune-tells
+prune-tells x c =
+    let old = c.args.self.now in
+    record {
+      ok = search rules;
+      ok_start = search rules;
+      ok_end = grind (arith, common_steps);
+      within = grind (arith, common_steps);
+      cause = search rules;
+      err = kept-on_err c.result old.held c.new.self.now.held (λ s. ReadsAs s.stable (IsOldOrNew (pruned c.args.to c.args.head.now) s)) (held-on_err c.result old c.new.self.now c.ensures.fault c.ensures.memory) (reads-kept-or (pruned c.args.to c.args.head.now) old.held (held-inside old c.ensures.inside));
+    }
+
+pub put_meta-tells : goal.put_meta-tells
+put_meta-tells x c =
+    let old = c.args.self.now in
+    record {
+      ok = search rules;
+      ok_end = search rules;
+      same_start = search rules;
+      within = search rules;
+      cause = search rules;
+      err = kept-on_err c.result old.held c.new.self.now.held (λ s. ReadsAs s.stable (IsOldOrNew (with_metadata c.args.name.now c.args.entries.now) s)) (held-on_err c.result old c.new.self.now c.ensures.fault c.ensures.memory) (reads-kept-or (with_metadata c.args.name.now c.args.entries.now) old.held (held-inside old c.ensures.inside));
+    }
+
+pub restart-tells : goal.restart-tells
+restart-tells x c =
+    let old = c.args.self.now in
+    record {
+      same_start = search rules;
+      within = search rules;
+      cause = search rules;
+      ok = restart-chose c.result old c.new.self.now c.args.keep c.ensures.inside c.ensures.ok;
+      err = kept-on_err c.result old.held c.new.self.now.held (λ s. ReadsAs s.stable (IsImage s)) (held-on_err c.result old c.new.self.now c.ensures.fault c.ensures.memory) (reads-kept old.held (held-inside old c.ensures.inside));
+    }
+
+pub destroy-tells : goal.destroy-tells
+destroy-tells x c =
+    let old = c.args.self.now in
+    record {
+      ok = search rules;
+      ok_start = search rules;
+      ok_end = search rules;
+      within = search rules;
+      cause = search rules;
+      err = kept-on_err c.result old.held c.new.self.now.held DestroyLeaves (held-on_err c.result old c.new.self.now c.ensures.fault c.ensures.memory) (reads-kept-destroy old.held (held-inside old c.ensures.inside));
+    }

@@ -1,0 +1,4 @@
+pub mod Changes
+pub mod ChangeViews
+pub mod Mem
+pub mod MemRows
