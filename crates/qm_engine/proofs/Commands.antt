@@ -108,6 +108,7 @@ Refusing error Q = (r : Refused) → error ≢ errors.StaleBatch → refusal_of 
 -- what an error comes to is a refusal, or no reply
 pub by_error : {K V D : Type 0} (error : Error) (Q : reply.Reply K V D → Type 0) → (error ≡ errors.StaleBatch → Q (replies.Refused refused.StaleBatch)) → Refusing error Q → IfReply (turn_of_error error) Q
 by_error errors.Memory Q stale other = tt
+by_error errors.InvalidInitializationBound Q stale other = other refused.InvalidInitializationBound (λ e. absurd (cc)) refl
 by_error errors.StaleBatch Q stale other = stale refl
 by_error errors.StaleRead Q stale other = other refused.StaleRead (λ e. absurd (cc)) refl
 by_error (errors.PruneBeyondMinRequired p m) Q stale other = other (refused.PruneBeyondMinRequired p m) (λ e. absurd (cc)) refl

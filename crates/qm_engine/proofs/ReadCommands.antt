@@ -33,6 +33,7 @@ use Rattle.qm_engine.proofs.Commands.{choice, none_some, refuses, by_refusal, wi
 -- whether an error tells that a read is stale
 pub is_stale_read : (error : Error) → (error ≡ errors.StaleRead) ⊎ (error ≢ errors.StaleRead)
 is_stale_read errors.Memory = inr (λ e. absurd (cc))
+is_stale_read errors.InvalidInitializationBound = inr (λ e. absurd (cc))
 is_stale_read errors.StaleBatch = inr (λ e. absurd (cc))
 is_stale_read errors.StaleRead = inl refl
 is_stale_read (errors.PruneBeyondMinRequired p m) = inr (λ e. absurd (cc))

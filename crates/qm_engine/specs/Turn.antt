@@ -26,6 +26,7 @@ turn_of_log (journal.ItemTooLarge n) = Reply (Refused (refused.Journal (log.Item
 
 abbrev pub turn_of_error : {K V D : Type 0} → Error → Turn K V D
 turn_of_error errors.Memory = Memory
+turn_of_error errors.InvalidInitializationBound = Reply (Refused refused.InvalidInitializationBound)
 turn_of_error errors.StaleBatch = Reply (Refused refused.StaleBatch)
 turn_of_error errors.StaleRead = Reply (Refused refused.StaleRead)
 turn_of_error (errors.PruneBeyondMinRequired p m) = Reply (Refused (refused.PruneBeyondMinRequired p m))

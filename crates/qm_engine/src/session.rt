@@ -68,6 +68,7 @@ pub fn turn_of<K: Drop, V: Drop, D: Drop>(error: Error) -> Turn<K, V, D>
         Error::Memory => return Turn::Memory,
         Error::Merkle(error) => return turn_of_tree(error),
         Error::Journal(error) => return turn_of_log(error),
+        Error::InvalidInitializationBound => Refused::InvalidInitializationBound,
         Error::StaleBatch => Refused::StaleBatch,
         Error::StaleRead => Refused::StaleRead,
         Error::PruneBeyondMinRequired(location, boundary) => {

@@ -15,6 +15,10 @@ fn errors_have_text(rt: HostRuntime) -> Result<(), Fail> {
     for (error, want) in [
         (Error::Memory, "out of memory"),
         (
+            Error::InvalidInitializationBound,
+            "initialization bound is 0",
+        ),
+        (
             Error::StaleBatch,
             "stale batch: current database state does not match the batch",
         ),
@@ -31,6 +35,10 @@ fn errors_have_text(rt: HostRuntime) -> Result<(), Fail> {
             "historical floor pruned for size: 3",
         ),
         (
+            Error::DataCorrupted(Corrupt::NoRetainedCommit),
+            "data corrupted: no retained commit",
+        ),
+        (
             Error::DataCorrupted(Corrupt::ItemDoesNotDecode),
             "data corrupted: item does not decode",
         ),
@@ -41,6 +49,10 @@ fn errors_have_text(rt: HostRuntime) -> Result<(), Fail> {
         (
             Error::DataCorrupted(Corrupt::HeadDoesNotMatch),
             "data corrupted: head does not match the start",
+        ),
+        (
+            Error::DataCorrupted(Corrupt::LinksFormNoRing),
+            "data corrupted: links form no ring",
         ),
         (
             Error::Merkle(MerkleError::RangeOutOfBounds(5)),

@@ -21,6 +21,18 @@ fn replies_have_text(rt: HostRuntime) -> Result<(), Fail> {
     let alloc = rt.alloc();
     for (refused, want) in [
         (
+            Refused::InvalidInitializationBound,
+            "refused InvalidInitializationBound",
+        ),
+        (
+            Refused::DataCorrupted(Corrupt::NoRetainedCommit),
+            "refused DataCorrupted no retained commit",
+        ),
+        (
+            Refused::DataCorrupted(Corrupt::LinksFormNoRing),
+            "refused DataCorrupted links form no ring",
+        ),
+        (
             Refused::DataCorrupted(Corrupt::FloorExceedsCommit),
             "refused DataCorrupted inactivity floor exceeds commit location",
         ),

@@ -36,6 +36,7 @@ refused_view refused.NotOffered = refusals.NotOffered
 refused_view refused.NoDatabase = refusals.NoDatabase
 refused_view (refused.NoSuchHandle h) = refusals.NoSuchHandle h
 refused_view (refused.SlotCount staged given) = refusals.SlotCount staged given
+refused_view refused.InvalidInitializationBound = refusals.InvalidInitializationBound
 refused_view refused.StaleBatch = refusals.StaleBatch
 refused_view refused.StaleRead = refusals.StaleRead
 refused_view (refused.PruneBeyondMinRequired p m) = refusals.PruneBeyondMinRequired p m

@@ -51,6 +51,7 @@ pub enum Refused {
     NoSuchHandle(u64),
     /// How many keys are staged, and how many slots were given.
     SlotCount(u64, u64),
+    InvalidInitializationBound,
     StaleBatch,
     StaleRead,
     /// Where the database was to be pruned to, and up to where it may be.

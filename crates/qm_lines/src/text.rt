@@ -147,6 +147,7 @@ fn write_refused(out: &mut String, refused: Refused) -> Result<(), AllocError>
         Refused::NoDatabase => out.push_str("NoDatabase"),
         Refused::NoSuchHandle(handle) => write!(out, "NoSuchHandle {handle}"),
         Refused::SlotCount(staged, given) => write!(out, "SlotCount {staged} {given}"),
+        Refused::InvalidInitializationBound => out.push_str("InvalidInitializationBound"),
         Refused::StaleBatch => out.push_str("StaleBatch"),
         Refused::StaleRead => out.push_str("StaleRead"),
         Refused::PruneBeyondMinRequired(location, boundary) => {

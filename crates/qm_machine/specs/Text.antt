@@ -4,7 +4,7 @@ use Rattle.hex.specs.Hex.{encode_lower}
 use Rattle.qm_model.specs.Live.{Live}
 use Rattle.qm_model.specs.Operations.{Bytes, Operation, update, delete, commit}
 use Rattle.qm_machine.specs.Lines.{Answer, Opened, Started, Done, Merkleized, Applied, Listed, Read, Expanded, Beside, Spanning, Whole, Ranged, Keyed, Told, BatchTold, Rooted, Metadata, Proved, BatchProved, Pinned, Refuses}
-use Rattle.qm_model.specs.Refused.{corrupt_text, TreeRefused, RangeOutOfBounds, ElementPruned, MissingNode, LocationOverflow, LogRefused, ItemPruned, ItemTooLarge, Refused, NotOffered, NoDatabase, NoSuchHandle, SlotCount, StaleBatch, StaleRead, PruneBeyondMinRequired, HistoricalFloorPruned, DataCorrupted, Merkle, Journal}
+use Rattle.qm_model.specs.Refused.{corrupt_text, TreeRefused, RangeOutOfBounds, ElementPruned, MissingNode, LocationOverflow, LogRefused, ItemPruned, ItemTooLarge, Refused, NotOffered, NoDatabase, NoSuchHandle, SlotCount, InvalidInitializationBound, StaleBatch, StaleRead, PruneBeyondMinRequired, HistoricalFloorPruned, DataCorrupted, Merkle, Journal}
 
 -- bytes in hexadecimal, and the empty ones as a dash
 abbrev pub hex_text : Bytes → Bytes
@@ -39,6 +39,7 @@ refused_text NotOffered = codes "NotOffered"
 refused_text NoDatabase = codes "NoDatabase"
 refused_text (NoSuchHandle h) = codes "NoSuchHandle " ++ decimal h
 refused_text (SlotCount staged given) = codes "SlotCount " ++ (decimal staged ++ (codes " " ++ decimal given))
+refused_text InvalidInitializationBound = codes "InvalidInitializationBound"
 refused_text StaleBatch = codes "StaleBatch"
 refused_text StaleRead = codes "StaleRead"
 refused_text (PruneBeyondMinRequired p m) = codes "PruneBeyondMinRequired " ++ (decimal p ++ (codes " " ++ decimal m))

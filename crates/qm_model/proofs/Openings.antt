@@ -22,13 +22,13 @@ use Rattle.qm_model.proofs.Floors.{live_from-front}
 use Rattle.std.specs.Option.{option_map_or}
 use Rattle.qm_model.specs.Trees.{Shape, peaks, digest_of, leaves_from}
 use Rattle.qm_model.specs.Grafted.{chunk_of, value_over}
-use Rattle.qm_model.specs.Refused.{FloorExceedsCommit, HeadDoesNotMatch, ItemDoesNotDecode, LinksFormNoRing, CountNotValid, CountTooLarge, MissingPin, InvalidPin}
+use Rattle.qm_model.specs.Refused.{Refused, HistoricalFloorPruned, DataCorrupted, FloorExceedsCommit, HeadDoesNotMatch, ItemDoesNotDecode, LinksFormNoRing, CountNotValid, CountTooLarge, MissingPin, InvalidPin}
 use Rattle.qm_model.specs.Proofs.{pins_at}
 use Rattle.qm_model.specs.Walk.{Rules}
 use Rattle.qm_model.specs.Step.{IsOrderedGood, Kind, unordered, ordered, Made, first, next, walk_after}
 use Rattle.qm_model.specs.Batches.{Begins}
 use Rattle.qm_model.specs.StoreModel.{Stored, empty, IsImage, end_of}
-use Rattle.qm_model.specs.Opening.{Chunks, Unopened, HistoricalFloorPruned, DataCorrupted, Selected, Opening, refuses, opens, commit_at, last_commit, below_bound, selected, size_of, floor_of, is_empty, when, first_refusal, is_wrong_size, pruned_bits, pins_found, numbered_pins, commit_refusal, checks, opening_refusal, opening_of, opened_list, found, found_with}
+use Rattle.qm_model.specs.Opening.{Chunks, Selected, Opening, refuses, opens, commit_at, last_commit, below_bound, selected, size_of, floor_of, is_empty, when, first_refusal, is_wrong_size, pruned_bits, pins_found, numbered_pins, commit_refusal, checks, opening_refusal, opening_of, opened_list, found, found_with}
 use Rattle.qm_model.specs.Own.{Engine, OpensWhole, head_of, settled_list, any_engine, Log, no_log, ArePruned, taken_up, left_at, ended_size, ended_part, MetadataIs, IsStored, IsPartMade, IsKept, IsOwn, found_in, Takes, OpensParts}
 use Rattle.qm_model.proofs.Forms.{decoded-spelling}
 use Rattle.qm_model.proofs.Chains.{take-least, Begins-self, Begins-length, Begins-through}
@@ -231,16 +231,16 @@ module _ {P : Type 0} {kind : Kind} {rules : Rules P} (keeps : Keeps kind rules)
 
 -- The checks, one after another.
 
-passes : (r : Option Unopened) (rs : List (Option Unopened)) → first_refusal (r ∷ rs) ≡ None → (r ≡ None) × (first_refusal rs ≡ None)
+passes : (r : Option Refused) (rs : List (Option Refused)) → first_refusal (r ∷ rs) ≡ None → (r ≡ None) × (first_refusal rs ≡ None)
 passes None rs e = (refl, e)
 passes (Some r) rs e = absurd (none-some r (sym e))
 
-all_pass : (rs : List (Option Unopened)) (k : ℕ) → first_refusal rs ≡ None → slice_index_or rs k None ≡ None
+all_pass : (rs : List (Option Refused)) (k : ℕ) → first_refusal rs ≡ None → slice_index_or rs k None ≡ None
 all_pass [] k e = refl
 all_pass (r ∷ rs) zero e = (passes r rs e).0
 all_pass (r ∷ rs) (suc k) e = all_pass rs k (passes r rs e).1
 
-not_when : (b : Bool) (r : Unopened) → when b r ≡ None → b ≡ false
+not_when : (b : Bool) (r : Refused) → when b r ≡ None → b ≡ false
 not_when false r e = refl
 not_when true r e = absurd (none-some r (sym e))
 
@@ -248,7 +248,7 @@ size_in : Opening → Option ℕ
 size_in (refuses r) = None
 size_in (opens size) = Some size
 
-accepted : (r : Option Unopened) (k size : ℕ) → opening_of r k ≡ opens size → (r ≡ None) × (k ≡ size)
+accepted : (r : Option Refused) (k size : ℕ) → opening_of r k ≡ opens size → (r ≡ None) × (k ≡ size)
 unfolding size_in
 accepted None k size e = (refl, ap (λ o. unwrap_or (size_in o) 0) e)
 accepted (Some r) k size e = absurd (none-some size (ap size_in e))
@@ -425,7 +425,7 @@ module _ {P : Type 0} {kind : Kind} {rules : Rules P} (keeps : Keeps kind rules)
   bounded_zero None = tt
   bounded_zero (Some b) = omega arith
 
-  takes : (log : Log) (bound : Option ℕ) (at : Option Selected) (r : Unopened) → IsKept own log → selected (found_in own log) bound ≡ at
+  takes : (log : Log) (bound : Option ℕ) (at : Option Selected) (r : Refused) → IsKept own log → selected (found_in own log) bound ≡ at
       → option_map DataCorrupted (commit_refusal (is_empty (found_in own log)) at) ≡ None → when (nat_lt (floor_of at) log.start) r ≡ None → Takes own log bound (size_of at)
   takes log bound None r kept is passed low =
       record {
@@ -497,7 +497,7 @@ module _ {P : Type 0} {kind : Kind} {rules : Rules P} (keeps : Keeps kind rules)
 abbrev settled_size : Log → ℕ
 settled_size log = ended_size (take log.stable log.list)
 
-all_none : (rs : List (Option Unopened)) → Each (λ r. r ≡ None) rs → first_refusal rs ≡ None
+all_none : (rs : List (Option Refused)) → Each (λ r. r ≡ None) rs → first_refusal rs ≡ None
 all_none [] each = refl
 all_none (r ∷ rs) (is, each) = ap (λ o. option_or o (first_refusal rs)) is ∙ all_none rs each
 

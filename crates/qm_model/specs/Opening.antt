@@ -10,6 +10,7 @@ use Rattle.qm_model.specs.Trees.{Shape, peaks}
 use Rattle.qm_model.specs.Grafted.{pair_absorption_threshold}
 use Rattle.qm_model.specs.StoreModel.{Entry, Stored, metadata_in}
 use Rattle.qm_model.specs.Refused.{Corrupt, CountNotValid, CountTooLarge, MissingPin, InvalidPin, NoRetainedCommit, FloorExceedsCommit, PrunedPastBits, HeadDoesNotMatch, ItemDoesNotDecode, LinksFormNoRing}
+use Rattle.qm_model.specs.Refused.{Refused, InvalidInitializationBound, HistoricalFloorPruned, DataCorrupted}
 use Rattle.qm_model.specs.Refusals.{commit_floor}
 
 -- the chunks of a current database's bits: one has 2 ^ height locations, and their metadata has a name
@@ -24,12 +25,6 @@ pub record Layout : Type 0 where
   pub shape : Shape
   pub digest_size : ℕ
   pub chunks : Option Chunks
-
--- why a store is not opened; where its floor is pruned, the size that was selected
-pub data Unopened : Type 0 where
-  InvalidInitializationBound : Unopened
-  HistoricalFloorPruned : ℕ → Unopened
-  DataCorrupted : Corrupt → Unopened
 
 -- what an opening finds: where the items start, each as an operation, none where it spells none; the head; why the
 -- metadata cannot be read, if it cannot, and how many chunks are pruned by it
@@ -175,8 +170,8 @@ is_link keys e = option_map_or (same_key e.next) (successor keys e.key) false
 abbrev pub is_ring : List Operation → Bool
 is_ring ops = list_all (is_link (live_keys ops)) (live ops)
 
--- the checks of an opening up to a bound, in their order
-abbrev pub checks : Layout → Found → Option ℕ → List (Option Unopened)
+-- the checks of an opening up to a bound, in their order; where a floor is pruned, the selected size is told
+abbrev pub checks : Layout → Found → Option ℕ → List (Option Refused)
 checks layout f bound =
     let at = selected f bound in
     let size = size_of at in
@@ -197,17 +192,17 @@ checks layout f bound =
     ∷ []
 
 -- why a store is not opened: the first check that fails
-abbrev pub opening_refusal : Layout → Found → Option ℕ → Option Unopened
+abbrev pub opening_refusal : Layout → Found → Option ℕ → Option Refused
 opening_refusal layout f bound = first_refusal (checks layout f bound)
 
 -- What an opening comes to.
 
 -- a refusal, or the size of the list that is opened, 0 where that is the fresh one
 pub data Opening : Type 0 where
-  refuses : Unopened → Opening
+  refuses : Refused → Opening
   opens : ℕ → Opening
 
-abbrev pub opening_of : Option Unopened → ℕ → Opening
+abbrev pub opening_of : Option Refused → ℕ → Opening
 opening_of (Some r) size = refuses r
 opening_of None size = opens size
 

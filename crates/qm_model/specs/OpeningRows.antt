@@ -11,7 +11,8 @@ use Rattle.qm_model.specs.Mmr.{mmr, digits_below}
 use Rattle.qm_model.specs.Mmb.{mmb}
 use Rattle.qm_model.specs.StoreModel.{Entry, Stored, left_at}
 use Rattle.qm_model.specs.Refused.{CountNotValid, CountTooLarge, MissingPin, InvalidPin, NoRetainedCommit, FloorExceedsCommit, PrunedPastBits, HeadDoesNotMatch, ItemDoesNotDecode, LinksFormNoRing}
-use Rattle.qm_model.specs.Opening.{Layout, Opening, refuses, opens, InvalidInitializationBound, HistoricalFloorPruned, DataCorrupted, opening, found, metadata_key}
+use Rattle.qm_model.specs.Refused.{InvalidInitializationBound, HistoricalFloorPruned, DataCorrupted}
+use Rattle.qm_model.specs.Opening.{Layout, Opening, refuses, opens, opening, found, metadata_key}
 use lib.Count.{ones, ones_in}
 
 -- unordered, ordered and current databases with digests of 32 bytes and, where they have some, chunks of 32 bytes

@@ -34,6 +34,8 @@ pub data Refused : Type 0 where
   NoSuchHandle : ℕ → Refused
   -- how many keys were staged, and how many slots are given
   SlotCount : ℕ → ℕ → Refused
+  -- a store was to be opened up to a size of 0
+  InvalidInitializationBound : Refused
   StaleBatch : Refused
   StaleRead : Refused
   -- where a list was to be pruned to, and up to where it may be

@@ -26,6 +26,7 @@ log_refusal (journal.ItemTooLarge n) = Some (refusals.ItemTooLarge n)
 -- why a call refused, if it is not for want of memory or a failing store
 abbrev pub refusal_of : Error → Option refusals.Refused
 refusal_of errors.Memory = None
+refusal_of errors.InvalidInitializationBound = Some refusals.InvalidInitializationBound
 refusal_of errors.StaleBatch = Some refusals.StaleBatch
 refusal_of errors.StaleRead = Some refusals.StaleRead
 refusal_of (errors.PruneBeyondMinRequired p m) = Some (refusals.PruneBeyondMinRequired p m)
