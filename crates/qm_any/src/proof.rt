@@ -1,8 +1,8 @@
 //! Proofs of a database's operations.
 
-ghost use Rattle.std.specs.Prelude.{◌≡◌, ◌≢◌, ◌⊎◌, ◌≤◌, ◌<◌, ◌+◌, ◌-◌, List, None, IfSome, All, length, map, take, drop, Err, IfOk, IfErr, OnOk};
+ghost use Rattle.std.specs.Prelude.{◌≡◌, ◌≢◌, ◌⊎◌, ◌≤◌, ◌<◌, ◌+◌, ◌-◌, List, None, IfSome, option_and_then, All, length, map, take, drop, Err, IfOk, IfErr, OnOk};
 ghost use Rattle.std.specs.NonZero.{non_zero_u64_get};
-ghost use Rattle.qm_model.specs.Forms.{IsOf, IsSpelling, spelling};
+ghost use Rattle.qm_model.specs.Forms.{IsOf, decoded, spelling};
 ghost use Rattle.qm_base.specs.Views.{operation_views};
 ghost use Rattle.qm_model.specs.Causes.{Rose};
 ghost use Rattle.qm_model.specs.Live as lives;
@@ -192,8 +192,11 @@ fn floor_at_end<F: Family, C: Store, H: Hasher + Drop, U: Update>(
 }
 
 // The floor of the commit that the bytes spell, if they spell one.
-fn commit_floor_in<F, U: Update>(alloc: Global, item: &[u8]) -> Result<Option<u64>, AllocError>
-    ensures { (op : operations.Operation) → IsSpelling U.form item.now op → IfOk result (λ f. f ≡ commit_floor op) }
+pub(crate) fn commit_floor_in<F, U: Update>(
+    alloc: Global,
+    item: &[u8],
+) -> Result<Option<u64>, AllocError>
+    ensures { IfOk result (λ f. f ≡ option_and_then commit_floor (decoded U.form item.now)) }
 {
     let operation: Option<Operation<F, U>> = Operation::decode(alloc, item)?;
     match &operation {

@@ -17,6 +17,7 @@ impl<F, U: Update> Operation<F, U> {
     /// The operation of which these bytes are the spelling, if there is one: `encode` turned round.
     /// Want of memory is the only error.
     pub fn decode(alloc: Global, bytes: &[u8]) -> Result<Option<Self>, AllocError>
+        ensures decoded { IfOk result (λ found. option_map (operation_view U.view U.Key.bytes U.Value.bytes) found ≡ model.decoded U.form bytes.now) }
         ensures some { IfOk result (λ found. IfSome found (λ op. IsSpelling U.form bytes.now (operation_view U.view U.Key.bytes U.Value.bytes op))) }
         ensures none { IfOk result (λ found. IfNone found ((op : _) → ¬ IsSpelling U.form bytes.now op)) }
     {

@@ -3,6 +3,7 @@ use Rattle.std.specs.Prelude.{Err}
 use Rattle.std.proofs.lemmas.Result.{err_from_is_err_and}
 use Rattle.qm_model.proofs.Results.{told-one}
 use Rattle.qm_model.specs.Forms.{spelling}
+use Rattle.qm_any.proofs.Selecting.{floor-of}
 use Rattle.qm_any.proofs.Telling.{floor-read, last-there, last-due, ok-err, at-or-past}
 use Rattle.qm_any.proofs.proof.floor_at_end.Goals as goal
 
@@ -23,4 +24,4 @@ pub returns-clause-floor : goal.returns-clause-floor
 returns-clause-floor g c = λ list is all.
     let after : c.args.size ≡ suc (c.args.size - 1) = omega (arith, c.if-size-eq0.false) in
     told-one _ _ (g.C.Store.told c.args.log.now.store) (c.in_ok-item.ensures.item (map (spelling g.U.Update.form) list) is) (λ read.
-    floor-read g.U.Update.form list c.args.size (c.args.size - 1) c.deref.result.now c.in_ok-commit_floor_in.field-0 after all (read ∙ ap Some (sym c.deref.ensures.value)) c.in_ok-commit_floor_in.ensures)
+    floor-read g.U.Update.form list c.args.size (c.args.size - 1) c.deref.result.now c.in_ok-commit_floor_in.field-0 after all (read ∙ ap Some (sym c.deref.ensures.value)) (floor-of g.U.Update.form c.deref.result.now c.in_ok-commit_floor_in.field-0 c.in_ok-commit_floor_in.ensures))
