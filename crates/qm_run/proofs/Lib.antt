@@ -1,4 +1,1 @@
 pub mod Sayings
-pub mod Engines
-pub mod Spans
-pub mod Collected

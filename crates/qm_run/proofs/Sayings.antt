@@ -9,7 +9,8 @@ use Rattle.qm_model.specs.Policies.{policies}
 use Rattle.qm_machine.specs.Grammar.{commands_in, bad_in}
 use Rattle.qm_machine.specs.Machine.{Scheme}
 use Rattle.qm_engine.specs.Answered.{IsAnswered}
-use Rattle.qm_run.specs.Program.{scheme, count, state, model_text, IsApart, bad_text, fault_text, IsPartial, Says}
+use Rattle.qm_engines.specs.Schemes.{scheme}
+use Rattle.qm_run.specs.Program.{count, state, model_text, IsApart, bad_text, fault_text, IsPartial, Says}
 use Rattle.qm_run.specs.Endings.{tail_text, tail_status}
 use Rattle.qm_engine.specs.declared.answers.Ending.{Ending}
 use Rattle.qm_engine.specs.declared.answers.Ending.TheVariants.{Done, BadLine, Memory, StoreFault}

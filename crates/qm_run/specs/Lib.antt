@@ -1,4 +1,2 @@
 pub mod Program
 pub mod Endings
-pub mod Databases
-pub mod Held

@@ -2,17 +2,14 @@
 use Rattle.std.specs.Prelude.{◌≡◌, ◌≤◌, ◌<◌, ◌⊎◌, ℕ, suc, Bool, true, false, ◌&&◌, if◌then◌else◌, List, [], ◌∷◌, ◌++◌, length, take, codes, Option, None, Some, option_map, is_some, bytes_eq, decimal}
 use Rattle.qm_model.specs.Operations.{Bytes}
 use Rattle.qm_model.specs.StoreModel.{Stored}
-use Rattle.qm_model.specs.Live.{floor}
 use Rattle.qm_model.specs.Policies.{policies}
-use Rattle.qm_model.specs.Step.{ordered, unordered}
-use Rattle.qm_model.specs.Mmr.{mmr}
-use Rattle.qm_model.specs.Roots.{sha256_root, sha256_proof, sha256_pins}
 use Rattle.qm_model.specs.Batches.{Apart}
 use Rattle.qm_machine.specs.Machine.{Scheme, State, initial, answers}
 use Rattle.qm_machine.specs.Grammar.{commands_in, bad_in}
 use Rattle.qm_machine.specs.Text.{text_of}
 use Rattle.qm_engine.specs.Session.{IsLeft}
 use Rattle.qm_engine.specs.Runs.{after}
+use Rattle.qm_engines.specs.Schemes.{scheme}
 
 -- whether the word names ordered databases
 abbrev pub kind_word : Bytes → Option Bool
@@ -29,17 +26,6 @@ kind_of_words (a ∷ b ∷ c ∷ d ∷ e ∷ ws) = None
 
 abbrev pub are_words : List Bytes → Bool
 are_words ws = is_some (kind_of_words ws)
-
--- the machine of ordered or of unordered databases
-abbrev pub scheme : Bool → Scheme
-scheme is_ordered = record {
-  kind = if is_ordered then ordered else unordered;
-  is_ordered = is_ordered;
-  root = sha256_root mmr;
-  boundary = floor;
-  proof = sha256_proof mmr;
-  pins = sha256_pins mmr;
-}
 
 -- the machine of the words
 abbrev pub scheme_of : List Bytes → Option Scheme

@@ -1,9 +1,6 @@
-//! The program's databases as engines, and its top call.
+//! The program's top call.
 #![tactic(auto)]
 
-mod database;
-mod listed;
 mod program;
-mod ranges;
 
 pub use program::qmdb_main;

@@ -1,7 +1,7 @@
 use Rattle.std.proofs.Common.{◌≡◌, ℕ, ◌++◌, [], take, refl, sym, ◌∙◌, subst, inl, inr}
 use Rattle.qm_model.specs.Causes.{Rose, Grows, GrowsPart}
 use Rattle.qm_model.specs.Operations.{Bytes}
-use Rattle.qm_run.specs.Program.{scheme}
+use Rattle.qm_engines.specs.Schemes.{scheme}
 use Rattle.qm_run.specs.Endings.{tail_text, tail_status}
 use Rattle.qm_run.proofs.Sayings.{Told, IsWhole, is_whole, each_more, says_part, partial, whole, unchanged, grown, grown_part}
 use Rattle.qm_run.proofs.program.serve.Goals as goal

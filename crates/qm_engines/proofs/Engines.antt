@@ -1,0 +1,360 @@
+-- The program's databases as engines: where its batches fit and can be read, and what its refusals are.
+use Rattle.std.proofs.Common.{◌≡◌, ◌≢◌, ◌≤◌, ◌<◌, ℕ, suc, arith, ◌^◌, ◌∙◌, ◌⊎◌, ap, ap₂, sym, subst, refl, inl, inr, List, [], ◌∷◌, ◌++◌, length, map, drop, Option, Some, None, Bool, true, false, IfSome}
+use Rattle.std.specs.Prelude.{Result, Ok, Err, IfOk, IfErr, IsErrOf, IsSome, if◌then◌else◌, option_map}
+use Rattle.std.specs.Option.{option_or}
+use Rattle.std.proofs.lemmas.Bool.{lt-ltb, le-ltb}
+use Rattle.sha2.specs.Sha256.{sha256}
+use Rattle.qm_base.specs.declared.error.Error.{Error}
+use Rattle.qm_base.specs.declared.error.Error.TheVariants as errors
+use Rattle.qm_base.specs.declared.error.JournalError.TheVariants as journal
+use Rattle.qm_model.specs.StoreModel.{Stored}
+use Rattle.qm_model.specs.Operations.{Bytes, Operation}
+use Rattle.qm_model.specs.Forms.{Form, padded, plain, spelling, variable}
+use Rattle.qm_model.specs.Batches.{Commitment, Chain, boundary_list, IsOnChain, IsKnown, commitment, fits, readable}
+use Rattle.qm_model.specs.Causes.{Rose}
+use Rattle.qm_store.specs.declared.Store as store
+use Rattle.qm_store.specs.Log.{Log}
+use Rattle.qm_batch.specs.Lent.{IsReadError}
+use Rattle.qm_model.specs.Refused.{Refused, Journal, ItemTooLarge, Merkle, LocationOverflow, DataCorrupted, HeadDoesNotMatch}
+use Rattle.qm_machine.specs.Machine.{head_refusal}
+use Rattle.qm_base.specs.declared.error.Corrupt.TheVariants as corrupt
+use Rattle.qm_model.specs.Mmr.{mmr}
+use Rattle.qm_model.specs.Refusals.{tip_refusal, too_long, too_many}
+use Rattle.qm_model.specs.Roots.{sha256_root, sha256_proof, sha256_pins}
+use Rattle.qm_model.specs.Trees.{leaf, peaks, inactive_peaks, leaf_digest, digest_of, root, leaves_from}
+use Rattle.qm_model.specs.Live.{floor}
+use Rattle.qm_model.specs.Proofs.{ops_proof, pins_at, proof_of}
+use Rattle.qm_model.specs.Walk.{Rules}
+use Rattle.qm_model.specs.Writes.{Write}
+use Rattle.qm_model.proofs.Chains.{fits-on_chain, readable-known}
+use Rattle.qm_chain.specs.Bounds.{Bounds, IsBounds, is_at, knows}
+use Rattle.qm_chain.proofs.Fits.{at-fits, at-readable}
+use Rattle.qm_base.specs.declared.sha256.Sha256Digest.{Sha256Digest}
+use Rattle.qm_engines.specs.Databases.{hashing}
+use Rattle.qm_batch.specs.Views.{stepped}
+use Rattle.qm_any.specs.Databases.{Database, IsLeft, Begun, Staged, Made, IsBegun, IsStaged, IsMade, staged_keys, is_on, list_commitment}
+use Rattle.qm_any.specs.Layouts.{Hashing, list_root}
+use Rattle.qm_any.proofs.Known.{child-boundary, child-tips}
+use Rattle.qm_any.specs.Tips.{own_spellings, IsTaken, IsRefused}
+use Rattle.qm_store.specs.Refusals.{refusal_of, IsAmong, IsDue}
+use Rattle.qm_store.specs.Given.{IsUnchanged, TellsAll}
+use Rattle.qm_store.specs.declared.refusal.Given.{Given}
+use Rattle.qm_store.specs.declared.refusal.Given.TheVariants as given
+use Rattle.qm_engine.specs.declared.words.Words as words
+use Rattle.qm_engine.specs.Words.{IsReadFailure}
+use Rattle.qm_engines.specs.declared.database.Database as engine
+use Rattle.qm_engines.specs.Held.{held}
+
+-- a form with lengths spells operations as the machine does
+module _ (form : Form) (lengths : form.sizes ≡ None) where
+  spelled-same : (op : Operation) → spelling form op ≡ spelling variable op
+  spelled-same op = ap (λ sizes. padded form.ordered sizes (plain sizes op)) lengths
+
+  pub spellings-same : spelling form ≡ spelling variable
+  spellings-same = λ i op. spelled-same op i
+
+  leaves-same : (i : ℕ) (ops : List Operation) → leaves_from sha256 mmr form i ops ≡ leaves_from sha256 mmr variable i ops
+  leaves-same i [] = refl
+  leaves-same i (op ∷ ops) = ap₂ (λ spelt ds. leaf_digest sha256 (mmr.position (leaf i)) spelt ∷ ds) (spelled-same op) (leaves-same (suc i) ops)
+
+  root-same : (list : List Operation) → list_root (hashing form) list ≡ sha256_root mmr list
+  unfolding sha256_root
+  root-same list = ap (λ ls. root sha256 mmr ls (inactive_peaks mmr (length list) (floor list))) (leaves-same 0 list)
+
+  roots-same : list_root (hashing form) ≡ sha256_root mmr
+  roots-same = λ i list. root-same list i
+
+  -- what stands for a list, under the program's root
+  pub standing : (list : List Operation) → list_commitment (hashing form) list ≡ commitment (sha256_root mmr) list
+  standing list = ap (λ r. commitment r list) roots-same
+
+  fits-same : (list : List Operation) (chain : Chain) → fits (list_root (hashing form)) (list_commitment (hashing form) list) chain ≡ fits (sha256_root mmr) (commitment (sha256_root mmr) list) chain
+  fits-same list chain = ap (λ r. fits r (commitment r list) chain) roots-same
+
+  readable-same : (list : List Operation) (chain : Chain) (tip : List Operation)
+      → readable (list_root (hashing form)) (list_commitment (hashing form) list) chain tip ≡ readable (sha256_root mmr) (commitment (sha256_root mmr) list) chain tip
+  readable-same list chain tip = ap (λ r. readable r (commitment r list) chain tip) roots-same
+
+  -- a merkleized batch fits where its bounds say so
+  pub at-made : (list : List Operation) (chain : Chain) (tip : List Operation) (current : Commitment) (made : Made Sha256Digest) → current ≡ list_commitment (hashing form) list → IsMade (hashing form) made chain tip
+      → is_at current made.bounds.db made.bounds.ancestors ≡ fits (sha256_root mmr) (commitment (sha256_root mmr) list) chain
+  at-made list chain tip current made is batch =
+      ap (λ c. is_at c made.bounds.db made.bounds.ancestors) is ∙ at-fits (list_root (hashing form)) made.bounds chain tip (list_commitment (hashing form) list) batch.bounds ∙ fits-same list chain
+
+  -- the bounds of a chain
+  abbrev bounds_of : Chain → Bounds
+  bounds_of chain = record {
+    base = list_commitment (hashing form) chain.base;
+    db = list_commitment (hashing form) (boundary_list chain);
+    tip = list_commitment (hashing form) chain.base;
+    ancestors = map (λ k. list_commitment (hashing form) k.tip) chain.kept;
+    inactivity_floor = 0;
+  }
+
+  -- a batch does where the states that it keeps of its parent say so
+  pub on-begun : (list : List Operation) (chain above : Chain) (current : Commitment) (begun : Begun Sha256Digest) → begun.keep ≤ suc (length begun.parent.bounds.ancestors) → current ≡ list_commitment (hashing form) list
+      → IsBegun (hashing form) begun chain above → is_on current begun ≡ fits (sha256_root mmr) (commitment (sha256_root mmr) list) chain
+  on-begun list chain above current begun few is batch =
+      ap (λ c. is_on c begun) is
+      ∙ ap₂ (is_at (list_commitment (hashing form) list)) (child-boundary begun.parent begun.keep chain above few batch.parent batch.kept)
+      (child-tips begun.parent begun.keep chain above few batch.parent batch.kept)
+      ∙ at-fits (list_root (hashing form)) (bounds_of chain) chain chain.base (list_commitment (hashing form) list) (record { base = refl; db = refl; tip = refl; ancestors = refl })
+      ∙ fits-same list chain
+
+  -- what bounds know is where a batch of them can be read
+  pub knows-readable : (list : List Operation) (chain : Chain) (tip : List Operation) (current : Commitment) (bounds : Bounds) → current ≡ list_commitment (hashing form) list → IsBounds (list_root (hashing form)) bounds chain tip
+      → knows bounds current ≡ readable (sha256_root mmr) (commitment (sha256_root mmr) list) chain tip
+  knows-readable list chain tip current bounds is of =
+      ap (knows bounds) is ∙ at-readable (list_root (hashing form)) bounds chain tip (list_commitment (hashing form) list) of ∙ readable-same list chain tip
+
+apart : true ≡ false → ⊥
+apart is = cc
+
+-- where a batch does not fit the list is not on its chain
+pub off-chain : (list : List Operation) (chain : Chain) → fits (sha256_root mmr) (commitment (sha256_root mmr) list) chain ≡ false → IsOnChain list chain → ⊥
+off-chain list chain unfit on = apart (sym (fits-on_chain (sha256_root mmr) list chain on) ∙ unfit)
+
+-- where it can not be read the list is not known
+pub unknown : (list : List Operation) (chain : Chain) (tip : List Operation) → readable (sha256_root mmr) (commitment (sha256_root mmr) list) chain tip ≡ false → IsKnown list chain tip → ⊥
+unknown list chain tip closed known = apart (sym (readable-known (sha256_root mmr) list chain tip known) ∙ closed)
+
+-- a read that fails is stale, wants memory, or failed at the log
+abbrev pub IsReadErr : {C D : Type 0} → store.Ghosts C → Log C D → Log C D → Bool → Error → Type 0
+IsReadErr members old new can e = ((e ≡ errors.StaleRead) × (can ≡ false)) ⊎ ((e ≡ errors.Memory) ⊎ ((can ≡ true) × IsReadError members old new e))
+
+-- an error of the log is none of a stale read
+log-fresh : {C D : Type 0} (members : store.Ghosts C) (old new : Log C D) (e : Error) → IsReadError members old new e → e ≡ errors.StaleRead → ⊥
+log-fresh members old new e (inl memory) stale = absurd (cc (memory, stale))
+log-fresh members old new e (inr (inl fault)) stale = absurd (cc (fault.0, stale))
+log-fresh members old new e (inr (inr pruned)) stale = absurd (cc (pruned.2, stale))
+
+-- nor of a stale batch
+pub log-kept : {C D : Type 0} (members : store.Ghosts C) (old new : Log C D) (e : Error) → IsReadError members old new e → e ≢ errors.StaleBatch
+log-kept members old new e (inl memory) stale = absurd (cc (memory, stale))
+log-kept members old new e (inr (inl fault)) stale = absurd (cc (fault.0, stale))
+log-kept members old new e (inr (inr pruned)) stale = absurd (cc (pruned.2, stale))
+
+-- where nothing is pruned it is told as no refusal
+pub log-untold : {C D : Type 0} (members : store.Ghosts C) (old new : Log C D) (e : Error) → old.tree.start ≡ 0 → IsReadError members old new e → refusal_of e ≡ None
+log-untold members old new e whole (inl memory) = ap refusal_of memory
+log-untold members old new e whole (inr (inl fault)) = ap refusal_of fault.0
+log-untold members old new e whole (inr (inr pruned)) = let low = pruned.1 in absurd (omega (arith, low, whole))
+
+-- a fault of the store is one by which its count rose
+pub log-rose : {C D : Type 0} (members : store.Ghosts C) (old new : Log C D) (e : Error) → IsReadError members old new e → e ≡ errors.Journal journal.Store → Rose (members.faults old.store) (members.faults new.store)
+log-rose members old new e (inl memory) fault = absurd (cc (memory, fault))
+log-rose members old new e (inr (inl told)) fault = told.1
+log-rose members old new e (inr (inr pruned)) fault = absurd (item-apart pruned.0 (sym pruned.2 ∙ fault))
+  where
+    item-apart : (n : ℕ) → errors.Journal (journal.ItemPruned n) ≡ errors.Journal journal.Store → ⊥
+    item-apart n is = cc
+
+module _ {C D : Type 0} (members : store.Ghosts C) (old new : Log C D) (can : Bool) (e : Error) where
+  stale-read : IsReadErr members old new can e → e ≡ errors.StaleRead → can ≡ false
+  stale-read (inl why) stale = why.1
+  stale-read (inr (inl memory)) stale = absurd (cc (memory, stale))
+  stale-read (inr (inr told)) stale = absurd (log-fresh members old new e told.1 stale)
+
+  fresh-read : IsReadErr members old new can e → e ≢ errors.StaleRead → old.tree.start ≡ 0 → refusal_of e ≡ None
+  fresh-read (inl why) fresh whole = absurd (fresh why.0)
+  fresh-read (inr (inl memory)) fresh whole = ap refusal_of memory
+  fresh-read (inr (inr told)) fresh whole = log-untold members old new e whole told.1
+
+  known-read : IsReadErr members old new can e → e ≢ errors.StaleRead → e ≢ errors.Memory → can ≡ true
+  known-read (inl why) fresh other = absurd (fresh why.0)
+  known-read (inr (inl memory)) fresh other = absurd (other memory)
+  known-read (inr (inr told)) fresh other = told.0
+
+  pub rose-read : IsReadErr members old new can e → e ≡ errors.Journal journal.Store → Rose (members.faults old.store) (members.faults new.store)
+  rose-read (inl why) fault = absurd (cc (why.0, fault))
+  rose-read (inr (inl memory)) fault = absurd (cc (memory, fault))
+  rose-read (inr (inr told)) fault = log-rose members old new e told.1 fault
+
+  -- so it is a failure of a read of the engine
+  pub read-failure : {X B S M : Type 0} (means : words.Ghosts X C B S M) (list : List Operation) (chain : Chain) (tip : List Operation) → can ≡ readable means.scheme.root (commitment means.scheme.root list) chain tip
+      → old.tree.start ≡ members.start old.store → IsReadErr members old new can e → IsReadFailure means (TellsAll members old.store) list chain tip e
+  read-failure means list chain tip is start why = record {
+    stale = λ stale known. apart (sym (is ∙ readable-known means.scheme.root list chain tip known) ∙ stale-read why stale);
+    refused = λ fresh tells known. fresh-read why fresh (start ∙ tells.0);
+    order = λ fresh other. sym is ∙ known-read why fresh other;
+  }
+
+  pub never-read : IsReadErr members old new can e → e ≢ errors.StaleBatch
+  never-read (inl why) stale = absurd (cc (why.0, stale))
+  never-read (inr (inl memory)) stale = absurd (cc (memory, stale))
+  never-read (inr (inr told)) stale = log-kept members old new e told.1 stale
+
+-- reads through batches
+pub made-reads : {X E : Type 0} (r : Result X E) (S : List Operation → Type 0) (L : Chain → List Operation → Type 0) (Q : X → List Operation → Type 0)
+    → ((list : List Operation) (chain : Chain) (tip : List Operation) → S list → L chain tip → IsKnown list chain tip → IfOk r (λ x. Q x tip))
+    → IfOk r (λ x. (list : List Operation) (chain : Chain) (tip : List Operation) → S list → L chain tip → IsKnown list chain tip → Q x tip)
+made-reads (Ok x) S L Q given = given
+made-reads (Err e) S L Q given = tt
+
+pub begun-reads : (form : Form) {X E : Type 0} (r : Result X E) (S : List Operation → Type 0) (begun : Begun Sha256Digest) (Q : X → List Operation → List Write → Type 0)
+    → ((list : List Operation) (chain above : Chain) → S list → IsBegun (hashing form) begun chain above → IsKnown list above chain.base → IfOk r (λ x. Q x chain.base begun.writes))
+    → IfOk r (λ x. (list : List Operation) (chain above : Chain) (ws : List Write) → S list → IsBegun (hashing form) begun chain above × (begun.writes ≡ ws) → IsKnown list above chain.base → Q x chain.base ws)
+begun-reads form (Ok x) S begun Q given = λ list chain above ws is batch known. subst (Q x chain.base) batch.1 (given list chain above is batch.0 known)
+begun-reads form (Err e) S begun Q given = tt
+
+-- a batch that is staged, and one that gets more keys
+pub begun-staged : (form : Form) {X E : Type 0} (r : Result (X × Staged Sha256Digest) E) (S : List Operation → Type 0) (begun : Begun Sha256Digest) (keys : List Bytes) (Q : X → List Operation → List Write → Type 0)
+    → ((list : List Operation) (chain above : Chain) → S list → IsBegun (hashing form) begun chain above → IsKnown list above chain.base → IfOk r (λ x. Q x.0 chain.base begun.writes))
+    → ((list : List Operation) (chain above : Chain) → S list → IsBegun (hashing form) begun chain above → IsKnown list above chain.base → IfOk r (λ x. IsStaged (hashing form) x.1 chain above))
+    → IfOk r (λ x. (x.1).batch ≡ begun) → IfOk r (λ x. staged_keys x.1 ≡ keys)
+    → IfOk r (λ x. (list : List Operation) (chain above : Chain) (ws : List Write) → S list → IsBegun (hashing form) begun chain above × (begun.writes ≡ ws) → IsKnown list above chain.base
+    → Q x.0 chain.base ws × (IsStaged (hashing form) x.1 chain above × ((x.1).batch.writes ≡ ws) × (staged_keys x.1 ≡ keys)))
+begun-staged form (Ok x) S begun keys Q values staged same are = λ list chain above ws is batch known. (
+  subst (Q x.0 chain.base) batch.1 (values list chain above is batch.0 known),
+  (staged list chain above is batch.0 known, ap (λ (b : Begun Sha256Digest). b.writes) same ∙ batch.1, are),
+)
+begun-staged form (Err e) S begun keys Q values staged same are = tt
+
+pub more-staged : (form : Form) {R X E : Type 0} (r : Result (R × X × Staged Sha256Digest) E) (S : List Operation → Type 0) (before : Staged Sha256Digest) (keys : List Bytes) (Q : X → List Operation → List Write → Type 0)
+    → ((list : List Operation) (chain above : Chain) → S list → IsStaged (hashing form) before chain above → IsKnown list above chain.base → IfOk r (λ x. Q x.1 chain.base before.batch.writes))
+    → ((list : List Operation) (chain above : Chain) → S list → IsStaged (hashing form) before chain above → IsKnown list above chain.base → IfOk r (λ x. IsStaged (hashing form) x.2 chain above))
+    → IfOk r (λ x. (x.2).batch ≡ before.batch) → IfOk r (λ x. staged_keys x.2 ≡ staged_keys before ++ keys)
+    → IfOk r (λ x. (list : List Operation) (chain above : Chain) (ws : List Write) (staged : List Bytes) → S list → IsStaged (hashing form) before chain above × (before.batch.writes ≡ ws) × (staged_keys before ≡ staged) → IsKnown list above chain.base
+    → Q x.1 chain.base ws × (IsStaged (hashing form) x.2 chain above × ((x.2).batch.writes ≡ ws) × (staged_keys x.2 ≡ staged ++ keys)))
+more-staged form (Ok x) S before keys Q values staged same are = λ list chain above ws own is batch known. (
+  subst (Q x.1 chain.base) batch.1 (values list chain above is batch.0 known),
+  (staged list chain above is batch.0 known, ap (λ (b : Begun Sha256Digest). b.writes) same ∙ batch.1, are ∙ ap (λ ks. ks ++ keys) batch.2),
+)
+more-staged form (Err e) S before keys Q values staged same are = tt
+
+-- what an apply appends, said of bounds and of lists
+pub appends-same : (form : Form) → form.sizes ≡ None → (list : List Operation) (chain : Chain) (tip : List Operation) (current : Commitment) (made : Made Sha256Digest) → current ≡ list_commitment (hashing form) list → IsMade (hashing form) made chain tip
+    → (if is_at current made.bounds.db made.bounds.ancestors then map (spelling form) (drop current.size tip) else []) ≡ (if fits (sha256_root mmr) (commitment (sha256_root mmr) list) chain then map (spelling variable) (drop (length list) tip) else [])
+appends-same form lengths list chain tip current made is batch =
+    ap (λ spell. if is_at current made.bounds.db made.bounds.ancestors then map spell (drop current.size tip) else []) (spellings-same form lengths)
+    ∙ ap (λ b. if b then map (spelling variable) (drop current.size tip) else []) (at-made form lengths list chain tip current made is batch)
+    ∙ ap (λ (n : ℕ). if fits (sha256_root mmr) (commitment (sha256_root mmr) list) chain then map (spelling variable) (drop n tip) else []) (ap (λ c. c.size) is)
+
+pub proved : (form : Form) → form.sizes ≡ None → (ops : List Operation) (a b : ℕ) → ops_proof sha256 mmr form ops a b ≡ sha256_proof mmr ops a b
+unfolding sha256_proof
+proved form lengths ops a b = ap (λ ls. proof_of sha256 mmr ls (inactive_peaks mmr (length ops) (floor ops)) a b) (leaves-same form lengths 0 ops)
+
+pub pinned : (form : Form) → form.sizes ≡ None → (ops : List Operation) (n : ℕ) → pins_at sha256 mmr form ops n ≡ sha256_pins mmr ops n
+unfolding sha256_pins
+pinned form lengths ops n = ap (λ ls. map (digest_of sha256 mmr ls) (peaks mmr n)) (leaves-same form lengths 0 ops)
+
+none-some : (r : Refused) → None ≡ Some r → ⊥
+none-some r is = cc
+
+some-intro : {A : Type 0} (o : Option A) (P : A → Type 0) → ((a : A) → o ≡ Some a → P a) → IfSome o P
+some-intro None P give = tt
+some-intro (Some a) P give = give a refl
+
+module _ (form : Form) (lengths : form.sizes ≡ None) (chain : Chain) (tip : List Operation) where
+  spelt : tip_refusal variable chain tip ≡ tip_refusal form chain tip
+  spelt = ap (λ spell. option_or (option_map (λ n. Journal (ItemTooLarge n)) (too_long (map spell (drop (length chain.base) tip)))) (too_many (length tip))) (sym (spellings-same form lengths))
+
+  -- why a tip is refused, where no spelling is too long
+  short : too_long (own_spellings form chain.base tip) ≡ None → tip_refusal variable chain tip ≡ too_many (length tip)
+  short none = spelt ∙ ap (λ o. option_or (option_map (λ n. Journal (ItemTooLarge n)) o) (too_many (length tip))) none
+
+  -- a tip that is taken is not refused
+  pub taken-offered : IsTaken form chain.base tip → tip_refusal variable chain tip ≡ None
+  taken-offered taken = short taken.0 ∙ ap (λ b. if b then Some (Merkle (LocationOverflow (length tip))) else None) (le-ltb (2 ^ 62) (length tip) taken.1)
+
+  -- what is too long of a tip is why it is refused
+  due : (e : Error) (r : Refused) → e ≢ errors.StaleBatch → IsRefused form chain.base tip e → refusal_of e ≡ Some r → tip_refusal variable chain tip ≡ Some r
+  due e r fresh (inl memory) told = absurd (none-some r (sym (ap refusal_of memory) ∙ told))
+  due e r fresh (inr (inl stale)) told = absurd (fresh stale)
+  due e r fresh (inr (inr (inl large))) told =
+      spelt ∙ ap (λ o. option_or (option_map (λ n. Journal (ItemTooLarge n)) o) (too_many (length tip))) large.1 ∙ sym (ap refusal_of large.2) ∙ told
+  due e r fresh (inr (inr (inr many))) told =
+      short many.0 ∙ ap (λ b. if b then Some (Merkle (LocationOverflow (length tip))) else None) (lt-ltb (2 ^ 62) (length tip) many.1) ∙ sym (ap refusal_of many.2) ∙ told
+
+  -- a merkleize that is refused, and not as stale, is so for that where the database is on the chain
+  pub refused-due : {C D : Type 0} (members : store.Ghosts C) (old new : Log C D) (P On : Type 0) (e : Error) → e ≢ errors.StaleBatch → old.tree.start ≡ 0 → (On → IsRefused form chain.base tip e ⊎ IsReadError members old new e)
+      → (e ≢ errors.Memory → P) → IfSome (refusal_of e) (λ r. P × (On → tip_refusal variable chain tip ≡ Some r))
+  refused-due members old new P On e fresh whole refused give =
+      some-intro (refusal_of e) (λ r. P × (On → tip_refusal variable chain tip ≡ Some r)) (λ r told. (give (λ memory. none-some r (sym (ap refusal_of memory) ∙ told)), λ on. either r told (refused on)))
+    where
+      either : (r : Refused) → refusal_of e ≡ Some r → IsRefused form chain.base tip e ⊎ IsReadError members old new e → tip_refusal variable chain tip ≡ Some r
+      either r told (inl long) = due e r fresh long told
+      either r told (inr read) = absurd (none-some r (sym (log-untold members old new e whole read) ∙ told))
+
+-- a batch of these writes makes a tip that is not refused
+pub made-ok : (form : Form) → form.sizes ≡ None → {P X E : Type 0} (rules : Rules P) (r : Result X E) (made : X → Made Sha256Digest) (Is : Chain → Chain → Type 0) (own : List Write) (policy : P) (meta : Option Bytes) (S : List Operation → Type 0)
+    → ((list : List Operation) (chain above : Chain) → S list → Is chain above → IsOnChain list chain → IfOk r (λ x. IsMade (hashing form) (made x) chain (stepped form rules chain.base own policy meta)))
+    → ((list : List Operation) (chain above : Chain) → S list → Is chain above → IsOnChain list chain → IfOk r (λ x. IsTaken form chain.base (stepped form rules chain.base own policy meta)))
+    → IfOk r (λ x. (list : List Operation) (chain above : Chain) → S list → Is chain above → (ws : List Write) → own ≡ ws → IsOnChain list chain
+    → (tip_refusal variable chain (stepped form rules chain.base ws policy meta) ≡ None) × IsMade (hashing form) (made x) chain (stepped form rules chain.base ws policy meta))
+made-ok form lengths rules (Ok x) made Is own policy meta S given taken = λ list chain above is batch ws same on. (
+  taken-offered form lengths chain (stepped form rules chain.base ws policy meta) (subst (λ w. IsTaken form chain.base (stepped form rules chain.base w policy meta)) same (taken list chain above is batch on)),
+  subst (λ w. IsMade (hashing form) (made x) chain (stepped form rules chain.base w policy meta)) same (given list chain above is batch on),
+)
+made-ok form lengths rules (Err e) made Is own policy meta S given taken = tt
+
+-- and one that fails is refused, or failed at the log
+pub made-err : (form : Form) {P X : Type 0} (rules : Rules P) (r : Result X Error) (Is : Chain → Chain → Type 0) (own : List Write) (policy : P) (meta : Option Bytes) (R : Error → Type 0) (S : List Operation → Type 0)
+    → ((list : List Operation) (chain above : Chain) → S list → Is chain above → IsOnChain list chain → IfErr r (λ e. IsRefused form chain.base (stepped form rules chain.base own policy meta) e ⊎ R e))
+    → IfErr r (λ e. (list : List Operation) (chain above : Chain) → S list → Is chain above → (ws : List Write) → own ≡ ws → IsOnChain list chain
+    → IsRefused form chain.base (stepped form rules chain.base ws policy meta) e ⊎ R e)
+made-err form rules (Ok x) Is own policy meta R S given = tt
+made-err form rules (Err e) Is own policy meta R S given = λ list chain above is batch ws same on.
+    subst (λ w. IsRefused form chain.base (stepped form rules chain.base w policy meta) e ⊎ R e) same (given list chain above is batch on)
+
+-- what a fault tells
+pub err-of : {X E : Type 0} (r : Result X E) (x : E) (P : Type 0) → IfErr r (λ e. e ≡ x → P) → IsErrOf r x → P
+err-of (Ok v) x P given is = absurd (cc is)
+err-of (Err e) x P given is = given (cc is)
+
+-- the error that a call passes on
+pub err-exit : {X E : Type 0} (r : Result X E) (y e x : E) → r ≡ Err y → y ≡ e → r ≡ Err x → e ≡ x
+err-exit r y e x is from fault = cc (is, from, fault)
+
+-- want of memory is no fault of the store
+pub memory-exit : {X : Type 0} (r : Result X Error) (y : Error) → r ≡ Err y → y ≡ errors.Memory → r ≡ Err (errors.Journal journal.Store) → ⊥
+memory-exit r y is memory fault = let same : errors.Memory ≡ errors.Journal journal.Store = err-exit r y errors.Memory (errors.Journal journal.Store) is memory fault in absurd (cc same)
+
+-- what reads left is what reads leave
+pub left-store : {C D : Type 0} (members : store.Ghosts C) (hash : Hashing D) (old new : Database C D) → IsLeft members hash old new → IsUnchanged members old.log.store new.log.store
+left-store members hash old new left = let kept = (left.read).kept in record { start = kept.start; told = kept.told }
+
+-- an engine's refusal gives back what the database's does
+same-engine : {C I U : Type 0} (y x : engine.Database C I U) (a b : Given (engine.Database C I U) C) → a ≡ given.Database y → b ≡ given.Database x → a ≡ b → y ≡ x
+same-engine y x a b is_y is_x same = cc (is_y, is_x, same)
+
+pub held-database : {C I U : Type 0} (back : Given (Database C Sha256Digest) C) (x : engine.Database C I U) → held back ≡ given.Database x → back ≡ given.Database x.db
+held-database {C = C} {I = I} {U = U} (given.Database db) x is = ap (λ (y : engine.Database C I U). given.Database y.db) (same-engine (record { db = db }) x (given.Database (record { db = db })) (given.Database x) refl refl is)
+held-database (given.Store store) x is = absurd (cc is)
+
+-- an apply that fails and not as stale is for no refusal
+pub unapplied-untold : (e : Error) → (e ≡ errors.StaleBatch) ⊎ ((e ≡ errors.Memory) ⊎ (e ≡ errors.Journal journal.Store)) → e ≢ errors.StaleBatch → refusal_of e ≡ None
+unapplied-untold e (inl stale) fresh = absurd (fresh stale)
+unapplied-untold e (inr (inl memory)) fresh = ap refusal_of memory
+unapplied-untold e (inr (inr fault)) fresh = ap refusal_of fault
+
+-- what an opening says of a store's head, as the machine has it
+pub bare-offered : (told : Option Stored) → IfSome told (λ held. held.head ≡ []) → IfSome told (λ held. head_refusal held.head ≡ None)
+bare-offered None bare = tt
+bare-offered (Some held) bare = ap head_refusal bare
+
+filled : (head : Bytes) → IsSome (head_refusal head) → 0 < length head
+filled [] some = absurd (cc some)
+filled (b ∷ bs) some = omega arith
+
+due-filled : (head : Bytes) → 0 < length head → head_refusal head ≡ Some (DataCorrupted HeadDoesNotMatch)
+due-filled [] more = absurd (omega (arith, more))
+due-filled (b ∷ bs) more = refl
+
+pub head-due : (told : Option Stored) (e : Error) → (e ≡ errors.Memory) ⊎ ((e ≡ errors.Journal journal.Store) ⊎ (e ≡ errors.DataCorrupted corrupt.HeadDoesNotMatch))
+    → (e ≡ errors.DataCorrupted corrupt.HeadDoesNotMatch → IfSome told (λ held. 0 < length held.head)) → IfSome told (λ held. IsDue e (head_refusal held.head))
+head-due None e why filled = tt
+head-due (Some held) e (inl memory) more = subst (λ x. IsDue x (head_refusal held.head)) (sym memory) tt
+head-due (Some held) e (inr (inl fault)) more = subst (λ x. IsDue x (head_refusal held.head)) (sym fault) tt
+head-due (Some held) e (inr (inr differs)) more = subst (λ x. IsDue x (head_refusal held.head)) (sym differs) (due-filled held.head (more differs))
+
+-- an opening refuses a head alone, whatever the store tells
+pub head-among : (e : Error) → (e ≡ errors.Memory) ⊎ ((e ≡ errors.Journal journal.Store) ⊎ (e ≡ errors.DataCorrupted corrupt.HeadDoesNotMatch))
+    → IsAmong e (DataCorrupted HeadDoesNotMatch ∷ [])
+head-among e (inl memory) = subst (λ x. IsAmong x (DataCorrupted HeadDoesNotMatch ∷ [])) (sym memory) tt
+head-among e (inr (inl fault)) = subst (λ x. IsAmong x (DataCorrupted HeadDoesNotMatch ∷ [])) (sym fault) tt
+head-among e (inr (inr differs)) = subst (λ x. IsAmong x (DataCorrupted HeadDoesNotMatch ∷ [])) (sym differs) (0, omega arith, refl)
+
+pub head-unopened : (P : Type 0) (told : Option Stored) → IfSome told (λ held. 0 < length held.head → P) → IfSome told (λ held. IsSome (head_refusal held.head) → P)
+head-unopened P None given = tt
+head-unopened P (Some held) given = λ some. given (filled held.head some)

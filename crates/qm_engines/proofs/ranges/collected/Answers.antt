@@ -1,0 +1,43 @@
+use Rattle.std.proofs.Common.{◌≡◌, ◌∙◌, ◌++◌, ◌∷◌, [], ap, map, sym, subst, arith, length, Some}
+use Rattle.std.specs.Prelude.{IfErr}
+use Rattle.std.proofs.lemmas.List.{append-nil, length-append}
+use Rattle.std.proofs.lemmas.Result.{err_from_is_err_and}
+use Rattle.qm_any.proofs.OrderedReads.{laid_out}
+use Rattle.qm_any.proofs.Reading.{left-then, left-error, left-database}
+use Rattle.qm_batch.specs.Lent.{IsReadError}
+use Rattle.qm_base.specs.Views.{pair_view}
+use Rattle.qm_scan.specs.Scans.{IsStep, left_of}
+use Rattle.qm_engines.proofs.Collected.{one-more}
+use Rattle.qm_engines.proofs.ranges.collected.Goals as goal
+
+pub returns-in_err-next-in-Some-clause-error : goal.returns-in_err-next-in-Some-clause-error
+returns-in_err-next-in-Some-clause-error g c =
+    let layout = laid_out g.H.Digest.Digest.bytes g.H.Hasher.hash g.F.Family.shape g.U.Update.form g.I.Unordered.index_key in
+    let exit = err_from_is_err_and c.from_residual.result c.from_residual.ensures.1 in
+    rw (exit.1, exit.2) (left-error g.C.Store layout.hashing c.args.db.now c.loop.db c.scan_next.new.self _ c.loop.invariant.left
+    (subst (λ r. IfErr r (IsReadError g.C.Store c.loop.db.log c.scan_next.new.self.log)) c.in_err-next-in-Some.was c.in-Some.ensures.error))
+
+pub returns-in-None-clause-pairs : goal.returns-in-None-clause-pairs
+returns-in-None-clause-pairs g c = λ list stands few.
+    let layout = laid_out g.H.Digest.Digest.bytes g.H.Hasher.hash g.F.Family.shape g.U.Update.form g.I.Unordered.index_key in
+    let given = map (pair_view g.U.Key.ByteString.bytes g.U.Value.ByteString.bytes) c.loop.pairs.items in
+    let mid = left-database g.C.Store layout c.args.db.now c.loop.db list c.loop.invariant.left stands in
+    sym (c.loop.invariant.value list stands ∙ ap (λ xs. given ++ xs) (c.in-None.ensures.value list mid).0 ∙ append-nil given)
+
+pub loop-preserved : goal.loop-preserved
+loop-preserved g c =
+    let layout = laid_out g.H.Digest.Digest.bytes g.H.Hasher.hash g.F.Family.shape g.U.Update.form g.I.Unordered.index_key in
+    let view = pair_view g.U.Key.ByteString.bytes g.U.Value.ByteString.bytes in
+    let pair = c.in_ok-next-in-Some.field-0 in
+    record {
+      left = left-then g.C.Store layout.hashing c.args.db.now c.loop.db c.scan_next.new.self c.loop.invariant.left c.scan_next.ensures.left;
+      count = omega (arith, ap length c.in_ok-push-in-Some.ensures.items, length-append c.loop.pairs.items (pair ∷ []), c.loop.invariant.count);
+      value = λ list stands.
+          let rest = left_of g.I.Unordered.index_key c.scan_next.new.scan list in
+          let mid = left-database g.C.Store layout c.args.db.now c.loop.db list c.loop.invariant.left stands in
+          let step : left_of g.I.Unordered.index_key c.loop.scan list ≡ view pair ∷ rest = subst (λ r. IsStep view (left_of g.I.Unordered.index_key c.loop.scan list) rest (Some r)) c.in_ok-next-in-Some.was (c.in-Some.ensures.value list mid) in
+          c.loop.invariant.value list stands
+          ∙ ap (λ xs. map view c.loop.pairs.items ++ xs) step
+          ∙ one-more view c.loop.pairs.items pair rest
+          ∙ ap (λ items. map view items ++ rest) (sym c.in_ok-push-in-Some.ensures.items);
+    }
