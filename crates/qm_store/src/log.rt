@@ -296,6 +296,7 @@ impl<F: Family, C: Store, H: Hasher + Drop> AuthLog<F, C, H> {
     pub fn read(&mut self, at: u64) -> Result<Vec<u8>, Error>
         requires { at < self.old.tree.leaves }
         ensures item { (list : List (List ℕ)) → IsLog C.Store F.shape H.Digest.bytes H.hash self.old list → IfOk result (λ v. IfSome (C.told self.old.store) (λ _. slice_get list at ≡ Some v.items)) }
+        ensures held { IfOk result (λ v. IfSome (C.told self.old.store) (λ s. slice_get s.items (at - s.start) ≡ Some v.items)) }
         ensures stands { (list : List (List ℕ)) → IsLog C.Store F.shape H.Digest.bytes H.hash self.old list → IsLog C.Store F.shape H.Digest.bytes H.hash self.new list }
         ensures pruned { (result ≡ Err (Error.Journal (JournalError.ItemPruned at))) ↔ (at < self.old.tree.start) }
         ensures never { IfErr result (λ e. (e ≡ Error.Memory) ⊎ ((e ≡ Error.Journal JournalError.Store) ⊎ (e ≡ Error.Journal (JournalError.ItemPruned at)))) }
