@@ -5,3 +5,4 @@ pub mod Putting
 pub mod Reading
 pub mod Whole
 pub mod Within
+pub mod Decoding

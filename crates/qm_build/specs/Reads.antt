@@ -1,15 +1,30 @@
 -- Logs that are read.
-use Rattle.std.specs.Prelude.{◌≡◌, ◌⊎◌, ◌≤◌, List, map, All}
+use Rattle.std.specs.Prelude.{◌≡◌, ◌⊎◌, ◌≤◌, ◌-◌, ℕ, List, map, take, drop, All, Option, Some, None, slice_get, option_and_then}
 use Rattle.qm_model.specs.Causes.{Rose}
 use Rattle.qm_model.specs.Operations.{Bytes, Operation}
 use Rattle.qm_model.specs.Trees.{Shape}
-use Rattle.qm_model.specs.Forms.{Form, IsOf, spelling}
+use Rattle.qm_model.specs.Forms.{Form, IsOf, decoded, spelling}
+use Rattle.qm_model.specs.StoreModel.{Stored}
 use Rattle.qm_base.specs.declared.error.Corrupt.TheVariants.{ItemDoesNotDecode}
 use Rattle.qm_base.specs.declared.error.Error.{Error}
 use Rattle.qm_base.specs.declared.error.Error.TheVariants as errors
 use Rattle.qm_base.specs.declared.error.JournalError.TheVariants as journal
 use Rattle.qm_store.specs.declared.Store as store
 use Rattle.qm_store.specs.Log.{Log, IsLog, IsKept}
+
+-- the operation that a store has at a location, none where it has no item there or one that spells none
+abbrev pub operation_at : Form → Stored → ℕ → Option Operation
+operation_at form s at = option_and_then (decoded form) (slice_get s.items (at - s.start))
+
+-- a store's item at a location spells no operation
+pub record IsUndecoded (form : Form) (s : Stored) (at : ℕ) : Type 0 where
+  pub item : Bytes
+  pub here : slice_get s.items (at - s.start) ≡ Some item
+  pub none : decoded form item ≡ None
+
+-- the items of a store from one location up to, and without, another, each as an operation, none where it spells none
+abbrev pub items_within : Form → Stored → ℕ → ℕ → List (Option Operation)
+items_within form s from to = drop (from - s.start) (take (to - s.start) (map (decoded form) s.items))
 
 -- a log has the spellings of operations of this form
 pub record HasOperations {C D : Type 0} (members : store.Ghosts C) (shape : Shape) (bytes : D → Bytes) (hash : Bytes → Bytes) (form : Form) (log : Log C D) (ops : List Operation) : Type 0 where

@@ -1,12 +1,13 @@
 //! The rebuilding of a list, item by item.
 
-ghost use Rattle.std.specs.Prelude.{◌≡◌, ◌≢◌, ◌⊎◌, true, ◌+◌, ◌^◌, ◌<◌, ◌≤◌, ℕ, List, [], Some, length, slice_get, IfSome, IfOk, IfErr, OnOk};
+ghost use Rattle.std.specs.Prelude.{◌≡◌, ◌≢◌, ◌⊎◌, true, false, ◌+◌, ◌^◌, ◌<◌, ◌≤◌, ℕ, List, [], Some, is_none, length, slice_get, IfSome, IfOk, IfErr, OnOk};
+ghost use Rattle.std.specs.List.{list_any};
 ghost use Rattle.qm_model.specs.Operations as model;
 ghost use Rattle.qm_base.specs.Views.{operation_view};
 ghost use Rattle.qm_build.specs.Building.{ArePlaced, AreWithin, between};
 ghost use Rattle.qm_build.specs.Built.{IsBuilt, NoneBelow};
 ghost use Rattle.qm_build.specs.Cached.{Holds, AreKeys};
-ghost use Rattle.qm_build.specs.Reads.{HasOperations, IsRead, IsReadError, IsReadFault};
+ghost use Rattle.qm_build.specs.Reads.{items_within, HasOperations, IsRead, IsReadError, IsReadFault};
 
 use crate::cache::Cache;
 use crate::moves::{move_key, note};
@@ -49,6 +50,8 @@ pub fn build_snapshot<
         → IfSome (C.told log.old.store) (λ _. IfOk result (λ s. IsBuilt I.index_key (I.entries index.new) s.live s.activity floor ops)) }
     ensures decodes { (ops : List model.Operation) → HasOperations C.Store F.shape H.Digest.bytes H.hash U.form log.old ops
         → IfSome (C.told log.old.store) (λ _. IfErr result (λ e. e ≢ Error.DataCorrupted Corrupt.ItemDoesNotDecode)) }
+    ensures decoded { IfSome (C.told log.old.store) (λ s. OnOk result (list_any is_none (items_within U.form s floor log.old.tree.leaves) ≡ false)) }
+    ensures corrupt { IfSome (C.told log.old.store) (λ s. IfErr result (λ e. e ≡ Error.DataCorrupted Corrupt.ItemDoesNotDecode → list_any is_none (items_within U.form s floor log.old.tree.leaves) ≡ true)) }
     ensures read { IsRead C.Store F.shape H.Digest.bytes H.hash log.old log.new }
     ensures error { IfErr result (IsReadError C.Store log.old log.new) }
 {

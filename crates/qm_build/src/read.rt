@@ -8,7 +8,7 @@ ghost use Rattle.qm_base.specs.Views.{operation_view};
 ghost use Rattle.qm_index.specs.Buckets.{bucket_at};
 ghost use Rattle.qm_build.specs.Building.{key_at, IsFound};
 ghost use Rattle.qm_build.specs.Cached.{AreKeys};
-ghost use Rattle.qm_build.specs.Reads.{HasOperations, IsRead, IsReadError, IsReadFault};
+ghost use Rattle.qm_build.specs.Reads.{operation_at, HasOperations, IsRead, IsReadError, IsReadFault, IsUndecoded};
 
 use crate::cache::Cache;
 use qm_base::update::Update;
@@ -29,6 +29,8 @@ pub(crate) fn read_operation<F: Family, C: Store, H: Hasher + Drop, U: Update>(
         → IfSome (C.told log.old.store) (λ _. IfOk result (λ op. slice_get ops at ≡ Some (operation_view U.view U.Key.bytes U.Value.bytes op))) }
     ensures decodes { (ops : List model.Operation) → HasOperations C.Store F.shape H.Digest.bytes H.hash U.form log.old ops
         → IfSome (C.told log.old.store) (λ _. IfErr result (λ e. e ≢ Error.DataCorrupted Corrupt.ItemDoesNotDecode)) }
+    ensures held { IfSome (C.told log.old.store) (λ s. IfOk result (λ op. operation_at U.form s at ≡ Some (operation_view U.view U.Key.bytes U.Value.bytes op))) }
+    ensures corrupt { IfSome (C.told log.old.store) (λ s. IfErr result (λ e. e ≡ Error.DataCorrupted Corrupt.ItemDoesNotDecode → IsUndecoded U.form s at)) }
     ensures read { IsRead C.Store F.shape H.Digest.bytes H.hash log.old log.new }
     ensures error { IfErr result (IsReadError C.Store log.old log.new) }
 {

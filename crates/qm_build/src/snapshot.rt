@@ -1,9 +1,10 @@
 //! Indices that an opening can rebuild.
 
-ghost use Rattle.std.specs.Prelude.{◌≡◌, ◌≢◌, ◌<◌, ◌≤◌, List, [], IfSome, IfOk, IfErr};
+ghost use Rattle.std.specs.Prelude.{◌≡◌, ◌≢◌, ◌<◌, ◌≤◌, List, [], is_none, true, false, IfSome, IfOk, IfErr, OnOk};
+ghost use Rattle.std.specs.List.{list_any};
 ghost use Rattle.qm_model.specs.Operations as model;
 ghost use Rattle.qm_build.specs.Built.{IsBuilt, NoneBelow};
-ghost use Rattle.qm_build.specs.Reads.{HasOperations, IsRead, IsReadError};
+ghost use Rattle.qm_build.specs.Reads.{items_within, HasOperations, IsRead, IsReadError};
 
 use crate::build::{Snapshot, build_snapshot};
 use qm_base::update::Update;
@@ -41,6 +42,8 @@ pub trait SnapshotBuild<F: Family>: qm_index::Unordered<Value = Location<F>>
             → IfSome (C.told log.old.store) (λ _. IfOk result (λ s. IsBuilt Self.index_key (Self.entries self.new) s.live s.activity floor ops)) }
         ensures decodes { (ops : List model.Operation) → HasOperations C.Store F.shape H.Digest.bytes H.hash U.form log.old ops
             → IfSome (C.told log.old.store) (λ _. IfErr result (λ e. e ≢ Error.DataCorrupted Corrupt.ItemDoesNotDecode)) }
+        ensures decoded { IfSome (C.told log.old.store) (λ s. OnOk result (list_any is_none (items_within U.form s floor log.old.tree.leaves) ≡ false)) }
+        ensures corrupt { IfSome (C.told log.old.store) (λ s. IfErr result (λ e. e ≡ Error.DataCorrupted Corrupt.ItemDoesNotDecode → list_any is_none (items_within U.form s floor log.old.tree.leaves) ≡ true)) }
         ensures read { IsRead C.Store F.shape H.Digest.bytes H.hash log.old log.new }
         ensures error { IfErr result (IsReadError C.Store log.old log.new) }
     {

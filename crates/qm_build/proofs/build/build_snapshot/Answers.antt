@@ -1,12 +1,18 @@
-use Rattle.std.proofs.Common.{◌≡◌, ◌-◌, ◌<◌, ◌∙◌, ap, sym, subst, length, set, true, arith}
+use Rattle.std.proofs.Common.{◌≡◌, ◌-◌, ◌<◌, ◌≤◌, ◌∙◌, ap, sym, subst, length, set, true, arith, Some}
 use Rattle.std.proofs.lemmas.List.{length-map}
+use Rattle.std.proofs.lemmas.Result.{err_from_is_err_and}
 use Rattle.qm_model.specs.Forms.{spelling}
+use Rattle.std.specs.Prelude.{IfSome, is_none}
 use Rattle.qm_model.proofs.Results.{told-one, told-any, told-both, told-then}
+use Rattle.qm_base.specs.Views.{operation_view}
+use Rattle.qm_store.proofs.Stores.{both}
+use Rattle.qm_build.specs.Reads.{operation_at}
 use Rattle.qm_build.specs.Building.{ArePlaced, between}
 use Rattle.qm_build.specs.Built.{NoneBelow, IsBuilt}
 use Rattle.qm_build.proofs.Reading.{read-none, read-then, operations-then, told}
 use Rattle.qm_build.proofs.Within.{within-none}
 use Rattle.qm_build.proofs.Whole.{placed-none, built}
+use Rattle.qm_build.proofs.Decoding.{each, over, one-more, all-decoded, one-undecoded}
 use Rattle.qm_build.proofs.build.build_snapshot.Goals as goal
 
 pub loop-at-init : goal.loop-at-init
@@ -20,6 +26,7 @@ loop-at-init g c = record {
       told-any _ (g.C.Store.told c.args.log.now.store)
       (subst (λ bits. ArePlaced g.I.Unordered.index_key (g.I.Unordered.entries c.args.index.now) 0 bits c.get-floor.result (between c.get-floor.result c.get-floor.result ops)) (sym c.new-2.ensures)
       (placed-none g.I.Unordered.index_key (g.I.Unordered.entries c.args.index.now) c.get-floor.result ops c.requires.empty));
+  decode = each (g.C.Store.told c.args.log.now.store) (λ s i low less. absurd (omega (arith, low, less)));
 }
 
 pub loop-at-preserved : goal.loop-at-preserved
@@ -45,6 +52,9 @@ loop-at-preserved g c =
           told-then _ _ (members.told c.args.log.now.store) (told _ _ _ before.kept.told (c.in_ok-operation.ensures.value ops (operations-then members shape bytes hash form c.args.log.now c.loop-at.log ops before has))) (λ here.
           told-then _ _ (members.told c.args.log.now.store) (c.loop-at.invariant.placed ops has) (λ placed.
           told _ _ _ read.kept.told (c.in_ok-put.ensures.placed ops (operations-then members shape bytes hash form c.args.log.now c.read_operation.new.log ops read has) here placed keys))));
+      decode =
+          both (members.told c.args.log.now.store) c.loop-at.invariant.decode (subst (λ o. IfSome o (λ s. operation_at form s c.loop-at.at ≡ Some (operation_view g.U.Update.view g.U.Key.ByteString.bytes g.U.Value.ByteString.bytes c.in_ok-operation.operation))) before.kept.told c.in_ok-operation.ensures.held)
+          (λ s all here i low less. one-more form s c.loop-at.at i (all i low) (ap is_none here) (omega (arith, less)));
     }
 
 pub returns-clause-built : goal.returns-clause-built
@@ -62,3 +72,22 @@ returns-clause-built g c = λ ops has none.
     (subst (λ f. IsBuilt index_key entries live (set c.loop-at.snapshot.activity (size - floor - 1) true) f ops) c.get-floor.ensures
     (built index_key entries live c.loop-at.snapshot.activity floor size ops low all (subst (λ f. NoneBelow f ops) (sym c.get-floor.ensures) none)
     (subst (λ to. ArePlaced index_key entries live c.loop-at.snapshot.activity floor (between floor to ops)) last placed))))
+
+pub returns-clause-decoded : goal.returns-clause-decoded
+returns-clause-decoded g c =
+    let floor = c.get-floor.result in
+    let last : c.loop-at.at ≡ c.args.log.now.tree.leaves = omega (arith, c.loop-at.auto.at-end, c.loop-at-test.false, c.bounds-size.ensures.size) in
+    both (g.C.Store.told c.args.log.now.store) c.loop-at.invariant.decode (g.met.C.Store.told_start c.args.log.now.store) (λ s all start.
+    let low : s.start ≤ c.args.floor = omega (arith, start, c.bounds-size.ensures.first, c.requires.kept) in
+    all-decoded g.U.Update.form s c.args.floor c.args.log.now.tree.leaves low (λ i more less. all i (omega (arith, more, c.get-floor.ensures)) (omega (arith, less, last))))
+
+pub returns-in_err-operation-clause-corrupt : goal.returns-in_err-operation-clause-corrupt
+returns-in_err-operation-clause-corrupt g c =
+    let exit = err_from_is_err_and c.from_residual-in_err-operation.result c.from_residual-in_err-operation.ensures.1 in
+    let form = g.U.Update.form in
+    let at = c.loop-at.at in
+    rw (exit.1, exit.2) (over (g.C.Store.told c.args.log.now.store) (g.C.Store.told c.loop-at.log.store) c.loop-at.invariant.read.kept.told c.in_err-operation.ensures.corrupt (g.met.C.Store.told_start c.args.log.now.store) (λ s corrupt start is.
+    let low : s.start ≤ c.args.floor = omega (arith, start, c.bounds-size.ensures.first, c.requires.kept) in
+    let more : c.args.floor ≤ at = omega (arith, c.loop-at.invariant.here, c.get-floor.ensures) in
+    let less : at < c.args.log.now.tree.leaves = omega (arith, c.loop-at-test.true, c.bounds-size.ensures.size) in
+    one-undecoded form s c.args.floor c.args.log.now.tree.leaves at low more less (corrupt is)))

@@ -1,9 +1,9 @@
-use Rattle.std.proofs.Common.{◌≡◌, ◌+◌, ◌≤◌, List, length}
-use Rattle.std.specs.Prelude.{IfSome}
+use Rattle.std.proofs.Common.{◌≡◌, ◌+◌, ◌≤◌, ◌<◌, ℕ, false, List, length}
+use Rattle.std.specs.Prelude.{IfSome, is_none}
 use Rattle.qm_model.specs.Operations.{Operation}
 use Rattle.qm_build.specs.Building.{ArePlaced, AreWithin, between}
 use Rattle.qm_build.specs.Cached.{AreKeys}
-use Rattle.qm_build.specs.Reads.{HasOperations, IsRead}
+use Rattle.qm_build.specs.Reads.{operation_at, HasOperations, IsRead}
 use Rattle.qm_build.proofs.build.build_snapshot.Given as goal
 
 abbrev pub invariant-loop-at : goal.invariant-loop-at
@@ -16,4 +16,5 @@ invariant-loop-at g l = record {
       IfSome (g.C.Store.told l.initial.log.store) (λ _. AreKeys g.U.Key.ByteString.bytes ops l.cache);
   placed : (ops : List Operation) → HasOperations g.C.Store g.F.Family.shape g.H.Digest.Digest.bytes g.H.Hasher.hash g.U.Update.form l.initial.log ops →
       IfSome (g.C.Store.told l.initial.log.store) (λ _. ArePlaced g.I.Unordered.index_key (g.I.Unordered.entries l.index) l.snapshot.live l.snapshot.activity l.floor (between l.floor l.at ops));
+  decode : IfSome (g.C.Store.told l.initial.log.store) (λ s. (i : ℕ) → l.floor ≤ i → i < l.at → is_none (operation_at g.U.Update.form s i) ≡ false);
 }
