@@ -5,7 +5,6 @@ pub mod Making
 pub mod OrderedReads
 pub mod Reading
 pub mod Resting
-pub mod Selecting
 pub mod Staging
 pub mod Telling
 pub mod Trees

@@ -21,7 +21,6 @@ use Rattle.qm_model.specs.Trees.{Shape, Node, leaf, end_of, peaks, row_from, dig
 use Rattle.qm_model.proofs.Forms.{IsSpelling-once}
 use Rattle.qm_model.proofs.Steps.{fresh-good}
 use Rattle.qm_model.specs.Families.{Births, IsFamily, HasPeaks, over}
-use Rattle.qm_base.specs.Parts.{floor_of}
 use Rattle.qm_base.specs.declared.error.Corrupt.TheVariants as corrupt
 use Rattle.qm_base.specs.declared.error.Error.{Error}
 use Rattle.qm_base.specs.declared.error.Error.TheVariants as errors
@@ -141,12 +140,6 @@ fresh-stands members layout db log first is committed told logged = subst (λ d.
   good = fresh-good;
   ring = λ _. All-nil (λ (e : Live). e.next ≡ successor [] e.key);
 })
-
--- the floor of a commit, in the words of refusals
-pub floor-same : (op : Operation) → floor_of op ≡ commit_floor op
-floor-same (update k v n) = refl
-floor-same (delete k) = refl
-floor-same (commit m f) = refl
 
 -- the floor of a list that ends with a commit
 floor-commit : (g : ℕ) (list : List Operation) (i f : ℕ) → option_and_then commit_floor (slice_get list i) ≡ Some f → floor_after g (take (suc i) list) ≡ f

@@ -4,4 +4,3 @@ pub mod Databases
 pub mod Reasons
 pub mod Tips
 pub mod Scanned
-pub mod Selecting

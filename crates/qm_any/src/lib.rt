@@ -10,7 +10,6 @@ mod operations;
 mod ordered;
 pub mod proof;
 pub mod scan;
-mod select;
 pub mod staged;
 
 pub use open::{hasher, init, initial_root};

@@ -22,6 +22,7 @@ use crate::db::{Db, LaidOut};
 use qm_base::update::Update;
 use qm_base::{Corrupt, Digest, Error, Hasher, JournalError, Location, MerkleError, Operation};
 use qm_merkle::Family;
+use qm_open::commit_floor_in;
 use qm_proofs::Proof;
 use qm_store::{AuthLog, Store};
 use std::alloc::{AllocError, Global};
@@ -189,23 +190,6 @@ fn floor_at_end<F: Family, C: Store, H: Hasher + Drop, U: Update>(
     }
     let item = log.read(size - 1)?;
     Ok(commit_floor_in::<F, U>(alloc, &item)?)
-}
-
-// The floor of the commit that the bytes spell, if they spell one.
-pub(crate) fn commit_floor_in<F, U: Update>(
-    alloc: Global,
-    item: &[u8],
-) -> Result<Option<u64>, AllocError>
-    ensures { IfOk result (λ f. f ≡ option_and_then commit_floor (decoded U.form item.now)) }
-{
-    let operation: Option<Operation<F, U>> = Operation::decode(alloc, item)?;
-    match &operation {
-        Some(operation) => match operation.has_floor() {
-            Some(floor) => Ok(Some(floor.get())),
-            None => Ok(None),
-        },
-        None => Ok(None),
-    }
 }
 
 // The operations that the items spell. That one spells none is told as corruption.

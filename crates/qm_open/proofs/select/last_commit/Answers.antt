@@ -4,9 +4,9 @@ use Rattle.qm_model.specs.Refusals.{commit_floor}
 use Rattle.qm_model.specs.Forms.{decoded}
 use Rattle.qm_model.specs.Opening.{last_commit}
 use Rattle.qm_store.proofs.Stores.{both, kept-then, read-kept}
-use Rattle.qm_any.specs.Selecting.{kept_items, up_to}
-use Rattle.qm_any.proofs.Selecting.{passed, found}
-use Rattle.qm_any.proofs.select.last_commit.Goals as goal
+use Rattle.qm_open.specs.Selecting.{kept_items, up_to}
+use Rattle.qm_open.proofs.Selecting.{passed, found}
+use Rattle.qm_open.proofs.select.last_commit.Goals as goal
 
 pub returns-in-Some-clause-selected : goal.returns-in-Some-clause-selected
 returns-in-Some-clause-selected g c =

@@ -1,8 +1,8 @@
 use Rattle.std.proofs.Common.{◌∙◌, ap, sym, Some}
 use Rattle.std.specs.Prelude.{option_and_then}
 use Rattle.qm_model.specs.Refusals.{commit_floor}
-use Rattle.qm_any.proofs.Telling.{floor-same}
-use Rattle.qm_any.proofs.proof.commit_floor_in.Goals as goal
+use Rattle.qm_open.proofs.Selecting.{floor-same}
+use Rattle.qm_open.proofs.item.commit_floor_in.Goals as goal
 
 pub returns-in-Some-has_floor : goal.returns-in-Some-has_floor
 returns-in-Some-has_floor g c =

@@ -1,8 +1,8 @@
 use Rattle.std.proofs.Common.{◌≡◌, ◌-◌, ◌≤◌, take, None, IfSome}
 use Rattle.qm_model.specs.Opening.{last_commit}
 use Rattle.qm_store.specs.Log.{IsKept}
-use Rattle.qm_any.specs.Selecting.{kept_items, up_to}
-use Rattle.qm_any.proofs.select.last_commit.Given as goal
+use Rattle.qm_open.specs.Selecting.{kept_items, up_to}
+use Rattle.qm_open.proofs.select.last_commit.Given as goal
 
 -- no commit stands behind
 abbrev pub invariant-loop-at : goal.invariant-loop-at
