@@ -1,15 +1,13 @@
 //! Reads of an ordered base list: the live update before a key, around the ring, and the one whose span holds it.
 
-ghost use Rattle.std.specs.Prelude.{◌≡◌, ◌≢◌, true, ℕ, List, map, option_and_then, option_map, IfSome, IfOk, IfErr};
-ghost use Rattle.qm_model.specs.Keys.{key_lt};
+ghost use Rattle.std.specs.Prelude.{◌≡◌, ◌≢◌, true, ℕ, List, map, option_map, IfSome, IfOk, IfErr};
 ghost use Rattle.qm_model.specs.Live.{live_keys};
 ghost use Rattle.qm_model.specs.Operations as model;
 ghost use Rattle.qm_model.specs.Ordered.{IsRing};
 ghost use Rattle.qm_model.specs.Ranges.{key_above, key_below};
 ghost use Rattle.qm_step.specs.Layers.{LeadOver};
 ghost use Rattle.qm_batch.specs.Lent.{IsLent, IsRead, IsReadError, NoneBelow};
-ghost use Rattle.qm_step.specs.Changes.{next_in};
-ghost use Rattle.qm_step.specs.Nearest.{is_nearest, kept, nearer_of, own_or_nearer, said_key};
+ghost use Rattle.qm_step.specs.Nearest.{is_nearest, nearer_of, own_or_nearer};
 ghost use Rattle.qm_step.specs.Rings.{previous_of, holder_of};
 ghost use Rattle.qm_step.specs.Views.{read_view};
 

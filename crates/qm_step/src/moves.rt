@@ -1,6 +1,6 @@
 //! The operations of what a walk decides in an ordered list: its moves, then the links that its evictions break.
 
-ghost use Rattle.std.specs.Prelude.{◌≡◌, ◌≢◌, ◌≤◌, ◌^◌, ◌++◌, ◌∷◌, ◌||◌, ◌&&◌, ℕ, List, length, map, filter, filter_map, not, true, bytes_eq, is_none, Some, option_map, option_to_list, All, IfSome, IfOk, IfErr, OnOk};
+ghost use Rattle.std.specs.Prelude.{◌≡◌, ◌≤◌, ◌^◌, ◌++◌, ◌∷◌, ◌||◌, ◌&&◌, List, length, map, filter, filter_map, not, true, bytes_eq, is_none, Some, option_map, option_to_list, All, IfOk, OnOk};
 ghost use Rattle.std.specs.Cmp.Lexicographic.{slice_cmp};
 ghost use Rattle.std.specs.List.{IsDistinct};
 ghost use Rattle.std.specs.List.Sorted.{IsStrictlySortedBy};

@@ -1,6 +1,6 @@
 //! What writes put behind a base list: the writes to live keys by location, then the creates by key.
 
-ghost use Rattle.std.specs.Prelude.{◌≡◌, ◌≢◌, ◌++◌, ◌∷◌, [], ℕ, List, map, zip, filter_map, Some, None, option_map, option_to_list, IfSome, IfOk, IfErr, OnOk};
+ghost use Rattle.std.specs.Prelude.{◌≡◌, ◌++◌, ◌∷◌, [], ℕ, List, map, zip, filter_map, Some, None, option_map, option_to_list, IfOk, OnOk};
 ghost use Rattle.std.specs.BTreeMap.{insert_entry};
 ghost use Rattle.std.specs.Ordering.{nat_cmp};
 ghost use Rattle.qm_base.specs.Slots.{slot_view, slot_views};
@@ -8,10 +8,9 @@ ghost use Rattle.qm_model.specs.Live.{live};
 ghost use Rattle.qm_model.specs.Operations as operations;
 ghost use Rattle.qm_model.specs.Slots.{write_in};
 ghost use Rattle.qm_model.specs.Writes as model;
-ghost use Rattle.qm_step.specs.Changes.{place_in};
-ghost use Rattle.qm_step.specs.PlanViews.{keyed, last_view, last_write_view, located_views, site_in, site_view, touch_view, touch_views, unordered_touch, unordered_touches, unordered_view, AreKnown};
+ghost use Rattle.qm_step.specs.PlanViews.{keyed, last_view, last_write_view, located_views, site_in, site_view, unordered_touch, unordered_touches, unordered_view};
 ghost use Rattle.qm_step.specs.Touches.{rewrite_here, moved_touch, new_touch, written_touches};
-ghost use Rattle.qm_step.specs.Views.{keys_of, wanted_view, write_view, AreReads};
+ghost use Rattle.qm_step.specs.Views.{keys_of, wanted_view, write_view};
 
 use crate::site::Site;
 use crate::touch::Touch;
