@@ -8,7 +8,7 @@ use Rattle.std.proofs.lemmas.List.Folds.{Any-from_list_any}
 use Rattle.qm_model.specs.Batches.{Commitment, same}
 use Rattle.qm_merkle.specs.Batches.{stops}
 use Rattle.qm_chain.specs.Bounds.{is_at, knows}
-use Rattle.qm_batch.specs.Layers.{Layer}
+use Rattle.qm_step.specs.Layers.{Layer}
 use Rattle.qm_any.specs.Databases.{Made, AreAgreed, AreJoined, bases, states, child_boundary, child_tips}
 
 -- commitments that are the same have one size

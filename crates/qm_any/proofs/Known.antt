@@ -5,8 +5,8 @@ use Rattle.std.proofs.lemmas.List.{length-map}
 use Rattle.qm_model.specs.Operations.{Bytes, Operation}
 use Rattle.qm_model.specs.Batches.{Commitment, Chain, Kept, IsKnown, IsOnChain, boundary_list, oldest_base, commitment}
 use Rattle.qm_model.proofs.Chains.{Contains-first, Contains-more}
-use Rattle.qm_batch.specs.Bases.{IsBase}
-use Rattle.qm_batch.specs.Layers.{LeadOver}
+use Rattle.qm_step.specs.Bases.{IsBase}
+use Rattle.qm_step.specs.Layers.{LeadOver}
 use Rattle.qm_any.specs.Layouts.{Hashing, list_root}
 use Rattle.qm_any.specs.Databases.{Made, IsMade, base_of, AreLinked, bases_of, kept_by, child_boundary, child_tips, list_commitment}
 

@@ -26,9 +26,9 @@ use Rattle.qm_merkle.proofs.Since.{stop-since, list-since}
 use Rattle.qm_store.specs.KeptTrees.{KeptTree, IsKeptTree}
 use Rattle.qm_store.proofs.Kept.{kept-fewer}
 use Rattle.qm_chain.specs.Bounds.{Bounds}
-use Rattle.qm_batch.specs.Kinds.{HasRing, kind_of}
-use Rattle.qm_batch.specs.Layers.{Layer, LeadThrough}
-use Rattle.qm_batch.specs.Views.{Plan, IsPlan, stepped}
+use Rattle.qm_step.specs.Kinds.{HasRing, kind_of}
+use Rattle.qm_step.specs.Layers.{Layer, LeadThrough}
+use Rattle.qm_step.specs.Views.{Plan, IsPlan, stepped}
 use Rattle.qm_any.specs.Databases.{Made, AreAgreed, AreLinked, IsMade, IsTree, bases, bases_of, child_boundary, child_made, child_tips, kept_by}
 use Rattle.qm_any.proofs.Agreed.{child-starts, child-bases-above, joined-first}
 use Rattle.qm_any.specs.Layouts.{Hashing, list_root, spellings}

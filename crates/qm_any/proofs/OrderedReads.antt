@@ -5,7 +5,7 @@ use Rattle.qm_model.specs.Operations.{Bytes, Operation}
 use Rattle.qm_model.specs.Live.{Live, live, live_of}
 use Rattle.qm_model.specs.Trees.{Shape}
 use Rattle.qm_base.specs.Parts.{value_of}
-use Rattle.qm_batch.specs.Changes.{located, next_in, update_of}
+use Rattle.qm_step.specs.Changes.{located, next_in, update_of}
 use Rattle.qm_model.specs.Forms.{Form}
 use Rattle.qm_any.specs.Layouts.{Layout, hashing_with}
 

@@ -9,8 +9,8 @@ use Rattle.qm_model.proofs.Chains.{Contains-first}
 use Rattle.qm_base.specs.Parts as parts
 use Rattle.qm_base.specs.declared.error.Error.{Error}
 use Rattle.qm_store.specs.declared.Store as store
-use Rattle.qm_batch.specs.Changes.{update_of, located}
-use Rattle.qm_batch.specs.Layers.{Layer, LeadOver}
+use Rattle.qm_step.specs.Changes.{update_of, located}
+use Rattle.qm_step.specs.Layers.{Layer, LeadOver}
 use Rattle.qm_batch.specs.Lent.{IsReadError, NoneBelow}
 use Rattle.qm_batch.proofs.Reading.{read-none, read-then, error-then, lent-then}
 use Rattle.qm_any.specs.Layouts.{Hashing, Layout}

@@ -5,7 +5,7 @@ use Rattle.std.proofs.Math.Seq.{take-length, drop-length}
 use Rattle.std.proofs.lemmas.List.{append-nil, take_all, take_min, length-map}
 use Rattle.std.proofs.lemmas.List.Elements.{All-cons}
 use Rattle.qm_model.specs.Live.{touched}
-use Rattle.qm_batch.specs.Changes.{AreChanges, stands_at, place_in}
+use Rattle.qm_step.specs.Changes.{AreChanges, stands_at, place_in}
 use Rattle.qm_model.specs.Forms.{spelling}
 use Rattle.qm_store.specs.KeptTrees.{leaves_of}
 use Rattle.qm_model.specs.Operations.{Operation}

@@ -10,10 +10,10 @@ use Rattle.qm_model.specs.Writes.{Write, last_writes, overwritten, read_through,
 use Rattle.qm_base.specs.Slots.{slot_views, write_views}
 use Rattle.qm_base.specs.declared.slot.Slot.{Slot}
 use Rattle.qm_base.specs.declared.write.Write as declared
-use Rattle.qm_batch.specs.Changes.{update_of}
-use Rattle.qm_batch.specs.Views.{AreReads, keys_of, read_view, reads_view}
-use Rattle.qm_batch.specs.declared.wanted.Read.{Read}
-use Rattle.qm_batch.proofs.Steps.{map-twice}
+use Rattle.qm_step.specs.Changes.{update_of}
+use Rattle.qm_step.specs.Views.{AreReads, keys_of, read_view, reads_view}
+use Rattle.qm_step.specs.declared.wanted.Read.{Read}
+use Rattle.qm_step.proofs.Steps.{map-twice}
 use Rattle.qm_any.specs.Databases.{read_under}
 use Rattle.qm_any.proofs.Reading.{value-found}
 

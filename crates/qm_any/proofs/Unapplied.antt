@@ -18,9 +18,9 @@ use Rattle.qm_base.specs.declared.error.JournalError.TheVariants as journal
 use Rattle.qm_store.specs.declared.Store as store
 use Rattle.qm_store.specs.Log.{IsLog}
 use Rattle.qm_bits.specs.Bitmaps.{all_bits}
-use Rattle.qm_batch.specs.Changes.{Changes, LeadTo}
+use Rattle.qm_step.specs.Changes.{Changes, LeadTo}
 use Rattle.qm_index.specs.Indexed.{IsIndexed}
-use Rattle.qm_batch.specs.Layers.{Layer, LeadThrough}
+use Rattle.qm_step.specs.Layers.{Layer, LeadThrough}
 use Rattle.qm_index.proofs.Members.{first_or_later, Contains-first, Contains-later}
 use Rattle.qm_store.specs.KeptTrees.{IsKeptTree}
 use Rattle.qm_any.specs.Layouts.{Layout, spellings}

@@ -13,12 +13,12 @@ use Rattle.qm_chain.specs.Bounds.{Bounds, IsBounds, is_at}
 use Rattle.qm_store.specs.declared.Store as store
 use Rattle.qm_store.specs.Log.{Log}
 use Rattle.qm_bits.specs.Bitmaps.{Bitmap, all_bits}
-use Rattle.qm_batch.specs.Bases.{Base}
-use Rattle.qm_batch.specs.Changes.{update_of}
-use Rattle.qm_batch.specs.Kinds.{HasRing}
-use Rattle.qm_batch.specs.Layers.{Layer, LeadThrough}
+use Rattle.qm_step.specs.Bases.{Base}
+use Rattle.qm_step.specs.Changes.{update_of}
+use Rattle.qm_step.specs.Kinds.{HasRing}
+use Rattle.qm_step.specs.Layers.{Layer, LeadThrough}
 use Rattle.qm_batch.specs.Lent.{IsLent, IsRead}
-use Rattle.qm_batch.specs.Views.{Plan}
+use Rattle.qm_step.specs.Views.{Plan}
 use Rattle.qm_store.specs.KeptTrees.{KeptTree, IsKeptTree}
 use Rattle.qm_any.specs.Layouts.{Hashing, Layout, list_root, spellings}
 

@@ -14,10 +14,10 @@ ghost use Rattle.qm_model.specs.Writes.{read_through};
 ghost use Rattle.qm_merkle.specs.Batches.{stops, stops_since};
 ghost use Rattle.qm_proofs.specs.Proofs.{proof_view, first_lacked, needed_positions};
 ghost use Rattle.qm_chain.specs.Bounds.{commitment_view, is_at, knows};
-ghost use Rattle.qm_batch.specs.Bases.{IsBase, base_view};
-ghost use Rattle.qm_batch.specs.Kinds.{HasRing};
+ghost use Rattle.qm_step.specs.Bases.{IsBase, base_view};
+ghost use Rattle.qm_step.specs.Kinds.{HasRing};
 ghost use Rattle.qm_batch.specs.Lent.{IsReadError, NoneBelow};
-ghost use Rattle.qm_batch.specs.Views.{changes_view, keys_of, wanted_view, AreReads, IsPlan, stepped, left_after};
+ghost use Rattle.qm_step.specs.Views.{changes_view, keys_of, wanted_view, AreReads, IsPlan, stepped, left_after};
 ghost use Rattle.qm_any.specs.Databases.{IsDatabase, IsBegun, IsMade, IsLeft, base_of, bases, child_boundary, child_made, child_tips, is_on, kept_by, operations_in, unapplied};
 ghost use Rattle.qm_store.specs.Log.{IsLacked};
 ghost use Rattle.qm_store.specs.KeptTrees.{held_at};
@@ -79,7 +79,7 @@ pub struct MerkleizedBatch<F: Family, D: Digest, U: Update> {
 
 impl<F: Family, D: Digest, U: Update> Model for MerkleizedBatch<F, D, U> {
     ghost use Rattle.std.specs.Prelude.{◌≡◌, map, option_map};
-    ghost use Rattle.qm_batch.specs.Views.{changes_view};
+    ghost use Rattle.qm_step.specs.Views.{changes_view};
     ghost use Rattle.qm_any.specs.Databases.{Made, AreAgreed};
 
     ghost Value = { Made D };

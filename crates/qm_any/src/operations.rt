@@ -6,7 +6,7 @@ ghost use Rattle.qm_model.specs.Refusals.{too_long};
 ghost use Rattle.qm_any.specs.Databases.{unapplied, operations_in};
 ghost use Rattle.qm_any.specs.Tips.{IsLow, IsTooLong};
 ghost use Rattle.qm_base.specs.Views.{operation_views};
-ghost use Rattle.qm_batch.specs.Views.{changes_view};
+ghost use Rattle.qm_step.specs.Views.{changes_view};
 
 use qm_base::update::Update;
 use qm_base::{ByteString, Error, JournalError, MerkleError, Operation};

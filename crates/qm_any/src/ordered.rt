@@ -8,11 +8,11 @@ ghost use Rattle.qm_model.specs.Ordered.{IsRing};
 ghost use Rattle.qm_model.specs.Ranges.{key_above, key_below};
 ghost use Rattle.qm_base.specs.Parts.{value_of};
 ghost use Rattle.qm_chain.specs.Bounds.{knows};
-ghost use Rattle.qm_batch.specs.Changes.{next_in};
-ghost use Rattle.qm_batch.specs.Layers.{LeadOver};
+ghost use Rattle.qm_step.specs.Changes.{next_in};
+ghost use Rattle.qm_step.specs.Layers.{LeadOver};
 ghost use Rattle.qm_batch.specs.Lent.{IsReadError, NoneBelow};
-ghost use Rattle.qm_batch.specs.Rings.{holder_of};
-ghost use Rattle.qm_batch.specs.Views.{read_view};
+ghost use Rattle.qm_step.specs.Rings.{holder_of};
+ghost use Rattle.qm_step.specs.Views.{read_view};
 ghost use Rattle.qm_any.specs.Databases.{IsDatabase, IsLeft, IsMade};
 
 use crate::batch::MerkleizedBatch;

@@ -10,7 +10,7 @@ ghost use Rattle.qm_model.specs.Writes.{read_through};
 ghost use Rattle.qm_merkle.specs.Batches.{stops};
 ghost use Rattle.qm_chain.specs.Bounds.{knows};
 ghost use Rattle.qm_batch.specs.Lent.{IsReadError, NoneBelow};
-ghost use Rattle.qm_batch.specs.Views.{stepped, left_after};
+ghost use Rattle.qm_step.specs.Views.{stepped, left_after};
 ghost use Rattle.qm_any.specs.Databases.{IsDatabase, IsBegun, IsMade, IsLeft, IsStaged, is_on, staged_keys};
 ghost use Rattle.qm_any.specs.Reasons.{IsMakingError};
 ghost use Rattle.qm_any.specs.Tips.{IsTaken, IsRefused};
@@ -41,7 +41,7 @@ pub struct Staged<F: Family, D: Digest, U: Update> {
 
 impl<F: Family, D: Digest, U: Update> Model for Staged<F, D, U> {
     ghost use Rattle.std.specs.Prelude.{◌≤◌, suc, length};
-    ghost use Rattle.qm_batch.specs.Views.{reads_view};
+    ghost use Rattle.qm_step.specs.Views.{reads_view};
     ghost use Rattle.qm_any.specs.Databases.{Staged};
 
     ghost Value = { Staged D };

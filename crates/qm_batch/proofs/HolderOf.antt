@@ -20,15 +20,15 @@ use Rattle.qm_index.specs.Buckets.{IsIndex}
 use Rattle.qm_index.specs.Indexed.{IsIndexed}
 use Rattle.qm_index.specs.Neighbours.{keys_at, prev_key}
 use Rattle.qm_index.specs.Translated.{IsMonotone}
-use Rattle.qm_batch.specs.Changes.{located, next_in, said_by, update_at, update_of}
-use Rattle.qm_batch.specs.Layers.{Layer, LeadOver, nearest_layer}
-use Rattle.qm_batch.specs.Nearest.{kept, last_key, lent_before, nearer_of, own_or_nearer, said_key}
-use Rattle.qm_batch.specs.Rings.{holder_of, previous_of}
+use Rattle.qm_step.specs.Changes.{located, next_in, said_by, update_at, update_of}
+use Rattle.qm_step.specs.Layers.{Layer, LeadOver, nearest_layer}
+use Rattle.qm_step.specs.Nearest.{kept, last_key, lent_before, nearer_of, own_or_nearer, said_key}
+use Rattle.qm_step.specs.Rings.{holder_of, previous_of}
 use Rattle.qm_batch.proofs.LastKeys.{filter-same, greatest-same, last-is, last-none}
 use Rattle.qm_batch.proofs.Layered.{lent-update}
 use Rattle.qm_batch.proofs.LentKeys.{live-some}
 use Rattle.qm_batch.proofs.PreviousOf.{update-parts, previous-lent, previous-nearer}
-use Rattle.qm_batch.proofs.Standing.{live-stands}
+use Rattle.qm_step.proofs.Standing.{live-stands}
 
 none-some : {X : Type 0} {x : X} → None ≡ Some x → ⊥
 none-some h = cc

@@ -11,9 +11,9 @@ use Rattle.qm_model.specs.Keys.{key_lt, greatest, greater, predecessor, contains
 use Rattle.qm_model.specs.Ranges.{Limit, included, excluded, unlimited, is_before}
 use Rattle.qm_model.proofs.KeyOrder.{Has, Has-first, Has-either, IsFront, SameKeys, rises, falls, upto, lt-irrefl, lt-trans, lt-total, lt-back, greatest-is, is-greatest, greatest-front, front-none, contains-append, contains-filter, and-true, and-both, or-left, or-right, or-either, false-not, not-true, not-false, apart}
 use Rattle.qm_chain.proofs.KeyOrder.{Ascends}
-use Rattle.qm_batch.specs.Changes.{Change}
-use Rattle.qm_batch.specs.Layers.{Layer}
-use Rattle.qm_batch.specs.Nearest.{changed_keys, last_key, later_key}
+use Rattle.qm_step.specs.Changes.{Change}
+use Rattle.qm_step.specs.Layers.{Layer}
+use Rattle.qm_step.specs.Nearest.{changed_keys, last_key, later_key}
 
 none-some : {X : Type 0} {x : X} → None ≡ Some x → ⊥
 none-some h = cc

@@ -16,11 +16,11 @@ use Rattle.qm_model.proofs.OrderedLists.{live-contains}
 use Rattle.qm_index.specs.Buckets.{bucket_at}
 use Rattle.qm_index.specs.Indexed.{IsIndexed, locations_at}
 use Rattle.qm_index.specs.Neighbours.{keys_at, neighbour_at, prev_key}
-use Rattle.qm_batch.specs.Changes.{located, update_at, update_of}
+use Rattle.qm_step.specs.Changes.{located, update_at, update_of}
 use Rattle.qm_batch.specs.Lent.{NoneBelow}
-use Rattle.qm_batch.specs.Nearest.{last_key, later_at, lent_before, only_within, said_key}
+use Rattle.qm_step.specs.Nearest.{last_key, later_at, lent_before, only_within, said_key}
 use Rattle.qm_batch.proofs.LastKeys.{last-is, last-same}
-use Rattle.qm_batch.proofs.Standing.{live-stands, live-of_key, of_key-within}
+use Rattle.qm_step.proofs.Standing.{live-stands, live-of_key, of_key-within}
 
 -- the greatest of the keys and of one more, where there is one
 abbrev greatest_from : Option Bytes → List Bytes → Option Bytes

@@ -17,12 +17,12 @@ use Rattle.qm_model.proofs.GraftedLemmas.{bit_is_active}
 use Rattle.qm_model.proofs.LastWrites.{bytes_same}
 use Rattle.qm_model.proofs.Maps.{same_key}
 use Rattle.qm_model.proofs.Pushes.{Within, live_from-within}
-use Rattle.qm_batch.specs.Changes.{place_in, update_at}
+use Rattle.qm_step.specs.Changes.{place_in, update_at}
 use Rattle.qm_batch.specs.Marks.{AreMarked, cleared, marked}
-use Rattle.qm_batch.proofs.Appends.{own-live}
+use Rattle.qm_step.proofs.Appends.{own-live}
 use Rattle.qm_index.proofs.Basics.{or-later}
 use Rattle.qm_index.proofs.Members.{from_image, in_image}
-use Rattle.qm_batch.proofs.Standing.{live-stands, live-of_key, of_key-within}
+use Rattle.qm_step.proofs.Standing.{live-stands, live-of_key, of_key-within}
 
 -- Where the keys of a list stand.
 

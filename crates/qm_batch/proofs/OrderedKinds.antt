@@ -23,12 +23,12 @@ use Rattle.qm_model.proofs.Maps.{same_key}
 use Rattle.qm_model.proofs.OrderedLists.{Each-all, Each-filter, Single, Rising-single, live-contains, live-value, picked, touched-linked, write_of-none}
 use Rattle.qm_model.proofs.OrderedMoves.{ordered-moved, write_of-each}
 use Rattle.qm_model.proofs.OrderedWrites.{before_them, before_them-kept, ordered-ring, in_created, in_deleted, in_kept, in_relinked, in_updated, relinked}
-use Rattle.qm_batch.specs.Kinds.{kind_of, AreWritten, CountsMoves, HasRing}
-use Rattle.qm_batch.specs.Rings.{touch_in}
-use Rattle.qm_batch.specs.Touches.{Touch, IsFrom, IsKeyed, Once, operations_of}
+use Rattle.qm_step.specs.Kinds.{kind_of, AreWritten, CountsMoves, HasRing}
+use Rattle.qm_step.specs.Rings.{touch_in}
+use Rattle.qm_step.specs.Touches.{Touch, IsFrom, IsKeyed, Once, operations_of}
 use Rattle.qm_batch.proofs.PlanCounts.{singles}
 use Rattle.qm_batch.proofs.PlanOwns.{own-key, touched-from, touched-operations}
-use Rattle.qm_batch.proofs.PlanWrites.{once-append}
+use Rattle.qm_step.proofs.PlanWrites.{once-append}
 use Rattle.qm_index.proofs.Basics.{or-later}
 
 abbrev KeyedOps : List Operation → Type 0

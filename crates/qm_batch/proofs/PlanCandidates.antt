@@ -7,8 +7,8 @@ use Rattle.qm_model.specs.Live.{Live, live_at, touches, touched}
 use Rattle.qm_model.specs.Bits.{is_last, is_active, bits}
 use Rattle.qm_model.proofs.KeyOrder.{or-false}
 use Rattle.qm_bits.specs.Candidates.{is_candidate}
-use Rattle.qm_batch.specs.Changes.{update_from}
-use Rattle.qm_batch.specs.Touches.{live_update_at}
+use Rattle.qm_step.specs.Changes.{update_from}
+use Rattle.qm_step.specs.Touches.{live_update_at}
 
 -- an operation that is not active stays so
 dead_here : (start : ℕ) (op : Operation) (rest more : List Operation) → is_active op rest ≡ false → live_at start op (rest ++ more) ≡ None

@@ -14,12 +14,12 @@ use Rattle.qm_model.proofs.LastWrites.{bytes_same}
 use Rattle.qm_model.proofs.Maps.{value_of-append, fold-untouched}
 use Rattle.qm_model.proofs.KeyOrder.{Has}
 use Rattle.qm_model.proofs.OrderedLists.{Each-both, Single, live-contains, live-value}
-use Rattle.qm_batch.specs.Kinds.{CountsMoves}
-use Rattle.qm_batch.specs.Touches.{Touch, IsKeyed, Once, operations_of}
-use Rattle.qm_batch.proofs.Appends.{live-append, live_of-append}
+use Rattle.qm_step.specs.Kinds.{CountsMoves}
+use Rattle.qm_step.specs.Touches.{Touch, IsKeyed, Once, operations_of}
+use Rattle.qm_step.proofs.Appends.{live-append, live_of-append}
 use Rattle.qm_index.proofs.Basics.{bytes-turned, or-later}
-use Rattle.qm_batch.proofs.PlanWrites.{touches-operation, all-kept, live-once, one-dropped}
-use Rattle.qm_batch.proofs.Standing.{AreApart, live-apart}
+use Rattle.qm_step.proofs.PlanWrites.{touches-operation, all-kept, live-once, one-dropped}
+use Rattle.qm_step.proofs.Standing.{AreApart, live-apart}
 
 -- an update of a live key changes no count, and a delete of one leaves one less
 one-decided : (list : List Operation) (d : Write) → Has (live_keys list) d.key → length (live (list ++ operation_of d ∷ [])) + cond (is_none d.value) 1 0 ≡ length (live list)

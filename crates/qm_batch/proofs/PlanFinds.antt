@@ -12,17 +12,17 @@ use Rattle.qm_model.specs.Live.{Live, live, live_of, touched}
 use Rattle.qm_model.proofs.Maps.{same_key}
 use Rattle.qm_index.specs.Buckets.{bucket_at}
 use Rattle.qm_base.specs.Parts.{update_key}
-use Rattle.qm_batch.specs.Changes.{place_in, stands_at, update_at, update_from, said_by}
-use Rattle.qm_batch.specs.Layers.{Layer, LeadThrough, LeadOver}
+use Rattle.qm_step.specs.Changes.{place_in, stands_at, update_at, update_from, said_by}
+use Rattle.qm_step.specs.Layers.{Layer, LeadThrough, LeadOver}
 use Rattle.qm_index.specs.Indexed.{IsIndexed}
-use Rattle.qm_batch.specs.Touches.{Touch, is_replaced, is_there, live_update_at, moved_touch, operations_of, IsFrom, IsKeyed, IsMoveAt}
+use Rattle.qm_step.specs.Touches.{Touch, is_replaced, is_there, live_update_at, moved_touch, operations_of, IsFrom, IsKeyed, IsMoveAt}
 use Rattle.qm_index.proofs.Members.{Contains-first, first_or_later}
-use Rattle.qm_batch.proofs.PlanWalks.{none-past}
-use Rattle.qm_batch.proofs.PlanReads.{slice_get-front, slice_get-behind, update-here, front-none, front-touched, front-gone, front-live}
-use Rattle.qm_batch.proofs.PlanReplaced.{touched-replaced}
+use Rattle.qm_step.proofs.PlanWalks.{none-past}
+use Rattle.qm_step.proofs.PlanReads.{slice_get-front, slice_get-behind, update-here, front-none, front-touched, front-gone, front-live}
+use Rattle.qm_step.proofs.PlanReplaced.{touched-replaced}
 use Rattle.qm_batch.proofs.Spellings.{keyed-update, keyless-said}
 use Rattle.qm_batch.proofs.Reading.{in-bucket, own-bucket}
-use Rattle.qm_batch.proofs.Standing.{live-stands, live-of_key}
+use Rattle.qm_step.proofs.Standing.{live-stands, live-of_key}
 use Rattle.qm_index.proofs.Basics.{or-later}
 
 -- the operation at a location, where a layer has it

@@ -14,9 +14,9 @@ use Rattle.qm_model.specs.Operations.{Bytes, Operation, update}
 use Rattle.qm_model.specs.Live.{floor, touches}
 use Rattle.qm_model.specs.Walk.{Action, write, stop, evict, Rules, Walked, ended, decided, walk, walk_from}
 use Rattle.qm_model.proofs.LastWrites.{bytes_same}
-use Rattle.qm_batch.specs.Changes.{next_in}
-use Rattle.qm_batch.specs.Going.{Decided, write_for, decided_for, AreDead, AreDeadBetween, IsSpaced, resumed, IsDecided, IsGoing, AreDecided}
-use Rattle.qm_batch.specs.Touches.{Touch, IsMoveAt, live_update_at}
+use Rattle.qm_step.specs.Changes.{next_in}
+use Rattle.qm_step.specs.Going.{Decided, write_for, decided_for, AreDead, AreDeadBetween, IsSpaced, resumed, IsDecided, IsGoing, AreDecided}
+use Rattle.qm_step.specs.Touches.{Touch, IsMoveAt, live_update_at}
 use Rattle.qm_batch.proofs.PlanCandidates.{dead_unless_candidate}
 use Rattle.qm_batch.proofs.PlanMoves.{live_update-is, live_update-next}
 use Rattle.qm_batch.proofs.PlanPassing.{passes, falls_short, spent, at_end, decides}

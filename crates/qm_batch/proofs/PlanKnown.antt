@@ -11,9 +11,9 @@ use Rattle.std.proofs.lemmas.Option.{same_Some}
 use Rattle.qm_model.specs.Operations.{Bytes, Operation}
 use Rattle.qm_model.proofs.LastWrites.{equal_keys}
 use Rattle.qm_model.proofs.Maps.{same_key}
-use Rattle.qm_batch.specs.Changes.{update_of}
-use Rattle.qm_batch.specs.Views.{read_view, AreReads}
-use Rattle.qm_batch.specs.declared.wanted.Read.{Read}
+use Rattle.qm_step.specs.Changes.{update_of}
+use Rattle.qm_step.specs.Views.{read_view, AreReads}
+use Rattle.qm_step.specs.declared.wanted.Read.{Read}
 
 -- of each entry it is known what its key has
 module _ {X Y : Type 0} (what : X → Y) (there : Bytes → Y) where

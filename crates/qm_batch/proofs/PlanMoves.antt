@@ -7,11 +7,11 @@ use Rattle.std.proofs.lemmas.Option.{same_Some, slice_get-map, slice_get_within,
 use Rattle.qm_model.specs.Operations.{Bytes, Operation, update, delete, commit}
 use Rattle.qm_base.specs.Parts.{key_of}
 use Rattle.qm_model.specs.Live.{Live, live, live_at, live_of, touches, touched}
-use Rattle.qm_batch.specs.Changes.{next_in, said_by, update_at, update_from}
-use Rattle.qm_batch.specs.Touches.{Touch, IsFrom, IsMoveAt, Once, is_there, operations_of, live_update_at}
-use Rattle.qm_batch.proofs.PlanReads.{behind-said, live_update-update, there-here, unless_touched}
-use Rattle.qm_batch.proofs.PlanWrites.{said-once}
-use Rattle.qm_batch.proofs.Standing.{live-stands, of_key-within}
+use Rattle.qm_step.specs.Changes.{next_in, said_by, update_at, update_from}
+use Rattle.qm_step.specs.Touches.{Touch, IsFrom, IsMoveAt, Once, is_there, operations_of, live_update_at}
+use Rattle.qm_step.proofs.PlanReads.{behind-said, live_update-update, there-here, unless_touched}
+use Rattle.qm_step.proofs.PlanWrites.{said-once}
+use Rattle.qm_step.proofs.Standing.{live-stands, of_key-within}
 
 -- a live update is one
 pub live_update-is : (list : List Operation) (at : ℕ) (op : Operation) → live_update_at list at ≡ Some op → (e : Live) × (op ≡ update_from e)

@@ -15,13 +15,14 @@ use Rattle.qm_model.specs.Walk.{Limits, Rules, Walked, walk}
 use Rattle.qm_model.proofs.Decisions.{decided-live, decided-once}
 use Rattle.qm_model.proofs.Maps.{same_key}
 use Rattle.qm_model.proofs.OrderedLists.{some-map}
-use Rattle.qm_batch.specs.Changes.{place_in, stands_at}
-use Rattle.qm_batch.specs.Going.{Decided, write_for, touch_for, AreDecided, IsDecided}
-use Rattle.qm_batch.specs.Kinds.{AreWritten, CountsMoves}
-use Rattle.qm_batch.specs.PlanViews.{Path, decided_view, decided_views, AreOwn, IsPath}
-use Rattle.qm_batch.specs.declared.plan.decided.Decided as declared
-use Rattle.qm_batch.specs.Rings.{touch_in}
-use Rattle.qm_batch.specs.Touches.{Touch, IsFrom, IsKeyed, Once, operations_of}
+use Rattle.qm_step.specs.Changes.{place_in, stands_at}
+use Rattle.qm_step.specs.Going.{Decided, write_for, touch_for, AreDecided, IsDecided}
+use Rattle.qm_step.specs.Kinds.{AreWritten, CountsMoves}
+use Rattle.qm_step.specs.PlanViews.{decided_view, decided_views}
+use Rattle.qm_batch.specs.PlanPaths.{Path, AreOwn, IsPath}
+use Rattle.qm_step.specs.declared.decided.Decided as declared
+use Rattle.qm_step.specs.Rings.{touch_in}
+use Rattle.qm_step.specs.Touches.{Touch, IsFrom, IsKeyed, Once, operations_of}
 use Rattle.qm_batch.proofs.PlanCounts.{Stood, count-behind}
 
 -- a count by what is shown

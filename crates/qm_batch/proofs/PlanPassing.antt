@@ -6,9 +6,9 @@ use Rattle.std.proofs.lemmas.Option.{same_Some}
 use Rattle.qm_model.specs.Operations.{Bytes, Operation, update}
 use Rattle.qm_model.specs.Live.{Live, live_at}
 use Rattle.qm_model.specs.Walk.{Action, write, stop, evict, Rules, Walked, ended, noted, decided, visited, walk_from}
-use Rattle.qm_batch.specs.Changes.{update_from}
-use Rattle.qm_batch.specs.Touches.{live_update_at}
-use Rattle.qm_batch.proofs.PlanWalks.{none-past, drop-here}
+use Rattle.qm_step.specs.Changes.{update_from}
+use Rattle.qm_step.specs.Touches.{live_update_at}
+use Rattle.qm_step.proofs.PlanWalks.{none-past, drop-here}
 
 module _ {P : Type 0} (rules : Rules P) (list : List Operation) where
   -- no live update stands at this location

@@ -6,9 +6,9 @@ use Rattle.std.proofs.lemmas.List.{drop_more}
 use Rattle.qm_bits.specs.Candidates.{candidates, IsFilled}
 use Rattle.qm_model.specs.Bits.{bits}
 use Rattle.qm_model.specs.Operations.{Operation}
-use Rattle.qm_batch.specs.Going.{AreDeadBetween, IsSpaced}
-use Rattle.qm_batch.specs.PlanViews.{Path, IsPath}
-use Rattle.qm_batch.specs.Touches.{operations_of}
+use Rattle.qm_step.specs.Going.{AreDeadBetween, IsSpaced}
+use Rattle.qm_batch.specs.PlanPaths.{Path, IsPath}
+use Rattle.qm_step.specs.Touches.{operations_of}
 use Rattle.qm_batch.proofs.PlanFinds.{begins}
 use Rattle.qm_batch.proofs.PlanGoing.{round-dead, round-none, round-spaced, spaced-above, spaced-below}
 

@@ -6,9 +6,9 @@ use Rattle.qm_model.specs.Operations.{Bytes, Operation, update, delete, commit}
 use Rattle.qm_model.specs.Live.{live, floor_after}
 use Rattle.qm_model.specs.Step.{committed}
 use Rattle.qm_model.proofs.Pushes.{live-commit}
-use Rattle.qm_batch.specs.Changes.{Changes, change_of, AreChanges}
-use Rattle.qm_batch.specs.Views.{IsPlan}
-use Rattle.qm_batch.proofs.PlanDiffs.{change-push}
+use Rattle.qm_step.specs.Changes.{Changes, change_of, AreChanges}
+use Rattle.qm_step.specs.Views.{IsPlan}
+use Rattle.qm_step.proofs.PlanDiffs.{change-push}
 
 floor-last : (f : ℕ) (ops : List Operation) (m : Option Bytes) (g : ℕ) → floor_after f (ops ++ commit m g ∷ []) ≡ g
 floor-last f [] m g = refl

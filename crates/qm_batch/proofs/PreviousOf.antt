@@ -18,15 +18,15 @@ use Rattle.qm_index.specs.Indexed.{IsIndexed}
 use Rattle.qm_index.specs.Neighbours.{keys_at, prev_key}
 use Rattle.qm_index.specs.Translated.{IsMonotone}
 use Rattle.qm_index.proofs.Neighbours.{stood-same, nearest-prev}
-use Rattle.qm_batch.specs.Changes.{Change, Changes, change_in, located, update_of}
-use Rattle.qm_batch.specs.Layers.{Layer, LeadOver, nearest_layer, update_by}
-use Rattle.qm_batch.specs.Nearest.{changed_keys, is_left, is_nearest, last_key, left_by, left_keys, lent_before, nearer_of, said_key}
-use Rattle.qm_batch.specs.Rings.{previous_of}
+use Rattle.qm_step.specs.Changes.{Change, Changes, change_in, located, update_of}
+use Rattle.qm_step.specs.Layers.{Layer, LeadOver, nearest_layer, update_by}
+use Rattle.qm_step.specs.Nearest.{changed_keys, is_left, is_nearest, last_key, left_by, left_keys, lent_before, nearer_of, said_key}
+use Rattle.qm_step.specs.Rings.{previous_of}
 use Rattle.qm_batch.proofs.LastKeys.{last-unlimited}
 use Rattle.qm_batch.proofs.Layered.{layer-update, lent-update}
 use Rattle.qm_batch.proofs.LentKeys.{live-some}
-use Rattle.qm_batch.proofs.Standing.{of_key-within}
-use Rattle.qm_batch.proofs.Steps.{layer-stands}
+use Rattle.qm_step.proofs.Standing.{of_key-within}
+use Rattle.qm_step.proofs.Steps.{layer-stands}
 
 none-some : {X : Type 0} {x : X} → None ≡ Some x → ⊥
 none-some h = cc

@@ -13,12 +13,12 @@ use Rattle.qm_model.proofs.LastWrites.{bytes_same}
 use Rattle.qm_bits.specs.Bitmaps.{Bitmap, start, bit_count, all_bits}
 use Rattle.qm_chain.specs.Ascending.{IsAscending}
 use Rattle.qm_chain.specs.Entries.{keys_of}
-use Rattle.qm_batch.specs.Changes.{Change, Changes, AreChanges, LeadTo, change_in, place_in, stands_at}
+use Rattle.qm_step.specs.Changes.{Change, Changes, AreChanges, LeadTo, change_in, place_in, stands_at}
 use Rattle.qm_batch.specs.Marks.{AreMarked, HasLive, IsAlike, cleared, marked}
 use Rattle.qm_index.proofs.Basics.{or-none}
 use Rattle.qm_batch.proofs.Marking.{place-within, place-behind, place-once, ended-some, bit-last, begun, done, key-cleared, key-marked, marked-same}
 use Rattle.qm_batch.proofs.Staging.{staged, change_in-push, entry-fresh, entry-own, entry-more}
-use Rattle.qm_batch.proofs.Steps.{changed, unchanged}
+use Rattle.qm_step.proofs.Steps.{changed, unchanged}
 
 -- where a key stands once these changes of a base list's keys are put in
 abbrev pub stage : Changes → List Operation → Bytes → Option ℕ

@@ -6,7 +6,7 @@ use Rattle.std.proofs.lemmas.Option.{same_Some, slice_get-map}
 use Rattle.qm_model.specs.Forms.{Form, IsOf, IsSpelling, spelling}
 use Rattle.qm_model.specs.Operations.{Bytes, Operation, update, delete, commit}
 use Rattle.qm_base.specs.Parts.{update_key}
-use Rattle.qm_batch.specs.Changes.{said_by}
+use Rattle.qm_step.specs.Changes.{said_by}
 
 -- the bytes at a location among a list's spellings spell its operation there
 pub spelled-there : (form : Form) (list : List Operation) (i : ℕ) (bs : Bytes) → All (IsOf form) list → slice_get (map (spelling form) list) i ≡ Some bs → (op : Operation) × (slice_get list i ≡ Some op) × IsSpelling form bs op

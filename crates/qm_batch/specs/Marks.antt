@@ -2,7 +2,7 @@
 use Rattle.std.specs.Prelude.{◌≡◌, ◌<◌, ℕ, Bool, true, false, List, length, set, slice_index_or, Option, Some, None}
 use Rattle.qm_model.specs.Operations.{Bytes, Operation}
 use Rattle.qm_bits.specs.Bitmaps.{Bitmap, start, bit_count, all_bits}
-use Rattle.qm_batch.specs.Changes.{place_in}
+use Rattle.qm_step.specs.Changes.{place_in}
 
 -- a bit is set exactly where a key stands
 pub record AreMarked (bits : List Bool) (place : Bytes → Option ℕ) : Type 0 where

@@ -11,22 +11,24 @@ ghost use Rattle.qm_model.specs.Operations.{AreBytes};
 ghost use Rattle.qm_model.specs.Operations as model;
 ghost use Rattle.qm_model.specs.Step.{ordered, unordered};
 ghost use Rattle.qm_model.specs.Writes as writes;
-ghost use Rattle.qm_batch.specs.Going.{write_for, IsDecided};
-ghost use Rattle.qm_batch.specs.Kinds.{kind_of, AreWritten, CountsMoves, HasRing};
-ghost use Rattle.qm_batch.specs.Moves.{before_evicted};
-ghost use Rattle.qm_batch.specs.OrderedViews.{neighbour_view};
-ghost use Rattle.qm_batch.specs.PlanViews.{decided_views, linked_view, touch_views};
-ghost use Rattle.qm_batch.specs.Rings.{linked_in, neighbour_in, touch_in};
-ghost use Rattle.qm_batch.specs.Touches.{operations_of};
-ghost use Rattle.qm_batch.specs.Views.{read_view};
+ghost use Rattle.qm_step.specs.Going.{write_for, IsDecided};
+ghost use Rattle.qm_step.specs.Kinds.{kind_of, AreWritten, CountsMoves, HasRing};
+ghost use Rattle.qm_step.specs.Moves.{before_evicted};
+ghost use Rattle.qm_step.specs.OrderedViews.{neighbour_view};
+ghost use Rattle.qm_step.specs.PlanViews.{decided_views, linked_view, touch_views};
+ghost use Rattle.qm_step.specs.Rings.{linked_in, neighbour_in, touch_in};
+ghost use Rattle.qm_step.specs.Touches.{operations_of};
+ghost use Rattle.qm_step.specs.Views.{read_view};
 
-use crate::plan::decided::{Decided, add_decided};
-use crate::plan::ordered::{Neighbour, linked_touches, moved_behind};
-use crate::plan::sites::Site;
-use crate::plan::touch::Touch;
-use crate::plan::writes::written;
 use qm_base::update::{Ordered, Unordered, Update};
 use qm_base::{ByteString, Location, ValueEncoding};
+use qm_step::decided::{Decided, add_decided};
+use qm_step::links::linked_touches;
+use qm_step::moves::moved_behind;
+use qm_step::neighbour::Neighbour;
+use qm_step::site::Site;
+use qm_step::touch::Touch;
+use qm_step::writes::written;
 use std::alloc::{AllocError, Global};
 
 /// An update of a kind of database over this index. Only here do the kinds differ; all else is over any of them.

@@ -2,22 +2,16 @@
 #![tactic(auto)]
 
 pub mod apply;
-pub mod base;
 pub mod kind;
-pub mod layer;
 pub mod neighbours;
 pub mod plan;
 pub mod read;
-pub mod wanted;
 pub mod writes;
 
 pub use apply::{apply_bits, apply_diffs};
-pub use base::Base;
-pub use layer::Layer;
-pub use neighbours::order::{is_before, is_below};
 pub use neighbours::{holder, next_key, previous, previous_key};
 pub use plan::{Plan, plain, staged};
 pub use qm_base::Write;
+pub use qm_step::{Base, Layer, Read, Wanted, is_before, is_below};
 pub use read::{read_item, read_key, read_keys, update_in};
-pub use wanted::{Read, Wanted};
 pub use writes::Writes;

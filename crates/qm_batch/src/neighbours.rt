@@ -1,31 +1,29 @@
 //! Reads of an ordered base list: the live update before a key, around the ring, and the one whose span holds it.
 
-ghost use Rattle.std.specs.Prelude.{◌≡◌, ◌≢◌, true, ℕ, List, map, option_and_then, option_map, IfSome, IfOk, IfErr};
-ghost use Rattle.qm_model.specs.Keys.{key_lt};
+ghost use Rattle.std.specs.Prelude.{◌≡◌, ◌≢◌, true, ℕ, List, map, option_map, IfSome, IfOk, IfErr};
 ghost use Rattle.qm_model.specs.Live.{live_keys};
 ghost use Rattle.qm_model.specs.Operations as model;
 ghost use Rattle.qm_model.specs.Ordered.{IsRing};
 ghost use Rattle.qm_model.specs.Ranges.{key_above, key_below};
-ghost use Rattle.qm_batch.specs.Layers.{LeadOver};
+ghost use Rattle.qm_step.specs.Layers.{LeadOver};
 ghost use Rattle.qm_batch.specs.Lent.{IsLent, IsRead, IsReadError, NoneBelow};
-ghost use Rattle.qm_batch.specs.Changes.{next_in};
-ghost use Rattle.qm_batch.specs.Nearest.{is_nearest, kept, nearer_of, own_or_nearer, said_key};
-ghost use Rattle.qm_batch.specs.Rings.{previous_of, holder_of};
-ghost use Rattle.qm_batch.specs.Views.{read_view};
+ghost use Rattle.qm_step.specs.Nearest.{is_nearest, nearer_of, own_or_nearer};
+ghost use Rattle.qm_step.specs.Rings.{previous_of, holder_of};
+ghost use Rattle.qm_step.specs.Views.{read_view};
 
 mod left;
 mod lent;
-pub mod order;
 
 use self::left::{left_before, update_left};
 use self::lent::last_lent;
-use self::order::{is_below, is_between};
 use crate::kind::Steps;
-use crate::layer::Layer;
-use crate::read::{newest, twin_next, update_from};
+use crate::read::{newest, update_from};
 use qm_base::update::Update;
 use qm_base::{ByteString, Error, Hasher, JournalError, Location};
 use qm_merkle::Family;
+use qm_step::Layer;
+use qm_step::found::{key_under, next_above};
+use qm_step::order::is_between;
 use qm_store::{AuthLog, Store};
 use std::alloc::{AllocError, Global};
 use std::ops::Bound;
@@ -214,38 +212,5 @@ fn own_or_nearer<F, U: Update>(
             nearer(alloc, layers, key, Some(found))
         }
         None => nearer(alloc, layers, key, None),
-    }
-}
-
-// A copy of the next key of an update, where it is above the key.
-fn next_above<F, U: Update>(
-    alloc: Global,
-    found: Option<(Location<F>, U)>,
-    key: &[u8],
-) -> Result<Option<U::Key>, AllocError>
-    ensures { IfOk result (λ next. option_map U.Key.bytes next ≡ kept (λ k. key_lt key.now k) (option_and_then (λ p. next_in p.1) (option_map (read_view U.view) found))) }
-{
-    let Some((_, update)) = found else {
-        return Ok(None);
-    };
-    let Some(next) = twin_next(alloc, &update)? else {
-        return Ok(None);
-    };
-    if is_below(key, next.as_bytes()) {
-        Ok(Some(next))
-    } else {
-        Ok(None)
-    }
-}
-
-// The key of an update, where it is below the key.
-fn key_under<F, U: Update>(found: Option<(Location<F>, U)>, key: &[u8]) -> Option<U::Key>
-    ensures { option_map U.Key.bytes result ≡ kept (λ k. key_lt k key.now) (option_map (λ p. said_key p.1) (option_map (read_view U.view) found)) }
-{
-    let (_, update) = found?;
-    if is_below(update.key().as_bytes(), key) {
-        Some(update.into_key())
-    } else {
-        None
     }
 }

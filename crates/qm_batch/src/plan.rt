@@ -9,38 +9,34 @@ ghost use Rattle.qm_model.specs.Live as lives;
 ghost use Rattle.qm_model.specs.Operations as model;
 ghost use Rattle.qm_model.specs.Step.{committed, policy_after, step};
 ghost use Rattle.qm_model.specs.Writes as writes;
-ghost use Rattle.qm_batch.specs.Bases.{base_view, IsBase};
-ghost use Rattle.qm_batch.specs.Going.{write_for, IsDecided};
-ghost use Rattle.qm_batch.specs.Kinds.{kind_of, CountsMoves, HasRing};
+ghost use Rattle.qm_step.specs.Bases.{base_view, IsBase};
+ghost use Rattle.qm_step.specs.Going.{write_for, IsDecided};
+ghost use Rattle.qm_step.specs.Kinds.{kind_of, CountsMoves, HasRing};
 ghost use Rattle.qm_batch.specs.Lent.{IsLent, IsRead, IsReadError, NoneBelow};
-ghost use Rattle.qm_batch.specs.PlanViews.{decided_views, touch_views, AreOwn, IsPath, path_view};
-ghost use Rattle.qm_batch.specs.Rings.{touch_in};
-ghost use Rattle.qm_batch.specs.Touches.{IsFrom, operations_of};
-ghost use Rattle.qm_batch.specs.Views.{write_view, wanted_view, AreReads, IsPlan};
+ghost use Rattle.qm_step.specs.PlanViews.{decided_views, touch_views};
+ghost use Rattle.qm_batch.specs.PlanPaths.{AreOwn, IsPath, path_view};
+ghost use Rattle.qm_step.specs.Rings.{touch_in};
+ghost use Rattle.qm_step.specs.Touches.{IsFrom, operations_of};
+ghost use Rattle.qm_step.specs.Views.{write_view, wanted_view, AreReads, IsPlan};
 
-pub(crate) mod decided;
-mod diff;
-pub(crate) mod ordered;
+mod ordered;
 mod over;
-pub(crate) mod sites;
-pub(crate) mod touch;
+mod sites;
 mod walk;
-pub(crate) mod writes;
 
-use self::decided::evicted;
-use self::diff::diff_of_touches;
 use self::over::{moved_over, written_over};
-use self::touch::{Touch, replaced_by};
 use self::walk::{Path, Walked, walk_from};
-use self::writes::last_writes;
-use crate::base::Base;
 use crate::kind::Steps;
-use crate::wanted::Wanted;
 use qm_base::update::Update;
 use qm_base::{Error, Hasher, JournalError, Location, Operation, Write};
 use qm_bits::Candidates;
 use qm_chain::{Diff, Policy};
 use qm_merkle::Family;
+use qm_step::decided::evicted;
+use qm_step::diff::diff_of_touches;
+use qm_step::touch::{Touch, replaced_by};
+use qm_step::writes::last_writes;
+use qm_step::{Base, Wanted};
 use qm_store::{AuthLog, Store};
 use std::alloc::{AllocError, Global};
 use std::marker::Model;
@@ -60,7 +56,7 @@ pub struct Plan<F, U: Update> {
 
 impl<F, U: Update> Model for Plan<F, U> {
     ghost use Rattle.qm_base.specs.Views.{operation_views};
-    ghost use Rattle.qm_batch.specs.Views.{Plan, changes_view};
+    ghost use Rattle.qm_step.specs.Views.{Plan, changes_view};
 
     ghost Value = { Plan };
 

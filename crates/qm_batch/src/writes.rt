@@ -3,7 +3,7 @@
 ghost use Rattle.std.specs.Prelude.{◌≡◌, ◌++◌, ◌∷◌, [], List, map, option_map, IfOk};
 ghost use Rattle.qm_model.specs.Writes as model;
 ghost use Rattle.qm_model.specs.Writes.{last_writes, write_of};
-ghost use Rattle.qm_batch.specs.Views.{write_view};
+ghost use Rattle.qm_step.specs.Views.{write_view};
 
 use qm_base::{ByteString, Write};
 use std::alloc::{AllocError, Global};
@@ -20,8 +20,8 @@ pub struct Writes<K: ByteString, V: ByteString> {
 impl<K: ByteString, V: ByteString> Model for Writes<K, V> {
     ghost use Rattle.std.specs.Prelude.{List, map};
     ghost use Rattle.qm_model.specs.Writes.{Write};
-    ghost use Rattle.qm_batch.specs.Views.{write_view};
-    ghost use Rattle.qm_batch.specs.Written.{ArePlaces};
+    ghost use Rattle.qm_step.specs.Views.{write_view};
+    ghost use Rattle.qm_step.specs.Written.{ArePlaces};
 
     ghost Value = { List Write };
 

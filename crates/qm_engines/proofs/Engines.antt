@@ -31,7 +31,7 @@ use Rattle.qm_chain.specs.Bounds.{Bounds, IsBounds, is_at, knows}
 use Rattle.qm_chain.proofs.Fits.{at-fits, at-readable}
 use Rattle.qm_base.specs.declared.sha256.Sha256Digest.{Sha256Digest}
 use Rattle.qm_engines.specs.Databases.{hashing}
-use Rattle.qm_batch.specs.Views.{stepped}
+use Rattle.qm_step.specs.Views.{stepped}
 use Rattle.qm_any.specs.Databases.{Database, IsLeft, Begun, Staged, Made, IsBegun, IsStaged, IsMade, staged_keys, is_on, list_commitment}
 use Rattle.qm_any.specs.Layouts.{Hashing, list_root}
 use Rattle.qm_any.proofs.Known.{child-boundary, child-tips}

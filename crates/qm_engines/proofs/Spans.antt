@@ -3,7 +3,7 @@ use Rattle.std.proofs.Common.{◌≡◌, ◌∙◌, ℕ, ap, sym, refl, Option, 
 use Rattle.std.specs.Prelude.{option_map, option_and_then}
 use Rattle.qm_model.specs.Operations.{Operation, update, delete, commit}
 use Rattle.qm_model.specs.Live.{Live}
-use Rattle.qm_batch.specs.Changes.{located}
+use Rattle.qm_step.specs.Changes.{located}
 
 -- the live update that a location and an operation say
 abbrev live_from : ℕ × Operation → Option Live

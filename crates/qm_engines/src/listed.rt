@@ -1,7 +1,7 @@
 // Operations as replies list them, and copies of what a command has.
 ghost use Rattle.std.specs.Prelude.{◌≡◌, true, IfOk, map, option_map};
-ghost use Rattle.qm_batch.specs.Changes.{located};
-ghost use Rattle.qm_batch.specs.Views.{read_view};
+ghost use Rattle.qm_step.specs.Changes.{located};
+ghost use Rattle.qm_step.specs.Views.{read_view};
 ghost use Rattle.qm_lines.specs.Views.{listed_view, span_view};
 ghost use Rattle.qm_base.specs.Views.{operation_view, operation_views};
 

@@ -3,8 +3,8 @@ use Rattle.std.specs.Prelude.{ℕ, suc, Bool, ◌&&◌, if◌then◌else◌, Lis
 use Rattle.qm_model.specs.Operations.{Bytes, Operation, update, delete, commit}
 use Rattle.qm_model.specs.Keys.{key_lt}
 use Rattle.qm_model.specs.Ranges.{Limit, is_after, is_before}
-use Rattle.qm_batch.specs.Changes.{update_at}
-use Rattle.qm_batch.specs.Nearest.{said_key}
+use Rattle.qm_step.specs.Changes.{update_at}
+use Rattle.qm_step.specs.Nearest.{said_key}
 
 -- a key and its value
 abbrev pub Pair : Type 0

@@ -6,9 +6,9 @@ ghost use Rattle.qm_model.specs.Forms.{IsOf, IsSpelling, spelling};
 ghost use Rattle.qm_model.specs.Operations as model;
 ghost use Rattle.qm_model.specs.Ranges as ranges;
 ghost use Rattle.qm_store.specs.Log.{IsLog};
-ghost use Rattle.qm_batch.specs.Changes.{said_by, update_at};
+ghost use Rattle.qm_step.specs.Changes.{said_by, update_at};
 ghost use Rattle.qm_batch.specs.Lent.{IsRead, IsReadError};
-ghost use Rattle.qm_batch.specs.Nearest.{limit_view};
+ghost use Rattle.qm_step.specs.Nearest.{limit_view};
 ghost use Rattle.qm_base.specs.Views.{limit_of, pair_view};
 ghost use Rattle.qm_scan.specs.Gathered.{is_in, only_in, place_among, put_at, put_said};
 

@@ -6,7 +6,7 @@ ghost use Rattle.qm_model.specs.Operations.{Operation};
 ghost use Rattle.qm_model.specs.Ranges.{Limit, unlimited};
 ghost use Rattle.qm_store.specs.Log.{IsLog};
 ghost use Rattle.qm_batch.specs.Lent.{IsLent, IsRead, IsReadError, NoneBelow};
-ghost use Rattle.qm_batch.specs.Nearest.{limit_view};
+ghost use Rattle.qm_step.specs.Nearest.{limit_view};
 ghost use Rattle.qm_base.specs.Views.{limit_of, pair_view};
 ghost use Rattle.qm_scan.specs.Gathered.{put_at};
 ghost use Rattle.qm_scan.specs.Scans.{AreNext, BeginsAt, IsStep, IsTaken, beginning, behind, nowhere, behind_first, left_of, place_view, unwrapped};

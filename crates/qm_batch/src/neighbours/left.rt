@@ -3,14 +3,14 @@
 ghost use Rattle.std.specs.Prelude.{◌≡◌, map, option_map, option_and_then, IfOk};
 ghost use Rattle.qm_model.specs.Keys.{predecessor};
 ghost use Rattle.qm_chain.specs.Ascending.{IsAscending};
-ghost use Rattle.qm_batch.specs.Nearest.{limit_view, last_key, changed_keys, left_by, left_keys, is_left};
-ghost use Rattle.qm_batch.specs.Views.{read_view};
+ghost use Rattle.qm_step.specs.Nearest.{limit_view, last_key, changed_keys, left_by, left_keys, is_left};
+ghost use Rattle.qm_step.specs.Views.{read_view};
 
-use super::order::{is_before, later};
-use crate::layer::Layer;
 use crate::read::{newest, update_from};
 use qm_base::update::Update;
 use qm_base::{ByteString, Location};
+use qm_step::Layer;
+use qm_step::order::{is_before, later};
 use std::alloc::{AllocError, Global};
 use std::ops::Bound;
 use std::rc::Rc;

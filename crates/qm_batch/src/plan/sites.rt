@@ -1,47 +1,29 @@
 //! Where written keys stand in a base list.
 
-ghost use Rattle.std.specs.Prelude.{◌≡◌, ◌≢◌, ℕ, List, map, option_map, IfSome, IfOk, IfErr};
+ghost use Rattle.std.specs.Prelude.{◌≡◌, ◌≢◌, ℕ, List, map, IfSome, IfOk, IfErr};
 ghost use Rattle.qm_model.specs.Operations as operations;
-ghost use Rattle.qm_batch.specs.Changes.{link_in};
-ghost use Rattle.qm_batch.specs.Layers.{LeadOver};
+ghost use Rattle.qm_step.specs.Changes.{link_in};
+ghost use Rattle.qm_step.specs.Layers.{LeadOver};
 ghost use Rattle.qm_batch.specs.Lent.{IsLent, IsRead, IsReadError, NoneBelow};
-ghost use Rattle.qm_batch.specs.PlanViews.{last_write_view, linked_view, AreKnown};
-ghost use Rattle.qm_batch.specs.Rings.{linked_in};
-ghost use Rattle.qm_batch.specs.Views.{stands_view, AreReads};
+ghost use Rattle.qm_step.specs.PlanViews.{last_write_view, linked_view, AreKnown};
+ghost use Rattle.qm_step.specs.Rings.{linked_in};
+ghost use Rattle.qm_step.specs.Views.{stands_view, AreReads};
 
-use super::writes::{Last, LastWrite};
-use crate::layer::Layer;
-use crate::read::{Stands, locate, stands_of};
-use crate::wanted::Read;
+use crate::read::locate;
 use qm_base::update::Update;
 use qm_base::{ByteString, Error, Hasher, JournalError, Location};
 use qm_merkle::Family;
+use qm_step::found::{Stands, stands_of};
+use qm_step::site::Site;
+use qm_step::writes::Last;
+use qm_step::{Layer, Read};
 use qm_store::{AuthLog, Store};
 use std::alloc::{AllocError, Global};
 use std::collections::BTreeMap;
 use std::rc::Rc;
 
 /// What was read of keys, by key.
-pub(crate) type Known<'a, F, U> = BTreeMap<&'a [u8], &'a Read<F, U>>;
-
-/// A write, and where its key's live update stands in the base list.
-#[derive(Drop)]
-pub struct Site<'a, K, V> {
-    pub(crate) write: LastWrite<'a, K, V>,
-    pub(crate) stands: Option<Stands<K>>,
-}
-
-impl<'a, K, V> Site<'a, K, V> {
-    /// The location.
-    pub(crate) fn at(&self) -> Option<u64>
-        ensures { result ≡ option_map (λ t. t.at) self.now.stands }
-    {
-        match &self.stands {
-            Some(stands) => Some(stands.at),
-            None => None,
-        }
-    }
-}
+pub type Known<'a, F, U> = BTreeMap<&'a [u8], &'a Read<F, U>>;
 
 /// What was read, by key; of a key that was read twice, the later read. Where nothing was read it takes no memory.
 pub(crate) fn known_of<'a, F, U: Update>(

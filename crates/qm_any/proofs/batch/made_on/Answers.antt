@@ -5,7 +5,7 @@ use Rattle.std.proofs.lemmas.Result.{err_from_is_err_and}
 use Rattle.qm_model.specs.Forms.{spelling}
 use Rattle.qm_model.specs.Refusals.{too_long}
 use Rattle.qm_merkle.specs.Batches.{stops}
-use Rattle.qm_batch.specs.Views.{stepped, wanted_view}
+use Rattle.qm_step.specs.Views.{stepped, wanted_view}
 use Rattle.qm_any.specs.Layouts.{hashing_with, spellings}
 use Rattle.qm_any.specs.Databases.{AreAgreed, AreLinked, IsMade, IsTree, bases_of, child_boundary, child_made}
 use Rattle.qm_merkle.specs.Batches.{lists_since}

@@ -2,8 +2,8 @@ use Rattle.std.proofs.Common.{◌≤◌, All, sym, rules, ◌≡◌, ◌∙◌, 
 use Rattle.qm_base.specs.Views.{operation_views}
 use Rattle.qm_merkle.specs.Batches.{stops}
 use Rattle.qm_chain.specs.Bounds.{commitment_view}
-use Rattle.qm_batch.specs.Layers.{Layer}
-use Rattle.qm_batch.specs.Views.{changes_view}
+use Rattle.qm_step.specs.Layers.{Layer}
+use Rattle.qm_step.specs.Views.{changes_view}
 use Rattle.qm_any.specs.Databases.{Made, AreAgreed}
 use Rattle.qm_any.proofs.Making.{child-agreed, sealed-child}
 use Rattle.qm_any.proofs.batch.sealed.Goals as goal

@@ -1,6 +1,6 @@
 use Rattle.std.proofs.Common.{◌≡◌, take, map}
 use Rattle.std.specs.Prelude.{option_map}
-use Rattle.qm_batch.specs.Views.{read_view}
+use Rattle.qm_step.specs.Views.{read_view}
 use Rattle.qm_any.specs.Databases.{read_under}
 use Rattle.qm_any.proofs.db.values_of.Given as goal
 

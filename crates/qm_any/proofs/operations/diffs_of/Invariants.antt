@@ -1,5 +1,5 @@
 use Rattle.std.proofs.Common.{◌≡◌, take, map}
-use Rattle.qm_batch.specs.Views.{changes_view}
+use Rattle.qm_step.specs.Views.{changes_view}
 use Rattle.qm_any.proofs.operations.diffs_of.Given as goal
 
 abbrev pub invariant-loop-step : goal.invariant-loop-step

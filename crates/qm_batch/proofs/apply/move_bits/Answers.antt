@@ -1,8 +1,8 @@
 use Rattle.std.proofs.Common.{◌≡◌, ◌∙◌, ◌-◌, ◌+◌, ◌<◌, ap, refl, sym, subst, arith, map, length, take}
 use Rattle.std.proofs.lemmas.List.{take_all}
-use Rattle.qm_batch.specs.Changes.{AreChanges, LeadTo}
+use Rattle.qm_step.specs.Changes.{AreChanges, LeadTo}
 use Rattle.qm_batch.specs.Marks.{HasLive}
-use Rattle.qm_batch.specs.Views.{changes_view}
+use Rattle.qm_step.specs.Views.{changes_view}
 use Rattle.qm_batch.proofs.Shifting.{lead-longer, alike-then}
 use Rattle.qm_batch.proofs.Staging.{lead-at}
 use Rattle.qm_batch.proofs.apply.move_bits.Goals as goal

@@ -1,9 +1,9 @@
 use Rattle.std.proofs.Common.{◌≤◌, take, length, List, map}
 use Rattle.qm_model.specs.Operations.{Operation}
 use Rattle.qm_bits.specs.Bitmaps.{bit_count}
-use Rattle.qm_batch.specs.Changes.{LeadTo}
+use Rattle.qm_step.specs.Changes.{LeadTo}
 use Rattle.qm_batch.specs.Marks.{HasLive, IsAlike}
-use Rattle.qm_batch.specs.Views.{changes_view}
+use Rattle.qm_step.specs.Views.{changes_view}
 use Rattle.qm_batch.proofs.apply.move_bits.Given as goal
 
 abbrev pub invariant-loop-step : goal.invariant-loop-step

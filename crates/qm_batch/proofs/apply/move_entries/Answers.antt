@@ -2,8 +2,8 @@ use Rattle.std.proofs.Common.{◌∙◌, refl, sym, subst, arith}
 use Rattle.std.proofs.lemmas.List.{take_all}
 use Rattle.qm_bits.specs.Bitmaps.{all_bits}
 use Rattle.qm_batch.specs.Marks.{AreMarked}
-use Rattle.qm_batch.specs.Views.{change_view, changes_view}
-use Rattle.qm_batch.proofs.Entries.{view-before, view-now}
+use Rattle.qm_step.specs.Views.{change_view, changes_view}
+use Rattle.qm_step.proofs.Entries.{view-before, view-now}
 use Rattle.qm_batch.proofs.Shifting.{stage, stage-next, stage-all, tip-longer, alike-start, alike-then}
 use Rattle.qm_batch.proofs.apply.move_entries.Goals as goal
 

@@ -1,9 +1,9 @@
 use Rattle.std.proofs.Common.{◌≤◌, take, length, List}
 use Rattle.qm_model.specs.Operations.{Operation}
 use Rattle.qm_bits.specs.Bitmaps.{bit_count, all_bits}
-use Rattle.qm_batch.specs.Changes.{AreChanges}
+use Rattle.qm_step.specs.Changes.{AreChanges}
 use Rattle.qm_batch.specs.Marks.{AreMarked, HasLive, IsAlike}
-use Rattle.qm_batch.specs.Views.{changes_view}
+use Rattle.qm_step.specs.Views.{changes_view}
 use Rattle.qm_batch.proofs.Shifting.{stage}
 use Rattle.qm_batch.proofs.apply.move_entries.Given as goal
 

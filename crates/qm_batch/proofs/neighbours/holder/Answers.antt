@@ -1,8 +1,8 @@
 use Rattle.std.proofs.Common.{◌∙◌, ap, sym, map}
 use Rattle.std.specs.Prelude.{option_map}
 use Rattle.qm_model.proofs.Results.{told-any, told-one}
-use Rattle.qm_batch.specs.Layers.{nearest_layer}
-use Rattle.qm_batch.specs.Views.{change_view}
+use Rattle.qm_step.specs.Layers.{nearest_layer}
+use Rattle.qm_step.specs.Views.{change_view}
 use Rattle.qm_batch.proofs.HolderOf.{holder-none, holder-read, holder-some}
 use Rattle.qm_batch.proofs.Layered.{layer-update}
 use Rattle.qm_batch.proofs.Reading.{ok-same}

@@ -1,9 +1,10 @@
 use Rattle.std.proofs.Common.{◌∙◌, ◌++◌, ap, sym, subst, map}
 use Rattle.qm_model.proofs.Results.{told-one}
-use Rattle.qm_batch.specs.Kinds.{kind_of}
-use Rattle.qm_batch.specs.Going.{write_for, IsDecided}
-use Rattle.qm_batch.specs.PlanViews.{decided_views, path_view, touch_views}
-use Rattle.qm_batch.specs.Rings.{touch_in}
+use Rattle.qm_step.specs.Kinds.{kind_of}
+use Rattle.qm_step.specs.Going.{write_for, IsDecided}
+use Rattle.qm_step.specs.PlanViews.{decided_views, touch_views}
+use Rattle.qm_batch.specs.PlanPaths.{path_view}
+use Rattle.qm_step.specs.Rings.{touch_in}
 use Rattle.std.specs.Prelude.{All}
 use Rattle.qm_batch.proofs.PlanOwns.{path-written}
 use Rattle.qm_batch.proofs.plan.own_of.Goals as goal

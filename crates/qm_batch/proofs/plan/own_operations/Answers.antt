@@ -1,11 +1,11 @@
 use Rattle.std.proofs.Common.{◌++◌, ap, sym, arith, subst}
 use Rattle.std.proofs.lemmas.Result.{err_from_is_err_and}
 use Rattle.qm_model.proofs.Results.{told-then}
-use Rattle.qm_batch.specs.Bases.{Base, IsBase}
+use Rattle.qm_step.specs.Bases.{Base, IsBase}
 use Rattle.qm_batch.specs.Lent.{NoneBelow}
-use Rattle.qm_batch.specs.PlanViews.{touch_views}
-use Rattle.qm_batch.specs.Touches.{AreReplaced}
-use Rattle.qm_batch.specs.Views.{wanted_view}
+use Rattle.qm_step.specs.PlanViews.{touch_views}
+use Rattle.qm_step.specs.Touches.{AreReplaced}
+use Rattle.qm_step.specs.Views.{wanted_view}
 use Rattle.qm_batch.proofs.Reading.{read-then, error-then, lent-then, told}
 use Rattle.qm_batch.proofs.plan.own_operations.Goals as goal
 

@@ -3,9 +3,9 @@ use Rattle.std.specs.Prelude.{option_map}
 use Rattle.std.proofs.lemmas.List.Elements.{All-nil}
 use Rattle.qm_model.specs.Writes.{Write}
 use Rattle.qm_model.specs.Step.{policy_after, step}
-use Rattle.qm_batch.specs.Kinds.{kind_of}
-use Rattle.qm_batch.specs.Views.{write_view, IsPlan}
-use Rattle.qm_batch.proofs.PlanWanted.{slotted-none}
+use Rattle.qm_step.specs.Kinds.{kind_of}
+use Rattle.qm_step.specs.Views.{write_view, IsPlan}
+use Rattle.qm_step.proofs.PlanWanted.{slotted-none}
 use Rattle.qm_batch.proofs.plan.plain.Goals as goal
 
 pub returns-clause-plan : goal.returns-clause-plan

@@ -3,9 +3,9 @@ use Rattle.std.specs.Prelude.{option_map, ◌==◌, if◌then◌else◌}
 use Rattle.qm_base.specs.Views.{operation_view}
 use Rattle.qm_model.specs.Operations.{Operation, commit}
 use Rattle.qm_model.specs.Step.{committed}
-use Rattle.qm_batch.specs.PlanViews.{touch_view, touch_views}
-use Rattle.qm_batch.specs.Touches.{operations_of}
-use Rattle.qm_batch.specs.Views.{IsPlan, changes_view}
+use Rattle.qm_step.specs.PlanViews.{touch_view, touch_views}
+use Rattle.qm_step.specs.Touches.{operations_of}
+use Rattle.qm_step.specs.Views.{IsPlan, changes_view}
 use Rattle.qm_batch.proofs.PlanOwns.{operations-push, own-length}
 use Rattle.qm_batch.proofs.PlanSteps.{own-plan}
 use Rattle.qm_batch.proofs.plan.planned.Goals as goal

@@ -2,7 +2,7 @@ use Rattle.std.proofs.Common.{subst, List}
 use Rattle.std.specs.Prelude.{option_map}
 use Rattle.qm_model.proofs.Results.{told-one}
 use Rattle.qm_model.specs.Operations.{Operation}
-use Rattle.qm_batch.specs.Views.{IsPlan}
+use Rattle.qm_step.specs.Views.{IsPlan}
 use Rattle.qm_batch.proofs.plan.staged.Goals as goal
 
 pub returns-in_ok-planned-in-Ok-clause-plan : goal.returns-in_ok-planned-in-Ok-clause-plan

@@ -1,6 +1,6 @@
 use Rattle.std.proofs.Common.{◌∙◌, ap}
-use Rattle.qm_batch.specs.Views.{changes_view}
-use Rattle.qm_batch.proofs.Entries.{change-found}
+use Rattle.qm_step.specs.Views.{changes_view}
+use Rattle.qm_step.proofs.Entries.{change-found}
 use Rattle.qm_batch.proofs.read.entry_in.Goals as goal
 
 pub returns : goal.returns

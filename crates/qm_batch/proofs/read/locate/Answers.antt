@@ -1,10 +1,10 @@
 use Rattle.std.proofs.Common.{◌∙◌, ap, sym, map}
 use Rattle.std.specs.Prelude.{option_map}
 use Rattle.qm_model.proofs.Results.{told-any, told-one}
-use Rattle.qm_batch.specs.Changes.{link_of}
-use Rattle.qm_batch.specs.Layers.{nearest_layer}
-use Rattle.qm_batch.specs.Views.{change_view}
-use Rattle.qm_batch.proofs.Entries.{link-of_update}
+use Rattle.qm_step.specs.Changes.{link_of}
+use Rattle.qm_step.specs.Layers.{nearest_layer}
+use Rattle.qm_step.specs.Views.{change_view}
+use Rattle.qm_step.proofs.Entries.{link-of_update}
 use Rattle.qm_batch.proofs.Layered.{layer-update, lent-update}
 use Rattle.qm_batch.proofs.read.locate.Goals as goal
 

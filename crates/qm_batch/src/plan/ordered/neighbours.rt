@@ -1,34 +1,26 @@
 //! What stands in an ordered base list before the keys that are created or deleted.
 
 ghost use Rattle.std.specs.Prelude.{◌≡◌, ◌≢◌, true, ℕ, List, map, filter_map, option_map, IfSome, IfOk, IfErr};
-ghost use Rattle.qm_model.specs.Live.{live};
 ghost use Rattle.qm_model.specs.Operations as operations;
 ghost use Rattle.qm_model.specs.Ordered.{IsRing};
 ghost use Rattle.qm_model.specs.Writes as model;
-ghost use Rattle.qm_batch.specs.Layers.{LeadOver};
+ghost use Rattle.qm_step.specs.Layers.{LeadOver};
 ghost use Rattle.qm_batch.specs.Lent.{IsLent, IsRead, IsReadError, NoneBelow};
-ghost use Rattle.qm_batch.specs.OrderedViews.{neighbour_view};
-ghost use Rattle.qm_batch.specs.PlanViews.{linked_view};
-ghost use Rattle.qm_batch.specs.Rings.{is_changed, linked_in, neighbour_in};
+ghost use Rattle.qm_step.specs.OrderedViews.{neighbour_view};
+ghost use Rattle.qm_step.specs.PlanViews.{linked_view};
+ghost use Rattle.qm_step.specs.Rings.{linked_in, neighbour_in};
 
-use super::Neighbour;
 use crate::kind::Steps;
-use crate::layer::Layer;
 use crate::neighbours::previous;
-use crate::plan::sites::Site;
-use crate::plan::writes::push_some;
 use qm_base::{Error, Hasher, JournalError, Location};
 use qm_merkle::Family;
+use qm_step::Layer;
+use qm_step::neighbour::{Neighbour, is_changed};
+use qm_step::site::Site;
+use qm_step::writes::push_some;
 use qm_store::{AuthLog, Store};
 use std::alloc::Global;
 use std::rc::Rc;
-
-// Whether the write creates its key, or deletes it.
-fn is_changed<K, V>(site: &Site<'_, K, V>) -> bool
-    ensures { (key : K → operations.Bytes) (value : V → operations.Bytes) (base : List operations.Operation) (w : model.Write) → linked_view key value site.now ≡ linked_in base w → result ≡ is_changed (live base) w }
-{
-    site.write.value.is_some() != site.stands.is_some()
-}
 
 // What stands in the base list before the key of a write that creates or deletes it.
 fn find_neighbour<

@@ -4,7 +4,7 @@ use Rattle.qm_model.specs.Forms.{IsOf, spelling}
 use Rattle.qm_model.specs.Operations.{Operation}
 use Rattle.qm_store.specs.Log.{IsLog}
 use Rattle.qm_batch.specs.Lent.{IsRead}
-use Rattle.qm_batch.specs.Nearest.{limit_view}
+use Rattle.qm_step.specs.Nearest.{limit_view}
 use Rattle.qm_base.specs.Views.{pair_view}
 use Rattle.qm_scan.specs.Gathered.{put_at}
 use Rattle.qm_scan.proofs.gather.pairs_at.Given as goal

@@ -2,7 +2,7 @@ use Rattle.std.proofs.Common.{◌∙◌, ap, map, sym, []}
 use Rattle.std.specs.Prelude.{fold, option_map}
 use Rattle.qm_model.specs.Ranges.{unlimited}
 use Rattle.qm_model.proofs.Results.{ok-then, told-any, told-one}
-use Rattle.qm_batch.specs.Nearest.{limit_view}
+use Rattle.qm_step.specs.Nearest.{limit_view}
 use Rattle.qm_base.specs.Views.{pair_view}
 use Rattle.qm_scan.specs.Gathered.{put_at}
 use Rattle.qm_scan.specs.Scans.{beginning, place_view}

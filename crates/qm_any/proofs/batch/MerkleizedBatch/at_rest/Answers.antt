@@ -1,8 +1,8 @@
 use Rattle.std.proofs.Common.{◌≡◌, ◌∙◌, ◌∷◌, [], ◌++◌, map, ap, ap₂, option_map}
 use Rattle.qm_chain.specs.Bounds.{commitment_view}
 use Rattle.qm_base.specs.Views.{operation_views}
-use Rattle.qm_batch.specs.Layers.{Layer}
-use Rattle.qm_batch.specs.Views.{changes_view}
+use Rattle.qm_step.specs.Layers.{Layer}
+use Rattle.qm_step.specs.Views.{changes_view}
 use Rattle.qm_any.proofs.Making.{rest-agreed}
 use Rattle.qm_any.proofs.batch.MerkleizedBatch.at_rest.Goals as goal
 

@@ -1,5 +1,5 @@
 use Rattle.std.proofs.Common.{◌∙◌, ap, subst, sym, map}
-use Rattle.qm_batch.specs.Layers.{LeadOver}
+use Rattle.qm_step.specs.Layers.{LeadOver}
 use Rattle.qm_any.proofs.Known.{made-base}
 use Rattle.qm_any.proofs.batch.MerkleizedBatch.get_next_key.Goals as goal
 

@@ -2,8 +2,8 @@ use Rattle.std.proofs.Common.{◌≡◌, ◌∙◌, ◌∷◌, ◌+◌, List, le
 use Rattle.std.specs.Prelude.{Contains}
 use Rattle.std.proofs.lemmas.List.{length-map}
 use Rattle.qm_model.specs.Forms.{spelling}
-use Rattle.qm_batch.specs.Layers.{Layer}
-use Rattle.qm_batch.specs.Views.{changes_view}
+use Rattle.qm_step.specs.Layers.{Layer}
+use Rattle.qm_step.specs.Views.{changes_view}
 use Rattle.qm_index.proofs.Members.{Contains-later}
 use Rattle.qm_any.specs.Databases.{AreAgreed, bases, unapplied, operations_in}
 use Rattle.qm_any.proofs.Unapplied.{joined-counts, diffs-first}

@@ -1,7 +1,7 @@
 use Rattle.std.proofs.Common.{◌≡◌, ◌∙◌, ap, subst, sym, map}
 use Rattle.std.specs.Prelude.{option_map, IfOk}
 use Rattle.qm_model.specs.Writes.{read_through}
-use Rattle.qm_batch.specs.Layers.{LeadOver}
+use Rattle.qm_step.specs.Layers.{LeadOver}
 use Rattle.qm_any.proofs.Known.{made-base}
 use Rattle.qm_any.proofs.batch.UnmerkleizedBatch.get_many.Goals as goal
 

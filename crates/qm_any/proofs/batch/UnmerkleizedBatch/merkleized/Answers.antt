@@ -5,7 +5,7 @@ use Rattle.qm_chain.specs.Bounds.{commitment_view, is_at}
 use Rattle.qm_batch.specs.Lent.{IsReadError}
 use Rattle.qm_base.specs.Slots.{slot_views, write_views}
 use Rattle.qm_model.specs.Slots.{slotted}
-use Rattle.qm_batch.specs.Views.{keys_of, stepped, left_after}
+use Rattle.qm_step.specs.Views.{keys_of, stepped, left_after}
 use Rattle.qm_any.specs.Layouts.{hashing_with}
 use Rattle.qm_any.specs.Databases.{IsMade, child_boundary, child_tips, is_on, kept_by}
 use Rattle.qm_any.specs.Tips.{IsTaken, IsRefused}

@@ -4,7 +4,7 @@ use Rattle.qm_model.proofs.Results.{err-then, ok-then}
 use Rattle.qm_model.specs.Forms.{spelling}
 use Rattle.qm_merkle.specs.Batches.{stops}
 use Rattle.qm_chain.specs.Bounds.{is_at}
-use Rattle.qm_batch.specs.Views.{changes_view}
+use Rattle.qm_step.specs.Views.{changes_view}
 use Rattle.qm_any.specs.Layouts.{layout_of}
 use Rattle.qm_store.specs.Given.{Appended, AppendedPart, store_given}
 use Rattle.qm_any.proofs.Unapplied.{applied, lacked-spelled, ok-five}

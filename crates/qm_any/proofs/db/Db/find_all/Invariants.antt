@@ -1,7 +1,7 @@
 use Rattle.std.proofs.Common.{◌≡◌, map, List}
 use Rattle.qm_model.specs.Operations.{Operation}
-use Rattle.qm_batch.specs.Layers.{LeadOver}
-use Rattle.qm_batch.specs.Views.{AreReads, keys_of}
+use Rattle.qm_step.specs.Layers.{LeadOver}
+use Rattle.qm_step.specs.Views.{AreReads, keys_of}
 use Rattle.qm_any.specs.Layouts.{hashing_of, layout_of}
 use Rattle.qm_any.specs.Databases.{IsDatabase, IsLeft}
 use Rattle.qm_any.proofs.db.Db.find_all.Given as goal

@@ -1,8 +1,8 @@
 use Rattle.std.proofs.Common.{◌≡◌, ◌∙◌, ap, map, sym}
 use Rattle.std.specs.Prelude.{option_map}
 use Rattle.qm_model.specs.Writes.{read_through}
-use Rattle.qm_batch.specs.Views.{read_view}
-use Rattle.qm_batch.proofs.Steps.{map-twice}
+use Rattle.qm_step.specs.Views.{read_view}
+use Rattle.qm_step.proofs.Steps.{map-twice}
 use Rattle.qm_any.specs.Databases.{read_under}
 use Rattle.qm_any.proofs.Staging.{read-through}
 use Rattle.qm_any.proofs.db.Db.locate_all.Goals as goal

@@ -4,7 +4,7 @@ use Rattle.std.proofs.lemmas.List.{take_all}
 use Rattle.std.proofs.lemmas.Result.{err_from_is_err_and}
 use Rattle.qm_model.specs.Writes.{read_through}
 use Rattle.qm_batch.specs.Lent.{NoneBelow}
-use Rattle.qm_batch.proofs.Reading.{mapped-more}
+use Rattle.qm_step.proofs.MovesLoops.{mapped-more}
 use Rattle.qm_any.specs.Layouts.{hashing_of, layout_of}
 use Rattle.qm_any.proofs.Reading.{left-none, left-then, left-error, left-database}
 use Rattle.qm_any.proofs.db.Db.read_all.Goals as goal

@@ -2,7 +2,7 @@ use Rattle.std.proofs.Common.{◌≡◌, take, map, List}
 use Rattle.std.specs.Prelude.{option_map}
 use Rattle.qm_model.specs.Operations.{Operation}
 use Rattle.qm_model.specs.Writes.{read_through}
-use Rattle.qm_batch.specs.Layers.{LeadOver}
+use Rattle.qm_step.specs.Layers.{LeadOver}
 use Rattle.qm_any.specs.Layouts.{hashing_of, layout_of}
 use Rattle.qm_any.specs.Databases.{IsDatabase, IsLeft}
 use Rattle.qm_any.proofs.db.Db.read_all.Given as goal

@@ -4,7 +4,7 @@ use Rattle.std.specs.Prelude.{IfOk, option_map}
 use Rattle.std.proofs.lemmas.List.{length-append, length-map}
 use Rattle.std.proofs.lemmas.Result.{err_from_is_err_and}
 use Rattle.qm_model.specs.Writes.{read_through}
-use Rattle.qm_batch.specs.Views.{read_view}
+use Rattle.qm_step.specs.Views.{read_view}
 use Rattle.qm_any.specs.Layouts.{hashing_of}
 use Rattle.qm_any.specs.Databases.{IsBegun}
 use Rattle.qm_any.proofs.Staging.{keys-count, staged-keys-more, staged-more}

@@ -1,8 +1,8 @@
 use Rattle.std.proofs.Common.{◌≡◌, ◌∙◌, ◌++◌, ◌+◌, ap, length, arith, sym, map, length-append}
 use Rattle.std.proofs.lemmas.List.{length-map}
-use Rattle.qm_batch.specs.Going.{touch_for}
-use Rattle.qm_batch.specs.PlanViews.{decided_views, unordered_touch, unordered_touches}
-use Rattle.qm_batch.specs.Touches.{operations_of}
+use Rattle.qm_step.specs.Going.{touch_for}
+use Rattle.qm_step.specs.PlanViews.{decided_views, unordered_touch, unordered_touches}
+use Rattle.qm_step.specs.Touches.{operations_of}
 use Rattle.qm_batch.proofs.PlanCounts.{counts-unordered}
 use Rattle.qm_batch.proofs.PlanOwns.{decided-touches}
 use Rattle.qm_batch.proofs.kind.UnorderedSteps.moved.Goals as goal

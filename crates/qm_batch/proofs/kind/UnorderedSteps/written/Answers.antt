@@ -1,8 +1,8 @@
 use Rattle.qm_model.proofs.Results.{ok-then}
 use Rattle.qm_model.specs.Writes.{last_writes}
-use Rattle.qm_batch.specs.PlanViews.{unordered_touches}
-use Rattle.qm_batch.proofs.PlanPlaces.{written-unordered}
-use Rattle.qm_batch.proofs.PlanSites.{sites-placed}
+use Rattle.qm_step.specs.PlanViews.{unordered_touches}
+use Rattle.qm_step.proofs.PlanPlaces.{written-unordered}
+use Rattle.qm_step.proofs.PlanSites.{sites-placed}
 use Rattle.qm_batch.proofs.kind.UnorderedSteps.written.Goals as goal
 
 pub returns : goal.returns

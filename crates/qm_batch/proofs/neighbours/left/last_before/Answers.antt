@@ -4,7 +4,7 @@ use Rattle.std.proofs.lemmas.List.{take-append-drop}
 use Rattle.qm_model.specs.Ranges.{is_before}
 use Rattle.qm_chain.proofs.KeyOrder.{ascends_from}
 use Rattle.qm_index.proofs.Basics.{or-none}
-use Rattle.qm_batch.specs.Nearest.{last_key, limit_view}
+use Rattle.qm_step.specs.Nearest.{last_key, limit_view}
 use Rattle.qm_batch.proofs.LastKeys.{go-behind, go-front}
 use Rattle.qm_batch.proofs.neighbours.left.last_before.Goals as goal
 

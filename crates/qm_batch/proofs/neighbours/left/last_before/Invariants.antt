@@ -1,6 +1,6 @@
 use Rattle.std.proofs.Common.{◌≡◌, map, option_map, length}
 use Rattle.std.specs.Option.{option_or}
-use Rattle.qm_batch.specs.Nearest.{limit_view, last_key}
+use Rattle.qm_step.specs.Nearest.{limit_view, last_key}
 use Rattle.qm_chain.proofs.KeyOrder.{Ascends}
 use Rattle.qm_batch.proofs.neighbours.left.last_before.Given as goal
 

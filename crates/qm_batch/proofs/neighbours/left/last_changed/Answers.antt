@@ -1,6 +1,6 @@
 use Rattle.std.proofs.Common.{◌∙◌, ap, map}
 use Rattle.std.specs.Prelude.{option_map}
-use Rattle.qm_batch.specs.Nearest.{last_key, later_key, limit_view}
+use Rattle.qm_step.specs.Nearest.{last_key, later_key, limit_view}
 use Rattle.qm_batch.proofs.LastKeys.{change-key, changed-more}
 use Rattle.qm_batch.proofs.neighbours.left.last_changed.Goals as goal
 

@@ -1,5 +1,5 @@
 use Rattle.std.proofs.Common.{◌≡◌, map, option_map, take}
-use Rattle.qm_batch.specs.Nearest.{limit_view, last_key, changed_keys}
+use Rattle.qm_step.specs.Nearest.{limit_view, last_key, changed_keys}
 use Rattle.qm_batch.proofs.neighbours.left.last_changed.Given as goal
 
 abbrev pub invariant-loop-layer : goal.invariant-loop-layer

@@ -1,7 +1,7 @@
 use Rattle.std.proofs.Common.{◌≡◌, map, length}
 use Rattle.std.specs.Prelude.{filter}
 use Rattle.qm_model.specs.Ranges.{is_before}
-use Rattle.qm_batch.specs.Nearest.{limit_view, last_key, changed_keys, left_keys}
+use Rattle.qm_step.specs.Nearest.{limit_view, last_key, changed_keys, left_keys}
 use Rattle.qm_batch.proofs.neighbours.left.last_left.Given as goal
 
 abbrev pub invariant-loop-key : goal.invariant-loop-key

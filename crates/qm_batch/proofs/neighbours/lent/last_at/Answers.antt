@@ -4,8 +4,8 @@ use Rattle.std.specs.Option.{option_or}
 use Rattle.std.proofs.lemmas.List.Sums.{fold_more}
 use Rattle.qm_model.proofs.Results.{told-both}
 use Rattle.qm_model.specs.Operations.{Operation}
-use Rattle.qm_batch.specs.Changes.{update_at}
-use Rattle.qm_batch.specs.Nearest.{later_at, limit_view, only_within}
+use Rattle.qm_step.specs.Changes.{update_at}
+use Rattle.qm_step.specs.Nearest.{later_at, limit_view, only_within}
 use Rattle.qm_batch.proofs.LentKeys.{key_of_last}
 use Rattle.qm_batch.proofs.Reading.{read-then, told}
 use Rattle.qm_batch.proofs.neighbours.lent.last_at.Goals as goal

@@ -4,8 +4,8 @@ use Rattle.qm_model.specs.Forms.{IsOf, spelling}
 use Rattle.qm_model.specs.Operations.{Operation}
 use Rattle.qm_store.specs.Log.{IsLog}
 use Rattle.qm_batch.specs.Lent.{IsRead}
-use Rattle.qm_batch.specs.Nearest.{later_at, limit_view}
-use Rattle.qm_batch.specs.Views.{read_view}
+use Rattle.qm_step.specs.Nearest.{later_at, limit_view}
+use Rattle.qm_step.specs.Views.{read_view}
 use Rattle.qm_batch.proofs.neighbours.lent.last_at.Given as goal
 
 abbrev pub invariant-loop-location : goal.invariant-loop-location

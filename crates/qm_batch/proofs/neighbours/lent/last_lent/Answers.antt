@@ -2,8 +2,8 @@ use Rattle.std.proofs.Common.{◌∙◌, ◌≤◌, ap, sym, subst, None}
 use Rattle.std.specs.Prelude.{All, fold, option_map}
 use Rattle.std.proofs.lemmas.Result.{err_from_is_err_and}
 use Rattle.qm_model.proofs.Results.{told-both, told-one}
-use Rattle.qm_batch.specs.Nearest.{later_at, limit_view}
-use Rattle.qm_batch.specs.Views.{read_view}
+use Rattle.qm_step.specs.Nearest.{later_at, limit_view}
+use Rattle.qm_step.specs.Views.{read_view}
 use Rattle.qm_batch.proofs.LentKeys.{bucket-above, own-found, prev-above, prev-found, prev-none}
 use Rattle.qm_batch.proofs.Reading.{ok-same, told}
 use Rattle.qm_batch.proofs.neighbours.lent.last_lent.Goals as goal

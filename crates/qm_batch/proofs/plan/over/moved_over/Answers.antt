@@ -1,10 +1,10 @@
 use Rattle.std.proofs.Common.{◌≡◌, ◌∙◌, ◌++◌, ap, map, subst₂, true}
 use Rattle.std.specs.Prelude.{filter_map, IfSome, All}
 use Rattle.qm_model.specs.Ordered.{IsRing}
-use Rattle.qm_batch.specs.Moves.{before_evicted}
-use Rattle.qm_batch.specs.PlanViews.{decided_views, touch_views}
-use Rattle.qm_batch.specs.Touches.{IsFrom, operations_of}
-use Rattle.qm_batch.specs.Views.{read_view}
+use Rattle.qm_step.specs.Moves.{before_evicted}
+use Rattle.qm_step.specs.PlanViews.{decided_views, touch_views}
+use Rattle.qm_step.specs.Touches.{IsFrom, operations_of}
+use Rattle.qm_step.specs.Views.{read_view}
 use Rattle.qm_batch.proofs.OrderedKinds.{ring-over}
 use Rattle.qm_batch.proofs.Reading.{told-given}
 use Rattle.qm_batch.proofs.plan.over.moved_over.Goals as goal

@@ -3,10 +3,10 @@ use Rattle.std.proofs.lemmas.Result.{err_from_is_err_and}
 use Rattle.qm_model.proofs.Results.{told-then}
 use Rattle.qm_model.specs.Writes.{last_writes}
 use Rattle.qm_batch.specs.Lent.{NoneBelow}
-use Rattle.qm_batch.specs.OrderedViews.{neighbour_view}
-use Rattle.qm_batch.specs.PlanViews.{last_view, linked_view}
-use Rattle.qm_batch.specs.Rings.{linked_in}
-use Rattle.qm_batch.proofs.PlanSites.{lasts-shown}
+use Rattle.qm_step.specs.OrderedViews.{neighbour_view}
+use Rattle.qm_step.specs.PlanViews.{last_view, linked_view}
+use Rattle.qm_step.specs.Rings.{linked_in}
+use Rattle.qm_step.proofs.PlanSites.{lasts-shown}
 use Rattle.qm_batch.proofs.Reading.{error-then, lent-then, read-then, told, told-given}
 use Rattle.qm_batch.proofs.plan.over.written_over.Goals as goal
 

@@ -1,7 +1,7 @@
 use Rattle.std.proofs.Common.{◌∙◌, ap, sym}
 use Rattle.std.specs.Prelude.{option_map}
-use Rattle.qm_batch.specs.Changes.{update_of}
-use Rattle.qm_batch.specs.Views.{read_view}
+use Rattle.qm_step.specs.Changes.{update_of}
+use Rattle.qm_step.specs.Views.{read_view}
 use Rattle.qm_batch.proofs.PlanKnown.{known-none, known-more, read-known}
 use Rattle.qm_batch.proofs.plan.sites.known_of.Goals as goal
 

@@ -2,9 +2,9 @@ use Rattle.std.proofs.Common.{◌∙◌, ap, sym}
 use Rattle.std.specs.Prelude.{option_map}
 use Rattle.std.specs.Option.{option_copied}
 use Rattle.qm_model.proofs.Results.{told-any}
-use Rattle.qm_batch.specs.Changes.{link_of, update_of}
-use Rattle.qm_batch.specs.Views.{read_view}
-use Rattle.qm_batch.proofs.Entries.{link-of_update}
+use Rattle.qm_step.specs.Changes.{link_of, update_of}
+use Rattle.qm_step.specs.Views.{read_view}
+use Rattle.qm_step.proofs.Entries.{link-of_update}
 use Rattle.qm_batch.proofs.PlanKnown.{known-there}
 use Rattle.qm_batch.proofs.plan.sites.place_of.Goals as goal
 

@@ -2,8 +2,9 @@ use Rattle.std.proofs.Common.{◌∙◌, ◌++◌, Some, ap, ap₂, sym}
 use Rattle.std.specs.Prelude.{is_some, option_to_list}
 use Rattle.qm_chain.specs.Policies.{action_view}
 use Rattle.qm_model.proofs.Results.{ok-four, ok-then}
-use Rattle.qm_batch.specs.Going.{decided_for}
-use Rattle.qm_batch.specs.PlanViews.{decided_views, found_view}
+use Rattle.qm_step.specs.Going.{decided_for}
+use Rattle.qm_step.specs.PlanViews.{decided_views}
+use Rattle.qm_batch.specs.PlanPaths.{found_view}
 use Rattle.qm_batch.proofs.PlanGoing.{going-decided, passed}
 use Rattle.qm_batch.proofs.plan.walk.decide.Goals as goal
 

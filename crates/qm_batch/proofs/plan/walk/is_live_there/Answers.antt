@@ -1,9 +1,9 @@
 use Rattle.std.proofs.Common.{◌∙◌, ap, sym, map}
 use Rattle.std.specs.Prelude.{option_map}
-use Rattle.qm_batch.specs.Touches.{is_there}
-use Rattle.qm_batch.specs.Views.{change_view}
+use Rattle.qm_step.specs.Touches.{is_there}
+use Rattle.qm_step.specs.Views.{change_view}
 use Rattle.qm_batch.proofs.PlanFinds.{bucket-there}
-use Rattle.qm_batch.proofs.Steps.{layer-stands, lent-stands}
+use Rattle.qm_step.proofs.Steps.{layer-stands, lent-stands}
 use Rattle.qm_batch.proofs.plan.walk.is_live_there.Goals as goal
 
 pub returns-in-Some : goal.returns-in-Some

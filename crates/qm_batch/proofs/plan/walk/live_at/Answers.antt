@@ -1,8 +1,9 @@
 use Rattle.std.proofs.Common.{◌∙◌, ◌-◌, ap, length, arith, subst, sym}
 use Rattle.std.specs.Prelude.{option_map, slice_get}
 use Rattle.qm_model.proofs.Results.{told-any, told-one}
-use Rattle.qm_batch.specs.Touches.{IsMoveAt, moved_touch}
-use Rattle.qm_batch.specs.PlanViews.{found_view, touch_view, touch_views}
+use Rattle.qm_step.specs.Touches.{IsMoveAt, moved_touch}
+use Rattle.qm_step.specs.PlanViews.{touch_view, touch_views}
+use Rattle.qm_batch.specs.PlanPaths.{found_view}
 use Rattle.qm_batch.proofs.PlanFinds.{got-one, got-none}
 use Rattle.qm_batch.proofs.PlanMoves.{again-is, again-none, shown-operation, shown-each}
 use Rattle.qm_batch.proofs.plan.walk.live_at.Goals as goal

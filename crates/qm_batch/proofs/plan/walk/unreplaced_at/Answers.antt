@@ -3,7 +3,7 @@ use Rattle.std.specs.Prelude.{option_map, option_and_then}
 use Rattle.qm_model.specs.Forms.{IsSpelling, spelling}
 use Rattle.qm_model.proofs.Results.{told-any, told-one}
 use Rattle.qm_base.specs.Views.{operation_view}
-use Rattle.qm_batch.specs.Changes.{said_by}
+use Rattle.qm_step.specs.Changes.{said_by}
 use Rattle.qm_batch.proofs.PlanFinds.{match-some, match-none, standing-none, moved-found, moved-not}
 use Rattle.qm_batch.proofs.Spellings.{spelled-there, unspelled-there}
 use Rattle.qm_batch.proofs.plan.walk.unreplaced_at.Goals as goal

@@ -1,9 +1,10 @@
 use Rattle.std.proofs.Common.{◌≡◌, ◌∙◌, ◌+◌, ◌-◌, ◌<◌, ◌≤◌, nat_le, min, Some, true, ap, sym, subst, arith}
 use Rattle.std.specs.Prelude.{option_map}
 use Rattle.qm_model.proofs.Results.{told-any, told-one}
-use Rattle.qm_batch.specs.Going.{AreDead}
-use Rattle.qm_batch.specs.PlanViews.{decided_views, found_view}
-use Rattle.qm_batch.specs.Touches.{IsMoveAt}
+use Rattle.qm_step.specs.Going.{AreDead}
+use Rattle.qm_step.specs.PlanViews.{decided_views}
+use Rattle.qm_batch.specs.PlanPaths.{found_view}
+use Rattle.qm_step.specs.Touches.{IsMoveAt}
 use Rattle.qm_batch.proofs.PlanGoing.{chosen, dead-here, dead-none, going-reached, going-short, going-spent, reached-at}
 use Rattle.qm_batch.proofs.plan.walk.visit.Goals as goal
 

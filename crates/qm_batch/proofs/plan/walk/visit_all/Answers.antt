@@ -2,7 +2,7 @@ use Rattle.std.proofs.Common.{◌∙◌, ◌∷◌, ◌+◌, ◌≤◌, ap, sym,
 use Rattle.std.proofs.lemmas.List.{drop_all}
 use Rattle.std.proofs.lemmas.Result.{err_from_is_err_and}
 use Rattle.qm_model.proofs.Results.{told-any, told-err, told-one, told-then}
-use Rattle.qm_batch.specs.Going.{AreDeadBetween, IsSpaced}
+use Rattle.qm_step.specs.Going.{AreDeadBetween, IsSpaced}
 use Rattle.qm_batch.proofs.PlanGoing.{between-then, spaced-below}
 use Rattle.qm_batch.proofs.PlanRounds.{chosen-false, chosen-true, in-round}
 use Rattle.qm_batch.proofs.Reading.{read-none, read-then, error-then, lent-then, told}

@@ -2,8 +2,8 @@ use Rattle.std.proofs.Common.{◌≡◌, ◌∙◌, ◌+◌, length, map, max, m
 use Rattle.qm_model.proofs.Results.{told-one}
 use Rattle.qm_model.specs.Live.{floor}
 use Rattle.qm_model.specs.Walk.{walk}
-use Rattle.qm_batch.specs.Going.{AreDecided}
-use Rattle.qm_batch.specs.PlanViews.{decided_view, decided_views, touch_view}
+use Rattle.qm_step.specs.Going.{AreDecided}
+use Rattle.qm_step.specs.PlanViews.{decided_view, decided_views, touch_view}
 use Rattle.qm_batch.proofs.PlanGoing.{going-begins}
 use Rattle.qm_batch.proofs.PlanMoves.{made-long}
 use Rattle.qm_batch.proofs.plan.walk.walk_from.Goals as goal

@@ -2,8 +2,8 @@ use Rattle.std.proofs.Common.{◌≡◌, ◌∙◌, ◌≤◌, ◌<◌, ap, sym,
 use Rattle.std.specs.Prelude.{IfSome}
 use Rattle.std.proofs.lemmas.Result.{err_from_is_err_and}
 use Rattle.qm_model.proofs.Results.{told-any, told-err, told-one, told-then}
-use Rattle.qm_batch.specs.Going.{AreDead}
-use Rattle.qm_batch.specs.PlanViews.{decided_views}
+use Rattle.qm_step.specs.Going.{AreDead}
+use Rattle.qm_step.specs.PlanViews.{decided_views}
 use Rattle.qm_batch.proofs.PlanFinds.{match-none, match-some}
 use Rattle.qm_batch.proofs.PlanGoing.{dead-none, going-finished}
 use Rattle.qm_batch.proofs.Reading.{read-none, read-then, error-then, lent-then, told}

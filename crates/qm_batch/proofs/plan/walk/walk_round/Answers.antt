@@ -1,8 +1,8 @@
 use Rattle.std.proofs.Common.{◌∙◌, ap, sym, arith, subst}
 use Rattle.qm_bits.specs.Candidates.{candidates}
 use Rattle.qm_model.proofs.Results.{told-one}
-use Rattle.qm_batch.specs.Going.{IsSpaced}
-use Rattle.qm_batch.specs.PlanViews.{path_view}
+use Rattle.qm_step.specs.Going.{IsSpaced}
+use Rattle.qm_batch.specs.PlanPaths.{path_view}
 use Rattle.qm_batch.proofs.PlanGoing.{between-then, spaced-above, spaced-below}
 use Rattle.qm_batch.proofs.PlanRounds.{chosen-false, chosen-true, path-dead}
 use Rattle.qm_batch.proofs.plan.walk.walk_round.Goals as goal

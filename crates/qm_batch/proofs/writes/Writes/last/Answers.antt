@@ -2,9 +2,9 @@ use Rattle.std.proofs.Common.{◌∙◌, ℕ, Vec, Global, ap, sym, map}
 use Rattle.std.specs.Prelude.{slice_get, option_and_then}
 use Rattle.std.specs.Option.{option_copied}
 use Rattle.qm_model.specs.Writes.{last_writes, write_of}
-use Rattle.qm_batch.specs.Views.{write_view}
+use Rattle.qm_step.specs.Views.{write_view}
 use Rattle.qm_batch.proofs.PlanFinds.{got, got-shown}
-use Rattle.qm_batch.proofs.WritesByKey.{place-read}
+use Rattle.qm_step.proofs.WritesByKey.{place-read}
 use Rattle.qm_batch.proofs.writes.Writes.last.Goals as goal
 
 pub returns-in-Some : goal.returns-in-Some

@@ -1,6 +1,6 @@
 use Rattle.std.proofs.Common.{ℕ, Vec, Global, ap, map}
-use Rattle.qm_batch.specs.Views.{write_view}
-use Rattle.qm_batch.proofs.WritesByKey.{places-none}
+use Rattle.qm_step.specs.Views.{write_view}
+use Rattle.qm_step.proofs.WritesByKey.{places-none}
 use Rattle.qm_batch.proofs.writes.Writes.new.Goals as goal
 
 pub invariant_of-result : goal.invariant_of-result

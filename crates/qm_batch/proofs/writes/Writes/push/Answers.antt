@@ -1,8 +1,8 @@
 use Rattle.std.proofs.Common.{◌∙◌, ◌∷◌, [], ℕ, Vec, Global, ap, sym, subst, arith, map}
 use Rattle.std.proofs.lemmas.List.{length-map, map-append}
-use Rattle.qm_batch.specs.Views.{write_view}
-use Rattle.qm_batch.specs.Written.{ArePlaces}
-use Rattle.qm_batch.proofs.WritesByKey.{places-more}
+use Rattle.qm_step.specs.Views.{write_view}
+use Rattle.qm_step.specs.Written.{ArePlaces}
+use Rattle.qm_step.proofs.WritesByKey.{places-more}
 use Rattle.qm_batch.proofs.writes.Writes.push.Goals as goal
 
 pub invariant_of-result : goal.invariant_of-result

@@ -1,8 +1,8 @@
 use Rattle.std.proofs.Common.{◌∙◌, Option, ap, sym}
 use Rattle.std.specs.Prelude.{option_map}
 use Rattle.qm_model.proofs.Results.{ok-then, told-one}
-use Rattle.qm_batch.specs.Moves.{before_evicted}
-use Rattle.qm_batch.specs.PlanViews.{decided_view}
+use Rattle.qm_step.specs.Moves.{before_evicted}
+use Rattle.qm_step.specs.PlanViews.{decided_view}
 use Rattle.qm_batch.proofs.plan.ordered.moves.before_gone.Goals as goal
 
 pub returns-in-None-clause-value : goal.returns-in-None-clause-value

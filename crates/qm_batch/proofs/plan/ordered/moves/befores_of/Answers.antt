@@ -1,12 +1,12 @@
 use Rattle.std.proofs.Common.{◌∙◌, ◌++◌, ap, map, subst, sym, true≢false}
 use Rattle.std.proofs.lemmas.Result.{err_from_is_err_and}
 use Rattle.qm_model.proofs.Results.{told-any}
-use Rattle.qm_batch.specs.Layers.{LeadOver}
-use Rattle.qm_batch.specs.PlanViews.{decided_views, touch_views}
-use Rattle.qm_batch.specs.Touches.{operations_of}
-use Rattle.qm_batch.specs.Views.{read_view}
-use Rattle.qm_batch.proofs.MovesAll.{none-gone}
-use Rattle.qm_batch.proofs.MovesFound.{none-before}
+use Rattle.qm_step.specs.Layers.{LeadOver}
+use Rattle.qm_step.specs.PlanViews.{decided_views, touch_views}
+use Rattle.qm_step.specs.Touches.{operations_of}
+use Rattle.qm_step.specs.Views.{read_view}
+use Rattle.qm_step.proofs.MovesAll.{none-gone}
+use Rattle.qm_step.proofs.MovesFound.{none-before}
 use Rattle.qm_batch.proofs.plan.ordered.moves.befores_of.Goals as goal
 use Rattle.qm_batch.proofs.plan.ordered.moves.befores_of.Goals.{then-not-is_ordered-via-then-not-is_ordered, then-not-is_ordered-via-else-not-is_ordered+then-evicted-eq0}
 

@@ -4,10 +4,10 @@ use Rattle.std.proofs.lemmas.List.{take_all}
 use Rattle.std.proofs.lemmas.Result.{err_from_is_err_and}
 use Rattle.qm_model.proofs.Results.{told-any, told-both, told-err, told-one}
 use Rattle.qm_batch.specs.Lent.{NoneBelow}
-use Rattle.qm_batch.specs.Moves.{before_evicted}
-use Rattle.qm_batch.specs.PlanViews.{decided_view}
-use Rattle.qm_batch.specs.Views.{read_view}
-use Rattle.qm_batch.proofs.MovesLoops.{some-more, given-mapped}
+use Rattle.qm_step.specs.Moves.{before_evicted}
+use Rattle.qm_step.specs.PlanViews.{decided_view}
+use Rattle.qm_step.specs.Views.{read_view}
+use Rattle.qm_step.proofs.MovesLoops.{some-more, given-mapped}
 use Rattle.qm_batch.proofs.Reading.{read-none, read-then, lent-then, error-then, told}
 use Rattle.qm_batch.proofs.plan.ordered.moves.find_before.Goals as goal
 
@@ -58,7 +58,7 @@ loop-one-preserved g c =
           let mid = lent-then g.C.Store g.F.Family.shape g.H.Digest.Digest.bytes g.H.Hasher.hash _ g.I.Unordered.index_key (g.I.Unordered.entries c.args.index.now) c.args.log.now c.loop-one.log lent read is in
           told-both _ _ _ (g.C.Store.told c.args.log.now.store) (c.loop-one.invariant.value lent list is from ring over)
           (told _ _ _ read.kept.told (c.in_ok-found.ensures.value lent list mid from ring over)) (λ before found.
-          some-more (read_view g.U.Update.view) (λ d. before_evicted list (decided_view key value d)) c.loop-one.all.items c.push_some.new.all.items c.in_ok-found.found c.in_ok-push_some.ensures
+          some-more (read_view g.U.Update.view) (λ d. before_evicted list (decided_view key value d)) c.loop-one.all.items c.push_some.new.things.items c.in_ok-found.found c.in_ok-push_some.ensures
           c.args.decided.now c.loop-one.one-index c.one-item.result c.loop-one-test.true c.one-item.is found before);
     }
 

@@ -2,11 +2,11 @@ use Rattle.std.proofs.Common.{◌≡◌, List, map, take}
 use Rattle.std.specs.Prelude.{IfSome, filter_map}
 use Rattle.qm_model.specs.Operations.{Operation}
 use Rattle.qm_model.specs.Ordered.{IsRing}
-use Rattle.qm_batch.specs.Layers.{LeadOver}
+use Rattle.qm_step.specs.Layers.{LeadOver}
 use Rattle.qm_batch.specs.Lent.{IsRead, IsLent}
-use Rattle.qm_batch.specs.Moves.{before_evicted}
-use Rattle.qm_batch.specs.PlanViews.{decided_view}
-use Rattle.qm_batch.specs.Views.{read_view}
+use Rattle.qm_step.specs.Moves.{before_evicted}
+use Rattle.qm_step.specs.PlanViews.{decided_view}
+use Rattle.qm_step.specs.Views.{read_view}
 use Rattle.qm_batch.proofs.plan.ordered.moves.find_before.Given as goal
 
 abbrev pub invariant-loop-one : goal.invariant-loop-one

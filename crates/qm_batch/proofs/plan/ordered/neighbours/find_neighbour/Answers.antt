@@ -1,7 +1,7 @@
 use Rattle.std.proofs.Common.{◌≡◌, ◌∙◌, ap, ap₂, sym, Some, None}
 use Rattle.std.specs.Prelude.{if◌then◌else◌}
 use Rattle.qm_model.proofs.Results.{told-one}
-use Rattle.qm_batch.specs.Rings.{previous_of}
+use Rattle.qm_step.specs.Rings.{previous_of}
 use Rattle.qm_batch.proofs.plan.ordered.neighbours.find_neighbour.Goals as goal
 
 pub returns-clause-value : goal.returns-clause-value

@@ -3,11 +3,11 @@ use Rattle.std.specs.Prelude.{filter_map, IfSome}
 use Rattle.qm_model.specs.Operations.{Operation}
 use Rattle.qm_model.specs.Ordered.{IsRing}
 use Rattle.qm_model.specs.Writes.{Write}
-use Rattle.qm_batch.specs.Layers.{LeadOver}
+use Rattle.qm_step.specs.Layers.{LeadOver}
 use Rattle.qm_batch.specs.Lent.{IsRead, IsLent}
-use Rattle.qm_batch.specs.OrderedViews.{neighbour_view}
-use Rattle.qm_batch.specs.PlanViews.{linked_view}
-use Rattle.qm_batch.specs.Rings.{linked_in, neighbour_in}
+use Rattle.qm_step.specs.OrderedViews.{neighbour_view}
+use Rattle.qm_step.specs.PlanViews.{linked_view}
+use Rattle.qm_step.specs.Rings.{linked_in, neighbour_in}
 use Rattle.qm_batch.proofs.plan.ordered.neighbours.find_neighbours.Given as goal
 
 abbrev pub invariant-loop-site : goal.invariant-loop-site

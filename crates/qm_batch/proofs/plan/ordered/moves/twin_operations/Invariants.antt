@@ -1,5 +1,0 @@
-use Rattle.std.proofs.Common.{◌≡◌, map, take}
-use Rattle.qm_batch.proofs.plan.ordered.moves.twin_operations.Given as goal
-
-abbrev pub invariant-loop-touch : goal.invariant-loop-touch
-invariant-loop-touch g l = l.operations.items ≡ map (λ t. t.operation) (take l.touch-index l.touches)

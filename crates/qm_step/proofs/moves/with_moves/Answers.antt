@@ -1,0 +1,30 @@
+use Rattle.std.proofs.Common.{◌≡◌, ◌∙◌, ◌++◌, ◌∷◌, [], ap, sym, arith, length, map}
+use Rattle.std.proofs.lemmas.Iterator.Adapters.{YieldsList-from_vec}
+use Rattle.std.proofs.lemmas.Iterator.Consumers.{YieldsList-end}
+use Rattle.std.proofs.lemmas.List.{map-id}
+use Rattle.qm_step.specs.Going.{Decided}
+use Rattle.qm_step.specs.Moves.{touch_naming}
+use Rattle.qm_step.specs.OrderedViews.{ordered_touch, ordered_touches}
+use Rattle.qm_step.specs.PlanViews.{decided_view, decided_views}
+use Rattle.qm_step.proofs.PlanLoops.{pushed-more}
+use Rattle.qm_step.proofs.Steps.{map-twice}
+use Rattle.qm_step.proofs.moves.with_moves.Goals as goal
+
+pub loop-one-preserved : goal.loop-one-preserved
+loop-one-preserved g c =
+    let key = g.K.ByteString.bytes in
+    let value = g.V.Value.ByteString.bytes in
+    let front = ordered_touches key value c.args.made.items in
+    pushed-more (ordered_touch key value) (λ d. touch_naming (decided_view key value d).next (decided_view key value d)) c.loop-one.touches.items c.push.new.self.items front c.loop-one.yielded c.touch_of.result c.in-Some.one c.in_ok-push.ensures.items c.touch_of.ensures
+    (c.loop-one.invariant ∙ ap (λ ts. front ++ ts) (map-twice (λ (d : Decided). touch_naming d.next d) (decided_view key value) c.loop-one.yielded))
+    ∙ ap (λ ts. front ++ ts) (sym (map-twice (λ (d : Decided). touch_naming d.next d) (decided_view key value) (c.loop-one.yielded ++ c.in-Some.one ∷ [])))
+
+pub returns : goal.returns
+returns g c =
+    let key = g.K.ByteString.bytes in
+    let value = g.V.Value.ByteString.bytes in
+    let gives = c.into_iter-one-iterator.ensures.into_iter_gives in
+    let count : c.into_iter-one-iterator.result.rest.len ≡ length c.args.decided.items = omega (arith, gives.1, c.args.decided.ok.0) in
+    let all = YieldsList-end (YieldsList-from_vec {s = c.into_iter-one-iterator.result} c.args.decided.items gives.0 count) c.loop-one.yielded _ c.loop-one.yielded_by _ c.next.new.self c.in-None.is c.next.ensures.steps in
+    c.loop-one.invariant
+    ∙ ap (λ ds. ordered_touches key value c.args.made.items ++ map (λ (d : Decided). touch_naming d.next d) (decided_views key value ds)) (sym (map-id c.loop-one.yielded) ∙ all.0)

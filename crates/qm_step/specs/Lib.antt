@@ -1,0 +1,14 @@
+pub mod Bases
+pub mod Changes
+pub mod Going
+pub mod Kinds
+pub mod Layers
+pub mod Links
+pub mod Moves
+pub mod Nearest
+pub mod OrderedViews
+pub mod PlanViews
+pub mod Rings
+pub mod Touches
+pub mod Views
+pub mod Written

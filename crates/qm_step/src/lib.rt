@@ -1,0 +1,22 @@
+//! What a step puts behind its base list, made of writes and decisions where it is known where their keys stand.
+#![tactic(auto)]
+
+pub mod base;
+pub mod decided;
+pub mod diff;
+pub mod found;
+pub mod layer;
+pub mod links;
+pub mod moves;
+pub mod nearest;
+pub mod neighbour;
+pub mod order;
+pub mod site;
+pub mod touch;
+pub mod wanted;
+pub mod writes;
+
+pub use base::Base;
+pub use layer::Layer;
+pub use order::{is_before, is_below};
+pub use wanted::{Read, Wanted};
