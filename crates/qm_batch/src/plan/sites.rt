@@ -1,6 +1,6 @@
 //! Where written keys stand in a base list.
 
-ghost use Rattle.std.specs.Prelude.{◌≡◌, ◌≢◌, ℕ, List, map, IfSome, IfOk, IfErr};
+ghost use Rattle.std.specs.Prelude.{◌≡◌, ◌≢◌, ℕ, List, map, option_map, IfSome, IfOk, IfErr};
 ghost use Rattle.qm_model.specs.Operations as operations;
 ghost use Rattle.qm_step.specs.Changes.{link_in};
 ghost use Rattle.qm_step.specs.Layers.{LeadOver};
