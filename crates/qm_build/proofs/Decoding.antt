@@ -1,5 +1,5 @@
 -- Which items between two locations spell operations.
-use Rattle.std.proofs.Common.{◌≡◌, ◌⊎◌, inl, inr, ◌≤◌, ◌<◌, ◌-◌, ◌∙◌, ℕ, ◌+◌, zero, suc, true, false, List, [], ◌∷◌, map, take, drop, arith, refl, ap, subst, sym, Option, Some, None}
+use Rattle.std.proofs.Common.{Bool, ◌≡◌, ◌⊎◌, inl, inr, ◌≤◌, ◌<◌, ◌-◌, ◌∙◌, ℕ, ◌+◌, zero, suc, true, false, List, [], ◌∷◌, map, take, drop, arith, refl, ap, subst, sym, Option, Some, None}
 use Rattle.std.specs.Prelude.{IfSome, is_none, slice_get, option_and_then}
 use Rattle.std.specs.List.{list_any}
 use Rattle.qm_model.specs.Forms.{Form, decoded}
@@ -80,3 +80,15 @@ over None None same p q then = tt
 over (Some x) (Some y) {P} same p q then = let is : y ≡ x = cc in then x (subst P is p) q
 over None (Some y) same p q then = tt
 over (Some x) None same p q then = cc
+
+-- what follows of what is told
+pub then-told : {X : Type 0} (o : Option X) {P Q : X → Type 0} → IfSome o P → ((x : X) → o ≡ Some x → P x → Q x) → IfSome o Q
+then-told None p next = tt
+then-told (Some x) p next = next x refl p
+
+pub known : {X : Type 0} {R : Type 0} (o : Option X) (x : X) → o ≡ Some x → IfSome o (λ _. R) → R
+known None x is r = cc
+known (Some y) x is r = r
+
+pub no-two : (b : Bool) → b ≡ false → b ≡ true → ⊥
+no-two b clear is_set = cc

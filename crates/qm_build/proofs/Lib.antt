@@ -6,3 +6,4 @@ pub mod Reading
 pub mod Whole
 pub mod Within
 pub mod Decoding
+pub mod Beside

@@ -2,11 +2,13 @@
 use Rattle.std.proofs.Common.{◌≡◌, ◌≤◌, ℕ, zero, suc, List, [], ◌∷◌, map, refl, ◌∙◌, subst, Option, Some, arith, inl, inr}
 use Rattle.std.specs.Prelude.{All, IfSome, slice_get}
 use Rattle.std.proofs.lemmas.List.Elements.{All-head, All-tail}
-use Rattle.qm_model.specs.Causes.{Rose}
+use Rattle.qm_model.specs.Causes.{IsCause, Rose}
 use Rattle.qm_model.specs.Operations.{Bytes, Operation}
 use Rattle.qm_model.specs.Trees.{Shape}
 use Rattle.qm_model.specs.Forms.{Form, IsOf, IsSpelling, spelling}
 use Rattle.qm_base.specs.declared.error.Error.{Error}
+use Rattle.qm_base.specs.declared.error.Error.TheVariants as errors
+use Rattle.qm_base.specs.declared.error.JournalError.TheVariants as journal
 use Rattle.qm_store.specs.declared.Store as store
 use Rattle.qm_store.specs.Log.{Log}
 use Rattle.qm_store.proofs.Stores.{kept-then}
@@ -54,3 +56,13 @@ spelled-there form (op ∷ rest) zero bs all is =
     let same : spelling form op ≡ bs = cc in
     (op, refl, record { of = All-head (IsOf form) op rest all; spelled = same })
 spelled-there form (op ∷ rest) (suc at) bs all is = spelled-there form rest at bs (All-tail (IsOf form) op rest all) is
+
+-- an error tells of the store only where its count of faults rose
+pub caused : {C D : Type 0} (members : store.Ghosts C) (a b c : Log C D) (e : Error) → members.faults a.store ≤ members.faults b.store → members.faults b.store ≤ members.faults c.store → IsReadError members b c e
+    → IsCause (members.faults a.store) (members.faults c.store) (e ≡ errors.Journal journal.Store)
+caused members a b c e before after failed = record { later = omega (arith, before, after); failed = by failed }
+  where
+    by : IsReadError members b c e → e ≡ errors.Journal journal.Store → Rose (members.faults a.store) (members.faults c.store)
+    by (inl (inl memory)) is = cc
+    by (inl (inr (fault, rose))) is = rose-later (members.faults a.store) (members.faults b.store) (members.faults c.store) before rose
+    by (inr lost) is = cc

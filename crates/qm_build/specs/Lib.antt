@@ -2,3 +2,4 @@ pub mod Building
 pub mod Built
 pub mod Cached
 pub mod Reads
+pub mod Opened

@@ -50,6 +50,7 @@ pub fn build_snapshot<
         → IfSome (C.told log.old.store) (λ _. IfOk result (λ s. IsBuilt I.index_key (I.entries index.new) s.live s.activity floor ops)) }
     ensures decodes { (ops : List model.Operation) → HasOperations C.Store F.shape H.Digest.bytes H.hash U.form log.old ops
         → IfSome (C.told log.old.store) (λ _. IfErr result (λ e. e ≢ Error.DataCorrupted Corrupt.ItemDoesNotDecode)) }
+    ensures long { IfOk result (λ s. (floor + length s.activity ≡ log.old.tree.leaves) × (s.live ≤ length s.activity)) }
     ensures decoded { IfSome (C.told log.old.store) (λ s. OnOk result (list_any is_none (items_within U.form s floor log.old.tree.leaves) ≡ false)) }
     ensures corrupt { IfSome (C.told log.old.store) (λ s. IfErr result (λ e. e ≡ Error.DataCorrupted Corrupt.ItemDoesNotDecode → list_any is_none (items_within U.form s floor log.old.tree.leaves) ≡ true)) }
     ensures read { IsRead C.Store F.shape H.Digest.bytes H.hash log.old log.new }

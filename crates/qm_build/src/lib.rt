@@ -4,9 +4,13 @@
 pub mod build;
 pub mod cache;
 mod moves;
+mod opened;
+mod parts;
 mod read;
 pub mod snapshot;
 
 pub use build::{Snapshot, build_snapshot};
 pub use cache::Cache;
+pub use opened::{Opened, open_at};
+pub use parts::{activity_from, last_metadata, root_of};
 pub use snapshot::SnapshotBuild;

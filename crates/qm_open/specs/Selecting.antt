@@ -1,5 +1,5 @@
 -- What an opening finds of commits, and what it then refuses.
-use Rattle.std.specs.Prelude.{ℕ, zero, suc, ◌-◌, ◌*◌, ◌==◌, not, ◌&&◌, nat_lt, Bool, if◌then◌else◌, List, ◌∷◌, [], length, map, filter_map, take, is_none, Option, None, Some}
+use Rattle.std.specs.Prelude.{ℕ, zero, suc, ◌-◌, ◌*◌, ◌==◌, not, ◌&&◌, nat_lt, Bool, if◌then◌else◌, List, ◌∷◌, [], length, map, filter_map, take, is_none, Option, None, Some, slice_get, option_and_then}
 use Rattle.std.specs.List.{list_any}
 use Rattle.qm_model.specs.Operations.{Operation}
 use Rattle.qm_model.specs.Forms.{Form, decoded}
@@ -7,6 +7,7 @@ use Rattle.qm_model.specs.Trees.{Shape, peaks}
 use Rattle.qm_model.specs.Opening as opening
 use Rattle.qm_model.specs.Opening.{Layout, Found, when, first_refusal, size_of, floor_of, items_between, is_ring}
 use Rattle.qm_model.specs.Refused.{Refused, NoRetainedCommit, FloorExceedsCommit, HeadDoesNotMatch, ItemDoesNotDecode, LinksFormNoRing, InvalidInitializationBound, HistoricalFloorPruned, DataCorrupted}
+use Rattle.qm_model.specs.Refusals.{commit_floor}
 use Rattle.qm_model.specs.StoreModel.{Stored}
 use Rattle.qm_open.specs.declared.select.Selected.{Selected}
 
@@ -52,3 +53,7 @@ content_refusal layout f at =
     ∷ when (list_any is_none items) (DataCorrupted ItemDoesNotDecode)
     ∷ when (layout.form.ordered && not (is_ring (filter_map (λ item. item) items))) (DataCorrupted LinksFormNoRing)
     ∷ [])
+
+-- the floor of the commit that a store's item at a location spells, if it spells one
+abbrev pub floor_told : Form → Stored → ℕ → Option ℕ
+floor_told form s at = option_and_then commit_floor (option_and_then (decoded form) (slice_get s.items (at - s.start)))

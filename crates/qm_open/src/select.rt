@@ -8,7 +8,7 @@ ghost use Rattle.qm_model.specs.Opening.{opening_refusal};
 ghost use Rattle.qm_model.specs.Trees.{Shape};
 ghost use Rattle.qm_store.specs.Log.{IsKept};
 ghost use Rattle.qm_store.specs.Refusals.{refusal_of, IsDue};
-ghost use Rattle.qm_open.specs.Selecting.{any_layout, any_found, content_refusal, kept_items, selected_refusal, selected_view, up_to};
+ghost use Rattle.qm_open.specs.Selecting.{any_layout, any_found, content_refusal, floor_told, kept_items, selected_refusal, selected_view, up_to};
 
 use crate::item::commit_floor_in;
 use qm_base::update::Update;
@@ -31,6 +31,7 @@ fn last_commit<F, C: Store, U: Update>(
     bound: Option<u64>,
 ) -> Result<Option<Selected>, Error>
     ensures selected { IfSome (C.told store.old) (λ s. IfOk result (λ at. option_map selected_view at ≡ opening.last_commit s.start None (up_to bound s (kept_items U.form s)))) }
+    ensures floor { IfSome (C.told store.old) (λ s. IfOk result (λ at. IfSome at (λ c. floor_told U.form s (c.size - 1) ≡ Some c.floor))) }
     ensures within { IfOk result (λ at. IfSome at (λ c. (C.start store.old < c.size) × (c.size ≤ C.end store.old))) }
     ensures kept { IsKept C.Store store.old store.new }
     ensures never { IfErr result (λ e. (e ≡ Error.Memory) ⊎ (e ≡ Error.Journal JournalError.Store)) }
@@ -80,6 +81,7 @@ pub fn select_commit<F, C: Store, U: Update>(
     ensures accepted { (shape : Shape) (digest_size : ℕ) → IfSome (C.told store.old) (λ s. IfOk result (λ at.
         opening_refusal (any_layout U.form shape digest_size) (any_found U.form s) bound ≡ content_refusal (any_layout U.form shape digest_size) (any_found U.form s) (option_map selected_view at))) }
     ensures refused { (shape : Shape) (digest_size : ℕ) → IfSome (C.told store.old) (λ s. IfErr result (λ e. IsDue e (opening_refusal (any_layout U.form shape digest_size) (any_found U.form s) bound))) }
+    ensures floor { IfSome (C.told store.old) (λ s. IfOk result (λ at. IfSome at (λ c. floor_told U.form s (c.size - 1) ≡ Some c.floor))) }
     ensures within { IfOk result (λ at. IfSome at (λ c. (C.start store.old ≤ c.floor) × (c.floor < c.size) × (c.size ≤ C.end store.old))) }
     ensures empty { result ≡ Ok None → (C.start store.old ≡ 0) × (C.end store.old ≡ 0) }
     ensures kept { IsKept C.Store store.old store.new }

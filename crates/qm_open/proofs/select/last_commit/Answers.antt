@@ -4,7 +4,7 @@ use Rattle.qm_model.specs.Refusals.{commit_floor}
 use Rattle.qm_model.specs.Forms.{decoded}
 use Rattle.qm_model.specs.Opening.{last_commit}
 use Rattle.qm_store.proofs.Stores.{both, kept-then, read-kept}
-use Rattle.qm_open.specs.Selecting.{kept_items, up_to}
+use Rattle.qm_open.specs.Selecting.{floor_told, kept_items, up_to}
 use Rattle.qm_open.proofs.Selecting.{passed, found}
 use Rattle.qm_open.proofs.select.last_commit.Goals as goal
 
@@ -23,6 +23,18 @@ returns-in-Some-clause-selected g c =
     let low : s.start ≤ at = omega (arith, first, c.loop-at.auto.at, c.bounds-start.ensures.starts) in
     let next : suc at ≡ c.loop-at.at = omega (arith, low, c.loop-at-test.true) in
     sym (both.0 ∙ ap (λ n. last_commit s.start None (take (n - s.start) (kept_items form s))) (sym next) ∙ found form s at bytes c.in-Some.floor low here some ∙ ap (λ n. Some (record { size = n; floor = c.in-Some.floor })) (omega arith)))
+
+pub returns-in-Some-clause-floor : goal.returns-in-Some-clause-floor
+returns-in-Some-clause-floor g c =
+    let members = g.C.Store in
+    let form = g.U.Update.form in
+    let store = c.args.store.now in
+    let at = c.loop-at.at - 1 in
+    let bytes = c.in_ok-item.item.items in
+    let item = read-kept members store c.loop-at.store at bytes c.loop-at.invariant.kept (g.met.C.Store.told_start c.loop-at.store) c.in_ok-item.ensures.item in
+    let some : Some c.in-Some.floor ≡ option_and_then commit_floor (decoded form bytes) = sym c.in-Some.is ∙ c.in_ok-floor.ensures ∙ ap (λ bs. option_and_then commit_floor (decoded form bs)) c.deref.ensures.value in
+    both (members.told store) item (g.met.C.Store.told_start store) (λ s is first.
+    ap (λ n. floor_told form s n) (omega arith) ∙ ap (λ n. option_and_then commit_floor (option_and_then (decoded form) (slice_get s.items (at - n)))) first ∙ ap (λ o. option_and_then commit_floor (option_and_then (decoded form) o)) is ∙ sym some)
 
 pub loop-at-preserved : goal.loop-at-preserved
 loop-at-preserved g c =

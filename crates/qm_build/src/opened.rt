@@ -1,0 +1,207 @@
+//! What an opening makes of a store: a log that ends where the selected list does, and what that list has beside it.
+
+ghost use Rattle.std.specs.Prelude.{option_map, ◌≡◌, ◌≢◌, ◌⊎◌, ◌<◌, ◌≤◌, ◌+◌, ◌-◌, ◌*◌, List, length, map, take, drop, is_none, true, false, All, Some, IfSome, IfOk, IfErr, OnOk};
+ghost use Rattle.std.specs.List.{list_any};
+ghost use Rattle.qm_model.specs.Causes.{IsCause};
+ghost use Rattle.qm_model.specs.Forms.{IsOf, spelling};
+ghost use Rattle.qm_model.specs.Live as lives;
+ghost use Rattle.qm_model.specs.Operations as model;
+ghost use Rattle.qm_model.specs.Step.{IsGood};
+ghost use Rattle.qm_model.specs.Trees.{peaks};
+ghost use Rattle.qm_store.specs.Log.{store_given, IsHead, IsKept, digests_from};
+ghost use Rattle.qm_bits.specs.Bitmaps.{bit_count};
+ghost use Rattle.qm_build.specs.Built.{IsBuilt, NoneBelow};
+ghost use Rattle.qm_build.specs.Opened.{IsOpened};
+ghost use Rattle.qm_build.specs.Reads.{items_within, HasOperations};
+
+use crate::build::{Snapshot, build_snapshot};
+use crate::parts::{Held, beside};
+use qm_base::update::Update;
+use qm_base::{Corrupt, Digest, Error, Hasher, JournalError, Location};
+use qm_bits::{Chunks, Prunable};
+use qm_index::Factory;
+use qm_merkle::Family;
+use qm_open::Selected;
+use qm_store::{AuthLog, Given, LogGiven, Refusal, Store};
+use std::alloc::Global;
+use std::num::NonZeroUsize;
+
+/// A log, and what its list has beside it: where its keys are live, how many these are, which locations are active, its
+/// root, and its last metadata.
+#[derive(Drop)]
+pub struct Opened<N: Chunks, F: Family, C: Store, I, H: Hasher, U: Update> {
+    pub log: AuthLog<F, C, H>,
+    pub index: I,
+    pub live: u64,
+    pub activity: Prunable<N>,
+    pub root: H::Digest,
+    pub metadata: Option<U::Value>,
+}
+
+// A log, and what is rebuilt of its list from a floor on.
+#[derive(Drop)]
+struct FromFloor<F: Family, C: Store, I, H: Hasher> {
+    log: AuthLog<F, C, H>,
+    index: I,
+    snapshot: Snapshot,
+}
+
+// The store that a log gave back.
+fn store_of<F: Family, C: Store, H: Hasher + Drop>(given: LogGiven<AuthLog<F, C, H>, C>) -> C
+    ensures { result ≡ store_given given }
+{
+    match given {
+        LogGiven::Log(log) => log.close(),
+        LogGiven::Store(store) => store,
+    }
+}
+
+/// The log of a store that ends with the selected commit, whatever the store has behind it, and what its list has beside it.
+/// It reads each item from the store's start on once, for its leaf, and each from the floor on once more. A refusal gives back
+/// the store, which was not changed.
+pub fn open_at<
+    N: Chunks,
+    F: Family,
+    C: Store,
+    I: Factory<Value = Location<F>>,
+    H: Hasher + Drop,
+    U: Update,
+    X: Drop,
+>(
+    alloc: Global,
+    store: C,
+    hasher: H,
+    translator: I::Translator,
+    selected: Selected,
+    kept_keys: NonZeroUsize,
+) -> Result<Opened<N, F, C, I, H, U>, Refusal<X, C>>
+    requires start { C.start store ≤ selected.floor }
+    requires floor { selected.floor < selected.size }
+    requires end { selected.size ≤ C.end store }
+    ensures stands { (list : List model.Operation) → length list ≡ selected.size → All (IsOf U.form) list → IsGood list → selected.floor ≡ lives.floor list → IfSome (C.told store) (λ held.
+        take (selected.size - C.start store) held.items ≡ drop (C.start store) (map (spelling U.form) list) → IsHead F.shape H.Digest.bytes H.hash (C.start store) (digests_from H.hash F.shape 0 (map (spelling U.form) list)) held.head
+        → IfOk result (λ o. IsOpened C.Store F.shape H.Digest.bytes H.hash U.form I.index_key N.LEN o.log (I.entries o.index) o.live o.activity (H.Digest.bytes o.root) (option_map U.Value.bytes o.metadata) list)) }
+    ensures size { IfOk result (λ o. o.log.tree.leaves ≡ selected.size) }
+    ensures kept { IfOk result (λ o. IsKept C.Store store o.log.store) }
+    ensures later { IfOk result (λ o. C.faults store ≤ C.faults o.log.store) }
+    ensures bits { IfOk result (λ o. (bit_count N.LEN o.activity ≡ selected.size) × (o.live ≤ selected.size)) }
+    ensures head { IfSome (C.told store) (λ s. OnOk result (length s.head ≡ length (peaks F.shape (C.start store)) * H.Digest.SIZE)) }
+    ensures decoded { IfSome (C.told store) (λ s. OnOk result (list_any is_none (items_within U.form s selected.floor selected.size) ≡ false)) }
+    ensures back { IfErr result (λ r. (s : C) × (r.given ≡ Given.Store s) × IsKept C.Store store s × IsCause (C.faults store) (C.faults s) (r.error ≡ Error.Journal JournalError.Store)) }
+    ensures other_head { IfErr result (λ r. r.error ≡ Error.DataCorrupted Corrupt.HeadDoesNotMatch → IfSome (C.told store) (λ s. length s.head ≢ length (peaks F.shape (C.start store)) * H.Digest.SIZE)) }
+    ensures undecoded { IfErr result (λ r. r.error ≡ Error.DataCorrupted Corrupt.ItemDoesNotDecode → IfSome (C.told store) (λ s. (length s.head ≡ length (peaks F.shape (C.start store)) * H.Digest.SIZE) × (list_any is_none (items_within U.form s selected.floor selected.size) ≡ true))) }
+    ensures never { IfErr result (λ r. (r.error ≡ Error.Memory) ⊎ ((r.error ≡ Error.Journal JournalError.Store) ⊎ ((r.error ≡ Error.DataCorrupted Corrupt.HeadDoesNotMatch) ⊎ (r.error ≡ Error.DataCorrupted Corrupt.ItemDoesNotDecode)))) }
+{
+    match AuthLog::open(alloc, store, hasher, selected.size) {
+        Ok(log) => whole::<N, F, C, I, H, U, X>(alloc, log, translator, selected.floor, kept_keys),
+        Err(refusal) => Err(Refusal {
+            given: Given::Store(store_of(refusal.given)),
+            error: refusal.error,
+        }),
+    }
+}
+
+// What a log's list has beside it.
+fn whole<
+    N: Chunks,
+    F: Family,
+    C: Store,
+    I: Factory<Value = Location<F>>,
+    H: Hasher + Drop,
+    U: Update,
+    X: Drop,
+>(
+    alloc: Global,
+    log: AuthLog<F, C, H>,
+    translator: I::Translator,
+    floor: u64,
+    kept_keys: NonZeroUsize,
+) -> Result<Opened<N, F, C, I, H, U>, Refusal<X, C>>
+    requires kept { log.tree.start ≤ floor }
+    requires below { floor < log.tree.leaves }
+    ensures opened { (ops : List model.Operation) → HasOperations C.Store F.shape H.Digest.bytes H.hash U.form log ops → IsGood ops → floor ≡ lives.floor ops
+        → IfSome (C.told log.store) (λ _. IfOk result (λ o. IsOpened C.Store F.shape H.Digest.bytes H.hash U.form I.index_key N.LEN o.log (I.entries o.index) o.live o.activity (H.Digest.bytes o.root) (option_map U.Value.bytes o.metadata) ops)) }
+    ensures tree { IfOk result (λ o. o.log.tree ≡ log.tree) }
+    ensures kept { IfOk result (λ o. IsKept C.Store log.store o.log.store) }
+    ensures later { IfOk result (λ o. C.faults log.store ≤ C.faults o.log.store) }
+    ensures bits { IfOk result (λ o. (bit_count N.LEN o.activity ≡ log.tree.leaves) × (o.live ≤ log.tree.leaves)) }
+    ensures decoded { IfSome (C.told log.store) (λ s. OnOk result (list_any is_none (items_within U.form s floor log.tree.leaves) ≡ false)) }
+    ensures back { IfErr result (λ r. (s : C) × (r.given ≡ Given.Store s) × IsKept C.Store log.store s × IsCause (C.faults log.store) (C.faults s) (r.error ≡ Error.Journal JournalError.Store)) }
+    ensures undecoded { IfErr result (λ r. r.error ≡ Error.DataCorrupted Corrupt.ItemDoesNotDecode → IfSome (C.told log.store) (λ s. list_any is_none (items_within U.form s floor log.tree.leaves) ≡ true)) }
+    ensures never { IfErr result (λ r. (r.error ≡ Error.Memory) ⊎ ((r.error ≡ Error.Journal JournalError.Store) ⊎ (r.error ≡ Error.DataCorrupted Corrupt.ItemDoesNotDecode))) }
+{
+    let FromFloor {
+        mut log,
+        index,
+        snapshot,
+    } = rebuilt::<F, C, I, H, U, X>(alloc, log, translator, floor, kept_keys)?;
+    match beside::<N, F, C, H, U>(alloc, &mut log, &snapshot, floor) {
+        Ok(
+            Held {
+                activity,
+                root,
+                metadata,
+            },
+        ) => Ok(Opened {
+            log,
+            index,
+            live: snapshot.live,
+            activity,
+            root,
+            metadata,
+        }),
+        Err(error) => Err(Refusal {
+            given: Given::Store(log.close()),
+            error,
+        }),
+    }
+}
+
+// What is rebuilt of a log's list from a floor on.
+fn rebuilt<
+    F: Family,
+    C: Store,
+    I: Factory<Value = Location<F>>,
+    H: Hasher + Drop,
+    U: Update,
+    X: Drop,
+>(
+    alloc: Global,
+    log: AuthLog<F, C, H>,
+    translator: I::Translator,
+    floor: u64,
+    kept_keys: NonZeroUsize,
+) -> Result<FromFloor<F, C, I, H>, Refusal<X, C>>
+    requires kept { log.tree.start ≤ floor }
+    requires below { floor < log.tree.leaves }
+    ensures built { (ops : List model.Operation) → HasOperations C.Store F.shape H.Digest.bytes H.hash U.form log ops → NoneBelow floor ops
+        → IfSome (C.told log.store) (λ _. IfOk result (λ o. HasOperations C.Store F.shape H.Digest.bytes H.hash U.form o.log ops × IsBuilt I.index_key (I.entries o.index) o.snapshot.live o.snapshot.activity floor ops)) }
+    ensures tree { IfOk result (λ o. o.log.tree ≡ log.tree) }
+    ensures kept { IfOk result (λ o. IsKept C.Store log.store o.log.store) }
+    ensures later { IfOk result (λ o. C.faults log.store ≤ C.faults o.log.store) }
+    ensures long { IfOk result (λ o. (floor + length o.snapshot.activity ≡ log.tree.leaves) × (o.snapshot.live ≤ length o.snapshot.activity)) }
+    ensures decoded { IfSome (C.told log.store) (λ s. OnOk result (list_any is_none (items_within U.form s floor log.tree.leaves) ≡ false)) }
+    ensures back { IfErr result (λ r. (s : C) × (r.given ≡ Given.Store s) × IsKept C.Store log.store s × IsCause (C.faults log.store) (C.faults s) (r.error ≡ Error.Journal JournalError.Store)) }
+    ensures undecoded { IfErr result (λ r. r.error ≡ Error.DataCorrupted Corrupt.ItemDoesNotDecode → IfSome (C.told log.store) (λ s. list_any is_none (items_within U.form s floor log.tree.leaves) ≡ true)) }
+    ensures never { IfErr result (λ r. (r.error ≡ Error.Memory) ⊎ ((r.error ≡ Error.Journal JournalError.Store) ⊎ (r.error ≡ Error.DataCorrupted Corrupt.ItemDoesNotDecode))) }
+{
+    let mut log = log;
+    let mut index = I::new(alloc, translator);
+    match build_snapshot::<F, I, C, H, U>(
+        alloc,
+        &mut index,
+        &mut log,
+        Location::new(floor),
+        kept_keys,
+    ) {
+        Ok(snapshot) => Ok(FromFloor {
+            log,
+            index,
+            snapshot,
+        }),
+        Err(error) => Err(Refusal {
+            given: Given::Store(log.close()),
+            error,
+        }),
+    }
+}

@@ -1,0 +1,114 @@
+//! What a list has beside its index and its log: activity bits with those below the floor, its root, its metadata.
+
+ghost use Rattle.std.specs.Prelude.{◌≡◌, ◌≢◌, ◌+◌, ◌-◌, ◌*◌, ◌/◌, ◌^◌, ◌<◌, ◌≤◌, ◌++◌, List, true, false, is_none, length, drop, replicate, option_map, IfSome, IfOk, IfErr};
+ghost use Rattle.qm_model.specs.Operations as model;
+ghost use Rattle.qm_model.specs.Operations.{IsCommitEnded};
+ghost use Rattle.qm_model.specs.Live as lives;
+ghost use Rattle.qm_model.specs.Trees.{ops_root};
+ghost use Rattle.qm_model.specs.Bits.{bits};
+ghost use Rattle.qm_model.specs.Step.{IsGood};
+ghost use Rattle.std.specs.List.{list_any};
+ghost use Rattle.qm_bits.specs.Bitmaps.{all_bits, bit_count};
+ghost use Rattle.qm_build.specs.Reads.{items_within, HasOperations, IsRead, IsReadError, IsUndecoded};
+
+use crate::build::Snapshot;
+use crate::read::read_operation;
+use qm_base::update::Update;
+use qm_base::{Corrupt, Digest, Error, Hasher, Location, Operation};
+use qm_bits::{BitMap, Chunks, Prunable};
+use qm_merkle::Family;
+use qm_store::{AuthLog, Store};
+use std::alloc::{AllocError, Global};
+
+/// The activity bits of a list, of which those from a floor on are given and those below are clear. Chunks that end at or
+/// before the floor are not kept.
+pub fn activity_from<N: Chunks>(
+    alloc: Global,
+    floor: u64,
+    behind: &BitMap,
+) -> Result<Prunable<N>, AllocError>
+    requires { floor + length behind.now ≤ 2 ^ 62 }
+    ensures bits { IfOk result (λ activity. all_bits N.LEN activity ≡ replicate floor false ++ behind.now) }
+    ensures count { IfOk result (λ activity. bit_count N.LEN activity ≡ floor + length behind.now) }
+{
+    let chunks = floor / N::span();
+    let mut activity = Prunable::new_with_pruned_chunks(alloc, chunks as usize);
+    activity.extend_to(floor)?;
+    for at in 0..behind.len() {
+        activity.push(behind.get_bit(at))?;
+    }
+    Ok(activity)
+}
+
+/// The operations root of a log's list, whose floor is given.
+pub fn root_of<F: Family, C: Store, H: Hasher + Drop, U: Update>(
+    alloc: Global,
+    log: &mut AuthLog<F, C, H>,
+    floor: u64,
+) -> Result<H::Digest, AllocError>
+    ensures value { (ops : List model.Operation) → HasOperations C.Store F.shape H.Digest.bytes H.hash U.form log.old ops → floor ≡ lives.floor ops
+        → IfOk result (λ root. H.Digest.bytes root ≡ ops_root H.hash F.shape U.form ops) }
+    ensures same { log.new ≡ log.old }
+{
+    let (_, size) = log.bounds();
+    let inactive = F::inactive_peaks(Location::new(size), Location::new(floor));
+    log.root(alloc, inactive)
+}
+
+/// The metadata of the commit with which a log's list ends. It reads one item.
+pub fn last_metadata<F: Family, C: Store, H: Hasher + Drop, U: Update>(
+    alloc: Global,
+    log: &mut AuthLog<F, C, H>,
+) -> Result<Option<U::Value>, Error>
+    requires { log.old.tree.start < log.old.tree.leaves }
+    ensures value { (ops : List model.Operation) → HasOperations C.Store F.shape H.Digest.bytes H.hash U.form log.old ops → IsCommitEnded ops
+        → IfSome (C.told log.old.store) (λ _. IfOk result (λ metadata. option_map U.Value.bytes metadata ≡ lives.last_metadata ops)) }
+    ensures corrupt { IfSome (C.told log.old.store) (λ s. IfErr result (λ e. e ≡ Error.DataCorrupted Corrupt.ItemDoesNotDecode → IsUndecoded U.form s (log.old.tree.leaves - 1))) }
+    ensures read { IsRead C.Store F.shape H.Digest.bytes H.hash log.old log.new }
+    ensures error { IfErr result (IsReadError C.Store log.old log.new) }
+{
+    let (_, size) = log.bounds();
+    let operation: Operation<F, U> = read_operation(alloc, log, size - 1)?;
+    match operation {
+        Operation::CommitFloor(metadata, _) => Ok(metadata),
+        Operation::Update(_) => Ok(None),
+        Operation::Delete(_) => Ok(None),
+    }
+}
+
+/// What a list has beside its log, its index and the count of its live keys.
+#[derive(Drop)]
+pub(crate) struct Held<N: Chunks, D, V> {
+    pub activity: Prunable<N>,
+    pub root: D,
+    pub metadata: Option<V>,
+}
+
+/// What a log's list has, of which this was rebuilt from a floor on. It reads one item.
+pub(crate) fn beside<N: Chunks, F: Family, C: Store, H: Hasher + Drop, U: Update>(
+    alloc: Global,
+    log: &mut AuthLog<F, C, H>,
+    snapshot: &Snapshot,
+    floor: u64,
+) -> Result<Held<N, H::Digest, U::Value>, Error>
+    requires kept { log.old.tree.start ≤ floor }
+    requires below { floor < log.old.tree.leaves }
+    requires long { floor + length snapshot.now.activity ≡ log.old.tree.leaves }
+    ensures held { (ops : List model.Operation) → HasOperations C.Store F.shape H.Digest.bytes H.hash U.form log.old ops → IsGood ops → floor ≡ lives.floor ops → snapshot.now.activity ≡ drop floor (bits ops)
+        → IfSome (C.told log.old.store) (λ _. IfOk result (λ held. (all_bits N.LEN held.activity ≡ bits ops) × (H.Digest.bytes held.root ≡ ops_root H.hash F.shape U.form ops) × (option_map U.Value.bytes held.metadata ≡ lives.last_metadata ops))) }
+    ensures count { IfOk result (λ held. bit_count N.LEN held.activity ≡ log.old.tree.leaves) }
+    ensures whole { IfSome (C.told log.old.store) (λ s. list_any is_none (items_within U.form s floor log.old.tree.leaves) ≡ false → IfErr result (λ e. e ≢ Error.DataCorrupted Corrupt.ItemDoesNotDecode)) }
+    ensures read { IsRead C.Store F.shape H.Digest.bytes H.hash log.old log.new }
+    ensures error { IfErr result (IsReadError C.Store log.old log.new) }
+{
+    // The log has at most 2^62 items.
+    log.bounds();
+    let root = root_of::<F, C, H, U>(alloc, log, floor)?;
+    let activity = activity_from(alloc, floor, &snapshot.activity)?;
+    let metadata = last_metadata::<F, C, H, U>(alloc, log)?;
+    Ok(Held {
+        activity,
+        root,
+        metadata,
+    })
+}
