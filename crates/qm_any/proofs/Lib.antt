@@ -5,6 +5,7 @@ pub mod Making
 pub mod OrderedReads
 pub mod Reading
 pub mod Resting
+pub mod Restoring
 pub mod Staging
 pub mod Telling
 pub mod Trees

@@ -4,3 +4,4 @@ pub mod Databases
 pub mod Reasons
 pub mod Tips
 pub mod Scanned
+pub mod Restoring

@@ -9,7 +9,9 @@ mod open;
 mod operations;
 mod ordered;
 pub mod proof;
+mod restore;
 pub mod scan;
 pub mod staged;
 
 pub use open::{hasher, init, initial_root};
+pub use restore::take_up;

@@ -1,0 +1,186 @@
+-- The database of what an opening made.
+use Rattle.std.proofs.Common.{◌≡◌, ◌≢◌, ◌⊎◌, inl, inr, ◌*◌, Bool, true, false, ◌&&◌, [], ◌∷◌, eq-eqb, ne_eqb, ◌∙◌, ◌-◌, ◌≤◌, ◌<◌, ℕ, zero, suc, List, length, map, take, drop, arith, refl, ap, ap₂, sym, subst, Option, Some, None}
+use native.Mathlib.Nat.{mul_comm}
+use Rattle.std.specs.Prelude.{All, slice_get, option_and_then, option_map, not, ◌==◌, is_none, filter_map, IfSome, IsSome, OnOk, Result, Ok, Err}
+use Rattle.std.specs.List.{list_any}
+use Rattle.qm_model.specs.Forms.{Form, IsOf, decoded, spelling}
+use Rattle.qm_model.specs.Trees.{Shape, peaks}
+use Rattle.qm_model.specs.StoreModel.{Stored}
+use Rattle.qm_model.specs.Opening as opening
+use Rattle.qm_model.specs.Opening.{when, first_refusal, is_ring}
+use Rattle.qm_model.specs.Refused.{Refused, DataCorrupted, HeadDoesNotMatch, ItemDoesNotDecode, LinksFormNoRing}
+use Rattle.qm_base.specs.declared.error.Error.TheVariants as errors
+use Rattle.qm_base.specs.declared.error.JournalError.TheVariants as journal
+use Rattle.qm_base.specs.declared.error.Corrupt.TheVariants as corrupt
+use Rattle.qm_store.specs.Refusals.{IsDue}
+use Rattle.qm_open.specs.Selecting.{any_layout, any_found, content_refusal, floor_told}
+use Rattle.qm_build.specs.Reads.{items_within}
+use Rattle.std.proofs.lemmas.List.{length-map}
+use Rattle.qm_model.specs.Operations.{Bytes, Operation, update, delete, commit}
+use Rattle.qm_model.specs.Live.{floor, floor_after}
+use Rattle.qm_model.specs.Refusals.{commit_floor}
+use Rattle.qm_model.proofs.Forms.{decoded-spelling}
+use Rattle.qm_store.proofs.Shown.{item_read}
+use Rattle.qm_build.proofs.Reading.{spelled-there}
+use Rattle.qm_model.specs.Step.{IsGood}
+use Rattle.qm_bits.specs.Bitmaps.{Bitmap}
+use Rattle.qm_store.specs.declared.Store as store
+use Rattle.qm_base.specs.declared.error.Error.{Error}
+use Rattle.qm_store.specs.declared.log.LogGiven.{LogGiven}
+use Rattle.qm_store.specs.declared.log.LogGiven.TheVariants as variants
+use Rattle.qm_store.specs.Log.{Log, IsLog, IsRefused, store_given}
+use Rattle.qm_step.specs.Kinds.{HasRing}
+use Rattle.qm_build.specs.Opened.{IsOpened}
+use Rattle.qm_any.specs.Layouts.{Layout, spellings}
+use Rattle.qm_any.specs.Databases.{Database, IsDatabase}
+
+-- what shared metadata spells
+pub shared-bytes : {A V B : Type 0} (value : A → V) (bytes : V → B) (m : Option A) (meta : Option V) → option_map value m ≡ meta → option_map (λ r. bytes (value r)) m ≡ option_map bytes meta
+shared-bytes value bytes None meta is = ap (option_map bytes) is
+shared-bytes value bytes (Some a) meta is = ap (option_map bytes) is
+
+-- what is told
+pub told-so : {X : Type 0} (o : Option X) (Q : Type 0) → (IsSome o → Q) → IfSome o (λ _. Q)
+told-so None Q q = tt
+told-so (Some x) Q q = q refl
+
+module _ {C D : Type 0} (members : store.Ghosts C) (layout : Layout D) where
+  pub opened-stands : (old new : Log C D) (entries : List (ℕ × List ℕ)) (live_keys : ℕ) (activity : Bitmap) (root : Bytes) (meta : Option Bytes) (size low : ℕ) (db : Database C D) (list : List Operation)
+      → IsOpened members layout.hashing.shape layout.hashing.bytes layout.hashing.hash layout.hashing.form layout.index_key 64 old entries live_keys activity root meta list
+      → IsLog members layout.hashing.shape layout.hashing.bytes layout.hashing.hash new (spellings layout.hashing list) → IsSome (members.told new.store)
+      → db ≡ record { entries = entries; activity = activity; log = new; commitment = record { size = size; root = root }; floor = low; live = live_keys; metadata = meta }
+      → old.tree.leaves ≡ size → low ≡ floor list → IsGood list → HasRing layout.hashing.form list → IsDatabase members layout db list
+  opened-stands old new entries live_keys activity root meta size low db list opened logged told is leaves below good ring =
+      let whole : size ≡ length list = sym leaves ∙ opened.has.logged.size ∙ length-map list _ in
+      subst (λ d. IsDatabase members layout d list) (sym is) (record {
+        told = told;
+        lent = record { indexed = opened.indexed; logged = logged; of = opened.has.of };
+        commitment = ap₂ (λ n r. record { size = n; root = r }) whole opened.root_is;
+        floor = below;
+        live = opened.counted;
+        metadata = opened.metadata_is;
+        active = opened.active;
+        good = good;
+        ring = ring;
+      })
+
+-- what a log's call gives back that gives no log back
+pub given-store : {C D : Type 0} (members : store.Ghosts C) (Left : C → C → Type 0) (old : Log C D) (given : LogGiven (Log C D) C) (error : Error) → IsRefused members Left old given error → ((log : Log C D) → given ≢ variants.Log log)
+    → Left old.store (store_given given)
+given-store members Left old (variants.Log log) error refused never = absurd (never log refl)
+given-store members Left old (variants.Store s) error refused never = refused.left s refl
+
+-- What the checks of head, items and links come to.
+
+abbrev three : Bool → Bool → Bool → Option Refused
+three matches lost apart = first_refusal (when (not matches) (DataCorrupted HeadDoesNotMatch) ∷ when lost (DataCorrupted ItemDoesNotDecode) ∷ when apart (DataCorrupted LinksFormNoRing) ∷ [])
+
+module _ (form : Form) (shape : Shape) (size : ℕ) (s : Stored) (start : ℕ) (from : s.start ≡ start) (at : opening.Selected) where
+  abbrev links_apart : Bool
+  links_apart = form.ordered && not (is_ring (filter_map (λ item. item) (items_within form s at.floor at.size)))
+
+  abbrev content : Option Refused
+  content = content_refusal (any_layout form shape size) (any_found form s) (Some at)
+
+  in-three : content ≡ three (length s.head == size * length (peaks shape s.start)) (list_any is_none (items_within form s at.floor at.size)) links_apart
+  in-three = refl
+
+  turned : length (peaks shape start) * size ≡ size * length (peaks shape s.start)
+  turned = mul_comm (length (peaks shape start)) size ∙ ap (λ n. size * length (peaks shape n)) (sym from)
+
+  head-refused : length s.head ≢ length (peaks shape start) * size → content ≡ Some (DataCorrupted HeadDoesNotMatch)
+  head-refused other = ap (λ b. three b (list_any is_none (items_within form s at.floor at.size)) links_apart) (ne_eqb (length s.head) (size * length (peaks shape s.start)) (λ is. other (is ∙ sym turned)))
+
+  item-refused : length s.head ≡ length (peaks shape start) * size → list_any is_none (items_within form s at.floor at.size) ≡ true → content ≡ Some (DataCorrupted ItemDoesNotDecode)
+  item-refused long lost = ap₂ (λ b l. three b l links_apart) (eq-eqb (length s.head) (size * length (peaks shape s.start)) (long ∙ turned)) lost
+
+  -- nothing is refused of an unordered list
+  pub content-accepted : form.ordered ≡ false → length s.head ≡ length (peaks shape start) * size → list_any is_none (items_within form s at.floor at.size) ≡ false → content ≡ None
+  content-accepted unordered long whole =
+      ap₂ (λ b l. three b l links_apart) (eq-eqb (length s.head) (size * length (peaks shape s.start)) (long ∙ turned)) whole
+      ∙ ap (λ o. three true false (o && not (is_ring (filter_map (λ item. item) (items_within form s at.floor at.size))))) unordered
+
+  -- an error of an opening is due
+  pub opened-due : (e : Error) → (e ≡ errors.DataCorrupted corrupt.HeadDoesNotMatch → length s.head ≢ length (peaks shape start) * size)
+      → (e ≡ errors.DataCorrupted corrupt.ItemDoesNotDecode → (length s.head ≡ length (peaks shape start) * size) × (list_any is_none (items_within form s at.floor at.size) ≡ true))
+      → (e ≡ errors.Memory) ⊎ ((e ≡ errors.Journal journal.Store) ⊎ ((e ≡ errors.DataCorrupted corrupt.HeadDoesNotMatch) ⊎ (e ≡ errors.DataCorrupted corrupt.ItemDoesNotDecode)))
+      → IsDue e content
+  opened-due e head item (inl memory) = subst (λ e. IsDue e content) (sym memory) tt
+  opened-due e head item (inr (inl fault)) = subst (λ e. IsDue e content) (sym fault) tt
+  opened-due e head item (inr (inr (inl other))) = subst (λ e. IsDue e content) (sym other) (head-refused (head other))
+  opened-due e head item (inr (inr (inr lost))) = let both = item lost in subst (λ e. IsDue e content) (sym lost) (item-refused both.0 both.1)
+
+-- what holds of what is told, where that is known
+pub each-known : {X : Type 0} (o : Option X) {Q : X → Type 0} → ((x : X) → o ≡ Some x → Q x) → IfSome o Q
+each-known None all = tt
+each-known (Some x) all = all x refl
+
+pub known-at : {X : Type 0} (P : X → Type 0) (o : Option X) (x : X) → o ≡ Some x → IfSome o P → P x
+known-at P None x is p = cc
+known-at P (Some y) x is p = let same : y ≡ x = cc in subst P same p
+
+pub on-ok : {X E : Type 0} {P : Type 0} (r : Result X E) → P → OnOk r P
+on-ok (Ok x) p = p
+on-ok (Err e) p = tt
+
+-- The floor of a list is what its last commit tells.
+
+floor-last : (before : ℕ) (ops : List Operation) (i f : ℕ) → suc i ≡ length ops → option_and_then commit_floor (slice_get ops i) ≡ Some f → floor_after before ops ≡ f
+floor-last before [] i f long is = absurd (omega (arith, long))
+floor-last before (update k v n ∷ []) zero f long is = cc
+floor-last before (delete k ∷ []) zero f long is = cc
+floor-last before (commit m h ∷ []) zero f long is = let same : h ≡ f = cc in same
+floor-last before (op ∷ []) (suc i) f long is = absurd (omega (arith, long))
+floor-last before (op ∷ next ∷ rest) zero f long is = absurd (omega (arith, long))
+floor-last before (update k v n ∷ next ∷ rest) (suc i) f long is = floor-last before (next ∷ rest) i f (omega (arith, long)) is
+floor-last before (delete k ∷ next ∷ rest) (suc i) f long is = floor-last before (next ∷ rest) i f (omega (arith, long)) is
+floor-last before (commit m h ∷ next ∷ rest) (suc i) f long is = floor-last h (next ∷ rest) i f (omega (arith, long)) is
+
+-- so the floor that is told at the end of a store's list is the list's
+pub told-floor : (form : Form) (s : Stored) (size f : ℕ) (list : List Operation) → length list ≡ size → All (IsOf form) list → take (size - s.start) s.items ≡ drop s.start (map (spelling form) list)
+    → s.start ≤ size - 1 → 0 < size → floor_told form s (size - 1) ≡ Some f → f ≡ floor list
+told-floor form s size f list long of same low some is = by (slice_get s.items (size - 1 - s.start)) refl
+  where
+    by : (o : Option Bytes) → slice_get s.items (size - 1 - s.start) ≡ o → f ≡ floor list
+    by None none = let lost : floor_told form s (size - 1) ≡ None = ap (λ o. option_and_then commit_floor (option_and_then (decoded form) o)) none in cc
+    by (Some item) here =
+        let whole = length-map list (spelling form) in
+        let same' = subst (λ n. take (n - s.start) s.items ≡ drop s.start (map (spelling form) list)) (sym long ∙ sym whole) same in
+        let there = item_read s.items (map (spelling form) list) s.start (size - 1) item low (omega (arith, whole, long, some)) same' here in
+        let spelled = spelled-there form list (size - 1) item of there in
+        let spells = spelled.2 in
+        let decodes : decoded form item ≡ Some spelled.0 = ap (decoded form) (sym spells.spelled) ∙ decoded-spelling form spelled.0 spells.of in
+        let told : option_and_then commit_floor (slice_get list (size - 1)) ≡ Some f = ap (option_and_then commit_floor) (spelled.1 ∙ sym decodes) ∙ ap (λ o. option_and_then commit_floor (option_and_then (decoded form) o)) (sym here) ∙ is in
+        sym (floor-last 0 list (size - 1) f (omega (arith, long, some)) told)
+
+-- Nothing is selected of an empty store.
+
+module _ (form : Form) (shape : Shape) (size : ℕ) (s : Stored) (from : s.start ≡ 0) (bare : peaks shape 0 ≡ []) where
+  abbrev nothing : Option Refused
+  nothing = content_refusal (any_layout form shape size) (any_found form s) None
+
+  no-pins : size * length (peaks shape s.start) ≡ 0
+  no-pins = ap (λ n. size * length (peaks shape n)) from ∙ ap (λ ps. size * length ps) bare ∙ omega arith
+
+  no-links : (o : Bool) → (o && false) ≡ false
+  no-links true = refl
+  no-links false = refl
+
+  no-items : items_within form s 0 0 ≡ []
+  no-items = let none : 0 - s.start ≡ 0 = omega arith in ap₂ (λ a b. drop a (take b (map (decoded form) s.items))) none none
+
+  in-items : (items : List (Option Operation)) → items ≡ [] → three (length s.head == size * length (peaks shape s.start)) (list_any is_none items) (form.ordered && not (is_ring (filter_map (λ item. item) items)))
+      ≡ three (length s.head == size * length (peaks shape s.start)) false false
+  in-items items none = ap (λ xs. three (length s.head == size * length (peaks shape s.start)) (list_any is_none xs) (form.ordered && not (is_ring (filter_map (λ item. item) xs)))) none
+      ∙ ap (λ b. three (length s.head == size * length (peaks shape s.start)) false b) (no-links form.ordered)
+
+  pub nothing-accepted : s.head ≡ [] → nothing ≡ None
+  nothing-accepted none = in-items (items_within form s 0 0) no-items ∙ ap (λ b. three b false false) (eq-eqb (length s.head) (size * length (peaks shape s.start)) (ap length none ∙ sym no-pins))
+
+  nothing-refused : 0 < length s.head → nothing ≡ Some (DataCorrupted HeadDoesNotMatch)
+  nothing-refused some = in-items (items_within form s 0 0) no-items ∙ ap (λ b. three b false false) (ne_eqb (length s.head) (size * length (peaks shape s.start)) (λ is. let none : length s.head ≡ 0 = is ∙ no-pins in absurd (omega (arith, some, none))))
+
+  pub nothing-due : (e : Error) → (e ≡ errors.DataCorrupted corrupt.HeadDoesNotMatch → 0 < length s.head) → (e ≡ errors.Memory) ⊎ ((e ≡ errors.Journal journal.Store) ⊎ (e ≡ errors.DataCorrupted corrupt.HeadDoesNotMatch)) → IsDue e nothing
+  nothing-due e head (inl memory) = subst (λ e. IsDue e nothing) (sym memory) tt
+  nothing-due e head (inr (inl fault)) = subst (λ e. IsDue e nothing) (sym fault) tt
+  nothing-due e head (inr (inr other)) = subst (λ e. IsDue e nothing) (sym other) (nothing-refused (head other))

@@ -1,0 +1,33 @@
+use Rattle.std.proofs.Common.{◌≡◌, ◌∙◌, map, ap, ap₂, refl, sym, subst}
+use Rattle.qm_model.specs.Causes.{IsCause}
+use Rattle.qm_base.specs.declared.error.Error.TheVariants as errors
+use Rattle.qm_base.specs.declared.error.JournalError.TheVariants as journal
+use Rattle.qm_model.specs.Forms.{spelling}
+use Rattle.qm_any.specs.Layouts.{layout_of}
+use Rattle.qm_any.proofs.Lasting.{still-told}
+use Rattle.qm_any.proofs.Restoring.{shared-bytes, told-so, opened-stands, given-store}
+use Rattle.qm_any.proofs.restore.settled.Goals as goal
+
+pub returns-in-Ok-settle-clause-stands : goal.returns-in-Ok-settle-clause-stands
+returns-in-Ok-settle-clause-stands g c = λ list opened good ring low.
+    let members = g.C.Store in
+    let old = c.args.opened.log in
+    let new = c.in-Ok-settle.log in
+    let bytes = g.U.Value.ByteString.bytes in
+    told-so (members.told old.store) _ (λ told.
+    opened-stands members (layout_of g.H.Digest.Digest.bytes g.H.Hasher g.F.Family g.U.Update g.I.Unordered) old new _ _ _ _ _ c.args.selected.size c.args.selected.floor c.of_parts.result list opened
+    (c.in-Ok-settle.ensures.stands (map (spelling g.U.Update.form) list) opened.has.logged) (still-told (members.told old.store) (members.told new.store) _ c.in-Ok-settle.ensures.settled told)
+    (c.of_parts.ensures ∙ ap₂ (λ f m. record { entries = g.I.Unordered.entries c.args.opened.index; activity = c.args.opened.activity; log = new; commitment = record { size = c.args.selected.size; root = g.H.Digest.Digest.bytes c.args.opened.root }; floor = f; live = c.args.opened.live; metadata = m }) c.new-floor.ensures (shared-bytes (λ r. r.value) bytes c.in-Ok.metadata c.args.opened.metadata c.in-Ok.ensures))
+    c.requires.size low good ring)
+
+pub returns-in-Err-clause-back : goal.returns-in-Err-clause-back
+returns-in-Err-clause-back g c =
+    let members = g.C.Store in
+    let old = c.args.opened.log in
+    let refused = c.in-Err.ensures.refused in
+    let left = given-store members _ old c.in-Err.refusal.given c.in-Err.refusal.error refused c.in-Err.ensures.given in (
+      c.store_of.result,
+      refl,
+      ap members.start c.store_of.ensures ∙ left.start,
+      subst (λ s. IsCause (members.faults old.store) (members.faults s) (c.in-Err.refusal.error ≡ errors.Journal journal.Store)) (sym c.store_of.ensures) refused.cause,
+    )

@@ -1,0 +1,25 @@
+-- The list that an opening takes up of a store.
+use Rattle.std.specs.Prelude.{◌≡◌, ◌-◌, ℕ, List, length, take, drop, All, Option}
+use Rattle.qm_model.specs.Forms.{IsOf}
+use Rattle.qm_model.specs.Opening as opening
+use Rattle.qm_model.specs.Opening.{size_of}
+use Rattle.qm_model.specs.Operations.{Operation}
+use Rattle.qm_model.specs.Step.{IsGood}
+use Rattle.qm_model.specs.StoreModel.{Stored}
+use Rattle.qm_store.specs.Log.{IsHead, digests_from}
+use Rattle.qm_open.specs.Selecting.{any_found}
+use Rattle.qm_step.specs.Kinds.{HasRing}
+use Rattle.qm_any.specs.Layouts.{Hashing, spellings}
+
+-- a store has a list of a database of this kind up to a size: its items from the start on, and what stands before it
+pub record HasList {D : Type 0} (hashing : Hashing D) (s : Stored) (size : ℕ) (list : List Operation) : Type 0 where
+  pub size_is : length list ≡ size
+  pub of : All (IsOf hashing.form) list
+  pub good : IsGood list
+  pub ring : HasRing hashing.form list
+  pub items : take (size - s.start) s.items ≡ drop s.start (spellings hashing list)
+  pub head : IsHead hashing.shape hashing.bytes hashing.hash s.start (digests_from hashing.hash hashing.shape 0 (spellings hashing list)) s.head
+
+-- the size of the list that an opening up to a bound selects
+abbrev pub selected_size : {D : Type 0} → Hashing D → Option ℕ → Stored → ℕ
+selected_size hashing bound s = size_of (opening.selected (any_found hashing.form s) bound)
