@@ -7,6 +7,7 @@ pub mod Reading
 pub mod Resting
 pub mod Restoring
 pub mod Staging
+pub mod Taking
 pub mod Telling
 pub mod Trees
 pub mod Unapplied

@@ -3,6 +3,7 @@ use Rattle.std.proofs.Common.{◌≡◌, ◌≢◌, ◌⊎◌, inl, inr, ◌*◌
 use native.Mathlib.Nat.{mul_comm}
 use Rattle.std.specs.Prelude.{All, slice_get, option_and_then, option_map, not, ◌==◌, is_none, filter_map, IfSome, IsSome, OnOk, Result, Ok, Err}
 use Rattle.std.specs.List.{list_any}
+use Rattle.qm_model.specs.Causes.{IsCause}
 use Rattle.qm_model.specs.Forms.{Form, IsOf, decoded, spelling}
 use Rattle.qm_model.specs.Trees.{Shape, peaks}
 use Rattle.qm_model.specs.StoreModel.{Stored}
@@ -14,14 +15,14 @@ use Rattle.qm_base.specs.declared.error.JournalError.TheVariants as journal
 use Rattle.qm_base.specs.declared.error.Corrupt.TheVariants as corrupt
 use Rattle.qm_store.specs.Refusals.{IsDue}
 use Rattle.qm_open.specs.Selecting.{any_layout, any_found, content_refusal, floor_told}
-use Rattle.qm_build.specs.Reads.{items_within}
+use Rattle.qm_build.specs.Reads.{items_within, IsRead, IsReadError}
 use Rattle.std.proofs.lemmas.List.{length-map}
 use Rattle.qm_model.specs.Operations.{Bytes, Operation, update, delete, commit}
 use Rattle.qm_model.specs.Live.{floor, floor_after}
 use Rattle.qm_model.specs.Refusals.{commit_floor}
 use Rattle.qm_model.proofs.Forms.{decoded-spelling}
 use Rattle.qm_store.proofs.Shown.{item_read}
-use Rattle.qm_build.proofs.Reading.{spelled-there}
+use Rattle.qm_build.proofs.Reading.{spelled-there, operations-then, caused}
 use Rattle.qm_model.specs.Step.{IsGood}
 use Rattle.qm_bits.specs.Bitmaps.{Bitmap}
 use Rattle.qm_store.specs.declared.Store as store
@@ -33,6 +34,7 @@ use Rattle.qm_step.specs.Kinds.{HasRing}
 use Rattle.qm_build.specs.Opened.{IsOpened}
 use Rattle.qm_any.specs.Layouts.{Layout, spellings}
 use Rattle.qm_any.specs.Databases.{Database, IsDatabase}
+use Rattle.qm_any.specs.Restoring.{links_apart}
 
 -- what shared metadata spells
 pub shared-bytes : {A V B : Type 0} (value : A → V) (bytes : V → B) (m : Option A) (meta : Option V) → option_map value m ≡ meta → option_map (λ r. bytes (value r)) m ≡ option_map bytes meta
@@ -76,29 +78,30 @@ abbrev three : Bool → Bool → Bool → Option Refused
 three matches lost apart = first_refusal (when (not matches) (DataCorrupted HeadDoesNotMatch) ∷ when lost (DataCorrupted ItemDoesNotDecode) ∷ when apart (DataCorrupted LinksFormNoRing) ∷ [])
 
 module _ (form : Form) (shape : Shape) (size : ℕ) (s : Stored) (start : ℕ) (from : s.start ≡ start) (at : opening.Selected) where
-  abbrev links_apart : Bool
-  links_apart = form.ordered && not (is_ring (filter_map (λ item. item) (items_within form s at.floor at.size)))
+  abbrev apart : Bool
+  apart = links_apart form s at.floor at.size
 
   abbrev content : Option Refused
   content = content_refusal (any_layout form shape size) (any_found form s) (Some at)
 
-  in-three : content ≡ three (length s.head == size * length (peaks shape s.start)) (list_any is_none (items_within form s at.floor at.size)) links_apart
+  in-three : content ≡ three (length s.head == size * length (peaks shape s.start)) (list_any is_none (items_within form s at.floor at.size)) apart
   in-three = refl
 
   turned : length (peaks shape start) * size ≡ size * length (peaks shape s.start)
   turned = mul_comm (length (peaks shape start)) size ∙ ap (λ n. size * length (peaks shape n)) (sym from)
 
   head-refused : length s.head ≢ length (peaks shape start) * size → content ≡ Some (DataCorrupted HeadDoesNotMatch)
-  head-refused other = ap (λ b. three b (list_any is_none (items_within form s at.floor at.size)) links_apart) (ne_eqb (length s.head) (size * length (peaks shape s.start)) (λ is. other (is ∙ sym turned)))
+  head-refused other = ap (λ b. three b (list_any is_none (items_within form s at.floor at.size)) apart) (ne_eqb (length s.head) (size * length (peaks shape s.start)) (λ is. other (is ∙ sym turned)))
 
   item-refused : length s.head ≡ length (peaks shape start) * size → list_any is_none (items_within form s at.floor at.size) ≡ true → content ≡ Some (DataCorrupted ItemDoesNotDecode)
-  item-refused long lost = ap₂ (λ b l. three b l links_apart) (eq-eqb (length s.head) (size * length (peaks shape s.start)) (long ∙ turned)) lost
+  item-refused long lost = ap₂ (λ b l. three b l apart) (eq-eqb (length s.head) (size * length (peaks shape s.start)) (long ∙ turned)) lost
 
-  -- nothing is refused of an unordered list
-  pub content-accepted : form.ordered ≡ false → length s.head ≡ length (peaks shape start) * size → list_any is_none (items_within form s at.floor at.size) ≡ false → content ≡ None
-  content-accepted unordered long whole =
-      ap₂ (λ b l. three b l links_apart) (eq-eqb (length s.head) (size * length (peaks shape s.start)) (long ∙ turned)) whole
-      ∙ ap (λ o. three true false (o && not (is_ring (filter_map (λ item. item) (items_within form s at.floor at.size))))) unordered
+  -- nothing is refused of an unordered list, nor of one whose links form a ring
+  pub content-accepted : length s.head ≡ length (peaks shape start) * size → list_any is_none (items_within form s at.floor at.size) ≡ false → apart ≡ false → content ≡ None
+  content-accepted long whole ring = ap₂ (λ b l. three b l apart) (eq-eqb (length s.head) (size * length (peaks shape s.start)) (long ∙ turned)) whole ∙ ap (three true false) ring
+
+  links-refused : length s.head ≡ length (peaks shape start) * size → list_any is_none (items_within form s at.floor at.size) ≡ false → apart ≡ true → content ≡ Some (DataCorrupted LinksFormNoRing)
+  links-refused long whole none = ap₂ (λ b l. three b l apart) (eq-eqb (length s.head) (size * length (peaks shape s.start)) (long ∙ turned)) whole ∙ ap (three true false) none
 
   -- an error of an opening is due
   pub opened-due : (e : Error) → (e ≡ errors.DataCorrupted corrupt.HeadDoesNotMatch → length s.head ≢ length (peaks shape start) * size)
@@ -109,6 +112,34 @@ module _ (form : Form) (shape : Shape) (size : ℕ) (s : Stored) (start : ℕ) (
   opened-due e head item (inr (inl fault)) = subst (λ e. IsDue e content) (sym fault) tt
   opened-due e head item (inr (inr (inl other))) = subst (λ e. IsDue e content) (sym other) (head-refused (head other))
   opened-due e head item (inr (inr (inr lost))) = let both = item lost in subst (λ e. IsDue e content) (sym lost) (item-refused both.0 both.1)
+
+  -- and so is one of the look at the links behind it
+  pub links-due : {C D : Type 0} (members : store.Ghosts C) (old new : Log C D) (e : Error) → length s.head ≡ length (peaks shape start) * size → list_any is_none (items_within form s at.floor at.size) ≡ false
+      → (e ≡ errors.DataCorrupted corrupt.LinksFormNoRing → apart ≡ true) → (e ≡ errors.DataCorrupted corrupt.ItemDoesNotDecode → list_any is_none (items_within form s at.floor at.size) ≡ true)
+      → IsReadError members old new e ⊎ (e ≡ errors.DataCorrupted corrupt.LinksFormNoRing) → IsDue e content
+  links-due members old new e long whole none lost (inl (inl (inl memory))) = subst (λ e. IsDue e content) (sym memory) tt
+  links-due members old new e long whole none lost (inl (inl (inr (fault, rose)))) = subst (λ e. IsDue e content) (sym fault) tt
+  links-due members old new e long whole none lost (inl (inr item)) = let no : true ≡ false = sym (lost item) ∙ whole in absurd cc
+  links-due members old new e long whole none lost (inr links) = subst (λ e. IsDue e content) (sym links) (links-refused long whole (none links))
+
+-- what was opened is still what it was, behind reads
+pub opened-read : {C D : Type 0} (members : store.Ghosts C) (shape : Shape) (bytes : D → Bytes) (hash : Bytes → Bytes) (form : Form) (index_key : Bytes → ℕ) (n : ℕ) (old new : Log C D) (entries : List (ℕ × List ℕ)) (live_keys : ℕ) (activity : Bitmap) (root : Bytes)
+    (meta : Option Bytes) (list : List Operation) → IsRead members shape bytes hash old new → IsOpened members shape bytes hash form index_key n old entries live_keys activity root meta list
+    → IsOpened members shape bytes hash form index_key n new entries live_keys activity root meta list
+opened-read members shape bytes hash form index_key n old new entries live_keys activity root meta list read is = record {
+  has = operations-then members shape bytes hash form old new list read is.has;
+  indexed = is.indexed;
+  counted = is.counted;
+  active = is.active;
+  root_is = is.root_is;
+  metadata_is = is.metadata_is;
+}
+
+-- an error of the look at the links tells of the store only where its count of faults rose
+pub links-caused : {C D : Type 0} (members : store.Ghosts C) (first : C) (old new : Log C D) (e : Error) → members.faults first ≤ members.faults old.store → members.faults old.store ≤ members.faults new.store
+    → IsReadError members old new e ⊎ (e ≡ errors.DataCorrupted corrupt.LinksFormNoRing) → IsCause (members.faults first) (members.faults new.store) (e ≡ errors.Journal journal.Store)
+links-caused members first old new e before after (inl failed) = caused members (record { store = first; tree = old.tree }) old new e before after failed
+links-caused members first old new e before after (inr links) = record { later = omega (arith, before, after); failed = λ fault. absurd cc }
 
 -- what holds of what is told, where that is known
 pub each-known : {X : Type 0} (o : Option X) {Q : X → Type 0} → ((x : X) → o ≡ Some x → Q x) → IfSome o Q
@@ -153,6 +184,11 @@ told-floor form s size f list long of same low some is = by (slice_get s.items (
         let told : option_and_then commit_floor (slice_get list (size - 1)) ≡ Some f = ap (option_and_then commit_floor) (spelled.1 ∙ sym decodes) ∙ ap (λ o. option_and_then commit_floor (option_and_then (decoded form) o)) (sym here) ∙ is in
         sym (floor-last 0 list (size - 1) f (omega (arith, long, some)) told)
 
+-- where no reason is due, none is there
+pub refused-none : (due : Option Refused) → due ≡ None → IsSome due → ⊥
+refused-none None none some = absurd (cc some)
+refused-none (Some r) none some = absurd (cc none)
+
 -- Nothing is selected of an empty store.
 
 module _ (form : Form) (shape : Shape) (size : ℕ) (s : Stored) (from : s.start ≡ 0) (bare : peaks shape 0 ≡ []) where
@@ -184,3 +220,11 @@ module _ (form : Form) (shape : Shape) (size : ℕ) (s : Stored) (from : s.start
   nothing-due e head (inl memory) = subst (λ e. IsDue e nothing) (sym memory) tt
   nothing-due e head (inr (inl fault)) = subst (λ e. IsDue e nothing) (sym fault) tt
   nothing-due e head (inr (inr other)) = subst (λ e. IsDue e nothing) (sym other) (nothing-refused (head other))
+
+  -- where something is refused of an empty store, its head has a byte
+  pub nothing-headed : IsSome nothing → 0 < length s.head
+  nothing-headed some = by s.head refl
+    where
+      by : (head : Bytes) → s.head ≡ head → 0 < length s.head
+      by [] none = absurd (refused-none nothing (nothing-accepted none) some)
+      by (b ∷ bs) is = let long : length s.head ≡ suc (length bs) = ap length is in omega (arith, long)

@@ -1,12 +1,13 @@
 -- The list that an opening takes up of a store.
-use Rattle.std.specs.Prelude.{◌≡◌, ◌-◌, ℕ, List, length, take, drop, All, Option}
-use Rattle.qm_model.specs.Forms.{IsOf}
+use Rattle.std.specs.Prelude.{◌≡◌, ◌-◌, ℕ, zero, suc, min, Bool, ◌&&◌, not, List, length, take, drop, filter_map, All, Option}
+use Rattle.qm_model.specs.Forms.{Form, IsOf}
 use Rattle.qm_model.specs.Opening as opening
-use Rattle.qm_model.specs.Opening.{size_of}
-use Rattle.qm_model.specs.Operations.{Operation}
+use Rattle.qm_model.specs.Opening.{size_of, is_ring}
+use Rattle.qm_model.specs.Operations.{Operation, fresh}
 use Rattle.qm_model.specs.Step.{IsGood}
-use Rattle.qm_model.specs.StoreModel.{Stored}
+use Rattle.qm_model.specs.StoreModel.{Stored, appended, settled, rewound, HasAppended, ReadsAs, RewindLeaves}
 use Rattle.qm_store.specs.Log.{IsHead, digests_from}
+use Rattle.qm_build.specs.Reads.{items_within}
 use Rattle.qm_open.specs.Selecting.{any_found}
 use Rattle.qm_step.specs.Kinds.{HasRing}
 use Rattle.qm_any.specs.Layouts.{Hashing, spellings}
@@ -20,6 +21,21 @@ pub record HasList {D : Type 0} (hashing : Hashing D) (s : Stored) (size : ℕ) 
   pub items : take (size - s.start) s.items ≡ drop s.start (spellings hashing list)
   pub head : IsHead hashing.shape hashing.bytes hashing.hash s.start (digests_from hashing.hash hashing.shape 0 (spellings hashing list)) s.head
 
+-- the links of an ordered list, from its floor on up to its size, form no ring
+abbrev pub links_apart : Form → Stored → ℕ → ℕ → Bool
+links_apart form s floor size = form.ordered && not (is_ring (filter_map (λ item. item) (items_within form s floor size)))
+
 -- the size of the list that an opening up to a bound selects
 abbrev pub selected_size : {D : Type 0} → Hashing D → Option ℕ → Stored → ℕ
 selected_size hashing bound s = size_of (opening.selected (any_found hashing.form s) bound)
+
+-- a store after an opening that took up a list of this size, 0 where that is the fresh one: what it has behind the list is gone, and all is
+-- stable
+abbrev pub taken : {D : Type 0} → Hashing D → ℕ → Stored → Stored
+taken hashing zero s = settled (appended (spellings hashing fresh) s)
+taken hashing (suc n) s = settled (rewound (suc n) s)
+
+-- what an opening leaves that failed: a first part of the fresh list behind the store's items, or what a rewind to the list's size may leave
+abbrev pub LeavesOpening : {D : Type 0} → Hashing D → ℕ → Stored → Stored → Type 0
+LeavesOpening hashing zero s new = HasAppended (spellings hashing fresh) s new
+LeavesOpening hashing (suc n) s new = ReadsAs (min s.stable (suc n)) (RewindLeaves (suc n) s) new

@@ -1,6 +1,6 @@
 //! How the list that a store keeps is taken up.
 
-ghost use Rattle.std.specs.Prelude.{option_map, ◌≡◌, ◌≢◌, ◌⊎◌, ◌<◌, ◌≤◌, ◌-◌, ◌*◌, ℕ, List, length, map, take, drop, is_none, true, false, All, Some, None, IfSome, IfOk, IfErr, OnOk, IsSome};
+ghost use Rattle.std.specs.Prelude.{option_map, ◌≡◌, ◌≢◌, ◌⊎◌, ◌<◌, ◌≤◌, ◌-◌, ◌*◌, ℕ, min, List, length, map, take, drop, is_none, true, false, All, Some, None, IfSome, IfOk, IfErr, OnOk, IsSome};
 ghost use Rattle.std.specs.List.{list_any};
 ghost use Rattle.qm_model.specs.Causes.{IsCause};
 ghost use Rattle.qm_model.specs.Forms.{IsOf, spelling};
@@ -8,27 +8,29 @@ ghost use Rattle.qm_model.specs.Live as lives;
 ghost use Rattle.qm_model.specs.Opening.{opening_refusal};
 ghost use Rattle.qm_model.specs.Operations.{Operation, fresh};
 ghost use Rattle.qm_model.specs.Step.{IsGood};
+ghost use Rattle.qm_model.specs.StoreModel.{end_of, appended, settled, rewound, HasAppended, ReadsAs, RewindLeaves, Turns, Becomes};
 ghost use Rattle.qm_model.specs.Trees.{peaks};
 ghost use Rattle.qm_bits.specs.Bitmaps.{bit_count};
+ghost use Rattle.qm_store.specs.Given.{store_given, IsUnchanged};
 ghost use Rattle.qm_store.specs.Log.{IsHead, IsKept, digests_from};
 ghost use Rattle.qm_build.specs.Opened.{IsOpened};
-ghost use Rattle.qm_build.specs.Reads.{items_within};
+ghost use Rattle.qm_build.specs.Reads.{items_within, IsRead, IsReadError};
 ghost use Rattle.qm_step.specs.Kinds.{HasRing};
 ghost use Rattle.qm_open.specs.Selecting.{any_layout, any_found, content_refusal, selected_view};
 ghost use Rattle.qm_store.specs.Refusals.{refusal_of, IsDue};
 ghost use Rattle.qm_any.specs.Databases.{IsDatabase};
-ghost use Rattle.qm_any.specs.Restoring.{selected_size, HasList};
+ghost use Rattle.qm_any.specs.Restoring.{links_apart, selected_size, taken, HasList, LeavesOpening};
 
 use crate::db::{Db, LaidOut};
 use crate::open::{init, store_of};
 use qm_base::update::Update;
 use qm_base::{Commitment, Corrupt, Digest, Error, Hasher, JournalError, Location};
 use qm_bits::Chunk64;
-use qm_build::{Opened, open_at};
+use qm_build::{Opened, forms_ring, open_at};
 use qm_index::Factory;
 use qm_merkle::Family;
 use qm_open::{Selected, select_commit};
-use qm_store::{Given, Refusal, Store};
+use qm_store::{AuthLog, Given, Refusal, Store};
 use std::alloc::{AllocError, Global};
 use std::num::NonZeroUsize;
 use std::rc::Rc;
@@ -58,8 +60,11 @@ fn settled<
     requires size { opened.log.tree.leaves ≡ selected.size }
     requires bits { bit_count 64 opened.activity ≡ selected.size }
     requires live { opened.live ≤ selected.size }
+    requires stable { IfSome (C.told opened.log.store) (λ s. s.stable ≤ end_of s) }
     ensures stands { (list : List Operation) → IsOpened C.Store F.shape H.Digest.bytes H.hash U.form I.index_key 64 opened.log (I.entries opened.index) opened.live opened.activity (H.Digest.bytes opened.root) (option_map U.Value.bytes opened.metadata) list
         → IsGood list → HasRing U.form list → selected.floor ≡ lives.floor list → IfSome (C.told opened.log.store) (λ _. IfOk result (λ db. IsDatabase C.Store ⟦<Db<F, C, I, H, U> as LaidOut>⟧.layout db list)) }
+    ensures became { IfOk result (λ db. Becomes (C.told opened.log.store) (C.told db.log.store) (rewound selected.size)) }
+    ensures left { IfErr result (λ r. Turns (C.told opened.log.store) (C.told (store_given (λ db. db.log.store) r.given)) (λ s. ReadsAs (min s.stable selected.size) (RewindLeaves selected.size s))) }
     ensures start { IfOk result (λ db. C.start db.log.store ≡ C.start opened.log.store) }
     ensures later { IfOk result (λ db. C.faults opened.log.store ≤ C.faults db.log.store) }
     ensures back { IfErr result (λ r. (s : C) × (r.given ≡ Given.Store s) × (C.start s ≡ C.start opened.log.store) × IsCause (C.faults opened.log.store) (C.faults s) (r.error ≡ Error.Journal JournalError.Store)) }
@@ -93,6 +98,65 @@ fn settled<
     }
 }
 
+// Refuses the links of an ordered list that, from a location on, form no ring.
+fn check_links<F: Family, C: Store, H: Hasher + Drop, U: Update>(
+    alloc: Global,
+    log: &mut AuthLog<F, C, H>,
+    from: u64,
+) -> Result<(), Error>
+    requires kept { C.start log.old.store ≤ from }
+    requires below { from ≤ log.old.tree.leaves }
+    ensures ring { IfSome (C.told log.old.store) (λ s. OnOk result (links_apart U.form s from log.old.tree.leaves ≡ false)) }
+    ensures apart { IfErr result (λ e. e ≡ Error.DataCorrupted Corrupt.LinksFormNoRing → IfSome (C.told log.old.store) (λ s. links_apart U.form s from log.old.tree.leaves ≡ true)) }
+    ensures undecoded { IfErr result (λ e. e ≡ Error.DataCorrupted Corrupt.ItemDoesNotDecode → IfSome (C.told log.old.store) (λ s. list_any is_none (items_within U.form s from log.old.tree.leaves) ≡ true)) }
+    ensures read { IsRead C.Store F.shape H.Digest.bytes H.hash log.old log.new }
+    ensures error { IfErr result (λ e. IsReadError C.Store log.old log.new e ⊎ (e ≡ Error.DataCorrupted Corrupt.LinksFormNoRing)) }
+{
+    if !U::is_ordered() {
+        return Ok(());
+    }
+    // Its tree starts where its store does.
+    log.bounds();
+    match forms_ring::<F, C, H, U>(alloc, log, from) {
+        Ok(true) => Ok(()),
+        Ok(false) => Err(Error::DataCorrupted(Corrupt::LinksFormNoRing)),
+        Err(error) => Err(error),
+    }
+}
+
+// What is made of the list that ends with the selected commit, where head, items and links of the store are right.
+fn open_checked<F: Family, C: Store, I: Factory<Value = Location<F>>, H: Hasher + Drop, U: Update>(
+    alloc: Global,
+    store: C,
+    hasher: H,
+    translator: I::Translator,
+    kept_keys: NonZeroUsize,
+    selected: Selected,
+) -> Result<Opened<Chunk64, F, C, I, H, U>, Refusal<Db<F, C, I, H, U>, C>>
+    requires start { C.start store ≤ selected.floor }
+    requires floor { selected.floor < selected.size }
+    requires end { selected.size ≤ C.end store }
+    ensures stands { (list : List Operation) → length list ≡ selected.size → All (IsOf U.form) list → IsGood list → selected.floor ≡ lives.floor list → IfSome (C.told store) (λ held.
+        take (selected.size - C.start store) held.items ≡ drop (C.start store) (map (spelling U.form) list) → IsHead F.shape H.Digest.bytes H.hash (C.start store) (digests_from H.hash F.shape 0 (map (spelling U.form) list)) held.head
+        → IfOk result (λ o. IsOpened C.Store F.shape H.Digest.bytes H.hash U.form I.index_key 64 o.log (I.entries o.index) o.live o.activity (H.Digest.bytes o.root) (option_map U.Value.bytes o.metadata) list)) }
+    ensures size { IfOk result (λ o. o.log.tree.leaves ≡ selected.size) }
+    ensures kept { IfOk result (λ o. IsKept C.Store store o.log.store) }
+    ensures later { IfOk result (λ o. C.faults store ≤ C.faults o.log.store) }
+    ensures bits { IfOk result (λ o. (bit_count 64 o.activity ≡ selected.size) × (o.live ≤ selected.size)) }
+    ensures accepted { IfSome (C.told store) (λ s. OnOk result (content_refusal (any_layout U.form F.shape H.Digest.SIZE) (any_found U.form s) (Some (selected_view selected)) ≡ None)) }
+    ensures refused { IfSome (C.told store) (λ s. IfErr result (λ r. IsDue r.error (content_refusal (any_layout U.form F.shape H.Digest.SIZE) (any_found U.form s) (Some (selected_view selected))))) }
+    ensures back { IfErr result (λ r. (s : C) × (r.given ≡ Given.Store s) × IsKept C.Store store s × IsCause (C.faults store) (C.faults s) (r.error ≡ Error.Journal JournalError.Store)) }
+{
+    let mut opened = open_at(alloc, store, hasher, translator, selected, kept_keys)?;
+    match check_links::<F, C, H, U>(alloc, &mut opened.log, selected.floor) {
+        Ok(()) => Ok(opened),
+        Err(error) => Err(Refusal {
+            given: Given::Store(opened.log.close()),
+            error,
+        }),
+    }
+}
+
 // The database of the list that ends with the selected commit.
 fn open_list<F: Family, C: Store, I: Factory<Value = Location<F>>, H: Hasher + Drop, U: Update>(
     alloc: Global,
@@ -105,15 +169,19 @@ fn open_list<F: Family, C: Store, I: Factory<Value = Location<F>>, H: Hasher + D
     requires start { C.start store ≤ selected.floor }
     requires floor { selected.floor < selected.size }
     requires end { selected.size ≤ C.end store }
+    requires stable { IfSome (C.told store) (λ s. s.stable ≤ end_of s) }
     ensures stands { IfSome (C.told store) (λ s. (list : List Operation) → HasList ⟦<Db<F, C, I, H, U> as LaidOut>⟧.layout.hashing s selected.size list → selected.floor ≡ lives.floor list
         → IfOk result (λ db. IsDatabase C.Store ⟦<Db<F, C, I, H, U> as LaidOut>⟧.layout db list)) }
+    ensures became { IfOk result (λ db. Becomes (C.told store) (C.told db.log.store) (λ s. settled (rewound selected.size s))) }
+    ensures left { IfErr result (λ r. Turns (C.told store) (C.told (store_given (λ db. db.log.store) r.given)) (λ s. ReadsAs (min s.stable selected.size) (RewindLeaves selected.size s))) }
+    ensures unopened { IfErr result (λ r. IfSome (C.told store) (λ s. IsSome (content_refusal (any_layout U.form F.shape H.Digest.SIZE) (any_found U.form s) (Some (selected_view selected))) → IsUnchanged C.Store store (store_given (λ db. db.log.store) r.given))) }
     ensures start { IfOk result (λ db. C.start db.log.store ≡ C.start store) }
     ensures later { IfOk result (λ db. C.faults store ≤ C.faults db.log.store) }
-    ensures accepted { U.form.ordered ≡ false → IfSome (C.told store) (λ s. OnOk result (content_refusal (any_layout U.form F.shape H.Digest.SIZE) (any_found U.form s) (Some (selected_view selected)) ≡ None)) }
+    ensures accepted { IfSome (C.told store) (λ s. OnOk result (content_refusal (any_layout U.form F.shape H.Digest.SIZE) (any_found U.form s) (Some (selected_view selected)) ≡ None)) }
     ensures refused { IfSome (C.told store) (λ s. IfErr result (λ r. IsDue r.error (content_refusal (any_layout U.form F.shape H.Digest.SIZE) (any_found U.form s) (Some (selected_view selected))))) }
     ensures back { IfErr result (λ r. (s : C) × (r.given ≡ Given.Store s) × (C.start s ≡ C.start store) × (IsSome (refusal_of r.error) → IsKept C.Store store s) × IsCause (C.faults store) (C.faults s) (r.error ≡ Error.Journal JournalError.Store)) }
 {
-    let opened = open_at(alloc, store, hasher, translator, selected, kept_keys)?;
+    let opened = open_checked(alloc, store, hasher, translator, kept_keys, selected)?;
     settled(alloc, opened, selected)?.commit()
 }
 
@@ -127,6 +195,9 @@ fn begin<F: Family, C: Store, I: Factory<Value = Location<F>>, H: Hasher + Drop,
     requires start { C.start store ≡ 0 }
     requires empty { C.end store ≡ 0 }
     ensures stands { IfSome (C.told store) (λ _. IfOk result (λ db. IsDatabase C.Store ⟦<Db<F, C, I, H, U> as LaidOut>⟧.layout db fresh)) }
+    ensures became { IfOk result (λ db. Becomes (C.told store) (C.told db.log.store) (λ s. settled (appended (map (spelling U.form) fresh) s))) }
+    ensures left { IfErr result (λ r. Turns (C.told store) (C.told (store_given (λ db. db.log.store) r.given)) (HasAppended (map (spelling U.form) fresh))) }
+    ensures unopened { IfErr result (λ r. IfSome (C.told store) (λ s. IsSome (content_refusal (any_layout U.form F.shape H.Digest.SIZE) (any_found U.form s) None) → IsUnchanged C.Store store (store_given (λ db. db.log.store) r.given))) }
     ensures start { IfOk result (λ db. C.start db.log.store ≡ C.start store) }
     ensures later { IfOk result (λ db. C.faults store ≤ C.faults db.log.store) }
     ensures accepted { IfSome (C.told store) (λ s. OnOk result (content_refusal (any_layout U.form F.shape H.Digest.SIZE) (any_found U.form s) None ≡ None)) }
@@ -139,9 +210,10 @@ fn begin<F: Family, C: Store, I: Factory<Value = Location<F>>, H: Hasher + Drop,
 /// Opens the list that a store keeps: the longest one of at most so many operations that ends with a commit, of which the
 /// store has the last operations; over an empty store a fresh one, with a commit of its own. What the store has behind the
 /// list goes, and all of it is made stable. It reads the items behind the selected commit and that one, then each item from
-/// the store's start on, and each from the list's floor on once more; so many keys at most are kept to tell those with the
-/// same index key apart. A refusal gives back the store, as it was but where memory lacks or a call of it failed. The links of
-/// an ordered list are not looked at.
+/// the store's start on, and each from the list's floor on once more, of an ordered list twice, the second time for its links.
+/// So many keys at most are kept to tell those with the same index key apart; for the links each live key is kept, with the
+/// one that it names. A refusal gives back the store, as it was but where memory lacks or a call of it failed, of a store for
+/// which all checks hold: then it may have lost what it had behind the list, or got a first part of the fresh one.
 pub fn take_up<F: Family, C: Store, I: Factory<Value = Location<F>>, H: Hasher + Drop, U: Update>(
     alloc: Global,
     store: C,
@@ -154,12 +226,17 @@ pub fn take_up<F: Family, C: Store, I: Factory<Value = Location<F>>, H: Hasher +
     ensures stands { IfSome (C.told store) (λ s. (list : List Operation) → HasList ⟦<Db<F, C, I, H, U> as LaidOut>⟧.layout.hashing s (selected_size ⟦<Db<F, C, I, H, U> as LaidOut>⟧.layout.hashing max_size s) list
         → IfOk result (λ db. IsDatabase C.Store ⟦<Db<F, C, I, H, U> as LaidOut>⟧.layout db list)) }
     ensures fresh { IfSome (C.told store) (λ s. selected_size ⟦<Db<F, C, I, H, U> as LaidOut>⟧.layout.hashing max_size s ≡ 0 → IfOk result (λ db. IsDatabase C.Store ⟦<Db<F, C, I, H, U> as LaidOut>⟧.layout db fresh)) }
-    ensures accepted { U.form.ordered ≡ false → IfSome (C.told store) (λ s. OnOk result (opening_refusal (any_layout U.form F.shape H.Digest.SIZE) (any_found U.form s) max_size ≡ None)) }
+    ensures accepted { IfSome (C.told store) (λ s. OnOk result (opening_refusal (any_layout U.form F.shape H.Digest.SIZE) (any_found U.form s) max_size ≡ None)) }
     ensures refused { IfSome (C.told store) (λ s. IfErr result (λ r. IsDue r.error (opening_refusal (any_layout U.form F.shape H.Digest.SIZE) (any_found U.form s) max_size))) }
+    ensures became { IfOk result (λ db. Turns (C.told store) (C.told db.log.store) (λ s new. new ≡ taken ⟦<Db<F, C, I, H, U> as LaidOut>⟧.layout.hashing (selected_size ⟦<Db<F, C, I, H, U> as LaidOut>⟧.layout.hashing max_size s) s)) }
+    ensures left { IfErr result (λ r. Turns (C.told store) (C.told (store_given (λ db. db.log.store) r.given)) (λ s new. LeavesOpening ⟦<Db<F, C, I, H, U> as LaidOut>⟧.layout.hashing (selected_size ⟦<Db<F, C, I, H, U> as LaidOut>⟧.layout.hashing max_size s) s new)) }
+    ensures unopened { IfErr result (λ r. IfSome (C.told store) (λ s. IsSome (opening_refusal (any_layout U.form F.shape H.Digest.SIZE) (any_found U.form s) max_size) → IsUnchanged C.Store store (store_given (λ db. db.log.store) r.given))) }
     ensures start { IfOk result (λ db. C.start db.log.store ≡ C.start store) }
     ensures later { IfOk result (λ db. C.faults store ≤ C.faults db.log.store) }
     ensures back { IfErr result (λ r. (s : C) × (r.given ≡ Given.Store s) × (C.start s ≡ C.start store) × (IsSome (refusal_of r.error) → IsKept C.Store store s) × IsCause (C.faults store) (C.faults s) (r.error ≡ Error.Journal JournalError.Store)) }
 {
+    // What is stable of it are items that it has.
+    store.bounds();
     let mut store = store;
     match select_commit::<F, C, U>(alloc, &mut store, max_size) {
         Ok(Some(selected)) => open_list(alloc, store, hasher, translator, kept_keys, selected),

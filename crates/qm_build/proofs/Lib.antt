@@ -7,3 +7,6 @@ pub mod Whole
 pub mod Within
 pub mod Decoding
 pub mod Beside
+pub mod Linking
+pub mod Behind
+pub mod Onward

@@ -3,3 +3,4 @@ pub mod Built
 pub mod Cached
 pub mod Reads
 pub mod Opened
+pub mod Linked

@@ -3,6 +3,7 @@
 
 pub mod build;
 pub mod cache;
+pub mod links;
 mod moves;
 mod opened;
 mod parts;
@@ -11,6 +12,7 @@ pub mod snapshot;
 
 pub use build::{Snapshot, build_snapshot};
 pub use cache::Cache;
+pub use links::forms_ring;
 pub use opened::{Opened, open_at};
 pub use parts::{activity_from, last_metadata, root_of};
 pub use snapshot::SnapshotBuild;

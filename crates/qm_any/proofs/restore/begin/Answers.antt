@@ -1,9 +1,13 @@
-use Rattle.std.proofs.Common.{◌∙◌}
+use Rattle.std.proofs.Common.{◌≡◌, ◌∙◌, map}
 use Rattle.std.proofs.lemmas.Result.{err_from_is_err_and}
 use Rattle.qm_model.specs.Operations.{fresh}
-use Rattle.qm_model.proofs.Results.{told-one}
+use Rattle.qm_model.specs.Forms.{spelling}
+use Rattle.qm_model.specs.StoreModel.{settled, appended, HasAppended}
+use Rattle.qm_model.proofs.Results.{told-one, ok-then, err-then}
 use Rattle.qm_merkle.proofs.Standing.{peaks-none}
-use Rattle.qm_any.proofs.Restoring.{nothing-accepted, nothing-due, each-known, known-at, on-ok}
+use Rattle.qm_any.proofs.Lasting.{turns-behind}
+use Rattle.qm_any.proofs.Taking.{reads-grown, given-stable}
+use Rattle.qm_any.proofs.Restoring.{nothing-accepted, nothing-due, nothing-headed, refused-none, each-known, known-at, on-ok}
 use Rattle.qm_any.proofs.restore.begin.Goals as goal
 
 pub returns-in_err-init-clause-refused : goal.returns-in_err-init-clause-refused
@@ -23,3 +27,40 @@ returns-clause-accepted g c =
     each-known told (λ s is.
     on-ok c.commit.result (nothing-accepted g.U.Update.form g.F.Family.shape g.H.Digest.Digest.SIZE s (known-at _ told s is (g.met.C.Store.told_start c.args.store) ∙ c.requires.start) (peaks-none g.F.Family.shape g.F.Family.births g.met.F.Family.numbered g.met.F.Family.peaked)
     (known-at _ told s is c.in_ok-init.ensures.bare)))
+
+pub returns-in_err-init-clause-left : goal.returns-in_err-init-clause-left
+returns-in_err-init-clause-left g c =
+    let exit = err_from_is_err_and c.from_residual.result c.from_residual.ensures.1 in
+    rw (exit.1, exit.2) c.in_err-init.ensures.part.told
+
+pub returns-clause-became : goal.returns-clause-became
+returns-clause-became g c =
+    let told = g.C.Store.told in
+    let own = map (spelling g.U.Update.form) fresh in
+    ok-then c.commit.result c.commit.ensures.committed
+    (λ db lasted. turns-behind (told c.args.store) (told c.in_ok-init.field-0.log.store) (told db.log.store) (appended own) (λ s t. t ≡ settled s) c.in_ok-init.ensures.grown.told lasted.store.told)
+
+pub returns-clause-left : goal.returns-clause-left
+returns-clause-left g c =
+    let told = g.C.Store.told in
+    let own = map (spelling g.U.Update.form) fresh in
+    err-then c.commit.result c.commit.ensures.refused
+    (λ r up. given-stable g.C.Store (λ db. db.log.store) (told c.args.store) c.in_ok-init.field-0.log.store r (appended own) (HasAppended own) c.in_ok-init.ensures.grown.told
+    (λ s t is reads. reads-grown own s t (known-at _ (told c.args.store) s is (g.met.C.Store.told_end c.args.store) ∙ c.requires.empty) reads) up)
+
+pub returns-in_err-init-clause-unopened : goal.returns-in_err-init-clause-unopened
+returns-in_err-init-clause-unopened g c =
+    let exit = err_from_is_err_and c.from_residual.result c.from_residual.ensures.1 in
+    let told = g.C.Store.told c.args.store in
+    rw (exit.1, exit.2) (each-known told (λ s is some.
+    known-at _ told s is c.in_err-init.ensures.unopened
+    (nothing-headed g.U.Update.form g.F.Family.shape g.H.Digest.Digest.SIZE s (known-at _ told s is (g.met.C.Store.told_start c.args.store) ∙ c.requires.start) (peaks-none g.F.Family.shape g.F.Family.births g.met.F.Family.numbered g.met.F.Family.peaked) some)))
+
+pub returns-clause-unopened : goal.returns-clause-unopened
+returns-clause-unopened g c =
+    let told = g.C.Store.told c.args.store in
+    err-then c.commit.result c.commit.ensures.refused
+    (λ r up. each-known told (λ s is some.
+    let none = nothing-accepted g.U.Update.form g.F.Family.shape g.H.Digest.Digest.SIZE s (known-at _ told s is (g.met.C.Store.told_start c.args.store) ∙ c.requires.start) (peaks-none g.F.Family.shape g.F.Family.births g.met.F.Family.numbered g.met.F.Family.peaked)
+    (known-at _ told s is c.in_ok-init.ensures.bare) in
+    absurd (refused-none _ none some)))

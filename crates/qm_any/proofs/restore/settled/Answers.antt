@@ -1,11 +1,14 @@
-use Rattle.std.proofs.Common.{◌≡◌, ◌∙◌, map, ap, ap₂, refl, sym, subst}
+use Rattle.std.proofs.Common.{◌≡◌, ◌∙◌, ◌≤◌, min, map, ap, ap₂, refl, sym, subst}
 use Rattle.qm_model.specs.Causes.{IsCause}
 use Rattle.qm_base.specs.declared.error.Error.TheVariants as errors
 use Rattle.qm_base.specs.declared.error.JournalError.TheVariants as journal
 use Rattle.qm_model.specs.Forms.{spelling}
+use Rattle.qm_model.specs.StoreModel.{end_of, RewindLeaves, ReadsAs, Turns}
+use Rattle.qm_store.specs.Log.{store_given}
 use Rattle.qm_any.specs.Layouts.{layout_of}
 use Rattle.qm_any.proofs.Lasting.{still-told}
-use Rattle.qm_any.proofs.Restoring.{shared-bytes, told-so, opened-stands, given-store}
+use Rattle.qm_any.proofs.Restoring.{shared-bytes, told-so, opened-stands, given-store, known-at}
+use Rattle.qm_any.proofs.Taking.{reads-whole, turns-kept}
 use Rattle.qm_any.proofs.restore.settled.Goals as goal
 
 pub returns-in-Ok-settle-clause-stands : goal.returns-in-Ok-settle-clause-stands
@@ -31,3 +34,18 @@ returns-in-Err-clause-back g c =
       ap members.start c.store_of.ensures ∙ left.start,
       subst (λ s. IsCause (members.faults old.store) (members.faults s) (c.in-Err.refusal.error ≡ errors.Journal journal.Store)) (sym c.store_of.ensures) refused.cause,
     )
+
+pub returns-in_default-clause-left : goal.returns-in_default-clause-left
+returns-in_default-clause-left g c =
+    let told = g.C.Store.told in
+    let old = c.args.opened.log.store in
+    turns-kept (told old) (told c.close.result) _ (ap told c.close.ensures) (λ s is. reads-whole c.args.selected.size s (known-at (λ s. s.stable ≤ end_of s) (told old) s is c.requires.stable))
+
+pub returns-in-Err-clause-left : goal.returns-in-Err-clause-left
+returns-in-Err-clause-left g c =
+    let members = g.C.Store in
+    let old = c.args.opened.log in
+    let size = c.args.selected.size in
+    let left = given-store members _ old c.in-Err.refusal.given c.in-Err.refusal.error c.in-Err.ensures.refused c.in-Err.ensures.given in
+    let there = subst (λ n. Turns (members.told old.store) (members.told (store_given c.in-Err.refusal.given)) (λ s. ReadsAs (min s.stable n) (RewindLeaves n s))) c.requires.size left.told in
+    subst (λ s. Turns (members.told old.store) (members.told s) (λ s. ReadsAs (min s.stable size) (RewindLeaves size s))) (sym c.store_of.ensures) there

@@ -1,8 +1,14 @@
-use Rattle.std.proofs.Common.{◌≡◌, ◌∙◌, ◌-◌, ◌≤◌, drop, take, map, ap, sym, subst, arith, None}
-use Rattle.std.specs.Prelude.{IfErr, OnOk}
+use Rattle.std.proofs.Common.{◌≡◌, ◌∙◌, ◌-◌, ◌≤◌, min, drop, take, map, ap, sym, subst, arith, None}
+use Rattle.std.specs.Prelude.{IfErr, OnOk, IsSome}
 use Rattle.qm_model.specs.Forms.{spelling}
 use Rattle.qm_model.specs.Opening.{size_of}
+use Rattle.qm_model.specs.StoreModel.{settled, rewound, RewindLeaves, ReadsAs, Turns}
+use Rattle.qm_model.proofs.Results.{ok-then, err-then}
+use Rattle.qm_store.specs.Given.{store_given}
 use Rattle.qm_store.specs.Refusals.{IsDue}
+use Rattle.qm_any.specs.Layouts.{hashing_of}
+use Rattle.qm_any.specs.Restoring.{selected_size, taken, LeavesOpening}
+use Rattle.qm_any.proofs.Taking.{taken-some, leaves-some, leaves-whole, turns-weaker, turns-kept, unchanged-behind}
 use Rattle.qm_any.proofs.Restoring.{told-floor, each-known, known-at}
 use Rattle.qm_any.proofs.restore.take_up.Goals as goal
 
@@ -25,12 +31,12 @@ returns-in-Ok-Some-clause-stands g c =
     known-at _ (g.C.Store.told c.select_commit.new.store) s (c.select_commit.ensures.kept.told ∙ is) c.open_list.ensures.stands list (record { size_is = has.size_is ∙ size; of = has.of; good = has.good; ring = has.ring; items = items; head = has.head }) floor)
 
 pub returns-in-Ok-Some-clause-accepted : goal.returns-in-Ok-Some-clause-accepted
-returns-in-Ok-Some-clause-accepted g c = λ unordered.
+returns-in-Ok-Some-clause-accepted g c =
     let told = g.C.Store.told c.args.store in
     let accepted = rw c.in-Ok-Some.field-0-is at c.in-Ok-Some.ensures.accepted g.F.Family.shape g.H.Digest.Digest.SIZE in
     each-known told (λ s is.
     subst (λ r. OnOk c.open_list.result (r ≡ None)) (sym (known-at _ told s is accepted))
-    (known-at _ (g.C.Store.told c.select_commit.new.store) s (c.select_commit.ensures.kept.told ∙ is) (c.open_list.ensures.accepted unordered)))
+    (known-at _ (g.C.Store.told c.select_commit.new.store) s (c.select_commit.ensures.kept.told ∙ is) c.open_list.ensures.accepted))
 
 pub returns-in-Ok-Some-clause-refused : goal.returns-in-Ok-Some-clause-refused
 returns-in-Ok-Some-clause-refused g c =
@@ -41,7 +47,7 @@ returns-in-Ok-Some-clause-refused g c =
     (known-at _ (g.C.Store.told c.select_commit.new.store) s (c.select_commit.ensures.kept.told ∙ is) c.open_list.ensures.refused))
 
 pub returns-in-Ok-None-clause-accepted : goal.returns-in-Ok-None-clause-accepted
-returns-in-Ok-None-clause-accepted g c = λ unordered.
+returns-in-Ok-None-clause-accepted g c =
     let told = g.C.Store.told c.args.store in
     let accepted = rw c.in-Ok-None.field-0-is at c.in-Ok-None.ensures.accepted g.F.Family.shape g.H.Digest.Digest.SIZE in
     each-known told (λ s is.
@@ -58,3 +64,83 @@ returns-in-Ok-None-clause-refused g c =
 
 pub returns-in-Err-clause-refused : goal.returns-in-Err-clause-refused
 returns-in-Err-clause-refused g c = c.in-Err.ensures.refused g.F.Family.shape g.H.Digest.Digest.SIZE
+
+pub returns-in-Ok-Some-clause-became : goal.returns-in-Ok-Some-clause-became
+returns-in-Ok-Some-clause-became g c =
+    let hashing = hashing_of g.H.Digest.Digest.bytes g.H.Hasher g.F.Family g.U.Update in
+    let told = g.C.Store.told in
+    let selected = c.in-Ok-Some.selected in
+    let within = rw c.in-Ok-Some.field-0-is at c.in-Ok-Some.ensures.within in
+    let chosen = rw c.in-Ok-Some.field-0-is at c.in-Ok-Some.ensures.chosen in
+    let below = within.1 in
+    ok-then c.open_list.result c.open_list.ensures.became (λ db became.
+    turns-weaker (told c.args.store) (told db.log.store) (λ s t. t ≡ settled (rewound selected.size s)) (λ s t. t ≡ taken hashing (selected_size hashing c.args.max_size s) s)
+    (λ s t is same. same ∙ sym (taken-some hashing selected.size s (omega (arith, below))) ∙ ap (λ n. taken hashing n s) (ap size_of (known-at _ (told c.args.store) s is chosen)))
+    (subst (λ o. Turns o (told db.log.store) (λ s t. t ≡ settled (rewound selected.size s))) c.select_commit.ensures.kept.told became))
+
+pub returns-in-Ok-Some-clause-left : goal.returns-in-Ok-Some-clause-left
+returns-in-Ok-Some-clause-left g c =
+    let hashing = hashing_of g.H.Digest.Digest.bytes g.H.Hasher g.F.Family g.U.Update in
+    let told = g.C.Store.told in
+    let selected = c.in-Ok-Some.selected in
+    let within = rw c.in-Ok-Some.field-0-is at c.in-Ok-Some.ensures.within in
+    let chosen = rw c.in-Ok-Some.field-0-is at c.in-Ok-Some.ensures.chosen in
+    let below = within.1 in
+    err-then c.open_list.result c.open_list.ensures.left (λ r left.
+    turns-weaker (told c.args.store) (told (store_given (λ db. db.log.store) r.given)) (λ s. ReadsAs (min s.stable selected.size) (RewindLeaves selected.size s)) (λ s new. LeavesOpening hashing (selected_size hashing c.args.max_size s) s new)
+    (λ s t is reads. subst (λ n. LeavesOpening hashing n s t) (ap size_of (known-at _ (told c.args.store) s is chosen)) (leaves-some hashing selected.size s t (omega (arith, below)) reads))
+    (subst (λ o. Turns o (told (store_given (λ db. db.log.store) r.given)) (λ s. ReadsAs (min s.stable selected.size) (RewindLeaves selected.size s))) c.select_commit.ensures.kept.told left))
+
+pub returns-in-Ok-None-clause-became : goal.returns-in-Ok-None-clause-became
+returns-in-Ok-None-clause-became g c =
+    let hashing = hashing_of g.H.Digest.Digest.bytes g.H.Hasher g.F.Family g.U.Update in
+    let told = g.C.Store.told in
+    let chosen = rw c.in-Ok-None.field-0-is at c.in-Ok-None.ensures.chosen in
+    ok-then c.begin.result c.begin.ensures.became (λ db became.
+    turns-weaker (told c.args.store) (told db.log.store) (λ s t. t ≡ taken hashing 0 s) (λ s t. t ≡ taken hashing (selected_size hashing c.args.max_size s) s)
+    (λ s t is same. same ∙ ap (λ n. taken hashing n s) (ap size_of (known-at _ (told c.args.store) s is chosen)))
+    (subst (λ o. Turns o (told db.log.store) (λ s t. t ≡ taken hashing 0 s)) c.select_commit.ensures.kept.told became))
+
+pub returns-in-Ok-None-clause-left : goal.returns-in-Ok-None-clause-left
+returns-in-Ok-None-clause-left g c =
+    let hashing = hashing_of g.H.Digest.Digest.bytes g.H.Hasher g.F.Family g.U.Update in
+    let told = g.C.Store.told in
+    let chosen = rw c.in-Ok-None.field-0-is at c.in-Ok-None.ensures.chosen in
+    err-then c.begin.result c.begin.ensures.left (λ r left.
+    turns-weaker (told c.args.store) (told (store_given (λ db. db.log.store) r.given)) (LeavesOpening hashing 0) (λ s new. LeavesOpening hashing (selected_size hashing c.args.max_size s) s new)
+    (λ s t is reads. subst (λ n. LeavesOpening hashing n s t) (ap size_of (known-at _ (told c.args.store) s is chosen)) reads)
+    (subst (λ o. Turns o (told (store_given (λ db. db.log.store) r.given)) (LeavesOpening hashing 0)) c.select_commit.ensures.kept.told left))
+
+pub returns-in-Err-clause-left : goal.returns-in-Err-clause-left
+returns-in-Err-clause-left g c =
+    let hashing = hashing_of g.H.Digest.Digest.bytes g.H.Hasher g.F.Family g.U.Update in
+    let told = g.C.Store.told in
+    turns-kept (told c.args.store) (told c.select_commit.new.store) (λ s new. LeavesOpening hashing (selected_size hashing c.args.max_size s) s new) c.select_commit.ensures.kept.told
+    (λ s is. leaves-whole hashing (selected_size hashing c.args.max_size s) s (known-at _ (told c.args.store) s is c.bounds.ensures.stable).1)
+
+pub returns-in-Ok-Some-clause-unopened : goal.returns-in-Ok-Some-clause-unopened
+returns-in-Ok-Some-clause-unopened g c =
+    let told = g.C.Store.told c.args.store in
+    let middle = c.select_commit.new.store in
+    let kept = c.select_commit.ensures.kept in
+    let accepted = rw c.in-Ok-Some.field-0-is at c.in-Ok-Some.ensures.accepted g.F.Family.shape g.H.Digest.Digest.SIZE in
+    err-then c.open_list.result c.open_list.ensures.unopened (λ r unopened.
+    each-known told (λ s is some.
+    unchanged-behind g.C.Store c.args.store middle (store_given (λ db. db.log.store) r.given) kept
+    (known-at _ (g.C.Store.told middle) s (kept.told ∙ is) unopened (subst IsSome (known-at _ told s is accepted) some))))
+
+pub returns-in-Ok-None-clause-unopened : goal.returns-in-Ok-None-clause-unopened
+returns-in-Ok-None-clause-unopened g c =
+    let told = g.C.Store.told c.args.store in
+    let middle = c.select_commit.new.store in
+    let kept = c.select_commit.ensures.kept in
+    let accepted = rw c.in-Ok-None.field-0-is at c.in-Ok-None.ensures.accepted g.F.Family.shape g.H.Digest.Digest.SIZE in
+    err-then c.begin.result c.begin.ensures.unopened (λ r unopened.
+    each-known told (λ s is some.
+    unchanged-behind g.C.Store c.args.store middle (store_given (λ db. db.log.store) r.given) kept
+    (known-at _ (g.C.Store.told middle) s (kept.told ∙ is) unopened (subst IsSome (known-at _ told s is accepted) some))))
+
+pub returns-in-Err-clause-unopened : goal.returns-in-Err-clause-unopened
+returns-in-Err-clause-unopened g c =
+    let kept = c.select_commit.ensures.kept in
+    each-known (g.C.Store.told c.args.store) (λ s is some. record { start = kept.start; told = kept.told })
