@@ -3,14 +3,15 @@ use Rattle.std.proofs.Common.{◌≡◌, ◌≤◌, ◌<◌, ℕ, suc, ◌+◌, 
 use Rattle.std.specs.Prelude.{IfNone, IsSome}
 use Rattle.std.proofs.lemmas.List.{flat_map_more}
 use Rattle.qm_model.specs.Operations.{Bytes}
+use Rattle.qm_model.specs.Own.{Log, IsKept}
 use Rattle.qm_model.specs.StoreModel.{Stored}
 use Rattle.qm_model.specs.Batches.{Apart}
 use Rattle.qm_model.specs.Policies.{Policy, policies}
 use Rattle.qm_machine.specs.Lines.{Line, Answer}
-use Rattle.qm_machine.specs.Machine.{Scheme, State, initial, turn, answers}
+use Rattle.qm_machine.specs.Machine.{Scheme, State, engine_of, choices_after, initial, turn, answers}
 use Rattle.qm_machine.specs.Grammar.{lines_of, line_of, commands_in}
 use Rattle.qm_machine.specs.Text.{reply_line, text_of}
-use Rattle.qm_machine.proofs.Relabelled.{relabelled, turn_relabelled}
+use Rattle.qm_machine.proofs.Relabelled.{relabelled, turn_relabelled, choices-relabelled}
 use Rattle.qm_lines.specs.declared.policy.AnyPolicy.{AnyPolicy}
 use Rattle.qm_lines.specs.declared.command.Command.{Command}
 use Rattle.qm_lines.specs.declared.command.Command.TheVariants as commands
@@ -19,11 +20,16 @@ use Rattle.qm_lines.specs.Parsed.{byte_line}
 use Rattle.qm_lines.specs.Views.{line_view}
 use Rattle.qm_lines.proofs.SameWalks.{same_step}
 use Rattle.qm_lines.proofs.Inputs.{IsAt, at_within, at_command, at_more, at_bad}
-use Rattle.qm_engine.specs.Session.{IsLeft}
-use Rattle.qm_engine.specs.Runs.{after}
+use Rattle.qm_engine.specs.Stores.{HasLog, IsLeft}
+use Rattle.qm_store.specs.declared.Store as stores
+use Rattle.qm_machine.specs.Sound.{IsSteady}
+use Rattle.qm_engine.specs.declared.words.Words as words
+use Rattle.qm_engine.specs.declared.session.Session.{Session}
+use Rattle.qm_engine.specs.Session.{Stands, IsChosen}
+use Rattle.qm_engine.specs.Runs.{after, IsOwnStore}
 use Rattle.qm_engine.specs.Answered.{after_line, IsAnswered}
 use Rattle.qm_engine.proofs.Commands.{left_none}
-use Rattle.qm_engine.proofs.Loops.{loop_step, left_in, after_all}
+use Rattle.qm_engine.proofs.Loops.{Between, loop_step, left_in, after_all, own-of, goes-between}
 
 abbrev with_line : Bytes → Answer → Bytes
 with_line text answer = text ++ (reply_line answer ++ 10 ∷ [])
@@ -36,7 +42,7 @@ abbrev pub own_line : Command Bytes Bytes AnyPolicy → Line AnyPolicy
 own_line = line_view (λ k. k) (λ v. v) (λ p. p)
 
 relabelled_line : (c : Command Bytes Bytes AnyPolicy) → relabelled policy_view (own_line c) ≡ byte_line c
-relabelled_line commands.Open = refl
+relabelled_line (commands.Open bound) = refl
 relabelled_line commands.Batch = refl
 relabelled_line (commands.Child h keep) = refl
 relabelled_line commands.Tip = refl
@@ -64,9 +70,18 @@ relabelled_line (commands.BatchProof h) = refl
 relabelled_line commands.Meta = refl
 relabelled_line (commands.Prove size start max) = refl
 relabelled_line (commands.Pins n) = refl
+relabelled_line commands.Commit = refl
+relabelled_line commands.Sync = refl
+relabelled_line commands.Close = refl
+relabelled_line commands.Destroy = refl
+relabelled_line (commands.Crash keep) = refl
 
 pub same_turn : (m : Scheme) (s : State) (c : Command Bytes Bytes AnyPolicy) → turn m rules_of s (own_line c) ≡ turn m policies s (byte_line c)
 same_turn m s c = turn_relabelled policy_view rules_of policies same_step m s (own_line c) ∙ ap (turn m policies s) (relabelled_line c)
+
+-- which takes the same of the choices to come
+pub same_chosen : (c : Command Bytes Bytes AnyPolicy) (more : List ℕ) → IsChosen (own_line c) more → IsChosen (byte_line c) more
+same_chosen c more chosen rest = ap (λ line. choices_after line (more ++ rest)) (sym (relabelled_line c)) ∙ (choices-relabelled policy_view (own_line c) (more ++ rest) ∙ chosen rest)
 
 -- the next line of an input
 module _ (input rest line behind : Bytes) (k : ℕ) (at : IsAt input rest k) (found : lines_of rest ≡ line ∷ lines_of behind) where
@@ -79,42 +94,42 @@ module _ (input rest line behind : Bytes) (k : ℕ) (at : IsAt input rest k) (fo
   at_short None e some = absurd (cc some)
   at_short (Some c) e some = at_within input rest line behind k at found c e
 
-  module _ (m : Scheme) (stored : Stored) where
+  module _ (m : Scheme) (log : Log) (choices : List ℕ) where
     -- it was answered
     pub line_step : (o : Option (Line Policy)) → line_of line ≡ o → IsSome o → (old new : Bytes) (Before After : State → Type 0)
-        → (Apart m.root (after m policies stored (commands_in input) k).had → (old ≡ text_of (answers m policies (initial stored) (take k (commands_in input)))) × Before (after m policies stored (commands_in input) k))
+        → (Apart m.root (after m policies log choices (commands_in input) k).had → (old ≡ text_of (answers m policies (initial log choices) (take k (commands_in input)))) × Before (after m policies log choices (commands_in input) k))
         → ((s : State) → Before s → IfSome o (λ c. Apart m.root ((turn m policies s c).1).had → (new ≡ with_line old (turn m policies s c).0) × After (turn m policies s c).1))
-        → Apart m.root (after m policies stored (commands_in input) (k + 1)).had → (new ≡ text_of (answers m policies (initial stored) (take (k + 1) (commands_in input)))) × After (after m policies stored (commands_in input) (k + 1))
+        → Apart m.root (after m policies log choices (commands_in input) (k + 1)).had → (new ≡ text_of (answers m policies (initial log choices) (take (k + 1) (commands_in input)))) × After (after m policies log choices (commands_in input) (k + 1))
     line_step None e some old new Before After so_far one = absurd (cc some)
     line_step (Some c) e some old new Before After so_far one =
-        loop_step m policies stored (commands_in input) text_of with_line text_of-push k c old new Before After
+        loop_step m policies log choices (commands_in input) text_of with_line text_of-push k c old new Before After
         (at_within input rest line behind k at found c e) (at_command input rest line behind k at found c e) so_far one
 
     -- what is left where the loop ended at it
     line_left : (o : Option (Line Policy)) → line_of line ≡ o → (left : Option Stored) (Before : State → Type 0)
-        → (Apart m.root (after m policies stored (commands_in input) k).had → Before (after m policies stored (commands_in input) k))
-        → ((s : State) → Before s → Apart m.root s.had → IsLeft left s.store (after_line m policies s o).store)
-        → Apart m.root (after m policies stored (commands_in input) k).had → IsLeft left (after m policies stored (commands_in input) k).store (after m policies stored (commands_in input) (suc k)).store
+        → (Apart m.root (after m policies log choices (commands_in input) k).had → Before (after m policies log choices (commands_in input) k))
+        → ((s : State) → Before s → Apart m.root s.had → IsLeft m left s.log (after_line m policies s o).log)
+        → Apart m.root (after m policies log choices (commands_in input) k).had → IsLeft m left (after m policies log choices (commands_in input) k).log (after m policies log choices (commands_in input) (suc k)).log
     line_left None e left Before so_far leaves = λ apart.
-        let s : State = after m policies stored (commands_in input) k in
-        subst (IsLeft left s.store) (sym (after_all m policies stored (commands_in input) k (omega (arith, (at_bad input rest line behind k at found e).0)))) (leaves s (so_far apart) apart)
+        let s : State = after m policies log choices (commands_in input) k in
+        subst (IsLeft m left s.log) (sym (after_all m policies log choices (commands_in input) k (omega (arith, (at_bad input rest line behind k at found e).0)))) (leaves s (so_far apart) apart)
     line_left (Some c) e left Before so_far leaves =
-        left_in m policies stored (commands_in input) k c left Before (at_within input rest line behind k at found c e) (at_command input rest line behind k at found c e) so_far leaves
+        left_in m policies log choices (commands_in input) k c left Before (at_within input rest line behind k at found c e) (at_command input rest line behind k at found c e) so_far leaves
 
     -- what is left where all commands were answered before it
     line_whole : (o : Option (Line Policy)) → line_of line ≡ o → (left : Option Stored) (Before : State → Type 0)
-        → (Apart m.root (after m policies stored (commands_in input) k).had → Before (after m policies stored (commands_in input) k))
-        → ((s : State) → Before s → o ≡ None → left ≡ Some s.store)
-        → k ≡ length (commands_in input) → Apart m.root (after m policies stored (commands_in input) k).had → left ≡ Some (after m policies stored (commands_in input) k).store
-    line_whole None e left Before so_far stays all = λ apart. stays (after m policies stored (commands_in input) k) (so_far apart) refl
+        → (Apart m.root (after m policies log choices (commands_in input) k).had → Before (after m policies log choices (commands_in input) k))
+        → ((s : State) → Before s → o ≡ None → IsOwnStore m policies left s.log)
+        → k ≡ length (commands_in input) → Apart m.root (after m policies log choices (commands_in input) k).had → IsOwnStore m policies left (after m policies log choices (commands_in input) k).log
+    line_whole None e left Before so_far stays all = λ apart. stays (after m policies log choices (commands_in input) k) (so_far apart) refl
     line_whole (Some c) e left Before so_far stays all = let short = at_within input rest line behind k at found c e in absurd (omega (arith, short, all))
 
     -- the loop ended at it
     pub answered_in : (text : Bytes) (left : Option Stored) (Before : State → Type 0)
-        → (Apart m.root (after m policies stored (commands_in input) k).had → (text ≡ text_of (answers m policies (initial stored) (take k (commands_in input)))) × Before (after m policies stored (commands_in input) k))
-        → ((s : State) → Before s → line_of line ≡ None → left ≡ Some s.store)
-        → ((s : State) → Before s → Apart m.root s.had → IsLeft left s.store (after_line m policies s (line_of line)).store)
-        → IsAnswered m policies stored (commands_in input) k text left
+        → (Apart m.root (after m policies log choices (commands_in input) k).had → (text ≡ text_of (answers m policies (initial log choices) (take k (commands_in input)))) × Before (after m policies log choices (commands_in input) k))
+        → ((s : State) → Before s → line_of line ≡ None → IsOwnStore m policies left s.log)
+        → ((s : State) → Before s → Apart m.root s.had → IsLeft m left s.log (after_line m policies s (line_of line)).log)
+        → IsAnswered m policies log choices (commands_in input) k text left
     answered_in text left Before so_far stays leaves = record {
       few = at.few;
       same = λ apart. (so_far apart).0;
@@ -123,20 +138,32 @@ module _ (input rest line behind : Bytes) (k : ℕ) (at : IsAt input rest k) (fo
     }
 
 -- the loop ended behind the last line, or before the first
-pub answered_at : (m : Scheme) (stored : Stored) (input : Bytes) (k : ℕ) (text : Bytes) (left : Option Stored) → k ≤ length (commands_in input)
-    → (Apart m.root (after m policies stored (commands_in input) k).had → (text ≡ text_of (answers m policies (initial stored) (take k (commands_in input)))) × (left ≡ Some (after m policies stored (commands_in input) k).store))
-    → IsAnswered m policies stored (commands_in input) k text left
-answered_at m stored input k text left few so_far = record {
+pub answered_at : (m : Scheme) (log : Log) (choices : List ℕ) (input : Bytes) (k : ℕ) (text : Bytes) (left : Option Stored) → k ≤ length (commands_in input)
+    → (Apart m.root (after m policies log choices (commands_in input) k).had → (text ≡ text_of (answers m policies (initial log choices) (take k (commands_in input)))) × HasLog m left (after m policies log choices (commands_in input) k).log × IsKept (engine_of m policies) (after m policies log choices (commands_in input) k).log)
+    → IsAnswered m policies log choices (commands_in input) k text left
+answered_at m log choices input k text left few so_far = record {
   few = few;
   same = λ apart. (so_far apart).0;
-  whole = λ all apart. (so_far apart).1;
-  left = λ apart. left_none (after m policies stored (commands_in input) k).store (after m policies stored (commands_in input) (suc k)).store left (so_far apart).1;
+  whole = λ all apart. own-of m policies left _ (so_far apart).1 (so_far apart).2;
+  left = λ apart. left_none m (after m policies log choices (commands_in input) k).log (after m policies log choices (commands_in input) (suc k)).log left (so_far apart).1;
 }
+
+-- between two lines of a sound run: the next one was answered
+pub line_goes : {X C B S M : Type 0} (members : stores.Ghosts C) (means : words.Ghosts X C B S M) (old new : Session X C B S M) (more rest : List ℕ) (before text : Bytes) (o : Option (Line Policy)) → IfSome o (λ c. IsChosen c more)
+    → ((s : State) → Stands members means old s → IsSteady means.scheme s → s.choices ≡ more ++ rest → IfSome o (λ c. Apart means.scheme.root ((turn means.scheme policies s c).1).had → (text ≡ with_line before (turn means.scheme policies s c).0) × Stands members means new (turn means.scheme policies s c).1))
+    → (s : State) → Between members means policies old (more ++ rest) s → IfSome o (λ c. Apart means.scheme.root ((turn means.scheme policies s c).1).had → (text ≡ with_line before (turn means.scheme policies s c).0) × Between members means policies new rest (turn means.scheme policies s c).1)
+line_goes members means old new more rest before text None chosen did s between = tt
+line_goes members means old new more rest before text (Some c) chosen did s between =
+    goes-between members means policies old new more rest c (λ s. text ≡ with_line before (turn means.scheme policies s c).0) chosen did s between
 
 -- what holds, where there is none; and what follows, where there is one
 pub none-any : {X : Type 0} (o : Option X) {P : Type 0} → P → IfNone o P
 none-any None p = p
 none-any (Some x) p = tt
+
+pub none-then : {X P Q : Type 0} (o : Option X) → (P → Q) → IfNone o P → IfNone o Q
+none-then None next p = next p
+none-then (Some x) next p = tt
 
 pub some-then : {X : Type 0} (o : Option X) {P Q : X → Type 0} → IfSome o P → ((x : X) → P x → Q x) → IfSome o Q
 some-then None p next = tt

@@ -1,21 +1,22 @@
 -- The commands that make, fill and apply batches.
-use Rattle.std.proofs.Common.{◌≡◌, ◌≢◌, ◌<◌, ℕ, Bool, true, false, cond, List, [], ◌∷◌, ◌++◌, length, get_or, set, map, drop, Option, Some, None, Result, Ok, Err, arith, refl, sym, ◌∙◌, ap, subst, length-append, IfSome, append-nil, IfOk, IfErr}
+use Rattle.std.proofs.Common.{◌≡◌, ◌≢◌, ◌<◌, ℕ, Bool, true, false, cond, List, [], ◌∷◌, ◌++◌, length, get_or, set, map, drop, Option, Some, None, Result, Ok, Err, arith, refl, sym, ◌∙◌, ap, subst, IfSome, IfOk, IfErr, inr, le_refl, length-append}
+use Rattle.std.proofs.lemmas.List.{take-append-drop, drop_all}
 use Rattle.std.specs.Prelude.{Contains}
-use Rattle.qm_model.specs.StoreModel.{Stored, appended, HasAppended}
+use Rattle.qm_model.specs.StoreModel.{Stored, HasAppended}
 use Rattle.qm_model.specs.StoreModel as model
 use Rattle.qm_model.specs.Operations.{Bytes, Operation}
-use Rattle.qm_model.specs.Forms.{spelling, variable}
+use Rattle.qm_model.specs.Forms.{spelling}
 use Rattle.qm_model.specs.Live.{floor}
 use Rattle.qm_model.specs.Walk.{Rules}
 use Rattle.qm_model.specs.Writes.{Write}
-use Rattle.qm_model.specs.Batches.{Chain, child_of, IsAmong, IsOnChain, Apart, commitment, fits}
+use Rattle.qm_model.specs.Batches.{Chain, child_of, IsAmong, IsOnChain, Begins, Apart, commitment, fits}
 use Rattle.qm_model.specs.Refusals.{tip_refusal}
 use Rattle.qm_machine.specs.Lines.{Answer}
 use Rattle.qm_machine.specs.Lines as lines
 use Rattle.qm_model.specs.Refused as refusals
 use Rattle.qm_machine.specs.Machine.{State, slot_at, with_slot, refuse, started, start_child, put_in, merkleize_tip, merkleize_in, apply_in}
 use Rattle.qm_machine.specs.Machine as machine
-use Rattle.qm_model.proofs.Chains.{Contains-more, Contains-first, IsAmong-more, child-among, on_chain-fits}
+use Rattle.qm_model.proofs.Chains.{Contains-more, Contains-first, IsAmong-more, child-among, on_chain-fits, known-begins, Begins-length}
 use Rattle.qm_base.specs.declared.error.Error.{Error}
 use Rattle.qm_base.specs.declared.error.Error.TheVariants as errors
 use Rattle.qm_lines.specs.Views.{refused_view}
@@ -35,13 +36,13 @@ use Rattle.qm_engine.specs.Turn.{turn_of_error}
 use Rattle.qm_store.specs.Refusals.{refusal_of}
 use Rattle.qm_engine.specs.Words.{AtBatch, AtTip, Fits, tip_of}
 use Rattle.qm_engine.specs.Making.{made_into, IsMaking}
-use Rattle.qm_engine.specs.Session.{SlotIs, Holds, IsLeft}
+use Rattle.qm_machine.specs.Sound.{IsSoundSlot, IsSteady}
+use Rattle.qm_engine.specs.Stores.{HasLog, IsLeft}
+use Rattle.qm_engine.specs.Session.{SlotIs, Holds}
 use Rattle.qm_engine.proofs.Tables.{push_at, set_at, set_set}
 use Rattle.qm_store.specs.Given.{Appended, IsUnchanged}
-use Rattle.qm_engine.proofs.Commands.{stored-same, stored-grown, choice, none_some, left_part, refuses, by_error, HeldIs-more, SlotIs-more, with_list, with_writing, HeldIs-kept, slots_set, lengths_set, Keeps, Holds-used, Turns}
-
-longer : {A : Type 0} (xs ys : List A) → 0 < length xs → 0 < length (xs ++ ys)
-longer xs ys some = omega (arith, some, length-append xs ys)
+use Rattle.qm_engine.proofs.Lasting.{has-appended, left_appended}
+use Rattle.qm_engine.proofs.Commands.{stored-same, choice, none_some, refuses, by_error, HeldIs-more, SlotIs-more, with_held, with_list, with_writing, HeldIs-kept, slots_set, lengths_set, Keeps, Holds-used, Turns}
 
 module _ {X C B S M K V D : Type 0} (members : stores.Ghosts C) (means : words.Ghosts X C B S M) (key : K → Bytes) (value : V → Bytes) (digest : D → Bytes) where
   abbrev root : List Operation → Bytes
@@ -57,7 +58,8 @@ module _ {X C B S M K V D : Type 0} (members : stores.Ghosts C) (means : words.G
     record {
       database = k.database;
       store = k.store;
-      whole = k.whole;
+      zero_start = k.zero_start;
+      within = k.within;
       count = k.count;
       lengths = omega (arith, length-append table (slot ∷ []), length-append s.table (new ∷ []), k.lengths);
       slots = push_at (SlotIs members means s.had) Gone machine.gone tt table s.table slot new k.lengths k.slots is;
@@ -85,7 +87,8 @@ module _ {X C B S M K V D : Type 0} (members : stores.Ghosts C) (means : words.G
     record {
       database = k.database;
       store = k.store;
-      whole = k.whole;
+      zero_start = k.zero_start;
+      within = k.within;
       count = k.count;
       lengths = rw set_set (lengths_set members means table s h (Writing after) (machine.writing chain above (ws ++ w ∷ [])) k.lengths);
       slots = rw set_set (slots_set members means table s h (Writing after) (machine.writing chain above (ws ++ w ∷ [])) k.lengths k.slots (let same : x ≡ batch = cc in (wrote chain above ws (subst (λ v. means.is_batch v chain above ws) same is.0), is.1, is.2)));
@@ -128,7 +131,7 @@ module _ {X C B S M K V D : Type 0} (members : stores.Ghosts C) (means : words.G
         → ((chain : Chain) (tip : List Operation) → means.is_merkleized made chain tip → (low ≡ length chain.base) × (high ≡ length tip) × (bottom ≡ floor tip))
         → Goes (Reply (replies.Merkleized h low high bottom)) held (set table h (Merkleized made)) opened (made_into means.scheme s h list chain tip)
     making_ok made low high bottom making sized =
-        subst (λ t. Chosen Goal t (tip_refusal variable chain tip)) (sym making.fits) (by_due (tip_refusal variable chain tip) refl)
+        subst (λ t. Chosen Goal t (tip_refusal means.scheme.form chain tip)) (sym making.fits) (by_due (tip_refusal means.scheme.form chain tip) refl)
       where
         Goal : Answer × State → Type 0
         Goal = Goes (Reply (replies.Merkleized h low high bottom)) held (set table h (Merkleized made)) opened
@@ -136,7 +139,7 @@ module _ {X C B S M K V D : Type 0} (members : stores.Ghosts C) (means : words.G
         new : machine.Slot
         new = machine.merkleized chain tip
 
-        by_due : (due : Option refusals.Refused) → tip_refusal variable chain tip ≡ due → Goal (merkleize_tip s h chain tip due)
+        by_due : (due : Option refusals.Refused) → tip_refusal means.scheme.form chain tip ≡ due → Goal (merkleize_tip s h chain tip due)
         by_due (Some r) is_due = λ apart. absurd (none_some (making.made (on_chain apart making.fits)).0 is_due)
         by_due None is_due = λ apart.
             let now = (making.made (on_chain-made apart making.fits)).1 in
@@ -145,7 +148,8 @@ module _ {X C B S M K V D : Type 0} (members : stores.Ghosts C) (means : words.G
               record {
                 database = HeldIs-more members means s.had tip held s.database k.database;
                 store = k.store;
-                whole = k.whole;
+                zero_start = k.zero_start;
+                within = k.within;
                 count = k.count;
                 lengths = subst (λ t. length (set table h (Merkleized made)) ≡ length t) (set_set s.table h machine.gone new) (lengths_set members means table (with_slot s h machine.gone) h (Merkleized made) new k.lengths);
                 slots = subst (λ t. (i : ℕ) → SlotIs members means (tip ∷ s.had) (get_or (set table h (Merkleized made)) i Gone) (slot_at t i)) (set_set s.table h machine.gone new)
@@ -158,31 +162,31 @@ module _ {X C B S M K V D : Type 0} (members : stores.Ghosts C) (means : words.G
     pub making_err : (error : Error) → IsMaking means list chain tip (Err error) → Goes (turn_of_error error) held table opened (made_into means.scheme s h list chain tip)
     making_err error making =
         by_error error _
-        (λ is_stale. choice (fits root (commitment root list) chain) (merkleize_tip s h chain tip (tip_refusal variable chain tip)) (refuse (with_slot s h machine.gone) refusals.StaleBatch) (Goal refused.StaleBatch)
-        (λ fit. behind is_stale fit (tip_refusal variable chain tip)) (λ unfit apart. (refl, k)))
+        (λ is_stale. choice (fits root (commitment root list) chain) (merkleize_tip s h chain tip (tip_refusal means.scheme.form chain tip)) (refuse (with_slot s h machine.gone) refusals.StaleBatch) (Goal refused.StaleBatch)
+        (λ fit. behind is_stale fit (tip_refusal means.scheme.form chain tip)) (λ unfit apart. (refl, k)))
         (λ r other told. let due = subst Due told (making.refused other) in
-        subst (λ t. Chosen (Goal r) t (tip_refusal variable chain tip)) (sym due.0) (refusing r due (tip_refusal variable chain tip) refl))
+        subst (λ t. Chosen (Goal r) t (tip_refusal means.scheme.form chain tip)) (sym due.0) (refusing r due (tip_refusal means.scheme.form chain tip) refl))
       where
         Goal : Refused → Answer × State → Type 0
         Goal r = Goes (Reply (replies.Refused r)) held table opened
 
         Due : Option refusals.Refused → Type 0
-        Due o = IfSome o (λ r. Fits means list chain × (IsOnChain list chain → tip_refusal variable chain tip ≡ Some r))
+        Due o = IfSome o (λ r. Fits means list chain × (IsOnChain list chain → tip_refusal means.scheme.form chain tip ≡ Some r))
 
         behind : error ≡ errors.StaleBatch → fits root (commitment root list) chain ≡ true → (due : Option refusals.Refused) → Goal refused.StaleBatch (merkleize_tip s h chain tip due)
         behind is_stale fit None = λ apart. absurd (making.stale is_stale (on_chain-made apart fit))
         behind is_stale fit (Some r) = λ apart. absurd (making.stale is_stale (on_chain apart fit))
 
-        refusing : (r : Refused) → Due (Some (refused_view r)) → (due : Option refusals.Refused) → tip_refusal variable chain tip ≡ due → Goal r (merkleize_tip s h chain tip due)
+        refusing : (r : Refused) → Due (Some (refused_view r)) → (due : Option refusals.Refused) → tip_refusal means.scheme.form chain tip ≡ due → Goal r (merkleize_tip s h chain tip due)
         refusing r due None is_due = λ apart. absurd (none_some is_due (due.1 (on_chain-made apart due.0)))
         refusing r due (Some q) is_due = λ apart. (ap refuses (sym (due.1 (on_chain apart due.0)) ∙ is_due), k)
 
   -- what a call says that makes a batch's tip list
   pub batch_making : (x : X) (batch : B) (tip : Chain → List Write → List Operation) (tells : Type 0) (made : Result M Error)
       → IfOk made (λ _. AtBatch means x batch (λ list chain above ws. Fits means list chain))
-      → IfOk made (λ b. AtBatch means x batch (λ list chain above ws. IsOnChain list chain → (tip_refusal variable chain (tip chain ws) ≡ None) × means.is_merkleized b chain (tip chain ws)))
+      → IfOk made (λ b. AtBatch means x batch (λ list chain above ws. IsOnChain list chain → (tip_refusal means.scheme.form chain (tip chain ws) ≡ None) × means.is_merkleized b chain (tip chain ws)))
       → IfErr made (λ e. e ≡ errors.StaleBatch → AtBatch means x batch (λ list chain above ws. ¬ IsOnChain list chain))
-      → IfErr made (λ e. e ≢ errors.StaleBatch → tells → AtBatch means x batch (λ list chain above ws. IfSome (refusal_of e) (λ r. Fits means list chain × (IsOnChain list chain → tip_refusal variable chain (tip chain ws) ≡ Some r))))
+      → IfErr made (λ e. e ≢ errors.StaleBatch → tells → AtBatch means x batch (λ list chain above ws. IfSome (refusal_of e) (λ r. Fits means list chain × (IsOnChain list chain → tip_refusal means.scheme.form chain (tip chain ws) ≡ Some r))))
       → tells → AtBatch means x batch (λ list chain above ws. IsMaking means list chain (tip chain ws) made)
   batch_making x batch tip tells (Ok b) fits did stale refused told list chain above ws stands is = record {
     fits = fits list chain above ws stands is;
@@ -211,34 +215,41 @@ module _ {X C B S M K V D : Type 0} (members : stores.Ghosts C) (means : words.G
 
   -- an apply that was accepted
   applied_in : (x after : X) (table : List (Slot B S M)) (opened : ℕ) (h : ℕ) (batch : M) (size : ℕ) (s : State) (list : List Operation)
-      → Holds members means (Database x) table opened s → Contains s.had list
+      → Holds members means (Database x) table opened s → Contains s.had list → s.log.list ≡ list
       → ((chain : Chain) (tip : List Operation) → means.is_merkleized batch chain tip → fits root (commitment root list) chain ≡ true)
       → ((chain : Chain) (tip : List Operation) → means.is_merkleized batch chain tip → IsOnChain list chain → means.stands after tip)
-      → ((chain : Chain) (tip : List Operation) → means.is_merkleized batch chain tip → IsOnChain list chain → Appended members (means.inside x) (means.inside after) (map (spelling variable) (drop (length list) tip)))
+      → ((chain : Chain) (tip : List Operation) → means.is_merkleized batch chain tip → IsOnChain list chain → Appended members (means.inside x) (means.inside after) (map (spelling means.scheme.form) (drop (length list) tip)))
       → ((l : List Operation) → means.stands after l → size ≡ length l)
-      → (a : Slot B S M) (b : machine.Slot) → SlotIs members means s.had a b → merkleized_of a ≡ Some batch
+      → (a : Slot B S M) (b : machine.Slot) → SlotIs members means s.had a b → IsSoundSlot s.had b → merkleized_of a ≡ Some batch
       → Goes (Reply (replies.Applied size)) (Database after) table opened (apply_in means.scheme s h list b)
-  applied_in x after table opened h batch size s list k in_had fit_of did grown sized (Merkleized w) (machine.merkleized chain tip) is e =
+  applied_in x after table opened h batch size s list k in_had log_is fit_of did grown sized (Merkleized w) (machine.merkleized chain tip) is sound e =
       let same : w ≡ batch = cc in
       let batch_is : means.is_merkleized batch chain tip = subst (λ v. means.is_merkleized v chain tip) same is.0 in
-      choice (fits root (commitment root list) chain) (lines.Applied (length tip), record s { database = Some tip; store = appended (map (spelling variable) (drop (length list) tip)) s.store }) (refuse s refusals.StaleBatch) (Goes (Reply (replies.Applied size)) (Database after) table opened)
+      choice (fits root (commitment root list) chain) (lines.Applied (length tip), record s { database = Some tip; log = record s.log { list = tip } }) (refuse s refusals.StaleBatch) (Goes (Reply (replies.Applied size)) (Database after) table opened)
       (λ fit apart.
       let on_chain = on_chain-fits root s.had list chain apart in_had is.1 fit in
       let stood : means.stands after tip = did chain tip batch_is on_chain in
-      let more = grown chain tip batch_is on_chain in (
+      let begins : Begins list tip = known-begins list chain tip (inr on_chain) sound.1 sound.3 in
+      let more = grown chain tip batch_is on_chain in
+      let whole : s.log.list ++ drop (length list) tip ≡ tip = ap (λ xs. xs ++ drop (length list) tip) (log_is ∙ sym begins) ∙ take-append-drop (length list) tip in (
         ap lines.Applied (sized tip stood),
         record {
           database = (stood, is.2);
-          store = stored-grown members (means.inside x) (means.inside after) s.store (map (spelling variable) (drop (length list) tip)) more k.store;
-          whole = λ _. ((k.whole tt).0, longer s.store.items (map (spelling variable) (drop (length list) tip)) (k.whole tt).1);
+          store = record {
+            start = more.start ∙ k.store.start;
+            told = subst (λ xs. HasLog means.scheme (members.told (means.inside after)) (record s.log { list = xs })) whole
+                (has-appended means.scheme means.bare (members.told (means.inside x)) (members.told (means.inside after)) s.log (drop (length list) tip) k.store.told k.zero_start more.told);
+          };
+          zero_start = k.zero_start;
+          within = let longer = Begins-length list tip begins in let stays = k.within in omega (arith, stays, ap length log_is, longer);
           count = k.count;
           lengths = k.lengths;
           slots = k.slots;
         },
       ))
       (λ unfit. absurd (let fit = fit_of chain tip batch_is in cc))
-  applied_in x after table opened h batch size s list k in_had fit_of did grown sized (Merkleized w) b is e = absurd is
-  applied_in x after table opened h batch size s list k in_had fit_of did grown sized a b is e = absurd (cc)
+  applied_in x after table opened h batch size s list k in_had log_is fit_of did grown sized (Merkleized w) b is sound e = absurd is
+  applied_in x after table opened h batch size s list k in_had log_is fit_of did grown sized a b is sound e = absurd (cc)
 
   -- one that found the batch left behind
   unapplied_in : (x : X) (table : List (Slot B S M)) (opened : ℕ) (h : ℕ) (batch : M) (s : State) (list : List Operation)
@@ -249,24 +260,24 @@ module _ {X C B S M K V D : Type 0} (members : stores.Ghosts C) (means : words.G
   unapplied_in x table opened h batch s list k in_had off (Merkleized w) (machine.merkleized chain tip) is e =
       let same : w ≡ batch = cc in
       let batch_is : means.is_merkleized batch chain tip = subst (λ v. means.is_merkleized v chain tip) same is.0 in
-      choice (fits root (commitment root list) chain) (lines.Applied (length tip), record s { database = Some tip; store = appended (map (spelling variable) (drop (length list) tip)) s.store }) (refuse s refusals.StaleBatch) (Goes (Reply (replies.Refused refused.StaleBatch)) (Database x) table opened)
+      choice (fits root (commitment root list) chain) (lines.Applied (length tip), record s { database = Some tip; log = record s.log { list = tip } }) (refuse s refusals.StaleBatch) (Goes (Reply (replies.Refused refused.StaleBatch)) (Database x) table opened)
       (λ fit apart. absurd (off chain tip batch_is (on_chain-fits root s.had list chain apart in_had is.1 fit)))
       (λ unfit apart. (refl, k))
   unapplied_in x table opened h batch s list k in_had off (Merkleized w) b is e = absurd is
   unapplied_in x table opened h batch s list k in_had off a b is e = absurd (cc)
 
   pub apply_ok : (x after : X) (table : List (Slot B S M)) (opened : ℕ) (h : ℕ) (batch : M) (size : ℕ) (s : State)
-      → Holds members means (Database x) table opened s
+      → Holds members means (Database x) table opened s → IsSteady means.scheme s
       → AtTip means x batch (λ list chain tip. Fits means list chain)
       → AtTip means x batch (λ list chain tip. IsOnChain list chain → means.stands after tip)
-      → AtTip means x batch (λ list chain tip. IsOnChain list chain → Appended members (means.inside x) (means.inside after) (map (spelling variable) (drop (length list) tip)))
+      → AtTip means x batch (λ list chain tip. IsOnChain list chain → Appended members (means.inside x) (means.inside after) (map (spelling means.scheme.form) (drop (length list) tip)))
       → ((l : List Operation) → means.stands after l → size ≡ length l)
       → merkleized_of (get_or table h Gone) ≡ Some batch
       → Goes (Reply (replies.Applied size)) (Database after) table opened (machine.apply means.scheme s h)
-  apply_ok x after table opened h batch size s k fit did grown sized e =
-      with_list members means x s.had s.database s (λ list. apply_in means.scheme s h list (slot_at s.table h)) (Goes (Reply (replies.Applied size)) (Database after) table opened) k.database
-      (λ list stands in_had. applied_in x after table opened h batch size s list k in_had (λ chain tip. fit list chain tip stands) (λ chain tip. did list chain tip stands) (λ chain tip. grown list chain tip stands) sized
-      (get_or table h Gone) (slot_at s.table h) (k.slots h) e)
+  apply_ok x after table opened h batch size s k sound fit did grown sized e =
+      with_held members means x s.had s.database s (λ list. apply_in means.scheme s h list (slot_at s.table h)) (Goes (Reply (replies.Applied size)) (Database after) table opened) k.database
+      (λ list is stands in_had. applied_in x after table opened h batch size s list k in_had (sound.held list is).0 (λ chain tip. fit list chain tip stands) (λ chain tip. did list chain tip stands) (λ chain tip. grown list chain tip stands) sized
+      (get_or table h Gone) (slot_at s.table h) (k.slots h) (sound.slots h) e)
 
   pub apply_err : (x : X) (given : Given X C) (table : List (Slot B S M)) (opened : ℕ) (h : ℕ) (batch : M) (error : Error) (s : State)
       → Holds members means (Database x) table opened s
@@ -285,31 +296,29 @@ module _ {X C B S M K V D : Type 0} (members : stores.Ghosts C) (means : words.G
 
   -- what an apply leaves in the store
   left_in : (x : X) (left : Option Stored) (table : List (Slot B S M)) (opened : ℕ) (h : ℕ) (batch : M) (s : State) (list : List Operation)
-      → Holds members means (Database x) table opened s → Contains s.had list → Apart root s.had
+      → Holds members means (Database x) table opened s → Contains s.had list → s.log.list ≡ list → Apart root s.had
       → ((chain : Chain) (tip : List Operation) → means.is_merkleized batch chain tip → (fits root (commitment root list) chain ≡ true → IsOnChain list chain)
-      → model.Turns (members.told (means.inside x)) left (HasAppended (cond (fits root (commitment root list) chain) (map (spelling variable) (drop (length list) tip)) [])))
+      → model.Turns (members.told (means.inside x)) left (HasAppended (cond (fits root (commitment root list) chain) (map (spelling means.scheme.form) (drop (length list) tip)) [])))
       → (a : Slot B S M) (b : machine.Slot) → SlotIs members means s.had a b → merkleized_of a ≡ Some batch
-      → IsLeft left s.store ((apply_in means.scheme s h list b).1).store
-  left_in x left table opened h batch s list k in_had apart grown (Merkleized w) (machine.merkleized chain tip) is e =
+      → IsLeft means.scheme left s.log ((apply_in means.scheme s h list b).1).log
+  left_in x left table opened h batch s list k in_had log_is apart grown (Merkleized w) (machine.merkleized chain tip) is e =
       let same : w ≡ batch = cc in
       let batch_is : means.is_merkleized batch chain tip = subst (λ v. means.is_merkleized v chain tip) same is.0 in
-      let more : List Bytes = map (spelling variable) (drop (length list) tip) in
-      let part = grown chain tip batch_is (λ fit. on_chain-fits root s.had list chain apart in_had is.1 fit) in
-      by_fit (fits root (commitment root list) chain) (lines.Applied (length tip)) (record s { database = Some tip; store = appended more s.store }) more part refl
+      by_fit (fits root (commitment root list) chain) (grown chain tip batch_is (λ fit. on_chain-fits root s.had list chain apart in_had is.1 fit))
     where
-      by_fit : (t : Bool) (answer : Answer) (next : State) (more : List Bytes) → model.Turns (members.told (means.inside x)) left (HasAppended (cond t more [])) → next.store ≡ appended more s.store
-          → IsLeft left s.store ((cond t (answer, next) (refuse s refusals.StaleBatch)).1).store
-      by_fit true answer next more part is_next = subst (IsLeft left s.store) (sym is_next) (left_part s.store more (members.told (means.inside x)) left k.store.told part)
-      by_fit false answer next more part is_next = subst (IsLeft left s.store) (ap (λ xs. record s.store { items = xs }) (append-nil s.store.items)) (left_part s.store [] (members.told (means.inside x)) left k.store.told part)
-  left_in x left table opened h batch s list k in_had apart grown (Merkleized w) b is e = absurd is
-  left_in x left table opened h batch s list k in_had apart grown a b is e = absurd (cc)
+      by_fit : (t : Bool) → model.Turns (members.told (means.inside x)) left (HasAppended (cond t (map (spelling means.scheme.form) (drop (length list) tip)) []))
+          → IsLeft means.scheme left s.log ((cond t (lines.Applied (length tip), record s { database = Some tip; log = record s.log { list = tip } }) (refuse s refusals.StaleBatch)).1).log
+      by_fit true part = left_appended means.scheme means.bare (members.told (means.inside x)) left s.log (record s.log { list = tip }) (drop (length list) tip) k.store.told k.zero_start (ap (λ xs. drop (length xs) tip) log_is) part
+      by_fit false part = left_appended means.scheme means.bare (members.told (means.inside x)) left s.log s.log [] k.store.told k.zero_start (drop_all (length s.log.list) s.log.list (le_refl (length s.log.list))) part
+  left_in x left table opened h batch s list k in_had log_is apart grown (Merkleized w) b is e = absurd is
+  left_in x left table opened h batch s list k in_had log_is apart grown a b is e = absurd (cc)
 
   pub apply_left : (x : X) (left : Option Stored) (table : List (Slot B S M)) (opened : ℕ) (h : ℕ) (batch : M) (s : State)
-      → Holds members means (Database x) table opened s → Apart root s.had
+      → Holds members means (Database x) table opened s → IsSteady means.scheme s → Apart root s.had
       → ((list : List Operation) (chain : Chain) (tip : List Operation) → means.stands x list → means.is_merkleized batch chain tip → (fits root (commitment root list) chain ≡ true → IsOnChain list chain)
-      → model.Turns (members.told (means.inside x)) left (HasAppended (cond (fits root (commitment root list) chain) (map (spelling variable) (drop (length list) tip)) [])))
+      → model.Turns (members.told (means.inside x)) left (HasAppended (cond (fits root (commitment root list) chain) (map (spelling means.scheme.form) (drop (length list) tip)) [])))
       → merkleized_of (get_or table h Gone) ≡ Some batch
-      → IsLeft left s.store ((machine.apply means.scheme s h).1).store
-  apply_left x left table opened h batch s k apart grown e =
-      with_list members means x s.had s.database s (λ list. apply_in means.scheme s h list (slot_at s.table h)) (λ next. IsLeft left s.store (next.1).store) k.database
-      (λ list stands in_had. left_in x left table opened h batch s list k in_had apart (λ chain tip. grown list chain tip stands) (get_or table h Gone) (slot_at s.table h) (k.slots h) e)
+      → IsLeft means.scheme left s.log ((machine.apply means.scheme s h).1).log
+  apply_left x left table opened h batch s k sound apart grown e =
+      with_held members means x s.had s.database s (λ list. apply_in means.scheme s h list (slot_at s.table h)) (λ next. IsLeft means.scheme left s.log (next.1).log) k.database
+      (λ list is stands in_had. left_in x left table opened h batch s list k in_had (sound.held list is).0 apart (λ chain tip. grown list chain tip stands) (get_or table h Gone) (slot_at s.table h) (k.slots h) e)

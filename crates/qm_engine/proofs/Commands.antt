@@ -1,19 +1,18 @@
--- Each command over what a run holds, as lemmas over plain values: what all of them use, and the opening.
-use Rattle.std.proofs.Common.{◌≡◌, ◌≢◌, ℕ, ◌+◌, ◌<◌, Bool, true, false, cond, List, [], ◌∷◌, ◌++◌, length, get_or, set, map, Option, Some, None, arith, refl, sym, ◌∙◌, ap, subst, IfSome, append-nil}
+-- Each command over what a run holds, as lemmas over plain values: what all of them use.
+use Rattle.std.proofs.Common.{◌≡◌, ◌≢◌, ℕ, ◌≤◌, Bool, true, false, cond, List, [], ◌∷◌, ◌++◌, length, get_or, set, map, Option, Some, None, arith, refl, sym, ◌∙◌, ap, subst, IfSome, append-nil}
 use Rattle.std.specs.Prelude.{Contains, IsSome, is_some}
 use Rattle.std.proofs.lemmas.Bool.{lt-ltb, le-ltb}
 use Rattle.std.proofs.lemmas.List.{length-set}
 use Rattle.std.proofs.Math.Seq.{drop-append_seam}
-use Rattle.qm_model.specs.StoreModel.{Stored, appended, HasAppended, Becomes}
-use Rattle.qm_model.specs.StoreModel as model
+use Rattle.qm_model.specs.Own.{Log}
+use Rattle.qm_model.specs.StoreModel.{Stored}
 use Rattle.qm_model.specs.Operations.{Bytes, Operation, fresh}
-use Rattle.qm_model.specs.Forms.{spelling, variable}
 use Rattle.qm_model.specs.Writes.{Write}
 use Rattle.qm_model.specs.Batches.{Chain, IsAmong, Apart}
 use Rattle.qm_machine.specs.Lines.{Answer}
 use Rattle.qm_machine.specs.Lines as lines
 use Rattle.qm_model.specs.Refused as refusals
-use Rattle.qm_machine.specs.Machine.{State, slot_at, with_slot, with_database, unless, head_refusal, opening_refusal, open_unless}
+use Rattle.qm_machine.specs.Machine.{State, slot_at, with_slot, with_database, unless}
 use Rattle.qm_machine.specs.Machine as machine
 use Rattle.qm_model.proofs.Chains.{Contains-more, Contains-first, IsAmong-more}
 use Rattle.qm_base.specs.declared.error.JournalError.TheVariants as journal
@@ -39,8 +38,8 @@ use Rattle.qm_store.specs.Refusals.{refusal_of, IsDue}
 use Rattle.qm_store.specs.declared.Store as stores
 use Rattle.qm_engine.specs.declared.words.Words as words
 use Rattle.qm_store.specs.Given.{store_given, Appended, AppendedPart, IsUnchanged, TellsAll}
-use Rattle.qm_engine.specs.Stores.{IsStored}
-use Rattle.qm_engine.specs.Session.{HeldIs, SlotIs, Holds, IfReply, IsLeft, Answers}
+use Rattle.qm_engine.specs.Stores.{IsStored, HasLog, IsLeft, MayBe, grown}
+use Rattle.qm_engine.specs.Session.{HeldIs, SlotIs, Holds, IfReply, Answers}
 use Rattle.qm_engine.proofs.Tables.{set_at}
 
 -- what holds of both sides of a choice
@@ -59,42 +58,25 @@ due_told o due r is told = subst (λ p. IfSome p (λ x. due ≡ Some x)) told is
 pub some_is : {A : Type 0} (told : Option A) (x : A) (Q : A → Type 0) → told ≡ Some x → IfSome told Q → Q x
 some_is told x Q is each = subst (λ o. IfSome o Q) is each
 
--- what a store has that tells it
-pub told-stored : {C : Type 0} (members : stores.Ghosts C) (c : C) (stored : Stored) → IfSome (members.told c) (λ held. held.start ≡ members.start c) → members.told c ≡ Some stored → IsStored members c stored
-told-stored members c stored law is = record { start = sym (some_is (members.told c) stored (λ held. held.start ≡ members.start c) is law); told = is }
-
 -- a store that has what another has
-pub stored-same : {C : Type 0} (members : stores.Ghosts C) (old new : C) (stored : Stored) → IsUnchanged members old new → IsStored members old stored → IsStored members new stored
-stored-same members old new stored same is = record { start = same.start ∙ is.start; told = same.told ∙ is.told }
+pub stored-same : {C : Type 0} (members : stores.Ghosts C) (m : machine.Scheme) (old new : C) (log : Log) → IsUnchanged members old new → IsStored members m old log → IsStored members m new log
+stored-same members m old new log same is = record { start = same.start ∙ is.start; told = record { stored = is.told.stored; is = same.told ∙ is.told.is; has = is.told.has } }
 
--- what is told where it becomes this
-pub becomes-told : (o new : Option Stored) (old : Stored) (f : Stored → Stored) → o ≡ Some old → Becomes o new f → new ≡ Some (f old)
-becomes-told o new old f is made = by new (subst (λ p. Becomes p new f) is made)
-  where
-    by : (new : Option Stored) → Becomes (Some old) new f → new ≡ Some (f old)
-    by None made = absurd made
-    by (Some t) made = ap Some made
+-- nothing of what a command puts behind a list
+pub left_none : (m : machine.Scheme) (before after : Log) (left : Option Stored) → HasLog m left before → IsLeft m left before after
+left_none m before after left has = record {
+  log = before;
+  has = has;
+  may = subst (λ list. MayBe before after (record before { list = list })) (append-nil before.list) (grown 0 before.stable (omega arith));
+}
 
--- a store that has grown is one that tells so
-pub stored-grown : {C : Type 0} (members : stores.Ghosts C) (old new : C) (stored : Stored) (more : List Bytes) → Appended members old new more → IsStored members old stored → IsStored members new (appended more stored)
-stored-grown members old new stored more grown is = record { start = grown.start ∙ is.start; told = becomes-told (members.told old) (members.told new) stored (appended more) is.told grown.told }
-
--- what comes of a head that is not that of a start at 0 comes of none that is
-pub offered-unopened : (P : Type 0) (o : Option Stored) → IfSome o (λ held. head_refusal held.head ≡ None) → IfSome o (λ held. IsSome (head_refusal held.head) → P)
-offered-unopened P None offered = tt
-offered-unopened P (Some held) offered = λ some. absurd (cc (offered, some))
-
--- a first part of what is due
-pub left_part : (before : Stored) (more : List Bytes) (o left : Option Stored) → o ≡ Some before → model.Turns o left (HasAppended more) → IsLeft left before (appended more before)
-left_part before more o left is turns = by left (subst (λ p. model.Turns p left (HasAppended more)) is turns)
-  where
-    by : (left : Option Stored) → model.Turns (Some before) left (HasAppended more) → IsLeft left before (appended more before)
-    by None made = absurd made
-    by (Some t) made = record { count = made.count; stable = t.stable; least = made.least_stable; same = rw (drop-append_seam before.items more) (ap Some made.reads) }
-
--- and nothing of it
-pub left_none : (before after : Stored) (left : Option Stored) → left ≡ Some before → IsLeft left before after
-left_none before after left is = record { count = 0; stable = before.stable; least = omega arith; same = is ∙ ap (λ xs. Some (record before { items = xs })) (sym (append-nil before.items)) }
+-- all of it, of which more is stable
+pub left_stable : (m : machine.Scheme) (left : Option Stored) (before after : Log) (k : ℕ) → before.stable ≤ k → HasLog m left (record before { stable = k }) → IsLeft m left before after
+left_stable m left before after k more has = record {
+  log = record before { stable = k };
+  has = has;
+  may = subst (λ list. MayBe before after (record before { list = list; stable = k })) (append-nil before.list) (grown 0 k more);
+}
 
 -- the answer that refuses so
 abbrev pub refuses : Option refusals.Refused → Answer
@@ -146,10 +128,21 @@ module _ {X C B S M : Type 0} (members : stores.Ghosts C) (means : words.Ghosts 
   SlotIs-more had new a b h = absurd h
 
   -- a database is open where one is held
+  pub with_held : (x : X) (had : List (List Operation)) (d : Option (List Operation)) (s : State) (f : List Operation → Answer × State) (Q : Answer × State → Type 0)
+      → HeldIs members means had (Database x) d → ((list : List Operation) → d ≡ Some list → means.stands x list → Contains had list → Q (f list)) → Q (with_database s d f)
+  with_held x had None s f Q h each = absurd h
+  with_held x had (Some list) s f Q h each = each list refl h.0 h.1
+
   pub with_list : (x : X) (had : List (List Operation)) (d : Option (List Operation)) (s : State) (f : List Operation → Answer × State) (Q : Answer × State → Type 0)
       → HeldIs members means had (Database x) d → ((list : List Operation) → means.stands x list → Contains had list → Q (f list)) → Q (with_database s d f)
-  with_list x had None s f Q h each = absurd h
-  with_list x had (Some list) s f Q h each = each list h.0 h.1
+  with_list x had d s f Q h each = with_held x had d s f Q h (λ list is. each list)
+
+  -- one answer of the list
+  pub of_list : (x : X) (table : List (Slot B S M)) (opened : ℕ) (s : State) (got : Answer) (answer : List Operation → Answer) → Holds members means (Database x) table opened s
+      → ((list : List Operation) → means.stands x list → got ≡ answer list)
+      → (got ≡ (with_database s s.database (λ list. (answer list, s))).0) × Holds members means (Database x) table opened (with_database s s.database (λ list. (answer list, s))).1
+  of_list x table opened s got answer k is =
+      with_list x s.had s.database s (λ list. (answer list, s)) (λ next. (got ≡ next.0) × Holds members means (Database x) table opened next.1) k.database (λ list stands in_had. (is list stands, k))
 
   -- another database that stands for the same lists
   pub HeldIs-kept : (x after : X) (had : List (List Operation)) (d : Option (List Operation)) → ((list : List Operation) → means.stands x list → means.stands after list) → HeldIs members means had (Database x) d → HeldIs members means had (Database after) d
@@ -166,7 +159,7 @@ module _ {X C B S M : Type 0} (members : stores.Ghosts C) (means : words.Ghosts 
 
   -- the store of a database starts at 0, and tells its items
   pub Holds-told : (x : X) (table : List (Slot B S M)) (opened : ℕ) (s : State) → Holds members means (Database x) table opened s → TellsAll members (means.inside x)
-  Holds-told x table opened s k = (k.store.start ∙ (k.whole tt).0, ap is_some k.store.told)
+  Holds-told x table opened s k = (k.store.start ∙ k.zero_start, ap is_some k.store.told.is)
 
   -- a database that stands for the same lists, over what the store had
   abbrev pub Keeps : X → X → Type 0
@@ -175,8 +168,9 @@ module _ {X C B S M : Type 0} (members : stores.Ghosts C) (means : words.Ghosts 
   pub Holds-kept : (x after : X) (table : List (Slot B S M)) (opened : ℕ) (s : State) → Keeps x after → Holds members means (Database x) table opened s → Holds members means (Database after) table opened s
   Holds-kept x after table opened s keeps k = record {
     database = HeldIs-kept x after s.had s.database keeps.0 k.database;
-    store = stored-same members (means.inside x) (means.inside after) s.store keeps.1 k.store;
-    whole = k.whole;
+    store = stored-same members means.scheme (means.inside x) (means.inside after) s.log keeps.1 k.store;
+    zero_start = k.zero_start;
+    within = k.within;
     count = k.count;
     lengths = k.lengths;
     slots = k.slots;
@@ -186,8 +180,9 @@ module _ {X C B S M : Type 0} (members : stores.Ghosts C) (means : words.Ghosts 
   pub Holds-used : (x after : X) (table : List (Slot B S M)) (opened : ℕ) (h : ℕ) (s : State) → Keeps x after → Holds members means (Database x) table opened s → Holds members means (Database after) (set table h Gone) opened (with_slot s h machine.gone)
   Holds-used x after table opened h s keeps k = record {
     database = HeldIs-kept x after s.had s.database keeps.0 k.database;
-    store = stored-same members (means.inside x) (means.inside after) s.store keeps.1 k.store;
-    whole = k.whole;
+    store = stored-same members means.scheme (means.inside x) (means.inside after) s.log keeps.1 k.store;
+    zero_start = k.zero_start;
+    within = k.within;
     count = k.count;
     lengths = lengths_set table s h Gone machine.gone k.lengths;
     slots = slots_set table s h Gone machine.gone k.lengths k.slots tt;
@@ -252,96 +247,3 @@ module _ {X C B S M K V D : Type 0} (members : stores.Ghosts C) (means : words.G
       by_refusal error _ (λ r told. with_list members means x s.had s.database s (λ list. unless s (due list) (answer list)) (Turns (Reply (replies.Refused r)) (Database after) table opened) k.database
       (λ list stands in_had. subst (λ d. Turns (Reply (replies.Refused r)) (Database after) table opened (unless s d (answer list))) (sym (due_told (refusal_of error) (due list) (refused_view r) (is list stands) told))
       (λ apart. (refl, Holds-kept members means x after table opened s keeps k))))
-
-  -- an opening, as the machine's store decides it
-  abbrev Opening : Turn K V D → Given X C → List (Slot B S M) → ℕ → State → Option refusals.Refused → Type 0
-  Opening turn held table opened s due = Turns turn held table opened (open_unless s due)
-
-  -- what is held has items, or had some, where it is no empty store
-  pub filled_store : (held : Given X C) (table : List (Slot B S M)) (opened : ℕ) (s : State) → Holds members means held table opened s
-      → ((c : C) → held ≡ Store c → 0 < members.«end» c) → ((c : C) → IfSome (members.told c) (λ held. model.end_of held ≡ members.«end» c))
-      → 0 < s.store.start + length s.store.items
-  filled_store (Database x) table opened s k filled law = let some = (k.whole tt).1 in omega (arith, some)
-  filled_store (Store c) table opened s k filled law =
-      let above : 0 < members.«end» c = filled c refl in
-      subst (λ n. 0 < n) (sym (some_is (members.told c) s.store (λ held. model.end_of held ≡ members.«end» c) k.store.told (law c))) above
-
-  -- there is a database, or the store is not empty
-  pub open_refused : (held : Given X C) (table : List (Slot B S M)) (opened : ℕ) (s : State) → Holds members means held table opened s
-      → 0 < s.store.start + length s.store.items
-      → Turns (Reply (replies.Refused refused.NotOffered)) held table opened (machine.open_store s)
-  open_refused held table opened s k above =
-      subst (λ t. Opening (Reply (replies.Refused refused.NotOffered)) held table opened s (cond t (Some refusals.NotOffered) (head_refusal s.store.head))) (sym (lt-ltb 0 (s.store.start + length s.store.items) above)) (λ apart. (refl, k))
-
-  -- a store that ends at 0, with no database
-  module _ (c : C) (table : List (Slot B S M)) (opened : ℕ) (s : State) (k : Holds members means (Store c) table opened s) (law : IfSome (members.told c) (λ held. model.end_of held ≡ members.«end» c)) (none : members.«end» c ≡ 0) where
-    -- it starts at 0, and has no items
-    counted : s.store.start + length s.store.items ≡ 0
-    counted = some_is (members.told c) s.store (λ held. model.end_of held ≡ members.«end» c) k.store.told law ∙ none
-
-    -- so its head decides
-    by_head : opening_refusal s.store ≡ head_refusal s.store.head
-    by_head = ap (λ t. cond t (Some refusals.NotOffered) (head_refusal s.store.head)) (le-ltb 0 (s.store.start + length s.store.items) (omega (arith, counted)))
-
-    pub open_ok : (x : X) (start size : ℕ) → IfSome (members.told c) (λ _. means.stands x fresh) → IfSome (members.told c) (λ held. head_refusal held.head ≡ None) → Appended members c (means.inside x) (map (spelling variable) fresh)
-        → start ≡ members.start (means.inside x) → ((l : List Operation) → means.stands x l → size ≡ length l)
-        → Turns (Reply (replies.Opened (opened + 1) start size)) (Database x) table (opened + 1) (machine.open_store s)
-    open_ok x start size stood offered grown is_start sized =
-        let stands : means.stands x fresh = some_is (members.told c) s.store (λ _. means.stands x fresh) k.store.told stood in
-        let due : head_refusal s.store.head ≡ None = some_is (members.told c) s.store (λ held. head_refusal held.head ≡ None) k.store.told offered in
-        let zero_start : s.store.start ≡ 0 = omega (arith, counted) in
-        subst (Opening (Reply (replies.Opened (opened + 1) start size)) (Database x) table (opened + 1) s) (sym (by_head ∙ due)) (λ apart. (
-          rw (k.count, is_start ∙ grown.start ∙ k.store.start ∙ zero_start, sized fresh stands) refl,
-          record {
-            database = (stands, Contains-first fresh s.had);
-            store = stored-grown members c (means.inside x) s.store (map (spelling variable) fresh) grown k.store;
-            whole = λ _. (zero_start, longer s.store.items);
-            count = ap (λ n. n + 1) k.count;
-            lengths = k.lengths;
-            slots = λ h. SlotIs-more members means s.had fresh (get_or table h Gone) (slot_at s.table h) (k.slots h);
-          },
-        ))
-      where
-        longer : (items : List Bytes) → 0 < length (items ++ map (spelling variable) fresh)
-        longer [] = omega arith
-        longer (i ∷ is) = omega arith
-
-    -- a store alone that stands for it, too
-    alone : (after : C) (d : Option (List Operation)) → HeldIs members means s.had (Store c) d → HeldIs members means s.had (Store after) d
-    alone after None is = tt
-    alone after (Some list) is = absurd is
-
-    refused_store : (given : Given X C) → ((x : X) → given ≡ Database x → ⊥) → IsUnchanged members c (store_given means.inside given) → Holds members means given table opened s
-    refused_store (Database x) back same = absurd (back x refl)
-    refused_store (Store after) back same = record {
-      database = alone after s.database k.database;
-      store = stored-same members c after s.store same k.store;
-      whole = λ is_open. absurd is_open;
-      count = k.count;
-      lengths = k.lengths;
-      slots = k.slots;
-    }
-
-    -- what is told of a store whose head is not that of a start at 0
-    abbrev pub Unopened : C → Type 0
-    Unopened after = IfSome (members.told c) (λ held. IsSome (head_refusal held.head) → IsUnchanged members c after)
-
-    unopened : (after : C) (r : refusals.Refused) → head_refusal s.store.head ≡ Some r → Unopened after → IsUnchanged members c after
-    unopened after r due same = some_is (members.told c) s.store (λ held. IsSome (head_refusal held.head) → IsUnchanged members c after) k.store.told same (ap is_some due)
-
-    pub open_err : (given : Given X C) (error : Error) → IfSome (members.told c) (λ held. IsDue error (head_refusal held.head)) → Unopened (store_given means.inside given) → ((x : X) → given ≡ Database x → ⊥)
-        → Turns (turn_of_error error) given table opened (machine.open_store s)
-    open_err given error why same back =
-        by_refusal error _ (λ r told.
-        let due : head_refusal s.store.head ≡ Some (refused_view r) =
-        due_told (refusal_of error) (head_refusal s.store.head) (refused_view r) (some_is (members.told c) s.store (λ held. IsDue error (head_refusal held.head)) k.store.told why) told in
-        subst (Opening (Reply (replies.Refused r)) given table opened s) (sym (by_head ∙ due)) (λ apart. (refl, refused_store given back (unopened (store_given means.inside given) (refused_view r) due same))))
-
-    pub open_left : (after : C) → Unopened after → AppendedPart members c after (map (spelling variable) fresh)
-        → IsLeft (members.told after) s.store ((machine.open_store s).1).store
-    open_left after same grown =
-        subst (λ due. IsLeft (members.told after) s.store ((open_unless s due).1).store) (sym by_head) (by (head_refusal s.store.head) refl)
-      where
-        by : (due : Option refusals.Refused) → head_refusal s.store.head ≡ due → IsLeft (members.told after) s.store ((open_unless s due).1).store
-        by (Some r) is = left_none s.store s.store (members.told after) ((unopened after r is same).told ∙ k.store.told)
-        by None is = left_part s.store (map (spelling variable) fresh) (members.told c) (members.told after) k.store.told grown.told

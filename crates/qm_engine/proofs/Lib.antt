@@ -1,9 +1,13 @@
 pub mod Tables
+pub mod Lasting
+pub mod Handling
 pub mod Commands
 pub mod BatchCommands
 pub mod ReadCommands
 pub mod StagedCommands
 pub mod OrderedCommands
 pub mod ProofCommands
+pub mod LastingCommands
+pub mod OpeningCommands
 pub mod Loops
 pub mod Answerings

@@ -1,15 +1,32 @@
 -- The loop over the commands: one more, and its ends.
 use Rattle.std.proofs.Common.{◌≡◌, ◌≤◌, ◌<◌, ℕ, suc, ◌+◌, List, [], ◌∷◌, ◌++◌, length, get_or, take, map, Option, Some, None, IfSome, arith, refl, sym, ◌∙◌, ap, subst, add-one}
+use Rattle.std.specs.Prelude.{All}
 use Rattle.std.proofs.lemmas.List.{take_all, take_more, get_or-map}
 use Rattle.qm_model.specs.Causes.{Rose}
-use Rattle.qm_model.specs.StoreModel.{Stored}
+use Rattle.qm_model.specs.Own.{Log, IsKept, IsOwn}
+use Rattle.qm_model.specs.StoreModel.{Stored, Turns}
 use Rattle.qm_model.specs.Walk.{Rules}
 use Rattle.qm_model.specs.Batches.{Apart}
 use Rattle.qm_machine.specs.Lines.{Line, Answer}
-use Rattle.qm_machine.specs.Machine.{Scheme, State, initial, turn, answers, state_after}
+use Rattle.qm_machine.specs.Machine.{Scheme, State, engine_of, initial, turn, answers, state_after}
 use Rattle.qm_machine.proofs.Runs.{state_after-push, answers-push, Apart-before}
-use Rattle.qm_engine.specs.Session.{IsLeft}
-use Rattle.qm_engine.specs.Runs.{IsRun, after}
+use Rattle.qm_engine.specs.Stores.{HasLog, IsLeft}
+use Rattle.qm_engine.specs.Runs.{IsRun, IsOwnStore, after}
+use Rattle.qm_model.specs.Operations.{Operation}
+use Rattle.qm_model.specs.Forms.{IsOf}
+use Rattle.qm_machine.specs.Machine.{choices_after}
+use Rattle.qm_machine.specs.Sound.{IsSteady, IsSound}
+use Rattle.qm_machine.proofs.Runs.{turn-choices}
+use Rattle.qm_machine.proofs.Sounds.{IsFormed, turn-sound, sound-steady, initial-sound}
+use Rattle.qm_store.specs.declared.Store as stores
+use Rattle.qm_store.specs.declared.refusal.Given.{Given}
+use Rattle.qm_store.specs.declared.refusal.Given.TheVariants.{Database, Store}
+use Rattle.qm_engine.specs.declared.words.Words as words
+use Rattle.qm_engine.specs.declared.session.Session.{Session}
+use Rattle.qm_engine.specs.declared.table.Slot.{Slot}
+use Rattle.qm_engine.specs.Session.{HeldIs, Holds, Stands, IsChosen}
+use Rattle.qm_engine.specs.Stores.{IsBeside}
+use Rattle.qm_engine.proofs.Lasting.{beside-self, turns-told, turns-through}
 use Rattle.qm_engine.proofs.Commands.{left_none}
 
 pub line_here : {A B : Type 0} (f : A → B) (xs : List A) (i : ℕ) (x : A) → i < length xs → x ≡ get_or xs i x → f x ≡ get_or (map f xs) i (f x)
@@ -18,7 +35,19 @@ line_here f xs i x h e = ap f e ∙ sym (get_or-map f xs i x (f x) h)
 pub Rose-wider : (a b c d : ℕ) → a ≤ b → Rose b c → c ≤ d → Rose a d
 Rose-wider a b c d p q r = omega arith
 
-module _ (m : Scheme) {P : Type 0} (rules : Rules P) (stored : Stored) (lines : List (Line P)) where
+-- an own store of a log that is told
+pub own-of : (m : Scheme) {P : Type 0} (rules : Rules P) (told : Option Stored) (log : Log) → HasLog m told log → IsKept (engine_of m rules) log → IsOwnStore m rules told log
+own-of m rules told log has kept = record {
+  stored = has.stored;
+  is = has.is;
+  own = record { stored = record { start = has.has.start; items = has.has.items; head = has.has.head; metadata = has.has.metadata; stable = has.has.stable }; kept = kept };
+}
+
+-- and what is told of it
+pub log-of : (m : Scheme) {P : Type 0} (rules : Rules P) (told : Option Stored) (stored : Stored) (log : Log) → told ≡ Some stored → IsOwn (engine_of m rules) log stored → HasLog m told log
+log-of m rules told stored log is own = let has = own.stored in record { stored = stored; is = is; has = record { start = has.start; items = has.items; head = has.head; metadata = has.metadata; stable = has.stable } }
+
+module _ (m : Scheme) {P : Type 0} (rules : Rules P) (log : Log) (choices : List ℕ) (lines : List (Line P)) where
   -- the state after one command more
   after_more : (i : ℕ) (line : Line P) → i < length lines → line ≡ get_or lines i line → take (i + 1) lines ≡ take i lines ++ line ∷ []
   after_more i line h here = take_more lines i line h ∙ ap (λ x. take i lines ++ x ∷ []) (sym here)
@@ -26,57 +55,100 @@ module _ (m : Scheme) {P : Type 0} (rules : Rules P) (stored : Stored) (lines : 
   -- What is told of the answers grows by one.
   pub loop_step : {T : Type 0} (told : List Answer → T) (more : T → Answer → T) → ((given : List Answer) (a : Answer) → told (given ++ a ∷ []) ≡ more (told given) a)
       → (i : ℕ) (line : Line P) (old new : T) (Before After : State → Type 0) → i < length lines → line ≡ get_or lines i line
-      → (Apart m.root (after m rules stored lines i).had → (old ≡ told (answers m rules (initial stored) (take i lines))) × Before (after m rules stored lines i))
+      → (Apart m.root (after m rules log choices lines i).had → (old ≡ told (answers m rules (initial log choices) (take i lines))) × Before (after m rules log choices lines i))
       → ((s : State) → Before s → Apart m.root ((turn m rules s line).1).had → (new ≡ more old (turn m rules s line).0) × After (turn m rules s line).1)
-      → Apart m.root (after m rules stored lines (i + 1)).had → (new ≡ told (answers m rules (initial stored) (take (i + 1) lines))) × After (after m rules stored lines (i + 1))
+      → Apart m.root (after m rules log choices lines (i + 1)).had → (new ≡ told (answers m rules (initial log choices) (take (i + 1) lines))) × After (after m rules log choices lines (i + 1))
   loop_step told more push i line old new Before After h here so_far one =
-      let Goal : List (Line P) → Type 0 = λ t. Apart m.root (state_after m rules (initial stored) t).had → (new ≡ told (answers m rules (initial stored) t)) × After (state_after m rules (initial stored) t) in
-      let s : State = after m rules stored lines i in
-      subst Goal (sym (after_more i line h here)) (rw (state_after-push m rules (initial stored) (take i lines) line, answers-push m rules (initial stored) (take i lines) line) (λ apart.
+      let Goal : List (Line P) → Type 0 = λ t. Apart m.root (state_after m rules (initial log choices) t).had → (new ≡ told (answers m rules (initial log choices) t)) × After (state_after m rules (initial log choices) t) in
+      let s : State = after m rules log choices lines i in
+      subst Goal (sym (after_more i line h here)) (rw (state_after-push m rules (initial log choices) (take i lines) line, answers-push m rules (initial log choices) (take i lines) line) (λ apart.
       let before = so_far (Apart-before m rules s line apart) in
       let now = one s before.1 apart in
-      (now.0 ∙ ap (λ r. more r (turn m rules s line).0) before.0 ∙ sym (push (answers m rules (initial stored) (take i lines)) (turn m rules s line).0), now.1)))
+      (now.0 ∙ ap (λ r. more r (turn m rules s line).0) before.0 ∙ sym (push (answers m rules (initial log choices) (take i lines)) (turn m rules s line).0), now.1)))
 
   -- what is left where the next command ended the run
   pub left_in : (i : ℕ) (line : Line P) (left : Option Stored) (Before : State → Type 0) → i < length lines → line ≡ get_or lines i line
-      → (Apart m.root (after m rules stored lines i).had → Before (after m rules stored lines i))
-      → ((s : State) → Before s → Apart m.root s.had → IsLeft left s.store ((turn m rules s line).1).store)
-      → Apart m.root (after m rules stored lines i).had → IsLeft left (after m rules stored lines i).store (after m rules stored lines (suc i)).store
+      → (Apart m.root (after m rules log choices lines i).had → Before (after m rules log choices lines i))
+      → ((s : State) → Before s → Apart m.root s.had → IsLeft m left s.log ((turn m rules s line).1).log)
+      → Apart m.root (after m rules log choices lines i).had → IsLeft m left (after m rules log choices lines i).log (after m rules log choices lines (suc i)).log
   left_in i line left Before h here so_far leaves apart =
-      let s : State = after m rules stored lines i in
-      let next : (after m rules stored lines (suc i)).store ≡ ((turn m rules s line).1).store =
-      ap (λ n. (after m rules stored lines n).store) (sym (add-one i)) ∙ ap (λ t. (state_after m rules (initial stored) t).store) (after_more i line h here) ∙ ap (λ (x : State). x.store) (state_after-push m rules (initial stored) (take i lines) line) in
-      subst (IsLeft left s.store) (sym next) (leaves s (so_far apart) apart)
+      let s : State = after m rules log choices lines i in
+      let next : (after m rules log choices lines (suc i)).log ≡ ((turn m rules s line).1).log =
+      ap (λ n. (after m rules log choices lines n).log) (sym (add-one i)) ∙ ap (λ t. (state_after m rules (initial log choices) t).log) (after_more i line h here) ∙ ap (λ (x : State). x.log) (state_after-push m rules (initial log choices) (take i lines) line) in
+      subst (IsLeft m left s.log) (sym next) (leaves s (so_far apart) apart)
 
   -- behind the last command the state stays
-  pub after_all : (i : ℕ) → length lines ≤ i → (after m rules stored lines (suc i)).store ≡ (after m rules stored lines i).store
-  after_all i h = ap (λ (t : List (Line P)). (state_after m rules (initial stored) t).store) (take_all (suc i) lines (omega arith) ∙ sym (take_all i lines h))
+  pub after_all : (i : ℕ) → length lines ≤ i → (after m rules log choices lines (suc i)).log ≡ (after m rules log choices lines i).log
+  after_all i h = ap (λ (t : List (Line P)). (state_after m rules (initial log choices) t).log) (take_all (suc i) lines (omega arith) ∙ sym (take_all i lines h))
 
   -- the run ended in a command
   pub ended_in : (i : ℕ) (line : Line P) (given : List Answer) (left : Option Stored) (Before : State → Type 0) → i < length lines → line ≡ get_or lines i line → length given ≡ i
-      → (Apart m.root (after m rules stored lines i).had → (given ≡ answers m rules (initial stored) (take i lines)) × Before (after m rules stored lines i))
-      → ((s : State) → Before s → Apart m.root s.had → IsLeft left s.store ((turn m rules s line).1).store)
-      → IsRun m rules stored lines given left
+      → (Apart m.root (after m rules log choices lines i).had → (given ≡ answers m rules (initial log choices) (take i lines)) × Before (after m rules log choices lines i))
+      → ((s : State) → Before s → Apart m.root s.had → IsLeft m left s.log ((turn m rules s line).1).log)
+      → IsRun m rules log choices lines given left
   ended_in i line given left Before h here e so_far leaves = record {
     few = omega (arith, e);
-    same = subst (λ n. Apart m.root (after m rules stored lines n).had → given ≡ answers m rules (initial stored) (take n lines)) (sym e) (λ apart. (so_far apart).0);
+    same = subst (λ n. Apart m.root (after m rules log choices lines n).had → given ≡ answers m rules (initial log choices) (take n lines)) (sym e) (λ apart. (so_far apart).0);
     whole = λ all. absurd (omega (arith, e, all, h));
-    left = subst (λ n. Apart m.root (after m rules stored lines n).had → IsLeft left (after m rules stored lines n).store (after m rules stored lines (suc n)).store) (sym e)
+    left = subst (λ n. Apart m.root (after m rules log choices lines n).had → IsLeft m left (after m rules log choices lines n).log (after m rules log choices lines (suc n)).log) (sym e)
         (left_in i line left Before h here (λ apart. (so_far apart).1) leaves);
   }
 
   -- the store is as it was after the commands answered
   pub ended_at : (i : ℕ) (given : List Answer) (left : Option Stored) → i ≤ length lines → length given ≡ i
-      → (Apart m.root (after m rules stored lines i).had → (given ≡ answers m rules (initial stored) (take i lines)) × (left ≡ Some (after m rules stored lines i).store))
-      → IsRun m rules stored lines given left
+      → (Apart m.root (after m rules log choices lines i).had → (given ≡ answers m rules (initial log choices) (take i lines)) × HasLog m left (after m rules log choices lines i).log × IsKept (engine_of m rules) (after m rules log choices lines i).log)
+      → IsRun m rules log choices lines given left
   ended_at i given left h e so_far = record {
     few = omega (arith, e);
-    same = subst (λ n. Apart m.root (after m rules stored lines n).had → given ≡ answers m rules (initial stored) (take n lines)) (sym e) (λ apart. (so_far apart).0);
-    whole = λ all. subst (λ n. Apart m.root (after m rules stored lines n).had → left ≡ Some (after m rules stored lines n).store) (sym e) (λ apart. (so_far apart).1);
-    left = subst (λ n. Apart m.root (after m rules stored lines n).had → IsLeft left (after m rules stored lines n).store (after m rules stored lines (suc n)).store) (sym e)
-        (λ apart. left_none (after m rules stored lines i).store (after m rules stored lines (suc i)).store left (so_far apart).1);
+    same = subst (λ n. Apart m.root (after m rules log choices lines n).had → given ≡ answers m rules (initial log choices) (take n lines)) (sym e) (λ apart. (so_far apart).0);
+    whole = λ all. subst (λ n. Apart m.root (after m rules log choices lines n).had → IsOwnStore m rules left (after m rules log choices lines n).log) (sym e) (λ apart. own-of m rules left _ (so_far apart).1 (so_far apart).2);
+    left = subst (λ n. Apart m.root (after m rules log choices lines n).had → IsLeft m left (after m rules log choices lines n).log (after m rules log choices lines (suc n)).log) (sym e)
+        (λ apart. left_none m (after m rules log choices lines i).log (after m rules log choices lines (suc i)).log left (so_far apart).1);
   }
 
 pub each : {A : Type 0} (o : Option A) {Q : A → Type 0} → ((x : A) → o ≡ Some x → Q x) → IfSome o Q
 each None h = tt
 each (Some x) h = h x refl
+
+-- Between two commands of a sound run: what is held stands for the state, which is sound, and these are its choices to come.
+pub record Between {X C B S M P : Type 0} (members : stores.Ghosts C) (means : words.Ghosts X C B S M) (rules : Rules P) (session : Session X C B S M) (rest : List ℕ) (s : State) : Type 0 where
+  pub stands : Stands members means session s
+  pub sound : IsSound means.scheme rules s
+  pub choices : s.choices ≡ rest
+
+module _ {X C B S M : Type 0} (members : stores.Ghosts C) (means : words.Ghosts X C B S M) {P : Type 0} (rules : Rules P) where
+  -- a run begins so
+  pub begins-between : (session : Session X C B S M) (log : Log) (choices : List ℕ) → Stands members means session (initial log choices) → IsKept (engine_of means.scheme rules) log → Between members means rules session choices (initial log choices)
+  begins-between session log choices stands kept = record { stands = stands; sound = initial-sound means.scheme rules log choices kept; choices = refl }
+
+  -- the list of a database that is held is of its form
+  formed : (held : Given X C) (table : List (Slot B S M)) (opened : ℕ) (s : State) → Holds members means held table opened s → IsFormed means.scheme rules s
+  formed held table opened s k list is = by held (subst (HeldIs members means s.had held) is k.database)
+    where
+      by : (held : Given X C) → HeldIs members means s.had held (Some list) → All (IsOf means.scheme.form) list
+      by (Database x) at = means.formed x list at.0
+      by (Store c) at = absurd at
+
+  -- and goes on
+  pub goes-between : (old new : Session X C B S M) (more rest : List ℕ) (line : Line P) (T : State → Type 0) → IsChosen line more
+      → ((s : State) → Stands members means old s → IsSteady means.scheme s → s.choices ≡ more ++ rest → Apart means.scheme.root ((turn means.scheme rules s line).1).had → T s × Stands members means new (turn means.scheme rules s line).1)
+      → (s : State) → Between members means rules old (more ++ rest) s → Apart means.scheme.root ((turn means.scheme rules s line).1).had → T s × Between members means rules new rest (turn means.scheme rules s line).1
+  goes-between old new more rest line T chosen did s between apart =
+      let done = did s between.stands (sound-steady means.scheme rules s between.sound) between.choices apart in (
+        done.0,
+        record {
+          stands = done.1;
+          sound = turn-sound means.scheme rules s line between.sound apart (formed new.held new.table.items new.opened (turn means.scheme rules s line).1 done.1);
+          choices = turn-choices means.scheme rules s line ∙ (ap (choices_after line) between.choices ∙ chosen rest);
+        },
+      )
+
+-- The choices that a run's store made, by its parts.
+
+pub none-more : (o new : Option Stored) (stored : Stored) (more : List ℕ) → o ≡ Some stored → new ≡ o → Turns o new (IsBeside more) → more ≡ []
+none-more o new stored more is same told =
+    turns-told more [] stored (Some stored) (subst (λ p. Turns (Some stored) p (IsBeside more)) (same ∙ is) (subst (λ p. Turns p new (IsBeside more)) is told)) (beside-self stored)
+
+pub more-parts : (o p q : Option Stored) (stored : Stored) (a b more : List ℕ) → o ≡ Some stored → Turns o p (IsBeside a) → Turns p q (IsBeside b) → Turns o q (IsBeside more) → more ≡ a ++ b
+more-parts o p q stored a b more is one two told =
+    turns-told more (a ++ b) stored q (subst (λ x. Turns x q (IsBeside more)) is told) (subst (λ x. Turns x q (IsBeside (a ++ b))) is (turns-through a b o p q one two))

@@ -45,7 +45,7 @@ module _ {X C B S M K V D : Type 0} (members : stores.Ghosts C) (means : words.G
   named_state list (machine.merkleized chain tip) = readable_state members means key value digest s list chain tip (found tip)
 
   -- over an ordered database, through the merkleized batch of this number
-  on_batch : (turn : Turn K V D) → Holds members means (Database x) table opened s → Keeps members means x after → means.scheme.is_ordered ≡ true → Some batch ≡ merkleized_of (get_or table h Gone)
+  on_batch : (turn : Turn K V D) → Holds members means (Database x) table opened s → Keeps members means x after → means.scheme.form.ordered ≡ true → Some batch ≡ merkleized_of (get_or table h Gone)
       → ((list : List Operation) (chain : Chain) (tip : List Operation) → means.stands x list → means.is_merkleized batch chain tip → Contains s.had list → IsAmong s.had chain → Contains s.had tip
       → Answers members means key value digest turn s (if_readable means.scheme s list chain tip (found tip)))
       → Finds turn
@@ -65,14 +65,14 @@ module _ {X C B S M K V D : Type 0} (members : stores.Ghosts C) (means : words.G
       by list stands in_had (machine.merkleized chain tip) is = each list chain tip stands is.0 in_had is.1 is.2
       by list stands in_had slot is = absurd is
 
-  pub beside_ok : (k : Option K) → Holds members means (Database x) table opened s → Keeps members means x after → means.scheme.is_ordered ≡ true → Some batch ≡ merkleized_of (get_or table h Gone)
+  pub beside_ok : (k : Option K) → Holds members means (Database x) table opened s → Keeps members means x after → means.scheme.form.ordered ≡ true → Some batch ≡ merkleized_of (get_or table h Gone)
       → AtTip means x batch (λ list chain tip. CanRead means list chain tip)
       → AtTip means x batch (λ list chain tip. IsKnown list chain tip → option_map key k ≡ beside (live_keys tip))
       → Finds (Reply (Beside k))
   beside_ok k held keeps ordered e can are = on_batch (Reply (Beside k)) held keeps ordered e (λ list chain tip stands is in_had among tip_in.
       readable_ok members means key value digest s list chain tip (lines.Beside (option_map key k)) (found tip) in_had among tip_in (can list chain tip stands is) (λ known. ap lines.Beside (are list chain tip stands is known)))
 
-  pub beside_err : (error : Error) → Holds members means (Database x) table opened s → Keeps members means x after → means.scheme.is_ordered ≡ true → Some batch ≡ merkleized_of (get_or table h Gone)
+  pub beside_err : (error : Error) → Holds members means (Database x) table opened s → Keeps members means x after → means.scheme.form.ordered ≡ true → Some batch ≡ merkleized_of (get_or table h Gone)
       → (tells : Type 0) → tells → AtTip means x batch (λ list chain tip. IsReadFailure means tells list chain tip error)
       → Finds (turn_of_error error)
   beside_err error held keeps ordered e tells told_all why = on_batch (turn_of_error error) held keeps ordered e (λ list chain tip stands is in_had among tip_in.

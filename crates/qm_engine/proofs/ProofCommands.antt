@@ -1,5 +1,5 @@
 -- The commands that prove.
-use Rattle.std.proofs.Common.{◌∙◌, ◌≡◌, ℕ, ◌+◌, List, length, get_or, take, drop, Some, None, refl, sym, ap₂, subst}
+use Rattle.std.proofs.Common.{◌∙◌, ◌≡◌, ℕ, ◌+◌, List, length, get_or, take, drop, Some, None, refl, sym, ap₂, subst, ap}
 use Rattle.std.specs.Prelude.{Contains}
 use Rattle.qm_model.specs.Operations.{Bytes, Operation}
 use Rattle.qm_model.specs.Batches.{IsKnown}
@@ -47,7 +47,7 @@ module _ {X C B S M K V D : Type 0} (members : stores.Ghosts C) (means : words.G
       let count : ℕ = proof_count size start max in
       let Goal : Answer × State → Type 0 = λ next. (lines.Proved proof ops ≡ next.0) × Holds members means (Database after) table opened next.1 in
       let given : List Operation → Answer = λ list. lines.Proved (means.scheme.proof (take size list) start (start + count)) (take count (drop start list)) in
-      with_list members means x s.had s.database s (λ list. unless s (proof_refusal s.store.start list size start) (given list)) Goal k.database
+      with_list members means x s.had s.database s (λ list. unless s (proof_refusal s.log.start list size start) (given list)) Goal k.database
       (λ list stands in_had. subst (λ due. Goal (unless s due (given list))) (sym (subst (λ kept. proof_refusal kept list size start ≡ None) k.store.start (offered list stands)))
       (ap₂ lines.Proved (is_proof list stands) (are_ops list stands), Holds-kept members means x after table opened s (keeps, same_store) k))
 
@@ -56,9 +56,18 @@ module _ {X C B S M K V D : Type 0} (members : stores.Ghosts C) (means : words.G
       → ((list : List Operation) → means.stands x list → IsDue error (proof_refusal (members.start (means.inside x)) list size start))
       → Goes (turn_of_error error) (Database after) table opened (machine.prove means.scheme s size start max)
   prove_err x after table opened size start max error s k keeps same_store is =
-      unless_err members means key value digest x after table opened error s (λ list. proof_refusal s.store.start list size start)
+      unless_err members means key value digest x after table opened error s (λ list. proof_refusal s.log.start list size start)
       (λ list. lines.Proved (means.scheme.proof (take size list) start (start + proof_count size start max)) (take (proof_count size start max) (drop start list))) k (keeps, same_store)
       (λ list stands. subst (λ kept. IsDue error (proof_refusal kept list size start)) k.store.start (is list stands))
+
+  pub pins_ok : (x : X) (table : List (Slot B S M)) (opened n : ℕ) (digests : List Bytes) (s : State) → Holds members means (Database x) table opened s
+      → ((list : List Operation) → means.stands x list → pins_refusal list n ≡ None)
+      → ((list : List Operation) → means.stands x list → digests ≡ means.scheme.pins list n)
+      → (lines.Pinned digests ≡ (machine.pins means.scheme s n).0) × Holds members means (Database x) table opened (machine.pins means.scheme s n).1
+  pins_ok x table opened n digests s k offered are =
+      let Goal : Answer × State → Type 0 = λ next. (lines.Pinned digests ≡ next.0) × Holds members means (Database x) table opened next.1 in
+      with_list members means x s.had s.database s (λ list. unless s (pins_refusal list n) (lines.Pinned (means.scheme.pins list n))) Goal k.database
+      (λ list stands in_had. subst (λ due. Goal (unless s due (lines.Pinned (means.scheme.pins list n)))) (sym (offered list stands)) (ap lines.Pinned (are list stands), k))
 
   pub pins_err : (x : X) (table : List (Slot B S M)) (opened n : ℕ) (error : Error) (s : State) → Holds members means (Database x) table opened s
       → ((list : List Operation) → means.stands x list → IsDue error (pins_refusal list n))

@@ -7,7 +7,6 @@ use Rattle.qm_model.specs.Writes.{Write, read_through}
 use Rattle.qm_model.specs.Walk.{Rules}
 use Rattle.qm_model.specs.Slots.{slotted}
 use Rattle.qm_model.specs.Slots as slots
-use Rattle.qm_model.specs.Forms.{variable}
 use Rattle.qm_model.specs.Refusals.{tip_refusal}
 use Rattle.qm_model.specs.Batches.{Chain, IsAmong, IsKnown, IsOnChain, Apart, commitment, readable}
 use Rattle.qm_machine.specs.Lines.{Answer}
@@ -67,8 +66,9 @@ module _ {X C B S M K V D : Type 0} (members : stores.Ghosts C) (means : words.G
           now.0,
           record {
             database = HeldIs-kept members means x after s.had s.database keeps.0 k.database;
-            store = stored-same members (means.inside x) (means.inside after) s.store keeps.1 k.store;
-            whole = k.whole;
+            store = stored-same members means.scheme (means.inside x) (means.inside after) s.log keeps.1 k.store;
+            zero_start = k.zero_start;
+            within = k.within;
             count = k.count;
             lengths = rw set_set (lengths_set members means table s h (Staged made) new k.lengths);
             slots = rw set_set (slots_set members means table s h (Staged made) new k.lengths k.slots (now.1, among, above_among));
@@ -142,9 +142,9 @@ module _ {X C B S M K V D : Type 0} (members : stores.Ghosts C) (means : words.G
   -- what a call says that makes a staged batch's tip list
   pub staged_making : (x : X) (batch : S) (tip : Chain → List Write → List Bytes → List Operation) (tells : Type 0) (made : Result M Error)
       → IfOk made (λ _. AtStaged means x batch (λ list chain above ws keys. Fits means list chain))
-      → IfOk made (λ b. AtStaged means x batch (λ list chain above ws keys. IsOnChain list chain → (tip_refusal variable chain (tip chain ws keys) ≡ None) × means.is_merkleized b chain (tip chain ws keys)))
+      → IfOk made (λ b. AtStaged means x batch (λ list chain above ws keys. IsOnChain list chain → (tip_refusal means.scheme.form chain (tip chain ws keys) ≡ None) × means.is_merkleized b chain (tip chain ws keys)))
       → IfErr made (λ e. e ≡ errors.StaleBatch → AtStaged means x batch (λ list chain above ws keys. ¬ IsOnChain list chain))
-      → IfErr made (λ e. e ≢ errors.StaleBatch → tells → AtStaged means x batch (λ list chain above ws keys. IfSome (refusal_of e) (λ r. Fits means list chain × (IsOnChain list chain → tip_refusal variable chain (tip chain ws keys) ≡ Some r))))
+      → IfErr made (λ e. e ≢ errors.StaleBatch → tells → AtStaged means x batch (λ list chain above ws keys. IfSome (refusal_of e) (λ r. Fits means list chain × (IsOnChain list chain → tip_refusal means.scheme.form chain (tip chain ws keys) ≡ Some r))))
       → tells → AtStaged means x batch (λ list chain above ws keys. IsMaking means list chain (tip chain ws keys) made)
   staged_making x batch tip tells (Ok b) fits did stale refused told list chain above ws keys stands is = record {
     fits = fits list chain above ws keys stands is;

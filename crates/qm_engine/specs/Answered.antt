@@ -1,25 +1,26 @@
 -- What answering the lines of an input gives.
 use Rattle.std.specs.Prelude.{◌≡◌, ◌≤◌, ℕ, suc, List, length, take, Option, Some, None}
 use Rattle.qm_model.specs.Operations.{Bytes}
+use Rattle.qm_model.specs.Own.{Log}
 use Rattle.qm_model.specs.StoreModel.{Stored}
 use Rattle.qm_model.specs.Walk.{Rules}
 use Rattle.qm_model.specs.Batches.{Apart}
 use Rattle.qm_machine.specs.Lines.{Line}
 use Rattle.qm_machine.specs.Machine.{Scheme, State, initial, turn, answers}
 use Rattle.qm_machine.specs.Text.{text_of}
-use Rattle.qm_engine.specs.Session.{IsLeft}
-use Rattle.qm_engine.specs.Runs.{after}
+use Rattle.qm_engine.specs.Stores.{IsLeft}
+use Rattle.qm_engine.specs.Runs.{after, IsOwnStore}
 
 -- the machine's state after a line, which stays where that is no command
 abbrev pub after_line : Scheme → {P : Type 0} → Rules P → State → Option (Line P) → State
 after_line m rules s None = s
 after_line m rules s (Some line) = (turn m rules s line).1
 
--- Over this store the first k commands were answered: the text is that of the machine's answers, and its store is
--- left, with a first part of what the next command appends, if the lists of that very run are apart.
-pub record IsAnswered (m : Scheme) {P : Type 0} (rules : Rules P) (stored : Stored) (lines : List (Line P)) (k : ℕ) (text : Bytes) (store_left : Option Stored) : Type 0 where
+-- Over a store of this log, which chose these ends, the first k commands were answered: the text is that of the machine's
+-- answers, and its store is left, or what may be left of it by the next command, if the lists of that very run are apart.
+pub record IsAnswered (m : Scheme) {P : Type 0} (rules : Rules P) (log : Log) (choices : List ℕ) (lines : List (Line P)) (k : ℕ) (text : Bytes) (store_left : Option Stored) : Type 0 where
   pub few : k ≤ length lines
-  pub same : Apart m.root (after m rules stored lines k).had → text ≡ text_of (answers m rules (initial stored) (take k lines))
+  pub same : Apart m.root (after m rules log choices lines k).had → text ≡ text_of (answers m rules (initial log choices) (take k lines))
   -- every command answered
-  pub whole : k ≡ length lines → Apart m.root (after m rules stored lines k).had → store_left ≡ Some (after m rules stored lines k).store
-  pub left : Apart m.root (after m rules stored lines k).had → IsLeft store_left (after m rules stored lines k).store (after m rules stored lines (suc k)).store
+  pub whole : k ≡ length lines → Apart m.root (after m rules log choices lines k).had → IsOwnStore m rules store_left (after m rules log choices lines k).log
+  pub left : Apart m.root (after m rules log choices lines k).had → IsLeft m store_left (after m rules log choices lines k).log (after m rules log choices lines (suc k)).log

@@ -1,7 +1,6 @@
 -- What comes of making a batch's tip list.
 use Rattle.std.specs.Prelude.{◌≡◌, ◌≢◌, ℕ, List, Result, Some, None, IfOk, IfErr, IfSome, if◌then◌else◌}
 use Rattle.qm_model.specs.Operations.{Operation}
-use Rattle.qm_model.specs.Forms.{variable}
 use Rattle.qm_model.specs.Batches.{Chain, IsOnChain, commitment, fits}
 use Rattle.qm_model.specs.Refusals.{tip_refusal}
 use Rattle.qm_model.specs.Refused as refusals
@@ -17,13 +16,13 @@ use Rattle.qm_engine.specs.Words.{Fits}
 abbrev pub made_into : Scheme → State → ℕ → List Operation → Chain → List Operation → Answer × State
 made_into m s h list chain tip =
     if fits m.root (commitment m.root list) chain
-    then merkleize_tip s h chain tip (tip_refusal variable chain tip)
+    then merkleize_tip s h chain tip (tip_refusal m.form chain tip)
     else refuse (with_slot s h gone) refusals.StaleBatch
 
 module _ {X C B S M : Type 0} (means : words.Ghosts X C B S M) where
   -- the result of making this tip list of a batch of this chain, over this list
   pub record IsMaking (list : List Operation) (chain : Chain) (tip : List Operation) (result : Result M Error) : Type 0 where
     pub fits : IfOk result (λ _. Fits means list chain)
-    pub made : IfOk result (λ b. IsOnChain list chain → (tip_refusal variable chain tip ≡ None) × means.is_merkleized b chain tip)
+    pub made : IfOk result (λ b. IsOnChain list chain → (tip_refusal means.scheme.form chain tip ≡ None) × means.is_merkleized b chain tip)
     pub stale : IfErr result (λ e. e ≡ StaleBatch → ¬ IsOnChain list chain)
-    pub refused : IfErr result (λ e. e ≢ StaleBatch → IfSome (refusal_of e) (λ r. Fits means list chain × (IsOnChain list chain → tip_refusal variable chain tip ≡ Some r)))
+    pub refused : IfErr result (λ e. e ≢ StaleBatch → IfSome (refusal_of e) (λ r. Fits means list chain × (IsOnChain list chain → tip_refusal means.scheme.form chain tip ≡ Some r)))

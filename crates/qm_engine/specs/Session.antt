@@ -1,12 +1,13 @@
 -- What a run holds, and the state of the machine that it stands for.
-use Rattle.std.specs.Prelude.{◌≡◌, ◌≤◌, ◌<◌, ℕ, List, ◌++◌, take, drop, length, Contains, Option, Some, None, slice_index_or}
+use Rattle.std.specs.Prelude.{◌≡◌, ◌≤◌, ℕ, List, [], ◌++◌, length, Contains, Option, Some, None, slice_index_or}
 use Rattle.qm_model.specs.Causes.{Rose}
 use Rattle.qm_model.specs.Operations.{Bytes, Operation}
 use Rattle.qm_model.specs.Batches.{IsAmong, Apart}
-use Rattle.qm_machine.specs.Lines.{Answer}
-use Rattle.qm_model.specs.StoreModel.{Stored, beside_items}
-use Rattle.qm_machine.specs.Machine.{State, slot_at}
+use Rattle.qm_machine.specs.Lines.{Line, Answer}
+use Rattle.qm_model.specs.StoreModel.{Turns, beside_items}
+use Rattle.qm_machine.specs.Machine.{State, slot_at, choices_after}
 use Rattle.qm_machine.specs.Machine as machine
+use Rattle.qm_machine.specs.Sound.{IsSteady}
 use Rattle.qm_lines.specs.Views.{answer_view}
 use Rattle.qm_lines.specs.declared.reply.Reply as reply
 use Rattle.qm_store.specs.declared.Store as store
@@ -19,16 +20,7 @@ use Rattle.qm_engine.specs.declared.session.Session.{Session}
 use Rattle.qm_engine.specs.declared.session.Turn.{Turn}
 use Rattle.qm_engine.specs.declared.session.Turn.TheVariants.{Reply, Memory, StoreFault}
 use Rattle.qm_store.specs.Given.{store_given}
-use Rattle.qm_engine.specs.Stores.{IsStored}
-
--- a database is held
-abbrev pub IsOpen : {X C : Type 0} → Given X C → Type 0
-IsOpen (Database x) = Unit {0}
-IsOpen (Store c) = ⊥
-
--- a store has the items of a whole list, from 0 on; a list is never empty
-abbrev pub IsWhole : Stored → Type 0
-IsWhole stored = (stored.start ≡ 0) × (0 < length stored.items)
+use Rattle.qm_engine.specs.Stores.{IsStored, IsBeside, IsLeft}
 
 module _ {X C B S M : Type 0} (members : store.Ghosts C) (means : words.Ghosts X C B S M) where
   -- the database stands for the machine's list, one of those that the run has had; without one there is a store alone
@@ -49,8 +41,9 @@ module _ {X C B S M : Type 0} (members : store.Ghosts C) (means : words.Ghosts X
   -- what is held stands for this state
   pub record Holds (held : Given X C) (table : List (Slot B S M)) (opened : ℕ) (s : State) : Type 0 where
     pub database : HeldIs s.had held s.database
-    pub store : IsStored members (store_given means.inside held) s.store
-    pub whole : IsOpen held → IsWhole s.store
+    pub store : IsStored members means.scheme (store_given means.inside held) s.log
+    pub zero_start : s.log.start ≡ 0
+    pub within : s.log.stable ≤ length s.log.list
     pub count : opened ≡ s.opened
     pub lengths : length table ≡ length s.table
     pub slots : (h : ℕ) → SlotIs s.had (slice_index_or table h Gone) (slot_at s.table h)
@@ -65,18 +58,16 @@ IfReply (Reply r) P = P r
 IfReply Memory P = Unit {0}
 IfReply StoreFault P = Unit {0}
 
--- A store is as it was before a command, or has a first part of what that appends; as many of its items are stable, or more.
-pub record IsLeft (left : Option Stored) (before after : Stored) : Type 0 where
-  pub count : ℕ
-  pub stable : ℕ
-  pub least : before.stable ≤ stable
-  pub same : left ≡ Some (record before { items = before.items ++ take count (drop (length before.items) after.items); stable = stable })
-
 module _ {X C B S M : Type 0} (members : store.Ghosts C) (means : words.Ghosts X C B S M) where
-  -- However a command ends, the store is as it was before, with a first part of what the command appends.
+  -- However a command ends, the store has what may be left of it.
   abbrev pub Leaves : Session X C B S M → Session X C B S M → (State → Answer × State) → Type 0
   Leaves old new next =
-      (s : State) → Stands members means old s → Apart means.scheme.root s.had → IsLeft (members.told (store_given means.inside new.held)) s.store ((next s).1).store
+      (s : State) → Stands members means old s → Apart means.scheme.root s.had → IsLeft means.scheme (members.told (store_given means.inside new.held)) s.log ((next s).1).log
+
+  -- The same of a command before which the run was steady.
+  abbrev pub LeavesSteady : Session X C B S M → Session X C B S M → (State → Answer × State) → Type 0
+  LeavesSteady old new next =
+      (s : State) → Stands members means old s → IsSteady means.scheme s → Apart means.scheme.root s.had → IsLeft means.scheme (members.told (store_given means.inside new.held)) s.log ((next s).1).log
 
   module _ {K V D : Type 0} (key : K → Bytes) (value : V → Bytes) (digest : D → Bytes) where
     -- A reply is the machine's, where the lists of this state are apart.
@@ -92,6 +83,14 @@ module _ {X C B S M : Type 0} (members : store.Ghosts C) (means : words.Ghosts X
     abbrev pub Obeys : Session X C B S M → Session X C B S M → Turn K V D → (State → Answer × State) → Type 0
     Obeys old new turn next = (s : State) → Stands members means old s → Follows new turn (next s)
 
+    -- The same of a command before which the run was steady, where the store tells the ends that restarts chose in it: the machine
+    -- takes these of the choices to come.
+    abbrev pub ObeysSteady : Session X C B S M → Session X C B S M → Turn K V D → (State → Answer × State) → Type 0
+    ObeysSteady old new turn next =
+        (s : State) → Stands members means old s → IsSteady means.scheme s
+        → (more rest : List ℕ) → Turns (members.told (store_given means.inside old.held)) (members.told (store_given means.inside new.held)) (IsBeside more) → s.choices ≡ more ++ rest
+        → Follows new turn (next s)
+
     -- The same of a command that leaves the session as it is.
     abbrev pub Tells : Session X C B S M → Turn K V D → (State → Answer × State) → Type 0
     Tells session turn next = Obeys session session turn next
@@ -101,5 +100,24 @@ module _ {X C B S M : Type 0} (members : store.Ghosts C) (means : words.Ghosts X
 pub record Uses {C K V D : Type 0} (members : store.Ghosts C) (old new : C) (turn : Turn K V D) : Type 0 where
   pub start : members.start new ≡ members.start old
   pub beside : beside_items (members.told new) ≡ beside_items (members.told old)
+  pub later : members.faults old ≤ members.faults new
+  pub fault : turn ≡ StoreFault → Rose (members.faults old) (members.faults new)
+
+-- A turn handles the store: it puts no metadata, and no restart chooses an end; the count has not fallen, and it rose where a
+-- fault is told.
+pub record Handles {C K V D : Type 0} (members : store.Ghosts C) (old new : C) (turn : Turn K V D) : Type 0 where
+  pub beside : Turns (members.told old) (members.told new) (IsBeside [])
+  pub later : members.faults old ≤ members.faults new
+  pub fault : turn ≡ StoreFault → Rose (members.faults old) (members.faults new)
+
+-- these are the choices that a command takes
+abbrev pub IsChosen : {P : Type 0} → Line P → List ℕ → Type 0
+IsChosen line more = (rest : List ℕ) → choices_after line (more ++ rest) ≡ rest
+
+-- A command's turn handles the store, and so many ends were chosen as the command takes, where it has a reply.
+pub record HandlesLine {C K V D P : Type 0} (members : store.Ghosts C) (line : Line P) (old new : C) (turn : Turn K V D) : Type 0 where
+  pub more : List ℕ
+  pub beside : Turns (members.told old) (members.told new) (IsBeside more)
+  pub chosen : IfReply turn (λ _. IsChosen line more)
   pub later : members.faults old ≤ members.faults new
   pub fault : turn ≡ StoreFault → Rose (members.faults old) (members.faults new)

@@ -5,10 +5,14 @@ use Rattle.qm_base.specs.declared.error.MerkleError.{MerkleError}
 use Rattle.qm_base.specs.declared.error.MerkleError.TheVariants as merkle
 use Rattle.qm_base.specs.declared.error.Error.{Error}
 use Rattle.qm_base.specs.declared.error.Error.TheVariants as errors
-use Rattle.qm_lines.specs.declared.reply.Reply.TheVariants.{Refused}
+use Rattle.qm_lines.specs.declared.reply.Reply.TheVariants.{Refused, Done}
 use Rattle.qm_lines.specs.declared.reply.TreeRefused.TheVariants as tree
 use Rattle.qm_lines.specs.declared.reply.LogRefused.TheVariants as log
 use Rattle.qm_lines.specs.declared.reply.Refused.TheVariants as refused
+use Rattle.std.specs.Prelude.{Result, Ok, Err}
+use Rattle.qm_store.specs.declared.refusal.Given.{Given}
+use Rattle.qm_store.specs.declared.refusal.Given.TheVariants.{Database}
+use Rattle.qm_store.specs.declared.refusal.Refusal.{Refusal}
 use Rattle.qm_engine.specs.declared.session.Turn.{Turn}
 use Rattle.qm_engine.specs.declared.session.Turn.TheVariants.{Reply, Memory, StoreFault}
 
@@ -34,3 +38,13 @@ turn_of_error (errors.HistoricalFloorPruned n) = Reply (Refused (refused.Histori
 turn_of_error (errors.DataCorrupted c) = Reply (Refused (refused.DataCorrupted c))
 turn_of_error (errors.Merkle e) = turn_of_tree e
 turn_of_error (errors.Journal e) = turn_of_log e
+
+-- what a call gives that takes a database by value: another one, or what its refusal gives
+abbrev pub given_after : {X C : Type 0} → Result X (Refusal X C) → Given X C
+given_after (Ok x) = Database x
+given_after (Err r) = r.given
+
+-- what it comes to, where it has no answer but that it is done
+abbrev pub turn_settled : {K V D X C : Type 0} → Result X (Refusal X C) → Turn K V D
+turn_settled (Ok x) = Reply Done
+turn_settled (Err r) = turn_of_error r.error

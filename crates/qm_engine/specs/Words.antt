@@ -1,22 +1,26 @@
 -- What an engine's clauses share, over all of its words at once.
-use Rattle.std.specs.Prelude.{◌≡◌, ◌≢◌, List, true, Option, None}
+use Rattle.std.specs.Prelude.{◌≡◌, ◌≢◌, ◌≤◌, List, true, Option, None, Result, IfOk, IfErr}
 use Rattle.qm_model.specs.Causes.{IsCause}
 use Rattle.qm_model.specs.Operations.{Bytes, Operation}
 use Rattle.qm_model.specs.Walk.{Rules}
+use Rattle.qm_model.specs.StoreModel.{Stored, settled, destroyed, IsImage, ReadsAs, DestroyLeaves, Becomes, Turns}
 use Rattle.qm_model.specs.Writes.{Write}
 use Rattle.qm_model.specs.Step.{step}
-use Rattle.qm_machine.specs.Machine.{Scheme}
+use Rattle.qm_machine.specs.Machine.{Scheme, kind_of}
 use Rattle.qm_model.specs.Batches.{Chain, IsKnown, commitment, fits, readable}
 use Rattle.qm_base.specs.declared.error.Error.{Error}
-use Rattle.qm_base.specs.declared.error.Error.TheVariants.{Memory, StaleRead}
+use Rattle.qm_base.specs.declared.error.Error.TheVariants.{Memory, StaleRead, Journal}
+use Rattle.qm_base.specs.declared.error.JournalError.TheVariants as journal
 use Rattle.qm_store.specs.declared.Store as store
-use Rattle.qm_store.specs.Given.{IsUnchanged}
+use Rattle.qm_store.specs.declared.refusal.Given.TheVariants.{Store}
+use Rattle.qm_store.specs.declared.refusal.Refusal.{Refusal}
+use Rattle.qm_store.specs.Given.{IsUnchanged, store_given}
 use Rattle.qm_store.specs.Refusals.{refusal_of}
 use Rattle.qm_engine.specs.declared.words.Words as words
 
 -- the list that writes make of a chain's base list, under a policy
 abbrev pub tip_of : {P : Type 0} → Scheme → Rules P → Chain → List Write → P → Option Bytes → List Operation
-tip_of m rules chain ws policy meta = step m.kind rules chain.base ws policy meta
+tip_of m rules chain ws policy meta = step (kind_of m) rules chain.base ws policy meta
 
 module _ {X C B S M : Type 0} (means : words.Ghosts X C B S M) where
   -- at each list that the database stands for, and each chain and writes of the batch
@@ -51,3 +55,27 @@ module _ {X C B S M : Type 0} (means : words.Ghosts X C B S M) where
     pub same : (list : List Operation) → means.stands old list → means.stands new list
     pub store : IsUnchanged members (means.inside old) (means.inside new)
     pub faults : IsCause (members.faults (means.inside old)) (members.faults (means.inside new)) failed
+
+  -- A call failed for want of memory or by the store, which is given back, with what may be left of such a call.
+  pub record IsGivenUp (members : store.Ghosts C) (old : X) (Left : Stored → Stored → Type 0) (refusal : Refusal X C) : Type 0 where
+    pub store : C
+    pub given : refusal.given ≡ Store store
+    pub told : Turns (members.told (means.inside old)) (members.told store) Left
+    pub never : refusal_of refusal.error ≡ None
+    pub cause : IsCause (members.faults (means.inside old)) (members.faults store) (refusal.error ≡ Journal journal.Store)
+
+  -- The operations were made stable: the database stands for what it stood for, and its store has what it had. Where that failed
+  -- the store is given back; it has no less than what was stable.
+  pub record IsSettling (members : store.Ghosts C) (old : X) (result : Result X (Refusal X C)) : Type 0 where
+    pub stands : (list : List Operation) → means.stands old list → IfOk result (λ new. means.stands new list)
+    pub start : IfOk result (λ new. members.start (means.inside new) ≡ members.start (means.inside old))
+    pub told : IfOk result (λ new. Becomes (members.told (means.inside old)) (members.told (means.inside new)) settled)
+    pub later : IfOk result (λ new. members.faults (means.inside old) ≤ members.faults (means.inside new))
+    pub failed : IfErr result (IsGivenUp members old (λ s. ReadsAs s.stable (IsImage s)))
+
+  -- The store was emptied, or given back where that failed.
+  pub record IsDestroying (members : store.Ghosts C) (old : X) (result : Result C (Refusal X C)) : Type 0 where
+    pub start : IfOk result (λ new. members.start new ≡ 0)
+    pub told : IfOk result (λ new. Becomes (members.told (means.inside old)) (members.told new) destroyed)
+    pub later : IfOk result (λ new. members.faults (means.inside old) ≤ members.faults new)
+    pub failed : IfErr result (IsGivenUp members old DestroyLeaves)

@@ -1,6 +1,6 @@
 // The lines of an input, answered one by one.
 
-ghost use Rattle.std.specs.Prelude.{◌≡◌, ◌≢◌, ◌+◌, ◌++◌, ◌∷◌, [], ◌^◌, ◌<◌, ◌≤◌, Some, None, IfNone, IfSome, OnOk, OnErr, OnSome, IsSome, length};
+ghost use Rattle.std.specs.Prelude.{ℕ, List, ◌≡◌, ◌≢◌, ◌+◌, ◌++◌, ◌∷◌, [], ◌^◌, ◌<◌, ◌≤◌, Some, None, IfNone, IfSome, OnOk, OnErr, OnSome, IsSome, length};
 ghost use Rattle.qm_model.specs.Causes.{Rose};
 ghost use Rattle.qm_model.specs.Batches.{Apart};
 ghost use Rattle.qm_machine.specs.Grammar.{line_of, commands_in, bad_in};
@@ -9,13 +9,17 @@ ghost use Rattle.qm_machine.specs.Machine as machine;
 ghost use Rattle.qm_machine.specs.Text.{reply_line};
 ghost use Rattle.qm_lines.specs.Views.{line_view, answer_view};
 ghost use Rattle.qm_store.specs.Given.{store_given};
-ghost use Rattle.qm_engine.specs.Session.{Stands, Leaves, IsLeft};
-ghost use Rattle.qm_model.specs.StoreModel.{beside_items};
+ghost use Rattle.qm_engine.specs.Session.{Stands, LeavesSteady, IsChosen};
+ghost use Rattle.qm_engine.specs.Stores.{IsBeside, IsLeft};
+ghost use Rattle.qm_machine.specs.Machine.{engine_of};
+ghost use Rattle.qm_machine.specs.Sound.{IsSteady};
+ghost use Rattle.qm_model.specs.Own.{Log, IsOwn};
+ghost use Rattle.qm_model.specs.StoreModel.{Turns};
 ghost use Rattle.qm_engine.specs.Answered.{after_line, IsAnswered};
 
 use crate::engine::Engine;
 use crate::runs::begin;
-use crate::session::{Of, Turn, close};
+use crate::session::{Of, Turn, into_store};
 use crate::turns::turn;
 use qm_base::{ByteKey, ByteValue, Digest, Gate, Key, Twin, VariableValue};
 use qm_chain::Policy;
@@ -69,16 +73,17 @@ fn answer<X: Engine<C>, C: Store, P: Policy<X::Family, X::Key, X::Value> + Twin>
     command: &Command<X::Key, X::Value, P>,
 ) -> (Of<X, C>, Option<Ending>)
     requires { session.opened + 1 < 2 ^ 64 }
-    ensures machine { (s : machine.State) → Stands C.Store X.Words session s → IfNone result.1
+    ensures machine { (s : machine.State) → Stands C.Store X.Words session s → IsSteady X.scheme s
+        → (more rest : List ℕ) → Turns (C.told (store_given X.inside session.held)) (C.told (store_given X.inside result.0.held)) (IsBeside more) → s.choices ≡ more ++ rest → IfNone result.1
         (let next = machine.turn X.scheme P.rules s (line_view X.Key.bytes X.Value.bytes (λ p. p) command.now) in
         Apart X.scheme.root next.1.had → (text.new.items ≡ text.old.items ++ (reply_line next.0 ++ 10 ∷ []))
         × Stands C.Store X.Words result.0 next.1) }
-    ensures left { Leaves C.Store X.Words session result.0
+    ensures left { LeavesSteady C.Store X.Words session result.0
         (λ s. machine.turn X.scheme P.rules s (line_view X.Key.bytes X.Value.bytes (λ p. p) command.now)) }
     ensures kept { OnSome result.1 (text.new.items ≡ text.old.items) }
     ensures cause { IfSome result.1 (λ e. (e ≢ Ending.Done) × (e ≢ Ending.BadLine)) }
-    ensures start { C.start (store_given X.inside result.0.held) ≡ C.start (store_given X.inside session.held) }
-    ensures beside { beside_items (C.told (store_given X.inside result.0.held)) ≡ beside_items (C.told (store_given X.inside session.held)) }
+    ensures beside { (more : List ℕ) × Turns (C.told (store_given X.inside session.held)) (C.told (store_given X.inside result.0.held)) (IsBeside more)
+        × IfNone result.1 (IsChosen (line_view X.Key.bytes X.Value.bytes (λ p. p) command.now) more) }
     ensures later { C.faults (store_given X.inside session.held) ≤ C.faults (store_given X.inside result.0.held) }
     ensures fault { result.1 ≡ Some Ending.StoreFault → Rose (C.faults (store_given X.inside session.held)) (C.faults (store_given X.inside result.0.held)) }
     ensures opened { result.0.opened ≤ session.opened + 1 }
@@ -103,20 +108,21 @@ fn answer_line<X: Engine<C, Key = ByteKey, Value = ByteValue>, C: Store>(
     line: &[u8],
 ) -> (Of<X, C>, Option<Ending>)
     requires { session.opened + 1 < 2 ^ 64 }
-    ensures machine { (s : machine.State) → Stands C.Store X.Words session s → IfNone result.1 (IfSome (line_of line.now) (λ command.
+    ensures machine { (s : machine.State) → Stands C.Store X.Words session s → IsSteady X.scheme s
+        → (more rest : List ℕ) → Turns (C.told (store_given X.inside session.held)) (C.told (store_given X.inside result.0.held)) (IsBeside more) → s.choices ≡ more ++ rest → IfNone result.1 (IfSome (line_of line.now) (λ command.
         let next = machine.turn X.scheme policies s command in
         Apart X.scheme.root next.1.had → (text.new.items ≡ text.old.items ++ (reply_line next.0 ++ 10 ∷ []))
         × Stands C.Store X.Words result.0 next.1)) }
-    ensures left { (s : machine.State) → Stands C.Store X.Words session s → Apart X.scheme.root s.had
-        → IsLeft (C.told (store_given X.inside result.0.held)) s.store (after_line X.scheme policies s (line_of line.now)).store }
+    ensures left { (s : machine.State) → Stands C.Store X.Words session s → IsSteady X.scheme s → Apart X.scheme.root s.had
+        → IsLeft X.scheme (C.told (store_given X.inside result.0.held)) s.log (after_line X.scheme policies s (line_of line.now)).log }
     ensures kept { OnSome result.1 (text.new.items ≡ text.old.items) }
     ensures command { IfNone result.1 (IsSome (line_of line.now)) }
     ensures unused { line_of line.now ≡ None → C.told (store_given X.inside result.0.held) ≡ C.told (store_given X.inside session.held) }
     ensures bad { result.1 ≡ Some Ending.BadLine → line_of line.now ≡ None }
     ensures fault_command { result.1 ≡ Some Ending.StoreFault → IsSome (line_of line.now) }
     ensures not_done { IfSome result.1 (λ e. e ≢ Ending.Done) }
-    ensures start { C.start (store_given X.inside result.0.held) ≡ C.start (store_given X.inside session.held) }
-    ensures beside { beside_items (C.told (store_given X.inside result.0.held)) ≡ beside_items (C.told (store_given X.inside session.held)) }
+    ensures beside { (more : List ℕ) × Turns (C.told (store_given X.inside session.held)) (C.told (store_given X.inside result.0.held)) (IsBeside more)
+        × IfNone result.1 (IfSome (line_of line.now) (λ command. IsChosen command more)) }
     ensures later { C.faults (store_given X.inside session.held) ≤ C.faults (store_given X.inside result.0.held) }
     ensures fault { result.1 ≡ Some Ending.StoreFault → Rose (C.faults (store_given X.inside session.held)) (C.faults (store_given X.inside result.0.held)) }
     ensures opened { result.0.opened ≤ session.opened + 1 }
@@ -130,7 +136,8 @@ fn answer_line<X: Engine<C, Key = ByteKey, Value = ByteValue>, C: Store>(
 
 /// Answers the lines of an input over the store, from no database, up to their end, to the first that is no command
 /// or to the first for which memory or the store fails. Accepted openings are numbered from 1, batches too. Of
-/// commands and replies it keeps one at a time. The gate holds the workers of an opening.
+/// commands and replies it keeps one at a time. What is told holds of a store that such a run left, or an empty one, from
+/// which nothing was pruned. The gate holds the workers of an opening.
 pub fn answer_lines<X: Engine<C, Key = ByteKey, Value = ByteValue>, C: Store, G: Gate>(
     alloc: Global,
     store: C,
@@ -138,13 +145,13 @@ pub fn answer_lines<X: Engine<C, Key = ByteKey, Value = ByteValue>, C: Store, G:
     input: &[u8],
     _gate: &G,
 ) -> Answered<C>
-    ensures machine { IfSome (C.told store) (λ stored.
-        IsAnswered X.scheme policies stored (commands_in input.now) result.answered result.text.items (C.told result.store)) }
+    ensures machine { IfSome (C.told store) (λ stored. (log : Log) → IsOwn (engine_of X.scheme policies) log stored → log.start ≡ 0
+        → (choices : List ℕ) → Turns (C.told store) (C.told result.store) (IsBeside choices)
+        → IsAnswered X.scheme policies log choices (commands_in input.now) result.answered result.text.items (C.told result.store)) }
     ensures done { result.ending ≡ Ending.Done → (result.answered ≡ length (commands_in input.now)) × (bad_in input.now ≡ None) }
     ensures bad { result.ending ≡ Ending.BadLine → (result.answered ≡ length (commands_in input.now)) × (bad_in input.now ≡ Some (result.answered + 1)) }
     ensures short { result.ending ≡ Ending.StoreFault → result.answered < length (commands_in input.now) }
-    ensures start { C.start result.store ≡ C.start store }
-    ensures beside { beside_items (C.told result.store) ≡ beside_items (C.told store) }
+    ensures beside { (choices : List ℕ) × Turns (C.told store) (C.told result.store) (IsBeside choices) }
     ensures bound { result.answered ≤ length input.now }
     ensures later { C.faults store ≤ C.faults result.store }
     ensures fault { result.ending ≡ Ending.StoreFault → Rose (C.faults store) (C.faults result.store) }
@@ -171,7 +178,7 @@ pub fn answer_lines<X: Engine<C, Key = ByteKey, Value = ByteValue>, C: Store, G:
                 text,
                 answered,
                 ending,
-                store: close::<X, C>(session.held),
+                store: into_store::<X, C>(session.held),
             };
         }
         answered += 1;
@@ -181,6 +188,6 @@ pub fn answer_lines<X: Engine<C, Key = ByteKey, Value = ByteValue>, C: Store, G:
         text,
         answered,
         ending: Ending::Done,
-        store: close::<X, C>(session.held),
+        store: into_store::<X, C>(session.held),
     }
 }

@@ -1,26 +1,28 @@
 //! What a database offers to a run, over any store.
 
-ghost use Rattle.std.specs.Prelude.{true, ◌≡◌, ◌≢◌, ◌≤◌, ◌+◌, ◌++◌, ◌∷◌, [], List, Some, None, map, take, drop, length, nat_lt, option_map, if◌then◌else◌, IfOk, IfErr, IfSome, IsSome, IsErrOf};
+ghost use Rattle.std.specs.Prelude.{true, ◌≡◌, ◌≢◌, ◌≤◌, ◌+◌, ◌++◌, ◌∷◌, [], List, Some, None, map, take, drop, length, nat_lt, option_map, if◌then◌else◌, IfOk, IfErr, IfSome, OnOk, IsSome, IsErrOf};
 ghost use Rattle.std.specs.Int.NonZero.{non_zero_u64_get};
 ghost use Rattle.qm_model.specs.Causes.{Rose};
-ghost use Rattle.qm_model.specs.StoreModel.{beside_items};
-ghost use Rattle.qm_model.specs.Operations.{Operation, fresh};
-ghost use Rattle.qm_model.specs.Forms.{spelling, variable};
+ghost use Rattle.qm_model.specs.Opening.{found, opening_refusal};
+ghost use Rattle.qm_model.specs.StoreModel.{beside_items, Turns};
+ghost use Rattle.qm_model.specs.Operations.{Operation};
+ghost use Rattle.qm_model.specs.Forms.{spelling};
 ghost use Rattle.qm_model.specs.Live.{live, live_keys, live_of, floor, value_of, last_metadata};
 ghost use Rattle.qm_model.specs.Ranges.{key_above, key_below, span_of, keys_in, pairs_in};
 ghost use Rattle.qm_model.specs.Writes.{Write, read_through};
 ghost use Rattle.qm_model.specs.Batches.{Chain, begun_on, child_of, IsOnChain, IsKnown, commitment, fits, own_operations};
 ghost use Rattle.qm_model.specs.Refusals.{tip_refusal, proof_refusal, proof_count, pins_refusal};
 ghost use Rattle.qm_model.specs.Refused as refusals;
-ghost use Rattle.qm_machine.specs.Machine.{head_refusal};
+ghost use Rattle.qm_machine.specs.Machine.{layout_of};
 ghost use Rattle.qm_base.specs.Views.{limit_of, pair_view};
 ghost use Rattle.qm_lines.specs.Views.{listed_view, span_view, whole_view};
 ghost use Rattle.qm_proofs.specs.Proofs.{proof_view};
 ghost use Rattle.qm_store.specs.Given.{store_given, store_after, Appended, AppendedPart, IsUnchanged, TellsAll};
-ghost use Rattle.qm_store.specs.Refusals.{refusal_of, IsAmong, IsDue};
+ghost use Rattle.qm_store.specs.Refusals.{refusal_of, IsDue};
 ghost use Rattle.qm_base.specs.Slots.{slot_views, write_views};
 ghost use Rattle.qm_model.specs.Slots.{slotted};
-ghost use Rattle.qm_engine.specs.Words.{AtBatch, AtStaged, AtTip, Fits, CanRead, IsReadFailure, ReadsOnly, tip_of};
+ghost use Rattle.qm_engine.specs.Stores.{IsTaken, selected_size, taken, LeavesOpening};
+ghost use Rattle.qm_engine.specs.Words.{AtBatch, AtStaged, AtTip, Fits, CanRead, IsReadFailure, ReadsOnly, IsSettling, IsDestroying, tip_of};
 
 use crate::words::Words;
 use qm_base::{Digest, Error, JournalError, Key, VariableValue};
@@ -72,22 +74,37 @@ pub trait Engine<C: Store>: Words<C> + Drop + Sized {
 
     type Config: Drop;
 
-    /// Opens a database over an empty store: a fresh list. It is refused where the store's head is not that of a start at
-    /// 0, and the store is then as it was; else only memory and the store can fail. What a store holds that tells no items
-    /// is not known.
-    fn open(alloc: Global, store: C, config: &Self::Config) -> Result<Self, Refusal<Self, C>>
-        requires start { C.start store ≡ 0 }
-        requires empty { C.end store ≡ 0 }
-        ensures opened { IfSome (C.told store) (λ _. IfOk result (λ x. Self.stands x fresh)) }
-        ensures offered { IfOk result (λ _. IfSome (C.told store) (λ held. head_refusal held.head ≡ None)) }
-        ensures grown { IfOk result (λ x. Appended C.Store store (Self.inside x) (map (spelling variable) fresh)) }
-        ensures kept { IfErr result (λ r. AppendedPart C.Store store (store_given Self.inside r.given) (map (spelling variable) fresh)) }
+    /// Opens what the store keeps: the longest list of at most so many operations, where a number is given, that ends with a
+    /// commit; over an empty store a fresh one. What the store has behind the list goes, and all of it is made stable. A
+    /// refusal leaves the store as it was. What a store holds that tells no items is not known.
+    fn open(
+        alloc: Global,
+        store: C,
+        config: &Self::Config,
+        max_size: Option<u64>,
+    ) -> Result<Self, Refusal<Self, C>>
+        ensures opened { IfSome (C.told store) (λ s. (list : List Operation) → IsTaken Self.scheme s (selected_size Self.scheme max_size s) list → IfOk result (λ x. Self.stands x list)) }
+        ensures offered { IfSome (C.told store) (λ s. OnOk result (opening_refusal (layout_of Self.scheme) (found (layout_of Self.scheme) s) max_size ≡ None)) }
+        ensures became { IfOk result (λ x. Turns (C.told store) (C.told (Self.inside x)) (λ s new. new ≡ taken Self.scheme (selected_size Self.scheme max_size s) s)) }
+        ensures refused { IfSome (C.told store) (λ s. IfErr result (λ r. IsDue r.error (opening_refusal (layout_of Self.scheme) (found (layout_of Self.scheme) s) max_size))) }
+        ensures unopened { IfErr result (λ r. IfSome (C.told store) (λ s. IsSome (opening_refusal (layout_of Self.scheme) (found (layout_of Self.scheme) s) max_size) → IsUnchanged C.Store store (store_given Self.inside r.given))) }
+        ensures left { IfErr result (λ r. Turns (C.told store) (C.told (store_given Self.inside r.given)) (λ s new. LeavesOpening Self.scheme (selected_size Self.scheme max_size s) s new)) }
+        ensures start { C.start (store_after Self.inside result) ≡ C.start store }
         ensures cause { IfErr result (λ r. r.error ≡ Error.Journal JournalError.Store → Rose (C.faults store) (C.faults (store_given Self.inside r.given))) }
         ensures later { C.faults store ≤ C.faults (store_after Self.inside result) }
-        ensures causes { IfErr result (λ r. IsAmong r.error (refusals.DataCorrupted refusals.HeadDoesNotMatch ∷ [])) }
-        ensures refused { IfErr result (λ r. IfSome (C.told store) (λ held. IsDue r.error (head_refusal held.head))) }
-        ensures unopened { IfErr result (λ r. IfSome (C.told store) (λ held. IsSome (head_refusal held.head) → IsUnchanged C.Store store (store_given Self.inside r.given))) }
         ensures back { IfErr result (λ r. (x : Self) → r.given ≢ Given.Database x) };
+
+    /// Makes the operations stable: from then on a crash leaves them all. A refusal gives back the store.
+    fn commit(self) -> Result<Self, Refusal<Self, C>>
+        ensures { IsSettling Self.Words C.Store self result };
+
+    /// Makes all that the store holds stable. A refusal gives back the store.
+    fn sync(self) -> Result<Self, Refusal<Self, C>>
+        ensures { IsSettling Self.Words C.Store self result };
+
+    /// Empties the store. A refusal gives it back.
+    fn destroy(self) -> Result<C, Refusal<Self, C>>
+        ensures { IsDestroying Self.Words C.Store self result };
 
     /// Lends the store.
     fn store(&self) -> &C
@@ -147,11 +164,11 @@ pub trait Engine<C: Store>: Words<C> + Drop + Sized {
         ensures fits { IfOk result (λ _. AtBatch Self.Words self.old batch (λ list chain above ws. Fits Self.Words list chain)) }
         ensures made { IfOk result (λ b. AtBatch Self.Words self.old batch (λ list chain above ws. IsOnChain list chain
             → let tip = tip_of Self.scheme P.rules chain ws policy.old (option_map Self.Value.bytes metadata.now) in
-            (tip_refusal variable chain tip ≡ None) × Self.is_merkleized b chain tip)) }
+            (tip_refusal Self.scheme.form chain tip ≡ None) × Self.is_merkleized b chain tip)) }
         ensures stale { IfErr result (λ e. e ≡ Error.StaleBatch → AtBatch Self.Words self.old batch (λ list chain above ws. ¬ IsOnChain list chain)) }
         ensures refused { IfErr result (λ e. e ≢ Error.StaleBatch → TellsAll C.Store (Self.inside self.old) → AtBatch Self.Words self.old batch (λ list chain above ws.
             IfSome (refusal_of e) (λ r. Fits Self.Words list chain
-            × (IsOnChain list chain → tip_refusal variable chain (tip_of Self.scheme P.rules chain ws policy.old (option_map Self.Value.bytes metadata.now)) ≡ Some r)))) }
+            × (IsOnChain list chain → tip_refusal Self.scheme.form chain (tip_of Self.scheme P.rules chain ws policy.old (option_map Self.Value.bytes metadata.now)) ≡ Some r)))) }
         ensures reads { ReadsOnly Self.Words C.Store self.old self.new (IsErrOf result (Error.Journal JournalError.Store)) };
 
     /// Reads the values of keys through a batch, as `get_through` does, and makes it a staged one with these keys. The batch
@@ -206,11 +223,11 @@ pub trait Engine<C: Store>: Words<C> + Drop + Sized {
         ensures fits { IfOk result (λ _. AtStaged Self.Words self.old batch (λ list chain above ws keys. Fits Self.Words list chain)) }
         ensures made { IfOk result (λ b. AtStaged Self.Words self.old batch (λ list chain above ws keys. IsOnChain list chain
             → let tip = tip_of Self.scheme P.rules chain (slotted ws keys (slot_views Self.Value.bytes resolution.now.slots.items) (write_views Self.Key.bytes Self.Value.bytes resolution.now.others.items)) policy.old (option_map Self.Value.bytes metadata.now) in
-            (tip_refusal variable chain tip ≡ None) × Self.is_merkleized b chain tip)) }
+            (tip_refusal Self.scheme.form chain tip ≡ None) × Self.is_merkleized b chain tip)) }
         ensures stale { IfErr result (λ e. e ≡ Error.StaleBatch → AtStaged Self.Words self.old batch (λ list chain above ws keys. ¬ IsOnChain list chain)) }
         ensures refused { IfErr result (λ e. e ≢ Error.StaleBatch → TellsAll C.Store (Self.inside self.old) → AtStaged Self.Words self.old batch (λ list chain above ws keys.
             IfSome (refusal_of e) (λ r. Fits Self.Words list chain
-            × (IsOnChain list chain → tip_refusal variable chain (tip_of Self.scheme P.rules chain (slotted ws keys (slot_views Self.Value.bytes resolution.now.slots.items) (write_views Self.Key.bytes Self.Value.bytes resolution.now.others.items)) policy.old (option_map Self.Value.bytes metadata.now)) ≡ Some r)))) }
+            × (IsOnChain list chain → tip_refusal Self.scheme.form chain (tip_of Self.scheme P.rules chain (slotted ws keys (slot_views Self.Value.bytes resolution.now.slots.items) (write_views Self.Key.bytes Self.Value.bytes resolution.now.others.items)) policy.old (option_map Self.Value.bytes metadata.now)) ≡ Some r)))) }
         ensures reads { ReadsOnly Self.Words C.Store self.old self.new (IsErrOf result (Error.Journal JournalError.Store)) };
 
     /// The sizes of a merkleized batch.
@@ -235,11 +252,11 @@ pub trait Engine<C: Store>: Words<C> + Drop + Sized {
         ensures fits { IfOk result (λ _. AtTip Self.Words self batch.now (λ list chain tip. Fits Self.Words list chain)) }
         ensures applied { IfOk result (λ next. AtTip Self.Words self batch.now (λ list chain tip. IsOnChain list chain → Self.stands next tip)) }
         ensures grown { IfOk result (λ next. AtTip Self.Words self batch.now (λ list chain tip. IsOnChain list chain
-            → Appended C.Store (Self.inside self) (Self.inside next) (map (spelling variable) (drop (length list) tip)))) }
+            → Appended C.Store (Self.inside self) (Self.inside next) (map (spelling Self.scheme.form) (drop (length list) tip)))) }
         ensures stale { IfErr result (λ r. r.error ≡ Error.StaleBatch → (r.given ≡ Given.Database self) × AtTip Self.Words self batch.now (λ list chain tip. ¬ IsOnChain list chain)) }
         ensures refused { IfErr result (λ r. r.error ≢ Error.StaleBatch → refusal_of r.error ≡ None) }
         ensures kept { IfErr result (λ r. AtTip Self.Words self batch.now (λ list chain tip.
-            AppendedPart C.Store (Self.inside self) (store_given Self.inside r.given) (if fits Self.scheme.root (commitment Self.scheme.root list) chain then map (spelling variable) (drop (length list) tip) else []))) }
+            AppendedPart C.Store (Self.inside self) (store_given Self.inside r.given) (if fits Self.scheme.root (commitment Self.scheme.root list) chain then map (spelling Self.scheme.form) (drop (length list) tip) else []))) }
         ensures back { IfErr result (λ r. (x : Self) → r.given ≡ Given.Database x → x ≡ self) }
         ensures start { C.start (store_after Self.inside result) ≡ C.start (Self.inside self) }
         ensures beside { beside_items (C.told (store_after Self.inside result)) ≡ beside_items (C.told (Self.inside self)) }
@@ -287,11 +304,11 @@ pub trait Engine<C: Store>: Words<C> + Drop + Sized {
 
     /// Whether it is an ordered database, which alone offers the reads in key order.
     fn is_ordered() -> bool
-        ensures { result ≡ Self.scheme.is_ordered };
+        ensures { result ≡ Self.scheme.form.ordered };
 
     /// In an ordered database reads the nearest live key above this one.
     fn next(&mut self, alloc: Global, key: &Self::Key) -> Result<Option<Self::Key>, Error>
-        ensures above { IfOk result (λ k. Self.scheme.is_ordered ≡ true → (list : List Operation) → Self.stands self.old list
+        ensures above { IfOk result (λ k. Self.scheme.form.ordered ≡ true → (list : List Operation) → Self.stands self.old list
             → option_map Self.Key.bytes k ≡ key_above (live_keys list) (Self.Key.bytes key.now)) }
         ensures reads { ReadsOnly Self.Words C.Store self.old self.new (IsErrOf result (Error.Journal JournalError.Store)) }
         ensures never { IfErr result (λ e. e ≢ Error.StaleBatch) }
@@ -299,7 +316,7 @@ pub trait Engine<C: Store>: Words<C> + Drop + Sized {
 
     /// In an ordered database reads the nearest live key below this one.
     fn prev(&mut self, alloc: Global, key: &Self::Key) -> Result<Option<Self::Key>, Error>
-        ensures below { IfOk result (λ k. Self.scheme.is_ordered ≡ true → (list : List Operation) → Self.stands self.old list
+        ensures below { IfOk result (λ k. Self.scheme.form.ordered ≡ true → (list : List Operation) → Self.stands self.old list
             → option_map Self.Key.bytes k ≡ key_below (live_keys list) (Self.Key.bytes key.now)) }
         ensures reads { ReadsOnly Self.Words C.Store self.old self.new (IsErrOf result (Error.Journal JournalError.Store)) }
         ensures never { IfErr result (λ e. e ≢ Error.StaleBatch) }
@@ -313,8 +330,8 @@ pub trait Engine<C: Store>: Words<C> + Drop + Sized {
         batch: &Self::Merkleized,
         key: &Self::Key,
     ) -> Result<Option<Self::Key>, Error>
-        ensures readable { IfOk result (λ _. Self.scheme.is_ordered ≡ true → AtTip Self.Words self.old batch.now (λ list chain tip. CanRead Self.Words list chain tip)) }
-        ensures above { IfOk result (λ k. Self.scheme.is_ordered ≡ true → AtTip Self.Words self.old batch.now (λ list chain tip. IsKnown list chain tip
+        ensures readable { IfOk result (λ _. Self.scheme.form.ordered ≡ true → AtTip Self.Words self.old batch.now (λ list chain tip. CanRead Self.Words list chain tip)) }
+        ensures above { IfOk result (λ k. Self.scheme.form.ordered ≡ true → AtTip Self.Words self.old batch.now (λ list chain tip. IsKnown list chain tip
             → option_map Self.Key.bytes k ≡ key_above (live_keys tip) (Self.Key.bytes key.now))) }
         ensures failure { IfErr result (λ e. AtTip Self.Words self.old batch.now (λ list chain tip. IsReadFailure Self.Words (TellsAll C.Store (Self.inside self.old)) list chain tip e)) }
         ensures reads { ReadsOnly Self.Words C.Store self.old self.new (IsErrOf result (Error.Journal JournalError.Store)) }
@@ -328,8 +345,8 @@ pub trait Engine<C: Store>: Words<C> + Drop + Sized {
         batch: &Self::Merkleized,
         key: &Self::Key,
     ) -> Result<Option<Self::Key>, Error>
-        ensures readable { IfOk result (λ _. Self.scheme.is_ordered ≡ true → AtTip Self.Words self.old batch.now (λ list chain tip. CanRead Self.Words list chain tip)) }
-        ensures below { IfOk result (λ k. Self.scheme.is_ordered ≡ true → AtTip Self.Words self.old batch.now (λ list chain tip. IsKnown list chain tip
+        ensures readable { IfOk result (λ _. Self.scheme.form.ordered ≡ true → AtTip Self.Words self.old batch.now (λ list chain tip. CanRead Self.Words list chain tip)) }
+        ensures below { IfOk result (λ k. Self.scheme.form.ordered ≡ true → AtTip Self.Words self.old batch.now (λ list chain tip. IsKnown list chain tip
             → option_map Self.Key.bytes k ≡ key_below (live_keys tip) (Self.Key.bytes key.now))) }
         ensures failure { IfErr result (λ e. AtTip Self.Words self.old batch.now (λ list chain tip. IsReadFailure Self.Words (TellsAll C.Store (Self.inside self.old)) list chain tip e)) }
         ensures reads { ReadsOnly Self.Words C.Store self.old self.new (IsErrOf result (Error.Journal JournalError.Store)) }
@@ -341,7 +358,7 @@ pub trait Engine<C: Store>: Words<C> + Drop + Sized {
         alloc: Global,
         key: &Self::Key,
     ) -> Result<Option<Span<Self::Key, Self::Value>>, Error>
-        ensures span { IfOk result (λ s. Self.scheme.is_ordered ≡ true → (list : List Operation) → Self.stands self.old list
+        ensures span { IfOk result (λ s. Self.scheme.form.ordered ≡ true → (list : List Operation) → Self.stands self.old list
             → option_map (span_view Self.Key.bytes Self.Value.bytes) s ≡ span_of list (Self.Key.bytes key.now)) }
         ensures reads { ReadsOnly Self.Words C.Store self.old self.new (IsErrOf result (Error.Journal JournalError.Store)) }
         ensures never { IfErr result (λ e. e ≢ Error.StaleBatch) }
@@ -353,7 +370,7 @@ pub trait Engine<C: Store>: Words<C> + Drop + Sized {
         alloc: Global,
         key: &Self::Key,
     ) -> Result<Option<(Self::Value, Self::Key)>, Error>
-        ensures whole { IfOk result (λ p. Self.scheme.is_ordered ≡ true → (list : List Operation) → Self.stands self.old list
+        ensures whole { IfOk result (λ p. Self.scheme.form.ordered ≡ true → (list : List Operation) → Self.stands self.old list
             → option_map (whole_view Self.Key.bytes Self.Value.bytes) p ≡ option_map (λ e. (e.value, e.next)) (live_of (live list) (Self.Key.bytes key.now))) }
         ensures reads { ReadsOnly Self.Words C.Store self.old self.new (IsErrOf result (Error.Journal JournalError.Store)) }
         ensures never { IfErr result (λ e. e ≢ Error.StaleBatch) }
@@ -366,7 +383,7 @@ pub trait Engine<C: Store>: Words<C> + Drop + Sized {
         low: &Bound<Self::Key>,
         high: &Bound<Self::Key>,
     ) -> Result<Vec<(Self::Key, Self::Value)>, Error>
-        ensures pairs { IfOk result (λ pairs. Self.scheme.is_ordered ≡ true → (list : List Operation) → Self.stands self.old list
+        ensures pairs { IfOk result (λ pairs. Self.scheme.form.ordered ≡ true → (list : List Operation) → Self.stands self.old list
             → map (pair_view Self.Key.bytes Self.Value.bytes) pairs.items ≡ pairs_in (limit_of Self.Key.bytes low.now) (limit_of Self.Key.bytes high.now) list) }
         ensures reads { ReadsOnly Self.Words C.Store self.old self.new (IsErrOf result (Error.Journal JournalError.Store)) }
         ensures never { IfErr result (λ e. e ≢ Error.StaleBatch) }
@@ -379,7 +396,7 @@ pub trait Engine<C: Store>: Words<C> + Drop + Sized {
         low: &Bound<Self::Key>,
         high: &Bound<Self::Key>,
     ) -> Result<Vec<Self::Key>, Error>
-        ensures keys { IfOk result (λ keys. Self.scheme.is_ordered ≡ true → (list : List Operation) → Self.stands self.old list
+        ensures keys { IfOk result (λ keys. Self.scheme.form.ordered ≡ true → (list : List Operation) → Self.stands self.old list
             → map Self.Key.bytes keys.items ≡ keys_in (limit_of Self.Key.bytes low.now) (limit_of Self.Key.bytes high.now) list) }
         ensures reads { ReadsOnly Self.Words C.Store self.old self.new (IsErrOf result (Error.Journal JournalError.Store)) }
         ensures never { IfErr result (λ e. e ≢ Error.StaleBatch) }

@@ -1,17 +1,21 @@
 //! A run of a list of commands.
 
-ghost use Rattle.std.specs.Prelude.{◌≡◌, ◌≢◌, ◌+◌, ◌++◌, ◌∷◌, [], ◌^◌, ◌<◌, ◌≤◌, Option, Some, None, IfNone, IfSome, IfOk, IfErr, OnSome, OnOk, OnErr, length, map};
+ghost use Rattle.std.specs.Prelude.{ℕ, List, ◌≡◌, ◌≢◌, ◌+◌, ◌++◌, ◌∷◌, [], ◌^◌, ◌<◌, ◌≤◌, Option, Some, None, IfNone, IfSome, IfOk, IfErr, OnSome, OnOk, OnErr, length, map};
 ghost use Rattle.qm_model.specs.Causes.{Rose};
 ghost use Rattle.qm_model.specs.Batches.{Apart};
 ghost use Rattle.qm_machine.specs.Machine as machine;
 ghost use Rattle.qm_lines.specs.Views.{line_view, answer_view};
 ghost use Rattle.qm_store.specs.Given.{store_given};
-ghost use Rattle.qm_engine.specs.Session.{Stands, Leaves};
-ghost use Rattle.qm_model.specs.StoreModel.{Stored, beside_items};
+ghost use Rattle.qm_engine.specs.Session.{Stands, LeavesSteady, IsChosen};
+ghost use Rattle.qm_engine.specs.Stores.{HasLog, IsBeside};
+ghost use Rattle.qm_machine.specs.Machine.{engine_of};
+ghost use Rattle.qm_machine.specs.Sound.{IsSteady};
+ghost use Rattle.qm_model.specs.Own.{Log, IsOwn};
+ghost use Rattle.qm_model.specs.StoreModel.{Turns};
 ghost use Rattle.qm_engine.specs.Runs.{IsRun};
 
 use crate::engine::Engine;
-use crate::session::{Of, Session, Turn, close};
+use crate::session::{Of, Session, Turn, into_store};
 use crate::table::{Slot, push_slot};
 use crate::turns::turn;
 use qm_base::{Gate, Twin};
@@ -59,17 +63,18 @@ fn step<X: Engine<C>, C: Store, P: Policy<X::Family, X::Key, X::Value> + Twin>(
     command: &Command<X::Key, X::Value, P>,
 ) -> (Of<X, C>, Option<End>)
     requires { session.opened + 1 < 2 ^ 64 }
-    ensures machine { (s : machine.State) → Stands C.Store X.Words session s → IfNone result.1
+    ensures machine { (s : machine.State) → Stands C.Store X.Words session s → IsSteady X.scheme s
+        → (more rest : List ℕ) → Turns (C.told (store_given X.inside session.held)) (C.told (store_given X.inside result.0.held)) (IsBeside more) → s.choices ≡ more ++ rest → IfNone result.1
         (let next = machine.turn X.scheme P.rules s (line_view X.Key.bytes X.Value.bytes (λ p. p) command.now) in
         Apart X.scheme.root next.1.had → (map (answer_view X.Key.bytes X.Value.bytes X.Digest.bytes) replies.new.items ≡ map (answer_view X.Key.bytes X.Value.bytes X.Digest.bytes) replies.old.items ++ next.0 ∷ [])
         × Stands C.Store X.Words result.0 next.1) }
-    ensures left { Leaves C.Store X.Words session result.0
+    ensures left { LeavesSteady C.Store X.Words session result.0
         (λ s. machine.turn X.scheme P.rules s (line_view X.Key.bytes X.Value.bytes (λ p. p) command.now)) }
     ensures grown { IfNone result.1 (length replies.new.items ≡ length replies.old.items + 1) }
     ensures kept { OnSome result.1 (replies.new.items ≡ replies.old.items) }
     ensures not_done { IfSome result.1 (λ e. e ≢ End.Done) }
-    ensures start { C.start (store_given X.inside result.0.held) ≡ C.start (store_given X.inside session.held) }
-    ensures beside { beside_items (C.told (store_given X.inside result.0.held)) ≡ beside_items (C.told (store_given X.inside session.held)) }
+    ensures beside { (more : List ℕ) × Turns (C.told (store_given X.inside session.held)) (C.told (store_given X.inside result.0.held)) (IsBeside more)
+        × IfNone result.1 (IsChosen (line_view X.Key.bytes X.Value.bytes (λ p. p) command.now) more) }
     ensures later { C.faults (store_given X.inside session.held) ≤ C.faults (store_given X.inside result.0.held) }
     ensures fault { result.1 ≡ Some End.StoreFault → Rose (C.faults (store_given X.inside session.held)) (C.faults (store_given X.inside result.0.held)) }
     ensures opened { result.0.opened ≤ session.opened + 1 }
@@ -87,7 +92,7 @@ fn step<X: Engine<C>, C: Store, P: Policy<X::Family, X::Key, X::Value> + Twin>(
 
 // A session with a closed store, and no batch.
 pub(crate) fn begin<X: Engine<C>, C: Store>(alloc: Global, store: C) -> Result<Of<X, C>, C>
-    ensures session { IfOk result (λ session. (stored : Stored) → C.told store ≡ Some stored → Stands C.Store X.Words session (machine.initial stored)) }
+    ensures session { IfOk result (λ session. (log : Log) (choices : List ℕ) → HasLog X.scheme (C.told store) log → log.start ≡ 0 → log.stable ≤ length log.list → Stands C.Store X.Words session (machine.initial log choices)) }
     ensures store { IfOk result (λ session. store_given X.inside session.held ≡ store) }
     ensures opened { IfOk result (λ session. session.opened ≡ 0) }
     ensures back { IfErr result (λ c. c ≡ store) }
@@ -104,7 +109,7 @@ pub(crate) fn begin<X: Engine<C>, C: Store>(alloc: Global, store: C) -> Result<O
 }
 
 /// Runs the commands over the store, from no database, up to their end or to the first for which memory or the
-/// store fails. Accepted openings are numbered from 1, batches too. The gate holds the workers of an opening.
+/// store fails. What is told holds of a store that such a run left, or an empty one, from which nothing was pruned. Accepted openings are numbered from 1, batches too. The gate holds the workers of an opening.
 pub fn run<X: Engine<C>, C: Store, P: Policy<X::Family, X::Key, X::Value> + Twin, G: Gate>(
     alloc: Global,
     store: C,
@@ -112,12 +117,12 @@ pub fn run<X: Engine<C>, C: Store, P: Policy<X::Family, X::Key, X::Value> + Twin
     commands: &[Command<X::Key, X::Value, P>],
     _gate: &G,
 ) -> Outcome<X, C>
-    ensures machine { IfSome (C.told store) (λ stored. IsRun X.scheme P.rules stored
+    ensures machine { IfSome (C.told store) (λ stored. (log : Log) → IsOwn (engine_of X.scheme P.rules) log stored → log.start ≡ 0
+        → (choices : List ℕ) → Turns (C.told store) (C.told result.store) (IsBeside choices) → IsRun X.scheme P.rules log choices
         (map (line_view X.Key.bytes X.Value.bytes (λ p. p)) commands.now) (map (answer_view X.Key.bytes X.Value.bytes X.Digest.bytes) result.replies.items) (C.told result.store)) }
     ensures done { result.end ≡ End.Done → length result.replies.items ≡ length commands.now }
     ensures short { result.end ≡ End.StoreFault → length result.replies.items < length commands.now }
-    ensures start { C.start result.store ≡ C.start store }
-    ensures beside { beside_items (C.told result.store) ≡ beside_items (C.told store) }
+    ensures beside { (choices : List ℕ) × Turns (C.told store) (C.told result.store) (IsBeside choices) }
     ensures later { C.faults store ≤ C.faults result.store }
     ensures fault { result.end ≡ End.StoreFault → Rose (C.faults store) (C.faults result.store) }
 {
@@ -139,13 +144,13 @@ pub fn run<X: Engine<C>, C: Store, P: Policy<X::Family, X::Key, X::Value> + Twin
             return Outcome {
                 replies,
                 end,
-                store: close::<X, C>(session.held),
+                store: into_store::<X, C>(session.held),
             };
         }
     }
     Outcome {
         replies,
         end: End::Done,
-        store: close::<X, C>(session.held),
+        store: into_store::<X, C>(session.held),
     }
 }

@@ -81,7 +81,7 @@ pub fn turn_of<K: Drop, V: Drop, D: Drop>(error: Error) -> Turn<K, V, D>
 }
 
 /// The store that is held, by itself or inside the database.
-pub fn close<X: Engine<C>, C: Store>(held: Given<X, C>) -> C
+pub fn into_store<X: Engine<C>, C: Store>(held: Given<X, C>) -> C
     ensures { result ≡ store_given X.inside held }
 {
     match held {

@@ -1,103 +1,33 @@
 // One command over what a run holds.
-ghost use Rattle.std.specs.Prelude.{◌≡◌, ◌+◌, ◌^◌, ◌<◌, ◌≤◌, IfOk, IfErr};
+ghost use Rattle.std.specs.Prelude.{◌+◌, ◌^◌, ◌<◌, ◌≤◌};
 ghost use Rattle.qm_machine.specs.Machine as machine;
 ghost use Rattle.qm_lines.specs.Views.{line_view};
 ghost use Rattle.qm_store.specs.Given.{store_given};
-ghost use Rattle.qm_engine.specs.Session.{Obeys, Leaves, Uses};
+ghost use Rattle.qm_engine.specs.Session.{ObeysSteady, LeavesSteady, HandlesLine};
 
 mod batches;
+mod lasting;
 mod ordered;
 mod proofs;
 mod reads;
 mod staged;
 
 use crate::engine::Engine;
-use crate::session::{Of, Session, Turn, turn_of};
+use crate::session::{Of, Turn};
 use batches::{apply, batch, child, del, merkleize, put, tip};
+use lasting::{close, commit, crash, destroy, open, sync};
 use ordered::{Question, Side, ask, beside};
 use proofs::{batch_proof, pins, prove};
 use qm_base::Twin;
 use qm_chain::Policy;
-use qm_lines::{Command, Refused, Reply};
-use qm_store::{Given, Refusal, Store};
+use qm_lines::Command;
+use qm_store::Store;
 use reads::{batch_info, batch_root, info, meta, ops, read, read_key, root};
 use staged::{expand, resolve, stage};
 use std::alloc::Global;
 
-// The store, where it is held alone and has nothing.
-fn empty_store<X: Engine<C>, C: Store>(held: Given<X, C>) -> Result<C, Given<X, C>>
-    ensures ok { IfOk result (λ store. (held ≡ Given.Store store) × (C.end store ≡ 0)) }
-    ensures back { IfErr result (λ given. given ≡ held) }
-    ensures filled { IfErr result (λ _. (store : C) → held ≡ Given.Store store → 0 < C.end store) }
-{
-    match held {
-        Given::Store(store) => {
-            if store.bounds().1 == 0 {
-                Ok(store)
-            } else {
-                Err(Given::Store(store))
-            }
-        }
-        Given::Database(x) => Err(Given::Database(x)),
-    }
-}
-
-fn open<X: Engine<C>, C: Store>(
-    alloc: Global,
-    config: &X::Config,
-    session: Of<X, C>,
-) -> (Of<X, C>, Turn<X::Key, X::Value, X::Digest>)
-    requires { session.opened + 1 < 2 ^ 64 }
-    ensures machine { Obeys C.Store X.Words X.Key.bytes X.Value.bytes X.Digest.bytes session result.0 result.1
-        (machine.open_store) }
-    ensures left { Leaves C.Store X.Words session result.0
-        (machine.open_store) }
-    ensures uses { Uses C.Store (store_given X.inside session.held) (store_given X.inside result.0.held) result.1 }
-    ensures opened { result.0.opened ≤ session.opened + 1 }
-{
-    let Session {
-        held,
-        table,
-        opened,
-    } = session;
-    let store = match empty_store::<X, C>(held) {
-        Ok(store) => store,
-        Err(held) => {
-            let session = Session {
-                held,
-                table,
-                opened,
-            };
-            return (session, Turn::Reply(Reply::Refused(Refused::NotOffered)));
-        }
-    };
-    match X::open(alloc, store, config) {
-        Ok(x) => {
-            let numbers = x.info();
-            let opened = opened + 1;
-            let session = Session {
-                held: Given::Database(x),
-                table,
-                opened,
-            };
-            (
-                session,
-                Turn::Reply(Reply::Opened(opened, numbers.start, numbers.size)),
-            )
-        }
-        Err(Refusal { given, error }) => (
-            Session {
-                held: given,
-                table,
-                opened,
-            },
-            turn_of(error),
-        ),
-    }
-}
-
 /// One command: the machine's turn.
-#[tactic(auto, using(crate::proofs::Commands::left_none))]
+#[tactic(auto, using(crate::proofs::Handling::obeys_steady, crate::proofs::Handling::leaves_steady, crate::proofs::Handling::uses_line, crate::proofs::Handling::handles_line, crate::proofs::Commands::left_none))]
 pub fn turn<X: Engine<C>, C: Store, P: Policy<X::Family, X::Key, X::Value> + Twin>(
     alloc: Global,
     config: &X::Config,
@@ -105,15 +35,15 @@ pub fn turn<X: Engine<C>, C: Store, P: Policy<X::Family, X::Key, X::Value> + Twi
     command: &Command<X::Key, X::Value, P>,
 ) -> (Of<X, C>, Turn<X::Key, X::Value, X::Digest>)
     requires { session.opened + 1 < 2 ^ 64 }
-    ensures machine { Obeys C.Store X.Words X.Key.bytes X.Value.bytes X.Digest.bytes session result.0 result.1
+    ensures machine { ObeysSteady C.Store X.Words X.Key.bytes X.Value.bytes X.Digest.bytes session result.0 result.1
         (λ s. machine.turn X.scheme P.rules s (line_view X.Key.bytes X.Value.bytes (λ p. p) command.now)) }
-    ensures left { Leaves C.Store X.Words session result.0
+    ensures left { LeavesSteady C.Store X.Words session result.0
         (λ s. machine.turn X.scheme P.rules s (line_view X.Key.bytes X.Value.bytes (λ p. p) command.now)) }
-    ensures uses { Uses C.Store (store_given X.inside session.held) (store_given X.inside result.0.held) result.1 }
+    ensures handles { HandlesLine {P = P} C.Store (line_view X.Key.bytes X.Value.bytes (λ p. p) command.now) (store_given X.inside session.held) (store_given X.inside result.0.held) result.1 }
     ensures opened { result.0.opened ≤ session.opened + 1 }
 {
     match command {
-        Command::Open => open::<X, C>(alloc, config, session),
+        Command::Open(max_size) => open::<X, C>(alloc, config, session, *max_size),
         Command::Batch => {
             let turn = batch::<X, C>(alloc, &mut session);
             (session, turn)
@@ -226,5 +156,10 @@ pub fn turn<X: Engine<C>, C: Store, P: Policy<X::Family, X::Key, X::Value> + Twi
             let turn = pins::<X, C>(alloc, &session, *at);
             (session, turn)
         }
+        Command::Commit => commit::<X, C>(session),
+        Command::Sync => sync::<X, C>(session),
+        Command::Close => close::<X, C>(session),
+        Command::Destroy => destroy::<X, C>(session),
+        Command::Crash(keep) => crash::<X, C, P>(session, *keep),
     }
 }

@@ -1,7 +1,9 @@
 //! What a database means to a run, with no call.
 
-ghost use Rattle.std.specs.Prelude.{◌≡◌, ℕ, List, length};
+ghost use Rattle.std.specs.Prelude.{◌≡◌, ℕ, List, [], length, All};
+ghost use Rattle.qm_model.specs.Forms.{IsOf};
 ghost use Rattle.qm_model.specs.Operations.{Bytes, Operation};
+ghost use Rattle.qm_model.specs.Trees.{peaks};
 ghost use Rattle.qm_model.specs.Writes.{Write};
 ghost use Rattle.qm_model.specs.Batches.{Chain};
 ghost use Rattle.qm_machine.specs.Machine.{Scheme};
@@ -38,7 +40,13 @@ pub trait Words<C: Store> {
     /// A merkleized batch of this chain with this tip list.
     ghost is_merkleized: { Self.Merkleized → Chain → List Operation → Type 0 };
 
-    /// What its machine stands on: what writes and decisions append, the root of a list, which tells a batch whether it fits,
-    /// up to where a list may be pruned, and its proofs and pins.
+    /// What its machine stands on: how operations are spelled and hashed, the root of a list, which tells a batch whether it
+    /// fits, up to where a list may be pruned, and its proofs and pins.
     ghost scheme: { Scheme };
+
+    /// Nothing has no peaks.
+    ghost bare: { peaks scheme.shape 0 ≡ [] };
+
+    /// Its list is of operations of that form.
+    ghost formed: { (x : Self) (list : List Operation) → stands x list → All (IsOf scheme.form) list };
 }

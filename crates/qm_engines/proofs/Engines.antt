@@ -7,7 +7,6 @@ use Rattle.sha2.specs.Sha256.{sha256}
 use Rattle.qm_base.specs.declared.error.Error.{Error}
 use Rattle.qm_base.specs.declared.error.Error.TheVariants as errors
 use Rattle.qm_base.specs.declared.error.JournalError.TheVariants as journal
-use Rattle.qm_model.specs.StoreModel.{Stored}
 use Rattle.qm_model.specs.Operations.{Bytes, Operation}
 use Rattle.qm_model.specs.Forms.{Form, padded, plain, spelling, variable}
 use Rattle.qm_model.specs.Batches.{Commitment, Chain, boundary_list, IsOnChain, IsKnown, commitment, fits, readable}
@@ -15,9 +14,7 @@ use Rattle.qm_model.specs.Causes.{Rose}
 use Rattle.qm_store.specs.declared.Store as store
 use Rattle.qm_store.specs.Log.{Log}
 use Rattle.qm_batch.specs.Lent.{IsReadError}
-use Rattle.qm_model.specs.Refused.{Refused, Journal, ItemTooLarge, Merkle, LocationOverflow, DataCorrupted, HeadDoesNotMatch}
-use Rattle.qm_machine.specs.Machine.{head_refusal}
-use Rattle.qm_base.specs.declared.error.Corrupt.TheVariants as corrupt
+use Rattle.qm_model.specs.Refused.{Refused, Journal, ItemTooLarge, Merkle, LocationOverflow}
 use Rattle.qm_model.specs.Mmr.{mmr}
 use Rattle.qm_model.specs.Refusals.{tip_refusal, too_long, too_many}
 use Rattle.qm_model.specs.Roots.{sha256_root, sha256_proof, sha256_pins}
@@ -36,7 +33,7 @@ use Rattle.qm_any.specs.Databases.{Database, IsLeft, Begun, Staged, Made, IsBegu
 use Rattle.qm_any.specs.Layouts.{Hashing, list_root}
 use Rattle.qm_any.proofs.Known.{child-boundary, child-tips}
 use Rattle.qm_any.specs.Tips.{own_spellings, IsTaken, IsRefused}
-use Rattle.qm_store.specs.Refusals.{refusal_of, IsAmong, IsDue}
+use Rattle.qm_store.specs.Refusals.{refusal_of}
 use Rattle.qm_store.specs.Given.{IsUnchanged, TellsAll}
 use Rattle.qm_store.specs.declared.refusal.Given.{Given}
 use Rattle.qm_store.specs.declared.refusal.Given.TheVariants as given
@@ -49,9 +46,6 @@ use Rattle.qm_engines.specs.Held.{held}
 module _ (form : Form) (lengths : form.sizes ≡ None) where
   spelled-same : (op : Operation) → spelling form op ≡ spelling variable op
   spelled-same op = ap (λ sizes. padded form.ordered sizes (plain sizes op)) lengths
-
-  pub spellings-same : spelling form ≡ spelling variable
-  spellings-same = λ i op. spelled-same op i
 
   leaves-same : (i : ℕ) (ops : List Operation) → leaves_from sha256 mmr form i ops ≡ leaves_from sha256 mmr variable i ops
   leaves-same i [] = refl
@@ -224,11 +218,10 @@ more-staged form (Err e) S before keys Q values staged same are = tt
 
 -- what an apply appends, said of bounds and of lists
 pub appends-same : (form : Form) → form.sizes ≡ None → (list : List Operation) (chain : Chain) (tip : List Operation) (current : Commitment) (made : Made Sha256Digest) → current ≡ list_commitment (hashing form) list → IsMade (hashing form) made chain tip
-    → (if is_at current made.bounds.db made.bounds.ancestors then map (spelling form) (drop current.size tip) else []) ≡ (if fits (sha256_root mmr) (commitment (sha256_root mmr) list) chain then map (spelling variable) (drop (length list) tip) else [])
+    → (if is_at current made.bounds.db made.bounds.ancestors then map (spelling form) (drop current.size tip) else []) ≡ (if fits (sha256_root mmr) (commitment (sha256_root mmr) list) chain then map (spelling form) (drop (length list) tip) else [])
 appends-same form lengths list chain tip current made is batch =
-    ap (λ spell. if is_at current made.bounds.db made.bounds.ancestors then map spell (drop current.size tip) else []) (spellings-same form lengths)
-    ∙ ap (λ b. if b then map (spelling variable) (drop current.size tip) else []) (at-made form lengths list chain tip current made is batch)
-    ∙ ap (λ (n : ℕ). if fits (sha256_root mmr) (commitment (sha256_root mmr) list) chain then map (spelling variable) (drop n tip) else []) (ap (λ c. c.size) is)
+    ap (λ b. if b then map (spelling form) (drop current.size tip) else []) (at-made form lengths list chain tip current made is batch)
+    ∙ ap (λ (n : ℕ). if fits (sha256_root mmr) (commitment (sha256_root mmr) list) chain then map (spelling form) (drop n tip) else []) (ap (λ c. c.size) is)
 
 pub proved : (form : Form) → form.sizes ≡ None → (ops : List Operation) (a b : ℕ) → ops_proof sha256 mmr form ops a b ≡ sha256_proof mmr ops a b
 unfolding sha256_proof
@@ -245,48 +238,45 @@ some-intro : {A : Type 0} (o : Option A) (P : A → Type 0) → ((a : A) → o �
 some-intro None P give = tt
 some-intro (Some a) P give = give a refl
 
-module _ (form : Form) (lengths : form.sizes ≡ None) (chain : Chain) (tip : List Operation) where
-  spelt : tip_refusal variable chain tip ≡ tip_refusal form chain tip
-  spelt = ap (λ spell. option_or (option_map (λ n. Journal (ItemTooLarge n)) (too_long (map spell (drop (length chain.base) tip)))) (too_many (length tip))) (sym (spellings-same form lengths))
-
+module _ (form : Form) (chain : Chain) (tip : List Operation) where
   -- why a tip is refused, where no spelling is too long
-  short : too_long (own_spellings form chain.base tip) ≡ None → tip_refusal variable chain tip ≡ too_many (length tip)
-  short none = spelt ∙ ap (λ o. option_or (option_map (λ n. Journal (ItemTooLarge n)) o) (too_many (length tip))) none
+  short : too_long (own_spellings form chain.base tip) ≡ None → tip_refusal form chain tip ≡ too_many (length tip)
+  short none = ap (λ o. option_or (option_map (λ n. Journal (ItemTooLarge n)) o) (too_many (length tip))) none
 
   -- a tip that is taken is not refused
-  pub taken-offered : IsTaken form chain.base tip → tip_refusal variable chain tip ≡ None
+  pub taken-offered : IsTaken form chain.base tip → tip_refusal form chain tip ≡ None
   taken-offered taken = short taken.0 ∙ ap (λ b. if b then Some (Merkle (LocationOverflow (length tip))) else None) (le-ltb (2 ^ 62) (length tip) taken.1)
 
   -- what is too long of a tip is why it is refused
-  due : (e : Error) (r : Refused) → e ≢ errors.StaleBatch → IsRefused form chain.base tip e → refusal_of e ≡ Some r → tip_refusal variable chain tip ≡ Some r
+  due : (e : Error) (r : Refused) → e ≢ errors.StaleBatch → IsRefused form chain.base tip e → refusal_of e ≡ Some r → tip_refusal form chain tip ≡ Some r
   due e r fresh (inl memory) told = absurd (none-some r (sym (ap refusal_of memory) ∙ told))
   due e r fresh (inr (inl stale)) told = absurd (fresh stale)
   due e r fresh (inr (inr (inl large))) told =
-      spelt ∙ ap (λ o. option_or (option_map (λ n. Journal (ItemTooLarge n)) o) (too_many (length tip))) large.1 ∙ sym (ap refusal_of large.2) ∙ told
+      ap (λ o. option_or (option_map (λ n. Journal (ItemTooLarge n)) o) (too_many (length tip))) large.1 ∙ sym (ap refusal_of large.2) ∙ told
   due e r fresh (inr (inr (inr many))) told =
       short many.0 ∙ ap (λ b. if b then Some (Merkle (LocationOverflow (length tip))) else None) (lt-ltb (2 ^ 62) (length tip) many.1) ∙ sym (ap refusal_of many.2) ∙ told
 
   -- a merkleize that is refused, and not as stale, is so for that where the database is on the chain
   pub refused-due : {C D : Type 0} (members : store.Ghosts C) (old new : Log C D) (P On : Type 0) (e : Error) → e ≢ errors.StaleBatch → old.tree.start ≡ 0 → (On → IsRefused form chain.base tip e ⊎ IsReadError members old new e)
-      → (e ≢ errors.Memory → P) → IfSome (refusal_of e) (λ r. P × (On → tip_refusal variable chain tip ≡ Some r))
+      → (e ≢ errors.Memory → P) → IfSome (refusal_of e) (λ r. P × (On → tip_refusal form chain tip ≡ Some r))
   refused-due members old new P On e fresh whole refused give =
-      some-intro (refusal_of e) (λ r. P × (On → tip_refusal variable chain tip ≡ Some r)) (λ r told. (give (λ memory. none-some r (sym (ap refusal_of memory) ∙ told)), λ on. either r told (refused on)))
+      some-intro (refusal_of e) (λ r. P × (On → tip_refusal form chain tip ≡ Some r)) (λ r told. (give (λ memory. none-some r (sym (ap refusal_of memory) ∙ told)), λ on. either r told (refused on)))
     where
-      either : (r : Refused) → refusal_of e ≡ Some r → IsRefused form chain.base tip e ⊎ IsReadError members old new e → tip_refusal variable chain tip ≡ Some r
+      either : (r : Refused) → refusal_of e ≡ Some r → IsRefused form chain.base tip e ⊎ IsReadError members old new e → tip_refusal form chain tip ≡ Some r
       either r told (inl long) = due e r fresh long told
       either r told (inr read) = absurd (none-some r (sym (log-untold members old new e whole read) ∙ told))
 
 -- a batch of these writes makes a tip that is not refused
-pub made-ok : (form : Form) → form.sizes ≡ None → {P X E : Type 0} (rules : Rules P) (r : Result X E) (made : X → Made Sha256Digest) (Is : Chain → Chain → Type 0) (own : List Write) (policy : P) (meta : Option Bytes) (S : List Operation → Type 0)
+pub made-ok : (form : Form) {P X E : Type 0} (rules : Rules P) (r : Result X E) (made : X → Made Sha256Digest) (Is : Chain → Chain → Type 0) (own : List Write) (policy : P) (meta : Option Bytes) (S : List Operation → Type 0)
     → ((list : List Operation) (chain above : Chain) → S list → Is chain above → IsOnChain list chain → IfOk r (λ x. IsMade (hashing form) (made x) chain (stepped form rules chain.base own policy meta)))
     → ((list : List Operation) (chain above : Chain) → S list → Is chain above → IsOnChain list chain → IfOk r (λ x. IsTaken form chain.base (stepped form rules chain.base own policy meta)))
     → IfOk r (λ x. (list : List Operation) (chain above : Chain) → S list → Is chain above → (ws : List Write) → own ≡ ws → IsOnChain list chain
-    → (tip_refusal variable chain (stepped form rules chain.base ws policy meta) ≡ None) × IsMade (hashing form) (made x) chain (stepped form rules chain.base ws policy meta))
-made-ok form lengths rules (Ok x) made Is own policy meta S given taken = λ list chain above is batch ws same on. (
-  taken-offered form lengths chain (stepped form rules chain.base ws policy meta) (subst (λ w. IsTaken form chain.base (stepped form rules chain.base w policy meta)) same (taken list chain above is batch on)),
+    → (tip_refusal form chain (stepped form rules chain.base ws policy meta) ≡ None) × IsMade (hashing form) (made x) chain (stepped form rules chain.base ws policy meta))
+made-ok form rules (Ok x) made Is own policy meta S given taken = λ list chain above is batch ws same on. (
+  taken-offered form chain (stepped form rules chain.base ws policy meta) (subst (λ w. IsTaken form chain.base (stepped form rules chain.base w policy meta)) same (taken list chain above is batch on)),
   subst (λ w. IsMade (hashing form) (made x) chain (stepped form rules chain.base w policy meta)) same (given list chain above is batch on),
 )
-made-ok form lengths rules (Err e) made Is own policy meta S given taken = tt
+made-ok form rules (Err e) made Is own policy meta S given taken = tt
 
 -- and one that fails is refused, or failed at the log
 pub made-err : (form : Form) {P X : Type 0} (rules : Rules P) (r : Result X Error) (Is : Chain → Chain → Type 0) (own : List Write) (policy : P) (meta : Option Bytes) (R : Error → Type 0) (S : List Operation → Type 0)
@@ -327,34 +317,3 @@ pub unapplied-untold : (e : Error) → (e ≡ errors.StaleBatch) ⊎ ((e ≡ err
 unapplied-untold e (inl stale) fresh = absurd (fresh stale)
 unapplied-untold e (inr (inl memory)) fresh = ap refusal_of memory
 unapplied-untold e (inr (inr fault)) fresh = ap refusal_of fault
-
--- what an opening says of a store's head, as the machine has it
-pub bare-offered : (told : Option Stored) → IfSome told (λ held. held.head ≡ []) → IfSome told (λ held. head_refusal held.head ≡ None)
-bare-offered None bare = tt
-bare-offered (Some held) bare = ap head_refusal bare
-
-filled : (head : Bytes) → IsSome (head_refusal head) → 0 < length head
-filled [] some = absurd (cc some)
-filled (b ∷ bs) some = omega arith
-
-due-filled : (head : Bytes) → 0 < length head → head_refusal head ≡ Some (DataCorrupted HeadDoesNotMatch)
-due-filled [] more = absurd (omega (arith, more))
-due-filled (b ∷ bs) more = refl
-
-pub head-due : (told : Option Stored) (e : Error) → (e ≡ errors.Memory) ⊎ ((e ≡ errors.Journal journal.Store) ⊎ (e ≡ errors.DataCorrupted corrupt.HeadDoesNotMatch))
-    → (e ≡ errors.DataCorrupted corrupt.HeadDoesNotMatch → IfSome told (λ held. 0 < length held.head)) → IfSome told (λ held. IsDue e (head_refusal held.head))
-head-due None e why filled = tt
-head-due (Some held) e (inl memory) more = subst (λ x. IsDue x (head_refusal held.head)) (sym memory) tt
-head-due (Some held) e (inr (inl fault)) more = subst (λ x. IsDue x (head_refusal held.head)) (sym fault) tt
-head-due (Some held) e (inr (inr differs)) more = subst (λ x. IsDue x (head_refusal held.head)) (sym differs) (due-filled held.head (more differs))
-
--- an opening refuses a head alone, whatever the store tells
-pub head-among : (e : Error) → (e ≡ errors.Memory) ⊎ ((e ≡ errors.Journal journal.Store) ⊎ (e ≡ errors.DataCorrupted corrupt.HeadDoesNotMatch))
-    → IsAmong e (DataCorrupted HeadDoesNotMatch ∷ [])
-head-among e (inl memory) = subst (λ x. IsAmong x (DataCorrupted HeadDoesNotMatch ∷ [])) (sym memory) tt
-head-among e (inr (inl fault)) = subst (λ x. IsAmong x (DataCorrupted HeadDoesNotMatch ∷ [])) (sym fault) tt
-head-among e (inr (inr differs)) = subst (λ x. IsAmong x (DataCorrupted HeadDoesNotMatch ∷ [])) (sym differs) (0, omega arith, refl)
-
-pub head-unopened : (P : Type 0) (told : Option Stored) → IfSome told (λ held. 0 < length held.head → P) → IfSome told (λ held. IsSome (head_refusal held.head) → P)
-head-unopened P None given = tt
-head-unopened P (Some held) given = λ some. given (filled held.head some)

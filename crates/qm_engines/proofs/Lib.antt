@@ -1,3 +1,4 @@
 pub mod Engines
 pub mod Spans
 pub mod Collected
+pub mod Lasting

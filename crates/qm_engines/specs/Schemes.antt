@@ -1,18 +1,36 @@
 -- The machines of the program's databases.
-use Rattle.std.specs.Prelude.{Bool, if◌then◌else◌}
+use Rattle.std.specs.Prelude.{◌≡◌, Bool, ◌^◌, ◌&&◌, nat_lt, [], length, None, refl}
+use Rattle.sha2.specs.Sha256.{sha256}
+use Rattle.qm_model.specs.Operations.{Bytes, are_bytes}
+use Rattle.qm_model.specs.Forms.{Form}
 use Rattle.qm_model.specs.Live.{floor}
-use Rattle.qm_model.specs.Step.{ordered, unordered}
-use Rattle.qm_model.specs.Mmr.{mmr}
+use Rattle.qm_model.specs.Mmr.{mmr, digits_below}
+use Rattle.qm_model.specs.Trees.{peaks}
 use Rattle.qm_model.specs.Roots.{sha256_root, sha256_proof, sha256_pins}
 use Rattle.qm_machine.specs.Machine.{Scheme}
 
--- the machine of ordered or of unordered databases
-abbrev pub scheme : Bool → Scheme
-scheme is_ordered = record {
-  kind = if is_ordered then ordered else unordered;
-  is_ordered = is_ordered;
+-- a key or a value: bytes whose count four bytes tell
+abbrev pub is_string : Bytes → Bool
+is_string bs = nat_lt (length bs) (2 ^ 32) && are_bytes bs
+
+-- how the operations of ordered or of unordered databases are spelled: with lengths before keys and values
+abbrev pub form_of : Bool → Form
+form_of is_ordered = record { ordered = is_ordered; sizes = None; is_key = is_string; is_value = is_string }
+
+-- the machine of databases of this form
+abbrev pub scheme : Form → Scheme
+scheme form = record {
+  form = form;
+  shape = mmr;
+  hash = sha256;
+  digest_size = 32;
   root = sha256_root mmr;
   boundary = floor;
   proof = sha256_proof mmr;
   pins = sha256_pins mmr;
 }
+
+-- over nothing it has no peaks
+pub bare : peaks mmr 0 ≡ []
+unfolding digits_below
+bare = refl

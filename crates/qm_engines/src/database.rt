@@ -5,14 +5,14 @@ ghost use Rattle.qm_any.specs.Databases.{IsDatabase, IsBegun, IsStaged, IsMade, 
 ghost use Rattle.qm_store.specs.Given.{store_given};
 ghost use Rattle.qm_engines.specs.Databases.{hashing, layout};
 ghost use Rattle.qm_engines.specs.Held.{held};
-ghost use Rattle.qm_engines.specs.Schemes.{scheme};
+ghost use Rattle.qm_engines.specs.Schemes.{bare, scheme};
 
 use crate::listed::{listed, span_from, twin_keys, twin_option};
 use crate::ranges::{keys_of, pairs_of};
 use qm_any::batch::{MerkleizedBatch, UnmerkleizedBatch};
 use qm_any::db::Db;
-use qm_any::init;
 use qm_any::staged::Staged;
+use qm_any::take_up;
 use qm_base::update::{Ordered, Unordered, Update};
 use qm_base::{
     ByteKey, ByteString, ByteValue, Error, Location, Sha256, Sha256Digest, VariableEncoding,
@@ -27,7 +27,7 @@ use qm_merkle::mmr;
 use qm_proofs::Proof;
 use qm_store::{Given, Refusal, Store};
 use std::alloc::{AllocError, Global};
-use std::num::NonZeroU64;
+use std::num::{NonZeroU64, NonZeroUsize};
 use std::ops::{Bound, Range};
 use std::rc::Rc;
 
@@ -62,6 +62,14 @@ pub struct Database<
     U: Update<Key = ByteKey, Value = ByteValue>,
 > {
     db: Inside<C, I, U>,
+}
+
+// How many keys an opening keeps, to tell those with the same index key apart.
+fn kept_keys() -> NonZeroUsize {
+    match NonZeroUsize::new(1024) {
+        Some(count) => count,
+        None => NonZeroUsize::MIN,
+    }
 }
 
 // A refusal that gives back an engine.
@@ -107,7 +115,11 @@ impl<
 
     ghost is_merkleized = { λ b chain tip. IsMade (hashing U.form) b.value chain tip };
 
-    ghost scheme = { scheme U.form.ordered };
+    ghost scheme = { scheme U.form };
+
+    ghost bare = { bare };
+
+    ghost formed = { λ x list is. is.lent.of };
 }
 
 impl<
@@ -125,9 +137,35 @@ impl<
 
     type Config = ();
 
-    fn open(alloc: Global, store: C, _config: &()) -> Result<Self, Refusal<Self, C>> {
-        match init(alloc, store, Sha256::new(), FourCap) {
+    fn open(
+        alloc: Global,
+        store: C,
+        _config: &(),
+        max_size: Option<u64>,
+    ) -> Result<Self, Refusal<Self, C>> {
+        match take_up(alloc, store, Sha256::new(), FourCap, kept_keys(), max_size) {
             Ok(db) => Ok(Database { db }),
+            Err(refused) => Err(refusal(refused)),
+        }
+    }
+
+    fn commit(self) -> Result<Self, Refusal<Self, C>> {
+        match self.db.commit() {
+            Ok(db) => Ok(Database { db }),
+            Err(refused) => Err(refusal(refused)),
+        }
+    }
+
+    fn sync(self) -> Result<Self, Refusal<Self, C>> {
+        match self.db.sync() {
+            Ok(db) => Ok(Database { db }),
+            Err(refused) => Err(refusal(refused)),
+        }
+    }
+
+    fn destroy(self) -> Result<C, Refusal<Self, C>> {
+        match self.db.destroy() {
+            Ok(store) => Ok(store),
             Err(refused) => Err(refusal(refused)),
         }
     }

@@ -47,7 +47,7 @@ refused_view (refused.Journal e) = refusals.Journal (log_view e)
 
 module _ {K V : Type 0} (key : K → Bytes) (value : V → Bytes) where
   abbrev pub line_view : {P Q : Type 0} → (P → Q) → Command K V P → lines.Line Q
-  line_view policy commands.Open = lines.Open
+  line_view policy (commands.Open bound) = lines.Open bound
   line_view policy commands.Batch = lines.Batch
   line_view policy (commands.Child h keep) = lines.Child h keep
   line_view policy commands.Tip = lines.Tip
@@ -75,6 +75,11 @@ module _ {K V : Type 0} (key : K → Bytes) (value : V → Bytes) where
   line_view policy commands.Meta = lines.Meta
   line_view policy (commands.Prove size start max) = lines.Prove size start (non_zero_u64_get max)
   line_view policy (commands.Pins n) = lines.Pins n
+  line_view policy commands.Commit = lines.Commit
+  line_view policy commands.Sync = lines.Sync
+  line_view policy commands.Close = lines.Close
+  line_view policy commands.Destroy = lines.Destroy
+  line_view policy (commands.Crash keep) = lines.Crash keep
 
   abbrev pub listed_view : Listed K V → Operation
   listed_view (listed.Update k v n) = update (key k) (value v) (option_map key n)

@@ -14,8 +14,9 @@ pub struct Resolution<K, V> {
 /// A command with keys, values and policies of these types. A batch goes by the number that the run gave it.
 #[derive(Drop)]
 pub enum Command<K, V, P> {
-    /// Opens the store.
-    Open,
+    /// Opens the store: the longest list that it keeps and that ends with a commit, of at most so many operations where a
+    /// number is given.
+    Open(Option<u64>),
     /// Begins a batch.
     Batch,
     /// Begins a child of the merkleized batch of this number, which keeps so many of its kept ancestors, or all.
@@ -70,4 +71,14 @@ pub enum Command<K, V, P> {
     Prove(u64, u64, NonZeroU64),
     /// Lists the digests of the peaks over the first operations, so many.
     Pins(u64),
+    /// Makes the operations stable.
+    Commit,
+    /// Makes all that the store holds stable.
+    Sync,
+    /// Closes the database; the store stays as it is.
+    Close,
+    /// Closes the database and empties the store.
+    Destroy,
+    /// Closes the database, if one is open, and has the store go through a crash, with the end that is asked for.
+    Crash(u64),
 }

@@ -7,16 +7,15 @@ use Rattle.qm_model.specs.Writes.{Write}
 use Rattle.qm_model.specs.Slots.{slotted}
 use Rattle.qm_model.specs.Slots as slots
 use Rattle.qm_model.specs.Batches.{Chain, commitment, fits}
-use Rattle.qm_model.specs.Forms.{variable}
 use Rattle.qm_model.specs.Refused.{StaleBatch, SlotCount}
 use Rattle.qm_model.specs.Refusals.{tip_refusal}
 use Rattle.qm_model.specs.Step.{Kind, step}
-use Rattle.qm_machine.specs.Lines.{Line, Open, Batch, Child, Tip, Put, Del, Merkleize, Stage, Expand, Resolve, Apply, Ops, Get, Many, Next, Prev, Span, All, Range, Keys, Info, BatchInfo, Root, BatchRoot, BatchProof, Meta, Prove, Pins}
-use Rattle.qm_machine.specs.Machine.{Scheme, State, Slot, gone, writing, staged, merkleized, slot_at, with_slot, with_database, refuse, merkleize_tip, merkleize_writes, merkleize_in, merkleize, resolve_in, resolve, turn}
+use Rattle.qm_machine.specs.Lines.{Line, Open, Batch, Child, Tip, Put, Del, Merkleize, Stage, Expand, Resolve, Apply, Ops, Get, Many, Next, Prev, Span, All, Range, Keys, Info, BatchInfo, Root, BatchRoot, BatchProof, Meta, Prove, Pins, Commit, Sync, Close, Destroy, Crash}
+use Rattle.qm_machine.specs.Machine.{Scheme, kind_of, choices_after, State, Slot, gone, writing, staged, merkleized, slot_at, with_slot, with_database, refuse, merkleize_tip, merkleize_writes, merkleize_in, merkleize, resolve_in, resolve, turn}
 
 -- a line with its policy under this name
 abbrev pub relabelled : {P Q : Type 0} → (P → Q) → Line P → Line Q
-relabelled f Open = Open
+relabelled f (Open bound) = Open bound
 relabelled f Batch = Batch
 relabelled f (Child h keep) = Child h keep
 relabelled f Tip = Tip
@@ -44,13 +43,54 @@ relabelled f (BatchProof h) = BatchProof h
 relabelled f Meta = Meta
 relabelled f (Prove size start max) = Prove size start max
 relabelled f (Pins n) = Pins n
+relabelled f Commit = Commit
+relabelled f Sync = Sync
+relabelled f Close = Close
+relabelled f Destroy = Destroy
+relabelled f (Crash keep) = Crash keep
+
+-- it takes as many of the choices to come
+pub choices-relabelled : {P Q : Type 0} (f : P → Q) (line : Line P) (choices : List ℕ) → choices_after (relabelled f line) choices ≡ choices_after line choices
+choices-relabelled f (Open bound) choices = refl
+choices-relabelled f Batch choices = refl
+choices-relabelled f (Child h keep) choices = refl
+choices-relabelled f Tip choices = refl
+choices-relabelled f (Put h key value) choices = refl
+choices-relabelled f (Del h key) choices = refl
+choices-relabelled f (Merkleize h policy meta) choices = refl
+choices-relabelled f (Stage h keys) choices = refl
+choices-relabelled f (Expand h keys) choices = refl
+choices-relabelled f (Resolve h policy meta given others) choices = refl
+choices-relabelled f (Apply h) choices = refl
+choices-relabelled f (Ops h) choices = refl
+choices-relabelled f (Get key from) choices = refl
+choices-relabelled f (Many keys from) choices = refl
+choices-relabelled f (Next key from) choices = refl
+choices-relabelled f (Prev key from) choices = refl
+choices-relabelled f (Span key) choices = refl
+choices-relabelled f (All key) choices = refl
+choices-relabelled f (Range low high) choices = refl
+choices-relabelled f (Keys low high) choices = refl
+choices-relabelled f Info choices = refl
+choices-relabelled f (BatchInfo h) choices = refl
+choices-relabelled f Root choices = refl
+choices-relabelled f (BatchRoot h) choices = refl
+choices-relabelled f (BatchProof h) choices = refl
+choices-relabelled f Meta choices = refl
+choices-relabelled f (Prove size start max) choices = refl
+choices-relabelled f (Pins n) choices = refl
+choices-relabelled f Commit choices = refl
+choices-relabelled f Sync choices = refl
+choices-relabelled f Close choices = refl
+choices-relabelled f Destroy choices = refl
+choices-relabelled f (Crash keep) choices = refl
 
 -- where each policy makes the steps of its other name
 module _ {P Q : Type 0} (f : P → Q) (a : Rules P) (b : Rules Q)
     (same : (kind : Kind) (ops : List Operation) (ws : List Write) (p : P) (meta : Option Bytes) → step kind a ops ws p meta ≡ step kind b ops ws (f p) meta) (m : Scheme) where
   same_writes : (s : State) (h : ℕ) (policy : P) (meta : Option Bytes) (list : List Operation) (chain : Chain) (ws : List Write) → merkleize_writes m a s h policy meta list chain ws ≡ merkleize_writes m b s h (f policy) meta list chain ws
   same_writes s h policy meta list chain ws =
-      ap (λ tip. cond (fits m.root (commitment m.root list) chain) (merkleize_tip s h chain tip (tip_refusal variable chain tip)) (refuse (with_slot s h gone) StaleBatch)) (same m.kind chain.base ws policy meta)
+      ap (λ tip. cond (fits m.root (commitment m.root list) chain) (merkleize_tip s h chain tip (tip_refusal m.form chain tip)) (refuse (with_slot s h gone) StaleBatch)) (same (kind_of m) chain.base ws policy meta)
 
   same_in : (s : State) (h : ℕ) (policy : P) (meta : Option Bytes) (list : List Operation) (slot : Slot) → merkleize_in m a s h policy meta list slot ≡ merkleize_in m b s h (f policy) meta list slot
   same_in s h policy meta list (writing chain above ws) = same_writes s h policy meta list chain ws
@@ -80,7 +120,7 @@ module _ {P Q : Type 0} (f : P → Q) (a : Rules P) (b : Rules Q)
       in_database (Some list) = same_resolve_in s h policy meta given others list (slot_at s.table h)
 
   pub turn_relabelled : (s : State) (line : Line P) → turn m a s line ≡ turn m b s (relabelled f line)
-  turn_relabelled s Open = refl
+  turn_relabelled s (Open bound) = refl
   turn_relabelled s Batch = refl
   turn_relabelled s (Child h keep) = refl
   turn_relabelled s Tip = refl
@@ -108,3 +148,8 @@ module _ {P Q : Type 0} (f : P → Q) (a : Rules P) (b : Rules Q)
   turn_relabelled s Meta = refl
   turn_relabelled s (Prove size start max) = refl
   turn_relabelled s (Pins n) = refl
+  turn_relabelled s Commit = refl
+  turn_relabelled s Sync = refl
+  turn_relabelled s Close = refl
+  turn_relabelled s Destroy = refl
+  turn_relabelled s (Crash keep) = refl

@@ -10,7 +10,7 @@ use Rattle.qm_model.specs.Walk.{Limits}
 use Rattle.qm_model.specs.Slots.{Slot, keep, put, away}
 use Rattle.qm_model.specs.Writes.{Write}
 use Rattle.qm_model.specs.Policies.{Policy, proportional, hold, bounded, rule}
-use Rattle.qm_machine.specs.Lines.{Line, Open, Batch, Child, Tip, Put, Del, Merkleize, Stage, Expand, Resolve, Apply, Ops, Get, Many, Next, Prev, Span, All, Range, Keys, Info, BatchInfo, Root, BatchRoot, BatchProof, Meta, Prove, Pins}
+use Rattle.qm_machine.specs.Lines.{Line, Open, Batch, Child, Tip, Put, Del, Merkleize, Stage, Expand, Resolve, Apply, Ops, Get, Many, Next, Prev, Span, All, Range, Keys, Info, BatchInfo, Root, BatchRoot, BatchProof, Meta, Prove, Pins, Commit, Sync, Close, Destroy, Crash}
 
 -- the number with one decimal digit more, below 2 ^ 64
 abbrev pub next_digit : ℕ → ℕ → Option ℕ
@@ -201,6 +201,12 @@ abbrev pub root_of : List Bytes → Option (Line Policy)
 root_of [] = Some Root
 root_of words = numbered BatchRoot words
 
+-- up to a size, where one is given
+abbrev pub open_of : List Bytes → Option (Line Policy)
+open_of [] = Some (Open None)
+open_of (a ∷ []) = option_map (λ n. Open (Some n)) (named_number (codes "max=") a)
+open_of words = None
+
 abbrev pub child_of : List Bytes → Option (Line Policy)
 child_of (a ∷ []) = option_map (λ h. Child h None) (number_of a)
 child_of (a ∷ b ∷ []) = option_and_then (λ h. option_map (λ n. Child h (Some n)) (named_number (codes "keep=") b)) (number_of a)
@@ -275,10 +281,20 @@ abbrev pub range_of : (Limit → Limit → Line Policy) → List Bytes → Optio
 range_of line (a ∷ b ∷ []) = option_and_then (λ low. option_map (line low) (high_of b)) (low_of a)
 range_of line words = None
 
--- each command's name, and what the words behind it say
+-- each command's name, and what the words behind it say: of those that make a store last, or end a database
+abbrev pub lasting_forms : List (Bytes × (List Bytes → Option (Line Policy)))
+lasting_forms =
+    (codes "commit", alone Commit)
+    ∷ (codes "sync", alone Sync)
+    ∷ (codes "close", alone Close)
+    ∷ (codes "destroy", alone Destroy)
+    ∷ (codes "crash", numbered Crash)
+    ∷ []
+
+-- of all of them
 abbrev pub forms : List (Bytes × (List Bytes → Option (Line Policy)))
 forms =
-    (codes "open", alone Open)
+    (codes "open", open_of)
     ∷ (codes "batch", alone Batch)
     ∷ (codes "child", child_of)
     ∷ (codes "tip", alone Tip)
@@ -304,7 +320,7 @@ forms =
     ∷ (codes "meta", alone Meta)
     ∷ (codes "prove", prove_of)
     ∷ (codes "pins", numbered Pins)
-    ∷ []
+    ∷ lasting_forms
 
 -- what the first of these forms with this name says
 abbrev pub form_of : Bytes → List Bytes → List (Bytes × (List Bytes → Option (Line Policy))) → Option (Line Policy)

@@ -1,5 +1,6 @@
 pub mod Lines
 pub mod Machine
+pub mod Sound
 pub mod Grammar
 pub mod Text
 pub mod LineRows

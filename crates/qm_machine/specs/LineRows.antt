@@ -1,5 +1,5 @@
 -- Worked scripts, from bytes to bytes.
-use Rattle.std.specs.Prelude.{true, false, ◌≡◌, ◌+◌, ◌^◌, ◌++◌, List, [], ◌∷◌, Some, None, refl, codes, flat_map}
+use Rattle.std.specs.Prelude.{true, ℕ, ◌≡◌, ◌+◌, ◌^◌, ◌++◌, List, [], ◌∷◌, Some, None, refl, codes, flat_map}
 use Rattle.std.specs.List.{join_with_byte}
 use Rattle.std.specs.Fmt.{digits}
 use Rattle.hex.specs.Hex.{decode_pairs, encode_with}
@@ -10,11 +10,10 @@ use Rattle.qm_model.specs.Mmr.{mmr, digits_below}
 use Rattle.qm_model.specs.Proofs.{ops_proof, pins_at}
 use Rattle.qm_model.specs.Policies.{Policy, policies, proportional, hold, bounded, rule}
 use Rattle.qm_model.specs.Ranges.{included, excluded, unlimited}
-use Rattle.qm_model.specs.Step.{ordered, unordered}
-use Rattle.qm_machine.specs.Lines.{Child, Put, Del, Merkleize, Get, Many, Next, Prev, Span, Range, Keys, Prove, Pins}
+use Rattle.qm_machine.specs.Lines.{Line, Open, Crash, Child, Put, Del, Merkleize, Get, Many, Next, Prev, Span, Range, Keys, Prove, Pins}
 use Rattle.qm_model.specs.Refused.{Merkle, LocationOverflow}
 use Rattle.qm_model.specs.Refusals.{too_many}
-use Rattle.qm_model.specs.StoreModel.{Stored, empty}
+use Rattle.qm_model.specs.Own.{no_log}
 use Rattle.qm_machine.specs.Machine.{Scheme, initial, answers}
 use Rattle.qm_machine.specs.Grammar.{line_of, commands_in, bad_in}
 use Rattle.qm_machine.specs.Text.{text_of}
@@ -25,7 +24,7 @@ same bytes = 0x00 ∷ 0x2a ∷ []
 
 -- a root under which lists of one length collide, which these rows do not tell from a real one
 abbrev toy : Scheme
-toy = record { kind = unordered; is_ordered = false; root = λ ops. same []; boundary = floor; proof = ops_proof same mmr variable; pins = pins_at same mmr variable }
+toy = record { form = variable; shape = mmr; hash = same; digest_size = 2; root = λ ops. same []; boundary = floor; proof = ops_proof same mmr variable; pins = pins_at same mmr variable }
 
 -- the keys and values of a list's operations, which tell its lists apart here
 abbrev said : Operation → Bytes
@@ -40,62 +39,56 @@ abbrev lines : List Bytes → Bytes
 lines ls = join_with_byte 10 ls ++ 10 ∷ []
 
 abbrev text : Bytes → Bytes
-text input = text_of (answers toy policies (initial empty) (commands_in input))
+text input = text_of (answers toy policies (initial no_log []) (commands_in input))
 
 abbrev forked : Bytes → Bytes
-forked input = text_of (answers telling policies (initial empty) (commands_in input))
+forked input = text_of (answers telling policies (initial no_log []) (commands_in input))
 
 -- of an ordered database
 abbrev in_order : Bytes → Bytes
-in_order input = text_of (answers (record toy { kind = ordered; is_ordered = true }) policies (initial empty) (commands_in input))
+in_order input = text_of (answers (record toy { form = record variable { ordered = true } }) policies (initial no_log []) (commands_in input))
 
--- over a store
-abbrev over : Stored → Bytes → Bytes
-over stored input = text_of (answers toy policies (initial stored) (commands_in input))
+-- over a store that keeps what a crash asks for
+abbrev asked : Line Policy → List ℕ
+asked (Crash keep) = keep ∷ []
+asked line = []
 
--- stores that start above 0, that have an item, and that have a head where nothing was pruned
-start_text : over (record empty { start = 2 }) (lines (codes "open" ∷ codes "info" ∷ [])) ≡ lines (codes "refused NotOffered" ∷ codes "refused NoDatabase" ∷ [])
-start_text = refl
-
-item_text : over (record empty { items = [] ∷ [] }) (lines (codes "open" ∷ [])) ≡ lines (codes "refused NotOffered" ∷ [])
-item_text = refl
-
-head_text : over (record empty { head = 7 ∷ [] }) (lines (codes "open" ∷ [])) ≡ lines (codes "refused DataCorrupted head does not match the start" ∷ [])
-head_text = refl
+abbrev lasting : Bytes → Bytes
+lasting input = text_of (answers telling policies (initial no_log (flat_map asked (commands_in input))) (commands_in input))
 
 -- one put, read back
 one_put_text : text (lines (codes "open" ∷ codes "batch" ∷ codes "put 1 6b 76" ∷ codes "merkleize 1 prop none" ∷ codes "apply 1" ∷ codes "ops 1" ∷ codes "get 6b" ∷ codes "info" ∷ []))
     ≡ lines (codes "open 1 0 1" ∷ codes "batch 1" ∷ codes "ok" ∷ codes "merkleized 1 1 4 2" ∷ codes "applied 4" ∷ codes "ops 1 U:6b=76 U:6b=76 C:none@2" ∷ codes "read 76" ∷ codes "info 0 4 2 2 live" ∷ [])
-unfolding decode_pairs encode_with digits four_bytes eight_bytes
+unfolding decode_pairs encode_with digits digits_below four_bytes eight_bytes
 one_put_text = refl
 
 -- the root and the operations root, in lower case
 root_text : text (lines (codes "open" ∷ codes "root" ∷ [])) ≡ lines (codes "open 1 0 1" ∷ codes "root 002a 002a" ∷ [])
-unfolding encode_with digits
+unfolding encode_with digits digits_below
 root_text = refl
 
 -- a batch that the database has left behind, its number used up, and a second opening
 stale_text : text (lines (codes "open" ∷ codes "batch" ∷ codes "batch" ∷ codes "put 1 61 01" ∷ codes "merkleize 1 prop none" ∷ codes "apply 1" ∷ codes "merkleize 2 prop none" ∷ codes "apply 2" ∷ codes "open" ∷ []))
-    ≡ lines (codes "open 1 0 1" ∷ codes "batch 1" ∷ codes "batch 2" ∷ codes "ok" ∷ codes "merkleized 1 1 4 2" ∷ codes "applied 4" ∷ codes "refused StaleBatch" ∷ codes "refused NoSuchHandle 2" ∷ codes "refused NotOffered" ∷ [])
-unfolding decode_pairs encode_with digits four_bytes eight_bytes
+    ≡ lines (codes "open 1 0 1" ∷ codes "batch 1" ∷ codes "batch 2" ∷ codes "ok" ∷ codes "merkleized 1 1 4 2" ∷ codes "applied 4" ∷ codes "refused StaleBatch" ∷ codes "refused NoSuchHandle 2" ∷ codes "open 2 0 4" ∷ [])
+unfolding decode_pairs encode_with digits digits_below four_bytes eight_bytes
 stale_text = refl
 
 -- one put, then its key deleted
 put_and_delete_text : text (lines (codes "open" ∷ codes "batch" ∷ codes "put 1 6b 76" ∷ codes "merkleize 1 prop none" ∷ codes "apply 1" ∷ codes "batch" ∷ codes "del 2 6b" ∷ codes "merkleize 2 prop none" ∷ codes "ops 2" ∷ codes "apply 2" ∷ codes "get 6b" ∷ []))
     ≡ lines (codes "open 1 0 1" ∷ codes "batch 1" ∷ codes "ok" ∷ codes "merkleized 1 1 4 2" ∷ codes "applied 4" ∷ codes "batch 2" ∷ codes "ok" ∷ codes "merkleized 2 4 6 5" ∷ codes "ops 4 D:6b C:none@5" ∷ codes "applied 6" ∷ codes "read none" ∷ [])
-unfolding decode_pairs encode_with digits four_bytes eight_bytes
+unfolding decode_pairs encode_with digits digits_below four_bytes eight_bytes
 put_and_delete_text = refl
 
 -- a delete of an absent key, metadata with and without bytes, and writes to a batch that is merkleized or none
 metadata_text : text (lines (codes "open" ∷ codes "meta" ∷ codes "batch" ∷ codes "del 1 6b" ∷ codes "merkleize 1 prop aAbb" ∷ codes "ops 1" ∷ codes "apply 1" ∷ codes "meta" ∷ codes "batch" ∷ codes "merkleize 2 prop -" ∷ codes "meta" ∷ codes "apply 2" ∷ codes "meta" ∷ codes "del 2 6b" ∷ codes "del 9 6b" ∷ []))
     ≡ lines (codes "open 1 0 1" ∷ codes "meta none" ∷ codes "batch 1" ∷ codes "ok" ∷ codes "merkleized 1 1 2 1" ∷ codes "ops 1 C:aabb@1" ∷ codes "applied 2" ∷ codes "meta aabb" ∷ codes "batch 2" ∷ codes "merkleized 2 2 3 2" ∷ codes "meta aabb" ∷ codes "applied 3" ∷ codes "meta -" ∷ codes "refused NoSuchHandle 2" ∷ codes "refused NoSuchHandle 9" ∷ [])
-unfolding decode_pairs encode_with digits four_bytes eight_bytes
+unfolding decode_pairs encode_with digits digits_below four_bytes eight_bytes
 metadata_text = refl
 
 -- a delete of an absent key alone
 absent_text : text (lines (codes "open" ∷ codes "batch" ∷ codes "del 1 6b" ∷ codes "merkleize 1 prop none" ∷ codes "ops 1" ∷ codes "apply 1" ∷ []))
     ≡ lines (codes "open 1 0 1" ∷ codes "batch 1" ∷ codes "ok" ∷ codes "merkleized 1 1 2 1" ∷ codes "ops 1 C:none@1" ∷ codes "applied 2" ∷ [])
-unfolding decode_pairs encode_with digits four_bytes eight_bytes
+unfolding decode_pairs encode_with digits digits_below four_bytes eight_bytes
 absent_text = refl
 
 -- no database, and no line
@@ -143,6 +136,57 @@ no_database_text : forked (lines (codes "tip" ∷ codes "get 6b" ∷ codes "many
     ≡ lines (codes "refused NoDatabase" ∷ codes "refused NoDatabase" ∷ codes "refused NoDatabase" ∷ codes "refused NoDatabase" ∷ codes "refused NoDatabase" ∷ codes "refused NoSuchHandle 1" ∷ codes "refused NoSuchHandle 1" ∷ codes "refused NoSuchHandle 1" ∷ [])
 unfolding decode_pairs encode_with digits digits_below four_bytes eight_bytes
 no_database_text = refl
+
+-- a settled list of 4 operations, and 3 more behind it
+settled_lines : List Bytes
+settled_lines = codes "open" ∷ codes "batch" ∷ codes "put 1 6b 76" ∷ codes "merkleize 1 prop none" ∷ codes "apply 1" ∷ codes "commit" ∷ codes "batch" ∷ codes "put 2 6c 77" ∷ codes "merkleize 2 prop none" ∷ codes "apply 2" ∷ []
+
+settled_replies : List Bytes
+settled_replies = codes "open 1 0 1" ∷ codes "batch 1" ∷ codes "ok" ∷ codes "merkleized 1 1 4 2" ∷ codes "applied 4" ∷ codes "ok" ∷ codes "batch 2" ∷ codes "ok" ∷ codes "merkleized 2 4 7 3" ∷ codes "applied 7" ∷ []
+
+-- a crash that left the settled list, or more but not all of what stands behind it
+crash_keeping_none : lasting (lines (settled_lines ++ codes "crash 0" ∷ codes "open" ∷ [])) ≡ lines (settled_replies ++ codes "ok" ∷ codes "open 2 0 4" ∷ [])
+unfolding settled_lines settled_replies decode_pairs encode_with digits digits_below four_bytes eight_bytes
+crash_keeping_none = refl
+
+crash_keeping_some : lasting (lines (settled_lines ++ codes "crash 6" ∷ codes "open" ∷ [])) ≡ lines (settled_replies ++ codes "ok" ∷ codes "open 2 0 4" ∷ [])
+unfolding settled_lines settled_replies decode_pairs encode_with digits digits_below four_bytes eight_bytes
+crash_keeping_some = refl
+
+-- and one that left all
+crash_keeping_all : lasting (lines (settled_lines ++ codes "crash 7" ∷ codes "open" ∷ codes "get 6c" ∷ [])) ≡ lines (settled_replies ++ codes "ok" ∷ codes "open 2 0 7" ∷ codes "read 77" ∷ [])
+unfolding settled_lines settled_replies decode_pairs encode_with digits digits_below four_bytes eight_bytes
+crash_keeping_all = refl
+
+-- nothing is committed but the fresh list
+crash_uncommitted : lasting (lines (codes "open" ∷ codes "batch" ∷ codes "put 1 6b 76" ∷ codes "merkleize 1 prop none" ∷ codes "apply 1" ∷ codes "crash 3" ∷ codes "open" ∷ codes "info" ∷ []))
+    ≡ lines (codes "open 1 0 1" ∷ codes "batch 1" ∷ codes "ok" ∷ codes "merkleized 1 1 4 2" ∷ codes "applied 4" ∷ codes "ok" ∷ codes "open 2 0 1" ∷ codes "info 0 1 0 0 empty" ∷ [])
+unfolding decode_pairs encode_with digits digits_below four_bytes eight_bytes
+crash_uncommitted = refl
+
+-- a bound cuts the store to the list that is opened, and a refused opening leaves no database and takes no number
+bounded_text : lasting (lines (settled_lines ++ codes "open max=0" ∷ codes "info" ∷ codes "open max=6" ∷ codes "apply 2" ∷ codes "open max=7" ∷ codes "crash 0" ∷ codes "open max=1" ∷ codes "open" ∷ []))
+    ≡ lines (settled_replies ++ codes "refused InvalidInitializationBound" ∷ codes "refused NoDatabase" ∷ codes "open 2 0 4" ∷ codes "applied 7" ∷ codes "open 3 0 7" ∷ codes "ok" ∷ codes "open 4 0 1" ∷ codes "open 5 0 1" ∷ [])
+unfolding settled_lines settled_replies decode_pairs encode_with digits digits_below four_bytes eight_bytes
+bounded_text = refl
+
+-- a destroyed store is opened as a fresh one; what is closed is there when it is opened again
+destroyed_text : lasting (lines (settled_lines ++ codes "close" ∷ codes "get 6b" ∷ codes "open" ∷ codes "get 6b" ∷ codes "destroy" ∷ codes "sync" ∷ codes "open" ∷ codes "info" ∷ []))
+    ≡ lines (settled_replies ++ codes "ok" ∷ codes "refused NoDatabase" ∷ codes "open 2 0 7" ∷ codes "read 76" ∷ codes "ok" ∷ codes "refused NoDatabase" ∷ codes "open 3 0 1" ∷ codes "info 0 1 0 0 empty" ∷ [])
+unfolding settled_lines settled_replies decode_pairs encode_with digits digits_below four_bytes eight_bytes
+destroyed_text = refl
+
+-- an ordered one is taken up with its links
+in_order_again : in_order (lines (codes "open" ∷ codes "batch" ∷ codes "put 1 61 01" ∷ codes "put 1 63 03" ∷ codes "merkleize 1 hold none" ∷ codes "apply 1" ∷ codes "open" ∷ codes "span 62" ∷ []))
+    ≡ lines (codes "open 1 0 1" ∷ codes "batch 1" ∷ codes "ok" ∷ codes "ok" ∷ codes "merkleized 1 1 4 0" ∷ codes "applied 4" ∷ codes "open 2 0 4" ∷ codes "span 1 61 01 63" ∷ [])
+unfolding decode_pairs encode_with digits digits_below four_bytes eight_bytes
+in_order_again = refl
+
+-- without a database
+not_lasting_text : lasting (lines (codes "crash 9" ∷ codes "commit" ∷ codes "sync" ∷ codes "close" ∷ codes "destroy" ∷ codes "open max=1" ∷ []))
+    ≡ lines (codes "ok" ∷ codes "refused NoDatabase" ∷ codes "refused NoDatabase" ∷ codes "refused NoDatabase" ∷ codes "refused NoDatabase" ∷ codes "open 1 0 1" ∷ [])
+unfolding decode_pairs encode_with digits digits_below four_bytes eight_bytes
+not_lasting_text = refl
 
 bad_second : bad_in (codes "open" ++ 10 ∷ codes "put 1 6") ≡ Some 2
 unfolding decode_pairs
@@ -192,6 +236,18 @@ proved_none = refl
 
 pinned : line_of (codes "pins 0") ≡ Some (Pins 0)
 pinned = refl
+
+bounded_open : line_of (codes "open max=18446744073709551615") ≡ Some (Open (Some 18446744073709551615))
+bounded_open = refl
+
+unbounded_open : line_of (codes "open max=") ≡ None
+unbounded_open = refl
+
+crash_alone : line_of (codes "crash") ≡ None
+crash_alone = refl
+
+crash_keeping : line_of (codes "crash 0") ≡ Some (Crash 0)
+crash_keeping = refl
 
 two_spaces : line_of (codes "apply  1") ≡ None
 two_spaces = refl
@@ -356,7 +412,7 @@ in_order_staged = refl
 -- an unordered database offers none of these, before it is open and after
 not_offered_text : text (lines (codes "next 61" ∷ codes "span 61" ∷ codes "open" ∷ codes "prev 61 from=9" ∷ codes "all 61" ∷ codes "range * *" ∷ codes "keys * *" ∷ []))
     ≡ lines (codes "refused NotOffered" ∷ codes "refused NotOffered" ∷ codes "open 1 0 1" ∷ codes "refused NotOffered" ∷ codes "refused NotOffered" ∷ codes "refused NotOffered" ∷ codes "refused NotOffered" ∷ [])
-unfolding decode_pairs digits
+unfolding decode_pairs digits digits_below
 not_offered_text = refl
 
 -- without a database

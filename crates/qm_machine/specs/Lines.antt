@@ -10,7 +10,8 @@ use Rattle.qm_model.specs.Writes.{Write}
 
 -- what a line asks for; a batch goes by its number
 pub data Line (P : Type 0) : Type 0 where
-  Open : Line P
+  -- up to a size, where one is given
+  Open : Option ℕ → Line P
   Batch : Line P
   -- a child of a merkleized batch, which keeps so many of its kept ancestors, or all
   Child : ℕ → Option ℕ → Line P
@@ -47,6 +48,13 @@ pub data Line (P : Type 0) : Type 0 where
   -- size, start, and how many operations at most
   Prove : ℕ → ℕ → ℕ → Line P
   Pins : ℕ → Line P
+  Commit : Line P
+  Sync : Line P
+  -- the database goes, and its store stays, or is emptied
+  Close : Line P
+  Destroy : Line P
+  -- a crash, with the end that is asked for
+  Crash : ℕ → Line P
 
 -- what a command answers
 pub data Answer : Type 0 where

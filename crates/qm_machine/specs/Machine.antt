@@ -1,32 +1,49 @@
 -- The machine: databases and batches are operation lists, and each command is a function of the state.
-use Rattle.std.specs.Prelude.{ℕ, ◌+◌, nat_lt, ◌==◌, if◌then◌else◌, Bool, List, [], ◌∷◌, ◌++◌, length, map, take, drop, slice_index_or, slice_set, Option, Some, None, option_map}
-use Rattle.qm_model.specs.Operations.{Bytes, Operation, fresh}
-use Rattle.qm_model.specs.StoreModel.{Stored, appended}
-use Rattle.qm_model.specs.Forms.{spelling, variable}
+use Rattle.std.specs.Prelude.{ℕ, ◌+◌, min, max, nat_lt, ◌==◌, if◌then◌else◌, List, [], ◌∷◌, ◌++◌, length, map, take, drop, slice_index_or, slice_set, Option, Some, None, option_map}
+use Rattle.std.specs.List.{concat}
+use Rattle.qm_model.specs.Operations.{Bytes, Operation}
+use Rattle.qm_model.specs.Forms.{Form}
+use Rattle.qm_model.specs.Trees.{Shape}
 use Rattle.qm_model.specs.Live.{live, live_of, live_keys, floor, value_of, last_metadata}
 use Rattle.qm_model.specs.Ranges.{Limit, key_above, key_below, span_of, keys_in, pairs_in}
 use Rattle.qm_model.specs.Writes.{Write, read_through}
 use Rattle.qm_model.specs.Slots.{slotted}
 use Rattle.qm_model.specs.Slots as slots
 use Rattle.qm_model.specs.Walk.{Rules}
-use Rattle.qm_model.specs.Step.{Kind}
+use Rattle.qm_model.specs.Step.{Kind, ordered, unordered}
 use Rattle.qm_model.specs.Step as steps
-use Rattle.qm_model.specs.Proofs.{Proof}
+use Rattle.qm_model.specs.Proofs.{Proof, pins_at}
+use Rattle.qm_model.specs.Opening.{Layout, Found, Opening, refuses, opens, opening, opened_list}
+use Rattle.qm_model.specs.Own.{Engine, Log, no_log, taken_up, any_engine}
 use Rattle.qm_model.specs.Batches.{Chain, begun_on, child_of, commitment, fits, readable, own_operations}
-use Rattle.qm_machine.specs.Lines.{Line, Open, Batch, Child, Tip, Put, Del, Merkleize, Stage, Expand, Resolve, Apply, Ops, Get, Many, Next, Prev, Span, All, Range, Keys, Info, BatchInfo, Root, BatchRoot, BatchProof, Meta, Prove, Pins, Answer, Opened, Started, Done, Merkleized, Applied, Listed, Read, Expanded, Beside, Spanning, Whole, Ranged, Keyed, Told, BatchTold, Rooted, Metadata, Proved, BatchProved, Pinned, Refuses}
-use Rattle.qm_model.specs.Refused.{Refused, NotOffered, NoDatabase, NoSuchHandle, SlotCount, StaleBatch, StaleRead, DataCorrupted, HeadDoesNotMatch}
+use Rattle.qm_machine.specs.Lines.{Line, Open, Batch, Child, Tip, Put, Del, Merkleize, Stage, Expand, Resolve, Apply, Ops, Get, Many, Next, Prev, Span, All, Range, Keys, Info, BatchInfo, Root, BatchRoot, BatchProof, Meta, Prove, Pins, Commit, Sync, Close, Destroy, Crash, Answer, Opened, Started, Done, Merkleized, Applied, Listed, Read, Expanded, Beside, Spanning, Whole, Ranged, Keyed, Told, BatchTold, Rooted, Metadata, Proved, BatchProved, Pinned, Refuses}
+use Rattle.qm_model.specs.Refused.{Refused, NotOffered, NoDatabase, NoSuchHandle, SlotCount, StaleBatch, StaleRead}
 use Rattle.qm_model.specs.Refusals.{tip_refusal, proof_refusal, proof_count, pins_refusal}
 
--- what a machine stands on: the kind of database, and whether that is the ordered one; a list's operations root and
--- boundary, the proofs of its operations and its pins
+-- what a machine stands on: how operations are spelled and hashed, over which family of trees, and how many bytes a digest
+-- has; a list's operations root and boundary, the proofs of its operations and its pins
 pub record Scheme : Type 0 where
-  pub kind : Kind
-  pub is_ordered : Bool
+  pub form : Form
+  pub shape : Shape
+  pub hash : Bytes → Bytes
+  pub digest_size : ℕ
   pub root : List Operation → Bytes
   pub boundary : List Operation → ℕ
   -- of the whole list, for the operations from a up to b
   pub proof : List Operation → ℕ → ℕ → Proof
   pub pins : List Operation → ℕ → List Bytes
+
+-- the kind of its databases
+abbrev pub kind_of : Scheme → Kind
+kind_of m = if m.form.ordered then ordered else unordered
+
+-- what makes its databases' lists under policies with these rules, and how they lie in a store
+abbrev pub engine_of : Scheme → {P : Type 0} → Rules P → Engine P
+engine_of m rules = any_engine (kind_of m) rules m.hash m.form m.shape m.digest_size
+
+-- how they lie in a store
+abbrev pub layout_of : Scheme → Layout
+layout_of m = record { form = m.form; shape = m.shape; digest_size = m.digest_size; chunks = None }
 
 -- a batch number: used up; a batch with the chain of its parent, which made its base, and its writes; the same with the
 -- keys that were staged; a merkleized batch with its tip list. The parent of a batch that was begun on a database is that as
@@ -38,19 +55,21 @@ pub data Slot : Type 0 where
   merkleized : Chain → List Operation → Slot
 
 pub record State : Type 0 where
-  -- the open database's list
+  -- the open database's list, which is then the store's
   pub database : Option (List Operation)
-  pub store : Stored
+  pub log : Log
   -- by number; no batch has the number 0
   pub table : List Slot
   -- how many openings were accepted
   pub opened : ℕ
   -- each list that a database or a batch of this run has had
   pub had : List (List Operation)
+  -- the ends that the store will choose at crashes, in their order
+  pub choices : List ℕ
 
--- no database, over this store
-abbrev pub initial : Stored → State
-initial stored = record { database = None; store = stored; table = gone ∷ []; opened = 0; had = [] }
+-- no database, over a store that will choose these ends
+abbrev pub initial : Log → List ℕ → State
+initial log choices = record { database = None; log = log; table = gone ∷ []; opened = 0; had = []; choices = choices }
 
 abbrev pub slot_at : List Slot → ℕ → Slot
 slot_at table h = slice_index_or table h gone
@@ -71,25 +90,37 @@ abbrev pub with_database : State → Option (List Operation) → (List Operation
 with_database s None f = refuse s NoDatabase
 with_database s (Some list) f = f list
 
--- at start 0 there are no peaks, so the head has no bytes
-abbrev pub head_refusal : Bytes → Option Refused
-head_refusal [] = None
-head_refusal (b ∷ bs) = Some (DataCorrupted HeadDoesNotMatch)
+-- the database is gone
+abbrev pub closed : State → State
+closed s = record s { database = None }
 
--- why no database is opened over a store. For the time being one is offered only where there are no items, from 0 on.
-abbrev pub opening_refusal : Stored → Option Refused
-opening_refusal stored = if nat_lt 0 (stored.start + length stored.items) then Some NotOffered else head_refusal stored.head
+-- the store after a commit or a sync
+abbrev pub settled : Log → Log
+settled log = record log { stable = length log.list }
 
--- a fresh database, over a store without items
-abbrev pub open_fresh : State → Answer × State
-open_fresh s = (Opened (s.opened + 1) 0 1, record s { database = Some fresh; store = appended (map (spelling variable) fresh) s.store; opened = s.opened + 1; had = fresh ∷ s.had })
+-- the store after a crash at which it chose this end: one from the stable length to the list's
+abbrev pub restarted : ℕ → Log → Log
+restarted chosen log = let to = max log.stable (min (length log.list) chosen) in record log { list = take to log.list; stable = to }
 
-abbrev pub open_unless : State → Option Refused → Answer × State
-open_unless s None = open_fresh s
-open_unless s (Some r) = refuse s r
+-- the database takes the list that is opened, and the store is cut to it
+abbrev pub opened_as : State → Opening → Answer × State
+opened_as s (refuses r) = refuse s r
+opened_as s (opens size) =
+    let list = opened_list size s.log.list in
+    (Opened (s.opened + 1) s.log.start (length list), record s { database = Some list; log = taken_up list s.log; opened = s.opened + 1; had = list ∷ s.had })
 
-abbrev pub open_store : State → Answer × State
-open_store s = open_unless s (opening_refusal s.store)
+abbrev pub commit : State → Answer × State
+commit s = with_database s s.database (λ list. (Done, record s { log = settled s.log }))
+
+abbrev pub close : State → Answer × State
+close s = with_database s s.database (λ list. (Done, closed s))
+
+abbrev pub destroy : State → Answer × State
+destroy s = with_database s s.database (λ list. (Done, record (closed s) { log = no_log }))
+
+-- the store chooses the first of the ends to come
+abbrev pub crash : State → Answer × State
+crash s = (Done, record (closed s) { log = restarted (slice_index_or s.choices 0 0) s.log; choices = drop 1 s.choices })
 
 -- a batch gets the next number
 abbrev pub started : State → Slot → Answer × State
@@ -142,11 +173,19 @@ merkleize_tip s h chain tip None =
 merkleize_tip s h chain tip (Some r) = refuse (with_slot s h gone) r
 
 module _ (m : Scheme) where
-  -- the database takes the tip list, and the store what it lacks of it
+  -- what an opening finds in a store, by its list
+  abbrev pub found_in : Log → Found
+  found_in log = record { start = log.start; items = map (λ op. Some op) (drop log.start log.list); head = concat (pins_at m.hash m.shape m.form (take log.start log.list) log.start); metadata = None; count = log.chunks }
+
+  -- up to a bound, where there is one; an open database is closed first
+  abbrev pub open_store : State → Option ℕ → Answer × State
+  open_store s bound = opened_as (closed s) (opening (layout_of m) (found_in s.log) bound)
+
+  -- the database and its store take the tip list
   abbrev pub apply_in : State → ℕ → List Operation → Slot → Answer × State
   apply_in s h list (merkleized chain tip) =
       if fits m.root (commitment m.root list) chain
-      then (Applied (length tip), record s { database = Some tip; store = appended (map (spelling variable) (drop (length list) tip)) s.store })
+      then (Applied (length tip), record s { database = Some tip; log = record s.log { list = tip } })
       else refuse s StaleBatch
   apply_in s h list gone = refuse s (NoSuchHandle h)
   apply_in s h list (staged chain parent ws keys) = refuse s (NoSuchHandle h)
@@ -199,7 +238,7 @@ module _ (m : Scheme) where
 
   -- what only an ordered database offers, open or not
   abbrev pub if_ordered : State → Answer × State → Answer × State
-  if_ordered s offered = if m.is_ordered then offered else refuse s NotOffered
+  if_ordered s offered = if m.form.ordered then offered else refuse s NotOffered
 
   -- the live key beside one on the list that a merkleized batch makes
   abbrev pub beside_in : State → ℕ → (List Bytes → Option Bytes) → List Operation → Slot → Answer × State
@@ -236,7 +275,7 @@ module _ (m : Scheme) where
   keys s low high = if_ordered s (with_database s s.database (λ list. (Keyed (keys_in low high list), s)))
 
   abbrev pub info : State → Answer × State
-  info s = with_database s s.database (λ list. (Told s.store.start (length list) (floor list) (m.boundary list) (nat_lt 0 (length (live list))), s))
+  info s = with_database s s.database (λ list. (Told s.log.start (length list) (floor list) (m.boundary list) (nat_lt 0 (length (live list))), s))
 
   -- the numbers of a merkleized batch
   abbrev pub info_in : State → ℕ → Slot → Answer × State
@@ -274,19 +313,24 @@ module _ (m : Scheme) where
   -- up to `max` operations from `start` on, and their proof among the list's first `size` operations
   abbrev pub prove : State → ℕ → ℕ → ℕ → Answer × State
   prove s size start max = with_database s s.database (λ list. let n = proof_count size start max in
-      unless s (proof_refusal s.store.start list size start) (Proved (m.proof (take size list) start (start + n)) (take n (drop start list))))
+      unless s (proof_refusal s.log.start list size start) (Proved (m.proof (take size list) start (start + n)) (take n (drop start list))))
 
   abbrev pub pins : State → ℕ → Answer × State
   pins s n = with_database s s.database (λ list. unless s (pins_refusal list n) (Pinned (m.pins list n)))
+
+-- what a command leaves of the choices to come: a crash takes the first, and no other command takes one
+abbrev pub choices_after : {P : Type 0} → Line P → List ℕ → List ℕ
+choices_after (Crash keep) choices = drop 1 choices
+choices_after line choices = choices
 
 -- under policies with these rules
 module _ (m : Scheme) {P : Type 0} (rules : Rules P) where
   -- writes make a batch's tip list; the batch is also used up where the database has moved on
   abbrev pub merkleize_writes : State → ℕ → P → Option Bytes → List Operation → Chain → List Write → Answer × State
   merkleize_writes s h policy meta list chain ws =
-      let tip = steps.step m.kind rules chain.base ws policy meta in
+      let tip = steps.step (kind_of m) rules chain.base ws policy meta in
       if fits m.root (commitment m.root list) chain
-      then merkleize_tip s h chain tip (tip_refusal variable chain tip)
+      then merkleize_tip s h chain tip (tip_refusal m.form chain tip)
       else refuse (with_slot s h gone) StaleBatch
 
   abbrev pub merkleize_in : State → ℕ → P → Option Bytes → List Operation → Slot → Answer × State
@@ -313,7 +357,7 @@ module _ (m : Scheme) {P : Type 0} (rules : Rules P) where
 
   -- one command: the answer, and the state after it
   abbrev pub turn : State → Line P → Answer × State
-  turn s Open = open_store s
+  turn s (Open bound) = open_store m s bound
   turn s Batch = start_batch s
   turn s (Child h keep) = child s h keep
   turn s Tip = start_tip s
@@ -341,6 +385,11 @@ module _ (m : Scheme) {P : Type 0} (rules : Rules P) where
   turn s Meta = meta s
   turn s (Prove size start max) = prove m s size start max
   turn s (Pins n) = pins m s n
+  turn s Commit = commit s
+  turn s Sync = commit s
+  turn s Close = close s
+  turn s Destroy = destroy s
+  turn s (Crash keep) = crash s
 
   -- the answers to commands in order, and the state after them
   abbrev pub answers : State → List (Line P) → List Answer

@@ -1,23 +1,24 @@
 -- What each status says, from what the lines' answering gave.
-use Rattle.std.proofs.Common.{◌≡◌, ◌⊎◌, ◌+◌, ◌<◌, ℕ, [], ◌++◌, length, take, Option, Some, None, arith, refl, sym, ◌∙◌, ap, subst, inl, inr, append-nil, Bool, IfSome}
+use Rattle.std.proofs.Common.{◌≡◌, ◌⊎◌, ◌+◌, ◌<◌, ℕ, List, [], ◌++◌, length, take, Option, Some, None, arith, refl, sym, ◌∙◌, ap, subst, inl, inr, append-nil, Bool, IfSome}
 use Rattle.std.specs.Prelude.{option_map}
 use Rattle.std.proofs.lemmas.List.{take_all}
 use Rattle.qm_model.specs.Causes.{Grows, GrowsPart}
 use Rattle.qm_model.specs.Operations.{Bytes}
+use Rattle.qm_model.specs.Own.{Log, IsOwn}
 use Rattle.qm_model.specs.StoreModel.{Stored}
 use Rattle.qm_model.specs.Policies.{policies}
 use Rattle.qm_machine.specs.Grammar.{commands_in, bad_in}
-use Rattle.qm_machine.specs.Machine.{Scheme}
+use Rattle.qm_machine.specs.Machine.{Scheme, engine_of}
 use Rattle.qm_engine.specs.Answered.{IsAnswered}
-use Rattle.qm_engines.specs.Schemes.{scheme}
-use Rattle.qm_run.specs.Program.{count, state, model_text, IsApart, bad_text, fault_text, IsPartial, Says}
+use Rattle.qm_run.specs.Program.{count, state, model_text, IsApart, IsOwnAt, bad_text, fault_text, IsPartial, SaysOver, Says, machine_of}
 use Rattle.qm_run.specs.Endings.{tail_text, tail_status}
 use Rattle.qm_engine.specs.declared.answers.Ending.{Ending}
 use Rattle.qm_engine.specs.declared.answers.Ending.TheVariants.{Done, BadLine, Memory, StoreFault}
+use Rattle.qm_engine.proofs.Loops.{log-of}
 use Rattle.qm_engine.proofs.Commands.{left_none}
 
-module _ (m : Scheme) (stored : Stored) (input : Bytes) (rose : Type 0) where
-  pub says_nothing : (s : ℕ) (left : Option Stored) → (s ≡ 1) ⊎ ((s ≡ 3) ⊎ (s ≡ 7)) → Says m stored input s rose [] left
+module _ (m : Scheme) (log : Log) (choices : List ℕ) (input : Bytes) (rose : Type 0) where
+  pub says_nothing : (s : ℕ) (left : Option Stored) → (s ≡ 1) ⊎ ((s ≡ 3) ⊎ (s ≡ 7)) → SaysOver m log choices input s rose [] left
   says_nothing s left h = record {
     all = λ e. absurd (grind (arith, h, e));
     bad = λ e. absurd (grind (arith, h, e));
@@ -26,7 +27,7 @@ module _ (m : Scheme) (stored : Stored) (input : Bytes) (rose : Type 0) where
     nothing = λ _. refl;
   }
 
-  pub says_part : (s : ℕ) (written : Bytes) (left : Option Stored) (k : ℕ) → (s ≡ 4) ⊎ (s ≡ 5) → IsPartial m stored input rose written left k → Says m stored input s rose written left
+  pub says_part : (s : ℕ) (written : Bytes) (left : Option Stored) (k : ℕ) → (s ≡ 4) ⊎ (s ≡ 5) → IsPartial m log choices input rose written left k → SaysOver m log choices input s rose written left
   says_part s written left k h p = record {
     all = λ e. absurd (grind (arith, h, e));
     bad = λ e. absurd (grind (arith, h, e));
@@ -36,41 +37,41 @@ module _ (m : Scheme) (stored : Stored) (input : Bytes) (rose : Type 0) where
   }
 
   -- no command was tried
-  pub says_unstarted : Says m stored input 5 rose [] (Some stored)
-  says_unstarted = says_part 5 [] (Some stored) 0 (inr refl) (record {
+  pub says_unstarted : (stored : Stored) → IsOwn (engine_of m policies) log stored → SaysOver m log choices input 5 rose [] (Some stored)
+  says_unstarted stored own = says_part 5 [] (Some stored) 0 (inr refl) (record {
     few = omega arith;
     part = λ _. inl (0, refl);
-    store_left = λ _. left_none stored (state m stored input 1).store (Some stored) refl;
+    store_left = λ _. left_none m log (state m log choices input 1).log (Some stored) (log-of m policies (Some stored) stored log refl own);
   })
 
   -- what an ending says of the first k commands: those before a bad line or the end are all, those before a fault are not
   abbrev pub IsWhole : ℕ → Ending → Type 0
-  IsWhole k Done = (k ≡ count m stored input) × (bad_in input ≡ None)
-  IsWhole k BadLine = (k ≡ count m stored input) × (bad_in input ≡ Some (k + 1))
+  IsWhole k Done = (k ≡ count m log choices input) × (bad_in input ≡ None)
+  IsWhole k BadLine = (k ≡ count m log choices input) × (bad_in input ≡ Some (k + 1))
   IsWhole k Memory = Unit {0}
-  IsWhole k StoreFault = rose × (k < count m stored input)
+  IsWhole k StoreFault = rose × (k < count m log choices input)
 
-  pub is_whole : (k : ℕ) (ending : Ending) → (ending ≡ Done → (k ≡ count m stored input) × (bad_in input ≡ None)) → (ending ≡ BadLine → (k ≡ count m stored input) × (bad_in input ≡ Some (k + 1)))
-      → (ending ≡ StoreFault → rose) → (ending ≡ StoreFault → k < count m stored input) → IsWhole k ending
+  pub is_whole : (k : ℕ) (ending : Ending) → (ending ≡ Done → (k ≡ count m log choices input) × (bad_in input ≡ None)) → (ending ≡ BadLine → (k ≡ count m log choices input) × (bad_in input ≡ Some (k + 1)))
+      → (ending ≡ StoreFault → rose) → (ending ≡ StoreFault → k < count m log choices input) → IsWhole k ending
   is_whole k Done done bad fault short = done refl
   is_whole k BadLine done bad fault short = bad refl
   is_whole k Memory done bad fault short = tt
   is_whole k StoreFault done bad fault short = (fault refl, short refl)
 
-  module _ (text : Bytes) (k : ℕ) (left : Option Stored) (answered : IsAnswered m policies stored (commands_in input) k text left) where
-    pub partial : (ending : Ending) → IsWhole k ending → (n : ℕ) → IsPartial m stored input rose (take n (text ++ tail_text ending k)) left k
+  module _ (text : Bytes) (k : ℕ) (left : Option Stored) (answered : IsAnswered m policies log choices (commands_in input) k text left) where
+    pub partial : (ending : Ending) → IsWhole k ending → (n : ℕ) → IsPartial m log choices input rose (take n (text ++ tail_text ending k)) left k
     partial Done is n = record { few = answered.few; part = λ apart. inl (n, rw append-nil (ap (take n) (answered.same apart))); store_left = answered.left }
     partial BadLine is n = record { few = answered.few; part = λ apart. inr (inr (k + 1, is.1, is.0, (n, ap (λ t. take n (t ++ bad_text (k + 1))) (answered.same apart)))); store_left = answered.left }
     partial Memory is n = record { few = answered.few; part = λ apart. inl (n, rw append-nil (ap (take n) (answered.same apart))); store_left = answered.left }
     partial StoreFault is n = record { few = answered.few; part = λ apart. inr (inl (is.0, is.1, (n, ap (λ t. take n (t ++ fault_text)) (answered.same apart)))); store_left = answered.left }
 
     -- all commands answered: the text, and the store
-    finished : k ≡ count m stored input → IsApart m stored input (count m stored input) → (text ≡ model_text m stored input (count m stored input)) × (left ≡ Some (state m stored input (count m stored input)).store)
+    finished : k ≡ count m log choices input → IsApart m log choices input (count m log choices input) → (text ≡ model_text m log choices input (count m log choices input)) × IsOwnAt m log choices input left (count m log choices input)
     finished e apart =
-        let apart_here : IsApart m stored input k = subst (IsApart m stored input) (sym e) apart in
-        (answered.same apart_here ∙ ap (model_text m stored input) e, subst (λ n. left ≡ Some (state m stored input n).store) e (answered.whole e apart_here))
+        let apart_here : IsApart m log choices input k = subst (IsApart m log choices input) (sym e) apart in
+        (answered.same apart_here ∙ ap (model_text m log choices input) e, subst (IsOwnAt m log choices input left) e (answered.whole e apart_here))
 
-    pub whole : (ending : Ending) → IsWhole k ending → Says m stored input (tail_status ending) rose (text ++ tail_text ending k) left
+    pub whole : (ending : Ending) → IsWhole k ending → SaysOver m log choices input (tail_status ending) rose (text ++ tail_text ending k) left
     whole Done is = record {
       all = λ _. (is.1, λ apart. let f = finished is.0 apart in (append-nil text ∙ f.0, f.1));
       bad = λ e. absurd (omega arith);
@@ -86,7 +87,7 @@ module _ (m : Scheme) (stored : Stored) (input : Bytes) (rose : Type 0) where
       nothing = λ e. absurd (grind (arith, e));
     }
     whole Memory is = says_part 5 (text ++ []) left k (inr refl)
-        (subst (λ w. IsPartial m stored input rose w left k) (take_all (length (text ++ [])) (text ++ []) (omega arith)) (partial Memory is (length (text ++ []))))
+        (subst (λ w. IsPartial m log choices input rose w left k) (take_all (length (text ++ [])) (text ++ []) (omega arith)) (partial Memory is (length (text ++ []))))
     whole StoreFault is = record {
       all = λ e. absurd (omega arith);
       bad = λ e. absurd (omega arith);
@@ -116,9 +117,9 @@ pub each_input : (o : Option Bytes) {Q : Bytes → Type 0} → ((x : Bytes) → 
 each_input None h = tt
 each_input (Some x) h = h x
 
-pub each_more : {A : Type 0} (o : Option A) {P Q : A → Type 0} → IfSome o P → ((x : A) → P x → Q x) → IfSome o Q
+pub each_more : {A : Type 0} (o : Option A) {P Q : A → Type 0} → IfSome o P → ((x : A) → o ≡ Some x → P x → Q x) → IfSome o Q
 each_more None p h = tt
-each_more (Some x) p h = h x p
+each_more (Some x) p h = h x refl p
 
 -- each of two
 pub both : {A B : Type 0} (o : Option A) (i : Option B) {P : A → Type 0} {R : B → Type 0} {Q : A → B → Type 0} → IfSome o P → IfSome i R → ((x : A) (y : B) → P x → R y → Q x y)
@@ -128,9 +129,9 @@ both (Some x) None p r h = tt
 both (Some x) (Some y) p r h = h x y p r
 
 -- where no kind is named
-pub at_none : (kind : Option Bool) (Q : Scheme → Type 0) → kind ≡ None → IfSome (option_map scheme kind) Q
-at_none kind Q is = subst (λ k. IfSome (option_map scheme k) Q) (sym is) tt
+pub at_none : (kind : Option Bool) (Q : Scheme → Type 0) → kind ≡ None → IfSome (option_map machine_of kind) Q
+at_none kind Q is = subst (λ k. IfSome (option_map machine_of k) Q) (sym is) tt
 
 -- at the machine of a kind
-pub at_kind : (kind : Option Bool) (is_ordered : Bool) (Q : Scheme → Type 0) → kind ≡ Some is_ordered → Q (scheme is_ordered) → IfSome (option_map scheme kind) Q
-at_kind kind is_ordered Q is given = subst (λ k. IfSome (option_map scheme k) Q) (sym is) given
+pub at_kind : (kind : Option Bool) (is_ordered : Bool) (Q : Scheme → Type 0) → kind ≡ Some is_ordered → Q (machine_of is_ordered) → IfSome (option_map machine_of kind) Q
+at_kind kind is_ordered Q is given = subst (λ k. IfSome (option_map machine_of k) Q) (sym is) given

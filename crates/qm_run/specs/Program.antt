@@ -1,15 +1,16 @@
 -- What the program may answer, write and leave.
 use Rattle.std.specs.Prelude.{◌≡◌, ◌≤◌, ◌<◌, ◌⊎◌, ℕ, suc, Bool, true, false, ◌&&◌, if◌then◌else◌, List, [], ◌∷◌, ◌++◌, length, take, codes, Option, None, Some, option_map, is_some, bytes_eq, decimal}
 use Rattle.qm_model.specs.Operations.{Bytes}
-use Rattle.qm_model.specs.StoreModel.{Stored}
+use Rattle.qm_model.specs.Own.{Log, IsOwn}
+use Rattle.qm_model.specs.StoreModel.{Stored, Turns}
 use Rattle.qm_model.specs.Policies.{policies}
 use Rattle.qm_model.specs.Batches.{Apart}
-use Rattle.qm_machine.specs.Machine.{Scheme, State, initial, answers}
+use Rattle.qm_machine.specs.Machine.{Scheme, State, engine_of, initial, answers}
 use Rattle.qm_machine.specs.Grammar.{commands_in, bad_in}
 use Rattle.qm_machine.specs.Text.{text_of}
-use Rattle.qm_engine.specs.Session.{IsLeft}
-use Rattle.qm_engine.specs.Runs.{after}
-use Rattle.qm_engines.specs.Schemes.{scheme}
+use Rattle.qm_engine.specs.Stores.{IsBeside, IsLeft}
+use Rattle.qm_engine.specs.Runs.{after, IsOwnStore}
+use Rattle.qm_engines.specs.Schemes.{form_of, scheme}
 
 -- whether the word names ordered databases
 abbrev pub kind_word : Bytes → Option Bool
@@ -27,9 +28,13 @@ kind_of_words (a ∷ b ∷ c ∷ d ∷ e ∷ ws) = None
 abbrev pub are_words : List Bytes → Bool
 are_words ws = is_some (kind_of_words ws)
 
+-- the machine of ordered databases or of unordered ones
+abbrev pub machine_of : Bool → Scheme
+machine_of is_ordered = scheme (form_of is_ordered)
+
 -- the machine of the words
 abbrev pub scheme_of : List Bytes → Option Scheme
-scheme_of ws = option_map scheme (kind_of_words ws)
+scheme_of ws = option_map machine_of (kind_of_words ws)
 
 abbrev pub bad_text : ℕ → Bytes
 bad_text n = codes "bad line " ++ (decimal n ++ 10 ∷ [])
@@ -41,27 +46,31 @@ fault_text = codes "store fault" ++ 10 ∷ []
 abbrev pub IsPartOf : Bytes → Bytes → Type 0
 IsPartOf part whole = (n : ℕ) × (part ≡ take n whole)
 
--- of this machine over this store, for an input
-module _ (m : Scheme) (stored : Stored) (input : Bytes) where
+-- of this machine over a store of this log, which chooses these ends, for an input
+module _ (m : Scheme) (log : Log) (choices : List ℕ) (input : Bytes) where
   -- how many commands there are before the first bad line
   abbrev pub count : ℕ
   count = length (commands_in input)
 
   -- the machine's state after the first k commands
   abbrev pub state : ℕ → State
-  state k = after m policies stored (commands_in input) k
+  state k = after m policies log choices (commands_in input) k
 
   -- the text of the machine's answers to the first k commands
   abbrev pub model_text : ℕ → Bytes
-  model_text k = text_of (answers m policies (initial stored) (take k (commands_in input)))
+  model_text k = text_of (answers m policies (initial log choices) (take k (commands_in input)))
 
   -- the lists of the machine's run over the first k commands are apart
   abbrev pub IsApart : ℕ → Type 0
   IsApart k = Apart m.root (state k).had
 
-  -- the machine's store after the first k commands, with a first part of what the next one appends
+  -- the store has the machine's log after the first k commands, and is one that databases leave
+  abbrev pub IsOwnAt : Option Stored → ℕ → Type 0
+  IsOwnAt left k = IsOwnStore m policies left (state k).log
+
+  -- it has what may be left of the machine's log after the first k commands by the next one
   abbrev pub IsLeftAt : Option Stored → ℕ → Type 0
-  IsLeftAt left k = IsLeft left (state k).store (state (suc k)).store
+  IsLeftAt left k = IsLeft m left (state k).log (state (suc k)).log
 
   -- k commands answered: a first part of their replies; of these and the fault, where the store's count rose and not all are answered; of
   -- these and the bad line, where there is one behind them
@@ -73,14 +82,21 @@ module _ (m : Scheme) (stored : Stored) (input : Bytes) where
     pub store_left : IsApart k → IsLeftAt left k
 
   -- What a status says of the bytes written and of what the store tells; `rose` says that the store's count rose.
-  pub record Says (status : ℕ) (rose : Type 0) (written : Bytes) (left : Option Stored) : Type 0 where
+  pub record SaysOver (status : ℕ) (rose : Type 0) (written : Bytes) (left : Option Stored) : Type 0 where
     -- every line answered
-    pub all : status ≡ 0 → (bad_in input ≡ None) × (IsApart count → (written ≡ model_text count) × (left ≡ Some (state count).store))
+    pub all : status ≡ 0 → (bad_in input ≡ None) × (IsApart count → (written ≡ model_text count) × IsOwnAt left count)
     -- a bad line
-    pub bad : status ≡ 2 → (n : ℕ) × (bad_in input ≡ Some n) × (IsApart count → (written ≡ model_text count ++ bad_text n) × (left ≡ Some (state count).store))
+    pub bad : status ≡ 2 → (n : ℕ) × (bad_in input ≡ Some n) × (IsApart count → (written ≡ model_text count ++ bad_text n) × IsOwnAt left count)
     -- the store failed, and a command has no reply
     pub fault : status ≡ 6 → (k : ℕ) × (k < count) × (IsApart k → (written ≡ model_text k ++ fault_text) × IsLeftAt left k)
     -- the sink failed, or memory did
     pub part : (status ≡ 4) ⊎ (status ≡ 5) → (k : ℕ) × IsPartial rose written left k
     -- nothing was done
     pub nothing : (status ≡ 1) ⊎ ((status ≡ 3) ⊎ (status ≡ 7)) → written ≡ []
+
+-- It says so of a store that such databases left, or of the empty one, by the log that it has, where nothing was pruned. The ends
+-- that its restarts chose are those that it tells behind those that it told before.
+abbrev pub Says : Scheme → Stored → Bytes → ℕ → Type 0 → Bytes → Option Stored → Type 0
+Says m stored input status rose written left =
+    (log : Log) → IsOwn (engine_of m policies) log stored → log.start ≡ 0
+    → (choices : List ℕ) → Turns (Some stored) left (IsBeside choices) → SaysOver m log choices input status rose written left

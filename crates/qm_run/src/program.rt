@@ -1,14 +1,15 @@
 //! The program's top call.
 
-ghost use Rattle.std.specs.Prelude.{◌≡◌, ◌≢◌, ◌↔◌, ◌≤◌, ◌<◌, ◌+◌, ◌++◌, ◌^◌, ◌⊎◌, ℕ, false, true, Some, None, IfOk, IfSome, IsSome, ◌&&◌, if◌then◌else◌, codes, length, map, bytes_eq};
+ghost use Rattle.std.specs.Prelude.{List, ◌≡◌, ◌≢◌, ◌↔◌, ◌≤◌, ◌<◌, ◌+◌, ◌++◌, ◌^◌, ◌⊎◌, ℕ, false, true, Some, None, IfOk, IfSome, IsSome, ◌&&◌, if◌then◌else◌, codes, length, map, bytes_eq};
 ghost use Rattle.std.specs.Io.KnownBytes.{IsAtEnd};
 ghost use Rattle.std.specs.String.{string_bytes};
 ghost use Rattle.qm_model.specs.Causes.{Rose};
 ghost use Rattle.qm_model.specs.Operations.{Bytes};
 ghost use Rattle.qm_machine.specs.Grammar.{bad_in};
-ghost use Rattle.qm_model.specs.StoreModel.{beside_items};
+ghost use Rattle.qm_model.specs.StoreModel.{Turns};
+ghost use Rattle.qm_engine.specs.Stores.{IsBeside};
 ghost use Rattle.qm_engines.specs.Schemes.{scheme};
-ghost use Rattle.qm_run.specs.Program.{are_words, kind_word, kind_of_words, scheme_of, Says, bad_text};
+ghost use Rattle.qm_run.specs.Program.{are_words, kind_word, kind_of_words, machine_of, scheme_of, Says, bad_text};
 ghost use Rattle.qm_run.specs.Endings.{tail_text, tail_status};
 
 use qm_base::{ByteKey, ByteValue, Gate, Location};
@@ -119,9 +120,8 @@ fn serve<
 >(alloc: Global, input: &[u8], store: C, sink: &mut K, gate: &G) -> (u8, C)
     ensures headline { IfSome (C.told store) (λ stored. IfSome (K.text sink.old) (λ before.
         (written : Bytes) × (K.text sink.new ≡ Some (before ++ written))
-        × Says (scheme U.form.ordered) stored input.now result.0 (Rose (C.faults store) (C.faults result.1)) written (C.told result.1))) }
-    ensures start { C.start result.1 ≡ C.start store }
-    ensures beside { beside_items (C.told result.1) ≡ beside_items (C.told store) }
+        × Says (scheme U.form) stored input.now result.0 (Rose (C.faults store) (C.faults result.1)) written (C.told result.1))) }
+    ensures beside { (choices : List ℕ) × Turns (C.told store) (C.told result.1) (IsBeside choices) }
     ensures write { result.0 ≡ 4 → Rose (K.faults sink.old) (K.faults sink.new) }
     ensures store { result.0 ≡ 6 → Rose (C.faults store) (C.faults result.1) }
     ensures codes { (result.0 ≡ 0) ⊎ ((result.0 ≡ 2) ⊎ ((result.0 ≡ 4) ⊎ ((result.0 ≡ 5) ⊎ (result.0 ≡ 6)))) }
@@ -157,9 +157,8 @@ fn run<C: Store, K: Sink, G: Gate>(
 ) -> (u8, C)
     ensures headline { IfSome (C.told store) (λ stored. IfSome (K.text sink.old) (λ before.
         (written : Bytes) × (K.text sink.new ≡ Some (before ++ written))
-        × Says (scheme is_ordered) stored input.now result.0 (Rose (C.faults store) (C.faults result.1)) written (C.told result.1))) }
-    ensures start { C.start result.1 ≡ C.start store }
-    ensures beside { beside_items (C.told result.1) ≡ beside_items (C.told store) }
+        × Says (machine_of is_ordered) stored input.now result.0 (Rose (C.faults store) (C.faults result.1)) written (C.told result.1))) }
+    ensures beside { (choices : List ℕ) × Turns (C.told store) (C.told result.1) (IsBeside choices) }
     ensures write { result.0 ≡ 4 → Rose (K.faults sink.old) (K.faults sink.new) }
     ensures store { result.0 ≡ 6 → Rose (C.faults store) (C.faults result.1) }
     ensures codes { (result.0 ≡ 0) ⊎ ((result.0 ≡ 2) ⊎ ((result.0 ≡ 4) ⊎ ((result.0 ≡ 5) ⊎ (result.0 ≡ 6)))) }
@@ -189,7 +188,8 @@ pub fn qmdb_main<C: Store, S: Source, K: Sink, G: Gate>(
     sink: &mut K,
     gate: &G,
 ) -> (u8, C)
-    // From a store that tells what it holds, the source and the sink telling their bytes.
+    // From a store that the program left, or the empty one, that tells what it holds, the source and the sink telling their
+    // bytes.
     ensures headline { IfSome (scheme_of (map string_bytes words.now)) (λ m. IfSome (C.told store) (λ stored. IfSome (S.left source.old) (λ input. IfSome (K.text sink.old) (λ before.
         (written : Bytes) × (K.text sink.new ≡ Some (before ++ written))
         × Says m stored input result.0 (Rose (C.faults store) (C.faults result.1)) written (C.told result.1))))) }
@@ -197,8 +197,7 @@ pub fn qmdb_main<C: Store, S: Source, K: Sink, G: Gate>(
     // What stays as it was.
     ensures untouched { (result.0 ≡ 1) ⊎ ((result.0 ≡ 3) ⊎ (result.0 ≡ 7)) → (result.1 ≡ store) × (sink.new ≡ sink.old) }
     ensures unread { result.0 ≡ 1 → source.new ≡ source.old }
-    ensures start { C.start result.1 ≡ C.start store }
-    ensures beside { beside_items (C.told result.1) ≡ beside_items (C.told store) }
+    ensures beside { (choices : List ℕ) × Turns (C.told store) (C.told result.1) (IsBeside choices) }
 
     // When each status comes.
     ensures usage { (result.0 ≡ 1) ↔ (are_words (map string_bytes words.now) ≡ false) }

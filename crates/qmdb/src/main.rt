@@ -1,11 +1,12 @@
-//! `qmdb run any (unordered|ordered) mmr`: the lines of standard input over a store in memory, the replies on standard output.
+//! `qmdb run any (unordered|ordered) mmr`: the lines of standard input over the files of a folder, the replies on standard
+//! output.
 #![tactic(auto)]
 
 ghost use Rattle.std.specs.Prelude.{◌≡◌, ◌⊎◌, IfErr};
 
 use qm_base::OpenGate;
+use qm_files::FileStore;
 use qm_lines::{StdSink, StdSource};
-use qm_memory::MemStore;
 use qm_run::qmdb_main;
 use std::io::ErrorKind;
 use std::process::ExitCode;
@@ -13,9 +14,12 @@ use std::rt::Env;
 use std::{env, io};
 
 const HELP: &str = "usage: qmdb run any (unordered|ordered) mmr
-Reads the commands of standard input, one a line, runs them over an empty store in memory and writes a reply for each.";
+Reads the commands of standard input, one a line, runs them over the store in the folder qmdb-data and writes a reply for each.";
 
 const VERSION: &str = "qmdb 0.1.0";
+
+/// Where the store's files are, in the folder that the program is run in.
+const FOLDER: &str = "qmdb-data";
 
 const OTHER_WORDS: u8 = 1;
 
@@ -76,7 +80,9 @@ fn main(rt: HostRuntime) -> ExitCode {
     }
     let mut source = StdSource::new(rt.reader());
     let mut sink = StdSink::new(io::writer(&rt));
-    let store = MemStore::new(alloc, Vec::new(alloc));
+    let Ok(store) = FileStore::open(rt, alloc, FOLDER) else {
+        return ended(&rt, NO_MEMORY);
+    };
     let (status, _) = qmdb_main(alloc, &words, store, &mut source, &mut sink, &OpenGate);
     ended(&rt, status)
 }

@@ -8,7 +8,7 @@ ghost use Rattle.qm_machine.specs.Machine as machine;
 ghost use Rattle.qm_store.specs.Given.{store_given, IsUnchanged, TellsAll};
 ghost use Rattle.qm_engine.specs.Words.{AtBatch, ReadsOnly, tip_of};
 ghost use Rattle.qm_engine.specs.Making.{IsMaking, made_into};
-ghost use Rattle.qm_engine.specs.Session.{SlotIs, Stands, Follows, Obeys, Leaves, Uses};
+ghost use Rattle.qm_engine.specs.Session.{SlotIs, Stands, Follows, Obeys, ObeysSteady, LeavesSteady, Uses};
 
 use crate::engine::Engine;
 use crate::session::{Of, Session, Turn, turn_of};
@@ -241,9 +241,9 @@ pub fn apply<X: Engine<C>, C: Store>(
     session: Of<X, C>,
     number: u64,
 ) -> (Of<X, C>, Turn<X::Key, X::Value, X::Digest>)
-    ensures machine { Obeys C.Store X.Words X.Key.bytes X.Value.bytes X.Digest.bytes session result.0 result.1
+    ensures machine { ObeysSteady C.Store X.Words X.Key.bytes X.Value.bytes X.Digest.bytes session result.0 result.1
         (λ s. machine.apply X.scheme s number) }
-    ensures left { Leaves C.Store X.Words session result.0
+    ensures left { LeavesSteady C.Store X.Words session result.0
         (λ s. machine.apply X.scheme s number) }
     ensures uses { Uses C.Store (store_given X.inside session.held) (store_given X.inside result.0.held) result.1 }
     ensures opened { result.0.opened ≡ session.opened }

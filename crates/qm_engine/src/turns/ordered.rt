@@ -47,7 +47,7 @@ fn reply_to<X: Engine<C>, C: Store>(
     database: &mut X,
     question: Question<'_, X::Key>,
 ) -> Result<Reply<X::Key, X::Value, X::Digest>, Error>
-    ensures reply { IfOk result (λ r. X.scheme.is_ordered ≡ true → (list : List Operation) → X.stands database.old list
+    ensures reply { IfOk result (λ r. X.scheme.form.ordered ≡ true → (list : List Operation) → X.stands database.old list
         → answer_view X.Key.bytes X.Value.bytes X.Digest.bytes r ≡ answer_to X.Key.bytes question.entry list) }
     ensures reads { ReadsOnly X.Words C.Store database.old database.new (IsErrOf result (Error.Journal JournalError.Store)) }
     ensures refused { IfErr result (λ e. TellsAll C.Store (X.inside database.old) → (list : List Operation) → X.stands database.old list → refusal_of e ≡ None) }
@@ -94,8 +94,8 @@ fn beside_from<X: Engine<C>, C: Store>(
     side: Side,
     key: &X::Key,
 ) -> Result<Option<X::Key>, Error>
-    ensures readable { IfOk result (λ _. X.scheme.is_ordered ≡ true → AtTip X.Words database.old batch.now (λ list chain tip. CanRead X.Words list chain tip)) }
-    ensures beside { IfOk result (λ k. X.scheme.is_ordered ≡ true → AtTip X.Words database.old batch.now (λ list chain tip. IsKnown list chain tip
+    ensures readable { IfOk result (λ _. X.scheme.form.ordered ≡ true → AtTip X.Words database.old batch.now (λ list chain tip. CanRead X.Words list chain tip)) }
+    ensures beside { IfOk result (λ k. X.scheme.form.ordered ≡ true → AtTip X.Words database.old batch.now (λ list chain tip. IsKnown list chain tip
         → option_map X.Key.bytes k ≡ key_beside side (X.Key.bytes key.now) (live_keys tip))) }
     ensures failure { IfErr result (λ e. AtTip X.Words database.old batch.now (λ list chain tip. IsReadFailure X.Words (TellsAll C.Store (X.inside database.old)) list chain tip e)) }
     ensures reads { ReadsOnly X.Words C.Store database.old database.new (IsErrOf result (Error.Journal JournalError.Store)) }

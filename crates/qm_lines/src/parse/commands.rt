@@ -53,6 +53,17 @@ fn root(words: &[&[u8]]) -> Option<ByteCommand>
     only_number(words).map(Command::BatchRoot)
 }
 
+// Perhaps up to a size.
+fn open(words: &[&[u8]]) -> Option<ByteCommand>
+    ensures { option_map byte_line result ≡ grammar.open_of (lent words.now) }
+{
+    match words {
+        [] => Some(Command::Open(None)),
+        [bound] => Some(Command::Open(Some(named_number(b"max=", bound)?))),
+        _ => None,
+    }
+}
+
 // Of a batch, and perhaps of how many ancestors are kept.
 fn child(words: &[&[u8]]) -> Option<ByteCommand>
     ensures { option_map byte_line result ≡ grammar.child_of (lent words.now) }
@@ -186,6 +197,25 @@ fn many(alloc: Global, words: &[&[u8]]) -> Result<Option<ByteCommand>, AllocErro
     Ok(parse_reading(alloc, words)?.and_then(some_read))
 }
 
+// What makes a store last, or ends a database.
+fn lasting(name: &[u8], words: &[&[u8]]) -> Option<ByteCommand>
+    ensures { option_map byte_line result ≡ grammar.form_of name.now (lent words.now) grammar.lasting_forms }
+{
+    if is(name, b"commit") {
+        alone(words, Command::Commit)
+    } else if is(name, b"sync") {
+        alone(words, Command::Sync)
+    } else if is(name, b"close") {
+        alone(words, Command::Close)
+    } else if is(name, b"destroy") {
+        alone(words, Command::Destroy)
+    } else if is(name, b"crash") {
+        only_number(words).map(Command::Crash)
+    } else {
+        None
+    }
+}
+
 /// The command that words are, by the first.
 pub fn of_words(alloc: Global, words: &[&[u8]]) -> Result<Option<ByteCommand>, AllocError>
     ensures { IfOk result (λ command. option_map byte_line command ≡ grammar.of_words (lent words.now)) }
@@ -194,7 +224,7 @@ pub fn of_words(alloc: Global, words: &[&[u8]]) -> Result<Option<ByteCommand>, A
         return Ok(None);
     };
     if is(name, b"open") {
-        Ok(alone(words, Command::Open))
+        Ok(open(words))
     } else if is(name, b"batch") {
         Ok(alone(words, Command::Batch))
     } else if is(name, b"child") {
@@ -246,6 +276,6 @@ pub fn of_words(alloc: Global, words: &[&[u8]]) -> Result<Option<ByteCommand>, A
     } else if is(name, b"pins") {
         Ok(only_number(words).map(Command::Pins))
     } else {
-        Ok(None)
+        Ok(lasting(name, words))
     }
 }

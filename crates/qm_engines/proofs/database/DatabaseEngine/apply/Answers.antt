@@ -1,6 +1,6 @@
 use Rattle.std.proofs.Common.{◌≤◌, ◌∙◌, ap, sym, subst, length, drop, map, [], if◌then◌else◌}
 use Rattle.qm_model.specs.Mmr.{mmr}
-use Rattle.qm_model.specs.Forms.{spelling, variable}
+use Rattle.qm_model.specs.Forms.{spelling}
 use Rattle.qm_any.specs.Databases.{IsMade}
 use Rattle.qm_store.specs.Given.{Appended, AppendedPart, store_given}
 use Rattle.qm_engines.specs.Databases.{hashing}
@@ -10,7 +10,7 @@ use Rattle.qm_engines.specs.Held.{held}
 use Rattle.qm_model.specs.Batches.{commitment, fits}
 use Rattle.qm_model.specs.Roots.{sha256_root}
 use Rattle.qm_model.specs.StoreModel.{beside_items}
-use Rattle.qm_engines.proofs.Engines.{spellings-same, at-made, off-chain, appends-same, held-database, unapplied-untold}
+use Rattle.qm_engines.proofs.Engines.{at-made, off-chain, appends-same, held-database, unapplied-untold}
 use Rattle.qm_engines.proofs.database.DatabaseEngine.apply.Goals as goal
 
 pub returns-in-Ok-clause-fits : goal.returns-in-Ok-clause-fits
@@ -22,8 +22,7 @@ returns-in-Ok-clause-applied g c = λ list chain tip is batch on. c.in-Ok.ensure
 
 pub returns-in-Ok-clause-grown : goal.returns-in-Ok-clause-grown
 returns-in-Ok-clause-grown g c = λ list chain tip is batch on.
-    subst (λ spell. Appended g.C.Store c.args.self.db.log.store c.in-Ok.db.log.store (map spell (drop (length list) tip))) (spellings-same g.U.Update.form g.met.U.Kind.lengths)
-    (subst (λ n. Appended g.C.Store c.args.self.db.log.store c.in-Ok.db.log.store (map (spelling g.U.Update.form) (drop n tip))) (ap (λ k. k.size) is.commitment) (c.in-Ok.ensures.grown chain tip (subst (λ b. IsMade (hashing g.U.Update.form) b chain tip) (sym c.deref.ensures) batch)))
+    subst (λ n. Appended g.C.Store c.args.self.db.log.store c.in-Ok.db.log.store (map (spelling g.U.Update.form) (drop n tip))) (ap (λ k. k.size) is.commitment) (c.in-Ok.ensures.grown chain tip (subst (λ b. IsMade (hashing g.U.Update.form) b chain tip) (sym c.deref.ensures) batch))
 
 pub returns-in-Err-clause-stale : goal.returns-in-Err-clause-stale
 returns-in-Err-clause-stale g c = λ stale.
@@ -39,7 +38,7 @@ returns-in-Err-clause-refused g c = λ fresh.
 pub returns-in-Err-clause-kept : goal.returns-in-Err-clause-kept
 returns-in-Err-clause-kept g c = λ list chain tip is batch.
     let made = (subst (λ b. IsMade (hashing g.U.Update.form) b chain tip) (sym c.deref.ensures) batch) in
-    let more = if fits (sha256_root mmr) (commitment (sha256_root mmr) list) chain then map (spelling variable) (drop (length list) tip) else [] in
+    let more = if fits (sha256_root mmr) (commitment (sha256_root mmr) list) chain then map (spelling g.U.Update.form) (drop (length list) tip) else [] in
     subst (λ s. AppendedPart g.C.Store c.args.self.db.log.store s more) (sym c.refusal.ensures.store)
     (subst (AppendedPart g.C.Store c.args.self.db.log.store (store_given (λ db. db.log.store) c.in-Err.refused.given))
     (appends-same g.U.Update.form g.met.U.Kind.lengths list chain tip c.args.self.db.commitment c.deref.result.now is.commitment made) (c.in-Err.ensures.part chain tip made))

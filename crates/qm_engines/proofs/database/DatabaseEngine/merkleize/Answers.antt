@@ -25,7 +25,7 @@ returns-clause-made g c =
     let meta = option_map (λ v. v) c.args.metadata.now in
     let made = option_map (λ v. v) c.in_ok-metadata.metadata in
     let same : made ≡ meta = ap (option_map (λ v. v)) c.in_ok-metadata.ensures in
-    ok-then c.merkleize.result (made-ok g.U.Update.form g.met.U.Kind.lengths rules c.merkleize.result (λ b. b.value) (IsBegun (hashing g.U.Update.form) c.args.batch) c.args.batch.writes policy meta (IsDatabase g.C.Store (layout g.U.Update.form g.I.Unordered.index_key) c.args.self.now.db)
+    ok-then c.merkleize.result (made-ok g.U.Update.form rules c.merkleize.result (λ b. b.value) (IsBegun (hashing g.U.Update.form) c.args.batch) c.args.batch.writes policy meta (IsDatabase g.C.Store (layout g.U.Update.form g.I.Unordered.index_key) c.args.self.now.db)
     (λ list chain above is begun on.
     subst (λ m. IfOk c.merkleize.result (λ b. IsMade (hashing g.U.Update.form) b.value chain (stepped g.U.Update.form rules chain.base c.args.batch.writes policy m))) same
     (c.merkleize.ensures.made list chain above is begun on))
@@ -54,7 +54,7 @@ returns-clause-refused g c =
     (c.merkleize.ensures.refused list chain above is begun on)))
     c.merkleize.ensures.order
     (λ e refused order fresh tells list chain above ws is batch.
-    refused-due g.U.Update.form g.met.U.Kind.lengths chain (stepped g.U.Update.form rules chain.base ws policy meta) g.C.Store c.args.self.now.db.log c.merkleize.new.db.log _ (IsOnChain list chain) e fresh (is.lent.logged.start ∙ tells.0) (refused list chain above is batch.0 ws batch.1)
+    refused-due g.U.Update.form chain (stepped g.U.Update.form rules chain.base ws policy meta) g.C.Store c.args.self.now.db.log c.merkleize.new.db.log _ (IsOnChain list chain) e fresh (is.lent.logged.start ∙ tells.0) (refused list chain above is batch.0 ws batch.1)
     (λ memory. sym (on-begun g.U.Update.form g.met.U.Kind.lengths list chain above c.args.self.now.db.commitment c.args.batch (subst (λ (b : Begun Sha256Digest). b.keep ≤ suc (length b.parent.bounds.ancestors)) c.batch.view_is c.batch.invariant) is.commitment batch.0) ∙ order memory fresh))
 
 pub returns-clause-reads : goal.returns-clause-reads

@@ -30,7 +30,7 @@ returns-clause-made g c =
     let meta = option_map (λ v. v) c.args.metadata.now in
     let made = option_map (λ v. v) c.in_ok-metadata.metadata in
     let same : made ≡ meta = ap (option_map (λ v. v)) c.in_ok-metadata.ensures in
-    rw (sym c.deref.ensures.value, sym c.deref-2.ensures.value) (ok-then c.merkleize.result (made-ok g.U.Update.form g.met.U.Kind.lengths rules c.merkleize.result (λ b. b.value) (IsStaged (hashing g.U.Update.form) c.args.batch) own policy meta (IsDatabase g.C.Store (layout g.U.Update.form g.I.Unordered.index_key) c.args.self.now.db)
+    rw (sym c.deref.ensures.value, sym c.deref-2.ensures.value) (ok-then c.merkleize.result (made-ok g.U.Update.form rules c.merkleize.result (λ b. b.value) (IsStaged (hashing g.U.Update.form) c.args.batch) own policy meta (IsDatabase g.C.Store (layout g.U.Update.form g.I.Unordered.index_key) c.args.self.now.db)
     (λ list chain above is begun on.
     subst (λ m. IfOk c.merkleize.result (λ b. IsMade (hashing g.U.Update.form) b.value chain (stepped g.U.Update.form rules chain.base own policy m))) same
     (c.merkleize.ensures.made list chain above is begun on))
@@ -62,7 +62,7 @@ returns-clause-refused g c =
     (c.merkleize.ensures.refused list chain above is begun on)))
     c.merkleize.ensures.order
     (λ e refused order fresh tells list chain above ws keys is batch.
-    refused-due g.U.Update.form g.met.U.Kind.lengths chain (stepped g.U.Update.form rules chain.base (slotted ws keys slots others) policy meta) g.C.Store c.args.self.now.db.log c.merkleize.new.db.log _ (IsOnChain list chain) e fresh (is.lent.logged.start ∙ tells.0) (refused list chain above is batch.0 (slotted ws keys slots others) (ap₂ (λ w k. slotted w k slots others) batch.1 batch.2))
+    refused-due g.U.Update.form chain (stepped g.U.Update.form rules chain.base (slotted ws keys slots others) policy meta) g.C.Store c.args.self.now.db.log c.merkleize.new.db.log _ (IsOnChain list chain) e fresh (is.lent.logged.start ∙ tells.0) (refused list chain above is batch.0 (slotted ws keys slots others) (ap₂ (λ w k. slotted w k slots others) batch.1 batch.2))
     (λ memory. sym (on-begun g.U.Update.form g.met.U.Kind.lengths list chain above c.args.self.now.db.commitment c.args.batch.batch (subst (λ (s : Staged Sha256Digest). s.batch.keep ≤ suc (length s.batch.parent.bounds.ancestors)) c.batch.view_is c.batch.invariant) is.commitment batch.0.begun) ∙ order memory fresh)))
 
 pub returns-clause-reads : goal.returns-clause-reads

@@ -1,0 +1,286 @@
+-- The commands that make a store last, and that open and end a database.
+use Rattle.std.proofs.Common.{◌≡◌, ◌≢◌, ◌⊎◌, inl, inr, ℕ, zero, suc, ◌+◌, ◌≤◌, Bool, true, false, cond, List, [], ◌∷◌, ◌++◌, length, get_or, take, drop, map, Option, Some, None, Result, Ok, Err, IfSome, IfOk, IfErr, arith, refl, sym, ◌∙◌, ap, subst, le_refl, append-nil, length-take-le}
+use Rattle.std.specs.Prelude.{Contains, IsSome, OnOk, slice_index_or, All, min, max}
+use Rattle.std.proofs.Math.Seq.{take-length}
+use Rattle.qm_model.specs.Causes.{Rose}
+use Rattle.qm_model.specs.Operations.{Bytes, Operation, fresh}
+use Rattle.qm_model.specs.Batches.{Apart}
+use Rattle.qm_model.specs.Own.{Log, no_log, taken_up}
+use Rattle.qm_model.specs.Refused as refusals
+use Rattle.qm_model.specs.StoreModel.{Stored, settled, destroyed, IsImage, ReadsAs, DestroyLeaves, HasRestarted, Becomes}
+use Rattle.qm_model.specs.StoreModel as model
+use Rattle.qm_machine.specs.Lines.{Answer}
+use Rattle.qm_machine.specs.Lines as lines
+use Rattle.qm_machine.specs.Machine.{State, with_database}
+use Rattle.qm_machine.specs.Machine as machine
+use Rattle.qm_base.specs.declared.error.Error.{Error}
+use Rattle.qm_base.specs.declared.error.Error.TheVariants as errors
+use Rattle.qm_base.specs.declared.error.JournalError.TheVariants as journal
+use Rattle.qm_base.specs.declared.error.MerkleError.{MerkleError}
+use Rattle.qm_base.specs.declared.error.MerkleError.TheVariants as merkle
+use Rattle.qm_lines.specs.Views.{answer_view, refused_view}
+use Rattle.qm_lines.specs.declared.reply.Reply as reply
+use Rattle.qm_lines.specs.declared.reply.Reply.TheVariants as replies
+use Rattle.qm_lines.specs.declared.reply.Refused.{Refused}
+use Rattle.qm_lines.specs.declared.reply.Refused.TheVariants as refused
+use Rattle.qm_store.specs.declared.Store as stores
+use Rattle.qm_store.specs.declared.StoreError.{StoreError}
+use Rattle.qm_store.specs.declared.StoreError.TheVariants as store
+use Rattle.qm_store.specs.Log.{log_error}
+use Rattle.qm_store.specs.declared.refusal.Given.{Given}
+use Rattle.qm_store.specs.declared.refusal.Given.TheVariants.{Database, Store}
+use Rattle.qm_store.specs.declared.refusal.Refusal.{Refusal}
+use Rattle.qm_store.specs.Given.{store_given}
+use Rattle.qm_store.specs.Refusals.{refusal_of}
+use Rattle.qm_engine.specs.declared.words.Words as words
+use Rattle.qm_engine.specs.declared.table.Slot.{Slot}
+use Rattle.qm_engine.specs.declared.table.Slot.TheVariants.{Gone}
+use Rattle.qm_engine.specs.declared.session.Turn.{Turn}
+use Rattle.qm_engine.specs.declared.session.Turn.TheVariants.{Reply, Memory, StoreFault}
+use Rattle.qm_engine.specs.Turn.{turn_of_error, turn_of_tree, given_after, turn_settled}
+use Rattle.qm_engine.specs.Words.{IsSettling, IsGivenUp, IsDestroying}
+use Rattle.qm_engine.specs.Stores.{HasLog, IsBeside, IsLeft, emptied}
+use Rattle.qm_engine.specs.Session.{HeldIs, SlotIs, Holds, Handles, HandlesLine, IfReply}
+use Rattle.qm_engine.proofs.Lasting.{turned, became, turned-each, turns-same, turns-beside, has-settled, has-emptied, has-restarted, left_imaged, left_restarted, left_destroyed}
+use Rattle.qm_engine.proofs.Commands.{left_none, left_stable, no_refusal, with_held, Turns}
+
+-- a store alone, without a database
+alone : {X C B S M : Type 0} (members : stores.Ghosts C) (means : words.Ghosts X C B S M) (had : List (List Operation)) (c after : C) (d : Option (List Operation)) → HeldIs members means had (Store c) d → HeldIs members means had (Store after) d
+alone members means had c after None is = tt
+alone members means had c after (Some list) is = absurd is
+
+-- an error that is a fault of the store tells so
+pub fault-told : {K V D : Type 0} (error : Error) → turn_of_error {K = K} {V = V} {D = D} error ≡ StoreFault → error ≡ errors.Journal journal.Store
+fault-told errors.Memory e = absurd (cc)
+fault-told errors.InvalidInitializationBound e = absurd (cc)
+fault-told errors.StaleBatch e = absurd (cc)
+fault-told errors.StaleRead e = absurd (cc)
+fault-told (errors.PruneBeyondMinRequired p m) e = absurd (cc)
+fault-told (errors.HistoricalFloorPruned n) e = absurd (cc)
+fault-told (errors.DataCorrupted c) e = absurd (cc)
+fault-told {K = K} {V = V} {D = D} (errors.Merkle error) e = absurd (merkle-never error e)
+  where
+    merkle-never : (error : MerkleError) → turn_of_tree {K = K} {V = V} {D = D} error ≡ StoreFault → ⊥
+    merkle-never merkle.Memory e = cc
+    merkle-never (merkle.RangeOutOfBounds n) e = cc
+    merkle-never (merkle.ElementPruned n) e = cc
+    merkle-never (merkle.MissingNode n) e = cc
+    merkle-never (merkle.LocationOverflow n) e = cc
+fault-told (errors.Journal journal.Store) e = refl
+fault-told (errors.Journal (journal.ItemPruned n)) e = absurd (cc)
+fault-told (errors.Journal (journal.ItemTooLarge n)) e = absurd (cc)
+
+none_refused : (e : StoreError) → refusal_of (log_error e) ≡ None
+none_refused store.Memory = refl
+none_refused store.Failed = refl
+
+-- a command that does nothing to the store, and is not told as its fault
+pub same_handles : {C K V D : Type 0} (members : stores.Ghosts C) (c : C) (answer : reply.Reply K V D) → Handles {K = K} {V = V} {D = D} members c c (Reply answer)
+same_handles members c answer = record { beside = turns-same (members.told c) (members.told c) refl; later = le_refl (members.faults c); fault = λ e. absurd (cc) }
+
+module _ {X C B S M K V D : Type 0} (members : stores.Ghosts C) (means : words.Ghosts X C B S M) (key : K → Bytes) (value : V → Bytes) (digest : D → Bytes) where
+  abbrev root : List Operation → Bytes
+  root = means.scheme.root
+
+  abbrev Goes : Turn K V D → Given X C → List (Slot B S M) → ℕ → Answer × State → Type 0
+  Goes = Turns members means key value digest
+
+  -- no database is open
+  pub not_open : (c : C) (table : List (Slot B S M)) (opened : ℕ) (s : State) (f : List Operation → Answer × State) → Holds members means (Store c) table opened s
+      → Goes (Reply (replies.Refused refused.NoDatabase)) (Store c) table opened (with_database s s.database f)
+  not_open c table opened s f k = by s.database k.database
+    where
+      by : (d : Option (List Operation)) → HeldIs members means s.had (Store c) d → Goes (Reply (replies.Refused refused.NoDatabase)) (Store c) table opened (with_database s d f)
+      by None is = λ apart. (refl, k)
+      by (Some list) is = absurd is
+
+  pub not_open-left : (c : C) (table : List (Slot B S M)) (opened : ℕ) (s : State) (f : List Operation → Answer × State) → Holds members means (Store c) table opened s
+      → IsLeft means.scheme (members.told c) s.log ((with_database s s.database f).1).log
+  not_open-left c table opened s f k = by s.database k.database
+    where
+      by : (d : Option (List Operation)) → HeldIs members means s.had (Store c) d → IsLeft means.scheme (members.told c) s.log ((with_database s d f).1).log
+      by None is = left_none means.scheme s.log s.log (members.told c) k.store.told
+      by (Some list) is = absurd is
+
+  -- what is as beside the items after a call that failed in one of these ways
+  imaged-beside : (s t : Stored) → ReadsAs s.stable (IsImage s) t → (t.metadata ≡ s.metadata) × (t.ends ≡ s.ends)
+  imaged-beside s t r = let i = r.left in (ap (λ x. x.metadata) r.reads ∙ ap (λ x. x.metadata) i.same, ap (λ x. x.ends) r.reads ∙ ap (λ x. x.ends) i.same)
+
+  -- A commit or a sync of a database.
+  module _ (x : X) (settling : Result X (Refusal X C)) (table : List (Slot B S M)) (opened : ℕ) (s : State) (k : Holds members means (Database x) table opened s) (done : IsSettling means members x settling) where
+    pub settled_turn : Goes (turn_settled settling) (given_after settling) table opened (machine.commit s)
+    settled_turn = by settling done
+      where
+        by : (settling : Result X (Refusal X C)) → IsSettling means members x settling → Goes (turn_settled settling) (given_after settling) table opened (machine.commit s)
+        by (Err r) done = no_refusal r.error _ (done.failed).never
+        by (Ok after) done =
+            with_held members means x s.had s.database s (λ list. (lines.Done, record s { log = machine.settled s.log })) (Goes (Reply replies.Done) (Database after) table opened) k.database
+            (λ list is stands in_had apart. (
+              refl,
+              record {
+                database = subst (HeldIs members means s.had (Database after)) (sym is) (done.stands list stands, in_had);
+                store = record { start = done.start ∙ k.store.start; told = has-settled means.scheme means.bare (members.told (means.inside x)) (members.told (means.inside after)) s.log k.store.told k.zero_start done.told };
+                zero_start = k.zero_start;
+                within = le_refl (length s.log.list);
+                count = k.count;
+                lengths = k.lengths;
+                slots = k.slots;
+              },
+            ))
+
+    pub settled_left : IsLeft means.scheme (members.told (store_given means.inside (given_after settling))) s.log ((machine.commit s).1).log
+    settled_left = with_held members means x s.had s.database s (λ list. (lines.Done, record s { log = machine.settled s.log })) (λ next. IsLeft means.scheme (members.told (store_given means.inside (given_after settling))) s.log (next.1).log) k.database
+        (λ list is stands in_had. by settling done)
+      where
+        by : (settling : Result X (Refusal X C)) → IsSettling means members x settling → IsLeft means.scheme (members.told (store_given means.inside (given_after settling))) s.log (machine.settled s.log)
+        by (Ok after) done = left_whole
+          where
+            has : HasLog means.scheme (members.told (means.inside after)) (machine.settled s.log)
+            has = has-settled means.scheme means.bare (members.told (means.inside x)) (members.told (means.inside after)) s.log k.store.told k.zero_start done.told
+
+            left_whole : IsLeft means.scheme (members.told (means.inside after)) s.log (machine.settled s.log)
+            left_whole = left_stable means.scheme (members.told (means.inside after)) s.log (machine.settled s.log) (length s.log.list) k.within has
+        by (Err r) done =
+            subst (λ given. IsLeft means.scheme (members.told (store_given means.inside given)) s.log (machine.settled s.log)) (sym done.failed.given)
+            (left_imaged means.scheme means.bare (members.told (means.inside x)) (members.told done.failed.store) s.log (machine.settled s.log) k.store.told k.zero_start k.within refl done.failed.told)
+
+  pub settled_handles : (x : X) (settling : Result X (Refusal X C)) → IsSettling means members x settling → Handles members (means.inside x) (store_given means.inside (given_after settling)) (turn_settled {K = K} {V = V} {D = D} settling)
+  settled_handles x (Ok after) done = record {
+    beside = (turns-beside (members.told (means.inside x)) (members.told (means.inside after)) _ (λ s t e. (ap (λ y. y.metadata) e, ap (λ y. y.ends) e)) (became _ _ settled (λ s t. t ≡ settled s) (λ s. refl) done.told));
+    later = done.later;
+    fault = λ e. absurd (cc);
+  }
+  settled_handles x (Err r) done =
+      subst (λ given. Handles {K = K} {V = V} {D = D} members (means.inside x) (store_given means.inside given) (turn_of_error r.error)) (sym done.failed.given)
+      record {
+        beside = (turns-beside (members.told (means.inside x)) (members.told done.failed.store) _ imaged-beside done.failed.told);
+        later = done.failed.cause.later;
+        fault = λ e. done.failed.cause.failed (fault-told r.error e);
+      }
+
+  -- A database is closed.
+  pub closed_turn : (x : X) (table : List (Slot B S M)) (opened : ℕ) (s : State) → Holds members means (Database x) table opened s
+      → Goes (Reply replies.Done) (Store (means.inside x)) table opened (machine.close s)
+  closed_turn x table opened s k =
+      with_held members means x s.had s.database s (λ list. (lines.Done, machine.closed s)) (Goes (Reply replies.Done) (Store (means.inside x)) table opened) k.database
+      (λ list is stands in_had apart. (refl, record { database = tt; store = k.store; zero_start = k.zero_start; within = k.within; count = k.count; lengths = k.lengths; slots = k.slots }))
+
+  pub closed_left : (x : X) (table : List (Slot B S M)) (opened : ℕ) (s : State) → Holds members means (Database x) table opened s
+      → IsLeft means.scheme (members.told (means.inside x)) s.log ((machine.close s).1).log
+  closed_left x table opened s k =
+      with_held members means x s.had s.database s (λ list. (lines.Done, machine.closed s)) (λ next. IsLeft means.scheme (members.told (means.inside x)) s.log (next.1).log) k.database
+      (λ list is stands in_had. left_none means.scheme s.log s.log (members.told (means.inside x)) k.store.told)
+
+  -- A store is emptied.
+  module _ (x : X) (table : List (Slot B S M)) (opened : ℕ) (s : State) (k : Holds members means (Database x) table opened s) where
+    pub destroyed_turn : (c : C) → members.start c ≡ 0 → Becomes (members.told (means.inside x)) (members.told c) destroyed → Goes (Reply replies.Done) (Store c) table opened (machine.destroy s)
+    destroyed_turn c start made =
+        with_held members means x s.had s.database s (λ list. (lines.Done, record (machine.closed s) { log = no_log })) (Goes (Reply replies.Done) (Store c) table opened) k.database
+        (λ list is stands in_had apart. (
+          refl,
+          record {
+            database = tt;
+            store = record { start = start; told = has-emptied means.scheme means.bare (members.told (means.inside x)) (members.told c) s.log k.store.told made };
+            zero_start = refl;
+            within = omega arith;
+            count = k.count;
+            lengths = k.lengths;
+            slots = k.slots;
+          },
+        ))
+
+    pub destroyed_left : (c : C) → Becomes (members.told (means.inside x)) (members.told c) destroyed → IsLeft means.scheme (members.told c) s.log ((machine.destroy s).1).log
+    destroyed_left c made =
+        with_held members means x s.had s.database s (λ list. (lines.Done, record (machine.closed s) { log = no_log })) (λ next. IsLeft means.scheme (members.told c) s.log (next.1).log) k.database
+        (λ list is stands in_had. record { log = no_log; has = has-emptied means.scheme means.bare (members.told (means.inside x)) (members.told c) s.log k.store.told made; may = emptied refl })
+
+    pub undestroyed_turn : (given : Given X C) (error : Error) → refusal_of error ≡ None → Goes (turn_of_error error) given table opened (machine.destroy s)
+    undestroyed_turn given error never = no_refusal error _ never
+
+    pub undestroyed_left : (refusal : Refusal X C) → IsGivenUp means members x DestroyLeaves refusal → IsLeft means.scheme (members.told (store_given means.inside refusal.given)) s.log ((machine.destroy s).1).log
+    undestroyed_left refusal failed =
+        subst (λ given. IsLeft means.scheme (members.told (store_given means.inside given)) s.log ((machine.destroy s).1).log) (sym failed.given)
+        (with_held members means x s.had s.database s (λ list. (lines.Done, record (machine.closed s) { log = no_log })) (λ next. IsLeft means.scheme (members.told failed.store) s.log (next.1).log) k.database
+        (λ list is stands in_had. left_destroyed means.scheme means.bare (members.told (means.inside x)) (members.told failed.store) s.log k.store.told k.zero_start k.within failed.told))
+
+  destroy-beside : (s t : Stored) → DestroyLeaves s t → (t ≡ t) × IsBeside [] s t
+  destroy-beside s t (inl r) = let same = imaged-beside s t r in (refl, record { metadata = inl same.0; ends = same.1 ∙ sym (append-nil s.ends) })
+  destroy-beside s t (inr r) =
+      let i = r.left in
+      (refl, record { metadata = inr (ap (λ x. x.metadata) r.reads ∙ ap (λ x. x.metadata) i.same); ends = ap (λ x. x.ends) r.reads ∙ (ap (λ x. x.ends) i.same ∙ sym (append-nil s.ends)) })
+
+  pub destroyed_handles : (x : X) (c : C) → Becomes (members.told (means.inside x)) (members.told c) destroyed → members.faults (means.inside x) ≤ members.faults c → Handles {K = K} {V = V} {D = D} members (means.inside x) c (Reply replies.Done)
+  destroyed_handles x c made later = record {
+    beside = (became (members.told (means.inside x)) (members.told c) destroyed (IsBeside []) (λ s. record { metadata = inr refl; ends = sym (append-nil s.ends) }) made);
+    later = later;
+    fault = λ e. absurd (cc);
+  }
+
+  pub undestroyed_handles : (x : X) (refusal : Refusal X C) → IsGivenUp means members x DestroyLeaves refusal → Handles members (means.inside x) (store_given means.inside refusal.given) (turn_of_error {K = K} {V = V} {D = D} refusal.error)
+  undestroyed_handles x refusal failed =
+      subst (λ given. Handles {K = K} {V = V} {D = D} members (means.inside x) (store_given means.inside given) (turn_of_error refusal.error)) (sym failed.given)
+      record {
+        beside = (turned-each (members.told (means.inside x)) (members.told failed.store) DestroyLeaves (IsBeside []) (λ s t r. (destroy-beside s t r).1) failed.told);
+        later = failed.cause.later;
+        fault = λ e. failed.cause.failed (fault-told refusal.error e);
+      }
+
+  -- A crash.
+  module _ (held : Given X C) (table : List (Slot B S M)) (opened : ℕ) (s : State) (k : Holds members means held table opened s) (c : C) where
+    -- the store chose the first of the ends to come
+    pub crashed_turn : (more rest : List ℕ) → model.Turns (members.told (store_given means.inside held)) (members.told c) HasRestarted → members.start c ≡ members.start (store_given means.inside held)
+        → model.Turns (members.told (store_given means.inside held)) (members.told c) (IsBeside more) → s.choices ≡ more ++ rest → Goes (Reply replies.Done) (Store c) table opened (machine.crash s)
+    crashed_turn more rest made start told choices apart =
+        let r = has-restarted means.scheme means.bare (members.told (store_given means.inside held)) (members.told c) s.log more rest k.store.told k.zero_start made told in
+        let chosen : slice_index_or s.choices 0 0 ≡ r.0 = ap (λ xs. slice_index_or xs 0 0) (choices ∙ ap (λ xs. xs ++ rest) r.3) in
+        let low = r.1 in
+        let high = r.2 in
+        let same : max s.log.stable (min (length s.log.list) (slice_index_or s.choices 0 0)) ≡ r.0 = ap (λ n. max s.log.stable (min (length s.log.list) n)) chosen ∙ omega (arith, low, high) in (
+          refl,
+          record {
+            database = tt;
+            store = record { start = start ∙ k.store.start; told = subst (λ n. HasLog means.scheme (members.told c) (record s.log { list = take n s.log.list; stable = n })) (sym same) r.4 };
+            zero_start = k.zero_start;
+            within = subst (λ n. n ≤ length (take n s.log.list)) (sym same) (omega (arith, length-take-le r.0 s.log.list high));
+            count = k.count;
+            lengths = k.lengths;
+            slots = k.slots;
+          },
+        )
+
+    at-end : (chosen : ℕ) (log : Log) → log.stable ≤ length log.list → (machine.restarted chosen log).stable ≡ length (machine.restarted chosen log).list
+    at-end chosen log within = omega (arith, length-take-le (max log.stable (min (length log.list) chosen)) log.list (omega (arith, within)))
+
+    pub crashed_left : model.Turns (members.told (store_given means.inside held)) (members.told c) HasRestarted → IsLeft means.scheme (members.told c) s.log ((machine.crash s).1).log
+    crashed_left made = left_restarted means.scheme means.bare (members.told (store_given means.inside held)) (members.told c) s.log ((machine.crash s).1).log k.store.told k.zero_start k.within (at-end _ s.log k.within) made
+
+    pub uncrashed_left : model.Turns (members.told (store_given means.inside held)) (members.told c) (λ t. ReadsAs t.stable (IsImage t)) → IsLeft means.scheme (members.told c) s.log ((machine.crash s).1).log
+    uncrashed_left made = left_imaged means.scheme means.bare (members.told (store_given means.inside held)) (members.told c) s.log ((machine.crash s).1).log k.store.told k.zero_start k.within (at-end _ s.log k.within) made
+
+  restarted-beside : (o new : Option Stored) → model.Turns o new HasRestarted → (to : ℕ) × model.Turns o new (IsBeside (to ∷ []))
+  restarted-beside None new is = (0, is)
+  restarted-beside (Some s) None is = absurd is
+  restarted-beside (Some s) (Some t) is = (is.to, record { metadata = inl (ap (λ x. x.metadata) is.same); ends = ap (λ x. x.ends) is.same })
+
+  pub crashed_handles : {P : Type 0} (keep : ℕ) (old c : C) → model.Turns (members.told old) (members.told c) HasRestarted → members.faults old ≤ members.faults c
+      → HandlesLine {K = K} {V = V} {D = D} {P = P} members (lines.Crash keep) old c (Reply replies.Done)
+  crashed_handles keep old c made later =
+      let chosen = restarted-beside (members.told old) (members.told c) made in
+      record { more = chosen.0 ∷ []; beside = chosen.1; chosen = λ rest. refl; later = later; fault = λ e. absurd (cc) }
+
+  pub uncrashed_turn : (given : Given X C) (table : List (Slot B S M)) (opened : ℕ) (s : State) (e : StoreError) (error : Error) → error ≡ log_error e → Goes (turn_of_error error) given table opened (machine.crash s)
+  uncrashed_turn given table opened s e error is = no_refusal error _ (ap refusal_of is ∙ none_refused e)
+
+  pub uncrashed_handles : {P : Type 0} (keep : ℕ) (old c : C) (e : StoreError) (error : Error) → error ≡ log_error e → model.Turns (members.told old) (members.told c) (λ t. ReadsAs t.stable (IsImage t)) → members.faults old ≤ members.faults c → (e ≡ store.Failed → Rose (members.faults old) (members.faults c))
+      → HandlesLine {P = P} members (lines.Crash keep) old c (turn_of_error {K = K} {V = V} {D = D} error)
+  uncrashed_handles keep old c e error is made later rose = record {
+    more = [];
+    beside = turns-beside (members.told old) (members.told c) _ imaged-beside made;
+    chosen = no_refusal error _ (ap refusal_of is ∙ none_refused e);
+    later = later;
+    fault = λ told. rose (failed e (sym is ∙ fault-told error told));
+  }
+    where
+      failed : (e : StoreError) → log_error e ≡ errors.Journal journal.Store → e ≡ store.Failed
+      failed store.Memory same = absurd (cc)
+      failed store.Failed same = refl

@@ -1,0 +1,435 @@
+-- Every command keeps a run over an own store sound.
+use Rattle.std.proofs.Common.{◌≡◌, ◌⊎◌, inl, inr, ℕ, suc, zero, ◌+◌, ◌<◌, ◌≤◌, Bool, true, false, cond, List, [], ◌∷◌, ◌++◌, length, take, drop, get_or, set, Option, Some, None, refl, sym, ap, ◌∙◌, subst, arith, le_refl, take_all, length-take-le, append_assoc}
+use Rattle.std.specs.Prelude.{Contains, All, ◌==◌, min, max, nat_lt, ◌^◌, map, option_map, drop, ◌-◌}
+use Rattle.std.specs.Option.{option_or}
+use Rattle.std.specs.List.{concat}
+use Rattle.std.proofs.Math.Seq.{take-length, take-append_seam}
+use Rattle.std.proofs.Math.Nat.{le_trans}
+use Rattle.std.proofs.lemmas.Bool.{ltb-false}
+use Rattle.std.proofs.lemmas.List.{length-map, length-drop}
+use Rattle.std.proofs.lemmas.List.Elements.{All-nil, All-take, All-from_recursion}
+use Rattle.qm_model.specs.Operations.{Bytes, Operation, fresh, IsCommitEnded}
+use Rattle.qm_model.specs.Forms.{Form, IsOf, spelling}
+use Rattle.qm_model.specs.Live.{floor}
+use Rattle.qm_model.specs.Walk.{Rules}
+use Rattle.qm_model.specs.Writes.{Write}
+use Rattle.qm_model.specs.Slots.{slotted}
+use Rattle.qm_model.specs.Slots as slots
+use Rattle.qm_model.specs.Ordered.{IsRing}
+use Rattle.qm_model.specs.Step.{Kind, Made, IsGood, first, next, step, ordered, unordered}
+use Rattle.qm_model.specs.Batches.{Chain, Apart, IsAmong, IsRising, Begins, commitment, fits, readable, begun_on, child_of}
+use Rattle.qm_model.specs.Own.{Engine, Log, no_log, taken_up, left_at, any_engine, IsKept, IsPartMade, IsOwn, Takes, OpensParts, head_of, settled_list, ended_part}
+use Rattle.qm_model.specs.StoreModel.{Stored, IsImage}
+use Rattle.qm_model.specs.StoreModel as stores
+use Rattle.qm_model.specs.Opening.{Opening, refuses, opens, opening, opened_list}
+use Rattle.qm_model.specs.Ranges.{key_above, key_below}
+use Rattle.qm_model.specs.Refused.{Refused, Merkle, LocationOverflow}
+use Rattle.qm_model.specs.Refusals.{tip_refusal, proof_refusal, pins_refusal, too_long, too_many}
+use Rattle.qm_model.proofs.Chains.{Contains-more, Contains-first, IsAmong-more, begun-among, child-among, take-least, Begins-self, Begins-length, Begins-through, begun-rising, child-rising, known-begins, on_chain-fits}
+use Rattle.qm_model.proofs.Steps as steps
+use Rattle.qm_model.proofs.OrderedSteps.{made-ordered}
+use Rattle.qm_model.proofs.Prefixes.{unordered-begins, ordered-begins}
+use Rattle.qm_model.proofs.Openings.{unordered-takes, ordered-takes, unordered-image, ordered-image}
+use Rattle.qm_machine.specs.Lines.{Line, Open, Batch, Child, Tip, Put, Del, Merkleize, Stage, Expand, Resolve, Apply, Ops, Get, Many, Next, Prev, Span, Range, Keys, Info, BatchInfo, Root, BatchRoot, BatchProof, Meta, Prove, Pins, Commit, Sync, Close, Destroy, Crash, Answer}
+use Rattle.qm_machine.specs.Lines as lines
+use Rattle.qm_machine.specs.Machine.{Scheme, State, Slot, gone, writing, staged, merkleized, turn, slot_at, with_slot, initial, started, start_child, put_in, list_operations, with_database, closed, settled, commit, restarted, opened_as, kind_of, engine_of, layout_of, found_in, unless, merkleize_tip, merkleize_writes, merkleize_in, resolve_in, apply_in, if_readable, if_staged, stage_in, expand_in, read_in, read, if_ordered, beside_in, beside_of, info_in, root_in, proof_in}
+use Rattle.qm_machine.specs.Sound.{IsSoundSlot, IsSteady, IsSound}
+
+-- Slots.
+
+slot-more : (had : List (List Operation)) (new : List Operation) (slot : Slot) → IsSoundSlot had slot → IsSoundSlot (new ∷ had) slot
+slot-more had new gone is = tt
+slot-more had new (writing chain parent ws) is = (IsAmong-more had new chain is.0, is.1)
+slot-more had new (staged chain parent ws keys) is = (IsAmong-more had new chain is.0, is.1)
+slot-more had new (merkleized chain tip) is = (IsAmong-more had new chain is.0, is.1, Contains-more had new tip is.2, is.3)
+
+set-each : (P : Slot → Type 0) (table : List Slot) (i : ℕ) (slot : Slot) → P gone → P slot → ((h : ℕ) → P (get_or table h gone)) → (h : ℕ) → P (get_or (set table i slot) h gone)
+set-each P [] i slot none is each h = none
+set-each P (a ∷ table) zero slot none is each zero = is
+set-each P (a ∷ table) zero slot none is each (suc h) = each (suc h)
+set-each P (a ∷ table) (suc i) slot none is each zero = each zero
+set-each P (a ∷ table) (suc i) slot none is each (suc h) = set-each P table i slot none is (λ k. each (suc k)) h
+
+push-each : (P : Slot → Type 0) (table : List Slot) (slot : Slot) → P gone → P slot → ((h : ℕ) → P (get_or table h gone)) → (h : ℕ) → P (get_or (table ++ slot ∷ []) h gone)
+push-each P [] slot none is each zero = is
+push-each P [] slot none is each (suc h) = none
+push-each P (a ∷ table) slot none is each zero = each zero
+push-each P (a ∷ table) slot none is each (suc h) = push-each P table slot none is (λ k. each (suc k)) h
+
+-- a step begins with its base
+begins-behind : (xs ys bs cs : List Operation) → take (length xs) (((xs ++ ys) ++ bs) ++ cs) ≡ xs
+begins-behind xs ys bs cs = ap (take (length xs)) (append_assoc (xs ++ ys) bs cs ∙ append_assoc xs ys (bs ++ cs)) ∙ take-append_seam xs (ys ++ (bs ++ cs))
+
+step-begins : {P : Type 0} (kind : Kind) (rules : Rules P) (ops : List Operation) (ws : List Write) (policy : P) (meta : Option Bytes) → Begins ops (step kind rules ops ws policy meta)
+step-begins kind rules ops ws policy meta = begins-behind ops (kind.writes ops ws) (kind.moves (ops ++ kind.writes ops ws) _) _
+
+-- the tip of a batch is no longer than a list may be
+behind-none : (o p : Option Refused) → option_or o p ≡ None → p ≡ None
+behind-none None p is = is
+behind-none (Some r) p is = absurd (cc)
+
+few-enough : (n : ℕ) → too_many n ≡ None → n ≤ 2 ^ 62
+few-enough n is = by (nat_lt (2 ^ 62) n) refl is
+  where
+    by : (b : Bool) → nat_lt (2 ^ 62) n ≡ b → cond b (Some (Merkle (LocationOverflow n))) None ≡ None → n ≤ 2 ^ 62
+    by false less none = ltb-false (2 ^ 62) n less
+    by true less none = absurd (cc)
+
+short-tip : (form : Form) (chain : Chain) (tip : List Operation) → tip_refusal form chain tip ≡ None → length tip ≤ 2 ^ 62
+short-tip form chain tip none = few-enough (length tip) (behind-none _ (too_many (length tip)) none)
+
+-- Logs.
+
+module _ (m : Scheme) {P : Type 0} (rules : Rules P) where
+  -- an opening takes up a beginning, whichever kind of database it is
+  opens-parts : OpensParts (engine_of m rules)
+  opens-parts = by m.form.ordered
+    where
+      by : (b : Bool) → OpensParts (any_engine (cond b ordered unordered) rules m.hash m.form m.shape m.digest_size)
+      by true = ordered-takes rules m.hash m.form m.shape m.digest_size
+      by false = unordered-takes rules m.hash m.form m.shape m.digest_size
+
+  -- a commit-ended beginning of a made list is one
+  begins-made : (prefix ops : List Operation) → Made (kind_of m) rules ops → Begins prefix ops → IsCommitEnded prefix → Made (kind_of m) rules prefix
+  begins-made = by m.form.ordered
+    where
+      by : (b : Bool) (prefix ops : List Operation) → Made (cond b ordered unordered) rules ops → Begins prefix ops → IsCommitEnded prefix → Made (cond b ordered unordered) rules prefix
+      by true prefix ops made begins ended = (ordered-begins rules prefix ops made begins ended).0
+      by false prefix ops made begins ended = (unordered-begins rules prefix ops made begins ended).0
+
+  -- the same log but for the count of pruned chunks, at which an any database doesn't look
+  abbrev counted : ℕ → Log → Log
+  counted chunks log = record log { chunks = chunks }
+
+  kept-counted : (n : ℕ) (log : Log) → IsKept (engine_of m rules) log → IsKept (engine_of m rules) (counted n log)
+  kept-counted n log kept = record {
+    made = record { whole = kept.made.whole; made = kept.made.made; begins = kept.made.begins; of_form = kept.made.of_form };
+    start = kept.start;
+    stable = kept.stable;
+    chunks = tt;
+  }
+
+  -- a store that has this log
+  abbrev store_of : Log → Stored
+  store_of log = record { start = log.start; items = map (spelling m.form) (drop log.start log.list); head = head_of (engine_of m rules) log; metadata = []; stable = log.stable; ends = [] }
+
+  -- a crash leaves a log that databases leave
+  pub left-kept : (log : Log) (to : ℕ) → IsKept (engine_of m rules) log → log.stable ≤ to → to ≤ length log.list → IsKept (engine_of m rules) (left_at to log)
+  left-kept log to kept low within = kept-counted log.chunks (left_at to (counted 0 log)) (image m.form.ordered).kept
+    where
+      plain : IsKept (engine_of m rules) (counted 0 log)
+      plain = kept-counted 0 log kept
+
+      own : IsOwn (engine_of m rules) (counted 0 log) (store_of (counted 0 log))
+      own = record { stored = record { start = refl; items = refl; head = refl; metadata = refl; stable = refl }; kept = plain }
+
+      place : to ≤ log.start + length (map (spelling m.form) (drop log.start log.list))
+      place = le_trans within (omega (arith, length-map (drop log.start log.list) (spelling m.form), length-drop log.start log.list))
+
+      at : IsImage (store_of (counted 0 log)) (stores.left_at to (store_of (counted 0 log)))
+      at = record { to = to; may = record { stable = low; within = place }; same = refl }
+
+      image : (b : Bool) → IsOwn (engine_of m rules) (left_at to (counted 0 log)) (stores.left_at to (store_of (counted 0 log)))
+      image b = by m.form.ordered own
+        where
+          by : (b : Bool) → IsOwn (any_engine (cond b ordered unordered) rules m.hash m.form m.shape m.digest_size) (counted 0 log) (store_of (counted 0 log))
+              → IsOwn (any_engine (cond b ordered unordered) rules m.hash m.form m.shape m.digest_size) (left_at to (counted 0 log)) (stores.left_at to (store_of (counted 0 log)))
+          by true is = ordered-image rules m.hash m.form m.shape m.digest_size (counted 0 log) (store_of (counted 0 log)) (stores.left_at to (store_of (counted 0 log))) is at
+          by false is = unordered-image rules m.hash m.form m.shape m.digest_size (counted 0 log) (store_of (counted 0 log)) (stores.left_at to (store_of (counted 0 log))) is at
+
+  -- so does a commit
+  pub settled-kept : (log : Log) → IsKept (engine_of m rules) log → IsKept (engine_of m rules) (settled log)
+  settled-kept log kept =
+      subst (λ list. IsKept (engine_of m rules) (record log { list = list; stable = length log.list })) (take-length log.list)
+      (left-kept log (length log.list) kept kept.stable (le_refl (length log.list)))
+
+  -- a crash that chose an end
+  pub restarted-kept : (chosen : ℕ) (log : Log) → IsKept (engine_of m rules) log → IsKept (engine_of m rules) (restarted chosen log)
+  restarted-kept chosen log kept =
+      let low = kept.stable in
+      left-kept log (max log.stable (min (length log.list) chosen)) kept (omega arith) (omega (arith, low))
+
+  -- the empty one
+  pub empty-kept : IsKept (engine_of m rules) no_log
+  empty-kept = record {
+    made = record { whole = fresh; made = first; begins = refl; of_form = All-nil (IsOf m.form) };
+    start = omega arith;
+    stable = omega arith;
+    chunks = tt;
+  }
+
+  -- and a list that begins with the log's
+  pub grown-kept : (log : Log) (tip : List Operation) → IsKept (engine_of m rules) log → Begins log.list tip → Made (kind_of m) rules tip → All (IsOf m.form) tip → IsKept (engine_of m rules) (record log { list = tip })
+  grown-kept log tip kept begins made of = record {
+    made = record { whole = tip; made = made; begins = Begins-self tip; of_form = of };
+    start = subst (λ list. log.start ≤ floor (ended_part list)) same kept.start;
+    stable = le_trans kept.stable (Begins-length log.list tip begins);
+    chunks = tt;
+  }
+    where
+      same : take log.stable log.list ≡ take log.stable tip
+      same = ap (take log.stable) (sym begins) ∙ take-least log.stable (length log.list) tip kept.stable
+
+  -- Commands.
+
+  -- the open database's list is of operations of the machine's form
+  abbrev pub IsFormed : State → Type 0
+  IsFormed s = (list : List Operation) → s.database ≡ Some list → All (IsOf m.form) list
+
+  -- a state that is sound, where its lists are apart and its database's list is formed
+  abbrev Sound : Answer × State → Type 0
+  Sound turned = Apart m.root (turned.1).had → IsFormed turned.1 → IsSound m rules turned.1
+
+  same : (s : State) (a : Answer) → IsSound m rules s → Sound (a, s)
+  same s a is = λ apart formed. is
+
+  either : (b : Bool) (p q : Answer × State) → (b ≡ true → Sound p) → (b ≡ false → Sound q) → Sound (cond b p q)
+  either true p q a b = a refl
+  either false p q a b = b refl
+
+  with_list : (s : State) (d : Option (List Operation)) (f : List Operation → Answer × State) → IsSound m rules s → ((list : List Operation) → d ≡ Some list → Sound (f list)) → Sound (with_database s d f)
+  with_list s None f is each = (λ apart formed. is)
+  with_list s (Some list) f is each = each list refl
+
+  ordered_only : (s : State) (offered : Answer × State) → IsSound m rules s → Sound offered → Sound (if_ordered m s offered)
+  ordered_only s offered is sound = either m.form.ordered offered _ (λ yes. sound) (λ not. (λ apart formed. is))
+
+  unless_due : (s : State) (due : Option Refused) (answer : Answer) → IsSound m rules s → Sound (unless s due answer)
+  unless_due s None answer is = same s answer is
+  unless_due s (Some r) answer is = (λ apart formed. is)
+
+  -- another slot of the table
+  slotted_sound : (s : State) (h : ℕ) (slot : Slot) → IsSoundSlot s.had slot → IsSound m rules s → IsSound m rules (with_slot s h slot)
+  slotted_sound s h slot one is = record { kept = is.kept; held = is.held; made = is.made; slots = set-each (IsSoundSlot s.had) s.table h slot tt one is.slots }
+
+  -- one more
+  started_sound : (s : State) (slot : Slot) → IsSoundSlot s.had slot → IsSound m rules s → Sound (started s slot)
+  started_sound s slot one is = λ apart formed. record { kept = is.kept; held = is.held; made = is.made; slots = push-each (IsSoundSlot s.had) s.table slot tt one is.slots }
+
+  -- no database
+  closed_sound : (s : State) (log : Log) (choices : List ℕ) → IsKept (engine_of m rules) log → IsSound m rules s → IsSound m rules (record (closed s) { log = log; choices = choices })
+  closed_sound s log choices kept is = record { kept = kept; held = λ list some. absurd (cc); made = is.made; slots = is.slots }
+
+  -- a list more that the run has had
+  made_more : (had : List (List Operation)) (new : List Operation) → Made (kind_of m) rules new → ((list : List Operation) → Contains had list → Made (kind_of m) rules list)
+      → (list : List Operation) → Contains (new ∷ had) list → Made (kind_of m) rules list
+  made_more had new one each list (zero, within, at) = subst (Made (kind_of m) rules) at one
+  made_more had new one each list (suc k, within, at) = each list (k, omega (arith, within), at)
+
+  -- what an opening takes up, steps made
+  pub opened-made : (s : State) (bound : Option ℕ) (size : ℕ) → IsSound m rules s → opening (layout_of m) (found_in m s.log) bound ≡ opens size → Made (kind_of m) rules (opened_list size s.log.list)
+  opened-made s bound size is e = let takes : Takes (engine_of m rules) s.log bound size = opens-parts s.log bound size is.kept e in by takes.part takes.ended
+    where
+      by : Begins (opened_list size s.log.list) s.log.list ⊎ ((s.log.list ≡ []) × (opened_list size s.log.list ≡ fresh)) → IsCommitEnded (opened_list size s.log.list) → Made (kind_of m) rules (opened_list size s.log.list)
+      by (inl begins) ended = begins-made (opened_list size s.log.list) is.kept.made.whole is.kept.made.made (Begins-through (opened_list size s.log.list) s.log.list is.kept.made.whole begins is.kept.made.begins) ended
+      by (inr none) ended = subst (Made (kind_of m) rules) (sym none.1) first
+
+  -- a made list is good, and that of an ordered database is a ring
+  pub made-good : (list : List Operation) → Made (kind_of m) rules list → IsGood list
+  made-good list = by m.form.ordered
+    where
+      by : (b : Bool) → Made (cond b ordered unordered) rules list → IsGood list
+      by true made = (made-ordered rules list made).good
+      by false made = steps.made-good rules list made
+
+  pub made-ring : (list : List Operation) → m.form.ordered ≡ true → Made (kind_of m) rules list → IsRing list
+  made-ring list is = by m.form.ordered is
+    where
+      by : (b : Bool) → b ≡ true → Made (cond b ordered unordered) rules list → IsRing list
+      by true e made = (made-ordered rules list made).ring
+      by false e made = absurd (cc)
+
+  -- what a command has to know
+  pub sound-steady : (s : State) → IsSound m rules s → IsSteady m s
+  sound-steady s is = record {
+    of_form = is.kept.made.of_form;
+    good = λ bound size e. made-good (opened_list size s.log.list) (opened-made s bound size is e);
+    ring = λ bound size e ordered_form. made-ring (opened_list size s.log.list) ordered_form (opened-made s bound size is e);
+    held = is.held;
+    slots = is.slots;
+  }
+
+  opened_sound : (s : State) (bound : Option ℕ) (o : Opening) → opening (layout_of m) (found_in m s.log) bound ≡ o → IsSound m rules s → Sound (opened_as (closed s) o)
+  opened_sound s bound (refuses r) e is = λ apart formed. closed_sound s s.log s.choices is.kept is
+  opened_sound s bound (opens size) e is = λ apart formed.
+      let list = opened_list size s.log.list in
+      let takes : Takes (engine_of m rules) s.log bound size = opens-parts s.log bound size is.kept e in
+      record {
+        kept = takes.kept;
+        held = λ other some. (cc, subst (Contains (list ∷ s.had)) (cc) (Contains-first list s.had));
+        made = made_more s.had list (opened-made s bound size is e) is.made;
+        slots = λ h. slot-more s.had list (slot_at s.table h) (is.slots h);
+      }
+
+  child_sound : (s : State) (h : ℕ) (keep : Option ℕ) (slot : Slot) → IsSoundSlot s.had slot → IsSound m rules s → Sound (start_child s h keep slot)
+  child_sound s h keep (merkleized chain tip) one is = started_sound s _ (child-among s.had keep chain tip one.0 one.2, child-rising keep chain tip one.1 one.3) is
+  child_sound s h keep gone one is = (λ apart formed. is)
+  child_sound s h keep (staged chain parent ws keys) one is = (λ apart formed. is)
+  child_sound s h keep (writing chain parent ws) one is = (λ apart formed. is)
+
+  put_sound : (s : State) (h : ℕ) (w : Write) (slot : Slot) → IsSoundSlot s.had slot → IsSound m rules s → Sound (put_in s h w slot)
+  put_sound s h w (writing chain parent ws) one is = λ apart formed. slotted_sound s h _ one is
+  put_sound s h w gone one is = (λ apart formed. is)
+  put_sound s h w (staged chain parent ws keys) one is = (λ apart formed. is)
+  put_sound s h w (merkleized chain tip) one is = (λ apart formed. is)
+
+  listed_sound : (s : State) (h : ℕ) (slot : Slot) → IsSound m rules s → Sound (list_operations s h slot)
+  listed_sound s h (merkleized chain tip) is = (λ apart formed. is)
+  listed_sound s h gone is = (λ apart formed. is)
+  listed_sound s h (staged chain parent ws keys) is = (λ apart formed. is)
+  listed_sound s h (writing chain parent ws) is = (λ apart formed. is)
+
+  readable_sound : (s : State) (list : List Operation) (chain : Chain) (tip : List Operation) (answer : Answer) → IsSound m rules s → Sound (if_readable m s list chain tip answer)
+  readable_sound s list chain tip answer is = either (readable m.root (commitment m.root list) chain tip) _ _ (λ yes. same s answer is) (λ not. (λ apart formed. is))
+
+  staged_sound : (s : State) (h : ℕ) (list : List Operation) (chain parent : Chain) (answer : Answer) (slot : Slot) → IsSoundSlot s.had slot → IsSound m rules s → Sound (if_staged m s h list chain parent answer slot)
+  staged_sound s h list chain parent answer slot one is =
+      either (readable m.root (commitment m.root list) parent chain.base) _ _ (λ yes apart formed. slotted_sound s h slot one is) (λ not apart formed. slotted_sound s h gone tt is)
+
+  stage_sound : (s : State) (h : ℕ) (keys : List Bytes) (list : List Operation) (slot : Slot) → IsSoundSlot s.had slot → IsSound m rules s → Sound (stage_in m s h keys list slot)
+  stage_sound s h keys list (writing chain parent ws) one is = staged_sound s h list chain parent _ _ one is
+  stage_sound s h keys list gone one is = (λ apart formed. is)
+  stage_sound s h keys list (staged chain parent ws ks) one is = (λ apart formed. is)
+  stage_sound s h keys list (merkleized chain tip) one is = (λ apart formed. is)
+
+  expand_sound : (s : State) (h : ℕ) (keys : List Bytes) (list : List Operation) (slot : Slot) → IsSoundSlot s.had slot → IsSound m rules s → Sound (expand_in m s h keys list slot)
+  expand_sound s h keys list (staged chain parent ws ks) one is = staged_sound s h list chain parent _ _ one is
+  expand_sound s h keys list gone one is = (λ apart formed. is)
+  expand_sound s h keys list (writing chain parent ws) one is = (λ apart formed. is)
+  expand_sound s h keys list (merkleized chain tip) one is = (λ apart formed. is)
+
+  read_in_sound : (s : State) (h : ℕ) (keys : List Bytes) (list : List Operation) (slot : Slot) → IsSound m rules s → Sound (read_in m s h keys list slot)
+  read_in_sound s h keys list (writing chain parent ws) is = readable_sound s list parent chain.base _ is
+  read_in_sound s h keys list (merkleized chain tip) is = readable_sound s list chain tip _ is
+  read_in_sound s h keys list gone is = (λ apart formed. is)
+  read_in_sound s h keys list (staged chain parent ws ks) is = (λ apart formed. is)
+
+  read_sound : (s : State) (keys : List Bytes) (from : Option ℕ) → IsSound m rules s → Sound (read m s keys from)
+  read_sound s keys None is = with_list s s.database _ is (λ list e. (λ apart formed. is))
+  read_sound s keys (Some h) is = with_list s s.database _ is (λ list e. read_in_sound s h keys list (slot_at s.table h) is)
+
+  beside_in_sound : (s : State) (h : ℕ) (beside : List Bytes → Option Bytes) (list : List Operation) (slot : Slot) → IsSound m rules s → Sound (beside_in m s h beside list slot)
+  beside_in_sound s h beside list (merkleized chain tip) is = readable_sound s list chain tip _ is
+  beside_in_sound s h beside list gone is = (λ apart formed. is)
+  beside_in_sound s h beside list (writing chain parent ws) is = (λ apart formed. is)
+  beside_in_sound s h beside list (staged chain parent ws ks) is = (λ apart formed. is)
+
+  beside_sound : (s : State) (beside : List Bytes → Option Bytes) (from : Option ℕ) → IsSound m rules s → Sound (beside_of m s beside from)
+  beside_sound s beside None is = with_list s s.database _ is (λ list e. (λ apart formed. is))
+  beside_sound s beside (Some h) is = with_list s s.database _ is (λ list e. beside_in_sound s h beside list (slot_at s.table h) is)
+
+  info_sound : (s : State) (h : ℕ) (slot : Slot) → IsSound m rules s → Sound (info_in m s h slot)
+  info_sound s h (merkleized chain tip) is = (λ apart formed. is)
+  info_sound s h gone is = (λ apart formed. is)
+  info_sound s h (staged chain parent ws keys) is = (λ apart formed. is)
+  info_sound s h (writing chain parent ws) is = (λ apart formed. is)
+
+  root_sound : (s : State) (h : ℕ) (slot : Slot) → IsSound m rules s → Sound (root_in m s h slot)
+  root_sound s h (merkleized chain tip) is = (λ apart formed. is)
+  root_sound s h gone is = (λ apart formed. is)
+  root_sound s h (staged chain parent ws keys) is = (λ apart formed. is)
+  root_sound s h (writing chain parent ws) is = (λ apart formed. is)
+
+  proof_sound : (s : State) (h : ℕ) (list : List Operation) (slot : Slot) → IsSound m rules s → Sound (proof_in m s h list slot)
+  proof_sound s h list (merkleized chain tip) is = readable_sound s list chain tip _ is
+  proof_sound s h list gone is = (λ apart formed. is)
+  proof_sound s h list (staged chain parent ws keys) is = (λ apart formed. is)
+  proof_sound s h list (writing chain parent ws) is = (λ apart formed. is)
+
+  apply_sound : (s : State) (h : ℕ) (list : List Operation) (slot : Slot) → s.database ≡ Some list → IsSoundSlot s.had slot → IsSound m rules s → Sound (apply_in m s h list slot)
+  apply_sound s h list gone e one is = (λ apart formed. is)
+  apply_sound s h list (staged chain parent ws keys) e one is = (λ apart formed. is)
+  apply_sound s h list (writing chain parent ws) e one is = (λ apart formed. is)
+  apply_sound s h list (merkleized chain tip) e one is = either (fits m.root (commitment m.root list) chain) _ _ taken (λ not. (λ apart formed. is))
+    where
+      taken : fits m.root (commitment m.root list) chain ≡ true → Sound (lines.Applied (length tip), record s { database = Some tip; log = record s.log { list = tip } })
+      taken fit apart formed =
+          let held = is.held list e in
+          let on = on_chain-fits m.root s.had list chain apart held.1 one.0 fit in
+          let begins = known-begins list chain tip (inr on) one.1 one.3 in
+          record {
+            kept = grown-kept s.log tip is.kept (subst (λ l. Begins l tip) (sym held.0) begins) (is.made tip one.2) (formed tip refl);
+            held = λ other some. (cc, subst (Contains s.had) (cc) one.2);
+            made = is.made;
+            slots = is.slots;
+          }
+
+  tip_sound : (s : State) (h : ℕ) (chain : Chain) (tip : List Operation) (due : Option Refused) → IsAmong s.had chain → IsRising chain → Begins chain.base tip → (due ≡ None → Made (kind_of m) rules tip) → IsSound m rules s → Sound (merkleize_tip s h chain tip due)
+  tip_sound s h chain tip (Some r) among rising begins made is = λ apart formed. slotted_sound s h gone tt is
+  tip_sound s h chain tip None among rising begins made is = λ apart formed. record {
+    kept = is.kept;
+    held = λ list e. ((is.held list e).0, Contains-more s.had tip list (is.held list e).1);
+    made = made_more s.had tip (made refl) is.made;
+    slots = set-each (IsSoundSlot (tip ∷ s.had)) s.table h (merkleized chain tip) tt (IsAmong-more s.had tip chain among, rising, Contains-first tip s.had, begins) (λ k. slot-more s.had tip (slot_at s.table k) (is.slots k));
+  }
+
+  writes_sound : (s : State) (h : ℕ) (policy : P) (meta : Option Bytes) (list : List Operation) (chain : Chain) (ws : List Write) → IsAmong s.had chain → IsRising chain → IsSound m rules s → Sound (merkleize_writes m rules s h policy meta list chain ws)
+  writes_sound s h policy meta list chain ws among rising is =
+      let tip = step (kind_of m) rules chain.base ws policy meta in
+      either (fits m.root (commitment m.root list) chain) _ _
+      (λ fit. tip_sound s h chain tip (tip_refusal m.form chain tip) among rising (step-begins (kind_of m) rules chain.base ws policy meta) (λ due. next chain.base ws policy meta (is.made chain.base among.base) (short-tip m.form chain tip due)) is)
+      (λ unfit apart formed. slotted_sound s h gone tt is)
+
+  merkleize_sound : (s : State) (h : ℕ) (policy : P) (meta : Option Bytes) (list : List Operation) (slot : Slot) → IsSoundSlot s.had slot → IsSound m rules s → Sound (merkleize_in m rules s h policy meta list slot)
+  merkleize_sound s h policy meta list (writing chain parent ws) one is = writes_sound s h policy meta list chain ws one.0 one.1 is
+  merkleize_sound s h policy meta list gone one is = (λ apart formed. is)
+  merkleize_sound s h policy meta list (staged chain parent ws keys) one is = (λ apart formed. is)
+  merkleize_sound s h policy meta list (merkleized chain tip) one is = (λ apart formed. is)
+
+  resolve_sound : (s : State) (h : ℕ) (policy : P) (meta : Option Bytes) (given : List slots.Slot) (others : List Write) (list : List Operation) (slot : Slot) → IsSoundSlot s.had slot → IsSound m rules s → Sound (resolve_in m rules s h policy meta given others list slot)
+  resolve_sound s h policy meta given others list (staged chain parent ws keys) one is =
+      either (length keys == length given) _ _ (λ yes. writes_sound s h policy meta list chain (slotted ws keys given others) one.0 one.1 is) (λ not. (λ apart formed. is))
+  resolve_sound s h policy meta given others list gone one is = (λ apart formed. is)
+  resolve_sound s h policy meta given others list (writing chain parent ws) one is = (λ apart formed. is)
+  resolve_sound s h policy meta given others list (merkleized chain tip) one is = (λ apart formed. is)
+
+  commit_sound : (s : State) → IsSound m rules s → Sound (commit s)
+  commit_sound s is = with_list s s.database _ is (λ list e apart formed. record { kept = settled-kept s.log is.kept; held = is.held; made = is.made; slots = is.slots })
+
+  pub turn-sound : (s : State) (line : Line P) → IsSound m rules s → Sound (turn m rules s line)
+  turn-sound s (Open bound) is = opened_sound s bound (opening (layout_of m) (found_in m s.log) bound) refl is
+  turn-sound s Batch is = with_list s s.database _ is (λ list e. started_sound s _ (begun-among s.had list (is.held list e).1, begun-rising list) is)
+  turn-sound s (Child h keep) is = child_sound s h keep (slot_at s.table h) (is.slots h) is
+  turn-sound s Tip is = with_list s s.database _ is (λ list e. started_sound s _ (begun-among s.had list (is.held list e).1, begun-rising list, (is.held list e).1, Begins-self list) is)
+  turn-sound s (Put h key value) is = put_sound s h _ (slot_at s.table h) (is.slots h) is
+  turn-sound s (Del h key) is = put_sound s h _ (slot_at s.table h) (is.slots h) is
+  turn-sound s (Merkleize h policy meta) is = with_list s s.database _ is (λ list e. merkleize_sound s h policy meta list (slot_at s.table h) (is.slots h) is)
+  turn-sound s (Stage h keys) is = with_list s s.database _ is (λ list e. stage_sound s h keys list (slot_at s.table h) (is.slots h) is)
+  turn-sound s (Expand h keys) is = with_list s s.database _ is (λ list e. expand_sound s h keys list (slot_at s.table h) (is.slots h) is)
+  turn-sound s (Resolve h policy meta given others) is = with_list s s.database _ is (λ list e. resolve_sound s h policy meta given others list (slot_at s.table h) (is.slots h) is)
+  turn-sound s (Apply h) is = with_list s s.database _ is (λ list e. apply_sound s h list (slot_at s.table h) e (is.slots h) is)
+  turn-sound s (Ops h) is = listed_sound s h (slot_at s.table h) is
+  turn-sound s (Get key from) is = read_sound s (key ∷ []) from is
+  turn-sound s (Many keys from) is = read_sound s keys from is
+  turn-sound s (Next key from) is = ordered_only s _ is (beside_sound s (λ keys. key_above keys key) from is)
+  turn-sound s (Prev key from) is = ordered_only s _ is (beside_sound s (λ keys. key_below keys key) from is)
+  turn-sound s (Span key) is = ordered_only s _ is (with_list s s.database _ is (λ list e. (λ apart formed. is)))
+  turn-sound s (lines.All key) is = ordered_only s _ is (with_list s s.database _ is (λ list e. (λ apart formed. is)))
+  turn-sound s (Range low high) is = ordered_only s _ is (with_list s s.database _ is (λ list e. (λ apart formed. is)))
+  turn-sound s (Keys low high) is = ordered_only s _ is (with_list s s.database _ is (λ list e. (λ apart formed. is)))
+  turn-sound s Info is = with_list s s.database _ is (λ list e. (λ apart formed. is))
+  turn-sound s (BatchInfo h) is = info_sound s h (slot_at s.table h) is
+  turn-sound s Root is = with_list s s.database _ is (λ list e. (λ apart formed. is))
+  turn-sound s (BatchRoot h) is = root_sound s h (slot_at s.table h) is
+  turn-sound s (BatchProof h) is = with_list s s.database _ is (λ list e. proof_sound s h list (slot_at s.table h) is)
+  turn-sound s Meta is = with_list s s.database _ is (λ list e. (λ apart formed. is))
+  turn-sound s (Prove size start count) is = with_list s s.database _ is (λ list e. unless_due s (proof_refusal s.log.start list size start) _ is)
+  turn-sound s (Pins n) is = with_list s s.database _ is (λ list e. unless_due s (pins_refusal list n) _ is)
+  turn-sound s Commit is = commit_sound s is
+  turn-sound s Sync is = commit_sound s is
+  turn-sound s Close is = with_list s s.database _ is (λ list e apart formed. closed_sound s s.log s.choices is.kept is)
+  turn-sound s Destroy is = with_list s s.database _ is (λ list e apart formed. closed_sound s no_log s.choices empty-kept is)
+  turn-sound s (Crash keep) is = λ apart formed. closed_sound s _ _ (restarted-kept _ s.log is.kept) is
+
+  -- a run begins so
+  pub initial-sound : (log : Log) (choices : List ℕ) → IsKept (engine_of m rules) log → IsSound m rules (initial log choices)
+  initial-sound log choices kept = record {
+    kept = kept;
+    held = λ list some. absurd (cc);
+    made = λ list had. absurd (omega (arith, had.1));
+    slots = by;
+  }
+    where
+      by : (h : ℕ) → IsSoundSlot [] (slot_at (gone ∷ []) h)
+      by zero = tt
+      by (suc h) = tt
