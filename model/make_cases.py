@@ -17,7 +17,8 @@ import fuzz  # noqa: E402
 import model  # noqa: E402
 import qmdb  # noqa: E402
 
-STAGE = qmdb.stage_number('ordered')
+STAGE = qmdb.stage_number('durable')
+SCRIPTS = qmdb.stage_number('ordered')
 WORDS = 'run any unordered mmr'
 ORDERED = 'run any ordered mmr'
 inp, out = [], []
@@ -62,11 +63,12 @@ def modelled(name, data, words=WORDS, items=False):
 section('Worked rows.')
 for row in check_rows.load_rows():
     first, last = check_rows.stages_of(row)
-    if first > STAGE or last < STAGE or 'initial' in row or row['store'] == 'mem': continue
+    if first > STAGE or last < STAGE or 'initial' in row or row['store'] == 'mem' or len(row['runs']) > 1: continue
     run, = row['runs']
     if ' '.join(run['words']) != WORDS: continue
     if 'repeat' in run['input']: continue
     data = check_rows.row_input(run)
+    if b'prune' in data: continue
     name = row['name'].replace(' any unordered mmr', '')
     store = model.Store()
     status, text = qmdb.run_program(run['words'], data, store, STAGE)
@@ -76,10 +78,10 @@ for row in check_rows.load_rows():
 section('Worked rows of ordered databases.')
 for row in check_rows.load_rows():
     first, last = check_rows.stages_of(row)
-    if first > STAGE or last < STAGE or 'initial' in row or row['store'] == 'mem': continue
+    if first > STAGE or last < STAGE or 'initial' in row or row['store'] == 'mem' or len(row['runs']) > 1: continue
     run, = row['runs']
     data = check_rows.row_input(run)
-    if ' '.join(run['words']) != ORDERED: continue
+    if ' '.join(run['words']) != ORDERED or b'prune' in data: continue
     t, s, _ = modelled(row['name'].replace(' any ordered mmr', ''), data, words=ORDERED)
     assert (s, t) == (run['status'], run['output'])
 
@@ -171,19 +173,19 @@ for call in range(3):
     put('source call %d fails' % call, ['fail source %d' % call], '' if call < 2 else REPLIES, 3 if call < 2 else 0, 0, 0 if call < 2 else 4, begin='again')
 for call in range(2):
     put('sink call %d fails' % call, ['fail sink %d' % call], '' if call < 1 else REPLIES, 4 if call < 1 else 0, 0, 4, begin='again')
-table = ["", "", "open 1 0 1\nbatch 1\nok\n", "open 1 0 1\nbatch 1\nok\nmerkleized 1 1 4 2\n"] + [APPLIED] * 5
-for call in range(10):
-    n = 0 if call < 2 else 1 if call < 4 else 4
-    if call < 9: put('store call %d fails' % call, ['fail store %d' % call], table[call] + 'store fault\n', 6, 0, n, begin='again')
+table = ["", "", "", "open 1 0 1\nbatch 1\nok\n", "open 1 0 1\nbatch 1\nok\nmerkleized 1 1 4 2\n"] + [APPLIED] * 5
+for call in range(11):
+    n = 0 if call < 2 else 1 if call < 5 else 4
+    if call < 10: put('store call %d fails' % call, ['fail store %d' % call], table[call] + 'store fault\n', 6, 0, n, begin='again')
     else: put('store call %d fails' % call, ['fail store %d' % call], REPLIES, 0, 0, 4, begin='again')
 STEP = "open\nbatch\nput 1 6b 76\nmerkleize 1 prop none\nchild 1\nput 2 6c 77\nmerkleize 2 prop none\nget 6b from=2\napply 2\nget 6c from=1\napply 1\n"
 STEPPED = "open 1 0 1\nbatch 1\nok\nmerkleized 1 1 4 2\nbatch 2\nok\nmerkleized 2 4 7 3\nread 76\napplied 7\nrefused StaleRead\nrefused StaleBatch\n"
 BEFORE = "open 1 0 1\nbatch 1\nok\nmerkleized 1 1 4 2\nbatch 2\nok\nmerkleized 2 4 7 3\nread 76\nstore fault\n"
-section('A batch and its child are appended at once: call 3 is the only append after that of the opening.')
+section('A batch and its child are appended at once: call 4 is the only append after that of the opening.')
 worked('two batches in one step', STEP, 0, STEPPED, 7)
-for call, text, n in ((0, 'store fault\n', 0), (1, 'store fault\n', 0), (2, 'open 1 0 1\nbatch 1\nok\nstore fault\n', 1), (3, BEFORE, 1)):
+for call, text, n in ((0, 'store fault\n', 0), (1, 'store fault\n', 0), (2, 'store fault\n', 1), (3, 'open 1 0 1\nbatch 1\nok\nstore fault\n', 1), (4, BEFORE, 1)):
     put('one step, store call %d fails' % call, ['fail store %d' % call], text, 6, 0, n, begin='again')
-put('one step, store call 4 would fail', ['fail store 4'], STEPPED, 0, 0, 7, begin='again')
+put('one step, store call 5 would fail', ['fail store 5'], STEPPED, 0, 0, 7, begin='again')
 section('More than one fails, and failing calls beside bad lines.')
 put('a fault that the sink does not take', lines_of(PROVED.encode()) + ['fail store 3', 'fail sink 0'], '', 4, 0, 1)
 put('a source that fails before the store', ['fail store 0', 'fail source 1'], '', 3, 0, 0, begin='again')
@@ -195,24 +197,39 @@ for call in range(4):
     put('5,000 bytes, source call %d fails' % call, (['fill 5000 78'] if call == 0 else []) + ['fail source %d' % call], '' if call < 3 else 'bad line 1\n', 3 if call < 3 else 2, 0, 0, begin='case' if call == 0 else 'again')
 
 # ---- stores
+LASTING = 'open\ncommit\nsync\ncrash 0\nopen\ndestroy\n'
+section('Commits, syncs, crashes, openings of an item, and a destroy, each call in turn that fails: those of the first opening are 0 to 2.')
+lasted = ['open 1 0 1\n', 'ok\n', 'ok\n', 'ok\n', 'open 2 0 1\n', 'ok\n']
+put('what lasts', lines_of(LASTING.encode()), ''.join(lasted), 0, 0, 0)
+for call, replies in ((3, 1), (4, 2), (5, 3), (6, 4), (7, 4), (8, 4), (9, 4), (10, 4), (11, 4), (12, 5)):
+    put('what lasts, store call %d fails' % call, ['fail store %d' % call], ''.join(lasted[:replies]) + 'store fault\n', 6, 0, 1, begin='again')
+# ---- stores
 section('Stores with a start or a head.')
 ASK = b'open\ninfo\nbatch\nget 61\n'
 NONE = 'refused NoDatabase\n' * 3
-put('a start', lines_of(ASK) + ['start 2'], 'refused NotOffered\n' + NONE, 0, 2, 0)
-put('the last start', ['start 4611686018427387904'], 'refused NotOffered\n' + NONE, 0, 4611686018427387904, 0, begin='again')
-put('a start with a head', ['start 1', 'head 07'], 'refused NotOffered\n' + NONE, 0, 1, 0, begin='again')
+put('a start', lines_of(ASK) + ['start 2'], 'refused DataCorrupted no retained commit\n' + NONE, 0, 2, 0)
+put('the last start', ['start 4611686018427387904'], 'refused DataCorrupted no retained commit\n' + NONE, 0, 4611686018427387904, 0, begin='again')
+put('a start with a head', ['start 1', 'head 07'], 'refused DataCorrupted no retained commit\n' + NONE, 0, 1, 0, begin='again')
 put('a head at start 0', ['head 07'], 'refused DataCorrupted head does not match the start\n' + NONE, 0, 0, 0, begin='again')
 put('a head of the length of a digest', ['head ' + '00' * 32], 'refused DataCorrupted head does not match the start\n' + NONE, 0, 0, 0, begin='again')
 put('a head that can not be read', ['head 07', 'fail store 0'], 'store fault\n', 6, 0, 0, begin='again')
 put('a head, opened twice', lines_of(b'open\nopen\nput 1 6') + ['head 07'], 'refused DataCorrupted head does not match the start\n' * 2 + 'bad line 3\n', 2, 0, 0)
-section('Runs over one store. It is opened only while it is empty.')
+section('Runs over one store.')
 put('nothing done', [], '', 0, 0, 0)
-put('kept, and opened', ['keep', '| open', '| open', '| info'], 'open 1 0 1\nrefused NotOffered\ninfo 0 1 0 0 empty\n', 0, 0, 1, items=['03000000000000000000'])
-put('kept, with an item', ['keep', '| open', '| info'], 'refused NotOffered\nrefused NoDatabase\n', 0, 0, 1, items=['03000000000000000000'])
+put('kept, and opened', ['keep', '| open', '| open', '| info'], 'open 1 0 1\nopen 2 0 1\ninfo 0 1 0 0 empty\n', 0, 0, 1, items=['03000000000000000000'])
+put('kept, with an item', ['keep', '| open', '| info'], 'open 1 0 1\ninfo 0 1 0 0 empty\n', 0, 0, 1, items=['03000000000000000000'])
 put('kept, with other words', ['keep', 'words run', '| open'], '', 1, 0, 1)
 put('an opening whose append fails', ['fail store 1 3', '| open'], 'store fault\n', 6, 0, 0)
 put('kept, and fails once more', ['keep', '| open'], 'store fault\n', 6, 0, 0)
 put('kept, and opened at last', ['keep', '| open', '| info'], 'open 1 0 1\ninfo 0 1 0 0 empty\n', 0, 0, 1)
+SETTLED = 'open\nbatch\nput 1 6b 76\nmerkleize 1 prop none\napply 1\ncommit\nbatch\nput 2 6c 77\nmerkleize 2 prop none\napply 2\n'
+SETTLED_REPLIES = 'open 1 0 1\nbatch 1\nok\nmerkleized 1 1 4 2\napplied 4\nok\nbatch 2\nok\nmerkleized 2 4 7 3\napplied 7\n'
+for keep, size in ((0, 4), (5, 4), (6, 4), (7, 7), (9, 7)):
+    worked('a crash that is asked to keep %d' % keep, SETTLED + 'crash %d\nopen\ninfo\n' % keep, 0, SETTLED_REPLIES + 'ok\nopen 2 0 %d\n' % size + ('info 0 7 3 3 live\n' if size == 7 else 'info 0 4 2 2 live\n'), size)
+worked('bounds', SETTLED + 'open max=0\ninfo\nopen max=6\napply 2\nopen max=7\nopen max=1\nopen\n', 0, SETTLED_REPLIES + 'refused InvalidInitializationBound\nrefused NoDatabase\nopen 2 0 4\napplied 7\nopen 3 0 7\nopen 4 0 1\nopen 5 0 1\n', 1)
+worked('closed and destroyed', SETTLED + 'close\nget 6b\nopen\nget 6b\nsync\ndestroy\nsync\nopen\ninfo\n', 0, SETTLED_REPLIES + 'ok\nrefused NoDatabase\nopen 2 0 7\nread 76\nok\nok\nrefused NoDatabase\nopen 3 0 1\ninfo 0 1 0 0 empty\n', 1)
+put('a store for later', lines_of(SETTLED.encode()), SETTLED_REPLIES, 0, 0, 7)
+put('kept, and read', ['keep', '| open max=4', '| many 6b 6c'], 'open 1 0 4\nread 76 none\n', 0, 0, 4)
 section('Policies: three keys written under hold, then an empty batch under each of these, and what is left after it.')
 HELD = 'open\nbatch\nput 1 61 01\nput 1 62 02\nput 1 63 03\nmerkleize 1 hold none\napply 1\n'
 for policy in ('prop', 'hold', 'bounded:0:9', 'bounded:9:0', 'bounded:9:1', 'bounded:2:1', 'bounded:2:2', 'bounded:9:9', 'bounded:18446744073709551615:18446744073709551615',
@@ -236,14 +253,21 @@ worked('recorded writes, slots and other writes', 'open\nbatch\nput 1 61 01\nput
 section('Scripts of an independent model, without the longest.')
 for seed in range(100):
     size = (12, 25, 25, 40, 60)[seed % 5]
-    lines = fuzz.script('rows %d' % seed, 'any unordered mmr', STAGE, size, bad=seed % 3 == 0)
+    lines = fuzz.script('rows %d' % seed, 'any unordered mmr', SCRIPTS, size, bad=seed % 3 == 0)
     said = '\n'.join(lines) + ('\n' if seed % 7 else '')
     if len(said) <= 1800: modelled('script %d' % seed, said)
 section('Scripts of ordered databases.')
 for seed in range(40):
-    lines = fuzz.script('ordered rows %d' % seed, 'any ordered mmr', STAGE, (12, 25, 40)[seed % 3], bad=seed % 4 == 0)
+    lines = fuzz.script('ordered rows %d' % seed, 'any ordered mmr', SCRIPTS, (12, 25, 40)[seed % 3], bad=seed % 4 == 0)
     said = '\n'.join(lines) + '\n'
     if len(said) <= 1800: modelled('ordered script %d' % seed, said, words=ORDERED)
+section('Scripts with commits, crashes, closings and openings.')
+LATER = ('prune', 'held', 'absent', 'chunks', 'witness')
+for words, count in ((WORDS, 40), (ORDERED, 20)):
+    for seed in range(count):
+        lines = fuzz.script('lasting rows %d' % seed, words[4:], STAGE, (12, 25, 40)[seed % 3], bad=False)
+        said = ''.join(x + '\n' for x in lines if x.split(' ')[0] not in LATER)
+        if len(said) <= 1800: modelled('lasting script %d, %s' % (seed, words.split(' ')[2]), said, words=words)
 section('Chains of three batches: what the second and the third keep, which are applied before each is made, and before the third is asked.')
 def chain(keep2, keep3, before2, before3, before_asked):
     lines = ['open', 'batch', 'put 1 6b6b6b6b01 01', 'merkleize 1 prop none']
