@@ -1,0 +1,46 @@
+-- Chunks within 2 ^ 62 locations.
+use Rattle.std.proofs.Common.{◌≡◌, ℕ, suc, ◌+◌, ◌-◌, ◌*◌, ◌/◌, ◌^◌, ◌<◌, ◌≤◌, arith, ap, sym, ◌∙◌, ⊎_elim, le_refl, pow_mono}
+use Rattle.std.proofs.Math.Nat.{pow-suc}
+use Rattle.std.proofs.lemmas.Bool.{cases_lt}
+use Rattle.std.proofs.lemmas.Nat.{pow-add, pow_pos, div-add-mod', mul-le}
+
+-- a factor that is not 0 may be left out
+pub without_factor : (a b w : ℕ) → 0 < w → a * w ≤ b * w → a ≤ b
+without_factor a b w some le = ⊎_elim
+    (λ (more : b < a). let far = mul-le (suc b) w a w (omega arith) (le_refl w) in absurd (omega arith))
+    (λ (most : a ≤ b). most)
+    (cases_lt b a)
+
+-- the node over the last of some chunks and its neighbour ends within 2 ^ 62 locations where they do
+pub pair_within : (g c : ℕ) → g < 62 → 0 < c → c * 2 ^ g ≤ 2 ^ 62 → suc ((c - 1) / 2) * 2 ^ (g + 1) ≤ 2 ^ 62
+pair_within g c low some within =
+    let split : 61 - g + suc g ≡ 62 = omega arith in
+    let wide = pow-suc 2 g in
+    let whole : 2 ^ 62 ≡ 2 ^ (61 - g) * 2 ^ suc g = ap (λ n. 2 ^ n) (sym split) ∙ pow-add 2 (61 - g) (suc g) in
+    let twice : 2 ^ (61 - g) * 2 ^ suc g ≡ (2 ^ (61 - g) * 2) * 2 ^ g = ap (λ (w : ℕ). 2 ^ (61 - g) * w) wide ∙ omega arith in
+    let fewer = without_factor c (2 ^ (61 - g) * 2) (2 ^ g) (pow_pos g) (omega arith) in
+    let most = mul-le (suc ((c - 1) / 2)) (2 ^ suc g) (2 ^ (61 - g)) (2 ^ suc g) (omega arith) (le_refl (2 ^ suc g)) in
+    let next : g + 1 ≡ suc g = omega arith in
+    let same : suc ((c - 1) / 2) * 2 ^ (g + 1) ≡ suc ((c - 1) / 2) * 2 ^ suc g = ap (λ k. suc ((c - 1) / 2) * 2 ^ k) next in
+    omega arith
+
+-- the chunks up to a location's end at or below it
+pub chunks_within : (g n : ℕ) → n / 2 ^ g * 2 ^ g ≤ n
+chunks_within g n = let split = div-add-mod' n (2 ^ g) in omega arith
+
+-- Powers of two.
+
+pub power_most : (k n : ℕ) → 2 ^ k ≤ 2 ^ n → k ≤ n
+power_most k n low = ⊎_elim
+    (λ (past : n < k). let far : 2 ^ suc n ≤ 2 ^ k = pow_mono (omega arith) in let wide = pow-suc 2 n in let some = pow_pos n in absurd (omega arith))
+    (λ (most : k ≤ n). most)
+    (cases_lt n k)
+
+-- between a power of two and the next there is no other
+pub power_is : (k e : ℕ) → 2 ^ k ≤ 2 ^ e → 2 ^ e < 2 ^ suc k → k ≡ e
+power_is k e low high =
+    let from = power_most k e low in
+    ⊎_elim
+    (λ (past : k < e). let far : 2 ^ suc k ≤ 2 ^ e = pow_mono (omega arith) in absurd (omega arith))
+    (λ (most : e ≤ k). omega (arith, from, most))
+    (cases_lt k e)

@@ -1,0 +1,12 @@
+//! Bits under roots: chunks of activity bits grafted onto a tree of operations, and up to where a list may be pruned.
+#![tactic(auto)]
+
+pub mod boundary;
+pub mod chunks;
+pub mod digests;
+pub mod graftable;
+pub mod laws;
+pub mod nodes;
+
+pub use boundary::{pair_absorption_threshold, sync_boundary};
+pub use graftable::Graftable;
