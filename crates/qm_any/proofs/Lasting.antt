@@ -154,9 +154,9 @@ module _ {C D : Type 0} (members : store.Ghosts C) where
 
   -- a prune gives up the store, also where memory lacked before its store was called
   pub cut-given-up : (hashing : Hashing D) (to : ℕ) (head : Bytes) (self : Database C D) (beside : Beside) (old : Log C D) (r : LogRefusal (Log C D) C) → self ≡ over beside old → IfSome (members.told self.log.store) (λ s. s.stable ≡ end_of s)
-      → IsRefused members (logs.HasLeftPruned members to head) old r.given r.error → IsHeadAt members hashing to old head
+      → old.tree.start < to → IsRefused members (logs.HasLeftPruned members to head) old r.given r.error → IsHeadAt members hashing to old head
       → IsGivenUp members {X = Database C D} (λ _. HasLeftPruned members hashing (λ s. s) to self.log) self.log.store (given_up r)
-  cut-given-up hashing to head self beside old r whole all refused heads =
+  cut-given-up hashing to head self beside old r whole all past refused heads =
       subst (λ db. IsGivenUp members {X = Database C D} (λ _. HasLeftPruned members hashing (λ s. s) to db.log) db.log.store (given_up r)) (sym whole)
       (by r.given r.error refused)
     where
@@ -174,13 +174,13 @@ module _ {C D : Type 0} (members : store.Ghosts C) where
           record {
             store = log.store;
             given = refl;
-            left = subst (λ l. HasLeftPruned members hashing (λ s. s) to old l.store) (sym same) (record { within = omega arith; head = head; heads = heads; told = itself (members.told old.store) stable });
+            left = subst (λ l. HasLeftPruned members hashing (λ s. s) to old l.store) (sym same) (record { past = past; within = omega arith; head = head; heads = heads; told = itself (members.told old.store) stable });
             never = refused.never;
             cause = refused.cause;
           }
       by (variants.Store s) error refused =
           let left = refused.left s refl in
-          record { store = s; given = refl; left = record { within = left.within; head = head; heads = heads; told = left.told }; never = refused.never; cause = refused.cause }
+          record { store = s; given = refl; left = record { past = past; within = left.within; head = head; heads = heads; told = left.told }; never = refused.never; cause = refused.cause }
 
   pub cut-is : (v b : Beside) (a : Bitmap) (to : ℕ) (log : Log C D) (db : Database C D) → db ≡ over (record v { activity = a }) log → a ≡ bits_from to v.activity → v ≡ b → db ≡ over (cut to b) log
   cut-is v b a to log db is same view = is ∙ ap (λ a. over (record v { activity = a }) log) same ∙ ap (λ v. over (cut to v) log) view
@@ -251,6 +251,7 @@ module _ {C D : Type 0} (members : store.Ghosts C) where
     store = given.store;
     given = given.given;
     left = inr (record {
+      past = omega (arith, given.left.past, ap (λ t. t.start) last.tree);
       within = omega (arith, given.left.within, last.store.end);
       head = given.left.head;
       heads = λ items logged. given.left.heads items (last.stands items logged);

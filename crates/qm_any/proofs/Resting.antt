@@ -3,11 +3,11 @@ use Rattle.std.proofs.Common.{◌≡◌, ◌∙◌, ℕ, suc, min, refl, sym, ap
 use Rattle.std.specs.Prelude.{All, if◌then◌else◌}
 use Rattle.std.proofs.Math.Seq.{take-length, drop-length}
 use Rattle.std.proofs.lemmas.List.{append-nil, take_all, take_min, length-map}
-use Rattle.std.proofs.lemmas.List.Elements.{All-cons}
+use Rattle.std.proofs.lemmas.List.Elements.{All-nil, All-cons}
 use Rattle.qm_model.specs.Live.{touched}
 use Rattle.qm_step.specs.Changes.{AreChanges, stands_at, place_in}
 use Rattle.qm_model.specs.Forms.{spelling}
-use Rattle.qm_store.specs.KeptTrees.{leaves_of}
+use Rattle.qm_store.specs.KeptTrees.{IsAdding, leaves_of}
 use Rattle.qm_model.specs.Operations.{Operation}
 use Rattle.qm_model.specs.Batches.{Chain, Kept, commitment, begun_on, child_of}
 use Rattle.qm_model.proofs.Chains.{Contains-first}
@@ -43,6 +43,7 @@ module _ {C D : Type 0} {members : store.Ghosts C} {layout : Layout D} where
           leaves = size ∙ sym (length-map list (spelling by.form));
           lists = [];
           history = tt;
+          adding = All-nil (IsAdding by.shape);
           through = All-one (λ l. Contains (leaves_of by.hash by.shape own ∷ []) (leaves_of by.hash by.shape l)) own (Contains-first (leaves_of by.hash by.shape own) []);
         };
         of = is.lent.of;

@@ -84,8 +84,9 @@ module _ {C D : Type 0} (members : store.Ghosts C) where
     pub told : Becomes (members.told old.log.store) (members.told new.log.store) (λ s. cut_to old.log.tree.start to head (f s))
     pub later : members.faults old.log.store ≤ members.faults new.log.store
 
-  -- a store was made this, and then a prune to a location failed
+  -- a store was made this, and then a prune to a location behind its start failed
   pub record HasLeftPruned (hashing : Hashing D) (f : Stored → Stored) (to : ℕ) (log : Log C D) (new : C) : Type 0 where
+    pub past : log.tree.start < to
     pub within : members.«end» new ≤ members.«end» log.store
     pub head : Bytes
     pub heads : IsHeadAt hashing to log head

@@ -18,7 +18,7 @@ ghost use Rattle.qm_step.specs.Bases.{IsBase, base_view};
 ghost use Rattle.qm_step.specs.Kinds.{HasRing};
 ghost use Rattle.qm_batch.specs.Lent.{IsReadError, NoneBelow};
 ghost use Rattle.qm_step.specs.Views.{changes_view, keys_of, wanted_view, AreReads, IsPlan, stepped, left_after};
-ghost use Rattle.qm_any.specs.Databases.{IsDatabase, IsBegun, IsMade, IsLeft, base_of, bases, child_boundary, child_made, child_tips, is_on, kept_by, operations_in, unapplied};
+ghost use Rattle.qm_any.specs.Databases.{AreAgreed, IsDatabase, IsBegun, IsMade, IsLeft, base_of, bases, child_boundary, child_made, child_tips, is_on, kept_by, operations_in, unapplied};
 ghost use Rattle.qm_store.specs.Log.{IsLacked};
 ghost use Rattle.qm_store.specs.KeptTrees.{held_at};
 ghost use Rattle.qm_any.specs.Reasons.{IsMakingError};
@@ -324,7 +324,8 @@ impl<F: Family, D: Digest, U: Update> MerkleizedBatch<F, D, U> {
 
     /// The states of a database that the batch knows, and the floor of its commit.
     pub fn bounds(&self) -> &Bounds<F, D>
-        ensures { result.now ≡ self.now.bounds }
+        ensures bounds { result.now ≡ self.now.bounds }
+        ensures agreed { AreAgreed self.now }
     {
         &self.bounds
     }

@@ -537,7 +537,9 @@ impl<
     /// The location of the first operation that the store keeps, and the location after the last one.
     pub fn bounds(&self) -> (Location<F>, Location<F>)
         ensures start { result.0 ≡ C.start self.now.log.store }
+        ensures first { C.start self.now.log.store ≡ self.now.log.tree.start }
         ensures end { result.1 ≡ self.now.commitment.size }
+        ensures few { self.now.commitment.size ≤ 2 ^ 62 }
     {
         let (start, size) = self.log.bounds();
         (Location::new(start), Location::new(size))

@@ -13,5 +13,5 @@ mod restore;
 pub mod scan;
 pub mod staged;
 
-pub use open::{hasher, init, initial_root};
-pub use restore::take_up;
+pub use open::{hasher, initial_root};
+pub use restore::{Config, init};

@@ -1,4 +1,4 @@
-//! How a database is opened, and the root of a fresh one.
+//! How a fresh database begins, and its root.
 
 ghost use Rattle.std.specs.Prelude.{◌≡◌, ◌≢◌, ◌⊎◌, ◌≤◌, ◌<◌, ◌∷◌, [], length, map, IfSome, IfOk, IfErr};
 ghost use Rattle.qm_model.specs.Bits.{bits};
@@ -64,10 +64,16 @@ fn root_of_one<H: Hasher>(hasher: &mut H, leaf: &H::Digest) -> H::Digest
     hasher.finish()
 }
 
-/// Opens a database over an empty store: a fresh list, one commit without metadata and with floor 0, which it appends.
-/// The translator makes the index keys. A refusal gives back the store. The head of an empty store is empty: one with a byte
-/// is refused, and the store comes back as it was.
-pub fn init<F: Family, C: Store, I: Factory<Value = Location<F>>, H: Hasher + Drop, U: Update>(
+// The database over an empty store: a fresh list, one commit without metadata and with floor 0, which it appends.
+// The translator makes the index keys. A refusal gives back the store. The head of an empty store is empty: one with a byte
+// is refused, and the store comes back as it was.
+pub(crate) fn fresh_over<
+    F: Family,
+    C: Store,
+    I: Factory<Value = Location<F>>,
+    H: Hasher + Drop,
+    U: Update,
+>(
     alloc: Global,
     store: C,
     hasher: H,

@@ -22,7 +22,7 @@ ghost use Rattle.qm_any.specs.Databases.{IsDatabase};
 ghost use Rattle.qm_any.specs.Restoring.{links_apart, selected_size, taken, HasList, LeavesOpening};
 
 use crate::db::{Db, LaidOut};
-use crate::open::{init, store_of};
+use crate::open::{fresh_over, store_of};
 use qm_base::update::Update;
 use qm_base::{Commitment, Corrupt, Digest, Error, Hasher, JournalError, Location};
 use qm_bits::Chunk64;
@@ -204,22 +204,32 @@ fn begin<F: Family, C: Store, I: Factory<Value = Location<F>>, H: Hasher + Drop,
     ensures refused { IfSome (C.told store) (λ s. IfErr result (λ r. IsDue r.error (content_refusal (any_layout U.form F.shape H.Digest.SIZE) (any_found U.form s) None))) }
     ensures back { IfErr result (λ r. (s : C) × (r.given ≡ Given.Store s) × (C.start s ≡ C.start store) × (IsSome (refusal_of r.error) → IsKept C.Store store s) × IsCause (C.faults store) (C.faults s) (r.error ≡ Error.Journal JournalError.Store)) }
 {
-    init(alloc, store, hasher, translator)?.commit()
+    fresh_over(alloc, store, hasher, translator)?.commit()
+}
+
+/// How a database is opened.
+#[derive(Drop)]
+pub struct Config<T, W> {
+    /// Makes the index keys.
+    pub translator: T,
+    /// How many keys a rebuild keeps at most, to tell those with the same index key apart.
+    pub init_cache: NonZeroUsize,
+    /// With how many workers the index is rebuilt; the plain ones take `()`, for one.
+    pub init_concurrency: W,
 }
 
 /// Opens the list that a store keeps: the longest one of at most so many operations that ends with a commit, of which the
 /// store has the last operations; over an empty store a fresh one, with a commit of its own. What the store has behind the
 /// list goes, and all of it is made stable. It reads the items behind the selected commit and that one, then each item from
 /// the store's start on, and each from the list's floor on once more, of an ordered list twice, the second time for its links.
-/// So many keys at most are kept to tell those with the same index key apart; for the links each live key is kept, with the
+/// As many keys as the cache takes are kept to tell those with the same index key apart; for the links each live key is kept, with the
 /// one that it names. A refusal gives back the store, as it was but where memory lacks or a call of it failed, of a store for
 /// which all checks hold: then it may have lost what it had behind the list, or got a first part of the fresh one.
-pub fn take_up<F: Family, C: Store, I: Factory<Value = Location<F>>, H: Hasher + Drop, U: Update>(
+pub fn init<F: Family, C: Store, I: Factory<Value = Location<F>>, H: Hasher + Drop, U: Update>(
     alloc: Global,
     store: C,
     hasher: H,
-    translator: I::Translator,
-    kept_keys: NonZeroUsize,
+    config: Config<I::Translator, ()>,
     max_size: Option<u64>,
 ) -> Result<Db<F, C, I, H, U>, Refusal<Db<F, C, I, H, U>, C>>
     ensures keys { ⟦<Db<F, C, I, H, U> as LaidOut>⟧.layout.index_key ≡ I.Translator.index_key }
@@ -238,8 +248,13 @@ pub fn take_up<F: Family, C: Store, I: Factory<Value = Location<F>>, H: Hasher +
     // What is stable of it are items that it has.
     store.bounds();
     let mut store = store;
+    let Config {
+        translator,
+        init_cache,
+        init_concurrency: _,
+    } = config;
     match select_commit::<F, C, U>(alloc, &mut store, max_size) {
-        Ok(Some(selected)) => open_list(alloc, store, hasher, translator, kept_keys, selected),
+        Ok(Some(selected)) => open_list(alloc, store, hasher, translator, init_cache, selected),
         Ok(None) => begin(alloc, store, hasher, translator),
         Err(error) => Err(Refusal {
             given: Given::Store(store),

@@ -1,13 +1,12 @@
-//! A database that is committed, pruned and synced, taken up again from its store, and then destroyed.
+//! A database that is committed, pruned and synced, opened again from its store, and then destroyed.
 
-use crate::fixed::{Database, batch_of, kept, key, opened};
-use qm_any::take_up;
+use crate::fixed::{Database, batch_of, config, kept, key, opened};
+use qm_any::init;
 use qm_base::{Error, Sha256};
 use qm_index::FourCap;
 use qm_memory::MemStore;
 use qm_store::{MetaEntry, Store as _};
 use std::alloc::{AllocError, Global};
-use std::num::NonZeroUsize;
 use std::test::Fail;
 
 // A database with one key.
@@ -43,15 +42,8 @@ fn seen(alloc: Global, db: &mut Database) -> Result<(u64, bool), Error> {
 }
 
 // The database of the whole list that a store keeps.
-fn taken_up(alloc: Global, store: MemStore) -> Result<Database, Error> {
-    kept(take_up(
-        alloc,
-        store,
-        Sha256::new(),
-        FourCap,
-        NonZeroUsize::MIN,
-        None,
-    ))
+fn reopened(alloc: Global, store: MemStore) -> Result<Database, Error> {
+    kept(init(alloc, store, Sha256::new(), config(FourCap), None))
 }
 
 #[test]
@@ -59,7 +51,7 @@ fn a_pruned_database_has_its_keys(rt: HostRuntime) -> Result<(), Fail> {
     let alloc = rt.alloc();
     let mut db = lasting(alloc, filled(alloc)?)?;
     assert_eq!(rt; seen(alloc, &mut db)?, (2, true));
-    let mut db = taken_up(alloc, db.close())?;
+    let mut db = reopened(alloc, db.close())?;
     assert_eq!(rt; seen(alloc, &mut db)?, (2, true));
     let store = kept(db.destroy())?;
     assert_eq!(rt; store.bounds(), (0, 0));

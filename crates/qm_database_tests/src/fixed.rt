@@ -3,7 +3,7 @@
 
 use qm_any::batch::MerkleizedBatch;
 use qm_any::db::Db;
-use qm_any::{hasher, init};
+use qm_any::{Config, hasher, init};
 use qm_base::{
     ByteString, Digest, Error, FixedBytes, FixedEncoding, Location, Sha256, Sha256Digest, Unordered,
 };
@@ -14,7 +14,7 @@ use qm_memory::MemStore;
 use qm_merkle::mmr::Family;
 use qm_store::Refusal;
 use std::alloc::{AllocError, Global};
-use std::num::NonZeroU64;
+use std::num::{NonZeroU64, NonZeroUsize};
 use std::rc::Rc;
 use std::test::Fail;
 
@@ -32,9 +32,19 @@ pub(crate) fn kept<T: Drop, X: Drop>(done: Result<T, Refusal<X, MemStore>>) -> R
     }
 }
 
+// An opening with this translator, which keeps one key.
+pub(crate) fn config<T>(translator: T) -> Config<T, ()> {
+    Config {
+        translator,
+        init_cache: NonZeroUsize::MIN,
+        init_concurrency: (),
+    }
+}
+
 // A fresh database over an empty store that fails at these calls.
 pub(crate) fn opened(alloc: Global, fail: Vec<u64>) -> Result<Database, Error> {
-    kept(init(alloc, MemStore::new(alloc, fail), Sha256::new(), FourCap))
+    let store = MemStore::new(alloc, fail);
+    kept(init(alloc, store, Sha256::new(), config(FourCap), None))
 }
 
 pub(crate) fn key(alloc: Global) -> Result<FixedBytes<4>, AllocError> {

@@ -1,6 +1,6 @@
 //! Scans of an ordered database: one over a store that refuses a read, and one of keys.
 
-use crate::fixed::kept;
+use crate::fixed::{config, kept};
 use qm_any::batch::UnmerkleizedBatch;
 use qm_any::db::Db;
 use qm_any::init;
@@ -56,7 +56,8 @@ fn written(alloc: Global, batch: Batch) -> Result<Batch, AllocError> {
 
 // A fresh database over a store that fails at these calls.
 fn opened(alloc: Global, fail: Vec<u64>) -> Result<Database, Error> {
-    kept(init(alloc, MemStore::new(alloc, fail), Sha256::new(), OneCap))
+    let store = MemStore::new(alloc, fail);
+    kept(init(alloc, store, Sha256::new(), config(OneCap), None))
 }
 
 // The same with five keys.

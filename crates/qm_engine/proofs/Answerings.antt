@@ -1,11 +1,12 @@
 -- The loop over the lines of an input: one line more, and its ends.
-use Rattle.std.proofs.Common.{◌≡◌, ◌≤◌, ◌<◌, ℕ, suc, ◌+◌, List, [], ◌∷◌, ◌++◌, length, take, Option, Some, None, IfSome, arith, refl, sym, ◌∙◌, ap, subst}
+use Rattle.std.proofs.Common.{◌≡◌, ◌⊎◌, inl, ◌≤◌, ◌<◌, ℕ, suc, ◌+◌, List, [], ◌∷◌, ◌++◌, length, take, Option, Some, None, IfSome, arith, refl, sym, ◌∙◌, ap, subst}
 use Rattle.std.specs.Prelude.{IfNone, IsSome}
 use Rattle.std.proofs.lemmas.List.{flat_map_more}
 use Rattle.qm_model.specs.Operations.{Bytes}
 use Rattle.qm_model.specs.Own.{Log, IsKept}
-use Rattle.qm_model.specs.StoreModel.{Stored}
-use Rattle.qm_model.specs.Batches.{Apart}
+use Rattle.qm_model.specs.StoreModel.{Stored, end_of}
+use Rattle.qm_model.specs.Batches.{Apart, Begins}
+use Rattle.qm_model.proofs.Chains.{Begins-self}
 use Rattle.qm_model.specs.Policies.{Policy, policies}
 use Rattle.qm_machine.specs.Lines.{Line, Answer}
 use Rattle.qm_machine.specs.Machine.{Scheme, State, engine_of, choices_after, initial, turn, answers}
@@ -26,10 +27,10 @@ use Rattle.qm_machine.specs.Sound.{IsSteady}
 use Rattle.qm_engine.specs.declared.words.Words as words
 use Rattle.qm_engine.specs.declared.session.Session.{Session}
 use Rattle.qm_engine.specs.Session.{Stands, IsChosen}
-use Rattle.qm_engine.specs.Runs.{after, IsOwnStore}
+use Rattle.qm_engine.specs.Runs.{after, IsOwnStore, IsOwnLeft}
 use Rattle.qm_engine.specs.Answered.{after_line, IsAnswered}
-use Rattle.qm_engine.proofs.Commands.{left_none}
-use Rattle.qm_engine.proofs.Loops.{Between, loop_step, left_in, after_all, own-of, goes-between}
+use Rattle.qm_engine.proofs.Loops.{Between, loop_step, left_in, after_all, goes-between, own-left}
+use Rattle.qm_engine.proofs.Owned.{own-of, none-left, owned}
 
 abbrev with_line : Bytes → Answer → Bytes
 with_line text answer = text ++ (reply_line answer ++ 10 ∷ [])
@@ -70,6 +71,8 @@ relabelled_line (commands.BatchProof h) = refl
 relabelled_line commands.Meta = refl
 relabelled_line (commands.Prove size start max) = refl
 relabelled_line (commands.Pins n) = refl
+relabelled_line (commands.Current question) = refl
+relabelled_line (commands.Prune to) = refl
 relabelled_line commands.Commit = refl
 relabelled_line commands.Sync = refl
 relabelled_line commands.Close = refl
@@ -108,11 +111,11 @@ module _ (input rest line behind : Bytes) (k : ℕ) (at : IsAt input rest k) (fo
     -- what is left where the loop ended at it
     line_left : (o : Option (Line Policy)) → line_of line ≡ o → (left : Option Stored) (Before : State → Type 0)
         → (Apart m.root (after m policies log choices (commands_in input) k).had → Before (after m policies log choices (commands_in input) k))
-        → ((s : State) → Before s → Apart m.root s.had → IsLeft m left s.log (after_line m policies s o).log)
-        → Apart m.root (after m policies log choices (commands_in input) k).had → IsLeft m left (after m policies log choices (commands_in input) k).log (after m policies log choices (commands_in input) (suc k)).log
+        → ((s : State) → Before s → Apart m.root s.had → IsOwnLeft m policies left s.log (after_line m policies s o).log)
+        → Apart m.root (after m policies log choices (commands_in input) k).had → IsOwnLeft m policies left (after m policies log choices (commands_in input) k).log (after m policies log choices (commands_in input) (suc k)).log
     line_left None e left Before so_far leaves = λ apart.
         let s : State = after m policies log choices (commands_in input) k in
-        subst (IsLeft m left s.log) (sym (after_all m policies log choices (commands_in input) k (omega (arith, (at_bad input rest line behind k at found e).0)))) (leaves s (so_far apart) apart)
+        subst (IsOwnLeft m policies left s.log) (sym (after_all m policies log choices (commands_in input) k (omega (arith, (at_bad input rest line behind k at found e).0)))) (leaves s (so_far apart) apart)
     line_left (Some c) e left Before so_far leaves =
         left_in m policies log choices (commands_in input) k c left Before (at_within input rest line behind k at found c e) (at_command input rest line behind k at found c e) so_far leaves
 
@@ -128,7 +131,7 @@ module _ (input rest line behind : Bytes) (k : ℕ) (at : IsAt input rest k) (fo
     pub answered_in : (text : Bytes) (left : Option Stored) (Before : State → Type 0)
         → (Apart m.root (after m policies log choices (commands_in input) k).had → (text ≡ text_of (answers m policies (initial log choices) (take k (commands_in input)))) × Before (after m policies log choices (commands_in input) k))
         → ((s : State) → Before s → line_of line ≡ None → IsOwnStore m policies left s.log)
-        → ((s : State) → Before s → Apart m.root s.had → IsLeft m left s.log (after_line m policies s (line_of line)).log)
+        → ((s : State) → Before s → Apart m.root s.had → IsOwnLeft m policies left s.log (after_line m policies s (line_of line)).log)
         → IsAnswered m policies log choices (commands_in input) k text left
     answered_in text left Before so_far stays leaves = record {
       few = at.few;
@@ -145,7 +148,7 @@ answered_at m log choices input k text left few so_far = record {
   few = few;
   same = λ apart. (so_far apart).0;
   whole = λ all apart. own-of m policies left _ (so_far apart).1 (so_far apart).2;
-  left = λ apart. left_none m (after m policies log choices (commands_in input) k).log (after m policies log choices (commands_in input) (suc k)).log left (so_far apart).1;
+  left = λ apart. none-left m policies left (after m policies log choices (commands_in input) k).log (after m policies log choices (commands_in input) (suc k)).log (so_far apart).1 (so_far apart).2;
 }
 
 -- between two lines of a sound run: the next one was answered
@@ -155,6 +158,12 @@ pub line_goes : {X C B S M : Type 0} (members : stores.Ghosts C) (means : words.
 line_goes members means old new more rest before text None chosen did s between = tt
 line_goes members means old new more rest before text (Some c) chosen did s between =
     goes-between members means policies old new more rest c (λ s. text ≡ with_line before (turn means.scheme policies s c).0) chosen did s between
+
+-- between two lines of a sound run: what the next one may leave is a store that databases leave
+pub line-own : {X C B S M : Type 0} (members : stores.Ghosts C) (means : words.Ghosts X C B S M) (session : Session X C B S M) (rest : List ℕ) (o : Option (Line Policy)) (left : Option Stored) (s : State) → IfSome left (λ t. t.stable ≤ end_of t)
+    → Between members means policies session rest s → Apart means.scheme.root s.had → IsLeft means.scheme left s.log (after_line means.scheme policies s o).log → IsOwnLeft means.scheme policies left s.log (after_line means.scheme policies s o).log
+line-own members means session rest None left s stable between apart is = owned means.scheme policies s.log s.log between.sound.kept between.sound.kept (inl (Begins-self s.log.list)) left stable is
+line-own members means session rest (Some line) left s stable between apart is = own-left members means policies session rest line left s stable between apart is
 
 -- what holds, where there is none; and what follows, where there is one
 pub none-any : {X : Type 0} (o : Option X) {P : Type 0} → P → IfNone o P

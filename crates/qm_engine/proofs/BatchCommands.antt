@@ -1,7 +1,8 @@
 -- The commands that make, fill and apply batches.
-use Rattle.std.proofs.Common.{◌≡◌, ◌≢◌, ◌<◌, ℕ, Bool, true, false, cond, List, [], ◌∷◌, ◌++◌, length, get_or, set, map, drop, Option, Some, None, Result, Ok, Err, arith, refl, sym, ◌∙◌, ap, subst, IfSome, IfOk, IfErr, inr, le_refl, length-append}
+use Rattle.std.proofs.Common.{◌≡◌, ◌≢◌, ◌<◌, ◌≤◌, ℕ, Bool, true, false, cond, List, [], ◌∷◌, ◌++◌, length, get_or, set, map, drop, Option, Some, None, Result, Ok, Err, arith, refl, sym, ◌∙◌, ap, subst, IfSome, IfOk, IfErr, inr, le_refl, length-append}
 use Rattle.std.proofs.lemmas.List.{take-append-drop, drop_all}
 use Rattle.std.specs.Prelude.{Contains}
+use Rattle.std.proofs.Math.Nat.{le_trans}
 use Rattle.qm_model.specs.StoreModel.{Stored, HasAppended}
 use Rattle.qm_model.specs.StoreModel as model
 use Rattle.qm_model.specs.Operations.{Bytes, Operation}
@@ -9,14 +10,14 @@ use Rattle.qm_model.specs.Forms.{spelling}
 use Rattle.qm_model.specs.Live.{floor}
 use Rattle.qm_model.specs.Walk.{Rules}
 use Rattle.qm_model.specs.Writes.{Write}
-use Rattle.qm_model.specs.Batches.{Chain, child_of, IsAmong, IsOnChain, Begins, Apart, commitment, fits}
+use Rattle.qm_model.specs.Batches.{Chain, child_of, IsAmong, IsOnChain, IsRising, Begins, Apart, commitment, fits}
 use Rattle.qm_model.specs.Refusals.{tip_refusal}
 use Rattle.qm_machine.specs.Lines.{Answer}
 use Rattle.qm_machine.specs.Lines as lines
 use Rattle.qm_model.specs.Refused as refusals
 use Rattle.qm_machine.specs.Machine.{State, slot_at, with_slot, refuse, started, start_child, put_in, merkleize_tip, merkleize_in, apply_in}
 use Rattle.qm_machine.specs.Machine as machine
-use Rattle.qm_model.proofs.Chains.{Contains-more, Contains-first, IsAmong-more, child-among, on_chain-fits, known-begins, Begins-length}
+use Rattle.qm_model.proofs.Chains.{Contains-more, Contains-first, IsAmong-more, child-among, on_chain-fits, known-begins, Begins-self, Begins-length}
 use Rattle.qm_base.specs.declared.error.Error.{Error}
 use Rattle.qm_base.specs.declared.error.Error.TheVariants as errors
 use Rattle.qm_lines.specs.Views.{refused_view}
@@ -40,9 +41,13 @@ use Rattle.qm_machine.specs.Sound.{IsSoundSlot, IsSteady}
 use Rattle.qm_engine.specs.Stores.{HasLog, IsLeft}
 use Rattle.qm_engine.specs.Session.{SlotIs, Holds}
 use Rattle.qm_engine.proofs.Tables.{push_at, set_at, set_set}
-use Rattle.qm_store.specs.Given.{Appended, IsUnchanged}
+use Rattle.qm_store.specs.Given.{Appended, IsUnchanged, TellsFrom}
 use Rattle.qm_engine.proofs.Lasting.{has-appended, left_appended}
-use Rattle.qm_engine.proofs.Commands.{stored-same, choice, none_some, refuses, by_error, HeldIs-more, SlotIs-more, with_held, with_list, with_writing, HeldIs-kept, slots_set, lengths_set, Keeps, Holds-used, Turns}
+use Rattle.qm_engine.proofs.Commands.{some_is, some-map, stored-same, choice, none_some, refuses, by_error, HeldIs-more, SlotIs-more, with_held, with_list, with_writing, with_told_writing, HeldIs-kept, slots_set, lengths_set, Keeps, Holds-used, Turns}
+
+-- a list on a batch's chain begins its base
+pub base-begins : (list : List Operation) (chain : Chain) → IsOnChain list chain → IsRising chain → Begins list chain.base
+base-begins list chain on rising = known-begins list chain chain.base (inr on) rising (Begins-self chain.base)
 
 module _ {X C B S M K V D : Type 0} (members : stores.Ghosts C) (means : words.Ghosts X C B S M) (key : K → Bytes) (value : V → Bytes) (digest : D → Bytes) where
   abbrev root : List Operation → Bytes
@@ -58,7 +63,8 @@ module _ {X C B S M K V D : Type 0} (members : stores.Ghosts C) (means : words.G
     record {
       database = k.database;
       store = k.store;
-      zero_start = k.zero_start;
+      start = k.start;
+      low = k.low;
       within = k.within;
       count = k.count;
       lengths = omega (arith, length-append table (slot ∷ []), length-append s.table (new ∷ []), k.lengths);
@@ -87,7 +93,8 @@ module _ {X C B S M K V D : Type 0} (members : stores.Ghosts C) (means : words.G
     record {
       database = k.database;
       store = k.store;
-      zero_start = k.zero_start;
+      start = k.start;
+      low = k.low;
       within = k.within;
       count = k.count;
       lengths = rw set_set (lengths_set members means table s h (Writing after) (machine.writing chain above (ws ++ w ∷ [])) k.lengths);
@@ -148,7 +155,8 @@ module _ {X C B S M K V D : Type 0} (members : stores.Ghosts C) (means : words.G
               record {
                 database = HeldIs-more members means s.had tip held s.database k.database;
                 store = k.store;
-                zero_start = k.zero_start;
+                start = k.start;
+                low = k.low;
                 within = k.within;
                 count = k.count;
                 lengths = subst (λ t. length (set table h (Merkleized made)) ≡ length t) (set_set s.table h machine.gone new) (lengths_set members means table (with_slot s h machine.gone) h (Merkleized made) new k.lengths);
@@ -182,47 +190,50 @@ module _ {X C B S M K V D : Type 0} (members : stores.Ghosts C) (means : words.G
         refusing r due (Some q) is_due = λ apart. (ap refuses (sym (due.1 (on_chain apart due.0)) ∙ is_due), k)
 
   -- what a call says that makes a batch's tip list
-  pub batch_making : (x : X) (batch : B) (tip : Chain → List Write → List Operation) (tells : Type 0) (made : Result M Error)
+  pub batch_making : (x : X) (batch : B) (tip : Chain → List Write → List Operation) (made : Result M Error)
       → IfOk made (λ _. AtBatch means x batch (λ list chain above ws. Fits means list chain))
       → IfOk made (λ b. AtBatch means x batch (λ list chain above ws. IsOnChain list chain → (tip_refusal means.scheme.form chain (tip chain ws) ≡ None) × means.is_merkleized b chain (tip chain ws)))
       → IfErr made (λ e. e ≡ errors.StaleBatch → AtBatch means x batch (λ list chain above ws. ¬ IsOnChain list chain))
-      → IfErr made (λ e. e ≢ errors.StaleBatch → tells → AtBatch means x batch (λ list chain above ws. IfSome (refusal_of e) (λ r. Fits means list chain × (IsOnChain list chain → tip_refusal means.scheme.form chain (tip chain ws) ≡ Some r))))
-      → tells → AtBatch means x batch (λ list chain above ws. IsMaking means list chain (tip chain ws) made)
-  batch_making x batch tip tells (Ok b) fits did stale refused told list chain above ws stands is = record {
+      → IfErr made (λ e. e ≢ errors.StaleBatch → AtBatch means x batch (λ list chain above ws. TellsFrom members (means.inside x) list
+      → IfSome (refusal_of e) (λ r. Fits means list chain × (IsOnChain list chain → floor list ≤ floor chain.base → tip_refusal means.scheme.form chain (tip chain ws) ≡ Some r))))
+      → AtBatch means x batch (λ list chain above ws. TellsFrom members (means.inside x) list → (IsOnChain list chain → floor list ≤ floor chain.base) → IsMaking means list chain (tip chain ws) made)
+  batch_making x batch tip (Ok b) fits did stale refused list chain above ws stands is tells low = record {
     fits = fits list chain above ws stands is;
     made = did list chain above ws stands is;
     stale = tt;
     refused = tt;
   }
-  batch_making x batch tip tells (Err e) fits did stale refused told list chain above ws stands is = record {
+  batch_making x batch tip (Err e) fits did stale refused list chain above ws stands is tells low = record {
     fits = tt;
     made = tt;
     stale = λ same. stale same list chain above ws stands is;
-    refused = λ other. refused other told list chain above ws stands is;
+    refused = λ other. some-map (refusal_of e) (λ r both. (both.0, λ on. both.1 on (low on))) (refused other list chain above ws stands is tells);
   }
 
   -- a merkleize of a batch whose number is used up, under policies with these rules
   pub merkleize_made : {P : Type 0} (rules : Rules P) (Q : Answer × State → Type 0) (x after : X) (table : List (Slot B S M)) (opened h : ℕ) (policy : P) (meta : Option Bytes) (batch : B) (made : Result M Error) (s : State)
-      → Holds members means (Database x) table opened s → Keeps members means x after
-      → AtBatch means x batch (λ list chain above ws. IsMaking means list chain (tip_of means.scheme rules chain ws policy meta) made)
+      → Holds members means (Database x) table opened s → IsSteady means.scheme s → Keeps members means x after
+      → AtBatch means x batch (λ list chain above ws. TellsFrom members (means.inside x) list → (IsOnChain list chain → floor list ≤ floor chain.base) → IsMaking means list chain (tip_of means.scheme rules chain ws policy meta) made)
       → writing_of (get_or table h Gone) ≡ Some batch
       → ((list : List Operation) (chain : Chain) (tip : List Operation) → Holds members means (Database after) (set table h Gone) opened (with_slot s h machine.gone) → Contains s.had list → IsAmong s.had chain
       → IsMaking means list chain tip made → Q (made_into means.scheme s h list chain tip))
       → Q (machine.merkleize means.scheme rules s h policy meta)
-  merkleize_made rules Q x after table opened h policy meta batch made s k keeps making e each =
-      with_writing members means x table opened h s (λ list. merkleize_in means.scheme rules s h policy meta list) Q k batch e (λ list chain above ws stands in_had among above_among is.
-      each list chain (tip_of means.scheme rules chain ws policy meta) (Holds-used members means x after table opened h s keeps k) in_had among (making list chain above ws stands is))
+  merkleize_made rules Q x after table opened h policy meta batch made s k sound keeps making e each =
+      with_told_writing members means x table opened h s (λ list. merkleize_in means.scheme rules s h policy meta list) Q k batch e (λ list chain above ws tells named stands in_had among above_among is.
+      each list chain (tip_of means.scheme rules chain ws policy meta) (Holds-used members means x after table opened h s keeps k) in_had among
+      (making list chain above ws stands is tells (λ on. sound.floors list chain.base in_had among.base (base-begins list chain on (subst (IsSoundSlot s.had) named (sound.slots h)).1))))
 
   -- an apply that was accepted
   applied_in : (x after : X) (table : List (Slot B S M)) (opened : ℕ) (h : ℕ) (batch : M) (size : ℕ) (s : State) (list : List Operation)
       → Holds members means (Database x) table opened s → Contains s.had list → s.log.list ≡ list
+      → s.log.start ≤ floor list → ((newer : List Operation) → Contains s.had newer → Begins list newer → floor list ≤ floor newer)
       → ((chain : Chain) (tip : List Operation) → means.is_merkleized batch chain tip → fits root (commitment root list) chain ≡ true)
       → ((chain : Chain) (tip : List Operation) → means.is_merkleized batch chain tip → IsOnChain list chain → means.stands after tip)
       → ((chain : Chain) (tip : List Operation) → means.is_merkleized batch chain tip → IsOnChain list chain → Appended members (means.inside x) (means.inside after) (map (spelling means.scheme.form) (drop (length list) tip)))
       → ((l : List Operation) → means.stands after l → size ≡ length l)
       → (a : Slot B S M) (b : machine.Slot) → SlotIs members means s.had a b → IsSoundSlot s.had b → merkleized_of a ≡ Some batch
       → Goes (Reply (replies.Applied size)) (Database after) table opened (apply_in means.scheme s h list b)
-  applied_in x after table opened h batch size s list k in_had log_is fit_of did grown sized (Merkleized w) (machine.merkleized chain tip) is sound e =
+  applied_in x after table opened h batch size s list k in_had log_is low floors fit_of did grown sized (Merkleized w) (machine.merkleized chain tip) is sound e =
       let same : w ≡ batch = cc in
       let batch_is : means.is_merkleized batch chain tip = subst (λ v. means.is_merkleized v chain tip) same is.0 in
       choice (fits root (commitment root list) chain) (lines.Applied (length tip), record s { database = Some tip; log = record s.log { list = tip } }) (refuse s refusals.StaleBatch) (Goes (Reply (replies.Applied size)) (Database after) table opened)
@@ -238,9 +249,10 @@ module _ {X C B S M K V D : Type 0} (members : stores.Ghosts C) (means : words.G
           store = record {
             start = more.start ∙ k.store.start;
             told = subst (λ xs. HasLog means.scheme (members.told (means.inside after)) (record s.log { list = xs })) whole
-                (has-appended means.scheme means.bare (members.told (means.inside x)) (members.told (means.inside after)) s.log (drop (length list) tip) k.store.told k.zero_start more.told);
+                (has-appended means.scheme means.bare (members.told (means.inside x)) (members.told (means.inside after)) s.log (drop (length list) tip) k.store.told (omega (arith, k.start, k.within)) more.told);
           };
-          zero_start = k.zero_start;
+          start = k.start;
+          low = le_trans low (floors tip is.2 begins);
           within = let longer = Begins-length list tip begins in let stays = k.within in omega (arith, stays, ap length log_is, longer);
           count = k.count;
           lengths = k.lengths;
@@ -248,8 +260,8 @@ module _ {X C B S M K V D : Type 0} (members : stores.Ghosts C) (means : words.G
         },
       ))
       (λ unfit. absurd (let fit = fit_of chain tip batch_is in cc))
-  applied_in x after table opened h batch size s list k in_had log_is fit_of did grown sized (Merkleized w) b is sound e = absurd is
-  applied_in x after table opened h batch size s list k in_had log_is fit_of did grown sized a b is sound e = absurd (cc)
+  applied_in x after table opened h batch size s list k in_had log_is low floors fit_of did grown sized (Merkleized w) b is sound e = absurd is
+  applied_in x after table opened h batch size s list k in_had log_is low floors fit_of did grown sized a b is sound e = absurd (cc)
 
   -- one that found the batch left behind
   unapplied_in : (x : X) (table : List (Slot B S M)) (opened : ℕ) (h : ℕ) (batch : M) (s : State) (list : List Operation)
@@ -276,7 +288,8 @@ module _ {X C B S M K V D : Type 0} (members : stores.Ghosts C) (means : words.G
       → Goes (Reply (replies.Applied size)) (Database after) table opened (machine.apply means.scheme s h)
   apply_ok x after table opened h batch size s k sound fit did grown sized e =
       with_held members means x s.had s.database s (λ list. apply_in means.scheme s h list (slot_at s.table h)) (Goes (Reply (replies.Applied size)) (Database after) table opened) k.database
-      (λ list is stands in_had. applied_in x after table opened h batch size s list k in_had (sound.held list is).0 (λ chain tip. fit list chain tip stands) (λ chain tip. did list chain tip stands) (λ chain tip. grown list chain tip stands) sized
+      (λ list is stands in_had. applied_in x after table opened h batch size s list k in_had (sound.held list is).0
+      (some_is s.database list (λ l. s.log.start ≤ floor l) is k.low) (λ newer in_newer begins. sound.floors list newer in_had in_newer begins) (λ chain tip. fit list chain tip stands) (λ chain tip. did list chain tip stands) (λ chain tip. grown list chain tip stands) sized
       (get_or table h Gone) (slot_at s.table h) (k.slots h) (sound.slots h) e)
 
   pub apply_err : (x : X) (given : Given X C) (table : List (Slot B S M)) (opened : ℕ) (h : ℕ) (batch : M) (error : Error) (s : State)
@@ -308,8 +321,8 @@ module _ {X C B S M K V D : Type 0} (members : stores.Ghosts C) (means : words.G
     where
       by_fit : (t : Bool) → model.Turns (members.told (means.inside x)) left (HasAppended (cond t (map (spelling means.scheme.form) (drop (length list) tip)) []))
           → IsLeft means.scheme left s.log ((cond t (lines.Applied (length tip), record s { database = Some tip; log = record s.log { list = tip } }) (refuse s refusals.StaleBatch)).1).log
-      by_fit true part = left_appended means.scheme means.bare (members.told (means.inside x)) left s.log (record s.log { list = tip }) (drop (length list) tip) k.store.told k.zero_start (ap (λ xs. drop (length xs) tip) log_is) part
-      by_fit false part = left_appended means.scheme means.bare (members.told (means.inside x)) left s.log s.log [] k.store.told k.zero_start (drop_all (length s.log.list) s.log.list (le_refl (length s.log.list))) part
+      by_fit true part = left_appended means.scheme means.bare (members.told (means.inside x)) left s.log (record s.log { list = tip }) (drop (length list) tip) k.store.told k.start k.within (ap (λ xs. drop (length xs) tip) log_is) part
+      by_fit false part = left_appended means.scheme means.bare (members.told (means.inside x)) left s.log s.log [] k.store.told k.start k.within (drop_all (length s.log.list) s.log.list (le_refl (length s.log.list))) part
   left_in x left table opened h batch s list k in_had log_is apart grown (Merkleized w) b is e = absurd is
   left_in x left table opened h batch s list k in_had log_is apart grown a b is e = absurd (cc)
 

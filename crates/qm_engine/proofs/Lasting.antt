@@ -1,23 +1,22 @@
 -- Stores and their logs: what each call of a store makes of the log that it has, and what is left of one that failed.
-use Rattle.std.proofs.Common.{◌≡◌, ◌⊎◌, inl, inr, ℕ, zero, suc, ◌+◌, ◌-◌, ◌<◌, ◌≤◌, Bool, true, false, cond, List, [], ◌∷◌, ◌++◌, length, take, drop, map, Option, Some, None, IfSome, refl, sym, ap, ◌∙◌, subst, arith, append-nil, append_assoc, take_all, le_refl, length-take-le}
-use Rattle.std.specs.Prelude.{min, max, ◌==◌, nat_lt}
-use Rattle.std.specs.List.{concat}
-use Rattle.std.proofs.Math.Seq.{take-length, drop-append_seam}
-use Rattle.std.proofs.lemmas.Bool.{cases_lt, eqb-true}
-use Rattle.std.proofs.lemmas.List.{length-map, length-take, length-append, map-append, take-map, take-append-drop}
+use Rattle.std.proofs.Common.{◌≡◌, ◌⊎◌, inl, inr, ℕ, zero, suc, ◌-◌, ◌<◌, ◌≤◌, Bool, true, false, cond, List, [], ◌∷◌, ◌++◌, length, take, drop, map, Option, Some, None, refl, sym, ap, ◌∙◌, subst, arith, append-nil, append_assoc, take_all, le_refl, length-take-le}
+use Rattle.std.specs.Prelude.{min, max, ◌==◌}
+use Rattle.std.specs.List.{concat, drop-map}
+use Rattle.std.proofs.Math.Seq.{drop-append_seam}
+use Rattle.std.proofs.lemmas.Bool.{cases_lt, eqb-true, lt-ltb, le-ltb}
+use Rattle.std.proofs.lemmas.List.{length-map, length-drop, map-append, take-map, take-take, take-append-le, drop-append-le, drop-take, drop-drop}
 use Rattle.qm_model.specs.Operations.{Bytes, Operation, fresh}
 use Rattle.qm_model.specs.Forms.{spelling}
 use Rattle.qm_model.specs.Trees.{peaks, digest_of, leaves_from}
 use Rattle.qm_model.specs.Proofs.{pins_at}
 use Rattle.qm_model.specs.Policies.{policies}
-use Rattle.qm_model.specs.Batches.{Begins}
 use Rattle.qm_model.specs.Own.{Log, no_log, taken_up, head_of}
 use Rattle.qm_model.specs.Own as own
 use Rattle.qm_model.specs.Opening.{opened_list}
-use Rattle.qm_model.specs.StoreModel.{Stored, end_of, appended, settled, rewound, left_at, restarted, destroyed, IsImage, ReadsAs, RewindLeaves, HasAppended, HasRestarted, DestroyLeaves, Turns, Becomes}
+use Rattle.qm_model.specs.StoreModel.{Stored, end_of, appended, settled, rewound, pruned, left_at, restarted, destroyed, IsImage, IsOldOrNew, ReadsAs, RewindLeaves, HasAppended, HasRestarted, DestroyLeaves, Turns, Becomes}
 use Rattle.qm_machine.specs.Machine.{Scheme, engine_of}
 use Rattle.qm_machine.specs.Machine as machine
-use Rattle.qm_engine.specs.Stores.{HasLog, IsBeside, least, IsFinal, MayBe, grown, cut, emptied, IsLeft, taken, LeavesOpening}
+use Rattle.qm_engine.specs.Stores.{HasLog, IsBeside, least, MayBe, grown, cut, moved, emptied, IsLeft, head_at, taken, LeavesOpening, pruned_from, LeavesPruning}
 
 -- Options that turn into others.
 
@@ -81,109 +80,146 @@ turns-beside o new R each is =
 
 -- Logs.
 
+-- the items of a list from its start on, with more behind them, and up to a location that is not before the start
+drop-more : {A B : Type 0} (f : A → B) (start : ℕ) (list more : List A) → start ≤ length list → map f (drop start list) ++ map f more ≡ map f (drop start (list ++ more))
+drop-more f start list more low = sym (map-append f (drop start list) more) ∙ ap (map f) (sym (drop-append-le start list more low))
+
+drop-cut : {A B : Type 0} (f : A → B) (start to : ℕ) (list : List A) → start ≤ to → take (to - start) (map f (drop start list)) ≡ map f (drop start (take to list))
+drop-cut f start to list low = take-map f (to - start) (drop start list) ∙ ap (map f) (sym (drop-take start (to - start) list) ∙ ap (λ n. drop start (take n list)) (omega (arith, low)))
+
+-- the pins before a location are of what stands there alone
+pub head-like : (m : Scheme) (n : ℕ) (a b : List Operation) → take n a ≡ take n b → head_at m a n ≡ head_at m b n
+head-like m n a b same = ap (λ list. concat (pins_at m.hash m.shape m.form list n)) same
+
 module _ (m : Scheme) (bare : peaks m.shape 0 ≡ []) where
-  -- the head of a log that starts at 0 is empty
-  pub head-bare : (log : Log) → log.start ≡ 0 → head_of (engine_of m policies) log ≡ []
-  head-bare log zero_start =
-      ap (λ n. concat (pins_at m.hash m.shape m.form (take n log.list) n)) zero_start
-      ∙ ap (λ ps. concat (map (digest_of m.hash m.shape (leaves_from m.hash m.shape m.form 0 [])) ps)) bare
+  -- a store and its log
+  module _ (log : Log) (s : Stored) (is : own.IsStored (engine_of m policies) log s) where
+    -- with another stable length
+    pub stored-stable : (k : ℕ) → own.IsStored (engine_of m policies) (record log { stable = k }) (record s { stable = k })
+    stored-stable k = record { start = is.start; items = is.items; head = is.head; metadata = is.metadata; stable = refl }
 
-  -- its items
-  pub items-whole : (log : Log) (s : Stored) → own.IsStored (engine_of m policies) log s → log.start ≡ 0 → s.items ≡ map (spelling m.form) log.list
-  items-whole log s is zero_start = is.items ∙ ap (λ n. map (spelling m.form) (drop n log.list)) zero_start
+    -- its items up to a location
+    pub items-cut : (to : ℕ) → log.start ≤ to → take (to - s.start) s.items ≡ map (spelling m.form) (drop log.start (take to log.list))
+    items-cut to low = ap (λ n. take (to - n) s.items) is.start ∙ (ap (take (to - log.start)) is.items ∙ drop-cut (spelling m.form) log.start to log.list low)
 
-  pub end-whole : (log : Log) (s : Stored) → own.IsStored (engine_of m policies) log s → log.start ≡ 0 → end_of s ≡ length log.list
-  end-whole log s is zero_start =
-      omega (arith, is.start, zero_start, ap length (items-whole log s is zero_start), length-map log.list (spelling m.form))
+    -- and its head, which is before it
+    pub head-cut : (to : ℕ) → log.start ≤ to → s.head ≡ head_at m (take to log.list) log.start
+    head-cut to low = is.head ∙ head-like m log.start log.list (take to log.list) (sym (take-take log.start to log.list low))
 
-  -- a store that starts at 0 has what a log has that does
-  stored-whole : (log : Log) (s : Stored) → log.start ≡ 0 → log.chunks ≡ 0 → s.start ≡ 0 → s.items ≡ map (spelling m.form) log.list → s.head ≡ [] → s.stable ≡ log.stable → own.IsStored (engine_of m policies) log s
-  stored-whole log s zero_start unchunked start items head stable = record {
-    start = start ∙ sym zero_start;
-    items = items ∙ sym (ap (λ n. map (spelling m.form) (drop n log.list)) zero_start);
-    head = head ∙ sym (head-bare log zero_start);
-    metadata = unchunked;
+    -- up to a location
+    pub stored-cut : (to k : ℕ) → log.start ≤ to → own.IsStored (engine_of m policies) (record log { list = take to log.list; stable = k }) (record (left_at to s) { stable = k })
+    stored-cut to k low = record { start = is.start; items = items-cut to low; head = head-cut to low; metadata = is.metadata; stable = refl }
+
+    -- after a restart there
+    pub stored-restarted : (to : ℕ) → log.start ≤ to → own.IsStored (engine_of m policies) (record log { list = take to log.list; stable = to }) (restarted to s)
+    stored-restarted to low = record { start = is.start; items = items-cut to low; head = head-cut to low; metadata = is.metadata; stable = refl }
+
+    -- a log that starts within its list
+    module _ (low : log.start ≤ length log.list) where
+      pub end-whole : end_of s ≡ length log.list
+      end-whole =
+          omega (arith, low, is.start, ap length is.items, length-map (drop log.start log.list) (spelling m.form), length-drop log.start log.list)
+
+      pub stored-appended : (more : List Operation) → own.IsStored (engine_of m policies) (record log { list = log.list ++ more }) (appended (map (spelling m.form) more) s)
+      stored-appended more = record {
+        start = is.start;
+        items = ap (λ xs. xs ++ map (spelling m.form) more) is.items ∙ drop-more (spelling m.form) log.start log.list more low;
+        head = is.head ∙ head-like m log.start log.list (log.list ++ more) (sym (take-append-le log.start log.list more low));
+        metadata = is.metadata;
+        stable = is.stable;
+      }
+
+      -- after a commit
+      pub stored-settled : own.IsStored (engine_of m policies) (machine.settled log) (settled s)
+      stored-settled = subst (λ n. own.IsStored (engine_of m policies) (machine.settled log) (record s { stable = n })) (sym end-whole) (stored-stable (length log.list))
+
+      -- after a prune to a location that is not before the start, with the head of what stands before it
+      pub stored-pruned : (to : ℕ) (head : Bytes) → log.start ≤ to → head ≡ head_at m log.list to → own.IsStored (engine_of m policies) (machine.pruned to log) (pruned to head (settled s))
+      stored-pruned to head behind head_is =
+          let most : max log.start to ≡ to = omega (arith, behind) in
+          record {
+            start = sym most;
+            items = ap (λ n. drop (to - n) s.items) is.start ∙ (ap (drop (to - log.start)) is.items ∙ (drop-map (spelling m.form) (to - log.start) (drop log.start log.list)
+                ∙ ap (map (spelling m.form)) (drop-drop (to - log.start) log.start log.list ∙ ap (λ n. drop n log.list) (omega (arith, behind)))));
+            head = head_is ∙ ap (head_at m log.list) (sym most);
+            metadata = is.metadata;
+            stable = end-whole;
+          }
+
+      -- after one to a location that is not behind it
+      pub stored-unpruned : (to : ℕ) → to ≤ log.start → own.IsStored (engine_of m policies) (machine.pruned to log) (settled s)
+      stored-unpruned to before = subst (λ n. own.IsStored (engine_of m policies) (record (machine.settled log) { start = n }) (settled s)) (omega (arith, before)) stored-settled
+
+  -- a store without items
+  stored-none : (s : Stored) → s.start ≡ 0 → s.items ≡ [] → s.head ≡ [] → s.stable ≡ 0 → own.IsStored (engine_of m policies) no_log s
+  stored-none s start items head stable = record {
+    start = start;
+    items = items;
+    head = head ∙ sym (ap (λ ps. concat (map (digest_of m.hash m.shape (leaves_from m.hash m.shape m.form 0 [])) ps)) bare);
+    metadata = refl;
     stable = stable;
   }
 
-  -- a store and its log, which starts at 0
-  module _ (log : Log) (s : Stored) (is : own.IsStored (engine_of m policies) log s) (zero_start : log.start ≡ 0) where
-    start_is : s.start ≡ 0
-    start_is = is.start ∙ zero_start
-
-    head_is : s.head ≡ []
-    head_is = is.head ∙ head-bare log zero_start
-
-    pub stored-appended : (more : List Operation) → own.IsStored (engine_of m policies) (record log { list = log.list ++ more }) (appended (map (spelling m.form) more) s)
-    stored-appended more =
-        stored-whole (record log { list = log.list ++ more }) (appended (map (spelling m.form) more) s) zero_start is.metadata start_is
-        (ap (λ xs. xs ++ map (spelling m.form) more) (items-whole log s is zero_start) ∙ sym (map-append (spelling m.form) log.list more)) head_is is.stable
-
-    -- with another stable length
-    pub stored-stable : (k : ℕ) → own.IsStored (engine_of m policies) (record log { stable = k }) (record s { stable = k })
-    stored-stable k = stored-whole (record log { stable = k }) (record s { stable = k }) zero_start is.metadata start_is (items-whole log s is zero_start) head_is refl
-
-    -- up to a location
-    pub stored-cut : (to k : ℕ) → own.IsStored (engine_of m policies) (record log { list = take to log.list; stable = k }) (record (left_at to s) { stable = k })
-    stored-cut to k =
-        stored-whole (record log { list = take to log.list; stable = k }) (record (left_at to s) { stable = k }) zero_start is.metadata start_is
-        (ap (λ n. take (to - n) s.items) start_is ∙ (ap (λ n. take n s.items) (omega arith) ∙ (ap (take to) (items-whole log s is zero_start) ∙ take-map (spelling m.form) to log.list))) head_is refl
-
-    -- after a commit
-    pub stored-settled : own.IsStored (engine_of m policies) (machine.settled log) (settled s)
-    stored-settled = subst (λ n. own.IsStored (engine_of m policies) (machine.settled log) (record s { stable = n })) (sym (end-whole log s is zero_start)) (stored-stable (length log.list))
-
   -- an emptied store
   pub stored-empty : (s : Stored) → own.IsStored (engine_of m policies) no_log (destroyed s)
-  stored-empty s = stored-whole no_log (destroyed s) refl refl refl refl refl refl
+  stored-empty s = stored-none (destroyed s) refl refl refl refl
 
   -- What calls make of the log that a store has.
 
-  pub has-appended : (told new : Option Stored) (log : Log) (more : List Operation) → HasLog m told log → log.start ≡ 0 → Becomes told new (appended (map (spelling m.form) more)) → HasLog m new (record log { list = log.list ++ more })
-  has-appended told new log more has zero_start made =
+  pub has-appended : (told new : Option Stored) (log : Log) (more : List Operation) → HasLog m told log → log.start ≤ length log.list → Becomes told new (appended (map (spelling m.form) more)) → HasLog m new (record log { list = log.list ++ more })
+  has-appended told new log more has low made =
       let t = turned told new has.stored (λ s t. t ≡ appended (map (spelling m.form) more) s) has.is made in
-      record { stored = t.0; is = t.1; has = subst (own.IsStored (engine_of m policies) (record log { list = log.list ++ more })) (sym t.2) (stored-appended log has.stored has.has zero_start more) }
+      record { stored = t.0; is = t.1; has = subst (own.IsStored (engine_of m policies) (record log { list = log.list ++ more })) (sym t.2) (stored-appended log has.stored has.has low more) }
 
-  pub has-settled : (told new : Option Stored) (log : Log) → HasLog m told log → log.start ≡ 0 → Becomes told new settled → HasLog m new (machine.settled log)
-  has-settled told new log has zero_start made =
+  pub has-settled : (told new : Option Stored) (log : Log) → HasLog m told log → log.start ≤ length log.list → Becomes told new settled → HasLog m new (machine.settled log)
+  has-settled told new log has low made =
       let t = turned told new has.stored (λ s t. t ≡ settled s) has.is made in
-      record { stored = t.0; is = t.1; has = subst (own.IsStored (engine_of m policies) (machine.settled log)) (sym t.2) (stored-settled log has.stored has.has zero_start) }
+      record { stored = t.0; is = t.1; has = subst (own.IsStored (engine_of m policies) (machine.settled log)) (sym t.2) (stored-settled log has.stored has.has low) }
 
   pub has-emptied : (told new : Option Stored) (log : Log) → HasLog m told log → Becomes told new destroyed → HasLog m new no_log
   has-emptied told new log has made =
       let t = turned told new has.stored (λ s t. t ≡ destroyed s) has.is made in
       record { stored = t.0; is = t.1; has = subst (own.IsStored (engine_of m policies) no_log) (sym t.2) (stored-empty has.stored) }
 
+  pub has-pruned : (told new : Option Stored) (log : Log) (to : ℕ) (head : Bytes) → HasLog m told log → log.start ≤ length log.list → (log.start < to → head ≡ head_at m log.list to)
+      → Becomes told new (pruned_from log.start to head) → HasLog m new (machine.pruned to log)
+  has-pruned told new log to head has low heads made =
+      let t = turned told new has.stored (λ s t. t ≡ pruned_from log.start to head s) has.is made in
+      record { stored = t.0; is = t.1; has = subst (own.IsStored (engine_of m policies) (machine.pruned to log)) (sym t.2) (by (cases_lt log.start to)) }
+    where
+      by : (log.start < to) ⊎ (to ≤ log.start) → own.IsStored (engine_of m policies) (machine.pruned to log) (pruned_from log.start to head has.stored)
+      by (inl behind) = subst (λ b. own.IsStored (engine_of m policies) (machine.pruned to log) (cond b (pruned to head (settled has.stored)) (settled has.stored))) (sym (lt-ltb log.start to behind))
+          (stored-pruned log has.stored has.has low to head (omega (arith, behind)) (heads behind))
+      by (inr before) = subst (λ b. own.IsStored (engine_of m policies) (machine.pruned to log) (cond b (pruned to head (settled has.stored)) (settled has.stored))) (sym (le-ltb log.start to before))
+          (stored-unpruned log has.stored has.has low to before)
+
   -- where a restart chose this end
-  pub has-restarted : (told new : Option Stored) (log : Log) (more rest : List ℕ) → HasLog m told log → log.start ≡ 0 → Turns told new HasRestarted → Turns told new (IsBeside more)
+  pub has-restarted : (told new : Option Stored) (log : Log) (more rest : List ℕ) → HasLog m told log → log.start ≤ log.stable → log.stable ≤ length log.list → Turns told new HasRestarted → Turns told new (IsBeside more)
       → (to : ℕ) × (log.stable ≤ to) × (to ≤ length log.list) × (more ≡ to ∷ []) × HasLog m new (record log { list = take to log.list; stable = to })
-  has-restarted told new log more rest has zero_start made told_more =
+  has-restarted told new log more rest has start within made told_more =
       let t = turned told new has.stored HasRestarted has.is made in
       let r = t.2 in
       let ends = turned told new has.stored (IsBeside more) has.is told_more in
       let same : t.0 ≡ ends.0 = some-same (sym t.1 ∙ ends.1) in
-      let stored = subst (own.IsStored (engine_of m policies) (record log { list = take r.to log.list; stable = r.to })) (sym r.same) (restored r.to) in
-      let end = end-whole log has.stored has.has zero_start in
       let low = r.may.stable in
       let high = r.may.within in
+      let stored = subst (own.IsStored (engine_of m policies) (record log { list = take r.to log.list; stable = r.to })) (sym r.same) (stored-restarted log has.stored has.has r.to (omega (arith, start, low, has.has.stable))) in
+      let end = end-whole log has.stored has.has (omega (arith, start, within)) in
       (r.to, omega (arith, low, has.has.stable), omega (arith, high, end), cancelled has.stored.ends more (r.to ∷ []) (sym ends.2.ends ∙ (ap (λ x. x.ends) (sym same) ∙ ap (λ x. x.ends) r.same)), record { stored = t.0; is = t.1; has = stored })
     where
       some-same : {a b : Stored} → Some a ≡ Some b → a ≡ b
       some-same e = cc
 
-      restored : (to : ℕ) → own.IsStored (engine_of m policies) (record log { list = take to log.list; stable = to }) (restarted to has.stored)
-      restored to = let cut_here = stored-cut log has.stored has.has zero_start to to in record { start = cut_here.start; items = cut_here.items; head = cut_here.head; metadata = cut_here.metadata; stable = refl }
-
   -- What is left.
 
-  pub left_appended : (told left : Option Stored) (before after : Log) (more : List Operation) → HasLog m told before → before.start ≡ 0 → drop (length before.list) after.list ≡ more
+  pub left_appended : (told left : Option Stored) (before after : Log) (more : List Operation) → HasLog m told before → before.start ≤ before.stable → before.stable ≤ length before.list → drop (length before.list) after.list ≡ more
       → Turns told left (HasAppended (map (spelling m.form) more)) → IsLeft m left before after
-  left_appended told left before after more has zero_start grows made =
+  left_appended told left before after more has start within grows made =
       let t = turned told left has.stored (HasAppended (map (spelling m.form) more)) has.is made in
       let a = t.2 in
       let log = record before { list = before.list ++ take a.count more; stable = t.0.stable } in
       let part : own.IsStored (engine_of m policies) log (record (appended (map (spelling m.form) (take a.count more)) has.stored) { stable = t.0.stable }) =
-      stored-stable (record before { list = before.list ++ take a.count more }) (appended (map (spelling m.form) (take a.count more)) has.stored) (stored-appended before has.stored has.has zero_start (take a.count more)) zero_start t.0.stable in
+      stored-stable (record before { list = before.list ++ take a.count more }) (appended (map (spelling m.form) (take a.count more)) has.stored) (stored-appended before has.stored has.has (omega (arith, start, within)) (take a.count more)) t.0.stable in
       record {
         log = log;
         has = record { stored = t.0; is = t.1; has = subst (own.IsStored (engine_of m policies) log) (ap (λ xs. record (appended xs has.stored) { stable = t.0.stable }) (sym (take-map (spelling m.form) a.count more)) ∙ sym a.reads) part };
@@ -213,11 +249,11 @@ module _ (m : Scheme) (bare : peaks m.shape 0 ≡ []) where
           (grown 0 stable (omega (arith, low_stable, least_is)))
 
   -- such a one of a store that was cut there
-  left_cut : (left : Option Stored) (before after : Log) (s t : Stored) (to : ℕ) → own.IsStored (engine_of m policies) before s → before.start ≡ 0 → before.stable ≤ length before.list → after.stable ≡ length after.list
+  left_cut : (left : Option Stored) (before after : Log) (s t : Stored) (to : ℕ) → own.IsStored (engine_of m policies) before s → before.start ≤ to → before.stable ≤ length before.list → after.stable ≡ length after.list
       → left ≡ Some t → t ≡ record (left_at to s) { stable = t.stable } → least before after ≤ to → least before after ≤ t.stable → IsLeft m left before after
-  left_cut left before after s t to has zero_start within whole told same low low_stable = record {
+  left_cut left before after s t to has behind within whole told same low low_stable = record {
     log = record before { list = take to before.list; stable = t.stable };
-    has = record { stored = t; is = told; has = subst (own.IsStored (engine_of m policies) (record before { list = take to before.list; stable = t.stable })) (sym same) (stored-cut before s has zero_start to t.stable) };
+    has = record { stored = t; is = told; has = subst (own.IsStored (engine_of m policies) (record before { list = take to before.list; stable = t.stable })) (sym same) (stored-cut before s has to t.stable behind) };
     may = may_cut before after to t.stable within whole low low_stable;
   }
 
@@ -229,70 +265,119 @@ module _ (m : Scheme) (bare : peaks m.shape 0 ≡ []) where
       at false = omega arith
 
   -- a commit or a restart failed
-  pub left_imaged : (told left : Option Stored) (before after : Log) → HasLog m told before → before.start ≡ 0 → before.stable ≤ length before.list → after.stable ≡ length after.list
+  pub left_imaged : (told left : Option Stored) (before after : Log) → HasLog m told before → before.start ≤ before.stable → before.stable ≤ length before.list → after.stable ≡ length after.list
       → Turns told left (λ s. ReadsAs s.stable (IsImage s)) → IsLeft m left before after
-  left_imaged told left before after has zero_start within whole made =
+  left_imaged told left before after has start within whole made =
       let t = turned told left has.stored (λ s. ReadsAs s.stable (IsImage s)) has.is made in
       let r = t.2 in
       let i = r.left in
       let low = i.may.stable in
       let low_stable = r.least_stable in
       let least_is = least-stable before after in
-      left_cut left before after has.stored t.0 i.to has.has zero_start within whole t.1 (r.reads ∙ ap (λ (x : Stored). record x { stable = t.0.stable }) i.same)
+      left_cut left before after has.stored t.0 i.to has.has (omega (arith, start, low, has.has.stable)) within whole t.1 (r.reads ∙ ap (λ (x : Stored). record x { stable = t.0.stable }) i.same)
       (omega (arith, low, least_is, has.has.stable)) (omega (arith, low_stable, least_is, has.has.stable))
 
   -- a restart chose an end
-  pub left_restarted : (told left : Option Stored) (before after : Log) → HasLog m told before → before.start ≡ 0 → before.stable ≤ length before.list → after.stable ≡ length after.list
+  pub left_restarted : (told left : Option Stored) (before after : Log) → HasLog m told before → before.start ≤ before.stable → before.stable ≤ length before.list → after.stable ≡ length after.list
       → Turns told left HasRestarted → IsLeft m left before after
-  left_restarted told left before after has zero_start within whole made =
+  left_restarted told left before after has start within whole made =
       let t = turned told left has.stored HasRestarted has.is made in
       let r = t.2 in
       let low = r.may.stable in
       let least_is = least-stable before after in
       record {
         log = record before { list = take r.to before.list; stable = r.to };
-        has = record { stored = t.0; is = t.1; has = subst (own.IsStored (engine_of m policies) (record before { list = take r.to before.list; stable = r.to })) (sym r.same) (restored r.to) };
+        has = record { stored = t.0; is = t.1; has = subst (own.IsStored (engine_of m policies) (record before { list = take r.to before.list; stable = r.to })) (sym r.same) (stored-restarted before has.stored has.has r.to (omega (arith, start, low, has.has.stable))) };
         may = may_cut before after r.to r.to within whole (omega (arith, low, least_is, has.has.stable)) (omega (arith, low, least_is, has.has.stable));
       }
-    where
-      restored : (to : ℕ) → own.IsStored (engine_of m policies) (record before { list = take to before.list; stable = to }) (restarted to has.stored)
-      restored to = let cut_here = stored-cut before has.stored has.has zero_start to to in record { start = cut_here.start; items = cut_here.items; head = cut_here.head; metadata = cut_here.metadata; stable = refl }
 
   -- a destroy failed
-  pub left_destroyed : (told left : Option Stored) (before : Log) → HasLog m told before → before.start ≡ 0 → before.stable ≤ length before.list
+  pub left_destroyed : (told left : Option Stored) (before : Log) → HasLog m told before → before.start ≤ before.stable → before.stable ≤ length before.list
       → Turns told left DestroyLeaves → IsLeft m left before no_log
-  left_destroyed told left before has zero_start within made = by (turned told left has.stored DestroyLeaves has.is made)
+  left_destroyed told left before has start within made = by (turned told left has.stored DestroyLeaves has.is made)
     where
       by : (t : Stored) × (left ≡ Some t) × DestroyLeaves has.stored t → IsLeft m left before no_log
       by (t, told, inl r) =
           let i = r.left in
           let low = i.may.stable in
           let low_stable = r.least_stable in
-          left_cut left before no_log has.stored t i.to has.has zero_start within refl told (r.reads ∙ ap (λ (x : Stored). record x { stable = t.stable }) i.same)
+          left_cut left before no_log has.stored t i.to has.has (omega (arith, start, low, has.has.stable)) within refl told (r.reads ∙ ap (λ (x : Stored). record x { stable = t.stable }) i.same)
           (omega (arith, low, has.has.stable)) (omega (arith, low_stable, has.has.stable))
       by (t, told, inr r) =
           let i = r.left in
           let none : i.to ≡ 0 = let high = i.may.within in omega (arith, high) in
           let short = r.within in
           let bare_items : t.items ≡ [] = ap (λ x. x.items) (r.reads ∙ ap (λ (x : Stored). record x { stable = t.stable }) i.same) ∙ nothing (i.to - 0) in
-          let start : t.start ≡ 0 = ap (λ x. x.start) (r.reads ∙ ap (λ (x : Stored). record x { stable = t.stable }) i.same) in
+          let none_start : t.start ≡ 0 = ap (λ x. x.start) (r.reads ∙ ap (λ (x : Stored). record x { stable = t.stable }) i.same) in
           let head : t.head ≡ [] = ap (λ x. x.head) (r.reads ∙ ap (λ (x : Stored). record x { stable = t.stable }) i.same) in
-          record { log = no_log; has = record { stored = t; is = told; has = stored-whole no_log t refl refl start bare_items head (omega (arith, short, start, ap length bare_items)) }; may = emptied refl }
+          record { log = no_log; has = record { stored = t; is = told; has = stored-none t none_start bare_items head (omega (arith, short, none_start, ap length bare_items)) }; may = emptied refl }
         where
           nothing : (n : ℕ) → take {A = Bytes} n [] ≡ []
           nothing zero = refl
           nothing (suc n) = refl
 
+  -- a prune failed
+  pub left_pruned : (told left : Option Stored) (before : Log) (first to : ℕ) (IsHead : Bytes → Type 0) → first ≡ before.start → HasLog m told before → before.start ≤ before.stable → before.stable ≤ length before.list → to ≤ length before.list
+      → ((head : Bytes) → IsHead head → head ≡ head_at m before.list to) → Turns told left (LeavesPruning first IsHead to) → IsLeft m left before (machine.pruned to before)
+  left_pruned told left before first to IsHead starts has start within far heads made = by (turned told left has.stored (LeavesPruning first IsHead to) has.is made)
+    where
+      end : end_of has.stored ≡ length before.list
+      end = end-whole before has.stored has.has (omega (arith, start, within))
+
+      -- all of it
+      left_all : (t : Stored) → left ≡ Some t → ReadsAs (end_of has.stored) (IsImage (settled has.stored)) t → IsLeft m left before (machine.pruned to before)
+      left_all t told r =
+          let i = r.left in
+          let low = i.may.stable in
+          let low_stable = r.least_stable in
+          let least_is = least-stable before (machine.pruned to before) in
+          left_cut left before (machine.pruned to before) has.stored t i.to has.has (omega (arith, start, within, low, end)) within refl told (r.reads ∙ ap (λ (x : Stored). record x { stable = t.stable }) i.same)
+          (omega (arith, low, least_is, within, end)) (omega (arith, low_stable, least_is, within, end))
+
+      -- all of it from the location on
+      left_rest : (t : Stored) (head : Bytes) → left ≡ Some t → before.start < to → IsHead head → ReadsAs (end_of has.stored) (IsImage (pruned to head (settled has.stored))) t → IsLeft m left before (machine.pruned to before)
+      left_rest t head told behind is_head r =
+          let i = r.left in
+          let rest = drop (to - has.stored.start) has.stored.items in
+          let size = length-drop (to - has.stored.start) has.stored.items in
+          let low = i.may.stable in
+          let low_stable = r.least_stable in
+          let whole : take (i.to - to) rest ≡ rest = take_all (i.to - to) rest (omega (arith, size, low, end, far, behind, has.has.start)) in
+          let as_read : t ≡ record (pruned to head (settled has.stored)) { stable = t.stable } =
+          r.reads ∙ (ap (λ (x : Stored). record x { stable = t.stable }) i.same ∙ ap (λ (xs : List Bytes). record (pruned to head (settled has.stored)) { items = xs; stable = t.stable }) whole) in
+          let high = r.within in
+          let all : t.stable ≡ end_of has.stored = omega (arith, high, low_stable, ap (λ x. x.start) as_read, ap (λ x. length x.items) as_read, size, end, far, behind, has.has.start) in
+          let same : t ≡ pruned to head (settled has.stored) = as_read ∙ ap (λ n. record (pruned to head (settled has.stored)) { stable = n }) all in
+          record {
+            log = machine.pruned to before;
+            has = record { stored = t; is = told; has = subst (own.IsStored (engine_of m policies) (machine.pruned to before)) (sym same) (stored-pruned before has.stored has.has (omega (arith, start, within)) to head (omega (arith, behind)) (heads head is_head)) };
+            may = moved (omega (arith, behind));
+          }
+
+      by : (t : Stored) × (left ≡ Some t) × LeavesPruning first IsHead to has.stored t → IsLeft m left before (machine.pruned to before)
+      by (t, told, inl r) =
+          let i = r.left in
+          let low = i.may.stable in
+          let low_stable = r.least_stable in
+          let least_is = least-stable before (machine.pruned to before) in
+          left_cut left before (machine.pruned to before) has.stored t i.to has.has (omega (arith, start, low, has.has.stable)) within refl told (r.reads ∙ ap (λ (x : Stored). record x { stable = t.stable }) i.same)
+          (omega (arith, low, least_is, has.has.stable)) (omega (arith, low_stable, least_is, has.has.stable))
+      by (t, told, inr (behind, head, is_head, r)) = old_or_new r.left
+        where
+          old_or_new : IsOldOrNew (pruned to head) (settled has.stored) r.image → IsLeft m left before (machine.pruned to before)
+          old_or_new (inl i) = left_all t told record { image = r.image; left = i; reads = r.reads; least_stable = r.least_stable; within = r.within }
+          old_or_new (inr i) = left_rest t head told (subst (λ n. n < to) starts behind) is_head record { image = r.image; left = i; reads = r.reads; least_stable = r.least_stable; within = r.within }
+
   -- What an opening makes of it.
 
   -- the store after an opening that takes up so many of the log's operations, or the fresh list of an empty one
-  pub stored-taken : (log : Log) (s : Stored) (n : ℕ) → own.IsStored (engine_of m policies) log s → log.start ≡ 0 → (n ≡ 0 → log.list ≡ []) → own.IsStored (engine_of m policies) (taken_up (opened_list n log.list) log) (taken m n s)
-  stored-taken log s zero is zero_start none =
+  pub stored-taken : (log : Log) (s : Stored) (n : ℕ) → own.IsStored (engine_of m policies) log s → log.start ≤ n → (n ≡ 0 → log.list ≡ []) → n ≤ length log.list → own.IsStored (engine_of m policies) (taken_up (opened_list n log.list) log) (taken m n s)
+  stored-taken log s zero is low none few =
       let begun : own.IsStored (engine_of m policies) (record log { list = fresh }) (appended (map (spelling m.form) fresh) s) =
-      subst (λ xs. own.IsStored (engine_of m policies) (record log { list = xs ++ fresh }) (appended (map (spelling m.form) fresh) s)) (none refl) (stored-appended log s is zero_start fresh) in
-      stored-settled (record log { list = fresh }) (appended (map (spelling m.form) fresh) s) begun zero_start
-  stored-taken log s (suc j) is zero_start none =
-      stored-settled (record log { list = take (suc j) log.list; stable = min s.stable (suc j) }) (rewound (suc j) s) (stored-cut log s is zero_start (suc j) (min s.stable (suc j))) zero_start
+      subst (λ xs. own.IsStored (engine_of m policies) (record log { list = xs ++ fresh }) (appended (map (spelling m.form) fresh) s)) (none refl) (stored-appended log s is (omega (arith, low)) fresh) in
+      stored-settled (record log { list = fresh }) (appended (map (spelling m.form) fresh) s) begun (omega (arith, low))
+  stored-taken log s (suc j) is low none few =
+      stored-settled (record log { list = take (suc j) log.list; stable = min s.stable (suc j) }) (rewound (suc j) s) (stored-cut log s is (suc j) (min s.stable (suc j)) low) (omega (arith, low, length-take-le (suc j) log.list few))
 
   least-within : (before after : Log) → 0 < length after.list → least before after ≤ length after.list
   least-within before after some = at (length after.list == 0) refl
@@ -301,24 +386,24 @@ module _ (m : Scheme) (bare : peaks m.shape 0 ≡ []) where
       at true e = absurd (omega (arith, some, eqb-true (length after.list) 0 e))
       at false e = omega arith
 
-  pub left_taken : (told left : Option Stored) (log : Log) (n : ℕ) → HasLog m told log → log.start ≡ 0 → log.stable ≤ length log.list → (n ≡ 0 → log.list ≡ []) → n ≤ length log.list
+  pub left_taken : (told left : Option Stored) (log : Log) (n : ℕ) → HasLog m told log → log.stable ≤ length log.list → (n ≡ 0 → log.list ≡ []) → n ≤ length log.list
       → HasLog m left (taken_up (opened_list n log.list) log) → IsLeft m left log (taken_up (opened_list n log.list) log)
-  left_taken told left log zero has zero_start within none few new = record {
+  left_taken told left log zero has within none few new = record {
     log = taken_up fresh log;
     has = new;
     may = subst (λ xs. MayBe (record log { list = xs }) (taken_up fresh log) (taken_up fresh log)) (sym (none refl)) (grown 1 1 (omega (arith, within, ap length (none refl))));
   }
-  left_taken told left log (suc j) has zero_start within none few new =
+  left_taken told left log (suc j) has within none few new =
       let after = taken_up (take (suc j) log.list) log in
       let size = length-take-le (suc j) log.list few in
       let low = least-within log after (omega (arith, size)) in
       record { log = after; has = new; may = may_cut log after (suc j) (length (take (suc j) log.list)) within refl (omega (arith, low, size)) low }
 
-  pub left_opening : (told left : Option Stored) (log : Log) (n : ℕ) → HasLog m told log → log.start ≡ 0 → log.stable ≤ length log.list → (n ≡ 0 → log.list ≡ []) → n ≤ length log.list
+  pub left_opening : (told left : Option Stored) (log : Log) (n : ℕ) → HasLog m told log → log.start ≤ log.stable → log.stable ≤ length log.list → log.start ≤ n → (n ≡ 0 → log.list ≡ []) → n ≤ length log.list
       → Turns told left (LeavesOpening m n) → IsLeft m left log (taken_up (opened_list n log.list) log)
-  left_opening told left log zero has zero_start within none few made =
-      left_appended told left log (taken_up fresh log) fresh has zero_start (ap (λ xs. drop (length xs) fresh) (none refl)) made
-  left_opening told left log (suc j) has zero_start within none few made =
+  left_opening told left log zero has start within behind none few made =
+      left_appended told left log (taken_up fresh log) fresh has start within (ap (λ xs. drop (length xs) fresh) (none refl)) made
+  left_opening told left log (suc j) has start within behind none few made =
       let after = taken_up (take (suc j) log.list) log in
       let t = turned told left has.stored (λ s. ReadsAs (min s.stable (suc j)) (RewindLeaves (suc j) s)) has.is made in
       let r = t.2 in
@@ -328,5 +413,5 @@ module _ (m : Scheme) (bare : peaks m.shape 0 ≡ []) where
       let low_stable = least-stable log after in
       let from = i.may.stable in
       let stays = r.least_stable in
-      left_cut left log after has.stored t.0 i.to has.has zero_start within refl t.1 (r.reads ∙ ap (λ (x : Stored). record x { stable = t.0.stable }) i.same)
+      left_cut left log after has.stored t.0 i.to has.has (omega (arith, start, behind, from, has.has.stable)) within refl t.1 (r.reads ∙ ap (λ (x : Stored). record x { stable = t.0.stable }) i.same)
       (omega (arith, low, low_stable, from, size, has.has.stable)) (omega (arith, low, low_stable, stays, size, has.has.stable))

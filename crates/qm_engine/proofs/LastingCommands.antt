@@ -1,27 +1,26 @@
 -- The commands that make a store last, and that open and end a database.
-use Rattle.std.proofs.Common.{◌≡◌, ◌≢◌, ◌⊎◌, inl, inr, ℕ, zero, suc, ◌+◌, ◌≤◌, Bool, true, false, cond, List, [], ◌∷◌, ◌++◌, length, get_or, take, drop, map, Option, Some, None, Result, Ok, Err, IfSome, IfOk, IfErr, arith, refl, sym, ◌∙◌, ap, subst, le_refl, append-nil, length-take-le}
-use Rattle.std.specs.Prelude.{Contains, IsSome, OnOk, slice_index_or, All, min, max}
-use Rattle.std.proofs.Math.Seq.{take-length}
+use Rattle.std.proofs.Common.{◌≡◌, ◌⊎◌, inl, inr, ℕ, ◌≤◌, ◌<◌, Bool, true, false, cond, List, [], ◌∷◌, ◌++◌, length, take, Option, Some, None, Result, Ok, Err, IfSome, IfOk, IfErr, arith, refl, sym, ◌∙◌, ap, subst, le_refl, append-nil, length-take-le}
+use Rattle.std.specs.Prelude.{slice_index_or, min, max, nat_lt, ◌^◌}
+use Rattle.std.proofs.lemmas.Bool.{cases_lt, lt-ltb, le-ltb}
 use Rattle.qm_model.specs.Causes.{Rose}
-use Rattle.qm_model.specs.Operations.{Bytes, Operation, fresh}
-use Rattle.qm_model.specs.Batches.{Apart}
-use Rattle.qm_model.specs.Own.{Log, no_log, taken_up}
+use Rattle.qm_model.specs.Live.{floor}
+use Rattle.qm_model.specs.Operations.{Bytes, Operation}
+use Rattle.qm_model.specs.Own.{Log, no_log}
 use Rattle.qm_model.specs.Refused as refusals
-use Rattle.qm_model.specs.StoreModel.{Stored, settled, destroyed, IsImage, ReadsAs, DestroyLeaves, HasRestarted, Becomes}
+use Rattle.qm_model.specs.StoreModel.{Stored, settled, destroyed, IsImage, IsOldOrNew, ReadsAs, DestroyLeaves, HasRestarted, Becomes}
 use Rattle.qm_model.specs.StoreModel as model
 use Rattle.qm_machine.specs.Lines.{Answer}
 use Rattle.qm_machine.specs.Lines as lines
 use Rattle.qm_machine.specs.Machine.{State, with_database}
 use Rattle.qm_machine.specs.Machine as machine
+use Rattle.qm_machine.specs.Sound.{IsSteady}
 use Rattle.qm_base.specs.declared.error.Error.{Error}
 use Rattle.qm_base.specs.declared.error.Error.TheVariants as errors
 use Rattle.qm_base.specs.declared.error.JournalError.TheVariants as journal
 use Rattle.qm_base.specs.declared.error.MerkleError.{MerkleError}
 use Rattle.qm_base.specs.declared.error.MerkleError.TheVariants as merkle
-use Rattle.qm_lines.specs.Views.{answer_view, refused_view}
 use Rattle.qm_lines.specs.declared.reply.Reply as reply
 use Rattle.qm_lines.specs.declared.reply.Reply.TheVariants as replies
-use Rattle.qm_lines.specs.declared.reply.Refused.{Refused}
 use Rattle.qm_lines.specs.declared.reply.Refused.TheVariants as refused
 use Rattle.qm_store.specs.declared.Store as stores
 use Rattle.qm_store.specs.declared.StoreError.{StoreError}
@@ -34,15 +33,14 @@ use Rattle.qm_store.specs.Given.{store_given}
 use Rattle.qm_store.specs.Refusals.{refusal_of}
 use Rattle.qm_engine.specs.declared.words.Words as words
 use Rattle.qm_engine.specs.declared.table.Slot.{Slot}
-use Rattle.qm_engine.specs.declared.table.Slot.TheVariants.{Gone}
 use Rattle.qm_engine.specs.declared.session.Turn.{Turn}
-use Rattle.qm_engine.specs.declared.session.Turn.TheVariants.{Reply, Memory, StoreFault}
+use Rattle.qm_engine.specs.declared.session.Turn.TheVariants.{Reply, StoreFault}
 use Rattle.qm_engine.specs.Turn.{turn_of_error, turn_of_tree, given_after, turn_settled}
-use Rattle.qm_engine.specs.Words.{IsSettling, IsGivenUp, IsDestroying}
-use Rattle.qm_engine.specs.Stores.{HasLog, IsBeside, IsLeft, emptied}
-use Rattle.qm_engine.specs.Session.{HeldIs, SlotIs, Holds, Handles, HandlesLine, IfReply}
-use Rattle.qm_engine.proofs.Lasting.{turned, became, turned-each, turns-same, turns-beside, has-settled, has-emptied, has-restarted, left_imaged, left_restarted, left_destroyed}
-use Rattle.qm_engine.proofs.Commands.{left_none, left_stable, no_refusal, with_held, Turns}
+use Rattle.qm_engine.specs.Words.{IsSettling, IsHeadOf, IsPruned, IsUnpruned, IsGivenUp}
+use Rattle.qm_engine.specs.Stores.{HasLog, IsBeside, IsLeft, moved, emptied, head_at, pruned_from, LeavesPruning}
+use Rattle.qm_engine.specs.Session.{HeldIs, Holds, Handles, HandlesLine}
+use Rattle.qm_engine.proofs.Lasting.{became, turned-each, turns-same, turns-beside, has-settled, has-emptied, has-pruned, has-restarted, left_imaged, left_restarted, left_destroyed, left_pruned}
+use Rattle.qm_engine.proofs.Commands.{left_none, left_stable, no_refusal, with_held, with_list, Turns}
 
 -- a store alone, without a database
 alone : {X C B S M : Type 0} (members : stores.Ghosts C) (means : words.Ghosts X C B S M) (had : List (List Operation)) (c after : C) (d : Option (List Operation)) → HeldIs members means had (Store c) d → HeldIs members means had (Store after) d
@@ -73,6 +71,14 @@ fault-told (errors.Journal (journal.ItemTooLarge n)) e = absurd (cc)
 none_refused : (e : StoreError) → refusal_of (log_error e) ≡ None
 none_refused store.Memory = refl
 none_refused store.Failed = refl
+
+-- a store that was pruned
+left_moved : (m : machine.Scheme) (left : Option Stored) (before : Log) (to : ℕ) → before.stable ≤ length before.list → HasLog m left (machine.pruned to before) → IsLeft m left before (machine.pruned to before)
+left_moved m left before to within has = by (cases_lt before.start to)
+  where
+    by : (before.start < to) ⊎ (to ≤ before.start) → IsLeft m left before (machine.pruned to before)
+    by (inl behind) = record { log = machine.pruned to before; has = has; may = moved (omega (arith, behind)) }
+    by (inr short) = left_stable m left before (machine.pruned to before) (length before.list) within (subst (λ n. HasLog m left (record (machine.settled before) { start = n })) (omega (arith, short)) has)
 
 -- a command that does nothing to the store, and is not told as its fault
 pub same_handles : {C K V D : Type 0} (members : stores.Ghosts C) (c : C) (answer : reply.Reply K V D) → Handles {K = K} {V = V} {D = D} members c c (Reply answer)
@@ -119,8 +125,9 @@ module _ {X C B S M K V D : Type 0} (members : stores.Ghosts C) (means : words.G
               refl,
               record {
                 database = subst (HeldIs members means s.had (Database after)) (sym is) (done.stands list stands, in_had);
-                store = record { start = done.start ∙ k.store.start; told = has-settled means.scheme means.bare (members.told (means.inside x)) (members.told (means.inside after)) s.log k.store.told k.zero_start done.told };
-                zero_start = k.zero_start;
+                store = record { start = done.start ∙ k.store.start; told = has-settled means.scheme means.bare (members.told (means.inside x)) (members.told (means.inside after)) s.log k.store.told (omega (arith, k.start, k.within)) done.told };
+                start = omega (arith, k.start, k.within);
+                low = k.low;
                 within = le_refl (length s.log.list);
                 count = k.count;
                 lengths = k.lengths;
@@ -136,13 +143,13 @@ module _ {X C B S M K V D : Type 0} (members : stores.Ghosts C) (means : words.G
         by (Ok after) done = left_whole
           where
             has : HasLog means.scheme (members.told (means.inside after)) (machine.settled s.log)
-            has = has-settled means.scheme means.bare (members.told (means.inside x)) (members.told (means.inside after)) s.log k.store.told k.zero_start done.told
+            has = has-settled means.scheme means.bare (members.told (means.inside x)) (members.told (means.inside after)) s.log k.store.told (omega (arith, k.start, k.within)) done.told
 
             left_whole : IsLeft means.scheme (members.told (means.inside after)) s.log (machine.settled s.log)
             left_whole = left_stable means.scheme (members.told (means.inside after)) s.log (machine.settled s.log) (length s.log.list) k.within has
         by (Err r) done =
             subst (λ given. IsLeft means.scheme (members.told (store_given means.inside given)) s.log (machine.settled s.log)) (sym done.failed.given)
-            (left_imaged means.scheme means.bare (members.told (means.inside x)) (members.told done.failed.store) s.log (machine.settled s.log) k.store.told k.zero_start k.within refl done.failed.told)
+            (left_imaged means.scheme means.bare (members.told (means.inside x)) (members.told done.failed.store) s.log (machine.settled s.log) k.store.told k.start k.within refl done.failed.told)
 
   pub settled_handles : (x : X) (settling : Result X (Refusal X C)) → IsSettling means members x settling → Handles members (means.inside x) (store_given means.inside (given_after settling)) (turn_settled {K = K} {V = V} {D = D} settling)
   settled_handles x (Ok after) done = record {
@@ -158,12 +165,137 @@ module _ {X C B S M K V D : Type 0} (members : stores.Ghosts C) (means : words.G
         fault = λ e. done.failed.cause.failed (fault-told r.error e);
       }
 
+  -- A prune of a database.
+  module _ (x : X) (pruning : Result X (Refusal X C)) (table : List (Slot B S M)) (opened : ℕ) (s : State) (k : Holds members means (Database x) table opened s) (steady : IsSteady means.scheme s) (to : ℕ) where
+    -- the list, with a location within its boundary
+    module _ (list : List Operation) (is : s.database ≡ Some list) (stands : means.stands x list) (within : to ≤ means.scheme.boundary list) where
+      same-list : s.log.list ≡ list
+      same-list = (steady.held list is).0
+
+      few : length list ≤ 2 ^ 62
+      few = subst (λ ops. length ops ≤ 2 ^ 62) same-list steady.few
+
+      below : to ≤ floor list
+      below = let low = means.low list in omega (arith, within, low)
+
+      far : to ≤ length s.log.list
+      far = let low = below in let inside = steady.within list is in omega (arith, low, inside, ap length same-list)
+
+      head_is : (head : Bytes) → IsHeadOf means x to head → head ≡ head_at means.scheme s.log.list to
+      head_is head is_head = is_head list stands few ∙ ap (λ ops. head_at means.scheme ops to) (sym same-list)
+
+      -- the machine prunes there
+      pruned_as : (Q : Answer × State → Type 0) → Q (lines.Done, record s { log = machine.pruned to s.log }) → Q (machine.prune_in means.scheme s to list)
+      pruned_as Q q = subst (λ b. Q (cond b (machine.refuse s (refusals.PruneBeyondMinRequired to (means.scheme.boundary list))) (lines.Done, record s { log = machine.pruned to s.log }))) (sym (le-ltb (means.scheme.boundary list) to within)) q
+
+      pruned_told : (after : X) → IsPruned means members to x after → HasLog means.scheme (members.told (means.inside after)) (machine.pruned to s.log)
+      pruned_told after done =
+          has-pruned means.scheme means.bare (members.told (means.inside x)) (members.told (means.inside after)) s.log to done.head k.store.told (omega (arith, k.start, k.within))
+          (λ behind. head_is done.head (done.heads (subst (λ n. n < to) (sym k.store.start) behind)))
+          (subst (λ n. Becomes (members.told (means.inside x)) (members.told (means.inside after)) (pruned_from n to done.head)) k.store.start done.told)
+
+    -- or refuses to, past the boundary
+    refused_as : (list : List Operation) (bound : ℕ) → bound < to → bound ≡ means.scheme.boundary list → (Q : Answer × State → Type 0) → Q (lines.Refuses (refusals.PruneBeyondMinRequired to bound), s) → Q (machine.prune_in means.scheme s to list)
+    refused_as list bound past is Q q =
+        subst (λ n. Q (if_past n)) is (subst (λ b. Q (cond b (machine.refuse s (refusals.PruneBeyondMinRequired to bound)) (lines.Done, record s { log = machine.pruned to s.log }))) (sym (lt-ltb bound to past)) q)
+      where
+        if_past : ℕ → Answer × State
+        if_past n = cond (nat_lt n to) (machine.refuse s (refusals.PruneBeyondMinRequired to n)) (lines.Done, record s { log = machine.pruned to s.log })
+
+    pub pruned_turn : IfOk pruning (IsPruned means members to x) → IfErr pruning (IsUnpruned means members to x) → Goes (turn_settled pruning) (given_after pruning) table opened (machine.prune means.scheme s to)
+    pruned_turn done denied = by pruning done denied
+      where
+        by : (pruning : Result X (Refusal X C)) → IfOk pruning (IsPruned means members to x) → IfErr pruning (IsUnpruned means members to x) → Goes (turn_settled pruning) (given_after pruning) table opened (machine.prune means.scheme s to)
+        by (Err r) done (inl (bound, past, bound_is, given, error)) =
+            subst (λ e. Goes (turn_of_error e) r.given table opened (machine.prune means.scheme s to)) (sym error)
+            (subst (λ g. Goes (Reply (replies.Refused (refused.PruneBeyondMinRequired to bound))) g table opened (machine.prune means.scheme s to)) (sym given)
+            (with_list members means x s.had s.database s (λ list. machine.prune_in means.scheme s to list) (Goes (Reply (replies.Refused (refused.PruneBeyondMinRequired to bound))) (Database x) table opened) k.database
+            (λ list stands in_had. refused_as list bound past (bound_is list stands) (Goes (Reply (replies.Refused (refused.PruneBeyondMinRequired to bound))) (Database x) table opened) (λ apart. (refl, k)))))
+        by (Err r) done (inr (within, up)) = no_refusal r.error _ up.never
+        by (Ok after) done denied =
+            with_held members means x s.had s.database s (λ list. machine.prune_in means.scheme s to list) (Goes (Reply replies.Done) (Database after) table opened) k.database
+            (λ list is stands in_had. let stays = done.stands list stands in
+            pruned_as list is stands stays.0 (Goes (Reply replies.Done) (Database after) table opened) (λ apart. (
+              refl,
+              record {
+                database = subst (HeldIs members means s.had (Database after)) (sym is) (stays.1, in_had);
+                store = record { start = done.start ∙ ap (λ n. max n to) k.store.start; told = pruned_told list is stands stays.0 after done };
+                start = let within = far list is stands stays.0 in omega (arith, k.start, k.within, within);
+                low = subst (λ d. IfSome d (λ ops. max s.log.start to ≤ floor ops)) (sym is) (most list (subst (λ d. IfSome d (λ ops. s.log.start ≤ floor ops)) is k.low) (below list is stands stays.0));
+                within = le_refl (length s.log.list);
+                count = k.count;
+                lengths = k.lengths;
+                slots = k.slots;
+              },
+            )))
+          where
+            most : (list : List Operation) → s.log.start ≤ floor list → to ≤ floor list → max s.log.start to ≤ floor list
+            most list low high = omega (arith, low, high)
+
+    pub pruned_left : IfOk pruning (IsPruned means members to x) → IfErr pruning (IsUnpruned means members to x)
+        → IsLeft means.scheme (members.told (store_given means.inside (given_after pruning))) s.log ((machine.prune means.scheme s to).1).log
+    pruned_left done denied = by pruning done denied
+      where
+        -- with this store
+        Left : C → Answer × State → Type 0
+        Left c next = IsLeft means.scheme (members.told c) s.log (next.1).log
+
+        by : (pruning : Result X (Refusal X C)) → IfOk pruning (IsPruned means members to x) → IfErr pruning (IsUnpruned means members to x) → Left (store_given means.inside (given_after pruning)) (machine.prune means.scheme s to)
+        by (Ok after) done denied =
+            with_held members means x s.had s.database s (λ list. machine.prune_in means.scheme s to list) (Left (means.inside after)) k.database
+            (λ list is stands in_had. let within = (done.stands list stands).0 in
+            pruned_as list is stands within (Left (means.inside after)) (left_moved means.scheme (members.told (means.inside after)) s.log to k.within (pruned_told list is stands within after done)))
+        by (Err r) done (inl (bound, past, bound_is, given, error)) =
+            subst (λ g. Left (store_given means.inside g) (machine.prune means.scheme s to)) (sym given)
+            (with_list members means x s.had s.database s (λ list. machine.prune_in means.scheme s to list) (Left (means.inside x)) k.database
+            (λ list stands in_had. refused_as list bound past (bound_is list stands) (Left (means.inside x)) (left_none means.scheme s.log s.log (members.told (means.inside x)) k.store.told)))
+        by (Err r) done (inr (fits, up)) =
+            subst (λ g. Left (store_given means.inside g) (machine.prune means.scheme s to)) (sym up.given)
+            (with_held members means x s.had s.database s (λ list. machine.prune_in means.scheme s to list) (Left up.store) k.database
+            (λ list is stands in_had. let within = fits list stands in
+            pruned_as list is stands within (Left up.store)
+            (left_pruned means.scheme means.bare (members.told (means.inside x)) (members.told up.store) s.log (members.start (means.inside x)) to (IsHeadOf means x to) k.store.start k.store.told k.start k.within (far list is stands within) (head_is list is stands within) up.told)))
+
+  -- what a prune leaves as it is
+  pruned-beside : (start to : ℕ) (head : Bytes) (s t : Stored) → t ≡ pruned_from start to head s → (t.metadata ≡ s.metadata) × (t.ends ≡ s.ends)
+  pruned-beside start to head s t is = by (nat_lt start to) is
+    where
+      by : (b : Bool) → t ≡ cond b (model.pruned to head (settled s)) (settled s) → (t.metadata ≡ s.metadata) × (t.ends ≡ s.ends)
+      by true is = (ap (λ x. x.metadata) is, ap (λ x. x.ends) is)
+      by false is = (ap (λ x. x.metadata) is, ap (λ x. x.ends) is)
+
+  unpruned-beside : (start : ℕ) (IsHead : Bytes → Type 0) (to : ℕ) (s t : Stored) → LeavesPruning start IsHead to s t → (t.metadata ≡ s.metadata) × (t.ends ≡ s.ends)
+  unpruned-beside start IsHead to s t (inl r) = imaged-beside s t r
+  unpruned-beside start IsHead to s t (inr (behind, head, is_head, r)) = by r.left
+    where
+      by : IsOldOrNew (model.pruned to head) (settled s) r.image → (t.metadata ≡ s.metadata) × (t.ends ≡ s.ends)
+      by (inl i) = (ap (λ x. x.metadata) r.reads ∙ ap (λ x. x.metadata) i.same, ap (λ x. x.ends) r.reads ∙ ap (λ x. x.ends) i.same)
+      by (inr i) = (ap (λ x. x.metadata) r.reads ∙ ap (λ x. x.metadata) i.same, ap (λ x. x.ends) r.reads ∙ ap (λ x. x.ends) i.same)
+
+  pub pruned_handles : (x : X) (to : ℕ) (pruning : Result X (Refusal X C)) → IfOk pruning (IsPruned means members to x) → IfErr pruning (IsUnpruned means members to x)
+      → Handles members (means.inside x) (store_given means.inside (given_after pruning)) (turn_settled {K = K} {V = V} {D = D} pruning)
+  pruned_handles x to (Ok after) done denied = record {
+    beside = (turns-beside (members.told (means.inside x)) (members.told (means.inside after)) _ (pruned-beside (members.start (means.inside x)) to done.head) done.told);
+    later = done.later;
+    fault = λ e. absurd (cc);
+  }
+  pruned_handles x to (Err r) done (inl (bound, past, bound_is, given, error)) =
+      subst (λ g. Handles {K = K} {V = V} {D = D} members (means.inside x) (store_given means.inside g) (turn_of_error r.error)) (sym given)
+      (subst (λ e. Handles {K = K} {V = V} {D = D} members (means.inside x) (means.inside x) (turn_of_error e)) (sym error) (same_handles members (means.inside x) _))
+  pruned_handles x to (Err r) done (inr (fits, up)) =
+      subst (λ g. Handles {K = K} {V = V} {D = D} members (means.inside x) (store_given means.inside g) (turn_of_error r.error)) (sym up.given)
+      record {
+        beside = (turns-beside (members.told (means.inside x)) (members.told up.store) _ (unpruned-beside (members.start (means.inside x)) (IsHeadOf means x to) to) up.told);
+        later = up.cause.later;
+        fault = λ e. up.cause.failed (fault-told r.error e);
+      }
+
   -- A database is closed.
   pub closed_turn : (x : X) (table : List (Slot B S M)) (opened : ℕ) (s : State) → Holds members means (Database x) table opened s
       → Goes (Reply replies.Done) (Store (means.inside x)) table opened (machine.close s)
   closed_turn x table opened s k =
       with_held members means x s.had s.database s (λ list. (lines.Done, machine.closed s)) (Goes (Reply replies.Done) (Store (means.inside x)) table opened) k.database
-      (λ list is stands in_had apart. (refl, record { database = tt; store = k.store; zero_start = k.zero_start; within = k.within; count = k.count; lengths = k.lengths; slots = k.slots }))
+      (λ list is stands in_had apart. (refl, record { database = tt; store = k.store; start = k.start; low = tt; within = k.within; count = k.count; lengths = k.lengths; slots = k.slots }))
 
   pub closed_left : (x : X) (table : List (Slot B S M)) (opened : ℕ) (s : State) → Holds members means (Database x) table opened s
       → IsLeft means.scheme (members.told (means.inside x)) s.log ((machine.close s).1).log
@@ -181,7 +313,8 @@ module _ {X C B S M K V D : Type 0} (members : stores.Ghosts C) (means : words.G
           record {
             database = tt;
             store = record { start = start; told = has-emptied means.scheme means.bare (members.told (means.inside x)) (members.told c) s.log k.store.told made };
-            zero_start = refl;
+            start = omega arith;
+            low = tt;
             within = omega arith;
             count = k.count;
             lengths = k.lengths;
@@ -201,7 +334,7 @@ module _ {X C B S M K V D : Type 0} (members : stores.Ghosts C) (means : words.G
     undestroyed_left refusal failed =
         subst (λ given. IsLeft means.scheme (members.told (store_given means.inside given)) s.log ((machine.destroy s).1).log) (sym failed.given)
         (with_held members means x s.had s.database s (λ list. (lines.Done, record (machine.closed s) { log = no_log })) (λ next. IsLeft means.scheme (members.told failed.store) s.log (next.1).log) k.database
-        (λ list is stands in_had. left_destroyed means.scheme means.bare (members.told (means.inside x)) (members.told failed.store) s.log k.store.told k.zero_start k.within failed.told))
+        (λ list is stands in_had. left_destroyed means.scheme means.bare (members.told (means.inside x)) (members.told failed.store) s.log k.store.told k.start k.within failed.told))
 
   destroy-beside : (s t : Stored) → DestroyLeaves s t → (t ≡ t) × IsBeside [] s t
   destroy-beside s t (inl r) = let same = imaged-beside s t r in (refl, record { metadata = inl same.0; ends = same.1 ∙ sym (append-nil s.ends) })
@@ -231,7 +364,7 @@ module _ {X C B S M K V D : Type 0} (members : stores.Ghosts C) (means : words.G
     pub crashed_turn : (more rest : List ℕ) → model.Turns (members.told (store_given means.inside held)) (members.told c) HasRestarted → members.start c ≡ members.start (store_given means.inside held)
         → model.Turns (members.told (store_given means.inside held)) (members.told c) (IsBeside more) → s.choices ≡ more ++ rest → Goes (Reply replies.Done) (Store c) table opened (machine.crash s)
     crashed_turn more rest made start told choices apart =
-        let r = has-restarted means.scheme means.bare (members.told (store_given means.inside held)) (members.told c) s.log more rest k.store.told k.zero_start made told in
+        let r = has-restarted means.scheme means.bare (members.told (store_given means.inside held)) (members.told c) s.log more rest k.store.told k.start k.within made told in
         let chosen : slice_index_or s.choices 0 0 ≡ r.0 = ap (λ xs. slice_index_or xs 0 0) (choices ∙ ap (λ xs. xs ++ rest) r.3) in
         let low = r.1 in
         let high = r.2 in
@@ -240,7 +373,8 @@ module _ {X C B S M K V D : Type 0} (members : stores.Ghosts C) (means : words.G
           record {
             database = tt;
             store = record { start = start ∙ k.store.start; told = subst (λ n. HasLog means.scheme (members.told c) (record s.log { list = take n s.log.list; stable = n })) (sym same) r.4 };
-            zero_start = k.zero_start;
+            start = omega (arith, k.start, low, same);
+            low = tt;
             within = subst (λ n. n ≤ length (take n s.log.list)) (sym same) (omega (arith, length-take-le r.0 s.log.list high));
             count = k.count;
             lengths = k.lengths;
@@ -252,10 +386,10 @@ module _ {X C B S M K V D : Type 0} (members : stores.Ghosts C) (means : words.G
     at-end chosen log within = omega (arith, length-take-le (max log.stable (min (length log.list) chosen)) log.list (omega (arith, within)))
 
     pub crashed_left : model.Turns (members.told (store_given means.inside held)) (members.told c) HasRestarted → IsLeft means.scheme (members.told c) s.log ((machine.crash s).1).log
-    crashed_left made = left_restarted means.scheme means.bare (members.told (store_given means.inside held)) (members.told c) s.log ((machine.crash s).1).log k.store.told k.zero_start k.within (at-end _ s.log k.within) made
+    crashed_left made = left_restarted means.scheme means.bare (members.told (store_given means.inside held)) (members.told c) s.log ((machine.crash s).1).log k.store.told k.start k.within (at-end _ s.log k.within) made
 
     pub uncrashed_left : model.Turns (members.told (store_given means.inside held)) (members.told c) (λ t. ReadsAs t.stable (IsImage t)) → IsLeft means.scheme (members.told c) s.log ((machine.crash s).1).log
-    uncrashed_left made = left_imaged means.scheme means.bare (members.told (store_given means.inside held)) (members.told c) s.log ((machine.crash s).1).log k.store.told k.zero_start k.within (at-end _ s.log k.within) made
+    uncrashed_left made = left_imaged means.scheme means.bare (members.told (store_given means.inside held)) (members.told c) s.log ((machine.crash s).1).log k.store.told k.start k.within (at-end _ s.log k.within) made
 
   restarted-beside : (o new : Option Stored) → model.Turns o new HasRestarted → (to : ℕ) × model.Turns o new (IsBeside (to ∷ []))
   restarted-beside None new is = (0, is)

@@ -9,5 +9,7 @@ pub mod OrderedCommands
 pub mod ProofCommands
 pub mod LastingCommands
 pub mod OpeningCommands
+pub mod Owned
 pub mod Loops
 pub mod Answerings
+pub mod Followed

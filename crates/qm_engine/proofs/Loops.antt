@@ -1,17 +1,17 @@
 -- The loop over the commands: one more, and its ends.
 use Rattle.std.proofs.Common.{◌≡◌, ◌≤◌, ◌<◌, ℕ, suc, ◌+◌, List, [], ◌∷◌, ◌++◌, length, get_or, take, map, Option, Some, None, IfSome, arith, refl, sym, ◌∙◌, ap, subst, add-one}
-use Rattle.std.specs.Prelude.{All}
+use Rattle.std.specs.Prelude.{All, slice_index_or}
 use Rattle.std.proofs.lemmas.List.{take_all, take_more, get_or-map}
 use Rattle.qm_model.specs.Causes.{Rose}
 use Rattle.qm_model.specs.Own.{Log, IsKept, IsOwn}
-use Rattle.qm_model.specs.StoreModel.{Stored, Turns}
+use Rattle.qm_model.specs.StoreModel.{Stored, end_of, Turns}
 use Rattle.qm_model.specs.Walk.{Rules}
-use Rattle.qm_model.specs.Batches.{Apart}
+use Rattle.qm_model.specs.Batches.{Apart, Begins, Chain}
 use Rattle.qm_machine.specs.Lines.{Line, Answer}
-use Rattle.qm_machine.specs.Machine.{Scheme, State, engine_of, initial, turn, answers, state_after}
+use Rattle.qm_machine.specs.Machine.{Scheme, State, engine_of, initial, slot_at, turn, answers, state_after}
 use Rattle.qm_machine.proofs.Runs.{state_after-push, answers-push, Apart-before}
 use Rattle.qm_engine.specs.Stores.{HasLog, IsLeft}
-use Rattle.qm_engine.specs.Runs.{IsRun, IsOwnStore, after}
+use Rattle.qm_engine.specs.Runs.{IsRun, IsOwnStore, IsOwnLeft, after}
 use Rattle.qm_model.specs.Operations.{Operation}
 use Rattle.qm_model.specs.Forms.{IsOf}
 use Rattle.qm_machine.specs.Machine.{choices_after}
@@ -24,10 +24,13 @@ use Rattle.qm_store.specs.declared.refusal.Given.TheVariants.{Database, Store}
 use Rattle.qm_engine.specs.declared.words.Words as words
 use Rattle.qm_engine.specs.declared.session.Session.{Session}
 use Rattle.qm_engine.specs.declared.table.Slot.{Slot}
-use Rattle.qm_engine.specs.Session.{HeldIs, Holds, Stands, IsChosen}
+use Rattle.qm_engine.specs.declared.table.Slot.TheVariants.{Gone, Writing, Staged, Merkleized}
+use Rattle.qm_machine.specs.Machine as machine
+use Rattle.qm_engine.specs.Session.{HeldIs, SlotIs, Holds, Stands, IsChosen}
 use Rattle.qm_engine.specs.Stores.{IsBeside}
 use Rattle.qm_engine.proofs.Lasting.{beside-self, turns-told, turns-through}
-use Rattle.qm_engine.proofs.Commands.{left_none}
+use Rattle.qm_engine.proofs.Owned.{own-of, none-left, owned}
+use Rattle.qm_engine.proofs.Followed.{turn-followed}
 
 pub line_here : {A B : Type 0} (f : A → B) (xs : List A) (i : ℕ) (x : A) → i < length xs → x ≡ get_or xs i x → f x ≡ get_or (map f xs) i (f x)
 line_here f xs i x h e = ap f e ∙ sym (get_or-map f xs i x (f x) h)
@@ -35,15 +38,7 @@ line_here f xs i x h e = ap f e ∙ sym (get_or-map f xs i x (f x) h)
 pub Rose-wider : (a b c d : ℕ) → a ≤ b → Rose b c → c ≤ d → Rose a d
 Rose-wider a b c d p q r = omega arith
 
--- an own store of a log that is told
-pub own-of : (m : Scheme) {P : Type 0} (rules : Rules P) (told : Option Stored) (log : Log) → HasLog m told log → IsKept (engine_of m rules) log → IsOwnStore m rules told log
-own-of m rules told log has kept = record {
-  stored = has.stored;
-  is = has.is;
-  own = record { stored = record { start = has.has.start; items = has.has.items; head = has.has.head; metadata = has.has.metadata; stable = has.has.stable }; kept = kept };
-}
-
--- and what is told of it
+-- what is told of an own store has its log
 pub log-of : (m : Scheme) {P : Type 0} (rules : Rules P) (told : Option Stored) (stored : Stored) (log : Log) → told ≡ Some stored → IsOwn (engine_of m rules) log stored → HasLog m told log
 log-of m rules told stored log is own = let has = own.stored in record { stored = stored; is = is; has = record { start = has.start; items = has.items; head = has.head; metadata = has.metadata; stable = has.stable } }
 
@@ -69,13 +64,13 @@ module _ (m : Scheme) {P : Type 0} (rules : Rules P) (log : Log) (choices : List
   -- what is left where the next command ended the run
   pub left_in : (i : ℕ) (line : Line P) (left : Option Stored) (Before : State → Type 0) → i < length lines → line ≡ get_or lines i line
       → (Apart m.root (after m rules log choices lines i).had → Before (after m rules log choices lines i))
-      → ((s : State) → Before s → Apart m.root s.had → IsLeft m left s.log ((turn m rules s line).1).log)
-      → Apart m.root (after m rules log choices lines i).had → IsLeft m left (after m rules log choices lines i).log (after m rules log choices lines (suc i)).log
+      → ((s : State) → Before s → Apart m.root s.had → IsOwnLeft m rules left s.log ((turn m rules s line).1).log)
+      → Apart m.root (after m rules log choices lines i).had → IsOwnLeft m rules left (after m rules log choices lines i).log (after m rules log choices lines (suc i)).log
   left_in i line left Before h here so_far leaves apart =
       let s : State = after m rules log choices lines i in
       let next : (after m rules log choices lines (suc i)).log ≡ ((turn m rules s line).1).log =
       ap (λ n. (after m rules log choices lines n).log) (sym (add-one i)) ∙ ap (λ t. (state_after m rules (initial log choices) t).log) (after_more i line h here) ∙ ap (λ (x : State). x.log) (state_after-push m rules (initial log choices) (take i lines) line) in
-      subst (IsLeft m left s.log) (sym next) (leaves s (so_far apart) apart)
+      subst (IsOwnLeft m rules left s.log) (sym next) (leaves s (so_far apart) apart)
 
   -- behind the last command the state stays
   pub after_all : (i : ℕ) → length lines ≤ i → (after m rules log choices lines (suc i)).log ≡ (after m rules log choices lines i).log
@@ -84,13 +79,13 @@ module _ (m : Scheme) {P : Type 0} (rules : Rules P) (log : Log) (choices : List
   -- the run ended in a command
   pub ended_in : (i : ℕ) (line : Line P) (given : List Answer) (left : Option Stored) (Before : State → Type 0) → i < length lines → line ≡ get_or lines i line → length given ≡ i
       → (Apart m.root (after m rules log choices lines i).had → (given ≡ answers m rules (initial log choices) (take i lines)) × Before (after m rules log choices lines i))
-      → ((s : State) → Before s → Apart m.root s.had → IsLeft m left s.log ((turn m rules s line).1).log)
+      → ((s : State) → Before s → Apart m.root s.had → IsOwnLeft m rules left s.log ((turn m rules s line).1).log)
       → IsRun m rules log choices lines given left
   ended_in i line given left Before h here e so_far leaves = record {
     few = omega (arith, e);
     same = subst (λ n. Apart m.root (after m rules log choices lines n).had → given ≡ answers m rules (initial log choices) (take n lines)) (sym e) (λ apart. (so_far apart).0);
     whole = λ all. absurd (omega (arith, e, all, h));
-    left = subst (λ n. Apart m.root (after m rules log choices lines n).had → IsLeft m left (after m rules log choices lines n).log (after m rules log choices lines (suc n)).log) (sym e)
+    left = subst (λ n. Apart m.root (after m rules log choices lines n).had → IsOwnLeft m rules left (after m rules log choices lines n).log (after m rules log choices lines (suc n)).log) (sym e)
         (left_in i line left Before h here (λ apart. (so_far apart).1) leaves);
   }
 
@@ -102,8 +97,8 @@ module _ (m : Scheme) {P : Type 0} (rules : Rules P) (log : Log) (choices : List
     few = omega (arith, e);
     same = subst (λ n. Apart m.root (after m rules log choices lines n).had → given ≡ answers m rules (initial log choices) (take n lines)) (sym e) (λ apart. (so_far apart).0);
     whole = λ all. subst (λ n. Apart m.root (after m rules log choices lines n).had → IsOwnStore m rules left (after m rules log choices lines n).log) (sym e) (λ apart. own-of m rules left _ (so_far apart).1 (so_far apart).2);
-    left = subst (λ n. Apart m.root (after m rules log choices lines n).had → IsLeft m left (after m rules log choices lines n).log (after m rules log choices lines (suc n)).log) (sym e)
-        (λ apart. left_none m (after m rules log choices lines i).log (after m rules log choices lines (suc i)).log left (so_far apart).1);
+    left = subst (λ n. Apart m.root (after m rules log choices lines n).had → IsOwnLeft m rules left (after m rules log choices lines n).log (after m rules log choices lines (suc n)).log) (sym e)
+        (λ apart. none-left m rules left (after m rules log choices lines i).log (after m rules log choices lines (suc i)).log (so_far apart).1 (so_far apart).2);
   }
 
 pub each : {A : Type 0} (o : Option A) {Q : A → Type 0} → ((x : A) → o ≡ Some x → Q x) → IfSome o Q
@@ -138,10 +133,28 @@ module _ {X C B S M : Type 0} (members : stores.Ghosts C) (means : words.Ghosts 
         done.0,
         record {
           stands = done.1;
-          sound = turn-sound means.scheme rules s line between.sound apart (formed new.held new.table.items new.opened (turn means.scheme rules s line).1 done.1);
+          sound = turn-sound means.scheme rules means.low s line between.sound apart (formed new.held new.table.items new.opened (turn means.scheme rules s line).1 done.1);
           choices = turn-choices means.scheme rules s line ∙ (ap (choices_after line) between.choices ∙ chosen rest);
         },
       )
+
+  -- the tips of batches are of its form
+  tips-formed : (session : Session X C B S M) (s : State) → Stands members means session s → (h : ℕ) (chain : Chain) (tip : List Operation) → slot_at s.table h ≡ machine.merkleized chain tip → All (IsOf means.scheme.form) tip
+  tips-formed session s stands h chain tip named =
+      by (slice_index_or session.table.items h Gone) (subst (SlotIs members means s.had (slice_index_or session.table.items h Gone)) named (stands.slots h))
+    where
+      by : (a : Slot B S M) → SlotIs members means s.had a (machine.merkleized chain tip) → All (IsOf means.scheme.form) tip
+      by (Merkleized b) is = means.made_formed b chain tip is.0
+      by Gone is = absurd is
+      by (Writing b) is = absurd is
+      by (Staged b) is = absurd is
+
+  -- what a command may leave there is one that databases leave
+  pub own-left : (session : Session X C B S M) (rest : List ℕ) (line : Line P) (left : Option Stored) (s : State) → IfSome left (λ t. t.stable ≤ end_of t) → Between members means rules session rest s → Apart means.scheme.root s.had
+      → IsLeft means.scheme left s.log ((turn means.scheme rules s line).1).log → IsOwnLeft means.scheme rules left s.log ((turn means.scheme rules s line).1).log
+  own-left session rest line left s stable between apart is =
+      let next = turn-followed means.scheme rules means.low s line between.sound apart (tips-formed session s between.stands) in
+      owned means.scheme rules s.log ((turn means.scheme rules s line).1).log between.sound.kept next.0 next.1 left stable is
 
 -- The choices that a run's store made, by its parts.
 

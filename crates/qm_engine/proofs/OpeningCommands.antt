@@ -1,33 +1,31 @@
 -- The command that opens what a store keeps.
-use Rattle.std.proofs.Common.{◌≡◌, ◌≢◌, ℕ, zero, suc, ◌+◌, ◌≤◌, ◌<◌, Bool, true, false, cond, List, [], ◌∷◌, ◌++◌, length, get_or, take, drop, map, Option, Some, None, Result, Ok, Err, IfSome, arith, refl, sym, ◌∙◌, ap, subst, le_refl, append-nil, length-take-le}
-use Rattle.std.specs.Prelude.{Contains, IsSome, is_some, All}
+use Rattle.std.proofs.Common.{◌≡◌, ℕ, zero, suc, ◌+◌, ◌≤◌, List, [], ◌∷◌, length, get_or, take, drop, map, Option, Some, None, IfSome, arith, refl, sym, ◌∙◌, ap, subst, le_refl, le_trans, length-take-le}
+use Rattle.std.specs.Prelude.{IsSome, is_some}
 use Rattle.std.specs.List.{AllByRecursion as Each}
-use Rattle.std.proofs.lemmas.List.{take-map}
+use Rattle.std.specs.List.{drop-map}
 use Rattle.std.proofs.lemmas.List.Elements.{All-take, All-drop, recursion_from_All}
 use Rattle.qm_model.specs.Causes.{Rose}
-use Rattle.qm_model.specs.Operations.{Bytes, Operation, fresh}
+use Rattle.qm_model.specs.Live.{floor}
+use Rattle.qm_model.specs.Operations.{Bytes, Operation}
 use Rattle.qm_model.specs.Forms.{Form, IsOf, spelling, decoded}
-use Rattle.qm_model.specs.Batches.{Apart}
-use Rattle.qm_model.specs.Own.{Log, taken_up}
-use Rattle.qm_model.specs.Opening.{Found, Opening, opens, refuses, found, selected, size_of, opening_refusal, opening_of, opening, opened_list}
+use Rattle.qm_model.specs.Own.{taken_up}
+use Rattle.qm_model.specs.Opening.{opens, refuses, found, selected, size_of, opening_refusal, opening_of, opening, opened_list}
 use Rattle.qm_model.specs.Refused as refusals
 use Rattle.qm_model.specs.StoreModel.{Stored}
 use Rattle.qm_model.specs.StoreModel as model
 use Rattle.qm_model.proofs.Chains.{Contains-first}
 use Rattle.qm_model.proofs.Forms.{decoded-spelling}
 use Rattle.qm_machine.specs.Lines.{Answer}
-use Rattle.qm_machine.specs.Lines as lines
 use Rattle.qm_machine.specs.Machine.{State, closed, opened_as, found_in, layout_of}
 use Rattle.qm_machine.specs.Machine as machine
 use Rattle.qm_machine.specs.Sound.{IsSteady}
-use Rattle.qm_machine.proofs.Accepted.{opens-within, opens-none}
+use Rattle.qm_machine.proofs.Accepted.{opens-within, opens-behind, opens-none}
 use Rattle.qm_base.specs.declared.error.Error.{Error}
-use Rattle.qm_lines.specs.Views.{answer_view, refused_view}
+use Rattle.qm_lines.specs.Views.{refused_view}
 use Rattle.qm_base.specs.declared.error.Error.TheVariants as errors
 use Rattle.qm_base.specs.declared.error.JournalError.TheVariants as journal
 use Rattle.qm_lines.specs.declared.reply.Reply as reply
 use Rattle.qm_lines.specs.declared.reply.Reply.TheVariants as replies
-use Rattle.qm_lines.specs.declared.reply.Refused.{Refused}
 use Rattle.qm_store.specs.declared.Store as stores
 use Rattle.qm_store.specs.declared.refusal.Given.{Given}
 use Rattle.qm_store.specs.declared.refusal.Given.TheVariants.{Database, Store}
@@ -39,9 +37,9 @@ use Rattle.qm_engine.specs.declared.table.Slot.TheVariants.{Gone}
 use Rattle.qm_engine.specs.declared.session.Turn.{Turn}
 use Rattle.qm_engine.specs.declared.session.Turn.TheVariants.{Reply}
 use Rattle.qm_engine.specs.Turn.{turn_of_error}
-use Rattle.qm_engine.specs.Stores.{HasLog, HasList, IsTaken, IsLeft, selected_size, taken, LeavesOpening}
+use Rattle.qm_engine.specs.Stores.{HasLog, IsTaken, IsLeft, head_at, selected_size, taken, LeavesOpening}
 use Rattle.qm_engine.specs.Session.{Holds, Handles}
-use Rattle.qm_engine.proofs.Lasting.{turned, turns-beside, items-whole, head-bare, stored-taken, left_taken, left_opening}
+use Rattle.qm_engine.proofs.Lasting.{turned, turns-beside, items-cut, head-cut, stored-taken, left_taken, left_opening}
 use Rattle.qm_engine.proofs.LastingCommands.{fault-told}
 use Rattle.qm_engine.proofs.Commands.{left_none, some_is, due_told, by_refusal, stored-same, SlotIs-more, Turns}
 
@@ -93,11 +91,28 @@ module _ {X C B S M K V D : Type 0} (members : stores.Ghosts C) (means : words.G
     abbrev list : List Operation
     list = opened_list size s.log.list
 
+    begins : s.log.start ≤ length s.log.list
+    begins = omega (arith, k.start, k.within)
+
     bare : size ≡ 0 → s.log.list ≡ []
-    bare zero_size = opens-none means.scheme s.log bound k.zero_start (opens_is accepted ∙ ap opens zero_size)
+    bare zero_size = opens-none means.scheme s.log bound begins (opens_is accepted ∙ ap opens zero_size)
 
     few : size ≤ length s.log.list
-    few = opens-within means.scheme s.log bound k.zero_start size (opens_is accepted)
+    few = opens-within means.scheme s.log bound begins size (opens_is accepted)
+
+    -- its floor is not below the start, and within it
+    low : s.log.start ≤ floor list
+    low = steady.low bound size (opens_is accepted)
+
+    inside : s.log.start ≤ length list
+    inside = let within = (steady.good bound size (opens_is accepted)).floor_within in omega (arith, low, within)
+
+    behind : s.log.start ≤ size
+    behind = by size refl
+      where
+        by : (n : ℕ) → size ≡ n → s.log.start ≤ n
+        by zero e = omega (arith, begins, ap length (bare e))
+        by (suc j) e = opens-behind means.scheme s.log bound begins j (opens_is accepted ∙ ap opens e)
 
     -- the store has the list that is taken up
     taken_is : IsTaken means.scheme stored size list
@@ -107,14 +122,18 @@ module _ {X C B S M K V D : Type 0} (members : stores.Ghosts C) (means : words.G
         by zero e = refl
         by (suc j) e =
             let opens_so = opens_is accepted ∙ ap opens e in
+            let few_so = subst (λ n. n ≤ length s.log.list) e few in
+            let behind_so = subst (λ n. s.log.start ≤ n) e behind in
+            let has = k.store.told.has in
             record {
-              start = k.store.told.has.start ∙ k.zero_start;
-              size_is = length-take-le (suc j) s.log.list (subst (λ n. n ≤ length s.log.list) e few);
+              size_is = length-take-le (suc j) s.log.list few_so;
+              few = le_trans few_so steady.few;
               of = All-take (IsOf means.scheme.form) (suc j) s.log.list steady.of_form;
               good = steady.good bound (suc j) opens_so;
               ring = steady.ring bound (suc j) opens_so;
-              items = ap (take (suc j)) (items-whole means.scheme means.bare s.log stored k.store.told.has k.zero_start) ∙ take-map (spelling means.scheme.form) (suc j) s.log.list;
-              head = k.store.told.has.head ∙ head-bare means.scheme means.bare s.log k.zero_start;
+              items = items-cut means.scheme means.bare s.log stored has (suc j) behind_so
+                  ∙ (sym (drop-map (spelling means.scheme.form) s.log.start (take (suc j) s.log.list)) ∙ ap (λ n. drop n (map (spelling means.scheme.form) (take (suc j) s.log.list))) (sym has.start));
+              head = head-cut means.scheme means.bare s.log stored has (suc j) behind_so ∙ ap (head_at means.scheme (take (suc j) s.log.list)) (sym has.start);
             }
 
     new_told : (after : C) → model.Turns (members.told (store_given means.inside held)) (members.told after) (λ t new. new ≡ taken means.scheme (selected_size means.scheme bound t) t) → HasLog means.scheme (members.told after) (taken_up list s.log)
@@ -123,7 +142,7 @@ module _ {X C B S M K V D : Type 0} (members : stores.Ghosts C) (means : words.G
         record {
           stored = taken means.scheme size stored;
           is = t.1 ∙ ap Some (t.2 ∙ ap (λ n. taken means.scheme n stored) size_is);
-          has = stored-taken means.scheme means.bare s.log stored size k.store.told.has k.zero_start bare;
+          has = stored-taken means.scheme means.bare s.log stored size k.store.told.has behind bare few;
         }
 
   offered : IfSome (members.told (store_given means.inside held)) (λ t. opening_refusal (layout_of means.scheme) (found (layout_of means.scheme) t) bound ≡ None) → due ≡ None
@@ -145,7 +164,8 @@ module _ {X C B S M K V D : Type 0} (members : stores.Ghosts C) (means : words.G
         record {
           database = (stands, Contains-first (list accepted) s.had);
           store = record { start = same_start ∙ k.store.start; told = new_told accepted (means.inside x) became };
-          zero_start = k.zero_start;
+          start = inside accepted;
+          low = low accepted;
           within = le_refl (length (list accepted));
           count = ap (λ n. n + 1) k.count;
           lengths = k.lengths;
@@ -160,7 +180,7 @@ module _ {X C B S M K V D : Type 0} (members : stores.Ghosts C) (means : words.G
   opened_left after is_offered became =
       let accepted : due ≡ None = offered is_offered in
       subst (λ o. IsLeft means.scheme (members.told after) s.log ((opened_as (closed s) o).1).log) (sym (opens_is accepted))
-      (left_taken means.scheme means.bare (members.told (store_given means.inside held)) (members.told after) s.log size k.store.told k.zero_start k.within (bare accepted) (few accepted) (new_told accepted after became))
+      (left_taken means.scheme means.bare (members.told (store_given means.inside held)) (members.told after) s.log size k.store.told k.within (bare accepted) (few accepted) (new_told accepted after became))
 
   -- What is told of a store that is refused, whatever its opening answers.
   abbrev Unopened : C → Type 0
@@ -175,7 +195,8 @@ module _ {X C B S M K V D : Type 0} (members : stores.Ghosts C) (means : words.G
   refused_store (Store after) back same = record {
     database = tt;
     store = stored-same members means.scheme (store_given means.inside held) after s.log same k.store;
-    zero_start = k.zero_start;
+    start = k.start;
+    low = tt;
     within = k.within;
     count = k.count;
     lengths = k.lengths;
@@ -203,7 +224,7 @@ module _ {X C B S M K V D : Type 0} (members : stores.Ghosts C) (means : words.G
           (left_none means.scheme s.log s.log (members.told after) (stored-same members means.scheme (store_given means.inside held) after s.log (unopened after r is same) k.store).told)
       by None is =
           subst (λ o. IsLeft means.scheme (members.told after) s.log ((opened_as (closed s) (opening_of o size)).1).log) (sym is)
-          (left_opening means.scheme means.bare (members.told (store_given means.inside held)) (members.told after) s.log size k.store.told k.zero_start k.within (bare is) (few is)
+          (left_opening means.scheme means.bare (members.told (store_given means.inside held)) (members.told after) s.log size k.store.told k.start k.within (behind is) (bare is) (few is)
           (leaves (members.told (store_given means.inside held)) (members.told after) told left))
         where
           leaves : (o q : Option Stored) → o ≡ Some stored → model.Turns o q (λ t new. LeavesOpening means.scheme (selected_size means.scheme bound t) t new) → model.Turns o q (LeavesOpening means.scheme size)

@@ -25,10 +25,10 @@ use Rattle.qm_engine.specs.declared.session.Turn.{Turn}
 use Rattle.qm_engine.specs.Table.{merkleized_of}
 use Rattle.qm_engine.specs.Turn.{turn_of_error}
 use Rattle.qm_store.specs.Refusals.{refusal_of}
-use Rattle.qm_store.specs.Given.{IsUnchanged}
+use Rattle.qm_store.specs.Given.{IsUnchanged, TellsFrom}
 use Rattle.qm_engine.specs.Words.{CanRead, IsReadFailure}
 use Rattle.qm_engine.specs.Session.{SlotIs, Holds, Answers}
-use Rattle.qm_engine.proofs.Commands.{choice, none_some, refuses, by_refusal, with_list, Holds-kept, Turns, answered}
+use Rattle.qm_engine.proofs.Commands.{choice, none_some, refuses, by_refusal, with_list, with_told, Holds-kept, Turns, answered}
 
 -- whether an error tells that a read is stale
 pub is_stale_read : (error : Error) → (error ≡ errors.StaleRead) ⊎ (error ≢ errors.StaleRead)
@@ -126,13 +126,13 @@ module _ {X C B S M K V D : Type 0} (members : stores.Ghosts C) (means : words.G
   -- over a database, what is read through a batch number
   pub named_read : (turn : Turn K V D) (x after : X) (table : List (Slot B S M)) (opened h : ℕ) (keys : List Bytes) (s : State) → Holds members means (Database x) table opened s
       → ((l : List Operation) → means.stands x l → means.stands after l) → IsUnchanged members (means.inside x) (means.inside after)
-      → ((list : List Operation) (named : machine.Slot) → means.stands x list → Contains s.had list → SlotIs members means s.had (get_or table h Gone) named
+      → ((list : List Operation) (named : machine.Slot) → TellsFrom members (means.inside x) list → means.stands x list → Contains s.had list → SlotIs members means s.had (get_or table h Gone) named
       → Answers members means key value digest turn s (read_in means.scheme s h keys list named))
       → Goes turn (Database after) table opened (machine.read means.scheme s keys (Some h))
   named_read turn x after table opened h keys s k keeps same_store told =
-      with_list members means x s.had s.database s (λ list. read_in means.scheme s h keys list (slot_at s.table h)) (Goes turn (Database after) table opened) k.database
-      (λ list stands in_had. answered members means key value digest turn (Database after) table opened s (read_in means.scheme s h keys list (slot_at s.table h)) (read_state-in s h keys list (slot_at s.table h))
-      (Holds-kept members means x after table opened s (keeps, same_store) k) (told list (slot_at s.table h) stands in_had (k.slots h)))
+      with_told members means x table opened s (λ list. read_in means.scheme s h keys list (slot_at s.table h)) (Goes turn (Database after) table opened) k
+      (λ list tells stands in_had. answered members means key value digest turn (Database after) table opened s (read_in means.scheme s h keys list (slot_at s.table h)) (read_state-in s h keys list (slot_at s.table h))
+      (Holds-kept members means x after table opened s (keeps, same_store) k) (told list (slot_at s.table h) tells stands in_had (k.slots h)))
 
   -- over a database, what is read of it
   pub database_read : (x after : X) (table : List (Slot B S M)) (opened : ℕ) (keys : List Bytes) (values : List (Option Bytes)) (s : State) → Holds members means (Database x) table opened s

@@ -1,7 +1,8 @@
 -- The commands of staged reads.
-use Rattle.std.proofs.Common.{◌≡◌, ◌≢◌, ℕ, Bool, true, cond, List, ◌++◌, length, get_or, set, map, Option, Some, None, Result, Ok, Err, IfOk, IfErr, IfSome, refl, sym, ◌∙◌, ap, ap₂, subst, ◌⊎◌, inl, inr, ◌==◌, ◌+◌}
+use Rattle.std.proofs.Common.{◌≡◌, ◌≢◌, ◌≤◌, ℕ, Bool, true, cond, List, ◌++◌, length, get_or, set, map, Option, Some, None, Result, Ok, Err, IfOk, IfErr, IfSome, refl, sym, ◌∙◌, ap, ap₂, subst, ◌⊎◌, inl, inr, ◌==◌, ◌+◌}
 use Rattle.std.specs.Prelude.{Contains, MatchOption}
 use Rattle.std.proofs.lemmas.Bool.{eq-eqb, eqb-true}
+use Rattle.qm_model.specs.Live.{floor}
 use Rattle.qm_model.specs.Operations.{Bytes, Operation}
 use Rattle.qm_model.specs.Writes.{Write, read_through}
 use Rattle.qm_model.specs.Walk.{Rules}
@@ -33,12 +34,15 @@ use Rattle.qm_engine.specs.declared.session.Turn.TheVariants.{Reply}
 use Rattle.qm_engine.specs.Table.{writing_of, staged_of}
 use Rattle.qm_engine.specs.Turn.{turn_of_error}
 use Rattle.qm_store.specs.Refusals.{refusal_of}
+use Rattle.qm_store.specs.Given.{TellsFrom}
 use Rattle.qm_engine.specs.Words.{AtBatch, AtStaged, Fits, CanRead, IsReadFailure, tip_of}
 use Rattle.qm_engine.specs.Making.{made_into, IsMaking}
 use Rattle.qm_engine.specs.Session.{SlotIs, Holds}
 use Rattle.qm_engine.proofs.Tables.{set_set}
-use Rattle.qm_engine.proofs.Commands.{choice, none_some, refuses, by_refusal, with_list, with_writing, with_staged, HeldIs-kept, stored-same, slots_set, lengths_set, Keeps, Holds-kept, Holds-used, Turns}
+use Rattle.qm_engine.proofs.Commands.{choice, none_some, refuses, by_refusal, some-map, with_list, with_writing, with_staged, with_told_writing, with_told_staged, HeldIs-kept, stored-same, slots_set, lengths_set, Keeps, Holds-kept, Holds-used, Turns}
+use Rattle.qm_engine.proofs.BatchCommands.{base-begins}
 use Rattle.qm_engine.proofs.ReadCommands.{is_stale_read}
+use Rattle.qm_machine.specs.Sound.{IsSoundSlot, IsSteady}
 
 module _ {X C B S M K V D : Type 0} (members : stores.Ghosts C) (means : words.Ghosts X C B S M) (key : K → Bytes) (value : V → Bytes) (digest : D → Bytes) where
   abbrev root : List Operation → Bytes
@@ -67,7 +71,8 @@ module _ {X C B S M K V D : Type 0} (members : stores.Ghosts C) (means : words.G
           record {
             database = HeldIs-kept members means x after s.had s.database keeps.0 k.database;
             store = stored-same members means.scheme (means.inside x) (means.inside after) s.log keeps.1 k.store;
-            zero_start = k.zero_start;
+            start = k.start;
+            low = k.low;
             within = k.within;
             count = k.count;
             lengths = rw set_set (lengths_set members means table s h (Staged made) new k.lengths);
@@ -108,13 +113,13 @@ module _ {X C B S M K V D : Type 0} (members : stores.Ghosts C) (means : words.G
 
   pub stage_err : (x after : X) (table : List (Slot B S M)) (opened h : ℕ) (keys : List Bytes) (batch : B) (error : Error) (s : State)
       → Holds members means (Database x) table opened s → Keeps members means x after
-      → (tells : Type 0) → tells → AtBatch means x batch (λ list chain above ws. IsReadFailure means tells list above chain.base error)
+      → AtBatch means x batch (λ list chain above ws. IsReadFailure means (TellsFrom members (means.inside x) list) list above chain.base error)
       → writing_of (get_or table h Gone) ≡ Some batch
       → Goes (turn_of_error error) (Database after) (set table h Gone) opened (machine.stage means.scheme s h keys)
-  stage_err x after table opened h keys batch error s k keeps tells told_all why e =
-      with_writing members means x table opened h s (λ list. stage_in means.scheme s h keys list) (Goes (turn_of_error error) (Database after) (set table h Gone) opened) k batch e
-      (λ list chain above ws stands in_had among above_among is.
-      staged_err x after table opened h s list chain above k keeps in_had among above_among error (lines.Read (map (read_through chain.base ws) keys)) (machine.staged chain above ws keys) tells told_all (why list chain above ws stands is))
+  stage_err x after table opened h keys batch error s k keeps why e =
+      with_told_writing members means x table opened h s (λ list. stage_in means.scheme s h keys list) (Goes (turn_of_error error) (Database after) (set table h Gone) opened) k batch e
+      (λ list chain above ws tells named stands in_had among above_among is.
+      staged_err x after table opened h s list chain above k keeps in_had among above_among error (lines.Read (map (read_through chain.base ws) keys)) (machine.staged chain above ws keys) (TellsFrom members (means.inside x) list) tells (why list chain above ws stands is))
 
   pub expand_ok : (x after : X) (table : List (Slot B S M)) (opened h : ℕ) (keys : List Bytes) (batch made : S) (r : reply.Reply K V D) (values : List (Option Bytes)) (s : State)
       → Holds members means (Database x) table opened s → Keeps members means x after → answer_view key value digest r ≡ lines.Expanded (means.count batch) (means.count batch + length keys) values
@@ -131,50 +136,52 @@ module _ {X C B S M K V D : Type 0} (members : stores.Ghosts C) (means : words.G
 
   pub expand_err : (x after : X) (table : List (Slot B S M)) (opened h : ℕ) (keys : List Bytes) (batch : S) (error : Error) (s : State)
       → Holds members means (Database x) table opened s → Keeps members means x after
-      → (tells : Type 0) → tells → AtStaged means x batch (λ list chain above ws staged. IsReadFailure means tells list above chain.base error)
+      → AtStaged means x batch (λ list chain above ws staged. IsReadFailure means (TellsFrom members (means.inside x) list) list above chain.base error)
       → staged_of (get_or table h Gone) ≡ Some batch
       → Goes (turn_of_error error) (Database after) (set table h Gone) opened (machine.expand means.scheme s h keys)
-  expand_err x after table opened h keys batch error s k keeps tells told_all why e =
-      with_staged members means x table opened h s (λ list. expand_in means.scheme s h keys list) (Goes (turn_of_error error) (Database after) (set table h Gone) opened) k batch e
-      (λ list chain above ws staged stands in_had among above_among is.
-      staged_err x after table opened h s list chain above k keeps in_had among above_among error (lines.Expanded (length staged) (length staged + length keys) (map (read_through chain.base ws) keys)) (machine.staged chain above ws (staged ++ keys)) tells told_all (why list chain above ws staged stands is))
+  expand_err x after table opened h keys batch error s k keeps why e =
+      with_told_staged members means x table opened h s (λ list. expand_in means.scheme s h keys list) (Goes (turn_of_error error) (Database after) (set table h Gone) opened) k batch e
+      (λ list chain above ws staged tells named stands in_had among above_among is.
+      staged_err x after table opened h s list chain above k keeps in_had among above_among error (lines.Expanded (length staged) (length staged + length keys) (map (read_through chain.base ws) keys)) (machine.staged chain above ws (staged ++ keys)) (TellsFrom members (means.inside x) list) tells (why list chain above ws staged stands is))
 
   -- what a call says that makes a staged batch's tip list
-  pub staged_making : (x : X) (batch : S) (tip : Chain → List Write → List Bytes → List Operation) (tells : Type 0) (made : Result M Error)
+  pub staged_making : (x : X) (batch : S) (tip : Chain → List Write → List Bytes → List Operation) (made : Result M Error)
       → IfOk made (λ _. AtStaged means x batch (λ list chain above ws keys. Fits means list chain))
       → IfOk made (λ b. AtStaged means x batch (λ list chain above ws keys. IsOnChain list chain → (tip_refusal means.scheme.form chain (tip chain ws keys) ≡ None) × means.is_merkleized b chain (tip chain ws keys)))
       → IfErr made (λ e. e ≡ errors.StaleBatch → AtStaged means x batch (λ list chain above ws keys. ¬ IsOnChain list chain))
-      → IfErr made (λ e. e ≢ errors.StaleBatch → tells → AtStaged means x batch (λ list chain above ws keys. IfSome (refusal_of e) (λ r. Fits means list chain × (IsOnChain list chain → tip_refusal means.scheme.form chain (tip chain ws keys) ≡ Some r))))
-      → tells → AtStaged means x batch (λ list chain above ws keys. IsMaking means list chain (tip chain ws keys) made)
-  staged_making x batch tip tells (Ok b) fits did stale refused told list chain above ws keys stands is = record {
+      → IfErr made (λ e. e ≢ errors.StaleBatch → AtStaged means x batch (λ list chain above ws keys. TellsFrom members (means.inside x) list
+      → IfSome (refusal_of e) (λ r. Fits means list chain × (IsOnChain list chain → floor list ≤ floor chain.base → tip_refusal means.scheme.form chain (tip chain ws keys) ≡ Some r))))
+      → AtStaged means x batch (λ list chain above ws keys. TellsFrom members (means.inside x) list → (IsOnChain list chain → floor list ≤ floor chain.base) → IsMaking means list chain (tip chain ws keys) made)
+  staged_making x batch tip (Ok b) fits did stale refused list chain above ws keys stands is tells low = record {
     fits = fits list chain above ws keys stands is;
     made = did list chain above ws keys stands is;
     stale = tt;
     refused = tt;
   }
-  staged_making x batch tip tells (Err e) fits did stale refused told list chain above ws keys stands is = record {
+  staged_making x batch tip (Err e) fits did stale refused list chain above ws keys stands is tells low = record {
     fits = tt;
     made = tt;
     stale = λ same. stale same list chain above ws keys stands is;
-    refused = λ other. refused other told list chain above ws keys stands is;
+    refused = λ other. some-map (refusal_of e) (λ r both. (both.0, λ on. both.1 on (low on))) (refused other list chain above ws keys stands is tells);
   }
 
   -- under policies with these rules, with what is given for the keys
   module _ {P : Type 0} (rules : Rules P) (policy : P) (meta : Option Bytes) (given : List slots.Slot) (others : List Write) where
     -- a resolve of a batch whose number is used up
     pub resolve_made : (Q : Answer × State → Type 0) (x after : X) (table : List (Slot B S M)) (opened h : ℕ) (batch : S) (made : Result M Error) (s : State)
-        → Holds members means (Database x) table opened s → Keeps members means x after
+        → Holds members means (Database x) table opened s → IsSteady means.scheme s → Keeps members means x after
         → length given ≡ means.count batch
-        → AtStaged means x batch (λ list chain above ws keys. IsMaking means list chain (tip_of means.scheme rules chain (slotted ws keys given others) policy meta) made)
+        → AtStaged means x batch (λ list chain above ws keys. TellsFrom members (means.inside x) list → (IsOnChain list chain → floor list ≤ floor chain.base) → IsMaking means list chain (tip_of means.scheme rules chain (slotted ws keys given others) policy meta) made)
         → staged_of (get_or table h Gone) ≡ Some batch
         → ((list : List Operation) (chain : Chain) (tip : List Operation) → Holds members means (Database after) (set table h Gone) opened (with_slot s h machine.gone) → Contains s.had list → IsAmong s.had chain
         → IsMaking means list chain tip made → Q (made_into means.scheme s h list chain tip))
         → Q (machine.resolve means.scheme rules s h policy meta given others)
-    resolve_made Q x after table opened h batch made s k keeps as_many making e each =
-        with_staged members means x table opened h s (λ list. resolve_in means.scheme rules s h policy meta given others list) Q k batch e (λ list chain above ws keys stands in_had among above_among is.
+    resolve_made Q x after table opened h batch made s k sound keeps as_many making e each =
+        with_told_staged members means x table opened h s (λ list. resolve_in means.scheme rules s h policy meta given others list) Q k batch e (λ list chain above ws keys tells named stands in_had among above_among is.
         subst (λ t. Q (cond t (merkleize_writes means.scheme rules s h policy meta list chain (slotted ws keys given others)) (refuse s (refusals.SlotCount (length keys) (length given)))))
         (sym (eq-eqb (length keys) (length given) (sym (as_many ∙ means.counted batch chain above ws keys is))))
-        (each list chain (tip_of means.scheme rules chain (slotted ws keys given others) policy meta) (Holds-used members means x after table opened h s keeps k) in_had among (making list chain above ws keys stands is)))
+        (each list chain (tip_of means.scheme rules chain (slotted ws keys given others) policy meta) (Holds-used members means x after table opened h s keeps k) in_had among
+        (making list chain above ws keys stands is tells (λ on. sound.floors list chain.base in_had among.base (base-begins list chain on (subst (IsSoundSlot s.had) named (sound.slots h)).1)))))
 
     -- one that is refused leaves what the number names
     pub resolve_refused : (x : X) (table : List (Slot B S M)) (opened h n : ℕ) (r : Refused) (s : State) → Holds members means (Database x) table opened s → n ≡ length given

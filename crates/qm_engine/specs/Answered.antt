@@ -8,8 +8,7 @@ use Rattle.qm_model.specs.Batches.{Apart}
 use Rattle.qm_machine.specs.Lines.{Line}
 use Rattle.qm_machine.specs.Machine.{Scheme, State, initial, turn, answers}
 use Rattle.qm_machine.specs.Text.{text_of}
-use Rattle.qm_engine.specs.Stores.{IsLeft}
-use Rattle.qm_engine.specs.Runs.{after, IsOwnStore}
+use Rattle.qm_engine.specs.Runs.{after, IsOwnStore, IsOwnLeft}
 
 -- the machine's state after a line, which stays where that is no command
 abbrev pub after_line : Scheme → {P : Type 0} → Rules P → State → Option (Line P) → State
@@ -23,4 +22,4 @@ pub record IsAnswered (m : Scheme) {P : Type 0} (rules : Rules P) (log : Log) (c
   pub same : Apart m.root (after m rules log choices lines k).had → text ≡ text_of (answers m rules (initial log choices) (take k lines))
   -- every command answered
   pub whole : k ≡ length lines → Apart m.root (after m rules log choices lines k).had → IsOwnStore m rules store_left (after m rules log choices lines k).log
-  pub left : Apart m.root (after m rules log choices lines k).had → IsLeft m store_left (after m rules log choices lines k).log (after m rules log choices lines (suc k)).log
+  pub left : Apart m.root (after m rules log choices lines k).had → IsOwnLeft m rules store_left (after m rules log choices lines k).log (after m rules log choices lines (suc k)).log

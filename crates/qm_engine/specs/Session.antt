@@ -1,6 +1,7 @@
 -- What a run holds, and the state of the machine that it stands for.
-use Rattle.std.specs.Prelude.{◌≡◌, ◌≤◌, ℕ, List, [], ◌++◌, length, Contains, Option, Some, None, slice_index_or}
+use Rattle.std.specs.Prelude.{◌≡◌, ◌≤◌, ℕ, List, [], ◌++◌, length, Contains, Option, Some, None, IfSome, slice_index_or}
 use Rattle.qm_model.specs.Causes.{Rose}
+use Rattle.qm_model.specs.Live.{floor}
 use Rattle.qm_model.specs.Operations.{Bytes, Operation}
 use Rattle.qm_model.specs.Batches.{IsAmong, Apart}
 use Rattle.qm_machine.specs.Lines.{Line, Answer}
@@ -42,7 +43,8 @@ module _ {X C B S M : Type 0} (members : store.Ghosts C) (means : words.Ghosts X
   pub record Holds (held : Given X C) (table : List (Slot B S M)) (opened : ℕ) (s : State) : Type 0 where
     pub database : HeldIs s.had held s.database
     pub store : IsStored members means.scheme (store_given means.inside held) s.log
-    pub zero_start : s.log.start ≡ 0
+    pub start : s.log.start ≤ s.log.stable
+    pub low : IfSome s.database (λ list. s.log.start ≤ floor list)
     pub within : s.log.stable ≤ length s.log.list
     pub count : opened ≡ s.opened
     pub lengths : length table ≡ length s.table

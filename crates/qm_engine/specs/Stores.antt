@@ -1,14 +1,16 @@
 -- What a store tells, as the machine has it.
-use Rattle.std.specs.Prelude.{◌≡◌, ◌⊎◌, ◌≤◌, ◌<◌, ◌==◌, ℕ, zero, suc, min, if◌then◌else◌, List, [], ◌++◌, length, map, take, drop, All, true, Option, Some, None}
-use Rattle.qm_model.specs.Operations.{Operation, fresh}
+use Rattle.std.specs.Prelude.{◌≡◌, ◌-◌, ◌⊎◌, ◌≤◌, ◌<◌, ◌==◌, ◌^◌, ℕ, zero, suc, min, nat_lt, if◌then◌else◌, List, [], ◌++◌, length, map, take, drop, All, true, Option, Some, None}
+use Rattle.std.specs.List.{concat}
+use Rattle.qm_model.specs.Operations.{Bytes, Operation, fresh}
 use Rattle.qm_model.specs.Forms.{IsOf, spelling}
 use Rattle.qm_model.specs.Ordered.{IsRing}
 use Rattle.qm_model.specs.Policies.{policies}
+use Rattle.qm_model.specs.Proofs.{pins_at}
 use Rattle.qm_model.specs.Step.{IsGood}
 use Rattle.qm_model.specs.Opening.{found, selected, size_of}
 use Rattle.qm_model.specs.Own.{Log, no_log}
 use Rattle.qm_model.specs.Own as own
-use Rattle.qm_model.specs.StoreModel.{Stored, appended, settled, rewound, HasAppended, RewindLeaves, ReadsAs, Turns}
+use Rattle.qm_model.specs.StoreModel.{Stored, end_of, appended, settled, rewound, pruned, HasAppended, RewindLeaves, IsImage, IsOldOrNew, ReadsAs, Turns}
 use Rattle.qm_machine.specs.Machine.{Scheme, engine_of, layout_of}
 use Rattle.qm_store.specs.declared.Store as store
 
@@ -41,10 +43,12 @@ IsFinal before after = (before.stable < after.stable) ⊎ (length after.list < l
 
 -- The log before a command, and the one after it; what may be left of it: the list before, with a first part of what the
 -- command puts behind it; where the command makes more stable or the list shorter, a beginning of the list that has what was
--- stable before and stays; and nothing, where the command leaves nothing.
+-- stable before and stays; the log after it, where the command takes away what stands before a location; and nothing, where the
+-- command leaves nothing.
 pub data MayBe (before after : Log) : Log → Type 0 where
   grown : (count stable : ℕ) → before.stable ≤ stable → MayBe before after (record before { list = before.list ++ take count (drop (length before.list) after.list); stable = stable })
   cut : (to stable : ℕ) → IsFinal before after → least before after ≤ to → least before after ≤ stable → MayBe before after (record before { list = take to before.list; stable = stable })
+  moved : before.start < after.start → MayBe before after after
   emptied : after ≡ no_log → MayBe before after no_log
 
 -- a store has what may be left of a command that makes one log of the other
@@ -53,17 +57,21 @@ pub record IsLeft (m : Scheme) (left : Option Stored) (before after : Log) : Typ
   pub has : HasLog m left log
   pub may : MayBe before after log
 
--- What an opening makes of a store.
+-- What an opening makes of a store, and a prune.
 
--- a store that starts at 0 has a list of such databases as its first items
+-- the pins of what a list has before a location, one behind another
+abbrev pub head_at : Scheme → List Operation → ℕ → Bytes
+head_at m list to = concat (pins_at m.hash m.shape m.form (take to list) to)
+
+-- a store has a list of such databases up to a size: its items from the start on, and the pins of what stands before it
 pub record HasList (m : Scheme) (s : Stored) (size : ℕ) (list : List Operation) : Type 0 where
-  pub start : s.start ≡ 0
   pub size_is : length list ≡ size
+  pub few : size ≤ 2 ^ 62
   pub of : All (IsOf m.form) list
   pub good : IsGood list
   pub ring : m.form.ordered ≡ true → IsRing list
-  pub items : take size s.items ≡ map (spelling m.form) list
-  pub head : s.head ≡ []
+  pub items : take (size - s.start) s.items ≡ drop s.start (map (spelling m.form) list)
+  pub head : s.head ≡ head_at m list s.start
 
 -- the list that is taken up where so many items are selected, the fresh one where none are
 abbrev pub IsTaken : Scheme → Stored → ℕ → List Operation → Type 0
@@ -83,3 +91,11 @@ taken m (suc n) s = settled (rewound (suc n) s)
 abbrev pub LeavesOpening : Scheme → ℕ → Stored → Stored → Type 0
 LeavesOpening m zero s new = HasAppended (map (spelling m.form) fresh) s new
 LeavesOpening m (suc n) s new = ReadsAs (min s.stable (suc n)) (RewindLeaves (suc n) s) new
+
+-- a store after a prune to a location, with this head, which makes all stable first; it is as it was before where it starts there or behind
+abbrev pub pruned_from : ℕ → ℕ → Bytes → Stored → Stored
+pruned_from start to head s = if nat_lt start to then pruned to head (settled s) else settled s
+
+-- and after one that failed: what was stable stays, or, where the location is behind the start, all of it, pruned or not
+abbrev pub LeavesPruning : ℕ → (Bytes → Type 0) → ℕ → Stored → Stored → Type 0
+LeavesPruning start IsHead to s new = ReadsAs s.stable (IsImage s) new ⊎ ((start < to) × (head : Bytes) × IsHead head × ReadsAs (end_of s) (IsOldOrNew (pruned to head) (settled s)) new)

@@ -1,21 +1,23 @@
 -- What an engine's clauses share, over all of its words at once.
-use Rattle.std.specs.Prelude.{◌≡◌, ◌≢◌, ◌≤◌, List, true, Option, None, Result, IfOk, IfErr}
+use Rattle.std.specs.Prelude.{◌≡◌, ◌≢◌, ◌⊎◌, ◌≤◌, ◌<◌, ◌^◌, ℕ, max, List, length, true, Option, None, Result, IfOk, IfErr}
 use Rattle.qm_model.specs.Causes.{IsCause}
 use Rattle.qm_model.specs.Operations.{Bytes, Operation}
 use Rattle.qm_model.specs.Walk.{Rules}
 use Rattle.qm_model.specs.StoreModel.{Stored, settled, destroyed, IsImage, ReadsAs, DestroyLeaves, Becomes, Turns}
 use Rattle.qm_model.specs.Writes.{Write}
 use Rattle.qm_model.specs.Step.{step}
+use Rattle.qm_machine.specs.Held.{proof_lacked}
 use Rattle.qm_machine.specs.Machine.{Scheme, kind_of}
 use Rattle.qm_model.specs.Batches.{Chain, IsKnown, commitment, fits, readable}
 use Rattle.qm_base.specs.declared.error.Error.{Error}
-use Rattle.qm_base.specs.declared.error.Error.TheVariants.{Memory, StaleRead, Journal}
+use Rattle.qm_base.specs.declared.error.Error.TheVariants.{Memory, StaleRead, PruneBeyondMinRequired, Journal}
 use Rattle.qm_base.specs.declared.error.JournalError.TheVariants as journal
 use Rattle.qm_store.specs.declared.Store as store
-use Rattle.qm_store.specs.declared.refusal.Given.TheVariants.{Store}
+use Rattle.qm_store.specs.declared.refusal.Given.TheVariants.{Database, Store}
 use Rattle.qm_store.specs.declared.refusal.Refusal.{Refusal}
 use Rattle.qm_store.specs.Given.{IsUnchanged, store_given}
-use Rattle.qm_store.specs.Refusals.{refusal_of}
+use Rattle.qm_store.specs.Refusals.{refusal_of, IsDue}
+use Rattle.qm_engine.specs.Stores.{head_at, pruned_from, LeavesPruning}
 use Rattle.qm_engine.specs.declared.words.Words as words
 
 -- the list that writes make of a chain's base list, under a policy
@@ -50,6 +52,13 @@ module _ {X C B S M : Type 0} (means : words.Ghosts X C B S M) where
     pub refused : error ≢ StaleRead → tells → IsKnown list chain tip → refusal_of error ≡ None
     pub order : error ≢ StaleRead → error ≢ Memory → CanRead list chain tip
 
+  -- A proof through a batch of this chain with this tip failed, over a store of this start: as stale only where the list is not known,
+  -- and for want of memory at any time; else the batch can be read, and where the list is known it is for the first node that is lacked.
+  pub record IsProofFailure (start : ℕ) (list : List Operation) (chain : Chain) (tip : List Operation) (error : Error) : Type 0 where
+    pub stale : error ≡ StaleRead → ¬ IsKnown list chain tip
+    pub refused : error ≢ StaleRead → IsKnown list chain tip → IsDue error (proof_lacked means.scheme.shape start list chain tip)
+    pub order : error ≢ StaleRead → error ≢ Memory → CanRead list chain tip
+
   -- A call that read left what the database stands for, and what its store has; where it failed by that, its faults rose.
   pub record ReadsOnly (members : store.Ghosts C) (old new : X) (failed : Type 0) : Type 0 where
     pub same : (list : List Operation) → means.stands old list → means.stands new list
@@ -72,6 +81,26 @@ module _ {X C B S M : Type 0} (means : words.Ghosts X C B S M) where
     pub told : IfOk result (λ new. Becomes (members.told (means.inside old)) (members.told (means.inside new)) settled)
     pub later : IfOk result (λ new. members.faults (means.inside old) ≤ members.faults (means.inside new))
     pub failed : IfErr result (IsGivenUp members old (λ s. ReadsAs s.stable (IsImage s)))
+
+  -- a head is that of the list for which the database stands
+  abbrev pub IsHeadOf : X → ℕ → Bytes → Type 0
+  IsHeadOf db to head = (list : List Operation) → means.stands db list → length list ≤ 2 ^ 62 → head ≡ head_at means.scheme list to
+
+  -- What stands before a location was taken away, and all else made stable: the database stands for what it stood for, which may be
+  -- pruned so far, and its store has what it had from there on.
+  pub record IsPruned (members : store.Ghosts C) (to : ℕ) (old new : X) : Type 0 where
+    pub stands : (list : List Operation) → means.stands old list → (to ≤ means.scheme.boundary list) × means.stands new list
+    pub start : members.start (means.inside new) ≡ max (members.start (means.inside old)) to
+    pub head : Bytes
+    pub heads : members.start (means.inside old) < to → IsHeadOf old to head
+    pub told : Becomes (members.told (means.inside old)) (members.told (means.inside new)) (pruned_from (members.start (means.inside old)) to head)
+    pub later : members.faults (means.inside old) ≤ members.faults (means.inside new)
+
+  -- It was refused: past the boundary, with the database as it was; or, within it, the store is given back, as such a call leaves it.
+  abbrev pub IsUnpruned : store.Ghosts C → ℕ → X → Refusal X C → Type 0
+  IsUnpruned members to old refusal =
+      ((bound : ℕ) × (bound < to) × ((list : List Operation) → means.stands old list → bound ≡ means.scheme.boundary list) × (refusal.given ≡ Database old) × (refusal.error ≡ PruneBeyondMinRequired to bound))
+      ⊎ (((list : List Operation) → means.stands old list → to ≤ means.scheme.boundary list) × IsGivenUp members old (LeavesPruning (members.start (means.inside old)) (IsHeadOf old to) to) refusal)
 
   -- The store was emptied, or given back where that failed.
   pub record IsDestroying (members : store.Ghosts C) (old : X) (result : Result C (Refusal X C)) : Type 0 where

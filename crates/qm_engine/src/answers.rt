@@ -19,7 +19,7 @@ ghost use Rattle.qm_engine.specs.Answered.{after_line, IsAnswered};
 
 use crate::engine::Engine;
 use crate::runs::begin;
-use crate::session::{Of, Turn, into_store};
+use crate::session::{Of, Turn, returned};
 use crate::turns::turn;
 use qm_base::{ByteKey, ByteValue, Digest, Gate, Key, Twin, VariableValue};
 use qm_chain::Policy;
@@ -136,8 +136,8 @@ fn answer_line<X: Engine<C, Key = ByteKey, Value = ByteValue>, C: Store>(
 
 /// Answers the lines of an input over the store, from no database, up to their end, to the first that is no command
 /// or to the first for which memory or the store fails. Accepted openings are numbered from 1, batches too. Of
-/// commands and replies it keeps one at a time. What is told holds of a store that such a run left, or an empty one, from
-/// which nothing was pruned. The gate holds the workers of an opening.
+/// commands and replies it keeps one at a time. What is told holds of a store that such a run left, or an
+/// empty one. The gate holds the workers of an opening.
 pub fn answer_lines<X: Engine<C, Key = ByteKey, Value = ByteValue>, C: Store, G: Gate>(
     alloc: Global,
     store: C,
@@ -145,7 +145,7 @@ pub fn answer_lines<X: Engine<C, Key = ByteKey, Value = ByteValue>, C: Store, G:
     input: &[u8],
     _gate: &G,
 ) -> Answered<C>
-    ensures machine { IfSome (C.told store) (λ stored. (log : Log) → IsOwn (engine_of X.scheme policies) log stored → log.start ≡ 0
+    ensures machine { IfSome (C.told store) (λ stored. (log : Log) → IsOwn (engine_of X.scheme policies) log stored
         → (choices : List ℕ) → Turns (C.told store) (C.told result.store) (IsBeside choices)
         → IsAnswered X.scheme policies log choices (commands_in input.now) result.answered result.text.items (C.told result.store)) }
     ensures done { result.ending ≡ Ending.Done → (result.answered ≡ length (commands_in input.now)) × (bad_in input.now ≡ None) }
@@ -178,7 +178,7 @@ pub fn answer_lines<X: Engine<C, Key = ByteKey, Value = ByteValue>, C: Store, G:
                 text,
                 answered,
                 ending,
-                store: into_store::<X, C>(session.held),
+                store: returned::<X, C>(session.held),
             };
         }
         answered += 1;
@@ -188,6 +188,6 @@ pub fn answer_lines<X: Engine<C, Key = ByteKey, Value = ByteValue>, C: Store, G:
         text,
         answered,
         ending: Ending::Done,
-        store: into_store::<X, C>(session.held),
+        store: returned::<X, C>(session.held),
     }
 }

@@ -11,18 +11,19 @@ ghost use Rattle.qm_model.specs.Live.{live, live_keys, live_of, floor, value_of,
 ghost use Rattle.qm_model.specs.Ranges.{key_above, key_below, span_of, keys_in, pairs_in};
 ghost use Rattle.qm_model.specs.Writes.{Write, read_through};
 ghost use Rattle.qm_model.specs.Batches.{Chain, begun_on, child_of, IsOnChain, IsKnown, commitment, fits, own_operations};
-ghost use Rattle.qm_model.specs.Refusals.{tip_refusal, proof_refusal, proof_count, pins_refusal};
+ghost use Rattle.qm_model.specs.Refusals.{tip_refusal, proof_refusal, proof_count};
 ghost use Rattle.qm_model.specs.Refused as refusals;
+ghost use Rattle.qm_machine.specs.Held.{pins_lacked, proof_lacked};
 ghost use Rattle.qm_machine.specs.Machine.{layout_of};
 ghost use Rattle.qm_base.specs.Views.{limit_of, pair_view};
 ghost use Rattle.qm_lines.specs.Views.{listed_view, span_view, whole_view};
 ghost use Rattle.qm_proofs.specs.Proofs.{proof_view};
-ghost use Rattle.qm_store.specs.Given.{store_given, store_after, Appended, AppendedPart, IsUnchanged, TellsAll};
+ghost use Rattle.qm_store.specs.Given.{store_given, store_after, Appended, AppendedPart, IsUnchanged, TellsFrom};
 ghost use Rattle.qm_store.specs.Refusals.{refusal_of, IsDue};
 ghost use Rattle.qm_base.specs.Slots.{slot_views, write_views};
 ghost use Rattle.qm_model.specs.Slots.{slotted};
 ghost use Rattle.qm_engine.specs.Stores.{IsTaken, selected_size, taken, LeavesOpening};
-ghost use Rattle.qm_engine.specs.Words.{AtBatch, AtStaged, AtTip, Fits, CanRead, IsReadFailure, ReadsOnly, IsSettling, IsDestroying, tip_of};
+ghost use Rattle.qm_engine.specs.Words.{AtBatch, AtStaged, AtTip, Fits, CanRead, IsReadFailure, IsProofFailure, ReadsOnly, IsSettling, IsPruned, IsUnpruned, IsDestroying, tip_of};
 
 use crate::words::Words;
 use qm_base::{Digest, Error, JournalError, Key, VariableValue};
@@ -102,6 +103,12 @@ pub trait Engine<C: Store>: Words<C> + Drop + Sized {
     fn sync(self) -> Result<Self, Refusal<Self, C>>
         ensures { IsSettling Self.Words C.Store self result };
 
+    /// Takes the operations before a location away from the store, and makes all others stable first. The database comes back as
+    /// it was where the location is past its boundary; every other refusal gives back the store.
+    fn prune(self, alloc: Global, to: u64) -> Result<Self, Refusal<Self, C>>
+        ensures pruned { IfOk result (IsPruned Self.Words C.Store to self) }
+        ensures refused { IfErr result (IsUnpruned Self.Words C.Store to self) };
+
     /// Empties the store. A refusal gives it back.
     fn destroy(self) -> Result<C, Refusal<Self, C>>
         ensures { IsDestroying Self.Words C.Store self result };
@@ -166,9 +173,9 @@ pub trait Engine<C: Store>: Words<C> + Drop + Sized {
             → let tip = tip_of Self.scheme P.rules chain ws policy.old (option_map Self.Value.bytes metadata.now) in
             (tip_refusal Self.scheme.form chain tip ≡ None) × Self.is_merkleized b chain tip)) }
         ensures stale { IfErr result (λ e. e ≡ Error.StaleBatch → AtBatch Self.Words self.old batch (λ list chain above ws. ¬ IsOnChain list chain)) }
-        ensures refused { IfErr result (λ e. e ≢ Error.StaleBatch → TellsAll C.Store (Self.inside self.old) → AtBatch Self.Words self.old batch (λ list chain above ws.
-            IfSome (refusal_of e) (λ r. Fits Self.Words list chain
-            × (IsOnChain list chain → tip_refusal Self.scheme.form chain (tip_of Self.scheme P.rules chain ws policy.old (option_map Self.Value.bytes metadata.now)) ≡ Some r)))) }
+        ensures refused { IfErr result (λ e. e ≢ Error.StaleBatch → AtBatch Self.Words self.old batch (λ list chain above ws.
+            TellsFrom C.Store (Self.inside self.old) list → IfSome (refusal_of e) (λ r. Fits Self.Words list chain
+            × (IsOnChain list chain → floor list ≤ floor chain.base → tip_refusal Self.scheme.form chain (tip_of Self.scheme P.rules chain ws policy.old (option_map Self.Value.bytes metadata.now)) ≡ Some r)))) }
         ensures reads { ReadsOnly Self.Words C.Store self.old self.new (IsErrOf result (Error.Journal JournalError.Store)) };
 
     /// Reads the values of keys through a batch, as `get_through` does, and makes it a staged one with these keys. The batch
@@ -184,7 +191,7 @@ pub trait Engine<C: Store>: Words<C> + Drop + Sized {
             → (map (option_map Self.Value.bytes) r.0.items ≡ map (λ k. read_through chain.base ws (Self.Key.bytes k)) keys.now)
             × Self.is_staged r.1 chain above ws (map Self.Key.bytes keys.now))) }
         ensures failure { IfErr result (λ e. AtBatch Self.Words self.old batch (λ list chain above ws.
-            IsReadFailure Self.Words (TellsAll C.Store (Self.inside self.old)) list above chain.base e)) }
+            IsReadFailure Self.Words (TellsFrom C.Store (Self.inside self.old) list) list above chain.base e)) }
         ensures reads { ReadsOnly Self.Words C.Store self.old self.new (IsErrOf result (Error.Journal JournalError.Store)) }
         ensures never { IfErr result (λ e. e ≢ Error.StaleBatch) };
 
@@ -201,7 +208,7 @@ pub trait Engine<C: Store>: Words<C> + Drop + Sized {
             → (map (option_map Self.Value.bytes) r.1.items ≡ map (λ k. read_through chain.base ws (Self.Key.bytes k)) keys.now)
             × Self.is_staged r.2 chain above ws (staged ++ map Self.Key.bytes keys.now))) }
         ensures failure { IfErr result (λ e. AtStaged Self.Words self.old batch (λ list chain above ws staged.
-            IsReadFailure Self.Words (TellsAll C.Store (Self.inside self.old)) list above chain.base e)) }
+            IsReadFailure Self.Words (TellsFrom C.Store (Self.inside self.old) list) list above chain.base e)) }
         ensures reads { ReadsOnly Self.Words C.Store self.old self.new (IsErrOf result (Error.Journal JournalError.Store)) }
         ensures never { IfErr result (λ e. e ≢ Error.StaleBatch) };
 
@@ -225,9 +232,9 @@ pub trait Engine<C: Store>: Words<C> + Drop + Sized {
             → let tip = tip_of Self.scheme P.rules chain (slotted ws keys (slot_views Self.Value.bytes resolution.now.slots.items) (write_views Self.Key.bytes Self.Value.bytes resolution.now.others.items)) policy.old (option_map Self.Value.bytes metadata.now) in
             (tip_refusal Self.scheme.form chain tip ≡ None) × Self.is_merkleized b chain tip)) }
         ensures stale { IfErr result (λ e. e ≡ Error.StaleBatch → AtStaged Self.Words self.old batch (λ list chain above ws keys. ¬ IsOnChain list chain)) }
-        ensures refused { IfErr result (λ e. e ≢ Error.StaleBatch → TellsAll C.Store (Self.inside self.old) → AtStaged Self.Words self.old batch (λ list chain above ws keys.
-            IfSome (refusal_of e) (λ r. Fits Self.Words list chain
-            × (IsOnChain list chain → tip_refusal Self.scheme.form chain (tip_of Self.scheme P.rules chain (slotted ws keys (slot_views Self.Value.bytes resolution.now.slots.items) (write_views Self.Key.bytes Self.Value.bytes resolution.now.others.items)) policy.old (option_map Self.Value.bytes metadata.now)) ≡ Some r)))) }
+        ensures refused { IfErr result (λ e. e ≢ Error.StaleBatch → AtStaged Self.Words self.old batch (λ list chain above ws keys.
+            TellsFrom C.Store (Self.inside self.old) list → IfSome (refusal_of e) (λ r. Fits Self.Words list chain
+            × (IsOnChain list chain → floor list ≤ floor chain.base → tip_refusal Self.scheme.form chain (tip_of Self.scheme P.rules chain (slotted ws keys (slot_views Self.Value.bytes resolution.now.slots.items) (write_views Self.Key.bytes Self.Value.bytes resolution.now.others.items)) policy.old (option_map Self.Value.bytes metadata.now)) ≡ Some r)))) }
         ensures reads { ReadsOnly Self.Words C.Store self.old self.new (IsErrOf result (Error.Journal JournalError.Store)) };
 
     /// The sizes of a merkleized batch.
@@ -269,7 +276,7 @@ pub trait Engine<C: Store>: Words<C> + Drop + Sized {
             → map (option_map Self.Value.bytes) v.items ≡ map (λ k. value_of list (Self.Key.bytes k)) keys.now) }
         ensures reads { ReadsOnly Self.Words C.Store self.old self.new (IsErrOf result (Error.Journal JournalError.Store)) }
         ensures never { IfErr result (λ e. e ≢ Error.StaleBatch) }
-        ensures refused { IfErr result (λ e. TellsAll C.Store (Self.inside self.old) → (list : List Operation) → Self.stands self.old list → refusal_of e ≡ None) };
+        ensures refused { IfErr result (λ e. (list : List Operation) → Self.stands self.old list → TellsFrom C.Store (Self.inside self.old) list → refusal_of e ≡ None) };
 
     /// Reads the values of keys through a batch: its own writes, then its base list. It is refused where the database is at no
     /// state at which the batch's parent can be read.
@@ -283,7 +290,7 @@ pub trait Engine<C: Store>: Words<C> + Drop + Sized {
         ensures values { IfOk result (λ v. AtBatch Self.Words self.old batch.now (λ list chain above ws. IsKnown list above chain.base
             → map (option_map Self.Value.bytes) v.items ≡ map (λ k. read_through chain.base ws (Self.Key.bytes k)) keys.now)) }
         ensures failure { IfErr result (λ e. AtBatch Self.Words self.old batch.now (λ list chain above ws.
-            IsReadFailure Self.Words (TellsAll C.Store (Self.inside self.old)) list above chain.base e)) }
+            IsReadFailure Self.Words (TellsFrom C.Store (Self.inside self.old) list) list above chain.base e)) }
         ensures reads { ReadsOnly Self.Words C.Store self.old self.new (IsErrOf result (Error.Journal JournalError.Store)) }
         ensures never { IfErr result (λ e. e ≢ Error.StaleBatch) };
 
@@ -298,7 +305,7 @@ pub trait Engine<C: Store>: Words<C> + Drop + Sized {
         ensures readable { IfOk result (λ _. AtTip Self.Words self.old batch.now (λ list chain tip. CanRead Self.Words list chain tip)) }
         ensures values { IfOk result (λ v. AtTip Self.Words self.old batch.now (λ list chain tip. IsKnown list chain tip
             → map (option_map Self.Value.bytes) v.items ≡ map (λ k. value_of tip (Self.Key.bytes k)) keys.now)) }
-        ensures failure { IfErr result (λ e. AtTip Self.Words self.old batch.now (λ list chain tip. IsReadFailure Self.Words (TellsAll C.Store (Self.inside self.old)) list chain tip e)) }
+        ensures failure { IfErr result (λ e. AtTip Self.Words self.old batch.now (λ list chain tip. IsReadFailure Self.Words (TellsFrom C.Store (Self.inside self.old) list) list chain tip e)) }
         ensures reads { ReadsOnly Self.Words C.Store self.old self.new (IsErrOf result (Error.Journal JournalError.Store)) }
         ensures never { IfErr result (λ e. e ≢ Error.StaleBatch) };
 
@@ -312,7 +319,7 @@ pub trait Engine<C: Store>: Words<C> + Drop + Sized {
             → option_map Self.Key.bytes k ≡ key_above (live_keys list) (Self.Key.bytes key.now)) }
         ensures reads { ReadsOnly Self.Words C.Store self.old self.new (IsErrOf result (Error.Journal JournalError.Store)) }
         ensures never { IfErr result (λ e. e ≢ Error.StaleBatch) }
-        ensures refused { IfErr result (λ e. TellsAll C.Store (Self.inside self.old) → (list : List Operation) → Self.stands self.old list → refusal_of e ≡ None) };
+        ensures refused { IfErr result (λ e. (list : List Operation) → Self.stands self.old list → TellsFrom C.Store (Self.inside self.old) list → refusal_of e ≡ None) };
 
     /// In an ordered database reads the nearest live key below this one.
     fn prev(&mut self, alloc: Global, key: &Self::Key) -> Result<Option<Self::Key>, Error>
@@ -320,7 +327,7 @@ pub trait Engine<C: Store>: Words<C> + Drop + Sized {
             → option_map Self.Key.bytes k ≡ key_below (live_keys list) (Self.Key.bytes key.now)) }
         ensures reads { ReadsOnly Self.Words C.Store self.old self.new (IsErrOf result (Error.Journal JournalError.Store)) }
         ensures never { IfErr result (λ e. e ≢ Error.StaleBatch) }
-        ensures refused { IfErr result (λ e. TellsAll C.Store (Self.inside self.old) → (list : List Operation) → Self.stands self.old list → refusal_of e ≡ None) };
+        ensures refused { IfErr result (λ e. (list : List Operation) → Self.stands self.old list → TellsFrom C.Store (Self.inside self.old) list → refusal_of e ≡ None) };
 
     /// In an ordered database reads the nearest live key above this one through a merkleized batch, on the list that it makes.
     /// It is refused where `get_from` is.
@@ -333,7 +340,7 @@ pub trait Engine<C: Store>: Words<C> + Drop + Sized {
         ensures readable { IfOk result (λ _. Self.scheme.form.ordered ≡ true → AtTip Self.Words self.old batch.now (λ list chain tip. CanRead Self.Words list chain tip)) }
         ensures above { IfOk result (λ k. Self.scheme.form.ordered ≡ true → AtTip Self.Words self.old batch.now (λ list chain tip. IsKnown list chain tip
             → option_map Self.Key.bytes k ≡ key_above (live_keys tip) (Self.Key.bytes key.now))) }
-        ensures failure { IfErr result (λ e. AtTip Self.Words self.old batch.now (λ list chain tip. IsReadFailure Self.Words (TellsAll C.Store (Self.inside self.old)) list chain tip e)) }
+        ensures failure { IfErr result (λ e. AtTip Self.Words self.old batch.now (λ list chain tip. IsReadFailure Self.Words (TellsFrom C.Store (Self.inside self.old) list) list chain tip e)) }
         ensures reads { ReadsOnly Self.Words C.Store self.old self.new (IsErrOf result (Error.Journal JournalError.Store)) }
         ensures never { IfErr result (λ e. e ≢ Error.StaleBatch) };
 
@@ -348,7 +355,7 @@ pub trait Engine<C: Store>: Words<C> + Drop + Sized {
         ensures readable { IfOk result (λ _. Self.scheme.form.ordered ≡ true → AtTip Self.Words self.old batch.now (λ list chain tip. CanRead Self.Words list chain tip)) }
         ensures below { IfOk result (λ k. Self.scheme.form.ordered ≡ true → AtTip Self.Words self.old batch.now (λ list chain tip. IsKnown list chain tip
             → option_map Self.Key.bytes k ≡ key_below (live_keys tip) (Self.Key.bytes key.now))) }
-        ensures failure { IfErr result (λ e. AtTip Self.Words self.old batch.now (λ list chain tip. IsReadFailure Self.Words (TellsAll C.Store (Self.inside self.old)) list chain tip e)) }
+        ensures failure { IfErr result (λ e. AtTip Self.Words self.old batch.now (λ list chain tip. IsReadFailure Self.Words (TellsFrom C.Store (Self.inside self.old) list) list chain tip e)) }
         ensures reads { ReadsOnly Self.Words C.Store self.old self.new (IsErrOf result (Error.Journal JournalError.Store)) }
         ensures never { IfErr result (λ e. e ≢ Error.StaleBatch) };
 
@@ -362,7 +369,7 @@ pub trait Engine<C: Store>: Words<C> + Drop + Sized {
             → option_map (span_view Self.Key.bytes Self.Value.bytes) s ≡ span_of list (Self.Key.bytes key.now)) }
         ensures reads { ReadsOnly Self.Words C.Store self.old self.new (IsErrOf result (Error.Journal JournalError.Store)) }
         ensures never { IfErr result (λ e. e ≢ Error.StaleBatch) }
-        ensures refused { IfErr result (λ e. TellsAll C.Store (Self.inside self.old) → (list : List Operation) → Self.stands self.old list → refusal_of e ≡ None) };
+        ensures refused { IfErr result (λ e. (list : List Operation) → Self.stands self.old list → TellsFrom C.Store (Self.inside self.old) list → refusal_of e ≡ None) };
 
     /// In an ordered database reads the value of a key, and the next key.
     fn all(
@@ -374,7 +381,7 @@ pub trait Engine<C: Store>: Words<C> + Drop + Sized {
             → option_map (whole_view Self.Key.bytes Self.Value.bytes) p ≡ option_map (λ e. (e.value, e.next)) (live_of (live list) (Self.Key.bytes key.now))) }
         ensures reads { ReadsOnly Self.Words C.Store self.old self.new (IsErrOf result (Error.Journal JournalError.Store)) }
         ensures never { IfErr result (λ e. e ≢ Error.StaleBatch) }
-        ensures refused { IfErr result (λ e. TellsAll C.Store (Self.inside self.old) → (list : List Operation) → Self.stands self.old list → refusal_of e ≡ None) };
+        ensures refused { IfErr result (λ e. (list : List Operation) → Self.stands self.old list → TellsFrom C.Store (Self.inside self.old) list → refusal_of e ≡ None) };
 
     /// In an ordered database reads the live keys of a range with their values, by key.
     fn range(
@@ -387,7 +394,7 @@ pub trait Engine<C: Store>: Words<C> + Drop + Sized {
             → map (pair_view Self.Key.bytes Self.Value.bytes) pairs.items ≡ pairs_in (limit_of Self.Key.bytes low.now) (limit_of Self.Key.bytes high.now) list) }
         ensures reads { ReadsOnly Self.Words C.Store self.old self.new (IsErrOf result (Error.Journal JournalError.Store)) }
         ensures never { IfErr result (λ e. e ≢ Error.StaleBatch) }
-        ensures refused { IfErr result (λ e. TellsAll C.Store (Self.inside self.old) → (list : List Operation) → Self.stands self.old list → refusal_of e ≡ None) };
+        ensures refused { IfErr result (λ e. (list : List Operation) → Self.stands self.old list → TellsFrom C.Store (Self.inside self.old) list → refusal_of e ≡ None) };
 
     /// In an ordered database reads the live keys of a range, by key.
     fn keys(
@@ -400,10 +407,11 @@ pub trait Engine<C: Store>: Words<C> + Drop + Sized {
             → map Self.Key.bytes keys.items ≡ keys_in (limit_of Self.Key.bytes low.now) (limit_of Self.Key.bytes high.now) list) }
         ensures reads { ReadsOnly Self.Words C.Store self.old self.new (IsErrOf result (Error.Journal JournalError.Store)) }
         ensures never { IfErr result (λ e. e ≢ Error.StaleBatch) }
-        ensures refused { IfErr result (λ e. TellsAll C.Store (Self.inside self.old) → (list : List Operation) → Self.stands self.old list → refusal_of e ≡ None) };
+        ensures refused { IfErr result (λ e. (list : List Operation) → Self.stands self.old list → TellsFrom C.Store (Self.inside self.old) list → refusal_of e ≡ None) };
 
     /// The proof of a merkleized batch's own operations in the list that it makes, and the digests of the peaks over its base
-    /// list. It is refused where the database is at no state at which the batch can be read.
+    /// list. It is refused where the database is at no state at which the batch can be read, and where a node was taken away
+    /// with what stood before the store's start.
     fn proof(
         &self,
         alloc: Global,
@@ -411,13 +419,13 @@ pub trait Engine<C: Store>: Words<C> + Drop + Sized {
     ) -> Result<(Proof<Self::Digest>, Vec<Self::Digest>), Error>
         ensures readable { IfOk result (λ _. AtTip Self.Words self.now batch.now (λ list chain tip. CanRead Self.Words list chain tip)) }
         ensures proof { IfOk result (λ r. AtTip Self.Words self.now batch.now (λ list chain tip. IsKnown list chain tip
-            → (proof_view Self.Digest.bytes r.0 ≡ Self.scheme.proof tip (length chain.base) (length tip)) × (map Self.Digest.bytes r.1.items ≡ Self.scheme.pins tip (length chain.base)))) }
-        ensures failure { IfErr result (λ e. AtTip Self.Words self.now batch.now (λ list chain tip. IsReadFailure Self.Words (C.start (Self.inside self.now) ≡ 0) list chain tip e)) }
+            → (proof_lacked Self.scheme.shape (C.start (Self.inside self.now)) list chain tip ≡ None)
+            × (proof_view Self.Digest.bytes r.0 ≡ Self.scheme.proof tip (length chain.base) (length tip)) × (map Self.Digest.bytes r.1.items ≡ Self.scheme.pins tip (length chain.base)))) }
+        ensures failure { IfErr result (λ e. AtTip Self.Words self.now batch.now (λ list chain tip. IsProofFailure Self.Words (C.start (Self.inside self.now)) list chain tip e)) }
         ensures never { IfErr result (λ e. (e ≢ Error.StaleBatch) × (e ≢ Error.Journal JournalError.Store)) };
 
     /// Operations from `start` on, at most `max`, and their proof in the list of the database's first `size`
-    /// operations, which has to end with a commit. Where the store tells its items from 0 on it is refused only as
-    /// the definition says; another store may have forgotten, or not keep, what is asked.
+    /// operations, which has to end with a commit. It is refused as the definition says.
     fn prove(
         &mut self,
         alloc: Global,
@@ -430,16 +438,16 @@ pub trait Engine<C: Store>: Words<C> + Drop + Sized {
             → proof_view Self.Digest.bytes r.0 ≡ Self.scheme.proof (take size list) start (start + proof_count size start (non_zero_u64_get max))) }
         ensures ops { IfOk result (λ r. (list : List Operation) → Self.stands self.old list
             → map (listed_view Self.Key.bytes Self.Value.bytes) r.1.items ≡ take (proof_count size start (non_zero_u64_get max)) (drop start list)) }
-        ensures refused { IfErr result (λ e. TellsAll C.Store (Self.inside self.old) → (list : List Operation) → Self.stands self.old list → IsDue e (proof_refusal (C.start (Self.inside self.old)) list size start)) }
+        ensures refused { IfErr result (λ e. (list : List Operation) → Self.stands self.old list → IsDue e (proof_refusal (C.start (Self.inside self.old)) list size start)) }
         ensures reads { ReadsOnly Self.Words C.Store self.old self.new (IsErrOf result (Error.Journal JournalError.Store)) }
         ensures never { IfErr result (λ e. e ≢ Error.StaleBatch) };
 
-    /// The digests of the peaks over the first `at` operations, which a node that starts there has to keep. A store
-    /// that starts above 0 may have forgotten them.
+    /// The digests of the peaks over the first `at` operations, which a node that starts there has to keep. It is
+    /// refused past the end, and where one was taken away with what stood before the store's start.
     fn pins(&self, alloc: Global, at: u64) -> Result<Vec<Self::Digest>, Error>
-        ensures offered { IfOk result (λ digests. (list : List Operation) → Self.stands self.now list → pins_refusal list at ≡ None) }
+        ensures offered { IfOk result (λ digests. (list : List Operation) → Self.stands self.now list → pins_lacked Self.scheme.shape (C.start (Self.inside self.now)) list at ≡ None) }
         ensures digests { IfOk result (λ digests. (list : List Operation) → Self.stands self.now list → map Self.Digest.bytes digests.items ≡ Self.scheme.pins list at) }
-        ensures refused { IfErr result (λ e. C.start (Self.inside self.now) ≡ 0 → (list : List Operation) → Self.stands self.now list → IsDue e (pins_refusal list at)) }
+        ensures refused { IfErr result (λ e. (list : List Operation) → Self.stands self.now list → IsDue e (pins_lacked Self.scheme.shape (C.start (Self.inside self.now)) list at)) }
         ensures never { IfErr result (λ e. (e ≢ Error.StaleBatch) × (e ≢ Error.Journal JournalError.Store)) };
 
     /// The operations root of the database's list.

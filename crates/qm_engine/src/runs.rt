@@ -15,7 +15,7 @@ ghost use Rattle.qm_model.specs.StoreModel.{Turns};
 ghost use Rattle.qm_engine.specs.Runs.{IsRun};
 
 use crate::engine::Engine;
-use crate::session::{Of, Session, Turn, into_store};
+use crate::session::{Of, Session, Turn, returned};
 use crate::table::{Slot, push_slot};
 use crate::turns::turn;
 use qm_base::{Gate, Twin};
@@ -92,7 +92,7 @@ fn step<X: Engine<C>, C: Store, P: Policy<X::Family, X::Key, X::Value> + Twin>(
 
 // A session with a closed store, and no batch.
 pub(crate) fn begin<X: Engine<C>, C: Store>(alloc: Global, store: C) -> Result<Of<X, C>, C>
-    ensures session { IfOk result (λ session. (log : Log) (choices : List ℕ) → HasLog X.scheme (C.told store) log → log.start ≡ 0 → log.stable ≤ length log.list → Stands C.Store X.Words session (machine.initial log choices)) }
+    ensures session { IfOk result (λ session. (log : Log) (choices : List ℕ) → HasLog X.scheme (C.told store) log → log.start ≤ log.stable → log.stable ≤ length log.list → Stands C.Store X.Words session (machine.initial log choices)) }
     ensures store { IfOk result (λ session. store_given X.inside session.held ≡ store) }
     ensures opened { IfOk result (λ session. session.opened ≡ 0) }
     ensures back { IfErr result (λ c. c ≡ store) }
@@ -109,7 +109,7 @@ pub(crate) fn begin<X: Engine<C>, C: Store>(alloc: Global, store: C) -> Result<O
 }
 
 /// Runs the commands over the store, from no database, up to their end or to the first for which memory or the
-/// store fails. What is told holds of a store that such a run left, or an empty one, from which nothing was pruned. Accepted openings are numbered from 1, batches too. The gate holds the workers of an opening.
+/// store fails. What is told holds of a store that such a run left, or an empty one. Accepted openings are numbered from 1, batches too. The gate holds the workers of an opening.
 pub fn run<X: Engine<C>, C: Store, P: Policy<X::Family, X::Key, X::Value> + Twin, G: Gate>(
     alloc: Global,
     store: C,
@@ -117,7 +117,7 @@ pub fn run<X: Engine<C>, C: Store, P: Policy<X::Family, X::Key, X::Value> + Twin
     commands: &[Command<X::Key, X::Value, P>],
     _gate: &G,
 ) -> Outcome<X, C>
-    ensures machine { IfSome (C.told store) (λ stored. (log : Log) → IsOwn (engine_of X.scheme P.rules) log stored → log.start ≡ 0
+    ensures machine { IfSome (C.told store) (λ stored. (log : Log) → IsOwn (engine_of X.scheme P.rules) log stored
         → (choices : List ℕ) → Turns (C.told store) (C.told result.store) (IsBeside choices) → IsRun X.scheme P.rules log choices
         (map (line_view X.Key.bytes X.Value.bytes (λ p. p)) commands.now) (map (answer_view X.Key.bytes X.Value.bytes X.Digest.bytes) result.replies.items) (C.told result.store)) }
     ensures done { result.end ≡ End.Done → length result.replies.items ≡ length commands.now }
@@ -144,13 +144,13 @@ pub fn run<X: Engine<C>, C: Store, P: Policy<X::Family, X::Key, X::Value> + Twin
             return Outcome {
                 replies,
                 end,
-                store: into_store::<X, C>(session.held),
+                store: returned::<X, C>(session.held),
             };
         }
     }
     Outcome {
         replies,
         end: End::Done,
-        store: into_store::<X, C>(session.held),
+        store: returned::<X, C>(session.held),
     }
 }

@@ -15,14 +15,14 @@ mod staged;
 use crate::engine::Engine;
 use crate::session::{Of, Turn};
 use batches::{apply, batch, child, del, merkleize, put, tip};
-use lasting::{close, commit, crash, destroy, open, sync};
+use lasting::{close, commit, crash, destroy, open, prune, sync};
 use ordered::{Question, Side, ask, beside};
 use proofs::{batch_proof, pins, prove};
 use qm_base::Twin;
 use qm_chain::Policy;
 use qm_lines::Command;
 use qm_store::Store;
-use reads::{batch_info, batch_root, info, meta, ops, read, read_key, root};
+use reads::{batch_info, batch_root, current, info, meta, ops, read, read_key, root};
 use staged::{expand, resolve, stage};
 use std::alloc::Global;
 
@@ -156,6 +156,11 @@ pub fn turn<X: Engine<C>, C: Store, P: Policy<X::Family, X::Key, X::Value> + Twi
             let turn = pins::<X, C>(alloc, &session, *at);
             (session, turn)
         }
+        Command::Current(_) => {
+            let turn = current::<X, C>(&session);
+            (session, turn)
+        }
+        Command::Prune(to) => prune::<X, C>(alloc, session, *to),
         Command::Commit => commit::<X, C>(session),
         Command::Sync => sync::<X, C>(session),
         Command::Close => close::<X, C>(session),

@@ -1,7 +1,8 @@
 //! What a database means to a run, with no call.
 
-ghost use Rattle.std.specs.Prelude.{◌≡◌, ℕ, List, [], length, All};
+ghost use Rattle.std.specs.Prelude.{◌≡◌, ◌≤◌, ℕ, List, [], length, All};
 ghost use Rattle.qm_model.specs.Forms.{IsOf};
+ghost use Rattle.qm_model.specs.Live.{floor};
 ghost use Rattle.qm_model.specs.Operations.{Bytes, Operation};
 ghost use Rattle.qm_model.specs.Trees.{peaks};
 ghost use Rattle.qm_model.specs.Writes.{Write};
@@ -44,9 +45,15 @@ pub trait Words<C: Store> {
     /// fits, up to where a list may be pruned, and its proofs and pins.
     ghost scheme: { Scheme };
 
+    /// No list may be pruned past its floor.
+    ghost low: { (list : List Operation) → scheme.boundary list ≤ floor list };
+
     /// Nothing has no peaks.
     ghost bare: { peaks scheme.shape 0 ≡ [] };
 
     /// Its list is of operations of that form.
     ghost formed: { (x : Self) (list : List Operation) → stands x list → All (IsOf scheme.form) list };
+
+    /// So is a batch's tip list.
+    ghost made_formed: { (batch : Self.Merkleized) (chain : Chain) (tip : List Operation) → is_merkleized batch chain tip → All (IsOf scheme.form) tip };
 }

@@ -1,8 +1,9 @@
 -- The program's databases as engines: where its batches fit and can be read, and what its refusals are.
-use Rattle.std.proofs.Common.{◌≡◌, ◌≢◌, ◌≤◌, ◌<◌, ℕ, suc, arith, ◌^◌, ◌∙◌, ◌⊎◌, ap, ap₂, sym, subst, refl, inl, inr, List, [], ◌∷◌, ◌++◌, length, map, drop, Option, Some, None, Bool, true, false, IfSome}
-use Rattle.std.specs.Prelude.{Result, Ok, Err, IfOk, IfErr, IsErrOf, IsSome, if◌then◌else◌, option_map}
+use Rattle.std.proofs.Common.{◌≡◌, ◌≢◌, ◌≤◌, ℕ, suc, arith, ◌^◌, ◌∙◌, ◌⊎◌, ap, ap₂, sym, subst, refl, inl, inr, List, [], ◌∷◌, ◌++◌, length, map, drop, Option, Some, None, Bool, true, false, IfSome}
+use Rattle.std.specs.Prelude.{Result, Ok, Err, IfOk, IfErr, IsErrOf, if◌then◌else◌, option_map}
 use Rattle.std.specs.Option.{option_or}
 use Rattle.std.proofs.lemmas.Bool.{lt-ltb, le-ltb}
+use Rattle.std.proofs.lemmas.List.Elements.{All-weaker}
 use Rattle.sha2.specs.Sha256.{sha256}
 use Rattle.qm_base.specs.declared.error.Error.{Error}
 use Rattle.qm_base.specs.declared.error.Error.TheVariants as errors
@@ -13,28 +14,29 @@ use Rattle.qm_model.specs.Batches.{Commitment, Chain, boundary_list, IsOnChain, 
 use Rattle.qm_model.specs.Causes.{Rose}
 use Rattle.qm_store.specs.declared.Store as store
 use Rattle.qm_store.specs.Log.{Log}
-use Rattle.qm_batch.specs.Lent.{IsReadError}
+use Rattle.qm_batch.specs.Lent.{IsReadError, NoneBelow}
 use Rattle.qm_model.specs.Refused.{Refused, Journal, ItemTooLarge, Merkle, LocationOverflow}
 use Rattle.qm_model.specs.Mmr.{mmr}
 use Rattle.qm_model.specs.Refusals.{tip_refusal, too_long, too_many}
 use Rattle.qm_model.specs.Roots.{sha256_root, sha256_proof, sha256_pins}
 use Rattle.qm_model.specs.Trees.{leaf, peaks, inactive_peaks, leaf_digest, digest_of, root, leaves_from}
-use Rattle.qm_model.specs.Live.{floor}
+use Rattle.qm_model.specs.Live.{floor, live}
 use Rattle.qm_model.specs.Proofs.{ops_proof, pins_at, proof_of}
 use Rattle.qm_model.specs.Walk.{Rules}
 use Rattle.qm_model.specs.Writes.{Write}
 use Rattle.qm_model.proofs.Chains.{fits-on_chain, readable-known}
+use Rattle.qm_model.proofs.Results.{err-both, err-each, err-when}
 use Rattle.qm_chain.specs.Bounds.{Bounds, IsBounds, is_at, knows}
 use Rattle.qm_chain.proofs.Fits.{at-fits, at-readable}
 use Rattle.qm_base.specs.declared.sha256.Sha256Digest.{Sha256Digest}
 use Rattle.qm_engines.specs.Databases.{hashing}
 use Rattle.qm_step.specs.Views.{stepped}
-use Rattle.qm_any.specs.Databases.{Database, IsLeft, Begun, Staged, Made, IsBegun, IsStaged, IsMade, staged_keys, is_on, list_commitment}
-use Rattle.qm_any.specs.Layouts.{Hashing, list_root}
+use Rattle.qm_any.specs.Databases.{Database, IsLeft, IsDatabase, Begun, Staged, Made, IsBegun, IsStaged, IsMade, staged_keys, is_on, list_commitment}
+use Rattle.qm_any.specs.Layouts.{Hashing, Layout, list_root}
 use Rattle.qm_any.proofs.Known.{child-boundary, child-tips}
 use Rattle.qm_any.specs.Tips.{own_spellings, IsTaken, IsRefused}
 use Rattle.qm_store.specs.Refusals.{refusal_of}
-use Rattle.qm_store.specs.Given.{IsUnchanged, TellsAll}
+use Rattle.qm_store.specs.Given.{IsUnchanged, TellsFrom}
 use Rattle.qm_store.specs.declared.refusal.Given.{Given}
 use Rattle.qm_store.specs.declared.refusal.Given.TheVariants as given
 use Rattle.qm_engine.specs.declared.words.Words as words
@@ -116,6 +118,10 @@ unknown list chain tip closed known = apart (sym (readable-known (sha256_root mm
 abbrev pub IsReadErr : {C D : Type 0} → store.Ghosts C → Log C D → Log C D → Bool → Error → Type 0
 IsReadErr members old new can e = ((e ≡ errors.StaleRead) × (can ≡ false)) ⊎ ((e ≡ errors.Memory) ⊎ ((can ≡ true) × IsReadError members old new e))
 
+-- the error is not that of an item which a prune took away
+abbrev pub IsKeptItem : Error → Type 0
+IsKeptItem e = (n : ℕ) → e ≢ errors.Journal (journal.ItemPruned n)
+
 -- an error of the log is none of a stale read
 log-fresh : {C D : Type 0} (members : store.Ghosts C) (old new : Log C D) (e : Error) → IsReadError members old new e → e ≡ errors.StaleRead → ⊥
 log-fresh members old new e (inl memory) stale = absurd (cc (memory, stale))
@@ -128,11 +134,11 @@ log-kept members old new e (inl memory) stale = absurd (cc (memory, stale))
 log-kept members old new e (inr (inl fault)) stale = absurd (cc (fault.0, stale))
 log-kept members old new e (inr (inr pruned)) stale = absurd (cc (pruned.2, stale))
 
--- where nothing is pruned it is told as no refusal
-pub log-untold : {C D : Type 0} (members : store.Ghosts C) (old new : Log C D) (e : Error) → old.tree.start ≡ 0 → IsReadError members old new e → refusal_of e ≡ None
+-- where it is for no item that is gone it is told as no refusal
+pub log-untold : {C D : Type 0} (members : store.Ghosts C) (old new : Log C D) (e : Error) → IsKeptItem e → IsReadError members old new e → refusal_of e ≡ None
 log-untold members old new e whole (inl memory) = ap refusal_of memory
 log-untold members old new e whole (inr (inl fault)) = ap refusal_of fault.0
-log-untold members old new e whole (inr (inr pruned)) = let low = pruned.1 in absurd (omega (arith, low, whole))
+log-untold members old new e whole (inr (inr pruned)) = absurd (whole pruned.0 pruned.2)
 
 -- a fault of the store is one by which its count rose
 pub log-rose : {C D : Type 0} (members : store.Ghosts C) (old new : Log C D) (e : Error) → IsReadError members old new e → e ≡ errors.Journal journal.Store → Rose (members.faults old.store) (members.faults new.store)
@@ -149,7 +155,7 @@ module _ {C D : Type 0} (members : store.Ghosts C) (old new : Log C D) (can : Bo
   stale-read (inr (inl memory)) stale = absurd (cc (memory, stale))
   stale-read (inr (inr told)) stale = absurd (log-fresh members old new e told.1 stale)
 
-  fresh-read : IsReadErr members old new can e → e ≢ errors.StaleRead → old.tree.start ≡ 0 → refusal_of e ≡ None
+  fresh-read : IsReadErr members old new can e → e ≢ errors.StaleRead → IsKeptItem e → refusal_of e ≡ None
   fresh-read (inl why) fresh whole = absurd (fresh why.0)
   fresh-read (inr (inl memory)) fresh whole = ap refusal_of memory
   fresh-read (inr (inr told)) fresh whole = log-untold members old new e whole told.1
@@ -166,10 +172,10 @@ module _ {C D : Type 0} (members : store.Ghosts C) (old new : Log C D) (can : Bo
 
   -- so it is a failure of a read of the engine
   pub read-failure : {X B S M : Type 0} (means : words.Ghosts X C B S M) (list : List Operation) (chain : Chain) (tip : List Operation) → can ≡ readable means.scheme.root (commitment means.scheme.root list) chain tip
-      → old.tree.start ≡ members.start old.store → IsReadErr members old new can e → IsReadFailure means (TellsAll members old.store) list chain tip e
-  read-failure means list chain tip is start why = record {
+      → (TellsFrom members old.store list → IsKeptItem e) → IsReadErr members old new can e → IsReadFailure means (TellsFrom members old.store list) list chain tip e
+  read-failure means list chain tip is whole why = record {
     stale = λ stale known. apart (sym (is ∙ readable-known means.scheme.root list chain tip known) ∙ stale-read why stale);
-    refused = λ fresh tells known. fresh-read why fresh (start ∙ tells.0);
+    refused = λ fresh tells known. fresh-read why fresh (whole tells);
     order = λ fresh other. sym is ∙ known-read why fresh other;
   }
 
@@ -177,6 +183,35 @@ module _ {C D : Type 0} (members : store.Ghosts C) (old new : Log C D) (can : Bo
   never-read (inl why) stale = absurd (cc (why.0, stale))
   never-read (inr (inl memory)) stale = absurd (cc (memory, stale))
   never-read (inr (inr told)) stale = log-kept members old new e told.1 stale
+
+module _ {C D : Type 0} (members : store.Ghosts C) (layout : Layout D) (db : Database C D) where
+  -- where the store tells all from the list's floor on, no live operation stands below its start
+  pub none-below : (list : List Operation) → IsDatabase members layout db list → TellsFrom members db.log.store list → NoneBelow db.log.tree.start list
+  none-below list is tells =
+      All-weaker (λ e. floor list ≤ e.location) (λ e. db.log.tree.start ≤ e.location)
+      (λ e low. omega (arith, low, is.lent.logged.start, tells.0)) (live list) is.good.above_floor
+
+  -- so no read of it fails for an item that is gone
+  pub kept-items : {X : Type 0} (r : Result X Error) → ((list : List Operation) → IsDatabase members layout db list → NoneBelow db.log.tree.start list → IfErr r IsKeptItem)
+      → IfErr r (λ e. (list : List Operation) → IsDatabase members layout db list → TellsFrom members db.log.store list → IsKeptItem e)
+  kept-items r whole =
+      err-each (IsDatabase members layout db) (λ list e. TellsFrom members db.log.store list → IsKeptItem e) r
+      (λ list is. err-when IsKeptItem r (λ tells. whole list is (none-below list is tells)))
+
+  -- nor does a walk that reads nothing below a limit, where the floor is not above it
+  pub kept-from : {X : Type 0} (r : Result X Error) (limit : ℕ) → ((list : List Operation) → IsDatabase members layout db list → NoneBelow db.log.tree.start list → db.log.tree.start ≤ limit → IfErr r IsKeptItem)
+      → IfErr r (λ e. (list : List Operation) → IsDatabase members layout db list → TellsFrom members db.log.store list → floor list ≤ limit → IsKeptItem e)
+  kept-from r limit whole =
+      err-each (IsDatabase members layout db) (λ list e. TellsFrom members db.log.store list → floor list ≤ limit → IsKeptItem e) r
+      (λ list is. err-when (λ e. floor list ≤ limit → IsKeptItem e) r
+      (λ tells. err-when IsKeptItem r (λ low. whole list is (none-below list is tells) (omega (arith, low, is.lent.logged.start, tells.0)))))
+
+  -- and a read that fails is told as no refusal
+  pub read-untold : {X : Type 0} (new : Log C D) (r : Result X Error) → IfErr r (IsReadError members db.log new)
+      → ((list : List Operation) → IsDatabase members layout db list → NoneBelow db.log.tree.start list → IfErr r IsKeptItem)
+      → IfErr r (λ e. (list : List Operation) → IsDatabase members layout db list → TellsFrom members db.log.store list → refusal_of e ≡ None)
+  read-untold new r errs whole =
+      err-both r errs (kept-items r whole) (λ e why kept list is tells. log-untold members db.log new e (kept list is tells) why)
 
 -- reads through batches
 pub made-reads : {X E : Type 0} (r : Result X E) (S : List Operation → Type 0) (L : Chain → List Operation → Type 0) (Q : X → List Operation → Type 0)
@@ -256,15 +291,15 @@ module _ (form : Form) (chain : Chain) (tip : List Operation) where
   due e r fresh (inr (inr (inr many))) told =
       short many.0 ∙ ap (λ b. if b then Some (Merkle (LocationOverflow (length tip))) else None) (lt-ltb (2 ^ 62) (length tip) many.1) ∙ sym (ap refusal_of many.2) ∙ told
 
-  -- a merkleize that is refused, and not as stale, is so for that where the database is on the chain
-  pub refused-due : {C D : Type 0} (members : store.Ghosts C) (old new : Log C D) (P On : Type 0) (e : Error) → e ≢ errors.StaleBatch → old.tree.start ≡ 0 → (On → IsRefused form chain.base tip e ⊎ IsReadError members old new e)
-      → (e ≢ errors.Memory → P) → IfSome (refusal_of e) (λ r. P × (On → tip_refusal form chain tip ≡ Some r))
-  refused-due members old new P On e fresh whole refused give =
-      some-intro (refusal_of e) (λ r. P × (On → tip_refusal form chain tip ≡ Some r)) (λ r told. (give (λ memory. none-some r (sym (ap refusal_of memory) ∙ told)), λ on. either r told (refused on)))
+  -- a merkleize that is refused, and not as stale, is so for that where the database is on the chain and lacks no item of it
+  pub refused-due : {C D : Type 0} (members : store.Ghosts C) (old new : Log C D) (P On Low : Type 0) (e : Error) → e ≢ errors.StaleBatch → (Low → IsKeptItem e) → (On → IsRefused form chain.base tip e ⊎ IsReadError members old new e)
+      → (e ≢ errors.Memory → P) → IfSome (refusal_of e) (λ r. P × (On → Low → tip_refusal form chain tip ≡ Some r))
+  refused-due members old new P On Low e fresh whole refused give =
+      some-intro (refusal_of e) (λ r. P × (On → Low → tip_refusal form chain tip ≡ Some r)) (λ r told. (give (λ memory. none-some r (sym (ap refusal_of memory) ∙ told)), λ on low. either r told low (refused on)))
     where
-      either : (r : Refused) → refusal_of e ≡ Some r → IsRefused form chain.base tip e ⊎ IsReadError members old new e → tip_refusal form chain tip ≡ Some r
-      either r told (inl long) = due e r fresh long told
-      either r told (inr read) = absurd (none-some r (sym (log-untold members old new e whole read) ∙ told))
+      either : (r : Refused) → refusal_of e ≡ Some r → Low → IsRefused form chain.base tip e ⊎ IsReadError members old new e → tip_refusal form chain tip ≡ Some r
+      either r told low (inl long) = due e r fresh long told
+      either r told low (inr read) = absurd (none-some r (sym (log-untold members old new e (whole low) read) ∙ told))
 
 -- a batch of these writes makes a tip that is not refused
 pub made-ok : (form : Form) {P X E : Type 0} (rules : Rules P) (r : Result X E) (made : X → Made Sha256Digest) (Is : Chain → Chain → Type 0) (own : List Write) (policy : P) (meta : Option Bytes) (S : List Operation → Type 0)
@@ -286,6 +321,11 @@ pub made-err : (form : Form) {P X : Type 0} (rules : Rules P) (r : Result X Erro
 made-err form rules (Ok x) Is own policy meta R S given = tt
 made-err form rules (Err e) Is own policy meta R S given = λ list chain above is batch ws same on.
     subst (λ w. IsRefused form chain.base (stepped form rules chain.base w policy meta) e ⊎ R e) same (given list chain above is batch on)
+
+-- three facts of an error at once
+pub err-three : {X E : Type 0} (r : Result X E) {P Q R S : E → Type 0} → IfErr r P → IfErr r Q → IfErr r R → ((e : E) → P e → Q e → R e → S e) → IfErr r S
+err-three (Ok x) p q r give = tt
+err-three (Err e) p q r give = give e p q r
 
 -- what a fault tells
 pub err-of : {X E : Type 0} (r : Result X E) (x : E) (P : Type 0) → IfErr r (λ e. e ≡ x → P) → IsErrOf r x → P

@@ -1,33 +1,54 @@
 -- What opens a database, and what makes one last or ends it, as an engine's clauses say it.
-use Rattle.std.proofs.Common.{arith, ◌≡◌, ◌⊎◌, inl, inr, ◌≤◌, ℕ, zero, suc, ◌-◌, List, [], ◌∷◌, length, map, take, drop, Option, Some, None, IfSome, refl, sym, ap, ◌∙◌, subst}
-use Rattle.std.specs.Prelude.{Result, Ok, Err, IfOk, IfErr}
-use Rattle.sha2.specs.Sha256.{sha256}
+use Rattle.std.proofs.Common.{arith, ◌≡◌, ◌⊎◌, inl, inr, ◌≤◌, ◌<◌, ℕ, zero, suc, ◌-◌, List, [], ◌∷◌, length, map, Option, Some, None, IfSome, refl, sym, ap, ◌∙◌, subst}
+use Rattle.std.specs.Prelude.{◌^◌, option_map, option_and_then}
+use Rattle.std.specs.Option.{option_or}
 use Rattle.qm_model.specs.Causes.{IsCause}
 use Rattle.qm_model.specs.Forms.{Form, spelling}
-use Rattle.qm_model.specs.Mmr.{mmr}
+use Rattle.qm_model.specs.Live.{floor}
 use Rattle.qm_model.specs.Operations.{Bytes, Operation, fresh}
-use Rattle.qm_model.specs.StoreModel.{Stored, settled, destroyed, DestroyLeaves, IsImage, ReadsAs, Turns, Becomes}
-use Rattle.qm_model.specs.Trees.{peaks, digest_of}
+use Rattle.qm_model.specs.StoreModel.{Stored, settled, pruned, IsImage, IsOldOrNew, ReadsAs, Turns, Becomes}
+use Rattle.qm_model.specs.Opening.{Selected, commit_at, last_commit, below_bound, found, selected, size_of}
+use Rattle.qm_model.specs.Refusals.{commit_floor}
 use Rattle.qm_base.specs.declared.error.Error.{Error}
 use Rattle.qm_base.specs.declared.error.Error.TheVariants as errors
 use Rattle.qm_base.specs.declared.error.JournalError.TheVariants as journal
 use Rattle.qm_base.specs.declared.sha256.Sha256Digest.{Sha256Digest}
 use Rattle.qm_store.specs.declared.refusal.Given.{Given}
-use Rattle.qm_store.specs.declared.refusal.Given.TheVariants.{Database, Store}
-use Rattle.qm_store.specs.Log.{IsHead, digests_from}
+use Rattle.qm_store.specs.declared.Store as store
+use Rattle.qm_store.specs.declared.refusal.Given.TheVariants as variants
 use Rattle.qm_store.specs.Refusals.{refusal_of}
 use Rattle.qm_any.specs.Restoring as any
-use Rattle.qm_engine.specs.Stores.{IsTaken, HasList, selected_size, taken, LeavesOpening}
+use Rattle.qm_any.specs.Lasting.{cut_to, IsHeadAt}
+use Rattle.qm_any.specs.Databases.{Database, IsDatabase}
+use Rattle.qm_machine.specs.Machine.{layout_of}
+use Rattle.qm_engine.specs.Stores.{IsTaken, HasList, selected_size, head_at, taken, pruned_from, LeavesOpening, LeavesPruning}
 use Rattle.qm_engine.proofs.Lasting.{turned-each}
-use Rattle.qm_engines.specs.Databases.{hashing}
-use Rattle.qm_engines.specs.Schemes.{bare, scheme}
+use Rattle.qm_engines.specs.Databases.{hashing, layout}
+use Rattle.qm_engines.specs.Schemes.{scheme}
+use Rattle.qm_engines.proofs.Heads.{head-is, is-head}
+
+-- a commit that is selected stands at the start or behind it
+abbrev IsPast : ℕ → Option Selected → Type 0
+IsPast start at = (size_of at ≡ 0) ⊎ (start < size_of at)
+
+commit-past : (start i : ℕ) (item : Option Operation) (before : Option Selected) → start ≤ i → IsPast start before → IsPast start (option_or (commit_at i item) before)
+commit-past start i item before low past = by (option_and_then commit_floor item)
+  where
+    by : (floor : Option ℕ) → IsPast start (option_or (option_map (λ f. record { size = suc i; floor = f }) floor) before)
+    by None = past
+    by (Some f) = inr (omega (arith, low))
+
+last-past : (start i : ℕ) (before : Option Selected) (items : List (Option Operation)) → start ≤ i → IsPast start before → IsPast start (last_commit i before items)
+last-past start i before [] low past = past
+last-past start i before (item ∷ items) low past = last-past start (suc i) (option_or (commit_at i item) before) items (omega (arith, low)) (commit-past start i item before low past)
 
 module _ (form : Form) where
-  -- a store that starts at 0 and has no head has that of no peaks
-  headless : (n : ℕ) (leaves : List Bytes) (head : Bytes) → n ≡ 0 → head ≡ [] → IsHead (hashing form).shape (hashing form).bytes (hashing form).hash n leaves head
-  headless n leaves head zero_start none =
-      subst (λ k. IsHead (hashing form).shape (hashing form).bytes (hashing form).hash k leaves head) (sym zero_start)
-      record { pins = []; spelled = sym none; digests = ap (map (digest_of sha256 mmr leaves)) (sym bare) }
+  past_start : (s : Stored) (bound : Option ℕ) (j : ℕ) → selected_size (scheme form) bound s ≡ suc j → s.start < suc j
+  past_start s bound j is = by (last-past s.start s.start None (below_bound bound (found (layout_of (scheme form)) s)) (omega arith) (inl refl))
+    where
+      by : IsPast s.start (selected (found (layout_of (scheme form)) s) bound) → s.start < suc j
+      by (inl none) = absurd (omega (arith, none, is))
+      by (inr past) = omega (arith, past, is)
 
   -- the list that is taken up, as the database has it
   pub opened-list : (told : Option Stored) (bound : Option ℕ) (S : List Operation → Type 0)
@@ -40,14 +61,14 @@ module _ (form : Form) where
       by : (n : ℕ) → selected_size (scheme form) bound s ≡ n → (list : List Operation) → IsTaken (scheme form) s n list → S list
       by zero e list is = subst S (sym is) (begun e)
       by (suc j) e list is =
-          let all : suc j - s.start ≡ suc j = omega (arith, is.start) in
+          let within : s.start ≤ length list = omega (arith, is.size_is, past_start s bound j e) in
           stands list (subst (λ n. any.HasList (hashing form) s n list) (sym e) record {
             size_is = is.size_is;
             of = is.of;
             good = is.good;
             ring = is.ring;
-            items = ap (λ (n : ℕ). take n s.items) all ∙ (is.items ∙ sym (ap (λ n. drop n (map (spelling form) list)) is.start));
-            head = headless s.start _ s.head is.start is.head;
+            items = is.items;
+            head = is-head form list s.start (omega (arith, is.size_is, is.few, within)) within s.head is.head;
           })
 
   taken-same : (n : ℕ) (s : Stored) → any.taken (hashing form) n s ≡ taken (scheme form) n s
@@ -69,10 +90,29 @@ pub untold : (e : Error) → (e ≡ errors.Memory) ⊎ (e ≡ errors.Journal jou
 untold e (inl memory) = ap refusal_of memory
 untold e (inr fault) = ap refusal_of fault
 
+-- what a prune makes of a store, its start being the tree's
+pub pruned-same : (o new : Option Stored) (first start to : ℕ) (head : Bytes) → first ≡ start → Becomes o new (λ s. cut_to first to head (settled s)) → Becomes o new (pruned_from start to head)
+pruned-same o new first start to head is became = subst (λ n. Becomes o new (λ s. cut_to n to head (settled s))) is became
+
+-- what a failed one leaves
+pub left-stable : (o new : Option Stored) (start : ℕ) (IsHead : Bytes → Type 0) (to : ℕ) → Turns o new (λ s. ReadsAs s.stable (IsImage s)) → Turns o new (LeavesPruning start IsHead to)
+left-stable o new start IsHead to is = turned-each o new _ _ (λ s t left. inl left) is
+
+pub left-pruned : (o new : Option Stored) (start : ℕ) (IsHead : Bytes → Type 0) (to : ℕ) (head : Bytes) → start < to → IsHead head → Turns o new (λ s. ReadsAs (settled s).stable (IsOldOrNew (pruned to head) (settled s)))
+    → Turns o new (LeavesPruning start IsHead to)
+left-pruned o new start IsHead to head past heads is = turned-each o new _ _ (λ s t left. inr (past, head, heads, left)) is
+
+module _ {C : Type 0} (members : store.Ghosts C) (form : Form) (index_key : Bytes → ℕ) (db : Database C Sha256Digest) (to : ℕ) where
+  -- a head over the log's items is that of its list
+  pub heads-of : (head : Bytes) → IsHeadAt members (hashing form) to db.log head → (list : List Operation) → IsDatabase members (layout form index_key) db list → to ≤ floor list → length list ≤ 2 ^ 62 → head ≡ head_at (scheme form) list to
+  heads-of head heads list is low few =
+      let within : to ≤ length list = omega (arith, low, is.good.floor_within) in
+      head-is form list to (omega (arith, within, few)) within head (heads (map (spelling form) list) is.lent.logged)
+
 -- a cause of one error is one of an equal one
 pub cause-same : (before now : ℕ) (e error : Error) → error ≡ e → IsCause before now (e ≡ errors.Journal journal.Store) → IsCause before now (error ≡ errors.Journal journal.Store)
 cause-same before now e error same cause = record { later = cause.later; failed = λ fault. cause.failed (sym same ∙ fault) }
 
 -- no refusal gives back a database and a store
-pub not-both : {X C : Type 0} (given : Given X C) (x : X) (c : C) → given ≡ Database x → given ≡ Store c → ⊥
+pub not-both : {X C : Type 0} (given : Given X C) (x : X) (c : C) → given ≡ variants.Database x → given ≡ variants.Store c → ⊥
 not-both given x c one other = cc

@@ -1,6 +1,7 @@
 // The program's databases as engines: of either kind, by their updates.
 ghost use Rattle.std.specs.Prelude.{◌≡◌, None, length, refl};
-ghost use Rattle.std.proofs.Common.{ap};
+ghost use Rattle.std.proofs.Common.{ap, le_refl};
+ghost use Rattle.qm_model.specs.Live.{floor};
 ghost use Rattle.qm_any.specs.Databases.{IsDatabase, IsBegun, IsStaged, IsMade, staged_keys};
 ghost use Rattle.qm_store.specs.Given.{store_given};
 ghost use Rattle.qm_engines.specs.Databases.{hashing, layout};
@@ -12,7 +13,7 @@ use crate::ranges::{keys_of, pairs_of};
 use qm_any::batch::{MerkleizedBatch, UnmerkleizedBatch};
 use qm_any::db::Db;
 use qm_any::staged::Staged;
-use qm_any::take_up;
+use qm_any::{Config, init};
 use qm_base::update::{Ordered, Unordered, Update};
 use qm_base::{
     ByteKey, ByteString, ByteValue, Error, Location, Sha256, Sha256Digest, VariableEncoding,
@@ -117,9 +118,13 @@ impl<
 
     ghost scheme = { scheme U.form };
 
+    ghost low = { λ list. le_refl (floor list) };
+
     ghost bare = { bare };
 
     ghost formed = { λ x list is. is.lent.of };
+
+    ghost made_formed = { λ b chain tip is. is.of };
 }
 
 impl<
@@ -143,7 +148,12 @@ impl<
         _config: &(),
         max_size: Option<u64>,
     ) -> Result<Self, Refusal<Self, C>> {
-        match take_up(alloc, store, Sha256::new(), FourCap, kept_keys(), max_size) {
+        let config = Config {
+            translator: FourCap,
+            init_cache: kept_keys(),
+            init_concurrency: (),
+        };
+        match init(alloc, store, Sha256::new(), config, max_size) {
             Ok(db) => Ok(Database { db }),
             Err(refused) => Err(refusal(refused)),
         }
@@ -159,6 +169,18 @@ impl<
     fn sync(self) -> Result<Self, Refusal<Self, C>> {
         match self.db.sync() {
             Ok(db) => Ok(Database { db }),
+            Err(refused) => Err(refusal(refused)),
+        }
+    }
+
+    fn prune(self, alloc: Global, to: u64) -> Result<Self, Refusal<Self, C>> {
+        // The log is kept from where its store is.
+        self.db.bounds();
+        match self.db.prune(alloc, Location::new(to)) {
+            Ok(db) => {
+                db.bounds();
+                Ok(Database { db })
+            }
             Err(refused) => Err(refusal(refused)),
         }
     }
@@ -420,6 +442,8 @@ impl<
         alloc: Global,
         batch: &Self::Merkleized,
     ) -> Result<(Proof<Sha256Digest>, Vec<Sha256Digest>), Error> {
+        // Its numbers agree.
+        batch.bounds();
         match batch.proof(alloc, &self.db) {
             Ok(proof) => match batch.pinned_nodes(alloc, &self.db) {
                 Ok(pins) => Ok((proof, pins)),
@@ -451,6 +475,8 @@ impl<
     }
 
     fn pins(&self, alloc: Global, at: u64) -> Result<Vec<Sha256Digest>, Error> {
+        // No list is too long.
+        self.db.bounds();
         self.db.pinned_nodes_at(alloc, Location::new(at))
     }
 }

@@ -1,15 +1,15 @@
 // What the ranges of an ordered database have, in one list.
-ghost use Rattle.std.specs.Prelude.{◌≡◌, ◌≤◌, true, List, IfOk, IfErr, length, map};
+ghost use Rattle.std.specs.Prelude.{◌≡◌, ◌≢◌, ◌≤◌, ℕ, true, List, IfOk, IfErr, length, map};
 ghost use Rattle.qm_model.specs.Operations.{Operation};
 ghost use Rattle.qm_model.specs.Ranges.{keys_in, pairs_in};
 ghost use Rattle.qm_any.specs.Databases.{IsDatabase, IsLeft};
-ghost use Rattle.qm_batch.specs.Lent.{IsReadError};
+ghost use Rattle.qm_batch.specs.Lent.{IsReadError, NoneBelow};
 ghost use Rattle.qm_base.specs.Views.{limit_of, pair_view};
 ghost use Rattle.qm_scan.specs.Scans.{left_of};
 
 use qm_any::db::{Db, LaidOut};
 use qm_base::update::Update;
-use qm_base::{ByteString, Error, Hasher, Location, Twin};
+use qm_base::{ByteString, Error, Hasher, JournalError, Location, Twin};
 use qm_batch::kind::Steps;
 use qm_merkle::Family;
 use qm_scan::Scan;
@@ -51,6 +51,7 @@ fn collected<
     ensures pairs { (list : List Operation) → IsDatabase C.Store ⟦<Db<F, C, I, H, U> as LaidOut>⟧.layout db.old list → length (left_of I.index_key scan.old list) ≤ most
         → IfOk result (λ pairs. map (pair_view U.Key.bytes U.Value.bytes) pairs.items ≡ left_of I.index_key scan.old list) }
     ensures error { IfErr result (IsReadError C.Store db.old.log db.new.log) }
+    ensures whole { (list : List Operation) → IsDatabase C.Store ⟦<Db<F, C, I, H, U> as LaidOut>⟧.layout db.old list → NoneBelow db.old.log.tree.start list → IfErr result (λ e. (n : ℕ) → e ≢ Error.Journal (JournalError.ItemPruned n)) }
     ensures left { IsLeft C.Store ⟦<Db<F, C, I, H, U> as LaidOut>⟧.layout.hashing db.old db.new }
 {
     let mut pairs = Vec::new(alloc);
@@ -80,6 +81,7 @@ pub fn pairs_of<
     ensures pairs { (list : List Operation) → IsDatabase C.Store ⟦<Db<F, C, I, H, U> as LaidOut>⟧.layout db.old list
         → IfOk result (λ pairs. map (pair_view U.Key.bytes U.Value.bytes) pairs.items ≡ pairs_in (limit_of U.Key.bytes low.now) (limit_of U.Key.bytes high.now) list) }
     ensures error { IfErr result (IsReadError C.Store db.old.log db.new.log) }
+    ensures whole { (list : List Operation) → IsDatabase C.Store ⟦<Db<F, C, I, H, U> as LaidOut>⟧.layout db.old list → NoneBelow db.old.log.tree.start list → IfErr result (λ e. (n : ℕ) → e ≢ Error.Journal (JournalError.ItemPruned n)) }
     ensures left { IsLeft C.Store ⟦<Db<F, C, I, H, U> as LaidOut>⟧.layout.hashing db.old db.new }
 {
     let live = db.active_keys();
@@ -120,6 +122,7 @@ pub fn keys_of<
     ensures keys { (list : List Operation) → IsDatabase C.Store ⟦<Db<F, C, I, H, U> as LaidOut>⟧.layout db.old list
         → IfOk result (λ keys. map U.Key.bytes keys.items ≡ keys_in (limit_of U.Key.bytes low.now) (limit_of U.Key.bytes high.now) list) }
     ensures error { IfErr result (IsReadError C.Store db.old.log db.new.log) }
+    ensures whole { (list : List Operation) → IsDatabase C.Store ⟦<Db<F, C, I, H, U> as LaidOut>⟧.layout db.old list → NoneBelow db.old.log.tree.start list → IfErr result (λ e. (n : ℕ) → e ≢ Error.Journal (JournalError.ItemPruned n)) }
     ensures left { IsLeft C.Store ⟦<Db<F, C, I, H, U> as LaidOut>⟧.layout.hashing db.old db.new }
 {
     let pairs = pairs_of(alloc, db, low, high)?;

@@ -9,6 +9,8 @@ use Rattle.qm_base.specs.Views.{corrupt_view, limit_of, pair_view}
 use Rattle.qm_base.specs.Slots.{slot_views, write_views}
 use Rattle.qm_lines.specs.declared.command.Command.{Command}
 use Rattle.qm_lines.specs.declared.command.Command.TheVariants as commands
+use Rattle.qm_lines.specs.declared.command.Question.{Question}
+use Rattle.qm_lines.specs.declared.command.Question.TheVariants as questions
 use Rattle.qm_lines.specs.declared.reply.Listed.{Listed}
 use Rattle.qm_lines.specs.declared.reply.Listed.TheVariants as listed
 use Rattle.qm_lines.specs.declared.reply.Span.{Span}
@@ -45,6 +47,12 @@ refused_view (refused.DataCorrupted c) = refusals.DataCorrupted (corrupt_view c)
 refused_view (refused.Merkle e) = refusals.Merkle (tree_view e)
 refused_view (refused.Journal e) = refusals.Journal (log_view e)
 
+abbrev pub question_view : {K : Type 0} → (K → Bytes) → Question K → lines.Question
+question_view key (questions.Held k) = lines.Held (key k)
+question_view key (questions.Absent k) = lines.Absent (key k)
+question_view key (questions.Chunks start max) = lines.Chunks start (non_zero_u64_get max)
+question_view key questions.Witness = lines.Witness
+
 module _ {K V : Type 0} (key : K → Bytes) (value : V → Bytes) where
   abbrev pub line_view : {P Q : Type 0} → (P → Q) → Command K V P → lines.Line Q
   line_view policy (commands.Open bound) = lines.Open bound
@@ -75,6 +83,8 @@ module _ {K V : Type 0} (key : K → Bytes) (value : V → Bytes) where
   line_view policy commands.Meta = lines.Meta
   line_view policy (commands.Prove size start max) = lines.Prove size start (non_zero_u64_get max)
   line_view policy (commands.Pins n) = lines.Pins n
+  line_view policy (commands.Current question) = lines.Current (question_view key question)
+  line_view policy (commands.Prune to) = lines.Prune to
   line_view policy commands.Commit = lines.Commit
   line_view policy commands.Sync = lines.Sync
   line_view policy commands.Close = lines.Close

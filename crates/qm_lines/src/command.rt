@@ -11,6 +11,19 @@ pub struct Resolution<K, V> {
     pub others: Vec<Write<K, V>>,
 }
 
+/// What only a current database offers.
+#[derive(Drop)]
+pub enum Question<K> {
+    /// Proves the value of a key, and checks the proof.
+    Held(K),
+    /// Proves that a key has no value, and checks the proof.
+    Absent(K),
+    /// Proves a range of chunks, from a location on, at most so many.
+    Chunks(u64, NonZeroU64),
+    /// Shows the operations root in the root.
+    Witness,
+}
+
 /// A command with keys, values and policies of these types. A batch goes by the number that the run gave it.
 #[derive(Drop)]
 pub enum Command<K, V, P> {
@@ -71,6 +84,10 @@ pub enum Command<K, V, P> {
     Prove(u64, u64, NonZeroU64),
     /// Lists the digests of the peaks over the first operations, so many.
     Pins(u64),
+    /// Asks what only a current database offers.
+    Current(Question<K>),
+    /// Forgets the operations before a location, and makes those that are left stable.
+    Prune(u64),
     /// Makes the operations stable.
     Commit,
     /// Makes all that the store holds stable.

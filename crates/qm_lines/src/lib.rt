@@ -12,7 +12,7 @@ pub mod text;
 pub mod whole;
 
 pub use adapters::{StdSink, StdSource};
-pub use command::{Command, Resolution};
+pub use command::{Command, Question, Resolution};
 pub use memory::{MemSink, MemSource};
 pub use parse::{ByteCommand, next_line, parse_line};
 pub use policy::AnyPolicy;

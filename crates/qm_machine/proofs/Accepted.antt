@@ -1,13 +1,14 @@
--- What an accepted opening of a log that starts at 0 takes up: as many operations as it says, and the fresh list of an empty log.
-use Rattle.std.proofs.Common.{◌≡◌, ℕ, zero, suc, ◌+◌, ◌-◌, ◌<◌, ◌≤◌, Bool, true, false, cond, List, [], ◌∷◌, length, take, drop, map, Option, Some, None, refl, sym, ap, ◌∙◌, subst, arith, length-take-le}
-use Rattle.std.specs.Prelude.{get_or, IfSome, not, ◌==◌, ◌&&◌, option_map, is_none, min}
+-- What an accepted opening of a log takes up: as many operations as it says, the last of them at or behind the start, and the fresh
+-- list of an empty log.
+use Rattle.std.proofs.Common.{◌≡◌, ℕ, zero, suc, ◌+◌, ◌-◌, ◌<◌, ◌≤◌, Bool, true, false, List, [], ◌∷◌, length, drop, Option, Some, None, refl, sym, ◌∙◌, subst, arith, le_refl}
+use Rattle.std.specs.Prelude.{get_or, IfSome, ◌==◌, ◌&&◌, option_map}
 use Rattle.std.specs.Option.{option_or}
 use Rattle.std.proofs.lemmas.Bool.{eqb-true}
-use Rattle.std.proofs.lemmas.List.{length-map, length-take}
+use Rattle.std.proofs.lemmas.List.{length-map, length-take, length-drop}
 use Rattle.qm_model.specs.Operations.{Operation}
-use Rattle.qm_model.specs.Refused.{Refused, DataCorrupted, NoRetainedCommit}
+use Rattle.qm_model.specs.Refused.{Refused, DataCorrupted}
 use Rattle.qm_model.specs.Own.{Log}
-use Rattle.qm_model.specs.Opening.{Layout, Found, Selected, Opening, opens, when, first_refusal, commit_refusal, commit_at, last_commit, below_bound, selected, size_of, is_empty, checks, opening_refusal, opening_of, opening}
+use Rattle.qm_model.specs.Opening.{Found, Selected, opens, first_refusal, commit_refusal, commit_at, last_commit, below_bound, selected, size_of, is_empty, checks, opening_of, opening}
 use Rattle.qm_machine.specs.Machine.{Scheme, layout_of, found_in}
 
 -- no check fails
@@ -21,50 +22,58 @@ pub accepted : (r : Option Refused) (size n : ℕ) → opening_of r size ≡ ope
 accepted (Some r) size n is = absurd (cc)
 accepted None size n is = (refl, cc)
 
--- where the last commit ends
+-- where the last commit ends, of items that stand behind a start
 
-abbrev IsWithin : ℕ → Option Selected → Type 0
-IsWithin n at = IfSome at (λ c. (0 < c.size) × (c.size ≤ n))
+abbrev IsWithin : ℕ → ℕ → Option Selected → Type 0
+IsWithin start n at = IfSome at (λ c. (start < c.size) × (c.size ≤ n))
 
-within-more : (n : ℕ) (at : Option Selected) → IsWithin n at → IsWithin (suc n) at
-within-more n None is = tt
-within-more n (Some c) is = (is.0, omega (arith, is.1))
+within-more : (start n : ℕ) (at : Option Selected) → IsWithin start n at → IsWithin start (suc n) at
+within-more start n None is = tt
+within-more start n (Some c) is = (is.0, let low = is.1 in omega (arith, low))
 
-within-next : (i : ℕ) (floor : Option ℕ) (before : Option Selected) → IsWithin i before → IsWithin (suc i) (option_or (option_map (λ f. record { size = suc i; floor = f }) floor) before)
-within-next i None before is = within-more i before is
-within-next i (Some f) before is = (omega arith, omega arith)
+within-next : (start i : ℕ) (floor : Option ℕ) (before : Option Selected) → start ≤ i → IsWithin start i before → IsWithin start (suc i) (option_or (option_map (λ f. record { size = suc i; floor = f }) floor) before)
+within-next start i None before low is = within-more start i before is
+within-next start i (Some f) before low is = (omega (arith, low), omega arith)
 
-last-within : (i : ℕ) (before : Option Selected) (items : List (Option Operation)) → IsWithin i before → IsWithin (i + length items) (last_commit i before items)
-last-within i before [] is = subst (λ n. IsWithin n before) (omega arith) is
-last-within i before (item ∷ items) is =
-    subst (λ n. IsWithin n (last_commit (suc i) (option_or (commit_at i item) before) items)) (omega arith) (last-within (suc i) (option_or (commit_at i item) before) items (within-next i _ before is))
+last-within : (start i : ℕ) (before : Option Selected) (items : List (Option Operation)) → start ≤ i → IsWithin start i before → IsWithin start (i + length items) (last_commit i before items)
+last-within start i before [] low is = subst (λ n. IsWithin start n before) (omega arith) is
+last-within start i before (item ∷ items) low is =
+    subst (λ n. IsWithin start n (last_commit (suc i) (option_or (commit_at i item) before) items)) (omega arith)
+    (last-within start (suc i) (option_or (commit_at i item) before) items (omega (arith, low)) (within-next start i _ before low is))
 
 below-few : (bound : Option ℕ) (f : Found) → length (below_bound bound f) ≤ length f.items
 below-few None f = omega arith
 below-few (Some bound) f = let size = length-take (bound - f.start) f.items in omega (arith, size)
 
-selected-within : (f : Found) (bound : Option ℕ) → IsWithin (f.start + length f.items) (selected f bound)
-selected-within f bound = up (selected f bound) (below-few bound f) (last-within f.start None (below_bound bound f) tt)
+selected-within : (f : Found) (bound : Option ℕ) → IsWithin f.start (f.start + length f.items) (selected f bound)
+selected-within f bound = up (selected f bound) (below-few bound f) (last-within f.start f.start None (below_bound bound f) (le_refl f.start) tt)
   where
-    up : (at : Option Selected) → length (below_bound bound f) ≤ length f.items → IsWithin (f.start + length (below_bound bound f)) at → IsWithin (f.start + length f.items) at
+    up : (at : Option Selected) → length (below_bound bound f) ≤ length f.items → IsWithin f.start (f.start + length (below_bound bound f)) at → IsWithin f.start (f.start + length f.items) at
     up None few is = tt
     up (Some c) few is = (is.0, let low = is.1 in omega (arith, low, few))
 
--- a log that starts at 0
-module _ (m : Scheme) (log : Log) (bound : Option ℕ) (zero_start : log.start ≡ 0) where
+-- a log that starts within its list
+module _ (m : Scheme) (log : Log) (bound : Option ℕ) (start : log.start ≤ length log.list) where
   abbrev found : Found
   found = found_in m log
 
   counted : found.start + length found.items ≡ length log.list
-  counted =
-      ap (λ n. n + length (map (λ (op : Operation). Some op) (drop n log.list))) zero_start ∙ omega (arith, length-map log.list (λ (op : Operation). Some op))
+  counted = omega (arith, start, length-map (drop log.start log.list) (λ (op : Operation). Some op), length-drop log.start log.list)
 
   pub opens-within : (size : ℕ) → opening (layout_of m) found bound ≡ opens size → size ≤ length log.list
   opens-within size is = by (selected found bound) (accepted _ _ size is).1 (selected-within found bound)
     where
-      by : (at : Option Selected) → size_of at ≡ size → IsWithin (found.start + length found.items) at → size ≤ length log.list
+      by : (at : Option Selected) → size_of at ≡ size → IsWithin found.start (found.start + length found.items) at → size ≤ length log.list
       by None e within = omega (arith, e)
       by (Some c) e within = let low = within.1 in omega (arith, e, low, counted)
+
+  -- a commit stands at or behind the start
+  pub opens-behind : (n : ℕ) → opening (layout_of m) found bound ≡ opens (suc n) → log.start ≤ suc n
+  opens-behind n is = by (selected found bound) (accepted _ _ (suc n) is).1 (selected-within found bound)
+    where
+      by : (at : Option Selected) → size_of at ≡ suc n → IsWithin found.start (found.start + length found.items) at → log.start ≤ suc n
+      by None e within = absurd (omega (arith, e))
+      by (Some c) e within = let past = within.0 in omega (arith, e, past)
 
   pub opens-none : opening (layout_of m) found bound ≡ opens 0 → log.list ≡ []
   opens-none is = by (selected found bound) refl (accepted _ _ 0 is).1 (selected-within found bound)
@@ -85,7 +94,7 @@ module _ (m : Scheme) (log : Log) (bound : Option ℕ) (zero_start : log.start �
           ends : (a b : ℕ) → (a == 0 && b == 0) ≡ true → a + b ≡ 0
           ends a b e = let zeros = both (a == 0) (b == 0) e in omega (arith, eqb-true a 0 zeros.0, eqb-true b 0 zeros.1)
 
-      by : (at : Option Selected) → selected found bound ≡ at → size_of at ≡ 0 → IsWithin (found.start + length found.items) at → log.list ≡ []
+      by : (at : Option Selected) → selected found bound ≡ at → size_of at ≡ 0 → IsWithin found.start (found.start + length found.items) at → log.list ≡ []
       by None e none within =
           empty (is_empty found) refl (subst (λ at. option_map DataCorrupted (commit_refusal (is_empty found) at) ≡ None) e (none-at (checks (layout_of m) found bound) 3 (accepted _ _ 0 is).0))
       by (Some c) e none within = let some = within.0 in absurd (omega (arith, some, none))

@@ -10,7 +10,7 @@ use Rattle.qm_model.specs.Batches.{Chain, commitment, fits}
 use Rattle.qm_model.specs.Refused.{StaleBatch, SlotCount}
 use Rattle.qm_model.specs.Refusals.{tip_refusal}
 use Rattle.qm_model.specs.Step.{Kind, step}
-use Rattle.qm_machine.specs.Lines.{Line, Open, Batch, Child, Tip, Put, Del, Merkleize, Stage, Expand, Resolve, Apply, Ops, Get, Many, Next, Prev, Span, All, Range, Keys, Info, BatchInfo, Root, BatchRoot, BatchProof, Meta, Prove, Pins, Commit, Sync, Close, Destroy, Crash}
+use Rattle.qm_machine.specs.Lines.{Line, Open, Batch, Child, Tip, Put, Del, Merkleize, Stage, Expand, Resolve, Apply, Ops, Get, Many, Next, Prev, Span, All, Range, Keys, Info, BatchInfo, Root, BatchRoot, BatchProof, Meta, Prove, Pins, Current, Prune, Commit, Sync, Close, Destroy, Crash}
 use Rattle.qm_machine.specs.Machine.{Scheme, kind_of, choices_after, State, Slot, gone, writing, staged, merkleized, slot_at, with_slot, with_database, refuse, merkleize_tip, merkleize_writes, merkleize_in, merkleize, resolve_in, resolve, turn}
 
 -- a line with its policy under this name
@@ -43,6 +43,8 @@ relabelled f (BatchProof h) = BatchProof h
 relabelled f Meta = Meta
 relabelled f (Prove size start max) = Prove size start max
 relabelled f (Pins n) = Pins n
+relabelled f (Current question) = Current question
+relabelled f (Prune to) = Prune to
 relabelled f Commit = Commit
 relabelled f Sync = Sync
 relabelled f Close = Close
@@ -79,6 +81,8 @@ choices-relabelled f (BatchProof h) choices = refl
 choices-relabelled f Meta choices = refl
 choices-relabelled f (Prove size start max) choices = refl
 choices-relabelled f (Pins n) choices = refl
+choices-relabelled f (Current question) choices = refl
+choices-relabelled f (Prune to) choices = refl
 choices-relabelled f Commit choices = refl
 choices-relabelled f Sync choices = refl
 choices-relabelled f Close choices = refl
@@ -148,6 +152,8 @@ module _ {P Q : Type 0} (f : P → Q) (a : Rules P) (b : Rules Q)
   turn_relabelled s Meta = refl
   turn_relabelled s (Prove size start max) = refl
   turn_relabelled s (Pins n) = refl
+  turn_relabelled s (Current question) = refl
+  turn_relabelled s (Prune to) = refl
   turn_relabelled s Commit = refl
   turn_relabelled s Sync = refl
   turn_relabelled s Close = refl

@@ -1,6 +1,6 @@
 -- Runs of the machine: one command more, and lists that a run has had stay so.
-use Rattle.std.proofs.Common.{◌≡◌, ℕ, drop, Bool, true, false, cond, List, [], ◌∷◌, ◌++◌, Option, Some, None, refl, ap}
-use Rattle.std.specs.Prelude.{Contains, length, ◌==◌}
+use Rattle.std.proofs.Common.{◌≡◌, ℕ, Bool, true, false, cond, List, [], ◌∷◌, ◌++◌, Option, Some, None, refl, ap}
+use Rattle.std.specs.Prelude.{Contains, length, nat_lt, ◌==◌}
 use Rattle.qm_model.specs.Operations.{Bytes, Operation}
 use Rattle.qm_model.specs.Opening.{Opening, refuses, opens, opening, opened_list}
 use Rattle.qm_model.specs.Walk.{Rules}
@@ -8,11 +8,12 @@ use Rattle.qm_model.specs.Writes.{Write}
 use Rattle.qm_model.specs.Slots.{slotted}
 use Rattle.qm_model.specs.Slots as slots
 use Rattle.qm_model.specs.Batches.{Chain, Apart, commitment, fits, readable}
-use Rattle.qm_machine.specs.Lines.{Line, Open, Batch, Child, Tip, Put, Del, Merkleize, Stage, Expand, Resolve, Apply, Ops, Get, Many, Next, Prev, Span, All, Range, Keys, Info, BatchInfo, Root, BatchRoot, BatchProof, Meta, Prove, Pins, Commit, Sync, Close, Destroy, Crash, Answer}
+use Rattle.qm_machine.specs.Lines.{Line, Open, Batch, Child, Tip, Put, Del, Merkleize, Stage, Expand, Resolve, Apply, Ops, Get, Many, Next, Prev, Span, All, Range, Keys, Info, BatchInfo, Root, BatchRoot, BatchProof, Meta, Prove, Pins, Current, Prune, Commit, Sync, Close, Destroy, Crash, Answer}
 use Rattle.qm_model.specs.Refused.{Refused}
-use Rattle.qm_machine.specs.Machine.{Scheme, State, Slot, choices_after, gone, writing, staged, merkleized, turn, answers, state_after, slot_at, start_child, put_in, list_operations, with_database, opened_as, found_in, layout_of, closed, unless, merkleize_tip, merkleize_writes, merkleize_in, resolve_in, apply_in, if_readable, if_staged, stage_in, expand_in, read_in, read, if_ordered, beside_in, beside_of, info_in, root_in, proof_in}
+use Rattle.qm_machine.specs.Machine.{Scheme, State, Slot, choices_after, gone, writing, staged, merkleized, turn, answers, state_after, slot_at, start_child, put_in, list_operations, with_database, opened_as, found_in, layout_of, closed, unless, merkleize_tip, merkleize_writes, merkleize_in, resolve_in, apply_in, if_readable, if_staged, stage_in, expand_in, read_in, read, if_ordered, beside_in, beside_of, info_in, root_in, proof_in, prune_in}
+use Rattle.qm_machine.specs.Held.{pins_lacked, proof_lacked}
 use Rattle.qm_model.specs.Ranges.{key_above, key_below}
-use Rattle.qm_model.specs.Refusals.{tip_refusal, proof_refusal, pins_refusal}
+use Rattle.qm_model.specs.Refusals.{tip_refusal, proof_refusal}
 use Rattle.qm_model.proofs.Chains.{Contains-more}
 
 pub state_after-push : (m : Scheme) {P : Type 0} (rules : Rules P) (s : State) (lines : List (Line P)) (line : Line P) → state_after m rules s (lines ++ line ∷ []) ≡ (turn m rules (state_after m rules s lines) line).1
@@ -129,7 +130,10 @@ module _ (m : Scheme) where
   proof_keeps s h list gone = (λ x a. a, refl)
   proof_keeps s h list (staged chain parent ws keys) = (λ x a. a, refl)
   proof_keeps s h list (writing chain parent ws) = (λ x a. a, refl)
-  proof_keeps s h list (merkleized chain tip) = readable_keeps s list chain tip _
+  proof_keeps s h list (merkleized chain tip) = either s (readable m.root (commitment m.root list) chain tip) _ _ (unless_keeps s (proof_lacked m.shape s.log.start list chain tip) _) (λ x a. a, refl)
+
+  prune_keeps : (s : State) (to : ℕ) (list : List Operation) → Keeps s (prune_in m s to list)
+  prune_keeps s to list = either s (nat_lt (m.boundary list) to) _ _ (λ x a. a, refl) (λ x a. a, refl)
 
 module _ (m : Scheme) {P : Type 0} (rules : Rules P) where
   writes_keep : (s : State) (h : ℕ) (policy : P) (meta : Option Bytes) (list : List Operation) (chain : Chain) (ws : List Write) → Keeps s (merkleize_writes m rules s h policy meta list chain ws)
@@ -179,7 +183,9 @@ module _ (m : Scheme) {P : Type 0} (rules : Rules P) where
   turn_keeps s (BatchProof h) = with_list s s.database _ (λ list. proof_keeps m s h list (slot_at s.table h))
   turn_keeps s Meta = with_list s s.database _ (λ list. (λ x a. a, refl))
   turn_keeps s (Prove size start max) = with_list s s.database _ (λ list. unless_keeps s (proof_refusal s.log.start list size start) _)
-  turn_keeps s (Pins n) = with_list s s.database _ (λ list. unless_keeps s (pins_refusal list n) _)
+  turn_keeps s (Pins n) = with_list s s.database _ (λ list. unless_keeps s (pins_lacked m.shape s.log.start list n) _)
+  turn_keeps s (Current question) = (λ x a. a, refl)
+  turn_keeps s (Prune to) = with_list s s.database _ (λ list. prune_keeps m s to list)
   turn_keeps s Commit = with_list s s.database _ (λ list. (λ x a. a, refl))
   turn_keeps s Sync = with_list s s.database _ (λ list. (λ x a. a, refl))
   turn_keeps s Close = with_list s s.database _ (λ list. (λ x a. a, refl))

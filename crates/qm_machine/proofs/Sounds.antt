@@ -1,13 +1,12 @@
 -- Every command keeps a run over an own store sound.
-use Rattle.std.proofs.Common.{◌≡◌, ◌⊎◌, inl, inr, ℕ, suc, zero, ◌+◌, ◌<◌, ◌≤◌, Bool, true, false, cond, List, [], ◌∷◌, ◌++◌, length, take, drop, get_or, set, Option, Some, None, refl, sym, ap, ◌∙◌, subst, arith, le_refl, take_all, length-take-le, append_assoc}
-use Rattle.std.specs.Prelude.{Contains, All, ◌==◌, min, max, nat_lt, ◌^◌, map, option_map, drop, ◌-◌}
+use Rattle.std.proofs.Common.{◌≡◌, ◌⊎◌, inl, inr, ℕ, suc, zero, ◌+◌, ◌≤◌, Bool, true, false, cond, List, [], ◌∷◌, ◌++◌, length, take, drop, get_or, set, Option, Some, None, refl, sym, ap, ◌∙◌, subst, arith, le_refl, length-take-le, append_assoc}
+use Rattle.std.specs.Prelude.{Contains, All, ◌==◌, min, max, nat_lt, ◌^◌, map, drop}
 use Rattle.std.specs.Option.{option_or}
-use Rattle.std.specs.List.{concat}
 use Rattle.std.proofs.Math.Seq.{take-length, take-append_seam}
 use Rattle.std.proofs.Math.Nat.{le_trans}
 use Rattle.std.proofs.lemmas.Bool.{ltb-false}
 use Rattle.std.proofs.lemmas.List.{length-map, length-drop}
-use Rattle.std.proofs.lemmas.List.Elements.{All-nil, All-take, All-from_recursion}
+use Rattle.std.proofs.lemmas.List.Elements.{All-nil}
 use Rattle.qm_model.specs.Operations.{Bytes, Operation, fresh, IsCommitEnded}
 use Rattle.qm_model.specs.Forms.{Form, IsOf, spelling}
 use Rattle.qm_model.specs.Live.{floor}
@@ -17,22 +16,24 @@ use Rattle.qm_model.specs.Slots.{slotted}
 use Rattle.qm_model.specs.Slots as slots
 use Rattle.qm_model.specs.Ordered.{IsRing}
 use Rattle.qm_model.specs.Step.{Kind, Made, IsGood, first, next, step, ordered, unordered}
-use Rattle.qm_model.specs.Batches.{Chain, Apart, IsAmong, IsRising, Begins, commitment, fits, readable, begun_on, child_of}
-use Rattle.qm_model.specs.Own.{Engine, Log, no_log, taken_up, left_at, any_engine, IsKept, IsPartMade, IsOwn, Takes, OpensParts, head_of, settled_list, ended_part}
+use Rattle.qm_model.specs.Batches.{Chain, Apart, IsAmong, IsRising, Begins, commitment, fits, readable}
+use Rattle.qm_model.specs.Own.{Log, no_log, left_at, any_engine, IsKept, IsOwn, Takes, OpensParts, head_of, settled_list, ended_size, ended_part}
 use Rattle.qm_model.specs.StoreModel.{Stored, IsImage}
 use Rattle.qm_model.specs.StoreModel as stores
 use Rattle.qm_model.specs.Opening.{Opening, refuses, opens, opening, opened_list}
 use Rattle.qm_model.specs.Ranges.{key_above, key_below}
 use Rattle.qm_model.specs.Refused.{Refused, Merkle, LocationOverflow}
-use Rattle.qm_model.specs.Refusals.{tip_refusal, proof_refusal, pins_refusal, too_long, too_many}
+use Rattle.qm_model.specs.Refusals.{tip_refusal, proof_refusal, too_many}
 use Rattle.qm_model.proofs.Chains.{Contains-more, Contains-first, IsAmong-more, begun-among, child-among, take-least, Begins-self, Begins-length, Begins-through, begun-rising, child-rising, known-begins, on_chain-fits}
 use Rattle.qm_model.proofs.Steps as steps
 use Rattle.qm_model.proofs.OrderedSteps.{made-ordered}
 use Rattle.qm_model.proofs.Prefixes.{unordered-begins, ordered-begins}
 use Rattle.qm_model.proofs.Openings.{unordered-takes, ordered-takes, unordered-image, ordered-image}
-use Rattle.qm_machine.specs.Lines.{Line, Open, Batch, Child, Tip, Put, Del, Merkleize, Stage, Expand, Resolve, Apply, Ops, Get, Many, Next, Prev, Span, Range, Keys, Info, BatchInfo, Root, BatchRoot, BatchProof, Meta, Prove, Pins, Commit, Sync, Close, Destroy, Crash, Answer}
+use Rattle.qm_machine.specs.Lines.{Line, Open, Batch, Child, Tip, Put, Del, Merkleize, Stage, Expand, Resolve, Apply, Ops, Get, Many, Next, Prev, Span, Range, Keys, Info, BatchInfo, Root, BatchRoot, BatchProof, Meta, Prove, Pins, Current, Prune, Commit, Sync, Close, Destroy, Crash, Answer}
 use Rattle.qm_machine.specs.Lines as lines
-use Rattle.qm_machine.specs.Machine.{Scheme, State, Slot, gone, writing, staged, merkleized, turn, slot_at, with_slot, initial, started, start_child, put_in, list_operations, with_database, closed, settled, commit, restarted, opened_as, kind_of, engine_of, layout_of, found_in, unless, merkleize_tip, merkleize_writes, merkleize_in, resolve_in, apply_in, if_readable, if_staged, stage_in, expand_in, read_in, read, if_ordered, beside_in, beside_of, info_in, root_in, proof_in}
+use Rattle.qm_machine.specs.Machine.{Scheme, State, Slot, gone, writing, staged, merkleized, turn, slot_at, with_slot, initial, started, start_child, put_in, list_operations, with_database, closed, settled, commit, restarted, opened_as, kind_of, engine_of, layout_of, found_in, unless, merkleize_tip, merkleize_writes, merkleize_in, resolve_in, apply_in, if_readable, if_staged, stage_in, expand_in, read_in, read, if_ordered, beside_in, beside_of, info_in, root_in, proof_in, pruned, prune_in}
+use Rattle.qm_machine.specs.Held.{pins_lacked, proof_lacked}
+use Rattle.qm_machine.proofs.Endings.{ended-part, ended-whole}
 use Rattle.qm_machine.specs.Sound.{IsSoundSlot, IsSteady, IsSound}
 
 -- Slots.
@@ -78,7 +79,17 @@ few-enough n is = by (nat_lt (2 ^ 62) n) refl is
 short-tip : (form : Form) (chain : Chain) (tip : List Operation) → tip_refusal form chain tip ≡ None → length tip ≤ 2 ^ 62
 short-tip form chain tip none = few-enough (length tip) (behind-none _ (too_many (length tip)) none)
 
+-- what steps made is no longer than a list may be
+made-few : {P : Type 0} (kind : Kind) (rules : Rules P) (ops : List Operation) → Made kind rules ops → length ops ≤ 2 ^ 62
+made-few kind rules ops first = omega arith
+made-few kind rules ops (next before ws policy meta made few) = few
+
 -- Logs.
+
+take-begins : (n : ℕ) (list : List Operation) → Begins (take n list) list
+take-begins zero list = refl
+take-begins (suc n) [] = refl
+take-begins (suc n) (op ∷ list) = ap (λ ops. op ∷ ops) (take-begins n list)
 
 module _ (m : Scheme) {P : Type 0} (rules : Rules P) where
   -- an opening takes up a beginning, whichever kind of database it is
@@ -89,13 +100,28 @@ module _ (m : Scheme) {P : Type 0} (rules : Rules P) where
       by true = ordered-takes rules m.hash m.form m.shape m.digest_size
       by false = unordered-takes rules m.hash m.form m.shape m.digest_size
 
-  -- a commit-ended beginning of a made list is one
-  begins-made : (prefix ops : List Operation) → Made (kind_of m) rules ops → Begins prefix ops → IsCommitEnded prefix → Made (kind_of m) rules prefix
+  -- a commit-ended beginning of a made list is one, and its floor is not above the list's
+  begins-made : (prefix ops : List Operation) → Made (kind_of m) rules ops → Begins prefix ops → IsCommitEnded prefix → Made (kind_of m) rules prefix × (floor prefix ≤ floor ops)
   begins-made = by m.form.ordered
     where
-      by : (b : Bool) (prefix ops : List Operation) → Made (cond b ordered unordered) rules ops → Begins prefix ops → IsCommitEnded prefix → Made (cond b ordered unordered) rules prefix
-      by true prefix ops made begins ended = (ordered-begins rules prefix ops made begins ended).0
-      by false prefix ops made begins ended = (unordered-begins rules prefix ops made begins ended).0
+      by : (b : Bool) (prefix ops : List Operation) → Made (cond b ordered unordered) rules ops → Begins prefix ops → IsCommitEnded prefix → Made (cond b ordered unordered) rules prefix × (floor prefix ≤ floor ops)
+      by true = ordered-begins rules
+      by false = unordered-begins rules
+
+  -- a made list is good, and that of an ordered database is a ring
+  pub made-good : (list : List Operation) → Made (kind_of m) rules list → IsGood list
+  made-good list = by m.form.ordered
+    where
+      by : (b : Bool) → Made (cond b ordered unordered) rules list → IsGood list
+      by true made = (made-ordered rules list made).good
+      by false made = steps.made-good rules list made
+
+  pub made-ring : (list : List Operation) → m.form.ordered ≡ true → Made (kind_of m) rules list → IsRing list
+  made-ring list is = by m.form.ordered is
+    where
+      by : (b : Bool) → b ≡ true → Made (cond b ordered unordered) rules list → IsRing list
+      by true e made = (made-ordered rules list made).ring
+      by false e made = absurd (cc)
 
   -- the same log but for the count of pruned chunks, at which an any database doesn't look
   abbrev counted : ℕ → Log → Log
@@ -142,6 +168,43 @@ module _ (m : Scheme) {P : Type 0} (rules : Rules P) where
   settled-kept log kept =
       subst (λ list. IsKept (engine_of m rules) (record log { list = list; stable = length log.list })) (take-length log.list)
       (left-kept log (length log.list) kept kept.stable (le_refl (length log.list)))
+
+  -- the start is not past what is stable
+  pub kept-low : (log : Log) → IsKept (engine_of m rules) log → log.start ≤ log.stable
+  kept-low log kept = by (ended-part whole)
+    where
+      whole : List Operation
+      whole = take log.stable log.list
+
+      begins : Begins whole kept.made.whole
+      begins = Begins-through whole log.list kept.made.whole (take-begins log.stable log.list) kept.made.begins
+
+      by : (ended_size whole ≡ 0) ⊎ ((ended_size whole ≤ length whole) × IsCommitEnded (ended_part whole)) → log.start ≤ log.stable
+      by (inl none) =
+          let start = kept.start in
+          let low : floor (ended_part whole) ≡ 0 = ap (λ n. floor (take n whole)) none in
+          omega (arith, start, low)
+      by (inr (short, ended)) =
+          let part = Begins-through (ended_part whole) whole kept.made.whole (take-begins (ended_size whole) whole) begins in
+          let good = made-good (ended_part whole) (begins-made (ended_part whole) kept.made.whole kept.made.made part ended).0 in
+          let start = kept.start in
+          let inside = good.floor_within in
+          omega (arith, start, inside, short, length-take-le (ended_size whole) whole short, length-take-le log.stable log.list kept.stable)
+
+  -- a prune of a made list to its floor at most
+  pub pruned-kept : (log : Log) (to : ℕ) → IsKept (engine_of m rules) log → Made (kind_of m) rules log.list → to ≤ floor log.list → IsKept (engine_of m rules) (pruned to log)
+  pruned-kept log to kept made low = record {
+    made = settled_is.made;
+    start = let start = settled_is.start in omega (arith, start, whole, low);
+    stable = settled_is.stable;
+    chunks = tt;
+  }
+    where
+      settled_is : IsKept (engine_of m rules) (settled log)
+      settled_is = settled-kept log kept
+
+      whole : floor (settled_list (settled log)) ≡ floor log.list
+      whole = ap (λ list. floor (ended_part list)) (take-length log.list) ∙ ap floor (ended-whole log.list (made-good log.list made).commit_ended)
 
   -- a crash that chose an end
   pub restarted-kept : (chosen : ℕ) (log : Log) → IsKept (engine_of m rules) log → IsKept (engine_of m rules) (restarted chosen log)
@@ -221,23 +284,15 @@ module _ (m : Scheme) {P : Type 0} (rules : Rules P) where
   opened-made s bound size is e = let takes : Takes (engine_of m rules) s.log bound size = opens-parts s.log bound size is.kept e in by takes.part takes.ended
     where
       by : Begins (opened_list size s.log.list) s.log.list ⊎ ((s.log.list ≡ []) × (opened_list size s.log.list ≡ fresh)) → IsCommitEnded (opened_list size s.log.list) → Made (kind_of m) rules (opened_list size s.log.list)
-      by (inl begins) ended = begins-made (opened_list size s.log.list) is.kept.made.whole is.kept.made.made (Begins-through (opened_list size s.log.list) s.log.list is.kept.made.whole begins is.kept.made.begins) ended
+      by (inl begins) ended = (begins-made (opened_list size s.log.list) is.kept.made.whole is.kept.made.made (Begins-through (opened_list size s.log.list) s.log.list is.kept.made.whole begins is.kept.made.begins) ended).0
       by (inr none) ended = subst (Made (kind_of m) rules) (sym none.1) first
 
-  -- a made list is good, and that of an ordered database is a ring
-  pub made-good : (list : List Operation) → Made (kind_of m) rules list → IsGood list
-  made-good list = by m.form.ordered
-    where
-      by : (b : Bool) → Made (cond b ordered unordered) rules list → IsGood list
-      by true made = (made-ordered rules list made).good
-      by false made = steps.made-good rules list made
-
-  pub made-ring : (list : List Operation) → m.form.ordered ≡ true → Made (kind_of m) rules list → IsRing list
-  made-ring list is = by m.form.ordered is
-    where
-      by : (b : Bool) → b ≡ true → Made (cond b ordered unordered) rules list → IsRing list
-      by true e made = (made-ordered rules list made).ring
-      by false e made = absurd (cc)
+  -- and not of a lower floor than the start
+  opened-low : (s : State) → IsSound m rules s → (bound : Option ℕ) (size : ℕ) → opening (layout_of m) (found_in m s.log) bound ≡ opens size → s.log.start ≤ floor (opened_list size s.log.list)
+  opened-low s is bound size e =
+      let takes : Takes (engine_of m rules) s.log bound size = opens-parts s.log bound size is.kept e in
+      let list = opened_list size s.log.list in
+      subst (λ ops. s.log.start ≤ floor ops) (ap ended_part (take-length list) ∙ ended-whole list takes.ended) takes.kept.start
 
   -- what a command has to know
   pub sound-steady : (s : State) → IsSound m rules s → IsSteady m s
@@ -245,7 +300,11 @@ module _ (m : Scheme) {P : Type 0} (rules : Rules P) where
     of_form = is.kept.made.of_form;
     good = λ bound size e. made-good (opened_list size s.log.list) (opened-made s bound size is e);
     ring = λ bound size e ordered_form. made-ring (opened_list size s.log.list) ordered_form (opened-made s bound size is e);
+    low = opened-low s is;
+    few = le_trans (Begins-length s.log.list is.kept.made.whole is.kept.made.begins) (made-few (kind_of m) rules is.kept.made.whole is.kept.made.made);
     held = is.held;
+    within = λ list open_here. (made-good list (is.made list (is.held list open_here).1)).floor_within;
+    floors = λ older newer old new begins. (begins-made older newer (is.made newer new) begins (made-good older (is.made older old)).commit_ended).1;
     slots = is.slots;
   }
 
@@ -331,7 +390,8 @@ module _ (m : Scheme) {P : Type 0} (rules : Rules P) where
   root_sound s h (writing chain parent ws) is = (λ apart formed. is)
 
   proof_sound : (s : State) (h : ℕ) (list : List Operation) (slot : Slot) → IsSound m rules s → Sound (proof_in m s h list slot)
-  proof_sound s h list (merkleized chain tip) is = readable_sound s list chain tip _ is
+  proof_sound s h list (merkleized chain tip) is =
+      either (readable m.root (commitment m.root list) chain tip) _ _ (λ yes. unless_due s (proof_lacked m.shape s.log.start list chain tip) _ is) (λ not. (λ apart formed. is))
   proof_sound s h list gone is = (λ apart formed. is)
   proof_sound s h list (staged chain parent ws keys) is = (λ apart formed. is)
   proof_sound s h list (writing chain parent ws) is = (λ apart formed. is)
@@ -386,40 +446,57 @@ module _ (m : Scheme) {P : Type 0} (rules : Rules P) where
   commit_sound : (s : State) → IsSound m rules s → Sound (commit s)
   commit_sound s is = with_list s s.database _ is (λ list e apart formed. record { kept = settled-kept s.log is.kept; held = is.held; made = is.made; slots = is.slots })
 
-  pub turn-sound : (s : State) (line : Line P) → IsSound m rules s → Sound (turn m rules s line)
-  turn-sound s (Open bound) is = opened_sound s bound (opening (layout_of m) (found_in m s.log) bound) refl is
-  turn-sound s Batch is = with_list s s.database _ is (λ list e. started_sound s _ (begun-among s.had list (is.held list e).1, begun-rising list) is)
-  turn-sound s (Child h keep) is = child_sound s h keep (slot_at s.table h) (is.slots h) is
-  turn-sound s Tip is = with_list s s.database _ is (λ list e. started_sound s _ (begun-among s.had list (is.held list e).1, begun-rising list, (is.held list e).1, Begins-self list) is)
-  turn-sound s (Put h key value) is = put_sound s h _ (slot_at s.table h) (is.slots h) is
-  turn-sound s (Del h key) is = put_sound s h _ (slot_at s.table h) (is.slots h) is
-  turn-sound s (Merkleize h policy meta) is = with_list s s.database _ is (λ list e. merkleize_sound s h policy meta list (slot_at s.table h) (is.slots h) is)
-  turn-sound s (Stage h keys) is = with_list s s.database _ is (λ list e. stage_sound s h keys list (slot_at s.table h) (is.slots h) is)
-  turn-sound s (Expand h keys) is = with_list s s.database _ is (λ list e. expand_sound s h keys list (slot_at s.table h) (is.slots h) is)
-  turn-sound s (Resolve h policy meta given others) is = with_list s s.database _ is (λ list e. resolve_sound s h policy meta given others list (slot_at s.table h) (is.slots h) is)
-  turn-sound s (Apply h) is = with_list s s.database _ is (λ list e. apply_sound s h list (slot_at s.table h) e (is.slots h) is)
-  turn-sound s (Ops h) is = listed_sound s h (slot_at s.table h) is
-  turn-sound s (Get key from) is = read_sound s (key ∷ []) from is
-  turn-sound s (Many keys from) is = read_sound s keys from is
-  turn-sound s (Next key from) is = ordered_only s _ is (beside_sound s (λ keys. key_above keys key) from is)
-  turn-sound s (Prev key from) is = ordered_only s _ is (beside_sound s (λ keys. key_below keys key) from is)
-  turn-sound s (Span key) is = ordered_only s _ is (with_list s s.database _ is (λ list e. (λ apart formed. is)))
-  turn-sound s (lines.All key) is = ordered_only s _ is (with_list s s.database _ is (λ list e. (λ apart formed. is)))
-  turn-sound s (Range low high) is = ordered_only s _ is (with_list s s.database _ is (λ list e. (λ apart formed. is)))
-  turn-sound s (Keys low high) is = ordered_only s _ is (with_list s s.database _ is (λ list e. (λ apart formed. is)))
-  turn-sound s Info is = with_list s s.database _ is (λ list e. (λ apart formed. is))
-  turn-sound s (BatchInfo h) is = info_sound s h (slot_at s.table h) is
-  turn-sound s Root is = with_list s s.database _ is (λ list e. (λ apart formed. is))
-  turn-sound s (BatchRoot h) is = root_sound s h (slot_at s.table h) is
-  turn-sound s (BatchProof h) is = with_list s s.database _ is (λ list e. proof_sound s h list (slot_at s.table h) is)
-  turn-sound s Meta is = with_list s s.database _ is (λ list e. (λ apart formed. is))
-  turn-sound s (Prove size start count) is = with_list s s.database _ is (λ list e. unless_due s (proof_refusal s.log.start list size start) _ is)
-  turn-sound s (Pins n) is = with_list s s.database _ is (λ list e. unless_due s (pins_refusal list n) _ is)
-  turn-sound s Commit is = commit_sound s is
-  turn-sound s Sync is = commit_sound s is
-  turn-sound s Close is = with_list s s.database _ is (λ list e apart formed. closed_sound s s.log s.choices is.kept is)
-  turn-sound s Destroy is = with_list s s.database _ is (λ list e apart formed. closed_sound s no_log s.choices empty-kept is)
-  turn-sound s (Crash keep) is = λ apart formed. closed_sound s _ _ (restarted-kept _ s.log is.kept) is
+  prune_sound : ((list : List Operation) → m.boundary list ≤ floor list) → (s : State) (to : ℕ) (list : List Operation) → s.database ≡ Some list → IsSound m rules s → Sound (prune_in m s to list)
+  prune_sound low s to list e is = either (nat_lt (m.boundary list) to) _ _ (λ past apart formed. is) done
+    where
+      done : nat_lt (m.boundary list) to ≡ false → Sound (lines.Done, record s { log = pruned to s.log })
+      done within apart formed =
+          let held = is.held list e in
+          let below = le_trans (ltb-false (m.boundary list) to within) (low list) in
+          record {
+            kept = pruned-kept s.log to is.kept (subst (Made (kind_of m) rules) (sym held.0) (is.made list held.1)) (subst (λ ops. to ≤ floor ops) (sym held.0) below);
+            held = is.held;
+            made = is.made;
+            slots = is.slots;
+          }
+
+  -- where no list's boundary is above its floor
+  pub turn-sound : (low : (list : List Operation) → m.boundary list ≤ floor list) (s : State) (line : Line P) → IsSound m rules s → Sound (turn m rules s line)
+  turn-sound below s (Open bound) is = opened_sound s bound (opening (layout_of m) (found_in m s.log) bound) refl is
+  turn-sound below s Batch is = with_list s s.database _ is (λ list e. started_sound s _ (begun-among s.had list (is.held list e).1, begun-rising list) is)
+  turn-sound below s (Child h keep) is = child_sound s h keep (slot_at s.table h) (is.slots h) is
+  turn-sound below s Tip is = with_list s s.database _ is (λ list e. started_sound s _ (begun-among s.had list (is.held list e).1, begun-rising list, (is.held list e).1, Begins-self list) is)
+  turn-sound below s (Put h key value) is = put_sound s h _ (slot_at s.table h) (is.slots h) is
+  turn-sound below s (Del h key) is = put_sound s h _ (slot_at s.table h) (is.slots h) is
+  turn-sound below s (Merkleize h policy meta) is = with_list s s.database _ is (λ list e. merkleize_sound s h policy meta list (slot_at s.table h) (is.slots h) is)
+  turn-sound below s (Stage h keys) is = with_list s s.database _ is (λ list e. stage_sound s h keys list (slot_at s.table h) (is.slots h) is)
+  turn-sound below s (Expand h keys) is = with_list s s.database _ is (λ list e. expand_sound s h keys list (slot_at s.table h) (is.slots h) is)
+  turn-sound below s (Resolve h policy meta given others) is = with_list s s.database _ is (λ list e. resolve_sound s h policy meta given others list (slot_at s.table h) (is.slots h) is)
+  turn-sound below s (Apply h) is = with_list s s.database _ is (λ list e. apply_sound s h list (slot_at s.table h) e (is.slots h) is)
+  turn-sound below s (Ops h) is = listed_sound s h (slot_at s.table h) is
+  turn-sound below s (Get key from) is = read_sound s (key ∷ []) from is
+  turn-sound below s (Many keys from) is = read_sound s keys from is
+  turn-sound below s (Next key from) is = ordered_only s _ is (beside_sound s (λ keys. key_above keys key) from is)
+  turn-sound below s (Prev key from) is = ordered_only s _ is (beside_sound s (λ keys. key_below keys key) from is)
+  turn-sound below s (Span key) is = ordered_only s _ is (with_list s s.database _ is (λ list e. (λ apart formed. is)))
+  turn-sound below s (lines.All key) is = ordered_only s _ is (with_list s s.database _ is (λ list e. (λ apart formed. is)))
+  turn-sound below s (Range low high) is = ordered_only s _ is (with_list s s.database _ is (λ list e. (λ apart formed. is)))
+  turn-sound below s (Keys low high) is = ordered_only s _ is (with_list s s.database _ is (λ list e. (λ apart formed. is)))
+  turn-sound below s Info is = with_list s s.database _ is (λ list e. (λ apart formed. is))
+  turn-sound below s (BatchInfo h) is = info_sound s h (slot_at s.table h) is
+  turn-sound below s Root is = with_list s s.database _ is (λ list e. (λ apart formed. is))
+  turn-sound below s (BatchRoot h) is = root_sound s h (slot_at s.table h) is
+  turn-sound below s (BatchProof h) is = with_list s s.database _ is (λ list e. proof_sound s h list (slot_at s.table h) is)
+  turn-sound below s Meta is = with_list s s.database _ is (λ list e. (λ apart formed. is))
+  turn-sound below s (Prove size start count) is = with_list s s.database _ is (λ list e. unless_due s (proof_refusal s.log.start list size start) _ is)
+  turn-sound below s (Pins n) is = with_list s s.database _ is (λ list e. unless_due s (pins_lacked m.shape s.log.start list n) _ is)
+  turn-sound below s (Current question) is = (λ apart formed. is)
+  turn-sound below s (Prune to) is = with_list s s.database _ is (λ list e. prune_sound below s to list e is)
+  turn-sound below s Commit is = commit_sound s is
+  turn-sound below s Sync is = commit_sound s is
+  turn-sound below s Close is = with_list s s.database _ is (λ list e apart formed. closed_sound s s.log s.choices is.kept is)
+  turn-sound below s Destroy is = with_list s s.database _ is (λ list e apart formed. closed_sound s no_log s.choices empty-kept is)
+  turn-sound below s (Crash keep) is = λ apart formed. closed_sound s _ _ (restarted-kept _ s.log is.kept) is
 
   -- a run begins so
   pub initial-sound : (log : Log) (choices : List ℕ) → IsKept (engine_of m rules) log → IsSound m rules (initial log choices)

@@ -10,7 +10,7 @@ use Rattle.qm_model.specs.Walk.{Limits}
 use Rattle.qm_model.specs.Slots.{Slot, keep, put, away}
 use Rattle.qm_model.specs.Writes.{Write}
 use Rattle.qm_model.specs.Policies.{Policy, proportional, hold, bounded, rule}
-use Rattle.qm_machine.specs.Lines.{Line, Open, Batch, Child, Tip, Put, Del, Merkleize, Stage, Expand, Resolve, Apply, Ops, Get, Many, Next, Prev, Span, All, Range, Keys, Info, BatchInfo, Root, BatchRoot, BatchProof, Meta, Prove, Pins, Commit, Sync, Close, Destroy, Crash}
+use Rattle.qm_machine.specs.Lines.{Line, Open, Batch, Child, Tip, Put, Del, Merkleize, Stage, Expand, Resolve, Apply, Ops, Get, Many, Next, Prev, Span, All, Range, Keys, Info, BatchInfo, Root, BatchRoot, BatchProof, Meta, Prove, Pins, Current, Prune, Commit, Sync, Close, Destroy, Crash, Held, Absent, Chunks, Witness}
 
 -- the number with one decimal digit more, below 2 ^ 64
 abbrev pub next_digit : ℕ → ℕ → Option ℕ
@@ -281,15 +281,29 @@ abbrev pub range_of : (Limit → Limit → Line Policy) → List Bytes → Optio
 range_of line (a ∷ b ∷ []) = option_and_then (λ low. option_map (line low) (high_of b)) (low_of a)
 range_of line words = None
 
--- each command's name, and what the words behind it say: of those that make a store last, or end a database
+abbrev pub chunks_of : List Bytes → Option (Line Policy)
+chunks_of (a ∷ b ∷ []) = option_and_then (λ start. option_map (λ max. Current (Chunks start max)) (positive_of b)) (number_of a)
+chunks_of words = None
+
+-- each command's name, and what the words behind it say: of those that a current database offers
+abbrev pub current_forms : List (Bytes × (List Bytes → Option (Line Policy)))
+current_forms =
+    (codes "held", only_key (λ key. Current (Held key)))
+    ∷ (codes "absent", only_key (λ key. Current (Absent key)))
+    ∷ (codes "chunks", chunks_of)
+    ∷ (codes "witness", alone (Current Witness))
+    ∷ []
+
+-- of those that make a store last, or end a database
 abbrev pub lasting_forms : List (Bytes × (List Bytes → Option (Line Policy)))
 lasting_forms =
-    (codes "commit", alone Commit)
+    (codes "prune", numbered Prune)
+    ∷ (codes "commit", alone Commit)
     ∷ (codes "sync", alone Sync)
     ∷ (codes "close", alone Close)
     ∷ (codes "destroy", alone Destroy)
     ∷ (codes "crash", numbered Crash)
-    ∷ []
+    ∷ current_forms
 
 -- of all of them
 abbrev pub forms : List (Bytes × (List Bytes → Option (Line Policy)))

@@ -1,4 +1,5 @@
 pub mod Lines
+pub mod Held
 pub mod Machine
 pub mod Sound
 pub mod Grammar

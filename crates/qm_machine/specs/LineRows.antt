@@ -10,13 +10,14 @@ use Rattle.qm_model.specs.Mmr.{mmr, digits_below}
 use Rattle.qm_model.specs.Proofs.{ops_proof, pins_at}
 use Rattle.qm_model.specs.Policies.{Policy, policies, proportional, hold, bounded, rule}
 use Rattle.qm_model.specs.Ranges.{included, excluded, unlimited}
-use Rattle.qm_machine.specs.Lines.{Line, Open, Crash, Child, Put, Del, Merkleize, Get, Many, Next, Prev, Span, Range, Keys, Prove, Pins}
+use Rattle.qm_machine.specs.Lines.{Line, Open, Crash, Child, Put, Del, Merkleize, Get, Many, Next, Range, Keys, Prove, Pins, Current, Prune, Held, Absent, Chunks, Witness}
 use Rattle.qm_model.specs.Refused.{Merkle, LocationOverflow}
 use Rattle.qm_model.specs.Refusals.{too_many}
 use Rattle.qm_model.specs.Own.{no_log}
 use Rattle.qm_machine.specs.Machine.{Scheme, initial, answers}
 use Rattle.qm_machine.specs.Grammar.{line_of, commands_in, bad_in}
 use Rattle.qm_machine.specs.Text.{text_of}
+use lib.Count.{ones, ones_in}
 
 -- a hash that is the same of all bytes
 abbrev same : Bytes → Bytes
@@ -100,7 +101,7 @@ closed_text = refl
 -- proofs and pins, and their refusals
 proved_text : text (lines (codes "open" ∷ codes "batch" ∷ codes "put 1 6b 76" ∷ codes "merkleize 1 prop none" ∷ codes "apply 1" ∷ codes "prove 4 0 9" ∷ codes "prove 4 1 2" ∷ codes "prove 1 0 1" ∷ codes "prove 3 0 1" ∷ codes "prove 0 0 1" ∷ codes "prove 5 0 1" ∷ codes "prove 4 4 1" ∷ codes "pins 0" ∷ codes "pins 3" ∷ codes "pins 4" ∷ codes "pins 5" ∷ codes "meta" ∷ []))
     ≡ lines (codes "open 1 0 1" ∷ codes "batch 1" ∷ codes "ok" ∷ codes "merkleized 1 1 4 2" ∷ codes "applied 4" ∷ codes "proof 4 0 / C:none@0 U:6b=76 U:6b=76 C:none@2" ∷ codes "proof 4 0 002a 002a / U:6b=76 U:6b=76" ∷ codes "proof 1 0 / C:none@0" ∷ codes "refused HistoricalFloorPruned 3" ∷ codes "refused HistoricalFloorPruned 0" ∷ codes "refused Merkle RangeOutOfBounds 5" ∷ codes "refused Merkle RangeOutOfBounds 4" ∷ codes "pins" ∷ codes "pins 002a 002a" ∷ codes "pins 002a" ∷ codes "refused Merkle RangeOutOfBounds 5" ∷ codes "meta none" ∷ [])
-unfolding decode_pairs encode_with digits digits_below four_bytes eight_bytes
+unfolding decode_pairs encode_with digits digits_below four_bytes eight_bytes ones ones_in
 proved_text = refl
 
 -- proofs and pins of no database
@@ -128,7 +129,7 @@ kept_text = refl
 -- a batch's proof, numbers and root before it is applied, and what a number does not name
 batch_proof_text : forked (lines (codes "open" ∷ codes "batch" ∷ codes "put 1 6b 76" ∷ codes "child 1" ∷ codes "proof 1" ∷ codes "merkleize 1 prop none" ∷ codes "proof 1" ∷ codes "info 1" ∷ codes "root 1" ∷ codes "proof 2" ∷ codes "info 2" ∷ codes "root 2" ∷ codes "child 2" ∷ codes "get 6b from=2" ∷ []))
     ≡ lines (codes "open 1 0 1" ∷ codes "batch 1" ∷ codes "ok" ∷ codes "refused NoSuchHandle 1" ∷ codes "refused NoSuchHandle 1" ∷ codes "merkleized 1 1 4 2" ∷ codes "proof 4 0 002a / 002a" ∷ codes "info 1 4 2 2" ∷ codes "root 6b766b76 6b766b76" ∷ codes "refused NoSuchHandle 2" ∷ codes "refused NoSuchHandle 2" ∷ codes "refused NoSuchHandle 2" ∷ codes "refused NoSuchHandle 2" ∷ codes "refused NoSuchHandle 2" ∷ [])
-unfolding decode_pairs encode_with digits digits_below four_bytes eight_bytes
+unfolding decode_pairs encode_with digits digits_below four_bytes eight_bytes ones ones_in
 batch_proof_text = refl
 
 -- without a database
@@ -169,6 +170,29 @@ bounded_text : lasting (lines (settled_lines ++ codes "open max=0" ∷ codes "in
     ≡ lines (settled_replies ++ codes "refused InvalidInitializationBound" ∷ codes "refused NoDatabase" ∷ codes "open 2 0 4" ∷ codes "applied 7" ∷ codes "open 3 0 7" ∷ codes "ok" ∷ codes "open 4 0 1" ∷ codes "open 5 0 1" ∷ [])
 unfolding settled_lines settled_replies decode_pairs encode_with digits digits_below four_bytes eight_bytes
 bounded_text = refl
+
+-- pruned up to the boundary and no further, and what is refused below the start
+pruned_text : lasting (lines (settled_lines ++ codes "prune 4" ∷ codes "prune 3" ∷ codes "info" ∷ codes "get 6b" ∷ codes "get 6c" ∷ codes "prune 1" ∷ codes "info" ∷ codes "prove 7 0 1" ∷ codes "prove 3 0 1" ∷ codes "prove 7 7 1" ∷ codes "prove 7 2 9" ∷ codes "pins 1" ∷ codes "pins 8" ∷ codes "root 9" ∷ codes "open max=3" ∷ codes "open" ∷ codes "info" ∷ codes "commit" ∷ codes "crash 0" ∷ codes "open" ∷ codes "get 6b" ∷ []))
+    ≡ lines (settled_replies ++ codes "refused PruneBeyondMinRequired 4 3" ∷ codes "ok" ∷ codes "info 3 7 3 3 live" ∷ codes "read 76" ∷ codes "read 77" ∷ codes "ok" ∷ codes "info 3 7 3 3 live" ∷ codes "refused Journal ItemPruned 0" ∷ codes "refused Journal ItemPruned 2" ∷ codes "refused Merkle RangeOutOfBounds 7" ∷ codes "refused Journal ItemPruned 2" ∷ codes "refused Merkle ElementPruned 0" ∷ codes "refused Merkle RangeOutOfBounds 8" ∷ codes "refused NoSuchHandle 9" ∷ codes "refused DataCorrupted no retained commit" ∷ codes "open 2 3 7" ∷ codes "info 3 7 3 3 live" ∷ codes "ok" ∷ codes "ok" ∷ codes "open 3 3 7" ∷ codes "read 76" ∷ [])
+unfolding settled_lines settled_replies decode_pairs encode_with digits digits_below four_bytes eight_bytes ones ones_in
+pruned_text = refl
+
+-- nor is a batch proved whose pins were pruned
+pruned_proof_text : lasting (lines (codes "open" ∷ codes "batch" ∷ codes "put 1 6b 76" ∷ codes "merkleize 1 prop none" ∷ codes "apply 1" ∷ codes "proof 1" ∷ codes "prune 2" ∷ codes "proof 1" ∷ codes "pins 1" ∷ codes "pins 2" ∷ codes "child 1" ∷ codes "merkleize 2 prop none" ∷ codes "proof 2" ∷ []))
+    ≡ lines (codes "open 1 0 1" ∷ codes "batch 1" ∷ codes "ok" ∷ codes "merkleized 1 1 4 2" ∷ codes "applied 4" ∷ codes "proof 4 0 002a / 002a" ∷ codes "ok" ∷ codes "refused Merkle ElementPruned 0" ∷ codes "refused Merkle ElementPruned 0" ∷ codes "pins 002a" ∷ codes "batch 2" ∷ codes "merkleized 2 4 6 3" ∷ codes "proof 6 0 002a / 002a" ∷ [])
+unfolding decode_pairs encode_with digits digits_below four_bytes eight_bytes ones ones_in
+pruned_proof_text = refl
+
+-- a prune makes the list stable
+prune_settles : lasting (lines (codes "open" ∷ codes "batch" ∷ codes "put 1 6b 76" ∷ codes "merkleize 1 prop none" ∷ codes "apply 1" ∷ codes "prune 1" ∷ codes "batch" ∷ codes "merkleize 2 prop none" ∷ codes "apply 2" ∷ codes "crash 0" ∷ codes "open" ∷ codes "info" ∷ []))
+    ≡ lines (codes "open 1 0 1" ∷ codes "batch 1" ∷ codes "ok" ∷ codes "merkleized 1 1 4 2" ∷ codes "applied 4" ∷ codes "ok" ∷ codes "batch 2" ∷ codes "merkleized 2 4 6 3" ∷ codes "applied 6" ∷ codes "ok" ∷ codes "open 2 1 4" ∷ codes "info 1 4 2 2 live" ∷ [])
+unfolding decode_pairs encode_with digits digits_below four_bytes eight_bytes ones ones_in
+prune_settles = refl
+
+-- without a database, and of the fresh list
+prune_fresh : lasting (lines (codes "prune 0" ∷ codes "open" ∷ codes "prune 0" ∷ codes "prune 1" ∷ codes "info" ∷ [])) ≡ lines (codes "refused NoDatabase" ∷ codes "open 1 0 1" ∷ codes "ok" ∷ codes "refused PruneBeyondMinRequired 1 0" ∷ codes "info 0 1 0 0 empty" ∷ [])
+unfolding decode_pairs encode_with digits digits_below four_bytes eight_bytes ones ones_in
+prune_fresh = refl
 
 -- a destroyed store is opened as a fresh one; what is closed is there when it is opened again
 destroyed_text : lasting (lines (settled_lines ++ codes "close" ∷ codes "get 6b" ∷ codes "open" ∷ codes "get 6b" ∷ codes "destroy" ∷ codes "sync" ∷ codes "open" ∷ codes "info" ∷ []))
@@ -248,6 +272,29 @@ crash_alone = refl
 
 crash_keeping : line_of (codes "crash 0") ≡ Some (Crash 0)
 crash_keeping = refl
+
+pruned_to : line_of (codes "prune 3") ≡ Some (Prune 3)
+pruned_to = refl
+
+held_key : line_of (codes "held 61") ≡ Some (Current (Held (0x61 ∷ [])))
+unfolding decode_pairs
+held_key = refl
+
+absent_key : line_of (codes "absent 61") ≡ Some (Current (Absent (0x61 ∷ [])))
+unfolding decode_pairs
+absent_key = refl
+
+some_chunks : line_of (codes "chunks 0 4") ≡ Some (Current (Chunks 0 4))
+some_chunks = refl
+
+no_chunks : line_of (codes "chunks 0 0") ≡ None
+no_chunks = refl
+
+witness_alone : line_of (codes "witness") ≡ Some (Current Witness)
+witness_alone = refl
+
+witness_of_one : line_of (codes "witness 1") ≡ None
+witness_of_one = refl
 
 two_spaces : line_of (codes "apply  1") ≡ None
 two_spaces = refl
@@ -414,6 +461,12 @@ not_offered_text : text (lines (codes "next 61" ∷ codes "span 61" ∷ codes "o
     ≡ lines (codes "refused NotOffered" ∷ codes "refused NotOffered" ∷ codes "open 1 0 1" ∷ codes "refused NotOffered" ∷ codes "refused NotOffered" ∷ codes "refused NotOffered" ∷ codes "refused NotOffered" ∷ [])
 unfolding decode_pairs digits digits_below
 not_offered_text = refl
+
+-- nor what a current database alone does
+not_current_text : text (lines (codes "held 61" ∷ codes "absent 61" ∷ codes "chunks 0 4" ∷ codes "witness" ∷ codes "open" ∷ codes "held 61" ∷ codes "absent 61" ∷ codes "chunks 0 4" ∷ codes "witness" ∷ []))
+    ≡ lines (codes "refused NotOffered" ∷ codes "refused NotOffered" ∷ codes "refused NotOffered" ∷ codes "refused NotOffered" ∷ codes "open 1 0 1" ∷ codes "refused NotOffered" ∷ codes "refused NotOffered" ∷ codes "refused NotOffered" ∷ codes "refused NotOffered" ∷ [])
+unfolding decode_pairs digits digits_below
+not_current_text = refl
 
 -- without a database
 not_open_text : in_order (lines (codes "next 61" ∷ codes "next 61 from=9" ∷ codes "span 61" ∷ codes "keys * *" ∷ []))

@@ -8,6 +8,14 @@ use Rattle.qm_model.specs.Refused.{Refused}
 use Rattle.qm_model.specs.Slots.{Slot}
 use Rattle.qm_model.specs.Writes.{Write}
 
+-- what only a current database offers: a key's value or its absence, proved and checked; a range of chunks, from a location on
+-- and so many at most; and a witness of the operations root
+pub data Question : Type 0 where
+  Held : Bytes → Question
+  Absent : Bytes → Question
+  Chunks : ℕ → ℕ → Question
+  Witness : Question
+
 -- what a line asks for; a batch goes by its number
 pub data Line (P : Type 0) : Type 0 where
   -- up to a size, where one is given
@@ -48,6 +56,10 @@ pub data Line (P : Type 0) : Type 0 where
   -- size, start, and how many operations at most
   Prove : ℕ → ℕ → ℕ → Line P
   Pins : ℕ → Line P
+  -- of a current database
+  Current : Question → Line P
+  -- up to a location
+  Prune : ℕ → Line P
   Commit : Line P
   Sync : Line P
   -- the database goes, and its store stays, or is emptied

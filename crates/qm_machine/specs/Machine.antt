@@ -16,9 +16,10 @@ use Rattle.qm_model.specs.Proofs.{Proof, pins_at}
 use Rattle.qm_model.specs.Opening.{Layout, Found, Opening, refuses, opens, opening, opened_list}
 use Rattle.qm_model.specs.Own.{Engine, Log, no_log, taken_up, any_engine}
 use Rattle.qm_model.specs.Batches.{Chain, begun_on, child_of, commitment, fits, readable, own_operations}
-use Rattle.qm_machine.specs.Lines.{Line, Open, Batch, Child, Tip, Put, Del, Merkleize, Stage, Expand, Resolve, Apply, Ops, Get, Many, Next, Prev, Span, All, Range, Keys, Info, BatchInfo, Root, BatchRoot, BatchProof, Meta, Prove, Pins, Commit, Sync, Close, Destroy, Crash, Answer, Opened, Started, Done, Merkleized, Applied, Listed, Read, Expanded, Beside, Spanning, Whole, Ranged, Keyed, Told, BatchTold, Rooted, Metadata, Proved, BatchProved, Pinned, Refuses}
-use Rattle.qm_model.specs.Refused.{Refused, NotOffered, NoDatabase, NoSuchHandle, SlotCount, StaleBatch, StaleRead}
-use Rattle.qm_model.specs.Refusals.{tip_refusal, proof_refusal, proof_count, pins_refusal}
+use Rattle.qm_machine.specs.Lines.{Line, Open, Batch, Child, Tip, Put, Del, Merkleize, Stage, Expand, Resolve, Apply, Ops, Get, Many, Next, Prev, Span, All, Range, Keys, Info, BatchInfo, Root, BatchRoot, BatchProof, Meta, Prove, Pins, Current, Prune, Commit, Sync, Close, Destroy, Crash, Answer, Opened, Started, Done, Merkleized, Applied, Listed, Read, Expanded, Beside, Spanning, Whole, Ranged, Keyed, Told, BatchTold, Rooted, Metadata, Proved, BatchProved, Pinned, Refuses}
+use Rattle.qm_model.specs.Refused.{Refused, NotOffered, NoDatabase, NoSuchHandle, SlotCount, StaleBatch, StaleRead, PruneBeyondMinRequired}
+use Rattle.qm_model.specs.Refusals.{tip_refusal, proof_refusal, proof_count}
+use Rattle.qm_machine.specs.Held.{pins_lacked, proof_lacked}
 
 -- what a machine stands on: how operations are spelled and hashed, over which family of trees, and how many bytes a digest
 -- has; a list's operations root and boundary, the proofs of its operations and its pins
@@ -97,6 +98,10 @@ closed s = record s { database = None }
 -- the store after a commit or a sync
 abbrev pub settled : Log → Log
 settled log = record log { stable = length log.list }
+
+-- the store after a prune to a location, which makes the list stable first; the start does not fall
+abbrev pub pruned : ℕ → Log → Log
+pruned to log = record (settled log) { start = max log.start to }
 
 -- the store after a crash at which it chose this end: one from the stable length to the list's
 abbrev pub restarted : ℕ → Log → Log
@@ -302,7 +307,10 @@ module _ (m : Scheme) where
 
   -- the proof of a merkleized batch's own operations in its tip list, and the pins at its base
   abbrev pub proof_in : State → ℕ → List Operation → Slot → Answer × State
-  proof_in s h list (merkleized chain tip) = if_readable s list chain tip (BatchProved (m.proof tip (length chain.base) (length tip)) (m.pins tip (length chain.base)))
+  proof_in s h list (merkleized chain tip) =
+      if readable m.root (commitment m.root list) chain tip
+      then unless s (proof_lacked m.shape s.log.start list chain tip) (BatchProved (m.proof tip (length chain.base) (length tip)) (m.pins tip (length chain.base)))
+      else refuse s StaleRead
   proof_in s h list gone = refuse s (NoSuchHandle h)
   proof_in s h list (staged chain parent ws keys) = refuse s (NoSuchHandle h)
   proof_in s h list (writing chain parent ws) = refuse s (NoSuchHandle h)
@@ -316,7 +324,15 @@ module _ (m : Scheme) where
       unless s (proof_refusal s.log.start list size start) (Proved (m.proof (take size list) start (start + n)) (take n (drop start list))))
 
   abbrev pub pins : State → ℕ → Answer × State
-  pins s n = with_database s s.database (λ list. unless s (pins_refusal list n) (Pinned (m.pins list n)))
+  pins s n = with_database s s.database (λ list. unless s (pins_lacked m.shape s.log.start list n) (Pinned (m.pins list n)))
+
+  -- up to the list's boundary
+  abbrev pub prune_in : State → ℕ → List Operation → Answer × State
+  prune_in s to list =
+      if nat_lt (m.boundary list) to then refuse s (PruneBeyondMinRequired to (m.boundary list)) else (Done, record s { log = pruned to s.log })
+
+  abbrev pub prune : State → ℕ → Answer × State
+  prune s to = with_database s s.database (λ list. prune_in s to list)
 
 -- what a command leaves of the choices to come: a crash takes the first, and no other command takes one
 abbrev pub choices_after : {P : Type 0} → Line P → List ℕ → List ℕ
@@ -385,6 +401,8 @@ module _ (m : Scheme) {P : Type 0} (rules : Rules P) where
   turn s Meta = meta s
   turn s (Prove size start max) = prove m s size start max
   turn s (Pins n) = pins m s n
+  turn s (Current question) = refuse s NotOffered
+  turn s (Prune to) = prune m s to
   turn s Commit = commit s
   turn s Sync = commit s
   turn s Close = close s

@@ -15,7 +15,7 @@ use Rattle.qm_run.specs.Endings.{tail_text, tail_status}
 use Rattle.qm_engine.specs.declared.answers.Ending.{Ending}
 use Rattle.qm_engine.specs.declared.answers.Ending.TheVariants.{Done, BadLine, Memory, StoreFault}
 use Rattle.qm_engine.proofs.Loops.{log-of}
-use Rattle.qm_engine.proofs.Commands.{left_none}
+use Rattle.qm_engine.proofs.Owned.{none-left}
 
 module _ (m : Scheme) (log : Log) (choices : List ℕ) (input : Bytes) (rose : Type 0) where
   pub says_nothing : (s : ℕ) (left : Option Stored) → (s ≡ 1) ⊎ ((s ≡ 3) ⊎ (s ≡ 7)) → SaysOver m log choices input s rose [] left
@@ -41,7 +41,7 @@ module _ (m : Scheme) (log : Log) (choices : List ℕ) (input : Bytes) (rose : T
   says_unstarted stored own = says_part 5 [] (Some stored) 0 (inr refl) (record {
     few = omega arith;
     part = λ _. inl (0, refl);
-    store_left = λ _. left_none m log (state m log choices input 1).log (Some stored) (log-of m policies (Some stored) stored log refl own);
+    store_left = λ _. none-left m policies (Some stored) log (state m log choices input 1).log (log-of m policies (Some stored) stored log refl own) own.kept;
   })
 
   -- what an ending says of the first k commands: those before a bad line or the end are all, those before a fault are not

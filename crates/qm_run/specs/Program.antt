@@ -8,8 +8,8 @@ use Rattle.qm_model.specs.Batches.{Apart}
 use Rattle.qm_machine.specs.Machine.{Scheme, State, engine_of, initial, answers}
 use Rattle.qm_machine.specs.Grammar.{commands_in, bad_in}
 use Rattle.qm_machine.specs.Text.{text_of}
-use Rattle.qm_engine.specs.Stores.{IsBeside, IsLeft}
-use Rattle.qm_engine.specs.Runs.{after, IsOwnStore}
+use Rattle.qm_engine.specs.Stores.{IsBeside}
+use Rattle.qm_engine.specs.Runs.{after, IsOwnStore, IsOwnLeft}
 use Rattle.qm_engines.specs.Schemes.{form_of, scheme}
 
 -- whether the word names ordered databases
@@ -68,9 +68,9 @@ module _ (m : Scheme) (log : Log) (choices : List ℕ) (input : Bytes) where
   abbrev pub IsOwnAt : Option Stored → ℕ → Type 0
   IsOwnAt left k = IsOwnStore m policies left (state k).log
 
-  -- it has what may be left of the machine's log after the first k commands by the next one
+  -- it has what may be left of the machine's log after the first k commands by the next one, and is one that databases leave
   abbrev pub IsLeftAt : Option Stored → ℕ → Type 0
-  IsLeftAt left k = IsLeft m left (state k).log (state (suc k)).log
+  IsLeftAt left k = IsOwnLeft m policies left (state k).log (state (suc k)).log
 
   -- k commands answered: a first part of their replies; of these and the fault, where the store's count rose and not all are answered; of
   -- these and the bad line, where there is one behind them
@@ -94,9 +94,9 @@ module _ (m : Scheme) (log : Log) (choices : List ℕ) (input : Bytes) where
     -- nothing was done
     pub nothing : (status ≡ 1) ⊎ ((status ≡ 3) ⊎ (status ≡ 7)) → written ≡ []
 
--- It says so of a store that such databases left, or of the empty one, by the log that it has, where nothing was pruned. The ends
+-- It says so of a store that such databases left, or of the empty one, by the log that it has. The ends
 -- that its restarts chose are those that it tells behind those that it told before.
 abbrev pub Says : Scheme → Stored → Bytes → ℕ → Type 0 → Bytes → Option Stored → Type 0
 Says m stored input status rose written left =
-    (log : Log) → IsOwn (engine_of m policies) log stored → log.start ≡ 0
+    (log : Log) → IsOwn (engine_of m policies) log stored
     → (choices : List ℕ) → Turns (Some stored) left (IsBeside choices) → SaysOver m log choices input status rose written left

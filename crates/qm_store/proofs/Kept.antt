@@ -8,7 +8,7 @@ use Rattle.qm_model.proofs.Chains.{Contains-first, Contains-more}
 use Rattle.qm_merkle.specs.Batches.{Layer, stops, lists_since, IsHistory}
 use Rattle.qm_merkle.proofs.Since.{list-since, lists-since, first-since}
 use Rattle.qm_store.specs.Log.{digests_from}
-use Rattle.qm_store.specs.KeptTrees.{KeptTree, IsKeptTree, leaves_of}
+use Rattle.qm_store.specs.KeptTrees.{KeptTree, IsAdding, IsKeptTree, leaves_of}
 use Rattle.qm_store.proofs.Leaves.{digests_from-append, length-digests_from}
 
 -- a list of one has no other
@@ -71,14 +71,15 @@ module _ (hash : Bytes → Bytes) (shape : Shape) where
             leaves = kept.leaves;
             lists = kept.lists;
             history = kept.history;
+            adding = kept.adding;
             through = All-weaker (Contains older) through (λ l found. All-contains through older l kept.through found) fewer among;
           }
 
       -- the tree with items' leaves behind it, that leads through the lists of as many items as a boundary or more
       pub kept-grown : (next : KeptTree D) (more : List Bytes) (boundary : ℕ) → next.leaves ≡ tree.leaves + length more
-          → IsHistory shape bytes hash next.layers (leaves_of hash shape (list ++ more) ∷ lists_since boundary (leaves_of hash shape list ∷ kept.lists))
+          → IsHistory shape bytes hash next.layers (leaves_of hash shape (list ++ more) ∷ lists_since boundary (leaves_of hash shape list ∷ kept.lists)) → All (IsAdding shape) next.layers
           → IsKeptTree bytes hash shape next (list ++ more) (lists_since boundary (list ∷ older))
-      kept-grown next more boundary long history =
+      kept-grown next more boundary long history adding =
           let own = leaves_of hash shape list in
           let new = leaves_of hash shape (list ++ more) in
           let rest = lists_since boundary (own ∷ kept.lists) in
@@ -86,6 +87,7 @@ module _ (hash : Bytes → Bytes) (shape : Shape) where
             leaves = omega (arith, long, kept.leaves, length-append list more);
             lists = rest;
             history = history;
+            adding = adding;
             through = lists-since boundary (λ l. Contains (new ∷ rest) (leaves_of hash shape l)) (list ∷ older)
                 (λ l found within. Contains-more rest new (leaves_of hash shape l)
                 (list-since boundary (own ∷ kept.lists) (leaves_of hash shape l) (kept-among l found) (omega (arith, within, length-digests_from hash shape 0 l))));

@@ -1,6 +1,7 @@
 -- What a call that takes the database by value leaves, and what it does to the store.
-use Rattle.std.specs.Prelude.{◌≡◌, List, IsSome, Result, Ok, Err}
-use Rattle.qm_model.specs.Operations.{Bytes}
+use Rattle.std.specs.Prelude.{◌≡◌, ◌≤◌, List, IsSome, Result, Ok, Err}
+use Rattle.qm_model.specs.Live.{floor}
+use Rattle.qm_model.specs.Operations.{Bytes, Operation}
 use Rattle.qm_model.specs.StoreModel.{appended, HasAppended, Turns, Becomes}
 use Rattle.qm_store.specs.declared.Store as store
 use Rattle.qm_store.specs.declared.refusal.Given.{Given}
@@ -27,9 +28,9 @@ pub record AppendedPart {C : Type 0} (members : store.Ghosts C) (old new : C) (m
   pub start : members.start new ≡ members.start old
   pub told : Turns (members.told old) (members.told new) (HasAppended more)
 
--- a store starts at 0, and tells its items
-abbrev pub TellsAll : {C : Type 0} → store.Ghosts C → C → Type 0
-TellsAll members c = (members.start c ≡ 0) × IsSome (members.told c)
+-- a store starts at a list's floor or before, and tells its items
+abbrev pub TellsFrom : {C : Type 0} → store.Ghosts C → C → List Operation → Type 0
+TellsFrom members c list = (members.start c ≤ floor list) × IsSome (members.told c)
 
 -- a store has what it had
 pub record IsUnchanged {C : Type 0} (members : store.Ghosts C) (old new : C) : Type 0 where

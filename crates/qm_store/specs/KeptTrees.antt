@@ -1,9 +1,9 @@
 -- The trees that batches keep, and the lists of items that these lead through.
-use Rattle.std.specs.Prelude.{◌≡◌, ℕ, List, [], ◌∷◌, length, All, Contains, Option, Some, None}
+use Rattle.std.specs.Prelude.{◌≡◌, ◌≤◌, ◌<◌, ℕ, List, [], ◌∷◌, length, All, Contains, Option, Some, None, IsSome}
 use Rattle.std.specs.Option.{option_or}
 use Rattle.qm_model.specs.Operations.{Bytes}
-use Rattle.qm_model.specs.Trees.{Shape}
-use Rattle.qm_merkle.specs.Batches.{Layer, Batch, all_layers, layers_at, IsHistory}
+use Rattle.qm_model.specs.Trees.{Shape, Node}
+use Rattle.qm_merkle.specs.Batches.{Layer, Batch, all_layers, layer_at, layers_at, IsHistory}
 use Rattle.qm_merkle.specs.Mems.{Kept, node_at}
 use Rattle.qm_store.specs.Log.{digests_from}
 
@@ -25,9 +25,14 @@ held_at shape tree mem p = option_or (layers_at shape tree.layers p) (node_at sh
 abbrev pub leaves_of : (Bytes → Bytes) → Shape → List Bytes → List Bytes
 leaves_of hash shape items = digests_from hash shape 0 items
 
--- the tree is that of the list of items, and its layers lead to it through each of the older lists
+-- of the nodes of its list the layer has none that was there before it
+abbrev pub IsAdding : {D : Type 0} → Shape → Layer D → Type 0
+IsAdding shape layer = (x : Node) → shape.birth x ≤ layer.tree.leaves → IsSome (layer_at shape layer (shape.position x)) → layer.tree.start < shape.birth x
+
+-- the tree is that of the list of items, and its layers add nodes alone and lead to it through each of the older lists
 pub record IsKeptTree {D : Type 0} (bytes : D → Bytes) (hash : Bytes → Bytes) (shape : Shape) (tree : KeptTree D) (items : List Bytes) (older : List (List Bytes)) : Type 0 where
   pub leaves : tree.leaves ≡ length items
   pub lists : List (List Bytes)
   pub history : IsHistory shape bytes hash tree.layers (leaves_of hash shape items ∷ lists)
+  pub adding : All (IsAdding shape) tree.layers
   pub through : All (λ l. Contains (leaves_of hash shape items ∷ lists) (leaves_of hash shape l)) older

@@ -1,13 +1,13 @@
 //! Trees that batches keep, so that a batch's root and proof hash its own items and no others.
 
-ghost use Rattle.std.specs.Prelude.{◌≡◌, ◌≤◌, ◌+◌, ◌^◌, ◌++◌, ◌∷◌, ℕ, [], List, None, Contains, length, map, IfOk, IfErr, OnOk, OnErr};
+ghost use Rattle.std.specs.Prelude.{◌≡◌, ◌≤◌, ◌+◌, ◌^◌, ◌++◌, ◌∷◌, ℕ, [], List, None, Contains, All, length, map, IfOk, IfErr, OnOk, OnErr};
 ghost use Rattle.qm_model.specs.Proofs.{proof_of};
 ghost use Rattle.qm_model.specs.Trees as trees;
 ghost use Rattle.qm_merkle.specs.Batches.{all_layers, layers_since, stops, stops_since, lists_since, IsHistory};
 ghost use Rattle.qm_merkle.specs.Mems.{Stands};
 ghost use Rattle.qm_proofs.specs.Proofs.{proof_view, first_lacked, needed_positions};
 ghost use Rattle.qm_store.specs.Log.{digests_from, IsLacked, IsLog};
-ghost use Rattle.qm_store.specs.KeptTrees.{IsKeptTree, held_at, leaves_of};
+ghost use Rattle.qm_store.specs.KeptTrees.{IsAdding, IsKeptTree, held_at, leaves_of};
 
 use crate::Store;
 use crate::log::{AuthLog, shown};
@@ -107,6 +107,7 @@ impl<F: Family, D: Digest> KeptTree<F, D> {
             → IsHistory F.shape D.bytes H.hash self.now.layers (digests_from H.hash F.shape 0 base ∷ lists) → Contains (digests_from H.hash F.shape 0 base ∷ lists) (digests_from H.hash F.shape 0 list)
             → IfOk result (λ b. IsHistory F.shape D.bytes H.hash (all_layers b) (digests_from H.hash F.shape 0 (base ++ map (λ v. v.items) items.now) ∷ lists_since boundary (digests_from H.hash F.shape 0 base ∷ lists))) }
         ensures leaves { IfOk result (λ b. b.newest.tree.leaves ≡ self.now.leaves + length items.now) }
+        ensures adding { All (IsAdding F.shape) self.now.layers → IfOk result (λ b. All (IsAdding F.shape) (all_layers b)) }
         ensures stops { IfOk result (λ b. stops b.newest.tree.leaves (all_layers b) ≡ b.newest.tree.leaves ∷ stops_since boundary (stops self.now.leaves self.now.layers)) }
         ensures same { log.new ≡ log.old }
     {

@@ -11,7 +11,7 @@ ghost use Rattle.qm_model.specs.Proofs.{proof_of};
 ghost use Rattle.qm_merkle.specs.Mems.{Stands, IsWhole, node_at};
 ghost use Rattle.qm_merkle.specs.Batches.{all_layers, layers_since, stops, stops_since, lists_since, IsHistory};
 ghost use Rattle.qm_proofs.specs.Proofs.{proof_view, needed_positions, first_lacked, over_at};
-ghost use Rattle.qm_store.specs.KeptTrees.{IsKeptTree};
+ghost use Rattle.qm_store.specs.KeptTrees.{IsAdding, IsKeptTree};
 ghost use Rattle.qm_store.specs.Log.{Log, digests_from, IsHead, log_error, IsLog, IsKept, HasGrown, HasGrownPart, HasBecome, HasLeft, HasLeftPruned, IsRefused, IsLacked};
 
 use crate::{KeptTree, MetaEntry, Store, StoreError};
@@ -332,6 +332,7 @@ impl<F: Family, C: Store, H: Hasher + Drop> AuthLog<F, C, H> {
         ensures leaves { IfOk result (λ b. b.newest.tree.leaves ≡ self.old.tree.leaves + length items.now) }
         ensures start { IfOk result (λ b. b.newest.tree.start ≡ self.old.tree.leaves) }
         ensures older { IfOk result (λ b. b.older ≡ []) }
+        ensures adding { IfOk result (λ b. IsAdding F.shape b.newest) }
         ensures same { self.new ≡ self.old }
     {
         grown_by_items(alloc, &self.tree, &mut self.hasher, items)
@@ -379,6 +380,7 @@ impl<F: Family, C: Store, H: Hasher + Drop> AuthLog<F, C, H> {
         ensures leaves { IfOk result (λ b. b.newest.tree.leaves ≡ batch.now.newest.tree.leaves + length items.now) }
         ensures start { IfOk result (λ b. b.newest.tree.start ≡ batch.now.newest.tree.leaves) }
         ensures older { IfOk result (λ b. b.older ≡ layers_since boundary (all_layers batch.now)) }
+        ensures adding { IfOk result (λ b. IsAdding F.shape b.newest) }
         ensures stops { IfOk result (λ b. stops b.newest.tree.start b.older ≡ stops_since boundary (stops batch.now.newest.tree.leaves (all_layers batch.now))) }
         ensures same { self.new ≡ self.old }
     {
@@ -810,6 +812,7 @@ fn grown_by_items<F: Family, H: Hasher>(
     ensures leaves { IfOk result (λ b. b.newest.tree.leaves ≡ tree.now.leaves + length items.now) }
     ensures start { IfOk result (λ b. b.newest.tree.start ≡ tree.now.leaves) }
     ensures older { IfOk result (λ b. b.older ≡ []) }
+    ensures adding { IfOk result (λ b. IsAdding F.shape b.newest) }
     ensures reach { IfOk result (λ b. Contains (stops b.newest.tree.leaves (all_layers b)) tree.now.leaves) }
     ensures history { (list : List (List ℕ)) → Stands F.shape H.Digest.bytes H.hash tree.now (digests_from H.hash F.shape 0 list)
         → IfOk result (λ b. IsHistory F.shape H.Digest.bytes H.hash (all_layers b) (digests_from H.hash F.shape 0 (list ++ map (λ v. v.items) items.now) ∷ digests_from H.hash F.shape 0 list ∷ [])) }
@@ -830,6 +833,7 @@ fn grown<F: Family, H: Hasher>(
     ensures leaves { IfOk result (λ b. b.newest.tree.leaves ≡ tree.now.leaves + length digests.now) }
     ensures start { IfOk result (λ b. b.newest.tree.start ≡ tree.now.leaves) }
     ensures older { IfOk result (λ b. b.older ≡ []) }
+    ensures adding { IfOk result (λ b. IsAdding F.shape b.newest) }
     ensures reach { IfOk result (λ b. Contains (stops b.newest.tree.leaves (all_layers b)) tree.now.leaves) }
     ensures history { (list : List (List ℕ)) → Stands F.shape H.Digest.bytes H.hash tree.now list
         → IfOk result (λ b. IsHistory F.shape H.Digest.bytes H.hash (all_layers b) ((list ++ map H.Digest.bytes digests.now) ∷ list ∷ [])) }
@@ -854,6 +858,7 @@ fn grown_behind<F: Family, H: Hasher>(
     ensures leaves { IfOk result (λ b. b.newest.tree.leaves ≡ draft.base + length digests.now) }
     ensures start { IfOk result (λ b. b.newest.tree.start ≡ draft.base) }
     ensures older { IfOk result (λ b. b.older ≡ draft.layers) }
+    ensures adding { IfOk result (λ b. IsAdding F.shape b.newest) }
     ensures history { (list base : List (List ℕ)) (lists : List (List (List ℕ))) → Stands F.shape H.Digest.bytes H.hash tree.now list
         → IsHistory F.shape H.Digest.bytes H.hash draft.layers (base ∷ lists) → Contains (base ∷ lists) list
         → IfOk result (λ b. IsHistory F.shape H.Digest.bytes H.hash (all_layers b) ((base ++ map H.Digest.bytes digests.now) ∷ base ∷ lists)) }

@@ -1,11 +1,12 @@
 // Commands that make, fill and apply batches.
-ghost use Rattle.std.specs.Prelude.{◌≡◌, ◌++◌, ◌∷◌, [], ◌≢◌, List, Some, None, option_map, Contains, IfOk, IsErrOf};
+ghost use Rattle.std.specs.Prelude.{◌≡◌, ◌≤◌, ◌++◌, ◌∷◌, [], ◌≢◌, List, Some, None, option_map, Contains, IfOk, IsErrOf};
+ghost use Rattle.qm_model.specs.Live.{floor};
 ghost use Rattle.qm_model.specs.Operations.{Operation};
 ghost use Rattle.qm_model.specs.Writes.{Write};
-ghost use Rattle.qm_model.specs.Batches.{Chain, IsAmong};
+ghost use Rattle.qm_model.specs.Batches.{Chain, IsAmong, IsOnChain};
 ghost use Rattle.qm_machine.specs.Machine.{State};
 ghost use Rattle.qm_machine.specs.Machine as machine;
-ghost use Rattle.qm_store.specs.Given.{store_given, IsUnchanged, TellsAll};
+ghost use Rattle.qm_store.specs.Given.{store_given, IsUnchanged, TellsFrom};
 ghost use Rattle.qm_engine.specs.Words.{AtBatch, ReadsOnly, tip_of};
 ghost use Rattle.qm_engine.specs.Making.{IsMaking, made_into};
 ghost use Rattle.qm_engine.specs.Session.{SlotIs, Stands, Follows, Obeys, ObeysSteady, LeavesSteady, Uses};
@@ -180,8 +181,8 @@ fn merkleize_batch<X: Engine<C>, C: Store, P: Policy<X::Family, X::Key, X::Value
     policy: &P,
     metadata: &Option<X::Value>,
 ) -> Result<X::Merkleized, Error>
-    ensures made { TellsAll C.Store (X.inside database.old) → AtBatch X.Words database.old batch (λ list chain above ws.
-        IsMaking X.Words list chain (tip_of X.scheme P.rules chain ws policy.now (option_map X.Value.bytes metadata.now)) result) }
+    ensures made { AtBatch X.Words database.old batch (λ list chain above ws. TellsFrom C.Store (X.inside database.old) list → (IsOnChain list chain → floor list ≤ floor chain.base)
+        → IsMaking X.Words list chain (tip_of X.scheme P.rules chain ws policy.now (option_map X.Value.bytes metadata.now)) result) }
     ensures reads { ReadsOnly X.Words C.Store database.old database.new (IsErrOf result (Error.Journal JournalError.Store)) }
 {
     let mut policy = policy.twin(alloc)?;
@@ -219,7 +220,7 @@ pub fn merkleize<X: Engine<C>, C: Store, P: Policy<X::Family, X::Key, X::Value> 
     policy: &P,
     metadata: &Option<X::Value>,
 ) -> Turn<X::Key, X::Value, X::Digest>
-    ensures machine { Obeys C.Store X.Words X.Key.bytes X.Value.bytes X.Digest.bytes session.old session.new result
+    ensures machine { ObeysSteady C.Store X.Words X.Key.bytes X.Value.bytes X.Digest.bytes session.old session.new result
         (λ s. machine.merkleize X.scheme P.rules s number policy.now (option_map X.Value.bytes metadata.now)) }
     ensures store { IsUnchanged C.Store (store_given X.inside session.old.held) (store_given X.inside session.new.held) }
     ensures uses { Uses C.Store (store_given X.inside session.old.held) (store_given X.inside session.new.held) result }

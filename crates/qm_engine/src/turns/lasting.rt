@@ -80,7 +80,7 @@ fn no_database<X: Engine<C>, C: Store>(
     )
 }
 
-// What a commit or a sync came to.
+// What a commit, a sync or a prune came to.
 fn settled<X: Engine<C>, C: Store>(
     settling: Result<X, Refusal<X, C>>,
     table: Vec<Slot<X::Batch, X::Staged, X::Merkleized>>,
@@ -148,6 +148,30 @@ pub fn sync<X: Engine<C>, C: Store>(
     match held {
         Given::Store(store) => no_database::<X, C>(store, table, opened),
         Given::Database(x) => settled::<X, C>(x.sync(), table, opened),
+    }
+}
+
+/// Takes the operations before a location away, and makes all others stable.
+pub fn prune<X: Engine<C>, C: Store>(
+    alloc: Global,
+    session: Of<X, C>,
+    to: u64,
+) -> (Of<X, C>, Turn<X::Key, X::Value, X::Digest>)
+    ensures machine { ObeysSteady C.Store X.Words X.Key.bytes X.Value.bytes X.Digest.bytes session result.0 result.1
+        (λ s. machine.prune X.scheme s to) }
+    ensures left { LeavesSteady C.Store X.Words session result.0
+        (λ s. machine.prune X.scheme s to) }
+    ensures handles { Handles C.Store (store_given X.inside session.held) (store_given X.inside result.0.held) result.1 }
+    ensures opened { result.0.opened ≡ session.opened }
+{
+    let Session {
+        held,
+        table,
+        opened,
+    } = session;
+    match held {
+        Given::Store(store) => no_database::<X, C>(store, table, opened),
+        Given::Database(x) => settled::<X, C>(x.prune(alloc, to), table, opened),
     }
 }
 

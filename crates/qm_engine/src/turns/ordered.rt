@@ -5,7 +5,7 @@ ghost use Rattle.qm_model.specs.Live.{live_keys};
 ghost use Rattle.qm_model.specs.Batches.{IsKnown};
 ghost use Rattle.qm_machine.specs.Machine as machine;
 ghost use Rattle.qm_lines.specs.Views.{answer_view};
-ghost use Rattle.qm_store.specs.Given.{store_given, IsUnchanged, TellsAll};
+ghost use Rattle.qm_store.specs.Given.{store_given, IsUnchanged, TellsFrom};
 ghost use Rattle.qm_store.specs.Refusals.{refusal_of};
 ghost use Rattle.qm_engine.specs.Ordered.{key_beside, answer_to};
 ghost use Rattle.qm_engine.specs.Session.{Obeys, Uses};
@@ -50,7 +50,7 @@ fn reply_to<X: Engine<C>, C: Store>(
     ensures reply { IfOk result (λ r. X.scheme.form.ordered ≡ true → (list : List Operation) → X.stands database.old list
         → answer_view X.Key.bytes X.Value.bytes X.Digest.bytes r ≡ answer_to X.Key.bytes question.entry list) }
     ensures reads { ReadsOnly X.Words C.Store database.old database.new (IsErrOf result (Error.Journal JournalError.Store)) }
-    ensures refused { IfErr result (λ e. TellsAll C.Store (X.inside database.old) → (list : List Operation) → X.stands database.old list → refusal_of e ≡ None) }
+    ensures refused { IfErr result (λ e. (list : List Operation) → X.stands database.old list → TellsFrom C.Store (X.inside database.old) list → refusal_of e ≡ None) }
 {
     match question {
         Question::Beside(Side::Above, key) => Ok(Reply::Beside(database.next(alloc, key)?)),
@@ -97,7 +97,7 @@ fn beside_from<X: Engine<C>, C: Store>(
     ensures readable { IfOk result (λ _. X.scheme.form.ordered ≡ true → AtTip X.Words database.old batch.now (λ list chain tip. CanRead X.Words list chain tip)) }
     ensures beside { IfOk result (λ k. X.scheme.form.ordered ≡ true → AtTip X.Words database.old batch.now (λ list chain tip. IsKnown list chain tip
         → option_map X.Key.bytes k ≡ key_beside side (X.Key.bytes key.now) (live_keys tip))) }
-    ensures failure { IfErr result (λ e. AtTip X.Words database.old batch.now (λ list chain tip. IsReadFailure X.Words (TellsAll C.Store (X.inside database.old)) list chain tip e)) }
+    ensures failure { IfErr result (λ e. AtTip X.Words database.old batch.now (λ list chain tip. IsReadFailure X.Words (TellsFrom C.Store (X.inside database.old) list) list chain tip e)) }
     ensures reads { ReadsOnly X.Words C.Store database.old database.new (IsErrOf result (Error.Journal JournalError.Store)) }
 {
     match side {

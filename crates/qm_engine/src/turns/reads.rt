@@ -1,9 +1,10 @@
 // Commands that read, list and tell.
 ghost use Rattle.std.specs.Prelude.{◌≡◌, ◌≢◌, ◌∷◌, [], List, Some, None, map, Contains, IfOk};
 ghost use Rattle.qm_model.specs.Operations.{Operation};
+ghost use Rattle.qm_model.specs.Refused as refusals;
 ghost use Rattle.qm_machine.specs.Machine.{State};
 ghost use Rattle.qm_machine.specs.Machine as machine;
-ghost use Rattle.qm_store.specs.Given.{store_given, IsUnchanged, TellsAll};
+ghost use Rattle.qm_store.specs.Given.{store_given, IsUnchanged, TellsFrom};
 ghost use Rattle.qm_engine.specs.Session.{SlotIs, Answers, Obeys, Tells, Uses};
 
 use crate::engine::{BatchSizes, Engine, Numbers};
@@ -22,7 +23,7 @@ fn read_slot<X: Engine<C>, C: Store>(
     slot: &Slot<X::Batch, X::Staged, X::Merkleized>,
     keys: &[X::Key],
 ) -> Turn<X::Key, X::Value, X::Digest>
-    ensures machine { (s : State) (list : List Operation) (named : machine.Slot) → TellsAll C.Store (X.inside database.old) → X.stands database.old list → Contains s.had list
+    ensures machine { (s : State) (list : List Operation) (named : machine.Slot) → TellsFrom C.Store (X.inside database.old) list → X.stands database.old list → Contains s.had list
         → SlotIs C.Store X.Words s.had slot.now named
         → Answers C.Store X.Words X.Key.bytes X.Value.bytes X.Digest.bytes result s (machine.read_in X.scheme s number (map X.Key.bytes keys.now) list named) }
     ensures same { (list : List Operation) → X.stands database.old list → X.stands database.new list }
@@ -116,6 +117,15 @@ pub fn ops<X: Engine<C>, C: Store>(
         Err(_) => Turn::Memory,
         Ok((base, operations)) => Turn::Reply(Reply::Ops(base, operations)),
     }
+}
+
+/// What only a current database offers.
+pub fn current<X: Engine<C>, C: Store>(session: &Of<X, C>) -> Turn<X::Key, X::Value, X::Digest>
+    ensures machine { Tells C.Store X.Words X.Key.bytes X.Value.bytes X.Digest.bytes session.now result
+        (λ s. machine.refuse s refusals.NotOffered) }
+    ensures never { result ≢ Turn.StoreFault }
+{
+    Turn::Reply(Reply::Refused(Refused::NotOffered))
 }
 
 /// The numbers of the database.

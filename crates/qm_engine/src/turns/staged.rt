@@ -1,13 +1,15 @@
 // Commands of staged reads.
-ghost use Rattle.std.specs.Prelude.{◌≡◌, ◌≢◌, Some, None, length, map, option_map, slice_index_or, slice_set, IfOk, IfErr, IsErrOf, MatchOption};
+ghost use Rattle.std.specs.Prelude.{◌≡◌, ◌≢◌, ◌≤◌, Some, None, length, map, option_map, slice_index_or, slice_set, IfOk, IfErr, IsErrOf, MatchOption};
 ghost use Rattle.qm_base.specs.Slots.{slot_views, write_views};
+ghost use Rattle.qm_model.specs.Batches.{IsOnChain};
+ghost use Rattle.qm_model.specs.Live.{floor};
 ghost use Rattle.qm_model.specs.Slots.{slotted};
 ghost use Rattle.qm_machine.specs.Machine as machine;
-ghost use Rattle.qm_store.specs.Given.{store_given, IsUnchanged, TellsAll};
+ghost use Rattle.qm_store.specs.Given.{store_given, IsUnchanged, TellsFrom};
 ghost use Rattle.qm_engine.specs.Table.{staged_of};
 ghost use Rattle.qm_engine.specs.Words.{AtStaged, ReadsOnly, tip_of};
 ghost use Rattle.qm_engine.specs.Making.{IsMaking};
-ghost use Rattle.qm_engine.specs.Session.{Obeys, Uses};
+ghost use Rattle.qm_engine.specs.Session.{Obeys, ObeysSteady, Uses};
 
 use super::batches::put_made;
 use crate::engine::Engine;
@@ -109,8 +111,8 @@ fn resolve_batch<X: Engine<C>, C: Store, P: Policy<X::Family, X::Key, X::Value> 
     metadata: &Option<X::Value>,
 ) -> Result<X::Merkleized, Error>
     requires { length resolution.now.slots.items ≡ X.count batch }
-    ensures made { TellsAll C.Store (X.inside database.old) → AtStaged X.Words database.old batch (λ list chain above ws keys.
-        IsMaking X.Words list chain (tip_of X.scheme P.rules chain (slotted ws keys (slot_views X.Value.bytes resolution.now.slots.items) (write_views X.Key.bytes X.Value.bytes resolution.now.others.items)) policy.now (option_map X.Value.bytes metadata.now)) result) }
+    ensures made { AtStaged X.Words database.old batch (λ list chain above ws keys. TellsFrom C.Store (X.inside database.old) list → (IsOnChain list chain → floor list ≤ floor chain.base)
+        → IsMaking X.Words list chain (tip_of X.scheme P.rules chain (slotted ws keys (slot_views X.Value.bytes resolution.now.slots.items) (write_views X.Key.bytes X.Value.bytes resolution.now.others.items)) policy.now (option_map X.Value.bytes metadata.now)) result) }
     ensures reads { ReadsOnly X.Words C.Store database.old database.new (IsErrOf result (Error.Journal JournalError.Store)) }
 {
     let mut policy = policy.twin(alloc)?;
@@ -127,7 +129,7 @@ pub fn resolve<X: Engine<C>, C: Store, P: Policy<X::Family, X::Key, X::Value> + 
     metadata: &Option<X::Value>,
     resolution: &Resolution<X::Key, X::Value>,
 ) -> Turn<X::Key, X::Value, X::Digest>
-    ensures machine { Obeys C.Store X.Words X.Key.bytes X.Value.bytes X.Digest.bytes session.old session.new result
+    ensures machine { ObeysSteady C.Store X.Words X.Key.bytes X.Value.bytes X.Digest.bytes session.old session.new result
         (λ s. machine.resolve X.scheme P.rules s number policy.now (option_map X.Value.bytes metadata.now) (slot_views X.Value.bytes resolution.now.slots.items) (write_views X.Key.bytes X.Value.bytes resolution.now.others.items)) }
     ensures store { IsUnchanged C.Store (store_given X.inside session.old.held) (store_given X.inside session.new.held) }
     ensures uses { Uses C.Store (store_given X.inside session.old.held) (store_given X.inside session.new.held) result }

@@ -14,7 +14,7 @@ use super::numbers::{named_number, number, positive};
 use super::pieces::is;
 use super::ranges::{keys, range};
 use super::staged::{expand, resolve, stage};
-use crate::command::Command;
+use crate::command::{Command, Question};
 use qm_base::ByteKey;
 use std::alloc::{AllocError, Global};
 
@@ -197,22 +197,70 @@ fn many(alloc: Global, words: &[&[u8]]) -> Result<Option<ByteCommand>, AllocErro
     Ok(parse_reading(alloc, words)?.and_then(some_read))
 }
 
-// What makes a store last, or ends a database.
-fn lasting(name: &[u8], words: &[&[u8]]) -> Option<ByteCommand>
-    ensures { option_map byte_line result ≡ grammar.form_of name.now (lent words.now) grammar.lasting_forms }
+fn held(alloc: Global, words: &[&[u8]]) -> Result<Option<ByteCommand>, AllocError>
+    ensures { IfOk result (λ command. option_map byte_line command ≡ grammar.only_key (λ key. lines.Current (lines.Held key)) (lent words.now)) }
 {
-    if is(name, b"commit") {
-        alone(words, Command::Commit)
-    } else if is(name, b"sync") {
-        alone(words, Command::Sync)
-    } else if is(name, b"close") {
-        alone(words, Command::Close)
-    } else if is(name, b"destroy") {
-        alone(words, Command::Destroy)
-    } else if is(name, b"crash") {
-        only_number(words).map(Command::Crash)
+    match only_key(alloc, words)? {
+        None => Ok(None),
+        Some(key) => Ok(Some(Command::Current(Question::Held(key)))),
+    }
+}
+
+fn absent(alloc: Global, words: &[&[u8]]) -> Result<Option<ByteCommand>, AllocError>
+    ensures { IfOk result (λ command. option_map byte_line command ≡ grammar.only_key (λ key. lines.Current (lines.Absent key)) (lent words.now)) }
+{
+    match only_key(alloc, words)? {
+        None => Ok(None),
+        Some(key) => Ok(Some(Command::Current(Question::Absent(key)))),
+    }
+}
+
+fn chunks(words: &[&[u8]]) -> Option<ByteCommand>
+    ensures { option_map byte_line result ≡ grammar.chunks_of (lent words.now) }
+{
+    let [start, most] = words else {
+        return None;
+    };
+    let start = number(start)?;
+    let most = positive(most)?;
+    Some(Command::Current(Question::Chunks(start, most)))
+}
+
+// What a current database offers.
+fn current(alloc: Global, name: &[u8], words: &[&[u8]]) -> Result<Option<ByteCommand>, AllocError>
+    ensures { IfOk result (λ command. option_map byte_line command ≡ grammar.form_of name.now (lent words.now) grammar.current_forms) }
+{
+    if is(name, b"held") {
+        held(alloc, words)
+    } else if is(name, b"absent") {
+        absent(alloc, words)
+    } else if is(name, b"chunks") {
+        Ok(chunks(words))
+    } else if is(name, b"witness") {
+        Ok(alone(words, Command::Current(Question::Witness)))
     } else {
-        None
+        Ok(None)
+    }
+}
+
+// What makes a store last, or ends a database.
+fn lasting(alloc: Global, name: &[u8], words: &[&[u8]]) -> Result<Option<ByteCommand>, AllocError>
+    ensures { IfOk result (λ command. option_map byte_line command ≡ grammar.form_of name.now (lent words.now) grammar.lasting_forms) }
+{
+    if is(name, b"prune") {
+        Ok(only_number(words).map(Command::Prune))
+    } else if is(name, b"commit") {
+        Ok(alone(words, Command::Commit))
+    } else if is(name, b"sync") {
+        Ok(alone(words, Command::Sync))
+    } else if is(name, b"close") {
+        Ok(alone(words, Command::Close))
+    } else if is(name, b"destroy") {
+        Ok(alone(words, Command::Destroy))
+    } else if is(name, b"crash") {
+        Ok(only_number(words).map(Command::Crash))
+    } else {
+        current(alloc, name, words)
     }
 }
 
@@ -276,6 +324,6 @@ pub fn of_words(alloc: Global, words: &[&[u8]]) -> Result<Option<ByteCommand>, A
     } else if is(name, b"pins") {
         Ok(only_number(words).map(Command::Pins))
     } else {
-        Ok(lasting(name, words))
+        lasting(alloc, name, words)
     }
 }

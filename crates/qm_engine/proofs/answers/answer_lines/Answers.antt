@@ -5,15 +5,16 @@ use Rattle.qm_model.specs.Policies.{policies}
 use Rattle.qm_machine.specs.Grammar.{line_of, commands_in}
 use Rattle.qm_machine.specs.Machine.{State, engine_of, initial, answers, turn}
 use Rattle.qm_machine.specs.Text.{text_of}
-use Rattle.qm_machine.proofs.Sounds.{sound-steady}
+use Rattle.qm_machine.proofs.Sounds.{kept-low, sound-steady}
 use Rattle.qm_lines.proofs.Inputs.{at_start, at_end, at_bad}
 use Rattle.qm_store.specs.Given.{store_given}
 use Rattle.qm_engine.specs.Stores.{HasLog, IsBeside}
 use Rattle.qm_engine.specs.Runs.{after}
 use Rattle.qm_engine.specs.Answered.{IsAnswered}
 use Rattle.qm_engine.proofs.Lasting.{turns-same, turns-through}
-use Rattle.qm_engine.proofs.Loops.{Between, each, log-of, own-of, begins-between, none-more, more-parts}
-use Rattle.qm_engine.proofs.Answerings.{at_next, at_short, line_step, line_goes, answered_in, answered_at}
+use Rattle.qm_engine.proofs.Loops.{Between, each, log-of, begins-between, none-more, more-parts}
+use Rattle.qm_engine.proofs.Owned.{own-of}
+use Rattle.qm_engine.proofs.Answerings.{at_next, at_short, line_step, line_goes, line-own, answered_in, answered_at}
 use Rattle.qm_engine.proofs.answers.answer_lines.Goals as goal
 
 pub loop-line-init : goal.loop-line-init
@@ -27,15 +28,15 @@ loop-line-init g c =
       opened = omega (arith, c.in-Ok.ensures.opened);
       beside = ([], turns-same (g.C.Store.told c.args.store) _ same);
       later = omega (arith, ap g.C.Store.faults c.in-Ok.ensures.store);
-      machine = λ stored log is own zero_start more rest told.
+      machine = λ stored log is own more rest told.
           subst (λ xs. Apart m.root (after m policies log (xs ++ rest) lines 0).had → (c.new-text.result.items ≡ text_of (answers m policies (initial log (xs ++ rest)) (take 0 lines))) × Between g.C.Store g.X.Words policies c.in-Ok.session rest (after m policies log (xs ++ rest) lines 0))
           (sym (none-more (g.C.Store.told c.args.store) _ stored more is same told))
-          (λ apart. (c.new-text.ensures.items, begins-between g.C.Store g.X.Words policies c.in-Ok.session log rest (c.in-Ok.ensures.session log rest (log-of m policies (g.C.Store.told c.args.store) stored log is own) zero_start own.kept.stable) own.kept));
+          (λ apart. (c.new-text.ensures.items, begins-between g.C.Store g.X.Words policies c.in-Ok.session log rest (c.in-Ok.ensures.session log rest (log-of m policies (g.C.Store.told c.args.store) stored log is own) (kept-low m policies log own.kept) own.kept.stable) own.kept));
     }
 
 pub returns-in-Err-clause-machine : goal.returns-in-Err-clause-machine
 returns-in-Err-clause-machine g c =
-    each (g.C.Store.told c.args.store) (λ stored is log own zero_start choices told.
+    each (g.C.Store.told c.args.store) (λ stored is log own choices told.
     answered_at g.X.Words.scheme log choices c.args.input.now 0 c.new-text.result.items _ (omega arith)
     (λ apart. (c.new-text.ensures.items, log-of g.X.Words.scheme policies _ stored log (ap g.C.Store.told c.in-Err.ensures.back ∙ is) own, own.kept)))
 
@@ -48,21 +49,22 @@ returns-in-Some-ended-clause-machine g c =
     let kept : c.answer_line-next.new.text.items ≡ c.loop-line.text.items = rw c.in-Some-ended.is at c.answer_line-next.ensures.kept in
     let before = c.loop-line.invariant.beside in
     let behind = c.answer_line-next.ensures.beside in
-    each (g.C.Store.told c.args.store) (λ stored is log own zero_start choices told.
-    rw (kept, c.into_store.ensures) (subst (λ xs. IsAnswered m policies log xs (commands_in c.args.input.now) c.loop-line.answered c.loop-line.text.items (g.C.Store.told (store_given g.X.Words.inside c.answer_line-next.result.0.held)))
-    (sym (more-parts (g.C.Store.told c.args.store) _ _ stored before.0 behind.0 choices is before.1 behind.1 (rw c.into_store.ensures at told)))
+    each (g.C.Store.told c.args.store) (λ stored is log own choices told.
+    rw (kept, c.returned.ensures.store) (subst (λ xs. IsAnswered m policies log xs (commands_in c.args.input.now) c.loop-line.answered c.loop-line.text.items (g.C.Store.told (store_given g.X.Words.inside c.answer_line-next.result.0.held)))
+    (sym (more-parts (g.C.Store.told c.args.store) _ _ stored before.0 behind.0 choices is before.1 behind.1 (rw c.returned.ensures.store at told)))
     (answered_in c.args.input.now c.loop-line.rest.now c.in-Some.line.now c.in-Some.behind.now c.loop-line.answered c.loop-line.invariant.at c.in-Some.ensures.some
     m log (before.0 ++ behind.0) c.loop-line.text.items _
     (λ s. Between g.C.Store g.X.Words policies c.loop-line.session behind.0 s)
-    (c.loop-line.invariant.machine stored log is own zero_start before.0 behind.0 before.1)
+    (c.loop-line.invariant.machine stored log is own before.0 behind.0 before.1)
     (λ s between none. own-of m policies _ s.log (rw (sym (c.answer_line-next.ensures.unused none)) at between.stands.store.told) between.sound.kept)
-    (λ s between. c.answer_line-next.ensures.left s between.stands (sound-steady m policies s between.sound)))))
+    (λ s between apart. line-own g.C.Store g.X.Words c.loop-line.session behind.0 (line_of c.in-Some.line.now) _ s (rw c.returned.ensures.store at c.returned.ensures.stable) between apart
+    (c.answer_line-next.ensures.left s between.stands (sound-steady m policies s between.sound) apart)))))
 
 pub returns-in-Some-ended-clause-beside : goal.returns-in-Some-ended-clause-beside
 returns-in-Some-ended-clause-beside g c =
     let before = c.loop-line.invariant.beside in
     let behind = c.answer_line-next.ensures.beside in
-    rw c.into_store.ensures (before.0 ++ behind.0, turns-through before.0 behind.0 (g.C.Store.told c.args.store) _ _ before.1 behind.1)
+    rw c.returned.ensures.store (before.0 ++ behind.0, turns-through before.0 behind.0 (g.C.Store.told c.args.store) _ _ before.1 behind.1)
 
 pub returns-in-Some-ended-clause-bad : goal.returns-in-Some-ended-clause-bad
 returns-in-Some-ended-clause-bad g c = λ e.
@@ -88,14 +90,14 @@ loop-line-preserved g c =
       opened = omega arith;
       later = omega arith;
       beside = (before.0 ++ behind.0, turns-through before.0 behind.0 (g.C.Store.told c.args.store) _ _ before.1 behind.1);
-      machine = λ stored log is own zero_start more rest told.
+      machine = λ stored log is own more rest told.
           subst (λ xs. Apart m.root (after m policies log xs lines (k + 1)).had → (c.answer_line-next.new.text.items ≡ text_of (answers m policies (initial log xs) (take (k + 1) lines))) × Between g.C.Store g.X.Words policies c.answer_line-next.result.0 rest (after m policies log xs lines (k + 1)))
           (sym (ap (λ xs. xs ++ rest) (more-parts (g.C.Store.told c.args.store) _ _ stored before.0 behind.0 more is before.1 behind.1 told) ∙ append_assoc before.0 behind.0 rest))
           (line_step c.args.input.now c.loop-line.rest.now c.in-Some.line.now c.in-Some.behind.now k c.loop-line.invariant.at c.in-Some.ensures.some
           m log (before.0 ++ (behind.0 ++ rest)) (line_of c.in-Some.line.now) refl some c.loop-line.text.items c.answer_line-next.new.text.items
           (λ s. Between g.C.Store g.X.Words policies c.loop-line.session (behind.0 ++ rest) s)
           (λ s. Between g.C.Store g.X.Words policies c.answer_line-next.result.0 rest s)
-          (c.loop-line.invariant.machine stored log is own zero_start before.0 (behind.0 ++ rest) before.1)
+          (c.loop-line.invariant.machine stored log is own before.0 (behind.0 ++ rest) before.1)
           (line_goes g.C.Store g.X.Words c.loop-line.session c.answer_line-next.result.0 behind.0 rest c.loop-line.text.items c.answer_line-next.new.text.items (line_of c.in-Some.line.now) (rw c.in_default-ended.is at behind.2)
           (λ s stands steady choices. rw c.in_default-ended.is at (c.answer_line-next.ensures.machine s stands steady behind.0 rest behind.1 choices))));
     }
@@ -105,13 +107,13 @@ returns-clause-machine g c =
     let m = g.X.Words.scheme in
     let lines = commands_in c.args.input.now in
     let k = c.loop-line.answered in
-    each (g.C.Store.told c.args.store) (λ stored is log own zero_start choices told.
-    rw c.into_store-2.ensures (answered_at m log choices c.args.input.now k c.loop-line.text.items _ c.loop-line.invariant.at.few
+    each (g.C.Store.told c.args.store) (λ stored is log own choices told.
+    rw c.returned-2.ensures.store (answered_at m log choices c.args.input.now k c.loop-line.text.items _ c.loop-line.invariant.at.few
     (subst (λ xs. Apart m.root (after m policies log xs lines k).had → (c.loop-line.text.items ≡ text_of (answers m policies (initial log xs) (take k lines))) × HasLog m (g.C.Store.told (store_given g.X.Words.inside c.loop-line.session.held)) (after m policies log xs lines k).log × IsKept (engine_of m policies) (after m policies log xs lines k).log) (append-nil choices)
-    (λ apart. let at_end = c.loop-line.invariant.machine stored log is own zero_start choices [] (rw c.into_store-2.ensures at told) apart in (at_end.0, (at_end.1).stands.store.told, (at_end.1).sound.kept)))))
+    (λ apart. let at_end = c.loop-line.invariant.machine stored log is own choices [] (rw c.returned-2.ensures.store at told) apart in (at_end.0, (at_end.1).stands.store.told, (at_end.1).sound.kept)))))
 
 pub returns-clause-beside : goal.returns-clause-beside
-returns-clause-beside g c = rw c.into_store-2.ensures c.loop-line.invariant.beside
+returns-clause-beside g c = rw c.returned-2.ensures.store c.loop-line.invariant.beside
 
 pub returns-clause-done : goal.returns-clause-done
 returns-clause-done g c = λ e. at_end c.args.input.now c.loop-line.rest.now c.loop-line.answered c.loop-line.invariant.at c.in_default.ensures.none

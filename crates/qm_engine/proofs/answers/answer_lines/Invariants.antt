@@ -21,7 +21,7 @@ invariant-loop-line g l =
       opened : l.session.opened ≤ l.answered;
       beside : (more : List ℕ) × Turns (g.C.Store.told l.fn.store) (g.C.Store.told (store_given g.X.Words.inside l.session.held)) (IsBeside more);
       later : g.C.Store.faults l.fn.store ≤ g.C.Store.faults (store_given g.X.Words.inside l.session.held);
-      machine : (stored : Stored) (log : Log) → g.C.Store.told l.fn.store ≡ Some stored → IsOwn (engine_of g.X.Words.scheme policies) log stored → log.start ≡ 0
+      machine : (stored : Stored) (log : Log) → g.C.Store.told l.fn.store ≡ Some stored → IsOwn (engine_of g.X.Words.scheme policies) log stored
           → (more rest : List ℕ) → Turns (g.C.Store.told l.fn.store) (g.C.Store.told (store_given g.X.Words.inside l.session.held)) (IsBeside more)
           → Apart g.X.Words.scheme.root (after g.X.Words.scheme policies log (more ++ rest) (commands_in l.input) l.answered).had
           → (l.text.items ≡ text_of (answers g.X.Words.scheme policies (initial log (more ++ rest)) (take l.answered (commands_in l.input))))

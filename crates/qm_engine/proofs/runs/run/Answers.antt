@@ -8,9 +8,9 @@ use Rattle.qm_store.specs.Given.{store_given}
 use Rattle.qm_model.specs.Own.{IsKept}
 use Rattle.qm_engine.specs.Stores.{HasLog, IsBeside}
 use Rattle.qm_engine.specs.Runs.{IsRun, after}
-use Rattle.qm_machine.proofs.Sounds.{sound-steady}
+use Rattle.qm_machine.proofs.Sounds.{kept-low, sound-steady}
 use Rattle.qm_engine.proofs.Lasting.{turns-same, turns-through, turns-told}
-use Rattle.qm_engine.proofs.Loops.{Between, each, loop_step, ended_in, ended_at, line_here, log-of, begins-between, goes-between, none-more, more-parts, Rose-wider}
+use Rattle.qm_engine.proofs.Loops.{Between, each, loop_step, ended_in, ended_at, line_here, log-of, begins-between, goes-between, own-left, none-more, more-parts, Rose-wider}
 use Rattle.qm_engine.proofs.runs.run.Goals as goal
 
 pub loop-command-init : goal.loop-command-init
@@ -25,10 +25,10 @@ loop-command-init g c =
       opened = omega (arith, c.in-Ok.ensures.opened);
       later = omega (arith, ap g.C.Store.faults c.in-Ok.ensures.store);
       beside = ([], turns-same (g.C.Store.told c.args.store) _ same);
-      machine = λ stored log is own zero_start more rest told.
+      machine = λ stored log is own more rest told.
           subst (λ xs. Apart m.root (after m rules log (xs ++ rest) lines 0).had → (map a c.new-replies.result.items ≡ answers m rules (initial log (xs ++ rest)) (take 0 lines)) × Between g.C.Store g.X.Words rules c.in-Ok.session rest (after m rules log (xs ++ rest) lines 0))
           (sym (none-more (g.C.Store.told c.args.store) _ stored more is same told))
-          (λ apart. (ap (map a) c.new-replies.ensures.items, begins-between g.C.Store g.X.Words rules c.in-Ok.session log rest (c.in-Ok.ensures.session log rest (log-of m rules (g.C.Store.told c.args.store) stored log is own) zero_start own.kept.stable) own.kept));
+          (λ apart. (ap (map a) c.new-replies.ensures.items, begins-between g.C.Store g.X.Words rules c.in-Ok.session log rest (c.in-Ok.ensures.session log rest (log-of m rules (g.C.Store.told c.args.store) stored log is own) (kept-low m rules log own.kept) own.kept.stable) own.kept));
     }
 
 pub returns-in-Err-clause-machine : goal.returns-in-Err-clause-machine
@@ -36,7 +36,7 @@ returns-in-Err-clause-machine g c =
     let f = line_view g.X.Key.ByteString.bytes g.X.Value.ByteString.bytes (λ p. p) in
     let a = answer_view g.X.Key.ByteString.bytes g.X.Value.ByteString.bytes g.X.Digest.Digest.bytes in
     let none : map a c.new-replies.result.items ≡ [] = ap (map a) c.new-replies.ensures.items in
-    each (g.C.Store.told c.args.store) (λ stored is log own zero_start choices told.
+    each (g.C.Store.told c.args.store) (λ stored is log own choices told.
     ended_at g.X.Words.scheme g.P.Policy.rules log choices (map f c.args.commands.now) 0 (map a c.new-replies.result.items) _ (omega arith) (ap length none)
     (λ apart. (none, log-of g.X.Words.scheme g.P.Policy.rules _ stored log (ap g.C.Store.told c.in-Err.ensures.back ∙ is) own, own.kept)))
 
@@ -51,27 +51,28 @@ returns-in-Some-clause-machine g c =
     let kept : c.step-next.new.replies.items ≡ c.loop-command.replies.items = rw c.in-Some.is at c.step-next.ensures.kept in
     let before = c.loop-command.invariant.beside in
     let behind = c.step-next.ensures.beside in
-    each (g.C.Store.told c.args.store) (λ stored is log own zero_start choices told.
-    rw (kept, c.into_store.ensures) (subst (λ xs. IsRun g.X.Words.scheme g.P.Policy.rules log xs (map f c.args.commands.now) (map a c.loop-command.replies.items) (g.C.Store.told (store_given g.X.Words.inside c.step-next.result.0.held)))
-    (sym (more-parts (g.C.Store.told c.args.store) _ _ stored before.0 behind.0 choices is before.1 behind.1 (rw c.into_store.ensures at told)))
+    each (g.C.Store.told c.args.store) (λ stored is log own choices told.
+    rw (kept, c.returned.ensures.store) (subst (λ xs. IsRun g.X.Words.scheme g.P.Policy.rules log xs (map f c.args.commands.now) (map a c.loop-command.replies.items) (g.C.Store.told (store_given g.X.Words.inside c.step-next.result.0.held)))
+    (sym (more-parts (g.C.Store.told c.args.store) _ _ stored before.0 behind.0 choices is before.1 behind.1 (rw c.returned.ensures.store at told)))
     (ended_in g.X.Words.scheme g.P.Policy.rules log (before.0 ++ behind.0) (map f c.args.commands.now) i (f c.command-item.result) (map a c.loop-command.replies.items) _
     (λ s. Between g.C.Store g.X.Words g.P.Policy.rules c.loop-command.session behind.0 s)
     (rw (length-map c.args.commands.now f) c.loop-command-test.true)
     (line_here f c.args.commands.now i c.command-item.result c.loop-command-test.true c.command-item.is)
     (length-map c.loop-command.replies.items a ∙ c.loop-command.invariant.count)
-    (c.loop-command.invariant.machine stored log is own zero_start before.0 behind.0 before.1)
-    (λ s between. c.step-next.ensures.left s between.stands (sound-steady g.X.Words.scheme g.P.Policy.rules s between.sound)))))
+    (c.loop-command.invariant.machine stored log is own before.0 behind.0 before.1)
+    (λ s between apart. own-left g.C.Store g.X.Words g.P.Policy.rules c.loop-command.session behind.0 (f c.command-item.result) _ s (rw c.returned.ensures.store at c.returned.ensures.stable) between apart
+    (c.step-next.ensures.left s between.stands (sound-steady g.X.Words.scheme g.P.Policy.rules s between.sound) apart)))))
 
 pub returns-in-Some-clause-beside : goal.returns-in-Some-clause-beside
 returns-in-Some-clause-beside g c =
     let before = c.loop-command.invariant.beside in
     let behind = c.step-next.ensures.beside in
-    rw c.into_store.ensures (before.0 ++ behind.0, turns-through before.0 behind.0 (g.C.Store.told c.args.store) _ _ before.1 behind.1)
+    rw c.returned.ensures.store (before.0 ++ behind.0, turns-through before.0 behind.0 (g.C.Store.told c.args.store) _ _ before.1 behind.1)
 
 pub returns-in-Some-clause-fault : goal.returns-in-Some-clause-fault
 returns-in-Some-clause-fault g c = λ e.
     let rose = c.step-next.ensures.fault (c.in-Some.is ∙ ap Some e) in
-    rw c.into_store.ensures (Rose-wider _ _ _ _ c.loop-command.invariant.later rose (omega arith))
+    rw c.returned.ensures.store (Rose-wider _ _ _ _ c.loop-command.invariant.later rose (omega arith))
 
 pub loop-command-preserved : goal.loop-command-preserved
 loop-command-preserved g c =
@@ -90,7 +91,7 @@ loop-command-preserved g c =
       opened = omega arith;
       later = omega arith;
       beside = (before.0 ++ behind.0, turns-through before.0 behind.0 (g.C.Store.told c.args.store) _ _ before.1 behind.1);
-      machine = λ stored log is own zero_start more rest told.
+      machine = λ stored log is own more rest told.
           subst (λ xs. Apart m.root (after m rules log xs lines (i + 1)).had → (map a c.step-next.new.replies.items ≡ answers m rules (initial log xs) (take (i + 1) lines)) × Between g.C.Store g.X.Words rules c.step-next.result.0 rest (after m rules log xs lines (i + 1)))
           (sym (ap (λ xs. xs ++ rest) (more-parts (g.C.Store.told c.args.store) _ _ stored before.0 behind.0 more is before.1 behind.1 told) ∙ append_assoc before.0 behind.0 rest))
           (loop_step m rules log (before.0 ++ (behind.0 ++ rest)) lines (λ given. given) (λ given answer. given ++ answer ∷ []) (λ given answer. refl) i (f c.command-item.result) (map a c.loop-command.replies.items) (map a c.step-next.new.replies.items)
@@ -98,7 +99,7 @@ loop-command-preserved g c =
           (λ s. Between g.C.Store g.X.Words rules c.step-next.result.0 rest s)
           (rw (length-map c.args.commands.now f) c.loop-command-test.true)
           (line_here f c.args.commands.now i c.command-item.result c.loop-command-test.true c.command-item.is)
-          (c.loop-command.invariant.machine stored log is own zero_start before.0 (behind.0 ++ rest) before.1)
+          (c.loop-command.invariant.machine stored log is own before.0 (behind.0 ++ rest) before.1)
           (goes-between g.C.Store g.X.Words rules c.loop-command.session c.step-next.result.0 behind.0 rest (f c.command-item.result) (λ s. map a c.step-next.new.replies.items ≡ map a c.loop-command.replies.items ++ (turn m rules s (f c.command-item.result)).0 ∷ []) chosen
           (λ s stands sound choices. rw c.in_default.is at (c.step-next.ensures.machine s stands sound behind.0 rest behind.1 choices))));
     }
@@ -109,12 +110,12 @@ returns-clause-machine g c =
     let a = answer_view g.X.Key.ByteString.bytes g.X.Value.ByteString.bytes g.X.Digest.Digest.bytes in
     let m = g.X.Words.scheme in
     let i = c.loop-command.command-index in
-    each (g.C.Store.told c.args.store) (λ stored is log own zero_start choices told.
-    rw c.into_store-2.ensures (ended_at m g.P.Policy.rules log choices (map f c.args.commands.now) i (map a c.loop-command.replies.items) _
+    each (g.C.Store.told c.args.store) (λ stored is log own choices told.
+    rw c.returned-2.ensures.store (ended_at m g.P.Policy.rules log choices (map f c.args.commands.now) i (map a c.loop-command.replies.items) _
     (omega (arith, length-map c.args.commands.now f, c.loop-command.auto.command-index-end))
     (length-map c.loop-command.replies.items a ∙ c.loop-command.invariant.count)
     (subst (λ xs. Apart m.root (after m g.P.Policy.rules log xs (map f c.args.commands.now) i).had → (map a c.loop-command.replies.items ≡ answers m g.P.Policy.rules (initial log xs) (take i (map f c.args.commands.now))) × HasLog m (g.C.Store.told (store_given g.X.Words.inside c.loop-command.session.held)) (after m g.P.Policy.rules log xs (map f c.args.commands.now) i).log × IsKept (engine_of m g.P.Policy.rules) (after m g.P.Policy.rules log xs (map f c.args.commands.now) i).log) (append-nil choices)
-    (λ apart. let at_end = c.loop-command.invariant.machine stored log is own zero_start choices [] (rw c.into_store-2.ensures at told) apart in (at_end.0, (at_end.1).stands.store.told, (at_end.1).sound.kept)))))
+    (λ apart. let at_end = c.loop-command.invariant.machine stored log is own choices [] (rw c.returned-2.ensures.store at told) apart in (at_end.0, (at_end.1).stands.store.told, (at_end.1).sound.kept)))))
 
 pub returns-clause-beside : goal.returns-clause-beside
-returns-clause-beside g c = rw c.into_store-2.ensures c.loop-command.invariant.beside
+returns-clause-beside g c = rw c.returned-2.ensures.store c.loop-command.invariant.beside

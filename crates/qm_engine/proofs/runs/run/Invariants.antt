@@ -17,7 +17,7 @@ invariant-loop-command g l =
       opened : l.session.opened ≤ l.command-index;
       beside : (more : List ℕ) × Turns (g.C.Store.told l.fn.store) (g.C.Store.told (store_given g.X.Words.inside l.session.held)) (IsBeside more);
       later : g.C.Store.faults l.fn.store ≤ g.C.Store.faults (store_given g.X.Words.inside l.session.held);
-      machine : (stored : Stored) (log : Log) → g.C.Store.told l.fn.store ≡ Some stored → IsOwn (engine_of g.X.Words.scheme g.P.Policy.rules) log stored → log.start ≡ 0
+      machine : (stored : Stored) (log : Log) → g.C.Store.told l.fn.store ≡ Some stored → IsOwn (engine_of g.X.Words.scheme g.P.Policy.rules) log stored
           → (more rest : List ℕ) → Turns (g.C.Store.told l.fn.store) (g.C.Store.told (store_given g.X.Words.inside l.session.held)) (IsBeside more)
           → Apart g.X.Words.scheme.root (after g.X.Words.scheme g.P.Policy.rules log (more ++ rest) (map (line_view g.X.Key.ByteString.bytes g.X.Value.ByteString.bytes (λ p. p)) l.commands) l.command-index).had
           → (map (answer_view g.X.Key.ByteString.bytes g.X.Value.ByteString.bytes g.X.Digest.Digest.bytes) l.replies.items ≡ answers g.X.Words.scheme g.P.Policy.rules (initial log (more ++ rest)) (take l.command-index (map (line_view g.X.Key.ByteString.bytes g.X.Value.ByteString.bytes (λ p. p)) l.commands)))

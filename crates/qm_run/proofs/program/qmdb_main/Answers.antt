@@ -15,19 +15,19 @@ pub returns-in-Err-Memory-clause-headline : goal.returns-in-Err-Memory-clause-he
 returns-in-Err-Memory-clause-headline g c = at_kind (kind_of_words (map string_bytes c.args.words.now)) c.in-Some.is_ordered _ (sym c.kind_from.ensures ∙ c.in-Some.is) (each (g.C.Store.told c.args.store) (λ stored is. each_input (g.S.Source.left c.args.source.now) (λ input.
     let m = machine_of c.in-Some.is_ordered in
     let rose : Type 0 = Rose (g.C.Store.faults c.args.store) (g.C.Store.faults c.args.store) in
-    unchanged m stored input 5 rose (g.C.Store.told c.args.store) (g.K.Sink.text c.args.sink.now) (subst (λ left. Says m stored input 5 rose [] left) (sym is) (λ log own zero_start choices turns. says_unstarted m log choices input rose stored own)))))
+    unchanged m stored input 5 rose (g.C.Store.told c.args.store) (g.K.Sink.text c.args.sink.now) (subst (λ left. Says m stored input 5 rose [] left) (sym is) (λ log own choices turns. says_unstarted m log choices input rose stored own)))))
 
 pub returns-in-Err-Failed-clause-headline : goal.returns-in-Err-Failed-clause-headline
 returns-in-Err-Failed-clause-headline g c = at_kind (kind_of_words (map string_bytes c.args.words.now)) c.in-Some.is_ordered _ (sym c.kind_from.ensures ∙ c.in-Some.is) (each (g.C.Store.told c.args.store) (λ stored is. each_input (g.S.Source.left c.args.source.now) (λ input.
     let m = machine_of c.in-Some.is_ordered in
     let rose : Type 0 = Rose (g.C.Store.faults c.args.store) (g.C.Store.faults c.args.store) in
-    unchanged m stored input 3 rose (g.C.Store.told c.args.store) (g.K.Sink.text c.args.sink.now) (λ log own zero_start choices turns. says_nothing m log choices input rose 3 (g.C.Store.told c.args.store) (inr (inl refl))))))
+    unchanged m stored input 3 rose (g.C.Store.told c.args.store) (g.K.Sink.text c.args.sink.now) (λ log own choices turns. says_nothing m log choices input rose 3 (g.C.Store.told c.args.store) (inr (inl refl))))))
 
 pub returns-in-Err-TooLong-clause-headline : goal.returns-in-Err-TooLong-clause-headline
 returns-in-Err-TooLong-clause-headline g c = at_kind (kind_of_words (map string_bytes c.args.words.now)) c.in-Some.is_ordered _ (sym c.kind_from.ensures ∙ c.in-Some.is) (each (g.C.Store.told c.args.store) (λ stored is. each_input (g.S.Source.left c.args.source.now) (λ input.
     let m = machine_of c.in-Some.is_ordered in
     let rose : Type 0 = Rose (g.C.Store.faults c.args.store) (g.C.Store.faults c.args.store) in
-    unchanged m stored input 7 rose (g.C.Store.told c.args.store) (g.K.Sink.text c.args.sink.now) (λ log own zero_start choices turns. says_nothing m log choices input rose 7 (g.C.Store.told c.args.store) (inr (inr refl))))))
+    unchanged m stored input 7 rose (g.C.Store.told c.args.store) (g.K.Sink.text c.args.sink.now) (λ log own choices turns. says_nothing m log choices input rose 7 (g.C.Store.told c.args.store) (inr (inr refl))))))
 
 pub returns-in-Ok-clause-headline : goal.returns-in-Ok-clause-headline
 returns-in-Ok-clause-headline g c =

@@ -1,7 +1,7 @@
 use Rattle.std.proofs.Common.{◌≡◌, [], ◌∷◌, ◌++◌, IfOk, ◌∙◌, Contains, ap, subst}
 use Rattle.qm_model.proofs.Chains.{Contains-first}
 use Rattle.qm_merkle.specs.Batches.{Draft, all_layers, stops, leaves_of, IsHistory}
-use Rattle.qm_store.proofs.Trees.{if_both, begins, new_reach, new_history, new_drafted}
+use Rattle.qm_store.proofs.Trees.{adds, if_both, begins, new_reach, new_history, new_drafted}
 use Rattle.qm_store.proofs.log.grown.Goals as goal
 
 pub merkleize-requires-clause-reach : goal.merkleize-requires-clause-reach
@@ -13,6 +13,11 @@ pub returns-clause-leaves : goal.returns-clause-leaves
 returns-clause-leaves g c =
     let is = c.in_ok-add_leaf_digests.ensures.ok ∙ ap (λ (d : Draft _). record d { added = d.added ++ c.args.digests.now }) c.new_batch-batch.ensures in
     subst (λ n. IfOk c.merkleize.result (λ b. b.newest.tree.leaves ≡ n)) (ap leaves_of is) c.merkleize.ensures.leaves
+
+pub returns-clause-adding : goal.returns-clause-adding
+returns-clause-adding g c =
+    let is = c.in_ok-add_leaf_digests.ensures.ok ∙ ap (λ (d : Draft _). record d { added = d.added ++ c.args.digests.now }) c.new_batch-batch.ensures in
+    adds g.F.Family.shape c.add_leaf_digests.new.self c.merkleize.result (ap (λ (d : Draft _). d.replaced) is) c.merkleize.ensures.base c.merkleize.ensures.leaves c.merkleize.ensures.own
 
 pub returns-clause-reach : goal.returns-clause-reach
 returns-clause-reach g c =

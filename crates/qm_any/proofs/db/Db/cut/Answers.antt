@@ -54,4 +54,4 @@ returns-clause-refused g c =
     err-over g.C.Store (cut c.args.to beside) c.prune.result c.over-2.result (IsGivenUp g.C.Store (λ _. HasLeftPruned g.C.Store hashing (λ s. s) c.args.to c.args.self.log) c.args.self.log.store)
     (cut-log-is g.C.Store _ beside c.prune_to_bit.new.self c.args.to c.prune.result c.over-2.result c.over-2.ensures c.prune_to_bit.ensures c.beside.view_is)
     (err-then c.prune.result c.prune.ensures.refused
-    (λ r refused. cut-given-up g.C.Store hashing c.args.to refused.0 c.args.self beside old r c.apart-log.ensures.whole c.requires.stable refused.1 refused.2))
+    (λ r refused. cut-given-up g.C.Store hashing c.args.to refused.0 c.args.self beside old r c.apart-log.ensures.whole c.requires.stable (omega (arith, c.if-to-start.false, c.bounds-start.ensures.start)) refused.1 refused.2))

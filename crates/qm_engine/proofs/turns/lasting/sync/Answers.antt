@@ -1,4 +1,3 @@
-use Rattle.std.proofs.Common.{subst, sym}
 use Rattle.qm_engine.proofs.LastingCommands.{not_open-left, settled_turn, settled_left, settled_handles, same_handles}
 use Rattle.qm_engine.proofs.turns.lasting.sync.Goals as goal
 

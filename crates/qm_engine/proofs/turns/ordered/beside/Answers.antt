@@ -1,6 +1,5 @@
 use Rattle.std.proofs.Common.{sym, ◌∙◌}
 use Rattle.qm_engine.specs.Ordered.{key_beside}
-use Rattle.qm_engine.proofs.Commands.{Holds-told}
 use Rattle.qm_engine.proofs.OrderedCommands.{beside_ok, beside_err}
 use Rattle.qm_engine.proofs.turns.ordered.beside.Goals as goal
 
@@ -16,4 +15,4 @@ returns-in-Err-clause-machine g c = λ s k.
     let held = rw c.in-Database.is at k in
     rw (c.in-Some.is, c.turn_of.ensures) (beside_err g.C.Store g.X.Words g.X.Key.ByteString.bytes g.X.Value.ByteString.bytes g.X.Digest.Digest.bytes c.in-Database.x c.beside_from.new.database c.args.session.now.table.items c.args.session.now.opened c.in-Some.number s (key_beside c.args.side (g.X.Key.ByteString.bytes c.args.key.now)) c.in-Some-merkleized_at.batch.now c.in-Err.error
     held (c.beside_from.ensures.reads.same, c.beside_from.ensures.reads.store) (sym c.is_ordered.ensures ∙ c.if-not-is_ordered.false) c.in-Some-merkleized_at.ensures
-    _ (Holds-told g.C.Store g.X.Words c.in-Database.x c.args.session.now.table.items c.args.session.now.opened s held) c.in-Err.ensures.failure)
+    c.in-Err.ensures.failure)

@@ -1,7 +1,6 @@
 use Rattle.std.proofs.Common.{map, sym, refl}
 use Rattle.qm_lines.specs.declared.reply.Reply.TheVariants.{BatchProof}
 use Rattle.qm_proofs.specs.Proofs.{proof_view}
-use Rattle.qm_engine.proofs.Commands.{Holds-told}
 use Rattle.qm_engine.proofs.ProofCommands.{batch_proof_ok, batch_proof_err}
 use Rattle.qm_engine.proofs.turns.proofs.batch_proof.Goals as goal
 
@@ -13,6 +12,5 @@ returns-in-Ok-clause-machine g c = λ s k.
 pub returns-in-Err-clause-machine : goal.returns-in-Err-clause-machine
 returns-in-Err-clause-machine g c = λ s k.
     let held = rw c.in-Database.is at k in
-    let zero_start = (Holds-told g.C.Store g.X.Words c.in-Database.x c.args.session.now.table.items c.args.session.now.opened s held).0 in
     rw (c.turn_of.ensures, c.in-Database.is) (batch_proof_err g.C.Store g.X.Words g.X.Key.ByteString.bytes g.X.Value.ByteString.bytes g.X.Digest.Digest.bytes c.in-Err.error c.in-Database.x c.args.session.now.table.items c.args.session.now.opened c.args.number c.in-Some.batch.now s held
-    _ zero_start c.in-Err.ensures.failure (sym c.in-Some.ensures))
+    c.in-Err.ensures.failure (sym c.in-Some.ensures))

@@ -1,13 +1,11 @@
 use Rattle.std.proofs.Common.{map}
-use Rattle.qm_engine.proofs.Commands.{Holds-told}
 use Rattle.qm_engine.proofs.ProofCommands.{pins_ok, pins_err}
 use Rattle.qm_engine.proofs.turns.proofs.pins.Goals as goal
 
 pub returns-in-Err-clause-machine : goal.returns-in-Err-clause-machine
 returns-in-Err-clause-machine g c = λ s k.
     let held = rw c.in-Database.is at k in
-    let zero_start = (Holds-told g.C.Store g.X.Words c.in-Database.x c.args.session.now.table.items c.args.session.now.opened s held).0 in
-    rw (c.turn_of.ensures, c.in-Database.is) (pins_err g.C.Store g.X.Words g.X.Key.ByteString.bytes g.X.Value.ByteString.bytes g.X.Digest.Digest.bytes c.in-Database.x c.args.session.now.table.items c.args.session.now.opened c.args.at c.in-Err.error s held (c.in-Err.ensures.refused zero_start))
+    rw (c.turn_of.ensures, c.in-Database.is) (pins_err g.C.Store g.X.Words g.X.Key.ByteString.bytes g.X.Value.ByteString.bytes g.X.Digest.Digest.bytes c.in-Database.x c.args.session.now.table.items c.args.session.now.opened c.args.at c.in-Err.error s held c.in-Err.ensures.refused)
 
 pub returns-in-Ok-clause-machine : goal.returns-in-Ok-clause-machine
 returns-in-Ok-clause-machine g c = λ s k apart.

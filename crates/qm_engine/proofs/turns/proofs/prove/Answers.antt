@@ -2,7 +2,6 @@ use Rattle.std.proofs.Common.{map}
 use Rattle.std.specs.Int.NonZero.{non_zero_u64_get}
 use Rattle.qm_lines.specs.Views.{listed_view}
 use Rattle.qm_proofs.specs.Proofs.{proof_view}
-use Rattle.qm_engine.proofs.Commands.{Holds-told}
 use Rattle.qm_engine.proofs.ProofCommands.{prove_ok, prove_err}
 use Rattle.qm_engine.proofs.turns.proofs.prove.Goals as goal
 
@@ -16,4 +15,4 @@ pub returns-in-Err-clause-machine : goal.returns-in-Err-clause-machine
 returns-in-Err-clause-machine g c = λ s k.
     let held = rw c.in-Database.is at k in
     rw c.turn_of.ensures (prove_err g.C.Store g.X.Words g.X.Key.ByteString.bytes g.X.Value.ByteString.bytes g.X.Digest.Digest.bytes c.in-Database.x c.prove.new.self c.args.session.now.table.items c.args.session.now.opened c.args.size c.args.start (non_zero_u64_get c.args.max) c.in-Err.error s held
-    c.prove.ensures.reads.same c.prove.ensures.reads.store (c.in-Err.ensures.refused (Holds-told g.C.Store g.X.Words c.in-Database.x c.args.session.now.table.items c.args.session.now.opened s held)))
+    c.prove.ensures.reads.same c.prove.ensures.reads.store c.in-Err.ensures.refused)

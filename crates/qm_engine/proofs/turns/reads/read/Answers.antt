@@ -1,7 +1,6 @@
 use Rattle.std.proofs.Common.{map, option_map, subst, sym, ◌∙◌}
 use Rattle.qm_model.specs.Live.{value_of}
 use Rattle.qm_engine.specs.Session.{SlotIs}
-use Rattle.qm_engine.proofs.Commands.{Holds-told}
 use Rattle.qm_engine.proofs.ReadCommands.{map-through, database_read, named_read}
 use Rattle.qm_engine.proofs.turns.reads.read.Goals as goal
 
@@ -16,5 +15,5 @@ returns-in-Some-slot_at-clause-machine g c = λ s k.
     let held = rw c.in-Database.is at k in
     rw c.in-Some.is (named_read g.C.Store g.X.Words g.X.Key.ByteString.bytes g.X.Value.ByteString.bytes g.X.Digest.Digest.bytes c.read_slot.result c.in-Database.x c.read_slot.new.database c.args.session.now.table.items c.args.session.now.opened c.in-Some.number (map g.X.Key.ByteString.bytes c.args.keys.now) s held
     c.read_slot.ensures.same c.read_slot.ensures.store
-    (λ list named stands in_had is. c.read_slot.ensures.machine s list named (Holds-told g.C.Store g.X.Words c.in-Database.x c.args.session.now.table.items c.args.session.now.opened s held) stands in_had
+    (λ list named tells stands in_had is. c.read_slot.ensures.machine s list named tells stands in_had
     (subst (λ a. SlotIs g.C.Store g.X.Words s.had a named) (sym c.in-Some-slot_at.ensures) is)))

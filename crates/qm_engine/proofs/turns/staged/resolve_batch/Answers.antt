@@ -8,5 +8,5 @@ use Rattle.qm_engine.proofs.turns.staged.resolve_batch.Goals as goal
 pub returns-clause-made : goal.returns-clause-made
 returns-clause-made g c =
     rw (sym c.in_ok-policy.ensures) (staged_making g.C.Store g.X.Words g.X.Key.ByteString.bytes g.X.Value.ByteString.bytes g.X.Digest.Digest.bytes c.args.database.now c.args.batch
-    (λ chain ws keys. tip_of g.X.Words.scheme g.P.Policy.rules chain (slotted ws keys (slot_views g.X.Value.ByteString.bytes c.args.resolution.now.slots.items) (write_views g.X.Key.ByteString.bytes g.X.Value.ByteString.bytes c.args.resolution.now.others.items)) c.in_ok-policy.policy (option_map g.X.Value.ByteString.bytes c.args.metadata.now)) _ c.resolve.result
+    (λ chain ws keys. tip_of g.X.Words.scheme g.P.Policy.rules chain (slotted ws keys (slot_views g.X.Value.ByteString.bytes c.args.resolution.now.slots.items) (write_views g.X.Key.ByteString.bytes g.X.Value.ByteString.bytes c.args.resolution.now.others.items)) c.in_ok-policy.policy (option_map g.X.Value.ByteString.bytes c.args.metadata.now)) c.resolve.result
     c.resolve.ensures.fits c.resolve.ensures.made c.resolve.ensures.stale c.resolve.ensures.refused)

@@ -1,7 +1,6 @@
 use Rattle.std.proofs.Common.{map, option_map, refl, sym, ◌∙◌}
 use Rattle.qm_model.specs.Writes.{read_through}
 use Rattle.qm_lines.specs.declared.reply.Reply.TheVariants.{Read}
-use Rattle.qm_engine.proofs.Commands.{Holds-told}
 use Rattle.qm_engine.proofs.ReadCommands.{map-through}
 use Rattle.qm_engine.proofs.StagedCommands.{stage_ok, stage_err}
 use Rattle.qm_engine.proofs.turns.staged.stage.Goals as goal
@@ -19,4 +18,4 @@ returns-in-Err-clause-machine g c = λ s k.
     let held = rw c.in-Database.is at k in
     rw (c.turn_of.ensures, c.in-Some.ensures.table) (stage_err g.C.Store g.X.Words g.X.Key.ByteString.bytes g.X.Value.ByteString.bytes g.X.Digest.Digest.bytes c.in-Database.x c.stage.new.self c.args.session.now.table.items c.args.session.now.opened c.args.number (map g.X.Key.ByteString.bytes c.args.keys.now)
     c.in-Some.batch c.in-Err.error s held (c.stage.ensures.reads.same, c.stage.ensures.reads.store)
-    _ (Holds-told g.C.Store g.X.Words c.in-Database.x c.args.session.now.table.items c.args.session.now.opened s held) c.in-Err.ensures.failure (sym c.in-Some.ensures.value))
+    c.in-Err.ensures.failure (sym c.in-Some.ensures.value))

@@ -1,5 +1,5 @@
 use Rattle.std.proofs.Common.{◌≡◌, ◌∙◌, sym, subst, map, option_map}
-use Rattle.qm_model.proofs.Results.{err-then, ok-then}
+use Rattle.qm_model.proofs.Results.{err-both, err-then, ok-then}
 use Rattle.qm_model.specs.Live.{value_of}
 use Rattle.qm_any.specs.Databases.{IsDatabase, IsMade}
 use Rattle.qm_any.proofs.Reading.{left-database}
@@ -7,7 +7,7 @@ use Rattle.qm_chain.specs.Bounds.{knows}
 use Rattle.qm_base.specs.declared.error.Error.TheVariants.{Journal}
 use Rattle.qm_base.specs.declared.error.JournalError.TheVariants.{Store}
 use Rattle.qm_engines.specs.Databases.{hashing, layout}
-use Rattle.qm_engines.proofs.Engines.{err-of, left-store, knows-readable, read-failure, rose-read, never-read, made-reads}
+use Rattle.qm_engines.proofs.Engines.{err-of, left-store, knows-readable, kept-items, read-failure, rose-read, never-read, made-reads}
 use Rattle.qm_engines.proofs.database.DatabaseEngine.get_from.Goals as goal
 
 pub returns-clause-readable : goal.returns-clause-readable
@@ -22,10 +22,10 @@ returns-clause-values g c =
 
 pub returns-clause-failure : goal.returns-clause-failure
 returns-clause-failure g c =
-    err-then c.get_many.result c.get_many.ensures.error
-    (λ e why list chain tip is batch.
+    err-both c.get_many.result c.get_many.ensures.error (kept-items g.C.Store (layout g.U.Update.form g.I.Unordered.index_key) c.args.self.now.db c.get_many.result c.get_many.ensures.whole)
+    (λ e why kept list chain tip is batch.
     read-failure g.C.Store c.args.self.now.db.log c.get_many.new.db.log (knows c.deref.result.now.bounds c.args.self.now.db.commitment) e _ list chain tip
-    (knows-readable g.U.Update.form g.met.U.Kind.lengths list chain tip c.args.self.now.db.commitment c.deref.result.now.bounds is.commitment ((subst (λ b. IsMade (hashing g.U.Update.form) b chain tip) (sym c.deref.ensures) batch).bounds)) is.lent.logged.start why)
+    (knows-readable g.U.Update.form g.met.U.Kind.lengths list chain tip c.args.self.now.db.commitment c.deref.result.now.bounds is.commitment ((subst (λ b. IsMade (hashing g.U.Update.form) b chain tip) (sym c.deref.ensures) batch).bounds)) (kept list is) why)
 
 pub returns-clause-reads : goal.returns-clause-reads
 returns-clause-reads g c = record {

@@ -1,6 +1,7 @@
 use Rattle.std.proofs.Common.{◌≡◌, ◌≤◌, suc, length, ◌∙◌, ap, sym, subst, IfOk, IfErr, option_map, ◌⊎◌}
-use Rattle.qm_model.proofs.Results.{err-both, err-then, ok-then}
+use Rattle.qm_model.proofs.Results.{err-then, ok-then}
 use Rattle.qm_model.specs.Batches.{IsOnChain}
+use Rattle.qm_model.specs.Live.{floor}
 use Rattle.qm_batch.specs.Lent.{IsReadError}
 use Rattle.qm_step.specs.Views.{stepped}
 use Rattle.qm_base.specs.declared.sha256.Sha256Digest.{Sha256Digest}
@@ -10,7 +11,7 @@ use Rattle.qm_any.proofs.Reading.{left-database}
 use Rattle.qm_base.specs.declared.error.Error.TheVariants.{Journal}
 use Rattle.qm_base.specs.declared.error.JournalError.TheVariants.{Store}
 use Rattle.qm_engines.specs.Databases.{hashing, layout}
-use Rattle.qm_engines.proofs.Engines.{err-of, left-store, on-begun, off-chain, made-ok, made-err, refused-due}
+use Rattle.qm_engines.proofs.Engines.{err-of, left-store, on-begun, off-chain, made-ok, made-err, err-three, kept-from, refused-due}
 use Rattle.qm_engines.proofs.database.DatabaseEngine.merkleize.Goals as goal
 
 pub returns-clause-fits : goal.returns-clause-fits
@@ -47,14 +48,15 @@ returns-clause-refused g c =
     let made = option_map (λ v. v) c.in_ok-metadata.metadata in
     let same : made ≡ meta = ap (option_map (λ v. v)) c.in_ok-metadata.ensures in
     let read = IsReadError g.C.Store c.args.self.now.db.log c.merkleize.new.db.log in
-    err-both c.merkleize.result
+    err-three c.merkleize.result
     (made-err g.U.Update.form rules c.merkleize.result (IsBegun (hashing g.U.Update.form) c.args.batch) c.args.batch.writes policy meta read (IsDatabase g.C.Store (layout g.U.Update.form g.I.Unordered.index_key) c.args.self.now.db)
     (λ list chain above is begun on.
     subst (λ m. IfErr c.merkleize.result (λ e. IsRefused g.U.Update.form chain.base (stepped g.U.Update.form rules chain.base c.args.batch.writes policy m) e ⊎ read e)) same
     (c.merkleize.ensures.refused list chain above is begun on)))
     c.merkleize.ensures.order
-    (λ e refused order fresh tells list chain above ws is batch.
-    refused-due g.U.Update.form chain (stepped g.U.Update.form rules chain.base ws policy meta) g.C.Store c.args.self.now.db.log c.merkleize.new.db.log _ (IsOnChain list chain) e fresh (is.lent.logged.start ∙ tells.0) (refused list chain above is batch.0 ws batch.1)
+    (kept-from g.C.Store (layout g.U.Update.form g.I.Unordered.index_key) c.args.self.now.db c.merkleize.result c.args.batch.parent.bounds.inactivity_floor c.merkleize.ensures.whole)
+    (λ e refused order kept fresh list chain above ws is batch tells.
+    refused-due g.U.Update.form chain (stepped g.U.Update.form rules chain.base ws policy meta) g.C.Store c.args.self.now.db.log c.merkleize.new.db.log _ (IsOnChain list chain) (floor list ≤ floor chain.base) e fresh (λ low. kept list is tells (subst (λ n. floor list ≤ n) (sym batch.0.parent.lowest) low)) (refused list chain above is batch.0 ws batch.1)
     (λ memory. sym (on-begun g.U.Update.form g.met.U.Kind.lengths list chain above c.args.self.now.db.commitment c.args.batch (subst (λ (b : Begun Sha256Digest). b.keep ≤ suc (length b.parent.bounds.ancestors)) c.batch.view_is c.batch.invariant) is.commitment batch.0) ∙ order memory fresh))
 
 pub returns-clause-reads : goal.returns-clause-reads

@@ -1,4 +1,4 @@
-use Rattle.std.proofs.Common.{◌≡◌, ◌∙◌, option_map}
+use Rattle.std.proofs.Common.{◌≡◌, option_map}
 use Rattle.qm_model.proofs.Results.{err-then, ok-each, ok-then}
 use Rattle.qm_model.specs.Live.{live_keys}
 use Rattle.qm_model.specs.Ranges.{key_above}
@@ -7,7 +7,7 @@ use Rattle.qm_any.proofs.Reading.{left-database}
 use Rattle.qm_base.specs.declared.error.Error.TheVariants.{Journal}
 use Rattle.qm_base.specs.declared.error.JournalError.TheVariants.{Store}
 use Rattle.qm_engines.specs.Databases.{hashing, layout}
-use Rattle.qm_engines.proofs.Engines.{err-of, left-store, log-untold, log-rose, log-kept}
+use Rattle.qm_engines.proofs.Engines.{err-of, left-store, read-untold, log-rose, log-kept}
 use Rattle.qm_engines.proofs.database.DatabaseEngine.next.Goals as goal
 
 pub returns-clause-above : goal.returns-clause-above
@@ -29,4 +29,4 @@ pub returns-clause-never : goal.returns-clause-never
 returns-clause-never g c = err-then c.get_next_key.result c.get_next_key.ensures.error (λ e why. log-kept g.C.Store c.args.self.now.db.log c.get_next_key.new.self.log e why)
 
 pub returns-clause-refused : goal.returns-clause-refused
-returns-clause-refused g c = err-then c.get_next_key.result c.get_next_key.ensures.error (λ e why tells list is. log-untold g.C.Store c.args.self.now.db.log c.get_next_key.new.self.log e (is.lent.logged.start ∙ tells.0) why)
+returns-clause-refused g c = read-untold g.C.Store (layout g.U.Update.form g.I.Unordered.index_key) c.args.self.now.db c.get_next_key.new.self.log c.get_next_key.result c.get_next_key.ensures.error c.get_next_key.ensures.whole

@@ -1,5 +1,5 @@
 use Rattle.std.proofs.Common.{◌≡◌, ◌∙◌, sym, subst, option_map}
-use Rattle.qm_model.proofs.Results.{err-then, ok-then}
+use Rattle.qm_model.proofs.Results.{err-both, err-then, ok-then}
 use Rattle.qm_model.specs.Live.{live_keys}
 use Rattle.qm_model.specs.Ranges.{key_above}
 use Rattle.qm_any.specs.Databases.{IsDatabase, IsMade}
@@ -8,7 +8,7 @@ use Rattle.qm_chain.specs.Bounds.{knows}
 use Rattle.qm_base.specs.declared.error.Error.TheVariants.{Journal}
 use Rattle.qm_base.specs.declared.error.JournalError.TheVariants.{Store}
 use Rattle.qm_engines.specs.Databases.{hashing, layout}
-use Rattle.qm_engines.proofs.Engines.{err-of, left-store, knows-readable, read-failure, rose-read, never-read, made-reads}
+use Rattle.qm_engines.proofs.Engines.{err-of, left-store, knows-readable, kept-items, read-failure, rose-read, never-read, made-reads}
 use Rattle.qm_engines.proofs.database.DatabaseEngine.next_from.Goals as goal
 
 pub returns-clause-readable : goal.returns-clause-readable
@@ -25,10 +25,10 @@ returns-clause-above g c =
 
 pub returns-clause-failure : goal.returns-clause-failure
 returns-clause-failure g c =
-    err-then c.get_next_key.result c.get_next_key.ensures.error
-    (λ e why list chain tip is batch.
+    err-both c.get_next_key.result c.get_next_key.ensures.error (kept-items g.C.Store (layout g.U.Update.form g.I.Unordered.index_key) c.args.self.now.db c.get_next_key.result c.get_next_key.ensures.whole)
+    (λ e why kept list chain tip is batch.
     read-failure g.C.Store c.args.self.now.db.log c.get_next_key.new.db.log (knows c.deref.result.now.bounds c.args.self.now.db.commitment) e _ list chain tip
-    (knows-readable g.U.Update.form g.met.U.Kind.lengths list chain tip c.args.self.now.db.commitment c.deref.result.now.bounds is.commitment (subst (λ b. IsMade (hashing g.U.Update.form) b chain tip) (sym c.deref.ensures) batch).bounds) is.lent.logged.start why)
+    (knows-readable g.U.Update.form g.met.U.Kind.lengths list chain tip c.args.self.now.db.commitment c.deref.result.now.bounds is.commitment (subst (λ b. IsMade (hashing g.U.Update.form) b chain tip) (sym c.deref.ensures) batch).bounds) (kept list is) why)
 
 pub returns-clause-reads : goal.returns-clause-reads
 returns-clause-reads g c = record {

@@ -1,4 +1,4 @@
-use Rattle.std.proofs.Common.{◌≡◌, ◌∙◌, map}
+use Rattle.std.proofs.Common.{◌≡◌, map}
 use Rattle.qm_model.proofs.Results.{err-then, ok-each, ok-then}
 use Rattle.qm_model.specs.Ranges.{pairs_in}
 use Rattle.qm_any.specs.Databases.{IsDatabase}
@@ -7,7 +7,7 @@ use Rattle.qm_base.specs.declared.error.Error.TheVariants.{Journal}
 use Rattle.qm_base.specs.declared.error.JournalError.TheVariants.{Store}
 use Rattle.qm_base.specs.Views.{limit_of, pair_view}
 use Rattle.qm_engines.specs.Databases.{hashing, layout}
-use Rattle.qm_engines.proofs.Engines.{err-of, left-store, log-untold, log-rose, log-kept}
+use Rattle.qm_engines.proofs.Engines.{err-of, left-store, read-untold, log-rose, log-kept}
 use Rattle.qm_engines.proofs.database.DatabaseEngine.range.Goals as goal
 
 pub returns-clause-pairs : goal.returns-clause-pairs
@@ -30,4 +30,4 @@ pub returns-clause-never : goal.returns-clause-never
 returns-clause-never g c = err-then c.pairs_of.result c.pairs_of.ensures.error (λ e why. log-kept g.C.Store c.args.self.now.db.log c.pairs_of.new.db.log e why)
 
 pub returns-clause-refused : goal.returns-clause-refused
-returns-clause-refused g c = err-then c.pairs_of.result c.pairs_of.ensures.error (λ e why tells list is. log-untold g.C.Store c.args.self.now.db.log c.pairs_of.new.db.log e (is.lent.logged.start ∙ tells.0) why)
+returns-clause-refused g c = read-untold g.C.Store (layout g.U.Update.form g.I.Unordered.index_key) c.args.self.now.db c.pairs_of.new.db.log c.pairs_of.result c.pairs_of.ensures.error c.pairs_of.ensures.whole

@@ -4,7 +4,7 @@ use Rattle.qm_lines.specs.Views.{span_view}
 use Rattle.qm_any.specs.Databases.{IsDatabase}
 use Rattle.qm_any.proofs.Reading.{left-database}
 use Rattle.qm_engines.specs.Databases.{hashing, layout}
-use Rattle.qm_engines.proofs.Engines.{left-store, log-untold, log-rose, log-kept}
+use Rattle.qm_engines.proofs.Engines.{left-store, none-below, log-untold, log-rose, log-kept}
 use Rattle.qm_engines.proofs.Spans.{same-located}
 use Rattle.qm_engines.proofs.database.DatabaseEngine.span.Goals as goal
 
@@ -30,4 +30,4 @@ pub returns-in-Err-clause-never : goal.returns-in-Err-clause-never
 returns-in-Err-clause-never g c = log-kept g.C.Store c.args.self.now.db.log c.get_span.new.self.log c.in-Err.error c.in-Err.ensures.error
 
 pub returns-in-Err-clause-refused : goal.returns-in-Err-clause-refused
-returns-in-Err-clause-refused g c = λ tells list is. log-untold g.C.Store c.args.self.now.db.log c.get_span.new.self.log c.in-Err.error (is.lent.logged.start ∙ tells.0) c.in-Err.ensures.error
+returns-in-Err-clause-refused g c = λ list is tells. log-untold g.C.Store c.args.self.now.db.log c.get_span.new.self.log c.in-Err.error (c.in-Err.ensures.whole list is (none-below g.C.Store (layout g.U.Update.form g.I.Unordered.index_key) c.args.self.now.db list is tells)) c.in-Err.ensures.error

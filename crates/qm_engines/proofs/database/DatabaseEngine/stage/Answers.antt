@@ -1,5 +1,5 @@
 use Rattle.std.proofs.Common.{◌≡◌, ◌∙◌, sym, map, option_map}
-use Rattle.qm_model.proofs.Results.{err-then, ok-then}
+use Rattle.qm_model.proofs.Results.{err-both, err-then, ok-then}
 use Rattle.qm_model.specs.Writes.{read_through}
 use Rattle.qm_any.specs.Databases.{IsDatabase}
 use Rattle.qm_any.proofs.Reading.{left-database}
@@ -7,7 +7,7 @@ use Rattle.qm_chain.specs.Bounds.{knows}
 use Rattle.qm_base.specs.declared.error.Error.TheVariants.{Journal}
 use Rattle.qm_base.specs.declared.error.JournalError.TheVariants.{Store}
 use Rattle.qm_engines.specs.Databases.{hashing, layout}
-use Rattle.qm_engines.proofs.Engines.{err-of, left-store, knows-readable, read-failure, rose-read, never-read, begun-staged}
+use Rattle.qm_engines.proofs.Engines.{err-of, left-store, knows-readable, kept-items, read-failure, rose-read, never-read, begun-staged}
 use Rattle.qm_engines.proofs.database.DatabaseEngine.stage.Goals as goal
 
 pub returns-clause-readable : goal.returns-clause-readable
@@ -22,10 +22,10 @@ returns-clause-values g c =
 
 pub returns-clause-failure : goal.returns-clause-failure
 returns-clause-failure g c =
-    err-then c.stage.result c.stage.ensures.error
-    (λ e why list chain above ws is batch.
+    err-both c.stage.result c.stage.ensures.error (kept-items g.C.Store (layout g.U.Update.form g.I.Unordered.index_key) c.args.self.now.db c.stage.result c.stage.ensures.whole)
+    (λ e why kept list chain above ws is batch.
     read-failure g.C.Store c.args.self.now.db.log c.stage.new.db.log (knows c.args.batch.parent.bounds c.args.self.now.db.commitment) e _ list above chain.base
-    (knows-readable g.U.Update.form g.met.U.Kind.lengths list above chain.base c.args.self.now.db.commitment c.args.batch.parent.bounds is.commitment batch.0.parent.bounds) is.lent.logged.start why)
+    (knows-readable g.U.Update.form g.met.U.Kind.lengths list above chain.base c.args.self.now.db.commitment c.args.batch.parent.bounds is.commitment batch.0.parent.bounds) (kept list is) why)
 
 pub returns-clause-reads : goal.returns-clause-reads
 returns-clause-reads g c = record {

@@ -14,7 +14,7 @@ returns-clause-tree g c = λ list base older is kept found.
     let history = c.in_ok-batch.ensures.history list base kept.lists is kept.history (kept-among hash shape bytes c.args.self.now base older kept list found) in
     let long : c.self.inside.leaves + length c.args.items.now ≡ c.args.self.now.leaves + length more =
     ap₂ (λ a b. a + b) (ap (λ t. t.leaves) c.self.view_is) (sym (length-map c.args.items.now (λ v. v.items))) in
-    kept-grown hash shape bytes c.args.self.now base older kept (record { leaves = c.self.inside.leaves + length c.args.items.now; layers = all_layers c.in_ok-batch.batch }) more c.args.boundary long history
+    kept-grown hash shape bytes c.args.self.now base older kept (record { leaves = c.self.inside.leaves + length c.args.items.now; layers = all_layers c.in_ok-batch.batch }) more c.args.boundary long history (c.in_ok-batch.ensures.adding kept.adding)
 
 pub returns-clause-root : goal.returns-clause-root
 returns-clause-root g c = λ list base older is kept found.

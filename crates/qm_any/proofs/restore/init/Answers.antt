@@ -10,7 +10,7 @@ use Rattle.qm_any.specs.Layouts.{hashing_of}
 use Rattle.qm_any.specs.Restoring.{selected_size, taken, LeavesOpening}
 use Rattle.qm_any.proofs.Taking.{taken-some, leaves-some, leaves-whole, turns-weaker, turns-kept, unchanged-behind}
 use Rattle.qm_any.proofs.Restoring.{told-floor, each-known, known-at}
-use Rattle.qm_any.proofs.restore.take_up.Goals as goal
+use Rattle.qm_any.proofs.restore.init.Goals as goal
 
 pub returns-in-Ok-Some-clause-stands : goal.returns-in-Ok-Some-clause-stands
 returns-in-Ok-Some-clause-stands g c =
