@@ -68,12 +68,11 @@ for row in check_rows.load_rows():
     if ' '.join(run['words']) != WORDS: continue
     if 'repeat' in run['input']: continue
     data = check_rows.row_input(run)
-    if b'prune' in data: continue
     name = row['name'].replace(' any unordered mmr', '')
     store = model.Store()
     status, text = qmdb.run_program(run['words'], data, store, STAGE)
     assert (status, text.decode()) == (run['status'], run['output'])
-    put(name, lines_of(data), run['output'], run['status'], 0, len(store.items), [i.hex() for i in store.items] if name in ('one put', 'put and delete') else None)
+    put(name, lines_of(data), run['output'], run['status'], store.start, len(store.items), [i.hex() for i in store.items] if name in ('one put', 'put and delete') else None)
 
 section('Worked rows of ordered databases.')
 for row in check_rows.load_rows():
@@ -81,7 +80,7 @@ for row in check_rows.load_rows():
     if first > STAGE or last < STAGE or 'initial' in row or row['store'] == 'mem' or len(row['runs']) > 1: continue
     run, = row['runs']
     data = check_rows.row_input(run)
-    if ' '.join(run['words']) != ORDERED or b'prune' in data: continue
+    if ' '.join(run['words']) != ORDERED: continue
     t, s, _ = modelled(row['name'].replace(' any ordered mmr', ''), data, words=ORDERED)
     assert (s, t) == (run['status'], run['output'])
 
@@ -123,14 +122,14 @@ modelled('lines', ''.join(x + '\n' for x in (
  'stage 1 6b', 'stage 0 6B 6c 6b', 'expand 1 6b', 'expand 18446744073709551615 6b 6b', 'resolve 1 prop none', 'resolve 1 hold 0f keep del put:- put:0F', 'resolve 1 rule:2:9 - 6b=none 6B=- 6c=none', 'resolve 0 prop none put:%s 00fF=0f' % ('62' * 64),
  'apply 10', 'ops 18446744073709551615', 'get 4a4A', 'get 4a from=3', 'many 4a', 'many 4a 6b 4a from=0', 'child 2', 'child 2 keep=0', 'child 2 keep=18446744073709551615',
  'next 4a', 'next 4a4A from=3', 'prev 4A', 'prev 4a from=0', 'span 4a', 'all 4a', 'range * *', 'range [4a 4b]', 'range (4a 4b)', 'keys [4A *', 'keys * 4b)',
- 'info 1', 'root 1', 'proof 1', 'prove 4 0 9', 'prove 18446744073709551615 0 18446744073709551615', 'pins 0', 'open')))
+ 'info 1', 'root 1', 'proof 1', 'prove 4 0 9', 'prove 18446744073709551615 0 18446744073709551615', 'pins 0', 'prune 0', 'prune 18446744073709551615', 'held 6B', 'absent 6b6c', 'chunks 0 1', 'chunks 18446744073709551615 18446744073709551615', 'witness', 'open', 'held 6b', 'absent 6b', 'chunks 0 1', 'witness')))
 modelled('keys of 32 bytes, values of 64', 'open\nbatch\nput 1 %s %s\nmerkleize 1 prop %s\nops 1\napply 1\nget %s\nmeta\n' % ('61' * 32, '62' * 64, '63' * 64, '61' * 32), items=True)
 modelled('numbers past the end', 'open\nprove 18446744073709551615 0 1\nprove 4611686018427387905 0 1\nprove 4611686018427387904 0 1\nprove 1 18446744073709551615 1\nprove 1 0 18446744073709551615\npins 18446744073709551615\npins 4611686018427387905\npins 4611686018427387904\nget 61 from=18446744073709551615\nchild 18446744073709551615\n')
 section('Lines that are none.')
 for bad in ('', ' ', 'Open', 'open ', ' open', 'open x', 'apply', 'apply ', 'apply 01', 'apply +1', 'apply -1', 'apply 18446744073709551616', 'ops 1 2',
  'get', 'get -', 'get 6', 'get 6g', 'put  1 6b 76', 'put 1 6b', 'put 1 - 76', 'put 1 6b 767', 'put 1 6b 76 77', 'merkleize 1 prop', 'merkleize 1 prop non',
  'merkleize 1 prop none ', 'del 1', 'del 1 -', 'del 1 6b 76', 'get 4a 6b', 'get from=3', 'many', 'many from=3', 'many 4a from=3 6b', 'many 4a from=', 'many 4a from=03',
- 'child 2 keep', 'child 2 keep=', 'child 2 from=1', 'tip 1', 'batch 1', 'info 1 2', 'proof', 'prove 4 0 0', 'prove 4 0', 'prove 4 0 01', 'pins', 'nothing', 'next', 'next 61 62', 'next 61 from=', 'prev from=1', 'span', 'span 61 from=1', 'all', 'all 61 62', 'range', 'range *', 'range [61', 'range 61 *', 'range [61 62', 'range * [61', 'range 61] *', 'range [ *', 'range * )', 'range [61 62] 63', 'range [61] *', 'keys ** *', 'keys [6 *', 'keys [%s *' % ('61' * 33),
+ 'child 2 keep', 'child 2 keep=', 'child 2 from=1', 'tip 1', 'batch 1', 'info 1 2', 'proof', 'prove 4 0 0', 'prove 4 0', 'prove 4 0 01', 'pins', 'prune', 'prune 01', 'prune 1 2', 'held', 'held 6', 'held 61 from=1', 'absent -', 'absent 61 62', 'chunks', 'chunks 0', 'chunks 0 0', 'chunks 0 1 2', 'witness 1', 'nothing', 'next', 'next 61 62', 'next 61 from=', 'prev from=1', 'span', 'span 61 from=1', 'all', 'all 61 62', 'range', 'range *', 'range [61', 'range 61 *', 'range [61 62', 'range * [61', 'range 61] *', 'range [ *', 'range * )', 'range [61 62] 63', 'range [61] *', 'keys ** *', 'keys [6 *', 'keys [%s *' % ('61' * 33),
  'stage', 'stage 2', 'stage 2 6', 'stage 61 -', 'stage 2 61 from=1', 'expand 2', 'expand 2 61 keep', 'resolve 2 hold', 'resolve 2 hold none keep:', 'resolve 2 hold none put', 'resolve 2 hold none put:', 'resolve 2 hold none put:none',
  'resolve 2 hold none 61', 'resolve 2 hold none keep 61=', 'resolve 2 hold none 61=01=02', 'resolve 2 hold none =01', 'resolve 2 hold none 61=01 keep', 'resolve 2 hold none 61=del', 'resolve 2 hold none keep  keep',
  'get ' + '61' * 33, 'put 1 %s 76' % ('61' * 33), 'put 1 6b ' + '61' * 65, 'merkleize 1 prop ' + '61' * 65):
@@ -203,6 +202,17 @@ lasted = ['open 1 0 1\n', 'ok\n', 'ok\n', 'ok\n', 'open 2 0 1\n', 'ok\n']
 put('what lasts', lines_of(LASTING.encode()), ''.join(lasted), 0, 0, 0)
 for call, replies in ((3, 1), (4, 2), (5, 3), (6, 4), (7, 4), (8, 4), (9, 4), (10, 4), (11, 4), (12, 5)):
     put('what lasts, store call %d fails' % call, ['fail store %d' % call], ''.join(lasted[:replies]) + 'store fault\n', 6, 0, 1, begin='again')
+PRUNED = 'open\nbatch\nput 1 6b 76\nmerkleize 1 prop none\napply 1\nprune 3\nprune 2\ninfo\nget 6b\n'
+pruned = ['open 1 0 1\nbatch 1\nok\n', 'merkleized 1 1 4 2\n', 'applied 4\nrefused PruneBeyondMinRequired 3 2\n', 'ok\ninfo 2 4 2 2 live\n', 'read 76\n']
+section('A prune, each call in turn that fails: the fourth reads what a batch moves, the next one appends it, and then a commit, the prune and a read.')
+put('a prune', lines_of(PRUNED.encode()), ''.join(pruned), 0, 2, 2)
+for call, replies, start, count in ((3, 1, 0, 1), (4, 2, 0, 1), (5, 3, 0, 4), (6, 3, 0, 4), (7, 4, 2, 2)):
+    put('a prune, store call %d fails' % call, ['fail store %d' % call], ''.join(pruned[:replies]) + 'store fault\n', 6, start, count, begin='again')
+put('a prune, store call 8 would fail', ['fail store 8'], ''.join(pruned), 0, 2, 2, begin='again')
+put('a pruned store for later', lines_of(PRUNED.encode()), ''.join(pruned), 0, 2, 2)
+put('kept, pruned, and opened', ['keep', '| open', '| info', '| get 6b', '| prove 4 1 1', '| pins 1', '| open max=3', '| open max=4'],
+    'open 1 2 4\ninfo 2 4 2 2 live\nread 76\nrefused Journal ItemPruned 1\nrefused Merkle ElementPruned 0\nrefused DataCorrupted no retained commit\nopen 2 2 4\n', 0, 2, 2)
+modelled('what a batch proves over a pruned list', PRUNED + 'proof 1\ntip\nproof 2\nchild 1\nput 3 6c 77\nmerkleize 3 prop none\nproof 3\napply 3\nprune 3\nproof 3\nproof 1\npins 4\npins 3\npins 2\npins 8\nprove 7 4 9\nprove 4 0 1\nprove 3 0 1\nroot\ncrash 0\nopen\nmany 6b 6c\n')
 # ---- stores
 section('Stores with a start or a head.')
 ASK = b'open\ninfo\nbatch\nget 61\n'
@@ -262,11 +272,10 @@ for seed in range(40):
     said = '\n'.join(lines) + '\n'
     if len(said) <= 1800: modelled('ordered script %d' % seed, said, words=ORDERED)
 section('Scripts with commits, crashes, closings and openings.')
-LATER = ('prune', 'held', 'absent', 'chunks', 'witness')
 for words, count in ((WORDS, 40), (ORDERED, 20)):
     for seed in range(count):
         lines = fuzz.script('lasting rows %d' % seed, words[4:], STAGE, (12, 25, 40)[seed % 3], bad=False)
-        said = ''.join(x + '\n' for x in lines if x.split(' ')[0] not in LATER)
+        said = ''.join(x + '\n' for x in lines)
         if len(said) <= 1800: modelled('lasting script %d, %s' % (seed, words.split(' ')[2]), said, words=words)
 section('Chains of three batches: what the second and the third keep, which are applied before each is made, and before the third is asked.')
 def chain(keep2, keep3, before2, before3, before_asked):
