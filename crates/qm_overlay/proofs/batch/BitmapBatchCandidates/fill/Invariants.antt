@@ -1,0 +1,11 @@
+use Rattle.std.proofs.Common.{◌-◌}
+use Rattle.qm_bits.specs.Bitmaps.{all_bits}
+use Rattle.qm_bits.specs.Candidates.{IsFilled}
+use Rattle.qm_overlay.specs.Layers.{seen}
+use Rattle.qm_overlay.proofs.batch.BitmapBatchCandidates.fill.Given as goal
+
+abbrev pub invariant-loop-at : goal.invariant-loop-at
+invariant-loop-at g l = IsFilled (all_bits g.N.Chunks.LEN (seen g.N.Chunks.LEN l.self)) l.fn.floor l.fn.tip l.limit l.fn.out.items l.out.items l.at
+
+abbrev pub decreases-loop-at : goal.decreases-loop-at
+decreases-loop-at g l = l.tip - l.at
