@@ -1,2 +1,3 @@
 mod Spans
 mod Waiting
+mod Viewing

@@ -3,6 +3,8 @@ use Rattle.std.proofs.Common.{◌≡◌, ℕ, suc, ◌+◌, ◌-◌, ◌*◌, �
 use Rattle.std.proofs.Math.Nat.{pow-suc}
 use Rattle.std.proofs.lemmas.Bool.{cases_lt}
 use Rattle.std.proofs.lemmas.Nat.{pow-add, pow_pos, div-add-mod', mul-le}
+use Rattle.qm_model.specs.Trees.{Node, end_of}
+use Rattle.qm_model.specs.Grafted.{lowered}
 
 -- a factor that is not 0 may be left out
 pub without_factor : (a b w : ℕ) → 0 < w → a * w ≤ b * w → a ≤ b
@@ -44,3 +46,18 @@ power_is k e low high =
     (λ (past : k < e). let far : 2 ^ suc k ≤ 2 ^ e = pow_mono (omega arith) in absurd (omega arith))
     (λ (most : e ≤ k). omega (arith, from, most))
     (cases_lt k e)
+
+-- Nodes within so many leaves.
+
+-- a node that is lowered ends no later
+pub lowered_within : (g : ℕ) (node : Node) → end_of node ≤ 2 ^ 62 → end_of (lowered g node) ≤ 2 ^ 62
+lowered_within g node within =
+    let fewer : 2 ^ (node.height - g) ≤ 2 ^ node.height = pow_mono (omega arith) in
+    let most = mul-le (suc node.index) (2 ^ (node.height - g)) (suc node.index) (2 ^ node.height) (le_refl (suc node.index)) fewer in
+    omega arith
+
+-- a node is not higher than the leaves that there may be
+pub height_within : (height index : ℕ) → suc index * 2 ^ height ≤ 2 ^ 62 → height ≤ 62
+height_within height index within =
+    let one = mul-le 1 (2 ^ height) (suc index) (2 ^ height) (omega arith) (le_refl (2 ^ height)) in
+    power_most height 62 (omega arith)

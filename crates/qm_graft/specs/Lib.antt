@@ -1,2 +1,4 @@
+pub mod Bare
 pub mod Rows
+pub mod Trees
 pub mod Views

@@ -6,12 +6,14 @@ ghost use Rattle.qm_model.specs.Mmr.{mmr};
 ghost use Rattle.qm_model.specs.Mmb.{mmb};
 ghost use Rattle.qm_model.specs.Grafted as grafted;
 ghost use Rattle.qm_model.proofs.GraftedLemmas.{mmr_prompt, mmb_prompt};
+ghost use Rattle.qm_graft.specs.Bare.{mmr_bare, mmb_bare};
 
 use crate::nodes::{chunk_node, end_of};
 use qm_merkle::family::place;
 use qm_merkle::{Family, Node, Position, mmb, mmr};
 
-/// A family that chunks can be grafted onto: a node is born by when the leaves of the next one of its height are there.
+/// A family that chunks can be grafted onto: a node is born by when the leaves of the next one of its height are there, and a tree
+/// of no leaves has no nodes.
 pub trait Graftable: Family {
     /// How many leaves a tree has when the node is born.
     fn birth(node: Node) -> u64
@@ -35,6 +37,8 @@ pub trait Graftable: Family {
     }
 
     ghost prompt: { (height index : ℕ) → trees.Shape.birth Self.shape (record { height = height; index = index }) ≤ suc (suc index) * 2 ^ height };
+
+    ghost bare: { trees.Shape.size Self.shape 0 ≡ 0 };
 }
 
 impl Graftable for mmr::Family {
@@ -46,6 +50,8 @@ impl Graftable for mmr::Family {
     }
 
     ghost prompt = { mmr_prompt };
+
+    ghost bare = { mmr_bare };
 }
 
 impl Graftable for mmb::Family {
@@ -62,4 +68,6 @@ impl Graftable for mmb::Family {
     }
 
     ghost prompt = { mmb_prompt };
+
+    ghost bare = { mmb_bare };
 }

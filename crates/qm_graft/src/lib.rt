@@ -7,6 +7,9 @@ pub mod digests;
 pub mod graftable;
 pub mod laws;
 pub mod nodes;
+pub mod places;
+pub mod view;
 
 pub use boundary::{pair_absorption_threshold, sync_boundary};
 pub use graftable::Graftable;
+pub use view::GraftedView;

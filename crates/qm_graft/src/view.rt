@@ -1,0 +1,102 @@
+//! A tree of operations and the grafted tree over it, as one tree.
+
+ghost use Rattle.std.specs.Prelude.{◌≡◌, ◌<◌, ◌≤◌, ◌^◌, ℕ, List, Option, None, IfSome};
+ghost use Rattle.qm_model.specs.Operations.{Bytes};
+ghost use Rattle.qm_model.specs.Trees as trees;
+ghost use Rattle.qm_model.specs.Grafted as grafts;
+ghost use Rattle.qm_graft.specs.Trees.{Both, Stands, TellsDigests, TellsValues};
+
+use crate::graftable::Graftable;
+use crate::places;
+use qm_base::{Digest, Location};
+use qm_merkle::{Family, Position};
+use qm_proofs::Nodes;
+use std::marker::{Model, PhantomData};
+
+/// A tree of operations, whose nodes from the height of chunks on have the values of the grafted tree over it. Both are lent.
+#[derive(Drop)]
+pub struct GraftedView<'a, F: Graftable, D, O, G> {
+    operations: &'a O,
+    grafted: &'a G,
+    leaves: Location<F>,
+    height: u32,
+    digest: PhantomData<D>,
+}
+
+impl<'a, F: Graftable, D, O, G> Model for GraftedView<'a, F, D, O, G> {
+    ghost use Rattle.std.specs.Prelude.{◌≤◌, ◌^◌};
+    ghost use Rattle.qm_graft.specs.Trees.{Both};
+
+    ghost Value = { Both O G };
+
+    ghost view = { λ v. record { operations = v.operations.now; grafted = v.grafted.now; leaves = v.leaves; height = v.height } };
+
+    ghost invariant = { λ v. v.leaves ≤ 2 ^ 62 };
+}
+
+impl<'a, F: Graftable, D: Digest, O: Nodes<F, D>, G: Nodes<F, D>> GraftedView<'a, F, D, O, G> {
+    /// The view of a tree of so many operations and of the grafted tree over it, by the height of nodes over chunks.
+    pub fn new(operations: &'a O, grafted: &'a G, leaves: Location<F>, height: u32) -> Self
+        requires { leaves ≤ 2 ^ 62 }
+        ensures { result ≡ record { operations = operations.now; grafted = grafted.now; leaves = leaves; height = height } }
+    {
+        GraftedView {
+            operations,
+            grafted,
+            leaves,
+            height,
+            digest: PhantomData,
+        }
+    }
+
+    /// How many nodes it has, with those that are not held: as many as the tree of operations.
+    pub fn size(&self) -> Position<F>
+        ensures { result ≡ trees.Shape.size F.shape self.now.leaves }
+    {
+        F::location_to_position(self.leaves)
+    }
+
+    /// The value of the node at a position, where it is held: below the height of chunks its digest in the tree of operations, and
+    /// else what the grafted tree has.
+    pub fn get_node(&self, position: Position<F>) -> Option<D>
+        ensures low { (x : trees.Node) → Stands F.shape self.now.leaves position x → x.height < self.now.height → result ≡ O.node_at self.now.operations position }
+        ensures high { (x : trees.Node) → Stands F.shape self.now.leaves position x → self.now.height ≤ x.height → result ≡ G.node_at self.now.grafted (trees.Shape.position F.shape (grafts.lowered self.now.height x)) }
+        ensures none { trees.Shape.size F.shape self.now.leaves ≤ position → result ≡ None }
+        ensures value { (hash : Bytes → Bytes) (digests : List Bytes) (chunks : ℕ → Bytes)
+            → TellsDigests D.bytes hash F.shape (O.node_at self.now.operations) digests self.now.height
+            → TellsValues D.bytes hash F.shape (G.node_at self.now.grafted) digests self.now.height chunks
+            → (x : trees.Node) → Stands F.shape self.now.leaves position x → IfSome result (λ d. D.bytes d ≡ grafts.grafted_value hash F.shape self.now.height digests chunks x) }
+    {
+        node_in(
+            self.operations,
+            self.grafted,
+            self.leaves,
+            self.height,
+            position,
+        )
+    }
+}
+
+// The value of the node at a position of a tree of so many operations, where it is held.
+fn node_in<F: Graftable, D: Digest, O: Nodes<F, D>, G: Nodes<F, D>>(
+    operations: &O,
+    grafted: &G,
+    leaves: Location<F>,
+    height: u32,
+    position: Position<F>,
+) -> Option<D>
+    requires { leaves ≤ 2 ^ 62 }
+    ensures low { (x : trees.Node) → Stands F.shape leaves position x → x.height < height → result ≡ O.node_at operations.now position }
+    ensures high { (x : trees.Node) → Stands F.shape leaves position x → height ≤ x.height → result ≡ G.node_at grafted.now (trees.Shape.position F.shape (grafts.lowered height x)) }
+    ensures none { trees.Shape.size F.shape leaves ≤ position → result ≡ None }
+    ensures value { (hash : Bytes → Bytes) (digests : List Bytes) (chunks : ℕ → Bytes)
+        → TellsDigests D.bytes hash F.shape (O.node_at operations.now) digests height
+        → TellsValues D.bytes hash F.shape (G.node_at grafted.now) digests height chunks
+        → (x : trees.Node) → Stands F.shape leaves position x → IfSome result (λ d. D.bytes d ≡ grafts.grafted_value hash F.shape height digests chunks x) }
+{
+    let node = places::node_at(leaves, position)?;
+    match places::grafted_position::<F>(height, node) {
+        Some(position) => grafted.get_node(position),
+        None => operations.get_node(position),
+    }
+}
