@@ -1,5 +1,5 @@
 -- The commands that make, fill and apply batches.
-use Rattle.std.proofs.Common.{◌≡◌, ◌≢◌, ◌<◌, ◌≤◌, ℕ, Bool, true, false, cond, List, [], ◌∷◌, ◌++◌, length, get_or, set, map, drop, Option, Some, None, Result, Ok, Err, arith, refl, sym, ◌∙◌, ap, subst, IfSome, IfOk, IfErr, inr, le_refl, length-append}
+use Rattle.std.proofs.Common.{◌≡◌, ◌≢◌, ◌≤◌, ℕ, Bool, true, false, cond, List, [], ◌∷◌, ◌++◌, length, get_or, set, map, drop, Option, Some, None, Result, Ok, Err, arith, refl, sym, ◌∙◌, ap, subst, IfSome, IfOk, IfErr, inr, le_refl, length-append}
 use Rattle.std.proofs.lemmas.List.{take-append-drop, drop_all}
 use Rattle.std.specs.Prelude.{Contains}
 use Rattle.std.proofs.Math.Nat.{le_trans}
@@ -41,9 +41,9 @@ use Rattle.qm_machine.specs.Sound.{IsSoundSlot, IsSteady}
 use Rattle.qm_engine.specs.Stores.{HasLog, IsLeft}
 use Rattle.qm_engine.specs.Session.{SlotIs, Holds}
 use Rattle.qm_engine.proofs.Tables.{push_at, set_at, set_set}
-use Rattle.qm_store.specs.Given.{Appended, IsUnchanged, TellsFrom}
+use Rattle.qm_store.specs.Given.{Appended, TellsFrom}
 use Rattle.qm_engine.proofs.Lasting.{has-appended, left_appended}
-use Rattle.qm_engine.proofs.Commands.{some_is, some-map, stored-same, choice, none_some, refuses, by_error, HeldIs-more, SlotIs-more, with_held, with_list, with_writing, with_told_writing, HeldIs-kept, slots_set, lengths_set, Keeps, Holds-used, Turns}
+use Rattle.qm_engine.proofs.Commands.{some_is, some-map, choice, none_some, refuses, by_error, HeldIs-more, SlotIs-more, with_held, with_list, with_told_writing, slots_set, lengths_set, Keeps, Holds-used, Turns}
 
 -- a list on a batch's chain begins its base
 pub base-begins : (list : List Operation) (chain : Chain) → IsOnChain list chain → IsRising chain → Begins list chain.base

@@ -1,13 +1,11 @@
 -- Each command over what a run holds, as lemmas over plain values: what all of them use.
-use Rattle.std.proofs.Common.{◌≡◌, ◌≢◌, ℕ, ◌≤◌, Bool, true, false, cond, List, [], ◌∷◌, ◌++◌, length, get_or, set, map, Option, Some, None, arith, refl, sym, ◌∙◌, ap, subst, IfSome, append-nil}
-use Rattle.std.specs.Prelude.{Contains, IsSome, is_some}
-use Rattle.std.proofs.lemmas.Bool.{lt-ltb, le-ltb}
+use Rattle.std.proofs.Common.{◌≡◌, ◌≢◌, ℕ, ◌≤◌, Bool, true, false, cond, List, ◌∷◌, length, get_or, set, Option, Some, None, arith, refl, sym, ◌∙◌, ap, subst, IfSome, append-nil}
+use Rattle.std.specs.Prelude.{Contains, is_some}
 use Rattle.std.proofs.lemmas.List.{length-set}
-use Rattle.std.proofs.Math.Seq.{drop-append_seam}
 use Rattle.qm_model.specs.Live.{floor}
 use Rattle.qm_model.specs.Own.{Log}
 use Rattle.qm_model.specs.StoreModel.{Stored}
-use Rattle.qm_model.specs.Operations.{Bytes, Operation, fresh}
+use Rattle.qm_model.specs.Operations.{Bytes, Operation}
 use Rattle.qm_model.specs.Writes.{Write}
 use Rattle.qm_model.specs.Batches.{Chain, IsAmong, Apart}
 use Rattle.qm_machine.specs.Lines.{Answer}
@@ -15,7 +13,7 @@ use Rattle.qm_machine.specs.Lines as lines
 use Rattle.qm_model.specs.Refused as refusals
 use Rattle.qm_machine.specs.Machine.{State, slot_at, with_slot, with_database, unless}
 use Rattle.qm_machine.specs.Machine as machine
-use Rattle.qm_model.proofs.Chains.{Contains-more, Contains-first, IsAmong-more}
+use Rattle.qm_model.proofs.Chains.{Contains-more, IsAmong-more}
 use Rattle.qm_base.specs.declared.error.JournalError.TheVariants as journal
 use Rattle.qm_base.specs.declared.error.MerkleError.TheVariants as merkle
 use Rattle.qm_base.specs.declared.error.Error.{Error}
@@ -38,7 +36,7 @@ use Rattle.qm_engine.specs.Turn.{turn_of_error}
 use Rattle.qm_store.specs.Refusals.{refusal_of, IsDue}
 use Rattle.qm_store.specs.declared.Store as stores
 use Rattle.qm_engine.specs.declared.words.Words as words
-use Rattle.qm_store.specs.Given.{store_given, Appended, AppendedPart, IsUnchanged, TellsFrom}
+use Rattle.qm_store.specs.Given.{IsUnchanged, TellsFrom}
 use Rattle.qm_engine.specs.Stores.{IsStored, HasLog, IsLeft, MayBe, grown}
 use Rattle.qm_engine.specs.Session.{HeldIs, SlotIs, Holds, IfReply, Answers}
 use Rattle.qm_engine.proofs.Tables.{set_at}

@@ -1,5 +1,5 @@
 -- What a command does that leaves all but the items of its store, as what any command does.
-use Rattle.std.proofs.Common.{◌≡◌, inl, ℕ, List, [], Option, Some, None, refl, ap, sym, ◌∙◌, append-nil}
+use Rattle.std.proofs.Common.{◌≡◌, inl, [], Option, Some, None, refl, ap, sym, ◌∙◌, append-nil}
 use Rattle.qm_model.specs.Operations.{Bytes}
 use Rattle.qm_model.specs.StoreModel.{Stored, Turns, beside_items, without_items}
 use Rattle.qm_machine.specs.Lines.{Line, Answer}

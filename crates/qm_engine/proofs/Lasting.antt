@@ -10,7 +10,7 @@ use Rattle.qm_model.specs.Forms.{spelling}
 use Rattle.qm_model.specs.Trees.{peaks, digest_of, leaves_from}
 use Rattle.qm_model.specs.Proofs.{pins_at}
 use Rattle.qm_model.specs.Policies.{policies}
-use Rattle.qm_model.specs.Own.{Log, no_log, taken_up, head_of}
+use Rattle.qm_model.specs.Own.{Log, no_log, taken_up}
 use Rattle.qm_model.specs.Own as own
 use Rattle.qm_model.specs.Opening.{opened_list}
 use Rattle.qm_model.specs.StoreModel.{Stored, end_of, appended, settled, rewound, pruned, left_at, restarted, destroyed, IsImage, IsOldOrNew, ReadsAs, RewindLeaves, HasAppended, HasRestarted, DestroyLeaves, Turns, Becomes}

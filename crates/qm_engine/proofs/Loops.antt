@@ -6,7 +6,7 @@ use Rattle.qm_model.specs.Causes.{Rose}
 use Rattle.qm_model.specs.Own.{Log, IsKept, IsOwn}
 use Rattle.qm_model.specs.StoreModel.{Stored, end_of, Turns}
 use Rattle.qm_model.specs.Walk.{Rules}
-use Rattle.qm_model.specs.Batches.{Apart, Begins, Chain}
+use Rattle.qm_model.specs.Batches.{Apart, Chain}
 use Rattle.qm_machine.specs.Lines.{Line, Answer}
 use Rattle.qm_machine.specs.Machine.{Scheme, State, engine_of, initial, slot_at, turn, answers, state_after}
 use Rattle.qm_machine.proofs.Runs.{state_after-push, answers-push, Apart-before}

@@ -1,5 +1,5 @@
 -- What may be left of a command of a sound run is a store that databases leave.
-use Rattle.std.proofs.Common.{◌≡◌, ◌⊎◌, inl, inr, ℕ, ◌+◌, ◌-◌, ◌≤◌, Bool, true, false, cond, List, [], ◌++◌, length, take, drop, map, Option, Some, IfSome, refl, sym, ◌∙◌, ap, subst, arith}
+use Rattle.std.proofs.Common.{◌≡◌, inl, inr, ◌-◌, ◌≤◌, Bool, true, false, cond, length, take, drop, Option, IfSome, refl, sym, ap, subst, arith}
 use Rattle.std.specs.Prelude.{min, ◌==◌}
 use Rattle.std.proofs.lemmas.Bool.{eqb-false}
 use Rattle.std.proofs.lemmas.List.{length-map, length-take, length-drop, length-append}
@@ -7,7 +7,6 @@ use Rattle.qm_model.specs.Forms.{spelling}
 use Rattle.qm_model.specs.Walk.{Rules}
 use Rattle.qm_model.specs.Own.{Log, IsKept}
 use Rattle.qm_model.specs.StoreModel.{Stored, end_of}
-use Rattle.qm_model.specs.Batches.{Begins}
 use Rattle.qm_model.proofs.Chains.{Begins-length}
 use Rattle.qm_machine.specs.Machine.{Scheme, engine_of}
 use Rattle.qm_machine.proofs.Sounds.{kept-low}

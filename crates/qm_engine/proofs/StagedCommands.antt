@@ -1,5 +1,5 @@
 -- The commands of staged reads.
-use Rattle.std.proofs.Common.{◌≡◌, ◌≢◌, ◌≤◌, ℕ, Bool, true, cond, List, ◌++◌, length, get_or, set, map, Option, Some, None, Result, Ok, Err, IfOk, IfErr, IfSome, refl, sym, ◌∙◌, ap, ap₂, subst, ◌⊎◌, inl, inr, ◌==◌, ◌+◌}
+use Rattle.std.proofs.Common.{◌≡◌, ◌≢◌, ◌≤◌, ℕ, Bool, true, cond, List, ◌++◌, length, get_or, set, map, Option, Some, None, Result, Ok, Err, IfOk, IfErr, IfSome, sym, ◌∙◌, ap, ap₂, subst, ◌⊎◌, inl, inr, ◌==◌, ◌+◌}
 use Rattle.std.specs.Prelude.{Contains, MatchOption}
 use Rattle.std.proofs.lemmas.Bool.{eq-eqb, eqb-true}
 use Rattle.qm_model.specs.Live.{floor}
@@ -39,7 +39,7 @@ use Rattle.qm_engine.specs.Words.{AtBatch, AtStaged, Fits, CanRead, IsReadFailur
 use Rattle.qm_engine.specs.Making.{made_into, IsMaking}
 use Rattle.qm_engine.specs.Session.{SlotIs, Holds}
 use Rattle.qm_engine.proofs.Tables.{set_set}
-use Rattle.qm_engine.proofs.Commands.{choice, none_some, refuses, by_refusal, some-map, with_list, with_writing, with_staged, with_told_writing, with_told_staged, HeldIs-kept, stored-same, slots_set, lengths_set, Keeps, Holds-kept, Holds-used, Turns}
+use Rattle.qm_engine.proofs.Commands.{choice, none_some, refuses, by_refusal, some-map, with_list, with_writing, with_staged, with_told_writing, with_told_staged, HeldIs-kept, stored-same, slots_set, lengths_set, Keeps, Holds-used, Turns}
 use Rattle.qm_engine.proofs.BatchCommands.{base-begins}
 use Rattle.qm_engine.proofs.ReadCommands.{is_stale_read}
 use Rattle.qm_machine.specs.Sound.{IsSoundSlot, IsSteady}

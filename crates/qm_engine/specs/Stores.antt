@@ -1,5 +1,5 @@
 -- What a store tells, as the machine has it.
-use Rattle.std.specs.Prelude.{◌≡◌, ◌-◌, ◌⊎◌, ◌≤◌, ◌<◌, ◌==◌, ◌^◌, ℕ, zero, suc, min, nat_lt, if◌then◌else◌, List, [], ◌++◌, length, map, take, drop, All, true, Option, Some, None}
+use Rattle.std.specs.Prelude.{◌≡◌, ◌-◌, ◌⊎◌, ◌≤◌, ◌<◌, ◌==◌, ◌^◌, ℕ, zero, suc, min, nat_lt, if◌then◌else◌, List, [], ◌++◌, length, map, take, drop, All, true, Option, Some}
 use Rattle.std.specs.List.{concat}
 use Rattle.qm_model.specs.Operations.{Bytes, Operation, fresh}
 use Rattle.qm_model.specs.Forms.{IsOf, spelling}
@@ -10,7 +10,7 @@ use Rattle.qm_model.specs.Step.{IsGood}
 use Rattle.qm_model.specs.Opening.{found, selected, size_of}
 use Rattle.qm_model.specs.Own.{Log, no_log}
 use Rattle.qm_model.specs.Own as own
-use Rattle.qm_model.specs.StoreModel.{Stored, end_of, appended, settled, rewound, pruned, HasAppended, RewindLeaves, IsImage, IsOldOrNew, ReadsAs, Turns}
+use Rattle.qm_model.specs.StoreModel.{Stored, end_of, appended, settled, rewound, pruned, HasAppended, RewindLeaves, IsImage, IsOldOrNew, ReadsAs}
 use Rattle.qm_machine.specs.Machine.{Scheme, engine_of, layout_of}
 use Rattle.qm_store.specs.declared.Store as store
 

@@ -15,7 +15,7 @@ use Rattle.qm_base.specs.declared.error.JournalError.TheVariants as journal
 use Rattle.qm_store.specs.declared.Store as store
 use Rattle.qm_store.specs.declared.refusal.Given.TheVariants.{Database, Store}
 use Rattle.qm_store.specs.declared.refusal.Refusal.{Refusal}
-use Rattle.qm_store.specs.Given.{IsUnchanged, store_given}
+use Rattle.qm_store.specs.Given.{IsUnchanged}
 use Rattle.qm_store.specs.Refusals.{refusal_of, IsDue}
 use Rattle.qm_engine.specs.Stores.{head_at, pruned_from, LeavesPruning}
 use Rattle.qm_engine.specs.declared.words.Words as words

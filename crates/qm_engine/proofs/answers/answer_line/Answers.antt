@@ -1,4 +1,4 @@
-use Rattle.std.proofs.Common.{◌≡◌, ◌++◌, ◌∷◌, [], Option, Some, None, IfSome, ap, subst, sym, refl}
+use Rattle.std.proofs.Common.{◌≡◌, ◌++◌, ◌∷◌, [], Option, Some, IfSome, ap, subst, sym}
 use Rattle.std.specs.Prelude.{IfNone, is_some}
 use Rattle.qm_model.specs.Batches.{Apart}
 use Rattle.qm_machine.specs.Grammar.{line_of}

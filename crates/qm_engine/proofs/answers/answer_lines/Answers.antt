@@ -3,12 +3,12 @@ use Rattle.qm_model.specs.Batches.{Apart}
 use Rattle.qm_model.specs.Own.{IsKept}
 use Rattle.qm_model.specs.Policies.{policies}
 use Rattle.qm_machine.specs.Grammar.{line_of, commands_in}
-use Rattle.qm_machine.specs.Machine.{State, engine_of, initial, answers, turn}
+use Rattle.qm_machine.specs.Machine.{engine_of, initial, answers}
 use Rattle.qm_machine.specs.Text.{text_of}
 use Rattle.qm_machine.proofs.Sounds.{kept-low, sound-steady}
 use Rattle.qm_lines.proofs.Inputs.{at_start, at_end, at_bad}
 use Rattle.qm_store.specs.Given.{store_given}
-use Rattle.qm_engine.specs.Stores.{HasLog, IsBeside}
+use Rattle.qm_engine.specs.Stores.{HasLog}
 use Rattle.qm_engine.specs.Runs.{after}
 use Rattle.qm_engine.specs.Answered.{IsAnswered}
 use Rattle.qm_engine.proofs.Lasting.{turns-same, turns-through}

@@ -1,15 +1,14 @@
-use Rattle.std.proofs.Common.{◌≡◌, ◌+◌, ℕ, List, ◌++◌, ◌∷◌, [], length, map, take, arith, refl, sym, ◌∙◌, ap, subst, Some, append_assoc, append-nil}
+use Rattle.std.proofs.Common.{◌≡◌, ◌+◌, ◌++◌, ◌∷◌, [], length, map, take, arith, refl, sym, ◌∙◌, ap, subst, Some, append_assoc, append-nil}
 use Rattle.std.proofs.lemmas.List.{length-map}
 use Rattle.qm_model.specs.Batches.{Apart}
-use Rattle.qm_model.specs.StoreModel.{Turns}
-use Rattle.qm_machine.specs.Machine.{State, engine_of, initial, answers, turn}
+use Rattle.qm_machine.specs.Machine.{engine_of, initial, answers, turn}
 use Rattle.qm_lines.specs.Views.{line_view, answer_view}
 use Rattle.qm_store.specs.Given.{store_given}
 use Rattle.qm_model.specs.Own.{IsKept}
-use Rattle.qm_engine.specs.Stores.{HasLog, IsBeside}
+use Rattle.qm_engine.specs.Stores.{HasLog}
 use Rattle.qm_engine.specs.Runs.{IsRun, after}
 use Rattle.qm_machine.proofs.Sounds.{kept-low, sound-steady}
-use Rattle.qm_engine.proofs.Lasting.{turns-same, turns-through, turns-told}
+use Rattle.qm_engine.proofs.Lasting.{turns-same, turns-through}
 use Rattle.qm_engine.proofs.Loops.{Between, each, loop_step, ended_in, ended_at, line_here, log-of, begins-between, goes-between, own-left, none-more, more-parts, Rose-wider}
 use Rattle.qm_engine.proofs.runs.run.Goals as goal
 

@@ -1,4 +1,4 @@
-use Rattle.std.proofs.Common.{◌≡◌, map, take}
+use Rattle.std.proofs.Common.{◌≡◌, map}
 use Rattle.qm_base.specs.Views.{pair_view}
 use Rattle.qm_engines.proofs.ranges.firsts.Given as goal
 

@@ -1,4 +1,4 @@
-use Rattle.std.proofs.Common.{◌≡◌, ◌∙◌, ap, map}
+use Rattle.std.proofs.Common.{◌∙◌, ap, map}
 use Rattle.qm_any.proofs.ScannedKeys.{keys-of_pairs}
 use Rattle.qm_base.specs.Views.{limit_of}
 use Rattle.qm_engines.proofs.ranges.keys_of.Goals as goal

@@ -1,9 +1,7 @@
-use Rattle.std.proofs.Common.{◌≡◌, ◌≤◌, ◌∙◌, ap, ap₂, map, length, sym, subst, arith}
+use Rattle.std.proofs.Common.{◌≡◌, ◌≤◌, ◌∙◌, ap, ap₂, map, length, subst, arith}
 use Rattle.std.specs.Prelude.{IfOk}
 use Rattle.qm_model.specs.Live.{live}
 use Rattle.qm_model.specs.Ranges.{pairs_in}
-use Rattle.qm_any.specs.Databases.{IsDatabase}
-use Rattle.qm_any.proofs.OrderedReads.{laid_out}
 use Rattle.qm_base.specs.Views.{limit_of, pair_view}
 use Rattle.qm_scan.specs.Scans.{left_of}
 use Rattle.qm_engines.proofs.Collected.{few-pairs}

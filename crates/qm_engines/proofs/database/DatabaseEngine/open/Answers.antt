@@ -1,4 +1,4 @@
-use Rattle.std.proofs.Common.{◌≡◌, ◌≤◌, ◌∙◌, IfSome, ap, sym, subst}
+use Rattle.std.proofs.Common.{◌≤◌, ◌∙◌, IfSome, ap, sym, subst}
 use Rattle.std.specs.Prelude.{IsSome}
 use Rattle.qm_model.specs.Causes.{Rose}
 use Rattle.qm_model.specs.Opening.{found, opening_refusal}

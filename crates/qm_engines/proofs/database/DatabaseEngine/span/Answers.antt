@@ -1,7 +1,6 @@
-use Rattle.std.proofs.Common.{◌≡◌, ◌∙◌, sym, option_map}
+use Rattle.std.proofs.Common.{◌∙◌, option_map}
 use Rattle.qm_model.specs.Ranges.{span_of}
 use Rattle.qm_lines.specs.Views.{span_view}
-use Rattle.qm_any.specs.Databases.{IsDatabase}
 use Rattle.qm_any.proofs.Reading.{left-database}
 use Rattle.qm_engines.specs.Databases.{hashing, layout}
 use Rattle.qm_engines.proofs.Engines.{left-store, none-below, log-untold, log-rose, log-kept}
