@@ -1,3 +1,4 @@
 mod Spans
 mod Waiting
+mod There
 mod Viewing

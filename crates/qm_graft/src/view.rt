@@ -4,7 +4,7 @@ ghost use Rattle.std.specs.Prelude.{◌≡◌, ◌<◌, ◌≤◌, ◌^◌, ℕ,
 ghost use Rattle.qm_model.specs.Operations.{Bytes};
 ghost use Rattle.qm_model.specs.Trees as trees;
 ghost use Rattle.qm_model.specs.Grafted as grafts;
-ghost use Rattle.qm_graft.specs.Trees.{Both, Stands, TellsDigests, TellsValues};
+ghost use Rattle.qm_graft.specs.Trees.{Both, Stands, TellsDigests, TellsValues, held_at};
 
 use crate::graftable::Graftable;
 use crate::places;
@@ -77,6 +77,23 @@ impl<'a, F: Graftable, D: Digest, O: Nodes<F, D>, G: Nodes<F, D>> GraftedView<'a
     }
 }
 
+impl<'a, F: Graftable, D: Digest, O: Nodes<F, D>, G: Nodes<F, D>> Nodes<F, D>
+    for GraftedView<'a, F, D, O, G> {
+    ghost node_at = { λ v p. held_at F.shape F.births (O.node_at v.operations) (G.node_at v.grafted) v.leaves v.height p };
+
+    fn get_node(&self, position: Position<F>) -> Option<D>
+        ensures { result ≡ held_at F.shape F.births (O.node_at self.now.operations) (G.node_at self.now.grafted) self.now.leaves self.now.height position }
+    {
+        node_in(
+            self.operations,
+            self.grafted,
+            self.leaves,
+            self.height,
+            position,
+        )
+    }
+}
+
 // The value of the node at a position of a tree of so many operations, where it is held.
 fn node_in<F: Graftable, D: Digest, O: Nodes<F, D>, G: Nodes<F, D>>(
     operations: &O,
@@ -86,6 +103,7 @@ fn node_in<F: Graftable, D: Digest, O: Nodes<F, D>, G: Nodes<F, D>>(
     position: Position<F>,
 ) -> Option<D>
     requires { leaves ≤ 2 ^ 62 }
+    ensures held { result ≡ held_at F.shape F.births (O.node_at operations.now) (G.node_at grafted.now) leaves height position }
     ensures low { (x : trees.Node) → Stands F.shape leaves position x → x.height < height → result ≡ O.node_at operations.now position }
     ensures high { (x : trees.Node) → Stands F.shape leaves position x → height ≤ x.height → result ≡ G.node_at grafted.now (trees.Shape.position F.shape (grafts.lowered height x)) }
     ensures none { trees.Shape.size F.shape leaves ≤ position → result ≡ None }
