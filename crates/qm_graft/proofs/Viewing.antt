@@ -6,16 +6,13 @@ use Rattle.qm_model.specs.Operations.{Bytes}
 use Rattle.qm_model.specs.Trees.{Node, Shape, digest_of}
 use Rattle.qm_model.specs.Families.{Births, IsFamily}
 use Rattle.qm_model.specs.Grafted.{lowered, value_over, grafted_value}
-use Rattle.qm_merkle.proofs.Numbering.{same_place, stands_below}
+use Rattle.qm_merkle.proofs.Numbering.{stands_below}
 use Rattle.qm_graft.specs.Trees.{Stands, TellsDigests, TellsValues}
 
 module _ (shape : Shape) (births : Births) (family : IsFamily shape births) where
   -- no node stands behind the last one
   pub stands_inside : (leaves at : ℕ) (x : Node) → Stands shape leaves at x → at < shape.size leaves
   stands_inside leaves at x stands = omega (arith, stands.0, stands_below shape births family x leaves stands.1)
-
-  pub same_node : (leaves at : ℕ) (node x : Node) → shape.position node ≡ at → Stands shape leaves at x → node ≡ x
-  same_node leaves at node x is stands = same_place shape births family node x (is ∙ sym stands.0)
 
 -- where the node stands in the grafted tree, if it is there
 abbrev pub lowered_place : Shape → ℕ → Node → Option ℕ

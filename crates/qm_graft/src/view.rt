@@ -67,13 +67,7 @@ impl<'a, F: Graftable, D: Digest, O: Nodes<F, D>, G: Nodes<F, D>> GraftedView<'a
             → TellsValues D.bytes hash F.shape (G.node_at self.now.grafted) digests self.now.height chunks
             → (x : trees.Node) → Stands F.shape self.now.leaves position x → IfSome result (λ d. D.bytes d ≡ grafts.grafted_value hash F.shape self.now.height digests chunks x) }
     {
-        node_in(
-            self.operations,
-            self.grafted,
-            self.leaves,
-            self.height,
-            position,
-        )
+        Nodes::get_node(self, position)
     }
 }
 
@@ -103,14 +97,7 @@ fn node_in<F: Graftable, D: Digest, O: Nodes<F, D>, G: Nodes<F, D>>(
     position: Position<F>,
 ) -> Option<D>
     requires { leaves ≤ 2 ^ 62 }
-    ensures held { result ≡ held_at F.shape F.births (O.node_at operations.now) (G.node_at grafted.now) leaves height position }
-    ensures low { (x : trees.Node) → Stands F.shape leaves position x → x.height < height → result ≡ O.node_at operations.now position }
-    ensures high { (x : trees.Node) → Stands F.shape leaves position x → height ≤ x.height → result ≡ G.node_at grafted.now (trees.Shape.position F.shape (grafts.lowered height x)) }
-    ensures none { trees.Shape.size F.shape leaves ≤ position → result ≡ None }
-    ensures value { (hash : Bytes → Bytes) (digests : List Bytes) (chunks : ℕ → Bytes)
-        → TellsDigests D.bytes hash F.shape (O.node_at operations.now) digests height
-        → TellsValues D.bytes hash F.shape (G.node_at grafted.now) digests height chunks
-        → (x : trees.Node) → Stands F.shape leaves position x → IfSome result (λ d. D.bytes d ≡ grafts.grafted_value hash F.shape height digests chunks x) }
+    ensures { result ≡ held_at F.shape F.births (O.node_at operations.now) (G.node_at grafted.now) leaves height position }
 {
     let node = places::node_at(leaves, position)?;
     match places::grafted_position::<F>(height, node) {
