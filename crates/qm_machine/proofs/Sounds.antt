@@ -28,12 +28,11 @@ use Rattle.qm_model.proofs.Chains.{Contains-more, Contains-first, IsAmong-more, 
 use Rattle.qm_model.proofs.Steps as steps
 use Rattle.qm_model.proofs.OrderedSteps.{made-ordered}
 use Rattle.qm_model.proofs.Prefixes.{unordered-begins, ordered-begins}
-use Rattle.qm_model.proofs.Openings.{unordered-takes, ordered-takes, unordered-image, ordered-image}
+use Rattle.qm_model.proofs.Openings.{IsPart, ended-part, ended-whole, unordered-takes, ordered-takes, unordered-image, ordered-image}
 use Rattle.qm_machine.specs.Lines.{Line, Open, Batch, Child, Tip, Put, Del, Merkleize, Stage, Expand, Resolve, Apply, Ops, Get, Many, Next, Prev, Span, Range, Keys, Info, BatchInfo, Root, BatchRoot, BatchProof, Meta, Prove, Pins, Current, Prune, Commit, Sync, Close, Destroy, Crash, Answer}
 use Rattle.qm_machine.specs.Lines as lines
 use Rattle.qm_machine.specs.Machine.{Scheme, State, Slot, gone, writing, staged, merkleized, turn, slot_at, with_slot, initial, started, start_child, put_in, list_operations, with_database, closed, settled, commit, restarted, opened_as, kind_of, engine_of, layout_of, found_in, unless, merkleize_tip, merkleize_writes, merkleize_in, resolve_in, apply_in, if_readable, if_staged, stage_in, expand_in, read_in, read, if_ordered, beside_in, beside_of, info_in, root_in, proof_in, pruned, prune_in}
 use Rattle.qm_machine.specs.Held.{pins_lacked, proof_lacked}
-use Rattle.qm_machine.proofs.Endings.{ended-part, ended-whole}
 use Rattle.qm_machine.specs.Sound.{IsSoundSlot, IsSteady, IsSound}
 
 -- Slots.
@@ -179,12 +178,12 @@ module _ (m : Scheme) {P : Type 0} (rules : Rules P) where
       begins : Begins whole kept.made.whole
       begins = Begins-through whole log.list kept.made.whole (take-begins log.stable log.list) kept.made.begins
 
-      by : (ended_size whole ≡ 0) ⊎ ((ended_size whole ≤ length whole) × IsCommitEnded (ended_part whole)) → log.start ≤ log.stable
+      by : IsPart whole (ended_size whole) → log.start ≤ log.stable
       by (inl none) =
           let start = kept.start in
           let low : floor (ended_part whole) ≡ 0 = ap (λ n. floor (take n whole)) none in
           omega (arith, start, low)
-      by (inr (short, ended)) =
+      by (inr (some, short, ended)) =
           let part = Begins-through (ended_part whole) whole kept.made.whole (take-begins (ended_size whole) whole) begins in
           let good = made-good (ended_part whole) (begins-made (ended_part whole) kept.made.whole kept.made.made part ended).0 in
           let start = kept.start in

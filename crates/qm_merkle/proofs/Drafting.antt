@@ -72,7 +72,7 @@ pub untouched : {D : Type 0} (bytes : D → Bytes) (hash : Bytes → Bytes) (sha
     digest hash shape (replaced_from bytes replaced 0 leaves) h a ≡ digest hash shape leaves h a
 untouched bytes hash shape replaced leaves zero a not = replaced_from-at bytes replaced 0 a leaves (ap (found_at replaced) (omega arith) ∙ missing (found_at replaced a) not)
 untouched bytes hash shape replaced leaves (suc h) a not =
-    ap₂ (node_digest hash (shape.position (record { height = suc h; index = a })))
+    ap₂ (node_digest hash (shape.number (record { height = suc h; index = a })))
     (untouched bytes hash shape replaced leaves h (2 * a) (λ left. not (inl left)))
     (untouched bytes hash shape replaced leaves h (2 * a + 1) (λ right. not (inr right)))
 

@@ -62,7 +62,7 @@ pub digest-append : (hash : Bytes → Bytes) (shape : Shape) (leaves more : List
 digest-append hash shape leaves more zero a within = get_or_append_left leaves more [] a (omega arith)
 digest-append hash shape leaves more (suc h) a within =
     let halves : suc a * 2 ^ suc h ≡ suc a * (2 ^ h * 2) = ap (λ z. suc a * z) (pow-suc 2 h) in
-    ap₂ (node_digest hash (shape.position (record { height = suc h; index = a })))
+    ap₂ (node_digest hash (shape.number (record { height = suc h; index = a })))
     (digest-append hash shape leaves more h (2 * a) (omega arith))
     (digest-append hash shape leaves more h (2 * a + 1) (omega arith))
 
@@ -101,7 +101,7 @@ module _ (shape : Shape) (births : Births) (family : IsFamily shape births) wher
     pub left_within : end_of left ≤ suc n
     pub right_within : end_of right ≤ suc n
     pub parent : (hash : Bytes → Bytes) (leaves : List Bytes) → digest_of hash shape leaves (births.born n k) ≡
-        node_digest hash (shape.position (births.born n k)) (digest_of hash shape leaves left) (digest_of hash shape leaves right)
+        node_digest hash (shape.number (births.born n k)) (digest_of hash shape leaves left) (digest_of hash shape leaves right)
 
   pub born_high : (n k : ℕ) → 0 < k → k < births.count n → 0 < (births.born n k).height
   born_high n k some lt = let halves = family.halves n k some lt in omega (arith, ap (λ (x : Node). x.height) halves.is)
@@ -131,8 +131,8 @@ module _ (shape : Shape) (births : Births) (family : IsFamily shape births) wher
         right_within = omega (arith, family.inside right, held_birth n k right (omega arith) right_held);
         parent = λ hash leaves.
             ap (digest_of hash shape leaves) halves.is
-            ∙ ap (λ x. node_digest hash (shape.position x) (digest hash shape leaves h (2 * i)) (digest hash shape leaves h (2 * i + 1))) (sym halves.is)
-            ∙ ap₂ (λ x y. node_digest hash (shape.position (births.born n k)) (digest_of hash shape leaves x) (digest_of hash shape leaves y)) l r;
+            ∙ ap (λ x. node_digest hash (shape.number x) (digest hash shape leaves h (2 * i)) (digest hash shape leaves h (2 * i + 1))) (sym halves.is)
+            ∙ ap₂ (λ x y. node_digest hash (shape.number (births.born n k)) (digest_of hash shape leaves x) (digest_of hash shape leaves y)) l r;
       }
     where
       node_path : (h a k b : ℕ) → h ≡ k → a ≡ b → ◌≡◌ {A = Node} (record { height = h; index = a }) (record { height = k; index = b })

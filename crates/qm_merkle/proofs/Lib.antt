@@ -12,3 +12,5 @@ pub mod Drafting
 pub mod Rows
 pub mod Putting
 pub mod Since
+pub mod Fewness
+pub mod Parts

@@ -16,6 +16,7 @@ use Rattle.std.specs.Map.{keys_of}
 use Rattle.std.proofs.lemmas.Map.Keys.{sorted_head, sorted_tail}
 use Rattle.std.proofs.lemmas.List.Elements.{All-nil, All-cons, Contains-append_left, Contains-append_right, Contains-append_cases}
 use Rattle.std.proofs.lemmas.Map.Entries.{lookup_tail}
+use Rattle.std.proofs.lemmas.List.{length-append}
 use Rattle.qm_model.specs.Operations.{Bytes}
 use Rattle.qm_model.specs.Trees.{Shape, Node, digest, node_digest, digest_of, end_of, leaf}
 use Rattle.qm_model.specs.Families.{Births, IsFamily, over}
@@ -111,11 +112,11 @@ pub over_right : (x : Node) → 0 < x.height → over (right_of x) ≡ x
 over_right x high = node_path (suc (x.height - 1)) ((2 * x.index + 1) / 2) x.height x.index (omega arith) (omega arith)
 
 pub digest-halves : (hash : Bytes → Bytes) (shape : Shape) (list : List Bytes) (h a : ℕ) → 0 < h →
-    digest hash shape list h a ≡ node_digest hash (shape.position (record { height = h; index = a })) (digest hash shape list (h - 1) (2 * a)) (digest hash shape list (h - 1) (2 * a + 1))
+    digest hash shape list h a ≡ node_digest hash (shape.number (record { height = h; index = a })) (digest hash shape list (h - 1) (2 * a)) (digest hash shape list (h - 1) (2 * a + 1))
 digest-halves hash shape list zero a high = absurd (omega arith)
 digest-halves hash shape list (suc h) a high =
     let level : h ≡ suc h - 1 = omega arith in
-    ap (λ k. node_digest hash (shape.position (record { height = suc h; index = a })) (digest hash shape list k (2 * a)) (digest hash shape list k (2 * a + 1))) level
+    ap (λ k. node_digest hash (shape.number (record { height = suc h; index = a })) (digest hash shape list k (2 * a)) (digest hash shape list k (2 * a + 1))) level
 
 -- a half of a node over a replaced leaf
 pub record Half (shape : Shape) (start base : ℕ) (half : Node) : Type 0 where
@@ -149,6 +150,12 @@ module _ (shape : Shape) {D : Type 0} (replaced : List (ℕ × D)) (layers : Lis
       let same : bytes d ≡ digest_of hash shape list y = cc in
       same ∙ sym (untouched bytes hash shape replaced list y.height y.index (λ above. not_some (own.1 above)))
 
+-- a node that is there is no wider than the tree
+pub too_high : {shape : Shape} {births : Births} → IsFamily shape births → {x : Node} {h i base : ℕ} → x ≡ record { height = h; index = i } → shape.birth x ≤ base → 2 ^ h ≤ base
+too_high {shape} family {x} {h} {i} {base} is born =
+    let inside : end_of (record { height = h; index = i }) ≤ base = subst (λ y. end_of y ≤ base) is (omega (arith, family.inside x, born)) in
+    omega (arith, inside)
+
 -- replaced leaves so far, where these entries are left: the nodes that were put, and their row
 pub record Taken (shape : Shape) {D : Type 0} (replaced left nodes : List (ℕ × D)) (row : List ℕ) : Type 0 where
   pub rest : All (λ e. found_at replaced e.0 ≡ Some e.1) left
@@ -159,6 +166,7 @@ pub record Taken (shape : Shape) {D : Type 0} (replaced left nodes : List (ℕ �
   pub fresh : All (λ e. found_at nodes (shape.position (leaf e.0)) ≡ None) left
   pub ordered : IsStrictlySortedBy nat_cmp (keys_of left)
   pub count : length nodes + length left ≡ length replaced
+  pub rows : length row ≡ length nodes
 
 module _ {shape : Shape} {D : Type 0} {replaced : List (ℕ × D)} where
   pub taken-start : {left nodes : List (ℕ × D)} {row : List ℕ} → left ≡ replaced → All (λ e. found_at replaced e.0 ≡ Some e.1) replaced → IsStrictlySortedBy nat_cmp (keys_of replaced) → nodes ≡ [] → row ≡ [] → Taken shape replaced left nodes row
@@ -174,6 +182,7 @@ module _ {shape : Shape} {D : Type 0} {replaced : List (ℕ × D)} where
     fresh = λ j e lt. ap (λ es. found_at es (shape.position (leaf (get_or left j e).0))) fresh;
     ordered = subst (λ es. IsStrictlySortedBy nat_cmp (keys_of es)) (sym is) ordered;
     count = omega (arith, ap length fresh, ap length is);
+    rows = omega (arith, ap length fresh, ap length none);
   }
 
   module _ {births : Births} (family : IsFamily shape births) where
@@ -217,6 +226,7 @@ module _ {shape : Shape} {D : Type 0} {replaced : List (ℕ × D)} where
           fresh = λ j e lt. keeps (get_or rest j e).0 (λ same. differs j e lt (sym same)) ∙ subst (All (λ e. found_at nodes (shape.position (leaf e.0)) ≡ None)) is taken.fresh (suc j) e (omega arith);
           ordered = sorted_tail nat_cmp k (keys_of rest) ordered;
           count = omega (arith, one, ap length is, taken.count);
+          rows = omega (arith, one, ap length longer, length-append row (k ∷ []), taken.rows);
         }
       where
         ordered : IsStrictlySortedBy nat_cmp (k ∷ keys_of rest)

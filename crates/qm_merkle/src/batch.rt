@@ -1,6 +1,6 @@
 //! Batches of leaves over a tree in memory, which stand on one another.
 
-ghost use Rattle.std.specs.Prelude.{◌≡◌, ◌≢◌, ◌⊎◌, ◌↔◌, Some, ℕ, List, [], ◌∷◌, ◌++◌, All, Contains, IsSome, IfOk, IfErr, OnOk, OnErr, Ok, Err, ◌<◌, ◌≤◌, ◌^◌, ◌+◌, ◌-◌, ◌*◌, ◌/◌, IsTrue, length, map, max, get_or, slice_set};
+ghost use Rattle.std.specs.Prelude.{◌≡◌, ◌≢◌, ◌⊎◌, ◌↔◌, Some, ℕ, suc, List, [], ◌∷◌, ◌++◌, All, Contains, IsSome, IfOk, IfErr, OnOk, OnErr, Ok, Err, ◌<◌, ◌≤◌, ◌^◌, ◌+◌, ◌-◌, ◌*◌, ◌/◌, IsTrue, length, map, max, get_or, slice_set};
 ghost use Rattle.std.specs.Option.{option_or};
 ghost use Rattle.std.specs.Ordering.{nat_cmp};
 ghost use Rattle.std.specs.BTreeMap.{insert_entry};
@@ -164,6 +164,7 @@ impl<F: Family, D: Digest> UnmerkleizedBatch<F, D> {
         ensures own { IfOk result (λ b. (x : trees.Node) → trees.Shape.birth F.shape x ≤ leaves_of self → (IsSome (layer_at F.shape b.newest (trees.Shape.position F.shape x)) ↔ ((self.base < trees.Shape.birth F.shape x) ⊎ IsOver self.replaced x.height x.index))) }
         ensures history { (list base : List (List ℕ)) (lists : List (List (List ℕ))) → IsHistory F.shape D.bytes H.hash self.layers (base ∷ lists) → Contains (base ∷ lists) list → Stands F.shape D.bytes H.hash mem.now list
             → IfOk result (λ b. IsHistory F.shape D.bytes H.hash (all_layers b) (drafted D.bytes self base ∷ base ∷ lists)) }
+        ensures few { (k : ℕ) → self.base < 2 ^ suc k → IfOk result (λ b. length b.newest.replaced ≤ length self.replaced * suc k) }
         ensures made { IfOk result (λ b. hasher.new ≡ more hasher.old ((length b.newest.tree.nodes - length self.added) + (length b.newest.replaced - length self.replaced))) }
     {
         let (start, _) = mem.bounds();

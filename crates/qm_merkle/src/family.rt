@@ -108,6 +108,11 @@ pub trait Family: Copy {
         requires { StandsAt shape height position }
         ensures { (index : ℕ) → trees.Shape.position shape (record { height = height; index = index }) ≡ position → result ≡ trees.Shape.birth shape (record { height = height; index = index }) };
 
+    /// The number that an inner node's digest is made with: where it stands, unless the tree is grafted onto another.
+    fn number(node: Node) -> u64
+        requires { trees.end_of node ≤ 2 ^ 62 }
+        ensures { result ≡ trees.Shape.number shape node };
+
     /// How many of the peaks over so many leaves end at or below the floor.
     fn inactive_peaks(leaves: Location<Self>, floor: Location<Self>) -> usize
         requires { leaves ≤ 2 ^ 62 }
@@ -130,6 +135,14 @@ pub fn halves(node: Node) -> (Node, Node)
     let height = node.height() - 1;
     let index = 2 * node.index();
     (Node::new(height, index), Node::new(height, index + 1))
+}
+
+/// How many leaves stand up to the node's end.
+pub fn end_of(node: Node) -> u64
+    requires { trees.end_of node ≤ 2 ^ 62 }
+    ensures { result ≡ trees.end_of node }
+{
+    (node.index() + 1) << node.height()
 }
 
 /// Where a node stands.

@@ -1,6 +1,7 @@
 //! The digests of leaves and nodes, and the root of a row of peaks.
 
 ghost use Rattle.std.specs.Prelude.{◌≡◌, ℕ, List, ◌<◌, ◌≤◌, ◌-◌, ◌++◌, length, map, max};
+ghost use Rattle.std.specs.List.{concat};
 ghost use Rattle.qm_model.specs.Operations as operations;
 ghost use Rattle.qm_model.specs.Trees as trees;
 ghost use Rattle.qm_merkle.specs.Mems.{more};
@@ -40,6 +41,18 @@ impl<H: Hasher> StandardHasher<H> {
         self.made
     }
 
+    /// The digest of bytes that stand in several parts.
+    pub fn digest(&mut self, parts: &[&[u8]]) -> H::Digest
+        ensures digest { H.Digest.bytes result ≡ H.hash (concat (map (λ part. part.now) parts.now)) }
+        ensures made { self.new ≡ more self.old 1 }
+    {
+        self.hasher.start();
+        for part in parts {
+            self.hasher.update(part);
+        }
+        finish(&mut self.hasher, &mut self.made)
+    }
+
     /// The digest of the leaf at this position with these bytes.
     pub fn leaf_digest<F>(&mut self, position: Position<F>, bytes: &[u8]) -> H::Digest
         ensures digest { H.Digest.bytes result ≡ trees.leaf_digest H.hash position bytes.now }
@@ -62,19 +75,13 @@ impl<H: Hasher> StandardHasher<H> {
         finish(&mut self.hasher, &mut self.made)
     }
 
-    /// The digest of the inner node at this position over its two halves.
-    pub fn node_digest<F>(
-        &mut self,
-        position: Position<F>,
-        left: &H::Digest,
-        right: &H::Digest,
-    ) -> H::Digest
-        ensures digest { H.Digest.bytes result ≡ trees.node_digest H.hash position (H.Digest.bytes left.now) (H.Digest.bytes right.now) }
+    /// The digest of the inner node of this number (its position, in a tree that is not grafted) over its two halves.
+    pub fn node_digest(&mut self, number: u64, left: &H::Digest, right: &H::Digest) -> H::Digest
+        ensures digest { H.Digest.bytes result ≡ trees.node_digest H.hash number (H.Digest.bytes left.now) (H.Digest.bytes right.now) }
         ensures made { self.new ≡ more self.old 1 }
     {
-        let place = position.get();
         self.hasher.start();
-        self.hasher.update(&eight_bytes(place));
+        self.hasher.update(&eight_bytes(number));
         self.hasher.update(left.bytes());
         self.hasher.update(right.bytes());
         finish(&mut self.hasher, &mut self.made)

@@ -337,7 +337,7 @@ impl<F: Family, D: Digest> Mem<F, D> {
         let (left, right) = halves(node);
         let left = self.half(made, left);
         let right = self.half(made, right);
-        hasher.node_digest(place::<F>(node), &left, &right)
+        hasher.node_digest(F::number(node), &left, &right)
     }
 
     // The digest of a node that is there when these of a leaf's nodes are made, where the node over it is not.

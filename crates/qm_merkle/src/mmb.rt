@@ -8,7 +8,7 @@ ghost use Rattle.qm_model.specs.Mmb as delayed;
 ghost use Rattle.qm_model.proofs.MmbFamily.{mmb_is_family};
 ghost use Rattle.qm_model.proofs.MmbPeaks.{mmb_has_peaks};
 
-use crate::family::Node;
+use crate::family::{Node, end_of};
 use crate::position::Position;
 use qm_base::Location;
 use std::alloc::{AllocError, Global};
@@ -208,6 +208,13 @@ impl crate::family::Family for Family {
             position.get() - 1
         };
         Location::new(location_at(leaf) + 1)
+    }
+
+    fn number(node: Node) -> u64
+        requires { trees.end_of node ≤ 2 ^ 62 }
+        ensures { result ≡ mmb.number node }
+    {
+        position(end_of(node), node.height())
     }
 
     fn inactive_peaks(leaves: Location<Self>, floor: Location<Self>) -> usize

@@ -8,7 +8,7 @@ ghost use Rattle.qm_model.specs.Mmr as mountains;
 ghost use Rattle.qm_model.proofs.MmrFamily.{mmr_is_family};
 ghost use Rattle.qm_model.proofs.MmrPeaks.{mmr_has_peaks};
 
-use crate::family::Node;
+use crate::family::{Node, end_of};
 use crate::position::Position;
 use qm_base::Location;
 use std::alloc::{AllocError, Global};
@@ -181,6 +181,13 @@ impl crate::family::Family for Family {
         ensures { (index : ℕ) → mmr.position (record { height = height; index = index }) ≡ position → result ≡ mmr.birth (record { height = height; index = index }) }
     {
         Location::new(location_at(position.get() - u64::from(height)) + 1)
+    }
+
+    fn number(node: Node) -> u64
+        requires { trees.end_of node ≤ 2 ^ 62 }
+        ensures { result ≡ mmr.number node }
+    {
+        position(end_of(node), node.height())
     }
 
     fn inactive_peaks(leaves: Location<Self>, floor: Location<Self>) -> usize

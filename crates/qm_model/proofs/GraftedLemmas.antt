@@ -372,4 +372,4 @@ module _ (hash : Bytes → Bytes) (shape : Shape) (g : ℕ) (leaves : List Bytes
   value_is_digest count zero i within = let same : 0 + i ≡ i = omega arith in chunk_value_at 0 count i [] (omega arith) ∙ ap (value_over hash shape g leaves chunks zero) same
   value_is_digest count (suc k) i within =
       let wide : suc i * 2 ^ suc k ≡ suc i * (2 ^ k * 2) = ap (λ z. suc i * z) (pow-suc 2 k) in
-      ap₂ (node_digest hash (shape.position (record { height = suc k + g; index = i }))) (value_is_digest count k (2 * i) (omega arith)) (value_is_digest count k (2 * i + 1) (omega arith))
+      ap₂ (node_digest hash (shape.number (record { height = suc k + g; index = i }))) (value_is_digest count k (2 * i) (omega arith)) (value_is_digest count k (2 * i + 1) (omega arith))

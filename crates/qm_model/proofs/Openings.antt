@@ -150,7 +150,7 @@ longest i (suc n) before (commit m g ∷ y ∷ rest) low less ended =
 -- The longest beginning that ends with a commit.
 
 -- it is none, or one
-abbrev IsPart : List Operation → ℕ → Type 0
+abbrev pub IsPart : List Operation → ℕ → Type 0
 IsPart ops n = (n ≡ 0) ⊎ ((0 < n) × (n ≤ length ops) × IsCommitEnded (take n ops))
 
 part_of : (ops : List Operation) (at : Option Selected) → last_commit 0 None (map (λ op. Some op) ops) ≡ at → IsPart ops (size_of at)
@@ -161,7 +161,7 @@ part_of ops (Some c) is = of (last 0 None ops c is)
     of (inl e) = absurd (none-some c e)
     of (inr (n, size, less, fl, ended)) = let is : c.size ≡ suc n = omega (arith, size) in inr (omega (arith, is), omega (arith, is, less), subst (λ k. IsCommitEnded (take k ops)) (sym is) ended)
 
-ended-part : (ops : List Operation) → IsPart ops (ended_size ops)
+pub ended-part : (ops : List Operation) → IsPart ops (ended_size ops)
 ended-part ops = part_of ops (last_commit 0 None (map (λ op. Some op) ops)) refl
 
 ended-longest : (ops : List Operation) (n : ℕ) → n ≤ length ops → IsCommitEnded (take n ops) → n ≤ ended_size ops
@@ -169,7 +169,7 @@ ended-longest ops zero less ended = omega arith
 ended-longest ops (suc n) less ended = let up = longest 0 n None ops (le_refl 0) less ended in omega (arith, up)
 
 -- a commit-ended list is the longest one of its own
-ended-whole : (ops : List Operation) → IsCommitEnded ops → ended_part ops ≡ ops
+pub ended-whole : (ops : List Operation) → IsCommitEnded ops → ended_part ops ≡ ops
 ended-whole ops ended = take_all (ended_size ops) ops (ended-longest ops (length ops) (le_refl (length ops)) (subst IsCommitEnded (sym (take-length ops)) ended))
 
 begins_take : (n : ℕ) (xs : List Operation) → Begins (take n xs) xs

@@ -70,14 +70,14 @@ module _ (hash : Bytes → Bytes) (shape : Shape) (g : ℕ) (list items : List B
       let l = listed_over hash shape g leaves chunks a b k (2 * i) in
       let r = listed_over hash shape g leaves chunks a b k (2 * i + 1) in
       let v = value_over hash shape g leaves chunks (suc k) i in
-      let join : Bytes × List Bytes → Taken = λ l. option_map (λ r. (node_digest hash (shape.position x) l.0 r.0, r.1)) (rebuilt_over hash shape g items a given k (2 * i + 1) l.1) in
+      let join : Bytes × List Bytes → Taken = λ l. option_map (λ r. (node_digest hash (shape.number x) l.0 r.0, r.1)) (rebuilt_over hash shape g items a given k (2 * i + 1) l.1) in
       let over : List Bytes → Taken = λ es. option_and_then join (rebuilt_over hash shape g items a given k (2 * i) es) in
       ⊎_elim
       (λ (yes : meets a b x ≡ true).
       ap₂ (λ t e. if t then over ((if e then l ++ r else v ∷ []) ++ ds) else taken ((if e then l ++ r else v ∷ []) ++ ds)) (ap (λ e. meets a e x) end ∙ yes) yes
       ∙ ap over (append_assoc l r ds)
       ∙ ap (option_and_then join) (over_listed k (2 * i) (r ++ ds))
-      ∙ ap (option_map (λ r. (node_digest hash (shape.position x) (value_over hash shape g leaves chunks k (2 * i)) r.0, r.1))) (over_listed k (2 * i + 1) ds))
+      ∙ ap (option_map (λ r. (node_digest hash (shape.number x) (value_over hash shape g leaves chunks k (2 * i)) r.0, r.1))) (over_listed k (2 * i + 1) ds))
       (λ (none : meets a b x ≡ false).
       ap₂ (λ t e. if t then over ((if e then l ++ r else v ∷ []) ++ ds) else taken ((if e then l ++ r else v ∷ []) ++ ds)) (ap (λ e. meets a e x) end ∙ none) none)
       (true_or_false (meets a b x))

@@ -72,15 +72,15 @@ module _ (hash : Bytes → Bytes) (size : ℕ) (sized : (m : Bytes) → length (
     pub right : Bytes × List Bytes
     pub is_left : rebuilt_over hash shape g items a given k (2 * i) ds ≡ Some left
     pub is_right : rebuilt_over hash shape g items a given k (2 * i + 1) left.1 ≡ Some right
-    pub is : (node_digest hash (shape.position (record { height = suc k + g; index = i })) left.0 right.0, right.1) ≡ t
+    pub is : (node_digest hash (shape.number (record { height = suc k + g; index = i })) left.0 right.0, right.1) ≡ t
 
   over_halves : (k i : ℕ) (ds : List Bytes) (t : Bytes × List Bytes) → meets a (a + length items) (record { height = suc k + g; index = i }) ≡ true → rebuilt_over hash shape g items a given (suc k) i ds ≡ Some t → OverHalves k i ds t
   over_halves k i ds t does e =
       let x : Node = record { height = suc k + g; index = i } in
-      let join : Bytes × List Bytes → Taken = λ l. option_map (λ r. (node_digest hash (shape.position x) l.0 r.0, r.1)) (rebuilt_over hash shape g items a given k (2 * i + 1) l.1) in
+      let join : Bytes × List Bytes → Taken = λ l. option_map (λ r. (node_digest hash (shape.number x) l.0 r.0, r.1)) (rebuilt_over hash shape g items a given k (2 * i + 1) l.1) in
       let met = sym (ap (λ b. if b then option_and_then join (rebuilt_over hash shape g items a given k (2 * i) ds) else taken ds) does) ∙ e in
       let l = chained join (rebuilt_over hash shape g items a given k (2 * i) ds) t met in
-      let r = mapped (λ r. (node_digest hash (shape.position x) l.0.0 r.0, r.1)) (rebuilt_over hash shape g items a given k (2 * i + 1) l.0.1) t l.2 in
+      let r = mapped (λ r. (node_digest hash (shape.number x) l.0.0 r.0, r.1)) (rebuilt_over hash shape g items a given k (2 * i + 1) l.0.1) t l.2 in
       record { left = l.0; right = r.0; is_left = l.1; is_right = r.1; is = r.2 }
 
   -- a chunk's node that has some of them, by its plain digest
@@ -108,19 +108,19 @@ module _ (hash : Bytes → Bytes) (size : ℕ) (sized : (m : Bytes) → length (
       (true_or_false (meets a (a + length items) (chunk_node g i)))
   over_sized (suc k) i ds t e own =
       let x : Node = record { height = suc k + g; index = i } in
-      let join : Bytes × List Bytes → Taken = λ l. option_map (λ r. (node_digest hash (shape.position x) l.0 r.0, r.1)) (rebuilt_over hash shape g items a given k (2 * i + 1) l.1) in
+      let join : Bytes × List Bytes → Taken = λ l. option_map (λ r. (node_digest hash (shape.number x) l.0 r.0, r.1)) (rebuilt_over hash shape g items a given k (2 * i + 1) l.1) in
       ⊎_elim
       (λ (yes : meets a (a + length items) x ≡ true).
       let two = over_halves k i ds t yes e in
       let left = over_sized k (2 * i) ds two.left two.is_left own in
       let right = over_sized k (2 * i + 1) two.left.1 two.right two.is_right left.1 in
-      subst (λ (u : Bytes × List Bytes). Long u.0 × Each Long u.1) two.is (sized (eight_bytes (shape.position x) ++ two.left.0 ++ two.right.0), right.1))
+      subst (λ (u : Bytes × List Bytes). Long u.0 × Each Long u.1) two.is (sized (eight_bytes (shape.number x) ++ two.left.0 ++ two.right.0), right.1))
       (λ (none : meets a (a + length items) x ≡ false). taken_sized hash size sized P Q shape list items a ds t (sym (ap (λ b. if b then option_and_then join (rebuilt_over hash shape g items a given k (2 * i) ds) else taken ds) none) ∙ e) own)
       (true_or_false (meets a (a + length items) x))
 
   value_sized : (k i : ℕ) → Long (value k i)
   value_sized zero i = sized (chunks i ++ digest hash shape leaves g i)
-  value_sized (suc k) i = sized (eight_bytes (shape.position (record { height = suc k + g; index = i })) ++ value k (2 * i) ++ value k (2 * i + 1))
+  value_sized (suc k) i = sized (eight_bytes (shape.number (record { height = suc k + g; index = i })) ++ value k (2 * i) ++ value k (2 * i + 1))
 
   -- a node that has its value over the list has the list's items and chunks, or inputs clash
   over_speaks : (k i : ℕ) (ds : List Bytes) (t : Bytes × List Bytes) → rebuilt_over hash shape g items a given k i ds ≡ Some t → t.0 ≡ value k i → Each Long ds →
@@ -156,7 +156,7 @@ module _ (hash : Bytes → Bytes) (size : ℕ) (sized : (m : Bytes) → length (
       (true_or_false (meets a (a + length items) (chunk_node g i)))
   over_speaks (suc k) i ds t e same own ps qs within =
       let x : Node = record { height = suc k + g; index = i } in
-      let place = eight_bytes (shape.position x) in
+      let place = eight_bytes (shape.number x) in
       let half = value k in
       let wide : 2 ^ suc k * 2 ^ g ≡ 2 ^ k * 2 ^ g * 2 = ap (λ z. z * 2 ^ g) (pow-suc 2 k) ∙ omega arith in
       let wide_at : suc i * (2 ^ suc k * 2 ^ g) ≡ suc i * (2 ^ k * 2 ^ g * 2) = ap (λ z. suc i * z) wide in
@@ -181,7 +181,7 @@ module _ (hash : Bytes → Bytes) (size : ℕ) (sized : (m : Bytes) → length (
       (λ (equal : place ++ left.0 ++ right.0 ≡ place ++ half (2 * i) ++ half (2 * i + 1)).
       let long : length (place ++ left.0) ≡ length (place ++ half (2 * i)) = omega (arith, length-append place left.0, length-append place (half (2 * i)), left_long.0, value_sized k (2 * i)) in
       let rest = parted (place ++ left.0) (place ++ half (2 * i)) right.0 (half (2 * i + 1)) long equal in
-      let parts : (left.0 ≡ half (2 * i)) × (right.0 ≡ half (2 * i + 1)) = (numbered (shape.position x) left.0 (half (2 * i)) rest.0, rest.1) in
+      let parts : (left.0 ≡ half (2 * i)) × (right.0 ≡ half (2 * i + 1)) = (numbered (shape.number x) left.0 (half (2 * i)) rest.0, rest.1) in
       ⊎_elim
       (λ (left_says : Both k (2 * i)). ⊎_elim
       (λ (right_says : Both k (2 * i + 1)). inl (

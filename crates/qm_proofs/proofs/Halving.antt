@@ -69,40 +69,40 @@ needed_halves a b x l r high met left right =
 module _ (hash : Bytes → Bytes) (shape : Shape) (items : List Bytes) (a : ℕ) where
   -- a node over halves, from a left half and what is behind it
   abbrev over_left : ℕ → ℕ → ℕ → Bytes × List Bytes → Taken
-  over_left position h i l = option_map (λ r. (node_digest hash position l.0 r.0, r.1)) (rebuilt hash shape items a h i l.1)
+  over_left number h i l = option_map (λ r. (node_digest hash number l.0 r.0, r.1)) (rebuilt hash shape items a h i l.1)
 
   -- the digest of a node that has some of the leaves
   rebuilt_halves : (x l r : Node) (ds : List Bytes) → 0 < x.height → meets a (a + length items) x ≡ true → l ≡ left_of x → r ≡ right_of x →
-      rebuilt hash shape items a x.height x.index ds ≡ option_and_then (over_left (shape.position x) r.height r.index) (rebuilt hash shape items a l.height l.index ds)
+      rebuilt hash shape items a x.height x.index ds ≡ option_and_then (over_left (shape.number x) r.height r.index) (rebuilt hash shape items a l.height l.index ds)
   rebuilt_halves x l r ds high met left right =
       at x.height x.index high met
-      ∙ ap₂ (λ (m n : Node). option_and_then (over_left (shape.position x) n.height n.index) (rebuilt hash shape items a m.height m.index ds)) (sym left) (sym right)
+      ∙ ap₂ (λ (m n : Node). option_and_then (over_left (shape.number x) n.height n.index) (rebuilt hash shape items a m.height m.index ds)) (sym left) (sym right)
     where
       at : (h i : ℕ) → 0 < h → meets a (a + length items) (record { height = h; index = i }) ≡ true →
-          rebuilt hash shape items a h i ds ≡ option_and_then (over_left (shape.position (record { height = h; index = i })) (h - 1) (2 * i + 1)) (rebuilt hash shape items a (h - 1) (2 * i) ds)
+          rebuilt hash shape items a h i ds ≡ option_and_then (over_left (shape.number (record { height = h; index = i })) (h - 1) (2 * i + 1)) (rebuilt hash shape items a (h - 1) (2 * i) ds)
       at zero i high e = absurd (omega arith)
       at (suc h) i high e =
           let same : h ≡ suc h - 1 = omega arith in
-          let p = shape.position (record { height = suc h; index = i }) in
+          let p = shape.number (record { height = suc h; index = i }) in
           ap (λ t. if t then option_and_then (over_left p h (2 * i + 1)) (rebuilt hash shape items a h (2 * i) ds) else taken ds) e
           ∙ ap (λ k. option_and_then (over_left p k (2 * i + 1)) (rebuilt hash shape items a k (2 * i) ds)) same
 
   module _ (x l r : Node) (ds : List Bytes) (high : 0 < x.height) (met : meets a (a + length items) x ≡ true) (left : l ≡ left_of x) (right : r ≡ right_of x) where
     pub no_left : None ≡ rebuilt hash shape items a l.height l.index ds → None ≡ rebuilt hash shape items a x.height x.index ds
-    no_left none = sym (rebuilt_halves x l r ds high met left right ∙ ap (option_and_then (over_left (shape.position x) r.height r.index)) (sym none))
+    no_left none = sym (rebuilt_halves x l r ds high met left right ∙ ap (option_and_then (over_left (shape.number x) r.height r.index)) (sym none))
 
     pub no_right : (p : Bytes × List Bytes) → Some p ≡ rebuilt hash shape items a l.height l.index ds → None ≡ rebuilt hash shape items a r.height r.index p.1 → None ≡ rebuilt hash shape items a x.height x.index ds
     no_right p some none =
-        sym (rebuilt_halves x l r ds high met left right ∙ ap (option_and_then (over_left (shape.position x) r.height r.index)) (sym some)
-        ∙ ap (option_map (λ q. (node_digest hash (shape.position x) p.0 q.0, q.1))) (sym none))
+        sym (rebuilt_halves x l r ds high met left right ∙ ap (option_and_then (over_left (shape.number x) r.height r.index)) (sym some)
+        ∙ ap (option_map (λ q. (node_digest hash (shape.number x) p.0 q.0, q.1))) (sym none))
 
-    pub both : (p q : Bytes × List Bytes) (d : Bytes) (place : ℕ) → Some p ≡ rebuilt hash shape items a l.height l.index ds → Some q ≡ rebuilt hash shape items a r.height r.index p.1 →
-        d ≡ node_digest hash place p.0 q.0 → place ≡ shape.position x → ◌≡◌ {A = Taken} (Some (d, q.1)) (rebuilt hash shape items a x.height x.index ds)
-    both p q d place some other made at =
-        let hashed : d ≡ node_digest hash (shape.position x) p.0 q.0 = made ∙ ap (λ n. node_digest hash n p.0 q.0) at in
+    pub both : (p q : Bytes × List Bytes) (d : Bytes) (number : ℕ) → Some p ≡ rebuilt hash shape items a l.height l.index ds → Some q ≡ rebuilt hash shape items a r.height r.index p.1 →
+        d ≡ node_digest hash number p.0 q.0 → number ≡ shape.number x → ◌≡◌ {A = Taken} (Some (d, q.1)) (rebuilt hash shape items a x.height x.index ds)
+    both p q d number some other made at =
+        let hashed : d ≡ node_digest hash (shape.number x) p.0 q.0 = made ∙ ap (λ n. node_digest hash n p.0 q.0) at in
         ap (λ e. Some (e, q.1)) hashed
-        ∙ sym (rebuilt_halves x l r ds high met left right ∙ ap (option_and_then (over_left (shape.position x) r.height r.index)) (sym some)
-        ∙ ap (option_map (λ t. (node_digest hash (shape.position x) p.0 t.0, t.1))) (sym other))
+        ∙ sym (rebuilt_halves x l r ds high met left right ∙ ap (option_and_then (over_left (shape.number x) r.height r.index)) (sym some)
+        ∙ ap (option_map (λ t. (node_digest hash (shape.number x) p.0 t.0, t.1))) (sym other))
 
 -- a node meets the claimed leaves, where the code found that it does
 pub met : {E : Type 0} (f : E → Bytes) (elements : List E) (s a e : ℕ) (x : Node) (found : Bool) → found ≡ meets s e x → found ≡ true → s ≡ a → e ≡ a + length elements → meets a (a + length (map f elements)) x ≡ true

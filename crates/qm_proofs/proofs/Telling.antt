@@ -65,7 +65,7 @@ digest_take hash shape list n zero a within = at list n a (omega arith)
     at (x ∷ xs) (suc n) (suc a) lt = at xs n a (omega arith)
 digest_take hash shape list n (suc h) a within =
     let halves : suc a * 2 ^ suc h ≡ suc a * (2 ^ h * 2) = ap (λ z. suc a * z) (pow-suc 2 h) in
-    ap₂ (node_digest hash (shape.position (record { height = suc h; index = a })))
+    ap₂ (node_digest hash (shape.number (record { height = suc h; index = a })))
     (digest_take hash shape list n h (2 * a) (omega arith))
     (digest_take hash shape list n h (2 * a + 1) (omega arith))
 

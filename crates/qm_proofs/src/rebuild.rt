@@ -144,15 +144,14 @@ impl<D: Digest> Proof<D> {
         if !meets(node, start.get(), start.get() + elements.len() as u64) {
             return self.next_digest(used);
         }
-        let position = place::<F>(node);
         if node.height() == 0 {
             let element = &elements[(node.index() - start.get()) as usize];
-            return Some((hasher.leaf_digest_of(position, element), used));
+            return Some((hasher.leaf_digest_of(place::<F>(node), element), used));
         }
         let (left, right) = halves(node);
         let (left, used) = self.rebuild(hasher, elements, start, left, used)?;
         let (right, used) = self.rebuild(hasher, elements, start, right, used)?;
-        Some((hasher.node_digest(position, &left, &right), used))
+        Some((hasher.node_digest(F::number(node), &left, &right), used))
     }
 
     // The first digest that is not used yet, and how many are used with it.

@@ -1,6 +1,6 @@
 //! The nodes above replaced leaves, row by row.
 
-ghost use Rattle.std.specs.Prelude.{◌≡◌, ◌≢◌, ◌↔◌, ℕ, Some, List, [], All, IsSome, IfOk, OnOk, OnErr, ◌<◌, ◌≤◌, ◌^◌, ◌+◌, ◌-◌, ◌/◌, IsTrue, None, length};
+ghost use Rattle.std.specs.Prelude.{◌≡◌, ◌≢◌, ◌↔◌, ℕ, suc, ◌*◌, Some, List, [], All, IsSome, IfOk, OnOk, OnErr, ◌<◌, ◌≤◌, ◌^◌, ◌+◌, ◌-◌, ◌/◌, IsTrue, None, length};
 ghost use Rattle.std.specs.Ordering.{nat_cmp};
 ghost use Rattle.std.specs.BTreeMap.{insert_entry};
 ghost use Rattle.qm_model.specs.Trees as trees;
@@ -28,6 +28,7 @@ impl<F: Family, D: Digest> UnmerkleizedBatch<F, D> {
         ensures own { IfOk result (λ m. HaveOver F.shape self.now.replaced self.now.base m.entries) }
         ensures digests { (list : List (List ℕ)) → length list ≡ self.now.base → AreRead F.shape D.bytes H.hash self.now.layers mem.now list → IfOk result (λ m. AreRight F.shape D.bytes H.hash m.entries (replaced_from D.bytes self.now.replaced 0 list)) }
         ensures count { IfOk result (λ m. length self.now.replaced ≤ length m.entries) }
+        ensures few { (k : ℕ) → self.now.base < 2 ^ suc k → IfOk result (λ m. length m.entries ≤ length self.now.replaced * suc k) }
         ensures made { IfOk result (λ m. hasher.new ≡ more hasher.old (length m.entries - length self.now.replaced)) }
     {
         let mut nodes = BTreeMap::new(alloc);
@@ -50,6 +51,7 @@ impl<F: Family, D: Digest> UnmerkleizedBatch<F, D> {
         ensures row { IfOk result (λ v. IsRow F.shape self.now.base 0 nodes.new.entries v.items) }
         ensures digests { (hash : List ℕ → List ℕ) (list : List (List ℕ)) → length list ≡ self.now.base → OnOk result (AreRight F.shape D.bytes hash nodes.new.entries (replaced_from D.bytes self.now.replaced 0 list)) }
         ensures count { OnOk result (length nodes.new.entries ≡ length self.now.replaced) }
+        ensures rows { IfOk result (λ v. length v.items ≡ length self.now.replaced) }
     {
         let mut row = Vec::new(alloc);
         for (location, digest) in &self.replaced {
@@ -80,7 +82,9 @@ impl<F: Family, D: Digest> UnmerkleizedBatch<F, D> {
         ensures row { IfOk result (λ v. IsRow F.shape self.now.base height nodes.new.entries v.items) }
         ensures digests { (list : List (List ℕ)) → length list ≡ self.now.base → AreRead F.shape D.bytes H.hash self.now.layers mem.now list → AreRight F.shape D.bytes H.hash nodes.old.entries (replaced_from D.bytes self.now.replaced 0 list)
             → OnOk result (AreRight F.shape D.bytes H.hash nodes.new.entries (replaced_from D.bytes self.now.replaced 0 list)) }
-        ensures count { OnOk result (length nodes.old.entries ≤ length nodes.new.entries) }
+        ensures count { IfOk result (λ v. length nodes.new.entries ≡ length nodes.old.entries + length v.items) }
+        ensures fewer { IfOk result (λ v. length v.items ≤ length row.now) }
+        ensures none { self.now.base < 2 ^ height → IfOk result (λ v. length v.items ≡ 0) }
         ensures made { OnOk result (hasher.new ≡ more hasher.old (length nodes.new.entries - length nodes.old.entries)) }
     {
         let mut above = Vec::new(alloc);
@@ -126,7 +130,7 @@ impl<F: Family, D: Digest> UnmerkleizedBatch<F, D> {
         let (left, right) = halves(node);
         let left = self.digest(mem, nodes, place(left));
         let right = self.digest(mem, nodes, place(right));
-        hasher.node_digest(place::<F>(node), &left, &right)
+        hasher.node_digest(F::number(node), &left, &right)
     }
 }
 

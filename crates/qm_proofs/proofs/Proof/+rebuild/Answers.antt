@@ -33,4 +33,4 @@ returns-clause-digest g t c =
     c.halves-left.ensures.left c.halves-left.ensures.right
     (g.D.Digest.bytes c.in_ok-left.left, map g.D.Digest.bytes (drop c.in_ok-left.used c.args.self.now.digests.items))
     (g.D.Digest.bytes c.in_ok-right.right, map g.D.Digest.bytes (drop c.in_ok-right.used c.args.self.now.digests.items))
-    (g.D.Digest.bytes c.node_digest.result) c.place-position.result c.in_ok-left.ensures.digest c.in_ok-right.ensures.digest c.node_digest.ensures.digest c.place-position.ensures
+    (g.D.Digest.bytes c.node_digest.result) c.number.result c.in_ok-left.ensures.digest c.in_ok-right.ensures.digest c.node_digest.ensures.digest c.number.ensures

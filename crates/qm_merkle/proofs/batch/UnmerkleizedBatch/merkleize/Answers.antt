@@ -45,6 +45,11 @@ returns-clause-history g c list base lists history found stands =
     let leads = drafted_leads shape births family layer draft.replaced draft.base c.in_ok-tree.ensures.start c.in_ok-replaced.ensures.own bytes hash base (map bytes draft.added) count (c.in_ok-tree.ensures.stands base count read right) right in
     (subst (λ l. Leads shape bytes hash l base (drafted bytes draft base)) (sym is) leads, subst (λ b. IsHistory shape bytes hash b.layers (base ∷ lists)) (sym c.self.view_is) history)
 
+pub returns-clause-few : goal.returns-clause-few
+returns-clause-few g c = λ k high.
+    let is = c.in_ok-newest.ensures.ok in
+    omega (arith, c.in_ok-replaced.ensures.few k high, ap (λ (l : Layer g.row.D.Denot). length l.replaced) is)
+
 pub returns-clause-made : goal.returns-clause-made
 returns-clause-made g c =
     let is = c.in_ok-newest.ensures.ok in

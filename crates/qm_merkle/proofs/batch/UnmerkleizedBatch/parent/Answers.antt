@@ -40,8 +40,8 @@ digest-right-requires g c =
     subst (λ p. IsSome (option_or (found_at c.args.nodes.now.entries p) (option_or (layers_at shape c.args.self.now.layers p) (node_at shape c.args.mem.now p)))) (sym c.place-2.ensures)
     (is_some-other (found_at c.args.nodes.now.entries (shape.position x)) (seen_at shape c.args.self.now.layers c.args.mem.now x) (c.requires.there x h.born h.bare))
 
-pub place-requires-3 : goal.place-requires-3
-place-requires-3 g c = omega (arith, g.met.F.Family.numbered.inside c.args.node, c.requires.below, c.requires.few)
+pub number-requires : goal.number-requires
+number-requires g c = omega (arith, g.met.F.Family.numbered.inside c.args.node, c.requires.below, c.requires.few)
 
 pub returns-clause-digest : goal.returns-clause-digest
 returns-clause-digest g c = λ list long read right.
@@ -66,6 +66,6 @@ returns-clause-digest g c = λ list long read right.
     digest_is shape draft.replaced draft.layers mem draft.base bytes hash entries list y (found_at entries (shape.position y)) c.digest-right.result long r.born r.bare refl (c.requires.own y r.born y_low) read right
     (subst (λ p. option_or (found_at entries p) (option_or (layers_at shape draft.layers p) (node_at shape mem p)) ≡ Some c.digest-right.result) c.place-2.ensures c.digest-right.ensures) in
     c.node_digest.ensures.digest
-    ∙ ap (λ p. node_digest hash p (bytes c.digest-left.result) (bytes c.digest-right.result)) c.place-3.ensures
-    ∙ ap₂ (node_digest hash (shape.position node)) (left ∙ ap (digest_of hash shape new) c.halves-left.ensures.left) (right_is ∙ ap (digest_of hash shape new) c.halves-left.ensures.right)
+    ∙ ap (λ p. node_digest hash p (bytes c.digest-left.result) (bytes c.digest-right.result)) c.number.ensures
+    ∙ ap₂ (node_digest hash (shape.number node)) (left ∙ ap (digest_of hash shape new) c.halves-left.ensures.left) (right_is ∙ ap (digest_of hash shape new) c.halves-left.ensures.right)
     ∙ sym (digest-halves hash shape new node.height node.index c.requires.high)

@@ -35,3 +35,6 @@ returns-clause-digests g c = taken-right g.met.F.Family.numbered c.loop-location
 
 pub returns-clause-count : goal.returns-clause-count
 returns-clause-count g c = omega (arith, c.loop-location.invariant.count, ap length c.in-None.ensures.steps.0)
+
+pub returns-clause-rows : goal.returns-clause-rows
+returns-clause-rows g c = omega (arith, c.loop-location.invariant.rows, c.loop-location.invariant.count, ap length c.in-None.ensures.steps.0)

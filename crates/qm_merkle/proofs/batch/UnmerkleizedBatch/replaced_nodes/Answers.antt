@@ -1,6 +1,7 @@
-use Rattle.std.proofs.Common.{◌≡◌, ◌+◌, ◌-◌, sym, subst, arith}
+use Rattle.std.proofs.Common.{◌≡◌, ◌+◌, ◌-◌, ◌≤◌, length, ap, sym, subst, arith}
 use Rattle.qm_merkle.specs.Batches.{AreOver, IsRow}
 use Rattle.qm_merkle.proofs.Growth.{height_within}
+use Rattle.qm_merkle.proofs.Fewness.{few-start, few-next, few-all}
 use Rattle.qm_merkle.proofs.batch.UnmerkleizedBatch.replaced_nodes.Goals as goal
 
 pub loop-height-init : goal.loop-height-init
@@ -10,6 +11,8 @@ loop-height-init g c =
       row = subst (λ h. IsRow g.F.Family.shape c.args.self.now.base h c.replaced_leaves.new.nodes.entries c.in_ok-row.row.items) first c.in_ok-row.ensures.row;
       right = λ list long read. c.in_ok-row.ensures.digests g.H.Hasher.hash list long;
       count = omega (arith, c.in_ok-row.ensures.count);
+      rows = omega (arith, c.in_ok-row.ensures.rows);
+      few = λ k high. few-start (length c.args.self.now.replaced) (length c.replaced_leaves.new.nodes.entries) c.in_ok-row.ensures.count k;
       made = omega (arith, c.in_ok-row.ensures.count);
     }
 
@@ -22,11 +25,14 @@ row_above-requires-clause-row g c =
 
 pub loop-height-preserved : goal.loop-height-preserved
 loop-height-preserved g c =
+    let shorter : length c.in_ok-row-2.row.items ≤ length c.loop-height.row.items = omega (arith, c.in_ok-row-2.ensures.fewer, ap length c.deref.ensures.value) in
     let next : c.loop-height.height ≡ c.loop-height.height + 1 - 1 = omega arith in record {
       own = subst (λ h. AreOver g.F.Family.shape c.args.self.now.replaced c.args.self.now.base h c.row_above.new.nodes.entries) next c.in_ok-row-2.ensures.own;
       row = subst (λ h. IsRow g.F.Family.shape c.args.self.now.base h c.row_above.new.nodes.entries c.in_ok-row-2.row.items) next c.in_ok-row-2.ensures.row;
       right = λ list long read. c.in_ok-row-2.ensures.digests list long read (c.loop-height.invariant.right list long read);
       count = omega (arith, c.in_ok-row-2.ensures.count, c.loop-height.invariant.count);
+      rows = omega (arith, shorter, c.loop-height.invariant.rows);
+      few = λ k high. few-next (length c.args.self.now.replaced) c.args.self.now.base (length c.loop-height.nodes.entries) (length c.row_above.new.nodes.entries) (length c.in_ok-row-2.row.items) k c.loop-height.height (omega arith) high c.in_ok-row-2.ensures.count (omega (arith, shorter, c.loop-height.invariant.rows)) c.in_ok-row-2.ensures.none (c.loop-height.invariant.few k high);
       made = omega (arith, c.loop-height.invariant.made, c.in_ok-row-2.ensures.made, c.in_ok-row-2.ensures.count, c.loop-height.invariant.count);
     }
 
@@ -40,6 +46,9 @@ returns-clause-digests g c = c.loop-height.invariant.right
 
 pub returns-clause-count : goal.returns-clause-count
 returns-clause-count g c = c.loop-height.invariant.count
+
+pub returns-clause-few : goal.returns-clause-few
+returns-clause-few g c = λ k high. few-all (length c.args.self.now.replaced) (length c.loop-height.nodes.entries) k c.loop-height.height (c.loop-height.invariant.few k high)
 
 pub returns-clause-made : goal.returns-clause-made
 returns-clause-made g c = c.loop-height.invariant.made

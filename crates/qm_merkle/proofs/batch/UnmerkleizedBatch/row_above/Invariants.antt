@@ -1,4 +1,4 @@
-use Rattle.std.proofs.Common.{◌≡◌, ◌≤◌, ◌-◌, List, length}
+use Rattle.std.proofs.Common.{◌≡◌, ◌<◌, ◌≤◌, ◌+◌, ◌-◌, ◌^◌, List, length}
 use Rattle.qm_model.specs.Operations.{Bytes}
 use Rattle.qm_merkle.specs.Batches.{replaced_from, AreRead, AreRight}
 use Rattle.qm_merkle.specs.Mems.{more}
@@ -11,6 +11,8 @@ invariant-loop-index g l = record {
   right : (list : List Bytes) → length list ≡ l.self.base → AreRead g.F.Family.shape g.D.Digest.bytes g.H.Hasher.hash l.self.layers l.mem list →
       AreRight g.F.Family.shape g.D.Digest.bytes g.H.Hasher.hash l.fn.nodes.entries (replaced_from g.D.Digest.bytes l.self.replaced 0 list) →
       AreRight g.F.Family.shape g.D.Digest.bytes g.H.Hasher.hash l.nodes.entries (replaced_from g.D.Digest.bytes l.self.replaced 0 list);
-  count : length l.fn.nodes.entries ≤ length l.nodes.entries;
+  count : length l.nodes.entries ≡ length l.fn.nodes.entries + length l.above.items;
+  fewer : length l.above.items ≤ l.index-index;
+  none : l.self.base < 2 ^ l.height → length l.above.items ≡ 0;
   made : l.hasher ≡ more l.fn.hasher (length l.nodes.entries - length l.fn.nodes.entries);
 }

@@ -57,8 +57,8 @@ half-right-requires-clause-within g c =
     let within = (halves_are g c.self.inside.leaves c.args.self.now.leaves c.args.number c.born-node.result c.halves-left.result.0 c.halves-left.result.1 (ap (λ k. k.leaves) c.self.view_is) c.requires.some c.requires.room c.born-node.ensures c.halves-left.ensures.left c.halves-left.ensures.right).right_within in
     omega (arith, c.requires.few)
 
-pub place-requires : goal.place-requires
-place-requires g c =
+pub number-requires : goal.number-requires
+number-requires g c =
     within g c.self.inside.leaves c.args.self.now.leaves c.args.number c.born-node.result (ap (λ k. k.leaves) c.self.view_is) c.requires.few c.requires.room c.born-node.ensures
 
 pub returns-clause-digest : goal.returns-clause-digest
@@ -81,5 +81,5 @@ returns-clause-digest g c = λ leaves leaf stands born.
     half_is shape births g.met.F.Family.numbered g.met.F.Family.peaked bytes hash kept whole leaves stands leaf c.args.made.now c.halves-left.result.1 c.half-right.result room
     (subst (λ k. IsHeld shape births kept.leaves k c.halves-left.result.1) (sym c.requires.number) halves.right_held) right_bare born c.half-right.ensures.old c.half-right.ensures.new in
     c.node_digest.ensures.digest
-    ∙ ap (λ p. node_digest hash p (bytes c.half-left.result) (bytes c.half-right.result)) (c.place.ensures ∙ ap shape.position (c.born-node.ensures ∙ ap (λ k. births.born k.leaves c.args.number) c.self.view_is))
-    ∙ ap₂ (node_digest hash (shape.position (births.born kept.leaves c.args.number))) left right ∙ sym (halves.parent hash now)
+    ∙ ap (λ p. node_digest hash p (bytes c.half-left.result) (bytes c.half-right.result)) (c.number.ensures ∙ ap shape.number (c.born-node.ensures ∙ ap (λ k. births.born k.leaves c.args.number) c.self.view_is))
+    ∙ ap₂ (node_digest hash (shape.number (births.born kept.leaves c.args.number))) left right ∙ sym (halves.parent hash now)
