@@ -1,3 +1,8 @@
+mod Begun
+mod Peaks
+mod Rooting
+mod Following
+mod Fitting
 mod Spans
 mod Waiting
 mod There

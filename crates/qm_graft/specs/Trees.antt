@@ -1,16 +1,15 @@
 -- A tree of operations and the grafted tree over it, as one.
-use Rattle.std.specs.Prelude.{◌≡◌, ◌-◌, ◌<◌, ◌≤◌, ℕ, zero, suc, nat_lt, nat_le, if◌then◌else◌, List, Option, None, IfSome}
+use Rattle.std.specs.Prelude.{◌≡◌, ◌-◌, ◌≤◌, ℕ, zero, suc, nat_lt, nat_le, if◌then◌else◌, List, length, All, Option, None, IsSome, IfSome}
 use Rattle.qm_model.specs.Operations.{Bytes}
-use Rattle.qm_model.specs.Trees.{Node, Shape, digest_of}
+use Rattle.qm_model.specs.Trees.{Node, Shape, peaks, peak_positions}
 use Rattle.qm_model.specs.Families.{Births}
-use Rattle.qm_model.specs.Grafted.{lowered, value_over}
+use Rattle.qm_model.specs.Grafted.{lowered, grafted_value}
 
--- both trees, how many leaves the one of operations has, and the height of its nodes over chunks
+-- both trees, and how many leaves the one of operations has
 pub record Both (O G : Type 0) : Type 0 where
   pub operations : O
   pub grafted : G
   pub leaves : ℕ
-  pub height : ℕ
 
 -- a node that a tree of so many leaves has stands there
 abbrev pub Stands : Shape → ℕ → ℕ → Node → Type 0
@@ -33,11 +32,10 @@ held_of shape operations grafted g x = if nat_lt x.height g then operations (sha
 abbrev pub held_at : {D : Type 0} → Shape → Births → (ℕ → Option D) → (ℕ → Option D) → ℕ → ℕ → ℕ → Option D
 held_at shape births operations grafted leaves g at = if nat_lt at (shape.size leaves) then held_of shape operations grafted g (node_there shape births leaves at) else None
 
-module _ {D : Type 0} (bytes : D → Bytes) (hash : Bytes → Bytes) (shape : Shape) (held : ℕ → Option D) (leaves : List Bytes) where
-  -- what is held below a height are the digests of nodes over these leaves
-  abbrev pub TellsDigests : ℕ → Type 0
-  TellsDigests g = (x : Node) → x.height < g → IfSome (held (shape.position x)) (λ d. bytes d ≡ digest_of hash shape leaves x)
+-- a view of both trees holds the peaks over so many leaves
+abbrev pub HoldsPeaks : {D : Type 0} → (ℕ → Option D) → Shape → ℕ → Type 0
+HoldsPeaks held shape leaves = All (λ p. IsSome (held p)) (peak_positions shape leaves)
 
-  -- what is held are the values of nodes from that height on, over these chunks too
-  abbrev pub TellsValues : ℕ → (ℕ → Bytes) → Type 0
-  TellsValues g chunks = (x : Node) → g ≤ x.height → IfSome (held (shape.position (lowered g x))) (λ d. bytes d ≡ value_over hash shape g leaves chunks (x.height - g) x.index)
+-- and what it holds of them are their grafted values over these leaves' digests and chunks
+abbrev pub TellsPeaks : {D : Type 0} → (D → Bytes) → (Bytes → Bytes) → (ℕ → Option D) → Shape → ℕ → List Bytes → (ℕ → Bytes) → Type 0
+TellsPeaks bytes hash held shape g leaves chunks = All (λ x. IfSome (held (shape.position x)) (λ d. bytes d ≡ grafted_value hash shape g leaves chunks x)) (peaks shape (length leaves))

@@ -4,7 +4,8 @@ ghost use Rattle.std.specs.Prelude.{◌≡◌, ◌*◌, ◌^◌, ◌≤◌, ◌<
 ghost use Rattle.qm_model.specs.Trees as trees;
 ghost use Rattle.qm_model.specs.Grafted as grafted;
 
-use crate::nodes::{birth_of, chunk_node, end_of};
+use crate::nodes::{birth_of, chunk_node};
+use qm_merkle::family::end_of;
 use qm_merkle::{Family, Node};
 
 /// How many operations there have to be before so many chunks may go, where the node over the last of them and its

@@ -1,19 +1,21 @@
 //! Families whose trees chunks are grafted onto.
 
-ghost use Rattle.std.specs.Prelude.{◌≡◌, ℕ, suc, ◌*◌, ◌^◌, ◌≤◌};
+ghost use Rattle.std.specs.Prelude.{◌≡◌, ℕ, suc, ◌*◌, ◌^◌, ◌<◌, ◌≤◌};
 ghost use Rattle.qm_model.specs.Trees as trees;
 ghost use Rattle.qm_model.specs.Mmr.{mmr};
 ghost use Rattle.qm_model.specs.Mmb.{mmb};
 ghost use Rattle.qm_model.specs.Grafted as grafted;
-ghost use Rattle.qm_model.proofs.GraftedLemmas.{mmr_prompt, mmb_prompt};
+ghost use Rattle.qm_model.proofs.GraftedLemmas.{mmr_prompt, mmb_prompt, mmb_lowered_born, mmb_absorbed};
 ghost use Rattle.qm_graft.specs.Bare.{mmr_bare, mmb_bare};
+ghost use Rattle.qm_graft.specs.Lowered.{mmr_lowered_born, mmr_absorbed};
 
-use crate::nodes::{chunk_node, end_of};
-use qm_merkle::family::place;
+use crate::nodes::chunk_node;
+use qm_merkle::family::{end_of, place};
 use qm_merkle::{Family, Node, Position, mmb, mmr};
 
-/// A family that chunks can be grafted onto: a node is born by when the leaves of the next one of its height are there, and a tree
-/// of no leaves has no nodes.
+/// A family that chunks can be grafted onto: a node is born by when the leaves of the next one of its height are there, a tree
+/// of no leaves has no nodes, where a node over chunks is born, the one that stands for it in the grafted tree is born too, and where chunks may go, so it is the
+/// other way round for the nodes over them.
 pub trait Graftable: Family {
     /// How many leaves a tree has when the node is born.
     fn birth(node: Node) -> u64
@@ -39,6 +41,11 @@ pub trait Graftable: Family {
     ghost prompt: { (height index : ℕ) → trees.Shape.birth Self.shape (record { height = height; index = index }) ≤ suc (suc index) * 2 ^ height };
 
     ghost bare: { trees.Shape.size Self.shape 0 ≡ 0 };
+
+    ghost lowered: { (height leaves : ℕ) (node : trees.Node) → 0 < height → trees.Shape.birth Self.shape (grafted.raised height node) ≤ leaves → trees.Shape.birth Self.shape node ≤ grafted.grafted_chunks Self.shape height leaves };
+
+    ghost absorbed: { (height leaves chunks : ℕ) (node : trees.Node) → 0 < height → 0 < chunks → grafted.needed_size Self.shape height chunks ≤ leaves → trees.Shape.birth Self.shape node ≤ chunks
+        → trees.Shape.birth Self.shape (grafted.raised height node) ≤ leaves };
 }
 
 impl Graftable for mmr::Family {
@@ -52,6 +59,10 @@ impl Graftable for mmr::Family {
     ghost prompt = { mmr_prompt };
 
     ghost bare = { mmr_bare };
+
+    ghost lowered = { mmr_lowered_born };
+
+    ghost absorbed = { mmr_absorbed };
 }
 
 impl Graftable for mmb::Family {
@@ -70,4 +81,8 @@ impl Graftable for mmb::Family {
     ghost prompt = { mmb_prompt };
 
     ghost bare = { mmb_bare };
+
+    ghost lowered = { λ height leaves node. mmb_lowered_born height leaves node.height node.index };
+
+    ghost absorbed = { λ height leaves chunks node. mmb_absorbed height leaves chunks node.height node.index };
 }

@@ -5,11 +5,16 @@ pub mod boundary;
 pub mod chunks;
 pub mod digests;
 pub mod graftable;
+pub mod grafted;
 pub mod laws;
 pub mod nodes;
 pub mod places;
+pub mod root;
+pub mod tree;
+pub mod trees;
 pub mod view;
 
 pub use boundary::{pair_absorption_threshold, sync_boundary};
 pub use graftable::Graftable;
+pub use grafted::Grafted;
 pub use view::GraftedView;

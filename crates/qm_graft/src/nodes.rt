@@ -15,14 +15,6 @@ pub fn chunk_node(height: u32, chunk: u64) -> Node
     Node::new(height, chunk)
 }
 
-/// How many leaves stand up to the node's end.
-pub fn end_of(node: Node) -> u64
-    requires { trees.end_of node ≤ 2 ^ 62 }
-    ensures { result ≡ trees.end_of node }
-{
-    (node.index() + 1) << node.height()
-}
-
 /// How many leaves a tree has when the node is born.
 pub fn birth_of<F: Family>(node: Node) -> u64
     requires { trees.end_of node ≤ 2 ^ 62 }

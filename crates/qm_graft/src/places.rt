@@ -5,10 +5,13 @@ ghost use Rattle.std.specs.Prelude.{◌≡◌, ◌+◌, ◌^◌, ◌≤◌, ◌<
 ghost use Rattle.qm_model.specs.Trees as trees;
 ghost use Rattle.qm_model.specs.Families.{Births};
 ghost use Rattle.qm_model.specs.Grafted as grafted;
+ghost use Rattle.qm_graft.specs.Grafting.{grafting};
 
 use crate::chunks::raised;
 use crate::graftable::Graftable;
+use crate::grafted::{Grafted, height};
 use qm_base::Location;
+use qm_bits::Chunks;
 use qm_merkle::family::place;
 use qm_merkle::{Family, Node, Position};
 
@@ -69,14 +72,15 @@ pub fn lowered(height: u32, node: Node) -> Node
 }
 
 /// Where in the grafted tree a node stands of the tree of operations, where it is as high as a chunk's or higher.
-pub fn grafted_position<F: Graftable>(height: u32, node: Node) -> Option<Position<F>>
+pub fn grafted_position<F: Graftable, N: Chunks>(node: Node) -> Option<Position<Grafted<F, N>>>
     requires { trees.end_of node ≤ 2 ^ 62 }
-    ensures { result ≡ (if nat_lt node.height height then None else Some (trees.Shape.position F.shape (grafted.lowered height node))) }
+    ensures { result ≡ (if nat_lt node.height (grafting N.LEN) then None else Some (trees.Shape.position F.shape (grafted.lowered (grafting N.LEN) node))) }
 {
+    let height = height::<N>();
     if node.height() < height {
         return None;
     }
-    Some(place::<F>(lowered(height, node)))
+    Some(place::<Grafted<F, N>>(lowered(height, node)))
 }
 
 /// Where in the tree of operations the node stands that a node of the grafted tree stands for.

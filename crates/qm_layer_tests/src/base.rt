@@ -47,6 +47,10 @@ fn errors_have_text(rt: HostRuntime) -> Result<(), Fail> {
             "data corrupted: inactivity floor exceeds commit location",
         ),
         (
+            Error::DataCorrupted(Corrupt::PrunedPastBits),
+            "data corrupted: log pruned past the bits",
+        ),
+        (
             Error::DataCorrupted(Corrupt::HeadDoesNotMatch),
             "data corrupted: head does not match the start",
         ),

@@ -11,6 +11,8 @@ mod failing;
 #[cfg(test)]
 mod files;
 #[cfg(test)]
+mod grafts;
+#[cfg(test)]
 mod lines;
 #[cfg(test)]
 mod maps;

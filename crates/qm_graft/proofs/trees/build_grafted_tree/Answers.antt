@@ -1,0 +1,90 @@
+use Rattle.std.proofs.Common.{◌≡◌, ◌∙◌, ◌*◌, ◌^◌, ◌≤◌, ◌∷◌, [], ℕ, List, length, map, arith, ap, ap₂, refl, sym, subst}
+use Rattle.std.specs.Prelude.{Contains}
+use Rattle.qm_model.specs.Operations.{Bytes}
+use Rattle.qm_model.specs.Trees.{Shape, digest_of, peaks}
+use Rattle.qm_model.specs.Bits.{chunk}
+use Rattle.qm_model.specs.Grafted.{chunk_node, grafted_chunks, chunk_values}
+use Rattle.qm_model.proofs.GraftedLemmas.{grafted_born, length-chunk_values}
+use Rattle.qm_bits.specs.Bitmaps.{all_bits}
+use Rattle.qm_merkle.specs.Mems.{Stands}
+use Rattle.qm_merkle.specs.Batches.{Draft, stops, IsHistory}
+use Rattle.qm_proofs.proofs.Telling.{tree_tells}
+use Rattle.qm_graft.specs.Grafting.{grafting, kept_shape}
+use Rattle.qm_graft.proofs.Fitting.{grafting-span}
+use Rattle.qm_graft.proofs.Begun.{grafted-whole, can-graft, begun-stands, no-step}
+use Rattle.qm_graft.proofs.trees.build_grafted_tree.Given
+use Rattle.qm_graft.proofs.trees.build_grafted_tree.Goals as goal
+
+module _ (g : Given.Over) where
+  abbrev shape : Shape
+  shape = g.F.Family.shape
+
+  abbrev height : ℕ
+  height = grafting g.N.Chunks.LEN
+
+  span : 2 ^ height ≡ 8 * g.N.Chunks.LEN
+  span = let power = g.met.N.Chunks.power in grafting-span g.N.Chunks.LEN power.0 power.1
+
+  abbrev map_of : List g.row.H-Digest.Denot → List Bytes
+  map_of ds = map g.H.Digest.Digest.bytes ds
+
+  abbrev peak_values : (Bytes → Bytes) → List Bytes → ℕ → List Bytes
+  peak_values hash values n = map (digest_of hash (kept_shape shape height) values) (peaks shape n)
+
+  count-is : (h n k count : ℕ) → count ≡ grafted_chunks shape h k → h ≡ height → k ≡ n → count ≡ grafted_chunks shape height n
+  count-is h n k count is high long = is ∙ ap₂ (grafted_chunks shape) high long
+
+pub follow-requires-clause-reach : goal.follow-requires-clause-reach
+follow-requires-clause-reach g c = subst (λ (d : Draft g.row.H-Digest.Denot). Contains (stops d.base d.layers) c.in_ok-tree.tree.leaves) (sym c.new_batch-draft.ensures) (0, omega arith, refl)
+
+pub follow-requires-clause-order : goal.follow-requires-clause-order
+follow-requires-clause-order g c =
+    let count = count-is g c.height.result c.args.operations.now.leaves c.get.result c.grafted_chunks-count.result c.grafted_chunks-count.ensures c.height.ensures.exact (c.get.ensures ∙ c.bounds-leaves.ensures.leaves) in
+    omega (arith, ap (λ (d : Draft g.row.H-Digest.Denot). d.base) c.new_batch-draft.ensures, c.in_ok-tree.ensures.1, c.new-pruned.ensures, c.pruned_chunks.ensures, c.requires.pruned, count)
+
+pub follow-requires-clause-added : goal.follow-requires-clause-added
+follow-requires-clause-added g c = λ at from to.
+    let count = count-is g c.height.result c.args.operations.now.leaves c.get.result c.grafted_chunks-count.result c.grafted_chunks-count.ensures c.height.ensures.exact (c.get.ensures ∙ c.bounds-leaves.ensures.leaves) in
+    let base = ap (λ (d : Draft g.row.H-Digest.Denot). d.base) c.new_batch-draft.ensures in
+    can-graft (shape g) g.F.Family.births g.met.F.Family.numbered g.met.F.Family.peaked g.N.Chunks.LEN (span g) (g.met.F.Graftable.prompt (height g)) c.args.operations.now (g.B.Readable.bitmap c.args.bits.now) c.bounds-leaves.ensures.whole c.requires.bits c.requires.start
+    at (omega (arith, from, base, c.in_ok-tree.ensures.1, c.new-pruned.ensures, c.pruned_chunks.ensures)) (omega (arith, to, count))
+
+pub apply_batch-requires : goal.apply_batch-requires
+apply_batch-requires g c =
+    let draft = c.new_batch-draft.ensures in
+    let older = c.in_ok-batch.ensures.older ∙ ap (λ (d : Draft g.row.H-Digest.Denot). d.layers) draft in
+    let start = c.in_ok-batch.ensures.base ∙ ap (λ (d : Draft g.row.H-Digest.Denot). d.base) draft in
+    record { reach = subst (λ ls. Contains (c.in_ok-batch.batch.newest.tree.leaves ∷ stops c.in_ok-batch.batch.newest.tree.start ls) c.in_ok-tree.tree.leaves) (sym older) (1, omega arith, start) }
+
+pub returns-clause-bounds : goal.returns-clause-bounds
+returns-clause-bounds g c =
+    let count = count-is g c.height.result c.args.operations.now.leaves c.get.result c.grafted_chunks-count.result c.grafted_chunks-count.ensures c.height.ensures.exact (c.get.ensures ∙ c.bounds-leaves.ensures.leaves) in
+    (c.in_ok-apply_batch.ensures.bounds.0 ∙ c.in_ok-tree.ensures.0 ∙ c.new-pruned.ensures ∙ c.pruned_chunks.ensures, c.in_ok-apply_batch.ensures.bounds.1 ∙ c.in_ok-batch.ensures.leaves ∙ count)
+
+pub returns-clause-stands : goal.returns-clause-stands
+returns-clause-stands g c = λ digests stands pins.
+    let hash = g.H.Hasher.hash in
+    let bytes = g.H.Digest.Digest.bytes in
+    let map = g.B.Readable.bitmap c.args.bits.now in
+    let behind = chunk g.N.Chunks.LEN (all_bits g.N.Chunks.LEN map) in
+    let operations = c.args.operations.now in
+    let tree = c.in_ok-tree.tree in
+    let draft = c.new_batch-draft.result in
+    let count = count-is g c.height.result operations.leaves c.get.result c.grafted_chunks-count.result c.grafted_chunks-count.ensures c.height.ensures.exact (c.get.ensures ∙ c.bounds-leaves.ensures.leaves) in
+    let leaves : draft.base ≡ tree.leaves = ap (λ (d : Draft g.row.H-Digest.Denot). d.base) c.new_batch-draft.ensures in
+    let pruned : tree.leaves ≡ map.pruned = c.in_ok-tree.ensures.1 ∙ c.new-pruned.ensures ∙ c.pruned_chunks.ensures in
+    let values : ℕ → List Bytes = chunk_values hash (shape g) (height g) digests behind 0 in
+    let long : draft.base ≡ length (values draft.base) = sym (length-chunk_values hash (shape g) (height g) digests behind 0 draft.base) in
+    let same : tree.start ≡ tree.leaves = c.in_ok-tree.ensures.0 ∙ sym c.in_ok-tree.ensures.1 in
+    let pinned = ap (map_of g) c.in_ok-tree.ensures.2 ∙ pins ∙ ap₂ (λ n k. peak_values g hash (values n) k) (sym (leaves ∙ pruned)) (sym (same ∙ pruned)) in
+    let begun = begun-stands (kept_shape (shape g) (height g)) bytes hash tree (values draft.base) same (sym leaves ∙ long) pinned in
+    let low : draft.base ≤ c.grafted_chunks-count.result = omega (arith, leaves, pruned, c.requires.pruned, count) in
+    let prompt = g.met.F.Graftable.prompt (height g) in
+    let family = g.met.F.Family.numbered in
+    let whole : draft.base * 2 ^ height g ≤ length digests =
+    omega (arith, grafted-whole (shape g) g.F.Family.births family g.met.F.Family.peaked g.N.Chunks.LEN (span g) prompt operations.leaves draft.base (omega (arith, low, count)), stands.count) in
+    let history = c.in_ok-batch.ensures.history digests digests (values draft.base) behind [] (no-step (height g) draft.base digests behind whole)
+    (λ k less. tree_tells (shape g) g.F.Family.births family g.met.F.Family.peaked bytes hash operations digests stands (chunk_node (height g) k) (omega (arith, grafted_born (shape g) (height g) operations.leaves k prompt (omega (arith, less, count)), stands.count)))
+    (subst (λ (d : Draft g.row.H-Digest.Denot). IsHistory (kept_shape (shape g) (height g)) bytes hash d.layers (values draft.base ∷ [])) (sym c.new_batch-draft.ensures) tt) (0, omega arith, refl) begun in
+    subst (λ n. Stands (kept_shape (shape g) (height g)) bytes hash c.apply_batch.new.self (values n)) count
+    (c.in_ok-apply_batch.ensures.stands hash (values draft.base) (values c.grafted_chunks-count.result) (values draft.base ∷ []) history (1, omega arith, refl) begun)

@@ -1,0 +1,263 @@
+//! Canonical roots of lists, which were computed by another program.
+
+ghost use Rattle.std.specs.Prelude.{◌<◌, ◌≤◌, ◌^◌};
+
+use qm_base::{Digest, Location, Sha256, Sha256Digest};
+use qm_bits::{Chunk32, Prunable};
+use qm_graft::boundary::{needed_size, sync_boundary};
+use qm_graft::chunks::grafted_chunks;
+use qm_graft::grafted::height;
+use qm_graft::trees::{build_grafted_tree, canonical_root_of};
+use qm_graft::{Graftable, Grafted};
+use qm_merkle::mem::Mem;
+use qm_merkle::{Family, StandardHasher, mmb, mmr};
+use std::alloc::{AllocError, Global};
+use std::process::Abort;
+use std::test::Fail;
+
+type Tree<F> = Mem<F, Sha256Digest>;
+
+type GraftedTree<F> = Mem<Grafted<F, Chunk32>, Sha256Digest>;
+
+type TreeHasher = StandardHasher<Sha256>;
+
+// How many operations a list has, how many of its first ones write one key, where the others write a key each, and its canonical
+// root, in mountain ranges and where merges are delayed. Its last operation is a commit whose floor is the last write of that key.
+// Made by `python3 docs/canonical_roots.py`.
+const ROOTS: [(u64, u64, &str, &str); 9] = [
+    (
+        4,
+        3,
+        "0039536046d7757e2c64f861a01ab5a5311fb97e03f88637087b670dbc9f876e",
+        "3cb098545be7dc0efe0075561b21ba59fdb58fcafe880194e2492d7492996a5e",
+    ),
+    (
+        255,
+        3,
+        "7dcc91185947d8a2926364dc2923863191710af86a13d10147b6137a7dbebd01",
+        "644e42ebf0de7a9e7d862c4cf0e3e33229e6c1f3598e28279ba578a0586a990a",
+    ),
+    (
+        256,
+        200,
+        "7f5586a1f1b3d7f38cca85af6f6d2f046e7dbcc478f02f9fee308b7e219b959c",
+        "41ce91c84afc5113420ee84ccd68f51dabe79a5b258f4dd6b2f4fffd0587817e",
+    ),
+    (
+        257,
+        200,
+        "6ff508098c99b2454bd648a0fc6b83c2c1ac716cc198596cdabb88e7f27b7eac",
+        "2d3c31b31c68071b0c156b5d02189847f811ad590ae342e5d89749d9c9a3fb4d",
+    ),
+    (
+        300,
+        250,
+        "91c3f4551b84191cf02129e1a3b395be31044c796227949e3f078d41241fbb9e",
+        "82c65a1ac16ba785e860baf638c3ac47e935cde27282530998cb54bd727d5504",
+    ),
+    (
+        511,
+        280,
+        "7092ea2c634060a9f5f75fcf1101e04335c914675528c3c57b375de0d30dab3e",
+        "00ccfc15e3a84ca924987a3f2210fa601360b5bc8d641a12a23cf91ef4b7ffee",
+    ),
+    (
+        512,
+        280,
+        "a69c3c1a14afa7e3f6df107b0f597b2314bde747aaacb62ba0e3cff62759bd32",
+        "6289d7dcc91b6edafd5fe04c4d677f6ccedb8e2df8be0db6ff28cdbdd4a3eb65",
+    ),
+    (
+        513,
+        280,
+        "906a43134bf4c03875f25904a34afd9c99eb9a7e0440fbbf5e4fe9a1ed8afd2d",
+        "b7f63992884f213e711ef1211d4556f8ba57d7905ee045065d3b967ce539bc09",
+    ),
+    (
+        799,
+        600,
+        "22dae2f357c1fa2d4a74558330fbeb410fba9ca72df5c981422d07799319b73e",
+        "22e2d40bc2bcb28897acdb8777be884c71f02351e9627c50c04e54a4aec57da1",
+    ),
+];
+
+// The bytes of the operation at a location.
+fn spelled(alloc: Global, count: u64, first: u64, at: u64) -> Result<Vec<u8>, AllocError>
+    requires { at < count }
+{
+    let mut bytes = Vec::new(alloc);
+    if at == 0 || at + 1 == count {
+        let floor = if at == 0 { 0 } else { first.saturating_sub(1) };
+        bytes.extend_from_slice(&[3, 0])?;
+        bytes.extend_from_slice(&floor.to_be_bytes())?;
+        return Ok(bytes);
+    }
+    if at < first {
+        bytes.extend_from_slice(&[1, 0, 0, 0, 1, b'k'])?;
+    } else {
+        bytes.extend_from_slice(&[
+            1,
+            0,
+            0,
+            0,
+            3,
+            b'k',
+            (at / 256 % 256) as u8,
+            (at % 256) as u8,
+        ])?;
+    }
+    bytes.extend_from_slice(&[0, 0, 0, 1, b'v'])?;
+    Ok(bytes)
+}
+
+// The tree of a list's operations, and its bits.
+fn list<F: Family>(
+    alloc: Global,
+    hasher: &mut TreeHasher,
+    count: u64,
+    first: u64,
+) -> Result<(Tree<F>, Prunable<Chunk32>), Fail>
+    requires { count ≤ 1000 }
+{
+    let mut leaves = Vec::new(alloc);
+    let mut bits = Prunable::new(alloc);
+    for at in 0..count {
+        let bytes = spelled(alloc, count, first, at)?;
+        leaves.push(hasher.leaf_digest(F::location_to_position(Location::new(at)), &bytes))?;
+        if 1000 < bits.len() || 1000 < leaves.len() {
+            return Err("too many operations".into());
+        }
+        bits.push(at > 0 && first <= at + 1)?;
+    }
+    let mut tree = Mem::new(alloc);
+    add_leaves(alloc, hasher, &mut tree, &leaves)?;
+    Ok((tree, bits))
+}
+
+// Puts leaves behind those of a tree.
+fn add_leaves<F: Family>(
+    alloc: Global,
+    hasher: &mut TreeHasher,
+    tree: &mut Tree<F>,
+    leaves: &[Sha256Digest],
+) -> Result<(), Fail> {
+    let mut draft = tree.new_batch(alloc);
+    if 1000 < draft.leaves().get() || 1001 < leaves.len() {
+        return Err("too many leaves".into());
+    }
+    draft.add_leaf_digests(leaves)?;
+    let batch = draft.merkleize(alloc, tree, hasher)?;
+    tree.apply_batch(&batch)?;
+    Ok(())
+}
+
+// The canonical root over trees and bits, as text.
+fn root_over<F: Graftable>(
+    rt: &impl Abort,
+    alloc: Global,
+    hasher: &mut TreeHasher,
+    tree: &Tree<F>,
+    grafted: &GraftedTree<F>,
+    bits: &Prunable<Chunk32>,
+    floor: Location<F>,
+) -> Result<String, AllocError> {
+    let (_, leaves) = tree.bounds();
+    let inactive = F::inactive_peaks(leaves, floor);
+    assert!(rt; inactive <= F::peak_count(leaves) as usize);
+    let root = tree.root(alloc, hasher, inactive)?;
+    let (start, chunks) = grafted.bounds();
+    assert!(rt; bits.len() == leaves.get());
+    assert!(rt; chunks.get() == grafted_chunks::<F>(height::<Chunk32>(), leaves.get()));
+    assert!(rt; bits.pruned_chunks() as u64 <= chunks.get());
+    assert!(rt;
+        start.get() == 0 || needed_size::<F>(height::<Chunk32>(), start.get()) <= leaves.get()
+    );
+    let canonical = canonical_root_of(alloc, hasher, &root, tree, grafted, bits, floor)?;
+    hex::encode(alloc, canonical.bytes())
+}
+
+// The grafted tree over a list's tree and its bits, from the values over the chunks that are pruned.
+fn built<F: Graftable>(
+    rt: &impl Abort,
+    alloc: Global,
+    hasher: &mut TreeHasher,
+    tree: &Tree<F>,
+    bits: &Prunable<Chunk32>,
+    pins: Vec<Sha256Digest>,
+) -> Result<GraftedTree<F>, Fail> {
+    let (start, leaves) = tree.bounds();
+    let pruned = bits.pruned_chunks() as u64;
+    let chunks = grafted_chunks::<F>(height::<Chunk32>(), leaves.get());
+    assert!(rt; start.get() == 0 && bits.len() == leaves.get());
+    assert!(rt; pruned <= chunks && chunks <= 1000);
+    assert!(rt; pins.len() == F::peak_count(Location::new(pruned)) as usize);
+    Ok(build_grafted_tree(alloc, hasher, tree, bits, pins)?)
+}
+
+// The values of the peaks over so many chunks.
+fn pins_of<F: Graftable>(
+    alloc: Global,
+    grafted: &GraftedTree<F>,
+    chunks: Location<Grafted<F, Chunk32>>,
+) -> Result<Vec<Sha256Digest>, Fail>
+    requires { chunks ≤ 2 ^ 62 }
+{
+    let mut pins = Vec::new(alloc);
+    for position in &Grafted::<F, Chunk32>::nodes_to_pin(alloc, chunks)? {
+        pins.push(grafted.get_node(*position).ok_or("no pin")?)?;
+    }
+    Ok(pins)
+}
+
+// A list has this canonical root, before and after as many of its chunks are pruned as may go.
+fn has_root<F: Graftable>(
+    rt: &impl Abort,
+    alloc: Global,
+    count: u64,
+    first: u64,
+    want: &str,
+) -> Result<(), Fail>
+    requires { count ≤ 1000 }
+{
+    let mut hasher = StandardHasher::new(Sha256::new());
+    let (tree, mut bits) = list::<F>(alloc, &mut hasher, count, first)?;
+    let floor = Location::new(first.saturating_sub(1));
+    let mut grafted = built(rt, alloc, &mut hasher, &tree, &bits, Vec::new(alloc))?;
+    let text = root_over(rt, alloc, &mut hasher, &tree, &grafted, &bits, floor)?;
+    assert_eq!(rt; text.as_str(), want, "{count} operations");
+    assert!(rt; floor.get() <= 1000);
+    let boundary = sync_boundary::<F>(height::<Chunk32>(), floor.get(), count);
+    assert!(rt; boundary <= bits.len());
+    bits.prune_to_bit(boundary);
+    let pruned = Location::new(bits.pruned_chunks() as u64);
+    let pins = pins_of(alloc, &grafted, pruned)?;
+    let again = built(rt, alloc, &mut hasher, &tree, &bits, pins)?;
+    let text = root_over(rt, alloc, &mut hasher, &tree, &again, &bits, floor)?;
+    assert_eq!(rt;
+        text.as_str(),
+        want,
+        "{count} operations, built over {}",
+        pruned.get()
+    );
+    let (kept, chunks) = grafted.bounds();
+    assert!(rt; kept.get() <= pruned.get() && pruned.get() <= chunks.get());
+    grafted.prune(alloc, pruned)?;
+    let text = root_over(rt, alloc, &mut hasher, &tree, &grafted, &bits, floor)?;
+    assert_eq!(rt;
+        text.as_str(),
+        want,
+        "{count} operations, pruned to {}",
+        pruned.get()
+    );
+    Ok(())
+}
+
+#[test]
+fn lists_have_canonical_roots(rt: HostRuntime) -> Result<(), Fail> {
+    for (count, first, mountains, delayed) in ROOTS {
+        assert!(rt; count <= 1000);
+        has_root::<mmr::Family>(&rt, rt.alloc(), count, first, mountains)?;
+        has_root::<mmb::Family>(&rt, rt.alloc(), count, first, delayed)?;
+    }
+    Ok(())
+}
