@@ -8,7 +8,7 @@ pub mod plan;
 pub mod read;
 pub mod writes;
 
-pub use apply::{apply_bits, apply_diffs};
+pub use apply::apply_diffs;
 pub use neighbours::{holder, next_key, previous, previous_key};
 pub use plan::{Plan, plain, staged};
 pub use qm_base::Write;

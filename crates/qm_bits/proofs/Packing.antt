@@ -93,7 +93,7 @@ bits_below (suc m) (b ∷ bs) =
     below_two true = omega arith
     below_two false = omega arith
 
-packed_small : (n : ℕ) (bs : List Bool) (k : ℕ) → get_or (packed n bs) k 0 < 256
+pub packed_small : (n : ℕ) (bs : List Bool) (k : ℕ) → get_or (packed n bs) k 0 < 256
 packed_small zero bs k = omega arith
 packed_small (suc n) bs zero = bits_below 8 bs
 packed_small (suc n) bs (suc k) = packed_small n (drop 8 bs) k

@@ -14,8 +14,15 @@ pub trait Candidates<F> {
     /// The bits of all locations that have one, clear where they are no longer kept.
     ghost activity: { Self → List Bool };
 
+    /// The first location from a place on that may hold a live update, or the tip where there is none before it.
+    fn next_candidate(&self, from: u64, tip: u64) -> u64
+        requires { from ≤ tip }
+        ensures between { (from ≤ result) × (result ≤ tip) }
+        ensures clear { (i : ℕ) → from ≤ i → i < result → is_candidate (activity self.now) i ≡ false }
+        ensures found { result < tip → is_candidate (activity self.now) result ≡ true };
+
     /// Puts the locations from `floor` on, up to and without `tip`, behind the others in order, until these are `limit`: of those that have a bit the set ones, of the later ones each. It answers where to go on: at the tip, or where `limit` was met. Want of memory is the only error; what was put there until then stays.
-    fn fill(
+    final fn fill(
         &self,
         floor: Location<F>,
         tip: Location<F>,
@@ -25,23 +32,7 @@ pub trait Candidates<F> {
         ensures ok { IfOk result (λ next. IsFilled (activity self.now) floor tip limit out.old.items out.new.items next) }
         ensures rest { IfOk result (λ next. candidates (activity self.now) floor tip ≡ candidates (activity self.now) floor next ++ candidates (activity self.now) next tip) }
         ensures whole { IfOk result (λ next. length out.new.items < limit → next ≡ max floor tip) }
-        ensures err { OnErr result ((next : ℕ) × IsFilled (activity self.now) floor tip limit out.old.items out.new.items next) };
-}
-
-impl<F, N: Chunks> Candidates<F> for Prunable<N> {
-    ghost activity = { all_bits N.LEN };
-
-    fn fill(
-        &self,
-        floor: Location<F>,
-        tip: Location<F>,
-        limit: usize,
-        out: &mut Vec<Location<F>>,
-    ) -> Result<Location<F>, AllocError>
-        ensures ok { IfOk result (λ next. IsFilled (all_bits N.LEN self.now) floor tip limit out.old.items out.new.items next) }
-        ensures rest { IfOk result (λ next. candidates (all_bits N.LEN self.now) floor tip ≡ candidates (all_bits N.LEN self.now) floor next ++ candidates (all_bits N.LEN self.now) next tip) }
-        ensures whole { IfOk result (λ next. length out.new.items < limit → next ≡ max floor tip) }
-        ensures err { OnErr result ((next : ℕ) × IsFilled (all_bits N.LEN self.now) floor tip limit out.old.items out.new.items next) }
+        ensures err { OnErr result ((next : ℕ) × IsFilled (activity self.now) floor tip limit out.old.items out.new.items next) }
     {
         let tip = tip.get();
         let mut at = floor.get();
@@ -53,5 +44,13 @@ impl<F, N: Chunks> Candidates<F> for Prunable<N> {
             }
         }
         Ok(Location::new(at))
+    }
+}
+
+impl<F, N: Chunks> Candidates<F> for Prunable<N> {
+    ghost activity = { all_bits N.LEN };
+
+    fn next_candidate(&self, from: u64, tip: u64) -> u64 {
+        Prunable::next_candidate(self, from, tip)
     }
 }

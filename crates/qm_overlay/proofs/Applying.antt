@@ -3,7 +3,7 @@ use Rattle.std.proofs.Common.{◌≡◌, ℕ, zero, suc, ◌+◌, ◌-◌, ◌*�
 use Rattle.std.proofs.lemmas.Bool.{cases_lt}
 use Rattle.std.proofs.lemmas.List.{length-append, length-replicate, get_or_append_left, get_or-append_right, get_or-replicate, get_or_past, ext_get_or, take_all, length-map}
 use Rattle.qm_bits.specs.Bitmaps.{Bitmap, start, bit_count, all_bits}
-use Rattle.qm_overlay.specs.Layers.{Overlay, changed_at, bit_over, laid, layered, AreStacked, IsClearBehind}
+use Rattle.qm_overlay.specs.Layers.{Overlay, changed_at, bit_over, laid, longer, layered, AreStacked, IsClearBehind}
 use Rattle.qm_overlay.proofs.Laying.{length-all, count-laid, pruned-laid, laid_pruned, laid_at, laid_past, bit_laid}
 use Rattle.qm_overlay.proofs.Stacks.{stacked_at, pruned-layered}
 
@@ -64,10 +64,6 @@ extended_same size old new n is i = ap (λ m. get_or (all_bits size m) i false) 
 abbrev pub nothing : ℕ → Overlay
 nothing len = record { count = len; changed = [] }
 
--- a bitmap with clear bits behind it
-abbrev pub longer : ℕ → Bitmap → ℕ → Bitmap
-longer size base len = record { pruned = base.pruned; kept = base.kept ++ replicate (len - bit_count size base) false }
-
 count-longer : (size : ℕ) (base : Bitmap) (len : ℕ) → bit_count size base ≤ len → start size base + length (base.kept ++ replicate (len - bit_count size base) false) ≡ len
 count-longer size base len least =
     let both = length-append base.kept (replicate (len - bit_count size base) false) in
@@ -85,6 +81,34 @@ laid_none size base len least =
     (λ (past : len ≤ i). laid_past size (nothing len) base i from past ∙ sym (past_all size (longer size base len) i (omega (arith, total, past))))
     (cases_lt i len))
     (cases_lt i (start size base)))
+
+-- a step that is lengthened
+pub laid_longer : (size : ℕ) (old new : Overlay) (base : Bitmap) (len : ℕ) → 0 < 8 * size → IsClearBehind size old → new.count ≡ len → new.changed ≡ old.changed → bit_count size base ≤ old.count → old.count ≤ len → laid size new base ≡ longer size (laid size old base) len
+laid_longer size old new base len some clear count changed least most =
+    let total = count-longer size (laid size old base) len enough in
+    let first = begin in
+    same_bitmap size (longer size (laid size old base) len) (laid size new base) (pruned-laid size new base ∙ sym (pruned-laid size old base)) (count-laid size new base from ∙ count ∙ sym total) (λ i. ⊎_elim
+    (λ (gone : i < start size base). laid_pruned size new base i gone ∙ sym (below_start size (longer size (laid size old base) len) i (omega (arith, first, gone))))
+    (λ (kept : start size base ≤ i). ⊎_elim
+    (λ (inside : i < len). bit i kept inside ∙ sym (extended_same size (laid size old base) (longer size (laid size old base) len) (len - bit_count size (laid size old base)) refl i))
+    (λ (past : len ≤ i). laid_past size new base i from (omega (arith, past, count)) ∙ sym (past_all size (longer size (laid size old base) len) i (omega (arith, total, past))))
+    (cases_lt i len))
+    (cases_lt i (start size base)))
+  where
+    from : start size base ≤ new.count
+    from = omega (arith, least, most, count)
+
+    begin : start size (laid size old base) ≡ start size base
+    begin = ap (λ n. n * (8 * size)) (pruned-laid size old base)
+
+    enough : bit_count size (laid size old base) ≤ len
+    enough = let was = count-laid size old base (omega (arith, least)) in omega (arith, was, most)
+
+    bit : (i : ℕ) → start size base ≤ i → i < len → get_or (all_bits size (laid size new base)) i false ≡ get_or (all_bits size (laid size old base)) i false
+    bit i kept low =
+        laid_at size new base i kept (omega (arith, low, count))
+        ∙ ap (λ chunks. bit_over (changed_at chunks (i / (8 * size))) (i % (8 * size)) (get_or (all_bits size base) i false)) changed
+        ∙ sym (bit_laid size old base some clear least i kept)
 
 -- How many bits steps come to.
 

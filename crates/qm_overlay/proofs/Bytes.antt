@@ -1,15 +1,14 @@
 -- Bytes of a chunk, and their bits.
-use Rattle.std.proofs.Common.{◌≡◌, ◌≢◌, ℕ, zero, suc, ◌+◌, ◌*◌, ◌/◌, ◌%◌, ◌^◌, ◌<◌, ◌≤◌, Bool, true, false, List, [], ◌∷◌, length, take, drop, get_or, set, replicate, arith, ap, sym, ◌∙◌, refl, ⊎_elim}
+use Rattle.std.proofs.Common.{◌≡◌, ◌≢◌, ℕ, ◌+◌, ◌*◌, ◌/◌, ◌%◌, ◌<◌, ◌≤◌, Bool, true, false, List, length, drop, get_or, set, replicate, arith, ap, sym, ◌∙◌, refl, ⊎_elim}
 use Rattle.std.specs.Prelude.{◌==◌, if◌then◌else◌}
 use Rattle.std.specs.Int.{bit_at}
 use Rattle.std.proofs.lemmas.Bool.{cases_lt, cases_eq}
 use Rattle.std.proofs.lemmas.List.{length-set, length-replicate, get_or-set_same, get_or-set_other, get_or-replicate, get_or_past, get_or-drop}
 use Rattle.std.proofs.lemmas.List.FromFn.{length-map-range_with_len, get_or-map-range_with_len, fill_by_all}
-use Rattle.std.proofs.lemmas.Nat.{pow-add, pow_pos}
 use Rattle.std.proofs.lemmas.Nat.Bits.{bit_at-zero}
-use Rattle.qm_model.specs.Bits.{byte_of, packed, chunk, has_bit}
+use Rattle.qm_model.specs.Bits.{packed, chunk, has_bit}
 use Rattle.qm_model.proofs.BitLemmas.{chunk_bit, length-packed}
-use Rattle.qm_bits.proofs.Packing.{same_bytes}
+use Rattle.qm_bits.proofs.Packing.{packed_small, same_bytes}
 use Rattle.qm_overlay.specs.Layers.{bits_in, IsWhole}
 
 pub length-bits_in : (n : ℕ) (bytes : List ℕ) → length (bits_in n bytes) ≡ n
@@ -23,27 +22,6 @@ bit_in n bytes i lt = get_or-map-range_with_len (has_bit bytes) 0 n i i false lt
 bits_are : (n : ℕ) (bytes : List ℕ) (bits : List Bool) → length bits ≡ n → ((i : ℕ) → i < n → get_or bits i false ≡ has_bit bytes i) → bits_in n bytes ≡ bits
 unfolding bits_in
 bits_are n bytes bits long same = sym (fill_by_all (has_bit bytes) bits n false long same)
-
--- Bytes of bits are bytes.
-
-bits_below : (m : ℕ) (bs : List Bool) → byte_of (take m bs) < 2 ^ m
-bits_below zero bs = omega arith
-bits_below (suc m) [] = pow_pos (suc m)
-bits_below (suc m) (b ∷ bs) =
-    let one : suc m ≡ 1 + m = omega arith in
-    let twice : 2 ^ suc m ≡ 2 * 2 ^ m = ap (λ n. 2 ^ n) one ∙ pow-add 2 1 m in
-    let rest = bits_below m bs in
-    let digit = below_two b in
-    omega arith
-  where
-    below_two : (t : Bool) → (if t then 1 else 0) < 2
-    below_two true = omega arith
-    below_two false = omega arith
-
-packed_small : (n : ℕ) (bs : List Bool) (k : ℕ) → get_or (packed n bs) k 0 < 256
-packed_small zero bs k = omega arith
-packed_small (suc n) bs zero = bits_below 8 bs
-packed_small (suc n) bs (suc k) = packed_small n (drop 8 bs) k
 
 pub packed_whole : (n : ℕ) (bs : List Bool) → IsWhole n (packed n bs)
 packed_whole n bs = record { long = length-packed n bs; small = packed_small n bs }

@@ -3,13 +3,13 @@ use Rattle.std.proofs.Common.{◌≡◌, ◌≢◌, ℕ, ◌+◌, ◌-◌, ◌*�
 use Rattle.std.specs.List.{range_with_len}
 use Rattle.std.specs.Option.{is_some}
 use Rattle.std.proofs.lemmas.Bool.{cases_lt, cases_eq}
-use Rattle.std.proofs.lemmas.List.{length-append, length-replicate, length-set, get_or-drop, get_or-set_same, get_or-set_other, get_or-replicate, get_or_past, get_or_append_left, get_or-append_right, ext_get_or, set-get_or}
+use Rattle.std.proofs.lemmas.List.{length-append, length-replicate, length-set, get_or-drop, get_or-set_same, get_or-set_other, get_or-replicate, get_or_past, get_or_append_left, get_or-append_right, ext_get_or, set-get_or, set_past}
 use Rattle.std.proofs.lemmas.List.FromFn.{length-map-range_with_len, get_or-map-range_with_len}
 use Rattle.std.proofs.lemmas.Nat.{div-add-mod'}
 use Rattle.std.proofs.Math.Nat.{div-lt_iff_lt-mul, div-eq_of_lt-le, mod-lt, mul-le-mul_right}
 use Rattle.qm_model.specs.Bits.{packed, chunk}
 use Rattle.qm_bits.specs.Bitmaps.{Bitmap, start, bit_count, all_bits}
-use Rattle.qm_overlay.specs.Layers.{Overlay, changed_at, bit_over, laid_bit, laid, IsClearBehind}
+use Rattle.qm_overlay.specs.Layers.{Overlay, Laid, changed_at, bit_over, laid_bit, laid, IsClearBehind}
 use Rattle.qm_overlay.proofs.Bytes.{packed_same}
 
 -- Places and chunks.
@@ -220,6 +220,34 @@ clear_pruned size overlay base at low = ap (set (all_bits size (laid size overla
 -- a place in a chunk that is pruned is pruned
 pub place_pruned : (size : ℕ) (base : Bitmap) (span at : ℕ) → span ≡ 8 * size → 0 < 8 * size → at / span < base.pruned → at < start size base
 place_pruned size base span at span_is some low = (div-lt_iff_lt-mul some).0 (subst (λ n. at / n < base.pruned) span_is low)
+
+-- A step over a bitmap, of which the step is changed.
+module _ (size : ℕ) (base : Bitmap) (old new : Overlay) (whole : Laid) (is : record { base = base; overlay = old } ≡ whole) (least : bit_count size base ≤ old.count) where
+  same_laid : laid size old base ≡ laid size whole.overlay whole.base
+  same_laid = ap (λ l. laid size l.overlay l.base) is
+
+  -- its number of bits is the step's
+  pub whole-count : bit_count size (laid size whole.overlay whole.base) ≡ old.count
+  whole-count = ap (bit_count size) (sym same_laid) ∙ count-laid size old base (omega (arith, least))
+
+  pub begin-whole : start size (laid size whole.overlay whole.base) ≡ start size base
+  begin-whole = ap (start size) (sym same_laid) ∙ ap (λ n. n * (8 * size)) (pruned-laid size old base)
+
+  pub changed-pruned : (laid size new base).pruned ≡ (laid size whole.overlay whole.base).pruned
+  changed-pruned = pruned-laid size new base ∙ sym (pruned-laid size old base) ∙ ap (λ m. m.pruned) same_laid
+
+  pub changed-count : new.count ≡ old.count → bit_count size (laid size new base) ≡ bit_count size (laid size whole.overlay whole.base)
+  changed-count count = count-laid size new base (omega (arith, least, count)) ∙ count ∙ sym whole-count
+
+  pub changed-bits : (at : ℕ) (value : Bool) → all_bits size (laid size new base) ≡ set (all_bits size (laid size old base)) at value → all_bits size (laid size new base) ≡ set (all_bits size (laid size whole.overlay whole.base)) at value
+  changed-bits at value bits = bits ∙ ap (λ m. set (all_bits size m) at value) same_laid
+
+  -- where there is no bit none is changed
+  pub unchanged-past : (at : ℕ) (value : Bool) → old.count ≤ at → all_bits size (laid size whole.overlay whole.base) ≡ set (all_bits size (laid size whole.overlay whole.base)) at value
+  unchanged-past at value past =
+      let long = length-all size (laid size whole.overlay whole.base) in
+      let total = whole-count in
+      sym (set_past (all_bits size (laid size whole.overlay whole.base)) at value (omega (arith, long, total, past)))
 
 pub on_ok : {X E : Type 0} {P : Type 0} (r : Result X E) → P → OnOk r P
 on_ok (Ok x) p = p

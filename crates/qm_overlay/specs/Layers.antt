@@ -1,5 +1,5 @@
 -- What layers of changed chunks make of a bitmap.
-use Rattle.std.specs.Prelude.{◌≡◌, ℕ, ◌+◌, ◌-◌, ◌*◌, ◌/◌, ◌%◌, ◌<◌, ◌≤◌, Bool, false, List, [], ◌∷◌, map, length, Option, Some, None, ⊤, slice_index_or}
+use Rattle.std.specs.Prelude.{◌≡◌, ℕ, ◌+◌, ◌-◌, ◌*◌, ◌/◌, ◌%◌, ◌<◌, ◌≤◌, Bool, false, List, [], ◌∷◌, ◌++◌, map, length, replicate, Option, Some, None, ⊤, slice_index_or}
 use Rattle.std.specs.List.{range_with_len}
 use Rattle.std.specs.Map.{lookup}
 use Rattle.std.specs.BTreeMap.{is_at}
@@ -28,6 +28,15 @@ laid_bit size overlay base i = bit_over (changed_at overlay.changed (i / (8 * si
 -- the bitmap behind the step
 unfoldable pub laid : ℕ → Overlay → Bitmap → Bitmap
 laid size overlay base = record { pruned = base.pruned; kept = map (laid_bit size overlay base) (range_with_len (start size base) (overlay.count - start size base)) }
+
+-- a bitmap with clear bits behind it, up to so many
+abbrev pub longer : ℕ → Bitmap → ℕ → Bitmap
+longer size base len = record { pruned = base.pruned; kept = base.kept ++ replicate (len - bit_count size base) false }
+
+-- a bitmap, and a step over it
+pub record Laid : Type 0 where
+  pub base : Bitmap
+  pub overlay : Overlay
 
 -- the bitmap behind several steps, the oldest first
 abbrev pub layered : ℕ → List Overlay → Bitmap → Bitmap

@@ -1,14 +1,13 @@
 //! Steps over a bitmap that is lent.
 
-ghost use Rattle.std.specs.Prelude.{◌≡◌, ◌*◌, ◌/◌, ◌%◌, ◌^◌, ◌<◌, ◌≤◌, ◌∷◌, ◌++◌, [], ℕ, true, false, List, length, map, max, slice_index_or, IfOk, OnOk, OnErr};
+ghost use Rattle.std.specs.Prelude.{◌≡◌, ◌*◌, ◌/◌, ◌%◌, ◌^◌, ◌<◌, ◌≤◌, ◌∷◌, ◌++◌, [], ℕ, true, false, List, map, slice_index_or, IfOk, OnOk, OnErr};
 ghost use Rattle.qm_model.specs.Bits.{chunk};
 ghost use Rattle.qm_bits.specs.Bitmaps.{start, bit_count, all_bits};
-ghost use Rattle.qm_bits.specs.Candidates.{is_candidate, candidates, IsFilled};
+ghost use Rattle.qm_bits.specs.Candidates.{is_candidate};
 ghost use Rattle.qm_overlay.specs.Layers.{laid, layered, seen, AreStacked};
 
 use crate::chunk::chunk_of;
 use crate::overlay::ChunkOverlay;
-use qm_base::Location;
 use qm_bits::{Candidates, Chunks, Prunable, Readable};
 use std::alloc::{AllocError, Global};
 use std::marker::Model;
@@ -76,23 +75,6 @@ impl<'a, N: Chunks> BitmapBatch<'a, N> {
         self.get_bit(at)
     }
 
-    // The first candidate from a place on, or the tip where there is none before it.
-    fn next_candidate(&self, from: u64, tip: u64) -> u64
-        requires { from ≤ tip }
-        ensures between { (from ≤ result) × (result ≤ tip) }
-        ensures clear { (i : ℕ) → from ≤ i → i < result → is_candidate (all_bits N.LEN (seen N.LEN self.now)) i ≡ false }
-        ensures found { result < tip → is_candidate (all_bits N.LEN (seen N.LEN self.now)) result ≡ true }
-    {
-        let mut at = from;
-        while at < tip {
-            if self.is_candidate(at) {
-                return at;
-            }
-            at += 1;
-        }
-        at
-    }
-
     /// The steps, the oldest first: `commit` puts them into the bitmap, once it is no longer lent.
     pub fn into_layers(self) -> Vec<Rc<ChunkOverlay<N>>>
         ensures layers { map (λ r. r.value) result.items ≡ self.entry.layers }
@@ -158,28 +140,15 @@ impl<'a, F, N: Chunks> Candidates<F> for BitmapBatch<'a, N> {
     ghost activity = { λ b. all_bits N.LEN (seen N.LEN b) };
 
     /// It asks for the bit of each location below the bits' number, one after another.
-    fn fill(
-        &self,
-        floor: Location<F>,
-        tip: Location<F>,
-        limit: usize,
-        out: &mut Vec<Location<F>>,
-    ) -> Result<Location<F>, AllocError>
-        ensures ok { IfOk result (λ next. IsFilled (all_bits N.LEN (seen N.LEN self.now)) floor tip limit out.old.items out.new.items next) }
-        ensures rest { IfOk result (λ next. candidates (all_bits N.LEN (seen N.LEN self.now)) floor tip ≡ candidates (all_bits N.LEN (seen N.LEN self.now)) floor next ++ candidates (all_bits N.LEN (seen N.LEN self.now)) next tip) }
-        ensures whole { IfOk result (λ next. length out.new.items < limit → next ≡ max floor tip) }
-        ensures err { OnErr result ((next : ℕ) × IsFilled (all_bits N.LEN (seen N.LEN self.now)) floor tip limit out.old.items out.new.items next) }
-    {
-        let tip = tip.get();
-        let mut at = floor.get();
-        while at < tip && out.len() < limit {
-            at = self.next_candidate(at, tip);
-            if at < tip {
-                out.push(Location::new(at))?;
-                at += 1;
+    fn next_candidate(&self, from: u64, tip: u64) -> u64 {
+        let mut at = from;
+        while at < tip {
+            if self.is_candidate(at) {
+                return at;
             }
+            at += 1;
         }
-        Ok(Location::new(at))
+        at
     }
 }
 

@@ -4,7 +4,7 @@ ghost use Rattle.std.specs.Prelude.{◌≡◌, ◌≢◌, ℕ, ◌^◌, ◌+◌,
 ghost use Rattle.std.specs.Option.{option_map};
 ghost use Rattle.qm_model.specs.Bits.{packed};
 ghost use Rattle.qm_bits.specs.Bitmaps.{Bitmap, start, bit_count, all_bits};
-ghost use Rattle.qm_overlay.specs.Layers.{Overlay, changed_at, bit_over, laid, IsClearBehind};
+ghost use Rattle.qm_overlay.specs.Layers.{Overlay, changed_at, bit_over, laid, longer, IsClearBehind};
 
 use crate::apply::write_chunk;
 use crate::chunk::Chunk;
@@ -51,6 +51,16 @@ impl<N: Chunks> ChunkOverlay<N> {
         ensures bounded { result ≤ 2 ^ 62 }
     {
         self.len
+    }
+
+    // Puts clear bits behind the others until there are `len`.
+    pub(crate) fn extend_to(&mut self, len: u64)
+        requires not_below { self.old.count ≤ len }
+        requires bounded { len ≤ 2 ^ 62 }
+        ensures count { self.new.count ≡ len }
+        ensures bits { (base : Bitmap) → bit_count N.LEN base ≤ self.old.count → laid N.LEN self.new base ≡ longer N.LEN (laid N.LEN self.old base) len }
+    {
+        self.len = len;
     }
 
     /// How many chunks have all their bits behind the step.

@@ -23,6 +23,7 @@ pub mod PlanSites
 pub mod PlanWalks
 pub mod PlanWanted
 pub mod PlanWrites
+pub mod Staged
 pub mod Standing
 pub mod Steps
 pub mod WritesByKey

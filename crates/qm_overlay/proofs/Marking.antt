@@ -18,7 +18,7 @@ use Rattle.qm_model.proofs.LastWrites.{bytes_same}
 use Rattle.qm_model.proofs.Maps.{same_key}
 use Rattle.qm_model.proofs.Pushes.{Within, live_from-within}
 use Rattle.qm_step.specs.Changes.{place_in, update_at}
-use Rattle.qm_batch.specs.Marks.{AreMarked, cleared, marked}
+use Rattle.qm_overlay.specs.Marks.{AreMarked, cleared, marked}
 use Rattle.qm_step.proofs.Appends.{own-live}
 use Rattle.qm_index.proofs.Basics.{or-later}
 use Rattle.qm_index.proofs.Members.{from_image, in_image}

@@ -14,10 +14,11 @@ use Rattle.qm_bits.specs.Bitmaps.{Bitmap, start, bit_count, all_bits}
 use Rattle.qm_chain.specs.Ascending.{IsAscending}
 use Rattle.qm_chain.specs.Entries.{keys_of}
 use Rattle.qm_step.specs.Changes.{Change, Changes, AreChanges, LeadTo, change_in, place_in, stands_at}
-use Rattle.qm_batch.specs.Marks.{AreMarked, HasLive, IsAlike, cleared, marked}
+use Rattle.qm_overlay.specs.Marks.{AreMarked, HasLive, IsAlike, cleared, marked}
 use Rattle.qm_index.proofs.Basics.{or-none}
-use Rattle.qm_batch.proofs.Marking.{place-within, place-behind, place-once, ended-some, bit-last, begun, done, key-cleared, key-marked, marked-same}
-use Rattle.qm_batch.proofs.Staging.{staged, change_in-push, entry-fresh, entry-own, entry-more}
+use Rattle.qm_overlay.proofs.Laying.{length-all}
+use Rattle.qm_overlay.proofs.Marking.{place-within, place-behind, place-once, ended-some, bit-last, begun, done, key-cleared, key-marked, marked-same}
+use Rattle.qm_step.proofs.Staged.{staged, change_in-push, entry-fresh, entry-own, entry-more}
 use Rattle.qm_step.proofs.Steps.{changed, unchanged}
 
 -- where a key stands once these changes of a base list's keys are put in
@@ -124,9 +125,6 @@ lead-longer (newest ∷ older) from tip (base, are, lead) =
     omega (arith, last, rest)
 
 -- Bits of a bitmap.
-
-pub length-all : (size : ℕ) (map : Bitmap) → length (all_bits size map) ≡ bit_count size map
-length-all size map = length-append (replicate (start size map) false) map.kept ∙ ap (λ n. n + length map.kept) (length-replicate {A = Bool} (start size map) false)
 
 pub alike-start : (size : ℕ) (old new : Bitmap) → new.pruned ≡ old.pruned → start size new ≡ start size old
 alike-start size old new same = ap (λ n. n * (8 * size)) same

@@ -1,0 +1,13 @@
+use Rattle.std.proofs.Common.{arith}
+use Rattle.qm_overlay.proofs.Laying.{whole-count}
+use Rattle.qm_overlay.proofs.marks.LayingMarks.extend_to.Goals as goal
+
+pub extend_to-requires-clause-not_below : goal.extend_to-requires-clause-not_below
+extend_to-requires-clause-not_below g c =
+    let count = whole-count g.N.Chunks.LEN (g.B.Readable.bitmap c.self.inside.base.now) c.self.inside.overlay c.self.inside.overlay c.args.self.now c.self.view_is c.self.invariant in
+    omega (arith, count, c.requires.not_below)
+
+pub invariant_of-self : goal.invariant_of-self
+invariant_of-self g c =
+    let count = whole-count g.N.Chunks.LEN (g.B.Readable.bitmap c.self.inside.base.now) c.self.inside.overlay c.self.inside.overlay c.args.self.now c.self.view_is c.self.invariant in
+    omega (arith, count, c.requires.not_below, c.extend_to.ensures.count, c.self.invariant)
