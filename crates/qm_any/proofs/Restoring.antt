@@ -1,10 +1,11 @@
 -- The database of what an opening made.
-use Rattle.std.proofs.Common.{◌≡◌, ◌≢◌, ◌⊎◌, inl, inr, ◌*◌, Bool, true, false, ◌&&◌, [], ◌∷◌, eq-eqb, ne_eqb, ◌∙◌, ◌-◌, ◌≤◌, ◌<◌, ℕ, zero, suc, List, length, map, take, drop, arith, refl, ap, ap₂, sym, subst, Option, Some, None}
+use Rattle.std.proofs.Common.{◌≡◌, ◌≢◌, ◌⊎◌, inl, inr, ◌*◌, ◌^◌, Bool, true, false, ◌&&◌, [], ◌∷◌, eq-eqb, ne_eqb, ◌∙◌, ◌-◌, ◌≤◌, ◌<◌, ℕ, zero, suc, List, length, map, take, drop, arith, refl, ap, ap₂, sym, subst, Option, Some, None}
 use native.Mathlib.Nat.{mul_comm}
 use Rattle.std.specs.Prelude.{All, slice_get, option_and_then, option_map, not, ◌==◌, is_none, filter_map, IfSome, IsSome, OnOk, Result, Ok, Err}
 use Rattle.std.specs.List.{list_any}
 use Rattle.qm_model.specs.Causes.{IsCause}
 use Rattle.qm_model.specs.Forms.{Form, IsOf, decoded, spelling}
+use Rattle.qm_model.specs.Grafted.{pair_absorption_threshold}
 use Rattle.qm_model.specs.Trees.{Shape, peaks}
 use Rattle.qm_model.specs.StoreModel.{Stored}
 use Rattle.qm_model.specs.Opening as opening
@@ -14,7 +15,9 @@ use Rattle.qm_base.specs.declared.error.Error.TheVariants as errors
 use Rattle.qm_base.specs.declared.error.JournalError.TheVariants as journal
 use Rattle.qm_base.specs.declared.error.Corrupt.TheVariants as corrupt
 use Rattle.qm_store.specs.Refusals.{IsDue}
-use Rattle.qm_open.specs.Selecting.{any_layout, any_found, content_refusal, floor_told}
+use Rattle.qm_open.specs.declared.pruned.Pruned.{Pruned}
+use Rattle.qm_open.specs.Selecting.{any_layout, any_found, bits_of, content_refusal, floor_told, found_of, AreFew, HasThreshold}
+use Rattle.qm_open.proofs.Refusing.{selected-same}
 use Rattle.qm_build.specs.Reads.{items_within, IsRead, IsReadError}
 use Rattle.std.proofs.lemmas.List.{length-map}
 use Rattle.qm_model.specs.Operations.{Bytes, Operation, update, delete, commit}
@@ -34,7 +37,7 @@ use Rattle.qm_step.specs.Kinds.{HasRing}
 use Rattle.qm_build.specs.Opened.{IsOpened}
 use Rattle.qm_any.specs.Layouts.{Layout, spellings}
 use Rattle.qm_any.specs.Databases.{Database, IsDatabase}
-use Rattle.qm_any.specs.Restoring.{links_apart}
+use Rattle.qm_any.specs.Restoring.{links_apart, pruned_view}
 
 -- what shared metadata spells
 pub shared-bytes : {A V B : Type 0} (value : A → V) (bytes : V → B) (m : Option A) (meta : Option V) → option_map value m ≡ meta → option_map (λ r. bytes (value r)) m ≡ option_map bytes meta
@@ -228,3 +231,29 @@ module _ (form : Form) (shape : Shape) (size : ℕ) (s : Stored) (from : s.start
       by : (head : Bytes) → s.head ≡ head → 0 < length s.head
       by [] none = absurd (refused-none nothing (nothing-accepted none) some)
       by (b ∷ bs) is = let long : length s.head ≡ suc (length bs) = ap length is in omega (arith, long)
+
+-- Pruned chunks of activity bits, as an opening looks at them.
+
+-- they are few enough
+pub few-seen : (pruned : Option (ℕ × Option ℕ)) (seen : Option Pruned) → seen ≡ option_map pruned_view pruned → IfSome pruned (λ p. p.0 * 512 ≤ 2 ^ 62) → AreFew seen
+few-seen None seen is few = subst AreFew (sym is) tt
+few-seen (Some p) seen is few = subst AreFew (sym is) (omega arith, few)
+
+-- the threshold is theirs
+pub threshold-seen : (shape : Shape) (pruned : Option (ℕ × Option ℕ)) → IfSome pruned (λ p. p.1 ≡ pair_absorption_threshold shape 9 p.0) → HasThreshold shape (option_map pruned_view pruned)
+threshold-seen shape None same = tt
+threshold-seen shape (Some p) same = same
+
+-- what is selected does not hang on them
+pub selects-same : (form : Form) (s : Stored) (pruned : Option Pruned) (bound : Option ℕ) → opening.selected (found_of form s pruned) bound ≡ opening.selected (any_found form s) bound
+selects-same form s pruned bound = selected-same form s pruned bound ∙ sym (selected-same form s None bound)
+
+-- so many chunks are told
+pub so-pruned : (pruned : Option (ℕ × Option ℕ)) (n chunks : ℕ) → n ≡ chunks → IfSome pruned (λ p. chunks ≡ p.0) → IfSome pruned (λ p. n ≡ p.0)
+so-pruned None n chunks is told = tt
+so-pruned (Some p) n chunks is told = is ∙ told
+
+-- where they have no bit, none is told
+pub none-pruned : (pruned : Option (ℕ × Option ℕ)) (n : ℕ) → n ≡ 0 → bits_of (option_map pruned_view pruned) ≡ 0 → IfSome pruned (λ p. n ≡ p.0)
+none-pruned None n is none = tt
+none-pruned (Some p) n is none = omega (arith, is, none)

@@ -4,7 +4,6 @@ use Rattle.std.specs.Prelude.{All, option_map}
 use Rattle.std.proofs.lemmas.List.{append-nil, length-map, map-append}
 use Rattle.std.proofs.lemmas.List.Elements.{All-append, All-cons, All-head, All-map, All-nil, All-tail}
 use Rattle.qm_model.specs.Operations.{Bytes, Operation}
-use Rattle.qm_model.specs.Live.{value_of}
 use Rattle.qm_model.specs.Slots.{slotted}
 use Rattle.qm_model.specs.Writes.{Write, last_writes, overwritten, read_through, write_of}
 use Rattle.qm_base.specs.Slots.{slot_views, write_views}

@@ -8,6 +8,7 @@ use Rattle.qm_model.specs.Step.{IsGood}
 use Rattle.qm_model.specs.StoreModel.{Stored, appended, settled, rewound, HasAppended, ReadsAs, RewindLeaves}
 use Rattle.qm_store.specs.Log.{IsHead, digests_from}
 use Rattle.qm_build.specs.Reads.{items_within}
+use Rattle.qm_open.specs.declared.pruned.Pruned.{Pruned}
 use Rattle.qm_open.specs.Selecting.{any_found}
 use Rattle.qm_step.specs.Kinds.{HasRing}
 use Rattle.qm_any.specs.Layouts.{Hashing, spellings}
@@ -24,6 +25,10 @@ pub record HasList {D : Type 0} (hashing : Hashing D) (s : Stored) (size : ℕ) 
 -- the links of an ordered list, from its floor on up to its size, form no ring
 abbrev pub links_apart : Form → Stored → ℕ → ℕ → Bool
 links_apart form s floor size = form.ordered && not (is_ring (filter_map (λ item. item) (items_within form s floor size)))
+
+-- so many pruned chunks of 512 locations, with the threshold for so many
+abbrev pub pruned_view : ℕ × Option ℕ → Pruned
+pruned_view p = record { chunks = p.0; height = 9; threshold = p.1 }
 
 -- the size of the list that an opening up to a bound selects
 abbrev pub selected_size : {D : Type 0} → Hashing D → Option ℕ → Stored → ℕ

@@ -1,8 +1,8 @@
 -- Scans of a database's ranges: the database that is lent to one, and where it stands.
-use Rattle.std.specs.Prelude.{◌≡◌, ℕ, List, map}
+use Rattle.std.specs.Prelude.{ℕ, List, map}
 use Rattle.std.specs.Borrow.{MutBor}
 use Rattle.qm_model.specs.Operations.{Bytes, Operation}
-use Rattle.qm_scan.specs.Scans.{Scanning, left_of}
+use Rattle.qm_scan.specs.Scans.{left_of}
 use Rattle.qm_any.specs.Databases.{Database}
 use Rattle.qm_any.specs.declared.scan.RangeScan as ranges
 use Rattle.qm_any.specs.declared.scan.KeyScan as keys

@@ -1,6 +1,6 @@
 //! The database.
 
-ghost use Rattle.std.specs.Prelude.{◌≡◌, ◌≢◌, ◌⊎◌, ◌≤◌, ◌+◌, ◌^◌, ◌++◌, ◌∷◌, ℕ, [], List, nat_lt, true, false, length, map, drop, option_map, Contains, if◌then◌else◌, IfOk, IfErr, OnOk};
+ghost use Rattle.std.specs.Prelude.{◌≡◌, ◌≢◌, ◌⊎◌, ◌≤◌, ◌+◌, ◌^◌, ◌++◌, ◌∷◌, ℕ, [], List, nat_lt, true, false, length, map, drop, option_map, Contains, if◌then◌else◌, IfOk, IfErr, OnOk, OnErr};
 ghost use Rattle.qm_model.specs.StoreModel.{beside_items};
 ghost use Rattle.qm_model.specs.Batches.{Chain, IsOnChain, begun_on};
 ghost use Rattle.qm_model.specs.Causes.{IsCause};
@@ -37,10 +37,11 @@ use qm_base::{
     ValueEncoding,
 };
 use qm_batch::kind::Steps;
-use qm_batch::{Base, Plan, Read, Wanted, Writes, apply_bits, apply_diffs, read_key, staged};
+use qm_batch::{Base, Plan, Read, Wanted, Writes, apply_diffs, read_key, staged};
 use qm_bits::{Chunk64, Prunable};
 use qm_chain::{Diff, Policy};
 use qm_merkle::Family;
+use qm_overlay::apply_bits;
 use qm_proofs::Proof;
 use qm_store::{AuthLog, Given, KeptTree, LogGiven, LogRefusal, Refusal, Store};
 use std::alloc::{AllocError, Global};
@@ -765,6 +766,7 @@ fn brought_up<F: Family, I: qm_index::Unordered<Value = Location<F>>, K: ByteStr
     ensures index { (list tip : List Operation) → LeadTo (map (λ d. changes_view K.bytes V.bytes d.value) diffs.now) list tip → IsIndexed I.index_key (I.entries index.old) list → OnOk result (IsIndexed I.index_key (I.entries index.new) tip) }
     ensures count { OnOk result (bit_count 64 activity.new ≡ size) }
     ensures active { (list tip : List Operation) → LeadTo (map (λ d. changes_view K.bytes V.bytes d.value) diffs.now) list tip → IsCommitEnded list → size ≡ length tip → all_bits 64 activity.old ≡ bits list → OnOk result (all_bits 64 activity.new ≡ bits tip) }
+    ensures err { OnErr result (activity.new ≡ activity.old) }
 {
     apply_diffs(index, diffs)?;
     apply_bits(activity, size, diffs)

@@ -14,4 +14,4 @@ pub mod scan;
 pub mod staged;
 
 pub use open::{hasher, initial_root};
-pub use restore::{Config, init};
+pub use restore::{Config, init, init_with};

@@ -83,6 +83,7 @@ pub(crate) fn fresh_over<
     requires empty { C.end store ≡ 0 }
     ensures keys { ⟦<Db<F, C, I, H, U> as LaidOut>⟧.layout.index_key ≡ I.Translator.index_key }
     ensures stands { IfSome (C.told store) (λ _. IfOk result (λ db. IsDatabase C.Store ⟦<Db<F, C, I, H, U> as LaidOut>⟧.layout db fresh)) }
+    ensures pruned { IfOk result (λ db. db.activity.pruned ≡ 0) }
     ensures grown { IfOk result (λ db. Appended C.Store store db.log.store (map (spelling U.form) fresh)) }
     ensures later { IfOk result (λ db. C.faults store ≤ C.faults db.log.store) }
     ensures bare { IfOk result (λ _. IfSome (C.told store) (λ held. held.head ≡ [])) }
@@ -178,6 +179,7 @@ fn begun<F: Family, C: Store, I: Factory<Value = Location<F>>, H: Hasher + Drop,
     requires items { map (λ v. v.items) items.now ≡ map (spelling U.form) fresh }
     requires count { length items.now ≡ 1 }
     ensures stands { IfSome (C.told log.store) (λ _. IfOk result (λ db. IsDatabase C.Store ⟦<Db<F, C, I, H, U> as LaidOut>⟧.layout db fresh)) }
+    ensures pruned { IfOk result (λ db. db.activity.pruned ≡ 0) }
     ensures grown { IfOk result (λ db. Appended C.Store log.store db.log.store (map (spelling U.form) fresh)) }
     ensures later { IfOk result (λ db. C.faults log.store ≤ C.faults db.log.store) }
     ensures part { IfErr result (λ r. AppendedPart C.Store log.store (store_given (λ db. db.log.store) r.given) (map (spelling U.form) fresh)) }

@@ -1,9 +1,10 @@
 //! How the list that a store keeps is taken up.
 
-ghost use Rattle.std.specs.Prelude.{option_map, ◌≡◌, ◌≢◌, ◌⊎◌, ◌<◌, ◌≤◌, ◌-◌, ◌*◌, ℕ, min, List, length, map, take, drop, is_none, true, false, All, Some, None, IfSome, IfOk, IfErr, OnOk, IsSome};
+ghost use Rattle.std.specs.Prelude.{option_map, ◌≡◌, ◌≢◌, ◌⊎◌, ◌<◌, ◌≤◌, ◌-◌, ◌*◌, ◌^◌, ℕ, min, List, length, map, take, drop, is_none, true, false, All, Some, None, IfSome, IfOk, IfErr, OnOk, IsSome};
 ghost use Rattle.std.specs.List.{list_any};
 ghost use Rattle.qm_model.specs.Causes.{IsCause};
 ghost use Rattle.qm_model.specs.Forms.{IsOf, spelling};
+ghost use Rattle.qm_model.specs.Grafted.{pair_absorption_threshold};
 ghost use Rattle.qm_model.specs.Live as lives;
 ghost use Rattle.qm_model.specs.Opening.{opening_refusal};
 ghost use Rattle.qm_model.specs.Operations.{Operation, fresh};
@@ -16,10 +17,10 @@ ghost use Rattle.qm_store.specs.Log.{IsHead, IsKept, digests_from};
 ghost use Rattle.qm_build.specs.Opened.{IsOpened};
 ghost use Rattle.qm_build.specs.Reads.{items_within, IsRead, IsReadError};
 ghost use Rattle.qm_step.specs.Kinds.{HasRing};
-ghost use Rattle.qm_open.specs.Selecting.{any_layout, any_found, content_refusal, selected_view};
+ghost use Rattle.qm_open.specs.Selecting.{any_layout, any_found, bits_of, content_refusal, found_of, layout_of, selected_view};
 ghost use Rattle.qm_store.specs.Refusals.{refusal_of, IsDue};
 ghost use Rattle.qm_any.specs.Databases.{IsDatabase};
-ghost use Rattle.qm_any.specs.Restoring.{links_apart, selected_size, taken, HasList, LeavesOpening};
+ghost use Rattle.qm_any.specs.Restoring.{links_apart, pruned_view, selected_size, taken, HasList, LeavesOpening};
 
 use crate::db::{Db, LaidOut};
 use crate::open::{fresh_over, store_of};
@@ -29,7 +30,7 @@ use qm_bits::Chunk64;
 use qm_build::{Opened, forms_ring, open_at};
 use qm_index::Factory;
 use qm_merkle::Family;
-use qm_open::{Selected, select_commit};
+use qm_open::{Pruned, Selected, select_commit};
 use qm_store::{AuthLog, Given, Refusal, Store};
 use std::alloc::{AllocError, Global};
 use std::num::NonZeroUsize;
@@ -65,6 +66,7 @@ fn settled<
         → IsGood list → HasRing U.form list → selected.floor ≡ lives.floor list → IfSome (C.told opened.log.store) (λ _. IfOk result (λ db. IsDatabase C.Store ⟦<Db<F, C, I, H, U> as LaidOut>⟧.layout db list)) }
     ensures became { IfOk result (λ db. Becomes (C.told opened.log.store) (C.told db.log.store) (rewound selected.size)) }
     ensures left { IfErr result (λ r. Turns (C.told opened.log.store) (C.told (store_given (λ db. db.log.store) r.given)) (λ s. ReadsAs (min s.stable selected.size) (RewindLeaves selected.size s))) }
+    ensures activity { IfOk result (λ db. db.activity ≡ opened.activity) }
     ensures start { IfOk result (λ db. C.start db.log.store ≡ C.start opened.log.store) }
     ensures later { IfOk result (λ db. C.faults opened.log.store ≤ C.faults db.log.store) }
     ensures back { IfErr result (λ r. (s : C) × (r.given ≡ Given.Store s) × (C.start s ≡ C.start opened.log.store) × IsCause (C.faults opened.log.store) (C.faults s) (r.error ≡ Error.Journal JournalError.Store)) }
@@ -124,7 +126,8 @@ fn check_links<F: Family, C: Store, H: Hasher + Drop, U: Update>(
     }
 }
 
-// What is made of the list that ends with the selected commit, where head, items and links of the store are right.
+// What is made of the list that ends with the selected commit, where head, items and links of the store are right. So many
+// chunks of its bits are pruned.
 fn open_checked<F: Family, C: Store, I: Factory<Value = Location<F>>, H: Hasher + Drop, U: Update>(
     alloc: Global,
     store: C,
@@ -132,8 +135,10 @@ fn open_checked<F: Family, C: Store, I: Factory<Value = Location<F>>, H: Hasher 
     translator: I::Translator,
     kept_keys: NonZeroUsize,
     selected: Selected,
+    chunks: usize,
 ) -> Result<Opened<Chunk64, F, C, I, H, U>, Refusal<Db<F, C, I, H, U>, C>>
     requires start { C.start store ≤ selected.floor }
+    requires pruned { chunks * 512 ≤ selected.floor }
     requires floor { selected.floor < selected.size }
     requires end { selected.size ≤ C.end store }
     ensures stands { (list : List Operation) → length list ≡ selected.size → All (IsOf U.form) list → IsGood list → selected.floor ≡ lives.floor list → IfSome (C.told store) (λ held.
@@ -142,12 +147,15 @@ fn open_checked<F: Family, C: Store, I: Factory<Value = Location<F>>, H: Hasher 
     ensures size { IfOk result (λ o. o.log.tree.leaves ≡ selected.size) }
     ensures kept { IfOk result (λ o. IsKept C.Store store o.log.store) }
     ensures later { IfOk result (λ o. C.faults store ≤ C.faults o.log.store) }
+    ensures pruned { IfOk result (λ o. o.activity.pruned ≡ chunks) }
     ensures bits { IfOk result (λ o. (bit_count 64 o.activity ≡ selected.size) × (o.live ≤ selected.size)) }
     ensures accepted { IfSome (C.told store) (λ s. OnOk result (content_refusal (any_layout U.form F.shape H.Digest.SIZE) (any_found U.form s) (Some (selected_view selected)) ≡ None)) }
     ensures refused { IfSome (C.told store) (λ s. IfErr result (λ r. IsDue r.error (content_refusal (any_layout U.form F.shape H.Digest.SIZE) (any_found U.form s) (Some (selected_view selected))))) }
     ensures back { IfErr result (λ r. (s : C) × (r.given ≡ Given.Store s) × IsKept C.Store store s × IsCause (C.faults store) (C.faults s) (r.error ≡ Error.Journal JournalError.Store)) }
 {
-    let mut opened = open_at(alloc, store, hasher, translator, selected, kept_keys)?;
+    let mut opened = open_at(
+        alloc, store, hasher, translator, selected, chunks, kept_keys,
+    )?;
     match check_links::<F, C, H, U>(alloc, &mut opened.log, selected.floor) {
         Ok(()) => Ok(opened),
         Err(error) => Err(Refusal {
@@ -157,7 +165,7 @@ fn open_checked<F: Family, C: Store, I: Factory<Value = Location<F>>, H: Hasher 
     }
 }
 
-// The database of the list that ends with the selected commit.
+// The database of the list that ends with the selected commit. So many chunks of its bits are pruned.
 fn open_list<F: Family, C: Store, I: Factory<Value = Location<F>>, H: Hasher + Drop, U: Update>(
     alloc: Global,
     store: C,
@@ -165,8 +173,10 @@ fn open_list<F: Family, C: Store, I: Factory<Value = Location<F>>, H: Hasher + D
     translator: I::Translator,
     kept_keys: NonZeroUsize,
     selected: Selected,
+    chunks: usize,
 ) -> Result<Db<F, C, I, H, U>, Refusal<Db<F, C, I, H, U>, C>>
     requires start { C.start store ≤ selected.floor }
+    requires pruned { chunks * 512 ≤ selected.floor }
     requires floor { selected.floor < selected.size }
     requires end { selected.size ≤ C.end store }
     requires stable { IfSome (C.told store) (λ s. s.stable ≤ end_of s) }
@@ -175,13 +185,16 @@ fn open_list<F: Family, C: Store, I: Factory<Value = Location<F>>, H: Hasher + D
     ensures became { IfOk result (λ db. Becomes (C.told store) (C.told db.log.store) (λ s. settled (rewound selected.size s))) }
     ensures left { IfErr result (λ r. Turns (C.told store) (C.told (store_given (λ db. db.log.store) r.given)) (λ s. ReadsAs (min s.stable selected.size) (RewindLeaves selected.size s))) }
     ensures unopened { IfErr result (λ r. IfSome (C.told store) (λ s. IsSome (content_refusal (any_layout U.form F.shape H.Digest.SIZE) (any_found U.form s) (Some (selected_view selected))) → IsUnchanged C.Store store (store_given (λ db. db.log.store) r.given))) }
+    ensures pruned { IfOk result (λ db. db.activity.pruned ≡ chunks) }
     ensures start { IfOk result (λ db. C.start db.log.store ≡ C.start store) }
     ensures later { IfOk result (λ db. C.faults store ≤ C.faults db.log.store) }
     ensures accepted { IfSome (C.told store) (λ s. OnOk result (content_refusal (any_layout U.form F.shape H.Digest.SIZE) (any_found U.form s) (Some (selected_view selected)) ≡ None)) }
     ensures refused { IfSome (C.told store) (λ s. IfErr result (λ r. IsDue r.error (content_refusal (any_layout U.form F.shape H.Digest.SIZE) (any_found U.form s) (Some (selected_view selected))))) }
     ensures back { IfErr result (λ r. (s : C) × (r.given ≡ Given.Store s) × (C.start s ≡ C.start store) × (IsSome (refusal_of r.error) → IsKept C.Store store s) × IsCause (C.faults store) (C.faults s) (r.error ≡ Error.Journal JournalError.Store)) }
 {
-    let opened = open_checked(alloc, store, hasher, translator, kept_keys, selected)?;
+    let opened = open_checked(
+        alloc, store, hasher, translator, kept_keys, selected, chunks,
+    )?;
     settled(alloc, opened, selected)?.commit()
 }
 
@@ -198,6 +211,7 @@ fn begin<F: Family, C: Store, I: Factory<Value = Location<F>>, H: Hasher + Drop,
     ensures became { IfOk result (λ db. Becomes (C.told store) (C.told db.log.store) (λ s. settled (appended (map (spelling U.form) fresh) s))) }
     ensures left { IfErr result (λ r. Turns (C.told store) (C.told (store_given (λ db. db.log.store) r.given)) (HasAppended (map (spelling U.form) fresh))) }
     ensures unopened { IfErr result (λ r. IfSome (C.told store) (λ s. IsSome (content_refusal (any_layout U.form F.shape H.Digest.SIZE) (any_found U.form s) None) → IsUnchanged C.Store store (store_given (λ db. db.log.store) r.given))) }
+    ensures pruned { IfOk result (λ db. db.activity.pruned ≡ 0) }
     ensures start { IfOk result (λ db. C.start db.log.store ≡ C.start store) }
     ensures later { IfOk result (λ db. C.faults store ≤ C.faults db.log.store) }
     ensures accepted { IfSome (C.told store) (λ s. OnOk result (content_refusal (any_layout U.form F.shape H.Digest.SIZE) (any_found U.form s) None ≡ None)) }
@@ -205,6 +219,32 @@ fn begin<F: Family, C: Store, I: Factory<Value = Location<F>>, H: Hasher + Drop,
     ensures back { IfErr result (λ r. (s : C) × (r.given ≡ Given.Store s) × (C.start s ≡ C.start store) × (IsSome (refusal_of r.error) → IsKept C.Store store s) × IsCause (C.faults store) (C.faults s) (r.error ≡ Error.Journal JournalError.Store)) }
 {
     fresh_over(alloc, store, hasher, translator)?.commit()
+}
+
+// The pruned chunks of activity bits, as an opening looks at them: each has 512 bits.
+fn pruned_bits(pruned: Option<(u64, Option<u64>)>) -> Option<Pruned>
+    ensures { result ≡ option_map pruned_view pruned }
+{
+    match pruned {
+        Some((chunks, threshold)) => Some(Pruned {
+            chunks,
+            height: 9,
+            threshold,
+        }),
+        None => None,
+    }
+}
+
+// With how many pruned chunks the bits of a list with this floor begin: so many as are told, or else all below the floor.
+fn chunks_below(floor: u64, pruned: Option<(u64, Option<u64>)>) -> usize
+    requires { bits_of (option_map pruned_view pruned) ≤ floor }
+    ensures below { result * 512 ≤ floor }
+    ensures told { IfSome pruned (λ p. result ≡ p.0) }
+{
+    match pruned {
+        Some((chunks, _)) => chunks as usize,
+        None => (floor / 512) as usize,
+    }
 }
 
 /// How a database is opened.
@@ -245,6 +285,38 @@ pub fn init<F: Family, C: Store, I: Factory<Value = Location<F>>, H: Hasher + Dr
     ensures later { IfOk result (λ db. C.faults store ≤ C.faults db.log.store) }
     ensures back { IfErr result (λ r. (s : C) × (r.given ≡ Given.Store s) × (C.start s ≡ C.start store) × (IsSome (refusal_of r.error) → IsKept C.Store store s) × IsCause (C.faults store) (C.faults s) (r.error ≡ Error.Journal JournalError.Store)) }
 {
+    init_with(alloc, store, hasher, config, max_size, None)
+}
+
+/// Opens the list that a store keeps as `init` does, for a database of which chunks of activity bits may be pruned: how many
+/// they are, with the threshold for so many, how many operations there have to be before they may go, none where that is no
+/// more than those of the chunks. With them it makes the checks of a current database that come after its metadata, and the
+/// bits begin with that many pruned chunks. Without them it makes the checks of a database that has no chunks, and the chunks
+/// below the floor are pruned.
+pub fn init_with<F: Family, C: Store, I: Factory<Value = Location<F>>, H: Hasher + Drop, U: Update>(
+    alloc: Global,
+    store: C,
+    hasher: H,
+    config: Config<I::Translator, ()>,
+    max_size: Option<u64>,
+    pruned: Option<(u64, Option<u64>)>,
+) -> Result<Db<F, C, I, H, U>, Refusal<Db<F, C, I, H, U>, C>>
+    requires few { IfSome pruned (λ p. p.0 * 512 ≤ 2 ^ 62) }
+    requires threshold { IfSome pruned (λ p. p.1 ≡ pair_absorption_threshold F.shape 9 p.0) }
+    ensures keys { ⟦<Db<F, C, I, H, U> as LaidOut>⟧.layout.index_key ≡ I.Translator.index_key }
+    ensures stands { IfSome (C.told store) (λ s. (list : List Operation) → HasList ⟦<Db<F, C, I, H, U> as LaidOut>⟧.layout.hashing s (selected_size ⟦<Db<F, C, I, H, U> as LaidOut>⟧.layout.hashing max_size s) list
+        → IfOk result (λ db. IsDatabase C.Store ⟦<Db<F, C, I, H, U> as LaidOut>⟧.layout db list)) }
+    ensures fresh { IfSome (C.told store) (λ s. selected_size ⟦<Db<F, C, I, H, U> as LaidOut>⟧.layout.hashing max_size s ≡ 0 → IfOk result (λ db. IsDatabase C.Store ⟦<Db<F, C, I, H, U> as LaidOut>⟧.layout db fresh)) }
+    ensures accepted { IfSome (C.told store) (λ s. OnOk result (opening_refusal (layout_of U.form F.shape H.Digest.SIZE (option_map pruned_view pruned)) (found_of U.form s (option_map pruned_view pruned)) max_size ≡ None)) }
+    ensures refused { IfSome (C.told store) (λ s. IfErr result (λ r. IsDue r.error (opening_refusal (layout_of U.form F.shape H.Digest.SIZE (option_map pruned_view pruned)) (found_of U.form s (option_map pruned_view pruned)) max_size))) }
+    ensures became { IfOk result (λ db. Turns (C.told store) (C.told db.log.store) (λ s new. new ≡ taken ⟦<Db<F, C, I, H, U> as LaidOut>⟧.layout.hashing (selected_size ⟦<Db<F, C, I, H, U> as LaidOut>⟧.layout.hashing max_size s) s)) }
+    ensures left { IfErr result (λ r. Turns (C.told store) (C.told (store_given (λ db. db.log.store) r.given)) (λ s new. LeavesOpening ⟦<Db<F, C, I, H, U> as LaidOut>⟧.layout.hashing (selected_size ⟦<Db<F, C, I, H, U> as LaidOut>⟧.layout.hashing max_size s) s new)) }
+    ensures unopened { IfErr result (λ r. IfSome (C.told store) (λ s. IsSome (opening_refusal (layout_of U.form F.shape H.Digest.SIZE (option_map pruned_view pruned)) (found_of U.form s (option_map pruned_view pruned)) max_size) → IsUnchanged C.Store store (store_given (λ db. db.log.store) r.given))) }
+    ensures pruned { IfOk result (λ db. IfSome pruned (λ p. db.activity.pruned ≡ p.0)) }
+    ensures start { IfOk result (λ db. C.start db.log.store ≡ C.start store) }
+    ensures later { IfOk result (λ db. C.faults store ≤ C.faults db.log.store) }
+    ensures back { IfErr result (λ r. (s : C) × (r.given ≡ Given.Store s) × (C.start s ≡ C.start store) × (IsSome (refusal_of r.error) → IsKept C.Store store s) × IsCause (C.faults store) (C.faults s) (r.error ≡ Error.Journal JournalError.Store)) }
+{
     // What is stable of it are items that it has.
     store.bounds();
     let mut store = store;
@@ -253,8 +325,13 @@ pub fn init<F: Family, C: Store, I: Factory<Value = Location<F>>, H: Hasher + Dr
         init_cache,
         init_concurrency: _,
     } = config;
-    match select_commit::<F, C, U>(alloc, &mut store, max_size) {
-        Ok(Some(selected)) => open_list(alloc, store, hasher, translator, init_cache, selected),
+    match select_commit::<F, C, U>(alloc, &mut store, max_size, pruned_bits(pruned)) {
+        Ok(Some(selected)) => {
+            let chunks = chunks_below(selected.floor, pruned);
+            open_list(
+                alloc, store, hasher, translator, init_cache, selected, chunks,
+            )
+        }
         Ok(None) => begin(alloc, store, hasher, translator),
         Err(error) => Err(Refusal {
             given: Given::Store(store),

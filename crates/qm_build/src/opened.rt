@@ -57,8 +57,8 @@ fn store_of<F: Family, C: Store, H: Hasher + Drop>(given: LogGiven<AuthLog<F, C,
 }
 
 /// The log of a store that ends with the selected commit, whatever the store has behind it, and what its list has beside it.
-/// It reads each item from the store's start on once, for its leaf, and each from the floor on once more. A refusal gives back
-/// the store, which was not changed.
+/// Its activity bits begin with so many pruned chunks, which lie below the floor. It reads each item from the store's start on
+/// once, for its leaf, and each from the floor on once more. A refusal gives back the store, which was not changed.
 pub fn open_at<
     N: Chunks,
     F: Family,
@@ -73,9 +73,11 @@ pub fn open_at<
     hasher: H,
     translator: I::Translator,
     selected: Selected,
+    chunks: usize,
     kept_keys: NonZeroUsize,
 ) -> Result<Opened<N, F, C, I, H, U>, Refusal<X, C>>
     requires start { C.start store ≤ selected.floor }
+    requires pruned { chunks * (8 * N.LEN) ≤ selected.floor }
     requires floor { selected.floor < selected.size }
     requires end { selected.size ≤ C.end store }
     ensures stands { (list : List model.Operation) → length list ≡ selected.size → All (IsOf U.form) list → IsGood list → selected.floor ≡ lives.floor list → IfSome (C.told store) (λ held.
@@ -84,6 +86,7 @@ pub fn open_at<
     ensures size { IfOk result (λ o. o.log.tree.leaves ≡ selected.size) }
     ensures kept { IfOk result (λ o. IsKept C.Store store o.log.store) }
     ensures later { IfOk result (λ o. C.faults store ≤ C.faults o.log.store) }
+    ensures pruned { IfOk result (λ o. o.activity.pruned ≡ chunks) }
     ensures bits { IfOk result (λ o. (bit_count N.LEN o.activity ≡ selected.size) × (o.live ≤ selected.size)) }
     ensures head { IfSome (C.told store) (λ s. OnOk result (length s.head ≡ length (peaks F.shape (C.start store)) * H.Digest.SIZE)) }
     ensures decoded { IfSome (C.told store) (λ s. OnOk result (list_any is_none (items_within U.form s selected.floor selected.size) ≡ false)) }
@@ -93,7 +96,9 @@ pub fn open_at<
     ensures never { IfErr result (λ r. (r.error ≡ Error.Memory) ⊎ ((r.error ≡ Error.Journal JournalError.Store) ⊎ ((r.error ≡ Error.DataCorrupted Corrupt.HeadDoesNotMatch) ⊎ (r.error ≡ Error.DataCorrupted Corrupt.ItemDoesNotDecode)))) }
 {
     match AuthLog::open(alloc, store, hasher, selected.size) {
-        Ok(log) => whole::<N, F, C, I, H, U, X>(alloc, log, translator, selected.floor, kept_keys),
+        Ok(log) => {
+            whole::<N, F, C, I, H, U, X>(alloc, log, translator, chunks, selected.floor, kept_keys)
+        }
         Err(refusal) => Err(Refusal {
             given: Given::Store(store_of(refusal.given)),
             error: refusal.error,
@@ -101,7 +106,7 @@ pub fn open_at<
     }
 }
 
-// What a log's list has beside it.
+// What a log's list has beside it, with so many pruned chunks of bits.
 fn whole<
     N: Chunks,
     F: Family,
@@ -114,9 +119,11 @@ fn whole<
     alloc: Global,
     log: AuthLog<F, C, H>,
     translator: I::Translator,
+    chunks: usize,
     floor: u64,
     kept_keys: NonZeroUsize,
 ) -> Result<Opened<N, F, C, I, H, U>, Refusal<X, C>>
+    requires pruned { chunks * (8 * N.LEN) ≤ floor }
     requires kept { log.tree.start ≤ floor }
     requires below { floor < log.tree.leaves }
     ensures opened { (ops : List model.Operation) → HasOperations C.Store F.shape H.Digest.bytes H.hash U.form log ops → IsGood ops → floor ≡ lives.floor ops
@@ -124,6 +131,7 @@ fn whole<
     ensures tree { IfOk result (λ o. o.log.tree ≡ log.tree) }
     ensures kept { IfOk result (λ o. IsKept C.Store log.store o.log.store) }
     ensures later { IfOk result (λ o. C.faults log.store ≤ C.faults o.log.store) }
+    ensures pruned { IfOk result (λ o. o.activity.pruned ≡ chunks) }
     ensures bits { IfOk result (λ o. (bit_count N.LEN o.activity ≡ log.tree.leaves) × (o.live ≤ log.tree.leaves)) }
     ensures decoded { IfSome (C.told log.store) (λ s. OnOk result (list_any is_none (items_within U.form s floor log.tree.leaves) ≡ false)) }
     ensures back { IfErr result (λ r. (s : C) × (r.given ≡ Given.Store s) × IsKept C.Store log.store s × IsCause (C.faults log.store) (C.faults s) (r.error ≡ Error.Journal JournalError.Store)) }
@@ -135,7 +143,7 @@ fn whole<
         index,
         snapshot,
     } = rebuilt::<F, C, I, H, U, X>(alloc, log, translator, floor, kept_keys)?;
-    match beside::<N, F, C, H, U>(alloc, &mut log, &snapshot, floor) {
+    match beside::<N, F, C, H, U>(alloc, &mut log, &snapshot, chunks, floor) {
         Ok(
             Held {
                 activity,

@@ -20,19 +20,21 @@ use qm_merkle::Family;
 use qm_store::{AuthLog, Store};
 use std::alloc::{AllocError, Global};
 
-/// The activity bits of a list, of which those from a floor on are given and those below are clear. Chunks that end at or
-/// before the floor are not kept.
+/// The activity bits of a list, of which those from a floor on are given and those below are clear. So many chunks below the
+/// floor are pruned.
 pub fn activity_from<N: Chunks>(
     alloc: Global,
+    chunks: usize,
     floor: u64,
     behind: &BitMap,
 ) -> Result<Prunable<N>, AllocError>
-    requires { floor + length behind.now ≤ 2 ^ 62 }
+    requires below { chunks * (8 * N.LEN) ≤ floor }
+    requires few { floor + length behind.now ≤ 2 ^ 62 }
+    ensures pruned { IfOk result (λ activity. activity.pruned ≡ chunks) }
     ensures bits { IfOk result (λ activity. all_bits N.LEN activity ≡ replicate floor false ++ behind.now) }
     ensures count { IfOk result (λ activity. bit_count N.LEN activity ≡ floor + length behind.now) }
 {
-    let chunks = floor / N::span();
-    let mut activity = Prunable::new_with_pruned_chunks(alloc, chunks as usize);
+    let mut activity = Prunable::new_with_pruned_chunks(alloc, chunks);
     activity.extend_to(floor)?;
     for at in 0..behind.len() {
         activity.push(behind.get_bit(at))?;
@@ -84,18 +86,21 @@ pub(crate) struct Held<N: Chunks, D, V> {
     pub metadata: Option<V>,
 }
 
-/// What a log's list has, of which this was rebuilt from a floor on. It reads one item.
+/// What a log's list has, of which this was rebuilt from a floor on. So many chunks of its bits are pruned. It reads one item.
 pub(crate) fn beside<N: Chunks, F: Family, C: Store, H: Hasher + Drop, U: Update>(
     alloc: Global,
     log: &mut AuthLog<F, C, H>,
     snapshot: &Snapshot,
+    chunks: usize,
     floor: u64,
 ) -> Result<Held<N, H::Digest, U::Value>, Error>
+    requires pruned { chunks * (8 * N.LEN) ≤ floor }
     requires kept { log.old.tree.start ≤ floor }
     requires below { floor < log.old.tree.leaves }
     requires long { floor + length snapshot.now.activity ≡ log.old.tree.leaves }
     ensures held { (ops : List model.Operation) → HasOperations C.Store F.shape H.Digest.bytes H.hash U.form log.old ops → IsGood ops → floor ≡ lives.floor ops → snapshot.now.activity ≡ drop floor (bits ops)
         → IfSome (C.told log.old.store) (λ _. IfOk result (λ held. (all_bits N.LEN held.activity ≡ bits ops) × (H.Digest.bytes held.root ≡ ops_root H.hash F.shape U.form ops) × (option_map U.Value.bytes held.metadata ≡ lives.last_metadata ops))) }
+    ensures pruned { IfOk result (λ held. held.activity.pruned ≡ chunks) }
     ensures count { IfOk result (λ held. bit_count N.LEN held.activity ≡ log.old.tree.leaves) }
     ensures whole { IfSome (C.told log.old.store) (λ s. list_any is_none (items_within U.form s floor log.old.tree.leaves) ≡ false → IfErr result (λ e. e ≢ Error.DataCorrupted Corrupt.ItemDoesNotDecode)) }
     ensures read { IsRead C.Store F.shape H.Digest.bytes H.hash log.old log.new }
@@ -104,7 +109,7 @@ pub(crate) fn beside<N: Chunks, F: Family, C: Store, H: Hasher + Drop, U: Update
     // The log has at most 2^62 items.
     log.bounds();
     let root = root_of::<F, C, H, U>(alloc, log, floor)?;
-    let activity = activity_from(alloc, floor, &snapshot.activity)?;
+    let activity = activity_from(alloc, chunks, floor, &snapshot.activity)?;
     let metadata = last_metadata::<F, C, H, U>(alloc, log)?;
     Ok(Held {
         activity,

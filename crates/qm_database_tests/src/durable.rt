@@ -1,7 +1,8 @@
-//! A database that is committed, pruned and synced, opened again from its store, and then destroyed.
+//! A database that is committed, pruned and synced, opened again from its store, also with what is told of its activity bits,
+//! and then destroyed.
 
 use crate::fixed::{Database, batch_of, config, kept, key, opened};
-use qm_any::init;
+use qm_any::{init, init_with};
 use qm_base::{Error, Sha256};
 use qm_index::FourCap;
 use qm_memory::MemStore;
@@ -46,6 +47,26 @@ fn reopened(alloc: Global, store: MemStore) -> Result<Database, Error> {
     kept(init(alloc, store, Sha256::new(), config(FourCap), None))
 }
 
+// The same of a database with chunks of activity bits, of which none is pruned.
+fn reopened_with_chunks(alloc: Global, store: MemStore) -> Result<Database, Error> {
+    let none = Some((0, None));
+    kept(init_with(alloc, store, Sha256::new(), config(FourCap), None, none))
+}
+
+// Why it is not opened where one chunk is said to be pruned. Mountain ranges delay no merge, so there is no threshold.
+fn refused_without_chunk(alloc: Global, store: MemStore) -> Option<Error> {
+    let one = Some((1, None));
+    let refusal: Result<Database, _> = init_with(
+        alloc,
+        store,
+        Sha256::new(),
+        config(FourCap),
+        None,
+        one,
+    );
+    kept(refusal).err()
+}
+
 #[test]
 fn a_pruned_database_has_its_keys(rt: HostRuntime) -> Result<(), Fail> {
     let alloc = rt.alloc();
@@ -55,5 +76,17 @@ fn a_pruned_database_has_its_keys(rt: HostRuntime) -> Result<(), Fail> {
     assert_eq!(rt; seen(alloc, &mut db)?, (2, true));
     let store = kept(db.destroy())?;
     assert_eq!(rt; store.bounds(), (0, 0));
+    Ok(())
+}
+
+#[test]
+fn pruned_chunks_are_looked_at(rt: HostRuntime) -> Result<(), Fail> {
+    let alloc = rt.alloc();
+    let db = lasting(alloc, filled(alloc)?)?;
+    let mut db = reopened_with_chunks(alloc, db.close())?;
+    assert_eq!(rt; seen(alloc, &mut db)?, (2, true));
+    assert_eq!(rt; db.bitmap().pruned_chunks(), 0);
+    let refused = refused_without_chunk(alloc, db.close());
+    assert_eq!(rt; refused, Some(Error::HistoricalFloorPruned(4)));
     Ok(())
 }

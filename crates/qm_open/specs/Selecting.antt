@@ -1,14 +1,17 @@
 -- What an opening finds of commits, and what it then refuses.
-use Rattle.std.specs.Prelude.{ℕ, zero, suc, ◌-◌, ◌*◌, ◌==◌, not, ◌&&◌, nat_lt, Bool, if◌then◌else◌, List, ◌∷◌, [], length, map, filter_map, take, is_none, Option, None, Some, slice_get, option_and_then}
+use Rattle.std.specs.Prelude.{◌≡◌, ◌≤◌, ◌<◌, ℕ, ◌-◌, ◌*◌, ◌^◌, ◌==◌, not, ◌&&◌, nat_lt, Bool, false, if◌then◌else◌, List, ◌∷◌, [], length, map, filter_map, take, is_none, Option, None, Some, IfSome, slice_get, option_map, option_and_then}
 use Rattle.std.specs.List.{list_any}
+use Rattle.std.specs.Option.{option_map_or}
 use Rattle.qm_model.specs.Operations.{Operation}
 use Rattle.qm_model.specs.Forms.{Form, decoded}
+use Rattle.qm_model.specs.Grafted.{pair_absorption_threshold}
 use Rattle.qm_model.specs.Trees.{Shape, peaks}
 use Rattle.qm_model.specs.Opening as opening
-use Rattle.qm_model.specs.Opening.{Layout, Found, when, first_refusal, size_of, floor_of, items_between, is_ring}
-use Rattle.qm_model.specs.Refused.{Refused, NoRetainedCommit, FloorExceedsCommit, HeadDoesNotMatch, ItemDoesNotDecode, LinksFormNoRing, InvalidInitializationBound, HistoricalFloorPruned, DataCorrupted}
+use Rattle.qm_model.specs.Opening.{Chunks, Layout, Found, when, first_refusal, size_of, floor_of, pruned_bits, is_past_bits, items_between, is_ring}
+use Rattle.qm_model.specs.Refused.{Refused, NoRetainedCommit, FloorExceedsCommit, PrunedPastBits, HeadDoesNotMatch, ItemDoesNotDecode, LinksFormNoRing, HistoricalFloorPruned, DataCorrupted}
 use Rattle.qm_model.specs.Refusals.{commit_floor}
 use Rattle.qm_model.specs.StoreModel.{Stored}
+use Rattle.qm_open.specs.declared.pruned.Pruned.{Pruned}
 use Rattle.qm_open.specs.declared.select.Selected.{Selected}
 
 abbrev pub selected_view : Selected → opening.Selected
@@ -23,26 +26,57 @@ abbrev pub up_to : Option ℕ → Stored → List (Option Operation) → List (O
 up_to None s items = items
 up_to (Some bound) s items = take (bound - s.start) items
 
--- how a database without chunks lies in a store
-abbrev pub any_layout : Form → Shape → ℕ → Layout
-any_layout form shape digest_size = record { form = form; shape = shape; digest_size = digest_size; chunks = None }
+-- the chunks of a layout, of which some are pruned; what their metadata is named tells nothing once that is read
+abbrev pub chunks_of : Option Pruned → Option Chunks
+chunks_of pruned = option_map (λ p. record { height = p.height; name = [] }) pruned
 
--- what it finds there
+-- how many chunks are pruned, and how many bits these have
+abbrev pub count_of : Option Pruned → ℕ
+count_of pruned = option_map_or (λ p. p.chunks) pruned 0
+
+abbrev pub bits_of : Option Pruned → ℕ
+bits_of pruned = pruned_bits (chunks_of pruned) (count_of pruned)
+
+-- these are at most 2 ^ 62
+abbrev pub AreFew : Option Pruned → Type 0
+AreFew pruned = IfSome pruned (λ p. (p.height < 62) × (p.chunks * 2 ^ p.height ≤ 2 ^ 62))
+
+-- the threshold is that of so many chunks under trees of this shape
+abbrev pub HasThreshold : Shape → Option Pruned → Type 0
+HasThreshold shape pruned = IfSome pruned (λ p. p.threshold ≡ pair_absorption_threshold shape p.height p.chunks)
+
+-- a list of this size is below the threshold
+abbrev pub is_below_threshold : Option Pruned → ℕ → Bool
+is_below_threshold None size = false
+is_below_threshold (Some p) size = option_map_or (λ least. nat_lt size least) p.threshold false
+
+-- how a database lies in a store of which these chunks are pruned; one without chunks has none
+abbrev pub layout_of : Form → Shape → ℕ → Option Pruned → Layout
+layout_of form shape digest_size pruned = record { form = form; shape = shape; digest_size = digest_size; chunks = chunks_of pruned }
+
+-- what an opening finds there, whose metadata is read
+abbrev pub found_of : Form → Stored → Option Pruned → Found
+found_of form s pruned = record { start = s.start; items = kept_items form s; head = s.head; metadata = None; count = count_of pruned }
+
+-- the same where there are no chunks
+abbrev pub any_layout : Form → Shape → ℕ → Layout
+any_layout form shape digest_size = layout_of form shape digest_size None
+
 abbrev pub any_found : Form → Stored → Found
-any_found form s = record { start = s.start; items = kept_items form s; head = s.head; metadata = None; count = 0 }
+any_found form s = found_of form s None
 
 -- why the commit that is selected is refused, if it is
-abbrev pub selected_refusal : ℕ → Bool → Option opening.Selected → Option Refused
-selected_refusal start is_empty None = when (not is_empty) (DataCorrupted NoRetainedCommit)
-selected_refusal start is_empty (Some c) =
-    if nat_lt (c.size - 1) c.floor then Some (DataCorrupted FloorExceedsCommit)
-    else (if nat_lt c.floor start then Some (HistoricalFloorPruned c.size) else None)
-
--- the same behind a bound
-abbrev pub bound_refusal : ℕ → Bool → Option ℕ → Option opening.Selected → Option Refused
-bound_refusal start is_empty None at = selected_refusal start is_empty at
-bound_refusal start is_empty (Some zero) at = Some InvalidInitializationBound
-bound_refusal start is_empty (Some (suc bound)) at = selected_refusal start is_empty at
+abbrev pub selected_refusal : ℕ → Bool → Option Pruned → Option opening.Selected → Option Refused
+selected_refusal start is_empty pruned None =
+    if nat_lt 0 (bits_of pruned) then Some (HistoricalFloorPruned 0)
+    else when (not is_empty) (DataCorrupted NoRetainedCommit)
+selected_refusal start is_empty pruned (Some c) =
+    if nat_lt c.size (bits_of pruned) then Some (HistoricalFloorPruned c.size)
+    else (if nat_lt (c.size - 1) c.floor then Some (DataCorrupted FloorExceedsCommit)
+    else (if nat_lt c.floor start then Some (HistoricalFloorPruned c.size)
+    else (if nat_lt c.floor (bits_of pruned) then Some (HistoricalFloorPruned c.size)
+    else (if is_below_threshold pruned c.size then Some (HistoricalFloorPruned c.size)
+    else when (is_past_bits (chunks_of pruned) start (count_of pruned)) (DataCorrupted PrunedPastBits)))))
 
 -- why what a store has beside that commit is refused, if it is: its head, its items from the floor on, their links
 abbrev pub content_refusal : Layout → Found → Option opening.Selected → Option Refused

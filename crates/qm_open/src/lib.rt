@@ -2,7 +2,9 @@
 #![tactic(auto)]
 
 mod item;
+mod pruned;
 mod select;
 
 pub use item::commit_floor_in;
+pub use pruned::Pruned;
 pub use select::{Selected, select_commit};

@@ -1,4 +1,4 @@
-use Rattle.std.proofs.Common.{◌≡◌, ◌∙◌, map}
+use Rattle.std.proofs.Common.{◌≡◌, ◌∙◌, ap, map}
 use Rattle.std.proofs.lemmas.Result.{err_from_is_err_and}
 use Rattle.qm_model.specs.Operations.{fresh}
 use Rattle.qm_model.specs.Forms.{spelling}
@@ -64,3 +64,6 @@ returns-clause-unopened g c =
     let none = nothing-accepted g.U.Update.form g.F.Family.shape g.H.Digest.Digest.SIZE s (known-at _ told s is (g.met.C.Store.told_start c.args.store) ∙ c.requires.start) (peaks-none g.F.Family.shape g.F.Family.births g.met.F.Family.numbered g.met.F.Family.peaked)
     (known-at _ told s is c.in_ok-fresh_over.ensures.bare) in
     absurd (refused-none _ none some)))
+
+pub returns-clause-pruned : goal.returns-clause-pruned
+returns-clause-pruned g c = ok-then c.commit.result c.commit.ensures.committed (λ db lasted. ap (λ d. d.activity.pruned) lasted.rest ∙ c.in_ok-fresh_over.ensures.pruned)

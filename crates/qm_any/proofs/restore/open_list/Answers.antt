@@ -1,4 +1,4 @@
-use Rattle.std.proofs.Common.{◌≡◌, ◌∙◌, ◌-◌, ◌≤◌, min, drop, take, map, subst}
+use Rattle.std.proofs.Common.{◌≡◌, ◌∙◌, ◌-◌, ◌≤◌, min, drop, take, map, ap, subst}
 use Rattle.std.proofs.lemmas.Result.{err_from_is_err_and}
 use Rattle.qm_model.specs.Forms.{spelling}
 use Rattle.qm_model.proofs.Results.{ok-then, err-then}
@@ -80,3 +80,6 @@ returns-clause-unopened g c =
     let told = g.C.Store.told c.args.store in
     err-then c.commit.result c.commit.ensures.refused
     (λ r up. each-known told (λ s is some. absurd (refused-none _ (known-at _ told s is c.in_ok-opened.ensures.accepted) some)))
+
+pub returns-clause-pruned : goal.returns-clause-pruned
+returns-clause-pruned g c = ok-then c.commit.result c.commit.ensures.committed (λ db lasted. ap (λ d. d.activity.pruned) lasted.rest ∙ ap (λ a. a.pruned) c.in_ok-settled.ensures.activity ∙ c.in_ok-opened.ensures.pruned)

@@ -1,4 +1,4 @@
-use Rattle.std.proofs.Common.{◌≡◌, ◌∙◌, ap, map, sym}
+use Rattle.std.proofs.Common.{◌∙◌, ap, map}
 use Rattle.std.specs.Prelude.{option_map}
 use Rattle.qm_model.specs.Writes.{read_through}
 use Rattle.qm_step.specs.Views.{read_view}

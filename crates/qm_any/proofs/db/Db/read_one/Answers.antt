@@ -3,7 +3,7 @@ use Rattle.std.specs.Prelude.{option_map, option_and_then}
 use Rattle.qm_base.specs.Parts as parts
 use Rattle.qm_model.specs.Operations.{Bytes, Operation}
 use Rattle.qm_model.specs.Live.{value_of}
-use Rattle.qm_model.specs.Writes.{read_through, overwritten, write_of, last_writes}
+use Rattle.qm_model.specs.Writes.{overwritten, write_of, last_writes}
 use Rattle.qm_step.specs.Views.{read_view, write_view}
 use Rattle.qm_any.proofs.Reading.{value-found}
 use Rattle.qm_any.proofs.db.Db.read_one.Goals as goal

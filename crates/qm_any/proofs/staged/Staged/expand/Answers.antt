@@ -1,6 +1,6 @@
-use Rattle.std.proofs.Common.{◌≡◌, ◌∙◌, ◌+◌, ap, arith, length, map, subst, sym, ℕ, Option}
+use Rattle.std.proofs.Common.{◌∙◌, ap, arith, length, map, subst, sym, ℕ, Option}
 use Rattle.qm_model.specs.Operations.{Bytes, Operation}
-use Rattle.std.specs.Prelude.{IfOk, option_map}
+use Rattle.std.specs.Prelude.{option_map}
 use Rattle.std.proofs.lemmas.List.{length-append, length-map}
 use Rattle.std.proofs.lemmas.Result.{err_from_is_err_and}
 use Rattle.qm_model.specs.Writes.{read_through}
