@@ -110,13 +110,21 @@ fn spelled(alloc: Global, count: u64, first: u64, at: u64) -> Result<Vec<u8>, Al
     Ok(bytes)
 }
 
-// The tree of a list's operations, and its bits.
+// A list: the tree of its operations, its bits and its floor.
+#[derive(Drop)]
+struct Listed<F: Family> {
+    tree: Tree<F>,
+    bits: Prunable<Chunk32>,
+    floor: Location<F>,
+}
+
+// The list of so many operations.
 fn list<F: Family>(
     alloc: Global,
     hasher: &mut TreeHasher,
     count: u64,
     first: u64,
-) -> Result<(Tree<F>, Prunable<Chunk32>), Fail>
+) -> Result<Listed<F>, Fail>
     requires { count ≤ 1000 }
 {
     let mut leaves = Vec::new(alloc);
@@ -131,7 +139,8 @@ fn list<F: Family>(
     }
     let mut tree = Mem::new(alloc);
     add_leaves(alloc, hasher, &mut tree, &leaves)?;
-    Ok((tree, bits))
+    let floor = Location::new(first.saturating_sub(1));
+    Ok(Listed { tree, bits, floor })
 }
 
 // Puts leaves behind those of a tree.
@@ -151,47 +160,54 @@ fn add_leaves<F: Family>(
     Ok(())
 }
 
-// The canonical root over trees and bits, as text.
-fn root_over<F: Graftable>(
+// A list with this grafted tree has this canonical root.
+fn expect_root<F: Graftable>(
     rt: &impl Abort,
     alloc: Global,
     hasher: &mut TreeHasher,
-    tree: &Tree<F>,
+    list: &Listed<F>,
     grafted: &GraftedTree<F>,
-    bits: &Prunable<Chunk32>,
-    floor: Location<F>,
-) -> Result<String, AllocError> {
-    let (_, leaves) = tree.bounds();
-    let inactive = F::inactive_peaks(leaves, floor);
+    want: &str,
+) -> Result<(), AllocError> {
+    let (_, leaves) = list.tree.bounds();
+    let inactive = F::inactive_peaks(leaves, list.floor);
     assert!(rt; inactive <= F::peak_count(leaves) as usize);
-    let root = tree.root(alloc, hasher, inactive)?;
+    let root = list.tree.root(alloc, hasher, inactive)?;
     let (start, chunks) = grafted.bounds();
-    assert!(rt; bits.len() == leaves.get());
-    assert!(rt; chunks.get() == grafted_chunks::<F>(height::<Chunk32>(), leaves.get()));
-    assert!(rt; bits.pruned_chunks() as u64 <= chunks.get());
-    assert!(rt;
-        start.get() == 0 || needed_size::<F>(height::<Chunk32>(), start.get()) <= leaves.get()
+    let height = height::<Chunk32>();
+    assert!(rt; list.bits.len() == leaves.get());
+    assert!(rt; chunks.get() == grafted_chunks::<F>(height, leaves.get()));
+    assert!(rt; list.bits.pruned_chunks() as u64 <= chunks.get());
+    assert!(rt; start.get() == 0 || needed_size::<F>(height, start.get()) <= leaves.get());
+    let canonical = canonical_root_of(
+        alloc, hasher, &root, &list.tree, grafted, &list.bits, list.floor,
+    )?;
+    let text = hex::encode(alloc, canonical.bytes())?;
+    assert_eq!(rt;
+        text.as_str(),
+        want,
+        "{} operations from chunk {}",
+        leaves.get(),
+        start.get()
     );
-    let canonical = canonical_root_of(alloc, hasher, &root, tree, grafted, bits, floor)?;
-    hex::encode(alloc, canonical.bytes())
+    Ok(())
 }
 
-// The grafted tree over a list's tree and its bits, from the values over the chunks that are pruned.
+// The grafted tree over a list, from the values over the chunks that are pruned.
 fn built<F: Graftable>(
     rt: &impl Abort,
     alloc: Global,
     hasher: &mut TreeHasher,
-    tree: &Tree<F>,
-    bits: &Prunable<Chunk32>,
+    list: &Listed<F>,
     pins: Vec<Sha256Digest>,
 ) -> Result<GraftedTree<F>, Fail> {
-    let (start, leaves) = tree.bounds();
-    let pruned = bits.pruned_chunks() as u64;
+    let (start, leaves) = list.tree.bounds();
+    let pruned = list.bits.pruned_chunks() as u64;
     let chunks = grafted_chunks::<F>(height::<Chunk32>(), leaves.get());
-    assert!(rt; start.get() == 0 && bits.len() == leaves.get());
+    assert!(rt; start.get() == 0 && list.bits.len() == leaves.get());
     assert!(rt; pruned <= chunks && chunks <= 1000);
     assert!(rt; pins.len() == F::peak_count(Location::new(pruned)) as usize);
-    Ok(build_grafted_tree(alloc, hasher, tree, bits, pins)?)
+    Ok(build_grafted_tree(alloc, hasher, &list.tree, &list.bits, pins)?)
 }
 
 // The values of the peaks over so many chunks.
@@ -209,6 +225,50 @@ fn pins_of<F: Graftable>(
     Ok(pins)
 }
 
+// Prunes as many chunks of a list's bits as may go, and answers how many.
+fn prune_bits<F: Graftable>(rt: &impl Abort, list: &mut Listed<F>) -> Location<Grafted<F, Chunk32>>
+    ensures { result ≤ 2 ^ 62 }
+{
+    assert!(rt; list.floor.get() <= 1000);
+    let count = list.bits.len();
+    let boundary = sync_boundary::<F>(height::<Chunk32>(), list.floor.get(), count);
+    assert!(rt; boundary <= count);
+    list.bits.prune_to_bit(boundary);
+    let pruned = list.bits.pruned_chunks() as u64;
+    assert!(rt; pruned <= 1000);
+    Location::new(pruned)
+}
+
+// A list has this canonical root by a grafted tree that is built from another's pins.
+fn expect_root_again<F: Graftable>(
+    rt: &impl Abort,
+    alloc: Global,
+    hasher: &mut TreeHasher,
+    list: &Listed<F>,
+    grafted: &GraftedTree<F>,
+    pruned: Location<Grafted<F, Chunk32>>,
+    want: &str,
+) -> Result<(), Fail>
+    requires { pruned ≤ 2 ^ 62 }
+{
+    let pins = pins_of(alloc, grafted, pruned)?;
+    let again = built(rt, alloc, hasher, list, pins)?;
+    expect_root(rt, alloc, hasher, list, &again, want)?;
+    Ok(())
+}
+
+// Prunes a grafted tree.
+fn prune_tree<F: Graftable>(
+    rt: &impl Abort,
+    alloc: Global,
+    grafted: &mut GraftedTree<F>,
+    to: Location<Grafted<F, Chunk32>>,
+) -> Result<(), AllocError> {
+    let (kept, chunks) = grafted.bounds();
+    assert!(rt; kept.get() <= to.get() && to.get() <= chunks.get());
+    grafted.prune(alloc, to)
+}
+
 // A list has this canonical root, before and after as many of its chunks are pruned as may go.
 fn has_root<F: Graftable>(
     rt: &impl Abort,
@@ -220,35 +280,13 @@ fn has_root<F: Graftable>(
     requires { count ≤ 1000 }
 {
     let mut hasher = StandardHasher::new(Sha256::new());
-    let (tree, mut bits) = list::<F>(alloc, &mut hasher, count, first)?;
-    let floor = Location::new(first.saturating_sub(1));
-    let mut grafted = built(rt, alloc, &mut hasher, &tree, &bits, Vec::new(alloc))?;
-    let text = root_over(rt, alloc, &mut hasher, &tree, &grafted, &bits, floor)?;
-    assert_eq!(rt; text.as_str(), want, "{count} operations");
-    assert!(rt; floor.get() <= 1000);
-    let boundary = sync_boundary::<F>(height::<Chunk32>(), floor.get(), count);
-    assert!(rt; boundary <= bits.len());
-    bits.prune_to_bit(boundary);
-    let pruned = Location::new(bits.pruned_chunks() as u64);
-    let pins = pins_of(alloc, &grafted, pruned)?;
-    let again = built(rt, alloc, &mut hasher, &tree, &bits, pins)?;
-    let text = root_over(rt, alloc, &mut hasher, &tree, &again, &bits, floor)?;
-    assert_eq!(rt;
-        text.as_str(),
-        want,
-        "{count} operations, built over {}",
-        pruned.get()
-    );
-    let (kept, chunks) = grafted.bounds();
-    assert!(rt; kept.get() <= pruned.get() && pruned.get() <= chunks.get());
-    grafted.prune(alloc, pruned)?;
-    let text = root_over(rt, alloc, &mut hasher, &tree, &grafted, &bits, floor)?;
-    assert_eq!(rt;
-        text.as_str(),
-        want,
-        "{count} operations, pruned to {}",
-        pruned.get()
-    );
+    let mut list = list::<F>(alloc, &mut hasher, count, first)?;
+    let mut grafted = built(rt, alloc, &mut hasher, &list, Vec::new(alloc))?;
+    expect_root(rt, alloc, &mut hasher, &list, &grafted, want)?;
+    let pruned = prune_bits(rt, &mut list);
+    expect_root_again(rt, alloc, &mut hasher, &list, &grafted, pruned, want)?;
+    prune_tree(rt, alloc, &mut grafted, pruned)?;
+    expect_root(rt, alloc, &mut hasher, &list, &grafted, want)?;
     Ok(())
 }
 
