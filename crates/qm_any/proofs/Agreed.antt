@@ -110,14 +110,19 @@ module _ {D : Type 0} (batch : Made D) (agreed : AreAgreed batch) where
       (ended-among sizes current batch.bounds.db batch.bounds.ancestors (All-tail among batch.bounds.tip ended states-reached))
       (either (same current batch.bounds.tip) (is_at current batch.bounds.db batch.bounds.ancestors) known)
 
+  -- its boundary is
+  pub boundary-reached : Contains (stops batch.tree.leaves batch.tree.layers) batch.bounds.db.size
+  boundary-reached =
+      All-contains (λ c. Contains (stops batch.tree.leaves batch.tree.layers) c.size) (states batch.bounds) batch.bounds.db states-reached
+      (Contains-push (batch.bounds.tip ∷ batch.bounds.ancestors) batch.bounds.db)
+
   -- and so is one at which a child of it can be made
   pub child-reached : (keep : ℕ) (current : Commitment) → is_at current (child_boundary keep batch.bounds) (child_tips keep batch.bounds) ≡ true → Contains (stops batch.tree.leaves batch.tree.layers) current.size
   child-reached keep current on =
       let sizes = stops batch.tree.leaves batch.tree.layers in
       let among : Commitment → Type 0 = λ c. Contains sizes c.size in
       let all = states batch.bounds in
-      let oldest : among batch.bounds.db = All-contains among all batch.bounds.db states-reached (Contains-push (batch.bounds.tip ∷ batch.bounds.ancestors) batch.bounds.db) in
-      at-among sizes current (child_boundary keep batch.bounds) (child_tips keep batch.bounds) (All-at among all keep batch.bounds.db states-reached oldest) (All-take among keep all states-reached) on
+      at-among sizes current (child_boundary keep batch.bounds) (child_tips keep batch.bounds) (All-at among all keep batch.bounds.db states-reached boundary-reached) (All-take among keep all states-reached) on
 
   -- the steps that a child keeps, behind its own, start where the states end at which it can be applied
   pub child-starts : (keep : ℕ) → keep ≤ suc (length batch.bounds.ancestors)

@@ -1,6 +1,6 @@
 //! Batches: writes that are recorded, and the list that they make.
 
-ghost use Rattle.std.specs.Prelude.{◌≡◌, ◌≢◌, ◌⊎◌, ◌≤◌, ◌+◌, ◌^◌, ◌++◌, ◌∷◌, ℕ, suc, min, [], List, None, true, false, length, map, take, drop, option_map, All, Contains, IfOk, IfErr, OnOk};
+ghost use Rattle.std.specs.Prelude.{◌≡◌, ◌≢◌, ◌⊎◌, ◌↔◌, ◌≤◌, ◌<◌, ◌+◌, ◌^◌, ◌++◌, ◌∷◌, ℕ, suc, min, [], List, None, true, false, length, map, take, drop, option_map, All, Contains, IsSome, IfSome, IfOk, IfErr, OnOk};
 ghost use Rattle.qm_model.specs.Batches.{Chain, IsKnown, IsOnChain, child_of, own_operations};
 ghost use Rattle.qm_model.specs.Causes.{Rose};
 ghost use Rattle.qm_model.specs.Live as lives;
@@ -24,7 +24,7 @@ ghost use Rattle.qm_store.specs.KeptTrees.{held_at};
 ghost use Rattle.qm_any.specs.Reasons.{IsMakingError};
 ghost use Rattle.qm_any.specs.Tips.{IsLow, IsTaken, IsRefused};
 ghost use Rattle.qm_base.specs.Views.{operation_views};
-ghost use Rattle.qm_any.specs.Layouts.{Hashing};
+ghost use Rattle.qm_any.specs.Layouts.{Hashing, hashing_with};
 ghost use Rattle.qm_base.specs.Slots.{slot_views, write_views};
 
 use crate::db::{Db, LaidOut};
@@ -39,7 +39,7 @@ use qm_base::{
 use qm_batch::kind::Steps;
 use qm_batch::{Base, Layer, Plan, Read, Wanted, Write, Writes};
 use qm_chain::{Bounds, Diff, Policy, validate_batch_applicable};
-use qm_merkle::Family;
+use qm_merkle::{Family, Position};
 use qm_proofs::Proof;
 use qm_store::{KeptTree, Store};
 use std::alloc::{AllocError, Global};
@@ -320,6 +320,17 @@ impl<F: Family, D: Digest, U: Update> MerkleizedBatch<F, D, U> {
         ensures { D.bytes result ≡ self.now.bounds.tip.root }
     {
         self.bounds.tip.root
+    }
+
+    /// The digest of the node at this position of the tree of the list that the batch makes, if the tree came to have it
+    /// behind the batch's boundary. What it had there a database at a state that the batch knows has, where it keeps it.
+    pub fn get_node(&self, position: Position<F>) -> Option<D>
+        ensures held { (hash : List ℕ → List ℕ) (chain : Chain) (tip : List Operation) → IsMade (hashing_with D.bytes hash F.shape U.form) self.now chain tip
+            → (IsSome result ↔ ((trees.Shape.size F.shape self.now.bounds.db.size ≤ position) × (position < trees.Shape.size F.shape self.now.bounds.tip.size))) }
+        ensures value { (hash : List ℕ → List ℕ) (chain : Chain) (tip : List Operation) → IsMade (hashing_with D.bytes hash F.shape U.form) self.now chain tip
+            → (x : trees.Node) → trees.Shape.position F.shape x ≡ position → IfSome result (λ d. D.bytes d ≡ trees.digest_of hash F.shape (trees.leaves_from hash F.shape U.form 0 tip) x) }
+    {
+        self.tree.get_node(position)
     }
 
     /// The states of a database that the batch knows, and the floor of its commit.

@@ -1,6 +1,6 @@
 //! The database.
 
-ghost use Rattle.std.specs.Prelude.{◌≡◌, ◌≢◌, ◌⊎◌, ◌≤◌, ◌+◌, ◌^◌, ◌++◌, ◌∷◌, ℕ, [], List, nat_lt, true, false, length, map, drop, option_map, Contains, if◌then◌else◌, IfOk, IfErr, OnOk, OnErr};
+ghost use Rattle.std.specs.Prelude.{◌≡◌, ◌≢◌, ◌⊎◌, ◌↔◌, ◌≤◌, ◌+◌, ◌^◌, ◌++◌, ◌∷◌, ℕ, [], List, nat_lt, true, false, length, map, drop, option_map, Contains, IsSome, IfSome, if◌then◌else◌, IfOk, IfErr, OnOk, OnErr};
 ghost use Rattle.qm_model.specs.StoreModel.{beside_items};
 ghost use Rattle.qm_model.specs.Batches.{Chain, IsOnChain, begun_on};
 ghost use Rattle.qm_model.specs.Causes.{IsCause};
@@ -12,6 +12,7 @@ ghost use Rattle.qm_model.specs.Trees as trees;
 ghost use Rattle.qm_model.specs.Trees.{ops_root};
 ghost use Rattle.qm_model.specs.Writes.{read_through};
 ghost use Rattle.qm_merkle.specs.Batches.{stops, stops_since, lists_since};
+ghost use Rattle.qm_merkle.specs.Mems.{Holds};
 ghost use Rattle.qm_proofs.specs.Proofs.{proof_view, first_lacked, needed_positions};
 ghost use Rattle.qm_store.specs.Log as logs;
 ghost use Rattle.qm_store.specs.Log.{IsLacked};
@@ -40,7 +41,7 @@ use qm_batch::kind::Steps;
 use qm_batch::{Base, Plan, Read, Wanted, Writes, apply_diffs, read_key, staged};
 use qm_bits::{Chunk64, Prunable};
 use qm_chain::{Diff, Policy};
-use qm_merkle::Family;
+use qm_merkle::{Family, Position};
 use qm_overlay::apply_bits;
 use qm_proofs::Proof;
 use qm_store::{AuthLog, Given, KeptTree, LogGiven, LogRefusal, Refusal, Store};
@@ -236,6 +237,16 @@ impl<
         let metadata = share(&self.metadata)?;
         let floor = Location::new(self.floor.get());
         MerkleizedBatch::at_rest(alloc, self.commitment, floor, self.live, metadata)
+    }
+
+    /// The digest of the node at this position of the tree of the database's list, if it is held: it came behind what was
+    /// pruned, or is a peak over that.
+    pub fn get_node(&self, position: Position<F>) -> Option<H::Digest>
+        ensures held { IsSome result ↔ Holds F.shape self.now.log.tree position }
+        ensures value { (list : List Operation) → IsDatabase C.Store ⟦<Self as LaidOut>⟧.layout self.now list
+            → (x : trees.Node) → trees.Shape.birth F.shape x ≤ length list → trees.Shape.position F.shape x ≡ position → IfSome result (λ d. H.Digest.bytes d ≡ trees.digest_of H.hash F.shape (trees.leaves_from H.hash F.shape U.form 0 list) x) }
+    {
+        self.log.tree().get_node(position)
     }
 
     /// Whether the batch can be applied: the database is at its boundary or at a kept ancestor's tip. It takes no memory.

@@ -1,12 +1,11 @@
-//! A database that is committed, pruned and synced, opened again from its store, also with what is told of its activity bits,
-//! and then destroyed.
+//! A database that is committed, pruned and synced, and opened again from its store with what is told of its activity bits.
 
 use crate::fixed::{Database, batch_of, config, kept, key, opened};
-use qm_any::{init, init_with};
+use qm_any::init_with;
 use qm_base::{Error, Sha256};
 use qm_index::FourCap;
 use qm_memory::MemStore;
-use qm_store::{MetaEntry, Store as _};
+use qm_store::MetaEntry;
 use std::alloc::{AllocError, Global};
 use std::test::Fail;
 
@@ -42,12 +41,7 @@ fn seen(alloc: Global, db: &mut Database) -> Result<(u64, bool), Error> {
     Ok((start.get(), value.is_some()))
 }
 
-// The database of the whole list that a store keeps.
-fn reopened(alloc: Global, store: MemStore) -> Result<Database, Error> {
-    kept(init(alloc, store, Sha256::new(), config(FourCap), None))
-}
-
-// The same of a database with chunks of activity bits, of which none is pruned.
+// The database of the whole list that a store keeps, with chunks of activity bits, of which none is pruned.
 fn reopened_with_chunks(alloc: Global, store: MemStore) -> Result<Database, Error> {
     let none = Some((0, None));
     kept(init_with(alloc, store, Sha256::new(), config(FourCap), None, none))
@@ -65,18 +59,6 @@ fn refused_without_chunk(alloc: Global, store: MemStore) -> Option<Error> {
         one,
     );
     kept(refusal).err()
-}
-
-#[test]
-fn a_pruned_database_has_its_keys(rt: HostRuntime) -> Result<(), Fail> {
-    let alloc = rt.alloc();
-    let mut db = lasting(alloc, filled(alloc)?)?;
-    assert_eq!(rt; seen(alloc, &mut db)?, (2, true));
-    let mut db = reopened(alloc, db.close())?;
-    assert_eq!(rt; seen(alloc, &mut db)?, (2, true));
-    let store = kept(db.destroy())?;
-    assert_eq!(rt; store.bounds(), (0, 0));
-    Ok(())
 }
 
 #[test]

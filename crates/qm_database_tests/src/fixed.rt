@@ -1,5 +1,4 @@
-//! A database whose keys and values have one size, with a root that was computed by another program, and the calls that the
-//! program does not make.
+//! A database whose keys and values have one size: its text, and a root that was computed by another program.
 
 use qm_any::batch::MerkleizedBatch;
 use qm_any::db::Db;
@@ -58,54 +57,6 @@ pub(crate) fn batch_of(alloc: Global, db: &mut Database) -> Result<Rc<Batch>, Er
     batch.merkleize(alloc, db, None, &mut Proportional)
 }
 
-// The last byte of a value.
-fn last(value: &Option<FixedBytes<8>>) -> Option<u8> {
-    value.as_ref()?.as_bytes().last().copied()
-}
-
-// The last byte of the key's value, through a batch that is begun on the database.
-fn read_begun(alloc: Global, db: &mut Database) -> Result<Option<u8>, Error> {
-    let key = key(alloc)?;
-    let begun = db.new_batch(alloc)?;
-    let value = begun.get(alloc, &key, db)?;
-    Ok(last(&value))
-}
-
-// The same through a merkleized batch.
-fn read_made(alloc: Global, batch: &Batch, db: &mut Database) -> Result<Option<u8>, Error> {
-    let key = key(alloc)?;
-    let value = batch.get(alloc, &key, db)?;
-    Ok(last(&value))
-}
-
-// The same of the database.
-fn read(alloc: Global, db: &mut Database) -> Result<Option<u8>, Error> {
-    let key = key(alloc)?;
-    let value = db.get(alloc, &key)?;
-    Ok(last(&value))
-}
-
-// The database after the batch, and the last byte of the key's value without it, through it and behind it.
-fn read_in_turn(alloc: Global) -> Result<(Database, [Option<u8>; 3]), Error> {
-    let mut db = opened(alloc, Vec::new(alloc))?;
-    let before = read_begun(alloc, &mut db)?;
-    let batch = batch_of(alloc, &mut db)?;
-    let through = read_made(alloc, &batch, &mut db)?;
-    db.validate_batch(&batch)?;
-    let mut db = kept(db.apply_batch(alloc, &batch))?;
-    let behind = read(alloc, &mut db)?;
-    Ok((db, [before, through, behind]))
-}
-
-#[test]
-fn keys_are_read(rt: HostRuntime) -> Result<(), Fail> {
-    let (db, values) = read_in_turn(rt.alloc())?;
-    assert_eq!(rt; values, [None, Some(17), Some(17)]);
-    let text = format!(in rt.alloc(); "{db:?}")?;
-    assert_eq!(rt; text.as_str(), "Db { start: 0, size: 4, floor: 2 }");
-    Ok(())
-}
-
 #[test]
 fn operations_are_proved(rt: HostRuntime) -> Result<(), Fail> {
     let alloc = rt.alloc();
@@ -120,5 +71,7 @@ fn operations_are_proved(rt: HostRuntime) -> Result<(), Fail> {
     let from: Location<Family> = Location::new(1);
     let (proof, shown) = db.proof(alloc, from, NonZeroU64::MIN)?;
     assert!(rt; proof.verify(&mut hasher(Sha256::new()), &shown, from, &root));
+    let text = format!(in alloc; "{db:?}")?;
+    assert_eq!(rt; text.as_str(), "Db { start: 0, size: 4, floor: 2 }");
     Ok(())
 }

@@ -6,6 +6,7 @@ use Rattle.qm_graft.specs.Grafting.{kept_shape}
 
 pub kept_family : (shape : Shape) (g : ℕ) (births : Births) → IsFamily shape births → IsFamily (kept_shape shape g) births
 kept_family shape g births family = record {
+  none = family.none;
   some = family.some;
   first = family.first;
   placed = family.placed;

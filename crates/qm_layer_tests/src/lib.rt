@@ -7,8 +7,6 @@ mod base;
 #[cfg(test)]
 mod bits;
 #[cfg(test)]
-mod failing;
-#[cfg(test)]
 mod files;
 #[cfg(test)]
 mod grafts;
@@ -16,8 +14,6 @@ mod grafts;
 mod lines;
 #[cfg(test)]
 mod maps;
-#[cfg(test)]
-mod store;
 #[cfg(test)]
 mod trees;
 #[cfg(test)]

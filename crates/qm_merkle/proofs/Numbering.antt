@@ -111,3 +111,14 @@ module _ (shape : Shape) (births : Births) (family : IsFamily shape births) wher
     where
       node_path : {h a : ℕ} → h ≡ x.height → a ≡ x.index → record { height = h; index = a } ≡ x
       node_path eh ea = λ i. record { height = eh i; index = ea i }
+
+  -- a node stands at each place below the size
+  pub standing : (n p : ℕ) → p < shape.size n → (x : Node) × (shape.position x ≡ p) × (shape.birth x ≤ n)
+  standing zero p low = absurd (omega (arith, low, family.none))
+  standing (suc n) p low = ⊎_elim
+      (λ (old : p < shape.size n). let r = standing n p old in (r.0, r.1, omega (arith, r.2)))
+      (λ (new : shape.size n ≤ p).
+      let k = p - shape.size n in
+      let lt : k < births.count n = omega (arith, low, new, family.sized n) in
+      (births.born n k, family.placed n k lt ∙ omega arith, omega (arith, birth-born n k lt)))
+      (cases_lt p (shape.size n))

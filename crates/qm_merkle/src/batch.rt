@@ -6,7 +6,7 @@ ghost use Rattle.std.specs.Ordering.{nat_cmp};
 ghost use Rattle.std.specs.BTreeMap.{insert_entry};
 ghost use Rattle.qm_model.specs.Trees as trees;
 ghost use Rattle.qm_merkle.specs.Mems.{Kept, IsWhole, Stands, node_at, more};
-ghost use Rattle.qm_merkle.specs.Batches.{Layer as Part, Draft, Batch, found_at, layer_at, layers_at, all_layers, stops, layers_since, stops_since, lists_since, Leads, IsHistory, leaves_of, replaced_from, drafted, updated, IsOver, made_at, AreThere, AreRead, AreRight, HaveOver};
+ghost use Rattle.qm_merkle.specs.Batches.{Layer as Part, Draft, Batch, found_at, layer_at, layers_at, all_layers, stops, layers_since, stops_since, lists_since, Leads, AreLinked, IsHistory, leaves_of, replaced_from, drafted, updated, IsOver, made_at, AreThere, AreRead, AreRight, HaveOver};
 
 use crate::family::Family;
 use crate::hasher::StandardHasher;
@@ -321,7 +321,8 @@ impl<F: Family, D: Digest> MerkleizedBatch<F, D> {
 
     /// The digest of the node at this position, if this batch or one of those that it stands on adds or replaces it.
     pub fn find_node(&self, position: Position<F>) -> Option<D>
-        ensures { result ≡ layers_at F.shape (all_layers self.now) position }
+        ensures value { result ≡ layers_at F.shape (all_layers self.now) position }
+        ensures linked { AreLinked F.shape self.now.newest.tree.leaves (all_layers self.now) }
     {
         if let Some(digest) = self.newest.digest(position) {
             return Some(digest);

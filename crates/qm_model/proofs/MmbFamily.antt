@@ -239,6 +239,7 @@ halved_mmb n (suc (suc k)) pos lt = absurd (omega (arith, most_mmb n))
 
 pub mmb_is_family : IsFamily mmb mmb_births
 mmb_is_family = record {
+  none = omega arith;
   some = some_mmb;
   first = λ n. refl;
   placed = placed_mmb;

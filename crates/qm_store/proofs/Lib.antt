@@ -5,3 +5,4 @@ pub mod Stores
 pub mod Shown
 pub mod Heads
 pub mod Kept
+pub mod Adding

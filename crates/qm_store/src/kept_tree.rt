@@ -1,6 +1,6 @@
 //! Trees that batches keep, so that a batch's root and proof hash its own items and no others.
 
-ghost use Rattle.std.specs.Prelude.{◌≡◌, ◌≤◌, ◌+◌, ◌^◌, ◌++◌, ◌∷◌, ℕ, [], List, None, Contains, All, length, map, IfOk, IfErr, OnOk, OnErr};
+ghost use Rattle.std.specs.Prelude.{◌≡◌, ◌≤◌, ◌<◌, ◌↔◌, ◌+◌, ◌^◌, ◌++◌, ◌∷◌, ℕ, [], List, None, Contains, All, length, map, IsSome, IfSome, IfOk, IfErr, OnOk, OnErr};
 ghost use Rattle.qm_model.specs.Proofs.{proof_of};
 ghost use Rattle.qm_model.specs.Trees as trees;
 ghost use Rattle.qm_merkle.specs.Batches.{all_layers, layers_since, stops, stops_since, lists_since, IsHistory};
@@ -13,7 +13,7 @@ use crate::Store;
 use crate::log::{AuthLog, shown};
 use qm_base::{Digest, Error, Hasher};
 use qm_merkle::mem::Mem;
-use qm_merkle::{Family, MerkleizedBatch};
+use qm_merkle::{Family, MerkleizedBatch, Position};
 use qm_proofs::Proof;
 use std::alloc::{AllocError, Global};
 use std::marker::Model;
@@ -162,6 +162,20 @@ impl<F: Family, D: Digest> KeptTree<F, D> {
         match &self.batch {
             Some(batch) => log.speculative_pinned_nodes(alloc, batch, count),
             None => log.pinned_nodes_at(alloc, count),
+        }
+    }
+
+    /// The digest of the node at this position, if the tree has it of its own: it has the nodes that its lists came to have
+    /// behind the oldest of them.
+    pub fn get_node(&self, position: Position<F>) -> Option<D>
+        ensures held { (boundary : ℕ) → All (IsAdding F.shape) self.now.layers → Contains (stops self.now.leaves self.now.layers) boundary → All (λ n. boundary ≤ n) (stops self.now.leaves self.now.layers)
+            → (IsSome result ↔ ((trees.Shape.size F.shape boundary ≤ position) × (position < trees.Shape.size F.shape self.now.leaves))) }
+        ensures value { (hash : List ℕ → List ℕ) (tip : List (List ℕ)) (older : List (List (List ℕ))) → IsKeptTree D.bytes hash F.shape self.now tip older
+            → (x : trees.Node) → trees.Shape.position F.shape x ≡ position → IfSome result (λ d. D.bytes d ≡ trees.digest_of hash F.shape (leaves_of hash F.shape tip) x) }
+    {
+        match &self.batch {
+            Some(batch) => batch.find_node(position),
+            None => None,
         }
     }
 
