@@ -92,10 +92,14 @@ fn answer<X: Engine<C>, C: Store, P: Policy<X::Family, X::Key, X::Value> + Twin>
     match turn {
         Turn::Memory => (session, Some(Ending::Memory)),
         Turn::StoreFault => (session, Some(Ending::StoreFault)),
-        Turn::Reply(reply) => match push_line(alloc, text, &reply) {
-            Ok(()) => (session, None),
-            Err(_) => (session, Some(Ending::Memory)),
-        },
+        Turn::Reply(reply) => {
+            let pushed = push_line(alloc, text, &reply);
+            drop(reply);
+            match pushed {
+                Ok(()) => (session, None),
+                Err(_) => (session, Some(Ending::Memory)),
+            }
+        }
     }
 }
 
@@ -130,7 +134,11 @@ fn answer_line<X: Engine<C, Key = ByteKey, Value = ByteValue>, C: Store>(
     match parse_line(alloc, line) {
         Err(_) => (session, Some(Ending::Memory)),
         Ok(None) => (session, Some(Ending::BadLine)),
-        Ok(Some(command)) => answer::<X, C, AnyPolicy>(alloc, config, session, text, &command),
+        Ok(Some(command)) => {
+            let answered = answer::<X, C, AnyPolicy>(alloc, config, session, text, &command);
+            drop(command);
+            answered
+        }
     }
 }
 
