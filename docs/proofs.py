@@ -1,5 +1,5 @@
 #!/usr/bin/env python3
-"""Prints the digest of proofs in crates/qm_layer_tests/src/ranges.rt, computed apart from the crates.
+"""Prints the digest of proofs in crates/qm_layer_tests/src/trees.rt, computed apart from the crates.
 
 The proofs of every range of every tree of 1 to 12 leaves, in a row: trees by size, ranges by start
 and then by end, the digests of each proof from left to right. Leaf k has the one byte k.
