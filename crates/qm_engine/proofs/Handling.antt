@@ -1,16 +1,18 @@
 -- What a command does that leaves all but the items of its store, as what any command does.
-use Rattle.std.proofs.Common.{◌≡◌, inl, [], Option, Some, None, refl, ap, sym, ◌∙◌, append-nil}
+use Rattle.std.proofs.Common.{◌≡◌, ◌≢◌, ◌+◌, ◌≤◌, inl, [], Option, Some, None, arith, refl, ap, sym, subst, ◌∙◌, append-nil}
 use Rattle.qm_model.specs.Operations.{Bytes}
 use Rattle.qm_model.specs.StoreModel.{Stored, Turns, beside_items, without_items}
 use Rattle.qm_machine.specs.Lines.{Line, Answer}
 use Rattle.qm_machine.specs.Machine.{State}
 use Rattle.qm_store.specs.declared.Store as stores
+use Rattle.qm_store.specs.Given.{store_given, IsUnchanged}
 use Rattle.qm_engine.specs.declared.words.Words as words
 use Rattle.qm_engine.specs.declared.session.Session.{Session}
 use Rattle.qm_engine.specs.declared.session.Turn.{Turn}
 use Rattle.qm_engine.specs.declared.session.Turn.TheVariants.{Reply, Memory, StoreFault}
-use Rattle.qm_engine.specs.Stores.{IsBeside}
-use Rattle.qm_engine.specs.Session.{Obeys, ObeysSteady, Leaves, LeavesSteady, IfReply, Uses, Handles, HandlesLine, IsChosen}
+use Rattle.qm_engine.specs.Stores.{IsBeside, HasLog}
+use Rattle.qm_engine.specs.Session.{Obeys, ObeysSteady, Leaves, LeavesSteady, IfReply, Uses, Handles, HandlesLine, IsChosen, Performs}
+use Rattle.qm_engine.proofs.Commands.{left_none, stored-same}
 
 -- it keeps what the machine does
 pub obeys_steady : {X C B S M K V D : Type 0} (members : stores.Ghosts C) (means : words.Ghosts X C B S M) (key : K → Bytes) (value : V → Bytes) (digest : D → Bytes) (old new : Session X C B S M) (turn : Turn K V D) (next : State → Answer × State)
@@ -50,3 +52,36 @@ handles_line members line old new turn chosen handles = record {
 
 pub uses_line : {C K V D P : Type 0} (members : stores.Ghosts C) (line : Line P) (old new : C) (turn : Turn K V D) → IsChosen line [] → Uses members old new turn → HandlesLine members line old new turn
 uses_line members line old new turn chosen uses = handles_line members line old new turn chosen (uses_handles members old new turn uses)
+
+module _ {X C B S M K V D P : Type 0} {members : stores.Ghosts C} {means : words.Ghosts X C B S M} {key : K → Bytes} {value : V → Bytes} {digest : D → Bytes} {line : Line P} {next : State → Answer × State} where
+  -- A command that reads: its store has what it had.
+  pub performs-reading : {old new : Session X C B S M} {turn : Turn K V D} → IsChosen line []
+      → ObeysSteady members means key value digest old new turn next
+      → IsUnchanged members (store_given means.inside old.held) (store_given means.inside new.held)
+      → Uses members (store_given means.inside old.held) (store_given means.inside new.held) turn
+      → new.opened ≡ old.opened → Performs members means key value digest line next old new turn
+  performs-reading {old} {new} {turn} chosen obeys same uses opened = record {
+    machine = obeys;
+    left = λ s k sound apart. left_none means.scheme s.log _ _ (stored-same members means.scheme _ _ s.log same k.store).told;
+    handles = uses_line members line _ _ turn chosen uses;
+    opened = omega arith;
+  }
+
+  -- One that leaves the store alone.
+  pub performs-beside : {old new : Session X C B S M} {turn : Turn K V D} → IsChosen line []
+      → Obeys members means key value digest old new turn next
+      → new ≡ record old { table = new.table } → turn ≢ StoreFault → Performs members means key value digest line next old new turn
+  performs-beside {old} {new} {turn} chosen obeys rest never =
+      let held : new.held ≡ old.held = ap (λ (x : Session X C B S M). x.held) rest in
+      let opened : new.opened ≡ old.opened = ap (λ (x : Session X C B S M). x.opened) rest in
+      let store = store_given means.inside new.held in
+      let same : store ≡ store_given means.inside old.held = ap (store_given means.inside) held in
+      performs-reading chosen (obeys_steady members means key value digest old new turn next obeys)
+      (record { start = ap members.start same; told = ap members.told same })
+      (record { start = ap members.start same; beside = ap (λ c. beside_items (members.told c)) same; later = omega (arith, ap members.faults same); fault = λ e. absurd (never e) })
+      opened
+
+  -- And one that leaves all as it is.
+  pub performs-telling : {session : Session X C B S M} {turn : Turn K V D} → IsChosen line []
+      → Obeys members means key value digest session session turn next → turn ≢ StoreFault → Performs members means key value digest line next session session turn
+  performs-telling chosen obeys never = performs-beside chosen obeys refl never

@@ -1,5 +1,5 @@
 -- What a run holds, and the state of the machine that it stands for.
-use Rattle.std.specs.Prelude.{◌≡◌, ◌≤◌, ℕ, List, [], ◌++◌, length, Contains, Option, Some, None, IfSome, slice_index_or}
+use Rattle.std.specs.Prelude.{◌≡◌, ◌+◌, ◌≤◌, ℕ, List, [], ◌++◌, length, Contains, Option, Some, None, IfSome, slice_index_or}
 use Rattle.qm_model.specs.Causes.{Rose}
 use Rattle.qm_model.specs.Live.{floor}
 use Rattle.qm_model.specs.Operations.{Bytes, Operation}
@@ -123,3 +123,11 @@ pub record HandlesLine {C K V D P : Type 0} (members : store.Ghosts C) (line : L
   pub chosen : IfReply turn (λ _. IsChosen line more)
   pub later : members.faults old ≤ members.faults new
   pub fault : turn ≡ StoreFault → Rose (members.faults old) (members.faults new)
+
+-- A command performs its line, as `next` does it in the machine: it does what that does, leaves what may be left of it, handles the
+-- store as the line may, and opens once at most.
+pub record Performs {X C B S M K V D P : Type 0} (members : store.Ghosts C) (means : words.Ghosts X C B S M) (key : K → Bytes) (value : V → Bytes) (digest : D → Bytes) (line : Line P) (next : State → Answer × State) (old new : Session X C B S M) (turn : Turn K V D) : Type 0 where
+  pub machine : ObeysSteady members means key value digest old new turn next
+  pub left : LeavesSteady members means old new next
+  pub handles : HandlesLine members line (store_given means.inside old.held) (store_given means.inside new.held) turn
+  pub opened : new.opened ≤ old.opened + 1

@@ -1,9 +1,8 @@
 // One command over what a run holds.
-ghost use Rattle.std.specs.Prelude.{◌+◌, ◌^◌, ◌<◌, ◌≤◌};
+ghost use Rattle.std.specs.Prelude.{◌+◌, ◌^◌, ◌<◌};
 ghost use Rattle.qm_machine.specs.Machine as machine;
 ghost use Rattle.qm_lines.specs.Views.{line_view};
-ghost use Rattle.qm_store.specs.Given.{store_given};
-ghost use Rattle.qm_engine.specs.Session.{ObeysSteady, LeavesSteady, HandlesLine};
+ghost use Rattle.qm_engine.specs.Session.{Performs};
 
 mod batches;
 mod lasting;
@@ -27,7 +26,6 @@ use staged::{expand, resolve, stage};
 use std::alloc::Global;
 
 /// One command: the machine's turn.
-#[tactic(auto, using(crate::proofs::Handling::obeys_steady, crate::proofs::Handling::leaves_steady, crate::proofs::Handling::uses_line, crate::proofs::Handling::handles_line, crate::proofs::Commands::left_none))]
 pub fn turn<X: Engine<C>, C: Store, P: Policy<X::Family, X::Key, X::Value> + Twin>(
     alloc: Global,
     config: &X::Config,
@@ -35,12 +33,8 @@ pub fn turn<X: Engine<C>, C: Store, P: Policy<X::Family, X::Key, X::Value> + Twi
     command: &Command<X::Key, X::Value, P>,
 ) -> (Of<X, C>, Turn<X::Key, X::Value, X::Digest>)
     requires { session.opened + 1 < 2 ^ 64 }
-    ensures machine { ObeysSteady C.Store X.Words X.Key.bytes X.Value.bytes X.Digest.bytes session result.0 result.1
-        (λ s. machine.turn X.scheme P.rules s (line_view X.Key.bytes X.Value.bytes (λ p. p) command.now)) }
-    ensures left { LeavesSteady C.Store X.Words session result.0
-        (λ s. machine.turn X.scheme P.rules s (line_view X.Key.bytes X.Value.bytes (λ p. p) command.now)) }
-    ensures handles { HandlesLine {P = P} C.Store (line_view X.Key.bytes X.Value.bytes (λ p. p) command.now) (store_given X.inside session.held) (store_given X.inside result.0.held) result.1 }
-    ensures opened { result.0.opened ≤ session.opened + 1 }
+    ensures { Performs C.Store X.Words X.Key.bytes X.Value.bytes X.Digest.bytes (line_view X.Key.bytes X.Value.bytes (λ p. p) command.now)
+        (λ s. machine.turn X.scheme P.rules s (line_view X.Key.bytes X.Value.bytes (λ p. p) command.now)) session result.0 result.1 }
 {
     match command {
         Command::Open(max_size) => open::<X, C>(alloc, config, session, *max_size),
