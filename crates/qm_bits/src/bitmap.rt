@@ -36,16 +36,6 @@ impl BitMap {
         }
     }
 
-    /// So many clear bits. Want of memory is the only error.
-    pub fn zeroes(alloc: Global, len: u64) -> Result<Self, AllocError>
-        requires { len ≤ 2 ^ 62 }
-        ensures { IfOk result (λ map. map ≡ replicate len false) }
-    {
-        let mut map = Self::new(alloc);
-        map.extend_to(len)?;
-        Ok(map)
-    }
-
     /// How many bits there are.
     pub fn len(&self) -> u64
         ensures value { result ≡ length self.now }

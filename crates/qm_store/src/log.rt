@@ -338,30 +338,6 @@ impl<F: Family, C: Store, H: Hasher + Drop> AuthLog<F, C, H> {
         grown_by_items(alloc, &self.tree, &mut self.hasher, items)
     }
 
-    /// The tree as these items leave it, behind the list of a batch on this tree. Only their leaves, and the nodes over
-    /// these, are hashed.
-    pub fn tree_behind(
-        &mut self,
-        alloc: Global,
-        batch: &MerkleizedBatch<F, H::Digest>,
-        items: &[Vec<u8>],
-    ) -> Result<MerkleizedBatch<F, H::Digest>, AllocError>
-        requires room { batch.now.newest.tree.leaves + length items.now ≤ 2 ^ 62 }
-        requires reach { Contains (stops batch.now.newest.tree.leaves (all_layers batch.now)) self.old.tree.leaves }
-        ensures history { (list base : List (List ℕ)) (lists : List (List (List ℕ))) → IsLog C.Store F.shape H.Digest.bytes H.hash self.old list
-            → IsHistory F.shape H.Digest.bytes H.hash (all_layers batch.now) (digests_from H.hash F.shape 0 base ∷ lists) → Contains (digests_from H.hash F.shape 0 base ∷ lists) (digests_from H.hash F.shape 0 list)
-            → IfOk result (λ b. IsHistory F.shape H.Digest.bytes H.hash (all_layers b) (digests_from H.hash F.shape 0 (base ++ map (λ v. v.items) items.now) ∷ digests_from H.hash F.shape 0 base ∷ lists)) }
-        ensures leaves { IfOk result (λ b. b.newest.tree.leaves ≡ batch.now.newest.tree.leaves + length items.now) }
-        ensures start { IfOk result (λ b. b.newest.tree.start ≡ batch.now.newest.tree.leaves) }
-        ensures older { IfOk result (λ b. b.older ≡ all_layers batch.now) }
-        ensures same { self.new ≡ self.old }
-    {
-        let size = batch.leaves().get();
-        let digests = item_digests::<F, H>(alloc, &mut self.hasher, size, items)?;
-        let draft = batch.new_batch(alloc)?;
-        grown_behind(alloc, &self.tree, &mut self.hasher, draft, &digests)
-    }
-
     // The tree as these items leave it, behind the list of a batch on this tree, of whose layers it keeps those that begin at
     // a boundary or past it. Only the items' leaves, and the nodes over these, are hashed.
     pub(crate) fn tree_since(
