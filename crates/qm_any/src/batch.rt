@@ -323,7 +323,7 @@ impl<F: Family, D: Digest, U: Update> MerkleizedBatch<F, D, U> {
     }
 
     /// The digest of the node at this position of the tree of the list that the batch makes, if the tree came to have it
-    /// behind the batch's boundary. What it had there a database at a state that the batch knows has, where it keeps it.
+    /// behind the batch's boundary. What it had before that a database at a state that the batch knows has, where it keeps it.
     pub fn get_node(&self, position: Position<F>) -> Option<D>
         ensures held { (hash : List ℕ → List ℕ) (chain : Chain) (tip : List Operation) → IsMade (hashing_with D.bytes hash F.shape U.form) self.now chain tip
             → (IsSome result ↔ ((trees.Shape.size F.shape self.now.bounds.db.size ≤ position) × (position < trees.Shape.size F.shape self.now.bounds.tip.size))) }

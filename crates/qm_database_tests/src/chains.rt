@@ -1,25 +1,21 @@
 //! Bits behind chains of batches that are not applied, beside those that opening makes of the list that the chain leads to.
 
-use crate::fixed::{Batch, Database, Pair, config, kept, opened};
-use qm_any::batch::{MerkleizedBatch, UnmerkleizedBatch};
-use qm_any::init;
-use qm_base::{ByteString, Error, FixedBytes, Location, Sha256, Sha256Digest};
+use crate::fixed::{Batch, Database, Key, Value, Writes, applied, made, opened, reopened};
+use qm_any::batch::MerkleizedBatch;
+use qm_base::{ByteString, Error, Location};
 use qm_bits::{Candidates, Chunk64, Readable};
 use qm_chain::{Diff, Proportional};
-use qm_index::FourCap;
 use qm_merkle::mmr::Family;
 use qm_overlay::{BitmapBatch, overlay_of};
 use std::alloc::{AllocError, Global};
 use std::rc::Rc;
 use std::test::Fail;
 
-type Begun = UnmerkleizedBatch<Family, Sha256Digest, Pair>;
-
 type Bits<'a> = BitmapBatch<'a, Chunk64>;
 
 type Marked = Vec<Location<Family>>;
 
-type Step = Diff<Family, FixedBytes<4>, FixedBytes<8>>;
+type Step = Diff<Family, Key, Value>;
 
 /// Bytes that look random, the same in each run.
 #[derive(Clone, Copy)]
@@ -37,27 +33,22 @@ impl Numbers {
 }
 
 // A value, or nothing in place of every fourth.
-fn value(alloc: Global, byte: u8) -> Result<Option<FixedBytes<8>>, AllocError> {
+fn value(alloc: Global, byte: u8) -> Result<Option<Value>, AllocError> {
     if byte % 4 == 0 {
         return Ok(None);
     }
-    Ok(Some(FixedBytes::from_bytes(alloc, &[byte; 8])?))
+    Ok(Some(Value::from_bytes(alloc, &[byte; 8])?))
 }
 
-// The batch with so many writes to some of 256 keys.
-fn written(
-    alloc: Global,
-    batch: Begun,
-    writes: u32,
-    numbers: &mut Numbers,
-) -> Result<Begun, AllocError> {
-    let mut batch = batch;
-    for _ in 0..writes {
+// So many writes to some of 256 keys.
+fn writes(alloc: Global, count: u32, numbers: &mut Numbers) -> Result<Writes, AllocError> {
+    let mut writes = Vec::new(alloc);
+    for _ in 0..count {
         let value = value(alloc, numbers.next())?;
-        let key = FixedBytes::from_bytes(alloc, &[1, 2, 3, numbers.next()])?;
-        batch = batch.write(key, value)?;
+        let key = Key::from_bytes(alloc, &[1, 2, 3, numbers.next()])?;
+        writes.push((key, value))?;
     }
-    Ok(batch)
+    Ok(writes)
 }
 
 // A batch of so many writes on another, or on the list of a database.
@@ -65,15 +56,13 @@ fn child(
     alloc: Global,
     db: &mut Database,
     parent: Option<&Rc<Batch>>,
-    writes: u32,
-    numbers: &mut Numbers,
+    writes: Writes,
 ) -> Result<Rc<Batch>, Error> {
     let begun = match parent {
         Some(parent) => MerkleizedBatch::new_batch(parent, alloc)?,
         None => db.new_batch(alloc)?,
     };
-    let batch = written(alloc, begun, writes, numbers)?;
-    batch.merkleize(alloc, db, None, &mut Proportional)
+    made(alloc, begun, writes, db, &mut Proportional)
 }
 
 // A chain of batches of so many writes each, on the list of a database.
@@ -84,8 +73,9 @@ fn chain(
     numbers: &mut Numbers,
 ) -> Result<Vec<Rc<Batch>>, Error> {
     let mut batches: Vec<Rc<Batch>> = Vec::new(alloc);
-    for writes in steps {
-        let batch = child(alloc, db, batches.last(), *writes, numbers)?;
+    for count in steps {
+        let writes = writes(alloc, *count, numbers)?;
+        let batch = child(alloc, db, batches.last(), writes)?;
         batches.push(batch)?;
     }
     Ok(batches)
@@ -139,8 +129,8 @@ fn led(alloc: Global, db: Database, batches: &[Rc<Batch>]) -> Result<Database, E
     let Some(tip) = batches.last() else {
         return Ok(db);
     };
-    let db = kept(db.apply_batch(alloc, tip))?;
-    kept(init(alloc, db.close(), Sha256::new(), config(FourCap), None))
+    let db = applied(alloc, db, tip)?;
+    reopened(alloc, db.close())
 }
 
 // Whether a chain on the list of a database has the bits of its list.

@@ -1,6 +1,6 @@
 //! A database that is committed, pruned and synced, and opened again from its store with what is told of its activity bits.
 
-use crate::fixed::{Database, batch_of, config, kept, key, opened};
+use crate::fixed::{Database, applied, batch_of, config, kept, key, opened};
 use qm_any::init_with;
 use qm_base::{Error, Sha256};
 use qm_index::FourCap;
@@ -13,7 +13,7 @@ use std::test::Fail;
 fn filled(alloc: Global) -> Result<Database, Error> {
     let mut db = opened(alloc, Vec::new(alloc))?;
     let batch = batch_of(alloc, &mut db)?;
-    kept(db.apply_batch(alloc, &batch))
+    applied(alloc, db, &batch)
 }
 
 // The database, all of which is stable, pruned to its boundary, with an entry of metadata.

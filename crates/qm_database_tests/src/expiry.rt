@@ -1,14 +1,13 @@
 //! A policy of one's own: values carry the block up to which they are valid, and a batch drops what has expired.
 
 ghost use Rattle.std.specs.Prelude.{◌≡◌, ◌^◌, ◌-◌, ℕ, Bool, true, nat_lt, if◌then◌else◌, slice_index_or, IfOk};
-ghost use Rattle.qm_model.specs.Walk.{write, evict};
+ghost use Rattle.qm_model.specs.Walk as walk;
 ghost use Rattle.qm_chain.specs.Policies.{action_view};
 
-use crate::fixed::{Batch, Database, kept, key, opened};
-use qm_base::{ByteString, Error, FixedBytes};
+use crate::fixed::{Database, applied, key, made_on, opened, write};
+use qm_base::{ByteString, Error};
 use qm_chain::{Decision, Entry, Limits, Policy};
 use std::alloc::{AllocError, Global};
-use std::rc::Rc;
 use std::test::Fail;
 
 /// Drops each value whose first byte is below that of the block, and keeps the others.
@@ -20,7 +19,7 @@ struct Expiry {
 impl<F, K: ByteString, V: ByteString> Policy<F, K, V> for Expiry {
     ghost rules = { record {
       limits = λ p n. record { entries = 2 ^ 64 - 1; skips = 2 ^ 64 - 1 };
-      decide = λ p location key value. (if nat_lt (slice_index_or value 0 0) p.block then evict else write value, p);
+      decide = λ p location key value. (if nat_lt (slice_index_or value 0 0) p.block then walk.evict else walk.write value, p);
     } };
 
     ghost may_evict = { λ _. true };
@@ -43,7 +42,7 @@ impl<F, K: ByteString, V: ByteString> Policy<F, K, V> for Expiry {
         _alloc: Global,
         live: Entry<'a, F, K, V>,
     ) -> Result<Decision<'a, V>, AllocError>
-        ensures action { IfOk result (λ d. action_view V.bytes d ≡ (if nat_lt (slice_index_or (V.bytes live.entry.value) 0 0) self.old.block then evict else write (V.bytes live.entry.value))) }
+        ensures action { IfOk result (λ d. action_view V.bytes d ≡ (if nat_lt (slice_index_or (V.bytes live.entry.value) 0 0) self.old.block then walk.evict else walk.write (V.bytes live.entry.value))) }
         ensures next { IfOk result (λ _. self.new ≡ self.old) }
     {
         let first = live.value().as_bytes().first().copied().unwrap_or(0);
@@ -56,30 +55,18 @@ impl<F, K: ByteString, V: ByteString> Policy<F, K, V> for Expiry {
     }
 }
 
-// The batch that writes nothing, at this block.
-fn batch_at(alloc: Global, db: &mut Database, block: u8) -> Result<Rc<Batch>, Error> {
-    let batch = db.new_batch(alloc)?;
-    batch.merkleize(alloc, db, None, &mut Expiry { block })
-}
-
-// The batch of a value that is valid up to block 7.
-fn dated(alloc: Global, db: &mut Database) -> Result<Rc<Batch>, Error> {
-    let value = FixedBytes::from_bytes(alloc, &[7, 0, 0, 0, 0, 0, 0, 0])?;
-    let batch = db.new_batch(alloc)?.write(key(alloc)?, Some(value))?;
-    batch.merkleize(alloc, db, None, &mut Expiry { block: 1 })
-}
-
-// A database with this value.
+// A database with a value that is valid up to block 7.
 fn filled(alloc: Global) -> Result<Database, Error> {
     let mut db = opened(alloc, Vec::new(alloc))?;
-    let batch = dated(alloc, &mut db)?;
-    kept(db.apply_batch(alloc, &batch))
+    let dated = write(alloc, [7, 0, 0, 0, 0, 0, 0, 0])?;
+    let batch = made_on(alloc, dated, &mut db, &mut Expiry { block: 1 })?;
+    applied(alloc, db, &batch)
 }
 
 // Whether the key has a value in the batch at this block.
 fn is_kept_at(alloc: Global, block: u8) -> Result<bool, Error> {
     let mut db = filled(alloc)?;
-    let batch = batch_at(alloc, &mut db, block)?;
+    let batch = made_on(alloc, Vec::new(alloc), &mut db, &mut Expiry { block })?;
     let value = batch.get(alloc, &key(alloc)?, &mut db)?;
     Ok(value.is_some())
 }

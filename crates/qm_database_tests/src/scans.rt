@@ -1,4 +1,4 @@
-//! Scans of an ordered database over a store that refuses a read.
+//! Scans of an ordered database: one over a store that refuses a read, and one of keys.
 
 use crate::fixed::{config, kept};
 use qm_any::batch::UnmerkleizedBatch;
@@ -100,5 +100,26 @@ fn a_refused_bucket_is_read_again(rt: HostRuntime) -> Result<(), Fail> {
         }
     }
     assert_eq!(rt; reads, 5, "one for each read of the scan");
+    Ok(())
+}
+
+// The bytes of the keys from one on, in order.
+fn keys_from(alloc: Global, db: &mut Database, low: Key) -> Result<Vec<u8>, Error> {
+    let mut bytes = Vec::new(alloc);
+    let mut scan = db.keys(alloc, Bound::Excluded(low), Bound::Unbounded);
+    for _ in 0..8 {
+        let Some(next) = scan.next() else { break };
+        bytes.extend_from_slice(next?.as_bytes())?;
+    }
+    Ok(bytes)
+}
+
+#[test]
+fn keys_come_in_order(rt: HostRuntime) -> Result<(), Fail> {
+    let alloc = rt.alloc();
+    let mut db = filled(alloc, Vec::new(alloc))?;
+    let (low, _) = pair(alloc, [0x62, 1], 0)?;
+    let keys = keys_from(alloc, &mut db, low)?;
+    assert_eq!(rt; keys.as_slice(), [0x62, 2, 0x62, 3, 0x63, 0].as_slice());
     Ok(())
 }

@@ -1,8 +1,8 @@
 //! How often a store is read where keys are staged, seen by the number of the first call that never comes: a store in memory
 //! numbers its calls and fails at those that are listed.
 
-use crate::fixed::{Database, kept, opened};
-use qm_base::{ByteString, Error, FixedBytes, Slot};
+use crate::fixed::{Database, Key, Value, Writes, applied, made, made_on, opened};
+use qm_base::{ByteString, Error, Slot};
 use qm_chain::Hold;
 use std::alloc::{AllocError, Global};
 use std::test::Fail;
@@ -18,10 +18,6 @@ enum Way {
     Staged,
 }
 
-type Key = FixedBytes<4>;
-
-type Value = FixedBytes<8>;
-
 // Two keys.
 fn keys(alloc: Global) -> Result<Vec<Key>, AllocError> {
     Ok(vec![in alloc;
@@ -34,25 +30,29 @@ fn value(alloc: Global) -> Result<Value, AllocError> {
     Value::from_bytes(alloc, &[9; 8])
 }
 
+// Writes of the two keys.
+fn writes(alloc: Global) -> Result<Writes, AllocError> {
+    let mut writes = Vec::new(alloc);
+    for key in keys(alloc)? {
+        writes.push((key, Some(value(alloc)?)))?;
+    }
+    Ok(writes)
+}
+
 // A database in which the two keys are live, over a store that fails at this call.
 fn filled(alloc: Global, fail: u64) -> Result<Database, Error> {
     let mut db = opened(alloc, vec![in alloc; fail]?)?;
-    let mut batch = db.new_batch(alloc)?;
-    for key in keys(alloc)? {
-        batch = batch.write(key, Some(value(alloc)?))?;
-    }
-    let batch = batch.merkleize(alloc, &mut db, None, &mut Hold)?;
-    kept(db.apply_batch(alloc, &batch))
+    let batch = made_on(alloc, writes(alloc)?, &mut db, &mut Hold)?;
+    applied(alloc, db, &batch)
 }
 
 // Reads the two keys, and writes them again in a batch.
 fn read_and_write(alloc: Global, db: &mut Database) -> Result<(), Error> {
-    let mut batch = db.new_batch(alloc)?;
-    batch.get_many(alloc, &keys(alloc)?, db)?;
+    let batch = db.new_batch(alloc)?;
     for key in keys(alloc)? {
-        batch = batch.write(key, Some(value(alloc)?))?;
+        batch.get(alloc, &key, db)?;
     }
-    batch.merkleize(alloc, db, None, &mut Hold)?;
+    made(alloc, batch, writes(alloc)?, db, &mut Hold)?;
     Ok(())
 }
 
