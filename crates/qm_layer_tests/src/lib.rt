@@ -5,8 +5,6 @@
 #[cfg(test)]
 mod base;
 #[cfg(test)]
-mod bits;
-#[cfg(test)]
 mod files;
 #[cfg(test)]
 mod grafts;
@@ -16,5 +14,3 @@ mod lines;
 mod maps;
 #[cfg(test)]
 mod trees;
-#[cfg(test)]
-mod walks;
