@@ -1,5 +1,5 @@
 use Rattle.std.proofs.Common.{arith, refl}
-use Rattle.qm_engine.proofs.Handling.{obeys_steady, uses_line, handles_line, performs-reading, performs-beside, performs-telling}
+use Rattle.qm_engine.proofs.Handling.{uses_line, handles_line, performs-reading, performs-beside, performs-telling}
 use Rattle.qm_engine.proofs.turns.turn.Goals as goal
 
 pub returns-in-Batch : goal.returns-in-Batch
