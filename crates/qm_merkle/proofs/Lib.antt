@@ -14,3 +14,4 @@ pub mod Putting
 pub mod Since
 pub mod Fewness
 pub mod Parts
+pub mod PeakCounts

@@ -282,15 +282,12 @@ impl<F: Family, D: Digest> MerkleizedBatch<F, D> {
     ) -> Result<Vec<Rc<Layer<F, D>>>, AllocError>
         ensures { IfOk result (λ v. map (λ r. r.value) v.items ≡ layers_since leaves (all_layers self.now)) }
     {
-        let mut layers = Vec::new(alloc);
         if self.newest.base().get() < leaves.get() {
-            return Ok(layers);
+            return Ok(Vec::new(alloc));
         }
-        layers.push(self.newest.clone()?)?;
         let (since, _) = self.older.split_at(put::count_since(&self.older, leaves));
-        for layer in since {
-            layers.push(layer.clone()?)?;
-        }
+        let mut layers = since.to_vec(alloc)?;
+        layers.insert(0, self.newest.clone()?)?;
         Ok(layers)
     }
 

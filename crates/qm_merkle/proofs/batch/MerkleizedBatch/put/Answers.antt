@@ -1,4 +1,4 @@
-use Rattle.std.proofs.Common.{◌≡◌, ◌≤◌, ◌<◌, ◌∙◌, ◌-◌, ◌∷◌, suc, map, drop, ap, sym, subst, arith}
+use Rattle.std.proofs.Common.{◌≡◌, ◌≤◌, ◌<◌, ◌∙◌, ◌+◌, ◌-◌, ◌∷◌, suc, map, drop, ap, sym, subst, arith}
 use Rattle.std.specs.Prelude.{slice_get}
 use Rattle.std.specs.Option.{option_or}
 use Rattle.qm_merkle.specs.Batches.{all_layers, layers_at, layers_since}
@@ -77,3 +77,24 @@ returns-clause-pins g c = λ i p at.
     (one_put shape c.args.leaves c.args.positions.now c.args.size c.args.pins.now c.args.nodes.now.items (layers_since c.args.leaves (c.self.inside.newest.value ∷ map (λ r. r.value) c.self.inside.older.items)) layers layer
     c.loop-count.pins c.loop-count.nodes.items c.put-2.new.pins c.put-2.new.nodes.items turn.is put c.put-2.ensures.length c.put-2.ensures.size c.put-2.ensures.pins c.put-2.ensures.nodes).pins_at i p at
     ∙ ap (λ b. option_or (layers_at shape (layers_since c.args.leaves (all_layers b)) p) (slice_get c.args.pins.now i)) c.self.view_is
+
+pub returns-clause-nodes : goal.returns-clause-nodes
+returns-clause-nodes g c = λ i.
+    let shape = g.F.Family.shape in
+    let layer = c.deref-3.result.now in
+    let from : c.args.leaves ≤ layer.tree.start = omega (arith, c.if-get.false, c.get.ensures, c.base.ensures.start, c.get-2.ensures, ap (λ l. l.tree.start) c.deref.ensures, ap (λ l. l.tree.start) c.deref-3.ensures) in
+    let turn = newest_next shape (λ r. r.value) c.self.inside.start c.self.inside.newest.value c.self.inside.older.items c.args.self.now c.self.view_is c.args.leaves c.self.invariant.1 c.requires.reach layer c.deref-3.ensures from in
+    let none : c.loop-count.count ≡ 0 = omega arith in
+    let layers = layers_since c.args.leaves (map (λ r. r.value) c.self.inside.older.items) in
+    let put = subst (λ k. ArePut shape c.args.leaves c.args.positions.now c.args.size c.args.pins.now c.args.nodes.now.items (drop k layers) c.loop-count.pins c.loop-count.nodes.items) none c.loop-count.invariant.put in
+    (one_put shape c.args.leaves c.args.positions.now c.args.size c.args.pins.now c.args.nodes.now.items (layers_since c.args.leaves (c.self.inside.newest.value ∷ map (λ r. r.value) c.self.inside.older.items)) layers layer
+    c.loop-count.pins c.loop-count.nodes.items c.put-2.new.pins c.put-2.new.nodes.items turn.is put c.put-2.ensures.length c.put-2.ensures.size c.put-2.ensures.pins c.put-2.ensures.nodes).nodes_at i
+    ∙ ap (λ b. option_or (layers_at shape (layers_since c.args.leaves (all_layers b)) (c.args.size + i)) (slice_get c.args.nodes.now.items i)) c.self.view_is
+
+pub returns-clause-length : goal.returns-clause-length
+returns-clause-length g c = c.put-2.ensures.length ∙ c.loop-count.invariant.put.pinned
+
+pub returns-clause-size : goal.returns-clause-size
+returns-clause-size g c =
+    let shape = g.F.Family.shape in
+    c.put-2.ensures.size ∙ ap (λ l. shape.size l.tree.leaves) c.deref-3.ensures ∙ ap (λ b. shape.size b.newest.tree.leaves) c.self.view_is

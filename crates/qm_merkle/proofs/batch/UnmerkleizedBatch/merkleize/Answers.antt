@@ -1,5 +1,6 @@
-use Rattle.std.proofs.Common.{◌≡◌, ◌↔◌, ◌⊎◌, ◌<◌, ◌∷◌, length, ap, sym, subst, arith, map, IsSome}
+use Rattle.std.proofs.Common.{◌≡◌, ◌↔◌, ◌⊎◌, ◌<◌, ◌∷◌, ◌∙◌, length, ap, sym, subst, arith, map, refl, IsSome}
 use Rattle.qm_model.specs.Trees.{Shape}
+use Rattle.qm_merkle.specs.Mems.{IsWhole}
 use Rattle.qm_merkle.specs.Batches.{Layer, AreLinked, IsOver, Leads, IsHistory, layer_at, drafted}
 use Rattle.qm_merkle.proofs.Histories.{there, reached, tip_count, seen}
 use Rattle.qm_merkle.proofs.Drafting.{own_nodes, drafted_leads}
@@ -11,6 +12,9 @@ prove-unreachable-requires g c =
     let low = reached g.F.Family.shape g.F.Family.births g.met.F.Family.numbered g.met.F.Family.peaked c.args.mem.now c.bounds-start.ensures.whole c.args.self.layers c.args.self.base linked c.requires.reach in
     omega (arith, low, c.bounds-start.ensures.whole.order, c.if-prove.true, c.get.ensures, c.get-2.ensures, c.bounds-start.ensures.start, ap (λ b. b.base) c.self.view_is)
 
+pub replaced_nodes-requires-clause-start : goal.replaced_nodes-requires-clause-start
+replaced_nodes-requires-clause-start g c = c.requires.replaced
+
 pub replaced_nodes-requires-clause-there : goal.replaced_nodes-requires-clause-there
 replaced_nodes-requires-clause-there g c =
     let linked = subst (λ b. AreLinked g.F.Family.shape b.base b.layers) c.self.view_is c.self.invariant.3 in
@@ -20,6 +24,41 @@ pub tree-requires-clause-there : goal.tree-requires-clause-there
 tree-requires-clause-there g c =
     let linked = subst (λ b. AreLinked g.F.Family.shape b.base b.layers) c.self.view_is c.self.invariant.3 in
     there g.F.Family.shape g.F.Family.births g.met.F.Family.numbered g.met.F.Family.peaked c.args.mem.now c.bounds-start.ensures.whole c.args.self.layers c.args.self.base linked c.requires.reach
+
+pub tree-requires-clause-start : goal.tree-requires-clause-start
+tree-requires-clause-start g c =
+    let linked = subst (λ b. AreLinked g.F.Family.shape b.base b.layers) c.self.view_is c.self.invariant.3 in
+    let low = reached g.F.Family.shape g.F.Family.births g.met.F.Family.numbered g.met.F.Family.peaked c.args.mem.now c.bounds-start.ensures.whole c.args.self.layers c.args.self.base linked c.requires.reach in
+    omega (arith, low, c.bounds-start.ensures.whole.order)
+
+pub tree-requires-clause-own : goal.tree-requires-clause-own
+tree-requires-clause-own g c = c.in_ok-replaced.ensures.own
+
+pub invariant_of-result : goal.invariant_of-result
+invariant_of-result g c =
+    let shape = g.F.Family.shape in
+    let layer : Layer g.row.D.Denot = record { tree = c.in_ok-tree.tree; replaced = c.in_ok-replaced.replaced.entries } in
+    let is : c.in_ok-newest.newest.value ≡ layer = c.in_ok-newest.ensures.ok in
+    let start : c.in_ok-newest.newest.value.tree.start ≡ c.self.inside.base = ap (λ l. l.tree.start) is ∙ c.in_ok-tree.ensures.start ∙ sym (ap (λ b. b.base) c.self.view_is) in (
+      omega (arith, start, c.self.invariant.0),
+      (
+        refl,
+        subst (λ l. IsWhole shape l.tree) (sym is) c.in_ok-tree.ensures.whole,
+        subst (λ n. AreLinked shape n (map (λ r. r.value) c.self.inside.layers.items)) (sym start) c.self.invariant.3,
+      ),
+    )
+
+pub returns-clause-start : goal.returns-clause-start
+returns-clause-start g c = ap (λ b. b.start) c.self.view_is
+
+pub returns-clause-base : goal.returns-clause-base
+returns-clause-base g c = ap (λ l. l.tree.start) c.in_ok-newest.ensures.ok ∙ c.in_ok-tree.ensures.start
+
+pub returns-clause-leaves : goal.returns-clause-leaves
+returns-clause-leaves g c = ap (λ l. l.tree.leaves) c.in_ok-newest.ensures.ok ∙ c.in_ok-tree.ensures.leaves
+
+pub returns-clause-older : goal.returns-clause-older
+returns-clause-older g c = ap (λ b. b.layers) c.self.view_is
 
 pub returns-clause-own : goal.returns-clause-own
 returns-clause-own g c x born =

@@ -1,8 +1,9 @@
-use Rattle.std.proofs.Common.{◌≡◌, ◌∙◌, ◌^◌, ◌≤◌, ◌++◌, Some, IsSome, All, ap, sym, subst, arith, map, length}
+use Rattle.std.proofs.Common.{◌≡◌, ◌∙◌, ◌^◌, ◌≤◌, ◌+◌, ◌++◌, Some, IsSome, All, ap, ap₂, sym, subst, arith, map, length}
 use Rattle.qm_model.specs.Trees.{peak_positions}
 use Rattle.qm_merkle.specs.Mems.{IsWhole, Stands}
 use Rattle.qm_merkle.specs.Batches.{made_at, replaced_from}
 use Rattle.qm_merkle.proofs.Drafting.{peaks_there, stands-fresh}
+use Rattle.qm_merkle.proofs.PeakCounts.{counted}
 use Rattle.qm_merkle.proofs.batch.UnmerkleizedBatch.tree.Goals as goal
 
 pub digests-requires : goal.digests-requires
@@ -14,8 +15,35 @@ digests-requires g c =
     (sym (c.deref.ensures.value ∙ c.in_ok-positions.ensures ∙ ap (peak_positions shape) is))
     (peaks_there shape g.met.F.Family.peaked c.args.mem.now c.args.self.now.layers c.args.nodes.now.entries base (omega (arith, c.self.invariant.1, is)) c.requires.start c.requires.there)
 
+pub of_parts-tree-requires-clause-positions : goal.of_parts-tree-requires-clause-positions
+of_parts-tree-requires-clause-positions g c = c.in_ok-positions.ensures
+
+pub of_parts-tree-requires-clause-pins : goal.of_parts-tree-requires-clause-pins
+of_parts-tree-requires-clause-pins g c =
+    let shape = g.F.Family.shape in
+    counted shape (made_at shape c.args.nodes.now.entries c.args.self.now.layers c.args.mem.now) c.in_ok-pins.pins.items c.deref.result.now c.self.inside.base c.in_ok-pins.ensures (c.deref.ensures.value ∙ c.in_ok-positions.ensures)
+
 pub of_parts-tree-requires-clause-size : goal.of_parts-tree-requires-clause-size
 of_parts-tree-requires-clause-size g c = (c.self.inside.base, omega (arith, c.self.invariant.1), omega (arith, ap length c.new.ensures.items))
+
+pub add_all-requires : goal.add_all-requires
+add_all-requires g c =
+    let tree = c.of_parts-tree.ensures c.self.inside.base (omega (arith, ap length c.new.ensures.items)) in
+    omega (arith, ap (λ t. t.leaves) tree, c.self.invariant.1, ap length c.deref-2.ensures.value)
+
+pub returns-clause-start : goal.returns-clause-start
+returns-clause-start g c =
+    let tree = c.of_parts-tree.ensures c.self.inside.base (omega (arith, ap length c.new.ensures.items)) in
+    c.in_ok-add_all.ensures.bounds.0 ∙ ap (λ t. t.start) tree ∙ ap (λ b. b.base) c.self.view_is
+
+pub returns-clause-leaves : goal.returns-clause-leaves
+returns-clause-leaves g c =
+    let tree = c.of_parts-tree.ensures c.self.inside.base (omega (arith, ap length c.new.ensures.items)) in
+    c.in_ok-add_all.ensures.bounds.1
+    ∙ ap₂ ◌+◌ (ap (λ t. t.leaves) tree ∙ ap (λ b. b.base) c.self.view_is) (ap length (c.deref-2.ensures.value ∙ ap (λ b. b.added) c.self.view_is))
+
+pub returns-clause-whole : goal.returns-clause-whole
+returns-clause-whole g c = subst (IsWhole g.F.Family.shape) c.tree.view_is c.tree.invariant.1
 
 pub returns-clause-stands : goal.returns-clause-stands
 returns-clause-stands g c list count read right =

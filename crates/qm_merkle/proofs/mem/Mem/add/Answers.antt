@@ -1,7 +1,39 @@
-use Rattle.std.proofs.Common.{◌≡◌, ◌∙◌, ◌++◌, ◌∷◌, [], ap, ap₂, sym, subst, arith}
-use Rattle.qm_merkle.specs.Mems.{Kept, IsWhole, Stands}
+use Rattle.std.proofs.Common.{◌≡◌, ◌∙◌, ◌<◌, ◌+◌, ◌-◌, ◌^◌, ◌++◌, ◌∷◌, [], suc, length, ap, ap₂, sym, subst, arith}
+use Rattle.std.proofs.lemmas.List.{length-append}
+use Rattle.qm_merkle.specs.Mems.{Kept, IsWhole, Stands, more}
 use Rattle.qm_merkle.proofs.Growth.{stands-grown, grown-fields}
 use Rattle.qm_merkle.proofs.mem.Mem.add.Goals as goal
+
+pub births-requires : goal.births-requires
+births-requires g c = c.requires
+
+pub invariant_of-self-2 : goal.invariant_of-self-2
+invariant_of-self-2 g c =
+    let shape = g.F.Family.shape in
+    let inside = c.self.inside in
+    let whole = c.self.invariant.1 in
+    let next : c.new-self-inside.result ≡ suc inside.leaves = omega (arith, c.new-self-inside.ensures) in
+    let few : inside.leaves < 2 ^ 62 = omega (arith, c.requires, ap (λ k. k.leaves) c.self.view_is) in (
+      c.self.invariant.0,
+      record {
+        order = omega (arith, whole.order);
+        few = omega arith;
+        pinned = whole.pinned;
+        full = omega (arith, whole.full, ap length c.in_ok-extend_from_slice.ensures.items, length-append inside.nodes.items c.deref.result.now, ap length c.deref.ensures.value, c.in_ok-births.ensures.count,
+          ap (λ k. g.F.Family.births.count k.leaves) c.self.view_is, g.met.F.Family.numbered.sized inside.leaves, ap shape.size next);
+      },
+    )
+
+pub returns-clause-bounds : goal.returns-clause-bounds
+returns-clause-bounds g c = (ap (λ k. k.start) c.self.view_is, omega (arith, c.new-self-inside.ensures, ap (λ k. k.leaves) c.self.view_is))
+
+pub returns-clause-made : goal.returns-clause-made
+returns-clause-made g c =
+    let kept = c.args.self.now in
+    let one : kept.leaves + 1 ≡ suc kept.leaves = omega arith in
+    let brought : length c.births.new.buffer.items ≡ g.F.Family.shape.size (kept.leaves + 1) - g.F.Family.shape.size kept.leaves =
+    omega (arith, c.in_ok-births.ensures.count, g.met.F.Family.numbered.sized kept.leaves, ap g.F.Family.shape.size one) in
+    c.in_ok-births.ensures.made ∙ ap (λ n. more c.args.hasher.now (n - 1)) brought
 
 pub returns-clause-stands : goal.returns-clause-stands
 returns-clause-stands g c = λ leaves stands.

@@ -12,3 +12,9 @@ loop-leaf-preserved g c = record {
       (c.in_ok-add.ensures.stands (list ++ map g.D.Digest.bytes (take c.loop-leaf.leaf-index c.args.leaves.now)) (c.loop-leaf.invariant.stands list stands));
   made = made-next g.F.Family.shape g.F.Family.births g.met.F.Family.numbered c.args.self.now.leaves c.loop-leaf.leaf-index c.loop-leaf.self.leaves c.args.hasher.now c.loop-leaf.hasher c.add.new.hasher c.loop-leaf.invariant.leaves c.loop-leaf.invariant.made c.in_ok-add.ensures.made;
 }
+
+pub make_room-requires : goal.make_room-requires
+make_room-requires g c = c.requires
+
+pub add-requires : goal.add-requires
+add-requires g c = omega (arith, c.requires, c.loop-leaf.invariant.leaves, c.loop-leaf-test.true)

@@ -17,6 +17,18 @@ each_next P xs ys d n count is long all last k lt = ⊎_elim
     subst (λ j. P j (slice_get ys j)) same (subst (P n) (sym (ap (λ zs. slice_get zs n) is ∙ ap (slice_get (xs ++ d ∷ [])) (sym at) ∙ slice_get-right xs (d ∷ []) 0)) last))
     (cases_lt k (length xs))
 
+pub parent-digest-requires-clause-few : goal.parent-digest-requires-clause-few
+parent-digest-requires-clause-few g c = c.requires
+
+pub parent-digest-requires-clause-number : goal.parent-digest-requires-clause-number
+parent-digest-requires-clause-number g c = ap length c.deref.ensures.value ∙ c.loop-number.invariant.count
+
+pub parent-digest-requires-clause-some : goal.parent-digest-requires-clause-some
+parent-digest-requires-clause-some g c = c.loop-number.auto.number
+
+pub parent-digest-requires-clause-room : goal.parent-digest-requires-clause-room
+parent-digest-requires-clause-room g c = omega (arith, c.loop-number-test.true, c.birth_count-count.ensures, ap (λ k. g.F.Family.births.count k.leaves) c.self.view_is)
+
 pub loop-number-preserved : goal.loop-number-preserved
 loop-number-preserved g c =
     let shape = g.F.Family.shape in

@@ -1,7 +1,7 @@
 use Rattle.std.proofs.Common.{◌≡◌, ◌∙◌, ◌-◌, ap, sym, subst, refl, arith, length}
 use Rattle.std.proofs.lemmas.Option.{slice_get_read}
 use Rattle.std.specs.Prelude.{slice_get}
-use Rattle.qm_merkle.specs.Mems.{IsWhole, Holds}
+use Rattle.qm_merkle.specs.Mems.{IsWhole, Holds, node_at}
 use Rattle.qm_merkle.proofs.Numbering.{birth_below, stands_below}
 use Rattle.qm_merkle.proofs.Standing.{node_held}
 use Rattle.qm_merkle.proofs.Growth.{made_index}
@@ -15,6 +15,16 @@ node-requires g c =
     let low = birth_below shape g.F.Family.births g.met.F.Family.numbered c.args.node kept.leaves (omega (arith, c.place-position.ensures, c.location_to_position-size.ensures.size, ap shape.size leaves)) in
     subst (Holds shape kept) (sym c.place-position.ensures)
     (node_held shape g.F.Family.births g.met.F.Family.numbered g.met.F.Family.peaked kept (subst (IsWhole shape) c.self.view_is c.self.invariant.1) c.args.node low c.requires.bare)
+
+pub returns-then-get-clause-old : goal.returns-then-get-clause-old
+returns-then-get-clause-old g c = λ old. ap (node_at g.F.Family.shape c.args.self.now) (sym c.place-position.ensures) ∙ c.node.ensures
+
+pub returns-then-get-clause-new : goal.returns-then-get-clause-new
+returns-then-get-clause-new g c = λ new.
+    let shape = g.F.Family.shape in
+    let kept = c.args.self.now in
+    let leaves : c.self.inside.leaves ≡ kept.leaves = ap (λ k. k.leaves) c.self.view_is in
+    absurd (omega (arith, birth_below shape g.F.Family.births g.met.F.Family.numbered c.args.node kept.leaves (omega (arith, c.place-position.ensures, c.location_to_position-size.ensures.size, ap shape.size leaves))))
 
 pub bounds-made-get : goal.bounds-made-get
 bounds-made-get g c =

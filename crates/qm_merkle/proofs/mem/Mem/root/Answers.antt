@@ -1,6 +1,8 @@
-use Rattle.std.proofs.Common.{◌∙◌, ap, sym, subst, All, le_refl, map}
+use Rattle.std.proofs.Common.{◌∙◌, ap, sym, subst, arith, All, le_refl, length, map}
+use Rattle.std.specs.Prelude.{max}
 use Rattle.qm_model.specs.Trees.{peak_positions, root_of}
-use Rattle.qm_merkle.specs.Mems.{IsWhole, Holds, node_at}
+use Rattle.qm_merkle.specs.Mems.{IsWhole, Holds, node_at, more}
+use Rattle.qm_merkle.proofs.PeakCounts.{counted}
 use Rattle.qm_merkle.proofs.Standing.{peaks_held, rooted}
 use Rattle.qm_merkle.proofs.mem.Mem.root.Goals as goal
 
@@ -11,6 +13,21 @@ digests-requires g c =
     let whole = subst (IsWhole shape) c.self.view_is c.self.invariant.1 in
     subst (All (Holds shape kept)) (sym (c.deref.ensures.value ∙ c.in_ok-positions.ensures ∙ ap (λ k. peak_positions shape k.leaves) c.self.view_is))
     (peaks_held shape g.F.Family.births g.met.F.Family.numbered g.met.F.Family.peaked kept whole kept.leaves whole.order (le_refl kept.leaves))
+
+pub root-requires : goal.root-requires
+root-requires g c =
+    let shape = g.F.Family.shape in
+    let kept = c.args.self.now in
+    let at = c.deref.ensures.value ∙ c.in_ok-positions.ensures ∙ ap (λ k. peak_positions shape k.leaves) c.self.view_is in
+    omega (arith, c.requires, counted shape (node_at shape kept) c.in_ok-peaks.peaks.items c.deref.result.now kept.leaves c.in_ok-peaks.ensures at, ap length c.deref-2.ensures.value)
+
+pub returns-clause-made : goal.returns-clause-made
+returns-clause-made g c =
+    let shape = g.F.Family.shape in
+    let kept = c.args.self.now in
+    let at = c.deref.ensures.value ∙ c.in_ok-positions.ensures ∙ ap (λ k. peak_positions shape k.leaves) c.self.view_is in
+    c.root.ensures.made
+    ∙ ap (λ n. more c.args.hasher.now (max 1 n)) (ap length c.deref-2.ensures.value ∙ counted shape (node_at shape kept) c.in_ok-peaks.peaks.items c.deref.result.now kept.leaves c.in_ok-peaks.ensures at)
 
 pub returns-clause-root : goal.returns-clause-root
 returns-clause-root g c = λ leaves stands.
