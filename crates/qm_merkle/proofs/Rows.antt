@@ -190,6 +190,11 @@ module _ {shape : Shape} {D : Type 0} {replaced : List (ℕ × D)} where
     pub taken-absent : {left rest nodes : List (ℕ × D)} {row : List ℕ} {k p : ℕ} {d : D} → Taken shape replaced left nodes row → left ≡ (k, d) ∷ rest → p ≡ shape.position (leaf k) → found_at nodes p ≡ None
     taken-absent {nodes = nodes} {k = k} {d = d} taken is at = ap (found_at nodes) at ∙ subst (All (λ e. found_at nodes (shape.position (leaf e.0)) ≡ None)) is taken.fresh 0 (k, d) (omega arith)
 
+    -- a leaf that is left was there before
+    pub taken-before : {left rest nodes : List (ℕ × D)} {row : List ℕ} {k : ℕ} {d : D} → Taken shape replaced left nodes row → left ≡ (k, d) ∷ rest → (base : ℕ) → All (λ e. e.0 < base) replaced → k < base
+    taken-before {k = k} {d = d} taken is base below =
+        found-all (λ n. n < base) replaced k below (ap is_some (subst (All (λ e. found_at replaced e.0 ≡ Some e.1)) is taken.rest 0 (k, d) (omega arith)))
+
     pub taken-more : {left rest nodes more : List (ℕ × D)} {row next : List ℕ} {k p : ℕ} {d : D} → Taken shape replaced left nodes row → left ≡ (k, d) ∷ rest → p ≡ shape.position (leaf k) →
         found_at more p ≡ Some d → ((n : ℕ) → n ≢ p → found_at more n ≡ found_at nodes n) → next ≡ row ++ k ∷ [] → length more ≡ length nodes + 1 → Taken shape replaced rest more next
     taken-more {left} {rest} {nodes} {more} {row} {next} {k} {p} {d} taken is at here others longer one =

@@ -4,7 +4,7 @@ use Rattle.std.specs.List.Sorted.{IsStrictlySortedBy}
 use Rattle.std.specs.Map.{keys_of}
 use Rattle.qm_model.specs.Trees.{leaf}
 use Rattle.qm_merkle.specs.Batches.{found_at}
-use Rattle.qm_merkle.proofs.Rows.{taken-start, taken-more, taken-absent, taken-over, taken-row, taken-right}
+use Rattle.qm_merkle.proofs.Rows.{taken-start, taken-more, taken-absent, taken-before, taken-over, taken-row, taken-right}
 use Rattle.qm_merkle.proofs.batch.UnmerkleizedBatch.replaced_leaves.Given
 use Rattle.qm_merkle.proofs.batch.UnmerkleizedBatch.replaced_leaves.Goals as goal
 
@@ -13,6 +13,11 @@ loop-location-init g c =
     let is : c.self.inside.replaced.entries ≡ c.args.self.now.replaced = ap (λ d. d.replaced) c.self.view_is in
     let gives = c.into_iter-location-iterator.ensures.into_iter_gives in
     taken-start (gives.0 ∙ is) (subst (λ es. All (λ e. found_at es e.0 ≡ Some e.1) es) is gives.6) (subst (λ es. IsStrictlySortedBy nat_cmp (keys_of es)) is gives.5) c.requires c.new-row.ensures.items
+
+pub location_to_position-position-requires : goal.location_to_position-position-requires
+location_to_position-position-requires g c =
+    let early = taken-before g.met.F.Family.numbered c.loop-location.invariant c.in-Some.ensures.steps c.args.self.now.base (subst (λ d. All (λ e. e.0 < d.base) d.replaced) c.self.view_is c.self.invariant.2) in
+    omega (arith, early, c.new.ensures, c.self.invariant.1, ap (λ d. d.base) c.self.view_is)
 
 pub loop-location-preserved : goal.loop-location-preserved
 loop-location-preserved g c =

@@ -28,6 +28,21 @@ is_below-requires g c =
     subst (λ y. end_of y ≤ 2 ^ 62) (sym c.new-node.ensures)
     (row_within g.F.Family.shape c.args.self.now.replaced c.args.self.now.base c.args.height c.requires.height.0 c.args.nodes.now.entries c.args.row.now c.requires.row c.loop-index.index-index c.loop-index-test.true g.met.F.Family.numbered c.requires.few c.requires.height.1)
 
+pub parent-digest-requires-clause-few : goal.parent-digest-requires-clause-few
+parent-digest-requires-clause-few g c = c.requires.few
+
+pub parent-digest-requires-clause-there : goal.parent-digest-requires-clause-there
+parent-digest-requires-clause-there g c = c.requires.there
+
+pub parent-digest-requires-clause-start : goal.parent-digest-requires-clause-start
+parent-digest-requires-clause-start g c = c.requires.start
+
+pub parent-digest-requires-clause-high : goal.parent-digest-requires-clause-high
+parent-digest-requires-clause-high g c = omega (arith, c.requires.height.0, ap (λ (y : Node). y.height) c.new-node.ensures)
+
+pub parent-digest-requires-clause-below : goal.parent-digest-requires-clause-below
+parent-digest-requires-clause-below g c = c.if-is_below.ensures.0 refl
+
 pub parent-digest-requires-clause-above : goal.parent-digest-requires-clause-above
 parent-digest-requires-clause-above g c =
     subst (λ (y : Node). IsOver c.args.self.now.replaced y.height y.index) (sym c.new-node.ensures)

@@ -1,7 +1,28 @@
-use Rattle.std.proofs.Common.{◌++◌, arith, ap, ap₂, sym, ◌∙◌}
+use Rattle.std.proofs.Common.{◌≡◌, ◌<◌, ◌+◌, ◌-◌, ◌++◌, ℕ, List, length, take, drop, arith, ap, ap₂, sym, ◌∙◌}
+use Rattle.std.specs.Prelude.{max}
+use Rattle.std.proofs.lemmas.List.{length-take, length-drop}
 use Rattle.qm_model.specs.Operations.{eight_bytes}
+use Rattle.qm_merkle.specs.Mems.{more}
 use Rattle.qm_merkle.proofs.Rooting.{folded_mid}
 use Rattle.qm_merkle.proofs.hasher.StandardHasher.root.Goals as goal
+
+more_twice : (a m n : ℕ) → more (more a m) n ≡ more a (m + n)
+more_twice a m n = omega arith
+
+-- what two folds, a digest of both and the root make
+made_mid : {D : Type 0} (peaks : List D) (j a b c d e : ℕ) → 0 < j → j < length peaks → b ≡ more a (length (take (j - 1) (drop 1 peaks))) → c ≡ more b (length (take (length peaks - j) (drop j peaks)) - 1) →
+    d ≡ more c 1 → e ≡ more d 1 → e ≡ more a (max 1 (length peaks))
+made_mid peaks j a b c d e some lt first rest one last =
+    let m = length (take (j - 1) (drop 1 peaks)) in
+    let n = length (take (length peaks - j) (drop j peaks)) - 1 in
+    let total : m + n + 1 + 1 ≡ max 1 (length peaks) = omega (arith, length-take (j - 1) (drop 1 peaks), length-drop 1 peaks, length-take (length peaks - j) (drop j peaks), length-drop j peaks) in
+    last ∙ ap (λ x. more x 1) (one ∙ ap (λ x. more x 1) (rest ∙ ap (λ x. more x n) first ∙ more_twice a m n) ∙ more_twice a (m + n) 1)
+    ∙ more_twice a (m + n + 1) 1 ∙ ap (more a) total
+
+pub returns-clause-made : goal.returns-clause-made
+returns-clause-made g c =
+    made_mid c.args.peaks.now c.args.inactive c.args.self.now c.fold_left-first.new.self c.fold_right-rest.new.self c.pair_digest-folded.new.self c.sealed-2.new.self (omega arith) (omega arith)
+    c.fold_left-first.ensures.made c.fold_right-rest.ensures.made c.pair_digest-folded.ensures.made c.sealed-2.ensures.made
 
 pub returns-clause-digest : goal.returns-clause-digest
 returns-clause-digest g c =

@@ -19,8 +19,17 @@ invariant_of-self-2 g c =
         order = omega (arith, whole.order);
         few = omega arith;
         pinned = whole.pinned;
-        full = omega (arith, whole.full, ap length c.in_ok-extend_from_slice.ensures.items, length-append inside.nodes.items c.deref.result.now, ap length c.deref.ensures.value, c.in_ok-births.ensures.count,
-          ap (λ k. g.F.Family.births.count k.leaves) c.self.view_is, g.met.F.Family.numbered.sized inside.leaves, ap shape.size next);
+        full = omega (
+          arith,
+          whole.full,
+          ap length c.in_ok-extend_from_slice.ensures.items,
+          length-append inside.nodes.items c.deref.result.now,
+          ap length c.deref.ensures.value,
+          c.in_ok-births.ensures.count,
+          ap (λ k. g.F.Family.births.count k.leaves) c.self.view_is,
+          g.met.F.Family.numbered.sized inside.leaves,
+          ap shape.size next,
+        );
       },
     )
 

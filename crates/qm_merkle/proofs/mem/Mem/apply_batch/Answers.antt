@@ -1,12 +1,28 @@
 use Rattle.std.proofs.Common.{◌≡◌, ◌∙◌, ◌++◌, Contains, length, take, drop, get_or, ap, sym, subst, refl, arith}
 use Rattle.std.proofs.lemmas.List.Elements.{Contains-get_or}
-use Rattle.qm_model.specs.Trees.{peak_positions}
+use Rattle.std.proofs.lemmas.List.{length-map}
+use Rattle.qm_model.specs.Trees.{peaks, peak_positions}
 use Rattle.qm_merkle.specs.Mems.{Kept, Stands}
 use Rattle.qm_merkle.specs.Batches.{all_layers, stops, layers_since}
 use Rattle.qm_merkle.proofs.Lookups.{pins_below}
 use Rattle.qm_merkle.proofs.Putting.{ArePut, chained, stops-below, written, same_put, history-count, stands-put}
 use Rattle.qm_merkle.proofs.mem.Mem.apply_batch.Given
 use Rattle.qm_merkle.proofs.mem.Mem.apply_batch.Goals as goal
+
+pub room-requires : goal.room-requires
+room-requires g c = subst (λ k. Contains (stops c.args.batch.now.newest.tree.leaves (all_layers c.args.batch.now)) k.leaves) (sym c.self.view_is) c.requires.reach
+
+pub put-requires-clause-reach : goal.put-requires-clause-reach
+put-requires-clause-reach g c = subst (λ k. Contains (stops c.args.batch.now.newest.tree.leaves (all_layers c.args.batch.now)) k.leaves) (sym c.self.view_is) c.requires.reach
+
+pub put-requires-clause-pins : goal.put-requires-clause-pins
+put-requires-clause-pins g c =
+    let shape = g.F.Family.shape in
+    ap length c.deref_mut.ensures.value ∙ c.self.invariant.1.pinned
+    ∙ sym (ap length (c.deref.ensures.value ∙ c.self.invariant.0) ∙ length-map (peaks shape c.self.inside.start) shape.position)
+
+pub put-requires-clause-size : goal.put-requires-clause-size
+put-requires-clause-size g c = omega (arith, c.self.invariant.1.full, c.get-size.ensures, c.location_to_position.ensures.size, ap length c.reserve.ensures.items)
 
 pub put-requires-clause-low : goal.put-requires-clause-low
 put-requires-clause-low g c = λ k d lt.
@@ -36,6 +52,9 @@ invariant_of-self-2 g c =
         full = omega (arith, c.put.ensures.size, c.get-size.ensures, c.location_to_position.ensures.size, ap shape.size c.leaves-self-inside.ensures.count);
       },
     )
+
+pub returns-clause-bounds : goal.returns-clause-bounds
+returns-clause-bounds g c = (ap (λ k. k.start) c.self.view_is, c.leaves-self-inside.ensures.count)
 
 pub returns-clause-stands : goal.returns-clause-stands
 returns-clause-stands g c = λ hash list new lists history found stands.

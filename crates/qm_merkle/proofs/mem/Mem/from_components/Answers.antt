@@ -1,4 +1,6 @@
-use Rattle.std.proofs.Common.{arith}
+use Rattle.std.proofs.Common.{ap, arith, length}
+use Rattle.std.proofs.lemmas.List.{length-map}
+use Rattle.qm_model.specs.Trees.{peaks}
 use Rattle.qm_merkle.proofs.Numbering.{sizes_tell}
 use Rattle.qm_merkle.proofs.mem.Mem.from_components.Goals as goal
 
@@ -6,3 +8,13 @@ pub nodes_to_pin-requires : goal.nodes_to_pin-requires
 nodes_to_pin-requires g c =
     let r = c.requires.size in
     omega (arith, r.1, sizes_tell g.F.Family.shape g.F.Family.births g.met.F.Family.numbered c.args.pruned_to r.0 (omega (arith, r.2)))
+
+pub of_parts-requires-clause-positions : goal.of_parts-requires-clause-positions
+of_parts-requires-clause-positions g c = c.in_ok-positions.ensures
+
+pub of_parts-requires-clause-pins : goal.of_parts-requires-clause-pins
+of_parts-requires-clause-pins g c =
+    omega (arith, c.requires.pins, ap length c.in_ok-positions.ensures, length-map (peaks g.F.Family.shape c.args.pruned_to) g.F.Family.shape.position)
+
+pub of_parts-requires-clause-size : goal.of_parts-requires-clause-size
+of_parts-requires-clause-size g c = c.requires.size

@@ -1,0 +1,16 @@
+use Rattle.std.proofs.Common.{◌≡◌, ◌∙◌, ◌+◌, ◌<◌, ℕ, List, [], ◌∷◌, ◌++◌, length, take, get_or, ap, sym, subst, append_assoc}
+use Rattle.std.proofs.lemmas.List.{take_more}
+use Rattle.qm_merkle.proofs.mem.Mem.append_to.Goals as goal
+
+-- one more is appended
+one_more : {X : Type 0} (old xs ys now next : List X) (i : ℕ) (x : X) → ys ≡ xs → i < length ys → x ≡ get_or ys i x → now ≡ old ++ take i xs → next ≡ now ++ x ∷ [] → next ≡ old ++ take (i + 1) xs
+one_more old xs ys now next i x same lt is before more =
+    more ∙ ap (λ l. l ++ x ∷ []) before ∙ append_assoc old (take i xs) (x ∷ [])
+    ∙ ap (λ l. old ++ l) (ap (λ l. take i l ++ x ∷ []) (sym same) ∙ ap (λ y. take i ys ++ y ∷ []) is ∙ sym (take_more ys i x lt) ∙ ap (take (i + 1)) same)
+
+pub loop-node-preserved : goal.loop-node-preserved
+loop-node-preserved g c = record {
+  items = one_more c.args.nodes.now.items c.args.self.now.nodes c.deref-node-items.result.now c.loop-node.nodes.items c.push_reserved.new.self.items c.loop-node.node-index c.node-item.result
+      (c.deref-node-items.ensures.value ∙ ap (λ k. k.nodes) c.self.view_is) c.loop-node-test.true c.node-item.is c.loop-node.invariant.items c.push_reserved.ensures.items;
+  capacity = c.push_reserved.ensures.capacity ∙ c.loop-node.invariant.capacity;
+}
