@@ -1,12 +1,13 @@
 -- Bits behind a step.
-use Rattle.std.proofs.Common.{◌≡◌, ◌≢◌, ℕ, ◌+◌, ◌-◌, ◌*◌, ◌/◌, ◌%◌, ◌<◌, ◌≤◌, ◌⊎◌, Bool, false, List, length, drop, get_or, set, replicate, arith, ap, ap₂, sym, subst, ◌∙◌, refl, ⊎_elim, Option, Some, None, IsSome, IfSome, map, Result, Ok, Err, OnOk}
+use Rattle.std.proofs.Common.{◌≡◌, ◌≢◌, ℕ, ◌+◌, ◌-◌, ◌*◌, ◌/◌, ◌%◌, ◌<◌, ◌≤◌, ◌⊎◌, Bool, false, List, length, drop, get_or, set, replicate, arith, ap, ap₂, sym, subst, ◌∙◌, refl, ⊎_elim, Option, Some, None, IsSome, IfSome, map, Result, Ok, Err, OnOk, OnErr}
 use Rattle.std.specs.List.{range_with_len}
 use Rattle.std.specs.Option.{is_some}
+use Rattle.std.specs.Result.{IsErr}
 use Rattle.std.proofs.lemmas.Bool.{cases_lt, cases_eq}
 use Rattle.std.proofs.lemmas.List.{length-append, length-replicate, length-set, get_or-drop, get_or-set_same, get_or-set_other, get_or-replicate, get_or_past, get_or_append_left, get_or-append_right, ext_get_or, set-get_or, set_past}
 use Rattle.std.proofs.lemmas.List.FromFn.{length-map-range_with_len, get_or-map-range_with_len}
 use Rattle.std.proofs.lemmas.Nat.{div-add-mod'}
-use Rattle.std.proofs.Math.Nat.{div-lt_iff_lt-mul, div-eq_of_lt-le, mod-lt, mul-le-mul_right}
+use Rattle.std.proofs.Math.Nat.{div-lt_iff_lt-mul, div-eq_of_lt-le, le-div_iff_mul-le, mod-lt, mul-le-mul_right}
 use Rattle.qm_model.specs.Bits.{packed, chunk}
 use Rattle.qm_bits.specs.Bitmaps.{Bitmap, start, bit_count, all_bits}
 use Rattle.qm_overlay.specs.Layers.{Overlay, Laid, changed_at, bit_over, laid_bit, laid, IsClearBehind}
@@ -177,6 +178,16 @@ module _ (size : ℕ) (base : Bitmap) (old new : Overlay) (c : ℕ) (bits : List
   pub hold_same : laid size new base ≡ laid size old base
   hold_same = laid_same size old new base count hold_bit
 
+  pub hold_clear : IsClearBehind size old → IsClearBehind size new
+  hold_clear clear d held is i lt past = ⊎_elim
+      (λ (e : d ≡ c).
+      let same : held ≡ bits = let put : Some held ≡ Some bits = sym is ∙ ap (changed_at new.changed) e ∙ here in cc in
+      let behind : new.count ≤ c * (8 * size) + i = subst (λ n. new.count ≤ n * (8 * size) + i) e past in
+      let long = length-all size base in
+      ap (λ bs. get_or bs i false) same ∙ read i lt ∙ get_or_past (all_bits size base) (c * (8 * size) + i) false (omega (arith, long, behind, count, least)))
+      (λ (away : d ≢ c). clear d held (sym (other d away) ∙ is) i lt (subst (λ n. n ≤ d * (8 * size) + i) count past))
+      (cases_eq d c)
+
 -- A chunk behind a step.
 module _ (size : ℕ) (overlay : Overlay) (base : Bitmap) (c : ℕ) (least : bit_count size base ≤ overlay.count) (kept : base.pruned ≤ c) where
   from : (i : ℕ) → start size base ≤ c * (8 * size) + i
@@ -221,6 +232,10 @@ clear_pruned size overlay base at low = ap (set (all_bits size (laid size overla
 pub place_pruned : (size : ℕ) (base : Bitmap) (span at : ℕ) → span ≡ 8 * size → 0 < 8 * size → at / span < base.pruned → at < start size base
 place_pruned size base span at span_is some low = (div-lt_iff_lt-mul some).0 (subst (λ n. at / n < base.pruned) span_is low)
 
+-- a place in a chunk that is not pruned is kept
+pub place_kept : (size : ℕ) (base : Bitmap) (span at : ℕ) → span ≡ 8 * size → 0 < 8 * size → base.pruned ≤ at / span → start size base ≤ at
+place_kept size base span at span_is some kept = (le-div_iff_mul-le some).0 (subst (λ n. base.pruned ≤ at / n) span_is kept)
+
 -- A step over a bitmap, of which the step is changed.
 module _ (size : ℕ) (base : Bitmap) (old new : Overlay) (whole : Laid) (is : record { base = base; overlay = old } ≡ whole) (least : bit_count size base ≤ old.count) where
   same_laid : laid size old base ≡ laid size whole.overlay whole.base
@@ -252,3 +267,11 @@ module _ (size : ℕ) (base : Bitmap) (old new : Overlay) (whole : Laid) (is : r
 pub on_ok : {X E : Type 0} {P : Type 0} (r : Result X E) → P → OnOk r P
 on_ok (Ok x) p = p
 on_ok (Err e) p = tt
+
+pub ok_of_err : {X E : Type 0} (P : Type 0) (r : Result X E) → IsErr r → OnOk r P
+ok_of_err P (Ok x) err = absurd (cc)
+ok_of_err P (Err e) err = tt
+
+pub on_err : {X E : Type 0} {P : Type 0} (r : Result X E) → P → OnErr r P
+on_err (Ok x) p = tt
+on_err (Err e) p = p

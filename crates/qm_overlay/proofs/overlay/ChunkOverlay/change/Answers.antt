@@ -1,8 +1,60 @@
-use Rattle.std.proofs.Common.{arith}
-use Rattle.qm_overlay.proofs.Laying.{place_pruned}
+use Rattle.std.proofs.Common.{◌/◌, ◌<◌, ◌≤◌, ◌∙◌, ap, refl, sym, subst, set, IsSome, arith}
+use Rattle.qm_bits.specs.Bitmaps.{all_bits}
+use Rattle.qm_overlay.specs.Layers.{changed_at}
+use Rattle.qm_overlay.proofs.Laying.{place_pruned, place_kept, ok_of_err, on_err}
 use Rattle.qm_overlay.proofs.overlay.ChunkOverlay.change.Goals as goal
+
+pub nonzero_div-chunk : goal.nonzero_div-chunk
+nonzero_div-chunk g c = omega (arith, g.met.N.Chunks.least, c.span.ensures)
+
+pub returns-then-chunk-pruned_chunks-clause-count : goal.returns-then-chunk-pruned_chunks-clause-count
+returns-then-chunk-pruned_chunks-clause-count g c = refl
 
 pub returns-then-chunk-pruned_chunks-clause-kept : goal.returns-then-chunk-pruned_chunks-clause-kept
 returns-then-chunk-pruned_chunks-clause-kept g c = λ from.
     let low = place_pruned g.N.Chunks.LEN (g.B.Readable.bitmap c.args.base.now) c.span.result c.args.at c.span.ensures (omega (arith, g.met.N.Chunks.least)) (omega (arith, c.if-chunk-pruned_chunks.true, c.pruned_chunks.ensures)) in
     absurd (omega arith)
+
+pub returns-then-chunk-pruned_chunks-clause-pruned : goal.returns-then-chunk-pruned_chunks-clause-pruned
+returns-then-chunk-pruned_chunks-clause-pruned g c = λ low. refl
+
+pub returns-then-chunk-pruned_chunks-clause-err : goal.returns-then-chunk-pruned_chunks-clause-err
+returns-then-chunk-pruned_chunks-clause-err g c = tt
+
+pub hold-requires-clause-not_below : goal.hold-requires-clause-not_below
+hold-requires-clause-not_below g c = c.requires.not_below
+
+pub hold-requires-clause-kept : goal.hold-requires-clause-kept
+hold-requires-clause-kept g c = subst (λ p. p ≤ c.args.at / c.span.result) c.pruned_chunks.ensures c.if-chunk-pruned_chunks.false
+
+pub returns-in_err-hold-clause-count : goal.returns-in_err-hold-clause-count
+returns-in_err-hold-clause-count g c = c.hold.ensures.count
+
+pub returns-in_err-hold-clause-kept : goal.returns-in_err-hold-clause-kept
+returns-in_err-hold-clause-kept g c = λ from. ok_of_err _ c.from_residual.result c.from_residual.ensures.0
+
+pub returns-in_err-hold-clause-pruned : goal.returns-in_err-hold-clause-pruned
+returns-in_err-hold-clause-pruned g c = λ low. c.in_err-hold.ensures.err
+
+pub returns-in_err-hold-clause-err : goal.returns-in_err-hold-clause-err
+returns-in_err-hold-clause-err g c = on_err c.from_residual.result c.in_err-hold.ensures.err
+
+pub put-requires-clause-within : goal.put-requires-clause-within
+put-requires-clause-within g c = subst (λ n. c.args.at < n) (sym c.hold.ensures.count) c.requires.within
+
+pub put-requires-clause-held : goal.put-requires-clause-held
+put-requires-clause-held g c = subst (λ s. IsSome (changed_at c.hold.new.self.changed (c.args.at / s))) c.span.ensures c.in_ok-hold.ensures.held
+
+pub returns-clause-count : goal.returns-clause-count
+returns-clause-count g c = c.put.ensures.count ∙ c.hold.ensures.count
+
+pub returns-clause-kept : goal.returns-clause-kept
+returns-clause-kept g c = λ from. c.put.ensures.bits (g.B.Readable.bitmap c.args.base.now) from ∙ ap (λ m. set (all_bits g.N.Chunks.LEN m) c.args.at c.args.value) c.hold.ensures.same
+
+pub returns-clause-pruned : goal.returns-clause-pruned
+returns-clause-pruned g c = λ low.
+    let from = place_kept g.N.Chunks.LEN (g.B.Readable.bitmap c.args.base.now) c.span.result c.args.at c.span.ensures (omega (arith, g.met.N.Chunks.least)) (subst (λ p. p ≤ c.args.at / c.span.result) c.pruned_chunks.ensures c.if-chunk-pruned_chunks.false) in
+    absurd (omega arith)
+
+pub returns-clause-err : goal.returns-clause-err
+returns-clause-err g c = tt
