@@ -105,3 +105,8 @@ bit_kept size base i from = sym (get_or-append_right (replicate (start size base
 -- where a bitmap has a bit, it is a candidate by that
 pub candidate_kept : (size : ℕ) (base : Bitmap) (i : ℕ) → i < bit_count size base → is_candidate (all_bits size base) i ≡ get_or (all_bits size base) i false
 candidate_kept size base i lt = get_or_default (all_bits size base) i true false (let long = length-all size base in omega (arith, long, lt))
+
+-- all of several steps
+pub take_mapped : {A : Type 0} (f : A → Overlay) (xs : List A) → take (length xs) (map f xs) ≡ map f xs
+take_mapped f [] = refl
+take_mapped f (x ∷ xs) = ap (λ os. f x ∷ os) (take_mapped f xs)

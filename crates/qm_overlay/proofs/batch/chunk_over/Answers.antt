@@ -1,10 +1,10 @@
-use Rattle.std.proofs.Common.{◌≡◌, ◌∙◌, ◌-◌, suc, ap, subst, map, take, Some, None, arith}
+use Rattle.std.proofs.Common.{◌≡◌, ◌∙◌, ◌-◌, suc, ap, subst, map, take, Some, None, le_refl, arith}
 use Rattle.std.proofs.lemmas.Result.{IfOk-weaker}
 use Rattle.qm_model.specs.Bits.{packed, chunk}
 use Rattle.std.specs.Option.{option_map}
 use Rattle.qm_bits.specs.Bitmaps.{all_bits}
 use Rattle.qm_overlay.specs.Layers.{layered, changed_at, IsClearBehind}
-use Rattle.qm_overlay.proofs.Stacks.{found_there, none_there}
+use Rattle.qm_overlay.proofs.Stacks.{take_mapped, found_there, none_there}
 use Rattle.qm_overlay.proofs.batch.chunk_over.Goals as goal
 
 pub returns-in-Some : goal.returns-in-Some
@@ -29,3 +29,18 @@ loop-left-preserved g c = record {
       ∙ ap (λ n. chunk g.N.Chunks.LEN (all_bits g.N.Chunks.LEN (layered g.N.Chunks.LEN (take n (map (λ r. r.value) c.args.layers.now)) c.args.base.now)) c.args.at) next
       ∙ c.loop-left.invariant.same;
 }
+
+pub loop-left-init : goal.loop-left-init
+loop-left-init g c = record {
+  within = le_refl _;
+  same = ap (λ os. chunk g.N.Chunks.LEN (all_bits g.N.Chunks.LEN (layered g.N.Chunks.LEN os c.args.base.now)) c.args.at) (take_mapped (λ r. r.value) c.args.layers.now);
+}
+
+pub returns : goal.returns
+returns g c =
+    let none : 0 ≡ c.loop-left.left = omega (arith, c.loop-left-test.false) in
+    IfOk-weaker c.chunk_of.result _ _
+    (λ bytes is. is
+    ∙ ap (λ n. chunk g.N.Chunks.LEN (all_bits g.N.Chunks.LEN (layered g.N.Chunks.LEN (take n (map (λ r. r.value) c.args.layers.now)) c.args.base.now)) c.args.at) none
+    ∙ c.loop-left.invariant.same)
+    c.chunk_of.ensures
