@@ -275,3 +275,7 @@ ok_of_err P (Err e) err = tt
 pub on_err : {X E : Type 0} {P : Type 0} (r : Result X E) → P → OnErr r P
 on_err (Ok x) p = tt
 on_err (Err e) p = p
+
+-- a chunk has bits
+pub some_bits : (size : ℕ) → 32 ≤ size → 0 < 8 * size
+some_bits size least = omega arith

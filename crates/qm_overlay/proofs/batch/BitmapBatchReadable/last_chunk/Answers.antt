@@ -1,9 +1,10 @@
-use Rattle.std.proofs.Common.{◌≡◌, ℕ, ◌*◌, ◌/◌, ◌%◌, ◌<◌, ◌≤◌, ◌∙◌, ap₂, sym, subst₂, Result, Ok, Err, IfOk, arith}
+use Rattle.std.proofs.Common.{◌≡◌, ℕ, ◌*◌, ◌/◌, ◌%◌, ◌<◌, ◌≤◌, ◌∙◌, ap₂, sym, subst₂, Result, Ok, Err, IfOk, arith, subst}
 use Rattle.std.specs.Result.{IsErr}
 use Rattle.std.proofs.Math.Nat.{le-div_iff_mul-le}
 use Rattle.qm_model.specs.Bits.{chunk}
 use Rattle.qm_bits.specs.Bitmaps.{Bitmap, bit_count, all_bits}
 use Rattle.qm_overlay.specs.Layers.{seen}
+use Rattle.qm_overlay.proofs.Laying.{some_bits}
 use Rattle.qm_overlay.proofs.batch.BitmapBatchReadable.last_chunk.Goals as goal
 
 -- no pruned chunk is past the bits
@@ -17,10 +18,10 @@ if_ok_of_err P (Ok x) err = absurd (cc)
 if_ok_of_err P (Err e) err = tt
 
 pub nonzero_div-len : goal.nonzero_div-len
-nonzero_div-len g c = omega (arith, g.met.N.Chunks.least, c.span-span.ensures)
+nonzero_div-len g c = subst (λ n. 0 < n) (sym c.span-span.ensures) (some_bits g.N.Chunks.LEN g.met.N.Chunks.least)
 
 pub chunk-requires : goal.chunk-requires
-chunk-requires g c = pruned_within g.N.Chunks.LEN (seen g.N.Chunks.LEN c.args.self.now) c.span-span.result c.len-len.result c.span-span.ensures c.len-len.ensures (omega (arith, g.met.N.Chunks.least))
+chunk-requires g c = pruned_within g.N.Chunks.LEN (seen g.N.Chunks.LEN c.args.self.now) c.span-span.result c.len-len.result c.span-span.ensures c.len-len.ensures (some_bits g.N.Chunks.LEN g.met.N.Chunks.least)
 
 pub returns-in_err-bytes-clause-bytes : goal.returns-in_err-bytes-clause-bytes
 returns-in_err-bytes-clause-bytes g c = if_ok_of_err _ c.from_residual.result c.from_residual.ensures.0
@@ -29,7 +30,7 @@ pub returns-in_err-bytes-clause-bits : goal.returns-in_err-bytes-clause-bits
 returns-in_err-bytes-clause-bits g c = if_ok_of_err _ c.from_residual.result c.from_residual.ensures.0
 
 pub nonzero_rem-result : goal.nonzero_rem-result
-nonzero_rem-result g c = omega (arith, g.met.N.Chunks.least, c.span-span.ensures)
+nonzero_rem-result g c = subst (λ n. 0 < n) (sym c.span-span.ensures) (some_bits g.N.Chunks.LEN g.met.N.Chunks.least)
 
 pub returns-clause-bytes : goal.returns-clause-bytes
 returns-clause-bytes g c = c.in_ok-bytes.ensures ∙ ap₂ (λ n s. chunk g.N.Chunks.LEN (all_bits g.N.Chunks.LEN (seen g.N.Chunks.LEN c.args.self.now)) (n / s)) c.len-len.ensures c.span-span.ensures

@@ -1,18 +1,18 @@
 use Rattle.std.proofs.Common.{◌/◌, ◌<◌, ◌≤◌, ◌∙◌, ap, refl, sym, subst, set, IsSome, arith}
 use Rattle.qm_bits.specs.Bitmaps.{all_bits}
 use Rattle.qm_overlay.specs.Layers.{changed_at}
-use Rattle.qm_overlay.proofs.Laying.{place_pruned, place_kept, ok_of_err, on_err}
+use Rattle.qm_overlay.proofs.Laying.{some_bits, place_pruned, place_kept, ok_of_err, on_err}
 use Rattle.qm_overlay.proofs.overlay.ChunkOverlay.change.Goals as goal
 
 pub nonzero_div-chunk : goal.nonzero_div-chunk
-nonzero_div-chunk g c = omega (arith, g.met.N.Chunks.least, c.span.ensures)
+nonzero_div-chunk g c = subst (λ n. 0 < n) (sym c.span.ensures) (some_bits g.N.Chunks.LEN g.met.N.Chunks.least)
 
 pub returns-then-chunk-pruned_chunks-clause-count : goal.returns-then-chunk-pruned_chunks-clause-count
 returns-then-chunk-pruned_chunks-clause-count g c = refl
 
 pub returns-then-chunk-pruned_chunks-clause-kept : goal.returns-then-chunk-pruned_chunks-clause-kept
 returns-then-chunk-pruned_chunks-clause-kept g c = λ from.
-    let low = place_pruned g.N.Chunks.LEN (g.B.Readable.bitmap c.args.base.now) c.span.result c.args.at c.span.ensures (omega (arith, g.met.N.Chunks.least)) (omega (arith, c.if-chunk-pruned_chunks.true, c.pruned_chunks.ensures)) in
+    let low = place_pruned g.N.Chunks.LEN (g.B.Readable.bitmap c.args.base.now) c.span.result c.args.at c.span.ensures (some_bits g.N.Chunks.LEN g.met.N.Chunks.least) (omega (arith, c.if-chunk-pruned_chunks.true, c.pruned_chunks.ensures)) in
     absurd (omega arith)
 
 pub returns-then-chunk-pruned_chunks-clause-pruned : goal.returns-then-chunk-pruned_chunks-clause-pruned
@@ -53,7 +53,7 @@ returns-clause-kept g c = λ from. c.put.ensures.bits (g.B.Readable.bitmap c.arg
 
 pub returns-clause-pruned : goal.returns-clause-pruned
 returns-clause-pruned g c = λ low.
-    let from = place_kept g.N.Chunks.LEN (g.B.Readable.bitmap c.args.base.now) c.span.result c.args.at c.span.ensures (omega (arith, g.met.N.Chunks.least)) (subst (λ p. p ≤ c.args.at / c.span.result) c.pruned_chunks.ensures c.if-chunk-pruned_chunks.false) in
+    let from = place_kept g.N.Chunks.LEN (g.B.Readable.bitmap c.args.base.now) c.span.result c.args.at c.span.ensures (some_bits g.N.Chunks.LEN g.met.N.Chunks.least) (subst (λ p. p ≤ c.args.at / c.span.result) c.pruned_chunks.ensures c.if-chunk-pruned_chunks.false) in
     absurd (omega arith)
 
 pub returns-clause-err : goal.returns-clause-err

@@ -1,8 +1,8 @@
-use Rattle.std.proofs.Common.{◌≡◌, ◌∙◌, ◌≤◌, ap, refl, sym, subst, arith, IsSome, false}
+use Rattle.std.proofs.Common.{◌≡◌, ◌∙◌, ◌≤◌, ap, refl, sym, subst, IsSome, false, ◌<◌}
 use Rattle.std.specs.Option.{is_some}
 use Rattle.qm_bits.specs.Bitmaps.{bit_count}
 use Rattle.qm_overlay.specs.Layers.{Overlay, IsClearBehind, changed_at, laid}
-use Rattle.qm_overlay.proofs.Laying.{hold_same, hold_clear, none_there, ok_of_err, on_err}
+use Rattle.qm_overlay.proofs.Laying.{some_bits, hold_same, hold_clear, none_there, ok_of_err, on_err}
 use Rattle.qm_overlay.proofs.overlay.ChunkOverlay.hold.Given
 use Rattle.qm_overlay.proofs.overlay.ChunkOverlay.hold.Goals as goal
 
@@ -28,7 +28,7 @@ invariant_of-self g c =
     let new : Overlay = record { count = c.self.inside.len; changed = c.insert_in.new.changed.entries } in
     let absent : is_some (changed_at old.changed c.args.chunk) ≡ false = sym c.contains_key.ensures ∙ c.if-not-contains_key.true in
     let least : bit_count g.N.Chunks.LEN base ≤ old.count = subst (λ o. bit_count g.N.Chunks.LEN base ≤ o.count) (sym c.self.view_is) c.requires.not_below in
-    (hold_clear g.N.Chunks.LEN base old new c.args.chunk c.in_ok-bits.bits (omega (arith, g.met.N.Chunks.least)) refl least (none_there (changed_at old.changed c.args.chunk) absent) c.in_ok-insert_in.ensures.here c.in_ok-insert_in.ensures.other c.in_ok-bits.ensures c.self.invariant.0, c.self.invariant.1)
+    (hold_clear g.N.Chunks.LEN base old new c.args.chunk c.in_ok-bits.bits (some_bits g.N.Chunks.LEN g.met.N.Chunks.least) refl least (none_there (changed_at old.changed c.args.chunk) absent) c.in_ok-insert_in.ensures.here c.in_ok-insert_in.ensures.other c.in_ok-bits.ensures c.self.invariant.0, c.self.invariant.1)
 
 pub invariant_of-self-in_err-insert_in : goal.invariant_of-self-in_err-insert_in
 invariant_of-self-in_err-insert_in g c =
@@ -62,7 +62,7 @@ returns-in_ok-insert_in-clause-same g c =
     let new : Overlay = record { count = c.self.inside.len; changed = c.insert_in.new.changed.entries } in
     let absent : is_some (changed_at old.changed c.args.chunk) ≡ false = sym c.contains_key.ensures ∙ c.if-not-contains_key.true in
     let least : bit_count g.N.Chunks.LEN base ≤ old.count = subst (λ o. bit_count g.N.Chunks.LEN base ≤ o.count) (sym c.self.view_is) c.requires.not_below in
-    hold_same g.N.Chunks.LEN base old new c.args.chunk c.in_ok-bits.bits (omega (arith, g.met.N.Chunks.least)) refl least (none_there (changed_at old.changed c.args.chunk) absent) c.in_ok-insert_in.ensures.here c.in_ok-insert_in.ensures.other c.in_ok-bits.ensures
+    hold_same g.N.Chunks.LEN base old new c.args.chunk c.in_ok-bits.bits (some_bits g.N.Chunks.LEN g.met.N.Chunks.least) refl least (none_there (changed_at old.changed c.args.chunk) absent) c.in_ok-insert_in.ensures.here c.in_ok-insert_in.ensures.other c.in_ok-bits.ensures
     ∙ ap (λ o. laid g.N.Chunks.LEN o base) c.self.view_is
 
 pub returns-in_ok-insert_in-clause-err : goal.returns-in_ok-insert_in-clause-err
