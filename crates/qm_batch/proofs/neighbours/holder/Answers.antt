@@ -1,11 +1,12 @@
-use Rattle.std.proofs.Common.{◌∙◌, ap, sym, map}
+use Rattle.std.proofs.Common.{◌∙◌, ap, sym, map, inl, refl}
 use Rattle.std.specs.Prelude.{option_map}
-use Rattle.qm_model.proofs.Results.{told-any, told-one}
+use Rattle.std.proofs.lemmas.Result.{err_from_is_err_and}
+use Rattle.qm_model.proofs.Results.{told-any, told-err, told-one}
 use Rattle.qm_step.specs.Layers.{nearest_layer}
 use Rattle.qm_step.specs.Views.{change_view}
 use Rattle.qm_batch.proofs.HolderOf.{holder-none, holder-read, holder-some}
 use Rattle.qm_batch.proofs.Layered.{layer-update}
-use Rattle.qm_batch.proofs.Reading.{ok-same}
+use Rattle.qm_batch.proofs.Reading.{ok-same, read-none}
 use Rattle.qm_batch.proofs.neighbours.holder.Goals as goal
 
 pub returns-in-Some-2-clause-value : goal.returns-in-Some-2-clause-value
@@ -43,3 +44,57 @@ returns-in_ok-own_or_nearer-in-None-clause-value g c = λ lent base is from ring
     c.in_ok-own_or_nearer-in-None.ensures
     ∙ holder-read form g.met.U.Steps.known_bytes g.I.Unordered.index_key (g.met.U.Steps.monotone c.requires) (g.I.Unordered.entries c.args.index.now) c.last_lent.ensures.index
     layers lent base is.indexed is.of from ring_lent ring_base key key_bytes _ _ _ _ c.as_bytes-in-None.ensures.value c.as_bytes-in-None-2.ensures.value c.as_bytes-in-None-3.ensures.value none found)
+
+pub returns-in_err-found-in-Some-clause-value : goal.returns-in_err-found-in-Some-clause-value
+returns-in_err-found-in-Some-clause-value g c = λ lent base is from ring_lent ring_base.
+    let exit = err_from_is_err_and c.from_residual.result c.from_residual.ensures.1 in
+    told-err _ (g.C.Store.told c.args.log.now.store) c.from_residual.result exit.0 exit.1
+
+pub returns-in_err-found-in-Some-clause-read : goal.returns-in_err-found-in-Some-clause-read
+returns-in_err-found-in-Some-clause-read g c = read-none g.C.Store g.F.Family.shape g.H.Digest.Digest.bytes g.H.Hasher.hash c.args.log.now
+
+pub returns-in_err-found-in-Some-clause-error : goal.returns-in_err-found-in-Some-clause-error
+returns-in_err-found-in-Some-clause-error g c =
+    let exit = err_from_is_err_and c.from_residual.result c.from_residual.ensures.1 in
+    rw (exit.1, exit.2) (inl refl)
+
+pub returns-in_err-found-in-Some-clause-whole : goal.returns-in_err-found-in-Some-clause-whole
+returns-in_err-found-in-Some-clause-whole g c = λ lent is none.
+    let exit = err_from_is_err_and c.from_residual.result c.from_residual.ensures.1 in
+    rw (exit.1, exit.2) (λ n same. cc)
+
+pub returns-in_err-lent-in-None-clause-value : goal.returns-in_err-lent-in-None-clause-value
+returns-in_err-lent-in-None-clause-value g c = λ lent base is from ring_lent ring_base.
+    let exit = err_from_is_err_and c.from_residual-in_err-lent-in-None.result c.from_residual-in_err-lent-in-None.ensures.1 in
+    told-err _ (g.C.Store.told c.args.log.now.store) c.from_residual-in_err-lent-in-None.result exit.0 exit.1
+
+pub returns-in_err-lent-in-None-clause-read : goal.returns-in_err-lent-in-None-clause-read
+returns-in_err-lent-in-None-clause-read g c = c.last_lent.ensures.read
+
+pub returns-in_err-lent-in-None-clause-error : goal.returns-in_err-lent-in-None-clause-error
+returns-in_err-lent-in-None-clause-error g c =
+    let exit = err_from_is_err_and c.from_residual-in_err-lent-in-None.result c.from_residual-in_err-lent-in-None.ensures.1 in
+    rw (exit.1, exit.2) c.in_err-lent-in-None.ensures.error
+
+pub returns-in_err-lent-in-None-clause-whole : goal.returns-in_err-lent-in-None-clause-whole
+returns-in_err-lent-in-None-clause-whole g c = λ lent is none.
+    let exit = err_from_is_err_and c.from_residual-in_err-lent-in-None.result c.from_residual-in_err-lent-in-None.ensures.1 in
+    rw (exit.1, exit.2) (c.in_err-lent-in-None.ensures.whole lent is none)
+
+pub returns-in_err-own_or_nearer-in-None-clause-value : goal.returns-in_err-own_or_nearer-in-None-clause-value
+returns-in_err-own_or_nearer-in-None-clause-value g c = λ lent base is from ring_lent ring_base.
+    let exit = err_from_is_err_and c.from_residual-in_err-own_or_nearer-in-None.result c.from_residual-in_err-own_or_nearer-in-None.ensures.1 in
+    told-err _ (g.C.Store.told c.args.log.now.store) c.from_residual-in_err-own_or_nearer-in-None.result exit.0 exit.1
+
+pub returns-in_err-own_or_nearer-in-None-clause-read : goal.returns-in_err-own_or_nearer-in-None-clause-read
+returns-in_err-own_or_nearer-in-None-clause-read g c = c.last_lent.ensures.read
+
+pub returns-in_err-own_or_nearer-in-None-clause-error : goal.returns-in_err-own_or_nearer-in-None-clause-error
+returns-in_err-own_or_nearer-in-None-clause-error g c =
+    let exit = err_from_is_err_and c.from_residual-in_err-own_or_nearer-in-None.result c.from_residual-in_err-own_or_nearer-in-None.ensures.1 in
+    rw (exit.1, exit.2) (inl refl)
+
+pub returns-in_err-own_or_nearer-in-None-clause-whole : goal.returns-in_err-own_or_nearer-in-None-clause-whole
+returns-in_err-own_or_nearer-in-None-clause-whole g c = λ lent is none.
+    let exit = err_from_is_err_and c.from_residual-in_err-own_or_nearer-in-None.result c.from_residual-in_err-own_or_nearer-in-None.ensures.1 in
+    rw (exit.1, exit.2) (λ n same. cc)
