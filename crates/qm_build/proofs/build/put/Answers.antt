@@ -1,6 +1,8 @@
 use Rattle.std.proofs.Common.{◌≡◌, ◌+◌, ◌<◌, ◌≤◌, ◌++◌, ◌∷◌, [], ◌∙◌, ap, ap₂, sym, subst, length, Some, arith, ⊎_elim}
 use Rattle.std.specs.Prelude.{All, IfSome, option_map}
 use Rattle.std.specs.Bool.{then_some}
+use Rattle.std.proofs.lemmas.List.Elements.{All-weaker}
+use Rattle.std.proofs.lemmas.Result.{err_from_is_err_and}
 use Rattle.qm_model.proofs.Results.{told-one, told-any}
 use Rattle.qm_base.specs.Views.{operation_view}
 use Rattle.qm_index.specs.Buckets.{bucket_at}
@@ -9,6 +11,7 @@ use Rattle.qm_build.specs.declared.read.Found.{Found}
 use Rattle.qm_build.specs.Building.{cleared, counted_after}
 use Rattle.qm_build.proofs.Caching.{own-key}
 use Rattle.qm_build.proofs.Pushing.{left_at}
+use Rattle.qm_build.proofs.Reading.{read-none}
 use Rattle.qm_build.proofs.Putting.{stood, placed-more, placed-commit}
 use Rattle.qm_build.proofs.Within.{within-wider, found-within, found-contained, found-offset, left-within}
 use Rattle.qm_build.proofs.build.put.Goals as goal
@@ -60,3 +63,70 @@ returns-clause-keys g c = λ ops here keys at key holds. ⊎_elim
     (λ own. own-key g.U.Key.ByteString.bytes ops (operation_view g.U.Update.view g.U.Key.ByteString.bytes g.U.Value.ByteString.bytes c.args.operation) c.args.at at c.in-Some.key key here (sym c.is_update-is_update.ensures ∙ own.0) (sym c.in-Some.ensures) own.1.0 own.1.1)
     (λ old. keys at key old)
     (c.keep.ensures at key holds)
+
+pub find-requires : goal.find-requires
+find-requires g c =
+    let tree = c.args.log.now.tree in
+    All-weaker (λ n. (c.args.floor ≤ n) × (n < c.args.at)) (λ n. (tree.start ≤ n) × (n < tree.leaves))
+    (λ n h. let low = h.0 in let high = h.1 in (omega (arith, low, c.requires.kept), omega (arith, high, c.requires.below)))
+    (bucket_at (g.I.Unordered.entries c.args.index.now) (g.I.Unordered.index_key c.as_bytes-bytes.result.now))
+    (c.requires.within (g.I.Unordered.index_key c.as_bytes-bytes.result.now))
+
+pub move_key-requires : goal.move_key-requires
+move_key-requires g c = c.in_ok-found.ensures.place
+
+pub note-requires : goal.note-requires
+note-requires g c = record {
+  within = tt;
+  few = omega (arith, c.requires.here, c.requires.few);
+  counted = c.requires.counted;
+}
+
+pub note-requires-2-clause-few : goal.note-requires-2-clause-few
+note-requires-2-clause-few g c = omega (arith, c.requires.here, c.requires.few)
+
+pub note-requires-2-clause-counted : goal.note-requires-2-clause-counted
+note-requires-2-clause-counted g c = c.requires.counted
+
+pub returns-in_default-clause-keys : goal.returns-in_default-clause-keys
+returns-in_default-clause-keys g c = λ ops here keys. keys
+
+pub returns-in_default-clause-long : goal.returns-in_default-clause-long
+returns-in_default-clause-long g c = c.in_ok-note.ensures.long
+
+pub returns-in_default-clause-within : goal.returns-in_default-clause-within
+returns-in_default-clause-within g c = within-wider (g.I.Unordered.entries c.args.index.now) c.args.floor c.args.at (c.args.at + 1) (omega arith) c.requires.within
+
+pub returns-in_default-clause-counted : goal.returns-in_default-clause-counted
+returns-in_default-clause-counted g c = c.in_ok-note.ensures.counted
+
+pub returns-in_default-clause-read : goal.returns-in_default-clause-read
+returns-in_default-clause-read g c = read-none g.C.Store g.F.Family.shape g.H.Digest.Digest.bytes g.H.Hasher.hash c.args.log.now
+
+pub returns-in_default-clause-error : goal.returns-in_default-clause-error
+returns-in_default-clause-error g c = tt
+
+pub returns-in_err-found : goal.returns-in_err-found
+returns-in_err-found g c =
+    let exit = err_from_is_err_and c.from_residual-in_err-found.result c.from_residual-in_err-found.ensures.1 in
+    record {
+      placed = λ ops has here placed keys. told-any _ (g.C.Store.told c.args.log.now.store) (rw exit.1 tt);
+      keys = λ ops here keys. rw exit.1 tt;
+      long = rw exit.1 tt;
+      within = rw exit.1 tt;
+      counted = rw exit.1 tt;
+      read = c.find.ensures.read;
+      error = rw (exit.1, exit.2) c.in_err-found.ensures.error;
+    }
+
+pub returns-clause-long : goal.returns-clause-long
+returns-clause-long g c = c.in_ok-note-2.ensures.long
+
+pub returns-clause-counted : goal.returns-clause-counted
+returns-clause-counted g c = c.in_ok-note-2.ensures.counted
+
+pub returns-clause-read : goal.returns-clause-read
+returns-clause-read g c = c.find.ensures.read
+
+pub returns-clause-error : goal.returns-clause-error
+returns-clause-error g c = tt

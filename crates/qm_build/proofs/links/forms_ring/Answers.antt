@@ -5,7 +5,7 @@ use Rattle.qm_base.specs.Views.{operation_view}
 use Rattle.qm_model.specs.Opening.{is_ring}
 use Rattle.qm_build.specs.Linked.{AreLinks}
 use Rattle.qm_build.specs.Reads.{operation_at, items_within}
-use Rattle.qm_build.proofs.Reading.{read-none, read-then}
+use Rattle.qm_build.proofs.Reading.{read-none, read-then, error-then}
 use Rattle.qm_build.proofs.Decoding.{each, over, then-told, one-undecoded}
 use Rattle.qm_build.proofs.Linking.{links-none}
 use Rattle.qm_build.proofs.Onward.{three, none-within, one-within}
@@ -59,3 +59,34 @@ returns-in_err-operation-clause-corrupt g c =
     let low : s.start ≤ c.args.from = omega (arith, start, c.bounds-size.ensures.first, c.requires.kept) in
     let less : at < c.args.log.now.tree.leaves = omega (arith, c.loop-at-test.true, c.bounds-size.ensures.size) in
     one-undecoded form s c.args.from c.args.log.now.tree.leaves at low c.loop-at.invariant.low less (corrupt is)))
+
+pub read_operation-requires : goal.read_operation-requires
+read_operation-requires g c =
+    let tree = c.loop-at.invariant.read.tree in
+    record {
+      kept = rw tree (omega (arith, c.requires.kept, c.loop-at.invariant.low));
+      below = rw tree (omega (arith, c.loop-at-test.true, c.bounds-size.ensures.size));
+    }
+
+pub returns-in_err-operation-clause-ring : goal.returns-in_err-operation-clause-ring
+returns-in_err-operation-clause-ring g c =
+    let exit = err_from_is_err_and c.from_residual.result c.from_residual.ensures.1 in
+    rw exit.1 tt
+
+pub returns-in_err-operation-clause-read : goal.returns-in_err-operation-clause-read
+returns-in_err-operation-clause-read g c =
+    read-then g.C.Store g.F.Family.shape g.H.Digest.Digest.bytes g.H.Hasher.hash c.args.log.now c.loop-at.log c.read_operation.new.log c.loop-at.invariant.read c.read_operation.ensures.read
+
+pub returns-in_err-operation-clause-error : goal.returns-in_err-operation-clause-error
+returns-in_err-operation-clause-error g c =
+    let exit = err_from_is_err_and c.from_residual.result c.from_residual.ensures.1 in
+    rw (exit.1, exit.2) (error-then g.C.Store g.F.Family.shape g.H.Digest.Digest.bytes g.H.Hasher.hash c.args.log.now c.loop-at.log c.read_operation.new.log _ c.loop-at.invariant.read c.in_err-operation.ensures.error)
+
+pub returns-clause-corrupt : goal.returns-clause-corrupt
+returns-clause-corrupt g c = each (g.C.Store.told c.args.log.now.store) (λ s. tt)
+
+pub returns-clause-read : goal.returns-clause-read
+returns-clause-read g c = c.loop-at.invariant.read
+
+pub returns-clause-error : goal.returns-clause-error
+returns-clause-error g c = tt

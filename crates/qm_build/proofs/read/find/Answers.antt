@@ -1,10 +1,11 @@
-use Rattle.std.proofs.Common.{◌≢◌, ◌∙◌, sym, subst, Some, true≢false, arith}
+use Rattle.std.proofs.Common.{◌≢◌, ◌≤◌, ◌<◌, ◌∙◌, sym, subst, Some, true≢false, arith}
 use Rattle.std.specs.Prelude.{All}
 use Rattle.std.proofs.lemmas.List.{take_all}
-use Rattle.std.proofs.lemmas.List.Elements.{All-more}
-use Rattle.qm_model.proofs.Results.{told-both, told-one}
+use Rattle.std.proofs.lemmas.List.Elements.{All-nil, All-more}
+use Rattle.std.proofs.lemmas.Result.{err_from_is_err_and}
+use Rattle.qm_model.proofs.Results.{told-both, told-one, told-any}
 use Rattle.qm_build.specs.Building.{key_at}
-use Rattle.qm_build.proofs.Reading.{read-then, operations-then, told}
+use Rattle.qm_build.proofs.Reading.{read-none, read-then, fault-then, operations-then, told}
 use Rattle.qm_build.proofs.read.find.Goals as goal
 
 pub loop-place-preserved : goal.loop-place-preserved
@@ -23,3 +24,45 @@ pub returns-clause-key : goal.returns-clause-key
 returns-clause-key g c = λ ops has keys.
     told-one _ _ (g.C.Store.told c.args.log.now.store) (c.loop-place.invariant.none ops has keys) (λ all.
     subst (All (λ at. key_at ops at ≢ Some c.args.key.now)) (take_all c.loop-place.place c.bucket-bucket.result.now (omega (arith, c.loop-place-test.false)) ∙ c.bucket-bucket.ensures.value) all)
+
+pub loop-place-init : goal.loop-place-init
+loop-place-init g c = record {
+  read = read-none g.C.Store g.F.Family.shape g.H.Digest.Digest.bytes g.H.Hasher.hash c.args.log.now;
+  none = λ ops has keys. told-any _ (g.C.Store.told c.args.log.now.store) (All-nil (λ at. key_at ops at ≢ Some c.args.key.now));
+}
+
+pub is_of_key-requires : goal.is_of_key-requires
+is_of_key-requires g c =
+    let log = c.args.log.now.tree in
+    let tree = c.loop-place.invariant.read.tree in
+    let at = c.get-location.ensures ∙ c.index-bucket-place.is in
+    let inside = subst (All (λ at. (log.start ≤ at) × (at < log.leaves))) (sym c.bucket-bucket.ensures.value) c.requires c.loop-place.place c.index-bucket-place.result c.loop-place-test.true in
+    let low = inside.0 in
+    let high = inside.1 in
+    record {
+      kept = rw (tree, at) low;
+      below = rw (tree, at) high;
+    }
+
+pub returns-clause-place : goal.returns-clause-place
+returns-clause-place g c = tt
+
+pub returns-clause-read : goal.returns-clause-read
+returns-clause-read g c = c.loop-place.invariant.read
+
+pub returns-clause-error : goal.returns-clause-error
+returns-clause-error g c = tt
+
+pub returns-in_err-is_of_key : goal.returns-in_err-is_of_key
+returns-in_err-is_of_key g c =
+    let members = g.C.Store in
+    let shape = g.F.Family.shape in
+    let bytes = g.H.Digest.Digest.bytes in
+    let hash = g.H.Hasher.hash in
+    let exit = err_from_is_err_and c.from_residual.result c.from_residual.ensures.1 in
+    record {
+      place = rw exit.1 tt;
+      key = λ ops has keys. told-any _ (g.C.Store.told c.args.log.now.store) (rw exit.1 tt);
+      read = read-then members shape bytes hash c.args.log.now c.loop-place.log c.is_of_key.new.log c.loop-place.invariant.read c.is_of_key.ensures.read;
+      error = rw (exit.1, exit.2) (fault-then members shape bytes hash c.args.log.now c.loop-place.log c.is_of_key.new.log _ c.loop-place.invariant.read c.in_err-is_of_key.ensures.error);
+    }
