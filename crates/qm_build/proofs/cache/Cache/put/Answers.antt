@@ -25,3 +25,11 @@ returns g c = λ at key holds.
     subst (λ old. ((at ≡ c.args.location) × (key ≡ c.args.key)) ⊎ ((at ≢ c.args.location) × Holds old at key)) c.self.view_is
     (filled-holds c.self.inside.ways c.self.inside.sets c.args.location c.set_of.result c.self.inside.slots.items c.clear_in.new.slots.items c.self.invariant c.set_of.ensures.value c.clear_in.ensures.long c.clear_in.ensures.kept c.clear_in.ensures.clear
     c.room_in-room.result c.args.key c.room_in-room.ensures.from c.room_in-room.ensures.below (omega (arith, ends, c.self.invariant.long, c.clear_in.ensures.long, c.room_in-room.ensures.below)) at key holds)
+
+pub set_of-requires : goal.set_of-requires
+set_of-requires g c = c.self.invariant.some_sets
+
+pub clear_in-requires : goal.clear_in-requires
+clear_in-requires g c =
+    let ends = set-ends c.set_of.result c.self.inside.sets c.self.inside.ways c.set_of.ensures.below in
+    record { order = omega arith; within = omega (arith, ends, c.self.invariant.long) }
