@@ -240,6 +240,16 @@ worked('bounds', SETTLED + 'open max=0\ninfo\nopen max=6\napply 2\nopen max=7\no
 worked('closed and destroyed', SETTLED + 'close\nget 6b\nopen\nget 6b\nsync\ndestroy\nsync\nopen\ninfo\n', 0, SETTLED_REPLIES + 'ok\nrefused NoDatabase\nopen 2 0 7\nread 76\nok\nok\nrefused NoDatabase\nopen 3 0 1\ninfo 0 1 0 0 empty\n', 1)
 put('a store for later', lines_of(SETTLED.encode()), SETTLED_REPLIES, 0, 0, 7)
 put('kept, and read', ['keep', '| open max=4', '| many 6b 6c'], 'open 1 0 4\nread 76 none\n', 0, 0, 4)
+section('What an opening rebuilds of a list: keys that are deleted or written again, of which the first stands at the floor, and many of them.')
+def batch_of(h, lines): return 'batch\n' + ''.join('%s\n' % l for l in lines) + 'merkleize %d hold none\napply %d\n' % (h, h)
+for words in (WORDS, ORDERED):
+    kind = 'an ordered list' if words == ORDERED else 'a list'
+    begun = 'open\n' + batch_of(1, ['put 1 61 01', 'put 1 62 02', 'put 1 63 03'])
+    opened = 'commit\nclose\nopen\ninfo\nroot\n'
+    modelled(kind + ' with a deleted key, opened again', begun + batch_of(2, ['del 2 62']) + opened + 'many 61 62 63\n' + batch_of(3, ['put 3 62 04']) + 'ops 3\nmany 61 62 63\n', words=words)
+    modelled(kind + ' of keys written twice, opened again', begun + batch_of(2, ['put 2 61 04', 'put 2 62 05']) + opened + 'many 61 62 63\nbatch\nmerkleize 3 prop none\nops 3\n' + batch_of(4, ['del 4 61', 'del 4 62', 'del 4 63']) + 'ops 4\ninfo\nmany 61 62 63\n', words=words)
+    keys = ['%04x' % (7 * i) for i in range(100)]
+    modelled(kind + ' of a hundred keys written twice, opened again', 'open\n' + batch_of(1, ['put 1 %s 01' % k for k in keys]) + batch_of(2, ['put 2 %s 02' % k for k in reversed(keys)]) + opened + 'many %s\n' % ' '.join(keys) + batch_of(3, ['del 3 %s' % k for k in keys[:99]]) + 'info\nmany %s\n' % ' '.join(keys), words=words)
 section('Policies: three keys written under hold, then an empty batch under each of these, and what is left after it.')
 HELD = 'open\nbatch\nput 1 61 01\nput 1 62 02\nput 1 63 03\nmerkleize 1 hold none\napply 1\n'
 for policy in ('prop', 'hold', 'bounded:0:9', 'bounded:9:0', 'bounded:9:1', 'bounded:2:1', 'bounded:2:2', 'bounded:9:9', 'bounded:18446744073709551615:18446744073709551615',
