@@ -58,7 +58,7 @@ impl<F, K: ByteString, V: ByteString> Policy<F, K, V> for Expiry {
 // A database with a value that is valid up to block 7.
 fn filled(alloc: Global) -> Result<Database, Error> {
     let mut db = opened(alloc, Vec::new(alloc))?;
-    let dated = write(alloc, [7, 0, 0, 0, 0, 0, 0, 0])?;
+    let dated = write(alloc, 7)?;
     let batch = made_on(alloc, dated, &mut db, &mut Expiry { block: 1 })?;
     applied(alloc, db, &batch)
 }

@@ -93,15 +93,15 @@ pub(crate) fn key(alloc: Global) -> Result<Key, AllocError> {
     Key::from_bytes(alloc, &[1, 2, 3, 4])
 }
 
-// A write of the key.
-pub(crate) fn write(alloc: Global, value: [u8; 8]) -> Result<Writes, AllocError> {
-    let value = Value::from_bytes(alloc, &value)?;
+// A write of the key, of a value with this first byte.
+pub(crate) fn write(alloc: Global, first: u8) -> Result<Writes, AllocError> {
+    let value = Value::from_bytes(alloc, &[first, 11, 12, 13, 14, 15, 16, 17])?;
     Ok(vec![in alloc; (key(alloc)?, Some(value))]?)
 }
 
 // The batch that gives the key a value.
 pub(crate) fn batch_of(alloc: Global, db: &mut Database) -> Result<Rc<Batch>, Error> {
-    let writes = write(alloc, [10, 11, 12, 13, 14, 15, 16, 17])?;
+    let writes = write(alloc, 10)?;
     made_on(alloc, writes, db, &mut Proportional)
 }
 
