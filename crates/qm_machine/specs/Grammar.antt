@@ -305,6 +305,40 @@ lasting_forms =
     ∷ (codes "crash", numbered Crash)
     ∷ current_forms
 
+-- of those that tell what a list and a batch are
+abbrev pub telling_forms : List (Bytes × (List Bytes → Option (Line Policy)))
+telling_forms =
+    (codes "info", info_of)
+    ∷ (codes "root", root_of)
+    ∷ (codes "proof", numbered BatchProof)
+    ∷ (codes "meta", alone Meta)
+    ∷ (codes "prove", prove_of)
+    ∷ (codes "pins", numbered Pins)
+    ∷ lasting_forms
+
+-- of those that read
+abbrev pub reading_forms : List (Bytes × (List Bytes → Option (Line Policy)))
+reading_forms =
+    (codes "get", read_of Get)
+    ∷ (codes "many", many_of)
+    ∷ (codes "next", read_of Next)
+    ∷ (codes "prev", read_of Prev)
+    ∷ (codes "span", only_key Span)
+    ∷ (codes "all", only_key All)
+    ∷ (codes "range", range_of Range)
+    ∷ (codes "keys", range_of Keys)
+    ∷ telling_forms
+
+-- of those that stage a batch, and of what is done with one that is made
+abbrev pub staged_forms : List (Bytes × (List Bytes → Option (Line Policy)))
+staged_forms =
+    (codes "stage", keyed_of Stage)
+    ∷ (codes "expand", keyed_of Expand)
+    ∷ (codes "resolve", resolve_of)
+    ∷ (codes "apply", numbered Apply)
+    ∷ (codes "ops", numbered Ops)
+    ∷ reading_forms
+
 -- of all of them
 abbrev pub forms : List (Bytes × (List Bytes → Option (Line Policy)))
 forms =
@@ -315,26 +349,7 @@ forms =
     ∷ (codes "put", put_of)
     ∷ (codes "del", del_of)
     ∷ (codes "merkleize", merkleize_of)
-    ∷ (codes "stage", keyed_of Stage)
-    ∷ (codes "expand", keyed_of Expand)
-    ∷ (codes "resolve", resolve_of)
-    ∷ (codes "apply", numbered Apply)
-    ∷ (codes "ops", numbered Ops)
-    ∷ (codes "get", read_of Get)
-    ∷ (codes "many", many_of)
-    ∷ (codes "next", read_of Next)
-    ∷ (codes "prev", read_of Prev)
-    ∷ (codes "span", only_key Span)
-    ∷ (codes "all", only_key All)
-    ∷ (codes "range", range_of Range)
-    ∷ (codes "keys", range_of Keys)
-    ∷ (codes "info", info_of)
-    ∷ (codes "root", root_of)
-    ∷ (codes "proof", numbered BatchProof)
-    ∷ (codes "meta", alone Meta)
-    ∷ (codes "prove", prove_of)
-    ∷ (codes "pins", numbered Pins)
-    ∷ lasting_forms
+    ∷ staged_forms
 
 -- what the first of these forms with this name says
 abbrev pub form_of : Bytes → List Bytes → List (Bytes × (List Bytes → Option (Line Policy))) → Option (Line Policy)

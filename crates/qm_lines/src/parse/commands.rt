@@ -226,6 +226,18 @@ fn chunks(words: &[&[u8]]) -> Option<ByteCommand>
     Some(Command::Current(Question::Chunks(start, most)))
 }
 
+fn span(alloc: Global, words: &[&[u8]]) -> Result<Option<ByteCommand>, AllocError>
+    ensures { IfOk result (λ command. option_map byte_line command ≡ grammar.only_key lines.Span (lent words.now)) }
+{
+    Ok(only_key(alloc, words)?.map(Command::Span))
+}
+
+fn all(alloc: Global, words: &[&[u8]]) -> Result<Option<ByteCommand>, AllocError>
+    ensures { IfOk result (λ command. option_map byte_line command ≡ grammar.only_key lines.All (lent words.now)) }
+{
+    Ok(only_key(alloc, words)?.map(Command::All))
+}
+
 // What a current database offers.
 fn current(alloc: Global, name: &[u8], words: &[&[u8]]) -> Result<Option<ByteCommand>, AllocError>
     ensures { IfOk result (λ command. option_map byte_line command ≡ grammar.form_of name.now (lent words.now) grammar.current_forms) }
@@ -264,6 +276,71 @@ fn lasting(alloc: Global, name: &[u8], words: &[&[u8]]) -> Result<Option<ByteCom
     }
 }
 
+// What tells what a list or a batch is.
+fn telling(alloc: Global, name: &[u8], words: &[&[u8]]) -> Result<Option<ByteCommand>, AllocError>
+    ensures { IfOk result (λ command. option_map byte_line command ≡ grammar.form_of name.now (lent words.now) grammar.telling_forms) }
+{
+    if is(name, b"info") {
+        Ok(info(words))
+    } else if is(name, b"root") {
+        Ok(root(words))
+    } else if is(name, b"proof") {
+        Ok(only_number(words).map(Command::BatchProof))
+    } else if is(name, b"meta") {
+        Ok(alone(words, Command::Meta))
+    } else if is(name, b"prove") {
+        Ok(prove(words))
+    } else if is(name, b"pins") {
+        Ok(only_number(words).map(Command::Pins))
+    } else {
+        lasting(alloc, name, words)
+    }
+}
+
+// What reads.
+fn reading(alloc: Global, name: &[u8], words: &[&[u8]]) -> Result<Option<ByteCommand>, AllocError>
+    ensures { IfOk result (λ command. option_map byte_line command ≡ grammar.form_of name.now (lent words.now) grammar.reading_forms) }
+{
+    if is(name, b"get") {
+        get(alloc, words)
+    } else if is(name, b"many") {
+        many(alloc, words)
+    } else if is(name, b"next") {
+        next(alloc, words)
+    } else if is(name, b"prev") {
+        prev(alloc, words)
+    } else if is(name, b"span") {
+        span(alloc, words)
+    } else if is(name, b"all") {
+        all(alloc, words)
+    } else if is(name, b"range") {
+        range(alloc, words)
+    } else if is(name, b"keys") {
+        keys(alloc, words)
+    } else {
+        telling(alloc, name, words)
+    }
+}
+
+// What stages a batch, and what is done with one that is made.
+fn staged(alloc: Global, name: &[u8], words: &[&[u8]]) -> Result<Option<ByteCommand>, AllocError>
+    ensures { IfOk result (λ command. option_map byte_line command ≡ grammar.form_of name.now (lent words.now) grammar.staged_forms) }
+{
+    if is(name, b"stage") {
+        stage(alloc, words)
+    } else if is(name, b"expand") {
+        expand(alloc, words)
+    } else if is(name, b"resolve") {
+        resolve(alloc, words)
+    } else if is(name, b"apply") {
+        Ok(only_number(words).map(Command::Apply))
+    } else if is(name, b"ops") {
+        Ok(only_number(words).map(Command::Ops))
+    } else {
+        reading(alloc, name, words)
+    }
+}
+
 /// The command that words are, by the first.
 pub fn of_words(alloc: Global, words: &[&[u8]]) -> Result<Option<ByteCommand>, AllocError>
     ensures { IfOk result (λ command. option_map byte_line command ≡ grammar.of_words (lent words.now)) }
@@ -285,45 +362,7 @@ pub fn of_words(alloc: Global, words: &[&[u8]]) -> Result<Option<ByteCommand>, A
         del(alloc, words)
     } else if is(name, b"merkleize") {
         merkleize(alloc, words)
-    } else if is(name, b"stage") {
-        stage(alloc, words)
-    } else if is(name, b"expand") {
-        expand(alloc, words)
-    } else if is(name, b"resolve") {
-        resolve(alloc, words)
-    } else if is(name, b"apply") {
-        Ok(only_number(words).map(Command::Apply))
-    } else if is(name, b"ops") {
-        Ok(only_number(words).map(Command::Ops))
-    } else if is(name, b"get") {
-        get(alloc, words)
-    } else if is(name, b"many") {
-        many(alloc, words)
-    } else if is(name, b"next") {
-        next(alloc, words)
-    } else if is(name, b"prev") {
-        prev(alloc, words)
-    } else if is(name, b"span") {
-        Ok(only_key(alloc, words)?.map(Command::Span))
-    } else if is(name, b"all") {
-        Ok(only_key(alloc, words)?.map(Command::All))
-    } else if is(name, b"range") {
-        range(alloc, words)
-    } else if is(name, b"keys") {
-        keys(alloc, words)
-    } else if is(name, b"info") {
-        Ok(info(words))
-    } else if is(name, b"root") {
-        Ok(root(words))
-    } else if is(name, b"proof") {
-        Ok(only_number(words).map(Command::BatchProof))
-    } else if is(name, b"meta") {
-        Ok(alone(words, Command::Meta))
-    } else if is(name, b"prove") {
-        Ok(prove(words))
-    } else if is(name, b"pins") {
-        Ok(only_number(words).map(Command::Pins))
     } else {
-        lasting(alloc, name, words)
+        staged(alloc, name, words)
     }
 }
