@@ -16,6 +16,14 @@ use Rattle.qm_machine.proofs.Relabelled.{relabelled, turn_relabelled, choices-re
 use Rattle.qm_lines.specs.declared.policy.AnyPolicy.{AnyPolicy}
 use Rattle.qm_lines.specs.declared.command.Command.{Command}
 use Rattle.qm_lines.specs.declared.command.Command.TheVariants as commands
+use Rattle.qm_lines.specs.declared.command.BatchCommand.{BatchCommand}
+use Rattle.qm_lines.specs.declared.command.BatchCommand.TheVariants as batches
+use Rattle.qm_lines.specs.declared.command.ReadCommand.{ReadCommand}
+use Rattle.qm_lines.specs.declared.command.ReadCommand.TheVariants as reads
+use Rattle.qm_lines.specs.declared.command.InfoCommand.{InfoCommand}
+use Rattle.qm_lines.specs.declared.command.InfoCommand.TheVariants as infos
+use Rattle.qm_lines.specs.declared.command.StoreCommand.{StoreCommand}
+use Rattle.qm_lines.specs.declared.command.StoreCommand.TheVariants as stored
 use Rattle.qm_lines.specs.Policies.{policy_view, rules_of}
 use Rattle.qm_lines.specs.Parsed.{byte_line}
 use Rattle.qm_lines.specs.Views.{line_view}
@@ -42,42 +50,54 @@ text_of-push given a = sym (flat_map_more (λ r. reply_line r ++ 10 ∷ []) [] g
 abbrev pub own_line : Command Bytes Bytes AnyPolicy → Line AnyPolicy
 own_line = line_view (λ k. k) (λ v. v) (λ p. p)
 
+relabelled_batch : (c : BatchCommand Bytes Bytes AnyPolicy) → relabelled policy_view (own_line (commands.Batch c)) ≡ byte_line (commands.Batch c)
+relabelled_batch batches.Batch = refl
+relabelled_batch (batches.Child h keep) = refl
+relabelled_batch batches.Tip = refl
+relabelled_batch (batches.Put h key value) = refl
+relabelled_batch (batches.Del h key) = refl
+relabelled_batch (batches.Merkleize h policy meta) = refl
+relabelled_batch (batches.Stage h keys) = refl
+relabelled_batch (batches.Expand h keys) = refl
+relabelled_batch (batches.Resolve h policy meta resolution) = refl
+
+relabelled_read : (c : ReadCommand Bytes) → relabelled policy_view (own_line (commands.Read c)) ≡ byte_line (commands.Read c)
+relabelled_read (reads.Get key from) = refl
+relabelled_read (reads.Many keys from) = refl
+relabelled_read (reads.Next key from) = refl
+relabelled_read (reads.Prev key from) = refl
+relabelled_read (reads.Span key) = refl
+relabelled_read (reads.All key) = refl
+relabelled_read (reads.Range low high) = refl
+relabelled_read (reads.Keys low high) = refl
+
+relabelled_info : (c : InfoCommand Bytes) → relabelled policy_view (own_line (commands.Info c)) ≡ byte_line (commands.Info c)
+relabelled_info (infos.Ops h) = refl
+relabelled_info infos.Info = refl
+relabelled_info (infos.BatchInfo h) = refl
+relabelled_info infos.Root = refl
+relabelled_info (infos.BatchRoot h) = refl
+relabelled_info (infos.BatchProof h) = refl
+relabelled_info infos.Meta = refl
+relabelled_info (infos.Prove size start max) = refl
+relabelled_info (infos.Pins n) = refl
+relabelled_info (infos.Current question) = refl
+
+relabelled_store : (c : StoreCommand) → relabelled policy_view (own_line (commands.Store c)) ≡ byte_line (commands.Store c)
+relabelled_store (stored.Open bound) = refl
+relabelled_store (stored.Apply h) = refl
+relabelled_store (stored.Prune to) = refl
+relabelled_store stored.Commit = refl
+relabelled_store stored.Sync = refl
+relabelled_store stored.Close = refl
+relabelled_store stored.Destroy = refl
+relabelled_store (stored.Crash keep) = refl
+
 relabelled_line : (c : Command Bytes Bytes AnyPolicy) → relabelled policy_view (own_line c) ≡ byte_line c
-relabelled_line (commands.Open bound) = refl
-relabelled_line commands.Batch = refl
-relabelled_line (commands.Child h keep) = refl
-relabelled_line commands.Tip = refl
-relabelled_line (commands.Put h key value) = refl
-relabelled_line (commands.Del h key) = refl
-relabelled_line (commands.Merkleize h policy meta) = refl
-relabelled_line (commands.Stage h keys) = refl
-relabelled_line (commands.Expand h keys) = refl
-relabelled_line (commands.Resolve h policy meta resolution) = refl
-relabelled_line (commands.Apply h) = refl
-relabelled_line (commands.Ops h) = refl
-relabelled_line (commands.Get key from) = refl
-relabelled_line (commands.Many keys from) = refl
-relabelled_line (commands.Next key from) = refl
-relabelled_line (commands.Prev key from) = refl
-relabelled_line (commands.Span key) = refl
-relabelled_line (commands.All key) = refl
-relabelled_line (commands.Range low high) = refl
-relabelled_line (commands.Keys low high) = refl
-relabelled_line commands.Info = refl
-relabelled_line (commands.BatchInfo h) = refl
-relabelled_line commands.Root = refl
-relabelled_line (commands.BatchRoot h) = refl
-relabelled_line (commands.BatchProof h) = refl
-relabelled_line commands.Meta = refl
-relabelled_line (commands.Prove size start max) = refl
-relabelled_line (commands.Pins n) = refl
-relabelled_line (commands.Current question) = refl
-relabelled_line (commands.Prune to) = refl
-relabelled_line commands.Commit = refl
-relabelled_line commands.Sync = refl
-relabelled_line commands.Close = refl
-relabelled_line commands.Destroy = refl
-relabelled_line (commands.Crash keep) = refl
+relabelled_line (commands.Batch c) = relabelled_batch c
+relabelled_line (commands.Read c) = relabelled_read c
+relabelled_line (commands.Info c) = relabelled_info c
+relabelled_line (commands.Store c) = relabelled_store c
 
 pub same_turn : (m : Scheme) (s : State) (c : Command Bytes Bytes AnyPolicy) → turn m rules_of s (own_line c) ≡ turn m policies s (byte_line c)
 same_turn m s c = turn_relabelled policy_view rules_of policies same_step m s (own_line c) ∙ ap (turn m policies s) (relabelled_line c)

@@ -1,7 +1,7 @@
 // One command over what a run holds.
 ghost use Rattle.std.specs.Prelude.{◌+◌, ◌^◌, ◌<◌};
 ghost use Rattle.qm_machine.specs.Machine as machine;
-ghost use Rattle.qm_lines.specs.Views.{line_view};
+ghost use Rattle.qm_lines.specs.Views.{line_view, batch_view, read_view, info_view, store_view};
 ghost use Rattle.qm_engine.specs.Session.{Performs};
 
 mod batches;
@@ -19,7 +19,7 @@ use ordered::{Question, Side, ask, beside};
 use proofs::{batch_proof, pins, prove};
 use qm_base::Twin;
 use qm_chain::Policy;
-use qm_lines::Command;
+use qm_lines::{BatchCommand, Command, InfoCommand, ReadCommand, StoreCommand};
 use qm_store::Store;
 use reads::{batch_info, batch_root, current, info, meta, ops, read, read_key, root};
 use staged::{expand, resolve, stage};
@@ -37,128 +37,103 @@ pub fn turn<X: Engine<C>, C: Store, P: Policy<X::Family, X::Key, X::Value> + Twi
         (λ s. machine.turn X.scheme P.rules s (line_view X.Key.bytes X.Value.bytes (λ p. p) command.now)) session result.0 result.1 }
 {
     match command {
-        Command::Open(max_size) => open::<X, C>(alloc, config, session, *max_size),
-        Command::Batch => {
-            let turn = batch::<X, C>(alloc, &mut session);
+        Command::Batch(command) => {
+            let turn = batch_turn::<X, C, P>(alloc, &mut session, command);
             (session, turn)
         }
-        Command::Child(number, keep) => {
-            let turn = child::<X, C>(alloc, &mut session, *number, *keep);
+        Command::Read(command) => {
+            let turn = read_turn::<X, C, P>(alloc, &mut session, command);
             (session, turn)
         }
-        Command::Tip => {
-            let turn = tip::<X, C>(alloc, &mut session);
+        Command::Info(command) => {
+            let turn = info_turn::<X, C, P>(alloc, &mut session, command);
             (session, turn)
         }
-        Command::Put(number, key, value) => {
-            let turn = put::<X, C>(alloc, &mut session, *number, key, value);
-            (session, turn)
-        }
-        Command::Del(number, key) => {
-            let turn = del::<X, C>(alloc, &mut session, *number, key);
-            (session, turn)
-        }
-        Command::Merkleize(number, policy, metadata) => {
-            let turn = merkleize::<X, C, P>(alloc, &mut session, *number, policy, metadata);
-            (session, turn)
-        }
-        Command::Stage(number, keys) => {
-            let turn = stage::<X, C>(alloc, &mut session, *number, keys);
-            (session, turn)
-        }
-        Command::Expand(number, keys) => {
-            let turn = expand::<X, C>(alloc, &mut session, *number, keys);
-            (session, turn)
-        }
-        Command::Resolve(number, policy, metadata, resolution) => {
-            let turn = resolve::<X, C, P>(
-                alloc,
-                &mut session,
-                *number,
-                policy,
-                metadata,
-                resolution,
-            );
-            (session, turn)
-        }
-        Command::Apply(number) => apply::<X, C>(alloc, session, *number),
-        Command::Ops(number) => {
-            let turn = ops::<X, C>(alloc, &session, *number);
-            (session, turn)
-        }
-        Command::Get(key, from) => {
-            let turn = read_key::<X, C>(alloc, &mut session, key, *from);
-            (session, turn)
-        }
-        Command::Many(keys, from) => {
-            let turn = read::<X, C>(alloc, &mut session, keys, *from);
-            (session, turn)
-        }
-        Command::Next(key, from) => {
-            let turn = beside::<X, C>(alloc, &mut session, Side::Above, key, *from);
-            (session, turn)
-        }
-        Command::Prev(key, from) => {
-            let turn = beside::<X, C>(alloc, &mut session, Side::Below, key, *from);
-            (session, turn)
-        }
-        Command::Span(key) => {
-            let turn = ask::<X, C>(alloc, &mut session, Question::Span(key));
-            (session, turn)
-        }
-        Command::All(key) => {
-            let turn = ask::<X, C>(alloc, &mut session, Question::All(key));
-            (session, turn)
-        }
-        Command::Range(low, high) => {
-            let turn = ask::<X, C>(alloc, &mut session, Question::Range(low, high));
-            (session, turn)
-        }
-        Command::Keys(low, high) => {
-            let turn = ask::<X, C>(alloc, &mut session, Question::Keys(low, high));
-            (session, turn)
-        }
-        Command::Info => {
-            let turn = info::<X, C>(&session);
-            (session, turn)
-        }
-        Command::BatchInfo(number) => {
-            let turn = batch_info::<X, C>(&session, *number);
-            (session, turn)
-        }
-        Command::Root => {
-            let turn = root::<X, C>(alloc, &session);
-            (session, turn)
-        }
-        Command::BatchRoot(number) => {
-            let turn = batch_root::<X, C>(&session, *number);
-            (session, turn)
-        }
-        Command::BatchProof(number) => {
-            let turn = batch_proof::<X, C>(alloc, &session, *number);
-            (session, turn)
-        }
-        Command::Meta => {
-            let turn = meta::<X, C>(alloc, &session);
-            (session, turn)
-        }
-        Command::Prove(size, start, max) => {
-            let turn = prove::<X, C>(alloc, &mut session, *size, *start, *max);
-            (session, turn)
-        }
-        Command::Pins(at) => {
-            let turn = pins::<X, C>(alloc, &session, *at);
-            (session, turn)
-        }
-        Command::Current(_) => {
-            let turn = current::<X, C>(&session);
-            (session, turn)
-        }
-        Command::Prune(to) => prune::<X, C>(alloc, session, *to),
-        Command::Commit => commit::<X, C>(session),
-        Command::Sync => sync::<X, C>(session),
-        Command::Close => close::<X, C>(session),
-        Command::Destroy => destroy::<X, C>(session),
-        Command::Crash(keep) => crash::<X, C, P>(session, *keep),
+        Command::Store(command) => store_turn::<X, C, P>(alloc, config, session, command),
+    }
+}
+
+// One that makes batches.
+fn batch_turn<X: Engine<C>, C: Store, P: Policy<X::Family, X::Key, X::Value> + Twin>(
+    alloc: Global,
+    session: &mut Of<X, C>,
+    command: &BatchCommand<X::Key, X::Value, P>,
+) -> Turn<X::Key, X::Value, X::Digest>
+    ensures { Performs C.Store X.Words X.Key.bytes X.Value.bytes X.Digest.bytes (batch_view X.Key.bytes X.Value.bytes (λ p. p) command.now) (λ s. machine.turn X.scheme P.rules s (batch_view X.Key.bytes X.Value.bytes (λ p. p) command.now)) session.old session.new result }
+{
+    match command {
+        BatchCommand::Batch => batch::<X, C>(alloc, session),
+        BatchCommand::Child(number, keep) => child::<X, C>(alloc, session, *number, *keep),
+        BatchCommand::Tip => tip::<X, C>(alloc, session),
+        BatchCommand::Put(number, key, value) => put::<X, C>(alloc, session, *number, key, value),
+        BatchCommand::Del(number, key) => del::<X, C>(alloc, session, *number, key),
+        BatchCommand::Merkleize(number, policy, metadata) => merkleize::<X, C, P>(alloc, session, *number, policy, metadata),
+        BatchCommand::Stage(number, keys) => stage::<X, C>(alloc, session, *number, keys),
+        BatchCommand::Expand(number, keys) => expand::<X, C>(alloc, session, *number, keys),
+        BatchCommand::Resolve(number, policy, metadata, resolution) => resolve::<X, C, P>(alloc, session, *number, policy, metadata, resolution),
+    }
+}
+
+// One that reads keys.
+fn read_turn<X: Engine<C>, C: Store, P: Policy<X::Family, X::Key, X::Value> + Twin>(
+    alloc: Global,
+    session: &mut Of<X, C>,
+    command: &ReadCommand<X::Key>,
+) -> Turn<X::Key, X::Value, X::Digest>
+    ensures { Performs C.Store X.Words X.Key.bytes X.Value.bytes X.Digest.bytes (read_view X.Key.bytes X.Value.bytes command.now) (λ s. machine.turn X.scheme P.rules s (read_view X.Key.bytes X.Value.bytes command.now)) session.old session.new result }
+{
+    match command {
+        ReadCommand::Get(key, from) => read_key::<X, C>(alloc, session, key, *from),
+        ReadCommand::Many(keys, from) => read::<X, C>(alloc, session, keys, *from),
+        ReadCommand::Next(key, from) => beside::<X, C>(alloc, session, Side::Above, key, *from),
+        ReadCommand::Prev(key, from) => beside::<X, C>(alloc, session, Side::Below, key, *from),
+        ReadCommand::Span(key) => ask::<X, C>(alloc, session, Question::Span(key)),
+        ReadCommand::All(key) => ask::<X, C>(alloc, session, Question::All(key)),
+        ReadCommand::Range(low, high) => ask::<X, C>(alloc, session, Question::Range(low, high)),
+        ReadCommand::Keys(low, high) => ask::<X, C>(alloc, session, Question::Keys(low, high)),
+    }
+}
+
+// One that tells and proves.
+fn info_turn<X: Engine<C>, C: Store, P: Policy<X::Family, X::Key, X::Value> + Twin>(
+    alloc: Global,
+    session: &mut Of<X, C>,
+    command: &InfoCommand<X::Key>,
+) -> Turn<X::Key, X::Value, X::Digest>
+    ensures { Performs C.Store X.Words X.Key.bytes X.Value.bytes X.Digest.bytes (info_view X.Key.bytes X.Value.bytes command.now) (λ s. machine.turn X.scheme P.rules s (info_view X.Key.bytes X.Value.bytes command.now)) session.old session.new result }
+{
+    match command {
+        InfoCommand::Ops(number) => ops::<X, C>(alloc, session, *number),
+        InfoCommand::Info => info::<X, C>(session),
+        InfoCommand::BatchInfo(number) => batch_info::<X, C>(session, *number),
+        InfoCommand::Root => root::<X, C>(alloc, session),
+        InfoCommand::BatchRoot(number) => batch_root::<X, C>(session, *number),
+        InfoCommand::BatchProof(number) => batch_proof::<X, C>(alloc, session, *number),
+        InfoCommand::Meta => meta::<X, C>(alloc, session),
+        InfoCommand::Prove(size, start, max) => prove::<X, C>(alloc, session, *size, *start, *max),
+        InfoCommand::Pins(at) => pins::<X, C>(alloc, session, *at),
+        InfoCommand::Current(_) => current::<X, C>(session),
+    }
+}
+
+// One that takes the database, or opens it.
+fn store_turn<X: Engine<C>, C: Store, P: Policy<X::Family, X::Key, X::Value> + Twin>(
+    alloc: Global,
+    config: &X::Config,
+    session: Of<X, C>,
+    command: &StoreCommand,
+) -> (Of<X, C>, Turn<X::Key, X::Value, X::Digest>)
+    requires { session.opened + 1 < 2 ^ 64 }
+    ensures { Performs C.Store X.Words X.Key.bytes X.Value.bytes X.Digest.bytes (store_view X.Key.bytes X.Value.bytes command.now) (λ s. machine.turn X.scheme P.rules s (store_view X.Key.bytes X.Value.bytes command.now)) session result.0 result.1 }
+{
+    match command {
+        StoreCommand::Open(max_size) => open::<X, C>(alloc, config, session, *max_size),
+        StoreCommand::Apply(number) => apply::<X, C>(alloc, session, *number),
+        StoreCommand::Prune(to) => prune::<X, C>(alloc, session, *to),
+        StoreCommand::Commit => commit::<X, C>(session),
+        StoreCommand::Sync => sync::<X, C>(session),
+        StoreCommand::Close => close::<X, C>(session),
+        StoreCommand::Destroy => destroy::<X, C>(session),
+        StoreCommand::Crash(keep) => crash::<X, C, P>(session, *keep),
     }
 }

@@ -9,6 +9,14 @@ use Rattle.qm_base.specs.Views.{corrupt_view, limit_of, pair_view}
 use Rattle.qm_base.specs.Slots.{slot_views, write_views}
 use Rattle.qm_lines.specs.declared.command.Command.{Command}
 use Rattle.qm_lines.specs.declared.command.Command.TheVariants as commands
+use Rattle.qm_lines.specs.declared.command.BatchCommand.{BatchCommand}
+use Rattle.qm_lines.specs.declared.command.BatchCommand.TheVariants as batches
+use Rattle.qm_lines.specs.declared.command.ReadCommand.{ReadCommand}
+use Rattle.qm_lines.specs.declared.command.ReadCommand.TheVariants as reads
+use Rattle.qm_lines.specs.declared.command.InfoCommand.{InfoCommand}
+use Rattle.qm_lines.specs.declared.command.InfoCommand.TheVariants as infos
+use Rattle.qm_lines.specs.declared.command.StoreCommand.{StoreCommand}
+use Rattle.qm_lines.specs.declared.command.StoreCommand.TheVariants as stores
 use Rattle.qm_lines.specs.declared.command.Question.{Question}
 use Rattle.qm_lines.specs.declared.command.Question.TheVariants as questions
 use Rattle.qm_lines.specs.declared.reply.Listed.{Listed}
@@ -54,42 +62,54 @@ question_view key (questions.Chunks start max) = lines.Chunks start (non_zero_u6
 question_view key questions.Witness = lines.Witness
 
 module _ {K V : Type 0} (key : K → Bytes) (value : V → Bytes) where
+  abbrev pub batch_view : {P Q : Type 0} → (P → Q) → BatchCommand K V P → lines.Line Q
+  batch_view policy batches.Batch = lines.Batch
+  batch_view policy (batches.Child h keep) = lines.Child h keep
+  batch_view policy batches.Tip = lines.Tip
+  batch_view policy (batches.Put h k v) = lines.Put h (key k) (value v)
+  batch_view policy (batches.Del h k) = lines.Del h (key k)
+  batch_view policy (batches.Merkleize h p m) = lines.Merkleize h (policy p) (option_map value m)
+  batch_view policy (batches.Stage h keys) = lines.Stage h (map key keys.items)
+  batch_view policy (batches.Expand h keys) = lines.Expand h (map key keys.items)
+  batch_view policy (batches.Resolve h p m r) = lines.Resolve h (policy p) (option_map value m) (slot_views value r.slots.items) (write_views key value r.others.items)
+
+  abbrev pub read_view : {Q : Type 0} → ReadCommand K → lines.Line Q
+  read_view (reads.Get k from) = lines.Get (key k) from
+  read_view (reads.Many keys from) = lines.Many (map key keys.items) from
+  read_view (reads.Next k from) = lines.Next (key k) from
+  read_view (reads.Prev k from) = lines.Prev (key k) from
+  read_view (reads.Span k) = lines.Span (key k)
+  read_view (reads.All k) = lines.All (key k)
+  read_view (reads.Range low high) = lines.Range (limit_of key low) (limit_of key high)
+  read_view (reads.Keys low high) = lines.Keys (limit_of key low) (limit_of key high)
+
+  abbrev pub info_view : {Q : Type 0} → InfoCommand K → lines.Line Q
+  info_view (infos.Ops h) = lines.Ops h
+  info_view infos.Info = lines.Info
+  info_view (infos.BatchInfo h) = lines.BatchInfo h
+  info_view infos.Root = lines.Root
+  info_view (infos.BatchRoot h) = lines.BatchRoot h
+  info_view (infos.BatchProof h) = lines.BatchProof h
+  info_view infos.Meta = lines.Meta
+  info_view (infos.Prove size start max) = lines.Prove size start (non_zero_u64_get max)
+  info_view (infos.Pins n) = lines.Pins n
+  info_view (infos.Current question) = lines.Current (question_view key question)
+
+  abbrev pub store_view : {Q : Type 0} → StoreCommand → lines.Line Q
+  store_view (stores.Open bound) = lines.Open bound
+  store_view (stores.Apply h) = lines.Apply h
+  store_view (stores.Prune to) = lines.Prune to
+  store_view stores.Commit = lines.Commit
+  store_view stores.Sync = lines.Sync
+  store_view stores.Close = lines.Close
+  store_view stores.Destroy = lines.Destroy
+  store_view (stores.Crash keep) = lines.Crash keep
+
   abbrev pub line_view : {P Q : Type 0} → (P → Q) → Command K V P → lines.Line Q
-  line_view policy (commands.Open bound) = lines.Open bound
-  line_view policy commands.Batch = lines.Batch
-  line_view policy (commands.Child h keep) = lines.Child h keep
-  line_view policy commands.Tip = lines.Tip
-  line_view policy (commands.Put h k v) = lines.Put h (key k) (value v)
-  line_view policy (commands.Del h k) = lines.Del h (key k)
-  line_view policy (commands.Merkleize h p m) = lines.Merkleize h (policy p) (option_map value m)
-  line_view policy (commands.Stage h keys) = lines.Stage h (map key keys.items)
-  line_view policy (commands.Expand h keys) = lines.Expand h (map key keys.items)
-  line_view policy (commands.Resolve h p m r) = lines.Resolve h (policy p) (option_map value m) (slot_views value r.slots.items) (write_views key value r.others.items)
-  line_view policy (commands.Apply h) = lines.Apply h
-  line_view policy (commands.Ops h) = lines.Ops h
-  line_view policy (commands.Get k from) = lines.Get (key k) from
-  line_view policy (commands.Many keys from) = lines.Many (map key keys.items) from
-  line_view policy (commands.Next k from) = lines.Next (key k) from
-  line_view policy (commands.Prev k from) = lines.Prev (key k) from
-  line_view policy (commands.Span k) = lines.Span (key k)
-  line_view policy (commands.All k) = lines.All (key k)
-  line_view policy (commands.Range low high) = lines.Range (limit_of key low) (limit_of key high)
-  line_view policy (commands.Keys low high) = lines.Keys (limit_of key low) (limit_of key high)
-  line_view policy commands.Info = lines.Info
-  line_view policy (commands.BatchInfo h) = lines.BatchInfo h
-  line_view policy commands.Root = lines.Root
-  line_view policy (commands.BatchRoot h) = lines.BatchRoot h
-  line_view policy (commands.BatchProof h) = lines.BatchProof h
-  line_view policy commands.Meta = lines.Meta
-  line_view policy (commands.Prove size start max) = lines.Prove size start (non_zero_u64_get max)
-  line_view policy (commands.Pins n) = lines.Pins n
-  line_view policy (commands.Current question) = lines.Current (question_view key question)
-  line_view policy (commands.Prune to) = lines.Prune to
-  line_view policy commands.Commit = lines.Commit
-  line_view policy commands.Sync = lines.Sync
-  line_view policy commands.Close = lines.Close
-  line_view policy commands.Destroy = lines.Destroy
-  line_view policy (commands.Crash keep) = lines.Crash keep
+  line_view policy (commands.Batch c) = batch_view policy c
+  line_view policy (commands.Read c) = read_view c
+  line_view policy (commands.Info c) = info_view c
+  line_view policy (commands.Store c) = store_view c
 
   abbrev pub listed_view : Listed K V → Operation
   listed_view (listed.Update k v n) = update (key k) (value v) (option_map key n)

@@ -24,12 +24,9 @@ pub enum Question<K> {
     Witness,
 }
 
-/// A command with keys, values and policies of these types. A batch goes by the number that the run gave it.
+/// What makes batches. A batch goes by the number that the run gave it.
 #[derive(Drop)]
-pub enum Command<K, V, P> {
-    /// Opens the store: the longest list that it keeps and that ends with a commit, of at most so many operations where a
-    /// number is given.
-    Open(Option<u64>),
+pub enum BatchCommand<K, V, P> {
     /// Begins a batch.
     Batch,
     /// Begins a child of the merkleized batch of this number, which keeps so many of its kept ancestors, or all.
@@ -48,10 +45,11 @@ pub enum Command<K, V, P> {
     Expand(u64, Vec<K>),
     /// Merkleizes the staged batch of this number under a policy, with this metadata and what becomes of its keys.
     Resolve(u64, P, Option<V>, Resolution<K, V>),
-    /// Applies the merkleized batch of this number.
-    Apply(u64),
-    /// Lists the own operations of the merkleized batch of this number.
-    Ops(u64),
+}
+
+/// What reads keys, in the database or through a batch.
+#[derive(Drop)]
+pub enum ReadCommand<K> {
     /// Reads the value of a key, in the database or through the batch of this number.
     Get(K, Option<u64>),
     /// Reads the values of keys, in the database or through the batch of this number.
@@ -68,6 +66,13 @@ pub enum Command<K, V, P> {
     Range(Bound<K>, Bound<K>),
     /// Reads the live keys of a range.
     Keys(Bound<K>, Bound<K>),
+}
+
+/// What tells of the database and of batches, and proves it.
+#[derive(Drop)]
+pub enum InfoCommand<K> {
+    /// Lists the own operations of the merkleized batch of this number.
+    Ops(u64),
     /// Tells the database's numbers.
     Info,
     /// Tells the numbers of the merkleized batch of this number.
@@ -86,6 +91,16 @@ pub enum Command<K, V, P> {
     Pins(u64),
     /// Asks what only a current database offers.
     Current(Question<K>),
+}
+
+/// What opens the database, moves it on, makes it last or ends it.
+#[derive(Drop)]
+pub enum StoreCommand {
+    /// Opens the store: the longest list that it keeps and that ends with a commit, of at most so many operations where a
+    /// number is given.
+    Open(Option<u64>),
+    /// Applies the merkleized batch of this number.
+    Apply(u64),
     /// Forgets the operations before a location, and makes those that are left stable.
     Prune(u64),
     /// Makes the operations stable.
@@ -98,4 +113,17 @@ pub enum Command<K, V, P> {
     Destroy,
     /// Closes the database, if one is open, and has the store go through a crash, with the end that is asked for.
     Crash(u64),
+}
+
+/// A command with keys, values and policies of these types.
+#[derive(Drop)]
+pub enum Command<K, V, P> {
+    /// One that makes batches.
+    Batch(BatchCommand<K, V, P>),
+    /// One that reads keys.
+    Read(ReadCommand<K>),
+    /// One that tells and proves.
+    Info(InfoCommand<K>),
+    /// One that takes the database, or opens it.
+    Store(StoreCommand),
 }

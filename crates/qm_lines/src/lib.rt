@@ -12,7 +12,9 @@ pub mod text;
 pub mod whole;
 
 pub use adapters::{StdSink, StdSource};
-pub use command::{Command, Question, Resolution};
+pub use command::{
+    BatchCommand, Command, InfoCommand, Question, ReadCommand, Resolution, StoreCommand,
+};
 pub use memory::{MemSink, MemSource};
 pub use parse::{ByteCommand, next_line, parse_line};
 pub use policy::AnyPolicy;

@@ -14,7 +14,7 @@ use super::numbers::{named_number, number, positive};
 use super::pieces::is;
 use super::ranges::{keys, range};
 use super::staged::{expand, resolve, stage};
-use crate::command::{Command, Question};
+use crate::command::{BatchCommand, Command, InfoCommand, Question, ReadCommand, StoreCommand};
 use qm_base::ByteKey;
 use std::alloc::{AllocError, Global};
 
@@ -39,18 +39,18 @@ fn info(words: &[&[u8]]) -> Option<ByteCommand>
     ensures { option_map byte_line result ≡ grammar.info_of (lent words.now) }
 {
     if words.is_empty() {
-        return Some(Command::Info);
+        return Some(Command::Info(InfoCommand::Info));
     }
-    only_number(words).map(Command::BatchInfo)
+    only_number(words).map(InfoCommand::BatchInfo).map(Command::Info)
 }
 
 fn root(words: &[&[u8]]) -> Option<ByteCommand>
     ensures { option_map byte_line result ≡ grammar.root_of (lent words.now) }
 {
     if words.is_empty() {
-        return Some(Command::Root);
+        return Some(Command::Info(InfoCommand::Root));
     }
-    only_number(words).map(Command::BatchRoot)
+    only_number(words).map(InfoCommand::BatchRoot).map(Command::Info)
 }
 
 // Perhaps up to a size.
@@ -58,8 +58,8 @@ fn open(words: &[&[u8]]) -> Option<ByteCommand>
     ensures { option_map byte_line result ≡ grammar.open_of (lent words.now) }
 {
     match words {
-        [] => Some(Command::Open(None)),
-        [bound] => Some(Command::Open(Some(named_number(b"max=", bound)?))),
+        [] => Some(Command::Store(StoreCommand::Open(None))),
+        [bound] => Some(Command::Store(StoreCommand::Open(Some(named_number(b"max=", bound)?)))),
         _ => None,
     }
 }
@@ -69,10 +69,10 @@ fn child(words: &[&[u8]]) -> Option<ByteCommand>
     ensures { option_map byte_line result ≡ grammar.child_of (lent words.now) }
 {
     match words {
-        [handle] => Some(Command::Child(number(handle)?, None)),
+        [handle] => Some(Command::Batch(BatchCommand::Child(number(handle)?, None))),
         [handle, kept] => {
             let keep = named_number(b"keep=", kept)?;
-            Some(Command::Child(number(handle)?, Some(keep)))
+            Some(Command::Batch(BatchCommand::Child(number(handle)?, Some(keep))))
         }
         _ => None,
     }
@@ -93,7 +93,7 @@ fn put(alloc: Global, words: &[&[u8]]) -> Result<Option<ByteCommand>, AllocError
     let Some(value) = value(alloc, value_word)? else {
         return Ok(None);
     };
-    Ok(Some(Command::Put(handle, key, value)))
+    Ok(Some(Command::Batch(BatchCommand::Put(handle, key, value))))
 }
 
 fn del(alloc: Global, words: &[&[u8]]) -> Result<Option<ByteCommand>, AllocError>
@@ -108,7 +108,7 @@ fn del(alloc: Global, words: &[&[u8]]) -> Result<Option<ByteCommand>, AllocError
     let Some(key) = key(alloc, key_word)? else {
         return Ok(None);
     };
-    Ok(Some(Command::Del(handle, key)))
+    Ok(Some(Command::Batch(BatchCommand::Del(handle, key))))
 }
 
 fn prove(words: &[&[u8]]) -> Option<ByteCommand>
@@ -120,7 +120,7 @@ fn prove(words: &[&[u8]]) -> Option<ByteCommand>
     let size = number(size)?;
     let start = number(start)?;
     let most = positive(most)?;
-    Some(Command::Prove(size, start, most))
+    Some(Command::Info(InfoCommand::Prove(size, start, most)))
 }
 
 // A key, and the batch through which it is read.
@@ -150,7 +150,7 @@ fn get(alloc: Global, words: &[&[u8]]) -> Result<Option<ByteCommand>, AllocError
 {
     match read(alloc, words)? {
         None => Ok(None),
-        Some(read) => Ok(Some(Command::Get(read.key, read.from))),
+        Some(read) => Ok(Some(Command::Read(ReadCommand::Get(read.key, read.from)))),
     }
 }
 
@@ -159,7 +159,7 @@ fn next(alloc: Global, words: &[&[u8]]) -> Result<Option<ByteCommand>, AllocErro
 {
     match read(alloc, words)? {
         None => Ok(None),
-        Some(read) => Ok(Some(Command::Next(read.key, read.from))),
+        Some(read) => Ok(Some(Command::Read(ReadCommand::Next(read.key, read.from)))),
     }
 }
 
@@ -168,7 +168,7 @@ fn prev(alloc: Global, words: &[&[u8]]) -> Result<Option<ByteCommand>, AllocErro
 {
     match read(alloc, words)? {
         None => Ok(None),
-        Some(read) => Ok(Some(Command::Prev(read.key, read.from))),
+        Some(read) => Ok(Some(Command::Read(ReadCommand::Prev(read.key, read.from)))),
     }
 }
 
@@ -188,7 +188,7 @@ fn some_read(reading: Reading) -> Option<ByteCommand>
     if reading.keys.is_empty() {
         return None;
     }
-    Some(Command::Many(reading.keys, reading.from))
+    Some(Command::Read(ReadCommand::Many(reading.keys, reading.from)))
 }
 
 fn many(alloc: Global, words: &[&[u8]]) -> Result<Option<ByteCommand>, AllocError>
@@ -202,7 +202,7 @@ fn held(alloc: Global, words: &[&[u8]]) -> Result<Option<ByteCommand>, AllocErro
 {
     match only_key(alloc, words)? {
         None => Ok(None),
-        Some(key) => Ok(Some(Command::Current(Question::Held(key)))),
+        Some(key) => Ok(Some(Command::Info(InfoCommand::Current(Question::Held(key))))),
     }
 }
 
@@ -211,7 +211,7 @@ fn absent(alloc: Global, words: &[&[u8]]) -> Result<Option<ByteCommand>, AllocEr
 {
     match only_key(alloc, words)? {
         None => Ok(None),
-        Some(key) => Ok(Some(Command::Current(Question::Absent(key)))),
+        Some(key) => Ok(Some(Command::Info(InfoCommand::Current(Question::Absent(key))))),
     }
 }
 
@@ -223,19 +223,19 @@ fn chunks(words: &[&[u8]]) -> Option<ByteCommand>
     };
     let start = number(start)?;
     let most = positive(most)?;
-    Some(Command::Current(Question::Chunks(start, most)))
+    Some(Command::Info(InfoCommand::Current(Question::Chunks(start, most))))
 }
 
 fn span(alloc: Global, words: &[&[u8]]) -> Result<Option<ByteCommand>, AllocError>
     ensures { IfOk result (λ command. option_map byte_line command ≡ grammar.only_key lines.Span (lent words.now)) }
 {
-    Ok(only_key(alloc, words)?.map(Command::Span))
+    Ok(only_key(alloc, words)?.map(ReadCommand::Span).map(Command::Read))
 }
 
 fn all(alloc: Global, words: &[&[u8]]) -> Result<Option<ByteCommand>, AllocError>
     ensures { IfOk result (λ command. option_map byte_line command ≡ grammar.only_key lines.All (lent words.now)) }
 {
-    Ok(only_key(alloc, words)?.map(Command::All))
+    Ok(only_key(alloc, words)?.map(ReadCommand::All).map(Command::Read))
 }
 
 // What a current database offers.
@@ -249,7 +249,7 @@ fn current(alloc: Global, name: &[u8], words: &[&[u8]]) -> Result<Option<ByteCom
     } else if is(name, b"chunks") {
         Ok(chunks(words))
     } else if is(name, b"witness") {
-        Ok(alone(words, Command::Current(Question::Witness)))
+        Ok(alone(words, Command::Info(InfoCommand::Current(Question::Witness))))
     } else {
         Ok(None)
     }
@@ -260,17 +260,17 @@ fn lasting(alloc: Global, name: &[u8], words: &[&[u8]]) -> Result<Option<ByteCom
     ensures { IfOk result (λ command. option_map byte_line command ≡ grammar.form_of name.now (lent words.now) grammar.lasting_forms) }
 {
     if is(name, b"prune") {
-        Ok(only_number(words).map(Command::Prune))
+        Ok(only_number(words).map(StoreCommand::Prune).map(Command::Store))
     } else if is(name, b"commit") {
-        Ok(alone(words, Command::Commit))
+        Ok(alone(words, Command::Store(StoreCommand::Commit)))
     } else if is(name, b"sync") {
-        Ok(alone(words, Command::Sync))
+        Ok(alone(words, Command::Store(StoreCommand::Sync)))
     } else if is(name, b"close") {
-        Ok(alone(words, Command::Close))
+        Ok(alone(words, Command::Store(StoreCommand::Close)))
     } else if is(name, b"destroy") {
-        Ok(alone(words, Command::Destroy))
+        Ok(alone(words, Command::Store(StoreCommand::Destroy)))
     } else if is(name, b"crash") {
-        Ok(only_number(words).map(Command::Crash))
+        Ok(only_number(words).map(StoreCommand::Crash).map(Command::Store))
     } else {
         current(alloc, name, words)
     }
@@ -285,13 +285,13 @@ fn telling(alloc: Global, name: &[u8], words: &[&[u8]]) -> Result<Option<ByteCom
     } else if is(name, b"root") {
         Ok(root(words))
     } else if is(name, b"proof") {
-        Ok(only_number(words).map(Command::BatchProof))
+        Ok(only_number(words).map(InfoCommand::BatchProof).map(Command::Info))
     } else if is(name, b"meta") {
-        Ok(alone(words, Command::Meta))
+        Ok(alone(words, Command::Info(InfoCommand::Meta)))
     } else if is(name, b"prove") {
         Ok(prove(words))
     } else if is(name, b"pins") {
-        Ok(only_number(words).map(Command::Pins))
+        Ok(only_number(words).map(InfoCommand::Pins).map(Command::Info))
     } else {
         lasting(alloc, name, words)
     }
@@ -333,9 +333,9 @@ fn staged(alloc: Global, name: &[u8], words: &[&[u8]]) -> Result<Option<ByteComm
     } else if is(name, b"resolve") {
         resolve(alloc, words)
     } else if is(name, b"apply") {
-        Ok(only_number(words).map(Command::Apply))
+        Ok(only_number(words).map(StoreCommand::Apply).map(Command::Store))
     } else if is(name, b"ops") {
-        Ok(only_number(words).map(Command::Ops))
+        Ok(only_number(words).map(InfoCommand::Ops).map(Command::Info))
     } else {
         reading(alloc, name, words)
     }
@@ -351,11 +351,11 @@ pub fn of_words(alloc: Global, words: &[&[u8]]) -> Result<Option<ByteCommand>, A
     if is(name, b"open") {
         Ok(open(words))
     } else if is(name, b"batch") {
-        Ok(alone(words, Command::Batch))
+        Ok(alone(words, Command::Batch(BatchCommand::Batch)))
     } else if is(name, b"child") {
         Ok(child(words))
     } else if is(name, b"tip") {
-        Ok(alone(words, Command::Tip))
+        Ok(alone(words, Command::Batch(BatchCommand::Tip)))
     } else if is(name, b"put") {
         put(alloc, words)
     } else if is(name, b"del") {

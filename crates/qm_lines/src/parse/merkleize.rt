@@ -8,7 +8,7 @@ use super::ByteCommand;
 use super::keys::metadata;
 use super::numbers::number;
 use super::policies::policy;
-use crate::command::Command;
+use crate::command::{BatchCommand, Command};
 use crate::policy::AnyPolicy;
 use qm_base::ByteValue;
 use std::alloc::{AllocError, Global};
@@ -55,6 +55,6 @@ pub fn merkleize(alloc: Global, words: &[&[u8]]) -> Result<Option<ByteCommand>, 
     };
     match parse_merkleizing(alloc, handle, policy, metadata)? {
         None => Ok(None),
-        Some(m) => Ok(Some(Command::Merkleize(m.handle, m.policy, m.metadata))),
+        Some(m) => Ok(Some(Command::Batch(BatchCommand::Merkleize(m.handle, m.policy, m.metadata)))),
     }
 }

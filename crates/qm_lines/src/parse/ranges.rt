@@ -10,7 +10,7 @@ ghost use Rattle.qm_lines.specs.Parsed.{byte_bound, byte_line, lent};
 use super::ByteCommand;
 use super::keys::key;
 use super::pieces::is;
-use crate::command::Command;
+use crate::command::{Command, ReadCommand};
 use qm_base::ByteKey;
 use std::alloc::{AllocError, Global};
 use std::ops::Bound;
@@ -78,7 +78,7 @@ pub fn range(alloc: Global, words: &[&[u8]]) -> Result<Option<ByteCommand>, Allo
 {
     match parse_ends(alloc, words)? {
         None => Ok(None),
-        Some(ends) => Ok(Some(Command::Range(ends.low, ends.high))),
+        Some(ends) => Ok(Some(Command::Read(ReadCommand::Range(ends.low, ends.high)))),
     }
 }
 
@@ -88,6 +88,6 @@ pub fn keys(alloc: Global, words: &[&[u8]]) -> Result<Option<ByteCommand>, Alloc
 {
     match parse_ends(alloc, words)? {
         None => Ok(None),
-        Some(ends) => Ok(Some(Command::Keys(ends.low, ends.high))),
+        Some(ends) => Ok(Some(Command::Read(ReadCommand::Keys(ends.low, ends.high)))),
     }
 }

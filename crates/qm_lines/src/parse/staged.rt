@@ -9,7 +9,7 @@ use super::keys::{key, metadata, some_keys, value};
 use super::merkleize::parse_merkleizing;
 use super::numbers::number;
 use super::pieces::{is, pieces};
-use crate::command::{Command, Resolution};
+use crate::command::{BatchCommand, Command, Resolution};
 use qm_base::{ByteKey, ByteValue, Slot, Write};
 use std::alloc::{AllocError, Global};
 
@@ -122,7 +122,7 @@ pub fn stage(alloc: Global, words: &[&[u8]]) -> Result<Option<ByteCommand>, Allo
 {
     match parse_keyed(alloc, words)? {
         None => Ok(None),
-        Some(keyed) => Ok(Some(Command::Stage(keyed.handle, keyed.keys))),
+        Some(keyed) => Ok(Some(Command::Batch(BatchCommand::Stage(keyed.handle, keyed.keys)))),
     }
 }
 
@@ -132,7 +132,7 @@ pub fn expand(alloc: Global, words: &[&[u8]]) -> Result<Option<ByteCommand>, All
 {
     match parse_keyed(alloc, words)? {
         None => Ok(None),
-        Some(keyed) => Ok(Some(Command::Expand(keyed.handle, keyed.keys))),
+        Some(keyed) => Ok(Some(Command::Batch(BatchCommand::Expand(keyed.handle, keyed.keys)))),
     }
 }
 
@@ -148,6 +148,6 @@ pub fn resolve(alloc: Global, words: &[&[u8]]) -> Result<Option<ByteCommand>, Al
     };
     match parse_merkleizing(alloc, handle, policy, metadata)? {
         None => Ok(None),
-        Some(m) => Ok(Some(Command::Resolve(m.handle, m.policy, m.metadata, resolution))),
+        Some(m) => Ok(Some(Command::Batch(BatchCommand::Resolve(m.handle, m.policy, m.metadata, resolution)))),
     }
 }
