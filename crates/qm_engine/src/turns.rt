@@ -80,7 +80,7 @@ fn read_turn<X: Engine<C>, C: Store, P: Policy<X::Family, X::Key, X::Value> + Tw
     session: &mut Of<X, C>,
     command: &ReadCommand<X::Key>,
 ) -> Turn<X::Key, X::Value, X::Digest>
-    ensures { Performs C.Store X.Words X.Key.bytes X.Value.bytes X.Digest.bytes (read_view X.Key.bytes X.Value.bytes command.now) (λ s. machine.turn X.scheme P.rules s (read_view X.Key.bytes X.Value.bytes command.now)) session.old session.new result }
+    ensures { Performs {P = P} C.Store X.Words X.Key.bytes X.Value.bytes X.Digest.bytes (read_view X.Key.bytes X.Value.bytes command.now) (λ s. machine.turn X.scheme P.rules s (read_view X.Key.bytes X.Value.bytes command.now)) session.old session.new result }
 {
     match command {
         ReadCommand::Get(key, from) => read_key::<X, C>(alloc, session, key, *from),
@@ -100,7 +100,7 @@ fn info_turn<X: Engine<C>, C: Store, P: Policy<X::Family, X::Key, X::Value> + Tw
     session: &mut Of<X, C>,
     command: &InfoCommand<X::Key>,
 ) -> Turn<X::Key, X::Value, X::Digest>
-    ensures { Performs C.Store X.Words X.Key.bytes X.Value.bytes X.Digest.bytes (info_view X.Key.bytes X.Value.bytes command.now) (λ s. machine.turn X.scheme P.rules s (info_view X.Key.bytes X.Value.bytes command.now)) session.old session.new result }
+    ensures { Performs {P = P} C.Store X.Words X.Key.bytes X.Value.bytes X.Digest.bytes (info_view X.Key.bytes X.Value.bytes command.now) (λ s. machine.turn X.scheme P.rules s (info_view X.Key.bytes X.Value.bytes command.now)) session.old session.new result }
 {
     match command {
         InfoCommand::Ops(number) => ops::<X, C>(alloc, session, *number),
@@ -124,7 +124,7 @@ fn store_turn<X: Engine<C>, C: Store, P: Policy<X::Family, X::Key, X::Value> + T
     command: &StoreCommand,
 ) -> (Of<X, C>, Turn<X::Key, X::Value, X::Digest>)
     requires { session.opened + 1 < 2 ^ 64 }
-    ensures { Performs C.Store X.Words X.Key.bytes X.Value.bytes X.Digest.bytes (store_view X.Key.bytes X.Value.bytes command.now) (λ s. machine.turn X.scheme P.rules s (store_view X.Key.bytes X.Value.bytes command.now)) session result.0 result.1 }
+    ensures { Performs {P = P} C.Store X.Words X.Key.bytes X.Value.bytes X.Digest.bytes (store_view X.Key.bytes X.Value.bytes command.now) (λ s. machine.turn X.scheme P.rules s (store_view X.Key.bytes X.Value.bytes command.now)) session result.0 result.1 }
 {
     match command {
         StoreCommand::Open(max_size) => open::<X, C>(alloc, config, session, *max_size),
