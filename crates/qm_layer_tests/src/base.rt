@@ -10,68 +10,71 @@ use std::alloc::{AllocError, Global};
 use std::process::Abort;
 use std::test::Fail;
 
+// Errors, and their texts.
+const TEXTS: [(Error, &str); 16] = [
+    (Error::Memory, "out of memory"),
+    (
+        Error::InvalidInitializationBound,
+        "initialization bound is 0",
+    ),
+    (
+        Error::StaleBatch,
+        "stale batch: current database state does not match the batch",
+    ),
+    (
+        Error::StaleRead,
+        "stale read: database is at no state of the batch's chain",
+    ),
+    (
+        Error::PruneBeyondMinRequired(9, 4),
+        "prune location 9 beyond minimum required location 4",
+    ),
+    (
+        Error::HistoricalFloorPruned(3),
+        "historical floor pruned for size: 3",
+    ),
+    (
+        Error::DataCorrupted(Corrupt::NoRetainedCommit),
+        "data corrupted: no retained commit",
+    ),
+    (
+        Error::DataCorrupted(Corrupt::ItemDoesNotDecode),
+        "data corrupted: item does not decode",
+    ),
+    (
+        Error::DataCorrupted(Corrupt::FloorExceedsCommit),
+        "data corrupted: inactivity floor exceeds commit location",
+    ),
+    (
+        Error::DataCorrupted(Corrupt::PrunedPastBits),
+        "data corrupted: log pruned past the bits",
+    ),
+    (
+        Error::DataCorrupted(Corrupt::HeadDoesNotMatch),
+        "data corrupted: head does not match the start",
+    ),
+    (
+        Error::DataCorrupted(Corrupt::LinksFormNoRing),
+        "data corrupted: links form no ring",
+    ),
+    (
+        Error::Merkle(MerkleError::RangeOutOfBounds(5)),
+        "merkle error: RangeOutOfBounds 5",
+    ),
+    (Error::Journal(JournalError::Store), "journal error: Store"),
+    (
+        Error::Journal(JournalError::ItemPruned(7)),
+        "journal error: ItemPruned 7",
+    ),
+    (
+        Error::Journal(JournalError::ItemTooLarge(65_546)),
+        "journal error: ItemTooLarge 65546",
+    ),
+];
+
 #[test]
 fn errors_have_text(rt: HostRuntime) -> Result<(), Fail> {
-    for (error, want) in [
-        (Error::Memory, "out of memory"),
-        (
-            Error::InvalidInitializationBound,
-            "initialization bound is 0",
-        ),
-        (
-            Error::StaleBatch,
-            "stale batch: current database state does not match the batch",
-        ),
-        (
-            Error::StaleRead,
-            "stale read: database is at no state of the batch's chain",
-        ),
-        (
-            Error::PruneBeyondMinRequired(9, 4),
-            "prune location 9 beyond minimum required location 4",
-        ),
-        (
-            Error::HistoricalFloorPruned(3),
-            "historical floor pruned for size: 3",
-        ),
-        (
-            Error::DataCorrupted(Corrupt::NoRetainedCommit),
-            "data corrupted: no retained commit",
-        ),
-        (
-            Error::DataCorrupted(Corrupt::ItemDoesNotDecode),
-            "data corrupted: item does not decode",
-        ),
-        (
-            Error::DataCorrupted(Corrupt::FloorExceedsCommit),
-            "data corrupted: inactivity floor exceeds commit location",
-        ),
-        (
-            Error::DataCorrupted(Corrupt::PrunedPastBits),
-            "data corrupted: log pruned past the bits",
-        ),
-        (
-            Error::DataCorrupted(Corrupt::HeadDoesNotMatch),
-            "data corrupted: head does not match the start",
-        ),
-        (
-            Error::DataCorrupted(Corrupt::LinksFormNoRing),
-            "data corrupted: links form no ring",
-        ),
-        (
-            Error::Merkle(MerkleError::RangeOutOfBounds(5)),
-            "merkle error: RangeOutOfBounds 5",
-        ),
-        (Error::Journal(JournalError::Store), "journal error: Store"),
-        (
-            Error::Journal(JournalError::ItemPruned(7)),
-            "journal error: ItemPruned 7",
-        ),
-        (
-            Error::Journal(JournalError::ItemTooLarge(65_546)),
-            "journal error: ItemTooLarge 65546",
-        ),
-    ] {
+    for (error, want) in TEXTS {
         let text = format!(in rt.alloc(); "{error}")?;
         assert_eq!(rt; text.as_str(), want);
     }
@@ -122,82 +125,83 @@ fn expect_key<U: Update>(
     Ok(())
 }
 
+// Bytes, their key, and whether they spell an operation of an unordered and an ordered database with lengths, and of
+// both of fixed sizes.
+const SPELLINGS: [(&[u8], &[u8], [bool; 4]); 15] = [
+    (
+        &[1, 0, 0, 0, 1, 107, 0, 0, 0, 1, 118],
+        &[107],
+        [true, false, false, false],
+    ),
+    (
+        &[1, 0, 0, 0, 1, 107, 0, 0, 0, 1, 118, 0, 0, 0, 1, 108],
+        &[107],
+        [false, true, false, false],
+    ),
+    (
+        &[2, 0, 0, 0, 2, 97, 98],
+        &[97, 98],
+        [true, true, false, false],
+    ),
+    (
+        &[3, 1, 0, 0, 0, 1, 170, 0, 0, 0, 0, 0, 0, 0, 0],
+        &[],
+        [true, true, false, false],
+    ),
+    (
+        &[1, 97, 98, 5, 6, 7, 8, 0, 0, 0, 0, 0, 0, 0],
+        &[97, 98],
+        [false, false, true, true],
+    ),
+    (
+        &[1, 97, 98, 5, 6, 7, 8, 99, 100, 0, 0, 0, 0, 0],
+        &[97, 98],
+        [false, false, false, true],
+    ),
+    (
+        &[2, 97, 98, 0, 0, 0, 0, 0, 0, 0, 0, 0, 0, 0],
+        &[97, 98],
+        [false, false, true, true],
+    ),
+    // without the last byte of padding
+    (
+        &[2, 97, 98, 0, 0, 0, 0, 0, 0, 0, 0, 0, 0],
+        &[],
+        [false, false, false, false],
+    ),
+    (
+        &[3, 1, 5, 6, 7, 8, 0, 0, 0, 0, 0, 0, 1, 2],
+        &[],
+        [false, false, true, true],
+    ),
+    // a floor of 2^62, and one above
+    (
+        &[3, 0, 64, 0, 0, 0, 0, 0, 0, 0],
+        &[],
+        [true, true, false, false],
+    ),
+    (
+        &[3, 0, 64, 0, 0, 0, 0, 0, 0, 1],
+        &[],
+        [false, false, false, false],
+    ),
+    // no tag, another tag, a length past the end, and another mark
+    (&[], &[], [false, false, false, false]),
+    (&[4, 0, 0, 0, 1, 107], &[], [false, false, false, false]),
+    (&[2, 0, 0, 0, 2, 97], &[], [false, false, false, false]),
+    (
+        &[3, 2, 0, 0, 0, 0, 0, 0, 0, 2],
+        &[],
+        [false, false, false, false],
+    ),
+];
+
 #[test]
 fn each_kind_and_size_has_its_spellings(rt: HostRuntime) -> Result<(), Fail> {
     type Variable = VariableEncoding<ByteValue>;
     type Fixed = FixedEncoding<FixedBytes<4>>;
     let alloc = rt.alloc();
-    // the bytes, their key, and whether they spell an operation of an unordered and an ordered database with lengths, and of
-    // both of fixed sizes
-    let table: [(&[u8], &[u8], [bool; 4]); 15] = [
-        (
-            &[1, 0, 0, 0, 1, 107, 0, 0, 0, 1, 118],
-            &[107],
-            [true, false, false, false],
-        ),
-        (
-            &[1, 0, 0, 0, 1, 107, 0, 0, 0, 1, 118, 0, 0, 0, 1, 108],
-            &[107],
-            [false, true, false, false],
-        ),
-        (
-            &[2, 0, 0, 0, 2, 97, 98],
-            &[97, 98],
-            [true, true, false, false],
-        ),
-        (
-            &[3, 1, 0, 0, 0, 1, 170, 0, 0, 0, 0, 0, 0, 0, 0],
-            &[],
-            [true, true, false, false],
-        ),
-        (
-            &[1, 97, 98, 5, 6, 7, 8, 0, 0, 0, 0, 0, 0, 0],
-            &[97, 98],
-            [false, false, true, true],
-        ),
-        (
-            &[1, 97, 98, 5, 6, 7, 8, 99, 100, 0, 0, 0, 0, 0],
-            &[97, 98],
-            [false, false, false, true],
-        ),
-        (
-            &[2, 97, 98, 0, 0, 0, 0, 0, 0, 0, 0, 0, 0, 0],
-            &[97, 98],
-            [false, false, true, true],
-        ),
-        // without the last byte of padding
-        (
-            &[2, 97, 98, 0, 0, 0, 0, 0, 0, 0, 0, 0, 0],
-            &[],
-            [false, false, false, false],
-        ),
-        (
-            &[3, 1, 5, 6, 7, 8, 0, 0, 0, 0, 0, 0, 1, 2],
-            &[],
-            [false, false, true, true],
-        ),
-        // a floor of 2^62, and one above
-        (
-            &[3, 0, 64, 0, 0, 0, 0, 0, 0, 0],
-            &[],
-            [true, true, false, false],
-        ),
-        (
-            &[3, 0, 64, 0, 0, 0, 0, 0, 0, 1],
-            &[],
-            [false, false, false, false],
-        ),
-        // no tag, another tag, a length past the end, and another mark
-        (&[], &[], [false, false, false, false]),
-        (&[4, 0, 0, 0, 1, 107], &[], [false, false, false, false]),
-        (&[2, 0, 0, 0, 2, 97], &[], [false, false, false, false]),
-        (
-            &[3, 2, 0, 0, 0, 0, 0, 0, 0, 2],
-            &[],
-            [false, false, false, false],
-        ),
-    ];
-    for (bytes, key, [unordered, ordered, fixed, ordered_fixed]) in table {
+    for (bytes, key, [unordered, ordered, fixed, ordered_fixed]) in SPELLINGS {
         let key_if = |is_spelled: bool| is_spelled.then_some(key);
         expect_key::<Unordered<ByteKey, Variable>>(&rt, alloc, bytes, key_if(unordered))?;
         expect_key::<Ordered<ByteKey, Variable>>(&rt, alloc, bytes, key_if(ordered))?;

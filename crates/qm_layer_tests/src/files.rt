@@ -27,14 +27,78 @@ const LONGER: &[u8] = b"\0\0\0\0\0\0\0\x01\0\0\0\x02ab\0\0\0\0\0\0\0\x05three\0\
 const ENTRIES: &[u8] =
     b"\x01\x01\x01\x01\x01\x01\x01\x01\x01\0\0\0\x01x\x02\x02\x02\x02\x02\x02\x02\x02\x02\0\0\0\0";
 
-type Files<'a> = FileStore<&'a HostRuntime>;
+/// A folder in which a store is, and its files.
+trait Folder: Copy {
+    type Kept: Store;
 
-fn open(rt: &HostRuntime) -> Result<Files<'_>, AllocError> {
-    FileStore::open(rt, rt.alloc(), FOLDER)
+    fn alloc(self) -> Global;
+
+    /// The store in the folder.
+    fn open(self) -> Result<Self::Kept, AllocError>;
+
+    /// Puts bytes behind those of a file.
+    fn add(self, path: &str, bytes: &[u8]) -> io::Result<()>;
+
+    /// Cuts a file.
+    fn cut(self, path: &str, size: u64) -> io::Result<()>;
+
+    /// Whether a file has these bytes.
+    fn has(self, path: &str, bytes: &[u8]) -> bool;
+
+    /// Makes a file of these bytes.
+    fn write(self, path: &str, bytes: &[u8]) -> io::Result<()>;
+
+    /// Takes a file away.
+    fn remove(self, path: &str) -> io::Result<()>;
+
+    /// Takes a folder away that has no files.
+    fn remove_empty(self, path: &str) -> io::Result<()>;
+}
+
+impl<'a> Folder for &'a HostRuntime {
+    type Kept = FileStore<&'a HostRuntime>;
+
+    fn alloc(self) -> Global {
+        HostRuntime::alloc(self)
+    }
+
+    fn open(self) -> Result<FileStore<&'a HostRuntime>, AllocError> {
+        FileStore::open(self, HostRuntime::alloc(self), FOLDER)
+    }
+
+    fn add(self, path: &str, bytes: &[u8]) -> io::Result<()> {
+        let mut how = OpenOptions::new();
+        how.append(true);
+        let mut file = how.open(self, path)?;
+        file.write_all(bytes)
+    }
+
+    fn cut(self, path: &str, size: u64) -> io::Result<()> {
+        let mut how = OpenOptions::new();
+        how.write(true);
+        let file = how.open(self, path)?;
+        file.set_len(size)
+    }
+
+    fn has(self, path: &str, bytes: &[u8]) -> bool {
+        matches!(fs::read(self, path), Ok(found) if found.as_slice() == bytes)
+    }
+
+    fn write(self, path: &str, bytes: &[u8]) -> io::Result<()> {
+        fs::write(self, path, bytes)
+    }
+
+    fn remove(self, path: &str) -> io::Result<()> {
+        fs::remove_file(self, path)
+    }
+
+    fn remove_empty(self, path: &str) -> io::Result<()> {
+        fs::remove_dir(self, path)
+    }
 }
 
 // Puts one item behind the last.
-fn append(store: &mut Files<'_>, alloc: Global, item: &[u8]) -> Result<(), StoreError> {
+fn append<S: Store>(store: &mut S, alloc: Global, item: &[u8]) -> Result<(), StoreError> {
     let (_, end) = store.bounds();
     if end == 1 << 62 {
         return Err(StoreError::Failed);
@@ -42,13 +106,13 @@ fn append(store: &mut Files<'_>, alloc: Global, item: &[u8]) -> Result<(), Store
     store.append(&vec![in alloc; item.to_vec(alloc)?]?)
 }
 
-fn append_none(store: &mut Files<'_>) -> Result<(), StoreError> {
+fn append_none<S: Store>(store: &mut S) -> Result<(), StoreError> {
     let _bounds = store.bounds();
     store.append(&[])
 }
 
 // The item at a location. There is none outside of the bounds.
-fn read(store: &mut Files<'_>, at: u64) -> Result<Option<Vec<u8>>, StoreError> {
+fn read<S: Store>(store: &mut S, at: u64) -> Result<Option<Vec<u8>>, StoreError> {
     let (start, end) = store.bounds();
     if at < start || end <= at {
         return Ok(None);
@@ -57,21 +121,21 @@ fn read(store: &mut Files<'_>, at: u64) -> Result<Option<Vec<u8>>, StoreError> {
 }
 
 // Whether the item at a location is this one.
-fn has(store: &mut Files<'_>, at: u64, item: &[u8]) -> bool {
+fn has<S: Store>(store: &mut S, at: u64, item: &[u8]) -> bool {
     matches!(read(store, at), Ok(Some(found)) if found.as_slice() == item)
 }
 
 // Whether the items from location 1 on begin with the last two of the three.
-fn has_rest(store: &mut Files<'_>) -> bool {
+fn has_rest<S: Store>(store: &mut S) -> bool {
     has(store, 1, b"") && has(store, 2, b"three")
 }
 
-fn has_head(store: &mut Files<'_>, head: &[u8]) -> bool {
+fn has_head<S: Store>(store: &mut S, head: &[u8]) -> bool {
     matches!(store.head(), Ok(found) if found.as_slice() == head)
 }
 
 // Takes the items from a location on away, where it is within the bounds.
-fn rewind(store: &mut Files<'_>, to: u64) -> Result<(), StoreError> {
+fn rewind<S: Store>(store: &mut S, to: u64) -> Result<(), StoreError> {
     let (start, end) = store.bounds();
     if to < start || end < to {
         return Ok(());
@@ -80,7 +144,7 @@ fn rewind(store: &mut Files<'_>, to: u64) -> Result<(), StoreError> {
 }
 
 // Takes the items before a location away, where it is within the bounds.
-fn prune(store: &mut Files<'_>, to: u64, head: &[u8]) -> Result<(), StoreError> {
+fn prune<S: Store>(store: &mut S, to: u64, head: &[u8]) -> Result<(), StoreError> {
     let (start, end) = store.bounds();
     if to < start || end < to {
         return Ok(());
@@ -100,7 +164,7 @@ fn is_entry(entry: &MetaEntry, byte: u8, value: &[u8]) -> bool {
     entry.key == [byte; 9] && entry.value.as_slice() == value
 }
 
-fn has_entries(store: &mut Files<'_>) -> bool {
+fn has_entries<S: Store>(store: &mut S) -> bool {
     match store.meta("grafted") {
         Ok(found) => match found.as_slice() {
             [first, second] => is_entry(first, 1, b"x") && is_entry(second, 2, b""),
@@ -110,29 +174,8 @@ fn has_entries(store: &mut Files<'_>) -> bool {
     }
 }
 
-fn has_no_entry(store: &mut Files<'_>, name: &str) -> bool {
+fn has_no_entry<S: Store>(store: &mut S, name: &str) -> bool {
     matches!(store.meta(name), Ok(found) if found.is_empty())
-}
-
-// Puts bytes behind those of a file.
-fn add_to_file(rt: &HostRuntime, path: &str, bytes: &[u8]) -> io::Result<()> {
-    let mut how = OpenOptions::new();
-    how.append(true);
-    let mut file = how.open(rt, path)?;
-    file.write_all(bytes)
-}
-
-// Cuts a file.
-fn cut_file(rt: &HostRuntime, path: &str, size: u64) -> io::Result<()> {
-    let mut how = OpenOptions::new();
-    how.write(true);
-    let file = how.open(rt, path)?;
-    file.set_len(size)
-}
-
-// Whether a file has these bytes.
-fn file_has(rt: &HostRuntime, path: &str, bytes: &[u8]) -> bool {
-    matches!(fs::read(rt, path), Ok(found) if found.as_slice() == bytes)
 }
 
 fn is_fault<T: Drop>(answer: Result<T, StoreError>) -> bool {
@@ -140,7 +183,7 @@ fn is_fault<T: Drop>(answer: Result<T, StoreError>) -> bool {
 }
 
 // Three items, by way of a fourth that is taken away.
-fn writes_three(store: &mut Files<'_>, alloc: Global) -> bool {
+fn writes_three<S: Store>(store: &mut S, alloc: Global) -> bool {
     append(store, alloc, b"one").is_ok()
         && append(store, alloc, b"wrong").is_ok()
         && rewind(store, 1).is_ok()
@@ -150,30 +193,30 @@ fn writes_three(store: &mut Files<'_>, alloc: Global) -> bool {
 }
 
 // A missing folder is an empty store. What is put there has its format.
-fn writes_items(rt: &HostRuntime) -> Result<bool, AllocError> {
-    let mut store = open(rt)?;
+fn writes_items<R: Folder>(rt: R) -> Result<bool, AllocError> {
+    let mut store = rt.open()?;
     Ok(
         store.bounds() == (0, 0)
             && has_head(&mut store, b"")
             && writes_three(&mut store, rt.alloc())
-            && file_has(rt, LOG, THREE),
+            && rt.has(LOG, THREE),
     )
 }
 
 // The next store has it.
-fn reads_items(rt: &HostRuntime) -> Result<bool, AllocError> {
-    let mut store = open(rt)?;
+fn reads_items<R: Folder>(rt: R) -> Result<bool, AllocError> {
+    let mut store = rt.open()?;
     Ok(store.bounds() == (0, 3) && has(&mut store, 0, b"one") && has_rest(&mut store))
 }
 
 // What stands before a location goes, with a new head, in this store and in the next.
-fn prunes(rt: &HostRuntime) -> Result<bool, AllocError> {
-    let mut store = open(rt)?;
-    Ok(prune(&mut store, 1, b"ab").is_ok() && file_has(rt, LOG, PRUNED) && has_rest(&mut store))
+fn prunes<R: Folder>(rt: R) -> Result<bool, AllocError> {
+    let mut store = rt.open()?;
+    Ok(prune(&mut store, 1, b"ab").is_ok() && rt.has(LOG, PRUNED) && has_rest(&mut store))
 }
 
-fn reads_pruned(rt: &HostRuntime) -> Result<bool, AllocError> {
-    let mut store = open(rt)?;
+fn reads_pruned<R: Folder>(rt: R) -> Result<bool, AllocError> {
+    let mut store = rt.open()?;
     Ok(store.bounds() == (1, 3) && has_head(&mut store, b"ab") && has_rest(&mut store))
 }
 
@@ -187,43 +230,43 @@ fn new_entries(alloc: Global) -> Result<Vec<MetaEntry>, AllocError> {
 }
 
 // Metadata has its format, and is replaced whole.
-fn writes_metadata(store: &mut Files<'_>, alloc: Global) -> Result<bool, AllocError> {
+fn writes_metadata<S: Store>(store: &mut S, alloc: Global) -> Result<bool, AllocError> {
     let old = old_entries(alloc)?;
     let new = new_entries(alloc)?;
     Ok(store.put_meta("grafted", &old).is_ok() && store.put_meta("grafted", &new).is_ok())
 }
 
 // A tail that is no whole entry is dropped, and another name has none.
-fn keeps_metadata(rt: &HostRuntime) -> Result<bool, AllocError> {
-    let mut store = open(rt)?;
+fn keeps_metadata<R: Folder>(rt: R) -> Result<bool, AllocError> {
+    let mut store = rt.open()?;
     Ok(
         writes_metadata(&mut store, rt.alloc())?
-            && file_has(rt, META, ENTRIES)
-            && add_to_file(rt, META, b"\x03\x03\x03\x03\x03\x03\x03\x03\x03\0\0\0\x02y").is_ok()
+            && rt.has(META, ENTRIES)
+            && rt.add(META, b"\x03\x03\x03\x03\x03\x03\x03\x03\x03\0\0\0\x02y").is_ok()
             && has_entries(&mut store)
             && has_no_entry(&mut store, "other"),
     )
 }
 
 // A tail that is no whole item is dropped, and the next item takes its place.
-fn drops_a_tail(rt: &HostRuntime) -> Result<bool, AllocError> {
-    let is_torn = add_to_file(rt, LOG, b"\0\0\0\x09torn").is_ok();
-    let mut store = open(rt)?;
+fn drops_a_tail<R: Folder>(rt: R) -> Result<bool, AllocError> {
+    let is_torn = rt.add(LOG, b"\0\0\0\x09torn").is_ok();
+    let mut store = rt.open()?;
     Ok(
         is_torn
             && store.bounds() == (1, 3)
             && append(&mut store, rt.alloc(), b"four").is_ok()
             && store.sync().is_ok()
-            && file_has(rt, LOG, LONGER)
+            && rt.has(LOG, LONGER)
             && has(&mut store, 3, b"four"),
     )
 }
 
 // A file that is cut fails a read past its end, and after a restart its end is that of the items that are left.
-fn sees_a_cut(rt: &HostRuntime) -> Result<bool, AllocError> {
-    let mut store = open(rt)?;
+fn sees_a_cut<R: Folder>(rt: R) -> Result<bool, AllocError> {
+    let mut store = rt.open()?;
     Ok(
-        cut_file(rt, LOG, 30).is_ok()
+        rt.cut(LOG, 30).is_ok()
             && is_fault(read(&mut store, 3))
             && has_rest(&mut store)
             && store.bounds() == (1, 4)
@@ -235,12 +278,12 @@ fn sees_a_cut(rt: &HostRuntime) -> Result<bool, AllocError> {
 }
 
 // A log that has others' bytes when it is read again breaks the store.
-fn sees_another(rt: &HostRuntime, log: &[u8]) -> Result<bool, AllocError> {
-    let is_first = fs::write(rt, LOG, PRUNED).is_ok();
-    let mut store = open(rt)?;
+fn sees_another<R: Folder>(rt: R, log: &[u8]) -> Result<bool, AllocError> {
+    let is_first = rt.write(LOG, PRUNED).is_ok();
+    let mut store = rt.open()?;
     Ok(
         is_first
-            && fs::write(rt, LOG, log).is_ok()
+            && rt.write(LOG, log).is_ok()
             && is_fault(store.restart(3))
             && is_fault(store.head())
             && store.faults() == 2
@@ -249,7 +292,7 @@ fn sees_another(rt: &HostRuntime, log: &[u8]) -> Result<bool, AllocError> {
 }
 
 // Whether each call fails that reads or settles.
-fn reads_fail(store: &mut Files<'_>) -> bool {
+fn reads_fail<S: Store>(store: &mut S) -> bool {
     is_fault(store.head())
         && is_fault(store.meta("grafted"))
         && is_fault(store.commit())
@@ -258,7 +301,7 @@ fn reads_fail(store: &mut Files<'_>) -> bool {
 }
 
 // Whether each call fails that writes.
-fn writes_fail(store: &mut Files<'_>) -> bool {
+fn writes_fail<S: Store>(store: &mut S) -> bool {
     is_fault(append_none(store))
         && is_fault(rewind(store, 0))
         && is_fault(prune(store, 0, &[]))
@@ -267,27 +310,27 @@ fn writes_fail(store: &mut Files<'_>) -> bool {
 }
 
 // Nothing is left in the folder.
-fn destroys(rt: &HostRuntime) -> Result<bool, AllocError> {
-    let mut store = open(rt)?;
+fn destroys<R: Folder>(rt: R) -> Result<bool, AllocError> {
+    let mut store = rt.open()?;
     Ok(
         store.destroy().is_ok()
             && store.bounds() == (0, 0)
             && has_no_entry(&mut store, "grafted")
-            && fs::remove_dir(rt, FOLDER).is_ok(),
+            && rt.remove_empty(FOLDER).is_ok(),
     )
 }
 
 // Where no folder can be, each call fails and is counted.
-fn fails_without_a_folder(rt: &HostRuntime) -> Result<bool, AllocError> {
-    let is_file = fs::write(rt, FOLDER, b"no folder".as_slice()).is_ok();
-    let mut store = open(rt)?;
+fn fails_without_a_folder<R: Folder>(rt: R) -> Result<bool, AllocError> {
+    let is_file = rt.write(FOLDER, b"no folder").is_ok();
+    let mut store = rt.open()?;
     Ok(
         is_file
             && store.bounds() == (0, 0)
             && reads_fail(&mut store)
             && writes_fail(&mut store)
             && store.faults() == 10
-            && fs::remove_file(rt, FOLDER).is_ok(),
+            && rt.remove(FOLDER).is_ok(),
     )
 }
 

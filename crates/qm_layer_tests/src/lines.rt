@@ -16,51 +16,54 @@ fn text(
     reply_text(alloc, &reply)
 }
 
+// Refusals, and their texts.
+const TEXTS: [(Refused, &str); 10] = [
+    (
+        Refused::InvalidInitializationBound,
+        "refused InvalidInitializationBound",
+    ),
+    (
+        Refused::DataCorrupted(Corrupt::NoRetainedCommit),
+        "refused DataCorrupted no retained commit",
+    ),
+    (
+        Refused::DataCorrupted(Corrupt::LinksFormNoRing),
+        "refused DataCorrupted links form no ring",
+    ),
+    (
+        Refused::DataCorrupted(Corrupt::FloorExceedsCommit),
+        "refused DataCorrupted inactivity floor exceeds commit location",
+    ),
+    (
+        Refused::DataCorrupted(Corrupt::ItemDoesNotDecode),
+        "refused DataCorrupted item does not decode",
+    ),
+    (
+        Refused::Merkle(TreeRefused::LocationOverflow(4611686018427387905)),
+        "refused Merkle LocationOverflow 4611686018427387905",
+    ),
+    (
+        Refused::Merkle(TreeRefused::ElementPruned(2)),
+        "refused Merkle ElementPruned 2",
+    ),
+    (
+        Refused::Merkle(TreeRefused::MissingNode(6)),
+        "refused Merkle MissingNode 6",
+    ),
+    (
+        Refused::Journal(LogRefused::ItemTooLarge(65546)),
+        "refused Journal ItemTooLarge 65546",
+    ),
+    (
+        Refused::Journal(LogRefused::ItemPruned(0)),
+        "refused Journal ItemPruned 0",
+    ),
+];
+
 #[test]
 fn replies_have_text(rt: HostRuntime) -> Result<(), Fail> {
     let alloc = rt.alloc();
-    for (refused, want) in [
-        (
-            Refused::InvalidInitializationBound,
-            "refused InvalidInitializationBound",
-        ),
-        (
-            Refused::DataCorrupted(Corrupt::NoRetainedCommit),
-            "refused DataCorrupted no retained commit",
-        ),
-        (
-            Refused::DataCorrupted(Corrupt::LinksFormNoRing),
-            "refused DataCorrupted links form no ring",
-        ),
-        (
-            Refused::DataCorrupted(Corrupt::FloorExceedsCommit),
-            "refused DataCorrupted inactivity floor exceeds commit location",
-        ),
-        (
-            Refused::DataCorrupted(Corrupt::ItemDoesNotDecode),
-            "refused DataCorrupted item does not decode",
-        ),
-        (
-            Refused::Merkle(TreeRefused::LocationOverflow(4611686018427387905)),
-            "refused Merkle LocationOverflow 4611686018427387905",
-        ),
-        (
-            Refused::Merkle(TreeRefused::ElementPruned(2)),
-            "refused Merkle ElementPruned 2",
-        ),
-        (
-            Refused::Merkle(TreeRefused::MissingNode(6)),
-            "refused Merkle MissingNode 6",
-        ),
-        (
-            Refused::Journal(LogRefused::ItemTooLarge(65546)),
-            "refused Journal ItemTooLarge 65546",
-        ),
-        (
-            Refused::Journal(LogRefused::ItemPruned(0)),
-            "refused Journal ItemPruned 0",
-        ),
-    ] {
+    for (refused, want) in TEXTS {
         let text = text(alloc, Reply::Refused(refused))?;
         assert_eq!(rt; text.as_slice(), want.as_bytes());
     }
