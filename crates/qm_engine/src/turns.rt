@@ -67,10 +67,14 @@ fn batch_turn<X: Engine<C>, C: Store, P: Policy<X::Family, X::Key, X::Value> + T
         BatchCommand::Tip => tip::<X, C>(alloc, session),
         BatchCommand::Put(number, key, value) => put::<X, C>(alloc, session, *number, key, value),
         BatchCommand::Del(number, key) => del::<X, C>(alloc, session, *number, key),
-        BatchCommand::Merkleize(number, policy, metadata) => merkleize::<X, C, P>(alloc, session, *number, policy, metadata),
+        BatchCommand::Merkleize(number, policy, metadata) => merkleize::<X, C, P>(
+            alloc, session, *number, policy, metadata,
+        ),
         BatchCommand::Stage(number, keys) => stage::<X, C>(alloc, session, *number, keys),
         BatchCommand::Expand(number, keys) => expand::<X, C>(alloc, session, *number, keys),
-        BatchCommand::Resolve(number, policy, metadata, resolution) => resolve::<X, C, P>(alloc, session, *number, policy, metadata, resolution),
+        BatchCommand::Resolve(number, policy, metadata, resolution) => resolve::<X, C, P>(
+            alloc, session, *number, policy, metadata, resolution,
+        ),
     }
 }
 

@@ -10,76 +10,97 @@ use std::alloc::{AllocError, Global};
 use std::process::Abort;
 use std::test::Fail;
 
-// Errors, and their texts.
-const TEXTS: [(Error, &str); 16] = [
-    (Error::Memory, "out of memory"),
-    (
-        Error::InvalidInitializationBound,
-        "initialization bound is 0",
-    ),
-    (
-        Error::StaleBatch,
-        "stale batch: current database state does not match the batch",
-    ),
-    (
-        Error::StaleRead,
-        "stale read: database is at no state of the batch's chain",
-    ),
-    (
-        Error::PruneBeyondMinRequired(9, 4),
-        "prune location 9 beyond minimum required location 4",
-    ),
-    (
-        Error::HistoricalFloorPruned(3),
-        "historical floor pruned for size: 3",
-    ),
-    (
-        Error::DataCorrupted(Corrupt::NoRetainedCommit),
-        "data corrupted: no retained commit",
-    ),
-    (
-        Error::DataCorrupted(Corrupt::ItemDoesNotDecode),
-        "data corrupted: item does not decode",
-    ),
-    (
-        Error::DataCorrupted(Corrupt::FloorExceedsCommit),
-        "data corrupted: inactivity floor exceeds commit location",
-    ),
-    (
-        Error::DataCorrupted(Corrupt::PrunedPastBits),
-        "data corrupted: log pruned past the bits",
-    ),
-    (
-        Error::DataCorrupted(Corrupt::HeadDoesNotMatch),
-        "data corrupted: head does not match the start",
-    ),
-    (
-        Error::DataCorrupted(Corrupt::LinksFormNoRing),
-        "data corrupted: links form no ring",
-    ),
-    (
-        Error::Merkle(MerkleError::RangeOutOfBounds(5)),
-        "merkle error: RangeOutOfBounds 5",
-    ),
-    (Error::Journal(JournalError::Store), "journal error: Store"),
-    (
-        Error::Journal(JournalError::ItemPruned(7)),
-        "journal error: ItemPruned 7",
-    ),
-    (
-        Error::Journal(JournalError::ItemTooLarge(65_546)),
-        "journal error: ItemTooLarge 65546",
-    ),
-];
+// Whether an error has this text.
+fn has_text(alloc: Global, error: Error, want: &str) -> Result<bool, AllocError> {
+    let text = format!(in alloc; "{error}")?;
+    Ok(text.as_str() == want)
+}
 
 #[test]
 fn errors_have_text(rt: HostRuntime) -> Result<(), Fail> {
-    for (error, want) in TEXTS {
-        let text = format!(in rt.alloc(); "{error}")?;
-        assert_eq!(rt; text.as_str(), want);
-    }
-    let text = format!(in rt.alloc(); "{}, {}", StoreError::Memory, StoreError::Failed)?;
+    let alloc = rt.alloc();
+    assert!(rt; has_text(alloc, Error::Memory, "out of memory")?);
+    assert!(rt;
+        has_text(
+            alloc,
+            Error::InvalidInitializationBound,
+            "initialization bound is 0"
+        )?
+    );
+    assert!(rt;
+        has_text(
+            alloc,
+            Error::StaleBatch,
+            "stale batch: current database state does not match the batch",
+        )?
+    );
+    assert!(rt;
+        has_text(
+            alloc,
+            Error::StaleRead,
+            "stale read: database is at no state of the batch's chain",
+        )?
+    );
+    assert!(rt;
+        has_text(
+            alloc,
+            Error::PruneBeyondMinRequired(9, 4),
+            "prune location 9 beyond minimum required location 4",
+        )?
+    );
+    assert!(rt;
+        has_text(
+            alloc,
+            Error::HistoricalFloorPruned(3),
+            "historical floor pruned for size: 3",
+        )?
+    );
+    let text = format!(in alloc; "{}, {}", StoreError::Memory, StoreError::Failed)?;
     assert_eq!(rt; text.as_str(), "out of memory, store fault");
+    Ok(())
+}
+
+// Whether data that is corrupted so has this text.
+fn is_told(alloc: Global, why: Corrupt, want: &str) -> Result<bool, AllocError> {
+    let text = format!(in alloc; "{}", Error::DataCorrupted(why))?;
+    Ok(text.strip_prefix("data corrupted: ") == Some(want))
+}
+
+#[test]
+fn corruption_has_text(rt: HostRuntime) -> Result<(), Fail> {
+    let alloc = rt.alloc();
+    assert!(rt; is_told(alloc, Corrupt::NoRetainedCommit, "no retained commit")?);
+    assert!(rt; is_told(alloc, Corrupt::ItemDoesNotDecode, "item does not decode")?);
+    assert!(rt;
+        is_told(
+            alloc,
+            Corrupt::FloorExceedsCommit,
+            "inactivity floor exceeds commit location",
+        )?
+    );
+    assert!(rt; is_told(alloc, Corrupt::PrunedPastBits, "log pruned past the bits")?);
+    assert!(rt;
+        is_told(
+            alloc,
+            Corrupt::HeadDoesNotMatch,
+            "head does not match the start"
+        )?
+    );
+    assert!(rt; is_told(alloc, Corrupt::LinksFormNoRing, "links form no ring")?);
+    Ok(())
+}
+
+#[test]
+fn lower_errors_have_text(rt: HostRuntime) -> Result<(), Fail> {
+    let alloc = rt.alloc();
+    let range = Error::Merkle(MerkleError::RangeOutOfBounds(5));
+    assert!(rt; has_text(alloc, range, "merkle error: RangeOutOfBounds 5")?);
+    let store = Error::Journal(JournalError::Store);
+    assert!(rt; has_text(alloc, store, "journal error: Store")?);
+    let pruned = Error::Journal(JournalError::ItemPruned(7));
+    assert!(rt; has_text(alloc, pruned, "journal error: ItemPruned 7")?);
+    let large = Error::Journal(JournalError::ItemTooLarge(65_546));
+    assert!(rt; has_text(alloc, large, "journal error: ItemTooLarge 65546")?);
     Ok(())
 }
 

@@ -36,6 +36,10 @@ trait Folder: Copy {
     /// The store in the folder.
     fn open(self) -> Result<Self::Kept, AllocError>;
 
+    /// Takes the items before a location away, where it is within the bounds. A store that tells of its items would ask that
+    /// these are stable.
+    fn prune(self, store: &mut Self::Kept, to: u64, head: &[u8]) -> Result<(), StoreError>;
+
     /// Puts bytes behind those of a file.
     fn add(self, path: &str, bytes: &[u8]) -> io::Result<()>;
 
@@ -64,6 +68,19 @@ impl<'a> Folder for &'a HostRuntime {
 
     fn open(self) -> Result<FileStore<&'a HostRuntime>, AllocError> {
         FileStore::open(self, HostRuntime::alloc(self), FOLDER)
+    }
+
+    fn prune(
+        self,
+        store: &mut FileStore<&'a HostRuntime>,
+        to: u64,
+        head: &[u8],
+    ) -> Result<(), StoreError> {
+        let (start, end) = store.bounds();
+        if to < start || end < to {
+            return Ok(());
+        }
+        store.prune(to, head)
     }
 
     fn add(self, path: &str, bytes: &[u8]) -> io::Result<()> {
@@ -143,15 +160,6 @@ fn rewind<S: Store>(store: &mut S, to: u64) -> Result<(), StoreError> {
     store.rewind(to)
 }
 
-// Takes the items before a location away, where it is within the bounds.
-fn prune<S: Store>(store: &mut S, to: u64, head: &[u8]) -> Result<(), StoreError> {
-    let (start, end) = store.bounds();
-    if to < start || end < to {
-        return Ok(());
-    }
-    store.prune(to, head)
-}
-
 // An entry whose key has one byte nine times.
 fn entry(alloc: Global, byte: u8, value: &[u8]) -> Result<MetaEntry, AllocError> {
     Ok(MetaEntry {
@@ -212,7 +220,7 @@ fn reads_items<R: Folder>(rt: R) -> Result<bool, AllocError> {
 // What stands before a location goes, with a new head, in this store and in the next.
 fn prunes<R: Folder>(rt: R) -> Result<bool, AllocError> {
     let mut store = rt.open()?;
-    Ok(prune(&mut store, 1, b"ab").is_ok() && rt.has(LOG, PRUNED) && has_rest(&mut store))
+    Ok(rt.prune(&mut store, 1, b"ab").is_ok() && rt.has(LOG, PRUNED) && has_rest(&mut store))
 }
 
 fn reads_pruned<R: Folder>(rt: R) -> Result<bool, AllocError> {
@@ -242,7 +250,9 @@ fn keeps_metadata<R: Folder>(rt: R) -> Result<bool, AllocError> {
     Ok(
         writes_metadata(&mut store, rt.alloc())?
             && rt.has(META, ENTRIES)
-            && rt.add(META, b"\x03\x03\x03\x03\x03\x03\x03\x03\x03\0\0\0\x02y").is_ok()
+            && rt
+                .add(META, b"\x03\x03\x03\x03\x03\x03\x03\x03\x03\0\0\0\x02y")
+                .is_ok()
             && has_entries(&mut store)
             && has_no_entry(&mut store, "other"),
     )
@@ -301,10 +311,10 @@ fn reads_fail<S: Store>(store: &mut S) -> bool {
 }
 
 // Whether each call fails that writes.
-fn writes_fail<S: Store>(store: &mut S) -> bool {
+fn writes_fail<R: Folder>(rt: R, store: &mut R::Kept) -> bool {
     is_fault(append_none(store))
         && is_fault(rewind(store, 0))
-        && is_fault(prune(store, 0, &[]))
+        && is_fault(rt.prune(store, 0, &[]))
         && is_fault(store.put_meta("grafted", &[]))
         && is_fault(store.destroy())
 }
@@ -328,7 +338,7 @@ fn fails_without_a_folder<R: Folder>(rt: R) -> Result<bool, AllocError> {
         is_file
             && store.bounds() == (0, 0)
             && reads_fail(&mut store)
-            && writes_fail(&mut store)
+            && writes_fail(rt, &mut store)
             && store.faults() == 10
             && rt.remove(FOLDER).is_ok(),
     )

@@ -1,5 +1,5 @@
 -- Worked scripts, from bytes to bytes.
-use Rattle.std.specs.Prelude.{true, ℕ, ◌≡◌, ◌+◌, ◌^◌, ◌++◌, List, [], ◌∷◌, Some, None, refl, codes, flat_map}
+use Rattle.std.specs.Prelude.{true, ℕ, ◌≡◌, ◌+◌, ◌^◌, ◌++◌, List, [], ◌∷◌, Some, None, refl, codes, flat_map, map}
 use Rattle.std.specs.List.{join_with_byte}
 use Rattle.std.specs.Fmt.{digits}
 use Rattle.hex.specs.Hex.{decode_pairs, encode_with}
@@ -11,12 +11,12 @@ use Rattle.qm_model.specs.Proofs.{ops_proof, pins_at}
 use Rattle.qm_model.specs.Policies.{Policy, policies, proportional, hold, bounded, rule}
 use Rattle.qm_model.specs.Ranges.{included, excluded, unlimited}
 use Rattle.qm_machine.specs.Lines.{Line, Open, Crash, Child, Put, Del, Merkleize, Get, Many, Next, Range, Keys, Prove, Pins, Current, Prune, Held, Absent, Chunks, Witness}
-use Rattle.qm_model.specs.Refused.{Merkle, LocationOverflow}
+use Rattle.qm_model.specs.Refused.{DataCorrupted, FloorExceedsCommit, InvalidInitializationBound, ItemDoesNotDecode, Journal, LinksFormNoRing, NoRetainedCommit, Merkle, ElementPruned, ItemPruned, ItemTooLarge, LocationOverflow, MissingNode}
 use Rattle.qm_model.specs.Refusals.{too_many}
 use Rattle.qm_model.specs.Own.{no_log}
 use Rattle.qm_machine.specs.Machine.{Scheme, initial, answers}
 use Rattle.qm_machine.specs.Grammar.{line_of, commands_in, bad_in}
-use Rattle.qm_machine.specs.Text.{text_of}
+use Rattle.qm_machine.specs.Text.{operation_text, refused_text, text_of}
 use lib.Count.{ones, ones_in}
 
 -- a hash that is the same of all bytes
@@ -497,3 +497,17 @@ one_bracket = refl
 bracket_alone : line_of (codes "keys [ *") ≡ None
 unfolding decode_pairs
 bracket_alone = refl
+
+-- what no run of the program shows so far
+refused_texts : map refused_text (InvalidInitializationBound ∷ DataCorrupted NoRetainedCommit ∷ DataCorrupted LinksFormNoRing ∷ DataCorrupted FloorExceedsCommit ∷ DataCorrupted ItemDoesNotDecode ∷ [])
+    ≡ codes "InvalidInitializationBound" ∷ codes "DataCorrupted no retained commit" ∷ codes "DataCorrupted links form no ring" ∷ codes "DataCorrupted inactivity floor exceeds commit location" ∷ codes "DataCorrupted item does not decode" ∷ []
+refused_texts = refl
+
+lower_texts : map refused_text (Merkle (LocationOverflow 4611686018427387905) ∷ Merkle (ElementPruned 2) ∷ Merkle (MissingNode 6) ∷ Journal (ItemTooLarge 65546) ∷ Journal (ItemPruned 0) ∷ [])
+    ≡ codes "Merkle LocationOverflow 4611686018427387905" ∷ codes "Merkle ElementPruned 2" ∷ codes "Merkle MissingNode 6" ∷ codes "Journal ItemTooLarge 65546" ∷ codes "Journal ItemPruned 0" ∷ []
+unfolding digits
+lower_texts = refl
+
+linked_text : operation_text (update (codes "k") (codes "v") (Some (codes "l"))) ≡ codes "U:6b=76>6c"
+unfolding encode_with
+linked_text = refl

@@ -41,7 +41,9 @@ fn info(words: &[&[u8]]) -> Option<ByteCommand>
     if words.is_empty() {
         return Some(Command::Info(InfoCommand::Info));
     }
-    only_number(words).map(InfoCommand::BatchInfo).map(Command::Info)
+    only_number(words)
+        .map(InfoCommand::BatchInfo)
+        .map(Command::Info)
 }
 
 fn root(words: &[&[u8]]) -> Option<ByteCommand>
@@ -50,7 +52,9 @@ fn root(words: &[&[u8]]) -> Option<ByteCommand>
     if words.is_empty() {
         return Some(Command::Info(InfoCommand::Root));
     }
-    only_number(words).map(InfoCommand::BatchRoot).map(Command::Info)
+    only_number(words)
+        .map(InfoCommand::BatchRoot)
+        .map(Command::Info)
 }
 
 // Perhaps up to a size.
@@ -229,13 +233,21 @@ fn chunks(words: &[&[u8]]) -> Option<ByteCommand>
 fn span(alloc: Global, words: &[&[u8]]) -> Result<Option<ByteCommand>, AllocError>
     ensures { IfOk result (λ command. option_map byte_line command ≡ grammar.only_key lines.Span (lent words.now)) }
 {
-    Ok(only_key(alloc, words)?.map(ReadCommand::Span).map(Command::Read))
+    Ok(
+        only_key(alloc, words)?
+            .map(ReadCommand::Span)
+            .map(Command::Read),
+    )
 }
 
 fn all(alloc: Global, words: &[&[u8]]) -> Result<Option<ByteCommand>, AllocError>
     ensures { IfOk result (λ command. option_map byte_line command ≡ grammar.only_key lines.All (lent words.now)) }
 {
-    Ok(only_key(alloc, words)?.map(ReadCommand::All).map(Command::Read))
+    Ok(
+        only_key(alloc, words)?
+            .map(ReadCommand::All)
+            .map(Command::Read),
+    )
 }
 
 // What a current database offers.
@@ -249,7 +261,10 @@ fn current(alloc: Global, name: &[u8], words: &[&[u8]]) -> Result<Option<ByteCom
     } else if is(name, b"chunks") {
         Ok(chunks(words))
     } else if is(name, b"witness") {
-        Ok(alone(words, Command::Info(InfoCommand::Current(Question::Witness))))
+        Ok(alone(
+            words,
+            Command::Info(InfoCommand::Current(Question::Witness)),
+        ))
     } else {
         Ok(None)
     }
@@ -260,7 +275,11 @@ fn lasting(alloc: Global, name: &[u8], words: &[&[u8]]) -> Result<Option<ByteCom
     ensures { IfOk result (λ command. option_map byte_line command ≡ grammar.form_of name.now (lent words.now) grammar.lasting_forms) }
 {
     if is(name, b"prune") {
-        Ok(only_number(words).map(StoreCommand::Prune).map(Command::Store))
+        Ok(
+            only_number(words)
+                .map(StoreCommand::Prune)
+                .map(Command::Store),
+        )
     } else if is(name, b"commit") {
         Ok(alone(words, Command::Store(StoreCommand::Commit)))
     } else if is(name, b"sync") {
@@ -270,7 +289,11 @@ fn lasting(alloc: Global, name: &[u8], words: &[&[u8]]) -> Result<Option<ByteCom
     } else if is(name, b"destroy") {
         Ok(alone(words, Command::Store(StoreCommand::Destroy)))
     } else if is(name, b"crash") {
-        Ok(only_number(words).map(StoreCommand::Crash).map(Command::Store))
+        Ok(
+            only_number(words)
+                .map(StoreCommand::Crash)
+                .map(Command::Store),
+        )
     } else {
         current(alloc, name, words)
     }
@@ -285,7 +308,11 @@ fn telling(alloc: Global, name: &[u8], words: &[&[u8]]) -> Result<Option<ByteCom
     } else if is(name, b"root") {
         Ok(root(words))
     } else if is(name, b"proof") {
-        Ok(only_number(words).map(InfoCommand::BatchProof).map(Command::Info))
+        Ok(
+            only_number(words)
+                .map(InfoCommand::BatchProof)
+                .map(Command::Info),
+        )
     } else if is(name, b"meta") {
         Ok(alone(words, Command::Info(InfoCommand::Meta)))
     } else if is(name, b"prove") {
@@ -333,7 +360,11 @@ fn staged(alloc: Global, name: &[u8], words: &[&[u8]]) -> Result<Option<ByteComm
     } else if is(name, b"resolve") {
         resolve(alloc, words)
     } else if is(name, b"apply") {
-        Ok(only_number(words).map(StoreCommand::Apply).map(Command::Store))
+        Ok(
+            only_number(words)
+                .map(StoreCommand::Apply)
+                .map(Command::Store),
+        )
     } else if is(name, b"ops") {
         Ok(only_number(words).map(InfoCommand::Ops).map(Command::Info))
     } else {

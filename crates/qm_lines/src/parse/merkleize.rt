@@ -55,6 +55,8 @@ pub fn merkleize(alloc: Global, words: &[&[u8]]) -> Result<Option<ByteCommand>, 
     };
     match parse_merkleizing(alloc, handle, policy, metadata)? {
         None => Ok(None),
-        Some(m) => Ok(Some(Command::Batch(BatchCommand::Merkleize(m.handle, m.policy, m.metadata)))),
+        Some(m) => Ok(Some(Command::Batch(BatchCommand::Merkleize(
+            m.handle, m.policy, m.metadata,
+        )))),
     }
 }

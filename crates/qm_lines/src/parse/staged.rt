@@ -148,6 +148,8 @@ pub fn resolve(alloc: Global, words: &[&[u8]]) -> Result<Option<ByteCommand>, Al
     };
     match parse_merkleizing(alloc, handle, policy, metadata)? {
         None => Ok(None),
-        Some(m) => Ok(Some(Command::Batch(BatchCommand::Resolve(m.handle, m.policy, m.metadata, resolution)))),
+        Some(m) => Ok(Some(Command::Batch(BatchCommand::Resolve(
+            m.handle, m.policy, m.metadata, resolution,
+        )))),
     }
 }
