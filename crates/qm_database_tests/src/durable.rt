@@ -1,23 +1,43 @@
 //! A database that is committed, pruned and synced, and opened again from its store with what is told of its activity bits.
 
-use crate::fixed::{Database, applied, batch_of, config, kept, key, opened};
+use crate::bed::{Bed, Database, config, kept, key};
+use crate::fixed::{Fixed, written};
 use qm_any::init_with;
-use qm_base::{Error, Sha256};
+use qm_base::{Error, Hasher, Sha256};
 use qm_index::FourCap;
 use qm_memory::MemStore;
 use qm_store::MetaEntry;
 use std::alloc::{AllocError, Global};
 use std::test::Fail;
 
-// A database with one key.
-fn filled(alloc: Global) -> Result<Database, Error> {
-    let mut db = opened(alloc, Vec::new(alloc))?;
-    let batch = batch_of(alloc, &mut db)?;
-    applied(alloc, db, &batch)
+/// A bed whose databases are opened with chunks.
+trait Chunked: Bed {
+    /// The database of the whole list that a store keeps, with chunks of activity bits, of which one or none is pruned.
+    fn with_chunks(
+        alloc: Global,
+        store: Self::Store,
+        is_pruned: bool,
+    ) -> Result<Database<Self>, Error>;
+}
+
+impl Chunked for Fixed {
+    // Mountain ranges delay no merge, so there is no threshold.
+    fn with_chunks(
+        alloc: Global,
+        store: MemStore,
+        is_pruned: bool,
+    ) -> Result<Database<Fixed>, Error> {
+        let opening = config(FourCap);
+        if is_pruned {
+            kept(init_with(alloc, store, Sha256::new(), opening, None, Some((1, None))))
+        } else {
+            kept(init_with(alloc, store, Sha256::new(), opening, None, Some((0, None))))
+        }
+    }
 }
 
 // The database, all of which is stable, pruned to its boundary, with an entry of metadata.
-fn lasting(alloc: Global, db: Database) -> Result<Database, Error> {
+fn lasting<B: Bed>(alloc: Global, db: Database<B>) -> Result<Database<B>, Error> {
     let boundary = db.sync_boundary();
     let db = kept(db.commit())?;
     let db = kept(db.prune(alloc, boundary))?;
@@ -34,41 +54,31 @@ fn entries(alloc: Global) -> Result<Vec<MetaEntry>, AllocError> {
     ]?)
 }
 
-// Where the store starts, and whether the key is still there.
-fn seen(alloc: Global, db: &mut Database) -> Result<(u64, bool), Error> {
+// Where the store starts, whether the key is still there, and how many chunks are pruned.
+fn seen<B: Bed>(alloc: Global, db: &mut Database<B>) -> Result<(u64, bool, usize), Error> {
     let (start, _) = db.bounds();
-    let value = db.get(alloc, &key(alloc)?)?;
-    Ok((start.get(), value.is_some()))
+    let key = key::<B>(alloc)?;
+    let value = db.get(alloc, &key)?;
+    Ok((start.get(), value.is_some(), db.bitmap().pruned_chunks()))
 }
 
-// The database of the whole list that a store keeps, with chunks of activity bits, of which none is pruned.
-fn reopened_with_chunks(alloc: Global, store: MemStore) -> Result<Database, Error> {
-    let none = Some((0, None));
-    kept(init_with(alloc, store, Sha256::new(), config(FourCap), None, none))
+// What a lasting database is opened as again with chunks, of which one is said to be pruned or none.
+fn again<B: Chunked>(alloc: Global, is_pruned: bool) -> Result<Database<B>, Error> {
+    let db = written::<B>(alloc)?;
+    let db = lasting::<B>(alloc, db)?;
+    B::with_chunks(alloc, db.close(), is_pruned)
 }
 
-// Why it is not opened where one chunk is said to be pruned. Mountain ranges delay no merge, so there is no threshold.
-fn refused_without_chunk(alloc: Global, store: MemStore) -> Option<Error> {
-    let one = Some((1, None));
-    let refusal: Result<Database, _> = init_with(
-        alloc,
-        store,
-        Sha256::new(),
-        config(FourCap),
-        None,
-        one,
-    );
-    kept(refusal).err()
+// What is seen where none is.
+fn seen_again<B: Chunked>(alloc: Global) -> Result<(u64, bool, usize), Error> {
+    let mut db = again::<B>(alloc, false)?;
+    seen::<B>(alloc, &mut db)
 }
 
 #[test]
 fn pruned_chunks_are_looked_at(rt: HostRuntime) -> Result<(), Fail> {
-    let alloc = rt.alloc();
-    let db = lasting(alloc, filled(alloc)?)?;
-    let mut db = reopened_with_chunks(alloc, db.close())?;
-    assert_eq!(rt; seen(alloc, &mut db)?, (2, true));
-    assert_eq!(rt; db.bitmap().pruned_chunks(), 0);
-    let refused = refused_without_chunk(alloc, db.close());
+    assert_eq!(rt; seen_again::<Fixed>(rt.alloc())?, (2, true, 0));
+    let refused = again::<Fixed>(rt.alloc(), true).err();
     assert_eq!(rt; refused, Some(Error::HistoricalFloorPruned(4)));
     Ok(())
 }

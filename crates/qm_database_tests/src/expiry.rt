@@ -4,7 +4,8 @@ ghost use Rattle.std.specs.Prelude.{◌≡◌, ◌^◌, ◌-◌, ℕ, Bool, true
 ghost use Rattle.qm_model.specs.Walk as walk;
 ghost use Rattle.qm_chain.specs.Policies.{action_view};
 
-use crate::fixed::{Database, applied, key, made_on, opened, write};
+use crate::bed::{Batch, Bed, Database, filled, key, made_on, write};
+use crate::fixed::Fixed;
 use qm_base::{ByteString, Error};
 use qm_chain::{Decision, Entry, Limits, Policy};
 use std::alloc::{AllocError, Global};
@@ -56,24 +57,28 @@ impl<F, K: ByteString, V: ByteString> Policy<F, K, V> for Expiry {
 }
 
 // A database with a value that is valid up to block 7.
-fn filled(alloc: Global) -> Result<Database, Error> {
-    let mut db = opened(alloc, Vec::new(alloc))?;
-    let dated = write(alloc, 7)?;
-    let batch = made_on(alloc, dated, &mut db, &mut Expiry { block: 1 })?;
-    applied(alloc, db, &batch)
+fn dated<B: Bed>(alloc: Global) -> Result<Database<B>, Error> {
+    let dated = write::<B>(alloc, 7)?;
+    filled::<B, Expiry>(alloc, u64::MAX, dated, &mut Expiry { block: 1 })
+}
+
+// Whether the key has a value in a batch.
+fn is_live<B: Bed>(alloc: Global, batch: &Batch<B>, db: &mut Database<B>) -> Result<bool, Error> {
+    let key = key::<B>(alloc)?;
+    let value = batch.get(alloc, &key, db)?;
+    Ok(value.is_some())
 }
 
 // Whether the key has a value in the batch at this block.
-fn is_kept_at(alloc: Global, block: u8) -> Result<bool, Error> {
-    let mut db = filled(alloc)?;
-    let batch = made_on(alloc, Vec::new(alloc), &mut db, &mut Expiry { block })?;
-    let value = batch.get(alloc, &key(alloc)?, &mut db)?;
-    Ok(value.is_some())
+fn is_kept_at<B: Bed>(alloc: Global, block: u8) -> Result<bool, Error> {
+    let mut db = dated::<B>(alloc)?;
+    let batch = made_on::<B, Expiry>(alloc, Vec::new(alloc), &mut db, &mut Expiry { block })?;
+    is_live::<B>(alloc, &batch, &mut db)
 }
 
 #[test]
 fn expired_values_are_dropped(rt: HostRuntime) -> Result<(), Fail> {
-    assert!(rt; is_kept_at(rt.alloc(), 7)?);
-    assert!(rt; !is_kept_at(rt.alloc(), 8)?);
+    assert!(rt; is_kept_at::<Fixed>(rt.alloc(), 7)?);
+    assert!(rt; !is_kept_at::<Fixed>(rt.alloc(), 8)?);
     Ok(())
 }

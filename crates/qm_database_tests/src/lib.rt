@@ -2,6 +2,8 @@
 #![tactic(auto)]
 
 #[cfg(test)]
+mod bed;
+#[cfg(test)]
 mod chains;
 #[cfg(test)]
 mod durable;

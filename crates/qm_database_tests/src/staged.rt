@@ -1,11 +1,19 @@
 //! How often a store is read where keys are staged, seen by the number of the first call that never comes: a store in memory
 //! numbers its calls and fails at those that are listed.
 
-use crate::fixed::{Database, Key, Value, Writes, applied, made, made_on, opened};
-use qm_base::{ByteString, Error, Slot};
+use crate::bed::{Bed, Begun, Database, Key, Value, Writes, filled, made, of_bytes};
+use crate::fixed::Fixed;
+use qm_any::staged::Staged;
+use qm_base::{Error, Hasher, Slot};
 use qm_chain::Hold;
 use std::alloc::{AllocError, Global};
 use std::test::Fail;
+
+type StagedKeys<B> = Staged<
+    <B as Bed>::Family,
+    <<B as Bed>::Hasher as Hasher>::Digest,
+    <B as Bed>::Pair,
+>;
 
 /// How keys are read and written.
 #[derive(Clone, Copy, PartialEq, Eq)]
@@ -19,76 +27,113 @@ enum Way {
 }
 
 // Two keys.
-fn keys(alloc: Global) -> Result<Vec<Key>, AllocError> {
-    Ok(vec![in alloc;
-        Key::from_bytes(alloc, &[1, 2, 3, 4])?,
-        Key::from_bytes(alloc, &[5, 6, 7, 8])?,
-    ]?)
+fn keys<B: Bed>(alloc: Global) -> Result<Vec<Key<B>>, AllocError> {
+    let mut keys = Vec::new(alloc);
+    keys.push(of_bytes(alloc, &[1, 2, 3, 4])?)?;
+    keys.push(of_bytes(alloc, &[5, 6, 7, 8])?)?;
+    Ok(keys)
 }
 
-fn value(alloc: Global) -> Result<Value, AllocError> {
-    Value::from_bytes(alloc, &[9; 8])
+fn value<B: Bed>(alloc: Global) -> Result<Value<B>, AllocError> {
+    of_bytes(alloc, &[9; 8])
 }
 
 // Writes of the two keys.
-fn writes(alloc: Global) -> Result<Writes, AllocError> {
+fn writes<B: Bed>(alloc: Global) -> Result<Writes<B>, AllocError> {
     let mut writes = Vec::new(alloc);
-    for key in keys(alloc)? {
-        writes.push((key, Some(value(alloc)?)))?;
+    for key in keys::<B>(alloc)? {
+        writes.push((key, Some(value::<B>(alloc)?)))?;
     }
     Ok(writes)
 }
 
+// Slots that write both.
+fn slots<B: Bed>(alloc: Global) -> Result<Vec<Slot<Value<B>>>, AllocError> {
+    let mut slots = Vec::new(alloc);
+    for _ in 0..2 {
+        slots.push(Slot::Put(value::<B>(alloc)?))?;
+    }
+    Ok(slots)
+}
+
 // A database in which the two keys are live, over a store that fails at this call.
-fn filled(alloc: Global, fail: u64) -> Result<Database, Error> {
-    let mut db = opened(alloc, vec![in alloc; fail]?)?;
-    let batch = made_on(alloc, writes(alloc)?, &mut db, &mut Hold)?;
-    applied(alloc, db, &batch)
+fn held<B: Bed>(alloc: Global, fail: u64) -> Result<Database<B>, Error> {
+    let writes = writes::<B>(alloc)?;
+    filled::<B, Hold>(alloc, fail, writes, &mut Hold)
+}
+
+// Reads the two keys through a batch.
+fn read<B: Bed>(alloc: Global, batch: &Begun<B>, db: &mut Database<B>) -> Result<(), Error> {
+    for key in keys::<B>(alloc)? {
+        batch.get(alloc, &key, db)?;
+    }
+    Ok(())
 }
 
 // Reads the two keys, and writes them again in a batch.
-fn read_and_write(alloc: Global, db: &mut Database) -> Result<(), Error> {
+fn read_and_write<B: Bed>(alloc: Global, db: &mut Database<B>) -> Result<(), Error> {
+    let writes = writes::<B>(alloc)?;
     let batch = db.new_batch(alloc)?;
-    for key in keys(alloc)? {
-        batch.get(alloc, &key, db)?;
+    read::<B>(alloc, &batch, db)?;
+    made::<B, Hold>(alloc, batch, writes, db, &mut Hold)?;
+    Ok(())
+}
+
+// Writes the staged keys by their slots.
+fn resolved<B: Bed>(
+    alloc: Global,
+    staged: StagedKeys<B>,
+    db: &mut Database<B>,
+) -> Result<(), Error> {
+    let slots = slots::<B>(alloc)?;
+    if slots.len() != staged.len() {
+        return Err(Error::StaleBatch);
     }
-    made(alloc, batch, writes(alloc)?, db, &mut Hold)?;
+    let others = Vec::new(alloc);
+    staged.merkleize(alloc, &slots, &others, db, None, &mut Hold)?;
     Ok(())
 }
 
 // Stages the two keys, and writes them again by their slots.
-fn stage_and_write(alloc: Global, db: &mut Database) -> Result<(), Error> {
-    let (_, staged) = db.new_batch(alloc)?.stage(alloc, keys(alloc)?, db)?;
-    let slots = vec![in alloc; Slot::Put(value(alloc)?), Slot::Put(value(alloc)?)]?;
-    if slots.len() != staged.len() {
-        return Err(Error::StaleBatch);
-    }
-    staged.merkleize(alloc, &slots, &[], db, None, &mut Hold)?;
-    Ok(())
+fn stage_and_write<B: Bed>(alloc: Global, db: &mut Database<B>) -> Result<(), Error> {
+    let keys = keys::<B>(alloc)?;
+    let (_, staged) = db.new_batch(alloc)?.stage(alloc, keys, db)?;
+    resolved::<B>(alloc, staged, db)
 }
 
-// Does it in this way, over a store that fails at this call.
-fn done(alloc: Global, fail: u64, way: Way) -> Result<(), Error> {
-    let mut db = filled(alloc, fail)?;
+// Does it in this way.
+fn done_in<B: Bed>(alloc: Global, db: &mut Database<B>, way: Way) -> Result<(), Error> {
     match way {
         Way::Neither => Ok(()),
-        Way::Plain => read_and_write(alloc, &mut db),
-        Way::Staged => stage_and_write(alloc, &mut db),
+        Way::Plain => read_and_write::<B>(alloc, db),
+        Way::Staged => stage_and_write::<B>(alloc, db),
     }
+}
+
+// The same over a store that fails at this call.
+fn done<B: Bed>(alloc: Global, fail: u64, way: Way) -> Result<(), Error> {
+    let mut db = held::<B>(alloc, fail)?;
+    done_in::<B>(alloc, &mut db, way)
 }
 
 // How many calls of the store it takes, where these are fewer than a hundred.
-fn calls(alloc: Global, way: Way) -> u64 {
-    (0..100)
-        .find(|fail| done(alloc, *fail, way).is_ok())
-        .unwrap_or(100)
+fn calls<B: Bed>(alloc: Global, way: Way) -> u64 {
+    for fail in 0..100 {
+        if done::<B>(alloc, fail, way).is_ok() {
+            return fail;
+        }
+    }
+    100
 }
 
 #[test]
 fn a_staged_key_is_read_once(rt: HostRuntime) -> Result<(), Fail> {
     let alloc = rt.alloc();
-    let before = calls(alloc, Way::Neither);
-    assert_eq!(rt; calls(alloc, Way::Plain), before.saturating_add(4));
-    assert_eq!(rt; calls(alloc, Way::Staged), before.saturating_add(2));
+    let before = calls::<Fixed>(alloc, Way::Neither);
+    assert_eq!(rt; calls::<Fixed>(alloc, Way::Plain), before.saturating_add(4));
+    assert_eq!(rt;
+        calls::<Fixed>(alloc, Way::Staged),
+        before.saturating_add(2)
+    );
     Ok(())
 }
