@@ -135,12 +135,13 @@ fn expect_key<U: Update>(
     rt: &impl Abort,
     alloc: Global,
     bytes: &[u8],
-    want: Option<&[u8]>,
+    key: &[u8],
+    is_spelled: bool,
 ) -> Result<(), AllocError> {
     let found = key_spelled_by::<U>(alloc, bytes)?;
     assert_eq!(rt;
         found.as_ref().map(|key| key.as_slice()),
-        want,
+        is_spelled.then_some(key),
         "at {bytes:?}"
     );
     Ok(())
@@ -223,11 +224,10 @@ fn each_kind_and_size_has_its_spellings(rt: HostRuntime) -> Result<(), Fail> {
     type Fixed = FixedEncoding<FixedBytes<4>>;
     let alloc = rt.alloc();
     for (bytes, key, [unordered, ordered, fixed, ordered_fixed]) in SPELLINGS {
-        let key_if = |is_spelled: bool| is_spelled.then_some(key);
-        expect_key::<Unordered<ByteKey, Variable>>(&rt, alloc, bytes, key_if(unordered))?;
-        expect_key::<Ordered<ByteKey, Variable>>(&rt, alloc, bytes, key_if(ordered))?;
-        expect_key::<Unordered<FixedBytes<2>, Fixed>>(&rt, alloc, bytes, key_if(fixed))?;
-        expect_key::<Ordered<FixedBytes<2>, Fixed>>(&rt, alloc, bytes, key_if(ordered_fixed))?;
+        expect_key::<Unordered<ByteKey, Variable>>(&rt, alloc, bytes, key, unordered)?;
+        expect_key::<Ordered<ByteKey, Variable>>(&rt, alloc, bytes, key, ordered)?;
+        expect_key::<Unordered<FixedBytes<2>, Fixed>>(&rt, alloc, bytes, key, fixed)?;
+        expect_key::<Ordered<FixedBytes<2>, Fixed>>(&rt, alloc, bytes, key, ordered_fixed)?;
     }
     Ok(())
 }

@@ -344,17 +344,34 @@ fn fails_without_a_folder<R: Folder>(rt: R) -> Result<bool, AllocError> {
     )
 }
 
+// What is put into a folder is there, and the next store has it.
+fn keeps<R: Folder>(rt: R) -> Result<bool, AllocError> {
+    Ok(
+        writes_items(rt)?
+            && reads_items(rt)?
+            && prunes(rt)?
+            && reads_pruned(rt)?
+            && keeps_metadata(rt)?,
+    )
+}
+
+// What others do to its files is seen, and where it can't be there nothing is kept.
+fn sees<R: Folder>(rt: R) -> Result<bool, AllocError> {
+    Ok(
+        drops_a_tail(rt)?
+            && sees_a_cut(rt)?
+            && sees_another(rt, THREE)?
+            && sees_another(rt, LONGER)?
+            && destroys(rt)?
+            && fails_without_a_folder(rt)?,
+    )
+}
+
 #[test]
 fn a_folder_keeps_a_store(rt: HostRuntime) -> Result<(), Fail> {
     let _ = fs::remove_dir_all(&rt, FOLDER);
     let _ = fs::remove_file(&rt, FOLDER);
-    assert!(rt; writes_items(&rt)? && reads_items(&rt)?);
-    assert!(rt; prunes(&rt)? && reads_pruned(&rt)?);
-    assert!(rt; keeps_metadata(&rt)?);
-    assert!(rt; drops_a_tail(&rt)?);
-    assert!(rt; sees_a_cut(&rt)?);
-    assert!(rt; sees_another(&rt, THREE)? && sees_another(&rt, LONGER)?);
-    assert!(rt; destroys(&rt)?);
-    assert!(rt; fails_without_a_folder(&rt)?);
+    assert!(rt; keeps(&rt)?);
+    assert!(rt; sees(&rt)?);
     Ok(())
 }
