@@ -1,5 +1,5 @@
 -- What a command does that leaves all but the items of its store, as what any command does.
-use Rattle.std.proofs.Common.{◌≡◌, ◌≢◌, ◌+◌, ◌≤◌, inl, [], Option, Some, None, arith, refl, ap, sym, subst, ◌∙◌, append-nil}
+use Rattle.std.proofs.Common.{◌≡◌, ◌≢◌, inl, [], Option, Some, None, arith, refl, ap, sym, ◌∙◌, append-nil}
 use Rattle.qm_model.specs.Operations.{Bytes}
 use Rattle.qm_model.specs.StoreModel.{Stored, Turns, beside_items, without_items}
 use Rattle.qm_machine.specs.Lines.{Line, Answer}
@@ -10,7 +10,7 @@ use Rattle.qm_engine.specs.declared.words.Words as words
 use Rattle.qm_engine.specs.declared.session.Session.{Session}
 use Rattle.qm_engine.specs.declared.session.Turn.{Turn}
 use Rattle.qm_engine.specs.declared.session.Turn.TheVariants.{Reply, Memory, StoreFault}
-use Rattle.qm_engine.specs.Stores.{IsBeside, HasLog}
+use Rattle.qm_engine.specs.Stores.{IsBeside}
 use Rattle.qm_engine.specs.Session.{Obeys, ObeysSteady, Leaves, LeavesSteady, IfReply, Uses, Handles, HandlesLine, IsChosen, Performs}
 use Rattle.qm_engine.proofs.Commands.{left_none, stored-same}
 

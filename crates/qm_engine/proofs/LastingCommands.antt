@@ -2,6 +2,7 @@
 use Rattle.std.proofs.Common.{◌≡◌, ◌⊎◌, inl, inr, ℕ, ◌≤◌, ◌<◌, Bool, true, false, cond, List, [], ◌∷◌, ◌++◌, length, take, Option, Some, None, Result, Ok, Err, IfSome, IfOk, IfErr, arith, refl, sym, ◌∙◌, ap, subst, le_refl, append-nil, length-take-le}
 use Rattle.std.specs.Prelude.{slice_index_or, min, max, nat_lt, ◌^◌}
 use Rattle.std.proofs.lemmas.Bool.{cases_lt, lt-ltb, le-ltb}
+use Rattle.qm_model.specs.Trees.{peaks}
 use Rattle.qm_model.specs.Causes.{Rose}
 use Rattle.qm_model.specs.Live.{floor}
 use Rattle.qm_model.specs.Operations.{Bytes, Operation}
@@ -39,7 +40,7 @@ use Rattle.qm_engine.specs.Turn.{turn_of_error, turn_of_tree, given_after, turn_
 use Rattle.qm_engine.specs.Words.{IsSettling, IsHeadOf, IsPruned, IsUnpruned, IsGivenUp}
 use Rattle.qm_engine.specs.Stores.{HasLog, IsBeside, IsLeft, moved, emptied, head_at, pruned_from, LeavesPruning}
 use Rattle.qm_engine.specs.Session.{HeldIs, Holds, Handles, HandlesLine}
-use Rattle.qm_engine.proofs.Lasting.{became, turned-each, turns-same, turns-beside, has-settled, has-emptied, has-pruned, has-restarted, left_imaged, left_restarted, left_destroyed, left_pruned}
+use Rattle.qm_engine.proofs.LastingStores.{became, turned-each, turns-same, turns-beside, has-settled, has-emptied, has-pruned, has-restarted, left_imaged, left_restarted, left_destroyed, left_pruned}
 use Rattle.qm_engine.proofs.Commands.{left_none, left_stable, no_refusal, with_held, with_list, Turns}
 
 -- a store alone, without a database
@@ -113,7 +114,7 @@ module _ {X C B S M K V D : Type 0} (members : stores.Ghosts C) (means : words.G
   imaged-beside s t r = let i = r.left in (ap (λ x. x.metadata) r.reads ∙ ap (λ x. x.metadata) i.same, ap (λ x. x.ends) r.reads ∙ ap (λ x. x.ends) i.same)
 
   -- A commit or a sync of a database.
-  module _ (x : X) (settling : Result X (Refusal X C)) (table : List (Slot B S M)) (opened : ℕ) (s : State) (k : Holds members means (Database x) table opened s) (done : IsSettling means members x settling) where
+  module _ (x : X) (settling : Result X (Refusal X C)) (table : List (Slot B S M)) (opened : ℕ) (s : State) (k : Holds members means (Database x) table opened s) (done : IsSettling means members x settling) (peakless : peaks means.scheme.shape 0 ≡ []) where
     pub settled_turn : Goes (turn_settled settling) (given_after settling) table opened (machine.commit s)
     settled_turn = by settling done
       where
@@ -125,7 +126,7 @@ module _ {X C B S M K V D : Type 0} (members : stores.Ghosts C) (means : words.G
               refl,
               record {
                 database = subst (HeldIs members means s.had (Database after)) (sym is) (done.stands list stands, in_had);
-                store = record { start = done.start ∙ k.store.start; told = has-settled means.scheme means.bare (members.told (means.inside x)) (members.told (means.inside after)) s.log k.store.told (omega (arith, k.start, k.within)) done.told };
+                store = record { start = done.start ∙ k.store.start; told = has-settled means.scheme peakless (members.told (means.inside x)) (members.told (means.inside after)) s.log k.store.told (omega (arith, k.start, k.within)) done.told };
                 start = omega (arith, k.start, k.within);
                 low = k.low;
                 within = le_refl (length s.log.list);
@@ -143,13 +144,13 @@ module _ {X C B S M K V D : Type 0} (members : stores.Ghosts C) (means : words.G
         by (Ok after) done = left_whole
           where
             has : HasLog means.scheme (members.told (means.inside after)) (machine.settled s.log)
-            has = has-settled means.scheme means.bare (members.told (means.inside x)) (members.told (means.inside after)) s.log k.store.told (omega (arith, k.start, k.within)) done.told
+            has = has-settled means.scheme peakless (members.told (means.inside x)) (members.told (means.inside after)) s.log k.store.told (omega (arith, k.start, k.within)) done.told
 
             left_whole : IsLeft means.scheme (members.told (means.inside after)) s.log (machine.settled s.log)
             left_whole = left_stable means.scheme (members.told (means.inside after)) s.log (machine.settled s.log) (length s.log.list) k.within has
         by (Err r) done =
             subst (λ given. IsLeft means.scheme (members.told (store_given means.inside given)) s.log (machine.settled s.log)) (sym done.failed.given)
-            (left_imaged means.scheme means.bare (members.told (means.inside x)) (members.told done.failed.store) s.log (machine.settled s.log) k.store.told k.start k.within refl done.failed.told)
+            (left_imaged means.scheme peakless (members.told (means.inside x)) (members.told done.failed.store) s.log (machine.settled s.log) k.store.told k.start k.within refl done.failed.told)
 
   pub settled_handles : (x : X) (settling : Result X (Refusal X C)) → IsSettling means members x settling → Handles members (means.inside x) (store_given means.inside (given_after settling)) (turn_settled {K = K} {V = V} {D = D} settling)
   settled_handles x (Ok after) done = record {
@@ -166,7 +167,7 @@ module _ {X C B S M K V D : Type 0} (members : stores.Ghosts C) (means : words.G
       }
 
   -- A prune of a database.
-  module _ (x : X) (pruning : Result X (Refusal X C)) (table : List (Slot B S M)) (opened : ℕ) (s : State) (k : Holds members means (Database x) table opened s) (steady : IsSteady means.scheme s) (to : ℕ) where
+  module _ (x : X) (pruning : Result X (Refusal X C)) (table : List (Slot B S M)) (opened : ℕ) (s : State) (k : Holds members means (Database x) table opened s) (steady : IsSteady means.scheme s) (to : ℕ) (peakless : peaks means.scheme.shape 0 ≡ []) where
     -- the list, with a location within its boundary
     module _ (list : List Operation) (is : s.database ≡ Some list) (stands : means.stands x list) (within : to ≤ means.scheme.boundary list) where
       same-list : s.log.list ≡ list
@@ -190,7 +191,7 @@ module _ {X C B S M K V D : Type 0} (members : stores.Ghosts C) (means : words.G
 
       pruned_told : (after : X) → IsPruned means members to x after → HasLog means.scheme (members.told (means.inside after)) (machine.pruned to s.log)
       pruned_told after done =
-          has-pruned means.scheme means.bare (members.told (means.inside x)) (members.told (means.inside after)) s.log to done.head k.store.told (omega (arith, k.start, k.within))
+          has-pruned means.scheme peakless (members.told (means.inside x)) (members.told (means.inside after)) s.log to done.head k.store.told (omega (arith, k.start, k.within))
           (λ behind. head_is done.head (done.heads (subst (λ n. n < to) (sym k.store.start) behind)))
           (subst (λ n. Becomes (members.told (means.inside x)) (members.told (means.inside after)) (pruned_from n to done.head)) k.store.start done.told)
 
@@ -254,7 +255,7 @@ module _ {X C B S M K V D : Type 0} (members : stores.Ghosts C) (means : words.G
             (with_held members means x s.had s.database s (λ list. machine.prune_in means.scheme s to list) (Left up.store) k.database
             (λ list is stands in_had. let within = fits list stands in
             pruned_as list is stands within (Left up.store)
-            (left_pruned means.scheme means.bare (members.told (means.inside x)) (members.told up.store) s.log (members.start (means.inside x)) to (IsHeadOf means x to) k.store.start k.store.told k.start k.within (far list is stands within) (head_is list is stands within) up.told)))
+            (left_pruned means.scheme peakless (members.told (means.inside x)) (members.told up.store) s.log (members.start (means.inside x)) to (IsHeadOf means x to) k.store.start k.store.told k.start k.within (far list is stands within) (head_is list is stands within) up.told)))
 
   -- what a prune leaves as it is
   pruned-beside : (start to : ℕ) (head : Bytes) (s t : Stored) → t ≡ pruned_from start to head s → (t.metadata ≡ s.metadata) × (t.ends ≡ s.ends)
@@ -304,7 +305,7 @@ module _ {X C B S M K V D : Type 0} (members : stores.Ghosts C) (means : words.G
       (λ list is stands in_had. left_none means.scheme s.log s.log (members.told (means.inside x)) k.store.told)
 
   -- A store is emptied.
-  module _ (x : X) (table : List (Slot B S M)) (opened : ℕ) (s : State) (k : Holds members means (Database x) table opened s) where
+  module _ (x : X) (table : List (Slot B S M)) (opened : ℕ) (s : State) (k : Holds members means (Database x) table opened s) (peakless : peaks means.scheme.shape 0 ≡ []) where
     pub destroyed_turn : (c : C) → members.start c ≡ 0 → Becomes (members.told (means.inside x)) (members.told c) destroyed → Goes (Reply replies.Done) (Store c) table opened (machine.destroy s)
     destroyed_turn c start made =
         with_held members means x s.had s.database s (λ list. (lines.Done, record (machine.closed s) { log = no_log })) (Goes (Reply replies.Done) (Store c) table opened) k.database
@@ -312,7 +313,7 @@ module _ {X C B S M K V D : Type 0} (members : stores.Ghosts C) (means : words.G
           refl,
           record {
             database = tt;
-            store = record { start = start; told = has-emptied means.scheme means.bare (members.told (means.inside x)) (members.told c) s.log k.store.told made };
+            store = record { start = start; told = has-emptied means.scheme peakless (members.told (means.inside x)) (members.told c) s.log k.store.told made };
             start = omega arith;
             low = tt;
             within = omega arith;
@@ -325,7 +326,7 @@ module _ {X C B S M K V D : Type 0} (members : stores.Ghosts C) (means : words.G
     pub destroyed_left : (c : C) → Becomes (members.told (means.inside x)) (members.told c) destroyed → IsLeft means.scheme (members.told c) s.log ((machine.destroy s).1).log
     destroyed_left c made =
         with_held members means x s.had s.database s (λ list. (lines.Done, record (machine.closed s) { log = no_log })) (λ next. IsLeft means.scheme (members.told c) s.log (next.1).log) k.database
-        (λ list is stands in_had. record { log = no_log; has = has-emptied means.scheme means.bare (members.told (means.inside x)) (members.told c) s.log k.store.told made; may = emptied refl })
+        (λ list is stands in_had. record { log = no_log; has = has-emptied means.scheme peakless (members.told (means.inside x)) (members.told c) s.log k.store.told made; may = emptied refl })
 
     pub undestroyed_turn : (given : Given X C) (error : Error) → refusal_of error ≡ None → Goes (turn_of_error error) given table opened (machine.destroy s)
     undestroyed_turn given error never = no_refusal error _ never
@@ -334,7 +335,7 @@ module _ {X C B S M K V D : Type 0} (members : stores.Ghosts C) (means : words.G
     undestroyed_left refusal failed =
         subst (λ given. IsLeft means.scheme (members.told (store_given means.inside given)) s.log ((machine.destroy s).1).log) (sym failed.given)
         (with_held members means x s.had s.database s (λ list. (lines.Done, record (machine.closed s) { log = no_log })) (λ next. IsLeft means.scheme (members.told failed.store) s.log (next.1).log) k.database
-        (λ list is stands in_had. left_destroyed means.scheme means.bare (members.told (means.inside x)) (members.told failed.store) s.log k.store.told k.start k.within failed.told))
+        (λ list is stands in_had. left_destroyed means.scheme peakless (members.told (means.inside x)) (members.told failed.store) s.log k.store.told k.start k.within failed.told))
 
   destroy-beside : (s t : Stored) → DestroyLeaves s t → (t ≡ t) × IsBeside [] s t
   destroy-beside s t (inl r) = let same = imaged-beside s t r in (refl, record { metadata = inl same.0; ends = same.1 ∙ sym (append-nil s.ends) })
@@ -359,12 +360,12 @@ module _ {X C B S M K V D : Type 0} (members : stores.Ghosts C) (means : words.G
       }
 
   -- A crash.
-  module _ (held : Given X C) (table : List (Slot B S M)) (opened : ℕ) (s : State) (k : Holds members means held table opened s) (c : C) where
+  module _ (held : Given X C) (table : List (Slot B S M)) (opened : ℕ) (s : State) (k : Holds members means held table opened s) (c : C) (peakless : peaks means.scheme.shape 0 ≡ []) where
     -- the store chose the first of the ends to come
     pub crashed_turn : (more rest : List ℕ) → model.Turns (members.told (store_given means.inside held)) (members.told c) HasRestarted → members.start c ≡ members.start (store_given means.inside held)
         → model.Turns (members.told (store_given means.inside held)) (members.told c) (IsBeside more) → s.choices ≡ more ++ rest → Goes (Reply replies.Done) (Store c) table opened (machine.crash s)
     crashed_turn more rest made start told choices apart =
-        let r = has-restarted means.scheme means.bare (members.told (store_given means.inside held)) (members.told c) s.log more rest k.store.told k.start k.within made told in
+        let r = has-restarted means.scheme peakless (members.told (store_given means.inside held)) (members.told c) s.log more rest k.store.told k.start k.within made told in
         let chosen : slice_index_or s.choices 0 0 ≡ r.0 = ap (λ xs. slice_index_or xs 0 0) (choices ∙ ap (λ xs. xs ++ rest) r.3) in
         let low = r.1 in
         let high = r.2 in
@@ -386,10 +387,10 @@ module _ {X C B S M K V D : Type 0} (members : stores.Ghosts C) (means : words.G
     at-end chosen log within = omega (arith, length-take-le (max log.stable (min (length log.list) chosen)) log.list (omega (arith, within)))
 
     pub crashed_left : model.Turns (members.told (store_given means.inside held)) (members.told c) HasRestarted → IsLeft means.scheme (members.told c) s.log ((machine.crash s).1).log
-    crashed_left made = left_restarted means.scheme means.bare (members.told (store_given means.inside held)) (members.told c) s.log ((machine.crash s).1).log k.store.told k.start k.within (at-end _ s.log k.within) made
+    crashed_left made = left_restarted means.scheme peakless (members.told (store_given means.inside held)) (members.told c) s.log ((machine.crash s).1).log k.store.told k.start k.within (at-end _ s.log k.within) made
 
     pub uncrashed_left : model.Turns (members.told (store_given means.inside held)) (members.told c) (λ t. ReadsAs t.stable (IsImage t)) → IsLeft means.scheme (members.told c) s.log ((machine.crash s).1).log
-    uncrashed_left made = left_imaged means.scheme means.bare (members.told (store_given means.inside held)) (members.told c) s.log ((machine.crash s).1).log k.store.told k.start k.within (at-end _ s.log k.within) made
+    uncrashed_left made = left_imaged means.scheme peakless (members.told (store_given means.inside held)) (members.told c) s.log ((machine.crash s).1).log k.store.told k.start k.within (at-end _ s.log k.within) made
 
   restarted-beside : (o new : Option Stored) → model.Turns o new HasRestarted → (to : ℕ) × model.Turns o new (IsBeside (to ∷ []))
   restarted-beside None new is = (0, is)

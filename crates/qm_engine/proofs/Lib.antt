@@ -1,5 +1,5 @@
 pub mod Tables
-pub mod Lasting
+pub mod LastingStores
 pub mod Handling
 pub mod Commands
 pub mod BatchCommands

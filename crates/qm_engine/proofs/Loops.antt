@@ -28,7 +28,7 @@ use Rattle.qm_engine.specs.declared.table.Slot.TheVariants.{Gone, Writing, Stage
 use Rattle.qm_machine.specs.Machine as machine
 use Rattle.qm_engine.specs.Session.{HeldIs, SlotIs, Holds, Stands, IsChosen}
 use Rattle.qm_engine.specs.Stores.{IsBeside}
-use Rattle.qm_engine.proofs.Lasting.{beside-self, turns-told, turns-through}
+use Rattle.qm_engine.proofs.LastingStores.{beside-self, turns-told, turns-through}
 use Rattle.qm_engine.proofs.Owned.{own-of, none-left, owned}
 use Rattle.qm_engine.proofs.Followed.{turn-followed}
 

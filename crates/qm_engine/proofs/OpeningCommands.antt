@@ -4,6 +4,7 @@ use Rattle.std.specs.Prelude.{IsSome, is_some}
 use Rattle.std.specs.List.{AllByRecursion as Each}
 use Rattle.std.specs.List.{drop-map}
 use Rattle.std.proofs.lemmas.List.Elements.{All-take, All-drop, recursion_from_All}
+use Rattle.qm_model.specs.Trees.{peaks}
 use Rattle.qm_model.specs.Causes.{Rose}
 use Rattle.qm_model.specs.Live.{floor}
 use Rattle.qm_model.specs.Operations.{Bytes, Operation}
@@ -39,7 +40,7 @@ use Rattle.qm_engine.specs.declared.session.Turn.TheVariants.{Reply}
 use Rattle.qm_engine.specs.Turn.{turn_of_error}
 use Rattle.qm_engine.specs.Stores.{HasLog, IsTaken, IsLeft, head_at, selected_size, taken, LeavesOpening}
 use Rattle.qm_engine.specs.Session.{Holds, Handles}
-use Rattle.qm_engine.proofs.Lasting.{turned, turns-beside, items-cut, head-cut, stored-taken, left_taken, left_opening}
+use Rattle.qm_engine.proofs.LastingStores.{turned, turns-beside, items-cut, head-cut, stored-taken, left_taken, left_opening}
 use Rattle.qm_engine.proofs.LastingCommands.{fault-told}
 use Rattle.qm_engine.proofs.Commands.{left_none, some_is, due_told, by_refusal, stored-same, SlotIs-more, Turns}
 
@@ -49,7 +50,7 @@ read_all form [] each = refl
 read_all form (op ∷ ops) (is, each) = ap (λ o. o ∷ map (decoded form) (map (spelling form) ops)) (decoded-spelling form op is) ∙ ap (λ os. Some op ∷ os) (read_all form ops each)
 
 module _ {X C B S M K V D : Type 0} (members : stores.Ghosts C) (means : words.Ghosts X C B S M) (key : K → Bytes) (value : V → Bytes) (digest : D → Bytes)
-    (held : Given X C) (table : List (Slot B S M)) (opened : ℕ) (s : State) (bound : Option ℕ) (k : Holds members means held table opened s) (steady : IsSteady means.scheme s) where
+    (held : Given X C) (table : List (Slot B S M)) (opened : ℕ) (s : State) (bound : Option ℕ) (k : Holds members means held table opened s) (steady : IsSteady means.scheme s) (peakless : peaks means.scheme.shape 0 ≡ []) where
   abbrev Goes : Turn K V D → Given X C → List (Slot B S M) → ℕ → Answer × State → Type 0
   Goes = Turns members means key value digest
 
@@ -131,9 +132,9 @@ module _ {X C B S M K V D : Type 0} (members : stores.Ghosts C) (means : words.G
               of = All-take (IsOf means.scheme.form) (suc j) s.log.list steady.of_form;
               good = steady.good bound (suc j) opens_so;
               ring = steady.ring bound (suc j) opens_so;
-              items = items-cut means.scheme means.bare s.log stored has (suc j) behind_so
+              items = items-cut means.scheme peakless s.log stored has (suc j) behind_so
                   ∙ (sym (drop-map (spelling means.scheme.form) s.log.start (take (suc j) s.log.list)) ∙ ap (λ n. drop n (map (spelling means.scheme.form) (take (suc j) s.log.list))) (sym has.start));
-              head = head-cut means.scheme means.bare s.log stored has (suc j) behind_so ∙ ap (head_at means.scheme (take (suc j) s.log.list)) (sym has.start);
+              head = head-cut means.scheme peakless s.log stored has (suc j) behind_so ∙ ap (head_at means.scheme (take (suc j) s.log.list)) (sym has.start);
             }
 
     new_told : (after : C) → model.Turns (members.told (store_given means.inside held)) (members.told after) (λ t new. new ≡ taken means.scheme (selected_size means.scheme bound t) t) → HasLog means.scheme (members.told after) (taken_up list s.log)
@@ -142,7 +143,7 @@ module _ {X C B S M K V D : Type 0} (members : stores.Ghosts C) (means : words.G
         record {
           stored = taken means.scheme size stored;
           is = t.1 ∙ ap Some (t.2 ∙ ap (λ n. taken means.scheme n stored) size_is);
-          has = stored-taken means.scheme means.bare s.log stored size k.store.told.has behind bare few;
+          has = stored-taken means.scheme peakless s.log stored size k.store.told.has behind bare few;
         }
 
   offered : IfSome (members.told (store_given means.inside held)) (λ t. opening_refusal (layout_of means.scheme) (found (layout_of means.scheme) t) bound ≡ None) → due ≡ None
@@ -180,7 +181,7 @@ module _ {X C B S M K V D : Type 0} (members : stores.Ghosts C) (means : words.G
   opened_left after is_offered became =
       let accepted : due ≡ None = offered is_offered in
       subst (λ o. IsLeft means.scheme (members.told after) s.log ((opened_as (closed s) o).1).log) (sym (opens_is accepted))
-      (left_taken means.scheme means.bare (members.told (store_given means.inside held)) (members.told after) s.log size k.store.told k.within (bare accepted) (few accepted) (new_told accepted after became))
+      (left_taken means.scheme peakless (members.told (store_given means.inside held)) (members.told after) s.log size k.store.told k.within (bare accepted) (few accepted) (new_told accepted after became))
 
   -- What is told of a store that is refused, whatever its opening answers.
   abbrev Unopened : C → Type 0
@@ -224,7 +225,7 @@ module _ {X C B S M K V D : Type 0} (members : stores.Ghosts C) (means : words.G
           (left_none means.scheme s.log s.log (members.told after) (stored-same members means.scheme (store_given means.inside held) after s.log (unopened after r is same) k.store).told)
       by None is =
           subst (λ o. IsLeft means.scheme (members.told after) s.log ((opened_as (closed s) (opening_of o size)).1).log) (sym is)
-          (left_opening means.scheme means.bare (members.told (store_given means.inside held)) (members.told after) s.log size k.store.told k.start k.within (behind is) (bare is) (few is)
+          (left_opening means.scheme peakless (members.told (store_given means.inside held)) (members.told after) s.log size k.store.told k.start k.within (behind is) (bare is) (few is)
           (leaves (members.told (store_given means.inside held)) (members.told after) told left))
         where
           leaves : (o q : Option Stored) → o ≡ Some stored → model.Turns o q (λ t new. LeavesOpening means.scheme (selected_size means.scheme bound t) t new) → model.Turns o q (LeavesOpening means.scheme size)

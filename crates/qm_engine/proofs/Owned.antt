@@ -1,5 +1,5 @@
 -- What may be left of a command of a sound run is a store that databases leave.
-use Rattle.std.proofs.Common.{◌≡◌, inl, inr, ◌-◌, ◌≤◌, Bool, true, false, cond, length, take, drop, Option, IfSome, refl, sym, ap, subst, arith}
+use Rattle.std.proofs.Common.{◌≡◌, inl, inr, ◌≤◌, Bool, true, false, cond, length, take, drop, Option, IfSome, refl, sym, ap, subst, arith}
 use Rattle.std.specs.Prelude.{min, ◌==◌}
 use Rattle.std.proofs.lemmas.Bool.{eqb-false}
 use Rattle.std.proofs.lemmas.List.{length-map, length-take, length-drop, length-append}

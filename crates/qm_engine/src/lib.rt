@@ -10,6 +10,8 @@ mod turns;
 pub mod words;
 
 pub use answers::{Answered, Ending, answer_lines};
-pub use engine::{BatchSizes, Engine, Numbers};
+pub use engine::{
+    Basis, BatchSizes, Batching, Engine, Lasting, Neighbours, Numbers, Proving, Reading, Staging,
+};
 pub use runs::{End, Outcome, run};
 pub use words::Words;

@@ -14,7 +14,7 @@ ghost use Rattle.qm_model.specs.Own.{Log, IsOwn};
 ghost use Rattle.qm_model.specs.StoreModel.{Turns};
 ghost use Rattle.qm_engine.specs.Runs.{IsRun};
 
-use crate::engine::Engine;
+use crate::engine::{Basis, Engine};
 use crate::session::{Of, Session, Turn, returned};
 use crate::table::{Slot, push_slot};
 use crate::turns::turn;
@@ -37,7 +37,7 @@ pub enum End {
 
 /// What a run gives: a reply to each command before the end, why it ended, and the store.
 #[derive(Drop)]
-pub struct Outcome<X: Engine<C>, C: Store> {
+pub struct Outcome<X: Basis<C>, C: Store> {
     pub replies: Vec<Reply<X::Key, X::Value, X::Digest>>,
     pub end: End,
     pub store: C,
@@ -91,7 +91,7 @@ fn step<X: Engine<C>, C: Store, P: Policy<X::Family, X::Key, X::Value> + Twin>(
 }
 
 // A session with a closed store, and no batch.
-pub(crate) fn begin<X: Engine<C>, C: Store>(alloc: Global, store: C) -> Result<Of<X, C>, C>
+pub(crate) fn begin<X: Basis<C>, C: Store>(alloc: Global, store: C) -> Result<Of<X, C>, C>
     ensures session { IfOk result (λ session. (log : Log) (choices : List ℕ) → HasLog X.scheme (C.told store) log → log.start ≤ log.stable → log.stable ≤ length log.list → Stands C.Store X.Words session (machine.initial log choices)) }
     ensures store { IfOk result (λ session. store_given X.inside session.held ≡ store) }
     ensures opened { IfOk result (λ session. session.opened ≡ 0) }

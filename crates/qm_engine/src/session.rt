@@ -4,7 +4,7 @@ ghost use Rattle.qm_model.specs.StoreModel.{end_of};
 ghost use Rattle.qm_store.specs.Given.{store_given};
 ghost use Rattle.qm_engine.specs.Turn.{turn_of_tree, turn_of_log, turn_of_error};
 
-use crate::engine::Engine;
+use crate::engine::Lasting;
 use crate::table::Slot;
 use crate::words::Words;
 use qm_base::{Error, JournalError, MerkleError};
@@ -82,7 +82,7 @@ pub fn turn_of<K: Drop, V: Drop, D: Drop>(error: Error) -> Turn<K, V, D>
 }
 
 /// The store that a run gives back: the one that is held.
-pub fn returned<X: Engine<C>, C: Store>(held: Given<X, C>) -> C
+pub fn returned<X: Lasting<C>, C: Store>(held: Given<X, C>) -> C
     ensures store { result ≡ store_given X.inside held }
     ensures stable { IfSome (C.told result) (λ s. s.stable ≤ end_of s) }
 {
@@ -93,7 +93,7 @@ pub fn returned<X: Engine<C>, C: Store>(held: Given<X, C>) -> C
 }
 
 /// The store that is held, by itself or inside the database.
-pub fn into_store<X: Engine<C>, C: Store>(held: Given<X, C>) -> C
+pub fn into_store<X: Lasting<C>, C: Store>(held: Given<X, C>) -> C
     ensures { result ≡ store_given X.inside held }
 {
     match held {

@@ -11,7 +11,7 @@ mod proofs;
 mod reads;
 mod staged;
 
-use crate::engine::Engine;
+use crate::engine::{Batching, Engine, Lasting, Neighbours, Proving, Reading, Staging};
 use crate::session::{Of, Turn};
 use batches::{apply, batch, child, del, merkleize, put, tip};
 use lasting::{close, commit, crash, destroy, open, prune, sync};
@@ -54,7 +54,7 @@ pub fn turn<X: Engine<C>, C: Store, P: Policy<X::Family, X::Key, X::Value> + Twi
 }
 
 // One that makes batches.
-fn batch_turn<X: Engine<C>, C: Store, P: Policy<X::Family, X::Key, X::Value> + Twin>(
+fn batch_turn<X: Staging<C>, C: Store, P: Policy<X::Family, X::Key, X::Value> + Twin>(
     alloc: Global,
     session: &mut Of<X, C>,
     command: &BatchCommand<X::Key, X::Value, P>,
@@ -79,7 +79,11 @@ fn batch_turn<X: Engine<C>, C: Store, P: Policy<X::Family, X::Key, X::Value> + T
 }
 
 // One that reads keys.
-fn read_turn<X: Engine<C>, C: Store, P: Policy<X::Family, X::Key, X::Value> + Twin>(
+fn read_turn<
+    X: Reading<C> + Neighbours<C>,
+    C: Store,
+    P: Policy<X::Family, X::Key, X::Value> + Twin,
+>(
     alloc: Global,
     session: &mut Of<X, C>,
     command: &ReadCommand<X::Key>,
@@ -99,7 +103,7 @@ fn read_turn<X: Engine<C>, C: Store, P: Policy<X::Family, X::Key, X::Value> + Tw
 }
 
 // One that tells and proves.
-fn info_turn<X: Engine<C>, C: Store, P: Policy<X::Family, X::Key, X::Value> + Twin>(
+fn info_turn<X: Reading<C> + Proving<C>, C: Store, P: Policy<X::Family, X::Key, X::Value> + Twin>(
     alloc: Global,
     session: &mut Of<X, C>,
     command: &InfoCommand<X::Key>,
@@ -121,7 +125,7 @@ fn info_turn<X: Engine<C>, C: Store, P: Policy<X::Family, X::Key, X::Value> + Tw
 }
 
 // One that takes the database, or opens it.
-fn store_turn<X: Engine<C>, C: Store, P: Policy<X::Family, X::Key, X::Value> + Twin>(
+fn store_turn<X: Lasting<C> + Batching<C>, C: Store, P: Policy<X::Family, X::Key, X::Value> + Twin>(
     alloc: Global,
     config: &X::Config,
     session: Of<X, C>,

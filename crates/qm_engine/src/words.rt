@@ -1,10 +1,9 @@
 //! What a database means to a run, with no call.
 
-ghost use Rattle.std.specs.Prelude.{◌≡◌, ◌≤◌, ℕ, List, [], length, All};
+ghost use Rattle.std.specs.Prelude.{◌≡◌, ◌≤◌, ℕ, List, length, All};
 ghost use Rattle.qm_model.specs.Forms.{IsOf};
 ghost use Rattle.qm_model.specs.Live.{floor};
 ghost use Rattle.qm_model.specs.Operations.{Bytes, Operation};
-ghost use Rattle.qm_model.specs.Trees.{peaks};
 ghost use Rattle.qm_model.specs.Writes.{Write};
 ghost use Rattle.qm_model.specs.Batches.{Chain};
 ghost use Rattle.qm_machine.specs.Machine.{Scheme};
@@ -47,9 +46,6 @@ pub trait Words<C: Store> {
 
     /// No list may be pruned past its floor.
     ghost low: { (list : List Operation) → scheme.boundary list ≤ floor list };
-
-    /// Nothing has no peaks.
-    ghost bare: { peaks scheme.shape 0 ≡ [] };
 
     /// Its list is of operations of that form.
     ghost formed: { (x : Self) (list : List Operation) → stands x list → All (IsOf scheme.form) list };

@@ -22,7 +22,7 @@ use Rattle.qm_any.specs.Lasting.{cut_to, IsHeadAt}
 use Rattle.qm_any.specs.Databases.{Database, IsDatabase}
 use Rattle.qm_machine.specs.Machine.{layout_of}
 use Rattle.qm_engine.specs.Stores.{IsTaken, HasList, selected_size, head_at, taken, pruned_from, LeavesOpening, LeavesPruning}
-use Rattle.qm_engine.proofs.Lasting.{turned-each}
+use Rattle.qm_engine.proofs.LastingStores.{turned-each}
 use Rattle.qm_engines.specs.Databases.{hashing, layout}
 use Rattle.qm_engines.specs.Schemes.{scheme}
 use Rattle.qm_engines.proofs.Heads.{head-is, is-head}

@@ -11,7 +11,7 @@ ghost use Rattle.qm_engine.specs.Words.{AtBatch, ReadsOnly, tip_of};
 ghost use Rattle.qm_engine.specs.Making.{IsMaking, made_into};
 ghost use Rattle.qm_engine.specs.Session.{SlotIs, Stands, Follows, Obeys, ObeysSteady, LeavesSteady, Uses};
 
-use crate::engine::Engine;
+use crate::engine::{Basis, Batching};
 use crate::session::{Of, Session, Turn, turn_of};
 use crate::table::{Slot, merkleized_at, push_slot, put_slot, take_writing};
 use qm_base::{Error, JournalError, Twin};
@@ -21,7 +21,7 @@ use qm_store::{Given, Store};
 use std::alloc::{AllocError, Global};
 
 // Gives a batch the next number.
-fn started<X: Engine<C>, C: Store>(
+fn started<X: Basis<C>, C: Store>(
     session: &mut Of<X, C>,
     slot: Slot<X::Batch, X::Staged, X::Merkleized>,
 ) -> Turn<X::Key, X::Value, X::Digest>
@@ -38,7 +38,7 @@ fn started<X: Engine<C>, C: Store>(
 }
 
 /// Begins a batch on the database, and gives it the next number.
-pub fn batch<X: Engine<C>, C: Store>(
+pub fn batch<X: Batching<C>, C: Store>(
     alloc: Global,
     session: &mut Of<X, C>,
 ) -> Turn<X::Key, X::Value, X::Digest>
@@ -57,7 +57,7 @@ pub fn batch<X: Engine<C>, C: Store>(
 }
 
 /// Begins a batch on a merkleized one, and gives it the next number.
-pub fn child<X: Engine<C>, C: Store>(
+pub fn child<X: Batching<C>, C: Store>(
     alloc: Global,
     session: &mut Of<X, C>,
     number: u64,
@@ -78,7 +78,7 @@ pub fn child<X: Engine<C>, C: Store>(
 }
 
 /// Takes the database as a merkleized batch, and gives it the next number.
-pub fn tip<X: Engine<C>, C: Store>(
+pub fn tip<X: Batching<C>, C: Store>(
     alloc: Global,
     session: &mut Of<X, C>,
 ) -> Turn<X::Key, X::Value, X::Digest>
@@ -97,7 +97,7 @@ pub fn tip<X: Engine<C>, C: Store>(
 }
 
 // Writes copies of key and value.
-fn write<X: Engine<C>, C: Store>(
+fn write<X: Batching<C>, C: Store>(
     alloc: Global,
     batch: X::Batch,
     key: &X::Key,
@@ -112,7 +112,7 @@ fn write<X: Engine<C>, C: Store>(
 }
 
 /// Writes a value for a key in a batch.
-pub fn put<X: Engine<C>, C: Store>(
+pub fn put<X: Batching<C>, C: Store>(
     alloc: Global,
     session: &mut Of<X, C>,
     number: u64,
@@ -137,7 +137,7 @@ pub fn put<X: Engine<C>, C: Store>(
 }
 
 // Deletes a copy of the key.
-fn erase<X: Engine<C>, C: Store>(
+fn erase<X: Batching<C>, C: Store>(
     alloc: Global,
     batch: X::Batch,
     key: &X::Key,
@@ -150,7 +150,7 @@ fn erase<X: Engine<C>, C: Store>(
 }
 
 /// Deletes a key in a batch.
-pub fn del<X: Engine<C>, C: Store>(
+pub fn del<X: Batching<C>, C: Store>(
     alloc: Global,
     session: &mut Of<X, C>,
     number: u64,
@@ -174,7 +174,7 @@ pub fn del<X: Engine<C>, C: Store>(
 }
 
 // Merkleizes under a twin of the policy.
-fn merkleize_batch<X: Engine<C>, C: Store, P: Policy<X::Family, X::Key, X::Value> + Twin>(
+fn merkleize_batch<X: Batching<C>, C: Store, P: Policy<X::Family, X::Key, X::Value> + Twin>(
     alloc: Global,
     database: &mut X,
     batch: X::Batch,
@@ -190,7 +190,7 @@ fn merkleize_batch<X: Engine<C>, C: Store, P: Policy<X::Family, X::Key, X::Value
 }
 
 /// Gives a merkleized batch the number under which the batch was taken out of the table, or tells why there is none.
-pub fn put_made<X: Engine<C>, C: Store>(
+pub fn put_made<X: Batching<C>, C: Store>(
     session: &mut Of<X, C>,
     number: u64,
     made: Result<X::Merkleized, Error>,
@@ -213,7 +213,7 @@ pub fn put_made<X: Engine<C>, C: Store>(
 }
 
 /// Merkleizes a batch, which keeps its number.
-pub fn merkleize<X: Engine<C>, C: Store, P: Policy<X::Family, X::Key, X::Value> + Twin>(
+pub fn merkleize<X: Batching<C>, C: Store, P: Policy<X::Family, X::Key, X::Value> + Twin>(
     alloc: Global,
     session: &mut Of<X, C>,
     number: u64,
@@ -237,7 +237,7 @@ pub fn merkleize<X: Engine<C>, C: Store, P: Policy<X::Family, X::Key, X::Value> 
 }
 
 /// Applies a merkleized batch, which keeps its number.
-pub fn apply<X: Engine<C>, C: Store>(
+pub fn apply<X: Batching<C>, C: Store>(
     alloc: Global,
     session: Of<X, C>,
     number: u64,

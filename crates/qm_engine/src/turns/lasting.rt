@@ -6,7 +6,7 @@ ghost use Rattle.qm_store.specs.Given.{store_given};
 ghost use Rattle.qm_engine.specs.Session.{Obeys, ObeysSteady, Leaves, LeavesSteady, Handles, HandlesLine};
 ghost use Rattle.qm_engine.specs.Turn.{given_after, turn_settled};
 
-use crate::engine::Engine;
+use crate::engine::{Basis, Lasting};
 use crate::session::{Of, Session, Turn, into_store, turn_of};
 use crate::table::Slot;
 use qm_base::Error;
@@ -16,7 +16,7 @@ use qm_store::{Given, Refusal, Store};
 use std::alloc::Global;
 
 /// Opens what the store keeps, whatever was open.
-pub fn open<X: Engine<C>, C: Store>(
+pub fn open<X: Lasting<C>, C: Store>(
     alloc: Global,
     config: &X::Config,
     session: Of<X, C>,
@@ -62,7 +62,7 @@ pub fn open<X: Engine<C>, C: Store>(
 }
 
 // A session without a database, as it is.
-fn no_database<X: Engine<C>, C: Store>(
+fn no_database<X: Basis<C>, C: Store>(
     store: C,
     table: Vec<Slot<X::Batch, X::Staged, X::Merkleized>>,
     opened: u64,
@@ -81,7 +81,7 @@ fn no_database<X: Engine<C>, C: Store>(
 }
 
 // What a commit, a sync or a prune came to.
-fn settled<X: Engine<C>, C: Store>(
+fn settled<X: Basis<C>, C: Store>(
     settling: Result<X, Refusal<X, C>>,
     table: Vec<Slot<X::Batch, X::Staged, X::Merkleized>>,
     opened: u64,
@@ -110,7 +110,7 @@ fn settled<X: Engine<C>, C: Store>(
 }
 
 /// Makes the operations stable.
-pub fn commit<X: Engine<C>, C: Store>(
+pub fn commit<X: Lasting<C>, C: Store>(
     session: Of<X, C>,
 ) -> (Of<X, C>, Turn<X::Key, X::Value, X::Digest>)
     ensures machine { Obeys C.Store X.Words X.Key.bytes X.Value.bytes X.Digest.bytes session result.0 result.1
@@ -131,7 +131,7 @@ pub fn commit<X: Engine<C>, C: Store>(
 }
 
 /// Makes all that the store holds stable.
-pub fn sync<X: Engine<C>, C: Store>(
+pub fn sync<X: Lasting<C>, C: Store>(
     session: Of<X, C>,
 ) -> (Of<X, C>, Turn<X::Key, X::Value, X::Digest>)
     ensures machine { Obeys C.Store X.Words X.Key.bytes X.Value.bytes X.Digest.bytes session result.0 result.1
@@ -152,7 +152,7 @@ pub fn sync<X: Engine<C>, C: Store>(
 }
 
 /// Takes the operations before a location away, and makes all others stable.
-pub fn prune<X: Engine<C>, C: Store>(
+pub fn prune<X: Lasting<C>, C: Store>(
     alloc: Global,
     session: Of<X, C>,
     to: u64,
@@ -176,7 +176,7 @@ pub fn prune<X: Engine<C>, C: Store>(
 }
 
 /// Closes the database.
-pub fn close<X: Engine<C>, C: Store>(
+pub fn close<X: Lasting<C>, C: Store>(
     session: Of<X, C>,
 ) -> (Of<X, C>, Turn<X::Key, X::Value, X::Digest>)
     ensures machine { Obeys C.Store X.Words X.Key.bytes X.Value.bytes X.Digest.bytes session result.0 result.1
@@ -204,7 +204,7 @@ pub fn close<X: Engine<C>, C: Store>(
 }
 
 /// Closes the database, and empties the store.
-pub fn destroy<X: Engine<C>, C: Store>(
+pub fn destroy<X: Lasting<C>, C: Store>(
     session: Of<X, C>,
 ) -> (Of<X, C>, Turn<X::Key, X::Value, X::Digest>)
     ensures machine { Obeys C.Store X.Words X.Key.bytes X.Value.bytes X.Digest.bytes session result.0 result.1
@@ -242,7 +242,7 @@ pub fn destroy<X: Engine<C>, C: Store>(
 }
 
 /// Closes what is open, and has the store go through a crash, with the end that is asked for.
-pub fn crash<X: Engine<C>, C: Store, P: Policy<X::Family, X::Key, X::Value>>(
+pub fn crash<X: Lasting<C>, C: Store, P: Policy<X::Family, X::Key, X::Value>>(
     session: Of<X, C>,
     keep: u64,
 ) -> (Of<X, C>, Turn<X::Key, X::Value, X::Digest>)

@@ -11,7 +11,7 @@ ghost use Rattle.qm_engine.specs.Ordered.{key_beside, answer_to};
 ghost use Rattle.qm_engine.specs.Session.{Obeys, Uses};
 ghost use Rattle.qm_engine.specs.Words.{AtTip, CanRead, IsReadFailure, ReadsOnly};
 
-use crate::engine::Engine;
+use crate::engine::Neighbours;
 use crate::session::{Of, Turn, turn_of};
 use crate::table::merkleized_at;
 use qm_base::{Error, JournalError};
@@ -42,7 +42,7 @@ pub enum Question<'a, K> {
     Keys(&'a Bound<K>, &'a Bound<K>),
 }
 
-fn reply_to<X: Engine<C>, C: Store>(
+fn reply_to<X: Neighbours<C>, C: Store>(
     alloc: Global,
     database: &mut X,
     question: Question<'_, X::Key>,
@@ -63,7 +63,7 @@ fn reply_to<X: Engine<C>, C: Store>(
 }
 
 /// Answers a question from the database alone.
-pub fn ask<X: Engine<C>, C: Store>(
+pub fn ask<X: Neighbours<C>, C: Store>(
     alloc: Global,
     session: &mut Of<X, C>,
     question: Question<'_, X::Key>,
@@ -87,7 +87,7 @@ pub fn ask<X: Engine<C>, C: Store>(
 }
 
 // The nearest live key on a side of this one, on the list that a merkleized batch makes.
-fn beside_from<X: Engine<C>, C: Store>(
+fn beside_from<X: Neighbours<C>, C: Store>(
     alloc: Global,
     database: &mut X,
     batch: &X::Merkleized,
@@ -107,7 +107,7 @@ fn beside_from<X: Engine<C>, C: Store>(
 }
 
 /// The nearest live key on a side of this one, through a merkleized batch where its number is given.
-pub fn beside<X: Engine<C>, C: Store>(
+pub fn beside<X: Neighbours<C>, C: Store>(
     alloc: Global,
     session: &mut Of<X, C>,
     side: Side,

@@ -5,7 +5,7 @@ ghost use Rattle.qm_machine.specs.Machine as machine;
 ghost use Rattle.qm_store.specs.Given.{store_given, IsUnchanged};
 ghost use Rattle.qm_engine.specs.Session.{Obeys, Tells, Uses};
 
-use crate::engine::Engine;
+use crate::engine::Proving;
 use crate::session::{Of, Turn, turn_of};
 use crate::table::merkleized_at;
 use qm_lines::{Refused, Reply};
@@ -15,7 +15,7 @@ use std::alloc::Global;
 use std::num::NonZeroU64;
 
 /// The proof of a merkleized batch's own operations, and the pins at the list that it was made from.
-pub fn batch_proof<X: Engine<C>, C: Store>(
+pub fn batch_proof<X: Proving<C>, C: Store>(
     alloc: Global,
     session: &Of<X, C>,
     number: u64,
@@ -44,7 +44,7 @@ pub fn batch_proof<X: Engine<C>, C: Store>(
 }
 
 /// Operations from `start` on, at most `max`, and their proof in the list of the first `size` operations.
-pub fn prove<X: Engine<C>, C: Store>(
+pub fn prove<X: Proving<C>, C: Store>(
     alloc: Global,
     session: &mut Of<X, C>,
     size: u64,
@@ -74,7 +74,7 @@ pub fn prove<X: Engine<C>, C: Store>(
 }
 
 /// The pins at a location.
-pub fn pins<X: Engine<C>, C: Store>(
+pub fn pins<X: Proving<C>, C: Store>(
     alloc: Global,
     session: &Of<X, C>,
     at: u64,

@@ -7,7 +7,7 @@ ghost use Rattle.qm_machine.specs.Machine as machine;
 ghost use Rattle.qm_store.specs.Given.{store_given, IsUnchanged, TellsFrom};
 ghost use Rattle.qm_engine.specs.Session.{SlotIs, Answers, Obeys, Tells, Uses};
 
-use crate::engine::{BatchSizes, Engine, Numbers};
+use crate::engine::{Basis, BatchSizes, Numbers, Reading};
 use crate::session::{Of, Turn, turn_of};
 use crate::table::{Slot, merkleized_at, slot_at};
 use qm_base::{Key, Twin};
@@ -16,7 +16,7 @@ use qm_store::{Given, Store};
 use std::alloc::{AllocError, Global};
 
 // Reads the values of keys through what a batch number names.
-fn read_slot<X: Engine<C>, C: Store>(
+fn read_slot<X: Reading<C>, C: Store>(
     alloc: Global,
     database: &mut X,
     number: u64,
@@ -44,7 +44,7 @@ fn read_slot<X: Engine<C>, C: Store>(
 }
 
 /// Reads the values of keys, through a batch where its number is given.
-pub fn read<X: Engine<C>, C: Store>(
+pub fn read<X: Reading<C>, C: Store>(
     alloc: Global,
     session: &mut Of<X, C>,
     keys: &[X::Key],
@@ -82,7 +82,7 @@ fn alone<K: Key>(alloc: Global, key: &K) -> Result<Vec<K>, AllocError>
 }
 
 /// Reads the value of a key, through a batch where its number is given.
-pub fn read_key<X: Engine<C>, C: Store>(
+pub fn read_key<X: Reading<C>, C: Store>(
     alloc: Global,
     session: &mut Of<X, C>,
     key: &X::Key,
@@ -101,7 +101,7 @@ pub fn read_key<X: Engine<C>, C: Store>(
 }
 
 /// A merkleized batch's own operations, and the size of the list that it was made from.
-pub fn ops<X: Engine<C>, C: Store>(
+pub fn ops<X: Reading<C>, C: Store>(
     alloc: Global,
     session: &Of<X, C>,
     number: u64,
@@ -120,7 +120,7 @@ pub fn ops<X: Engine<C>, C: Store>(
 }
 
 /// What only a current database offers.
-pub fn current<X: Engine<C>, C: Store>(session: &Of<X, C>) -> Turn<X::Key, X::Value, X::Digest>
+pub fn current<X: Basis<C>, C: Store>(session: &Of<X, C>) -> Turn<X::Key, X::Value, X::Digest>
     ensures machine { Tells C.Store X.Words X.Key.bytes X.Value.bytes X.Digest.bytes session.now result
         (λ s. machine.refuse s refusals.NotOffered) }
     ensures never { result ≢ Turn.StoreFault }
@@ -129,7 +129,7 @@ pub fn current<X: Engine<C>, C: Store>(session: &Of<X, C>) -> Turn<X::Key, X::Va
 }
 
 /// The numbers of the database.
-pub fn info<X: Engine<C>, C: Store>(session: &Of<X, C>) -> Turn<X::Key, X::Value, X::Digest>
+pub fn info<X: Basis<C>, C: Store>(session: &Of<X, C>) -> Turn<X::Key, X::Value, X::Digest>
     ensures machine { Tells C.Store X.Words X.Key.bytes X.Value.bytes X.Digest.bytes session.now result
         (machine.info X.scheme) }
     ensures never { result ≢ Turn.StoreFault }
@@ -148,7 +148,7 @@ pub fn info<X: Engine<C>, C: Store>(session: &Of<X, C>) -> Turn<X::Key, X::Value
 }
 
 /// The numbers of a merkleized batch.
-pub fn batch_info<X: Engine<C>, C: Store>(
+pub fn batch_info<X: Basis<C>, C: Store>(
     session: &Of<X, C>,
     number: u64,
 ) -> Turn<X::Key, X::Value, X::Digest>
@@ -169,7 +169,7 @@ pub fn batch_info<X: Engine<C>, C: Store>(
 }
 
 /// The root of the database.
-pub fn root<X: Engine<C>, C: Store>(
+pub fn root<X: Reading<C>, C: Store>(
     alloc: Global,
     session: &Of<X, C>,
 ) -> Turn<X::Key, X::Value, X::Digest>
@@ -187,7 +187,7 @@ pub fn root<X: Engine<C>, C: Store>(
 }
 
 /// The root of the list that a merkleized batch makes.
-pub fn batch_root<X: Engine<C>, C: Store>(
+pub fn batch_root<X: Reading<C>, C: Store>(
     session: &Of<X, C>,
     number: u64,
 ) -> Turn<X::Key, X::Value, X::Digest>
@@ -203,7 +203,7 @@ pub fn batch_root<X: Engine<C>, C: Store>(
 }
 
 /// The metadata of the list's last commit.
-pub fn meta<X: Engine<C>, C: Store>(
+pub fn meta<X: Reading<C>, C: Store>(
     alloc: Global,
     session: &Of<X, C>,
 ) -> Turn<X::Key, X::Value, X::Digest>

@@ -12,7 +12,7 @@ ghost use Rattle.qm_engine.specs.Making.{IsMaking};
 ghost use Rattle.qm_engine.specs.Session.{Obeys, ObeysSteady, Uses};
 
 use super::batches::put_made;
-use crate::engine::Engine;
+use crate::engine::Staging;
 use crate::session::{Of, Turn, turn_of};
 use crate::table::{Slot, put_slot, take_staged, take_writing};
 use qm_base::{Error, JournalError, Twin};
@@ -22,7 +22,7 @@ use qm_store::{Given, Store};
 use std::alloc::Global;
 
 /// Reads the values of keys through a batch, which becomes a staged one and keeps its number.
-pub fn stage<X: Engine<C>, C: Store>(
+pub fn stage<X: Staging<C>, C: Store>(
     alloc: Global,
     session: &mut Of<X, C>,
     number: u64,
@@ -50,7 +50,7 @@ pub fn stage<X: Engine<C>, C: Store>(
 }
 
 /// Reads the values of more keys through a staged batch, which keeps its number.
-pub fn expand<X: Engine<C>, C: Store>(
+pub fn expand<X: Staging<C>, C: Store>(
     alloc: Global,
     session: &mut Of<X, C>,
     number: u64,
@@ -78,7 +78,7 @@ pub fn expand<X: Engine<C>, C: Store>(
 }
 
 // Takes a staged batch out of the table, if so many slots were given as it has keys.
-fn take_counted<X: Engine<C>, C: Store>(
+fn take_counted<X: Staging<C>, C: Store>(
     table: &mut Vec<Slot<X::Batch, X::Staged, X::Merkleized>>,
     number: u64,
     given: usize,
@@ -102,7 +102,7 @@ fn take_counted<X: Engine<C>, C: Store>(
 }
 
 // Resolves under a twin of the policy.
-fn resolve_batch<X: Engine<C>, C: Store, P: Policy<X::Family, X::Key, X::Value> + Twin>(
+fn resolve_batch<X: Staging<C>, C: Store, P: Policy<X::Family, X::Key, X::Value> + Twin>(
     alloc: Global,
     database: &mut X,
     batch: X::Staged,
@@ -121,7 +121,7 @@ fn resolve_batch<X: Engine<C>, C: Store, P: Policy<X::Family, X::Key, X::Value> 
 
 /// Merkleizes a staged batch with what becomes of its keys; it keeps its number. Where there are not as many slots as keys it
 /// stays a staged one.
-pub fn resolve<X: Engine<C>, C: Store, P: Policy<X::Family, X::Key, X::Value> + Twin>(
+pub fn resolve<X: Staging<C>, C: Store, P: Policy<X::Family, X::Key, X::Value> + Twin>(
     alloc: Global,
     session: &mut Of<X, C>,
     number: u64,

@@ -11,7 +11,7 @@ use Rattle.qm_engine.specs.Stores.{IsLeft}
 use Rattle.qm_engine.specs.Session.{Holds, IsChosen}
 use Rattle.qm_store.specs.Given.{store_given}
 use Rattle.qm_engine.specs.Answered.{after_line}
-use Rattle.qm_engine.proofs.Lasting.{turns-self}
+use Rattle.qm_engine.proofs.LastingStores.{turns-self}
 use Rattle.qm_engine.proofs.Commands.{left_none}
 use Rattle.qm_engine.proofs.Answerings.{none-any, none-then, same_turn, same_chosen, some-then}
 use Rattle.qm_engine.proofs.answers.answer_line.Goals as goal

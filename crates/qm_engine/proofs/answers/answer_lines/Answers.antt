@@ -11,7 +11,7 @@ use Rattle.qm_store.specs.Given.{store_given}
 use Rattle.qm_engine.specs.Stores.{HasLog}
 use Rattle.qm_engine.specs.Runs.{after}
 use Rattle.qm_engine.specs.Answered.{IsAnswered}
-use Rattle.qm_engine.proofs.Lasting.{turns-same, turns-through}
+use Rattle.qm_engine.proofs.LastingStores.{turns-same, turns-through}
 use Rattle.qm_engine.proofs.Loops.{Between, each, log-of, begins-between, none-more, more-parts}
 use Rattle.qm_engine.proofs.Owned.{own-of}
 use Rattle.qm_engine.proofs.Answerings.{at_next, at_short, line_step, line_goes, line-own, answered_in, answered_at}

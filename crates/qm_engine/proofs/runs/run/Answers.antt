@@ -8,7 +8,7 @@ use Rattle.qm_model.specs.Own.{IsKept}
 use Rattle.qm_engine.specs.Stores.{HasLog}
 use Rattle.qm_engine.specs.Runs.{IsRun, after}
 use Rattle.qm_machine.proofs.Sounds.{kept-low, sound-steady}
-use Rattle.qm_engine.proofs.Lasting.{turns-same, turns-through}
+use Rattle.qm_engine.proofs.LastingStores.{turns-same, turns-through}
 use Rattle.qm_engine.proofs.Loops.{Between, each, loop_step, ended_in, ended_at, line_here, log-of, begins-between, goes-between, own-left, none-more, more-parts, Rose-wider}
 use Rattle.qm_engine.proofs.runs.run.Goals as goal
 

@@ -3,7 +3,7 @@ use Rattle.std.specs.String.{string_bytes}
 use Rattle.qm_model.specs.Causes.{Rose}
 use Rattle.qm_model.specs.Operations.{Bytes}
 use Rattle.qm_run.specs.Program.{Says, kind_of_words, machine_of}
-use Rattle.qm_engine.proofs.Lasting.{turns-self}
+use Rattle.qm_engine.proofs.LastingStores.{turns-self}
 use Rattle.qm_engine.proofs.Loops.{each}
 use Rattle.qm_run.proofs.Sayings.{says_nothing, says_unstarted, unchanged, each_input, both, at_none, at_kind}
 use Rattle.qm_run.proofs.program.qmdb_main.Goals as goal
