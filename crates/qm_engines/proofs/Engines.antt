@@ -16,10 +16,9 @@ use Rattle.qm_store.specs.declared.Store as store
 use Rattle.qm_store.specs.Log.{Log}
 use Rattle.qm_batch.specs.Lent.{IsReadError, NoneBelow}
 use Rattle.qm_model.specs.Refused.{Refused, Journal, ItemTooLarge, Merkle, LocationOverflow}
-use Rattle.qm_model.specs.Mmr.{mmr}
 use Rattle.qm_model.specs.Refusals.{tip_refusal, too_long, too_many}
 use Rattle.qm_model.specs.Roots.{sha256_root, sha256_proof, sha256_pins}
-use Rattle.qm_model.specs.Trees.{leaf, peaks, inactive_peaks, leaf_digest, digest_of, root, leaves_from}
+use Rattle.qm_model.specs.Trees.{leaf, peaks, inactive_peaks, leaf_digest, digest_of, root, leaves_from, Shape}
 use Rattle.qm_model.specs.Live.{floor, live}
 use Rattle.qm_model.specs.Proofs.{ops_proof, pins_at, proof_of}
 use Rattle.qm_model.specs.Walk.{Rules}
@@ -45,74 +44,74 @@ use Rattle.qm_engines.specs.declared.database.Database as engine
 use Rattle.qm_engines.specs.Held.{held}
 
 -- a form with lengths spells operations as the machine does
-module _ (form : Form) (lengths : form.sizes ≡ None) where
+module _ (shape : Shape) (form : Form) (lengths : form.sizes ≡ None) where
   spelled-same : (op : Operation) → spelling form op ≡ spelling variable op
   spelled-same op = ap (λ sizes. padded form.ordered sizes (plain sizes op)) lengths
 
-  leaves-same : (i : ℕ) (ops : List Operation) → leaves_from sha256 mmr form i ops ≡ leaves_from sha256 mmr variable i ops
+  leaves-same : (i : ℕ) (ops : List Operation) → leaves_from sha256 shape form i ops ≡ leaves_from sha256 shape variable i ops
   leaves-same i [] = refl
-  leaves-same i (op ∷ ops) = ap₂ (λ spelt ds. leaf_digest sha256 (mmr.position (leaf i)) spelt ∷ ds) (spelled-same op) (leaves-same (suc i) ops)
+  leaves-same i (op ∷ ops) = ap₂ (λ spelt ds. leaf_digest sha256 (shape.position (leaf i)) spelt ∷ ds) (spelled-same op) (leaves-same (suc i) ops)
 
-  root-same : (list : List Operation) → list_root (hashing form) list ≡ sha256_root mmr list
+  root-same : (list : List Operation) → list_root (hashing shape form) list ≡ sha256_root shape list
   unfolding sha256_root
-  root-same list = ap (λ ls. root sha256 mmr ls (inactive_peaks mmr (length list) (floor list))) (leaves-same 0 list)
+  root-same list = ap (λ ls. root sha256 shape ls (inactive_peaks shape (length list) (floor list))) (leaves-same 0 list)
 
-  roots-same : list_root (hashing form) ≡ sha256_root mmr
+  roots-same : list_root (hashing shape form) ≡ sha256_root shape
   roots-same = λ i list. root-same list i
 
   -- what stands for a list, under the program's root
-  pub standing : (list : List Operation) → list_commitment (hashing form) list ≡ commitment (sha256_root mmr) list
+  pub standing : (list : List Operation) → list_commitment (hashing shape form) list ≡ commitment (sha256_root shape) list
   standing list = ap (λ r. commitment r list) roots-same
 
-  fits-same : (list : List Operation) (chain : Chain) → fits (list_root (hashing form)) (list_commitment (hashing form) list) chain ≡ fits (sha256_root mmr) (commitment (sha256_root mmr) list) chain
+  fits-same : (list : List Operation) (chain : Chain) → fits (list_root (hashing shape form)) (list_commitment (hashing shape form) list) chain ≡ fits (sha256_root shape) (commitment (sha256_root shape) list) chain
   fits-same list chain = ap (λ r. fits r (commitment r list) chain) roots-same
 
   readable-same : (list : List Operation) (chain : Chain) (tip : List Operation)
-      → readable (list_root (hashing form)) (list_commitment (hashing form) list) chain tip ≡ readable (sha256_root mmr) (commitment (sha256_root mmr) list) chain tip
+      → readable (list_root (hashing shape form)) (list_commitment (hashing shape form) list) chain tip ≡ readable (sha256_root shape) (commitment (sha256_root shape) list) chain tip
   readable-same list chain tip = ap (λ r. readable r (commitment r list) chain tip) roots-same
 
   -- a merkleized batch fits where its bounds say so
-  pub at-made : (list : List Operation) (chain : Chain) (tip : List Operation) (current : Commitment) (made : Made Sha256Digest) → current ≡ list_commitment (hashing form) list → IsMade (hashing form) made chain tip
-      → is_at current made.bounds.db made.bounds.ancestors ≡ fits (sha256_root mmr) (commitment (sha256_root mmr) list) chain
+  pub at-made : (list : List Operation) (chain : Chain) (tip : List Operation) (current : Commitment) (made : Made Sha256Digest) → current ≡ list_commitment (hashing shape form) list → IsMade (hashing shape form) made chain tip
+      → is_at current made.bounds.db made.bounds.ancestors ≡ fits (sha256_root shape) (commitment (sha256_root shape) list) chain
   at-made list chain tip current made is batch =
-      ap (λ c. is_at c made.bounds.db made.bounds.ancestors) is ∙ at-fits (list_root (hashing form)) made.bounds chain tip (list_commitment (hashing form) list) batch.bounds ∙ fits-same list chain
+      ap (λ c. is_at c made.bounds.db made.bounds.ancestors) is ∙ at-fits (list_root (hashing shape form)) made.bounds chain tip (list_commitment (hashing shape form) list) batch.bounds ∙ fits-same list chain
 
   -- the bounds of a chain
   abbrev bounds_of : Chain → Bounds
   bounds_of chain = record {
-    base = list_commitment (hashing form) chain.base;
-    db = list_commitment (hashing form) (boundary_list chain);
-    tip = list_commitment (hashing form) chain.base;
-    ancestors = map (λ k. list_commitment (hashing form) k.tip) chain.kept;
+    base = list_commitment (hashing shape form) chain.base;
+    db = list_commitment (hashing shape form) (boundary_list chain);
+    tip = list_commitment (hashing shape form) chain.base;
+    ancestors = map (λ k. list_commitment (hashing shape form) k.tip) chain.kept;
     inactivity_floor = 0;
   }
 
   -- a batch does where the states that it keeps of its parent say so
-  pub on-begun : (list : List Operation) (chain above : Chain) (current : Commitment) (begun : Begun Sha256Digest) → begun.keep ≤ suc (length begun.parent.bounds.ancestors) → current ≡ list_commitment (hashing form) list
-      → IsBegun (hashing form) begun chain above → is_on current begun ≡ fits (sha256_root mmr) (commitment (sha256_root mmr) list) chain
+  pub on-begun : (list : List Operation) (chain above : Chain) (current : Commitment) (begun : Begun Sha256Digest) → begun.keep ≤ suc (length begun.parent.bounds.ancestors) → current ≡ list_commitment (hashing shape form) list
+      → IsBegun (hashing shape form) begun chain above → is_on current begun ≡ fits (sha256_root shape) (commitment (sha256_root shape) list) chain
   on-begun list chain above current begun few is batch =
       ap (λ c. is_on c begun) is
-      ∙ ap₂ (is_at (list_commitment (hashing form) list)) (child-boundary begun.parent begun.keep chain above few batch.parent batch.kept)
+      ∙ ap₂ (is_at (list_commitment (hashing shape form) list)) (child-boundary begun.parent begun.keep chain above few batch.parent batch.kept)
       (child-tips begun.parent begun.keep chain above few batch.parent batch.kept)
-      ∙ at-fits (list_root (hashing form)) (bounds_of chain) chain chain.base (list_commitment (hashing form) list) (record { base = refl; db = refl; tip = refl; ancestors = refl })
+      ∙ at-fits (list_root (hashing shape form)) (bounds_of chain) chain chain.base (list_commitment (hashing shape form) list) (record { base = refl; db = refl; tip = refl; ancestors = refl })
       ∙ fits-same list chain
 
   -- what bounds know is where a batch of them can be read
-  pub knows-readable : (list : List Operation) (chain : Chain) (tip : List Operation) (current : Commitment) (bounds : Bounds) → current ≡ list_commitment (hashing form) list → IsBounds (list_root (hashing form)) bounds chain tip
-      → knows bounds current ≡ readable (sha256_root mmr) (commitment (sha256_root mmr) list) chain tip
+  pub knows-readable : (list : List Operation) (chain : Chain) (tip : List Operation) (current : Commitment) (bounds : Bounds) → current ≡ list_commitment (hashing shape form) list → IsBounds (list_root (hashing shape form)) bounds chain tip
+      → knows bounds current ≡ readable (sha256_root shape) (commitment (sha256_root shape) list) chain tip
   knows-readable list chain tip current bounds is of =
-      ap (knows bounds) is ∙ at-readable (list_root (hashing form)) bounds chain tip (list_commitment (hashing form) list) of ∙ readable-same list chain tip
+      ap (knows bounds) is ∙ at-readable (list_root (hashing shape form)) bounds chain tip (list_commitment (hashing shape form) list) of ∙ readable-same list chain tip
 
 apart : true ≡ false → ⊥
 apart is = cc
 
 -- where a batch does not fit the list is not on its chain
-pub off-chain : (list : List Operation) (chain : Chain) → fits (sha256_root mmr) (commitment (sha256_root mmr) list) chain ≡ false → IsOnChain list chain → ⊥
-off-chain list chain unfit on = apart (sym (fits-on_chain (sha256_root mmr) list chain on) ∙ unfit)
+pub off-chain : (shape : Shape) (list : List Operation) (chain : Chain) → fits (sha256_root shape) (commitment (sha256_root shape) list) chain ≡ false → IsOnChain list chain → ⊥
+off-chain shape list chain unfit on = apart (sym (fits-on_chain (sha256_root shape) list chain on) ∙ unfit)
 
 -- where it can not be read the list is not known
-pub unknown : (list : List Operation) (chain : Chain) (tip : List Operation) → readable (sha256_root mmr) (commitment (sha256_root mmr) list) chain tip ≡ false → IsKnown list chain tip → ⊥
-unknown list chain tip closed known = apart (sym (readable-known (sha256_root mmr) list chain tip known) ∙ closed)
+pub unknown : (shape : Shape) (list : List Operation) (chain : Chain) (tip : List Operation) → readable (sha256_root shape) (commitment (sha256_root shape) list) chain tip ≡ false → IsKnown list chain tip → ⊥
+unknown shape list chain tip closed known = apart (sym (readable-known (sha256_root shape) list chain tip known) ∙ closed)
 
 -- a read that fails is stale, wants memory, or failed at the log
 abbrev pub IsReadErr : {C D : Type 0} → store.Ghosts C → Log C D → Log C D → Bool → Error → Type 0
@@ -220,51 +219,51 @@ pub made-reads : {X E : Type 0} (r : Result X E) (S : List Operation → Type 0)
 made-reads (Ok x) S L Q given = given
 made-reads (Err e) S L Q given = tt
 
-pub begun-reads : (form : Form) {X E : Type 0} (r : Result X E) (S : List Operation → Type 0) (begun : Begun Sha256Digest) (Q : X → List Operation → List Write → Type 0)
-    → ((list : List Operation) (chain above : Chain) → S list → IsBegun (hashing form) begun chain above → IsKnown list above chain.base → IfOk r (λ x. Q x chain.base begun.writes))
-    → IfOk r (λ x. (list : List Operation) (chain above : Chain) (ws : List Write) → S list → IsBegun (hashing form) begun chain above × (begun.writes ≡ ws) → IsKnown list above chain.base → Q x chain.base ws)
-begun-reads form (Ok x) S begun Q given = λ list chain above ws is batch known. subst (Q x chain.base) batch.1 (given list chain above is batch.0 known)
-begun-reads form (Err e) S begun Q given = tt
+pub begun-reads : (shape : Shape) (form : Form) {X E : Type 0} (r : Result X E) (S : List Operation → Type 0) (begun : Begun Sha256Digest) (Q : X → List Operation → List Write → Type 0)
+    → ((list : List Operation) (chain above : Chain) → S list → IsBegun (hashing shape form) begun chain above → IsKnown list above chain.base → IfOk r (λ x. Q x chain.base begun.writes))
+    → IfOk r (λ x. (list : List Operation) (chain above : Chain) (ws : List Write) → S list → IsBegun (hashing shape form) begun chain above × (begun.writes ≡ ws) → IsKnown list above chain.base → Q x chain.base ws)
+begun-reads shape form (Ok x) S begun Q given = λ list chain above ws is batch known. subst (Q x chain.base) batch.1 (given list chain above is batch.0 known)
+begun-reads shape form (Err e) S begun Q given = tt
 
 -- a batch that is staged, and one that gets more keys
-pub begun-staged : (form : Form) {X E : Type 0} (r : Result (X × Staged Sha256Digest) E) (S : List Operation → Type 0) (begun : Begun Sha256Digest) (keys : List Bytes) (Q : X → List Operation → List Write → Type 0)
-    → ((list : List Operation) (chain above : Chain) → S list → IsBegun (hashing form) begun chain above → IsKnown list above chain.base → IfOk r (λ x. Q x.0 chain.base begun.writes))
-    → ((list : List Operation) (chain above : Chain) → S list → IsBegun (hashing form) begun chain above → IsKnown list above chain.base → IfOk r (λ x. IsStaged (hashing form) x.1 chain above))
+pub begun-staged : (shape : Shape) (form : Form) {X E : Type 0} (r : Result (X × Staged Sha256Digest) E) (S : List Operation → Type 0) (begun : Begun Sha256Digest) (keys : List Bytes) (Q : X → List Operation → List Write → Type 0)
+    → ((list : List Operation) (chain above : Chain) → S list → IsBegun (hashing shape form) begun chain above → IsKnown list above chain.base → IfOk r (λ x. Q x.0 chain.base begun.writes))
+    → ((list : List Operation) (chain above : Chain) → S list → IsBegun (hashing shape form) begun chain above → IsKnown list above chain.base → IfOk r (λ x. IsStaged (hashing shape form) x.1 chain above))
     → IfOk r (λ x. (x.1).batch ≡ begun) → IfOk r (λ x. staged_keys x.1 ≡ keys)
-    → IfOk r (λ x. (list : List Operation) (chain above : Chain) (ws : List Write) → S list → IsBegun (hashing form) begun chain above × (begun.writes ≡ ws) → IsKnown list above chain.base
-    → Q x.0 chain.base ws × (IsStaged (hashing form) x.1 chain above × ((x.1).batch.writes ≡ ws) × (staged_keys x.1 ≡ keys)))
-begun-staged form (Ok x) S begun keys Q values staged same are = λ list chain above ws is batch known. (
+    → IfOk r (λ x. (list : List Operation) (chain above : Chain) (ws : List Write) → S list → IsBegun (hashing shape form) begun chain above × (begun.writes ≡ ws) → IsKnown list above chain.base
+    → Q x.0 chain.base ws × (IsStaged (hashing shape form) x.1 chain above × ((x.1).batch.writes ≡ ws) × (staged_keys x.1 ≡ keys)))
+begun-staged shape form (Ok x) S begun keys Q values staged same are = λ list chain above ws is batch known. (
   subst (Q x.0 chain.base) batch.1 (values list chain above is batch.0 known),
   (staged list chain above is batch.0 known, ap (λ (b : Begun Sha256Digest). b.writes) same ∙ batch.1, are),
 )
-begun-staged form (Err e) S begun keys Q values staged same are = tt
+begun-staged shape form (Err e) S begun keys Q values staged same are = tt
 
-pub more-staged : (form : Form) {R X E : Type 0} (r : Result (R × X × Staged Sha256Digest) E) (S : List Operation → Type 0) (before : Staged Sha256Digest) (keys : List Bytes) (Q : X → List Operation → List Write → Type 0)
-    → ((list : List Operation) (chain above : Chain) → S list → IsStaged (hashing form) before chain above → IsKnown list above chain.base → IfOk r (λ x. Q x.1 chain.base before.batch.writes))
-    → ((list : List Operation) (chain above : Chain) → S list → IsStaged (hashing form) before chain above → IsKnown list above chain.base → IfOk r (λ x. IsStaged (hashing form) x.2 chain above))
+pub more-staged : (shape : Shape) (form : Form) {R X E : Type 0} (r : Result (R × X × Staged Sha256Digest) E) (S : List Operation → Type 0) (before : Staged Sha256Digest) (keys : List Bytes) (Q : X → List Operation → List Write → Type 0)
+    → ((list : List Operation) (chain above : Chain) → S list → IsStaged (hashing shape form) before chain above → IsKnown list above chain.base → IfOk r (λ x. Q x.1 chain.base before.batch.writes))
+    → ((list : List Operation) (chain above : Chain) → S list → IsStaged (hashing shape form) before chain above → IsKnown list above chain.base → IfOk r (λ x. IsStaged (hashing shape form) x.2 chain above))
     → IfOk r (λ x. (x.2).batch ≡ before.batch) → IfOk r (λ x. staged_keys x.2 ≡ staged_keys before ++ keys)
-    → IfOk r (λ x. (list : List Operation) (chain above : Chain) (ws : List Write) (staged : List Bytes) → S list → IsStaged (hashing form) before chain above × (before.batch.writes ≡ ws) × (staged_keys before ≡ staged) → IsKnown list above chain.base
-    → Q x.1 chain.base ws × (IsStaged (hashing form) x.2 chain above × ((x.2).batch.writes ≡ ws) × (staged_keys x.2 ≡ staged ++ keys)))
-more-staged form (Ok x) S before keys Q values staged same are = λ list chain above ws own is batch known. (
+    → IfOk r (λ x. (list : List Operation) (chain above : Chain) (ws : List Write) (staged : List Bytes) → S list → IsStaged (hashing shape form) before chain above × (before.batch.writes ≡ ws) × (staged_keys before ≡ staged) → IsKnown list above chain.base
+    → Q x.1 chain.base ws × (IsStaged (hashing shape form) x.2 chain above × ((x.2).batch.writes ≡ ws) × (staged_keys x.2 ≡ staged ++ keys)))
+more-staged shape form (Ok x) S before keys Q values staged same are = λ list chain above ws own is batch known. (
   subst (Q x.1 chain.base) batch.1 (values list chain above is batch.0 known),
   (staged list chain above is batch.0 known, ap (λ (b : Begun Sha256Digest). b.writes) same ∙ batch.1, are ∙ ap (λ ks. ks ++ keys) batch.2),
 )
-more-staged form (Err e) S before keys Q values staged same are = tt
+more-staged shape form (Err e) S before keys Q values staged same are = tt
 
 -- what an apply appends, said of bounds and of lists
-pub appends-same : (form : Form) → form.sizes ≡ None → (list : List Operation) (chain : Chain) (tip : List Operation) (current : Commitment) (made : Made Sha256Digest) → current ≡ list_commitment (hashing form) list → IsMade (hashing form) made chain tip
-    → (if is_at current made.bounds.db made.bounds.ancestors then map (spelling form) (drop current.size tip) else []) ≡ (if fits (sha256_root mmr) (commitment (sha256_root mmr) list) chain then map (spelling form) (drop (length list) tip) else [])
-appends-same form lengths list chain tip current made is batch =
-    ap (λ b. if b then map (spelling form) (drop current.size tip) else []) (at-made form lengths list chain tip current made is batch)
-    ∙ ap (λ (n : ℕ). if fits (sha256_root mmr) (commitment (sha256_root mmr) list) chain then map (spelling form) (drop n tip) else []) (ap (λ c. c.size) is)
+pub appends-same : (shape : Shape) (form : Form) → form.sizes ≡ None → (list : List Operation) (chain : Chain) (tip : List Operation) (current : Commitment) (made : Made Sha256Digest) → current ≡ list_commitment (hashing shape form) list → IsMade (hashing shape form) made chain tip
+    → (if is_at current made.bounds.db made.bounds.ancestors then map (spelling form) (drop current.size tip) else []) ≡ (if fits (sha256_root shape) (commitment (sha256_root shape) list) chain then map (spelling form) (drop (length list) tip) else [])
+appends-same shape form lengths list chain tip current made is batch =
+    ap (λ b. if b then map (spelling form) (drop current.size tip) else []) (at-made shape form lengths list chain tip current made is batch)
+    ∙ ap (λ (n : ℕ). if fits (sha256_root shape) (commitment (sha256_root shape) list) chain then map (spelling form) (drop n tip) else []) (ap (λ c. c.size) is)
 
-pub proved : (form : Form) → form.sizes ≡ None → (ops : List Operation) (a b : ℕ) → ops_proof sha256 mmr form ops a b ≡ sha256_proof mmr ops a b
+pub proved : (shape : Shape) (form : Form) → form.sizes ≡ None → (ops : List Operation) (a b : ℕ) → ops_proof sha256 shape form ops a b ≡ sha256_proof shape ops a b
 unfolding sha256_proof
-proved form lengths ops a b = ap (λ ls. proof_of sha256 mmr ls (inactive_peaks mmr (length ops) (floor ops)) a b) (leaves-same form lengths 0 ops)
+proved shape form lengths ops a b = ap (λ ls. proof_of sha256 shape ls (inactive_peaks shape (length ops) (floor ops)) a b) (leaves-same shape form lengths 0 ops)
 
-pub pinned : (form : Form) → form.sizes ≡ None → (ops : List Operation) (n : ℕ) → pins_at sha256 mmr form ops n ≡ sha256_pins mmr ops n
+pub pinned : (shape : Shape) (form : Form) → form.sizes ≡ None → (ops : List Operation) (n : ℕ) → pins_at sha256 shape form ops n ≡ sha256_pins shape ops n
 unfolding sha256_pins
-pinned form lengths ops n = ap (λ ls. map (digest_of sha256 mmr ls) (peaks mmr n)) (leaves-same form lengths 0 ops)
+pinned shape form lengths ops n = ap (λ ls. map (digest_of sha256 shape ls) (peaks shape n)) (leaves-same shape form lengths 0 ops)
 
 none-some : (r : Refused) → None ≡ Some r → ⊥
 none-some r is = cc
@@ -302,16 +301,16 @@ module _ (form : Form) (chain : Chain) (tip : List Operation) where
       either r told low (inr read) = absurd (none-some r (sym (log-untold members old new e (whole low) read) ∙ told))
 
 -- a batch of these writes makes a tip that is not refused
-pub made-ok : (form : Form) {P X E : Type 0} (rules : Rules P) (r : Result X E) (made : X → Made Sha256Digest) (Is : Chain → Chain → Type 0) (own : List Write) (policy : P) (meta : Option Bytes) (S : List Operation → Type 0)
-    → ((list : List Operation) (chain above : Chain) → S list → Is chain above → IsOnChain list chain → IfOk r (λ x. IsMade (hashing form) (made x) chain (stepped form rules chain.base own policy meta)))
+pub made-ok : (shape : Shape) (form : Form) {P X E : Type 0} (rules : Rules P) (r : Result X E) (made : X → Made Sha256Digest) (Is : Chain → Chain → Type 0) (own : List Write) (policy : P) (meta : Option Bytes) (S : List Operation → Type 0)
+    → ((list : List Operation) (chain above : Chain) → S list → Is chain above → IsOnChain list chain → IfOk r (λ x. IsMade (hashing shape form) (made x) chain (stepped form rules chain.base own policy meta)))
     → ((list : List Operation) (chain above : Chain) → S list → Is chain above → IsOnChain list chain → IfOk r (λ x. IsTaken form chain.base (stepped form rules chain.base own policy meta)))
     → IfOk r (λ x. (list : List Operation) (chain above : Chain) → S list → Is chain above → (ws : List Write) → own ≡ ws → IsOnChain list chain
-    → (tip_refusal form chain (stepped form rules chain.base ws policy meta) ≡ None) × IsMade (hashing form) (made x) chain (stepped form rules chain.base ws policy meta))
-made-ok form rules (Ok x) made Is own policy meta S given taken = λ list chain above is batch ws same on. (
+    → (tip_refusal form chain (stepped form rules chain.base ws policy meta) ≡ None) × IsMade (hashing shape form) (made x) chain (stepped form rules chain.base ws policy meta))
+made-ok shape form rules (Ok x) made Is own policy meta S given taken = λ list chain above is batch ws same on. (
   taken-offered form chain (stepped form rules chain.base ws policy meta) (subst (λ w. IsTaken form chain.base (stepped form rules chain.base w policy meta)) same (taken list chain above is batch on)),
-  subst (λ w. IsMade (hashing form) (made x) chain (stepped form rules chain.base w policy meta)) same (given list chain above is batch on),
+  subst (λ w. IsMade (hashing shape form) (made x) chain (stepped form rules chain.base w policy meta)) same (given list chain above is batch on),
 )
-made-ok form rules (Err e) made Is own policy meta S given taken = tt
+made-ok shape form rules (Err e) made Is own policy meta S given taken = tt
 
 -- and one that fails is refused, or failed at the log
 pub made-err : (form : Form) {P X : Type 0} (rules : Rules P) (r : Result X Error) (Is : Chain → Chain → Type 0) (own : List Write) (policy : P) (meta : Option Bytes) (R : Error → Type 0) (S : List Operation → Type 0)
@@ -345,11 +344,11 @@ pub left-store : {C D : Type 0} (members : store.Ghosts C) (hash : Hashing D) (o
 left-store members hash old new left = let kept = (left.read).kept in record { start = kept.start; told = kept.told }
 
 -- an engine's refusal gives back what the database's does
-same-engine : {C I U : Type 0} (y x : engine.Database C I U) (a b : Given (engine.Database C I U) C) → a ≡ given.Database y → b ≡ given.Database x → a ≡ b → y ≡ x
+same-engine : {F C I U : Type 0} (y x : engine.Database F C I U) (a b : Given (engine.Database F C I U) C) → a ≡ given.Database y → b ≡ given.Database x → a ≡ b → y ≡ x
 same-engine y x a b is_y is_x same = cc (is_y, is_x, same)
 
-pub held-database : {C I U : Type 0} (back : Given (Database C Sha256Digest) C) (x : engine.Database C I U) → held back ≡ given.Database x → back ≡ given.Database x.db
-held-database {C = C} {I = I} {U = U} (given.Database db) x is = ap (λ (y : engine.Database C I U). given.Database y.db) (same-engine (record { db = db }) x (given.Database (record { db = db })) (given.Database x) refl refl is)
+pub held-database : {F C I U : Type 0} (back : Given (Database C Sha256Digest) C) (x : engine.Database F C I U) → held back ≡ given.Database x → back ≡ given.Database x.db
+held-database {F = F} {C = C} {I = I} {U = U} (given.Database db) x is = ap (λ (y : engine.Database F C I U). given.Database y.db) (same-engine (record { db = db }) x (given.Database (record { db = db })) (given.Database x) refl refl is)
 held-database (given.Store store) x is = absurd (cc is)
 
 -- an apply that fails and not as stale is for no refusal

@@ -10,16 +10,13 @@ use Rattle.std.proofs.lemmas.List.Folds.{find-append}
 use Rattle.sha2.specs.Sha256.{sha256}
 use Rattle.qm_model.specs.Operations.{Bytes, Operation}
 use Rattle.qm_model.specs.Forms.{Form, spelling}
-use Rattle.qm_model.specs.Mmr.{mmr, mmr_births}
 use Rattle.qm_model.specs.Trees.{Shape, Node, peaks, peak_positions, digest_of}
-use Rattle.qm_model.specs.Families.{Births, IsFamily}
+use Rattle.qm_model.specs.Families.{Births, IsFamily, HasPeaks}
 use Rattle.qm_model.specs.Proofs.{needed_of}
 use Rattle.qm_model.specs.Proofs.{needed as needs}
 use Rattle.qm_model.specs.Batches.{Chain, Commitment, boundary_list}
 use Rattle.qm_model.specs.Refused.{Merkle, ElementPruned, RangeOutOfBounds}
 use Rattle.qm_model.specs.Refusals.{pins_refusal}
-use Rattle.qm_model.proofs.MmrFamily.{mmr_is_family}
-use Rattle.qm_model.proofs.MmrPeaks.{mmr_has_peaks}
 use Rattle.qm_model.proofs.Results.{err-then}
 use Rattle.qm_machine.specs.Held.{is_between, is_held, first_pruned, pins_lacked, proof_lacked}
 use Rattle.qm_base.specs.declared.error.Error.{Error}
@@ -240,12 +237,12 @@ first-of at xs ys e lacked = ⊎_elim
 none-pruned : (holds : ℕ → Bool) (ps : List ℕ) → find (λ p. not (holds p)) ps ≡ None → first_pruned holds ps ≡ None
 none-pruned holds ps none = ap (option_map (λ p. Merkle (ElementPruned p))) none
 
-module _ {C : Type 0} (members : store.Ghosts C) (form : Form) (index_key : Bytes → ℕ) (db : Database C Sha256Digest) (list : List Operation) (is : IsDatabase members (layout form index_key) db list) where
+module _ (shape : Shape) (births : Births) (family : IsFamily shape births) (peaked : HasPeaks shape) {C : Type 0} (members : store.Ghosts C) (form : Form) (index_key : Bytes → ℕ) (db : Database C Sha256Digest) (list : List Operation) (is : IsDatabase members (layout shape form index_key) db list) where
   abbrev leaves : List Bytes
-  leaves = digests_from sha256 mmr 0 (map (spelling form) list)
+  leaves = digests_from sha256 shape 0 (map (spelling form) list)
 
   count : length leaves ≡ length list
-  count = length-digests_from sha256 mmr 0 (map (spelling form) list) ∙ length-map list (spelling form)
+  count = length-digests_from sha256 shape 0 (map (spelling form) list) ∙ length-map list (spelling form)
 
   begins : db.log.tree.start ≡ members.start db.log.store
   begins = is.lent.logged.start
@@ -256,17 +253,17 @@ module _ {C : Type 0} (members : store.Ghosts C) (form : Form) (index_key : Byte
   -- the peaks over the list's first operations that the database holds are those that it is not refused for
   module _ (few : db.commitment.size ≤ 2 ^ 62) (n : ℕ) where
     abbrev holds : ℕ → Bool
-    holds = is_held mmr (members.start db.log.store) (length list)
+    holds = is_held shape (members.start db.log.store) (length list)
 
-    node-held : (x : Node) → mmr.birth x ≤ length list → is_some (node_at mmr db.log.tree (mmr.position x)) ≡ holds (mmr.position x)
+    node-held : (x : Node) → shape.birth x ≤ length list → is_some (node_at shape db.log.tree (shape.position x)) ≡ holds (shape.position x)
     node-held x born =
-        log-held mmr mmr_births mmr_is_family digest_bytes sha256 db.log.tree leaves is.lent.logged.tree x (omega (arith, born, count))
-        ∙ ap₂ (λ s m. is_held mmr s m (mmr.position x)) begins count
+        log-held shape births family digest_bytes sha256 db.log.tree leaves is.lent.logged.tree x (omega (arith, born, count))
+        ∙ ap₂ (λ s m. is_held shape s m (shape.position x)) begins count
 
-    peaks-same : n ≤ length list → first_lacked (node_at mmr db.log.tree) (peak_positions mmr n) ≡ find (λ p. not (holds p)) (peak_positions mmr n)
+    peaks-same : n ≤ length list → first_lacked (node_at shape db.log.tree) (peak_positions shape n) ≡ find (λ p. not (holds p)) (peak_positions shape n)
     peaks-same within =
-        find-same mmr (node_at mmr db.log.tree) holds n (λ x born. node-held x (omega (arith, born, within))) (peaks mmr n)
-        (each_of (λ x. mmr.birth x ≤ n) (peaks mmr n) (mmr_has_peaks.born n (omega (arith, few, size, within))))
+        find-same shape (node_at shape db.log.tree) holds n (λ x born. node-held x (omega (arith, born, within))) (peaks shape n)
+        (each_of (λ x. shape.birth x ≤ n) (peaks shape n) (peaked.born n (omega (arith, few, size, within))))
 
     inside : n ≤ length list → pins_refusal list n ≡ None
     inside within = ap (λ t. if t then Some (Merkle (RangeOutOfBounds n)) else None) (le-ltb (length list) n within)
@@ -274,41 +271,41 @@ module _ {C : Type 0} (members : store.Ghosts C) (form : Form) (index_key : Byte
     outside : length list < n → pins_refusal list n ≡ Some (Merkle (RangeOutOfBounds n))
     outside past = ap (λ t. if t then Some (Merkle (RangeOutOfBounds n)) else None) (lt-ltb (length list) n past)
 
-    pub pins-offered : pins_refusal list n ≡ None → first_lacked (node_at mmr db.log.tree) (peak_positions mmr n) ≡ None → pins_lacked mmr (members.start db.log.store) list n ≡ None
+    pub pins-offered : pins_refusal list n ≡ None → first_lacked (node_at shape db.log.tree) (peak_positions shape n) ≡ None → pins_lacked shape (members.start db.log.store) list n ≡ None
     pins-offered offered held = ⊎_elim
         (λ (past : length list < n). absurd (some-none (sym (outside past) ∙ offered)))
-        (λ (within : n ≤ length list). ap₂ option_or offered (none-pruned holds (peak_positions mmr n) (sym (peaks-same within) ∙ held)))
+        (λ (within : n ≤ length list). ap₂ option_or offered (none-pruned holds (peak_positions shape n) (sym (peaks-same within) ∙ held)))
         (cases_lt (length list) n)
       where
         some-none : Some (Merkle (RangeOutOfBounds n)) ≡ None → ⊥
         some-none e = cc
 
     pub pins-due : {X : Type 0} (r : Result X Error) → (db.commitment.size < n → r ≡ Err (errors.Merkle (merkle.RangeOutOfBounds n)))
-        → (n ≤ db.commitment.size → IfErr r (IsLacked (node_at mmr db.log.tree) (peak_positions mmr n))) → IfErr r (λ e. IsDue e (pins_lacked mmr (members.start db.log.store) list n))
+        → (n ≤ db.commitment.size → IfErr r (IsLacked (node_at shape db.log.tree) (peak_positions shape n))) → IfErr r (λ e. IsDue e (pins_lacked shape (members.start db.log.store) list n))
     pins-due r range cause = ⊎_elim
-        (λ (past : length list < n). subst (λ r. IfErr r (λ e. IsDue e (pins_lacked mmr (members.start db.log.store) list n))) (sym (range (omega (arith, past, size))))
-        (ap (λ o. option_or o (first_pruned holds (peak_positions mmr n))) (outside past)))
+        (λ (past : length list < n). subst (λ r. IfErr r (λ e. IsDue e (pins_lacked shape (members.start db.log.store) list n))) (sym (range (omega (arith, past, size))))
+        (ap (λ o. option_or o (first_pruned holds (peak_positions shape n))) (outside past)))
         (λ (within : n ≤ length list). err-then r (cause (omega (arith, within, size))) (λ e lacked.
-        subst (λ due. IsDue e due) (sym (ap (λ o. option_or o (first_pruned holds (peak_positions mmr n))) (inside within)))
-        (lacked-due (node_at mmr db.log.tree) holds (peak_positions mmr n) e (peaks-same within) lacked)))
+        subst (λ due. IsDue e due) (sym (ap (λ o. option_or o (first_pruned holds (peak_positions shape n))) (inside within)))
+        (lacked-due (node_at shape db.log.tree) holds (peak_positions shape n) e (peaks-same within) lacked)))
         (cases_lt (length list) n)
 
   -- what the proof of a batch lacks that knows the database's list
-  module _ (made : Made Sha256Digest) (chain : Chain) (tip : List Operation) (batch : IsMade (hashing form) made chain tip) (agreed : AreAgreed made) (known : knows made.bounds db.commitment ≡ true) where
+  module _ (made : Made Sha256Digest) (chain : Chain) (tip : List Operation) (batch : IsMade (hashing shape form) made chain tip) (agreed : AreAgreed made) (known : knows made.bounds db.commitment ≡ true) where
     abbrev at : ℕ → Option Sha256Digest
-    at = held_at mmr made.tree db.log.tree
+    at = held_at shape made.tree db.log.tree
 
     abbrev has : ℕ → Bool
-    has = λ p. is_held mmr (members.start db.log.store) (length list) p || is_between mmr (length (boundary_list chain)) (length tip) p
+    has = λ p. is_held shape (members.start db.log.store) (length list) p || is_between shape (length (boundary_list chain)) (length tip) p
 
     abbrev own : List Bytes
-    own = leaves_of sha256 mmr (map (spelling form) tip)
+    own = leaves_of sha256 shape (map (spelling form) tip)
 
     long : length own ≡ length tip
-    long = length-digests_from sha256 mmr 0 (map (spelling form) tip) ∙ length-map tip (spelling form)
+    long = length-digests_from sha256 shape 0 (map (spelling form) tip) ∙ length-map tip (spelling form)
 
     ends : made.tree.leaves ≡ length own
-    ends = batch.tree.leaves ∙ sym (length-digests_from sha256 mmr 0 (map (spelling form) tip))
+    ends = batch.tree.leaves ∙ sym (length-digests_from sha256 shape 0 (map (spelling form) tip))
 
     abbrev low : ℕ
     low = made.bounds.db.size
@@ -325,13 +322,13 @@ module _ {C : Type 0} (members : store.Ghosts C) (form : Form) (index_key : Byte
     within : low ≤ length leaves
     within = omega (arith, count, size, All-contains (λ n. low ≤ n) (stops made.tree.leaves made.tree.layers) db.commitment.size agreed.above (known-reached made agreed db.commitment known))
 
-    made-held : (x : Node) → mmr.birth x ≤ length tip → is_some (at (mmr.position x)) ≡ has (mmr.position x)
+    made-held : (x : Node) → shape.birth x ≤ length tip → is_some (at (shape.position x)) ≡ has (shape.position x)
     made-held x born =
-        let p = mmr.position x in
-        batch-held mmr mmr_births mmr_is_family digest_bytes sha256 low made.tree db.log.tree own leaves batch.tree.lists batch.tree.history batch.tree.adding
+        let p = shape.position x in
+        batch-held shape births family digest_bytes sha256 low made.tree db.log.tree own leaves batch.tree.lists batch.tree.history batch.tree.adding
         (subst (λ n. Contains (stops n made.tree.layers) low) ends reached) (subst (λ n. All (λ m. low ≤ m) (stops n made.tree.layers)) ends agreed.above) is.lent.logged.tree within x (omega (arith, born, long))
-        ∙ ap₂ (λ s m. is_held mmr s m p || is_between mmr low (length own) p) begins count
-        ∙ ap₂ (λ l n. is_held mmr (members.start db.log.store) (length list) p || is_between mmr l n p) bounded long
+        ∙ ap₂ (λ s m. is_held shape s m p || is_between shape low (length own) p) begins count
+        ∙ ap₂ (λ l n. is_held shape (members.start db.log.store) (length list) p || is_between shape l n p) bounded long
 
     abbrev n : ℕ
     n = length tip
@@ -340,7 +337,7 @@ module _ {C : Type 0} (members : store.Ghosts C) (form : Form) (index_key : Byte
     base = length chain.base
 
     abbrev needed : List ℕ
-    needed = needed_positions mmr n base n
+    needed = needed_positions shape n base n
 
     tips : made.bounds.tip.size ≡ n
     tips = ap (λ k. k.size) batch.bounds.tip
@@ -354,35 +351,35 @@ module _ {C : Type 0} (members : store.Ghosts C) (form : Form) (index_key : Byte
     shorter : base ≤ n
     shorter = omega (arith, start-within made agreed, agreed.leaves, from, tips)
 
-    same : first_lacked at (needed ++ peak_positions mmr base) ≡ find (λ p. not (has p)) (needed ++ peak_positions mmr base)
+    same : first_lacked at (needed ++ peak_positions shape base) ≡ find (λ p. not (has p)) (needed ++ peak_positions shape base)
     same =
-        find-append (λ p. is_none (at p)) needed (peak_positions mmr base)
+        find-append (λ p. is_none (at p)) needed (peak_positions shape base)
         ∙ ap₂ option_or
-        (find-same mmr at has n made-held (needed_of mmr n base n)
-        (each_row (λ x. mmr.birth x ≤ n) (λ p. needs base n p.height p.index) (λ p. mmr.birth p ≤ n) (λ p. needed_born mmr mmr_births mmr_is_family n base n p.height p.index) (peaks mmr n)
-        (each_of (λ p. mmr.birth p ≤ n) (peaks mmr n) (mmr_has_peaks.born n few))))
-        (find-same mmr at has base (λ x born. made-held x (omega (arith, born, shorter))) (peaks mmr base)
-        (each_of (λ p. mmr.birth p ≤ base) (peaks mmr base) (mmr_has_peaks.born base (omega (arith, few, shorter)))))
-        ∙ sym (find-append (λ p. not (has p)) needed (peak_positions mmr base))
+        (find-same shape at has n made-held (needed_of shape n base n)
+        (each_row (λ x. shape.birth x ≤ n) (λ p. needs base n p.height p.index) (λ p. shape.birth p ≤ n) (λ p. needed_born shape births family n base n p.height p.index) (peaks shape n)
+        (each_of (λ p. shape.birth p ≤ n) (peaks shape n) (peaked.born n few))))
+        (find-same shape at has base (λ x born. made-held x (omega (arith, born, shorter))) (peaks shape base)
+        (each_of (λ p. shape.birth p ≤ base) (peaks shape base) (peaked.born base (omega (arith, few, shorter)))))
+        ∙ sym (find-append (λ p. not (has p)) needed (peak_positions shape base))
 
-    listed : needed_positions mmr made.bounds.tip.size made.bounds.base.size made.bounds.tip.size ≡ needed
-    listed = ap₂ (λ t b. needed_positions mmr t b t) tips from
+    listed : needed_positions shape made.bounds.tip.size made.bounds.base.size made.bounds.tip.size ≡ needed
+    listed = ap₂ (λ t b. needed_positions shape t b t) tips from
 
-    over : peak_positions mmr made.bounds.base.size ≡ peak_positions mmr base
-    over = ap (peak_positions mmr) from
+    over : peak_positions shape made.bounds.base.size ≡ peak_positions shape base
+    over = ap (peak_positions shape) from
 
-    none : first_lacked at (needed_positions mmr made.bounds.tip.size made.bounds.base.size made.bounds.tip.size) ≡ None → first_lacked at needed ≡ None
+    none : first_lacked at (needed_positions shape made.bounds.tip.size made.bounds.base.size made.bounds.tip.size) ≡ None → first_lacked at needed ≡ None
     none held = subst (λ ps. first_lacked at ps ≡ None) listed held
 
-    pub proof-offered : first_lacked at (needed_positions mmr made.bounds.tip.size made.bounds.base.size made.bounds.tip.size) ≡ None → first_lacked at (peak_positions mmr made.bounds.base.size) ≡ None
-        → proof_lacked mmr (members.start db.log.store) list chain tip ≡ None
+    pub proof-offered : first_lacked at (needed_positions shape made.bounds.tip.size made.bounds.base.size made.bounds.tip.size) ≡ None → first_lacked at (peak_positions shape made.bounds.base.size) ≡ None
+        → proof_lacked shape (members.start db.log.store) list chain tip ≡ None
     proof-offered held pinned =
-        none-pruned has (needed ++ peak_positions mmr base)
-        (sym same ∙ find-append (λ p. is_none (at p)) needed (peak_positions mmr base) ∙ ap₂ option_or (none held) (subst (λ ps. first_lacked at ps ≡ None) over pinned))
+        none-pruned has (needed ++ peak_positions shape base)
+        (sym same ∙ find-append (λ p. is_none (at p)) needed (peak_positions shape base) ∙ ap₂ option_or (none held) (subst (λ ps. first_lacked at ps ≡ None) over pinned))
 
-    pub proof-due : (e : Error) → IsLacked at (needed_positions mmr made.bounds.tip.size made.bounds.base.size made.bounds.tip.size) e → IsDue e (proof_lacked mmr (members.start db.log.store) list chain tip)
-    proof-due e lacked = lacked-due at has (needed ++ peak_positions mmr base) e same (first-of at needed (peak_positions mmr base) e (subst (λ ps. IsLacked at ps e) listed lacked))
+    pub proof-due : (e : Error) → IsLacked at (needed_positions shape made.bounds.tip.size made.bounds.base.size made.bounds.tip.size) e → IsDue e (proof_lacked shape (members.start db.log.store) list chain tip)
+    proof-due e lacked = lacked-due at has (needed ++ peak_positions shape base) e same (first-of at needed (peak_positions shape base) e (subst (λ ps. IsLacked at ps e) listed lacked))
 
-    pub peaks-due : (e : Error) → first_lacked at (needed_positions mmr made.bounds.tip.size made.bounds.base.size made.bounds.tip.size) ≡ None → IsLacked at (peak_positions mmr made.bounds.base.size) e
-        → IsDue e (proof_lacked mmr (members.start db.log.store) list chain tip)
-    peaks-due e held lacked = lacked-due at has (needed ++ peak_positions mmr base) e same (later-lacked at needed (peak_positions mmr base) e (none held) (subst (λ ps. IsLacked at ps e) over lacked))
+    pub peaks-due : (e : Error) → first_lacked at (needed_positions shape made.bounds.tip.size made.bounds.base.size made.bounds.tip.size) ≡ None → IsLacked at (peak_positions shape made.bounds.base.size) e
+        → IsDue e (proof_lacked shape (members.start db.log.store) list chain tip)
+    peaks-due e held lacked = lacked-due at has (needed ++ peak_positions shape base) e same (later-lacked at needed (peak_positions shape base) e (none held) (subst (λ ps. IsLacked at ps e) over lacked))

@@ -2,6 +2,8 @@
 use Rattle.std.proofs.Common.{arith, ◌≡◌, ◌⊎◌, inl, inr, ◌≤◌, ◌<◌, ℕ, zero, suc, ◌-◌, List, [], ◌∷◌, length, map, Option, Some, None, IfSome, refl, sym, ap, ◌∙◌, subst}
 use Rattle.std.specs.Prelude.{◌^◌, option_map, option_and_then}
 use Rattle.std.specs.Option.{option_or}
+use Rattle.qm_model.specs.Families.{Births, IsFamily, HasPeaks}
+use Rattle.qm_model.specs.Trees.{Shape}
 use Rattle.qm_model.specs.Causes.{IsCause}
 use Rattle.qm_model.specs.Forms.{Form, spelling}
 use Rattle.qm_model.specs.Live.{floor}
@@ -42,48 +44,48 @@ last-past : (start i : ℕ) (before : Option Selected) (items : List (Option Ope
 last-past start i before [] low past = past
 last-past start i before (item ∷ items) low past = last-past start (suc i) (option_or (commit_at i item) before) items (omega (arith, low)) (commit-past start i item before low past)
 
-module _ (form : Form) where
-  past_start : (s : Stored) (bound : Option ℕ) (j : ℕ) → selected_size (scheme form) bound s ≡ suc j → s.start < suc j
-  past_start s bound j is = by (last-past s.start s.start None (below_bound bound (found (layout_of (scheme form)) s)) (omega arith) (inl refl))
+module _ (shape : Shape) (births : Births) (family : IsFamily shape births) (peaked : HasPeaks shape) (form : Form) where
+  past_start : (s : Stored) (bound : Option ℕ) (j : ℕ) → selected_size (scheme shape form) bound s ≡ suc j → s.start < suc j
+  past_start s bound j is = by (last-past s.start s.start None (below_bound bound (found (layout_of (scheme shape form)) s)) (omega arith) (inl refl))
     where
-      by : IsPast s.start (selected (found (layout_of (scheme form)) s) bound) → s.start < suc j
+      by : IsPast s.start (selected (found (layout_of (scheme shape form)) s) bound) → s.start < suc j
       by (inl none) = absurd (omega (arith, none, is))
       by (inr past) = omega (arith, past, is)
 
   -- the list that is taken up, as the database has it
   pub opened-list : (told : Option Stored) (bound : Option ℕ) (S : List Operation → Type 0)
-      → IfSome told (λ s. (list : List Operation) → any.HasList (hashing form) s (any.selected_size (hashing form) bound s) list → S list)
-      → IfSome told (λ s. any.selected_size (hashing form) bound s ≡ 0 → S fresh)
-      → IfSome told (λ s. (list : List Operation) → IsTaken (scheme form) s (selected_size (scheme form) bound s) list → S list)
+      → IfSome told (λ s. (list : List Operation) → any.HasList (hashing shape form) s (any.selected_size (hashing shape form) bound s) list → S list)
+      → IfSome told (λ s. any.selected_size (hashing shape form) bound s ≡ 0 → S fresh)
+      → IfSome told (λ s. (list : List Operation) → IsTaken (scheme shape form) s (selected_size (scheme shape form) bound s) list → S list)
   opened-list None bound S stands begun = tt
-  opened-list (Some s) bound S stands begun = λ list is. by (selected_size (scheme form) bound s) refl list is
+  opened-list (Some s) bound S stands begun = λ list is. by (selected_size (scheme shape form) bound s) refl list is
     where
-      by : (n : ℕ) → selected_size (scheme form) bound s ≡ n → (list : List Operation) → IsTaken (scheme form) s n list → S list
+      by : (n : ℕ) → selected_size (scheme shape form) bound s ≡ n → (list : List Operation) → IsTaken (scheme shape form) s n list → S list
       by zero e list is = subst S (sym is) (begun e)
       by (suc j) e list is =
           let within : s.start ≤ length list = omega (arith, is.size_is, past_start s bound j e) in
-          stands list (subst (λ n. any.HasList (hashing form) s n list) (sym e) record {
+          stands list (subst (λ n. any.HasList (hashing shape form) s n list) (sym e) record {
             size_is = is.size_is;
             of = is.of;
             good = is.good;
             ring = is.ring;
             items = is.items;
-            head = is-head form list s.start (omega (arith, is.size_is, is.few, within)) within s.head is.head;
+            head = is-head shape births family peaked form list s.start (omega (arith, is.size_is, is.few, within)) within s.head is.head;
           })
 
-  taken-same : (n : ℕ) (s : Stored) → any.taken (hashing form) n s ≡ taken (scheme form) n s
+  taken-same : (n : ℕ) (s : Stored) → any.taken (hashing shape form) n s ≡ taken (scheme shape form) n s
   taken-same zero s = refl
   taken-same (suc n) s = refl
 
-  leaves-same : (n : ℕ) (s t : Stored) → any.LeavesOpening (hashing form) n s t → LeavesOpening (scheme form) n s t
+  leaves-same : (n : ℕ) (s t : Stored) → any.LeavesOpening (hashing shape form) n s t → LeavesOpening (scheme shape form) n s t
   leaves-same zero s t is = is
   leaves-same (suc n) s t is = is
 
-  pub became-taken : (o new : Option Stored) (bound : Option ℕ) → Turns o new (λ s t. t ≡ any.taken (hashing form) (any.selected_size (hashing form) bound s) s) → Turns o new (λ s t. t ≡ taken (scheme form) (selected_size (scheme form) bound s) s)
-  became-taken o new bound is = turned-each o new _ _ (λ s t e. e ∙ taken-same (selected_size (scheme form) bound s) s) is
+  pub became-taken : (o new : Option Stored) (bound : Option ℕ) → Turns o new (λ s t. t ≡ any.taken (hashing shape form) (any.selected_size (hashing shape form) bound s) s) → Turns o new (λ s t. t ≡ taken (scheme shape form) (selected_size (scheme shape form) bound s) s)
+  became-taken o new bound is = turned-each o new _ _ (λ s t e. e ∙ taken-same (selected_size (scheme shape form) bound s) s) is
 
-  pub left-opening : (o new : Option Stored) (bound : Option ℕ) → Turns o new (λ s t. any.LeavesOpening (hashing form) (any.selected_size (hashing form) bound s) s t) → Turns o new (λ s t. LeavesOpening (scheme form) (selected_size (scheme form) bound s) s t)
-  left-opening o new bound is = turned-each o new _ _ (λ s t. leaves-same (selected_size (scheme form) bound s) s t) is
+  pub left-opening : (o new : Option Stored) (bound : Option ℕ) → Turns o new (λ s t. any.LeavesOpening (hashing shape form) (any.selected_size (hashing shape form) bound s) s t) → Turns o new (λ s t. LeavesOpening (scheme shape form) (selected_size (scheme shape form) bound s) s t)
+  left-opening o new bound is = turned-each o new _ _ (λ s t. leaves-same (selected_size (scheme shape form) bound s) s t) is
 
 -- want of memory and a fault of the store refuse nothing
 pub untold : (e : Error) → (e ≡ errors.Memory) ⊎ (e ≡ errors.Journal journal.Store) → refusal_of e ≡ None
@@ -102,12 +104,12 @@ pub left-pruned : (o new : Option Stored) (start : ℕ) (IsHead : Bytes → Type
     → Turns o new (LeavesPruning start IsHead to)
 left-pruned o new start IsHead to head past heads is = turned-each o new _ _ (λ s t left. inr (past, head, heads, left)) is
 
-module _ {C : Type 0} (members : store.Ghosts C) (form : Form) (index_key : Bytes → ℕ) (db : Database C Sha256Digest) (to : ℕ) where
+module _ (shape : Shape) (births : Births) (family : IsFamily shape births) (peaked : HasPeaks shape) {C : Type 0} (members : store.Ghosts C) (form : Form) (index_key : Bytes → ℕ) (db : Database C Sha256Digest) (to : ℕ) where
   -- a head over the log's items is that of its list
-  pub heads-of : (head : Bytes) → IsHeadAt members (hashing form) to db.log head → (list : List Operation) → IsDatabase members (layout form index_key) db list → to ≤ floor list → length list ≤ 2 ^ 62 → head ≡ head_at (scheme form) list to
+  pub heads-of : (head : Bytes) → IsHeadAt members (hashing shape form) to db.log head → (list : List Operation) → IsDatabase members (layout shape form index_key) db list → to ≤ floor list → length list ≤ 2 ^ 62 → head ≡ head_at (scheme shape form) list to
   heads-of head heads list is low few =
       let within : to ≤ length list = omega (arith, low, is.good.floor_within) in
-      head-is form list to (omega (arith, within, few)) within head (heads (map (spelling form) list) is.lent.logged)
+      head-is shape births family peaked form list to (omega (arith, within, few)) within head (heads (map (spelling form) list) is.lent.logged)
 
 -- a cause of one error is one of an equal one
 pub cause-same : (before now : ℕ) (e error : Error) → error ≡ e → IsCause before now (e ≡ errors.Journal journal.Store) → IsCause before now (error ≡ errors.Journal journal.Store)

@@ -3,7 +3,7 @@ use Rattle.std.specs.Prelude.{ℕ}
 use Rattle.qm_base.specs.declared.sha256.Sha256Digest.{Sha256Digest}
 use Rattle.qm_model.specs.Operations.{Bytes}
 use Rattle.qm_model.specs.Forms.{Form}
-use Rattle.qm_model.specs.Mmr.{mmr}
+use Rattle.qm_model.specs.Trees.{Shape}
 use Rattle.sha2.specs.Sha256.{sha256}
 use Rattle.qm_any.specs.Layouts.{Hashing, Layout}
 
@@ -11,10 +11,10 @@ use Rattle.qm_any.specs.Layouts.{Hashing, Layout}
 abbrev pub digest_bytes : Sha256Digest → Bytes
 digest_bytes d = d.bytes
 
--- over updates of this form
-abbrev pub hashing : Form → Hashing Sha256Digest
-hashing form = record { bytes = digest_bytes; hash = sha256; shape = mmr; form = form }
+-- over updates of this form, in trees of this shape
+abbrev pub hashing : Shape → Form → Hashing Sha256Digest
+hashing shape form = record { bytes = digest_bytes; hash = sha256; shape = shape; form = form }
 
 -- and with these index keys
-abbrev pub layout : Form → (Bytes → ℕ) → Layout Sha256Digest
-layout form index_key = record { hashing = hashing form; index_key = index_key }
+abbrev pub layout : Shape → Form → (Bytes → ℕ) → Layout Sha256Digest
+layout shape form index_key = record { hashing = hashing shape form; index_key = index_key }

@@ -1,11 +1,10 @@
 -- The machines of the program's databases.
-use Rattle.std.specs.Prelude.{◌≡◌, Bool, ◌^◌, ◌&&◌, nat_lt, [], length, None, refl}
+use Rattle.std.specs.Prelude.{Bool, ◌^◌, ◌&&◌, nat_lt, length, None}
 use Rattle.sha2.specs.Sha256.{sha256}
 use Rattle.qm_model.specs.Operations.{Bytes, are_bytes}
 use Rattle.qm_model.specs.Forms.{Form}
 use Rattle.qm_model.specs.Live.{floor}
-use Rattle.qm_model.specs.Mmr.{mmr, digits_below}
-use Rattle.qm_model.specs.Trees.{peaks}
+use Rattle.qm_model.specs.Trees.{Shape}
 use Rattle.qm_model.specs.Roots.{sha256_root, sha256_proof, sha256_pins}
 use Rattle.qm_machine.specs.Machine.{Scheme}
 
@@ -17,20 +16,15 @@ is_string bs = nat_lt (length bs) (2 ^ 32) && are_bytes bs
 abbrev pub form_of : Bool → Form
 form_of is_ordered = record { ordered = is_ordered; sizes = None; is_key = is_string; is_value = is_string }
 
--- the machine of databases of this form
-abbrev pub scheme : Form → Scheme
-scheme form = record {
+-- the machine of databases of this form, over trees of this shape
+abbrev pub scheme : Shape → Form → Scheme
+scheme shape form = record {
   form = form;
-  shape = mmr;
+  shape = shape;
   hash = sha256;
   digest_size = 32;
-  root = sha256_root mmr;
+  root = sha256_root shape;
   boundary = floor;
-  proof = sha256_proof mmr;
-  pins = sha256_pins mmr;
+  proof = sha256_proof shape;
+  pins = sha256_pins shape;
 }
-
--- over nothing it has no peaks
-pub bare : peaks mmr 0 ≡ []
-unfolding digits_below
-bare = refl

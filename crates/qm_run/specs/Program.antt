@@ -5,6 +5,7 @@ use Rattle.qm_model.specs.Own.{Log, IsOwn}
 use Rattle.qm_model.specs.StoreModel.{Stored, Turns}
 use Rattle.qm_model.specs.Policies.{policies}
 use Rattle.qm_model.specs.Batches.{Apart}
+use Rattle.qm_model.specs.Mmr.{mmr}
 use Rattle.qm_machine.specs.Machine.{Scheme, State, engine_of, initial, answers}
 use Rattle.qm_machine.specs.Grammar.{commands_in, bad_in}
 use Rattle.qm_machine.specs.Text.{text_of}
@@ -30,7 +31,7 @@ are_words ws = is_some (kind_of_words ws)
 
 -- the machine of ordered databases or of unordered ones
 abbrev pub machine_of : Bool → Scheme
-machine_of is_ordered = scheme (form_of is_ordered)
+machine_of is_ordered = scheme mmr (form_of is_ordered)
 
 -- the machine of the words
 abbrev pub scheme_of : List Bytes → Option Scheme

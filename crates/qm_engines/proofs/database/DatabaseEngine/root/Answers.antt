@@ -1,6 +1,0 @@
-use Rattle.std.proofs.Common.{◌∙◌, ap}
-use Rattle.qm_engines.proofs.Engines.{standing}
-use Rattle.qm_engines.proofs.database.DatabaseEngine.root.Goals as goal
-
-pub returns : goal.returns
-returns g c = λ list is. c.root.ensures ∙ ap (λ k. k.root) (is.commitment ∙ standing g.U.Update.form g.met.U.Kind.lengths list)

@@ -1,0 +1,62 @@
+// Staged batches.
+use crate::database::{Database, Kind};
+use crate::listed::{twin_keys, twin_option};
+use qm_base::{ByteKey, ByteValue, Error, Location};
+use qm_chain::Policy;
+use qm_engine::Staging;
+use qm_index::{Factory, FourCap};
+use qm_lines::Resolution;
+use qm_merkle::Family;
+use qm_store::Store;
+use std::alloc::Global;
+use std::ops::Range;
+
+impl<
+    F: Family,
+    C: Store,
+    I: Factory<Value = Location<F>, Translator = FourCap>,
+    U: Kind<F, I, Key = ByteKey, Value = ByteValue>,
+> Staging<C> for Database<F, C, I, U> {
+    fn stage(
+        &mut self,
+        alloc: Global,
+        batch: Self::Batch,
+        keys: &[ByteKey],
+    ) -> Result<(Vec<Option<ByteValue>>, Self::Staged), Error> {
+        let keys = twin_keys(alloc, keys)?;
+        batch.stage(alloc, keys, &mut self.db)
+    }
+
+    fn expand(
+        &mut self,
+        alloc: Global,
+        batch: Self::Staged,
+        keys: &[ByteKey],
+    ) -> Result<(Range<usize>, Vec<Option<ByteValue>>, Self::Staged), Error> {
+        let keys = twin_keys(alloc, keys)?;
+        batch.expand(alloc, keys, &mut self.db)
+    }
+
+    fn staged_count(batch: &Self::Staged) -> usize {
+        batch.len()
+    }
+
+    fn resolve<P: Policy<F, ByteKey, ByteValue>>(
+        &mut self,
+        alloc: Global,
+        batch: Self::Staged,
+        resolution: &Resolution<ByteKey, ByteValue>,
+        policy: &mut P,
+        metadata: &Option<ByteValue>,
+    ) -> Result<Self::Merkleized, Error> {
+        let metadata = twin_option(alloc, metadata)?;
+        batch.merkleize(
+            alloc,
+            &resolution.slots,
+            &resolution.others,
+            &mut self.db,
+            metadata,
+            policy,
+        )
+    }
+}
