@@ -71,22 +71,47 @@ module _ {X C B S M : Type 0} (members : store.Ghosts C) (means : words.Ghosts X
   LeavesSteady old new next =
       (s : State) → Stands members means old s → IsSteady means.scheme s → Apart means.scheme.root s.had → IsLeft means.scheme (members.told (store_given means.inside new.held)) s.log ((next s).1).log
 
+  -- The same of a command that takes what is held and no more, with these batches and this count of openings.
+  abbrev pub LeavesHeld : List (Slot B S M) → ℕ → Given X C → Given X C → (State → Answer × State) → Type 0
+  LeavesHeld table opened old new next =
+      (s : State) → Holds members means old table opened s → Apart means.scheme.root s.had → IsLeft means.scheme (members.told (store_given means.inside new)) s.log ((next s).1).log
+
+  -- The same of one before which the run was steady.
+  abbrev pub LeavesHeldSteady : List (Slot B S M) → ℕ → Given X C → Given X C → (State → Answer × State) → Type 0
+  LeavesHeldSteady table opened old new next =
+      (s : State) → Holds members means old table opened s → IsSteady means.scheme s → Apart means.scheme.root s.had → IsLeft means.scheme (members.told (store_given means.inside new)) s.log ((next s).1).log
+
   module _ {K V D : Type 0} (key : K → Bytes) (value : V → Bytes) (digest : D → Bytes) where
     -- A reply is the machine's, where the lists of this state are apart.
     abbrev pub Answers : Turn K V D → State → Answer × State → Type 0
     Answers turn s next = IfReply turn (λ r. Apart means.scheme.root s.had → answer_view key value digest r ≡ next.0)
 
-    -- A turn does what the machine does: a reply is the machine's, and the session stands for its next state, where that
+    -- A turn does what the machine does: a reply is the machine's, and what is held stands for its next state, where that
     -- run's lists are apart.
+    abbrev pub FollowsHeld : List (Slot B S M) → ℕ → Given X C → Turn K V D → Answer × State → Type 0
+    FollowsHeld table opened new turn next = IfReply turn (λ r. Apart means.scheme.root (next.1).had → (answer_view key value digest r ≡ next.0) × Holds members means new table opened next.1)
+
+    -- So does a session.
     abbrev pub Follows : Session X C B S M → Turn K V D → Answer × State → Type 0
-    Follows new turn next = IfReply turn (λ r. Apart means.scheme.root (next.1).had → (answer_view key value digest r ≡ next.0) × Stands members means new next.1)
+    Follows new turn next = FollowsHeld new.table.items new.opened new.held turn next
 
     -- A command does so from each state that the session stood for.
     abbrev pub Obeys : Session X C B S M → Session X C B S M → Turn K V D → (State → Answer × State) → Type 0
     Obeys old new turn next = (s : State) → Stands members means old s → Follows new turn (next s)
 
+    -- The same of a command that takes what is held and no more, with these batches and this count of openings.
+    abbrev pub ObeysHeld : List (Slot B S M) → ℕ → Given X C → Given X C → Turn K V D → (State → Answer × State) → Type 0
+    ObeysHeld table opened old new turn next = (s : State) → Holds members means old table opened s → FollowsHeld table opened new turn (next s)
+
     -- The same of a command before which the run was steady, where the store tells the ends that restarts chose in it: the machine
-    -- takes these of the choices to come.
+    -- takes these of the choices to come. It may count an opening.
+    abbrev pub ObeysHeldSteady : List (Slot B S M) → ℕ → Given X C → ℕ → Given X C → Turn K V D → (State → Answer × State) → Type 0
+    ObeysHeldSteady table before old after new turn next =
+        (s : State) → Holds members means old table before s → IsSteady means.scheme s
+        → (more rest : List ℕ) → Turns (members.told (store_given means.inside old)) (members.told (store_given means.inside new)) (IsBeside more) → s.choices ≡ more ++ rest
+        → FollowsHeld table after new turn (next s)
+
+    -- So does a session.
     abbrev pub ObeysSteady : Session X C B S M → Session X C B S M → Turn K V D → (State → Answer × State) → Type 0
     ObeysSteady old new turn next =
         (s : State) → Stands members means old s → IsSteady means.scheme s
@@ -131,3 +156,10 @@ pub record Performs {X C B S M K V D P : Type 0} (members : store.Ghosts C) (mea
   pub left : LeavesSteady members means old new next
   pub handles : HandlesLine members line (store_given means.inside old.held) (store_given means.inside new.held) turn
   pub opened : new.opened ≤ old.opened + 1
+
+-- The same of a command that takes what is held and no more, with these batches: it may count an opening.
+pub record PerformsHeld {X C B S M K V D P : Type 0} (members : store.Ghosts C) (means : words.Ghosts X C B S M) (key : K → Bytes) (value : V → Bytes) (digest : D → Bytes) (line : Line P) (next : State → Answer × State) (table : List (Slot B S M)) (before : ℕ) (old : Given X C) (after : ℕ) (new : Given X C) (turn : Turn K V D) : Type 0 where
+  pub machine : ObeysHeldSteady members means key value digest table before old after new turn next
+  pub left : LeavesHeldSteady members means table before old new next
+  pub handles : HandlesLine members line (store_given means.inside old) (store_given means.inside new) turn
+  pub opened : after ≤ before + 1

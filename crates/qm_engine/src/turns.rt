@@ -2,7 +2,7 @@
 ghost use Rattle.std.specs.Prelude.{◌+◌, ◌^◌, ◌<◌};
 ghost use Rattle.qm_machine.specs.Machine as machine;
 ghost use Rattle.qm_lines.specs.Views.{line_view, batch_view, read_view, info_view, store_view};
-ghost use Rattle.qm_engine.specs.Session.{Performs};
+ghost use Rattle.qm_engine.specs.Session.{Performs, PerformsHeld};
 
 mod batches;
 mod lasting;
@@ -12,7 +12,8 @@ mod reads;
 mod staged;
 
 use crate::engine::{Batching, Engine, Lasting, Neighbours, Proving, Reading, Staging};
-use crate::session::{Of, Turn};
+use crate::session::{Of, Session, Turn};
+use crate::table::Slot;
 use batches::{apply, batch, child, del, merkleize, put, tip};
 use lasting::{close, commit, crash, destroy, open, prune, sync};
 use ordered::{Question, Side, ask, beside};
@@ -20,7 +21,7 @@ use proofs::{batch_proof, pins, prove};
 use qm_base::Twin;
 use qm_chain::Policy;
 use qm_lines::{BatchCommand, Command, InfoCommand, ReadCommand, StoreCommand};
-use qm_store::Store;
+use qm_store::{Given, Store};
 use reads::{batch_info, batch_root, current, info, meta, ops, read, read_key, root};
 use staged::{expand, resolve, stage};
 use std::alloc::Global;
@@ -124,7 +125,31 @@ fn info_turn<X: Reading<C> + Proving<C>, C: Store, P: Policy<X::Family, X::Key, 
     }
 }
 
-// One that takes the database, or opens it.
+// One that takes the database, or opens it, over what is held.
+fn held_turn<X: Lasting<C> + Batching<C>, C: Store, P: Policy<X::Family, X::Key, X::Value> + Twin>(
+    alloc: Global,
+    config: &X::Config,
+    held: Given<X, C>,
+    table: &Vec<Slot<X::Batch, X::Staged, X::Merkleized>>,
+    opened: &mut u64,
+    command: &StoreCommand,
+) -> (Given<X, C>, Turn<X::Key, X::Value, X::Digest>)
+    requires { opened.old + 1 < 2 ^ 64 }
+    ensures { PerformsHeld {P = P} C.Store X.Words X.Key.bytes X.Value.bytes X.Digest.bytes (store_view X.Key.bytes X.Value.bytes command.now) (λ s. machine.turn X.scheme P.rules s (store_view X.Key.bytes X.Value.bytes command.now)) table.now.items opened.old held opened.new result.0 result.1 }
+{
+    match command {
+        StoreCommand::Open(max_size) => open::<X, C>(alloc, config, held, opened, *max_size),
+        StoreCommand::Apply(number) => apply::<X, C>(alloc, held, table, *number),
+        StoreCommand::Prune(to) => prune::<X, C>(alloc, held, *to),
+        StoreCommand::Commit => commit::<X, C>(held),
+        StoreCommand::Sync => sync::<X, C>(held),
+        StoreCommand::Close => close::<X, C>(held),
+        StoreCommand::Destroy => destroy::<X, C>(held),
+        StoreCommand::Crash(keep) => crash::<X, C, P>(held, *keep),
+    }
+}
+
+// The same over a session.
 fn store_turn<X: Lasting<C> + Batching<C>, C: Store, P: Policy<X::Family, X::Key, X::Value> + Twin>(
     alloc: Global,
     config: &X::Config,
@@ -134,14 +159,16 @@ fn store_turn<X: Lasting<C> + Batching<C>, C: Store, P: Policy<X::Family, X::Key
     requires { session.opened + 1 < 2 ^ 64 }
     ensures { Performs {P = P} C.Store X.Words X.Key.bytes X.Value.bytes X.Digest.bytes (store_view X.Key.bytes X.Value.bytes command.now) (λ s. machine.turn X.scheme P.rules s (store_view X.Key.bytes X.Value.bytes command.now)) session result.0 result.1 }
 {
-    match command {
-        StoreCommand::Open(max_size) => open::<X, C>(alloc, config, session, *max_size),
-        StoreCommand::Apply(number) => apply::<X, C>(alloc, session, *number),
-        StoreCommand::Prune(to) => prune::<X, C>(alloc, session, *to),
-        StoreCommand::Commit => commit::<X, C>(session),
-        StoreCommand::Sync => sync::<X, C>(session),
-        StoreCommand::Close => close::<X, C>(session),
-        StoreCommand::Destroy => destroy::<X, C>(session),
-        StoreCommand::Crash(keep) => crash::<X, C, P>(session, *keep),
-    }
+    let Session {
+        held,
+        table,
+        mut opened,
+    } = session;
+    let (held, turn) = held_turn::<X, C, P>(alloc, config, held, &table, &mut opened, command);
+    let session = Session {
+        held,
+        table,
+        opened,
+    };
+    (session, turn)
 }

@@ -1,5 +1,5 @@
 // Commands that make, fill and apply batches.
-ghost use Rattle.std.specs.Prelude.{◌≡◌, ◌≤◌, ◌++◌, ◌∷◌, [], ◌≢◌, List, Some, None, option_map, Contains, IfOk, IsErrOf};
+ghost use Rattle.std.specs.Prelude.{◌≡◌, ◌≤◌, ◌++◌, ◌∷◌, [], ◌≢◌, List, Some, None, option_map, Contains, IfOk, IsErrOf, ℕ};
 ghost use Rattle.qm_model.specs.Live.{floor};
 ghost use Rattle.qm_model.specs.Operations.{Operation};
 ghost use Rattle.qm_model.specs.Writes.{Write};
@@ -9,11 +9,12 @@ ghost use Rattle.qm_machine.specs.Machine as machine;
 ghost use Rattle.qm_store.specs.Given.{store_given, IsUnchanged, TellsFrom};
 ghost use Rattle.qm_engine.specs.Words.{AtBatch, ReadsOnly, tip_of};
 ghost use Rattle.qm_engine.specs.Making.{IsMaking, made_into};
-ghost use Rattle.qm_engine.specs.Session.{SlotIs, Stands, Follows, Obeys, ObeysSteady, LeavesSteady, Uses};
+ghost use Rattle.qm_engine.specs.Session.{SlotIs, Stands, Follows, Obeys, ObeysSteady, ObeysHeldSteady, LeavesHeldSteady, Uses};
 
 use crate::engine::{Basis, Batching};
-use crate::session::{Of, Session, Turn, turn_of};
+use crate::session::{Of, Turn, turn_of};
 use crate::table::{Slot, merkleized_at, push_slot, put_slot, take_writing};
+use crate::turns::lasting::no_database;
 use qm_base::{Error, JournalError, Twin};
 use qm_chain::Policy;
 use qm_lines::{Refused, Reply};
@@ -239,59 +240,32 @@ pub fn merkleize<X: Batching<C>, C: Store, P: Policy<X::Family, X::Key, X::Value
 /// Applies a merkleized batch, which keeps its number.
 pub fn apply<X: Batching<C>, C: Store>(
     alloc: Global,
-    session: Of<X, C>,
+    held: Given<X, C>,
+    table: &Vec<Slot<X::Batch, X::Staged, X::Merkleized>>,
     number: u64,
-) -> (Of<X, C>, Turn<X::Key, X::Value, X::Digest>)
-    ensures machine { ObeysSteady C.Store X.Words X.Key.bytes X.Value.bytes X.Digest.bytes session result.0 result.1
+) -> (Given<X, C>, Turn<X::Key, X::Value, X::Digest>)
+    ensures machine { (count : ℕ) → ObeysHeldSteady C.Store X.Words X.Key.bytes X.Value.bytes X.Digest.bytes table.now.items count held count result.0 result.1
         (λ s. machine.apply X.scheme s number) }
-    ensures left { LeavesSteady C.Store X.Words session result.0
+    ensures left { (count : ℕ) → LeavesHeldSteady C.Store X.Words table.now.items count held result.0
         (λ s. machine.apply X.scheme s number) }
-    ensures uses { Uses C.Store (store_given X.inside session.held) (store_given X.inside result.0.held) result.1 }
-    ensures opened { result.0.opened ≡ session.opened }
+    ensures uses { Uses C.Store (store_given X.inside held) (store_given X.inside result.0) result.1 }
 {
-    let Session {
-        held,
-        table,
-        opened,
-    } = session;
     match held {
-        Given::Store(store) => (
-            Session {
-                held: Given::Store(store),
-                table,
-                opened,
-            },
-            Turn::Reply(Reply::Refused(Refused::NoDatabase)),
-        ),
-        Given::Database(x) => match merkleized_at(&table, number) {
+        Given::Store(store) => no_database::<X, C>(store),
+        Given::Database(x) => match merkleized_at(table, number) {
             None => (
-                Session {
-                    held: Given::Database(x),
-                    table,
-                    opened,
-                },
+                Given::Database(x),
                 Turn::Reply(Reply::Refused(Refused::NoSuchHandle(number))),
             ),
             Some(batch) => match x.apply(alloc, batch) {
                 Ok(x) => {
                     let numbers = x.info();
                     (
-                        Session {
-                            held: Given::Database(x),
-                            table,
-                            opened,
-                        },
+                        Given::Database(x),
                         Turn::Reply(Reply::Applied(numbers.size)),
                     )
                 }
-                Err(refusal) => (
-                    Session {
-                        held: refusal.given,
-                        table,
-                        opened,
-                    },
-                    turn_of(refusal.error),
-                ),
+                Err(refusal) => (refusal.given, turn_of(refusal.error)),
             },
         },
     }

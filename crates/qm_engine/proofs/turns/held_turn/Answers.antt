@@ -1,0 +1,89 @@
+use Rattle.std.proofs.Common.{arith, refl}
+use Rattle.qm_engine.proofs.Handling.{uses_line, handles_line}
+use Rattle.qm_engine.proofs.turns.held_turn.Goals as goal
+
+pub returns-in-Open : goal.returns-in-Open
+returns-in-Open g c =
+    let table = c.args.table.now.items in
+    rw c.in-Open.is (record {
+      machine = c.open.ensures.machine table;
+      left = c.open.ensures.left table c.args.opened.now;
+      handles = handles_line _ _ _ _ _ (λ rest. refl) c.open.ensures.handles;
+      opened = c.open.ensures.opened;
+    })
+
+pub returns-in-Apply : goal.returns-in-Apply
+returns-in-Apply g c =
+    let count = c.args.opened.now in
+    rw c.in-Apply.is (record {
+      machine = c.apply.ensures.machine count;
+      left = c.apply.ensures.left count;
+      handles = uses_line _ _ _ _ _ (λ rest. refl) c.apply.ensures.uses;
+      opened = omega arith;
+    })
+
+pub returns-in-Prune : goal.returns-in-Prune
+returns-in-Prune g c =
+    let table = c.args.table.now.items in
+    let count = c.args.opened.now in
+    rw c.in-Prune.is (record {
+      machine = c.prune.ensures.machine table count;
+      left = c.prune.ensures.left table count;
+      handles = handles_line _ _ _ _ _ (λ rest. refl) c.prune.ensures.handles;
+      opened = omega arith;
+    })
+
+pub returns-in-Commit : goal.returns-in-Commit
+returns-in-Commit g c =
+    let table = c.args.table.now.items in
+    let count = c.args.opened.now in
+    rw c.in-Commit.is (record {
+      machine = λ s k sound more rest told choices. c.commit.ensures.machine table count s k;
+      left = λ s k sound apart. c.commit.ensures.left table count s k apart;
+      handles = handles_line _ _ _ _ _ (λ rest. refl) c.commit.ensures.handles;
+      opened = omega arith;
+    })
+
+pub returns-in-Sync : goal.returns-in-Sync
+returns-in-Sync g c =
+    let table = c.args.table.now.items in
+    let count = c.args.opened.now in
+    rw c.in-Sync.is (record {
+      machine = λ s k sound more rest told choices. c.sync.ensures.machine table count s k;
+      left = λ s k sound apart. c.sync.ensures.left table count s k apart;
+      handles = handles_line _ _ _ _ _ (λ rest. refl) c.sync.ensures.handles;
+      opened = omega arith;
+    })
+
+pub returns-in-Close : goal.returns-in-Close
+returns-in-Close g c =
+    let table = c.args.table.now.items in
+    let count = c.args.opened.now in
+    rw c.in-Close.is (record {
+      machine = λ s k sound more rest told choices. c.close.ensures.machine table count s k;
+      left = λ s k sound apart. c.close.ensures.left table count s k apart;
+      handles = handles_line _ _ _ _ _ (λ rest. refl) c.close.ensures.handles;
+      opened = omega arith;
+    })
+
+pub returns-in-Destroy : goal.returns-in-Destroy
+returns-in-Destroy g c =
+    let table = c.args.table.now.items in
+    let count = c.args.opened.now in
+    rw c.in-Destroy.is (record {
+      machine = λ s k sound more rest told choices. c.destroy.ensures.machine table count s k;
+      left = λ s k sound apart. c.destroy.ensures.left table count s k apart;
+      handles = handles_line _ _ _ _ _ (λ rest. refl) c.destroy.ensures.handles;
+      opened = omega arith;
+    })
+
+pub returns-in-Crash : goal.returns-in-Crash
+returns-in-Crash g c =
+    let table = c.args.table.now.items in
+    let count = c.args.opened.now in
+    rw c.in-Crash.is (record {
+      machine = c.crash.ensures.machine table count;
+      left = λ s k sound apart. c.crash.ensures.left table count s k apart;
+      handles = c.crash.ensures.handles;
+      opened = omega arith;
+    })
