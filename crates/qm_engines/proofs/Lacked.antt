@@ -1,5 +1,5 @@
 -- Which nodes a database holds in its log's tree, by itself and below a batch's layers, and what it lacks of those that it is asked for.
-use Rattle.std.proofs.Common.{◌≡◌, ◌∙◌, ◌⊎◌, ⊎_elim, inl, inr, ℕ, zero, suc, ◌-◌, ◌^◌, ◌<◌, ◌≤◌, Bool, true, false, List, [], ◌∷◌, ◌++◌, length, map, arith, ap, ap₂, sym, refl, subst, Option, Some, None, All, Contains}
+use Rattle.std.proofs.Common.{◌≡◌, ◌∙◌, ⊎_elim, inl, inr, ℕ, zero, suc, ◌-◌, ◌^◌, ◌<◌, ◌≤◌, Bool, true, false, List, [], ◌∷◌, ◌++◌, length, map, arith, ap, ap₂, sym, refl, subst, Option, Some, None, All, Contains}
 use Rattle.std.specs.Prelude.{Result, Err, IfErr, ◌&&◌, ◌||◌, ◌==◌, not, nat_le, nat_lt, cond, find, is_none, is_some, option_map, slice_get, IsSome, if◌then◌else◌}
 use Rattle.std.specs.List.{list_any, AllByRecursion as Each}
 use Rattle.std.specs.Option.{option_or}

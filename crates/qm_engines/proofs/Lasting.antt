@@ -1,5 +1,5 @@
 -- What opens a database, and what makes one last or ends it, as an engine's clauses say it.
-use Rattle.std.proofs.Common.{arith, ◌≡◌, ◌⊎◌, inl, inr, ◌≤◌, ◌<◌, ℕ, zero, suc, ◌-◌, List, [], ◌∷◌, length, map, Option, Some, None, IfSome, refl, sym, ap, ◌∙◌, subst}
+use Rattle.std.proofs.Common.{arith, ◌≡◌, ◌⊎◌, inl, inr, ◌≤◌, ◌<◌, ℕ, zero, suc, List, [], ◌∷◌, length, map, Option, Some, None, IfSome, refl, sym, ap, ◌∙◌, subst}
 use Rattle.std.specs.Prelude.{◌^◌, option_map, option_and_then}
 use Rattle.std.specs.Option.{option_or}
 use Rattle.qm_model.specs.Families.{Births, IsFamily, HasPeaks}
@@ -23,7 +23,7 @@ use Rattle.qm_any.specs.Restoring as any
 use Rattle.qm_any.specs.Lasting.{cut_to, IsHeadAt}
 use Rattle.qm_any.specs.Databases.{Database, IsDatabase}
 use Rattle.qm_machine.specs.Machine.{layout_of}
-use Rattle.qm_engine.specs.Stores.{IsTaken, HasList, selected_size, head_at, taken, pruned_from, LeavesOpening, LeavesPruning}
+use Rattle.qm_engine.specs.Stores.{IsTaken, selected_size, head_at, taken, pruned_from, LeavesOpening, LeavesPruning}
 use Rattle.qm_engine.proofs.LastingStores.{turned-each}
 use Rattle.qm_engines.specs.Databases.{hashing, layout}
 use Rattle.qm_engines.specs.Schemes.{scheme}

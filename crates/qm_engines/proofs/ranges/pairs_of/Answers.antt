@@ -1,6 +1,5 @@
 use Rattle.std.proofs.Common.{◌≡◌, ◌≤◌, ◌∙◌, ap, ap₂, map, length, subst, arith}
 use Rattle.std.specs.Prelude.{IfOk}
-use Rattle.qm_model.specs.Live.{live}
 use Rattle.qm_model.specs.Ranges.{pairs_in}
 use Rattle.qm_base.specs.Views.{limit_of, pair_view}
 use Rattle.qm_scan.specs.Scans.{left_of}
