@@ -147,87 +147,52 @@ fn expect_key<U: Update>(
     Ok(())
 }
 
-// Bytes, their key, and whether they spell an operation of an unordered and an ordered database with lengths, and of
-// both of fixed sizes.
-const SPELLINGS: [(&[u8], &[u8], [bool; 4]); 15] = [
-    (
-        &[1, 0, 0, 0, 1, 107, 0, 0, 0, 1, 118],
-        &[107],
-        [true, false, false, false],
-    ),
-    (
-        &[1, 0, 0, 0, 1, 107, 0, 0, 0, 1, 118, 0, 0, 0, 1, 108],
-        &[107],
-        [false, true, false, false],
-    ),
-    (
-        &[2, 0, 0, 0, 2, 97, 98],
-        &[97, 98],
-        [true, true, false, false],
-    ),
-    (
-        &[3, 1, 0, 0, 0, 1, 170, 0, 0, 0, 0, 0, 0, 0, 0],
-        &[],
-        [true, true, false, false],
-    ),
-    (
-        &[1, 97, 98, 5, 6, 7, 8, 0, 0, 0, 0, 0, 0, 0],
-        &[97, 98],
-        [false, false, true, true],
-    ),
-    (
-        &[1, 97, 98, 5, 6, 7, 8, 99, 100, 0, 0, 0, 0, 0],
-        &[97, 98],
-        [false, false, false, true],
-    ),
-    (
-        &[2, 97, 98, 0, 0, 0, 0, 0, 0, 0, 0, 0, 0, 0],
-        &[97, 98],
-        [false, false, true, true],
-    ),
-    // without the last byte of padding
-    (
-        &[2, 97, 98, 0, 0, 0, 0, 0, 0, 0, 0, 0, 0],
-        &[],
-        [false, false, false, false],
-    ),
-    (
-        &[3, 1, 5, 6, 7, 8, 0, 0, 0, 0, 0, 0, 1, 2],
-        &[],
-        [false, false, true, true],
-    ),
-    // a floor of 2^62, and one above
-    (
-        &[3, 0, 64, 0, 0, 0, 0, 0, 0, 0],
-        &[],
-        [true, true, false, false],
-    ),
-    (
-        &[3, 0, 64, 0, 0, 0, 0, 0, 0, 1],
-        &[],
-        [false, false, false, false],
-    ),
-    // no tag, another tag, a length past the end, and another mark
-    (&[], &[], [false, false, false, false]),
-    (&[4, 0, 0, 0, 1, 107], &[], [false, false, false, false]),
-    (&[2, 0, 0, 0, 2, 97], &[], [false, false, false, false]),
-    (
-        &[3, 2, 0, 0, 0, 0, 0, 0, 0, 2],
-        &[],
-        [false, false, false, false],
-    ),
-];
+// Bytes, their key, and of which databases they spell an operation: of unordered (u) and ordered ones (o) with lengths, and of
+// both of fixed sizes (f, p). The eighth lacks the last byte of padding; of the tenth the floor is 2^62, of the next one more;
+// the last four have no tag, another tag, a length past the end, and another mark.
+const SPELLINGS: &str = "
+    01000000016b0000000176,6b,u
+    01000000016b0000000176000000016c,6b,o
+    02000000026162,6162,uo
+    030100000001aa0000000000000000,,uo
+    0161620506070800000000000000,6162,fp
+    0161620506070863640000000000,6162,p
+    0261620000000000000000000000,6162,fp
+    02616200000000000000000000,,
+    0301050607080000000000000102,,fp
+    03004000000000000000,,uo
+    03004000000000000001,,
+    ,,
+    04000000016b,,
+    020000000261,,
+    03020000000000000002,,
+";
+
+// The bytes that a field of a row spells.
+fn field(alloc: Global, digits: Option<&str>) -> Result<Vec<u8>, Fail> {
+    Ok(hex::decode(alloc, digits.ok_or("no field")?)?)
+}
+
+fn expect_row(rt: &impl Abort, alloc: Global, row: &str) -> Result<(), Fail> {
+    type Variable = VariableEncoding<ByteValue>;
+    type Fixed = FixedEncoding<FixedBytes<4>>;
+    let mut fields = row.split(',');
+    let bytes = field(alloc, fields.next())?;
+    let key = field(alloc, fields.next())?;
+    let kinds = fields.next().ok_or("no kinds")?;
+    let (unordered, ordered) = (kinds.contains('u'), kinds.contains('o'));
+    let (fixed, pair) = (kinds.contains('f'), kinds.contains('p'));
+    expect_key::<Unordered<ByteKey, Variable>>(rt, alloc, &bytes, &key, unordered)?;
+    expect_key::<Ordered<ByteKey, Variable>>(rt, alloc, &bytes, &key, ordered)?;
+    expect_key::<Unordered<FixedBytes<2>, Fixed>>(rt, alloc, &bytes, &key, fixed)?;
+    expect_key::<Ordered<FixedBytes<2>, Fixed>>(rt, alloc, &bytes, &key, pair)?;
+    Ok(())
+}
 
 #[test]
 fn each_kind_and_size_has_its_spellings(rt: HostRuntime) -> Result<(), Fail> {
-    type Variable = VariableEncoding<ByteValue>;
-    type Fixed = FixedEncoding<FixedBytes<4>>;
-    let alloc = rt.alloc();
-    for (bytes, key, [unordered, ordered, fixed, ordered_fixed]) in SPELLINGS {
-        expect_key::<Unordered<ByteKey, Variable>>(&rt, alloc, bytes, key, unordered)?;
-        expect_key::<Ordered<ByteKey, Variable>>(&rt, alloc, bytes, key, ordered)?;
-        expect_key::<Unordered<FixedBytes<2>, Fixed>>(&rt, alloc, bytes, key, fixed)?;
-        expect_key::<Ordered<FixedBytes<2>, Fixed>>(&rt, alloc, bytes, key, ordered_fixed)?;
+    for row in SPELLINGS.split_ascii_whitespace() {
+        expect_row(&rt, rt.alloc(), row)?;
     }
     Ok(())
 }
