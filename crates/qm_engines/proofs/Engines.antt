@@ -344,11 +344,11 @@ pub left-store : {C D : Type 0} (members : store.Ghosts C) (hash : Hashing D) (o
 left-store members hash old new left = let kept = (left.read).kept in record { start = kept.start; told = kept.told }
 
 -- an engine's refusal gives back what the database's does
-same-engine : {F C I U : Type 0} (y x : engine.Database F C I U) (a b : Given (engine.Database F C I U) C) → a ≡ given.Database y → b ≡ given.Database x → a ≡ b → y ≡ x
+same-engine : {C I U : Type 0} (y x : engine.Database C I U) (a b : Given (engine.Database C I U) C) → a ≡ given.Database y → b ≡ given.Database x → a ≡ b → y ≡ x
 same-engine y x a b is_y is_x same = cc (is_y, is_x, same)
 
-pub held-database : {F C I U : Type 0} (back : Given (Database C Sha256Digest) C) (x : engine.Database F C I U) → held back ≡ given.Database x → back ≡ given.Database x.db
-held-database {F = F} {C = C} {I = I} {U = U} (given.Database db) x is = ap (λ (y : engine.Database F C I U). given.Database y.db) (same-engine (record { db = db }) x (given.Database (record { db = db })) (given.Database x) refl refl is)
+pub held-database : {C I U : Type 0} (back : Given (Database C Sha256Digest) C) (x : engine.Database C I U) → held back ≡ given.Database x → back ≡ given.Database x.db
+held-database {C = C} {I = I} {U = U} (given.Database db) x is = ap (λ (y : engine.Database C I U). given.Database y.db) (same-engine (record { db = db }) x (given.Database (record { db = db })) (given.Database x) refl refl is)
 held-database (given.Store store) x is = absurd (cc is)
 
 -- an apply that fails and not as stale is for no refusal

@@ -6,6 +6,6 @@ use Rattle.qm_store.specs.declared.refusal.Given.TheVariants as given
 use Rattle.qm_engines.specs.declared.database.Database as engine
 
 -- the same, with the database as an engine
-abbrev pub held : {F C I U : Type 0} → Given (databases.Database C Sha256Digest) C → Given (engine.Database F C I U) C
+abbrev pub held : {C I U : Type 0} → Given (databases.Database C Sha256Digest) C → Given (engine.Database C I U) C
 held (given.Database db) = given.Database (record { db = db })
 held (given.Store store) = given.Store store

@@ -2,6 +2,9 @@
 ghost use Rattle.std.specs.Prelude.{◌≡◌, None, length, refl};
 ghost use Rattle.std.proofs.Common.{ap, le_refl};
 ghost use Rattle.qm_model.specs.Live.{floor};
+ghost use Rattle.qm_model.specs.Mmr as trees;
+ghost use Rattle.qm_model.proofs.MmrFamily.{mmr_is_family};
+ghost use Rattle.qm_model.proofs.MmrPeaks.{mmr_has_peaks};
 ghost use Rattle.qm_merkle.proofs.Standing.{peaks-none};
 ghost use Rattle.qm_any.specs.Databases.{IsDatabase, IsBegun, IsStaged, IsMade, staged_keys};
 ghost use Rattle.qm_store.specs.Given.{store_given};
@@ -26,13 +29,13 @@ use qm_base::{
 use qm_batch::kind::Steps;
 use qm_engine::{Basis, BatchSizes, Engine, Numbers, Words};
 use qm_index::{Factory, FourCap};
-use qm_merkle::Family;
+use qm_merkle::mmr;
 use qm_store::{Given, Refusal, Store};
 use std::num::NonZeroUsize;
 use std::rc::Rc;
 
 /// What the updates of a kind of the program's databases say, over this index. They are spelled with their lengths.
-pub trait Kind<F: Family, I: qm_index::Unordered<Value = Location<F>>>: Steps<F, I> {
+pub trait Kind<I: qm_index::Unordered<Value = Location<mmr::Family>>>: Steps<mmr::Family, I> {
     ghost lengths: { Self.form.sizes ≡ None };
 }
 
@@ -42,31 +45,26 @@ pub type Pair = Unordered<ByteKey, VariableEncoding<ByteValue>>;
 /// What updates of ordered databases say.
 pub type Link = Ordered<ByteKey, VariableEncoding<ByteValue>>;
 
-impl<F: Family, I: qm_index::Unordered<Value = Location<F>>, K: ByteString, V: VariableValue> Kind<
-    F,
-    I,
-> for Unordered<K, VariableEncoding<V>> {
+impl<I: qm_index::Unordered<Value = Location<mmr::Family>>, K: ByteString, V: VariableValue> Kind<I>
+    for Unordered<K, VariableEncoding<V>> {
     ghost lengths = { refl };
 }
 
-impl<F: Family, I: qm_index::Ordered<Value = Location<F>>, K: ByteString, V: VariableValue> Kind<
-    F,
-    I,
-> for Ordered<K, VariableEncoding<V>> {
+impl<I: qm_index::Ordered<Value = Location<mmr::Family>>, K: ByteString, V: VariableValue> Kind<I>
+    for Ordered<K, VariableEncoding<V>> {
     ghost lengths = { refl };
 }
 
-type Inside<F, C, I, U> = Db<F, C, I, Sha256, U>;
+type Inside<C, I, U> = Db<mmr::Family, C, I, Sha256, U>;
 
-/// A database of the program over a store: the family of its trees, where its keys are live, and what its updates say.
+/// A database of the program over a store: where its keys are live, and what its updates say.
 #[derive(Drop)]
 pub struct Database<
-    F: Family,
     C: Store,
-    I: qm_index::Unordered<Value = Location<F>>,
+    I: qm_index::Unordered<Value = Location<mmr::Family>>,
     U: Update<Key = ByteKey, Value = ByteValue>,
 > {
-    db: Inside<F, C, I, U>,
+    db: Inside<C, I, U>,
 }
 
 // How many keys an opening keeps, to tell those with the same index key apart.
@@ -79,11 +77,10 @@ fn kept_keys() -> NonZeroUsize {
 
 // A refusal that gives back an engine.
 fn refusal<
-    F: Family,
     C: Store,
-    I: qm_index::Unordered<Value = Location<F>>,
+    I: qm_index::Unordered<Value = Location<mmr::Family>>,
     U: Update<Key = ByteKey, Value = ByteValue>,
->(refused: Refusal<Inside<F, C, I, U>, C>) -> Refusal<Database<F, C, I, U>, C>
+>(refused: Refusal<Inside<C, I, U>, C>) -> Refusal<Database<C, I, U>, C>
     ensures given { result.given ≡ held refused.given }
     ensures store { store_given (λ x. x.db.log.store) result.given ≡ store_given (λ db. db.log.store) refused.given }
     ensures error { result.error ≡ refused.error }
@@ -97,32 +94,31 @@ fn refusal<
 }
 
 impl<
-    F: Family,
     C: Store,
-    I: Factory<Value = Location<F>, Translator = FourCap>,
-    U: Kind<F, I, Key = ByteKey, Value = ByteValue>,
-> Words<C> for Database<F, C, I, U> {
-    type Batch = UnmerkleizedBatch<F, Sha256Digest, U>;
+    I: Factory<Value = Location<mmr::Family>, Translator = FourCap>,
+    U: Kind<I, Key = ByteKey, Value = ByteValue>,
+> Words<C> for Database<C, I, U> {
+    type Batch = UnmerkleizedBatch<mmr::Family, Sha256Digest, U>;
 
-    type Staged = Staged<F, Sha256Digest, U>;
+    type Staged = Staged<mmr::Family, Sha256Digest, U>;
 
-    type Merkleized = Rc<MerkleizedBatch<F, Sha256Digest, U>>;
+    type Merkleized = Rc<MerkleizedBatch<mmr::Family, Sha256Digest, U>>;
 
     ghost inside = { λ x. x.db.log.store };
 
-    ghost stands = { λ x list. IsDatabase C.Store (layout F.shape U.form I.index_key) x.db list };
+    ghost stands = { λ x list. IsDatabase C.Store (layout trees.mmr U.form I.index_key) x.db list };
 
-    ghost is_batch = { λ b chain above ws. IsBegun (hashing F.shape U.form) b chain above × (b.writes ≡ ws) };
+    ghost is_batch = { λ b chain above ws. IsBegun (hashing trees.mmr U.form) b chain above × (b.writes ≡ ws) };
 
-    ghost is_staged = { λ s chain above ws keys. IsStaged (hashing F.shape U.form) s chain above × (s.batch.writes ≡ ws) × (staged_keys s ≡ keys) };
+    ghost is_staged = { λ s chain above ws keys. IsStaged (hashing trees.mmr U.form) s chain above × (s.batch.writes ≡ ws) × (staged_keys s ≡ keys) };
 
     ghost count = { λ s. length (staged_keys s) };
 
     ghost counted = { λ s chain above ws keys is. ap length is.2 };
 
-    ghost is_merkleized = { λ b chain tip. IsMade (hashing F.shape U.form) b.value chain tip };
+    ghost is_merkleized = { λ b chain tip. IsMade (hashing trees.mmr U.form) b.value chain tip };
 
-    ghost scheme = { scheme F.shape U.form };
+    ghost scheme = { scheme trees.mmr U.form };
 
     ghost low = { λ list. le_refl (floor list) };
 
@@ -132,12 +128,11 @@ impl<
 }
 
 impl<
-    F: Family,
     C: Store,
-    I: Factory<Value = Location<F>, Translator = FourCap>,
-    U: Kind<F, I, Key = ByteKey, Value = ByteValue>,
-> Basis<C> for Database<F, C, I, U> {
-    type Family = F;
+    I: Factory<Value = Location<mmr::Family>, Translator = FourCap>,
+    U: Kind<I, Key = ByteKey, Value = ByteValue>,
+> Basis<C> for Database<C, I, U> {
+    type Family = mmr::Family;
 
     type Key = ByteKey;
 
@@ -171,12 +166,11 @@ impl<
         }
     }
 
-    ghost bare = { peaks-none F.shape F.births F.numbered F.peaked };
+    ghost bare = { peaks-none trees.mmr trees.mmr_births mmr_is_family mmr_has_peaks };
 }
 
 impl<
-    F: Family,
     C: Store,
-    I: Factory<Value = Location<F>, Translator = FourCap>,
-    U: Kind<F, I, Key = ByteKey, Value = ByteValue>,
-> Engine<C> for Database<F, C, I, U> {}
+    I: Factory<Value = Location<mmr::Family>, Translator = FourCap>,
+    U: Kind<I, Key = ByteKey, Value = ByteValue>,
+> Engine<C> for Database<C, I, U> {}

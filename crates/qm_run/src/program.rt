@@ -4,6 +4,7 @@ ghost use Rattle.std.specs.Prelude.{List, ◌≡◌, ◌≢◌, ◌↔◌, ◌�
 ghost use Rattle.std.specs.Io.KnownBytes.{IsAtEnd};
 ghost use Rattle.std.specs.String.{string_bytes};
 ghost use Rattle.qm_model.specs.Causes.{Rose};
+ghost use Rattle.qm_model.specs.Mmr as trees;
 ghost use Rattle.qm_model.specs.Operations.{Bytes};
 ghost use Rattle.qm_machine.specs.Grammar.{bad_in};
 ghost use Rattle.qm_model.specs.StoreModel.{Turns};
@@ -17,7 +18,7 @@ use qm_engine::{Answered, Ending, answer_lines};
 use qm_engines::{Database, Kind, Link, Pair};
 use qm_index::{Factory, FourCap, ordered, unordered};
 use qm_lines::{InputError, LIMIT, Sink, SinkError, Source, read_all, write_all};
-use qm_merkle::{Family, mmr};
+use qm_merkle::mmr;
 use qm_store::Store;
 use std::alloc::{AllocError, Global};
 
@@ -112,16 +113,15 @@ fn with_tail(
 
 // Answers the lines of an input by databases of this kind, and writes the text.
 fn serve<
-    F: Family,
     C: Store,
-    I: Factory<Value = Location<F>, Translator = FourCap>,
-    U: Kind<F, I, Key = ByteKey, Value = ByteValue>,
+    I: Factory<Value = Location<mmr::Family>, Translator = FourCap>,
+    U: Kind<I, Key = ByteKey, Value = ByteValue>,
     K: Sink,
     G: Gate,
 >(alloc: Global, input: &[u8], store: C, sink: &mut K, gate: &G) -> (u8, C)
     ensures headline { IfSome (C.told store) (λ stored. IfSome (K.text sink.old) (λ before.
         (written : Bytes) × (K.text sink.new ≡ Some (before ++ written))
-        × Says (scheme F.shape U.form) stored input.now result.0 (Rose (C.faults store) (C.faults result.1)) written (C.told result.1))) }
+        × Says (scheme trees.mmr U.form) stored input.now result.0 (Rose (C.faults store) (C.faults result.1)) written (C.told result.1))) }
     ensures beside { (choices : List ℕ) × Turns (C.told store) (C.told result.1) (IsBeside choices) }
     ensures write { result.0 ≡ 4 → Rose (K.faults sink.old) (K.faults sink.new) }
     ensures store { result.0 ≡ 6 → Rose (C.faults store) (C.faults result.1) }
@@ -135,7 +135,7 @@ fn serve<
         answered,
         ending,
         store,
-    } = answer_lines::<Database<F, C, I, U>, C, G>(alloc, store, (), input, gate);
+    } = answer_lines::<Database<C, I, U>, C, G>(alloc, store, (), input, gate);
     let text = match with_tail(alloc, text, ending, answered) {
         Ok(text) => text,
         Err(_) => return (5, store),
@@ -168,9 +168,9 @@ fn run<C: Store, K: Sink, G: Gate>(
     ensures later { (K.faults sink.old ≤ K.faults sink.new) × (C.faults store ≤ C.faults result.1) }
 {
     if is_ordered {
-        serve::<mmr::Family, C, OrderedPlaces, Link, K, G>(alloc, input, store, sink, gate)
+        serve::<C, OrderedPlaces, Link, K, G>(alloc, input, store, sink, gate)
     } else {
-        serve::<mmr::Family, C, Places, Pair, K, G>(alloc, input, store, sink, gate)
+        serve::<C, Places, Pair, K, G>(alloc, input, store, sink, gate)
     }
 }
 

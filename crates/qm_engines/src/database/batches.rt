@@ -6,16 +6,15 @@ use qm_base::{ByteKey, ByteValue, Error, Location};
 use qm_chain::Policy;
 use qm_engine::Batching;
 use qm_index::{Factory, FourCap};
-use qm_merkle::Family;
+use qm_merkle::mmr;
 use qm_store::{Refusal, Store};
 use std::alloc::{AllocError, Global};
 
 impl<
-    F: Family,
     C: Store,
-    I: Factory<Value = Location<F>, Translator = FourCap>,
-    U: Kind<F, I, Key = ByteKey, Value = ByteValue>,
-> Batching<C> for Database<F, C, I, U> {
+    I: Factory<Value = Location<mmr::Family>, Translator = FourCap>,
+    U: Kind<I, Key = ByteKey, Value = ByteValue>,
+> Batching<C> for Database<C, I, U> {
     fn batch(&self, alloc: Global) -> Result<Self::Batch, AllocError> {
         self.db.new_batch(alloc)
     }
@@ -48,7 +47,7 @@ impl<
         batch.write(key, None)
     }
 
-    fn merkleize<P: Policy<F, ByteKey, ByteValue>>(
+    fn merkleize<P: Policy<mmr::Family, ByteKey, ByteValue>>(
         &mut self,
         alloc: Global,
         batch: Self::Batch,

@@ -4,16 +4,15 @@ use qm_any::{Config, init};
 use qm_base::{ByteKey, ByteValue, Location, Sha256};
 use qm_engine::Lasting;
 use qm_index::{Factory, FourCap};
-use qm_merkle::Family;
+use qm_merkle::mmr;
 use qm_store::{Refusal, Store};
 use std::alloc::Global;
 
 impl<
-    F: Family,
     C: Store,
-    I: Factory<Value = Location<F>, Translator = FourCap>,
-    U: Kind<F, I, Key = ByteKey, Value = ByteValue>,
-> Lasting<C> for Database<F, C, I, U> {
+    I: Factory<Value = Location<mmr::Family>, Translator = FourCap>,
+    U: Kind<I, Key = ByteKey, Value = ByteValue>,
+> Lasting<C> for Database<C, I, U> {
     type Config = ();
 
     fn open(

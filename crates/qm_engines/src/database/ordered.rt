@@ -6,17 +6,16 @@ use qm_base::{ByteKey, ByteValue, Error, Location};
 use qm_engine::Neighbours;
 use qm_index::{Factory, FourCap};
 use qm_lines::Span;
-use qm_merkle::Family;
+use qm_merkle::mmr;
 use qm_store::Store;
 use std::alloc::Global;
 use std::ops::Bound;
 
 impl<
-    F: Family,
     C: Store,
-    I: Factory<Value = Location<F>, Translator = FourCap>,
-    U: Kind<F, I, Key = ByteKey, Value = ByteValue>,
-> Neighbours<C> for Database<F, C, I, U> {
+    I: Factory<Value = Location<mmr::Family>, Translator = FourCap>,
+    U: Kind<I, Key = ByteKey, Value = ByteValue>,
+> Neighbours<C> for Database<C, I, U> {
     fn next(&mut self, alloc: Global, key: &ByteKey) -> Result<Option<ByteKey>, Error> {
         if !U::is_ordered() {
             return Ok(None);

@@ -5,18 +5,17 @@ use qm_base::{ByteKey, ByteValue, Error, Location, Sha256Digest};
 use qm_engine::Proving;
 use qm_index::{Factory, FourCap};
 use qm_lines::Listed;
-use qm_merkle::Family;
+use qm_merkle::mmr;
 use qm_proofs::Proof;
 use qm_store::Store;
 use std::alloc::Global;
 use std::num::NonZeroU64;
 
 impl<
-    F: Family,
     C: Store,
-    I: Factory<Value = Location<F>, Translator = FourCap>,
-    U: Kind<F, I, Key = ByteKey, Value = ByteValue>,
-> Proving<C> for Database<F, C, I, U> {
+    I: Factory<Value = Location<mmr::Family>, Translator = FourCap>,
+    U: Kind<I, Key = ByteKey, Value = ByteValue>,
+> Proving<C> for Database<C, I, U> {
     fn proof(
         &self,
         alloc: Global,

@@ -5,16 +5,15 @@ use qm_base::{ByteKey, ByteValue, Error, Location, Sha256Digest};
 use qm_engine::Reading;
 use qm_index::{Factory, FourCap};
 use qm_lines::Listed;
-use qm_merkle::Family;
+use qm_merkle::mmr;
 use qm_store::Store;
 use std::alloc::{AllocError, Global};
 
 impl<
-    F: Family,
     C: Store,
-    I: Factory<Value = Location<F>, Translator = FourCap>,
-    U: Kind<F, I, Key = ByteKey, Value = ByteValue>,
-> Reading<C> for Database<F, C, I, U> {
+    I: Factory<Value = Location<mmr::Family>, Translator = FourCap>,
+    U: Kind<I, Key = ByteKey, Value = ByteValue>,
+> Reading<C> for Database<C, I, U> {
     fn batch_root(batch: &Self::Merkleized) -> Sha256Digest {
         batch.root()
     }

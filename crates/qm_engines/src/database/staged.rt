@@ -6,17 +6,16 @@ use qm_chain::Policy;
 use qm_engine::Staging;
 use qm_index::{Factory, FourCap};
 use qm_lines::Resolution;
-use qm_merkle::Family;
+use qm_merkle::mmr;
 use qm_store::Store;
 use std::alloc::Global;
 use std::ops::Range;
 
 impl<
-    F: Family,
     C: Store,
-    I: Factory<Value = Location<F>, Translator = FourCap>,
-    U: Kind<F, I, Key = ByteKey, Value = ByteValue>,
-> Staging<C> for Database<F, C, I, U> {
+    I: Factory<Value = Location<mmr::Family>, Translator = FourCap>,
+    U: Kind<I, Key = ByteKey, Value = ByteValue>,
+> Staging<C> for Database<C, I, U> {
     fn stage(
         &mut self,
         alloc: Global,
@@ -41,7 +40,7 @@ impl<
         batch.len()
     }
 
-    fn resolve<P: Policy<F, ByteKey, ByteValue>>(
+    fn resolve<P: Policy<mmr::Family, ByteKey, ByteValue>>(
         &mut self,
         alloc: Global,
         batch: Self::Staged,

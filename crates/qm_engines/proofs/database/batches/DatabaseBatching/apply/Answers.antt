@@ -1,3 +1,4 @@
+use Rattle.qm_model.specs.Mmr.{mmr}
 use Rattle.std.proofs.Common.{◌≤◌, ◌∙◌, ap, sym, subst, length, drop, map, [], if◌then◌else◌}
 use Rattle.qm_model.specs.Forms.{spelling}
 use Rattle.qm_any.specs.Databases.{IsMade}
@@ -14,20 +15,20 @@ use Rattle.qm_engines.proofs.database.batches.DatabaseBatching.apply.Goals as go
 
 pub returns-in-Ok-clause-fits : goal.returns-in-Ok-clause-fits
 returns-in-Ok-clause-fits g c = λ list chain tip is batch.
-    sym (at-made g.F.Family.shape g.U.Update.form g.met.U.Kind.lengths list chain tip c.args.self.db.commitment c.deref.result.now is.commitment (subst (λ b. IsMade (hashing g.F.Family.shape g.U.Update.form) b chain tip) (sym c.deref.ensures) batch)) ∙ c.in-Ok.ensures.fits
+    sym (at-made mmr g.U.Update.form g.met.U.Kind.lengths list chain tip c.args.self.db.commitment c.deref.result.now is.commitment (subst (λ b. IsMade (hashing mmr g.U.Update.form) b chain tip) (sym c.deref.ensures) batch)) ∙ c.in-Ok.ensures.fits
 
 pub returns-in-Ok-clause-applied : goal.returns-in-Ok-clause-applied
-returns-in-Ok-clause-applied g c = λ list chain tip is batch on. c.in-Ok.ensures.stands list chain tip is (subst (λ b. IsMade (hashing g.F.Family.shape g.U.Update.form) b chain tip) (sym c.deref.ensures) batch) on
+returns-in-Ok-clause-applied g c = λ list chain tip is batch on. c.in-Ok.ensures.stands list chain tip is (subst (λ b. IsMade (hashing mmr g.U.Update.form) b chain tip) (sym c.deref.ensures) batch) on
 
 pub returns-in-Ok-clause-grown : goal.returns-in-Ok-clause-grown
 returns-in-Ok-clause-grown g c = λ list chain tip is batch on.
-    subst (λ n. Appended g.C.Store c.args.self.db.log.store c.in-Ok.db.log.store (map (spelling g.U.Update.form) (drop n tip))) (ap (λ k. k.size) is.commitment) (c.in-Ok.ensures.grown chain tip (subst (λ b. IsMade (hashing g.F.Family.shape g.U.Update.form) b chain tip) (sym c.deref.ensures) batch))
+    subst (λ n. Appended g.C.Store c.args.self.db.log.store c.in-Ok.db.log.store (map (spelling g.U.Update.form) (drop n tip))) (ap (λ k. k.size) is.commitment) (c.in-Ok.ensures.grown chain tip (subst (λ b. IsMade (hashing mmr g.U.Update.form) b chain tip) (sym c.deref.ensures) batch))
 
 pub returns-in-Err-clause-stale : goal.returns-in-Err-clause-stale
 returns-in-Err-clause-stale g c = λ stale.
     let told = c.in-Err.ensures.stale (sym c.refusal.ensures.error ∙ stale) in (
       c.refusal.ensures.given ∙ ap held told.0,
-      λ list chain tip is batch. off-chain g.F.Family.shape list chain (sym (at-made g.F.Family.shape g.U.Update.form g.met.U.Kind.lengths list chain tip c.args.self.db.commitment c.deref.result.now is.commitment (subst (λ b. IsMade (hashing g.F.Family.shape g.U.Update.form) b chain tip) (sym c.deref.ensures) batch)) ∙ told.1),
+      λ list chain tip is batch. off-chain mmr list chain (sym (at-made mmr g.U.Update.form g.met.U.Kind.lengths list chain tip c.args.self.db.commitment c.deref.result.now is.commitment (subst (λ b. IsMade (hashing mmr g.U.Update.form) b chain tip) (sym c.deref.ensures) batch)) ∙ told.1),
     )
 
 pub returns-in-Err-clause-refused : goal.returns-in-Err-clause-refused
@@ -36,11 +37,11 @@ returns-in-Err-clause-refused g c = λ fresh.
 
 pub returns-in-Err-clause-kept : goal.returns-in-Err-clause-kept
 returns-in-Err-clause-kept g c = λ list chain tip is batch.
-    let made = (subst (λ b. IsMade (hashing g.F.Family.shape g.U.Update.form) b chain tip) (sym c.deref.ensures) batch) in
-    let more = if fits (sha256_root g.F.Family.shape) (commitment (sha256_root g.F.Family.shape) list) chain then map (spelling g.U.Update.form) (drop (length list) tip) else [] in
+    let made = (subst (λ b. IsMade (hashing mmr g.U.Update.form) b chain tip) (sym c.deref.ensures) batch) in
+    let more = if fits (sha256_root mmr) (commitment (sha256_root mmr) list) chain then map (spelling g.U.Update.form) (drop (length list) tip) else [] in
     subst (λ s. AppendedPart g.C.Store c.args.self.db.log.store s more) (sym c.refusal.ensures.store)
     (subst (AppendedPart g.C.Store c.args.self.db.log.store (store_given (λ db. db.log.store) c.in-Err.refused.given))
-    (appends-same g.F.Family.shape g.U.Update.form g.met.U.Kind.lengths list chain tip c.args.self.db.commitment c.deref.result.now is.commitment made) (c.in-Err.ensures.part chain tip made))
+    (appends-same mmr g.U.Update.form g.met.U.Kind.lengths list chain tip c.args.self.db.commitment c.deref.result.now is.commitment made) (c.in-Err.ensures.part chain tip made))
 
 pub returns-in-Err-clause-back : goal.returns-in-Err-clause-back
 returns-in-Err-clause-back g c = λ x is.

@@ -1,3 +1,6 @@
+use Rattle.qm_model.specs.Mmr.{mmr, mmr_births}
+use Rattle.qm_model.proofs.MmrFamily.{mmr_is_family}
+use Rattle.qm_model.proofs.MmrPeaks.{mmr_has_peaks}
 use Rattle.std.proofs.Common.{◌≡◌, ◌⊎◌, ◌≤◌, ◌<◌, ◌^◌, ◌∙◌, length, ⊎_elim, List, arith, ap, ap₂, inl, inr, sym, subst}
 use Rattle.std.specs.Prelude.{max}
 use Rattle.std.proofs.lemmas.Bool.{cases_lt}
@@ -20,7 +23,7 @@ returns-in-Ok-clause-pruned g c =
     let old = c.args.self.db in
     let form = g.U.Update.form in
     let index_key = g.I.Unordered.index_key in
-    let is_database = IsDatabase g.C.Store (layout g.F.Family.shape form index_key) old in
+    let is_database = IsDatabase g.C.Store (layout mmr form index_key) old in
     let start = g.C.Store.start old.log.store in
     let made = c.in-Ok.ensures.pruned in
     let same = c.new.ensures in
@@ -30,8 +33,8 @@ returns-in-Ok-clause-pruned g c =
       stands = λ list is. (omega (arith, low list is, same), c.in-Ok.ensures.stands list is);
       start = c.bounds-in-Ok.ensures.first ∙ made.start ∙ ap₂ max (sym before) same;
       head = made.head;
-      heads = λ past list is few. subst (λ to. made.head ≡ head_at (scheme g.F.Family.shape form) list to) same
-          (heads-of g.F.Family.shape g.F.Family.births g.met.F.Family.numbered g.met.F.Family.peaked g.C.Store form index_key old c.new.result made.head (made.heads (omega (arith, past, before, same))) list is (low list is) few);
+      heads = λ past list is few. subst (λ to. made.head ≡ head_at (scheme mmr form) list to) same
+          (heads-of mmr mmr_births mmr_is_family mmr_has_peaks g.C.Store form index_key old c.new.result made.head (made.heads (omega (arith, past, before, same))) list is (low list is) few);
       told = subst (λ to. Becomes (g.C.Store.told old.log.store) (g.C.Store.told c.in-Ok.db.log.store) (pruned_from start to made.head)) same
           (pruned-same (g.C.Store.told old.log.store) (g.C.Store.told c.in-Ok.db.log.store) old.log.tree.start start c.new.result made.head (sym before) made.told);
       later = made.later;
@@ -42,7 +45,7 @@ returns-in-Err-clause-refused g c =
     let old = c.args.self.db in
     let form = g.U.Update.form in
     let index_key = g.I.Unordered.index_key in
-    let is_database = IsDatabase g.C.Store (layout g.F.Family.shape form index_key) old in
+    let is_database = IsDatabase g.C.Store (layout mmr form index_key) old in
     let start = g.C.Store.start old.log.store in
     let same = c.new.ensures in
     let before = c.bounds.ensures.first in
@@ -52,7 +55,7 @@ returns-in-Err-clause-refused g c =
     inl (boundary_of old, omega (arith, past, same), λ list is. c.prune.ensures.boundary list is, c.refusal.ensures.given ∙ ap held beyond.0, c.refusal.ensures.error ∙ beyond.1 ∙ ap (λ n. errors.PruneBeyondMinRequired n (boundary_of old)) same))
     (λ (within : c.new.result ≤ boundary_of old).
     let left = c.in-Err.ensures.refused within in
-    let IsHead : Bytes → Type 0 = λ head. (list : List Operation) → is_database list → length list ≤ 2 ^ 62 → head ≡ head_at (scheme g.F.Family.shape form) list c.args.to in
+    let IsHead : Bytes → Type 0 = λ head. (list : List Operation) → is_database list → length list ≤ 2 ^ 62 → head ≡ head_at (scheme mmr form) list c.args.to in
     inr (
       λ list is. omega (arith, c.prune.ensures.boundary list is, within, same),
       record {
@@ -60,11 +63,11 @@ returns-in-Err-clause-refused g c =
         given = c.refusal.ensures.given ∙ ap held left.given;
         told = ⊎_elim
             (λ (kept : HasLeftStable g.C.Store old.log.store left.store). left-stable (g.C.Store.told old.log.store) (g.C.Store.told left.store) start IsHead c.args.to kept.told)
-            (λ (cut : HasLeftPruned g.C.Store (hashing g.F.Family.shape form) settled c.new.result old.log left.store).
+            (λ (cut : HasLeftPruned g.C.Store (hashing mmr form) settled c.new.result old.log left.store).
             subst (λ to. Turns (g.C.Store.told old.log.store) (g.C.Store.told left.store) (LeavesPruning start IsHead to)) same
             (left-pruned (g.C.Store.told old.log.store) (g.C.Store.told left.store) start IsHead c.new.result cut.head (omega (arith, cut.past, before))
-            (λ list is few. subst (λ to. cut.head ≡ head_at (scheme g.F.Family.shape form) list to) same
-            (heads-of g.F.Family.shape g.F.Family.births g.met.F.Family.numbered g.met.F.Family.peaked g.C.Store form index_key old c.new.result cut.head cut.heads list is (omega (arith, c.prune.ensures.boundary list is, within)) few))
+            (λ list is few. subst (λ to. cut.head ≡ head_at (scheme mmr form) list to) same
+            (heads-of mmr mmr_births mmr_is_family mmr_has_peaks g.C.Store form index_key old c.new.result cut.head cut.heads list is (omega (arith, c.prune.ensures.boundary list is, within)) few))
             cut.told))
             left.left;
         never = untold c.refusal.result.error (subst (λ e. (e ≡ errors.Memory) ⊎ (e ≡ errors.Journal journal.Store)) (sym c.refusal.ensures.error) left.never);

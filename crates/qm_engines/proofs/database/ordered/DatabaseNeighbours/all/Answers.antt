@@ -1,3 +1,4 @@
+use Rattle.qm_model.specs.Mmr.{mmr}
 use Rattle.std.proofs.Common.{◌≡◌, Option, option_map}
 use Rattle.qm_model.proofs.Results.{err-then, ok-each, ok-then}
 use Rattle.qm_model.specs.Live.{live, live_of}
@@ -13,13 +14,13 @@ use Rattle.qm_engines.proofs.database.ordered.DatabaseNeighbours.all.Goals as go
 
 pub returns-clause-whole : goal.returns-clause-whole
 returns-clause-whole g c =
-    ok-then c.get_all.result (ok-each (IsDatabase g.C.Store (layout g.F.Family.shape g.U.Update.form g.I.Unordered.index_key) c.args.self.now.db) (λ list p. option_map (whole_view (λ x. x) (λ x. x)) p ≡ option_map {U = Bytes × Option Bytes} (λ e. (e.value, e.next)) (live_of (live list) c.args.key.now)) c.get_all.result c.get_all.ensures.value)
+    ok-then c.get_all.result (ok-each (IsDatabase g.C.Store (layout mmr g.U.Update.form g.I.Unordered.index_key) c.args.self.now.db) (λ list p. option_map (whole_view (λ x. x) (λ x. x)) p ≡ option_map {U = Bytes × Option Bytes} (λ e. (e.value, e.next)) (live_of (live list) c.args.key.now)) c.get_all.result c.get_all.ensures.value)
     (λ p given ordered. given)
 
 pub returns-clause-reads : goal.returns-clause-reads
 returns-clause-reads g c = record {
-  same = λ list is. left-database g.C.Store (layout g.F.Family.shape g.U.Update.form g.I.Unordered.index_key) c.args.self.now.db c.get_all.new.self list c.get_all.ensures.left is;
-  store = left-store g.C.Store (hashing g.F.Family.shape g.U.Update.form) c.args.self.now.db c.get_all.new.self c.get_all.ensures.left;
+  same = λ list is. left-database g.C.Store (layout mmr g.U.Update.form g.I.Unordered.index_key) c.args.self.now.db c.get_all.new.self list c.get_all.ensures.left is;
+  store = left-store g.C.Store (hashing mmr g.U.Update.form) c.args.self.now.db c.get_all.new.self c.get_all.ensures.left;
   faults = record {
     later = (c.get_all.ensures.left).read.later;
     failed = err-of c.get_all.result (Journal Store) _ (err-then c.get_all.result c.get_all.ensures.error (λ e why fault. log-rose g.C.Store c.args.self.now.db.log c.get_all.new.self.log e why fault));
@@ -30,4 +31,4 @@ pub returns-clause-never : goal.returns-clause-never
 returns-clause-never g c = err-then c.get_all.result c.get_all.ensures.error (λ e why. log-kept g.C.Store c.args.self.now.db.log c.get_all.new.self.log e why)
 
 pub returns-clause-refused : goal.returns-clause-refused
-returns-clause-refused g c = read-untold g.C.Store (layout g.F.Family.shape g.U.Update.form g.I.Unordered.index_key) c.args.self.now.db c.get_all.new.self.log c.get_all.result c.get_all.ensures.error c.get_all.ensures.whole
+returns-clause-refused g c = read-untold g.C.Store (layout mmr g.U.Update.form g.I.Unordered.index_key) c.args.self.now.db c.get_all.new.self.log c.get_all.result c.get_all.ensures.error c.get_all.ensures.whole

@@ -1,3 +1,4 @@
+use Rattle.qm_model.specs.Mmr.{mmr}
 use Rattle.std.proofs.Common.{◌≡◌, ◌∙◌, sym, subst, option_map}
 use Rattle.qm_model.proofs.Results.{err-both, err-then, ok-then}
 use Rattle.qm_model.specs.Live.{live_keys}
@@ -14,26 +15,26 @@ use Rattle.qm_engines.proofs.database.ordered.DatabaseNeighbours.prev_from.Goals
 pub returns-clause-readable : goal.returns-clause-readable
 returns-clause-readable g c =
     ok-then c.get_prev_key.result c.get_prev_key.ensures.readable
-    (λ key can ordered list chain tip is batch. sym (knows-readable g.F.Family.shape g.U.Update.form g.met.U.Kind.lengths list chain tip c.args.self.now.db.commitment c.deref.result.now.bounds is.commitment (subst (λ b. IsMade (hashing g.F.Family.shape g.U.Update.form) b chain tip) (sym c.deref.ensures) batch).bounds) ∙ can)
+    (λ key can ordered list chain tip is batch. sym (knows-readable mmr g.U.Update.form g.met.U.Kind.lengths list chain tip c.args.self.now.db.commitment c.deref.result.now.bounds is.commitment (subst (λ b. IsMade (hashing mmr g.U.Update.form) b chain tip) (sym c.deref.ensures) batch).bounds) ∙ can)
 
 pub returns-clause-below : goal.returns-clause-below
 returns-clause-below g c =
     ok-then c.get_prev_key.result
-    (made-reads c.get_prev_key.result (IsDatabase g.C.Store (layout g.F.Family.shape g.U.Update.form g.I.Unordered.index_key) c.args.self.now.db) (IsMade (hashing g.F.Family.shape g.U.Update.form) c.args.batch.now.value) (λ k tip. option_map (λ x. x) k ≡ key_below (live_keys tip) c.args.key.now)
-    (λ list chain tip is batch known. c.get_prev_key.ensures.value list chain tip is (subst (λ b. IsMade (hashing g.F.Family.shape g.U.Update.form) b chain tip) (sym c.deref.ensures) batch) known))
+    (made-reads c.get_prev_key.result (IsDatabase g.C.Store (layout mmr g.U.Update.form g.I.Unordered.index_key) c.args.self.now.db) (IsMade (hashing mmr g.U.Update.form) c.args.batch.now.value) (λ k tip. option_map (λ x. x) k ≡ key_below (live_keys tip) c.args.key.now)
+    (λ list chain tip is batch known. c.get_prev_key.ensures.value list chain tip is (subst (λ b. IsMade (hashing mmr g.U.Update.form) b chain tip) (sym c.deref.ensures) batch) known))
     (λ k given ordered. given)
 
 pub returns-clause-failure : goal.returns-clause-failure
 returns-clause-failure g c =
-    err-both c.get_prev_key.result c.get_prev_key.ensures.error (kept-items g.C.Store (layout g.F.Family.shape g.U.Update.form g.I.Unordered.index_key) c.args.self.now.db c.get_prev_key.result c.get_prev_key.ensures.whole)
+    err-both c.get_prev_key.result c.get_prev_key.ensures.error (kept-items g.C.Store (layout mmr g.U.Update.form g.I.Unordered.index_key) c.args.self.now.db c.get_prev_key.result c.get_prev_key.ensures.whole)
     (λ e why kept list chain tip is batch.
     read-failure g.C.Store c.args.self.now.db.log c.get_prev_key.new.db.log (knows c.deref.result.now.bounds c.args.self.now.db.commitment) e _ list chain tip
-    (knows-readable g.F.Family.shape g.U.Update.form g.met.U.Kind.lengths list chain tip c.args.self.now.db.commitment c.deref.result.now.bounds is.commitment (subst (λ b. IsMade (hashing g.F.Family.shape g.U.Update.form) b chain tip) (sym c.deref.ensures) batch).bounds) (kept list is) why)
+    (knows-readable mmr g.U.Update.form g.met.U.Kind.lengths list chain tip c.args.self.now.db.commitment c.deref.result.now.bounds is.commitment (subst (λ b. IsMade (hashing mmr g.U.Update.form) b chain tip) (sym c.deref.ensures) batch).bounds) (kept list is) why)
 
 pub returns-clause-reads : goal.returns-clause-reads
 returns-clause-reads g c = record {
-  same = λ list is. left-database g.C.Store (layout g.F.Family.shape g.U.Update.form g.I.Unordered.index_key) c.args.self.now.db c.get_prev_key.new.db list c.get_prev_key.ensures.left is;
-  store = left-store g.C.Store (hashing g.F.Family.shape g.U.Update.form) c.args.self.now.db c.get_prev_key.new.db c.get_prev_key.ensures.left;
+  same = λ list is. left-database g.C.Store (layout mmr g.U.Update.form g.I.Unordered.index_key) c.args.self.now.db c.get_prev_key.new.db list c.get_prev_key.ensures.left is;
+  store = left-store g.C.Store (hashing mmr g.U.Update.form) c.args.self.now.db c.get_prev_key.new.db c.get_prev_key.ensures.left;
   faults = record {
     later = (c.get_prev_key.ensures.left).read.later;
     failed = err-of c.get_prev_key.result (Journal Store) _ (err-then c.get_prev_key.result c.get_prev_key.ensures.error (λ e why fault. rose-read g.C.Store c.args.self.now.db.log c.get_prev_key.new.db.log (knows c.deref.result.now.bounds c.args.self.now.db.commitment) e why fault));

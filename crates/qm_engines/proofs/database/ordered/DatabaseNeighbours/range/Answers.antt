@@ -1,3 +1,4 @@
+use Rattle.qm_model.specs.Mmr.{mmr}
 use Rattle.std.proofs.Common.{◌≡◌, map}
 use Rattle.qm_model.proofs.Results.{err-then, ok-each, ok-then}
 use Rattle.qm_model.specs.Ranges.{pairs_in}
@@ -12,14 +13,14 @@ use Rattle.qm_engines.proofs.database.ordered.DatabaseNeighbours.range.Goals as 
 
 pub returns-clause-pairs : goal.returns-clause-pairs
 returns-clause-pairs g c =
-    ok-then c.pairs_of.result (ok-each (IsDatabase g.C.Store (layout g.F.Family.shape g.U.Update.form g.I.Unordered.index_key) c.args.self.now.db)
+    ok-then c.pairs_of.result (ok-each (IsDatabase g.C.Store (layout mmr g.U.Update.form g.I.Unordered.index_key) c.args.self.now.db)
     (λ list found. map (pair_view (λ x. x) (λ x. x)) found.items ≡ pairs_in (limit_of (λ x. x) c.args.low.now) (limit_of (λ x. x) c.args.high.now) list) c.pairs_of.result c.pairs_of.ensures.pairs)
     (λ found given ordered list is. given list is)
 
 pub returns-clause-reads : goal.returns-clause-reads
 returns-clause-reads g c = record {
-  same = λ list is. left-database g.C.Store (layout g.F.Family.shape g.U.Update.form g.I.Unordered.index_key) c.args.self.now.db c.pairs_of.new.db list c.pairs_of.ensures.left is;
-  store = left-store g.C.Store (hashing g.F.Family.shape g.U.Update.form) c.args.self.now.db c.pairs_of.new.db c.pairs_of.ensures.left;
+  same = λ list is. left-database g.C.Store (layout mmr g.U.Update.form g.I.Unordered.index_key) c.args.self.now.db c.pairs_of.new.db list c.pairs_of.ensures.left is;
+  store = left-store g.C.Store (hashing mmr g.U.Update.form) c.args.self.now.db c.pairs_of.new.db c.pairs_of.ensures.left;
   faults = record {
     later = (c.pairs_of.ensures.left).read.later;
     failed = err-of c.pairs_of.result (Journal Store) _ (err-then c.pairs_of.result c.pairs_of.ensures.error (λ e why fault. log-rose g.C.Store c.args.self.now.db.log c.pairs_of.new.db.log e why fault));
@@ -30,4 +31,4 @@ pub returns-clause-never : goal.returns-clause-never
 returns-clause-never g c = err-then c.pairs_of.result c.pairs_of.ensures.error (λ e why. log-kept g.C.Store c.args.self.now.db.log c.pairs_of.new.db.log e why)
 
 pub returns-clause-refused : goal.returns-clause-refused
-returns-clause-refused g c = read-untold g.C.Store (layout g.F.Family.shape g.U.Update.form g.I.Unordered.index_key) c.args.self.now.db c.pairs_of.new.db.log c.pairs_of.result c.pairs_of.ensures.error c.pairs_of.ensures.whole
+returns-clause-refused g c = read-untold g.C.Store (layout mmr g.U.Update.form g.I.Unordered.index_key) c.args.self.now.db c.pairs_of.new.db.log c.pairs_of.result c.pairs_of.ensures.error c.pairs_of.ensures.whole

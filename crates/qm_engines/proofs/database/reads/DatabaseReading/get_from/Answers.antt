@@ -1,3 +1,4 @@
+use Rattle.qm_model.specs.Mmr.{mmr}
 use Rattle.std.proofs.Common.{◌≡◌, ◌∙◌, sym, subst, map, option_map}
 use Rattle.qm_model.proofs.Results.{err-both, err-then, ok-then}
 use Rattle.qm_model.specs.Live.{value_of}
@@ -13,24 +14,24 @@ use Rattle.qm_engines.proofs.database.reads.DatabaseReading.get_from.Goals as go
 pub returns-clause-readable : goal.returns-clause-readable
 returns-clause-readable g c =
     ok-then c.get_many.result c.get_many.ensures.readable
-    (λ values can list chain tip is batch. sym (knows-readable g.F.Family.shape g.U.Update.form g.met.U.Kind.lengths list chain tip c.args.self.now.db.commitment c.deref.result.now.bounds is.commitment ((subst (λ b. IsMade (hashing g.F.Family.shape g.U.Update.form) b chain tip) (sym c.deref.ensures) batch).bounds)) ∙ can)
+    (λ values can list chain tip is batch. sym (knows-readable mmr g.U.Update.form g.met.U.Kind.lengths list chain tip c.args.self.now.db.commitment c.deref.result.now.bounds is.commitment ((subst (λ b. IsMade (hashing mmr g.U.Update.form) b chain tip) (sym c.deref.ensures) batch).bounds)) ∙ can)
 
 pub returns-clause-values : goal.returns-clause-values
 returns-clause-values g c =
-    made-reads c.get_many.result (IsDatabase g.C.Store (layout g.F.Family.shape g.U.Update.form g.I.Unordered.index_key) c.args.self.now.db) (IsMade (hashing g.F.Family.shape g.U.Update.form) c.args.batch.now.value) (λ v tip. map (option_map (λ x. x)) v.items ≡ map (λ k. value_of tip k) c.args.keys.now)
-    (λ list chain tip is batch known. c.get_many.ensures.values list chain tip is (subst (λ b. IsMade (hashing g.F.Family.shape g.U.Update.form) b chain tip) (sym c.deref.ensures) batch) known)
+    made-reads c.get_many.result (IsDatabase g.C.Store (layout mmr g.U.Update.form g.I.Unordered.index_key) c.args.self.now.db) (IsMade (hashing mmr g.U.Update.form) c.args.batch.now.value) (λ v tip. map (option_map (λ x. x)) v.items ≡ map (λ k. value_of tip k) c.args.keys.now)
+    (λ list chain tip is batch known. c.get_many.ensures.values list chain tip is (subst (λ b. IsMade (hashing mmr g.U.Update.form) b chain tip) (sym c.deref.ensures) batch) known)
 
 pub returns-clause-failure : goal.returns-clause-failure
 returns-clause-failure g c =
-    err-both c.get_many.result c.get_many.ensures.error (kept-items g.C.Store (layout g.F.Family.shape g.U.Update.form g.I.Unordered.index_key) c.args.self.now.db c.get_many.result c.get_many.ensures.whole)
+    err-both c.get_many.result c.get_many.ensures.error (kept-items g.C.Store (layout mmr g.U.Update.form g.I.Unordered.index_key) c.args.self.now.db c.get_many.result c.get_many.ensures.whole)
     (λ e why kept list chain tip is batch.
     read-failure g.C.Store c.args.self.now.db.log c.get_many.new.db.log (knows c.deref.result.now.bounds c.args.self.now.db.commitment) e _ list chain tip
-    (knows-readable g.F.Family.shape g.U.Update.form g.met.U.Kind.lengths list chain tip c.args.self.now.db.commitment c.deref.result.now.bounds is.commitment ((subst (λ b. IsMade (hashing g.F.Family.shape g.U.Update.form) b chain tip) (sym c.deref.ensures) batch).bounds)) (kept list is) why)
+    (knows-readable mmr g.U.Update.form g.met.U.Kind.lengths list chain tip c.args.self.now.db.commitment c.deref.result.now.bounds is.commitment ((subst (λ b. IsMade (hashing mmr g.U.Update.form) b chain tip) (sym c.deref.ensures) batch).bounds)) (kept list is) why)
 
 pub returns-clause-reads : goal.returns-clause-reads
 returns-clause-reads g c = record {
-  same = λ list is. left-database g.C.Store (layout g.F.Family.shape g.U.Update.form g.I.Unordered.index_key) c.args.self.now.db c.get_many.new.db list c.get_many.ensures.left is;
-  store = left-store g.C.Store (hashing g.F.Family.shape g.U.Update.form) c.args.self.now.db c.get_many.new.db c.get_many.ensures.left;
+  same = λ list is. left-database g.C.Store (layout mmr g.U.Update.form g.I.Unordered.index_key) c.args.self.now.db c.get_many.new.db list c.get_many.ensures.left is;
+  store = left-store g.C.Store (hashing mmr g.U.Update.form) c.args.self.now.db c.get_many.new.db c.get_many.ensures.left;
   faults = record {
     later = (c.get_many.ensures.left).read.later;
     failed = err-of c.get_many.result (Journal Store) _ (err-then c.get_many.result c.get_many.ensures.error (λ e why fault. rose-read g.C.Store c.args.self.now.db.log c.get_many.new.db.log (knows c.deref.result.now.bounds c.args.self.now.db.commitment) e why fault));

@@ -1,3 +1,4 @@
+use Rattle.qm_model.specs.Mmr.{mmr}
 use Rattle.std.proofs.Common.{◌≡◌, ◌∙◌, sym, map, option_map}
 use Rattle.qm_model.proofs.Results.{err-both, err-then, ok-then}
 use Rattle.qm_model.specs.Writes.{read_through}
@@ -13,23 +14,23 @@ use Rattle.qm_engines.proofs.database.reads.DatabaseReading.get_through.Goals as
 pub returns-clause-readable : goal.returns-clause-readable
 returns-clause-readable g c =
     ok-then c.get_many.result c.get_many.ensures.readable
-    (λ values can list chain above ws is batch. sym (knows-readable g.F.Family.shape g.U.Update.form g.met.U.Kind.lengths list above chain.base c.args.self.now.db.commitment c.args.batch.now.parent.bounds is.commitment batch.0.parent.bounds) ∙ can)
+    (λ values can list chain above ws is batch. sym (knows-readable mmr g.U.Update.form g.met.U.Kind.lengths list above chain.base c.args.self.now.db.commitment c.args.batch.now.parent.bounds is.commitment batch.0.parent.bounds) ∙ can)
 
 pub returns-clause-values : goal.returns-clause-values
 returns-clause-values g c =
-    begun-reads g.F.Family.shape g.U.Update.form c.get_many.result (IsDatabase g.C.Store (layout g.F.Family.shape g.U.Update.form g.I.Unordered.index_key) c.args.self.now.db) c.args.batch.now (λ v base ws. map (option_map (λ x. x)) v.items ≡ map (λ k. read_through base ws k) c.args.keys.now) c.get_many.ensures.values
+    begun-reads mmr g.U.Update.form c.get_many.result (IsDatabase g.C.Store (layout mmr g.U.Update.form g.I.Unordered.index_key) c.args.self.now.db) c.args.batch.now (λ v base ws. map (option_map (λ x. x)) v.items ≡ map (λ k. read_through base ws k) c.args.keys.now) c.get_many.ensures.values
 
 pub returns-clause-failure : goal.returns-clause-failure
 returns-clause-failure g c =
-    err-both c.get_many.result c.get_many.ensures.error (kept-items g.C.Store (layout g.F.Family.shape g.U.Update.form g.I.Unordered.index_key) c.args.self.now.db c.get_many.result c.get_many.ensures.whole)
+    err-both c.get_many.result c.get_many.ensures.error (kept-items g.C.Store (layout mmr g.U.Update.form g.I.Unordered.index_key) c.args.self.now.db c.get_many.result c.get_many.ensures.whole)
     (λ e why kept list chain above ws is batch.
     read-failure g.C.Store c.args.self.now.db.log c.get_many.new.db.log (knows c.args.batch.now.parent.bounds c.args.self.now.db.commitment) e _ list above chain.base
-    (knows-readable g.F.Family.shape g.U.Update.form g.met.U.Kind.lengths list above chain.base c.args.self.now.db.commitment c.args.batch.now.parent.bounds is.commitment batch.0.parent.bounds) (kept list is) why)
+    (knows-readable mmr g.U.Update.form g.met.U.Kind.lengths list above chain.base c.args.self.now.db.commitment c.args.batch.now.parent.bounds is.commitment batch.0.parent.bounds) (kept list is) why)
 
 pub returns-clause-reads : goal.returns-clause-reads
 returns-clause-reads g c = record {
-  same = λ list is. left-database g.C.Store (layout g.F.Family.shape g.U.Update.form g.I.Unordered.index_key) c.args.self.now.db c.get_many.new.db list c.get_many.ensures.left is;
-  store = left-store g.C.Store (hashing g.F.Family.shape g.U.Update.form) c.args.self.now.db c.get_many.new.db c.get_many.ensures.left;
+  same = λ list is. left-database g.C.Store (layout mmr g.U.Update.form g.I.Unordered.index_key) c.args.self.now.db c.get_many.new.db list c.get_many.ensures.left is;
+  store = left-store g.C.Store (hashing mmr g.U.Update.form) c.args.self.now.db c.get_many.new.db c.get_many.ensures.left;
   faults = record {
     later = (c.get_many.ensures.left).read.later;
     failed = err-of c.get_many.result (Journal Store) _ (err-then c.get_many.result c.get_many.ensures.error (λ e why fault. rose-read g.C.Store c.args.self.now.db.log c.get_many.new.db.log (knows c.args.batch.now.parent.bounds c.args.self.now.db.commitment) e why fault));

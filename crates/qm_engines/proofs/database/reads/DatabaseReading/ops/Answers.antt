@@ -1,3 +1,4 @@
+use Rattle.qm_model.specs.Mmr.{mmr}
 use Rattle.std.proofs.Common.{◌∙◌, ap, subst, sym}
 use Rattle.qm_any.specs.Databases.{IsMade}
 use Rattle.qm_engines.specs.Databases.{hashing}
@@ -5,7 +6,7 @@ use Rattle.qm_engines.proofs.database.reads.DatabaseReading.ops.Goals as goal
 
 pub returns : goal.returns
 returns g c = λ chain tip batch.
-    let made = subst (λ b. IsMade (hashing g.F.Family.shape g.U.Update.form) b chain tip) (sym c.deref.ensures) batch in (
+    let made = subst (λ b. IsMade (hashing mmr g.U.Update.form) b chain tip) (sym c.deref.ensures) batch in (
       c.get.ensures ∙ c.operations-base.ensures.base ∙ ap (λ k. k.size) made.bounds.base,
-      c.in_ok-own.ensures ∙ c.operations-base.ensures.own (hashing g.F.Family.shape g.U.Update.form) chain tip made,
+      c.in_ok-own.ensures ∙ c.operations-base.ensures.own (hashing mmr g.U.Update.form) chain tip made,
     )

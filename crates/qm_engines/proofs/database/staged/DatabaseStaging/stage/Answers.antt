@@ -1,3 +1,4 @@
+use Rattle.qm_model.specs.Mmr.{mmr}
 use Rattle.std.proofs.Common.{◌≡◌, ◌∙◌, sym, map, option_map}
 use Rattle.qm_model.proofs.Results.{err-both, err-then, ok-then}
 use Rattle.qm_model.specs.Writes.{read_through}
@@ -13,24 +14,24 @@ use Rattle.qm_engines.proofs.database.staged.DatabaseStaging.stage.Goals as goal
 pub returns-clause-readable : goal.returns-clause-readable
 returns-clause-readable g c =
     ok-then c.stage.result c.stage.ensures.readable
-    (λ values can list chain above ws is batch. sym (knows-readable g.F.Family.shape g.U.Update.form g.met.U.Kind.lengths list above chain.base c.args.self.now.db.commitment c.args.batch.parent.bounds is.commitment batch.0.parent.bounds) ∙ can)
+    (λ values can list chain above ws is batch. sym (knows-readable mmr g.U.Update.form g.met.U.Kind.lengths list above chain.base c.args.self.now.db.commitment c.args.batch.parent.bounds is.commitment batch.0.parent.bounds) ∙ can)
 
 pub returns-clause-values : goal.returns-clause-values
 returns-clause-values g c =
-    rw (sym c.in_ok-keys.ensures) (begun-staged g.F.Family.shape g.U.Update.form c.stage.result (IsDatabase g.C.Store (layout g.F.Family.shape g.U.Update.form g.I.Unordered.index_key) c.args.self.now.db) c.args.batch (map (λ k. k) c.in_ok-keys.keys.items) (λ v base ws. map (option_map (λ x. x)) v.items ≡ map (λ k. read_through base ws k) c.in_ok-keys.keys.items)
+    rw (sym c.in_ok-keys.ensures) (begun-staged mmr g.U.Update.form c.stage.result (IsDatabase g.C.Store (layout mmr g.U.Update.form g.I.Unordered.index_key) c.args.self.now.db) c.args.batch (map (λ k. k) c.in_ok-keys.keys.items) (λ v base ws. map (option_map (λ x. x)) v.items ≡ map (λ k. read_through base ws k) c.in_ok-keys.keys.items)
     c.stage.ensures.values c.stage.ensures.staged c.stage.ensures.batch c.stage.ensures.keys)
 
 pub returns-clause-failure : goal.returns-clause-failure
 returns-clause-failure g c =
-    err-both c.stage.result c.stage.ensures.error (kept-items g.C.Store (layout g.F.Family.shape g.U.Update.form g.I.Unordered.index_key) c.args.self.now.db c.stage.result c.stage.ensures.whole)
+    err-both c.stage.result c.stage.ensures.error (kept-items g.C.Store (layout mmr g.U.Update.form g.I.Unordered.index_key) c.args.self.now.db c.stage.result c.stage.ensures.whole)
     (λ e why kept list chain above ws is batch.
     read-failure g.C.Store c.args.self.now.db.log c.stage.new.db.log (knows c.args.batch.parent.bounds c.args.self.now.db.commitment) e _ list above chain.base
-    (knows-readable g.F.Family.shape g.U.Update.form g.met.U.Kind.lengths list above chain.base c.args.self.now.db.commitment c.args.batch.parent.bounds is.commitment batch.0.parent.bounds) (kept list is) why)
+    (knows-readable mmr g.U.Update.form g.met.U.Kind.lengths list above chain.base c.args.self.now.db.commitment c.args.batch.parent.bounds is.commitment batch.0.parent.bounds) (kept list is) why)
 
 pub returns-clause-reads : goal.returns-clause-reads
 returns-clause-reads g c = record {
-  same = λ list is. left-database g.C.Store (layout g.F.Family.shape g.U.Update.form g.I.Unordered.index_key) c.args.self.now.db c.stage.new.db list c.stage.ensures.left is;
-  store = left-store g.C.Store (hashing g.F.Family.shape g.U.Update.form) c.args.self.now.db c.stage.new.db c.stage.ensures.left;
+  same = λ list is. left-database g.C.Store (layout mmr g.U.Update.form g.I.Unordered.index_key) c.args.self.now.db c.stage.new.db list c.stage.ensures.left is;
+  store = left-store g.C.Store (hashing mmr g.U.Update.form) c.args.self.now.db c.stage.new.db c.stage.ensures.left;
   faults = record {
     later = (c.stage.ensures.left).read.later;
     failed = err-of c.stage.result (Journal Store) _ (err-then c.stage.result c.stage.ensures.error (λ e why fault. rose-read g.C.Store c.args.self.now.db.log c.stage.new.db.log (knows c.args.batch.parent.bounds c.args.self.now.db.commitment) e why fault));
