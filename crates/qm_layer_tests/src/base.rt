@@ -104,12 +104,12 @@ fn lower_errors_have_text(rt: HostRuntime) -> Result<(), Fail> {
     Ok(())
 }
 
-// The key of an update or a delete that the bytes spell, where they spell an operation that is spelled and fed so again;
-// that of an update as it is lent from them.
-fn key_spelled_by<U: Update>(alloc: Global, bytes: &[u8]) -> Result<Option<Vec<u8>>, AllocError> {
-    let Some(operation) = Operation::<(), U>::decode(alloc, bytes)? else {
-        return Ok(None);
-    };
+// Whether an operation is spelled and fed as these bytes.
+fn spells<U: Update>(
+    alloc: Global,
+    operation: &Operation<(), U>,
+    bytes: &[u8],
+) -> Result<bool, AllocError> {
     let mut fed = Sha256::new();
     fed.start();
     operation.feed(&mut fed);
@@ -117,11 +117,17 @@ fn key_spelled_by<U: Update>(alloc: Global, bytes: &[u8]) -> Result<Option<Vec<u
     whole.start();
     whole.update(bytes);
     let encoded = operation.encode(alloc)?;
-    if encoded.as_slice() != bytes || fed.finish().bytes() != whole.finish().bytes() {
+    Ok(encoded.as_slice() == bytes && fed.finish().bytes() == whole.finish().bytes())
+}
+
+// The key of an update or a delete that the bytes spell, where they spell an operation that is spelled and fed so again;
+// that of an update as it is lent from them.
+fn key_spelled_by<U: Update>(alloc: Global, bytes: &[u8]) -> Result<Option<Vec<u8>>, AllocError> {
+    let Some(operation) = Operation::<(), U>::decode(alloc, bytes)? else {
         return Ok(None);
-    }
+    };
     let lent = Operation::<(), U>::update_key(bytes);
-    if lent.is_some() != operation.is_update() {
+    if lent.is_some() != operation.is_update() || !spells(alloc, &operation, bytes)? {
         return Ok(None);
     }
     match operation.key() {

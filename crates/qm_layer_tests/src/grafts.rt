@@ -160,6 +160,29 @@ fn add_leaves<F: Family>(
     Ok(())
 }
 
+// The text of the canonical root of a list with this grafted tree.
+fn root_text<F: Graftable>(
+    rt: &impl Abort,
+    alloc: Global,
+    hasher: &mut TreeHasher,
+    list: &Listed<F>,
+    grafted: &GraftedTree<F>,
+) -> Result<String, AllocError> {
+    let (_, leaves) = list.tree.bounds();
+    let (start, chunks) = grafted.bounds();
+    let height = height::<Chunk32>();
+    let inactive = F::inactive_peaks(leaves, list.floor);
+    assert!(rt; inactive <= F::peak_count(leaves) as usize && list.bits.len() == leaves.get());
+    assert!(rt; chunks.get() == grafted_chunks::<F>(height, leaves.get()));
+    assert!(rt; list.bits.pruned_chunks() as u64 <= chunks.get());
+    assert!(rt; start.get() == 0 || needed_size::<F>(height, start.get()) <= leaves.get());
+    let root = list.tree.root(alloc, hasher, inactive)?;
+    let canonical = canonical_root_of(
+        alloc, hasher, &root, &list.tree, grafted, &list.bits, list.floor,
+    )?;
+    hex::encode(alloc, canonical.bytes())
+}
+
 // A list with this grafted tree has this canonical root.
 fn expect_root<F: Graftable>(
     rt: &impl Abort,
@@ -169,27 +192,8 @@ fn expect_root<F: Graftable>(
     grafted: &GraftedTree<F>,
     want: &str,
 ) -> Result<(), AllocError> {
-    let (_, leaves) = list.tree.bounds();
-    let inactive = F::inactive_peaks(leaves, list.floor);
-    assert!(rt; inactive <= F::peak_count(leaves) as usize);
-    let root = list.tree.root(alloc, hasher, inactive)?;
-    let (start, chunks) = grafted.bounds();
-    let height = height::<Chunk32>();
-    assert!(rt; list.bits.len() == leaves.get());
-    assert!(rt; chunks.get() == grafted_chunks::<F>(height, leaves.get()));
-    assert!(rt; list.bits.pruned_chunks() as u64 <= chunks.get());
-    assert!(rt; start.get() == 0 || needed_size::<F>(height, start.get()) <= leaves.get());
-    let canonical = canonical_root_of(
-        alloc, hasher, &root, &list.tree, grafted, &list.bits, list.floor,
-    )?;
-    let text = hex::encode(alloc, canonical.bytes())?;
-    assert_eq!(rt;
-        text.as_str(),
-        want,
-        "{} operations from chunk {}",
-        leaves.get(),
-        start.get()
-    );
+    let text = root_text(rt, alloc, hasher, list, grafted)?;
+    assert_eq!(rt; text.as_str(), want, "{} operations", list.bits.len());
     Ok(())
 }
 

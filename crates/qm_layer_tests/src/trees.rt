@@ -122,23 +122,35 @@ fn roots_in_a_row<F: Family>(
     hex::encode(alloc, all.finish().bytes())
 }
 
+// Grows a tree by its next leaf, and prunes it now and then.
+fn grow<F: Family>(
+    rt: &impl Abort,
+    alloc: Global,
+    hasher: &mut TreeHasher,
+    tree: &mut Tree<F>,
+) -> Result<(), Fail>
+    ensures { OnOk result (tree.new.leaves ≤ 40) }
+{
+    let last = tree.leaves();
+    assert!(rt; last.get() < 40);
+    let leaf = hasher.leaf_digest(F::location_to_position(last), &[last.get() as u8 + 1]);
+    add_leaf(alloc, hasher, tree, leaf)?;
+    if last.get() % 8 == 6 {
+        let (kept, past) = tree.bounds();
+        assert!(rt; kept.get() <= last.get() && last.get() <= past.get());
+        tree.prune(alloc, last)?;
+    }
+    Ok(())
+}
+
 // A tree that grows, and is pruned now and then, has these roots.
 fn has_roots<F: Family>(rt: &impl Abort, alloc: Global, rows: &str) -> Result<(), Fail> {
     let mut hasher = StandardHasher::new(Sha256::new());
     let mut tree: Tree<F> = Mem::new(alloc);
     for want in rows.split_ascii_whitespace() {
-        let last = tree.leaves();
-        assert!(rt; last.get() < 40);
-        let place = F::location_to_position(last);
-        let leaf = hasher.leaf_digest(place, &[last.get() as u8 + 1]);
-        add_leaf(alloc, &mut hasher, &mut tree, leaf)?;
-        if last.get() % 8 == 6 {
-            let (kept, past) = tree.bounds();
-            assert!(rt; kept.get() <= last.get() && last.get() <= past.get());
-            tree.prune(alloc, last)?;
-        }
+        grow(rt, alloc, &mut hasher, &mut tree)?;
         let text = roots_in_a_row(alloc, &mut hasher, &tree)?;
-        assert_eq!(rt; text.as_str(), want, "past leaf {}", last.get());
+        assert_eq!(rt; text.as_str(), want);
     }
     Ok(())
 }
@@ -183,6 +195,23 @@ fn ranges_are_proved(
     Ok(())
 }
 
+// Puts the leaf of an element behind those of a tree, and gives its digest.
+fn put_element<F: Family>(
+    rt: &impl Abort,
+    alloc: Global,
+    hasher: &mut TreeHasher,
+    tree: &mut Tree<F>,
+    element: &Vec<u8>,
+) -> Result<Sha256Digest, Fail>
+    ensures { OnOk result (tree.new.leaves ≤ 40) }
+{
+    let count = tree.leaves();
+    assert!(rt; count.get() < 12);
+    let leaf = hasher.leaf_digest_of(F::location_to_position(count), element);
+    add_leaf(alloc, hasher, tree, leaf)?;
+    Ok(leaf)
+}
+
 #[test]
 fn ranges_have_proofs(rt: HostRuntime) -> Result<(), Fail> {
     let alloc = rt.alloc();
@@ -192,11 +221,8 @@ fn ranges_have_proofs(rt: HostRuntime) -> Result<(), Fail> {
     let mut tree: Tree<mmr::Family> = Mem::new(alloc);
     let mut elements: Vec<Vec<u8>> = Vec::new(alloc);
     for last in 0..12u8 {
-        let count = tree.leaves();
-        assert!(rt; count.get() < 12);
         let element = Vec::from_slice(alloc, &[last])?;
-        let leaf = hasher.leaf_digest_of(mmr::Family::location_to_position(count), &element);
-        add_leaf(alloc, &mut hasher, &mut tree, leaf)?;
+        let leaf = put_element(&rt, alloc, &mut hasher, &mut tree, &element)?;
         elements.push(element)?;
         ranges_are_proved(&rt, alloc, &tree, &elements, &leaf, &mut listed)?;
     }
