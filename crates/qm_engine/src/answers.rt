@@ -21,7 +21,7 @@ use crate::engine::Engine;
 use crate::runs::begin;
 use crate::session::{Of, Turn, returned};
 use crate::turns::turn;
-use qm_base::{ByteKey, ByteValue, Digest, Gate, Key, Twin, VariableValue};
+use qm_base::{ByteKey, ByteString, ByteValue, Digest, Gate, Twin};
 use qm_chain::Policy;
 use qm_lines::{AnyPolicy, Command, Reply, next_line, parse_line, reply_text};
 use qm_store::Store;
@@ -50,7 +50,7 @@ pub struct Answered<C> {
 }
 
 // The reply behind the text, as a line.
-fn push_line<K: Key, V: VariableValue, D: Digest>(
+fn push_line<K: ByteString, V: ByteString, D: Digest>(
     alloc: Global,
     text: &mut Vec<u8>,
     reply: &Reply<K, V, D>,

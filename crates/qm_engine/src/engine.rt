@@ -18,7 +18,7 @@ pub use batches::Batching;
 pub use lasting::Lasting;
 pub use ordered::Neighbours;
 pub use proofs::Proving;
-use qm_base::{Digest, Key, VariableValue};
+use qm_base::{ByteString, Digest};
 use qm_store::Store;
 pub use reads::Reading;
 pub use staged::Staging;
@@ -56,9 +56,9 @@ pub struct BatchSizes {
 pub trait Basis<C: Store>: Words<C> + Drop + Sized {
     type Family;
 
-    type Key: Key;
+    type Key: ByteString;
 
-    type Value: VariableValue;
+    type Value: ByteString;
 
     type Digest: Digest;
 

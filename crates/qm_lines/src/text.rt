@@ -12,7 +12,7 @@ ghost use Rattle.qm_base.specs.Views.{pair_view};
 ghost use Rattle.qm_lines.specs.Views.{tree_view, log_view, refused_view, listed_view, span_view, whole_view, answer_view};
 
 use crate::reply::{Listed, LogRefused, Refused, Reply, Span, TreeRefused};
-use qm_base::{ByteString, Corrupt, Digest, Key, VariableValue};
+use qm_base::{ByteString, Corrupt, Digest};
 use std::alloc::{AllocError, Global};
 use std::fmt::Write;
 
@@ -52,7 +52,7 @@ fn write_next<B: ByteString>(out: &mut String, next: &Option<B>) -> Result<(), A
     write_bytes(out, key.as_bytes())
 }
 
-fn write_update<K: Key, V: VariableValue>(
+fn write_update<K: ByteString, V: ByteString>(
     out: &mut String,
     key: &K,
     value: &V,
@@ -67,7 +67,7 @@ fn write_update<K: Key, V: VariableValue>(
     write_next(out, next)
 }
 
-fn write_operation<K: Key, V: VariableValue>(
+fn write_operation<K: ByteString, V: ByteString>(
     out: &mut String,
     op: &Listed<K, V>,
 ) -> Result<(), AllocError>
@@ -88,7 +88,7 @@ fn write_operation<K: Key, V: VariableValue>(
 }
 
 // The operations, each after a space.
-fn write_operations<K: Key, V: VariableValue>(
+fn write_operations<K: ByteString, V: ByteString>(
     out: &mut String,
     ops: &[Listed<K, V>],
 ) -> Result<(), AllocError>
@@ -207,7 +207,7 @@ fn write_proof<D: Digest>(
     out.push_str(" /")
 }
 
-fn write_proved<K: Key, V: VariableValue, D: Digest>(
+fn write_proved<K: ByteString, V: ByteString, D: Digest>(
     out: &mut String,
     leaves: u64,
     inactive: u64,
@@ -233,7 +233,7 @@ fn write_batch_proof<D: Digest>(
     write_digests(out, pins)
 }
 
-fn write_listed<K: Key, V: VariableValue>(
+fn write_listed<K: ByteString, V: ByteString>(
     out: &mut String,
     base: u64,
     ops: &[Listed<K, V>],
@@ -245,7 +245,7 @@ fn write_listed<K: Key, V: VariableValue>(
 }
 
 // What was read, each after a space.
-fn write_values<V: VariableValue>(out: &mut String, values: &[Option<V>]) -> Result<(), AllocError>
+fn write_values<V: ByteString>(out: &mut String, values: &[Option<V>]) -> Result<(), AllocError>
     ensures { Adds out.old out.new result (texts.values_text (map (option_map V.bytes) values.now)) }
 {
     for value in values {
@@ -255,14 +255,14 @@ fn write_values<V: VariableValue>(out: &mut String, values: &[Option<V>]) -> Res
     Ok(())
 }
 
-fn write_read<V: VariableValue>(out: &mut String, values: &[Option<V>]) -> Result<(), AllocError>
+fn write_read<V: ByteString>(out: &mut String, values: &[Option<V>]) -> Result<(), AllocError>
     ensures { Adds out.old out.new result (texts.reply_line (lines.Read (map (option_map V.bytes) values.now))) }
 {
     out.push_str("read")?;
     write_values(out, values)
 }
 
-fn write_expanded<V: VariableValue>(
+fn write_expanded<V: ByteString>(
     out: &mut String,
     first: u64,
     end: u64,
@@ -275,7 +275,7 @@ fn write_expanded<V: VariableValue>(
 }
 
 // A key beside another, if there is one.
-fn write_beside<K: Key>(out: &mut String, key: &Option<K>) -> Result<(), AllocError>
+fn write_beside<K: ByteString>(out: &mut String, key: &Option<K>) -> Result<(), AllocError>
     ensures { Adds out.old out.new result (texts.beside_text (option_map K.bytes key.now)) }
 {
     let Some(key) = key else {
@@ -286,7 +286,7 @@ fn write_beside<K: Key>(out: &mut String, key: &Option<K>) -> Result<(), AllocEr
 }
 
 // Location, key, value and next key of a live update.
-fn write_live<K: Key, V: VariableValue>(
+fn write_live<K: ByteString, V: ByteString>(
     out: &mut String,
     span: &Span<K, V>,
 ) -> Result<(), AllocError>
@@ -302,7 +302,7 @@ fn write_live<K: Key, V: VariableValue>(
 }
 
 // The live update whose span holds a key, if there is one.
-fn write_span<K: Key, V: VariableValue>(
+fn write_span<K: ByteString, V: ByteString>(
     out: &mut String,
     span: &Option<Span<K, V>>,
 ) -> Result<(), AllocError>
@@ -315,7 +315,7 @@ fn write_span<K: Key, V: VariableValue>(
 }
 
 // A value and the next key, if the key is live.
-fn write_whole<K: Key, V: VariableValue>(
+fn write_whole<K: ByteString, V: ByteString>(
     out: &mut String,
     whole: &Option<(V, K)>,
 ) -> Result<(), AllocError>
@@ -331,7 +331,7 @@ fn write_whole<K: Key, V: VariableValue>(
 }
 
 // A key with its value, after a space.
-fn write_pair<K: Key, V: VariableValue>(
+fn write_pair<K: ByteString, V: ByteString>(
     out: &mut String,
     key: &K,
     value: &V,
@@ -345,7 +345,7 @@ fn write_pair<K: Key, V: VariableValue>(
 }
 
 // Keys with their values, each after a space.
-fn write_range<K: Key, V: VariableValue>(
+fn write_range<K: ByteString, V: ByteString>(
     out: &mut String,
     pairs: &[(K, V)],
 ) -> Result<(), AllocError>
@@ -359,7 +359,7 @@ fn write_range<K: Key, V: VariableValue>(
 }
 
 // Keys, each after a space.
-fn write_keys<K: Key>(out: &mut String, keys: &[K]) -> Result<(), AllocError>
+fn write_keys<K: ByteString>(out: &mut String, keys: &[K]) -> Result<(), AllocError>
     ensures { Adds out.old out.new result (texts.reply_line (lines.Keyed (map K.bytes keys.now))) }
 {
     out.push_str("keys")?;
@@ -370,7 +370,7 @@ fn write_keys<K: Key>(out: &mut String, keys: &[K]) -> Result<(), AllocError>
     Ok(())
 }
 
-fn write_metadata<V: VariableValue>(
+fn write_metadata<V: ByteString>(
     out: &mut String,
     metadata: &Option<V>,
 ) -> Result<(), AllocError>
@@ -394,7 +394,7 @@ fn write_refusal(out: &mut String, refused: Refused) -> Result<(), AllocError>
     write_refused(out, refused)
 }
 
-fn write_line<K: Key, V: VariableValue, D: Digest>(
+fn write_line<K: ByteString, V: ByteString, D: Digest>(
     out: &mut String,
     reply: &Reply<K, V, D>,
 ) -> Result<(), AllocError>
@@ -440,7 +440,7 @@ fn write_line<K: Key, V: VariableValue, D: Digest>(
 }
 
 /// The text of a reply, without a line feed. Want of memory is the only error.
-pub fn reply_text<K: Key, V: VariableValue, D: Digest>(
+pub fn reply_text<K: ByteString, V: ByteString, D: Digest>(
     alloc: Global,
     reply: &Reply<K, V, D>,
 ) -> Result<Vec<u8>, AllocError>

@@ -10,7 +10,7 @@ ghost use Rattle.qm_engine.specs.Session.{SlotIs, Answers, Obeys, Tells, Uses};
 use crate::engine::{Basis, BatchSizes, Numbers, Reading};
 use crate::session::{Of, Turn, turn_of};
 use crate::table::{Slot, merkleized_at, slot_at};
-use qm_base::{Key, Twin};
+use qm_base::{ByteString, Twin};
 use qm_lines::{Refused, Reply};
 use qm_store::{Given, Store};
 use std::alloc::{AllocError, Global};
@@ -72,7 +72,7 @@ pub fn read<X: Reading<C>, C: Store>(
 }
 
 // A copy of the key, alone.
-fn alone<K: Key>(alloc: Global, key: &K) -> Result<Vec<K>, AllocError>
+fn alone<K: ByteString>(alloc: Global, key: &K) -> Result<Vec<K>, AllocError>
     ensures { IfOk result (λ keys. keys.items ≡ key.now ∷ []) }
 {
     let key = key.twin(alloc)?;
