@@ -29,12 +29,12 @@ ghost use Rattle.qm_base.specs.Slots.{slot_views, write_views};
 
 use crate::db::{Db, LaidOut};
 use crate::operations::{
-    Step, diffs_of, refuse, share, shared, spelled, spelled_steps, twin_option, unapplied_of,
+    Step, diffs_of, refuse, share, shared, spelled, spelled_steps, unapplied_of,
 };
 use qm_base::update::Update;
 use qm_base::{
     ByteString, Commitment, Digest, Error, Hasher, JournalError, Location, MerkleError, Slot,
-    ValueEncoding,
+    ValueEncoding, twin_option,
 };
 use qm_batch::kind::Steps;
 use qm_batch::{Base, Layer, Plan, Read, Wanted, Write, Writes};

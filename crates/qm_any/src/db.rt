@@ -31,11 +31,11 @@ ghost use Rattle.qm_store.specs.Given.{Appended, AppendedPart, store_given, stor
 ghost use Rattle.qm_store.specs.KeptTrees.{IsKeptTree, held_at};
 
 use crate::batch::{Lacking, MerkleizedBatch, UnmerkleizedBatch};
-use crate::operations::{Step, copy_of, share, twin_option};
+use crate::operations::{Step, copy_of, share};
 use qm_base::update::Update;
 use qm_base::{
-    ByteString, Commitment, Digest, Error, Hasher, JournalError, Location, MerkleError, Twin,
-    ValueEncoding,
+    ByteString, Commitment, Digest, Error, Hasher, JournalError, Location, MerkleError,
+    ValueEncoding, twin_option,
 };
 use qm_batch::kind::Steps;
 use qm_batch::{Base, Plan, Read, Wanted, Writes, apply_diffs, read_key, staged};

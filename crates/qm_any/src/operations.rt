@@ -24,22 +24,6 @@ const MAX_OPERATIONS: u64 = 1 << 62;
 /// How many bytes the spelling of an operation has at most.
 const MAX_SPELLING: usize = 65_536;
 
-/// A copy of a value, where there is one.
-pub(crate) fn twin_option<B: ByteString>(
-    alloc: Global,
-    value: &Option<B>,
-) -> Result<Option<B>, AllocError>
-    ensures { IfOk result (λ copy. copy ≡ value.now) }
-{
-    match value {
-        None => Ok(None),
-        Some(value) => {
-            let copy = value.twin(alloc)?;
-            Ok(Some(copy))
-        }
-    }
-}
-
 /// A copy of a shared value, where there is one.
 pub(crate) fn copy_of<B: ByteString>(
     alloc: Global,

@@ -5,12 +5,12 @@ ghost use Rattle.qm_base.specs.Parts.{is_update, key_of, value_of};
 ghost use Rattle.qm_model.specs.Forms.{Form, IsOf, IsKey, IsValue};
 ghost use Rattle.qm_model.specs.Operations as model;
 
-use crate::byte_strings::{ByteString, Twin};
+use crate::byte_strings::ByteString;
 use crate::encoding::ValueEncoding;
 use std::alloc::{AllocError, Global};
 
 /// What an update says: a key, its value and, in an ordered database, the next key.
-pub trait Update: Twin + Drop {
+pub trait Update: Sized + Drop {
     type Key: ByteString;
 
     type Value: ByteString;
@@ -20,6 +20,10 @@ pub trait Update: Twin + Drop {
 
     /// How operations are spelled.
     ghost form: { Form };
+
+    /// Copies the update. Want of memory is the only error.
+    fn twin(&self, alloc: Global) -> Result<Self, AllocError>
+        ensures { IfOk result (λ copy. copy ≡ self.now) };
 
     /// Whether it names a next key.
     fn is_ordered() -> bool
@@ -86,14 +90,6 @@ pub trait Update: Twin + Drop {
 #[derive(Drop)]
 pub struct Unordered<K: ByteString, V: ValueEncoding<K>>(pub K, pub V::Value);
 
-impl<K: ByteString, V: ValueEncoding<K>> Twin for Unordered<K, V> {
-    fn twin(&self, alloc: Global) -> Result<Self, AllocError> {
-        let key = self.0.twin(alloc)?;
-        let value = self.1.twin(alloc)?;
-        Ok(Unordered(key, value))
-    }
-}
-
 impl<K: ByteString, V: ValueEncoding<K>> Update for Unordered<K, V> {
     type Key = K;
 
@@ -108,6 +104,12 @@ impl<K: ByteString, V: ValueEncoding<K>> Update for Unordered<K, V> {
     ghost keys = { λ bs h short. record { known = h; sized = V.key_sized bs h short } };
 
     ghost values = { λ bs h short. record { known = h; sized = V.value_sized bs h short } };
+
+    fn twin(&self, alloc: Global) -> Result<Self, AllocError> {
+        let key = self.0.twin(alloc)?;
+        let value = self.1.twin(alloc)?;
+        Ok(Unordered(key, value))
+    }
 
     fn is_ordered() -> bool {
         false
@@ -172,19 +174,6 @@ pub struct Ordered<K: ByteString, V: ValueEncoding<K>> {
     pub next_key: K,
 }
 
-impl<K: ByteString, V: ValueEncoding<K>> Twin for Ordered<K, V> {
-    fn twin(&self, alloc: Global) -> Result<Self, AllocError> {
-        let key = self.key.twin(alloc)?;
-        let value = self.value.twin(alloc)?;
-        let next_key = self.next_key.twin(alloc)?;
-        Ok(Ordered {
-            key,
-            value,
-            next_key,
-        })
-    }
-}
-
 impl<K: ByteString, V: ValueEncoding<K>> Update for Ordered<K, V> {
     type Key = K;
 
@@ -199,6 +188,17 @@ impl<K: ByteString, V: ValueEncoding<K>> Update for Ordered<K, V> {
     ghost keys = { λ bs h short. record { known = h; sized = V.key_sized bs h short } };
 
     ghost values = { λ bs h short. record { known = h; sized = V.value_sized bs h short } };
+
+    fn twin(&self, alloc: Global) -> Result<Self, AllocError> {
+        let key = self.key.twin(alloc)?;
+        let value = self.value.twin(alloc)?;
+        let next_key = self.next_key.twin(alloc)?;
+        Ok(Ordered {
+            key,
+            value,
+            next_key,
+        })
+    }
 
     fn is_ordered() -> bool {
         true

@@ -8,7 +8,7 @@ ghost use Rattle.qm_chain.specs.Policies.{action_view};
 
 use crate::entry::{Decision, Entry};
 use crate::policy::{Limits, Policy};
-use qm_base::{ByteString, Twin};
+use qm_base::{ByteString, Twin, twin_option};
 use std::alloc::{AllocError, Global};
 
 /// Within these limits, drops a value, stops at a value, or swaps a value for another. It tests them in this order, and keeps
@@ -114,21 +114,8 @@ impl<F, K: ByteString, V: ByteString> Policy<F, K, V> for Rule<V> {
     }
 }
 
-// A copy of a value that may be none.
-fn twin_of<V: Twin>(alloc: Global, value: &Option<V>) -> Result<Option<V>, AllocError>
-    ensures { IfOk result (λ copy. copy ≡ value.now) }
-{
-    match value {
-        None => Ok(None),
-        Some(value) => {
-            let value = value.twin(alloc)?;
-            Ok(Some(value))
-        }
-    }
-}
-
 // A copy of a pair that may be none.
-fn twin_of_pair<V: Twin + Drop>(
+fn twin_of_pair<V: ByteString>(
     alloc: Global,
     pair: &Option<(V, V)>,
 ) -> Result<Option<(V, V)>, AllocError>
@@ -144,10 +131,10 @@ fn twin_of_pair<V: Twin + Drop>(
     }
 }
 
-impl<V: Twin + Drop> Twin for Rule<V> {
+impl<V: ByteString> Twin for Rule<V> {
     fn twin(&self, alloc: Global) -> Result<Self, AllocError> {
-        let drop = twin_of(alloc, &self.drop)?;
-        let stop = twin_of(alloc, &self.stop)?;
+        let drop = twin_option(alloc, &self.drop)?;
+        let stop = twin_option(alloc, &self.stop)?;
         let swap = twin_of_pair(alloc, &self.swap)?;
         Ok(Rule {
             entries: self.entries,

@@ -5,22 +5,9 @@ ghost use Rattle.qm_step.specs.Views.{read_view};
 ghost use Rattle.qm_lines.specs.Views.{listed_view, span_view};
 ghost use Rattle.qm_base.specs.Views.{operation_view, operation_views};
 
-use qm_base::{ByteString, Location, Operation, Twin, Update};
+use qm_base::{ByteString, Location, Operation, Update, twin_option};
 use qm_lines::{Listed, Span};
 use std::alloc::{AllocError, Global};
-
-/// A copy of a value, where there is one.
-pub fn twin_option<V: ByteString>(alloc: Global, value: &Option<V>) -> Result<Option<V>, AllocError>
-    ensures { IfOk result (λ copy. copy ≡ value.now) }
-{
-    match value {
-        None => Ok(None),
-        Some(value) => {
-            let copy = value.twin(alloc)?;
-            Ok(Some(copy))
-        }
-    }
-}
 
 /// Copies of keys.
 pub fn twin_keys<K: ByteString>(alloc: Global, keys: &[K]) -> Result<Vec<K>, AllocError>

@@ -9,7 +9,7 @@ ghost use Rattle.qm_scan.specs.Scans.{left_of};
 
 use qm_any::db::{Db, LaidOut};
 use qm_base::update::Update;
-use qm_base::{ByteString, Error, Hasher, JournalError, Location, Twin};
+use qm_base::{ByteString, Error, Hasher, JournalError, Location};
 use qm_batch::kind::Steps;
 use qm_merkle::Family;
 use qm_scan::Scan;

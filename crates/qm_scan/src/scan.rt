@@ -13,7 +13,7 @@ ghost use Rattle.qm_scan.specs.Scans.{AreNext, BeginsAt, IsStep, IsTaken, beginn
 
 use crate::gather::{bytes_of, pairs_at};
 use qm_base::update::Update;
-use qm_base::{ByteString, Error, Hasher, JournalError, Location, Twin};
+use qm_base::{ByteString, Error, Hasher, JournalError, Location};
 use qm_batch::kind::Steps;
 use qm_merkle::Family;
 use qm_store::{AuthLog, Store};

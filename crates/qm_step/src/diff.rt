@@ -9,7 +9,7 @@ ghost use Rattle.qm_step.specs.Views.{change_view, changes_view};
 
 use crate::touch::Touch;
 use qm_base::update::Update;
-use qm_base::{ByteString, Location, Operation, Twin};
+use qm_base::{ByteString, Location, Operation};
 use qm_chain::{Diff, DiffEntry};
 use std::alloc::{AllocError, Global};
 use std::collections::BTreeMap;

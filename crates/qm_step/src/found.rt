@@ -8,7 +8,7 @@ ghost use Rattle.qm_step.specs.Views.{read_view, stands_view};
 
 use crate::order::is_below;
 use qm_base::update::Update;
-use qm_base::{ByteString, Location, Twin};
+use qm_base::{ByteString, Location};
 use std::alloc::{AllocError, Global};
 
 /// Where a key's live update stands and, in an ordered database, the key that it names.

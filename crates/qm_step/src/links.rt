@@ -18,7 +18,7 @@ use crate::site::Site;
 use crate::touch::Touch;
 use crate::writes::LastWrite;
 use qm_base::update::{Ordered, Update};
-use qm_base::{ByteString, Location, Operation, Twin, ValueEncoding};
+use qm_base::{ByteString, Location, Operation, ValueEncoding};
 use std::alloc::{AllocError, Global};
 use std::collections::BTreeMap;
 

@@ -27,7 +27,7 @@ use crate::layer::Layer;
 use crate::nearest::key_behind;
 use crate::touch::Touch;
 use qm_base::update::{Ordered, Update};
-use qm_base::{ByteString, Location, Operation, Twin, ValueEncoding};
+use qm_base::{ByteString, Location, Operation, ValueEncoding};
 use std::alloc::{AllocError, Global};
 use std::collections::BTreeMap;
 use std::rc::Rc;

@@ -16,7 +16,7 @@ use crate::site::Site;
 use crate::touch::Touch;
 use crate::wanted::{Read, Wanted};
 use qm_base::update::{Unordered, Update};
-use qm_base::{ByteString, Operation, Slot, Twin, ValueEncoding, Write};
+use qm_base::{ByteString, Operation, Slot, ValueEncoding, Write};
 use std::alloc::{AllocError, Global};
 use std::collections::BTreeMap;
 

@@ -24,7 +24,7 @@ ghost use Rattle.qm_step.specs.Views.{change_view};
 
 use crate::read::{newest, read_item, twin_update, update_in};
 use qm_base::update::Update;
-use qm_base::{ByteString, Error, Hasher, JournalError, Location, Operation, Twin};
+use qm_base::{ByteString, Error, Hasher, JournalError, Location, Operation};
 use qm_bits::Candidates;
 use qm_chain::{Action, DiffEntry, Entry, Limits, Policy, Walk};
 use qm_merkle::Family;

@@ -15,7 +15,7 @@ use crate::engine::{Basis, Batching};
 use crate::session::{Of, Turn, turn_of};
 use crate::table::{Slot, merkleized_at, push_slot, put_slot, take_writing};
 use crate::turns::lasting::no_database;
-use qm_base::{Error, JournalError, Twin};
+use qm_base::{ByteString, Error, JournalError, Twin};
 use qm_chain::Policy;
 use qm_lines::{Refused, Reply};
 use qm_store::{Given, Store};

@@ -10,7 +10,7 @@ ghost use Rattle.qm_engine.specs.Session.{SlotIs, Answers, Obeys, Tells, Uses};
 use crate::engine::{Basis, BatchSizes, Numbers, Reading};
 use crate::session::{Of, Turn, turn_of};
 use crate::table::{Slot, merkleized_at, slot_at};
-use qm_base::{ByteString, Twin};
+use qm_base::ByteString;
 use qm_lines::{Refused, Reply};
 use qm_store::{Given, Store};
 use std::alloc::{AllocError, Global};

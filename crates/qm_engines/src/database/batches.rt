@@ -1,8 +1,7 @@
 // Batches: begun, written, made and applied.
 use crate::database::{Database, Kind, refusal};
-use crate::listed::twin_option;
 use qm_any::batch::MerkleizedBatch;
-use qm_base::{ByteKey, ByteValue, Error, Location};
+use qm_base::{ByteKey, ByteValue, Error, Location, twin_option};
 use qm_chain::Policy;
 use qm_engine::Batching;
 use qm_index::{Factory, FourCap};

@@ -1,7 +1,7 @@
 // Staged batches.
 use crate::database::{Database, Kind};
-use crate::listed::{twin_keys, twin_option};
-use qm_base::{ByteKey, ByteValue, Error, Location};
+use crate::listed::twin_keys;
+use qm_base::{ByteKey, ByteValue, Error, Location, twin_option};
 use qm_chain::Policy;
 use qm_engine::Staging;
 use qm_index::{Factory, FourCap};
