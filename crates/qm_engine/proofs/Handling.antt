@@ -11,17 +11,13 @@ use Rattle.qm_engine.specs.declared.session.Session.{Session}
 use Rattle.qm_engine.specs.declared.session.Turn.{Turn}
 use Rattle.qm_engine.specs.declared.session.Turn.TheVariants.{Reply, Memory, StoreFault}
 use Rattle.qm_engine.specs.Stores.{IsBeside}
-use Rattle.qm_engine.specs.Session.{Obeys, ObeysSteady, Leaves, LeavesSteady, IfReply, Uses, Handles, HandlesLine, IsChosen, Performs}
+use Rattle.qm_engine.specs.Session.{Obeys, ObeysSteady, IfReply, Uses, Handles, HandlesLine, IsChosen, Performs}
 use Rattle.qm_engine.proofs.Commands.{left_none, stored-same}
 
 -- it keeps what the machine does
 pub obeys_steady : {X C B S M K V D : Type 0} (members : stores.Ghosts C) (means : words.Ghosts X C B S M) (key : K → Bytes) (value : V → Bytes) (digest : D → Bytes) (old new : Session X C B S M) (turn : Turn K V D) (next : State → Answer × State)
     → Obeys members means key value digest old new turn next → ObeysSteady members means key value digest old new turn next
 obeys_steady members means key value digest old new turn next obeys = λ s k sound more rest told choices. obeys s k
-
-pub leaves_steady : {X C B S M : Type 0} (members : stores.Ghosts C) (means : words.Ghosts X C B S M) (old new : Session X C B S M) (next : State → Answer × State)
-    → Leaves members means old new next → LeavesSteady members means old new next
-leaves_steady members means old new next leaves = λ s k sound apart. leaves s k apart
 
 -- and what stands beside the items
 pub beside-items : (o new : Option Stored) → beside_items new ≡ beside_items o → Turns o new (IsBeside [])

@@ -61,17 +61,12 @@ IfReply Memory P = Unit {0}
 IfReply StoreFault P = Unit {0}
 
 module _ {X C B S M : Type 0} (members : store.Ghosts C) (means : words.Ghosts X C B S M) where
-  -- However a command ends, the store has what may be left of it.
-  abbrev pub Leaves : Session X C B S M → Session X C B S M → (State → Answer × State) → Type 0
-  Leaves old new next =
-      (s : State) → Stands members means old s → Apart means.scheme.root s.had → IsLeft means.scheme (members.told (store_given means.inside new.held)) s.log ((next s).1).log
-
-  -- The same of a command before which the run was steady.
+  -- However a command ends before which the run was steady, the store has what may be left of it.
   abbrev pub LeavesSteady : Session X C B S M → Session X C B S M → (State → Answer × State) → Type 0
   LeavesSteady old new next =
       (s : State) → Stands members means old s → IsSteady means.scheme s → Apart means.scheme.root s.had → IsLeft means.scheme (members.told (store_given means.inside new.held)) s.log ((next s).1).log
 
-  -- The same of a command that takes what is held and no more, with these batches and this count of openings.
+  -- The same of a command that takes what is held and no more, with these batches and this count of openings, steady or not.
   abbrev pub LeavesHeld : List (Slot B S M) → ℕ → Given X C → Given X C → (State → Answer × State) → Type 0
   LeavesHeld table opened old new next =
       (s : State) → Holds members means old table opened s → Apart means.scheme.root s.had → IsLeft means.scheme (members.told (store_given means.inside new)) s.log ((next s).1).log

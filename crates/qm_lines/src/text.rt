@@ -370,10 +370,7 @@ fn write_keys<K: ByteString>(out: &mut String, keys: &[K]) -> Result<(), AllocEr
     Ok(())
 }
 
-fn write_metadata<V: ByteString>(
-    out: &mut String,
-    metadata: &Option<V>,
-) -> Result<(), AllocError>
+fn write_metadata<V: ByteString>(out: &mut String, metadata: &Option<V>) -> Result<(), AllocError>
     ensures { Adds out.old out.new result (texts.reply_line (lines.Metadata (option_map V.bytes metadata.now))) }
 {
     out.push_str("meta ")?;
