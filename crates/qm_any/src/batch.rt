@@ -16,7 +16,8 @@ ghost use Rattle.qm_proofs.specs.Proofs.{proof_view, first_lacked, needed_positi
 ghost use Rattle.qm_chain.specs.Bounds.{commitment_view, is_at, knows};
 ghost use Rattle.qm_step.specs.Bases.{IsBase, base_view};
 ghost use Rattle.qm_step.specs.Kinds.{HasRing};
-ghost use Rattle.qm_batch.specs.Lent.{IsReadError, NoneBelow};
+ghost use Rattle.qm_batch.specs.Logs.{IsReadError};
+ghost use Rattle.qm_batch.specs.Lent.{NoneBelow};
 ghost use Rattle.qm_step.specs.Views.{changes_view, keys_of, wanted_view, AreReads, IsPlan, stepped, left_after};
 ghost use Rattle.qm_any.specs.Databases.{AreAgreed, IsDatabase, IsBegun, IsMade, IsLeft, base_of, bases, child_boundary, child_made, child_tips, is_on, kept_by, operations_in, unapplied};
 ghost use Rattle.qm_store.specs.Log.{IsLacked};

@@ -14,17 +14,16 @@ ghost use Rattle.qm_step.specs.Views.{read_view};
 mod left;
 mod lent;
 
+use crate::items::Items;
 use self::left::{left_before, update_left};
 use self::lent::last_lent;
 use crate::kind::Steps;
 use crate::read::{newest, update_from};
 use qm_base::update::Update;
-use qm_base::{ByteString, Error, Hasher, JournalError, Location};
-use qm_merkle::Family;
+use qm_base::{ByteString, Error, JournalError, Location};
 use qm_step::Layer;
 use qm_step::found::{key_under, next_above};
 use qm_step::order::is_between;
-use qm_store::{AuthLog, Store};
 use std::alloc::{AllocError, Global};
 use std::ops::Bound;
 use std::rc::Rc;
@@ -33,24 +32,23 @@ use std::rc::Rc;
 /// key is live. Index and log are lent for the base list or a list on the way to it. It takes the reads of two buckets at
 /// most.
 pub fn previous<
-    F: Family,
+    F,
     I: qm_index::Unordered<Value = Location<F>>,
-    C: Store,
-    H: Hasher + Drop,
+    L: Items,
     U: Steps<F, I>,
 >(
     alloc: Global,
     index: &I,
-    log: &mut AuthLog<F, C, H>,
+    log: &mut L,
     layers: &[Rc<Layer<F, U>>],
     key: &U::Key,
 ) -> Result<Option<(Location<F>, U)>, Error>
     requires { U.form.ordered ≡ true }
-    ensures value { (lent base : List model.Operation) → IsLent C.Store F.shape H.Digest.bytes H.hash U.form I.index_key (I.entries index.now) log.old lent → LeadOver (map (λ l. l.value) layers.now) lent base
-        → IsRing lent → IsRing base → IfSome (C.told log.old.store) (λ _. IfOk result (λ found. option_map (read_view U.view) found ≡ previous_of base (U.Key.bytes key.now))) }
-    ensures read { IsRead C.Store F.shape H.Digest.bytes H.hash log.old log.new }
-    ensures error { IfErr result (IsReadError C.Store log.old log.new) }
-    ensures whole { (lent : List model.Operation) → IsLent C.Store F.shape H.Digest.bytes H.hash U.form I.index_key (I.entries index.now) log.old lent → NoneBelow log.old.tree.start lent
+    ensures value { (lent base : List model.Operation) → IsLent L.reads U.form I.index_key (I.entries index.now) log.old lent → LeadOver (map (λ l. l.value) layers.now) lent base
+        → IsRing lent → IsRing base → IfSome (L.reads.told log.old) (λ _. IfOk result (λ found. option_map (read_view U.view) found ≡ previous_of base (U.Key.bytes key.now))) }
+    ensures read { IsRead L.reads log.old log.new }
+    ensures error { IfErr result (IsReadError L.reads log.old log.new) }
+    ensures whole { (lent : List model.Operation) → IsLent L.reads U.form I.index_key (I.entries index.now) log.old lent → NoneBelow (L.reads.start log.old) lent
         → IfErr result (λ e. (n : ℕ) → e ≢ Error.Journal (JournalError.ItemPruned n)) }
 {
     let lent = last_lent(
@@ -66,24 +64,23 @@ pub fn previous<
 /// The live update of the base list whose span holds the key, with its location: the key's own, or else the one before it,
 /// around the ring; none where no key is live.
 pub fn holder<
-    F: Family,
+    F,
     I: qm_index::Unordered<Value = Location<F>>,
-    C: Store,
-    H: Hasher + Drop,
+    L: Items,
     U: Steps<F, I>,
 >(
     alloc: Global,
     index: &I,
-    log: &mut AuthLog<F, C, H>,
+    log: &mut L,
     layers: &[Rc<Layer<F, U>>],
     key: &U::Key,
 ) -> Result<Option<(Location<F>, U)>, Error>
     requires { U.form.ordered ≡ true }
-    ensures value { (lent base : List model.Operation) → IsLent C.Store F.shape H.Digest.bytes H.hash U.form I.index_key (I.entries index.now) log.old lent → LeadOver (map (λ l. l.value) layers.now) lent base
-        → IsRing lent → IsRing base → IfSome (C.told log.old.store) (λ _. IfOk result (λ found. option_map (read_view U.view) found ≡ holder_of base (U.Key.bytes key.now))) }
-    ensures read { IsRead C.Store F.shape H.Digest.bytes H.hash log.old log.new }
-    ensures error { IfErr result (IsReadError C.Store log.old log.new) }
-    ensures whole { (lent : List model.Operation) → IsLent C.Store F.shape H.Digest.bytes H.hash U.form I.index_key (I.entries index.now) log.old lent → NoneBelow log.old.tree.start lent
+    ensures value { (lent base : List model.Operation) → IsLent L.reads U.form I.index_key (I.entries index.now) log.old lent → LeadOver (map (λ l. l.value) layers.now) lent base
+        → IsRing lent → IsRing base → IfSome (L.reads.told log.old) (λ _. IfOk result (λ found. option_map (read_view U.view) found ≡ holder_of base (U.Key.bytes key.now))) }
+    ensures read { IsRead L.reads log.old log.new }
+    ensures error { IfErr result (IsReadError L.reads log.old log.new) }
+    ensures whole { (lent : List model.Operation) → IsLent L.reads U.form I.index_key (I.entries index.now) log.old lent → NoneBelow (L.reads.start log.old) lent
         → IfErr result (λ e. (n : ℕ) → e ≢ Error.Journal (JournalError.ItemPruned n)) }
 {
     match newest(layers, key.as_bytes()) {
@@ -106,24 +103,23 @@ pub fn holder<
 
 /// The nearest live key above this one in the base list, which does not go round.
 pub fn next_key<
-    F: Family,
+    F,
     I: qm_index::Unordered<Value = Location<F>>,
-    C: Store,
-    H: Hasher + Drop,
+    L: Items,
     U: Steps<F, I>,
 >(
     alloc: Global,
     index: &I,
-    log: &mut AuthLog<F, C, H>,
+    log: &mut L,
     layers: &[Rc<Layer<F, U>>],
     key: &U::Key,
 ) -> Result<Option<U::Key>, Error>
     requires { U.form.ordered ≡ true }
-    ensures value { (lent base : List model.Operation) → IsLent C.Store F.shape H.Digest.bytes H.hash U.form I.index_key (I.entries index.now) log.old lent → LeadOver (map (λ l. l.value) layers.now) lent base
-        → IsRing lent → IsRing base → IfSome (C.told log.old.store) (λ _. IfOk result (λ found. option_map U.Key.bytes found ≡ key_above (live_keys base) (U.Key.bytes key.now))) }
-    ensures read { IsRead C.Store F.shape H.Digest.bytes H.hash log.old log.new }
-    ensures error { IfErr result (IsReadError C.Store log.old log.new) }
-    ensures whole { (lent : List model.Operation) → IsLent C.Store F.shape H.Digest.bytes H.hash U.form I.index_key (I.entries index.now) log.old lent → NoneBelow log.old.tree.start lent
+    ensures value { (lent base : List model.Operation) → IsLent L.reads U.form I.index_key (I.entries index.now) log.old lent → LeadOver (map (λ l. l.value) layers.now) lent base
+        → IsRing lent → IsRing base → IfSome (L.reads.told log.old) (λ _. IfOk result (λ found. option_map U.Key.bytes found ≡ key_above (live_keys base) (U.Key.bytes key.now))) }
+    ensures read { IsRead L.reads log.old log.new }
+    ensures error { IfErr result (IsReadError L.reads log.old log.new) }
+    ensures whole { (lent : List model.Operation) → IsLent L.reads U.form I.index_key (I.entries index.now) log.old lent → NoneBelow (L.reads.start log.old) lent
         → IfErr result (λ e. (n : ℕ) → e ≢ Error.Journal (JournalError.ItemPruned n)) }
 {
     let found = holder(alloc, index, log, layers, key)?;
@@ -132,24 +128,23 @@ pub fn next_key<
 
 /// The nearest live key below this one in the base list, which does not go round.
 pub fn previous_key<
-    F: Family,
+    F,
     I: qm_index::Unordered<Value = Location<F>>,
-    C: Store,
-    H: Hasher + Drop,
+    L: Items,
     U: Steps<F, I>,
 >(
     alloc: Global,
     index: &I,
-    log: &mut AuthLog<F, C, H>,
+    log: &mut L,
     layers: &[Rc<Layer<F, U>>],
     key: &U::Key,
 ) -> Result<Option<U::Key>, Error>
     requires { U.form.ordered ≡ true }
-    ensures value { (lent base : List model.Operation) → IsLent C.Store F.shape H.Digest.bytes H.hash U.form I.index_key (I.entries index.now) log.old lent → LeadOver (map (λ l. l.value) layers.now) lent base
-        → IsRing lent → IsRing base → IfSome (C.told log.old.store) (λ _. IfOk result (λ found. option_map U.Key.bytes found ≡ key_below (live_keys base) (U.Key.bytes key.now))) }
-    ensures read { IsRead C.Store F.shape H.Digest.bytes H.hash log.old log.new }
-    ensures error { IfErr result (IsReadError C.Store log.old log.new) }
-    ensures whole { (lent : List model.Operation) → IsLent C.Store F.shape H.Digest.bytes H.hash U.form I.index_key (I.entries index.now) log.old lent → NoneBelow log.old.tree.start lent
+    ensures value { (lent base : List model.Operation) → IsLent L.reads U.form I.index_key (I.entries index.now) log.old lent → LeadOver (map (λ l. l.value) layers.now) lent base
+        → IsRing lent → IsRing base → IfSome (L.reads.told log.old) (λ _. IfOk result (λ found. option_map U.Key.bytes found ≡ key_below (live_keys base) (U.Key.bytes key.now))) }
+    ensures read { IsRead L.reads log.old log.new }
+    ensures error { IfErr result (IsReadError L.reads log.old log.new) }
+    ensures whole { (lent : List model.Operation) → IsLent L.reads U.form I.index_key (I.entries index.now) log.old lent → NoneBelow (L.reads.start log.old) lent
         → IfErr result (λ e. (n : ℕ) → e ≢ Error.Journal (JournalError.ItemPruned n)) }
 {
     let found = previous(alloc, index, log, layers, key)?;

@@ -24,20 +24,19 @@ mod over;
 mod sites;
 mod walk;
 
+use crate::items::Items;
 use self::over::{moved_over, written_over};
 use self::walk::{Path, Walked, walk_from};
 use crate::kind::Steps;
 use qm_base::update::Update;
-use qm_base::{Error, Hasher, JournalError, Location, Operation, Write};
+use qm_base::{Error, JournalError, Location, Operation, Write};
 use qm_bits::Candidates;
 use qm_chain::{Diff, Policy};
-use qm_merkle::Family;
 use qm_step::decided::evicted;
 use qm_step::diff::diff_of_touches;
 use qm_step::touch::{Touch, replaced_by};
 use qm_step::writes::last_writes;
 use qm_step::{Base, Wanted};
-use qm_store::{AuthLog, Store};
 use std::alloc::{AllocError, Global};
 use std::marker::Model;
 
@@ -119,32 +118,31 @@ fn made_inactive<F, U: Update>(touches: &[Touch<F, U>], live: u64, behind: u64) 
 // The own operations of a step whose walk went along a path: those of the writes, and what was decided, with so many keys
 // live behind the writes.
 fn own_of<
-    F: Family,
+    F,
     I: qm_index::Unordered<Value = Location<F>>,
-    C: Store,
-    H: Hasher + Drop,
+    L: Items,
     U: Steps<F, I>,
 >(
     alloc: Global,
     path: Path<'_, '_, F, I, U>,
-    log: &mut AuthLog<F, C, H>,
+    log: &mut L,
     walked: Walked<U::Key, U::Value>,
     behind: u64,
 ) -> Result<Own<F, U>, Error>
     requires { path.base.size ≤ 2 ^ 62 }
-    ensures touches { (lent list : List model.Operation) (ws : List writes.Write) → IsLent C.Store F.shape H.Digest.bytes H.hash U.form I.index_key (I.entries path.entry.index.now) log.old lent
+    ensures touches { (lent list : List model.Operation) (ws : List writes.Write) → IsLent L.reads U.form I.index_key (I.entries path.entry.index.now) log.old lent
         → IsPath (path_view U.view U.Key.bytes U.Value.bytes path.entry) lent list (list ++ (kind_of U.form).writes list ws) → HasRing U.form lent → HasRing U.form list
         → All (IsDecided list (list ++ (kind_of U.form).writes list ws)) (decided_views U.Key.bytes U.Value.bytes walked.decided.items)
         → IsDistinct bytes_eq (map (λ d. d.key) (map write_for (decided_views U.Key.bytes U.Value.bytes walked.decided.items)))
-        → IfSome (C.told log.old.store) (λ _. IfOk result (λ own. touch_views U.view U.Key.bytes U.Value.bytes own.touches.items ≡ touch_views U.view U.Key.bytes U.Value.bytes path.entry.made.items
+        → IfSome (L.reads.told log.old) (λ _. IfOk result (λ own. touch_views U.view U.Key.bytes U.Value.bytes own.touches.items ≡ touch_views U.view U.Key.bytes U.Value.bytes path.entry.made.items
         ++ map (touch_in list) ((kind_of U.form).moves (list ++ (kind_of U.form).writes list ws) (map write_for (decided_views U.Key.bytes U.Value.bytes walked.decided.items))))) }
     ensures moves { IfOk result (λ _. CountsMoves (kind_of U.form).moves) }
     ensures live { IfOk result (λ own. own.live ≡ behind - count_by (λ d. is_none d.value) walked.decided.items) }
     ensures floor { IfOk result (λ own. own.floor ≡ walked.floor) }
     ensures count { IfOk result (λ own. length path.entry.made.items ≤ length own.touches.items) }
-    ensures read { IsRead C.Store F.shape H.Digest.bytes H.hash log.old log.new }
-    ensures error { IfErr result (IsReadError C.Store log.old log.new) }
-    ensures whole { (lent : List model.Operation) → IsLent C.Store F.shape H.Digest.bytes H.hash U.form I.index_key (I.entries path.entry.index.now) log.old lent → NoneBelow log.old.tree.start lent
+    ensures read { IsRead L.reads log.old log.new }
+    ensures error { IfErr result (IsReadError L.reads log.old log.new) }
+    ensures whole { (lent : List model.Operation) → IsLent L.reads U.form I.index_key (I.entries path.entry.index.now) log.old lent → NoneBelow (L.reads.start log.old) lent
         → IfErr result (λ e. (n : ℕ) → e ≢ Error.Journal (JournalError.ItemPruned n)) }
 {
     let live = behind.saturating_sub(evicted(&walked.decided) as u64);
@@ -164,30 +162,29 @@ fn own_of<
 
 // The own operations of a step whose walk goes along a path: those of the writes, and what the policy decides.
 fn own_along<
-    F: Family,
+    F,
     I: qm_index::Unordered<Value = Location<F>>,
     B: Candidates<F>,
-    C: Store,
-    H: Hasher + Drop,
+    L: Items,
     U: Steps<F, I>,
     P: Policy<F, U::Key, U::Value>,
 >(
     alloc: Global,
     activity: &B,
     path: Path<'_, '_, F, I, U>,
-    log: &mut AuthLog<F, C, H>,
+    log: &mut L,
     policy: &mut P,
 ) -> Result<Own<F, U>, Error>
     requires size { path.base.size ≤ 2 ^ 62 }
     requires live { path.base.live ≤ path.base.size }
-    ensures own { (lent list : List model.Operation) (ws : List writes.Write) → IsLent C.Store F.shape H.Digest.bytes H.hash U.form I.index_key (I.entries path.entry.index.now) log.old lent → B.activity activity.now ≡ bits lent
+    ensures own { (lent list : List model.Operation) (ws : List writes.Write) → IsLent L.reads U.form I.index_key (I.entries path.entry.index.now) log.old lent → B.activity activity.now ≡ bits lent
         → IsPath (path_view U.view U.Key.bytes U.Value.bytes path.entry) lent list (list ++ (kind_of U.form).writes list ws) → HasRing U.form lent → HasRing U.form list
-        → IfSome (C.told log.old.store) (λ _. IfOk result (λ own. AreOwn (kind_of U.form) P.rules policy.old policy.new (touch_views U.view U.Key.bytes U.Value.bytes own.touches.items) own.live own.floor list ws)) }
+        → IfSome (L.reads.told log.old) (λ _. IfOk result (λ own. AreOwn (kind_of U.form) P.rules policy.old policy.new (touch_views U.view U.Key.bytes U.Value.bytes own.touches.items) own.live own.floor list ws)) }
     ensures count { IfOk result (λ own. own.live ≤ path.entry.base.size + length own.touches.items) }
-    ensures read { IsRead C.Store F.shape H.Digest.bytes H.hash log.old log.new }
-    ensures error { IfErr result (IsReadError C.Store log.old log.new) }
-    ensures whole { (lent : List model.Operation) → IsLent C.Store F.shape H.Digest.bytes H.hash U.form I.index_key (I.entries path.entry.index.now) log.old lent → NoneBelow log.old.tree.start lent
-        → log.old.tree.start ≤ path.entry.base.floor → IfErr result (λ e. (n : ℕ) → e ≢ Error.Journal (JournalError.ItemPruned n)) }
+    ensures read { IsRead L.reads log.old log.new }
+    ensures error { IfErr result (IsReadError L.reads log.old log.new) }
+    ensures whole { (lent : List model.Operation) → IsLent L.reads U.form I.index_key (I.entries path.entry.index.now) log.old lent → NoneBelow (L.reads.start log.old) lent
+        → (L.reads.start log.old) ≤ path.entry.base.floor → IfErr result (λ e. (n : ℕ) → e ≢ Error.Journal (JournalError.ItemPruned n)) }
 {
     let behind = live_behind(&path.made, path.base.live);
     let limits = policy.limits(made_inactive(&path.made, path.base.live, behind));
@@ -198,32 +195,31 @@ fn own_along<
 
 // The own operations of a step, found over its base list: those of the writes, and what the policy decides.
 fn own_operations<
-    F: Family,
+    F,
     I: qm_index::Unordered<Value = Location<F>>,
     B: Candidates<F>,
-    C: Store,
-    H: Hasher + Drop,
+    L: Items,
     U: Steps<F, I>,
     P: Policy<F, U::Key, U::Value>,
 >(
     alloc: Global,
     index: &I,
     candidates: &B,
-    log: &mut AuthLog<F, C, H>,
+    log: &mut L,
     base: &Base<'_, F, U>,
     wanted: &Wanted<'_, F, U>,
     policy: &mut P,
 ) -> Result<Own<F, U>, Error>
     requires size { base.now.size ≤ 2 ^ 62 }
     requires live { base.now.live ≤ base.now.size }
-    ensures own { (lent list : List model.Operation) → IsLent C.Store F.shape H.Digest.bytes H.hash U.form I.index_key (I.entries index.now) log.old lent → B.activity candidates.now ≡ bits lent → IsBase (base_view base.now) lent list → HasRing U.form lent → HasRing U.form list
+    ensures own { (lent list : List model.Operation) → IsLent L.reads U.form I.index_key (I.entries index.now) log.old lent → B.activity candidates.now ≡ bits lent → IsBase (base_view base.now) lent list → HasRing U.form lent → HasRing U.form list
         → AreReads U.view U.Key.bytes wanted.now.reads.now list
-        → IfSome (C.told log.old.store) (λ _. IfOk result (λ own. AreOwn (kind_of U.form) P.rules policy.old policy.new (touch_views U.view U.Key.bytes U.Value.bytes own.touches.items) own.live own.floor list (wanted_view U.Key.bytes U.Value.bytes wanted.now))) }
+        → IfSome (L.reads.told log.old) (λ _. IfOk result (λ own. AreOwn (kind_of U.form) P.rules policy.old policy.new (touch_views U.view U.Key.bytes U.Value.bytes own.touches.items) own.live own.floor list (wanted_view U.Key.bytes U.Value.bytes wanted.now))) }
     ensures count { IfOk result (λ own. own.live ≤ base.now.size + length own.touches.items) }
-    ensures read { IsRead C.Store F.shape H.Digest.bytes H.hash log.old log.new }
-    ensures error { IfErr result (IsReadError C.Store log.old log.new) }
-    ensures whole { (lent : List model.Operation) → IsLent C.Store F.shape H.Digest.bytes H.hash U.form I.index_key (I.entries index.now) log.old lent → NoneBelow log.old.tree.start lent
-        → log.old.tree.start ≤ base.now.floor → IfErr result (λ e. (n : ℕ) → e ≢ Error.Journal (JournalError.ItemPruned n)) }
+    ensures read { IsRead L.reads log.old log.new }
+    ensures error { IfErr result (IsReadError L.reads log.old log.new) }
+    ensures whole { (lent : List model.Operation) → IsLent L.reads U.form I.index_key (I.entries index.now) log.old lent → NoneBelow (L.reads.start log.old) lent
+        → (L.reads.start log.old) ≤ base.now.floor → IfErr result (λ e. (n : ℕ) → e ≢ Error.Journal (JournalError.ItemPruned n)) }
 {
     let last = last_writes(alloc, wanted)?;
     let made = written_over(alloc, index, log, base.layers, wanted.reads, &last)?;
@@ -291,18 +287,17 @@ fn planned<F, U: Update>(
 /// Where this is refused the policy may have moved on.
 #[allow(clippy::too_many_arguments)]
 pub fn plain<
-    F: Family,
+    F,
     I: qm_index::Unordered<Value = Location<F>>,
     B: Candidates<F>,
-    C: Store,
-    H: Hasher + Drop,
+    L: Items,
     U: Steps<F, I>,
     P: Policy<F, U::Key, U::Value>,
 >(
     alloc: Global,
     index: &I,
     candidates: &B,
-    log: &mut AuthLog<F, C, H>,
+    log: &mut L,
     base: &Base<'_, F, U>,
     writes: &[Write<U::Key, U::Value>],
     metadata: Option<U::Value>,
@@ -310,15 +305,15 @@ pub fn plain<
 ) -> Result<Plan<F, U>, Error>
     requires size { base.now.size ≤ 2 ^ 62 }
     requires live { base.now.live ≤ base.now.size }
-    ensures plan { (lent list : List model.Operation) → IsLent C.Store F.shape H.Digest.bytes H.hash U.form I.index_key (I.entries index.now) log.old lent → B.activity candidates.now ≡ bits lent → IsBase (base_view base.now) lent list → HasRing U.form lent → HasRing U.form list
-        → IfSome (C.told log.old.store) (λ _. IfOk result (λ plan. IsPlan plan list (step (kind_of U.form) P.rules list (map (write_view U.Key.bytes U.Value.bytes) writes.now) policy.old (option_map U.Value.bytes metadata)))) }
-    ensures next { (lent list : List model.Operation) → IsLent C.Store F.shape H.Digest.bytes H.hash U.form I.index_key (I.entries index.now) log.old lent → B.activity candidates.now ≡ bits lent → IsBase (base_view base.now) lent list → HasRing U.form lent → HasRing U.form list
-        → IfSome (C.told log.old.store) (λ _. IfOk result (λ _. policy.new ≡ policy_after (kind_of U.form) P.rules list (map (write_view U.Key.bytes U.Value.bytes) writes.now) policy.old)) }
+    ensures plan { (lent list : List model.Operation) → IsLent L.reads U.form I.index_key (I.entries index.now) log.old lent → B.activity candidates.now ≡ bits lent → IsBase (base_view base.now) lent list → HasRing U.form lent → HasRing U.form list
+        → IfSome (L.reads.told log.old) (λ _. IfOk result (λ plan. IsPlan plan list (step (kind_of U.form) P.rules list (map (write_view U.Key.bytes U.Value.bytes) writes.now) policy.old (option_map U.Value.bytes metadata)))) }
+    ensures next { (lent list : List model.Operation) → IsLent L.reads U.form I.index_key (I.entries index.now) log.old lent → B.activity candidates.now ≡ bits lent → IsBase (base_view base.now) lent list → HasRing U.form lent → HasRing U.form list
+        → IfSome (L.reads.told log.old) (λ _. IfOk result (λ _. policy.new ≡ policy_after (kind_of U.form) P.rules list (map (write_view U.Key.bytes U.Value.bytes) writes.now) policy.old)) }
     ensures live { IfOk result (λ plan. plan.live ≤ base.now.size + length plan.operations) }
-    ensures read { IsRead C.Store F.shape H.Digest.bytes H.hash log.old log.new }
-    ensures error { IfErr result (IsReadError C.Store log.old log.new) }
-    ensures whole { (lent : List model.Operation) → IsLent C.Store F.shape H.Digest.bytes H.hash U.form I.index_key (I.entries index.now) log.old lent → NoneBelow log.old.tree.start lent
-        → log.old.tree.start ≤ base.now.floor → IfErr result (λ e. (n : ℕ) → e ≢ Error.Journal (JournalError.ItemPruned n)) }
+    ensures read { IsRead L.reads log.old log.new }
+    ensures error { IfErr result (IsReadError L.reads log.old log.new) }
+    ensures whole { (lent : List model.Operation) → IsLent L.reads U.form I.index_key (I.entries index.now) log.old lent → NoneBelow (L.reads.start log.old) lent
+        → (L.reads.start log.old) ≤ base.now.floor → IfErr result (λ e. (n : ℕ) → e ≢ Error.Journal (JournalError.ItemPruned n)) }
 {
     let wanted = Wanted {
         writes,
@@ -335,18 +330,17 @@ pub fn plain<
 /// read are not looked up again: neither index nor log is asked for them.
 #[allow(clippy::too_many_arguments)]
 pub fn staged<
-    F: Family,
+    F,
     I: qm_index::Unordered<Value = Location<F>>,
     B: Candidates<F>,
-    C: Store,
-    H: Hasher + Drop,
+    L: Items,
     U: Steps<F, I>,
     P: Policy<F, U::Key, U::Value>,
 >(
     alloc: Global,
     index: &I,
     candidates: &B,
-    log: &mut AuthLog<F, C, H>,
+    log: &mut L,
     base: &Base<'_, F, U>,
     wanted: Wanted<'_, F, U>,
     metadata: Option<U::Value>,
@@ -355,17 +349,17 @@ pub fn staged<
     requires size { base.now.size ≤ 2 ^ 62 }
     requires live { base.now.live ≤ base.now.size }
     requires slots { length wanted.slots.now ≡ length wanted.reads.now }
-    ensures plan { (lent list : List model.Operation) → IsLent C.Store F.shape H.Digest.bytes H.hash U.form I.index_key (I.entries index.now) log.old lent → B.activity candidates.now ≡ bits lent → IsBase (base_view base.now) lent list → HasRing U.form lent → HasRing U.form list
+    ensures plan { (lent list : List model.Operation) → IsLent L.reads U.form I.index_key (I.entries index.now) log.old lent → B.activity candidates.now ≡ bits lent → IsBase (base_view base.now) lent list → HasRing U.form lent → HasRing U.form list
         → AreReads U.view U.Key.bytes wanted.entry.reads.now list
-        → IfSome (C.told log.old.store) (λ _. IfOk result (λ plan. IsPlan plan list (step (kind_of U.form) P.rules list (wanted_view U.Key.bytes U.Value.bytes wanted.entry) policy.old (option_map U.Value.bytes metadata)))) }
-    ensures next { (lent list : List model.Operation) → IsLent C.Store F.shape H.Digest.bytes H.hash U.form I.index_key (I.entries index.now) log.old lent → B.activity candidates.now ≡ bits lent → IsBase (base_view base.now) lent list → HasRing U.form lent → HasRing U.form list
+        → IfSome (L.reads.told log.old) (λ _. IfOk result (λ plan. IsPlan plan list (step (kind_of U.form) P.rules list (wanted_view U.Key.bytes U.Value.bytes wanted.entry) policy.old (option_map U.Value.bytes metadata)))) }
+    ensures next { (lent list : List model.Operation) → IsLent L.reads U.form I.index_key (I.entries index.now) log.old lent → B.activity candidates.now ≡ bits lent → IsBase (base_view base.now) lent list → HasRing U.form lent → HasRing U.form list
         → AreReads U.view U.Key.bytes wanted.entry.reads.now list
-        → IfSome (C.told log.old.store) (λ _. IfOk result (λ _. policy.new ≡ policy_after (kind_of U.form) P.rules list (wanted_view U.Key.bytes U.Value.bytes wanted.entry) policy.old)) }
+        → IfSome (L.reads.told log.old) (λ _. IfOk result (λ _. policy.new ≡ policy_after (kind_of U.form) P.rules list (wanted_view U.Key.bytes U.Value.bytes wanted.entry) policy.old)) }
     ensures live { IfOk result (λ plan. plan.live ≤ base.now.size + length plan.operations) }
-    ensures read { IsRead C.Store F.shape H.Digest.bytes H.hash log.old log.new }
-    ensures error { IfErr result (IsReadError C.Store log.old log.new) }
-    ensures whole { (lent : List model.Operation) → IsLent C.Store F.shape H.Digest.bytes H.hash U.form I.index_key (I.entries index.now) log.old lent → NoneBelow log.old.tree.start lent
-        → log.old.tree.start ≤ base.now.floor → IfErr result (λ e. (n : ℕ) → e ≢ Error.Journal (JournalError.ItemPruned n)) }
+    ensures read { IsRead L.reads log.old log.new }
+    ensures error { IfErr result (IsReadError L.reads log.old log.new) }
+    ensures whole { (lent : List model.Operation) → IsLent L.reads U.form I.index_key (I.entries index.now) log.old lent → NoneBelow (L.reads.start log.old) lent
+        → (L.reads.start log.old) ≤ base.now.floor → IfErr result (λ e. (n : ℕ) → e ≢ Error.Journal (JournalError.ItemPruned n)) }
 {
     match own_operations(alloc, index, candidates, log, base, &wanted, policy) {
         Ok(own) => Ok(planned(alloc, base.size, own, metadata)?),

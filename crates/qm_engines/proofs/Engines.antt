@@ -14,7 +14,8 @@ use Rattle.qm_model.specs.Batches.{Commitment, Chain, boundary_list, IsOnChain, 
 use Rattle.qm_model.specs.Causes.{Rose}
 use Rattle.qm_store.specs.declared.Store as store
 use Rattle.qm_store.specs.Log.{Log}
-use Rattle.qm_batch.specs.Lent.{IsReadError, NoneBelow}
+use Rattle.qm_batch.specs.Logs.{IsReadError}
+use Rattle.qm_batch.specs.Lent.{NoneBelow}
 use Rattle.qm_model.specs.Refused.{Refused, Journal, ItemTooLarge, Merkle, LocationOverflow}
 use Rattle.qm_model.specs.Refusals.{tip_refusal, too_long, too_many}
 use Rattle.qm_model.specs.Roots.{sha256_root, sha256_proof, sha256_pins}
@@ -341,7 +342,7 @@ memory-exit r y is memory fault = let same : errors.Memory ≡ errors.Journal jo
 
 -- what reads left is what reads leave
 pub left-store : {C D : Type 0} (members : store.Ghosts C) (hash : Hashing D) (old new : Database C D) → IsLeft members hash old new → IsUnchanged members old.log.store new.log.store
-left-store members hash old new left = let kept = (left.read).kept in record { start = kept.start; told = kept.told }
+left-store members hash old new left = let kept = (left.read).keeps.kept in record { start = kept.start; told = kept.told }
 
 -- an engine's refusal gives back what the database's does
 same-engine : {C I U : Type 0} (y x : engine.Database C I U) (a b : Given (engine.Database C I U) C) → a ≡ given.Database y → b ≡ given.Database x → a ≡ b → y ≡ x

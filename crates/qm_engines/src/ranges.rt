@@ -3,7 +3,8 @@ ghost use Rattle.std.specs.Prelude.{◌≡◌, ◌≢◌, ◌≤◌, ℕ, true, 
 ghost use Rattle.qm_model.specs.Operations.{Operation};
 ghost use Rattle.qm_model.specs.Ranges.{keys_in, pairs_in};
 ghost use Rattle.qm_any.specs.Databases.{IsDatabase, IsLeft};
-ghost use Rattle.qm_batch.specs.Lent.{IsReadError, NoneBelow};
+ghost use Rattle.qm_batch.specs.Logs.{IsReadError};
+ghost use Rattle.qm_batch.specs.Lent.{NoneBelow};
 ghost use Rattle.qm_base.specs.Views.{limit_of, pair_view};
 ghost use Rattle.qm_scan.specs.Scans.{left_of};
 

@@ -5,7 +5,6 @@ ghost use Rattle.qm_base.specs.Views.{operation_view};
 ghost use Rattle.qm_model.specs.Forms.{IsOf, IsSpelling, spelling};
 ghost use Rattle.qm_model.specs.Operations as model;
 ghost use Rattle.qm_model.specs.Ranges as ranges;
-ghost use Rattle.qm_store.specs.Log.{IsLog};
 ghost use Rattle.qm_step.specs.Changes.{said_by, update_at};
 ghost use Rattle.qm_batch.specs.Lent.{IsRead, IsReadError};
 ghost use Rattle.qm_step.specs.Nearest.{limit_view};
@@ -13,10 +12,8 @@ ghost use Rattle.qm_base.specs.Views.{limit_of, pair_view};
 ghost use Rattle.qm_scan.specs.Gathered.{is_in, only_in, place_among, put_at, put_said};
 
 use qm_base::update::Update;
-use qm_base::{ByteString, Error, Hasher, JournalError, Location, Operation};
-use qm_batch::{is_before, is_below, read_item, update_in};
-use qm_merkle::Family;
-use qm_store::{AuthLog, Store};
+use qm_base::{ByteString, Error, JournalError, Location, Operation};
+use qm_batch::{Items, is_before, is_below, update_in};
 use std::alloc::{AllocError, Global};
 use std::ops::Bound;
 
@@ -50,18 +47,18 @@ pub(crate) fn bytes_of<K: ByteString>(limit: &Bound<K>) -> Bound<&[u8]>
 }
 
 /// Of the updates at these locations of the log's list those in a range, by key, each key with its value.
-pub(crate) fn pairs_at<F: Family, C: Store, H: Hasher + Drop, U: Update>(
+pub(crate) fn pairs_at<F, L: Items, U: Update>(
     alloc: Global,
-    log: &mut AuthLog<F, C, H>,
+    log: &mut L,
     locations: &[Location<F>],
     low: Bound<&[u8]>,
     high: Bound<&[u8]>,
 ) -> Result<Vec<(U::Key, U::Value)>, Error>
-    ensures value { (list : List model.Operation) → IsLog C.Store F.shape H.Digest.bytes H.hash log.old (map (spelling U.form) list) → All (IsOf U.form) list
-        → IfSome (C.told log.old.store) (λ _. IfOk result (λ pairs. map (pair_view U.Key.bytes U.Value.bytes) pairs.items ≡ fold (put_at (limit_view low.entry) (limit_view high.entry) list) [] locations.now)) }
-    ensures read { IsRead C.Store F.shape H.Digest.bytes H.hash log.old log.new }
-    ensures error { IfErr result (IsReadError C.Store log.old log.new) }
-    ensures pruned { All (λ at. log.old.tree.start ≤ at) locations.now → IfErr result (λ e. (n : ℕ) → e ≢ Error.Journal (JournalError.ItemPruned n)) }
+    ensures value { (list : List model.Operation) → L.reads.logged log.old (map (spelling U.form) list) → All (IsOf U.form) list
+        → IfSome (L.reads.told log.old) (λ _. IfOk result (λ pairs. map (pair_view U.Key.bytes U.Value.bytes) pairs.items ≡ fold (put_at (limit_view low.entry) (limit_view high.entry) list) [] locations.now)) }
+    ensures read { IsRead L.reads log.old log.new }
+    ensures error { IfErr result (IsReadError L.reads log.old log.new) }
+    ensures pruned { All (λ at. (L.reads.start log.old) ≤ at) locations.now → IfErr result (λ e. (n : ℕ) → e ≢ Error.Journal (JournalError.ItemPruned n)) }
 {
     let mut pairs = Vec::new(alloc);
     for location in locations {
@@ -99,20 +96,20 @@ fn place_among<K: ByteString, V: ByteString>(pairs: &[(K, V)], key: &[u8]) -> us
 }
 
 // The update at a location of the log's list, where its key is in a range. Another is read, and not copied.
-fn read_in<F: Family, C: Store, H: Hasher + Drop, U: Update>(
+fn read_in<L: Items, U: Update>(
     alloc: Global,
-    log: &mut AuthLog<F, C, H>,
+    log: &mut L,
     at: u64,
     low: Bound<&[u8]>,
     high: Bound<&[u8]>,
 ) -> Result<Option<U>, Error>
-    ensures value { (list : List model.Operation) → IsLog C.Store F.shape H.Digest.bytes H.hash log.old (map (spelling U.form) list) → All (IsOf U.form) list
-        → IfSome (C.told log.old.store) (λ _. IfOk result (λ update. option_map U.view update ≡ only_in (limit_view low.entry) (limit_view high.entry) (update_at list at))) }
-    ensures read { IsRead C.Store F.shape H.Digest.bytes H.hash log.old log.new }
-    ensures error { IfErr result (IsReadError C.Store log.old log.new) }
-    ensures pruned { log.old.tree.start ≤ at → IfErr result (λ e. (n : ℕ) → e ≢ Error.Journal (JournalError.ItemPruned n)) }
+    ensures value { (list : List model.Operation) → L.reads.logged log.old (map (spelling U.form) list) → All (IsOf U.form) list
+        → IfSome (L.reads.told log.old) (λ _. IfOk result (λ update. option_map U.view update ≡ only_in (limit_view low.entry) (limit_view high.entry) (update_at list at))) }
+    ensures read { IsRead L.reads log.old log.new }
+    ensures error { IfErr result (IsReadError L.reads log.old log.new) }
+    ensures pruned { (L.reads.start log.old) ≤ at → IfErr result (λ e. (n : ℕ) → e ≢ Error.Journal (JournalError.ItemPruned n)) }
 {
-    match read_item(log, at)? {
+    match log.read_item(at)? {
         Some(item) => Ok(said_in(alloc, &item, low, high)?),
         None => Ok(None),
     }

@@ -4,7 +4,6 @@ ghost use Rattle.std.specs.Prelude.{◌≡◌, ◌≢◌, ◌≤◌, true, ℕ, 
 ghost use Rattle.qm_model.specs.Forms.{IsOf, spelling};
 ghost use Rattle.qm_model.specs.Operations.{Operation};
 ghost use Rattle.qm_model.specs.Ranges.{Limit, unlimited};
-ghost use Rattle.qm_store.specs.Log.{IsLog};
 ghost use Rattle.qm_batch.specs.Lent.{IsLent, IsRead, IsReadError, NoneBelow};
 ghost use Rattle.qm_step.specs.Nearest.{limit_view};
 ghost use Rattle.qm_base.specs.Views.{limit_of, pair_view};
@@ -13,10 +12,9 @@ ghost use Rattle.qm_scan.specs.Scans.{AreNext, BeginsAt, IsStep, IsTaken, beginn
 
 use crate::gather::{bytes_of, pairs_at};
 use qm_base::update::Update;
-use qm_base::{ByteString, Error, Hasher, JournalError, Location};
+use qm_base::{ByteString, Error, JournalError, Location};
+use qm_batch::Items;
 use qm_batch::kind::Steps;
-use qm_merkle::Family;
-use qm_store::{AuthLog, Store};
 use std::alloc::{AllocError, Global};
 use std::collections::VecDeque;
 use std::marker::Model;
@@ -72,19 +70,19 @@ impl<U: Update> Scan<U> {
     /// The next key of the range and its value, or nothing where none is left. It reads only where nothing that was read is
     /// left: the next bucket, and behind a beginning whose own bucket has no key in the range the one behind that too. A
     /// refused read leaves all that was left, and the next call reads that bucket again.
-    pub fn next<F: Family, I: qm_index::Unordered<Value = Location<F>>, C: Store, H: Hasher + Drop>(
+    pub fn next<F, I: qm_index::Unordered<Value = Location<F>>, L: Items>(
         &mut self,
         alloc: Global,
         index: &I,
-        log: &mut AuthLog<F, C, H>,
+        log: &mut L,
     ) -> Option<Result<(U::Key, U::Value), Error>>
     where
         U: Steps<F, I>,
         requires { U.form.ordered ≡ true }
-        ensures value { (list : List Operation) → IsLent C.Store F.shape H.Digest.bytes H.hash U.form I.index_key (I.entries index.now) log.old list → IfSome (C.told log.old.store) (λ _. IsStep (pair_view U.Key.bytes U.Value.bytes) (left_of I.index_key self.old list) (left_of I.index_key self.new list) result) }
-        ensures read { IsRead C.Store F.shape H.Digest.bytes H.hash log.old log.new }
-        ensures error { IfSome result (λ r. IfErr r (IsReadError C.Store log.old log.new)) }
-        ensures whole { (list : List Operation) → IsLent C.Store F.shape H.Digest.bytes H.hash U.form I.index_key (I.entries index.now) log.old list → NoneBelow log.old.tree.start list
+        ensures value { (list : List Operation) → IsLent L.reads U.form I.index_key (I.entries index.now) log.old list → IfSome (L.reads.told log.old) (λ _. IsStep (pair_view U.Key.bytes U.Value.bytes) (left_of I.index_key self.old list) (left_of I.index_key self.new list) result) }
+        ensures read { IsRead L.reads log.old log.new }
+        ensures error { IfSome result (λ r. IfErr r (IsReadError L.reads log.old log.new)) }
+        ensures whole { (list : List Operation) → IsLent L.reads U.form I.index_key (I.entries index.now) log.old list → NoneBelow (L.reads.start log.old) list
             → IfSome result (λ r. IfErr r (λ e. (n : ℕ) → e ≢ Error.Journal (JournalError.ItemPruned n))) }
     {
         if let Some(pair) = self.take() {
@@ -101,25 +99,24 @@ impl<U: Update> Scan<U> {
 
     // The same for a scan that has begun and has nothing left that was read.
     fn next_behind<
-        F: Family,
+        F,
         I: qm_index::Unordered<Value = Location<F>>,
-        C: Store,
-        H: Hasher + Drop,
+        L: Items,
     >(
         &mut self,
         alloc: Global,
         index: &I,
-        log: &mut AuthLog<F, C, H>,
+        log: &mut L,
     ) -> Option<Result<(U::Key, U::Value), Error>>
     where
         U: Steps<F, I>,
         requires ordered { U.form.ordered ≡ true }
         requires begun { self.old.place ≢ beginning }
         requires empty { self.old.ready ≡ [] }
-        ensures value { (list : List Operation) → IsLent C.Store F.shape H.Digest.bytes H.hash U.form I.index_key (I.entries index.now) log.old list → IfSome (C.told log.old.store) (λ _. IsStep (pair_view U.Key.bytes U.Value.bytes) (left_of I.index_key self.old list) (left_of I.index_key self.new list) result) }
-        ensures read { IsRead C.Store F.shape H.Digest.bytes H.hash log.old log.new }
-        ensures error { IfSome result (λ r. IfErr r (IsReadError C.Store log.old log.new)) }
-        ensures whole { (list : List Operation) → IsLent C.Store F.shape H.Digest.bytes H.hash U.form I.index_key (I.entries index.now) log.old list → NoneBelow log.old.tree.start list
+        ensures value { (list : List Operation) → IsLent L.reads U.form I.index_key (I.entries index.now) log.old list → IfSome (L.reads.told log.old) (λ _. IsStep (pair_view U.Key.bytes U.Value.bytes) (left_of I.index_key self.old list) (left_of I.index_key self.new list) result) }
+        ensures read { IsRead L.reads log.old log.new }
+        ensures error { IfSome result (λ r. IfErr r (IsReadError L.reads log.old log.new)) }
+        ensures whole { (list : List Operation) → IsLent L.reads U.form I.index_key (I.entries index.now) log.old list → NoneBelow (L.reads.start log.old) list
             → IfSome result (λ r. IfErr r (λ e. (n : ℕ) → e ≢ Error.Journal (JournalError.ItemPruned n))) }
     {
         match self.go_on(alloc, index, log) {
@@ -139,21 +136,21 @@ impl<U: Update> Scan<U> {
     }
 
     // Reads the first bucket of a scan that has read none.
-    fn begin<F: Family, I: qm_index::Unordered<Value = Location<F>>, C: Store, H: Hasher + Drop>(
+    fn begin<F, I: qm_index::Unordered<Value = Location<F>>, L: Items>(
         &mut self,
         alloc: Global,
         index: &I,
-        log: &mut AuthLog<F, C, H>,
+        log: &mut L,
     ) -> Result<(), Error>
     where
         U: Steps<F, I>,
         requires ordered { U.form.ordered ≡ true }
         requires empty { self.old.ready ≡ [] }
-        ensures value { (list : List Operation) → IsLent C.Store F.shape H.Digest.bytes H.hash U.form I.index_key (I.entries index.now) log.old list → IfSome (C.told log.old.store) (λ _. left_of I.index_key self.new list ≡ left_of I.index_key self.old list) }
+        ensures value { (list : List Operation) → IsLent L.reads U.form I.index_key (I.entries index.now) log.old list → IfSome (L.reads.told log.old) (λ _. left_of I.index_key self.new list ≡ left_of I.index_key self.old list) }
         ensures begun { OnOk result (self.new.place ≢ beginning) }
-        ensures read { IsRead C.Store F.shape H.Digest.bytes H.hash log.old log.new }
-        ensures error { IfErr result (IsReadError C.Store log.old log.new) }
-        ensures whole { (list : List Operation) → IsLent C.Store F.shape H.Digest.bytes H.hash U.form I.index_key (I.entries index.now) log.old list → NoneBelow log.old.tree.start list
+        ensures read { IsRead L.reads log.old log.new }
+        ensures error { IfErr result (IsReadError L.reads log.old log.new) }
+        ensures whole { (list : List Operation) → IsLent L.reads U.form I.index_key (I.entries index.now) log.old list → NoneBelow (L.reads.start log.old) list
             → IfErr result (λ e. (n : ℕ) → e ≢ Error.Journal (JournalError.ItemPruned n)) }
     {
         match &self.place {
@@ -169,22 +166,22 @@ impl<U: Update> Scan<U> {
     }
 
     // Reads the next bucket of a scan that has begun.
-    fn go_on<F: Family, I: qm_index::Unordered<Value = Location<F>>, C: Store, H: Hasher + Drop>(
+    fn go_on<F, I: qm_index::Unordered<Value = Location<F>>, L: Items>(
         &mut self,
         alloc: Global,
         index: &I,
-        log: &mut AuthLog<F, C, H>,
+        log: &mut L,
     ) -> Result<(), Error>
     where
         U: Steps<F, I>,
         requires ordered { U.form.ordered ≡ true }
         requires begun { self.old.place ≢ beginning }
         requires empty { self.old.ready ≡ [] }
-        ensures value { (list : List Operation) → IsLent C.Store F.shape H.Digest.bytes H.hash U.form I.index_key (I.entries index.now) log.old list → IfSome (C.told log.old.store) (λ _. left_of I.index_key self.new list ≡ left_of I.index_key self.old list) }
-        ensures over { (list : List Operation) → IsLent C.Store F.shape H.Digest.bytes H.hash U.form I.index_key (I.entries index.now) log.old list → IfSome (C.told log.old.store) (λ _. OnOk result (self.new.ready ≡ [] → left_of I.index_key self.new list ≡ [])) }
-        ensures read { IsRead C.Store F.shape H.Digest.bytes H.hash log.old log.new }
-        ensures error { IfErr result (IsReadError C.Store log.old log.new) }
-        ensures whole { (list : List Operation) → IsLent C.Store F.shape H.Digest.bytes H.hash U.form I.index_key (I.entries index.now) log.old list → NoneBelow log.old.tree.start list
+        ensures value { (list : List Operation) → IsLent L.reads U.form I.index_key (I.entries index.now) log.old list → IfSome (L.reads.told log.old) (λ _. left_of I.index_key self.new list ≡ left_of I.index_key self.old list) }
+        ensures over { (list : List Operation) → IsLent L.reads U.form I.index_key (I.entries index.now) log.old list → IfSome (L.reads.told log.old) (λ _. OnOk result (self.new.ready ≡ [] → left_of I.index_key self.new list ≡ [])) }
+        ensures read { IsRead L.reads log.old log.new }
+        ensures error { IfErr result (IsReadError L.reads log.old log.new) }
+        ensures whole { (list : List Operation) → IsLent L.reads U.form I.index_key (I.entries index.now) log.old list → NoneBelow (L.reads.start log.old) list
             → IfErr result (λ e. (n : ℕ) → e ≢ Error.Journal (JournalError.ItemPruned n)) }
     {
         match &self.place {
@@ -202,24 +199,23 @@ impl<U: Update> Scan<U> {
 
 // The first pairs of a range.
 fn read_beginning<
-    F: Family,
+    F,
     I: qm_index::Unordered<Value = Location<F>>,
-    C: Store,
-    H: Hasher + Drop,
+    L: Items,
     U: Steps<F, I>,
 >(
     alloc: Global,
     index: &I,
-    log: &mut AuthLog<F, C, H>,
+    log: &mut L,
     low: &Bound<U::Key>,
     high: &Bound<U::Key>,
 ) -> Result<Found<U>, Error>
     requires { U.form.ordered ≡ true }
-    ensures value { (list : List Operation) → IsLent C.Store F.shape H.Digest.bytes H.hash U.form I.index_key (I.entries index.now) log.old list → IfSome (C.told log.old.store) (λ _. IfOk result (λ found. AreNext I.index_key (limit_of U.Key.bytes low.now) (limit_of U.Key.bytes high.now) list beginning (map (pair_view U.Key.bytes U.Value.bytes) found.pairs.items) (place_view U.Key.bytes found.place))) }
+    ensures value { (list : List Operation) → IsLent L.reads U.form I.index_key (I.entries index.now) log.old list → IfSome (L.reads.told log.old) (λ _. IfOk result (λ found. AreNext I.index_key (limit_of U.Key.bytes low.now) (limit_of U.Key.bytes high.now) list beginning (map (pair_view U.Key.bytes U.Value.bytes) found.pairs.items) (place_view U.Key.bytes found.place))) }
     ensures begun { IfOk result (λ found. place_view U.Key.bytes found.place ≢ beginning) }
-    ensures read { IsRead C.Store F.shape H.Digest.bytes H.hash log.old log.new }
-    ensures error { IfErr result (IsReadError C.Store log.old log.new) }
-    ensures whole { (list : List Operation) → IsLent C.Store F.shape H.Digest.bytes H.hash U.form I.index_key (I.entries index.now) log.old list → NoneBelow log.old.tree.start list
+    ensures read { IsRead L.reads log.old log.new }
+    ensures error { IfErr result (IsReadError L.reads log.old log.new) }
+    ensures whole { (list : List Operation) → IsLent L.reads U.form I.index_key (I.entries index.now) log.old list → NoneBelow (L.reads.start log.old) list
         → IfErr result (λ e. (n : ℕ) → e ≢ Error.Journal (JournalError.ItemPruned n)) }
 {
     match low {
@@ -232,29 +228,28 @@ fn read_beginning<
 
 // The pairs of a range in the bucket of the key where it begins.
 fn read_own<
-    F: Family,
+    F,
     I: qm_index::Unordered<Value = Location<F>>,
-    C: Store,
-    H: Hasher + Drop,
+    L: Items,
     U: Steps<F, I>,
 >(
     alloc: Global,
     index: &I,
-    log: &mut AuthLog<F, C, H>,
+    log: &mut L,
     key: &U::Key,
     low: Bound<&[u8]>,
     high: Bound<&[u8]>,
 ) -> Result<Found<U>, Error>
     requires { U.form.ordered ≡ true }
-    ensures value { (list : List Operation) → IsLent C.Store F.shape H.Digest.bytes H.hash U.form I.index_key (I.entries index.now) log.old list → BeginsAt (U.Key.bytes key.now) (limit_view low.entry)
-        → IfSome (C.told log.old.store) (λ _. IfOk result (λ found. AreNext I.index_key (limit_view low.entry) (limit_view high.entry) list beginning (map (pair_view U.Key.bytes U.Value.bytes) found.pairs.items) (place_view U.Key.bytes found.place))) }
+    ensures value { (list : List Operation) → IsLent L.reads U.form I.index_key (I.entries index.now) log.old list → BeginsAt (U.Key.bytes key.now) (limit_view low.entry)
+        → IfSome (L.reads.told log.old) (λ _. IfOk result (λ found. AreNext I.index_key (limit_view low.entry) (limit_view high.entry) list beginning (map (pair_view U.Key.bytes U.Value.bytes) found.pairs.items) (place_view U.Key.bytes found.place))) }
     ensures begun { IfOk result (λ found. place_view U.Key.bytes found.place ≢ beginning) }
-    ensures read { IsRead C.Store F.shape H.Digest.bytes H.hash log.old log.new }
-    ensures error { IfErr result (IsReadError C.Store log.old log.new) }
-    ensures whole { (list : List Operation) → IsLent C.Store F.shape H.Digest.bytes H.hash U.form I.index_key (I.entries index.now) log.old list → NoneBelow log.old.tree.start list
+    ensures read { IsRead L.reads log.old log.new }
+    ensures error { IfErr result (IsReadError L.reads log.old log.new) }
+    ensures whole { (list : List Operation) → IsLent L.reads U.form I.index_key (I.entries index.now) log.old list → NoneBelow (L.reads.start log.old) list
         → IfErr result (λ e. (n : ℕ) → e ≢ Error.Journal (JournalError.ItemPruned n)) }
 {
-    let pairs = pairs_at::<F, C, H, U>(alloc, log, index.bucket(key.as_bytes()), low, high)?;
+    let pairs = pairs_at::<F, L, U>(alloc, log, index.bucket(key.as_bytes()), low, high)?;
     let key = key.twin(alloc)?;
     Ok(Found {
         pairs,
@@ -264,23 +259,22 @@ fn read_own<
 
 // The pairs of a range without a beginning in the first bucket.
 fn read_first<
-    F: Family,
+    F,
     I: qm_index::Unordered<Value = Location<F>>,
-    C: Store,
-    H: Hasher + Drop,
+    L: Items,
     U: Steps<F, I>,
 >(
     alloc: Global,
     index: &I,
-    log: &mut AuthLog<F, C, H>,
+    log: &mut L,
     high: Bound<&[u8]>,
 ) -> Result<Found<U>, Error>
     requires { U.form.ordered ≡ true }
-    ensures value { (list : List Operation) → IsLent C.Store F.shape H.Digest.bytes H.hash U.form I.index_key (I.entries index.now) log.old list → IfSome (C.told log.old.store) (λ _. IfOk result (λ found. AreNext I.index_key unlimited (limit_view high.entry) list beginning (map (pair_view U.Key.bytes U.Value.bytes) found.pairs.items) (place_view U.Key.bytes found.place))) }
+    ensures value { (list : List Operation) → IsLent L.reads U.form I.index_key (I.entries index.now) log.old list → IfSome (L.reads.told log.old) (λ _. IfOk result (λ found. AreNext I.index_key unlimited (limit_view high.entry) list beginning (map (pair_view U.Key.bytes U.Value.bytes) found.pairs.items) (place_view U.Key.bytes found.place))) }
     ensures begun { IfOk result (λ found. place_view U.Key.bytes found.place ≢ beginning) }
-    ensures read { IsRead C.Store F.shape H.Digest.bytes H.hash log.old log.new }
-    ensures error { IfErr result (IsReadError C.Store log.old log.new) }
-    ensures whole { (list : List Operation) → IsLent C.Store F.shape H.Digest.bytes H.hash U.form I.index_key (I.entries index.now) log.old list → NoneBelow log.old.tree.start list
+    ensures read { IsRead L.reads log.old log.new }
+    ensures error { IfErr result (IsReadError L.reads log.old log.new) }
+    ensures whole { (list : List Operation) → IsLent L.reads U.form I.index_key (I.entries index.now) log.old list → NoneBelow (L.reads.start log.old) list
         → IfErr result (λ e. (n : ℕ) → e ≢ Error.Journal (JournalError.ItemPruned n)) }
 {
     match U::first_bucket(index) {
@@ -291,23 +285,22 @@ fn read_first<
 
 // The pairs of a range in the bucket behind a key's, from which on all keys are behind the beginning.
 fn read_next<
-    F: Family,
+    F,
     I: qm_index::Unordered<Value = Location<F>>,
-    C: Store,
-    H: Hasher + Drop,
+    L: Items,
     U: Steps<F, I>,
 >(
     alloc: Global,
     index: &I,
-    log: &mut AuthLog<F, C, H>,
+    log: &mut L,
     key: &U::Key,
     high: &Bound<U::Key>,
 ) -> Result<Found<U>, Error>
     requires { U.form.ordered ≡ true }
-    ensures value { (list : List Operation) (low : Limit) → IsLent C.Store F.shape H.Digest.bytes H.hash U.form I.index_key (I.entries index.now) log.old list → IfSome (C.told log.old.store) (λ _. IfOk result (λ found. AreNext I.index_key low (limit_of U.Key.bytes high.now) list (behind (U.Key.bytes key.now)) (map (pair_view U.Key.bytes U.Value.bytes) found.pairs.items) (place_view U.Key.bytes found.place) × (map (pair_view U.Key.bytes U.Value.bytes) found.pairs.items ≡ [] → place_view U.Key.bytes found.place ≡ nowhere))) }
-    ensures read { IsRead C.Store F.shape H.Digest.bytes H.hash log.old log.new }
-    ensures error { IfErr result (IsReadError C.Store log.old log.new) }
-    ensures whole { (list : List Operation) → IsLent C.Store F.shape H.Digest.bytes H.hash U.form I.index_key (I.entries index.now) log.old list → NoneBelow log.old.tree.start list
+    ensures value { (list : List Operation) (low : Limit) → IsLent L.reads U.form I.index_key (I.entries index.now) log.old list → IfSome (L.reads.told log.old) (λ _. IfOk result (λ found. AreNext I.index_key low (limit_of U.Key.bytes high.now) list (behind (U.Key.bytes key.now)) (map (pair_view U.Key.bytes U.Value.bytes) found.pairs.items) (place_view U.Key.bytes found.place) × (map (pair_view U.Key.bytes U.Value.bytes) found.pairs.items ≡ [] → place_view U.Key.bytes found.place ≡ nowhere))) }
+    ensures read { IsRead L.reads log.old log.new }
+    ensures error { IfErr result (IsReadError L.reads log.old log.new) }
+    ensures whole { (list : List Operation) → IsLent L.reads U.form I.index_key (I.entries index.now) log.old list → NoneBelow (L.reads.start log.old) list
         → IfErr result (λ e. (n : ℕ) → e ≢ Error.Journal (JournalError.ItemPruned n)) }
 {
     match unwrapped(U::bucket_behind(index, key.as_bytes())) {
@@ -328,20 +321,20 @@ fn unwrapped<F>(found: Option<(&[Location<F>], bool)>) -> Option<&[Location<F>]>
 }
 
 // The pairs of a bucket before the end of a range. Where it has none the range is over.
-fn read_bucket<F: Family, C: Store, H: Hasher + Drop, U: Update>(
+fn read_bucket<F, L: Items, U: Update>(
     alloc: Global,
-    log: &mut AuthLog<F, C, H>,
+    log: &mut L,
     locations: &[Location<F>],
     high: Bound<&[u8]>,
 ) -> Result<Found<U>, Error>
-    ensures value { (list : List Operation) → IsLog C.Store F.shape H.Digest.bytes H.hash log.old (map (spelling U.form) list) → All (IsOf U.form) list
-        → IfSome (C.told log.old.store) (λ _. IfOk result (λ found. map (pair_view U.Key.bytes U.Value.bytes) found.pairs.items ≡ fold (put_at unlimited (limit_view high.entry) list) [] locations.now)) }
+    ensures value { (list : List Operation) → L.reads.logged log.old (map (spelling U.form) list) → All (IsOf U.form) list
+        → IfSome (L.reads.told log.old) (λ _. IfOk result (λ found. map (pair_view U.Key.bytes U.Value.bytes) found.pairs.items ≡ fold (put_at unlimited (limit_view high.entry) list) [] locations.now)) }
     ensures place { IfOk result (λ found. place_view U.Key.bytes found.place ≡ behind_first (map (pair_view U.Key.bytes U.Value.bytes) found.pairs.items)) }
-    ensures read { IsRead C.Store F.shape H.Digest.bytes H.hash log.old log.new }
-    ensures error { IfErr result (IsReadError C.Store log.old log.new) }
-    ensures pruned { All (λ at. log.old.tree.start ≤ at) locations.now → IfErr result (λ e. (n : ℕ) → e ≢ Error.Journal (JournalError.ItemPruned n)) }
+    ensures read { IsRead L.reads log.old log.new }
+    ensures error { IfErr result (IsReadError L.reads log.old log.new) }
+    ensures pruned { All (λ at. (L.reads.start log.old) ≤ at) locations.now → IfErr result (λ e. (n : ℕ) → e ≢ Error.Journal (JournalError.ItemPruned n)) }
 {
-    let pairs = pairs_at::<F, C, H, U>(alloc, log, locations, Bound::Unbounded, high)?;
+    let pairs = pairs_at::<F, L, U>(alloc, log, locations, Bound::Unbounded, high)?;
     let place = behind(alloc, &pairs)?;
     Ok(Found { pairs, place })
 }

@@ -5,43 +5,40 @@ ghost use Rattle.std.specs.Option.{option_or};
 ghost use Rattle.qm_index.specs.Buckets.{IsIndex};
 ghost use Rattle.qm_model.specs.Forms.{IsOf, IsSpelling, spelling};
 ghost use Rattle.qm_model.specs.Operations as model;
-ghost use Rattle.qm_store.specs.Log.{IsLog};
 ghost use Rattle.qm_step.specs.Changes.{said_by, update_at};
 ghost use Rattle.qm_batch.specs.Lent.{IsLent, IsRead, IsReadError, NoneBelow};
 ghost use Rattle.qm_step.specs.Nearest.{lent_before, later_at, limit_view, only_within, said_key};
 ghost use Rattle.qm_step.specs.Views.{read_view};
 
+use crate::items::Items;
 use crate::kind::Steps;
-use crate::read::{read_item, update_in};
+use crate::read::update_in;
 use qm_base::update::Update;
-use qm_base::{ByteString, Error, Hasher, JournalError, Location, Operation};
-use qm_merkle::Family;
+use qm_base::{ByteString, Error, JournalError, Location, Operation};
 use qm_step::order::is_within;
-use qm_store::{AuthLog, Store};
 use std::alloc::{AllocError, Global};
 use std::ops::Bound;
 
 /// The live update with the greatest key before the limit in the key's own bucket, or else the one with the greatest key in
 /// the bucket before it, with its location.
 pub(crate) fn last_lent<
-    F: Family,
+    F,
     I: qm_index::Unordered<Value = Location<F>>,
-    C: Store,
-    H: Hasher + Drop,
+    L: Items,
     U: Steps<F, I>,
 >(
     alloc: Global,
     index: &I,
-    log: &mut AuthLog<F, C, H>,
+    log: &mut L,
     key: &[u8],
     limit: Bound<&[u8]>,
 ) -> Result<Option<(Location<F>, U)>, Error>
     requires { U.form.ordered ≡ true }
-    ensures value { (lent : List model.Operation) → IsLent C.Store F.shape H.Digest.bytes H.hash U.form I.index_key (I.entries index.now) log.old lent
-        → IfSome (C.told log.old.store) (λ _. IfOk result (λ found. option_map (read_view U.view) found ≡ lent_before I.index_key (I.entries index.now) lent key.now (limit_view limit.entry))) }
-    ensures read { IsRead C.Store F.shape H.Digest.bytes H.hash log.old log.new }
-    ensures error { IfErr result (IsReadError C.Store log.old log.new) }
-    ensures whole { (lent : List model.Operation) → IsLent C.Store F.shape H.Digest.bytes H.hash U.form I.index_key (I.entries index.now) log.old lent → NoneBelow log.old.tree.start lent
+    ensures value { (lent : List model.Operation) → IsLent L.reads U.form I.index_key (I.entries index.now) log.old lent
+        → IfSome (L.reads.told log.old) (λ _. IfOk result (λ found. option_map (read_view U.view) found ≡ lent_before I.index_key (I.entries index.now) lent key.now (limit_view limit.entry))) }
+    ensures read { IsRead L.reads log.old log.new }
+    ensures error { IfErr result (IsReadError L.reads log.old log.new) }
+    ensures whole { (lent : List model.Operation) → IsLent L.reads U.form I.index_key (I.entries index.now) log.old lent → NoneBelow (L.reads.start log.old) lent
         → IfErr result (λ e. (n : ℕ) → e ≢ Error.Journal (JournalError.ItemPruned n)) }
     ensures index { IsIndex (I.entries index.now) }
 {
@@ -55,17 +52,17 @@ pub(crate) fn last_lent<
 }
 
 // Of the updates at these locations of the log's list the one with the greatest key before the limit, with its location.
-fn last_at<F: Family, C: Store, H: Hasher + Drop, U: Update>(
+fn last_at<F, L: Items, U: Update>(
     alloc: Global,
-    log: &mut AuthLog<F, C, H>,
+    log: &mut L,
     locations: &[Location<F>],
     limit: Bound<&[u8]>,
 ) -> Result<Option<(Location<F>, U)>, Error>
-    ensures value { (list : List model.Operation) → IsLog C.Store F.shape H.Digest.bytes H.hash log.old (map (spelling U.form) list) → All (IsOf U.form) list
-        → IfSome (C.told log.old.store) (λ _. IfOk result (λ found. option_map (read_view U.view) found ≡ fold (later_at (limit_view limit.entry) list) None locations.now)) }
-    ensures read { IsRead C.Store F.shape H.Digest.bytes H.hash log.old log.new }
-    ensures error { IfErr result (IsReadError C.Store log.old log.new) }
-    ensures pruned { All (λ at. log.old.tree.start ≤ at) locations.now → IfErr result (λ e. (n : ℕ) → e ≢ Error.Journal (JournalError.ItemPruned n)) }
+    ensures value { (list : List model.Operation) → L.reads.logged log.old (map (spelling U.form) list) → All (IsOf U.form) list
+        → IfSome (L.reads.told log.old) (λ _. IfOk result (λ found. option_map (read_view U.view) found ≡ fold (later_at (limit_view limit.entry) list) None locations.now)) }
+    ensures read { IsRead L.reads log.old log.new }
+    ensures error { IfErr result (IsReadError L.reads log.old log.new) }
+    ensures pruned { All (λ at. (L.reads.start log.old) ≤ at) locations.now → IfErr result (λ e. (n : ℕ) → e ≢ Error.Journal (JournalError.ItemPruned n)) }
 {
     let mut last: Option<(Location<F>, U)> = None;
     for location in locations {
@@ -102,20 +99,20 @@ fn key_in<F, U: Update>(found: &Option<(Location<F>, U)>) -> Option<&[u8]>
 
 // The update at a location of the log's list, where its key comes behind the one above it and before the limit. Another is
 // read, and not copied.
-fn read_within<F: Family, C: Store, H: Hasher + Drop, U: Update>(
+fn read_within<L: Items, U: Update>(
     alloc: Global,
-    log: &mut AuthLog<F, C, H>,
+    log: &mut L,
     at: u64,
     above: Option<&[u8]>,
     limit: Bound<&[u8]>,
 ) -> Result<Option<U>, Error>
-    ensures value { (list : List model.Operation) → IsLog C.Store F.shape H.Digest.bytes H.hash log.old (map (spelling U.form) list) → All (IsOf U.form) list
-        → IfSome (C.told log.old.store) (λ _. IfOk result (λ update. option_map U.view update ≡ only_within (option_map (λ k. k.now) above.entry) (limit_view limit.entry) (update_at list at))) }
-    ensures read { IsRead C.Store F.shape H.Digest.bytes H.hash log.old log.new }
-    ensures error { IfErr result (IsReadError C.Store log.old log.new) }
-    ensures pruned { log.old.tree.start ≤ at → IfErr result (λ e. (n : ℕ) → e ≢ Error.Journal (JournalError.ItemPruned n)) }
+    ensures value { (list : List model.Operation) → L.reads.logged log.old (map (spelling U.form) list) → All (IsOf U.form) list
+        → IfSome (L.reads.told log.old) (λ _. IfOk result (λ update. option_map U.view update ≡ only_within (option_map (λ k. k.now) above.entry) (limit_view limit.entry) (update_at list at))) }
+    ensures read { IsRead L.reads log.old log.new }
+    ensures error { IfErr result (IsReadError L.reads log.old log.new) }
+    ensures pruned { (L.reads.start log.old) ≤ at → IfErr result (λ e. (n : ℕ) → e ≢ Error.Journal (JournalError.ItemPruned n)) }
 {
-    match read_item(log, at)? {
+    match log.read_item(at)? {
         Some(item) => Ok(update_within(alloc, &item, above, limit)?),
         None => Ok(None),
     }

@@ -9,15 +9,14 @@ ghost use Rattle.qm_step.specs.PlanViews.{last_write_view, linked_view, AreKnown
 ghost use Rattle.qm_step.specs.Rings.{linked_in};
 ghost use Rattle.qm_step.specs.Views.{stands_view, AreReads};
 
+use crate::items::Items;
 use crate::read::locate;
 use qm_base::update::Update;
-use qm_base::{ByteString, Error, Hasher, JournalError, Location};
-use qm_merkle::Family;
+use qm_base::{ByteString, Error, JournalError, Location};
 use qm_step::found::{Stands, stands_of};
 use qm_step::site::Site;
 use qm_step::writes::Last;
 use qm_step::{Layer, Read};
-use qm_store::{AuthLog, Store};
 use std::alloc::{AllocError, Global};
 use std::collections::BTreeMap;
 use std::rc::Rc;
@@ -41,24 +40,23 @@ pub(crate) fn known_of<'a, F, U: Update>(
 
 // Where a key stands in the base list. A key that was read is not looked up.
 fn place_of<
-    F: Family,
+    F,
     I: qm_index::Unordered<Value = Location<F>>,
-    C: Store,
-    H: Hasher + Drop,
+    L: Items,
     U: Update,
 >(
     alloc: Global,
     index: &I,
-    log: &mut AuthLog<F, C, H>,
+    log: &mut L,
     layers: &[Rc<Layer<F, U>>],
     known: &Known<'_, F, U>,
     key: &U::Key,
 ) -> Result<Option<Stands<U::Key>>, Error>
-    ensures value { (lent base : List operations.Operation) → IsLent C.Store F.shape H.Digest.bytes H.hash U.form I.index_key (I.entries index.now) log.old lent → LeadOver (map (λ l. l.value) layers.now) lent base
-        → AreKnown U.view base known.now.entries → IfSome (C.told log.old.store) (λ _. IfOk result (λ stands. option_map (stands_view U.Key.bytes) stands ≡ link_in base (U.Key.bytes key.now))) }
-    ensures read { IsRead C.Store F.shape H.Digest.bytes H.hash log.old log.new }
-    ensures error { IfErr result (IsReadError C.Store log.old log.new) }
-    ensures whole { (lent : List operations.Operation) → IsLent C.Store F.shape H.Digest.bytes H.hash U.form I.index_key (I.entries index.now) log.old lent → NoneBelow log.old.tree.start lent
+    ensures value { (lent base : List operations.Operation) → IsLent L.reads U.form I.index_key (I.entries index.now) log.old lent → LeadOver (map (λ l. l.value) layers.now) lent base
+        → AreKnown U.view base known.now.entries → IfSome (L.reads.told log.old) (λ _. IfOk result (λ stands. option_map (stands_view U.Key.bytes) stands ≡ link_in base (U.Key.bytes key.now))) }
+    ensures read { IsRead L.reads log.old log.new }
+    ensures error { IfErr result (IsReadError L.reads log.old log.new) }
+    ensures whole { (lent : List operations.Operation) → IsLent L.reads U.form I.index_key (I.entries index.now) log.old lent → NoneBelow (L.reads.start log.old) lent
         → IfErr result (λ e. (n : ℕ) → e ≢ Error.Journal (JournalError.ItemPruned n)) }
 {
     match known.get(key.as_bytes()) {
@@ -70,24 +68,23 @@ fn place_of<
 /// The last writes, each with where its key stands in the base list. Keys that were read are not looked up.
 pub(crate) fn find_sites<
     'a,
-    F: Family,
+    F,
     I: qm_index::Unordered<Value = Location<F>>,
-    C: Store,
-    H: Hasher + Drop,
+    L: Items,
     U: Update,
 >(
     alloc: Global,
     index: &I,
-    log: &mut AuthLog<F, C, H>,
+    log: &mut L,
     layers: &[Rc<Layer<F, U>>],
     known: &Known<'_, F, U>,
     last: &Last<'a, U::Key, U::Value>,
 ) -> Result<Vec<Site<'a, U::Key, U::Value>>, Error>
-    ensures value { (lent base : List operations.Operation) → IsLent C.Store F.shape H.Digest.bytes H.hash U.form I.index_key (I.entries index.now) log.old lent → LeadOver (map (λ l. l.value) layers.now) lent base
-        → AreKnown U.view base known.now.entries → IfSome (C.told log.old.store) (λ _. IfOk result (λ sites. map (linked_view U.Key.bytes U.Value.bytes) sites.items ≡ map (λ e. linked_in base (last_write_view U.Key.bytes U.Value.bytes e.1)) last.now.entries)) }
-    ensures read { IsRead C.Store F.shape H.Digest.bytes H.hash log.old log.new }
-    ensures error { IfErr result (IsReadError C.Store log.old log.new) }
-    ensures whole { (lent : List operations.Operation) → IsLent C.Store F.shape H.Digest.bytes H.hash U.form I.index_key (I.entries index.now) log.old lent → NoneBelow log.old.tree.start lent
+    ensures value { (lent base : List operations.Operation) → IsLent L.reads U.form I.index_key (I.entries index.now) log.old lent → LeadOver (map (λ l. l.value) layers.now) lent base
+        → AreKnown U.view base known.now.entries → IfSome (L.reads.told log.old) (λ _. IfOk result (λ sites. map (linked_view U.Key.bytes U.Value.bytes) sites.items ≡ map (λ e. linked_in base (last_write_view U.Key.bytes U.Value.bytes e.1)) last.now.entries)) }
+    ensures read { IsRead L.reads log.old log.new }
+    ensures error { IfErr result (IsReadError L.reads log.old log.new) }
+    ensures whole { (lent : List operations.Operation) → IsLent L.reads U.form I.index_key (I.entries index.now) log.old lent → NoneBelow (L.reads.start log.old) lent
         → IfErr result (λ e. (n : ℕ) → e ≢ Error.Journal (JournalError.ItemPruned n)) }
 {
     let mut sites = Vec::new(alloc);

@@ -22,17 +22,16 @@ ghost use Rattle.qm_batch.specs.PlanPaths.{found_view, path_view, IsPath};
 ghost use Rattle.qm_step.specs.Touches.{is_there, moved_touch, operations_of, AreReplaced, IsFrom, IsKeyed, IsMoveAt, Touch as Made};
 ghost use Rattle.qm_step.specs.Views.{change_view};
 
-use crate::read::{newest, read_item, twin_update, update_in};
+use crate::items::Items;
+use crate::read::{newest, twin_update, update_in};
 use qm_base::update::Update;
-use qm_base::{ByteString, Error, Hasher, JournalError, Location, Operation};
+use qm_base::{ByteString, Error, JournalError, Location, Operation};
 use qm_bits::Candidates;
 use qm_chain::{Action, DiffEntry, Entry, Limits, Policy, Walk};
-use qm_merkle::Family;
 use qm_step::decided::Decided;
 use qm_step::found::twin_next;
 use qm_step::touch::Touch;
 use qm_step::{Base, Layer};
-use qm_store::{AuthLog, Store};
 use std::alloc::{AllocError, Global};
 use std::collections::BTreeSet;
 use std::rc::Rc;
@@ -165,25 +164,24 @@ fn is_moved<F, I: qm_index::Unordered<Value = Location<F>>, U: Update>(
 
 // The live update at a location of the base list that is not replaced. Another operation is not copied.
 fn unreplaced_at<
-    F: Family,
+    F,
     I: qm_index::Unordered<Value = Location<F>>,
-    C: Store,
-    H: Hasher + Drop,
+    L: Items,
     U: Update,
 >(
     alloc: Global,
     index: &I,
-    log: &mut AuthLog<F, C, H>,
+    log: &mut L,
     layers: &[Rc<Layer<F, U>>],
     replaced: &BTreeSet<u64>,
     at: u64,
 ) -> Result<Option<U>, Error>
-    ensures value { (lent base : List model.Operation) (made : List Made) → IsLent C.Store F.shape H.Digest.bytes H.hash U.form I.index_key (I.entries index.now) log.old lent → LeadOver (map (λ l. l.value) layers.now) lent base → at < length base
+    ensures value { (lent base : List model.Operation) (made : List Made) → IsLent L.reads U.form I.index_key (I.entries index.now) log.old lent → LeadOver (map (λ l. l.value) layers.now) lent base → at < length base
         → All (IsFrom base) made → All IsKeyed made → AreReplaced replaced.now made
-        → IfSome (C.told log.old.store) (λ _. IfOk result (λ found. IsMoveAt (option_map (λ u. moved_touch (at, U.view u)) found) base (base ++ operations_of made) at)) }
-    ensures read { IsRead C.Store F.shape H.Digest.bytes H.hash log.old log.new }
-    ensures error { IfErr result (IsReadError C.Store log.old log.new) }
-    ensures pruned { log.old.tree.start ≤ at → IfErr result (λ e. (n : ℕ) → e ≢ Error.Journal (JournalError.ItemPruned n)) }
+        → IfSome (L.reads.told log.old) (λ _. IfOk result (λ found. IsMoveAt (option_map (λ u. moved_touch (at, U.view u)) found) base (base ++ operations_of made) at)) }
+    ensures read { IsRead L.reads log.old log.new }
+    ensures error { IfErr result (IsReadError L.reads log.old log.new) }
+    ensures pruned { (L.reads.start log.old) ≤ at → IfErr result (λ e. (n : ℕ) → e ≢ Error.Journal (JournalError.ItemPruned n)) }
 {
     if let Some(operation) = in_layers(layers, at) {
         return if is_moved(index, layers, replaced, key_of_update(operation), at) {
@@ -192,7 +190,7 @@ fn unreplaced_at<
             Ok(None)
         };
     }
-    let Some(item) = read_item(log, at)? else {
+    let Some(item) = log.read_item(at)? else {
         return Ok(None);
     };
     if is_moved(
@@ -224,22 +222,21 @@ fn again<F, U: Update>(alloc: Global, touch: &Touch<F, U>) -> Result<Option<Foun
 
 // The live update at a location of the base list and the operations behind it.
 fn live_at<
-    F: Family,
+    F,
     I: qm_index::Unordered<Value = Location<F>>,
-    C: Store,
-    H: Hasher + Drop,
+    L: Items,
     U: Update,
 >(
     alloc: Global,
     path: &Path<'_, '_, F, I, U>,
-    log: &mut AuthLog<F, C, H>,
+    log: &mut L,
     at: u64,
 ) -> Result<Option<Found<U>>, Error>
-    ensures value { (lent base list : List model.Operation) → IsLent C.Store F.shape H.Digest.bytes H.hash U.form I.index_key (I.entries path.now.index.now) log.old lent → IsPath (path_view U.view U.Key.bytes U.Value.bytes path.now) lent base list
-        → IfSome (C.told log.old.store) (λ _. IfOk result (λ found. IsMoveAt (option_map (found_view U.view) found) base list at)) }
-    ensures read { IsRead C.Store F.shape H.Digest.bytes H.hash log.old log.new }
-    ensures error { IfErr result (IsReadError C.Store log.old log.new) }
-    ensures pruned { log.old.tree.start ≤ at → IfErr result (λ e. (n : ℕ) → e ≢ Error.Journal (JournalError.ItemPruned n)) }
+    ensures value { (lent base list : List model.Operation) → IsLent L.reads U.form I.index_key (I.entries path.now.index.now) log.old lent → IsPath (path_view U.view U.Key.bytes U.Value.bytes path.now) lent base list
+        → IfSome (L.reads.told log.old) (λ _. IfOk result (λ found. IsMoveAt (option_map (found_view U.view) found) base list at)) }
+    ensures read { IsRead L.reads log.old log.new }
+    ensures error { IfErr result (IsReadError L.reads log.old log.new) }
+    ensures pruned { (L.reads.start log.old) ≤ at → IfErr result (λ e. (n : ℕ) → e ≢ Error.Journal (JournalError.ItemPruned n)) }
 {
     if path.base.size <= at {
         return match path.made.get((at - path.base.size) as usize) {
@@ -336,33 +333,32 @@ fn decide<F, U: Update, P: Policy<F, U::Key, U::Value>>(
 
 // Visits the next candidate, and tells whether the walk goes on.
 fn visit<
-    F: Family,
+    F,
     I: qm_index::Unordered<Value = Location<F>>,
-    C: Store,
-    H: Hasher + Drop,
+    L: Items,
     U: Update,
     P: Policy<F, U::Key, U::Value>,
 >(
     alloc: Global,
     path: &Path<'_, '_, F, I, U>,
-    log: &mut AuthLog<F, C, H>,
+    log: &mut L,
     policy: &mut P,
     going: &mut Going<F, U::Key, U::Value>,
     at: u64,
 ) -> Result<bool, Error>
     requires low { going.old.walk.floor ≤ at }
     requires high { at < going.old.walk.end }
-    ensures value { (lent base list : List model.Operation) (all : walks.Walked P) → IsLent C.Store F.shape H.Digest.bytes H.hash U.form I.index_key (I.entries path.now.index.now) log.old lent → IsPath (path_view U.view U.Key.bytes U.Value.bytes path.now) lent base list
+    ensures value { (lent base list : List model.Operation) (all : walks.Walked P) → IsLent L.reads U.form I.index_key (I.entries path.now.index.now) log.old lent → IsPath (path_view U.view U.Key.bytes U.Value.bytes path.now) lent base list
         → AreDead list going.old.walk.floor at → IsGoing P.rules base list (decided_views U.Key.bytes U.Value.bytes going.old.decided.items) going.old.walk policy.old all
-        → IfSome (C.told log.old.store) (λ _. IfOk result (λ goes. MatchBool goes
+        → IfSome (L.reads.told log.old) (λ _. IfOk result (λ goes. MatchBool goes
         (AreDead list going.new.walk.floor (at + 1) × IsGoing P.rules base list (decided_views U.Key.bytes U.Value.bytes going.new.decided.items) going.new.walk policy.new all)
         (AreDecided base list (decided_views U.Key.bytes U.Value.bytes going.new.decided.items) going.new.walk.floor policy.new all))) }
     ensures low { IfOk result (λ _. going.old.walk.floor ≤ going.new.walk.floor) }
     ensures high { IfOk result (λ _. going.new.walk.floor ≤ at + 1) }
     ensures end { IfOk result (λ _. going.new.walk.end ≡ going.old.walk.end) }
-    ensures read { IsRead C.Store F.shape H.Digest.bytes H.hash log.old log.new }
-    ensures error { IfErr result (IsReadError C.Store log.old log.new) }
-    ensures pruned { log.old.tree.start ≤ at → IfErr result (λ e. (n : ℕ) → e ≢ Error.Journal (JournalError.ItemPruned n)) }
+    ensures read { IsRead L.reads log.old log.new }
+    ensures error { IfErr result (IsReadError L.reads log.old log.new) }
+    ensures pruned { (L.reads.start log.old) ≤ at → IfErr result (λ e. (n : ℕ) → e ≢ Error.Journal (JournalError.ItemPruned n)) }
 {
     prove!(at < going.walk.end.get());
     if going.walk.entries == 0 {
@@ -379,32 +375,31 @@ fn visit<
 
 // Visits these candidates, and tells whether the walk goes on behind them.
 fn visit_all<
-    F: Family,
+    F,
     I: qm_index::Unordered<Value = Location<F>>,
-    C: Store,
-    H: Hasher + Drop,
+    L: Items,
     U: Update,
     P: Policy<F, U::Key, U::Value>,
 >(
     alloc: Global,
     path: &Path<'_, '_, F, I, U>,
-    log: &mut AuthLog<F, C, H>,
+    log: &mut L,
     policy: &mut P,
     going: &mut Going<F, U::Key, U::Value>,
     round: &[Location<F>],
 ) -> Result<bool, Error>
     requires { IsSpaced going.old.walk.floor round.now going.old.walk.end }
-    ensures value { (lent base list : List model.Operation) (next : ℕ) (all : walks.Walked P) → IsLent C.Store F.shape H.Digest.bytes H.hash U.form I.index_key (I.entries path.now.index.now) log.old lent → IsPath (path_view U.view U.Key.bytes U.Value.bytes path.now) lent base list
+    ensures value { (lent base list : List model.Operation) (next : ℕ) (all : walks.Walked P) → IsLent L.reads U.form I.index_key (I.entries path.now.index.now) log.old lent → IsPath (path_view U.view U.Key.bytes U.Value.bytes path.now) lent base list
         → AreDeadBetween list going.old.walk.floor round.now next → IsGoing P.rules base list (decided_views U.Key.bytes U.Value.bytes going.old.decided.items) going.old.walk policy.old all
-        → IfSome (C.told log.old.store) (λ _. IfOk result (λ goes. MatchBool goes
+        → IfSome (L.reads.told log.old) (λ _. IfOk result (λ goes. MatchBool goes
         (AreDead list going.new.walk.floor next × IsGoing P.rules base list (decided_views U.Key.bytes U.Value.bytes going.new.decided.items) going.new.walk policy.new all)
         (AreDecided base list (decided_views U.Key.bytes U.Value.bytes going.new.decided.items) going.new.walk.floor policy.new all))) }
     ensures low { IfOk result (λ _. going.old.walk.floor ≤ going.new.walk.floor) }
     ensures high { IfOk result (λ _. (next : ℕ) → IsSpaced going.old.walk.floor round.now next → going.new.walk.floor ≤ next) }
     ensures end { IfOk result (λ _. going.new.walk.end ≡ going.old.walk.end) }
-    ensures read { IsRead C.Store F.shape H.Digest.bytes H.hash log.old log.new }
-    ensures error { IfErr result (IsReadError C.Store log.old log.new) }
-    ensures pruned { log.old.tree.start ≤ going.old.walk.floor → IfErr result (λ e. (n : ℕ) → e ≢ Error.Journal (JournalError.ItemPruned n)) }
+    ensures read { IsRead L.reads log.old log.new }
+    ensures error { IfErr result (IsReadError L.reads log.old log.new) }
+    ensures pruned { (L.reads.start log.old) ≤ going.old.walk.floor → IfErr result (λ e. (n : ℕ) → e ≢ Error.Journal (JournalError.ItemPruned n)) }
 {
     for at in round {
         let goes = visit(alloc, path, log, policy, going, at.get())?;
@@ -442,36 +437,35 @@ fn round_from<F, B: Candidates<F>>(
 
 // Visits a round of candidates, those from a location on, and tells where the next one begins, if the walk goes on.
 fn walk_round<
-    F: Family,
+    F,
     I: qm_index::Unordered<Value = Location<F>>,
     B: Candidates<F>,
-    C: Store,
-    H: Hasher + Drop,
+    L: Items,
     U: Update,
     P: Policy<F, U::Key, U::Value>,
 >(
     alloc: Global,
     activity: &B,
     path: &Path<'_, '_, F, I, U>,
-    log: &mut AuthLog<F, C, H>,
+    log: &mut L,
     policy: &mut P,
     going: &mut Going<F, U::Key, U::Value>,
     from: Location<F>,
 ) -> Result<Option<Location<F>>, Error>
     requires low { going.old.walk.floor ≤ from }
     requires high { from < going.old.walk.end }
-    ensures value { (lent base list : List model.Operation) (all : walks.Walked P) → IsLent C.Store F.shape H.Digest.bytes H.hash U.form I.index_key (I.entries path.now.index.now) log.old lent → B.activity activity.now ≡ bits lent
+    ensures value { (lent base list : List model.Operation) (all : walks.Walked P) → IsLent L.reads U.form I.index_key (I.entries path.now.index.now) log.old lent → B.activity activity.now ≡ bits lent
         → IsPath (path_view U.view U.Key.bytes U.Value.bytes path.now) lent base list → AreDead list going.old.walk.floor from
         → IsGoing P.rules base list (decided_views U.Key.bytes U.Value.bytes going.old.decided.items) going.old.walk policy.old all
-        → IfSome (C.told log.old.store) (λ _. IfOk result (λ next. MatchOption next
+        → IfSome (L.reads.told log.old) (λ _. IfOk result (λ next. MatchOption next
         (AreDecided base list (decided_views U.Key.bytes U.Value.bytes going.new.decided.items) going.new.walk.floor policy.new all)
         (λ next. AreDead list going.new.walk.floor next × IsGoing P.rules base list (decided_views U.Key.bytes U.Value.bytes going.new.decided.items) going.new.walk policy.new all))) }
     ensures low { IfOk result (λ _. going.old.walk.floor ≤ going.new.walk.floor) }
     ensures next { IfOk result (λ next. IfSome next (λ next. (from < next) × (going.new.walk.floor ≤ next) × (next ≤ going.new.walk.end))) }
     ensures end { IfOk result (λ _. going.new.walk.end ≡ going.old.walk.end) }
-    ensures read { IsRead C.Store F.shape H.Digest.bytes H.hash log.old log.new }
-    ensures error { IfErr result (IsReadError C.Store log.old log.new) }
-    ensures pruned { log.old.tree.start ≤ going.old.walk.floor → IfErr result (λ e. (n : ℕ) → e ≢ Error.Journal (JournalError.ItemPruned n)) }
+    ensures read { IsRead L.reads log.old log.new }
+    ensures error { IfErr result (IsReadError L.reads log.old log.new) }
+    ensures pruned { (L.reads.start log.old) ≤ going.old.walk.floor → IfErr result (λ e. (n : ℕ) → e ≢ Error.Journal (JournalError.ItemPruned n)) }
 {
     let end = Location::new(going.walk.end.get());
     let round = round_from(alloc, activity, from, end, going.walk.entries)?;
@@ -493,28 +487,27 @@ fn finish<F>(walk: &mut Walk<F>)
 
 // Walks to the end of the course, or to where the walk ends before.
 fn walk_on<
-    F: Family,
+    F,
     I: qm_index::Unordered<Value = Location<F>>,
     B: Candidates<F>,
-    C: Store,
-    H: Hasher + Drop,
+    L: Items,
     U: Update,
     P: Policy<F, U::Key, U::Value>,
 >(
     alloc: Global,
     activity: &B,
     path: &Path<'_, '_, F, I, U>,
-    log: &mut AuthLog<F, C, H>,
+    log: &mut L,
     policy: &mut P,
     going: &mut Going<F, U::Key, U::Value>,
 ) -> Result<(), Error>
     requires { going.old.walk.floor ≤ going.old.walk.end }
-    ensures value { (lent base list : List model.Operation) (all : walks.Walked P) → IsLent C.Store F.shape H.Digest.bytes H.hash U.form I.index_key (I.entries path.now.index.now) log.old lent → B.activity activity.now ≡ bits lent
+    ensures value { (lent base list : List model.Operation) (all : walks.Walked P) → IsLent L.reads U.form I.index_key (I.entries path.now.index.now) log.old lent → B.activity activity.now ≡ bits lent
         → IsPath (path_view U.view U.Key.bytes U.Value.bytes path.now) lent base list → IsGoing P.rules base list (decided_views U.Key.bytes U.Value.bytes going.old.decided.items) going.old.walk policy.old all
-        → IfSome (C.told log.old.store) (λ _. OnOk result (AreDecided base list (decided_views U.Key.bytes U.Value.bytes going.new.decided.items) going.new.walk.floor policy.new all)) }
-    ensures read { IsRead C.Store F.shape H.Digest.bytes H.hash log.old log.new }
-    ensures error { IfErr result (IsReadError C.Store log.old log.new) }
-    ensures pruned { log.old.tree.start ≤ going.old.walk.floor → IfErr result (λ e. (n : ℕ) → e ≢ Error.Journal (JournalError.ItemPruned n)) }
+        → IfSome (L.reads.told log.old) (λ _. OnOk result (AreDecided base list (decided_views U.Key.bytes U.Value.bytes going.new.decided.items) going.new.walk.floor policy.new all)) }
+    ensures read { IsRead L.reads log.old log.new }
+    ensures error { IfErr result (IsReadError L.reads log.old log.new) }
+    ensures pruned { (L.reads.start log.old) ≤ going.old.walk.floor → IfErr result (λ e. (n : ℕ) → e ≢ Error.Journal (JournalError.ItemPruned n)) }
 {
     let end = going.walk.end.get();
     let floor = going.walk.floor.get();
@@ -540,29 +533,28 @@ fn walk_on<
 
 /// Walks from the floor on, to the end of the operations behind the base list at most, as the policy decides, within these limits.
 pub(crate) fn walk_from<
-    F: Family,
+    F,
     I: qm_index::Unordered<Value = Location<F>>,
     B: Candidates<F>,
-    C: Store,
-    H: Hasher + Drop,
+    L: Items,
     U: Update,
     P: Policy<F, U::Key, U::Value>,
 >(
     alloc: Global,
     activity: &B,
     path: &Path<'_, '_, F, I, U>,
-    log: &mut AuthLog<F, C, H>,
+    log: &mut L,
     policy: &mut P,
     limits: Limits,
 ) -> Result<Walked<U::Key, U::Value>, Error>
     requires { path.now.base.size ≤ 2 ^ 62 }
-    ensures value { (lent base list : List model.Operation) → IsLent C.Store F.shape H.Digest.bytes H.hash U.form I.index_key (I.entries path.now.index.now) log.old lent → B.activity activity.now ≡ bits lent
+    ensures value { (lent base list : List model.Operation) → IsLent L.reads U.form I.index_key (I.entries path.now.index.now) log.old lent → B.activity activity.now ≡ bits lent
         → IsPath (path_view U.view U.Key.bytes U.Value.bytes path.now) lent base list
-        → IfSome (C.told log.old.store) (λ _. IfOk result (λ walked. AreDecided base list (decided_views U.Key.bytes U.Value.bytes walked.decided.items) walked.floor policy.new
+        → IfSome (L.reads.told log.old) (λ _. IfOk result (λ walked. AreDecided base list (decided_views U.Key.bytes U.Value.bytes walked.decided.items) walked.floor policy.new
         (walks.walk P.rules list (floor base) (record { entries = limits.entries; skips = limits.skips }) policy.old))) }
-    ensures read { IsRead C.Store F.shape H.Digest.bytes H.hash log.old log.new }
-    ensures error { IfErr result (IsReadError C.Store log.old log.new) }
-    ensures pruned { log.old.tree.start ≤ path.now.base.floor → IfErr result (λ e. (n : ℕ) → e ≢ Error.Journal (JournalError.ItemPruned n)) }
+    ensures read { IsRead L.reads log.old log.new }
+    ensures error { IfErr result (IsReadError L.reads log.old log.new) }
+    ensures pruned { (L.reads.start log.old) ≤ path.now.base.floor → IfErr result (λ e. (n : ℕ) → e ≢ Error.Journal (JournalError.ItemPruned n)) }
 {
     let floor = path.base.floor.get();
     let tip = floor.max(path.base.size + path.made.len() as u64);

@@ -14,7 +14,7 @@ returns-in-Some-2-clause-value g c = λ lent base is from ring_lent ring_base.
     let key = g.U.Key.ByteString.bytes c.args.key.now in
     let value = g.U.Value.ByteString.bytes in
     let layers = map (λ l. l.value) c.args.layers.now in
-    told-any _ (g.C.Store.told c.args.log.now.store)
+    told-any _ (g.L.Items.reads.told c.args.log.now)
     (holder-some _ base key c.in_ok-found-in-Some.field-0 c.in-Some-2.found _
     (layer-update layers lent base from key c.in-Some.layer.now (change_view value c.in-Some.entry.now)
     (ap (option_map (λ p. (p.0.now, change_view value p.1.now))) (sym c.in-Some.is) ∙ c.newest.ensures ∙ ap (nearest_layer layers) c.as_bytes.ensures.value))
@@ -25,7 +25,7 @@ returns-in-None-2-clause-value g c = λ lent base is from ring_lent ring_base.
     let key = g.U.Key.ByteString.bytes c.args.key.now in
     let value = g.U.Value.ByteString.bytes in
     let layers = map (λ l. l.value) c.args.layers.now in
-    told-one _ _ (g.C.Store.told c.args.log.now.store) (c.previous.ensures.value lent base is from ring_lent ring_base) (λ found.
+    told-one _ _ (g.L.Items.reads.told c.args.log.now) (c.previous.ensures.value lent base is from ring_lent ring_base) (λ found.
     ok-same c.previous.result _ _ _
     (holder-none _ base key c.in_ok-found-in-Some.field-0 _
     (layer-update layers lent base from key c.in-Some.layer.now (change_view value c.in-Some.entry.now)
@@ -40,7 +40,7 @@ returns-in_ok-own_or_nearer-in-None-clause-value g c = λ lent base is from ring
     let layers = map (λ l. l.value) c.args.layers.now in
     let key_bytes = g.U.Key.ByteString.are_bytes key (sym (ap g.U.Key.ByteString.has c.as_bytes.ensures.value) ∙ c.as_bytes.ensures.known) in
     let none = sym (ap (option_map (λ p. (p.0.now, change_view value p.1.now))) (sym c.in-None.is) ∙ c.newest.ensures ∙ ap (nearest_layer layers) c.as_bytes.ensures.value) in
-    told-one _ _ (g.C.Store.told c.args.log.now.store) (c.in_ok-lent-in-None.ensures.value lent is) (λ found.
+    told-one _ _ (g.L.Items.reads.told c.args.log.now) (c.in_ok-lent-in-None.ensures.value lent is) (λ found.
     c.in_ok-own_or_nearer-in-None.ensures
     ∙ holder-read form g.met.U.Steps.known_bytes g.I.Unordered.index_key (g.met.U.Steps.monotone c.requires) (g.I.Unordered.entries c.args.index.now) c.last_lent.ensures.index
     layers lent base is.indexed is.of from ring_lent ring_base key key_bytes _ _ _ _ c.as_bytes-in-None.ensures.value c.as_bytes-in-None-2.ensures.value c.as_bytes-in-None-3.ensures.value none found)
@@ -48,10 +48,10 @@ returns-in_ok-own_or_nearer-in-None-clause-value g c = λ lent base is from ring
 pub returns-in_err-found-in-Some-clause-value : goal.returns-in_err-found-in-Some-clause-value
 returns-in_err-found-in-Some-clause-value g c = λ lent base is from ring_lent ring_base.
     let exit = err_from_is_err_and c.from_residual.result c.from_residual.ensures.1 in
-    told-err _ (g.C.Store.told c.args.log.now.store) c.from_residual.result exit.0 exit.1
+    told-err _ (g.L.Items.reads.told c.args.log.now) c.from_residual.result exit.0 exit.1
 
 pub returns-in_err-found-in-Some-clause-read : goal.returns-in_err-found-in-Some-clause-read
-returns-in_err-found-in-Some-clause-read g c = read-none g.C.Store g.F.Family.shape g.H.Digest.Digest.bytes g.H.Hasher.hash c.args.log.now
+returns-in_err-found-in-Some-clause-read g c = read-none g.L.Items.reads g.met.L.Items.unread c.args.log.now
 
 pub returns-in_err-found-in-Some-clause-error : goal.returns-in_err-found-in-Some-clause-error
 returns-in_err-found-in-Some-clause-error g c =
@@ -66,7 +66,7 @@ returns-in_err-found-in-Some-clause-whole g c = λ lent is none.
 pub returns-in_err-lent-in-None-clause-value : goal.returns-in_err-lent-in-None-clause-value
 returns-in_err-lent-in-None-clause-value g c = λ lent base is from ring_lent ring_base.
     let exit = err_from_is_err_and c.from_residual-in_err-lent-in-None.result c.from_residual-in_err-lent-in-None.ensures.1 in
-    told-err _ (g.C.Store.told c.args.log.now.store) c.from_residual-in_err-lent-in-None.result exit.0 exit.1
+    told-err _ (g.L.Items.reads.told c.args.log.now) c.from_residual-in_err-lent-in-None.result exit.0 exit.1
 
 pub returns-in_err-lent-in-None-clause-read : goal.returns-in_err-lent-in-None-clause-read
 returns-in_err-lent-in-None-clause-read g c = c.last_lent.ensures.read
@@ -84,7 +84,7 @@ returns-in_err-lent-in-None-clause-whole g c = λ lent is none.
 pub returns-in_err-own_or_nearer-in-None-clause-value : goal.returns-in_err-own_or_nearer-in-None-clause-value
 returns-in_err-own_or_nearer-in-None-clause-value g c = λ lent base is from ring_lent ring_base.
     let exit = err_from_is_err_and c.from_residual-in_err-own_or_nearer-in-None.result c.from_residual-in_err-own_or_nearer-in-None.ensures.1 in
-    told-err _ (g.C.Store.told c.args.log.now.store) c.from_residual-in_err-own_or_nearer-in-None.result exit.0 exit.1
+    told-err _ (g.L.Items.reads.told c.args.log.now) c.from_residual-in_err-own_or_nearer-in-None.result exit.0 exit.1
 
 pub returns-in_err-own_or_nearer-in-None-clause-read : goal.returns-in_err-own_or_nearer-in-None-clause-read
 returns-in_err-own_or_nearer-in-None-clause-read g c = c.last_lent.ensures.read

@@ -5,5 +5,5 @@ use Rattle.qm_batch.proofs.neighbours.next_key.Goals as goal
 
 pub returns-clause-value : goal.returns-clause-value
 returns-clause-value g c = λ lent base is from ring_lent ring_base.
-    told-one _ _ (g.C.Store.told c.args.log.now.store) (c.in_ok-found.ensures.value lent base is from ring_lent ring_base) (λ found.
+    told-one _ _ (g.L.Items.reads.told c.args.log.now) (c.in_ok-found.ensures.value lent base is from ring_lent ring_base) (λ found.
     c.in_ok-next_above.ensures ∙ above-read base (g.U.Key.ByteString.bytes c.args.key.now) c.as_bytes.result.now _ ring_base c.as_bytes.ensures.value found)

@@ -8,7 +8,7 @@ returns-clause-value g c = λ lent base is from ring_lent ring_base.
     let form = g.U.Update.form in
     let key = g.U.Key.ByteString.bytes c.args.key.now in
     let key_bytes = g.U.Key.ByteString.are_bytes key (sym (ap g.U.Key.ByteString.has c.as_bytes.ensures.value) ∙ c.as_bytes.ensures.known) in
-    told-one _ _ (g.C.Store.told c.args.log.now.store) (c.in_ok-lent.ensures.value lent is) (λ found.
+    told-one _ _ (g.L.Items.reads.told c.args.log.now) (c.in_ok-lent.ensures.value lent is) (λ found.
     c.in_ok-nearer.ensures
     ∙ previous-read form g.met.U.Steps.known_bytes g.I.Unordered.index_key (g.met.U.Steps.monotone c.requires) (g.I.Unordered.entries c.args.index.now) c.last_lent.ensures.index
     (map (λ l. l.value) c.args.layers.now) lent base is.indexed is.of from ring_lent ring_base key key_bytes _ _ _ _ c.as_bytes.ensures.value c.as_bytes-2.ensures.value c.as_bytes-3.ensures.value found)

@@ -43,8 +43,8 @@ returns-clause-own g c = λ lent base ws is active on lent_ring ring.
     c.made_inactive.ensures ∙ ap (λ n. n + live - behind) (ap length c.deref-2.ensures.value ∙ sym (length-map touches view))
     ∙ are-inactive kind rules policy next base ws (map view touches) written.operations written.from written.keyed written.once live behind (on.known).live count in
     let read = c.walk_from.ensures.read in
-    let mid = lent-then g.C.Store g.F.Family.shape g.H.Digest.Digest.bytes g.H.Hasher.hash _ g.I.Unordered.index_key (g.I.Unordered.entries c.args.path.index.now) c.args.log.now c.walk_from.new.log lent read is in
-    told-then _ _ (g.C.Store.told c.args.log.now.store) (c.in_ok-walked.ensures.value lent base list is active on) (λ are.
+    let mid = lent-then g.L.Items.reads _ g.I.Unordered.index_key (g.I.Unordered.entries c.args.path.index.now) c.args.log.now c.walk_from.new.log lent read is in
+    told-then _ _ (g.L.Items.reads.told c.args.log.now) (c.in_ok-walked.ensures.value lent base list is active on) (λ are.
     let limits = ap₂ (λ e s. walk rules list (floor base) (record { entries = e; skips = s }) policy)
     (c.limits-limits.ensures.entries ∙ ap (λ n. (rules.limits policy n).entries) inactive) (c.limits-limits.ensures.skips ∙ ap (λ n. (rules.limits policy n).skips) inactive) in
     let apart = decided-apart rules base list (floor base) _ policy next ds end are in
@@ -53,7 +53,7 @@ returns-clause-own g c = λ lent base ws is active on lent_ring ring.
     let own = c.in_ok-own.own in
     let floors = c.in_ok-own.ensures.floor in
     let keys = c.in_ok-own.ensures.live ∙ ap (λ n. behind - n) (sym (evicted-shown key value c.in_ok-walked.walked.decided.items)) in
-    told-one _ _ (g.C.Store.told c.args.log.now.store) (told _ _ _ read.kept.told (c.in_ok-own.ensures.touches lent base ws mid on lent_ring ring are.from apart)) (λ same.
+    told-one _ _ (g.L.Items.reads.told c.args.log.now) (told _ _ _ read.told (c.in_ok-own.ensures.touches lent base ws mid on lent_ring ring are.from apart)) (λ same.
     subst (λ (n : ℕ). AreOwn kind rules policy next (map view own.touches.items) own.live n base ws) (sym floors)
     (subst (λ (n : ℕ). AreOwn kind rules policy next (map view own.touches.items) n end base ws) (sym keys)
     (subst (λ (ts : List Touch). AreOwn kind rules policy next ts (behind - count_by (λ (d : Decided). is_none d.value) ds) end base ws) (sym same) all_own))))
@@ -68,19 +68,19 @@ returns-clause-count g c =
     omega (arith, same, live, more, bound, low)
 
 pub returns-in_err-own-clause-read : goal.returns-in_err-own-clause-read
-returns-in_err-own-clause-read g c = read-then g.C.Store g.F.Family.shape g.H.Digest.Digest.bytes g.H.Hasher.hash c.args.log.now c.walk_from.new.log c.own_of.new.log c.walk_from.ensures.read c.own_of.ensures.read
+returns-in_err-own-clause-read g c = read-then g.L.Items.reads g.met.L.Items.read_again c.args.log.now c.walk_from.new.log c.own_of.new.log c.walk_from.ensures.read c.own_of.ensures.read
 
 pub returns-in_err-own-clause-error : goal.returns-in_err-own-clause-error
 returns-in_err-own-clause-error g c =
     let exit = err_from_is_err_and c.from_residual-in_err-own.result c.from_residual-in_err-own.ensures.1 in
-    rw (exit.1, exit.2) (error-then g.C.Store g.F.Family.shape g.H.Digest.Digest.bytes g.H.Hasher.hash c.args.log.now c.walk_from.new.log c.own_of.new.log _ c.walk_from.ensures.read c.in_err-own.ensures.error)
+    rw (exit.1, exit.2) (error-then g.L.Items.reads g.met.L.Items.failed_later c.args.log.now c.walk_from.new.log c.own_of.new.log _ c.walk_from.ensures.read c.in_err-own.ensures.error)
 
 pub returns-in_err-own-clause-whole : goal.returns-in_err-own-clause-whole
 returns-in_err-own-clause-whole g c = λ lent is none above.
     let exit = err_from_is_err_and c.from_residual-in_err-own.result c.from_residual-in_err-own.ensures.1 in
     let read = c.walk_from.ensures.read in
-    let mid = lent-then g.C.Store g.F.Family.shape g.H.Digest.Digest.bytes g.H.Hasher.hash _ g.I.Unordered.index_key (g.I.Unordered.entries c.args.path.index.now) c.args.log.now c.walk_from.new.log lent read is in
-    rw (exit.1, exit.2) (c.in_err-own.ensures.whole lent mid (subst (λ n. NoneBelow n lent) (sym (ap (λ t. t.start) read.tree)) none))
+    let mid = lent-then g.L.Items.reads _ g.I.Unordered.index_key (g.I.Unordered.entries c.args.path.index.now) c.args.log.now c.walk_from.new.log lent read is in
+    rw (exit.1, exit.2) (c.in_err-own.ensures.whole lent mid (subst (λ n. NoneBelow n lent) (sym (read.start)) none))
 
 pub returns-clause-read : goal.returns-clause-read
-returns-clause-read g c = read-then g.C.Store g.F.Family.shape g.H.Digest.Digest.bytes g.H.Hasher.hash c.args.log.now c.walk_from.new.log c.own_of.new.log c.walk_from.ensures.read c.own_of.ensures.read
+returns-clause-read g c = read-then g.L.Items.reads g.met.L.Items.read_again c.args.log.now c.walk_from.new.log c.own_of.new.log c.walk_from.ensures.read c.own_of.ensures.read

@@ -17,6 +17,6 @@ returns-clause-touches g c = λ lent base ws is on lent_ring ring are apart.
     let made = touch_views g.U.Update.view key value c.args.path.made.items in
     let ds = decided_views key value c.args.walked.decided.items in
     let path = path_view g.U.Update.view key value c.args.path in
-    told-one _ _ (g.C.Store.told c.args.log.now.store)
+    told-one _ _ (g.L.Items.reads.told c.args.log.now)
     (c.in_ok-touches.ensures.value lent base ws is on.known lent_ring ring (path-written kind path lent base ws on) (subst (λ ops. All (IsDecided base ops) ds) (sym on.makes) are) apart) (λ moved.
     moved ∙ ap (λ ops. made ++ map (touch_in base) (kind.moves ops (map write_for ds))) on.makes)

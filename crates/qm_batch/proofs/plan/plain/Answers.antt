@@ -11,10 +11,10 @@ use Rattle.qm_batch.proofs.plan.plain.Goals as goal
 pub returns-clause-plan : goal.returns-clause-plan
 returns-clause-plan g c = λ lent base is active from lent_ring ring.
     subst
-    (λ (ws : List Write). IfSome (g.C.Store.told c.args.log.now.store) (λ _. IfOk c.staged.result (λ plan. IsPlan plan base (step (kind_of g.U.Update.form) g.P.Policy.rules base ws c.args.policy.now (option_map g.U.Value.ByteString.bytes c.args.metadata)))))
+    (λ (ws : List Write). IfSome (g.L.Items.reads.told c.args.log.now) (λ _. IfOk c.staged.result (λ plan. IsPlan plan base (step (kind_of g.U.Update.form) g.P.Policy.rules base ws c.args.policy.now (option_map g.U.Value.ByteString.bytes c.args.metadata)))))
     (slotted-none (map (write_view g.U.Key.ByteString.bytes g.U.Value.ByteString.bytes) c.args.writes.now)) (c.staged.ensures.plan lent base is active from lent_ring ring (All-nil _))
 
 pub returns-clause-next : goal.returns-clause-next
 returns-clause-next g c = λ lent base is active from lent_ring ring.
-    subst (λ (ws : List Write). IfSome (g.C.Store.told c.args.log.now.store) (λ _. IfOk c.staged.result (λ _. c.staged.new.policy ≡ policy_after (kind_of g.U.Update.form) g.P.Policy.rules base ws c.args.policy.now)))
+    subst (λ (ws : List Write). IfSome (g.L.Items.reads.told c.args.log.now) (λ _. IfOk c.staged.result (λ _. c.staged.new.policy ≡ policy_after (kind_of g.U.Update.form) g.P.Policy.rules base ws c.args.policy.now)))
     (slotted-none (map (write_view g.U.Key.ByteString.bytes g.U.Value.ByteString.bytes) c.args.writes.now)) (c.staged.ensures.next lent base is active from lent_ring ring (All-nil _))

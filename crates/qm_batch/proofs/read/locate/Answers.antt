@@ -13,7 +13,7 @@ returns-in_ok-stands_by-in-Some-clause-value g c = λ lent base is from.
     let key = g.U.Key.ByteString.bytes c.args.key.now in
     let value = g.U.Value.ByteString.bytes in
     let layers = map (λ l. l.value) c.args.layers.now in
-    told-any _ (g.C.Store.told c.args.log.now.store)
+    told-any _ (g.L.Items.reads.told c.args.log.now)
     (c.in_ok-stands_by-in-Some.ensures
     ∙ ap (option_map link_of) (sym (layer-update layers lent base from key c.in-Some.layer.now (change_view value c.in-Some.entry.now)
     (ap (option_map (λ p. (p.0.now, change_view value p.1.now))) (sym c.in-Some.is) ∙ c.newest.ensures ∙ ap (nearest_layer layers) c.as_bytes.ensures.value)))
@@ -24,7 +24,7 @@ returns-in_ok-stands-in-None-clause-value g c = λ lent base is from.
     let key = g.U.Key.ByteString.bytes c.args.key.now in
     let value = g.U.Value.ByteString.bytes in
     let layers = map (λ l. l.value) c.args.layers.now in
-    told-one _ _ (g.C.Store.told c.args.log.now.store) (c.in_ok-found-in-None.ensures.value lent is) (λ found.
+    told-one _ _ (g.L.Items.reads.told c.args.log.now) (c.in_ok-found-in-None.ensures.value lent is) (λ found.
     c.in_ok-stands-in-None.ensures ∙ ap (option_map link_of) (found ∙ sym (lent-update layers lent base from key
     (ap (option_map (λ p. (p.0.now, change_view value p.1.now))) (sym c.in-None.is) ∙ c.newest.ensures ∙ ap (nearest_layer layers) c.as_bytes.ensures.value)))
     ∙ link-of_update base key)

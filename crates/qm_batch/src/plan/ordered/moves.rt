@@ -11,39 +11,37 @@ ghost use Rattle.qm_step.specs.PlanViews.{decided_view, decided_views, touch_vie
 ghost use Rattle.qm_step.specs.Touches.{IsFrom, operations_of};
 ghost use Rattle.qm_step.specs.Views.{read_view};
 
+use crate::items::Items;
 use crate::kind::Steps;
 use crate::neighbours::previous;
-use qm_base::{Error, Hasher, JournalError, Location};
-use qm_merkle::Family;
+use qm_base::{Error, JournalError, Location};
 use qm_step::decided::{Decided, evicted};
 use qm_step::moves::layers_over;
 use qm_step::touch::Touch;
 use qm_step::writes::push_some;
 use qm_step::{Base, Layer};
-use qm_store::{AuthLog, Store};
 use std::alloc::Global;
 use std::rc::Rc;
 
 // The live update before a key that goes.
 fn before_gone<
-    F: Family,
+    F,
     I: qm_index::Unordered<Value = Location<F>>,
-    C: Store,
-    H: Hasher + Drop,
+    L: Items,
     U: Steps<F, I>,
 >(
     alloc: Global,
     index: &I,
-    log: &mut AuthLog<F, C, H>,
+    log: &mut L,
     layers: &[Rc<Layer<F, U>>],
     one: &Decided<U::Key, U::Value>,
 ) -> Result<Option<(Location<F>, U)>, Error>
     requires { U.form.ordered ≡ true }
-    ensures value { (lent list : List model.Operation) → IsLent C.Store F.shape H.Digest.bytes H.hash U.form I.index_key (I.entries index.now) log.old lent → LeadOver (map (λ l. l.value) layers.now) lent list
-        → IsRing lent → IsRing list → IfSome (C.told log.old.store) (λ _. IfOk result (λ found. option_map (read_view U.view) found ≡ before_evicted list (decided_view U.Key.bytes U.Value.bytes one.now))) }
-    ensures read { IsRead C.Store F.shape H.Digest.bytes H.hash log.old log.new }
-    ensures error { IfErr result (IsReadError C.Store log.old log.new) }
-    ensures whole { (lent : List model.Operation) → IsLent C.Store F.shape H.Digest.bytes H.hash U.form I.index_key (I.entries index.now) log.old lent → NoneBelow log.old.tree.start lent
+    ensures value { (lent list : List model.Operation) → IsLent L.reads U.form I.index_key (I.entries index.now) log.old lent → LeadOver (map (λ l. l.value) layers.now) lent list
+        → IsRing lent → IsRing list → IfSome (L.reads.told log.old) (λ _. IfOk result (λ found. option_map (read_view U.view) found ≡ before_evicted list (decided_view U.Key.bytes U.Value.bytes one.now))) }
+    ensures read { IsRead L.reads log.old log.new }
+    ensures error { IfErr result (IsReadError L.reads log.old log.new) }
+    ensures whole { (lent : List model.Operation) → IsLent L.reads U.form I.index_key (I.entries index.now) log.old lent → NoneBelow (L.reads.start log.old) lent
         → IfErr result (λ e. (n : ℕ) → e ≢ Error.Journal (JournalError.ItemPruned n)) }
 {
     match &one.value {
@@ -54,24 +52,23 @@ fn before_gone<
 
 // The live updates before the keys that go.
 fn find_before<
-    F: Family,
+    F,
     I: qm_index::Unordered<Value = Location<F>>,
-    C: Store,
-    H: Hasher + Drop,
+    L: Items,
     U: Steps<F, I>,
 >(
     alloc: Global,
     index: &I,
-    log: &mut AuthLog<F, C, H>,
+    log: &mut L,
     layers: &[Rc<Layer<F, U>>],
     decided: &[Decided<U::Key, U::Value>],
 ) -> Result<Vec<(Location<F>, U)>, Error>
     requires { U.form.ordered ≡ true }
-    ensures value { (lent list : List model.Operation) → IsLent C.Store F.shape H.Digest.bytes H.hash U.form I.index_key (I.entries index.now) log.old lent → LeadOver (map (λ l. l.value) layers.now) lent list
-        → IsRing lent → IsRing list → IfSome (C.told log.old.store) (λ _. IfOk result (λ found. map (read_view U.view) found.items ≡ filter_map (before_evicted list) (decided_views U.Key.bytes U.Value.bytes decided.now))) }
-    ensures read { IsRead C.Store F.shape H.Digest.bytes H.hash log.old log.new }
-    ensures error { IfErr result (IsReadError C.Store log.old log.new) }
-    ensures whole { (lent : List model.Operation) → IsLent C.Store F.shape H.Digest.bytes H.hash U.form I.index_key (I.entries index.now) log.old lent → NoneBelow log.old.tree.start lent
+    ensures value { (lent list : List model.Operation) → IsLent L.reads U.form I.index_key (I.entries index.now) log.old lent → LeadOver (map (λ l. l.value) layers.now) lent list
+        → IsRing lent → IsRing list → IfSome (L.reads.told log.old) (λ _. IfOk result (λ found. map (read_view U.view) found.items ≡ filter_map (before_evicted list) (decided_views U.Key.bytes U.Value.bytes decided.now))) }
+    ensures read { IsRead L.reads log.old log.new }
+    ensures error { IfErr result (IsReadError L.reads log.old log.new) }
+    ensures whole { (lent : List model.Operation) → IsLent L.reads U.form I.index_key (I.entries index.now) log.old lent → NoneBelow (L.reads.start log.old) lent
         → IfErr result (λ e. (n : ℕ) → e ≢ Error.Journal (JournalError.ItemPruned n)) }
 {
     let mut all = Vec::new(alloc);
@@ -85,26 +82,25 @@ fn find_before<
 /// The live updates of an ordered list with the operations of writes before the keys of it that go. Where none goes, or in
 /// an unordered database, nothing is looked for.
 pub(crate) fn befores_of<
-    F: Family,
+    F,
     I: qm_index::Unordered<Value = Location<F>>,
-    C: Store,
-    H: Hasher + Drop,
+    L: Items,
     U: Steps<F, I>,
 >(
     alloc: Global,
     index: &I,
-    log: &mut AuthLog<F, C, H>,
+    log: &mut L,
     base: &Base<'_, F, U>,
     made: &[Touch<F, U>],
     decided: &[Decided<U::Key, U::Value>],
 ) -> Result<Vec<(Location<F>, U)>, Error>
     requires { base.now.size ≤ 2 ^ 62 }
-    ensures value { (lent list : List model.Operation) → U.form.ordered ≡ true → IsLent C.Store F.shape H.Digest.bytes H.hash U.form I.index_key (I.entries index.now) log.old lent → IsBase (base_view base.now) lent list
+    ensures value { (lent list : List model.Operation) → U.form.ordered ≡ true → IsLent L.reads U.form I.index_key (I.entries index.now) log.old lent → IsBase (base_view base.now) lent list
         → IsRing lent → IsRing (list ++ operations_of (touch_views U.view U.Key.bytes U.Value.bytes made.now)) → All (IsFrom list) (touch_views U.view U.Key.bytes U.Value.bytes made.now)
-        → IfSome (C.told log.old.store) (λ _. IfOk result (λ found. map (read_view U.view) found.items ≡ filter_map (before_evicted (list ++ operations_of (touch_views U.view U.Key.bytes U.Value.bytes made.now))) (decided_views U.Key.bytes U.Value.bytes decided.now))) }
-    ensures read { IsRead C.Store F.shape H.Digest.bytes H.hash log.old log.new }
-    ensures error { IfErr result (IsReadError C.Store log.old log.new) }
-    ensures whole { (lent : List model.Operation) → IsLent C.Store F.shape H.Digest.bytes H.hash U.form I.index_key (I.entries index.now) log.old lent → NoneBelow log.old.tree.start lent
+        → IfSome (L.reads.told log.old) (λ _. IfOk result (λ found. map (read_view U.view) found.items ≡ filter_map (before_evicted (list ++ operations_of (touch_views U.view U.Key.bytes U.Value.bytes made.now))) (decided_views U.Key.bytes U.Value.bytes decided.now))) }
+    ensures read { IsRead L.reads log.old log.new }
+    ensures error { IfErr result (IsReadError L.reads log.old log.new) }
+    ensures whole { (lent : List model.Operation) → IsLent L.reads U.form I.index_key (I.entries index.now) log.old lent → NoneBelow (L.reads.start log.old) lent
         → IfErr result (λ e. (n : ℕ) → e ≢ Error.Journal (JournalError.ItemPruned n)) }
 {
     if !U::is_ordered() || evicted(decided) == 0 {

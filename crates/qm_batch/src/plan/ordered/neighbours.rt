@@ -10,40 +10,38 @@ ghost use Rattle.qm_step.specs.OrderedViews.{neighbour_view};
 ghost use Rattle.qm_step.specs.PlanViews.{linked_view};
 ghost use Rattle.qm_step.specs.Rings.{linked_in, neighbour_in};
 
+use crate::items::Items;
 use crate::kind::Steps;
 use crate::neighbours::previous;
-use qm_base::{Error, Hasher, JournalError, Location};
-use qm_merkle::Family;
+use qm_base::{Error, JournalError, Location};
 use qm_step::Layer;
 use qm_step::neighbour::{Neighbour, is_changed};
 use qm_step::site::Site;
 use qm_step::writes::push_some;
-use qm_store::{AuthLog, Store};
 use std::alloc::Global;
 use std::rc::Rc;
 
 // What stands in the base list before the key of a write that creates or deletes it.
 fn find_neighbour<
     'a,
-    F: Family,
+    F,
     I: qm_index::Unordered<Value = Location<F>>,
-    C: Store,
-    H: Hasher + Drop,
+    L: Items,
     U: Steps<F, I>,
 >(
     alloc: Global,
     index: &I,
-    log: &mut AuthLog<F, C, H>,
+    log: &mut L,
     layers: &[Rc<Layer<F, U>>],
     site: &Site<'a, U::Key, U::Value>,
 ) -> Result<Option<Neighbour<'a, F, U>>, Error>
     requires { U.form.ordered ≡ true }
-    ensures value { (lent base : List operations.Operation) (w : model.Write) → IsLent C.Store F.shape H.Digest.bytes H.hash U.form I.index_key (I.entries index.now) log.old lent → LeadOver (map (λ l. l.value) layers.now) lent base
+    ensures value { (lent base : List operations.Operation) (w : model.Write) → IsLent L.reads U.form I.index_key (I.entries index.now) log.old lent → LeadOver (map (λ l. l.value) layers.now) lent base
         → IsRing lent → IsRing base → linked_view U.Key.bytes U.Value.bytes site.now ≡ linked_in base w
-        → IfSome (C.told log.old.store) (λ _. IfOk result (λ neighbour. option_map (neighbour_view U.view U.Key.bytes) neighbour ≡ neighbour_in base w)) }
-    ensures read { IsRead C.Store F.shape H.Digest.bytes H.hash log.old log.new }
-    ensures error { IfErr result (IsReadError C.Store log.old log.new) }
-    ensures whole { (lent : List operations.Operation) → IsLent C.Store F.shape H.Digest.bytes H.hash U.form I.index_key (I.entries index.now) log.old lent → NoneBelow log.old.tree.start lent
+        → IfSome (L.reads.told log.old) (λ _. IfOk result (λ neighbour. option_map (neighbour_view U.view U.Key.bytes) neighbour ≡ neighbour_in base w)) }
+    ensures read { IsRead L.reads log.old log.new }
+    ensures error { IfErr result (IsReadError L.reads log.old log.new) }
+    ensures whole { (lent : List operations.Operation) → IsLent L.reads U.form I.index_key (I.entries index.now) log.old lent → NoneBelow (L.reads.start log.old) lent
         → IfErr result (λ e. (n : ℕ) → e ≢ Error.Journal (JournalError.ItemPruned n)) }
 {
     if !is_changed(site) {
@@ -59,25 +57,24 @@ fn find_neighbour<
 // What stands in the base list before each key that a write creates or deletes, in the order of the writes.
 fn find_neighbours<
     'a,
-    F: Family,
+    F,
     I: qm_index::Unordered<Value = Location<F>>,
-    C: Store,
-    H: Hasher + Drop,
+    L: Items,
     U: Steps<F, I>,
 >(
     alloc: Global,
     index: &I,
-    log: &mut AuthLog<F, C, H>,
+    log: &mut L,
     layers: &[Rc<Layer<F, U>>],
     sites: &[Site<'a, U::Key, U::Value>],
 ) -> Result<Vec<Neighbour<'a, F, U>>, Error>
     requires { U.form.ordered ≡ true }
-    ensures value { (lent base : List operations.Operation) (ws : List model.Write) → IsLent C.Store F.shape H.Digest.bytes H.hash U.form I.index_key (I.entries index.now) log.old lent → LeadOver (map (λ l. l.value) layers.now) lent base
+    ensures value { (lent base : List operations.Operation) (ws : List model.Write) → IsLent L.reads U.form I.index_key (I.entries index.now) log.old lent → LeadOver (map (λ l. l.value) layers.now) lent base
         → IsRing lent → IsRing base → map (linked_view U.Key.bytes U.Value.bytes) sites.now ≡ map (linked_in base) ws
-        → IfSome (C.told log.old.store) (λ _. IfOk result (λ neighbours. map (neighbour_view U.view U.Key.bytes) neighbours.items ≡ filter_map (neighbour_in base) ws)) }
-    ensures read { IsRead C.Store F.shape H.Digest.bytes H.hash log.old log.new }
-    ensures error { IfErr result (IsReadError C.Store log.old log.new) }
-    ensures whole { (lent : List operations.Operation) → IsLent C.Store F.shape H.Digest.bytes H.hash U.form I.index_key (I.entries index.now) log.old lent → NoneBelow log.old.tree.start lent
+        → IfSome (L.reads.told log.old) (λ _. IfOk result (λ neighbours. map (neighbour_view U.view U.Key.bytes) neighbours.items ≡ filter_map (neighbour_in base) ws)) }
+    ensures read { IsRead L.reads log.old log.new }
+    ensures error { IfErr result (IsReadError L.reads log.old log.new) }
+    ensures whole { (lent : List operations.Operation) → IsLent L.reads U.form I.index_key (I.entries index.now) log.old lent → NoneBelow (L.reads.start log.old) lent
         → IfErr result (λ e. (n : ℕ) → e ≢ Error.Journal (JournalError.ItemPruned n)) }
 {
     let mut neighbours = Vec::new(alloc);
@@ -92,24 +89,23 @@ fn find_neighbours<
 /// unordered database nothing is looked for.
 pub(crate) fn neighbours_of<
     'a,
-    F: Family,
+    F,
     I: qm_index::Unordered<Value = Location<F>>,
-    C: Store,
-    H: Hasher + Drop,
+    L: Items,
     U: Steps<F, I>,
 >(
     alloc: Global,
     index: &I,
-    log: &mut AuthLog<F, C, H>,
+    log: &mut L,
     layers: &[Rc<Layer<F, U>>],
     sites: &[Site<'a, U::Key, U::Value>],
 ) -> Result<Vec<Neighbour<'a, F, U>>, Error>
-    ensures value { (lent base : List operations.Operation) (ws : List model.Write) → U.form.ordered ≡ true → IsLent C.Store F.shape H.Digest.bytes H.hash U.form I.index_key (I.entries index.now) log.old lent → LeadOver (map (λ l. l.value) layers.now) lent base
+    ensures value { (lent base : List operations.Operation) (ws : List model.Write) → U.form.ordered ≡ true → IsLent L.reads U.form I.index_key (I.entries index.now) log.old lent → LeadOver (map (λ l. l.value) layers.now) lent base
         → IsRing lent → IsRing base → map (linked_view U.Key.bytes U.Value.bytes) sites.now ≡ map (linked_in base) ws
-        → IfSome (C.told log.old.store) (λ _. IfOk result (λ neighbours. map (neighbour_view U.view U.Key.bytes) neighbours.items ≡ filter_map (neighbour_in base) ws)) }
-    ensures read { IsRead C.Store F.shape H.Digest.bytes H.hash log.old log.new }
-    ensures error { IfErr result (IsReadError C.Store log.old log.new) }
-    ensures whole { (lent : List operations.Operation) → IsLent C.Store F.shape H.Digest.bytes H.hash U.form I.index_key (I.entries index.now) log.old lent → NoneBelow log.old.tree.start lent
+        → IfSome (L.reads.told log.old) (λ _. IfOk result (λ neighbours. map (neighbour_view U.view U.Key.bytes) neighbours.items ≡ filter_map (neighbour_in base) ws)) }
+    ensures read { IsRead L.reads log.old log.new }
+    ensures error { IfErr result (IsReadError L.reads log.old log.new) }
+    ensures whole { (lent : List operations.Operation) → IsLent L.reads U.form I.index_key (I.entries index.now) log.old lent → NoneBelow (L.reads.start log.old) lent
         → IfErr result (λ e. (n : ℕ) → e ≢ Error.Journal (JournalError.ItemPruned n)) }
 {
     if U::is_ordered() {

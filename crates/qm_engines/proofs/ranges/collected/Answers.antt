@@ -4,8 +4,8 @@ use Rattle.std.proofs.lemmas.List.{append-nil, length-append}
 use Rattle.std.proofs.lemmas.Result.{err_from_is_err_and}
 use Rattle.qm_any.proofs.OrderedReads.{laid_out}
 use Rattle.qm_any.proofs.Reading.{left-then, left-error, left-database}
-use Rattle.qm_batch.specs.Lent.{IsReadError, NoneBelow}
-use Rattle.qm_merkle.specs.Mems.{Kept}
+use Rattle.qm_batch.specs.Logs.{IsReadError}
+use Rattle.qm_batch.specs.Lent.{NoneBelow}
 use Rattle.qm_base.specs.declared.error.Error.TheVariants.{Journal}
 use Rattle.qm_base.specs.declared.error.JournalError.TheVariants.{ItemPruned}
 use Rattle.qm_base.specs.Views.{pair_view}
@@ -25,7 +25,7 @@ returns-in_err-next-in-Some-clause-whole g c = λ list stands none.
     let layout = laid_out g.H.Digest.Digest.bytes g.H.Hasher.hash g.F.Family.shape g.U.Update.form g.I.Unordered.index_key in
     let exit = err_from_is_err_and c.from_residual.result c.from_residual.ensures.1 in
     let mid = left-database g.C.Store layout c.args.db.now c.loop.db list c.loop.invariant.left stands in
-    let still = subst (λ (tree : Kept _). NoneBelow tree.start list) (sym (c.loop.invariant.left).read.tree) none in
+    let still = subst (λ t. NoneBelow t list) (sym (c.loop.invariant.left).read.start) none in
     rw (exit.1, exit.2) (subst (λ r. IfErr r (λ e. (n : ℕ) → e ≢ Journal (ItemPruned n))) c.in_err-next-in-Some.was (c.in-Some.ensures.whole list mid still))
 
 pub returns-in-None-clause-pairs : goal.returns-in-None-clause-pairs

@@ -14,12 +14,12 @@ pub loop-location-preserved : goal.loop-location-preserved
 loop-location-preserved g c =
     let read = c.loop-location.invariant.read in
     record {
-      read = read-then g.C.Store g.F.Family.shape g.H.Digest.Digest.bytes g.H.Hasher.hash c.args.log.now c.loop-location.log c.read_in.new.log read c.read_in.ensures.read;
+      read = read-then g.L.Items.reads g.met.L.Items.read_again c.args.log.now c.loop-location.log c.read_in.new.log read c.read_in.ensures.read;
       value = λ list is of.
           let low = limit_view c.args.low in
           let high = limit_view c.args.high in
-          told-both _ _ _ (g.C.Store.told c.args.log.now.store) (c.loop-location.invariant.value list is of)
-          (told _ _ _ read.kept.told (c.in_ok-update.ensures.value list (read.stands _ is) of)) (λ before said.
+          told-both _ _ _ (g.L.Items.reads.told c.args.log.now) (c.loop-location.invariant.value list is of)
+          (told _ _ _ read.told (c.in_ok-update.ensures.value list (read.stands _ is) of)) (λ before said.
           c.in_ok-put.ensures
           ∙ ap₂ put_said before said
           ∙ ap (put_at low high list _) (c.get.ensures ∙ c.location-item.is)
@@ -29,9 +29,9 @@ loop-location-preserved g c =
 pub returns-in_err-update-clause-error : goal.returns-in_err-update-clause-error
 returns-in_err-update-clause-error g c =
     let exit = err_from_is_err_and c.from_residual.result c.from_residual.ensures.1 in
-    rw (exit.1, exit.2) (error-then g.C.Store g.F.Family.shape g.H.Digest.Digest.bytes g.H.Hasher.hash c.args.log.now c.loop-location.log c.read_in.new.log _ c.loop-location.invariant.read c.in_err-update.ensures.error)
+    rw (exit.1, exit.2) (error-then g.L.Items.reads g.met.L.Items.failed_later c.args.log.now c.loop-location.log c.read_in.new.log _ c.loop-location.invariant.read c.in_err-update.ensures.error)
 
 pub returns-clause-value : goal.returns-clause-value
 returns-clause-value g c = λ list is of.
-    told-one _ _ (g.C.Store.told c.args.log.now.store) (c.loop-location.invariant.value list is of) (λ all.
+    told-one _ _ (g.L.Items.reads.told c.args.log.now) (c.loop-location.invariant.value list is of) (λ all.
     all ∙ ap (fold (put_at (limit_view c.args.low) (limit_view c.args.high) list) []) (take_all c.loop-location.location-index c.args.locations.now c.loop-location-test.false))

@@ -15,7 +15,7 @@ returns-in-Some-clause-value g c = λ list is.
     let high = limit_view c.args.high in
     let locations = c.in-Some.bucket.now in
     let view = pair_view g.U.Key.ByteString.bytes g.U.Value.ByteString.bytes in
-    told-one _ _ (g.C.Store.told c.args.log.now.store) (c.read_bucket.ensures.value list is.logged is.of) (λ found.
+    told-one _ _ (g.L.Items.reads.told c.args.log.now) (c.read_bucket.ensures.value list is.logged is.of) (λ found.
     ok-two c.read_bucket.result found c.read_bucket.ensures.place (λ f pairs place.
     went g.I.Unordered.index_key unlimited high list beginning (map view f.pairs.items) (fold (put_at unlimited high list) [] locations) (place_view g.U.Key.ByteString.bytes f.place) pairs place
     (first-bucket g.I.Unordered.index_key (g.I.Unordered.entries c.args.index.now) (c.first_bucket.ensures.index c.requires) list is.indexed g.U.Update.form g.met.U.Steps.known_bytes (g.met.U.Steps.monotone c.requires) is.of high locations
@@ -28,14 +28,14 @@ returns-in-Some-clause-begun g c =
 pub returns-in-Some-clause-whole : goal.returns-in-Some-clause-whole
 returns-in-Some-clause-whole g c = λ list is none.
     c.read_bucket.ensures.pruned
-    (first-above g.I.Unordered.index_key (g.I.Unordered.entries c.args.index.now) (c.first_bucket.ensures.index c.requires) list is.indexed c.in-Some.bucket.now c.args.log.now.tree.start
+    (first-above g.I.Unordered.index_key (g.I.Unordered.entries c.args.index.now) (c.first_bucket.ensures.index c.requires) list is.indexed c.in-Some.bucket.now (g.L.Items.reads.start c.args.log.now)
     (sym (ap (option_map (λ b. b.now)) c.in-Some.is) ∙ c.first_bucket.ensures.value c.requires) none)
 
 pub returns-in-None-clause-value : goal.returns-in-None-clause-value
 returns-in-None-clause-value g c = λ list is.
     let high = limit_view c.args.high in
     let view = pair_view g.U.Key.ByteString.bytes g.U.Value.ByteString.bytes in
-    told-any _ (g.C.Store.told c.args.log.now.store)
+    told-any _ (g.L.Items.reads.told c.args.log.now)
     (over g.I.Unordered.index_key unlimited high list beginning (map view c.nothing.result.pairs.items) (place_view g.U.Key.ByteString.bytes c.nothing.result.place) (ap (map view) c.nothing.ensures.pairs) c.nothing.ensures.place
     (over-first g.I.Unordered.index_key (g.I.Unordered.entries c.args.index.now) (c.first_bucket.ensures.index c.requires) list is.indexed unlimited high
     (sym (ap (option_map (λ b. b.now)) c.in-None.is) ∙ c.first_bucket.ensures.value c.requires)))

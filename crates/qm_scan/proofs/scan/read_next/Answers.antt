@@ -22,7 +22,7 @@ returns-in-Some-clause-value g c = λ list low is.
     let here : Some (locations, false) ≡ neighbour_at entries (next_key (keys_of entries) (index_key key)) =
     unwrapped-some (neighbour_at entries (next_key (keys_of entries) (index_key key))) locations
     (sym (ap (option_map (λ b. b.now)) c.in-Some.is) ∙ c.unwrapped.ensures ∙ ap unwrapped (c.bucket_behind.ensures.value c.requires ∙ ap (λ k. neighbour_at entries (next_key (keys_of entries) (index_key k))) c.as_bytes.ensures.value)) in
-    told-one _ _ (g.C.Store.told c.args.log.now.store) (c.read_bucket.ensures.value list is.logged is.of) (λ found.
+    told-one _ _ (g.L.Items.reads.told c.args.log.now) (c.read_bucket.ensures.value list is.logged is.of) (λ found.
     ok-two c.read_bucket.result found c.read_bucket.ensures.place (λ f pairs place. (
       went index_key low high list (behind key) (map view f.pairs.items) (fold (put_at unlimited high list) [] locations) (place_view g.U.Key.ByteString.bytes f.place)
           (pairs ∙ ap (λ h. fold (put_at unlimited h list) [] locations) c.bytes_of.ensures) place
@@ -39,7 +39,7 @@ returns-in-Some-clause-whole g c = λ list is none.
     let here : Some (locations, false) ≡ neighbour_at entries (next_key (keys_of entries) (index_key key)) =
     unwrapped-some (neighbour_at entries (next_key (keys_of entries) (index_key key))) locations
     (sym (ap (option_map (λ b. b.now)) c.in-Some.is) ∙ c.unwrapped.ensures ∙ ap unwrapped (c.bucket_behind.ensures.value c.requires ∙ ap (λ k. neighbour_at entries (next_key (keys_of entries) (index_key k))) c.as_bytes.ensures.value)) in
-    c.read_bucket.ensures.pruned (next-above index_key entries (c.bucket_behind.ensures.index c.requires) list is.indexed key locations c.args.log.now.tree.start here none)
+    c.read_bucket.ensures.pruned (next-above index_key entries (c.bucket_behind.ensures.index c.requires) list is.indexed key locations (g.L.Items.reads.start c.args.log.now) here none)
 
 pub returns-in-None-clause-value : goal.returns-in-None-clause-value
 returns-in-None-clause-value g c = λ list low is.
@@ -48,7 +48,7 @@ returns-in-None-clause-value g c = λ list low is.
     let key = g.U.Key.ByteString.bytes c.args.key.now in
     let high = limit_of g.U.Key.ByteString.bytes c.args.high.now in
     let view = pair_view g.U.Key.ByteString.bytes g.U.Value.ByteString.bytes in
-    told-any _ (g.C.Store.told c.args.log.now.store) (
+    told-any _ (g.L.Items.reads.told c.args.log.now) (
       over index_key low high list (behind key) (map view c.nothing.result.pairs.items) (place_view g.U.Key.ByteString.bytes c.nothing.result.place) (ap (map view) c.nothing.ensures.pairs) c.nothing.ensures.place
           (over-next index_key entries (c.bucket_behind.ensures.index c.requires) list is.indexed low high key
           (unwrapped-none (neighbour_at entries (next_key (keys_of entries) (index_key key)))

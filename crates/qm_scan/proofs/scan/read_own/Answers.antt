@@ -13,7 +13,7 @@ use Rattle.qm_scan.proofs.scan.read_own.Goals as goal
 pub returns-in_err-pairs-clause-whole : goal.returns-in_err-pairs-clause-whole
 returns-in_err-pairs-clause-whole g c = λ list is none.
     let exit = err_from_is_err_and c.from_residual.result c.from_residual.ensures.1 in
-    let start = c.args.log.now.tree.start in
+    let start = (g.L.Items.reads.start c.args.log.now) in
     rw (exit.1, exit.2) (c.in_err-pairs.ensures.pruned
     (subst (All (λ at. start ≤ at)) (sym c.bucket.ensures.value) (bucket-above list g.I.Unordered.index_key (g.I.Unordered.entries c.args.index.now) is.indexed (g.I.Unordered.index_key c.as_bytes.result.now) start none)))
 
@@ -25,7 +25,7 @@ returns-clause-value g c = λ list is begins.
     let entries = g.I.Unordered.entries c.args.index.now in
     let key = g.U.Key.ByteString.bytes c.args.key.now in
     let key_bytes = g.U.Key.ByteString.are_bytes key (sym (ap g.U.Key.ByteString.has c.as_bytes.ensures.value) ∙ c.as_bytes.ensures.known) in
-    told-one _ _ (g.C.Store.told c.args.log.now.store) (c.in_ok-pairs.ensures.value list is.logged is.of) (λ found.
+    told-one _ _ (g.L.Items.reads.told c.args.log.now) (c.in_ok-pairs.ensures.value list is.logged is.of) (λ found.
     own-bucket index_key entries c.bucket.ensures.index list is.indexed g.U.Update.form g.met.U.Steps.known_bytes (g.met.U.Steps.monotone c.requires) is.of key low high key_bytes begins
     ∙ sym (ap₂ (λ ps k. ps ++ ahead_of index_key low high (behind k) list)
     (found ∙ ap (fold (put_at low high list) []) (c.bucket.ensures.value ∙ ap (λ k. bucket_at entries (index_key k)) c.as_bytes.ensures.value))

@@ -14,7 +14,7 @@ returns-in_err-found-clause-whole g c = λ list is none.
     let exit = err_from_is_err_and c.from_residual.result c.from_residual.ensures.1 in
     let left = c.loop-key.invariant.left in
     let mid = left-database g.C.Store (layout_of g.H.Digest.Digest.bytes g.H.Hasher g.F.Family g.U.Update g.I.Unordered) c.args.self.now c.loop-key.self list left is in
-    rw (exit.1, exit.2) (c.in_err-found.ensures.whole list mid (subst (λ t. NoneBelow t.start list) (sym (left.read).tree) none))
+    rw (exit.1, exit.2) (c.in_err-found.ensures.whole list mid (subst (λ t. NoneBelow t list) (sym (left.read).start) none))
 
 pub returns-in_err-found-clause-left : goal.returns-in_err-found-clause-left
 returns-in_err-found-clause-left g c = left-then g.C.Store (hashing_of g.H.Digest.Digest.bytes g.H.Hasher g.F.Family g.U.Update) c.args.self.now c.loop-key.self c.find.new.self c.loop-key.invariant.left c.find.ensures.left

@@ -14,12 +14,12 @@ pub loop-location-preserved : goal.loop-location-preserved
 loop-location-preserved g c =
     let read = c.loop-location.invariant.read in
     record {
-      read = read-then g.C.Store g.F.Family.shape g.H.Digest.Digest.bytes g.H.Hasher.hash c.args.log.now c.loop-location.log c.read_within.new.log read c.read_within.ensures.read;
+      read = read-then g.L.Items.reads g.met.L.Items.read_again c.args.log.now c.loop-location.log c.read_within.new.log read c.read_within.ensures.read;
       value = λ list is of.
           let limit = limit_view c.args.limit in
           let at = c.get-at.result in
-          told-both _ _ _ (g.C.Store.told c.args.log.now.store) (c.loop-location.invariant.value list is of)
-          (told _ _ _ read.kept.told (c.in_ok-update.ensures.value list (read.stands _ is) of)) (λ before said.
+          told-both _ _ _ (g.L.Items.reads.told c.args.log.now) (c.loop-location.invariant.value list is of)
+          (told _ _ _ read.told (c.in_ok-update.ensures.value list (read.stands _ is) of)) (λ before said.
           c.or_last-last.ensures
           ∙ ap₂ (λ o last. option_or (option_map (λ (op : Operation). (at, op)) o) last) (said ∙ ap (λ k. only_within k limit (update_at list at)) (c.key_in.ensures ∙ ap key_of_last before)) before
           ∙ ap (later_at limit list _) (c.get-at.ensures ∙ c.location-item.is)

@@ -11,7 +11,7 @@ use Rattle.qm_batch.proofs.neighbours.lent.read_within.Goals as goal
 pub returns-in_err-item-clause-value : goal.returns-in_err-item-clause-value
 returns-in_err-item-clause-value g c = λ list is of.
     let exit = err_from_is_err_and c.from_residual.result c.from_residual.ensures.1 in
-    told-err _ (g.C.Store.told c.args.log.now.store) c.from_residual.result exit.0 exit.1
+    told-err _ (g.L.Items.reads.told c.args.log.now) c.from_residual.result exit.0 exit.1
 
 pub returns-in_err-item-clause-read : goal.returns-in_err-item-clause-read
 returns-in_err-item-clause-read g c = c.read_item.ensures.read
@@ -29,7 +29,7 @@ returns-in_err-item-clause-pruned g c = λ kept.
 pub returns-in_err-update_within-in-Some-clause-value : goal.returns-in_err-update_within-in-Some-clause-value
 returns-in_err-update_within-in-Some-clause-value g c = λ list is of.
     let exit = err_from_is_err_and c.from_residual-in_err-update_within-in-Some.result c.from_residual-in_err-update_within-in-Some.ensures.1 in
-    told-err _ (g.C.Store.told c.args.log.now.store) c.from_residual-in_err-update_within-in-Some.result exit.0 exit.1
+    told-err _ (g.L.Items.reads.told c.args.log.now) c.from_residual-in_err-update_within-in-Some.result exit.0 exit.1
 
 pub returns-in_err-update_within-in-Some-clause-read : goal.returns-in_err-update_within-in-Some-clause-read
 returns-in_err-update_within-in-Some-clause-read g c = c.read_item.ensures.read
@@ -50,7 +50,7 @@ returns-in_ok-update_within-in-Some-clause-value g c = λ list is of.
     let at = c.args.at in
     let above = option_map (λ k. k.now) c.args.above in
     let limit = limit_view c.args.limit in
-    told-one _ _ (g.C.Store.told c.args.log.now.store) (c.in_ok-item.ensures.value (map (spelling form) list) is) (λ said.
+    told-one _ _ (g.L.Items.reads.told c.args.log.now) (c.in_ok-item.ensures.value (map (spelling form) list) is) (λ said.
     let spelled = spelled-there form list at c.in-Some.item.items of (sym said ∙ ap (option_map (λ v. v.items)) c.in-Some.is) in
     c.in_ok-update_within-in-Some.ensures spelled.0 (subst (λ bs. IsSpelling form bs spelled.0) (sym c.deref.ensures.value) spelled.2)
     ∙ ap (λ o. only_within above limit (option_and_then said_by o)) (sym spelled.1))
@@ -70,7 +70,7 @@ returns-in-None-clause-value g c = λ list is of.
     let at = c.args.at in
     let above = option_map (λ k. k.now) c.args.above in
     let limit = limit_view c.args.limit in
-    told-one _ _ (g.C.Store.told c.args.log.now.store) (c.in_ok-item.ensures.value (map (spelling form) list) is) (λ said.
+    told-one _ _ (g.L.Items.reads.told c.args.log.now) (c.in_ok-item.ensures.value (map (spelling form) list) is) (λ said.
     ap (λ o. only_within above limit (option_and_then said_by o))
     (sym (unspelled-there form list at (sym said ∙ ap (option_map (λ v. v.items)) c.in-None.is))))
 

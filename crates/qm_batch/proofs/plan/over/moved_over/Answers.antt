@@ -15,7 +15,7 @@ returns-clause-value g c = λ lent list ws is base lent_ring ring written are ap
     let value = g.U.Value.ByteString.bytes in
     let form = g.U.Update.form in
     let views = touch_views g.U.Update.view key value in
-    let told_items = g.C.Store.told c.args.log.now.store in
+    let told_items = g.L.Items.reads.told c.args.log.now in
     let made = views c.args.made.items in
     let befores : (form.ordered ≡ true → IfSome told_items (λ _. map (read_view g.U.Update.view) c.in_ok-found.found.items ≡ filter_map (before_evicted (list ++ operations_of made)) (decided_views key value c.args.decided.items))) = λ ordered.
     subst₂ (λ ms ds. IsRing (list ++ operations_of (views ms)) → All (IsFrom list) (views ms) → IfSome told_items (λ _. map (read_view g.U.Update.view) c.in_ok-found.found.items ≡ filter_map (before_evicted (list ++ operations_of (views ms))) (decided_views key value ds)))

@@ -15,34 +15,34 @@ returns-clause-value g c = λ lent base ws is from ring base_ring reads last.
     let key = g.U.Key.ByteString.bytes in
     let value = g.U.Value.ByteString.bytes in
     let form = g.U.Update.form in
-    let told_items = g.C.Store.told c.args.log.now.store in
+    let told_items = g.L.Items.reads.told c.args.log.now in
     let read = c.in_ok-sites.ensures.read in
-    let mid = lent-then g.C.Store g.F.Family.shape g.H.Digest.Digest.bytes g.H.Hasher.hash form g.I.Unordered.index_key (g.I.Unordered.entries c.args.index.now) c.args.log.now _ lent read is in
+    let mid = lent-then g.L.Items.reads form g.I.Unordered.index_key (g.I.Unordered.entries c.args.index.now) c.args.log.now _ lent read is in
     told-then _ _ told_items (c.in_ok-sites.ensures.value lent base is from (c.in_ok-known.ensures base reads)) (λ found.
     let are = found ∙ lasts-shown (last_view key value) (linked_in base) c.args.last.now.entries (last_writes ws) last in
     let sites = ap (map (linked_view key value)) c.deref.ensures.value ∙ are in
     let again = ap (map (linked_view key value)) c.deref-2.ensures.value ∙ are in
-    told-given (form.ordered ≡ true) told_items (λ ordered. told _ _ _ read.kept.told (c.in_ok-neighbours.ensures.value lent base (last_writes ws) ordered mid from (ring ordered) (base_ring ordered) sites)) (λ beside.
+    told-given (form.ordered ≡ true) told_items (λ ordered. told _ _ _ read.told (c.in_ok-neighbours.ensures.value lent base (last_writes ws) ordered mid from (ring ordered) (base_ring ordered) sites)) (λ beside.
     c.in_ok-touches.ensures base ws base_ring again (λ ordered. ap (map (neighbour_view g.U.Update.view key)) c.deref-3.ensures.value ∙ beside ordered)))
 
 pub returns-clause-read : goal.returns-clause-read
-returns-clause-read g c = read-then g.C.Store g.F.Family.shape g.H.Digest.Digest.bytes g.H.Hasher.hash c.args.log.now c.find_sites.new.log c.neighbours_of.new.log c.in_ok-sites.ensures.read c.in_ok-neighbours.ensures.read
+returns-clause-read g c = read-then g.L.Items.reads g.met.L.Items.read_again c.args.log.now c.find_sites.new.log c.neighbours_of.new.log c.in_ok-sites.ensures.read c.in_ok-neighbours.ensures.read
 
 pub returns-in_err-touches-clause-read : goal.returns-in_err-touches-clause-read
-returns-in_err-touches-clause-read g c = read-then g.C.Store g.F.Family.shape g.H.Digest.Digest.bytes g.H.Hasher.hash c.args.log.now c.find_sites.new.log c.neighbours_of.new.log c.in_ok-sites.ensures.read c.in_ok-neighbours.ensures.read
+returns-in_err-touches-clause-read g c = read-then g.L.Items.reads g.met.L.Items.read_again c.args.log.now c.find_sites.new.log c.neighbours_of.new.log c.in_ok-sites.ensures.read c.in_ok-neighbours.ensures.read
 
 pub returns-in_err-neighbours-clause-read : goal.returns-in_err-neighbours-clause-read
-returns-in_err-neighbours-clause-read g c = read-then g.C.Store g.F.Family.shape g.H.Digest.Digest.bytes g.H.Hasher.hash c.args.log.now c.find_sites.new.log c.neighbours_of.new.log c.in_ok-sites.ensures.read c.in_err-neighbours.ensures.read
+returns-in_err-neighbours-clause-read g c = read-then g.L.Items.reads g.met.L.Items.read_again c.args.log.now c.find_sites.new.log c.neighbours_of.new.log c.in_ok-sites.ensures.read c.in_err-neighbours.ensures.read
 
 pub returns-in_err-neighbours-clause-error : goal.returns-in_err-neighbours-clause-error
 returns-in_err-neighbours-clause-error g c =
     let exit = err_from_is_err_and c.from_residual-in_err-neighbours.result c.from_residual-in_err-neighbours.ensures.1 in
-    rw (exit.1, exit.2) (error-then g.C.Store g.F.Family.shape g.H.Digest.Digest.bytes g.H.Hasher.hash c.args.log.now c.find_sites.new.log c.neighbours_of.new.log _ c.in_ok-sites.ensures.read c.in_err-neighbours.ensures.error)
+    rw (exit.1, exit.2) (error-then g.L.Items.reads g.met.L.Items.failed_later c.args.log.now c.find_sites.new.log c.neighbours_of.new.log _ c.in_ok-sites.ensures.read c.in_err-neighbours.ensures.error)
 
 pub returns-in_err-neighbours-clause-whole : goal.returns-in_err-neighbours-clause-whole
 returns-in_err-neighbours-clause-whole g c = λ lent is none.
     let exit = err_from_is_err_and c.from_residual-in_err-neighbours.result c.from_residual-in_err-neighbours.ensures.1 in
     let form = g.U.Update.form in
     let read = c.in_ok-sites.ensures.read in
-    let mid = lent-then g.C.Store g.F.Family.shape g.H.Digest.Digest.bytes g.H.Hasher.hash form g.I.Unordered.index_key (g.I.Unordered.entries c.args.index.now) c.args.log.now c.find_sites.new.log lent read is in
-    rw (exit.1, exit.2) (c.in_err-neighbours.ensures.whole lent mid (subst (λ t. NoneBelow t.start lent) (sym read.tree) none))
+    let mid = lent-then g.L.Items.reads form g.I.Unordered.index_key (g.I.Unordered.entries c.args.index.now) c.args.log.now c.find_sites.new.log lent read is in
+    rw (exit.1, exit.2) (c.in_err-neighbours.ensures.whole lent mid (subst (λ t. NoneBelow t lent) (sym read.start) none))

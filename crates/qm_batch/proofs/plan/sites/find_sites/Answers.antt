@@ -14,39 +14,39 @@ use Rattle.qm_batch.proofs.plan.sites.find_sites.Goals as goal
 pub returns-in_err-stands-clause-value : goal.returns-in_err-stands-clause-value
 returns-in_err-stands-clause-value g c = λ lent base is from known.
     let exit = err_from_is_err_and c.from_residual.result c.from_residual.ensures.1 in
-    told-err _ (g.C.Store.told c.args.log.now.store) c.from_residual.result exit.0 exit.1
+    told-err _ (g.L.Items.reads.told c.args.log.now) c.from_residual.result exit.0 exit.1
 
 pub returns-in_err-stands-clause-read : goal.returns-in_err-stands-clause-read
-returns-in_err-stands-clause-read g c = read-then g.C.Store g.F.Family.shape g.H.Digest.Digest.bytes g.H.Hasher.hash c.args.log.now c.loop-write.log c.place_of.new.log c.loop-write.invariant.read c.place_of.ensures.read
+returns-in_err-stands-clause-read g c = read-then g.L.Items.reads g.met.L.Items.read_again c.args.log.now c.loop-write.log c.place_of.new.log c.loop-write.invariant.read c.place_of.ensures.read
 
 pub returns-in_err-stands-clause-error : goal.returns-in_err-stands-clause-error
 returns-in_err-stands-clause-error g c =
     let exit = err_from_is_err_and c.from_residual.result c.from_residual.ensures.1 in
-    rw (exit.1, exit.2) (error-then g.C.Store g.F.Family.shape g.H.Digest.Digest.bytes g.H.Hasher.hash c.args.log.now c.loop-write.log c.place_of.new.log _ c.loop-write.invariant.read c.in_err-stands.ensures.error)
+    rw (exit.1, exit.2) (error-then g.L.Items.reads g.met.L.Items.failed_later c.args.log.now c.loop-write.log c.place_of.new.log _ c.loop-write.invariant.read c.in_err-stands.ensures.error)
 
 pub returns-in_err-stands-clause-whole : goal.returns-in_err-stands-clause-whole
 returns-in_err-stands-clause-whole g c = λ lent is none.
     let exit = err_from_is_err_and c.from_residual.result c.from_residual.ensures.1 in
     let entries = g.I.Unordered.entries c.args.index.now in
     let read = c.loop-write.invariant.read in
-    let mid = lent-then g.C.Store g.F.Family.shape g.H.Digest.Digest.bytes g.H.Hasher.hash g.U.Update.form g.I.Unordered.index_key entries c.args.log.now c.loop-write.log lent read is in
-    rw (exit.1, exit.2) (c.in_err-stands.ensures.whole lent mid (subst (λ t. NoneBelow t.start lent) (sym read.tree) none))
+    let mid = lent-then g.L.Items.reads g.U.Update.form g.I.Unordered.index_key entries c.args.log.now c.loop-write.log lent read is in
+    rw (exit.1, exit.2) (c.in_err-stands.ensures.whole lent mid (subst (λ t. NoneBelow t lent) (sym read.start) none))
 
 pub returns-in_err-push-clause-value : goal.returns-in_err-push-clause-value
 returns-in_err-push-clause-value g c = λ lent base is from known.
     let exit = err_from_is_err_and c.from_residual-in_err-push.result c.from_residual-in_err-push.ensures.1 in
-    told-err _ (g.C.Store.told c.args.log.now.store) c.from_residual-in_err-push.result exit.0 exit.1
+    told-err _ (g.L.Items.reads.told c.args.log.now) c.from_residual-in_err-push.result exit.0 exit.1
 
 pub returns-in_err-push-clause-read : goal.returns-in_err-push-clause-read
-returns-in_err-push-clause-read g c = read-then g.C.Store g.F.Family.shape g.H.Digest.Digest.bytes g.H.Hasher.hash c.args.log.now c.loop-write.log c.place_of.new.log c.loop-write.invariant.read c.place_of.ensures.read
+returns-in_err-push-clause-read g c = read-then g.L.Items.reads g.met.L.Items.read_again c.args.log.now c.loop-write.log c.place_of.new.log c.loop-write.invariant.read c.place_of.ensures.read
 
 pub loop-write-init : goal.loop-write-init
 loop-write-init g c = record {
-  read = read-none g.C.Store g.F.Family.shape g.H.Digest.Digest.bytes g.H.Hasher.hash c.args.log.now;
+  read = read-none g.L.Items.reads g.met.L.Items.unread c.args.log.now;
   value = λ lent base is from known.
       let key = g.U.Key.ByteString.bytes in
       let value = g.U.Value.ByteString.bytes in
-      told-any _ (g.C.Store.told c.args.log.now.store)
+      told-any _ (g.L.Items.reads.told c.args.log.now)
       (ap₂ (λ sites ws. map (linked_view key value) sites ++ map (λ w. linked_in base (last_write_view key value w)) ws) c.new-sites.ensures.items (c.into_iter-write-iterator.ensures.into_iter_gives ∙ c.values-write-items.ensures.rest)
       ∙ map-twice (λ w. linked_in base (last_write_view key value w)) (λ e. e.1) c.args.last.now.entries);
 }
@@ -57,11 +57,11 @@ loop-write-preserved g c =
     let key = g.U.Key.ByteString.bytes in
     let value = g.U.Value.ByteString.bytes in
     record {
-      read = read-then g.C.Store g.F.Family.shape g.H.Digest.Digest.bytes g.H.Hasher.hash c.args.log.now c.loop-write.log c.place_of.new.log read c.place_of.ensures.read;
+      read = read-then g.L.Items.reads g.met.L.Items.read_again c.args.log.now c.loop-write.log c.place_of.new.log read c.place_of.ensures.read;
       value = λ lent base is from known.
-          let mid = lent-then g.C.Store g.F.Family.shape g.H.Digest.Digest.bytes g.H.Hasher.hash _ g.I.Unordered.index_key (g.I.Unordered.entries c.args.index.now) c.args.log.now c.loop-write.log lent read is in
-          told-both _ _ _ (g.C.Store.told c.args.log.now.store) (c.loop-write.invariant.value lent base is from known)
-          (told _ _ _ read.kept.told (c.in_ok-stands.ensures.value lent base mid from known)) (λ before found.
+          let mid = lent-then g.L.Items.reads _ g.I.Unordered.index_key (g.I.Unordered.entries c.args.index.now) c.args.log.now c.loop-write.log lent read is in
+          told-both _ _ _ (g.L.Items.reads.told c.args.log.now) (c.loop-write.invariant.value lent base is from known)
+          (told _ _ _ read.told (c.in_ok-stands.ensures.value lent base mid from known)) (λ before found.
           drained-more (linked_view key value) (λ w. linked_in base (last_write_view key value w)) c.loop-write.sites.items c.loop-write.write-iterator (map (λ e. linked_in base (last_write_view key value e.1)) c.args.last.now.entries)
           c.push.new.self.items c.next.new.self _ c.in-Some.write.now
           (rest_more deref c.loop-write.write-iterator c.next.new.self c.next.result c.in-Some.write c.in-Some.is c.next.ensures.steps) c.in_ok-push.ensures.items (ap₂ (λ w o. (last_write_view key value w, o)) c.lent.ensures found) before);
@@ -71,6 +71,6 @@ pub returns-clause-value : goal.returns-clause-value
 returns-clause-value g c = λ lent base is from known.
     let key = g.U.Key.ByteString.bytes in
     let value = g.U.Value.ByteString.bytes in
-    told-one _ _ (g.C.Store.told c.args.log.now.store) (c.loop-write.invariant.value lent base is from known) (λ all.
+    told-one _ _ (g.L.Items.reads.told c.args.log.now) (c.loop-write.invariant.value lent base is from known) (λ all.
     drained-all (linked_view key value) (λ w. linked_in base (last_write_view key value w)) c.loop-write.sites.items c.loop-write.write-iterator (map (λ e. linked_in base (last_write_view key value e.1)) c.args.last.now.entries)
     (rest_all deref c.loop-write.write-iterator c.next.new.self c.next.result c.in-None.is c.next.ensures.steps) all)

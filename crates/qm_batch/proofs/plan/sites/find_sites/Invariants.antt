@@ -12,8 +12,8 @@ invariant-loop-write g l =
     let key = g.U.Key.ByteString.bytes in
     let value = g.U.Value.ByteString.bytes in
     record {
-      read : IsRead g.C.Store g.F.Family.shape g.H.Digest.Digest.bytes g.H.Hasher.hash l.initial.log l.log;
-      value : (lent base : List Operation) → IsLent g.C.Store g.F.Family.shape g.H.Digest.Digest.bytes g.H.Hasher.hash g.U.Update.form g.I.Unordered.index_key (g.I.Unordered.entries l.index) l.initial.log lent →
-          LeadOver (map (λ l. l.value) l.layers) lent base → AreKnown g.U.Update.view base l.known.entries → IfSome (g.C.Store.told l.initial.log.store)
+      read : IsRead g.L.Items.reads l.initial.log l.log;
+      value : (lent base : List Operation) → IsLent g.L.Items.reads g.U.Update.form g.I.Unordered.index_key (g.I.Unordered.entries l.index) l.initial.log lent →
+          LeadOver (map (λ l. l.value) l.layers) lent base → AreKnown g.U.Update.view base l.known.entries → IfSome (g.L.Items.reads.told l.initial.log)
           (λ _. map (linked_view key value) l.sites.items ++ map (λ w. linked_in base (last_write_view key value w)) l.write-iterator ≡ map (λ e. linked_in base (last_write_view key value e.1)) l.last.entries);
     }

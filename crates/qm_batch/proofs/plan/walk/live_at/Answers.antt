@@ -18,7 +18,7 @@ returns-in_ok-again-in-Some-clause-value g c = λ lent base list is on.
     let here =
     sym (ap (λ ts. slice_get (touch_views g.U.Update.view g.U.Key.ByteString.bytes g.U.Value.ByteString.bytes ts) place) c.deref.ensures.value)
     ∙ got-one view c.get.result c.deref.result.now (c.args.at - c.args.path.now.base.size) place c.in-Some.touch c.get.ensures.lookup c.in-Some.is (ap (λ n. c.args.at - n) size) in
-    told-any _ (g.C.Store.told c.args.log.now.store)
+    told-any _ (g.L.Items.reads.told c.args.log.now)
     (again-is base list made on.makes on.once c.args.at (omega (arith, size, c.if-path-at.true)) on.from (view c.in-Some.touch.now) _ here
     (shown-operation (found_view g.U.Update.view) found ∙ c.in_ok-again-in-Some.ensures.operation) (shown-each (found_view g.U.Update.view) found _ c.in_ok-again-in-Some.ensures.before))
 
@@ -31,14 +31,14 @@ returns-in-None-clause-value g c = λ lent base list is on.
     let none =
     sym (ap (λ ts. slice_get (touch_views g.U.Update.view g.U.Key.ByteString.bytes g.U.Value.ByteString.bytes ts) place) c.deref.ensures.value)
     ∙ got-none view c.get.result c.deref.result.now (c.args.at - c.args.path.now.base.size) place c.get.ensures.lookup c.in-None.is (ap (λ n. c.args.at - n) size) in
-    told-any _ (g.C.Store.told c.args.log.now.store)
+    told-any _ (g.L.Items.reads.told c.args.log.now)
     (again-none base list made on.makes on.once c.args.at (omega (arith, size, c.if-path-at.true)) none)
 
 pub returns-in-Some-2-clause-value : goal.returns-in-Some-2-clause-value
 returns-in-Some-2-clause-value g c = λ lent base list is on.
     let size = (on.known).size in
     let update = c.in_ok-update.field-0 in
-    told-one _ _ (g.C.Store.told c.args.log.now.store) (c.in_ok-update.ensures.value lent base _ is (on.known).leads (omega (arith, size, c.if-path-at.false)) on.from on.keyed on.replaced) (λ standing.
+    told-one _ _ (g.L.Items.reads.told c.args.log.now) (c.in_ok-update.ensures.value lent base _ is (on.known).leads (omega (arith, size, c.if-path-at.false)) on.from on.keyed on.replaced) (λ standing.
     subst (λ found. IsMoveAt (option_map (λ u. moved_touch (c.args.at, g.U.Update.view u)) found) base list c.args.at) c.in-Some-2.is
     (subst (λ ops. IsMoveAt (option_map (λ u. moved_touch (c.args.at, g.U.Update.view u)) update) base ops c.args.at) on.makes standing))
 
@@ -46,6 +46,6 @@ pub returns-in-None-2-clause-value : goal.returns-in-None-2-clause-value
 returns-in-None-2-clause-value g c = λ lent base list is on.
     let size = (on.known).size in
     let update = c.in_ok-update.field-0 in
-    told-one _ _ (g.C.Store.told c.args.log.now.store) (c.in_ok-update.ensures.value lent base _ is (on.known).leads (omega (arith, size, c.if-path-at.false)) on.from on.keyed on.replaced) (λ standing.
+    told-one _ _ (g.L.Items.reads.told c.args.log.now) (c.in_ok-update.ensures.value lent base _ is (on.known).leads (omega (arith, size, c.if-path-at.false)) on.from on.keyed on.replaced) (λ standing.
     subst (λ found. IsMoveAt (option_map (λ u. moved_touch (c.args.at, g.U.Update.view u)) found) base list c.args.at) c.in-None-2.is
     (subst (λ ops. IsMoveAt (option_map (λ u. moved_touch (c.args.at, g.U.Update.view u)) update) base ops c.args.at) on.makes standing))

@@ -12,7 +12,7 @@ pub returns-in_ok-twin_update-clause-value : goal.returns-in_ok-twin_update-clau
 returns-in_ok-twin_update-clause-value g c = λ lent base made is leads within from keyed replaced.
     let op = operation_view g.U.Update.view g.U.Key.ByteString.bytes g.U.Value.ByteString.bytes c.in-Some.operation.now in
     let there = match-some c.in_layers.result c.in-Some.operation _ _ c.in-Some.is (c.in_layers.ensures lent base leads within) in
-    told-any _ (g.C.Store.told c.args.log.now.store)
+    told-any _ (g.L.Items.reads.told c.args.log.now)
     (moved-found base made c.args.at op there g.U.Update.view c.in_ok-twin_update.field-0 c.is_moved.result c.if-is_moved.true c.in_ok-twin_update.ensures
     (c.is_moved.ensures lent base made op is.indexed leads from keyed replaced there c.key_of_update.ensures))
 
@@ -20,13 +20,13 @@ pub returns-else-is_moved-clause-value : goal.returns-else-is_moved-clause-value
 returns-else-is_moved-clause-value g c = λ lent base made is leads within from keyed replaced.
     let op = operation_view g.U.Update.view g.U.Key.ByteString.bytes g.U.Value.ByteString.bytes c.in-Some.operation.now in
     let there = match-some c.in_layers.result c.in-Some.operation _ _ c.in-Some.is (c.in_layers.ensures lent base leads within) in
-    told-any _ (g.C.Store.told c.args.log.now.store)
+    told-any _ (g.L.Items.reads.told c.args.log.now)
     (moved-not base made c.args.at op there c.is_moved.result c.if-is_moved.false (c.is_moved.ensures lent base made op is.indexed leads from keyed replaced there c.key_of_update.ensures))
 
 pub returns-in_default-2-clause-value : goal.returns-in_default-2-clause-value
 returns-in_default-2-clause-value g c = λ lent base made is leads within from keyed replaced.
     let form = g.U.Update.form in
-    told-one _ _ (g.C.Store.told c.args.log.now.store) (c.in_ok-item.ensures.value (map (spelling form) lent) is.logged) (λ said.
+    told-one _ _ (g.L.Items.reads.told c.args.log.now) (c.in_ok-item.ensures.value (map (spelling form) lent) is.logged) (λ said.
     let none = unspelled-there form lent c.args.at (sym said ∙ ap (option_map (λ v. v.items)) c.in_default-2.is) in
     let same = match-none c.in_layers.result _ _ c.in_default.is (c.in_layers.ensures lent base leads within) in
     standing-none base made c.args.at within None (sym (ap (option_and_then said_by) (same ∙ none))) refl)
@@ -35,7 +35,7 @@ pub returns-then-is_moved-2-clause-value : goal.returns-then-is_moved-2-clause-v
 returns-then-is_moved-2-clause-value g c = λ lent base made is leads within from keyed replaced.
     let form = g.U.Update.form in
     let same = match-none c.in_layers.result _ _ c.in_default.is (c.in_layers.ensures lent base leads within) in
-    told-one _ _ (g.C.Store.told c.args.log.now.store) (c.in_ok-item.ensures.value (map (spelling form) lent) is.logged) (λ said.
+    told-one _ _ (g.L.Items.reads.told c.args.log.now) (c.in_ok-item.ensures.value (map (spelling form) lent) is.logged) (λ said.
     let spelled = spelled-there form lent c.args.at c.in-Some-2.item.items is.of (sym said ∙ ap (option_map (λ v. v.items)) c.in-Some-2.is) in
     let op = spelled.0 in
     let there = same ∙ spelled.1 in
@@ -47,7 +47,7 @@ pub returns-clause-value : goal.returns-clause-value
 returns-clause-value g c = λ lent base made is leads within from keyed replaced.
     let form = g.U.Update.form in
     let same = match-none c.in_layers.result _ _ c.in_default.is (c.in_layers.ensures lent base leads within) in
-    told-one _ _ (g.C.Store.told c.args.log.now.store) (c.in_ok-item.ensures.value (map (spelling form) lent) is.logged) (λ said.
+    told-one _ _ (g.L.Items.reads.told c.args.log.now) (c.in_ok-item.ensures.value (map (spelling form) lent) is.logged) (λ said.
     let spelled = spelled-there form lent c.args.at c.in-Some-2.item.items is.of (sym said ∙ ap (option_map (λ v. v.items)) c.in-Some-2.is) in
     let op = spelled.0 in
     let there = same ∙ spelled.1 in

@@ -10,7 +10,7 @@ use Rattle.qm_batch.proofs.plan.walk.visit.Goals as goal
 
 pub returns-then-going-eq0-clause-value : goal.returns-then-going-eq0-clause-value
 returns-then-going-eq0-clause-value g c = λ lent base list all is on dead going.
-    told-any _ (g.C.Store.told c.args.log.now.store)
+    told-any _ (g.L.Items.reads.told c.args.log.now)
     (going-spent g.P.Policy.rules base list (decided_views g.U.Key.ByteString.bytes g.U.Value.ByteString.bytes c.args.going.now.decided.items) c.args.going.now.walk c.args.policy.now all going c.if-going-eq0.true)
 
 pub returns-then-not-reach-clause-value : goal.returns-then-not-reach-clause-value
@@ -18,7 +18,7 @@ returns-then-not-reach-clause-value g c = λ lent base list all is on dead going
     let w = c.args.going.now.walk in
     let next = c.reach.new.self in
     let some : 0 < w.entries = omega (arith, c.if-going-eq0.false) in
-    told-any _ (g.C.Store.told c.args.log.now.store)
+    told-any _ (g.L.Items.reads.told c.args.log.now)
     (going-short g.P.Policy.rules base list (decided_views g.U.Key.ByteString.bytes g.U.Value.ByteString.bytes c.args.going.now.decided.items) w c.args.policy.now all going some c.args.at next c.requires.low c.requires.high dead
     (c.reach.ensures.floor ∙ ap (λ n. min n (w.floor + w.skips)) c.new.ensures)
     (c.reach.ensures.rest ∙ ap (λ n. record w { floor = next.floor; skips = w.skips - (n - w.floor) }) c.new.ensures)
@@ -42,7 +42,7 @@ returns-in_ok-decide-in-Some-clause-value g c = λ lent base list all is on dead
     let come =
     going-reached g.P.Policy.rules base list (decided_views g.U.Key.ByteString.bytes g.U.Value.ByteString.bytes c.args.going.now.decided.items) w c.args.policy.now all going some c.args.at next c.requires.low c.requires.high dead place
     (c.reach.ensures.rest ∙ ap (λ n. record w { floor = next.floor; skips = w.skips - (n - w.floor) }) c.new.ensures) fits in
-    told-one _ _ (g.C.Store.told c.args.log.now.store) (c.in_ok-found.ensures.value lent base list is on) (λ move.
+    told-one _ _ (g.L.Items.reads.told c.args.log.now) (c.in_ok-found.ensures.value lent base list is on) (λ move.
     let there = subst (λ n. IsMoveAt (Some (found_view g.U.Update.view c.in-Some.found)) base list n) (sym here) (subst (λ found. IsMoveAt (option_map (found_view g.U.Update.view) found) base list c.args.at) c.in-Some.is move) in
     chosen c.in_ok-decide-in-Some.field-0 _ _ _ (c.in_ok-decide-in-Some.ensures.value base list all there come) (λ goes on_way.
     let past = c.in_ok-decide-in-Some.ensures.passed goes in
@@ -60,6 +60,6 @@ returns-in-None-clause-value g c = λ lent base list all is on dead going.
     let come =
     going-reached g.P.Policy.rules base list (decided_views g.U.Key.ByteString.bytes g.U.Value.ByteString.bytes c.args.going.now.decided.items) w c.args.policy.now all going some c.args.at next c.requires.low c.requires.high dead place
     (c.reach.ensures.rest ∙ ap (λ n. record w { floor = next.floor; skips = w.skips - (n - w.floor) }) c.new.ensures) fits in
-    told-one _ _ (g.C.Store.told c.args.log.now.store) (c.in_ok-found.ensures.value lent base list is on) (λ move.
+    told-one _ _ (g.L.Items.reads.told c.args.log.now) (c.in_ok-found.ensures.value lent base list is on) (λ move.
     let there = subst (λ found. IsMoveAt (option_map (found_view g.U.Update.view) found) base list c.args.at) c.in-None.is move in
     (subst (λ n. AreDead list n (c.args.at + 1)) (sym here) (dead-here list c.args.at there.operation), come))

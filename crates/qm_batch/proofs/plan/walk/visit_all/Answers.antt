@@ -10,11 +10,11 @@ use Rattle.qm_batch.proofs.plan.walk.visit_all.Goals as goal
 
 pub loop-at-init : goal.loop-at-init
 loop-at-init g c = record {
-  read = read-none g.C.Store g.F.Family.shape g.H.Digest.Digest.bytes g.H.Hasher.hash c.args.log.now;
+  read = read-none g.L.Items.reads g.met.L.Items.unread c.args.log.now;
   low = omega arith;
   end = refl;
   spaced = λ next spaced. spaced;
-  value = λ lent base list next all is on dead going. told-any _ (g.C.Store.told c.args.log.now.store) (dead, going);
+  value = λ lent base list next all is on dead going. told-any _ (g.L.Items.reads.told c.args.log.now) (dead, going);
 }
 
 pub visit-requires-clause-low : goal.visit-requires-clause-low
@@ -35,20 +35,20 @@ visit-requires-clause-high g c =
 pub returns-in_err-goes-clause-value : goal.returns-in_err-goes-clause-value
 returns-in_err-goes-clause-value g c = λ lent base list next all is on dead going.
     let exit = err_from_is_err_and c.from_residual.result c.from_residual.ensures.1 in
-    told-err _ (g.C.Store.told c.args.log.now.store) c.from_residual.result exit.0 exit.1
+    told-err _ (g.L.Items.reads.told c.args.log.now) c.from_residual.result exit.0 exit.1
 
 pub returns-in_err-goes-clause-read : goal.returns-in_err-goes-clause-read
-returns-in_err-goes-clause-read g c = read-then g.C.Store g.F.Family.shape g.H.Digest.Digest.bytes g.H.Hasher.hash c.args.log.now c.loop-at.log c.visit.new.log c.loop-at.invariant.read c.visit.ensures.read
+returns-in_err-goes-clause-read g c = read-then g.L.Items.reads g.met.L.Items.read_again c.args.log.now c.loop-at.log c.visit.new.log c.loop-at.invariant.read c.visit.ensures.read
 
 pub returns-in_err-goes-clause-error : goal.returns-in_err-goes-clause-error
 returns-in_err-goes-clause-error g c =
     let exit = err_from_is_err_and c.from_residual.result c.from_residual.ensures.1 in
-    rw (exit.1, exit.2) (error-then g.C.Store g.F.Family.shape g.H.Digest.Digest.bytes g.H.Hasher.hash c.args.log.now c.loop-at.log c.visit.new.log _ c.loop-at.invariant.read c.in_err-goes.ensures.error)
+    rw (exit.1, exit.2) (error-then g.L.Items.reads g.met.L.Items.failed_later c.args.log.now c.loop-at.log c.visit.new.log _ c.loop-at.invariant.read c.in_err-goes.ensures.error)
 
 pub returns-in_err-goes-clause-pruned : goal.returns-in_err-goes-clause-pruned
 returns-in_err-goes-clause-pruned g c = λ above.
     let exit = err_from_is_err_and c.from_residual.result c.from_residual.ensures.1 in
-    let same = ap (λ t. t.start) (c.loop-at.invariant.read).tree in
+    let same = (c.loop-at.invariant.read).start in
     let here = in-round c.args.round.now c.loop-at.at-index c.at-item.result c.loop-at-test.true c.at-item.is in
     let spaced = subst (λ xs. IsSpaced c.loop-at.going.walk.floor xs c.args.going.now.walk.end) here (c.loop-at.invariant.spaced c.args.going.now.walk.end c.requires) in
     let first = spaced.0 in
@@ -59,10 +59,10 @@ pub returns-then-not-goes-clause-value : goal.returns-then-not-goes-clause-value
 returns-then-not-goes-clause-value g c = λ lent base list next all is on dead going.
     let read = c.loop-at.invariant.read in
     let here = in-round c.args.round.now c.loop-at.at-index c.at-item.result c.loop-at-test.true c.at-item.is ∙ ap (λ x. x ∷ drop (c.loop-at.at-index + 1) c.args.round.now) (sym c.get.ensures) in
-    let mid = lent-then g.C.Store g.F.Family.shape g.H.Digest.Digest.bytes g.H.Hasher.hash _ g.I.Unordered.index_key (g.I.Unordered.entries c.args.path.now.index.now) c.args.log.now c.loop-at.log lent read is in
-    told-then _ _ (g.C.Store.told c.args.log.now.store) (c.loop-at.invariant.value lent base list next all is on dead going) (λ so_far.
+    let mid = lent-then g.L.Items.reads _ g.I.Unordered.index_key (g.I.Unordered.entries c.args.path.now.index.now) c.args.log.now c.loop-at.log lent read is in
+    told-then _ _ (g.L.Items.reads.told c.args.log.now) (c.loop-at.invariant.value lent base list next all is on dead going) (λ so_far.
     let between = subst (λ xs. AreDeadBetween list c.loop-at.going.walk.floor xs next) here so_far.0 in
-    told-one _ _ (g.C.Store.told c.args.log.now.store) (told _ _ _ read.kept.told (c.in_ok-goes.ensures.value lent base list all mid on between.0 so_far.1)) (λ visited.
+    told-one _ _ (g.L.Items.reads.told c.args.log.now) (told _ _ _ read.told (c.in_ok-goes.ensures.value lent base list all mid on between.0 so_far.1)) (λ visited.
     chosen-false c.in_ok-goes.goes _ _ c.if-not-goes.true visited))
 
 pub returns-then-not-goes-clause-high : goal.returns-then-not-goes-clause-high
@@ -85,7 +85,7 @@ loop-at-preserved g c =
     let below : c.visit.new.going.walk.floor ≤ c.at-item.result + 1 = omega (arith, past, same) in
     let here = in-round c.args.round.now c.loop-at.at-index c.at-item.result c.loop-at-test.true c.at-item.is in
     record {
-      read = read-then g.C.Store g.F.Family.shape g.H.Digest.Digest.bytes g.H.Hasher.hash c.args.log.now c.loop-at.log c.visit.new.log read c.visit.ensures.read;
+      read = read-then g.L.Items.reads g.met.L.Items.read_again c.args.log.now c.loop-at.log c.visit.new.log read c.visit.ensures.read;
       low = omega (arith, low, later);
       end = c.in_ok-goes.ensures.end ∙ end;
       spaced = λ next spaced.
@@ -93,24 +93,24 @@ loop-at-preserved g c =
           spaced-below c.visit.new.going.walk.floor (c.at-item.result + 1) next rest below now.2;
       value = λ lent base list next all is on dead going.
           let there = here ∙ ap (λ x. x ∷ rest) (sym same) in
-          let mid = lent-then g.C.Store g.F.Family.shape g.H.Digest.Digest.bytes g.H.Hasher.hash _ g.I.Unordered.index_key (g.I.Unordered.entries c.args.path.now.index.now) c.args.log.now c.loop-at.log lent read is in
-          told-then _ _ (g.C.Store.told c.args.log.now.store) (c.loop-at.invariant.value lent base list next all is on dead going) (λ so_far.
+          let mid = lent-then g.L.Items.reads _ g.I.Unordered.index_key (g.I.Unordered.entries c.args.path.now.index.now) c.args.log.now c.loop-at.log lent read is in
+          told-then _ _ (g.L.Items.reads.told c.args.log.now) (c.loop-at.invariant.value lent base list next all is on dead going) (λ so_far.
           let between = subst (λ xs. AreDeadBetween list c.loop-at.going.walk.floor xs next) there so_far.0 in
-          told-one _ _ (g.C.Store.told c.args.log.now.store) (told _ _ _ read.kept.told (c.in_ok-goes.ensures.value lent base list all mid on between.0 so_far.1)) (λ visited.
+          told-one _ _ (g.L.Items.reads.told c.args.log.now) (told _ _ _ read.told (c.in_ok-goes.ensures.value lent base list all mid on between.0 so_far.1)) (λ visited.
           let goes = chosen-true c.in_ok-goes.goes _ _ c.if-not-goes.false visited in
           (between-then list c.visit.new.going.walk.floor (c.get.result + 1) next rest goes.0 between.1, goes.1)));
     }
 
 pub returns-clause-value : goal.returns-clause-value
 returns-clause-value g c = λ lent base list next all is on dead going.
-    told-one _ _ (g.C.Store.told c.args.log.now.store) (c.loop-at.invariant.value lent base list next all is on dead going) (λ so_far.
+    told-one _ _ (g.L.Items.reads.told c.args.log.now) (c.loop-at.invariant.value lent base list next all is on dead going) (λ so_far.
     (subst (λ xs. AreDeadBetween list c.loop-at.going.walk.floor xs next) (drop_all c.loop-at.at-index c.args.round.now c.loop-at-test.false) so_far.0, so_far.1))
 
 pub returns-clause-high : goal.returns-clause-high
 returns-clause-high g c = λ next spaced. subst (λ xs. IsSpaced c.loop-at.going.walk.floor xs next) (drop_all c.loop-at.at-index c.args.round.now c.loop-at-test.false) (c.loop-at.invariant.spaced next spaced)
 
 pub returns-then-not-goes-clause-read : goal.returns-then-not-goes-clause-read
-returns-then-not-goes-clause-read g c = read-then g.C.Store g.F.Family.shape g.H.Digest.Digest.bytes g.H.Hasher.hash c.args.log.now c.loop-at.log c.visit.new.log c.loop-at.invariant.read c.visit.ensures.read
+returns-then-not-goes-clause-read g c = read-then g.L.Items.reads g.met.L.Items.read_again c.args.log.now c.loop-at.log c.visit.new.log c.loop-at.invariant.read c.visit.ensures.read
 
 pub returns-then-not-goes-clause-low : goal.returns-then-not-goes-clause-low
 returns-then-not-goes-clause-low g c = let low = c.loop-at.invariant.low in let later = c.in_ok-goes.ensures.low in omega (arith, low, later)

@@ -13,13 +13,13 @@ invariant-loop-at g l =
     let key = g.U.Key.ByteString.bytes in
     let value = g.U.Value.ByteString.bytes in
     record {
-      read : IsRead g.C.Store g.F.Family.shape g.H.Digest.Digest.bytes g.H.Hasher.hash l.initial.log l.log;
+      read : IsRead g.L.Items.reads l.initial.log l.log;
       low : l.initial.going.walk.floor ≤ l.going.walk.floor;
       end : l.going.walk.end ≡ l.initial.going.walk.end;
       spaced : (next : ℕ) → IsSpaced l.initial.going.walk.floor l.round next → IsSpaced l.going.walk.floor (drop l.at-index l.round) next;
-      value : (lent base list : List Operation) (next : ℕ) (all : Walked g.row.P.Denot) → IsLent g.C.Store g.F.Family.shape g.H.Digest.Digest.bytes g.H.Hasher.hash g.U.Update.form g.I.Unordered.index_key (g.I.Unordered.entries l.path.index.now) l.initial.log lent →
+      value : (lent base list : List Operation) (next : ℕ) (all : Walked g.row.P.Denot) → IsLent g.L.Items.reads g.U.Update.form g.I.Unordered.index_key (g.I.Unordered.entries l.path.index.now) l.initial.log lent →
           IsPath (path_view g.U.Update.view key value l.path) lent base list → AreDeadBetween list l.initial.going.walk.floor l.round next →
           IsGoing g.P.Policy.rules base list (decided_views key value l.initial.going.decided.items) l.initial.going.walk l.initial.policy all →
-          IfSome (g.C.Store.told l.initial.log.store) (λ _. AreDeadBetween list l.going.walk.floor (drop l.at-index l.round) next ×
+          IfSome (g.L.Items.reads.told l.initial.log) (λ _. AreDeadBetween list l.going.walk.floor (drop l.at-index l.round) next ×
           IsGoing g.P.Policy.rules base list (decided_views key value l.going.decided.items) l.going.walk l.policy all);
     }

@@ -21,6 +21,6 @@ returns-clause-value g c = λ lent base list is active on.
     let at : c.new.result ≡ floor base = c.new.ensures ∙ place ∙ low in
     let begun : c.new-walk.result ≡ record { floor = floor base; end = min c.new-2.result (floor base + c.args.limits.entries + c.args.limits.skips); entries = c.args.limits.entries; skips = c.args.limits.skips } =
     c.new-walk.ensures ∙ ap (λ n. record { floor = n; end = min c.new-2.result (n + c.args.limits.entries + c.args.limits.skips); entries = c.args.limits.entries; skips = c.args.limits.skips }) at in
-    told-one _ _ (g.C.Store.told c.args.log.now.store) (c.in_ok-walk_on.ensures.value lent base list _ is active on
+    told-one _ _ (g.L.Items.reads.told c.args.log.now) (c.in_ok-walk_on.ensures.value lent base list _ is active on
     (going-begins g.P.Policy.rules base list _ c.new-walk.result c.args.policy.now c.new-2.result c.args.limits.entries c.args.limits.skips (ap (map (decided_view key value)) c.new-3.ensures.items) top begun)) (λ decided.
     subst (λ (n : ℕ). AreDecided base list (decided_views key value c.walk_on.new.going.decided.items) n c.walk_on.new.policy (walk g.P.Policy.rules list (floor base) (record { entries = c.args.limits.entries; skips = c.args.limits.skips }) c.args.policy.now)) (sym c.get.ensures) decided)

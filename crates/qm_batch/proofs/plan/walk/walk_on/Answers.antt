@@ -1,4 +1,4 @@
-use Rattle.std.proofs.Common.{◌≡◌, ◌∙◌, ◌≤◌, ◌<◌, ap, sym, subst, arith, refl}
+use Rattle.std.proofs.Common.{◌≡◌, ◌∙◌, ◌≤◌, ◌<◌, sym, subst, arith, refl}
 use Rattle.std.specs.Prelude.{IfSome}
 use Rattle.std.proofs.lemmas.Result.{err_from_is_err_and}
 use Rattle.qm_model.proofs.Results.{told-any, told-err, told-one, told-then}
@@ -14,12 +14,12 @@ loop-from-init g c =
     let floor = c.get-floor.ensures in
     let start : c.get-floor.result ≤ c.args.going.now.walk.floor = omega (arith, floor) in
     record {
-      read = read-none g.C.Store g.F.Family.shape g.H.Digest.Digest.bytes g.H.Hasher.hash c.args.log.now;
+      read = read-none g.L.Items.reads g.met.L.Items.unread c.args.log.now;
       low = omega arith;
       here = omega (arith, floor);
       within = omega (arith, floor, c.requires);
       end = refl;
-      value = λ lent base list all is active on going. told-any _ (g.C.Store.told c.args.log.now.store) (dead-none list c.args.going.now.walk.floor c.get-floor.result start, going);
+      value = λ lent base list all is active on going. told-any _ (g.L.Items.reads.told c.args.log.now) (dead-none list c.args.going.now.walk.floor c.get-floor.result start, going);
     }
 
 pub walk_round-requires-clause-low : goal.walk_round-requires-clause-low
@@ -31,34 +31,34 @@ walk_round-requires-clause-high g c = let end = c.loop-from.invariant.end in ome
 pub returns-in_err-next-clause-value : goal.returns-in_err-next-clause-value
 returns-in_err-next-clause-value g c = λ lent base list all is active on going.
     let exit = err_from_is_err_and c.from_residual.result c.from_residual.ensures.1 in
-    told-err _ (g.C.Store.told c.args.log.now.store) c.from_residual.result exit.0 exit.1
+    told-err _ (g.L.Items.reads.told c.args.log.now) c.from_residual.result exit.0 exit.1
 
 pub returns-in_err-next-clause-read : goal.returns-in_err-next-clause-read
-returns-in_err-next-clause-read g c = read-then g.C.Store g.F.Family.shape g.H.Digest.Digest.bytes g.H.Hasher.hash c.args.log.now c.loop-from.log c.walk_round.new.log c.loop-from.invariant.read c.walk_round.ensures.read
+returns-in_err-next-clause-read g c = read-then g.L.Items.reads g.met.L.Items.read_again c.args.log.now c.loop-from.log c.walk_round.new.log c.loop-from.invariant.read c.walk_round.ensures.read
 
 pub returns-in_err-next-clause-error : goal.returns-in_err-next-clause-error
 returns-in_err-next-clause-error g c =
     let exit = err_from_is_err_and c.from_residual.result c.from_residual.ensures.1 in
-    rw (exit.1, exit.2) (error-then g.C.Store g.F.Family.shape g.H.Digest.Digest.bytes g.H.Hasher.hash c.args.log.now c.loop-from.log c.walk_round.new.log _ c.loop-from.invariant.read c.in_err-next.ensures.error)
+    rw (exit.1, exit.2) (error-then g.L.Items.reads g.met.L.Items.failed_later c.args.log.now c.loop-from.log c.walk_round.new.log _ c.loop-from.invariant.read c.in_err-next.ensures.error)
 
 pub returns-in_err-next-clause-pruned : goal.returns-in_err-next-clause-pruned
 returns-in_err-next-clause-pruned g c = λ above.
     let exit = err_from_is_err_and c.from_residual.result c.from_residual.ensures.1 in
-    let same = ap (λ t. t.start) (c.loop-from.invariant.read).tree in
+    let same = (c.loop-from.invariant.read).start in
     let low = c.loop-from.invariant.low in
     rw (exit.1, exit.2) (c.in_err-next.ensures.pruned (omega (arith, same, low, above)))
 
 pub returns-in_default-clause-value : goal.returns-in_default-clause-value
 returns-in_default-clause-value g c = λ lent base list all is active on going.
     let read = c.loop-from.invariant.read in
-    let mid = lent-then g.C.Store g.F.Family.shape g.H.Digest.Digest.bytes g.H.Hasher.hash _ g.I.Unordered.index_key (g.I.Unordered.entries c.args.path.now.index.now) c.args.log.now c.loop-from.log lent read is in
-    told-then _ _ (g.C.Store.told c.args.log.now.store) (c.loop-from.invariant.value lent base list all is active on going) (λ so_far.
+    let mid = lent-then g.L.Items.reads _ g.I.Unordered.index_key (g.I.Unordered.entries c.args.path.now.index.now) c.args.log.now c.loop-from.log lent read is in
+    told-then _ _ (g.L.Items.reads.told c.args.log.now) (c.loop-from.invariant.value lent base list all is active on going) (λ so_far.
     let dead = subst (λ n. AreDead list c.loop-from.going.walk.floor n) (sym c.new.ensures) so_far.0 in
-    told-one _ _ (g.C.Store.told c.args.log.now.store) (told _ _ _ read.kept.told (c.in_ok-next.ensures.value lent base list all mid active on dead so_far.1)) (λ walked.
+    told-one _ _ (g.L.Items.reads.told c.args.log.now) (told _ _ _ read.told (c.in_ok-next.ensures.value lent base list all mid active on dead so_far.1)) (λ walked.
     match-none c.in_ok-next.next _ _ c.in_default.is walked))
 
 pub returns-in_default-clause-read : goal.returns-in_default-clause-read
-returns-in_default-clause-read g c = read-then g.C.Store g.F.Family.shape g.H.Digest.Digest.bytes g.H.Hasher.hash c.args.log.now c.loop-from.log c.walk_round.new.log c.loop-from.invariant.read c.walk_round.ensures.read
+returns-in_default-clause-read g c = read-then g.L.Items.reads g.met.L.Items.read_again c.args.log.now c.loop-from.log c.walk_round.new.log c.loop-from.invariant.read c.walk_round.ensures.read
 
 pub loop-from-smaller : goal.loop-from-smaller
 loop-from-smaller g c =
@@ -76,16 +76,16 @@ loop-from-preserved g c =
     let here = next.1 in
     let within = next.2 in
     record {
-      read = read-then g.C.Store g.F.Family.shape g.H.Digest.Digest.bytes g.H.Hasher.hash c.args.log.now c.loop-from.log c.walk_round.new.log read c.walk_round.ensures.read;
+      read = read-then g.L.Items.reads g.met.L.Items.read_again c.args.log.now c.loop-from.log c.walk_round.new.log read c.walk_round.ensures.read;
       low = omega (arith, low, later);
       here = omega (arith, here, c.get-from.ensures);
       within = omega (arith, within, c.get-from.ensures);
       end = c.in_ok-next.ensures.end ∙ end;
       value = λ lent base list all is active on going.
-          let mid = lent-then g.C.Store g.F.Family.shape g.H.Digest.Digest.bytes g.H.Hasher.hash _ g.I.Unordered.index_key (g.I.Unordered.entries c.args.path.now.index.now) c.args.log.now c.loop-from.log lent read is in
-          told-then _ _ (g.C.Store.told c.args.log.now.store) (c.loop-from.invariant.value lent base list all is active on going) (λ so_far.
+          let mid = lent-then g.L.Items.reads _ g.I.Unordered.index_key (g.I.Unordered.entries c.args.path.now.index.now) c.args.log.now c.loop-from.log lent read is in
+          told-then _ _ (g.L.Items.reads.told c.args.log.now) (c.loop-from.invariant.value lent base list all is active on going) (λ so_far.
           let dead = subst (λ n. AreDead list c.loop-from.going.walk.floor n) (sym c.new.ensures) so_far.0 in
-          told-one _ _ (g.C.Store.told c.args.log.now.store) (told _ _ _ read.kept.told (c.in_ok-next.ensures.value lent base list all mid active on dead so_far.1)) (λ walked.
+          told-one _ _ (g.L.Items.reads.told c.args.log.now) (told _ _ _ read.told (c.in_ok-next.ensures.value lent base list all mid active on dead so_far.1)) (λ walked.
           let goes = match-some c.in_ok-next.next c.in-Some.next _ _ c.in-Some.is walked in
           (subst (λ n. AreDead list c.walk_round.new.going.walk.floor n) (sym c.get-from.ensures) goes.0, goes.1)));
     }
@@ -103,7 +103,7 @@ returns-clause-value g c = λ lent base list all is active on going.
     let within = c.loop-from.invariant.within in
     let end = c.loop-from.invariant.end in
     let last : c.loop-from.from ≡ w.end = omega (arith, within, end, c.loop-from-test.false, c.get-end.ensures) in
-    told-one _ _ (g.C.Store.told c.args.log.now.store) (c.loop-from.invariant.value lent base list all is active on going) (λ so_far.
+    told-one _ _ (g.L.Items.reads.told c.args.log.now) (c.loop-from.invariant.value lent base list all is active on going) (λ so_far.
     going-finished g.P.Policy.rules base list (decided_views g.U.Key.ByteString.bytes g.U.Value.ByteString.bytes c.loop-from.going.decided.items) w c.loop-from.policy all so_far.1 c.finish.new.walk (omega (arith, here, within))
     (subst (λ n. AreDead list w.floor n) last so_far.0) c.finish.ensures.none c.finish.ensures.some)
 

@@ -14,15 +14,15 @@ invariant-loop-from g l =
     let key = g.U.Key.ByteString.bytes in
     let value = g.U.Value.ByteString.bytes in
     record {
-      read : IsRead g.C.Store g.F.Family.shape g.H.Digest.Digest.bytes g.H.Hasher.hash l.initial.log l.log;
+      read : IsRead g.L.Items.reads l.initial.log l.log;
       low : l.initial.going.walk.floor ≤ l.going.walk.floor;
       here : l.going.walk.floor ≤ l.from;
       within : l.from ≤ l.going.walk.end;
       end : l.going.walk.end ≡ l.initial.going.walk.end;
-      value : (lent base list : List Operation) (all : Walked g.row.P.Denot) → IsLent g.C.Store g.F.Family.shape g.H.Digest.Digest.bytes g.H.Hasher.hash g.U.Update.form g.I.Unordered.index_key (g.I.Unordered.entries l.path.index.now) l.initial.log lent →
+      value : (lent base list : List Operation) (all : Walked g.row.P.Denot) → IsLent g.L.Items.reads g.U.Update.form g.I.Unordered.index_key (g.I.Unordered.entries l.path.index.now) l.initial.log lent →
           g.B.Candidates.activity l.activity ≡ bits lent → IsPath (path_view g.U.Update.view key value l.path) lent base list →
           IsGoing g.P.Policy.rules base list (decided_views key value l.initial.going.decided.items) l.initial.going.walk l.initial.policy all →
-          IfSome (g.C.Store.told l.initial.log.store) (λ _. AreDead list l.going.walk.floor l.from ×
+          IfSome (g.L.Items.reads.told l.initial.log) (λ _. AreDead list l.going.walk.floor l.from ×
           IsGoing g.P.Policy.rules base list (decided_views key value l.going.decided.items) l.going.walk l.policy all);
     }
 

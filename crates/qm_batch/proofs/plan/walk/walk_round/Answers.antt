@@ -23,7 +23,7 @@ returns-then-goes-clause-value g c = λ lent base list all is active on dead goi
     let path = path_view g.U.Update.view g.U.Key.ByteString.bytes g.U.Value.ByteString.bytes c.args.path.now in
     let found = ap (λ bs. candidates bs c.args.from next) (sym active) ∙ c.in_ok-round.ensures.found ∙ sym c.deref.ensures.value in
     let between = between-then list c.args.going.now.walk.floor c.args.from next round dead (path-dead path lent base list c.args.from next round on found) in
-    told-one _ _ (g.C.Store.told c.args.log.now.store) (c.in_ok-goes.ensures.value lent base list next all is on between going) (λ walked. chosen-true c.in_ok-goes.goes _ _ c.if-goes.true walked)
+    told-one _ _ (g.L.Items.reads.told c.args.log.now) (c.in_ok-goes.ensures.value lent base list next all is on between going) (λ walked. chosen-true c.in_ok-goes.goes _ _ c.if-goes.true walked)
 
 pub returns-clause-value : goal.returns-clause-value
 returns-clause-value g c = λ lent base list all is active on dead going.
@@ -32,7 +32,7 @@ returns-clause-value g c = λ lent base list all is active on dead going.
     let path = path_view g.U.Update.view g.U.Key.ByteString.bytes g.U.Value.ByteString.bytes c.args.path.now in
     let found = ap (λ bs. candidates bs c.args.from next) (sym active) ∙ c.in_ok-round.ensures.found ∙ sym c.deref.ensures.value in
     let between = between-then list c.args.going.now.walk.floor c.args.from next round dead (path-dead path lent base list c.args.from next round on found) in
-    told-one _ _ (g.C.Store.told c.args.log.now.store) (c.in_ok-goes.ensures.value lent base list next all is on between going) (λ walked. chosen-false c.in_ok-goes.goes _ _ c.if-goes.false walked)
+    told-one _ _ (g.L.Items.reads.told c.args.log.now) (c.in_ok-goes.ensures.value lent base list next all is on between going) (λ walked. chosen-false c.in_ok-goes.goes _ _ c.if-goes.false walked)
 
 pub returns-then-goes-clause-next : goal.returns-then-goes-clause-next
 returns-then-goes-clause-next g c =

@@ -10,5 +10,5 @@ returns-in-None-clause-value g c = λ lent list is from ring over.
     let key = g.U.Key.ByteString.bytes in
     let value = g.U.Value.ByteString.bytes in
     let d = decided_view key value c.args.one.now in
-    told-one _ _ (g.C.Store.told c.args.log.now.store) (c.previous.ensures.value lent list is from ring over) (λ found.
+    told-one _ _ (g.L.Items.reads.told c.args.log.now) (c.previous.ensures.value lent list is from ring over) (λ found.
     ok-then c.previous.result found (λ x same. same ∙ sym (ap (λ (o : Option _). before_evicted list (record d { value = option_map value o })) c.in-None.is)))

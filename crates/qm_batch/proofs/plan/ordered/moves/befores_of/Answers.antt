@@ -17,7 +17,7 @@ returns-then-not-is_ordered-clause-value g c = λ lent list ordered is base ring
     elim c.then-not-is_ordered.branch [
       | then-not-is_ordered-via-then-not-is_ordered w ↦ absurd (true≢false (sym ordered ∙ sym c.is_ordered.ensures ∙ w.if-not-is_ordered.true))
       | then-not-is_ordered-via-else-not-is_ordered+then-evicted-eq0 w ↦
-          told-any _ (g.C.Store.told c.args.log.now.store)
+          told-any _ (g.L.Items.reads.told c.args.log.now)
           (ap (map (read_view g.U.Update.view)) c.new.ensures.items
           ∙ sym (none-before (list ++ operations_of (touch_views g.U.Update.view key value c.args.made.now)) (decided_views key value c.args.decided.now)
           (none-gone key value c.args.decided.now (sym w.evicted.ensures.count ∙ w.if-evicted-eq0.true))))

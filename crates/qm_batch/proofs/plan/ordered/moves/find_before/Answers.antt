@@ -14,37 +14,37 @@ use Rattle.qm_batch.proofs.plan.ordered.moves.find_before.Goals as goal
 pub returns-in_err-found-clause-value : goal.returns-in_err-found-clause-value
 returns-in_err-found-clause-value g c = λ lent list is from ring over.
     let exit = err_from_is_err_and c.from_residual.result c.from_residual.ensures.1 in
-    told-err _ (g.C.Store.told c.args.log.now.store) c.from_residual.result exit.0 exit.1
+    told-err _ (g.L.Items.reads.told c.args.log.now) c.from_residual.result exit.0 exit.1
 
 pub returns-in_err-found-clause-read : goal.returns-in_err-found-clause-read
-returns-in_err-found-clause-read g c = read-then g.C.Store g.F.Family.shape g.H.Digest.Digest.bytes g.H.Hasher.hash c.args.log.now c.loop-one.log c.before_gone.new.log c.loop-one.invariant.read c.before_gone.ensures.read
+returns-in_err-found-clause-read g c = read-then g.L.Items.reads g.met.L.Items.read_again c.args.log.now c.loop-one.log c.before_gone.new.log c.loop-one.invariant.read c.before_gone.ensures.read
 
 pub returns-in_err-found-clause-error : goal.returns-in_err-found-clause-error
 returns-in_err-found-clause-error g c =
     let exit = err_from_is_err_and c.from_residual.result c.from_residual.ensures.1 in
-    rw (exit.1, exit.2) (error-then g.C.Store g.F.Family.shape g.H.Digest.Digest.bytes g.H.Hasher.hash c.args.log.now c.loop-one.log c.before_gone.new.log _ c.loop-one.invariant.read c.in_err-found.ensures.error)
+    rw (exit.1, exit.2) (error-then g.L.Items.reads g.met.L.Items.failed_later c.args.log.now c.loop-one.log c.before_gone.new.log _ c.loop-one.invariant.read c.in_err-found.ensures.error)
 
 pub returns-in_err-found-clause-whole : goal.returns-in_err-found-clause-whole
 returns-in_err-found-clause-whole g c = λ lent is none.
     let exit = err_from_is_err_and c.from_residual.result c.from_residual.ensures.1 in
     let entries = g.I.Unordered.entries c.args.index.now in
     let read = c.loop-one.invariant.read in
-    let mid = lent-then g.C.Store g.F.Family.shape g.H.Digest.Digest.bytes g.H.Hasher.hash _ g.I.Unordered.index_key entries c.args.log.now c.loop-one.log lent read is in
-    rw (exit.1, exit.2) (c.in_err-found.ensures.whole lent mid (subst (λ t. NoneBelow t.start lent) (sym read.tree) none))
+    let mid = lent-then g.L.Items.reads _ g.I.Unordered.index_key entries c.args.log.now c.loop-one.log lent read is in
+    rw (exit.1, exit.2) (c.in_err-found.ensures.whole lent mid (subst (λ t. NoneBelow t lent) (sym read.start) none))
 
 pub returns-in_err-push_some-clause-value : goal.returns-in_err-push_some-clause-value
 returns-in_err-push_some-clause-value g c = λ lent list is from ring over.
     let exit = err_from_is_err_and c.from_residual-in_err-push_some.result c.from_residual-in_err-push_some.ensures.1 in
-    told-err _ (g.C.Store.told c.args.log.now.store) c.from_residual-in_err-push_some.result exit.0 exit.1
+    told-err _ (g.L.Items.reads.told c.args.log.now) c.from_residual-in_err-push_some.result exit.0 exit.1
 
 pub returns-in_err-push_some-clause-read : goal.returns-in_err-push_some-clause-read
-returns-in_err-push_some-clause-read g c = read-then g.C.Store g.F.Family.shape g.H.Digest.Digest.bytes g.H.Hasher.hash c.args.log.now c.loop-one.log c.before_gone.new.log c.loop-one.invariant.read c.before_gone.ensures.read
+returns-in_err-push_some-clause-read g c = read-then g.L.Items.reads g.met.L.Items.read_again c.args.log.now c.loop-one.log c.before_gone.new.log c.loop-one.invariant.read c.before_gone.ensures.read
 
 pub loop-one-init : goal.loop-one-init
 loop-one-init g c = record {
-  read = read-none g.C.Store g.F.Family.shape g.H.Digest.Digest.bytes g.H.Hasher.hash c.args.log.now;
+  read = read-none g.L.Items.reads g.met.L.Items.unread c.args.log.now;
   value = λ lent list is from ring over.
-      told-any _ (g.C.Store.told c.args.log.now.store) (ap (map (read_view g.U.Update.view)) c.new-all.ensures.items);
+      told-any _ (g.L.Items.reads.told c.args.log.now) (ap (map (read_view g.U.Update.view)) c.new-all.ensures.items);
 }
 
 pub loop-one-preserved : goal.loop-one-preserved
@@ -53,11 +53,11 @@ loop-one-preserved g c =
     let key = g.U.Key.ByteString.bytes in
     let value = g.U.Value.ByteString.bytes in
     record {
-      read = read-then g.C.Store g.F.Family.shape g.H.Digest.Digest.bytes g.H.Hasher.hash c.args.log.now c.loop-one.log c.before_gone.new.log read c.before_gone.ensures.read;
+      read = read-then g.L.Items.reads g.met.L.Items.read_again c.args.log.now c.loop-one.log c.before_gone.new.log read c.before_gone.ensures.read;
       value = λ lent list is from ring over.
-          let mid = lent-then g.C.Store g.F.Family.shape g.H.Digest.Digest.bytes g.H.Hasher.hash _ g.I.Unordered.index_key (g.I.Unordered.entries c.args.index.now) c.args.log.now c.loop-one.log lent read is in
-          told-both _ _ _ (g.C.Store.told c.args.log.now.store) (c.loop-one.invariant.value lent list is from ring over)
-          (told _ _ _ read.kept.told (c.in_ok-found.ensures.value lent list mid from ring over)) (λ before found.
+          let mid = lent-then g.L.Items.reads _ g.I.Unordered.index_key (g.I.Unordered.entries c.args.index.now) c.args.log.now c.loop-one.log lent read is in
+          told-both _ _ _ (g.L.Items.reads.told c.args.log.now) (c.loop-one.invariant.value lent list is from ring over)
+          (told _ _ _ read.told (c.in_ok-found.ensures.value lent list mid from ring over)) (λ before found.
           some-more (read_view g.U.Update.view) (λ d. before_evicted list (decided_view key value d)) c.loop-one.all.items c.push_some.new.things.items c.in_ok-found.found c.in_ok-push_some.ensures
           c.args.decided.now c.loop-one.one-index c.one-item.result c.loop-one-test.true c.one-item.is found before);
     }
@@ -65,5 +65,5 @@ loop-one-preserved g c =
 pub returns-clause-value : goal.returns-clause-value
 returns-clause-value g c = λ lent list is from ring over.
     let view = decided_view g.U.Key.ByteString.bytes g.U.Value.ByteString.bytes in
-    told-one _ _ (g.C.Store.told c.args.log.now.store) (c.loop-one.invariant.value lent list is from ring over) (λ found.
+    told-one _ _ (g.L.Items.reads.told c.args.log.now) (c.loop-one.invariant.value lent list is from ring over) (λ found.
     found ∙ ap (filter_map (λ d. before_evicted list (view d))) (take_all c.loop-one.one-index c.args.decided.now c.loop-one-test.false) ∙ sym (given-mapped (before_evicted list) view c.args.decided.now))

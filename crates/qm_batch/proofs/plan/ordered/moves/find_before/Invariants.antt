@@ -14,8 +14,8 @@ invariant-loop-one g l =
     let key = g.U.Key.ByteString.bytes in
     let value = g.U.Value.ByteString.bytes in
     record {
-      read : IsRead g.C.Store g.F.Family.shape g.H.Digest.Digest.bytes g.H.Hasher.hash l.initial.log l.log;
-      value : (lent list : List Operation) → IsLent g.C.Store g.F.Family.shape g.H.Digest.Digest.bytes g.H.Hasher.hash g.U.Update.form g.I.Unordered.index_key (g.I.Unordered.entries l.index) l.initial.log lent →
-          LeadOver (map (λ l. l.value) l.layers) lent list → IsRing lent → IsRing list → IfSome (g.C.Store.told l.initial.log.store)
+      read : IsRead g.L.Items.reads l.initial.log l.log;
+      value : (lent list : List Operation) → IsLent g.L.Items.reads g.U.Update.form g.I.Unordered.index_key (g.I.Unordered.entries l.index) l.initial.log lent →
+          LeadOver (map (λ l. l.value) l.layers) lent list → IsRing lent → IsRing list → IfSome (g.L.Items.reads.told l.initial.log)
           (λ _. map (read_view g.U.Update.view) l.all.items ≡ filter_map (λ d. before_evicted list (decided_view key value d)) (take l.one-index l.decided));
     }

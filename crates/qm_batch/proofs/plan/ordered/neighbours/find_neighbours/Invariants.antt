@@ -15,8 +15,8 @@ invariant-loop-site g l =
     let key = g.U.Key.ByteString.bytes in
     let value = g.U.Value.ByteString.bytes in
     record {
-      read : IsRead g.C.Store g.F.Family.shape g.H.Digest.Digest.bytes g.H.Hasher.hash l.initial.log l.log;
-      value : (lent base : List Operation) (ws : List Write) → IsLent g.C.Store g.F.Family.shape g.H.Digest.Digest.bytes g.H.Hasher.hash g.U.Update.form g.I.Unordered.index_key (g.I.Unordered.entries l.index) l.initial.log lent →
-          LeadOver (map (λ l. l.value) l.layers) lent base → IsRing lent → IsRing base → map (linked_view key value) l.sites ≡ map (linked_in base) ws → IfSome (g.C.Store.told l.initial.log.store)
+      read : IsRead g.L.Items.reads l.initial.log l.log;
+      value : (lent base : List Operation) (ws : List Write) → IsLent g.L.Items.reads g.U.Update.form g.I.Unordered.index_key (g.I.Unordered.entries l.index) l.initial.log lent →
+          LeadOver (map (λ l. l.value) l.layers) lent base → IsRing lent → IsRing base → map (linked_view key value) l.sites ≡ map (linked_in base) ws → IfSome (g.L.Items.reads.told l.initial.log)
           (λ _. map (neighbour_view g.U.Update.view key) l.neighbours.items ≡ filter_map (neighbour_in base) (take l.site-index ws));
     }

@@ -3,7 +3,7 @@ use Rattle.std.proofs.Common.{◌≡◌, ◌≤◌, suc, length, ◌∙◌, ap, 
 use Rattle.qm_model.proofs.Results.{err-then, ok-then}
 use Rattle.qm_model.specs.Batches.{IsOnChain}
 use Rattle.qm_model.specs.Live.{floor}
-use Rattle.qm_batch.specs.Lent.{IsReadError}
+use Rattle.qm_batch.specs.Logs.{IsReadError}
 use Rattle.qm_step.specs.Views.{stepped}
 use Rattle.qm_base.specs.declared.sha256.Sha256Digest.{Sha256Digest}
 use Rattle.qm_any.specs.Databases.{Begun, IsBegun, IsDatabase, IsMade}
@@ -64,5 +64,5 @@ pub returns-clause-reads : goal.returns-clause-reads
 returns-clause-reads g c = record {
   same = λ list is. left-database g.C.Store (layout mmr g.U.Update.form g.I.Unordered.index_key) c.args.self.now.db c.merkleize.new.db list c.merkleize.ensures.left is;
   store = left-store g.C.Store (hashing mmr g.U.Update.form) c.args.self.now.db c.merkleize.new.db c.merkleize.ensures.left;
-  faults = record { later = (c.merkleize.ensures.left).read.later; failed = err-of c.merkleize.result (Journal Store) _ c.merkleize.ensures.cause };
+  faults = record { later = (c.merkleize.ensures.left).read.keeps.later; failed = err-of c.merkleize.result (Journal Store) _ c.merkleize.ensures.cause };
 }

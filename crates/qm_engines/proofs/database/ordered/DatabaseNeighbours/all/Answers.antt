@@ -22,7 +22,7 @@ returns-clause-reads g c = record {
   same = λ list is. left-database g.C.Store (layout mmr g.U.Update.form g.I.Unordered.index_key) c.args.self.now.db c.get_all.new.self list c.get_all.ensures.left is;
   store = left-store g.C.Store (hashing mmr g.U.Update.form) c.args.self.now.db c.get_all.new.self c.get_all.ensures.left;
   faults = record {
-    later = (c.get_all.ensures.left).read.later;
+    later = (c.get_all.ensures.left).read.keeps.later;
     failed = err-of c.get_all.result (Journal Store) _ (err-then c.get_all.result c.get_all.ensures.error (λ e why fault. log-rose g.C.Store c.args.self.now.db.log c.get_all.new.self.log e why fault));
   };
 }

@@ -36,7 +36,7 @@ returns-clause-reads g c = record {
   same = λ list is. left-database g.C.Store (layout mmr g.U.Update.form g.I.Unordered.index_key) c.args.self.now.db c.get_prev_key.new.db list c.get_prev_key.ensures.left is;
   store = left-store g.C.Store (hashing mmr g.U.Update.form) c.args.self.now.db c.get_prev_key.new.db c.get_prev_key.ensures.left;
   faults = record {
-    later = (c.get_prev_key.ensures.left).read.later;
+    later = (c.get_prev_key.ensures.left).read.keeps.later;
     failed = err-of c.get_prev_key.result (Journal Store) _ (err-then c.get_prev_key.result c.get_prev_key.ensures.error (λ e why fault. rose-read g.C.Store c.args.self.now.db.log c.get_prev_key.new.db.log (knows c.deref.result.now.bounds c.args.self.now.db.commitment) e why fault));
   };
 }

@@ -22,7 +22,7 @@ returns-clause-reads g c = record {
   same = λ list is. left-database g.C.Store (layout mmr g.U.Update.form g.I.Unordered.index_key) c.args.self.now.db c.pairs_of.new.db list c.pairs_of.ensures.left is;
   store = left-store g.C.Store (hashing mmr g.U.Update.form) c.args.self.now.db c.pairs_of.new.db c.pairs_of.ensures.left;
   faults = record {
-    later = (c.pairs_of.ensures.left).read.later;
+    later = (c.pairs_of.ensures.left).read.keeps.later;
     failed = err-of c.pairs_of.result (Journal Store) _ (err-then c.pairs_of.result c.pairs_of.ensures.error (λ e why fault. log-rose g.C.Store c.args.self.now.db.log c.pairs_of.new.db.log e why fault));
   };
 }

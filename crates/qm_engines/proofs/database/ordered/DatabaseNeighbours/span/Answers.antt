@@ -16,14 +16,14 @@ pub returns-in-Ok-clause-reads : goal.returns-in-Ok-clause-reads
 returns-in-Ok-clause-reads g c = record {
   same = λ list is. left-database g.C.Store (layout mmr g.U.Update.form g.I.Unordered.index_key) c.args.self.now.db c.get_span.new.self list c.get_span.ensures.left is;
   store = left-store g.C.Store (hashing mmr g.U.Update.form) c.args.self.now.db c.get_span.new.self c.get_span.ensures.left;
-  faults = record { later = (c.get_span.ensures.left).read.later; failed = λ fault. absurd (cc fault) };
+  faults = record { later = (c.get_span.ensures.left).read.keeps.later; failed = λ fault. absurd (cc fault) };
 }
 
 pub returns-in-Err-clause-reads : goal.returns-in-Err-clause-reads
 returns-in-Err-clause-reads g c = record {
   same = λ list is. left-database g.C.Store (layout mmr g.U.Update.form g.I.Unordered.index_key) c.args.self.now.db c.get_span.new.self list c.get_span.ensures.left is;
   store = left-store g.C.Store (hashing mmr g.U.Update.form) c.args.self.now.db c.get_span.new.self c.get_span.ensures.left;
-  faults = record { later = (c.get_span.ensures.left).read.later; failed = λ fault. log-rose g.C.Store c.args.self.now.db.log c.get_span.new.self.log c.in-Err.error c.in-Err.ensures.error (cc fault) };
+  faults = record { later = (c.get_span.ensures.left).read.keeps.later; failed = λ fault. log-rose g.C.Store c.args.self.now.db.log c.get_span.new.self.log c.in-Err.error c.in-Err.ensures.error (cc fault) };
 }
 
 pub returns-in-Err-clause-never : goal.returns-in-Err-clause-never

@@ -26,7 +26,7 @@ returns-in_err-proof-clause-reads g c =
     record {
       same = λ list is. left-database g.C.Store (layout mmr g.U.Update.form g.I.Unordered.index_key) c.args.self.now.db c.historical_proof.new.self list c.historical_proof.ensures.left is;
       store = left-store g.C.Store (hashing mmr g.U.Update.form) c.args.self.now.db c.historical_proof.new.self c.historical_proof.ensures.left;
-      faults = record { later = (c.historical_proof.ensures.left).read.later; failed = λ fault. c.in_err-proof.ensures.cause (err-exit c.from_residual.result exit.0 _ _ exit.1 exit.2 fault) };
+      faults = record { later = (c.historical_proof.ensures.left).read.keeps.later; failed = λ fault. c.in_err-proof.ensures.cause (err-exit c.from_residual.result exit.0 _ _ exit.1 exit.2 fault) };
     }
 
 pub returns-in_err-operations-clause-reads : goal.returns-in_err-operations-clause-reads
@@ -35,12 +35,12 @@ returns-in_err-operations-clause-reads g c =
     record {
       same = λ list is. left-database g.C.Store (layout mmr g.U.Update.form g.I.Unordered.index_key) c.args.self.now.db c.historical_proof.new.self list c.historical_proof.ensures.left is;
       store = left-store g.C.Store (hashing mmr g.U.Update.form) c.args.self.now.db c.historical_proof.new.self c.historical_proof.ensures.left;
-      faults = record { later = (c.historical_proof.ensures.left).read.later; failed = λ fault. absurd (memory-exit c.from_residual-in_err-operations.result exit.0 exit.1 exit.2 fault) };
+      faults = record { later = (c.historical_proof.ensures.left).read.keeps.later; failed = λ fault. absurd (memory-exit c.from_residual-in_err-operations.result exit.0 exit.1 exit.2 fault) };
     }
 
 pub returns-clause-reads : goal.returns-clause-reads
 returns-clause-reads g c = record {
   same = λ list is. left-database g.C.Store (layout mmr g.U.Update.form g.I.Unordered.index_key) c.args.self.now.db c.historical_proof.new.self list c.historical_proof.ensures.left is;
   store = left-store g.C.Store (hashing mmr g.U.Update.form) c.args.self.now.db c.historical_proof.new.self c.historical_proof.ensures.left;
-  faults = record { later = (c.historical_proof.ensures.left).read.later; failed = λ fault. absurd (cc fault) };
+  faults = record { later = (c.historical_proof.ensures.left).read.keeps.later; failed = λ fault. absurd (cc fault) };
 }

@@ -33,7 +33,7 @@ returns-clause-reads g c = record {
   same = λ list is. left-database g.C.Store (layout mmr g.U.Update.form g.I.Unordered.index_key) c.args.self.now.db c.get_many.new.db list c.get_many.ensures.left is;
   store = left-store g.C.Store (hashing mmr g.U.Update.form) c.args.self.now.db c.get_many.new.db c.get_many.ensures.left;
   faults = record {
-    later = (c.get_many.ensures.left).read.later;
+    later = (c.get_many.ensures.left).read.keeps.later;
     failed = err-of c.get_many.result (Journal Store) _ (err-then c.get_many.result c.get_many.ensures.error (λ e why fault. rose-read g.C.Store c.args.self.now.db.log c.get_many.new.db.log (knows c.deref.result.now.bounds c.args.self.now.db.commitment) e why fault));
   };
 }

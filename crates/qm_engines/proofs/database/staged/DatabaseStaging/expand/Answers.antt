@@ -36,7 +36,7 @@ returns-clause-reads g c = record {
   same = λ list is. left-database g.C.Store (layout mmr g.U.Update.form g.I.Unordered.index_key) c.args.self.now.db c.expand.new.db list c.expand.ensures.left is;
   store = left-store g.C.Store (hashing mmr g.U.Update.form) c.args.self.now.db c.expand.new.db c.expand.ensures.left;
   faults = record {
-    later = (c.expand.ensures.left).read.later;
+    later = (c.expand.ensures.left).read.keeps.later;
     failed = err-of c.expand.result (Journal Store) _ (err-then c.expand.result c.expand.ensures.error (λ e why fault. rose-read g.C.Store c.args.self.now.db.log c.expand.new.db.log (knows c.args.batch.batch.parent.bounds c.args.self.now.db.commitment) e why fault));
   };
 }

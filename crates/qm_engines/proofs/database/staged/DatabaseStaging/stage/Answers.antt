@@ -33,7 +33,7 @@ returns-clause-reads g c = record {
   same = λ list is. left-database g.C.Store (layout mmr g.U.Update.form g.I.Unordered.index_key) c.args.self.now.db c.stage.new.db list c.stage.ensures.left is;
   store = left-store g.C.Store (hashing mmr g.U.Update.form) c.args.self.now.db c.stage.new.db c.stage.ensures.left;
   faults = record {
-    later = (c.stage.ensures.left).read.later;
+    later = (c.stage.ensures.left).read.keeps.later;
     failed = err-of c.stage.result (Journal Store) _ (err-then c.stage.result c.stage.ensures.error (λ e why fault. rose-read g.C.Store c.args.self.now.db.log c.stage.new.db.log (knows c.args.batch.parent.bounds c.args.self.now.db.commitment) e why fault));
   };
 }
