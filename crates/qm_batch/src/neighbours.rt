@@ -14,9 +14,9 @@ ghost use Rattle.qm_step.specs.Views.{read_view};
 mod left;
 mod lent;
 
-use crate::items::Items;
 use self::left::{left_before, update_left};
 use self::lent::last_lent;
+use crate::items::Items;
 use crate::kind::Steps;
 use crate::read::{newest, update_from};
 use qm_base::update::Update;
@@ -31,12 +31,7 @@ use std::rc::Rc;
 /// The live update of the nearest key before this one in the base list, around the ring, with its location; none where no
 /// key is live. Index and log are lent for the base list or a list on the way to it. It takes the reads of two buckets at
 /// most.
-pub fn previous<
-    F,
-    I: qm_index::Unordered<Value = Location<F>>,
-    L: Items,
-    U: Steps<F, I>,
->(
+pub fn previous<F, I: qm_index::Unordered<Value = Location<F>>, L: Items, U: Steps<F, I>>(
     alloc: Global,
     index: &I,
     log: &mut L,
@@ -63,12 +58,7 @@ pub fn previous<
 
 /// The live update of the base list whose span holds the key, with its location: the key's own, or else the one before it,
 /// around the ring; none where no key is live.
-pub fn holder<
-    F,
-    I: qm_index::Unordered<Value = Location<F>>,
-    L: Items,
-    U: Steps<F, I>,
->(
+pub fn holder<F, I: qm_index::Unordered<Value = Location<F>>, L: Items, U: Steps<F, I>>(
     alloc: Global,
     index: &I,
     log: &mut L,
@@ -102,12 +92,7 @@ pub fn holder<
 }
 
 /// The nearest live key above this one in the base list, which does not go round.
-pub fn next_key<
-    F,
-    I: qm_index::Unordered<Value = Location<F>>,
-    L: Items,
-    U: Steps<F, I>,
->(
+pub fn next_key<F, I: qm_index::Unordered<Value = Location<F>>, L: Items, U: Steps<F, I>>(
     alloc: Global,
     index: &I,
     log: &mut L,
@@ -127,12 +112,7 @@ pub fn next_key<
 }
 
 /// The nearest live key below this one in the base list, which does not go round.
-pub fn previous_key<
-    F,
-    I: qm_index::Unordered<Value = Location<F>>,
-    L: Items,
-    U: Steps<F, I>,
->(
+pub fn previous_key<F, I: qm_index::Unordered<Value = Location<F>>, L: Items, U: Steps<F, I>>(
     alloc: Global,
     index: &I,
     log: &mut L,

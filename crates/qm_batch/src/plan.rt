@@ -24,9 +24,9 @@ mod over;
 mod sites;
 mod walk;
 
-use crate::items::Items;
 use self::over::{moved_over, written_over};
 use self::walk::{Path, Walked, walk_from};
+use crate::items::Items;
 use crate::kind::Steps;
 use qm_base::update::Update;
 use qm_base::{Error, JournalError, Location, Operation, Write};
@@ -117,12 +117,7 @@ fn made_inactive<F, U: Update>(touches: &[Touch<F, U>], live: u64, behind: u64) 
 
 // The own operations of a step whose walk went along a path: those of the writes, and what was decided, with so many keys
 // live behind the writes.
-fn own_of<
-    F,
-    I: qm_index::Unordered<Value = Location<F>>,
-    L: Items,
-    U: Steps<F, I>,
->(
+fn own_of<F, I: qm_index::Unordered<Value = Location<F>>, L: Items, U: Steps<F, I>>(
     alloc: Global,
     path: Path<'_, '_, F, I, U>,
     log: &mut L,

@@ -98,11 +98,7 @@ impl<U: Update> Scan<U> {
     }
 
     // The same for a scan that has begun and has nothing left that was read.
-    fn next_behind<
-        F,
-        I: qm_index::Unordered<Value = Location<F>>,
-        L: Items,
-    >(
+    fn next_behind<F, I: qm_index::Unordered<Value = Location<F>>, L: Items>(
         &mut self,
         alloc: Global,
         index: &I,
@@ -198,12 +194,7 @@ impl<U: Update> Scan<U> {
 }
 
 // The first pairs of a range.
-fn read_beginning<
-    F,
-    I: qm_index::Unordered<Value = Location<F>>,
-    L: Items,
-    U: Steps<F, I>,
->(
+fn read_beginning<F, I: qm_index::Unordered<Value = Location<F>>, L: Items, U: Steps<F, I>>(
     alloc: Global,
     index: &I,
     log: &mut L,
@@ -227,12 +218,7 @@ fn read_beginning<
 }
 
 // The pairs of a range in the bucket of the key where it begins.
-fn read_own<
-    F,
-    I: qm_index::Unordered<Value = Location<F>>,
-    L: Items,
-    U: Steps<F, I>,
->(
+fn read_own<F, I: qm_index::Unordered<Value = Location<F>>, L: Items, U: Steps<F, I>>(
     alloc: Global,
     index: &I,
     log: &mut L,
@@ -258,12 +244,7 @@ fn read_own<
 }
 
 // The pairs of a range without a beginning in the first bucket.
-fn read_first<
-    F,
-    I: qm_index::Unordered<Value = Location<F>>,
-    L: Items,
-    U: Steps<F, I>,
->(
+fn read_first<F, I: qm_index::Unordered<Value = Location<F>>, L: Items, U: Steps<F, I>>(
     alloc: Global,
     index: &I,
     log: &mut L,
@@ -284,12 +265,7 @@ fn read_first<
 }
 
 // The pairs of a range in the bucket behind a key's, from which on all keys are behind the beginning.
-fn read_next<
-    F,
-    I: qm_index::Unordered<Value = Location<F>>,
-    L: Items,
-    U: Steps<F, I>,
->(
+fn read_next<F, I: qm_index::Unordered<Value = Location<F>>, L: Items, U: Steps<F, I>>(
     alloc: Global,
     index: &I,
     log: &mut L,

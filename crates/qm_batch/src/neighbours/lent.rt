@@ -21,12 +21,7 @@ use std::ops::Bound;
 
 /// The live update with the greatest key before the limit in the key's own bucket, or else the one with the greatest key in
 /// the bucket before it, with its location.
-pub(crate) fn last_lent<
-    F,
-    I: qm_index::Unordered<Value = Location<F>>,
-    L: Items,
-    U: Steps<F, I>,
->(
+pub(crate) fn last_lent<F, I: qm_index::Unordered<Value = Location<F>>, L: Items, U: Steps<F, I>>(
     alloc: Global,
     index: &I,
     log: &mut L,

@@ -14,9 +14,9 @@ ghost use Rattle.qm_step.specs.Rings.{touch_in};
 ghost use Rattle.qm_step.specs.Touches.{operations_of};
 ghost use Rattle.qm_step.specs.Views.{AreReads};
 
-use crate::items::Items;
 use super::ordered::{befores_of, neighbours_of};
 use super::sites::{find_sites, known_of};
+use crate::items::Items;
 use crate::kind::Steps;
 use qm_base::{Error, JournalError, Location};
 use qm_step::decided::Decided;
@@ -56,12 +56,7 @@ pub(crate) fn written_over<
 }
 
 /// The operations of writes, and behind them those of what was decided of the list with them.
-pub(crate) fn moved_over<
-    F,
-    I: qm_index::Unordered<Value = Location<F>>,
-    L: Items,
-    U: Steps<F, I>,
->(
+pub(crate) fn moved_over<F, I: qm_index::Unordered<Value = Location<F>>, L: Items, U: Steps<F, I>>(
     alloc: Global,
     index: &I,
     log: &mut L,

@@ -39,12 +39,7 @@ pub(crate) fn known_of<'a, F, U: Update>(
 }
 
 // Where a key stands in the base list. A key that was read is not looked up.
-fn place_of<
-    F,
-    I: qm_index::Unordered<Value = Location<F>>,
-    L: Items,
-    U: Update,
->(
+fn place_of<F, I: qm_index::Unordered<Value = Location<F>>, L: Items, U: Update>(
     alloc: Global,
     index: &I,
     log: &mut L,
@@ -66,13 +61,7 @@ fn place_of<
 }
 
 /// The last writes, each with where its key stands in the base list. Keys that were read are not looked up.
-pub(crate) fn find_sites<
-    'a,
-    F,
-    I: qm_index::Unordered<Value = Location<F>>,
-    L: Items,
-    U: Update,
->(
+pub(crate) fn find_sites<'a, F, I: qm_index::Unordered<Value = Location<F>>, L: Items, U: Update>(
     alloc: Global,
     index: &I,
     log: &mut L,

@@ -163,12 +163,7 @@ fn is_moved<F, I: qm_index::Unordered<Value = Location<F>>, U: Update>(
 }
 
 // The live update at a location of the base list that is not replaced. Another operation is not copied.
-fn unreplaced_at<
-    F,
-    I: qm_index::Unordered<Value = Location<F>>,
-    L: Items,
-    U: Update,
->(
+fn unreplaced_at<F, I: qm_index::Unordered<Value = Location<F>>, L: Items, U: Update>(
     alloc: Global,
     index: &I,
     log: &mut L,
@@ -221,12 +216,7 @@ fn again<F, U: Update>(alloc: Global, touch: &Touch<F, U>) -> Result<Option<Foun
 }
 
 // The live update at a location of the base list and the operations behind it.
-fn live_at<
-    F,
-    I: qm_index::Unordered<Value = Location<F>>,
-    L: Items,
-    U: Update,
->(
+fn live_at<F, I: qm_index::Unordered<Value = Location<F>>, L: Items, U: Update>(
     alloc: Global,
     path: &Path<'_, '_, F, I, U>,
     log: &mut L,

@@ -24,12 +24,7 @@ use std::alloc::Global;
 use std::rc::Rc;
 
 // The live update before a key that goes.
-fn before_gone<
-    F,
-    I: qm_index::Unordered<Value = Location<F>>,
-    L: Items,
-    U: Steps<F, I>,
->(
+fn before_gone<F, I: qm_index::Unordered<Value = Location<F>>, L: Items, U: Steps<F, I>>(
     alloc: Global,
     index: &I,
     log: &mut L,
@@ -51,12 +46,7 @@ fn before_gone<
 }
 
 // The live updates before the keys that go.
-fn find_before<
-    F,
-    I: qm_index::Unordered<Value = Location<F>>,
-    L: Items,
-    U: Steps<F, I>,
->(
+fn find_before<F, I: qm_index::Unordered<Value = Location<F>>, L: Items, U: Steps<F, I>>(
     alloc: Global,
     index: &I,
     log: &mut L,
@@ -81,12 +71,7 @@ fn find_before<
 
 /// The live updates of an ordered list with the operations of writes before the keys of it that go. Where none goes, or in
 /// an unordered database, nothing is looked for.
-pub(crate) fn befores_of<
-    F,
-    I: qm_index::Unordered<Value = Location<F>>,
-    L: Items,
-    U: Steps<F, I>,
->(
+pub(crate) fn befores_of<F, I: qm_index::Unordered<Value = Location<F>>, L: Items, U: Steps<F, I>>(
     alloc: Global,
     index: &I,
     log: &mut L,

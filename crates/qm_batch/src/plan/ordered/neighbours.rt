@@ -22,13 +22,7 @@ use std::alloc::Global;
 use std::rc::Rc;
 
 // What stands in the base list before the key of a write that creates or deletes it.
-fn find_neighbour<
-    'a,
-    F,
-    I: qm_index::Unordered<Value = Location<F>>,
-    L: Items,
-    U: Steps<F, I>,
->(
+fn find_neighbour<'a, F, I: qm_index::Unordered<Value = Location<F>>, L: Items, U: Steps<F, I>>(
     alloc: Global,
     index: &I,
     log: &mut L,
@@ -55,13 +49,7 @@ fn find_neighbour<
 }
 
 // What stands in the base list before each key that a write creates or deletes, in the order of the writes.
-fn find_neighbours<
-    'a,
-    F,
-    I: qm_index::Unordered<Value = Location<F>>,
-    L: Items,
-    U: Steps<F, I>,
->(
+fn find_neighbours<'a, F, I: qm_index::Unordered<Value = Location<F>>, L: Items, U: Steps<F, I>>(
     alloc: Global,
     index: &I,
     log: &mut L,
