@@ -1,17 +1,19 @@
 -- What a command does that leaves all but the items of its store, as what any command does.
-use Rattle.std.proofs.Common.{◌≡◌, ◌≢◌, inl, [], Option, Some, None, arith, refl, ap, sym, ◌∙◌, append-nil}
+use Rattle.std.proofs.Common.{◌≡◌, ◌≢◌, inl, [], List, ℕ, Option, Some, None, arith, refl, ap, sym, ◌∙◌, append-nil}
 use Rattle.qm_model.specs.Operations.{Bytes}
 use Rattle.qm_model.specs.StoreModel.{Stored, Turns, beside_items, without_items}
 use Rattle.qm_machine.specs.Lines.{Line, Answer}
 use Rattle.qm_machine.specs.Machine.{State}
 use Rattle.qm_store.specs.declared.Store as stores
+use Rattle.qm_store.specs.declared.refusal.Given.{Given}
 use Rattle.qm_store.specs.Given.{store_given, IsUnchanged}
 use Rattle.qm_engine.specs.declared.words.Words as words
 use Rattle.qm_engine.specs.declared.session.Session.{Session}
+use Rattle.qm_engine.specs.declared.table.Slot.{Slot}
 use Rattle.qm_engine.specs.declared.session.Turn.{Turn}
 use Rattle.qm_engine.specs.declared.session.Turn.TheVariants.{Reply, Memory, StoreFault}
 use Rattle.qm_engine.specs.Stores.{IsBeside}
-use Rattle.qm_engine.specs.Session.{Obeys, ObeysSteady, IfReply, Uses, Handles, HandlesLine, IsChosen, Performs}
+use Rattle.qm_engine.specs.Session.{Obeys, ObeysSteady, ObeysHeld, LeavesHeld, IfReply, Uses, Handles, HandlesLine, IsChosen, Performs, PerformsHeld}
 use Rattle.qm_engine.proofs.Commands.{left_none, stored-same}
 
 -- it keeps what the machine does
@@ -81,3 +83,16 @@ module _ {X C B S M K V D P : Type 0} {members : stores.Ghosts C} {means : words
   pub performs-telling : {session : Session X C B S M} {turn : Turn K V D} → IsChosen line []
       → Obeys members means key value digest session session turn next → turn ≢ StoreFault → Performs members means key value digest line next session session turn
   performs-telling chosen obeys never = performs-beside chosen obeys refl never
+
+  -- One that takes what is held, steady or not, goes by no choice and counts no opening.
+  pub performs-held : {table : List (Slot B S M)} {opened : ℕ} {old new : Given X C} {turn : Turn K V D} → IsChosen line []
+      → ObeysHeld members means key value digest table opened old new turn next
+      → LeavesHeld members means table opened old new next
+      → Handles members (store_given means.inside old) (store_given means.inside new) turn
+      → PerformsHeld members means key value digest line next table opened old opened new turn
+  performs-held {old} {new} {turn} chosen machine left handles = record {
+    machine = λ s k sound more rest told choices. machine s k;
+    left = λ s k sound apart. left s k apart;
+    handles = handles_line members line (store_given means.inside old) (store_given means.inside new) turn chosen handles;
+    opened = omega arith;
+  }

@@ -35,6 +35,20 @@ pub enum Turn<K, V, D> {
     StoreFault,
 }
 
+/// A command asks for a database, and none is open.
+pub fn no_database<K, V, D>() -> Turn<K, V, D>
+    ensures { result ≡ Turn.Reply (Reply.Refused Refused.NoDatabase) }
+{
+    Turn::Reply(Reply::Refused(Refused::NoDatabase))
+}
+
+/// A command names a batch by a number that no such batch has.
+pub fn no_such_handle<K, V, D>(number: u64) -> Turn<K, V, D>
+    ensures { result ≡ Turn.Reply (Reply.Refused (Refused.NoSuchHandle number)) }
+{
+    Turn::Reply(Reply::Refused(Refused::NoSuchHandle(number)))
+}
+
 // What an error of a tree comes to.
 fn turn_of_tree<K: Drop, V: Drop, D: Drop>(error: MerkleError) -> Turn<K, V, D>
     ensures { result ≡ turn_of_tree error }

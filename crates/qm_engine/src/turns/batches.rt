@@ -12,12 +12,12 @@ ghost use Rattle.qm_engine.specs.Making.{IsMaking, made_into};
 ghost use Rattle.qm_engine.specs.Session.{SlotIs, Stands, Follows, Obeys, ObeysSteady, ObeysHeldSteady, LeavesHeldSteady, Uses};
 
 use crate::engine::{Basis, Batching};
-use crate::session::{Of, Turn, turn_of};
+use crate::session::{Of, Turn, no_database, no_such_handle, turn_of};
 use crate::table::{Slot, merkleized_at, push_slot, put_slot, take_writing};
-use crate::turns::lasting::no_database;
+use crate::turns::lasting::without_database;
 use qm_base::{ByteString, Error, JournalError, Twin};
 use qm_chain::Policy;
-use qm_lines::{Refused, Reply};
+use qm_lines::Reply;
 use qm_store::{Given, Store};
 use std::alloc::{AllocError, Global};
 
@@ -49,7 +49,7 @@ pub fn batch<X: Batching<C>, C: Store>(
     ensures never { result ≢ Turn.StoreFault }
 {
     let Given::Database(x) = &session.held else {
-        return Turn::Reply(Reply::Refused(Refused::NoDatabase));
+        return no_database();
     };
     match x.batch(alloc) {
         Err(_) => Turn::Memory,
@@ -70,7 +70,7 @@ pub fn child<X: Batching<C>, C: Store>(
     ensures never { result ≢ Turn.StoreFault }
 {
     let Some(batch) = merkleized_at(&session.table, number) else {
-        return Turn::Reply(Reply::Refused(Refused::NoSuchHandle(number)));
+        return no_such_handle(number);
     };
     match X::child(alloc, batch, keep) {
         Err(_) => Turn::Memory,
@@ -89,7 +89,7 @@ pub fn tip<X: Batching<C>, C: Store>(
     ensures never { result ≢ Turn.StoreFault }
 {
     let Given::Database(x) = &session.held else {
-        return Turn::Reply(Reply::Refused(Refused::NoDatabase));
+        return no_database();
     };
     match x.tip(alloc) {
         Err(_) => Turn::Memory,
@@ -126,7 +126,7 @@ pub fn put<X: Batching<C>, C: Store>(
     ensures never { result ≢ Turn.StoreFault }
 {
     let Some(batch) = take_writing(&mut session.table, number) else {
-        return Turn::Reply(Reply::Refused(Refused::NoSuchHandle(number)));
+        return no_such_handle(number);
     };
     match write::<X, C>(alloc, batch, key, value) {
         Err(_) => Turn::Memory,
@@ -163,7 +163,7 @@ pub fn del<X: Batching<C>, C: Store>(
     ensures never { result ≢ Turn.StoreFault }
 {
     let Some(batch) = take_writing(&mut session.table, number) else {
-        return Turn::Reply(Reply::Refused(Refused::NoSuchHandle(number)));
+        return no_such_handle(number);
     };
     match erase::<X, C>(alloc, batch, key) {
         Err(_) => Turn::Memory,
@@ -228,10 +228,10 @@ pub fn merkleize<X: Batching<C>, C: Store, P: Policy<X::Family, X::Key, X::Value
     ensures opened { session.new.opened ≡ session.old.opened }
 {
     let Given::Database(x) = &mut session.held else {
-        return Turn::Reply(Reply::Refused(Refused::NoDatabase));
+        return no_database();
     };
     let Some(batch) = take_writing(&mut session.table, number) else {
-        return Turn::Reply(Reply::Refused(Refused::NoSuchHandle(number)));
+        return no_such_handle(number);
     };
     let made = merkleize_batch::<X, C, P>(alloc, x, batch, policy, metadata);
     put_made::<X, C>(session, number, made)
@@ -251,11 +251,11 @@ pub fn apply<X: Batching<C>, C: Store>(
     ensures uses { Uses C.Store (store_given X.inside held) (store_given X.inside result.0) result.1 }
 {
     match held {
-        Given::Store(store) => no_database::<X, C>(store),
+        Given::Store(store) => without_database::<X, C>(store),
         Given::Database(x) => match merkleized_at(table, number) {
             None => (
                 Given::Database(x),
-                Turn::Reply(Reply::Refused(Refused::NoSuchHandle(number))),
+                no_such_handle(number),
             ),
             Some(batch) => match x.apply(alloc, batch) {
                 Ok(x) => {

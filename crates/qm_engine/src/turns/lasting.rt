@@ -7,10 +7,10 @@ ghost use Rattle.qm_engine.specs.Session.{ObeysHeld, ObeysHeldSteady, LeavesHeld
 ghost use Rattle.qm_engine.specs.Turn.{given_after, turn_settled};
 
 use crate::engine::{Basis, Lasting};
-use crate::session::{Turn, into_store, turn_of};
+use crate::session::{Turn, into_store, no_database, turn_of};
 use qm_base::Error;
 use qm_chain::Policy;
-use qm_lines::{Refused, Reply};
+use qm_lines::Reply;
 use qm_store::{Given, Refusal, Store};
 use std::alloc::Global;
 
@@ -41,7 +41,7 @@ pub fn open<X: Lasting<C>, C: Store>(
 }
 
 /// A store without a database, as it is.
-pub fn no_database<X: Basis<C>, C: Store>(
+pub fn without_database<X: Basis<C>, C: Store>(
     store: C,
 ) -> (Given<X, C>, Turn<X::Key, X::Value, X::Digest>)
     ensures given { result.0 ≡ Given.Store store }
@@ -49,7 +49,7 @@ pub fn no_database<X: Basis<C>, C: Store>(
 {
     (
         Given::Store(store),
-        Turn::Reply(Reply::Refused(Refused::NoDatabase)),
+        no_database(),
     )
 }
 
@@ -75,7 +75,7 @@ pub fn commit<X: Lasting<C>, C: Store>(
     ensures handles { Handles C.Store (store_given X.inside held) (store_given X.inside result.0) result.1 }
 {
     match held {
-        Given::Store(store) => no_database::<X, C>(store),
+        Given::Store(store) => without_database::<X, C>(store),
         Given::Database(x) => settled::<X, C>(x.commit()),
     }
 }
@@ -89,7 +89,7 @@ pub fn sync<X: Lasting<C>, C: Store>(
     ensures handles { Handles C.Store (store_given X.inside held) (store_given X.inside result.0) result.1 }
 {
     match held {
-        Given::Store(store) => no_database::<X, C>(store),
+        Given::Store(store) => without_database::<X, C>(store),
         Given::Database(x) => settled::<X, C>(x.sync()),
     }
 }
@@ -105,7 +105,7 @@ pub fn prune<X: Lasting<C>, C: Store>(
     ensures handles { Handles C.Store (store_given X.inside held) (store_given X.inside result.0) result.1 }
 {
     match held {
-        Given::Store(store) => no_database::<X, C>(store),
+        Given::Store(store) => without_database::<X, C>(store),
         Given::Database(x) => settled::<X, C>(x.prune(alloc, to)),
     }
 }
@@ -119,7 +119,7 @@ pub fn close<X: Lasting<C>, C: Store>(
     ensures handles { Handles C.Store (store_given X.inside held) (store_given X.inside result.0) result.1 }
 {
     match held {
-        Given::Store(store) => no_database::<X, C>(store),
+        Given::Store(store) => without_database::<X, C>(store),
         Given::Database(x) => (Given::Store(x.close()), Turn::Reply(Reply::Done)),
     }
 }
@@ -133,7 +133,7 @@ pub fn destroy<X: Lasting<C>, C: Store>(
     ensures handles { Handles C.Store (store_given X.inside held) (store_given X.inside result.0) result.1 }
 {
     match held {
-        Given::Store(store) => no_database::<X, C>(store),
+        Given::Store(store) => without_database::<X, C>(store),
         Given::Database(x) => match x.destroy() {
             Ok(store) => (Given::Store(store), Turn::Reply(Reply::Done)),
             Err(Refusal { given, error }) => (given, turn_of(error)),

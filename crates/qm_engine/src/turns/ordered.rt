@@ -12,7 +12,7 @@ ghost use Rattle.qm_engine.specs.Session.{Obeys, Uses};
 ghost use Rattle.qm_engine.specs.Words.{AtTip, CanRead, IsReadFailure, ReadsOnly};
 
 use crate::engine::Neighbours;
-use crate::session::{Of, Turn, turn_of};
+use crate::session::{Of, Turn, no_database, no_such_handle, turn_of};
 use crate::table::merkleized_at;
 use qm_base::{Error, JournalError};
 use qm_lines::{Refused, Reply};
@@ -78,7 +78,7 @@ pub fn ask<X: Neighbours<C>, C: Store>(
         return Turn::Reply(Reply::Refused(Refused::NotOffered));
     }
     let Given::Database(x) = &mut session.held else {
-        return Turn::Reply(Reply::Refused(Refused::NoDatabase));
+        return no_database();
     };
     match reply_to::<X, C>(alloc, x, question) {
         Ok(reply) => Turn::Reply(reply),
@@ -127,10 +127,10 @@ pub fn beside<X: Neighbours<C>, C: Store>(
         return Turn::Reply(Reply::Refused(Refused::NotOffered));
     }
     let Given::Database(x) = &mut session.held else {
-        return Turn::Reply(Reply::Refused(Refused::NoDatabase));
+        return no_database();
     };
     let Some(batch) = merkleized_at(&session.table, number) else {
-        return Turn::Reply(Reply::Refused(Refused::NoSuchHandle(number)));
+        return no_such_handle(number);
     };
     match beside_from::<X, C>(alloc, x, batch, side, key) {
         Ok(key) => Turn::Reply(Reply::Beside(key)),

@@ -6,9 +6,9 @@ ghost use Rattle.qm_store.specs.Given.{store_given, IsUnchanged};
 ghost use Rattle.qm_engine.specs.Session.{Obeys, Tells, Uses};
 
 use crate::engine::Proving;
-use crate::session::{Of, Turn, turn_of};
+use crate::session::{Of, Turn, no_database, no_such_handle, turn_of};
 use crate::table::merkleized_at;
-use qm_lines::{Refused, Reply};
+use qm_lines::Reply;
 use qm_proofs::Proof;
 use qm_store::{Given, Store};
 use std::alloc::Global;
@@ -25,10 +25,10 @@ pub fn batch_proof<X: Proving<C>, C: Store>(
     ensures never { result ≢ Turn.StoreFault }
 {
     let Given::Database(x) = &session.held else {
-        return Turn::Reply(Reply::Refused(Refused::NoDatabase));
+        return no_database();
     };
     let Some(batch) = merkleized_at(&session.table, number) else {
-        return Turn::Reply(Reply::Refused(Refused::NoSuchHandle(number)));
+        return no_such_handle(number);
     };
     match x.proof(alloc, batch) {
         Ok((proof, pins)) => {
@@ -58,7 +58,7 @@ pub fn prove<X: Proving<C>, C: Store>(
     ensures opened { session.new.opened ≡ session.old.opened }
 {
     let Given::Database(x) = &mut session.held else {
-        return Turn::Reply(Reply::Refused(Refused::NoDatabase));
+        return no_database();
     };
     match x.prove(alloc, size, start, max) {
         Ok((proof, operations)) => {
@@ -84,7 +84,7 @@ pub fn pins<X: Proving<C>, C: Store>(
     ensures never { result ≢ Turn.StoreFault }
 {
     let Given::Database(x) = &session.held else {
-        return Turn::Reply(Reply::Refused(Refused::NoDatabase));
+        return no_database();
     };
     match x.pins(alloc, at) {
         Ok(digests) => Turn::Reply(Reply::Pins(digests)),

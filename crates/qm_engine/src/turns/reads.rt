@@ -8,7 +8,7 @@ ghost use Rattle.qm_store.specs.Given.{store_given, IsUnchanged, TellsFrom};
 ghost use Rattle.qm_engine.specs.Session.{SlotIs, Answers, Obeys, Tells, Uses};
 
 use crate::engine::{Basis, BatchSizes, Numbers, Reading};
-use crate::session::{Of, Turn, turn_of};
+use crate::session::{Of, Turn, no_database, no_such_handle, turn_of};
 use crate::table::{Slot, merkleized_at, slot_at};
 use qm_base::ByteString;
 use qm_lines::{Refused, Reply};
@@ -31,7 +31,7 @@ fn read_slot<X: Reading<C>, C: Store>(
     ensures uses { Uses C.Store (X.inside database.old) (X.inside database.new) result }
 {
     match slot {
-        Slot::Gone | Slot::Staged(_) => Turn::Reply(Reply::Refused(Refused::NoSuchHandle(number))),
+        Slot::Gone | Slot::Staged(_) => no_such_handle(number),
         Slot::Writing(batch) => match database.get_through(alloc, batch, keys) {
             Ok(values) => Turn::Reply(Reply::Read(values)),
             Err(error) => turn_of(error),
@@ -57,7 +57,7 @@ pub fn read<X: Reading<C>, C: Store>(
     ensures opened { session.new.opened ≡ session.old.opened }
 {
     let Given::Database(x) = &mut session.held else {
-        return Turn::Reply(Reply::Refused(Refused::NoDatabase));
+        return no_database();
     };
     match from {
         None => match x.get(alloc, keys) {
@@ -65,7 +65,7 @@ pub fn read<X: Reading<C>, C: Store>(
             Err(error) => turn_of(error),
         },
         Some(number) => match slot_at(&session.table, number) {
-            None => Turn::Reply(Reply::Refused(Refused::NoSuchHandle(number))),
+            None => no_such_handle(number),
             Some(slot) => read_slot::<X, C>(alloc, x, number, slot, keys),
         },
     }
@@ -111,7 +111,7 @@ pub fn ops<X: Reading<C>, C: Store>(
     ensures never { result ≢ Turn.StoreFault }
 {
     let Some(batch) = merkleized_at(&session.table, number) else {
-        return Turn::Reply(Reply::Refused(Refused::NoSuchHandle(number)));
+        return no_such_handle(number);
     };
     match X::ops(alloc, batch) {
         Err(_) => Turn::Memory,
@@ -135,7 +135,7 @@ pub fn info<X: Basis<C>, C: Store>(session: &Of<X, C>) -> Turn<X::Key, X::Value,
     ensures never { result ≢ Turn.StoreFault }
 {
     let Given::Database(x) = &session.held else {
-        return Turn::Reply(Reply::Refused(Refused::NoDatabase));
+        return no_database();
     };
     let Numbers {
         start,
@@ -157,7 +157,7 @@ pub fn batch_info<X: Basis<C>, C: Store>(
     ensures never { result ≢ Turn.StoreFault }
 {
     let Some(batch) = merkleized_at(&session.table, number) else {
-        return Turn::Reply(Reply::Refused(Refused::NoSuchHandle(number)));
+        return no_such_handle(number);
     };
     let BatchSizes {
         base,
@@ -178,7 +178,7 @@ pub fn root<X: Reading<C>, C: Store>(
     ensures never { result ≢ Turn.StoreFault }
 {
     let Given::Database(x) = &session.held else {
-        return Turn::Reply(Reply::Refused(Refused::NoDatabase));
+        return no_database();
     };
     match x.root(alloc) {
         Err(_) => Turn::Memory,
@@ -196,7 +196,7 @@ pub fn batch_root<X: Reading<C>, C: Store>(
     ensures never { result ≢ Turn.StoreFault }
 {
     let Some(batch) = merkleized_at(&session.table, number) else {
-        return Turn::Reply(Reply::Refused(Refused::NoSuchHandle(number)));
+        return no_such_handle(number);
     };
     let root = X::batch_root(batch);
     Turn::Reply(Reply::Root(root, root))
@@ -212,7 +212,7 @@ pub fn meta<X: Reading<C>, C: Store>(
     ensures never { result ≢ Turn.StoreFault }
 {
     let Given::Database(x) = &session.held else {
-        return Turn::Reply(Reply::Refused(Refused::NoDatabase));
+        return no_database();
     };
     match x.metadata(alloc) {
         Err(_) => Turn::Memory,

@@ -13,7 +13,7 @@ ghost use Rattle.qm_engine.specs.Session.{Obeys, ObeysSteady, Uses};
 
 use super::batches::put_made;
 use crate::engine::Staging;
-use crate::session::{Of, Turn, turn_of};
+use crate::session::{Of, Turn, no_database, no_such_handle, turn_of};
 use crate::table::{Slot, put_slot, take_staged, take_writing};
 use qm_base::{Error, JournalError, Twin};
 use qm_chain::Policy;
@@ -35,10 +35,10 @@ pub fn stage<X: Staging<C>, C: Store>(
     ensures opened { session.new.opened ≡ session.old.opened }
 {
     let Given::Database(x) = &mut session.held else {
-        return Turn::Reply(Reply::Refused(Refused::NoDatabase));
+        return no_database();
     };
     let Some(batch) = take_writing(&mut session.table, number) else {
-        return Turn::Reply(Reply::Refused(Refused::NoSuchHandle(number)));
+        return no_such_handle(number);
     };
     match x.stage(alloc, batch, keys) {
         Err(error) => turn_of(error),
@@ -63,10 +63,10 @@ pub fn expand<X: Staging<C>, C: Store>(
     ensures opened { session.new.opened ≡ session.old.opened }
 {
     let Given::Database(x) = &mut session.held else {
-        return Turn::Reply(Reply::Refused(Refused::NoDatabase));
+        return no_database();
     };
     let Some(batch) = take_staged(&mut session.table, number) else {
-        return Turn::Reply(Reply::Refused(Refused::NoSuchHandle(number)));
+        return no_such_handle(number);
     };
     match x.expand(alloc, batch, keys) {
         Err(error) => turn_of(error),
@@ -136,7 +136,7 @@ pub fn resolve<X: Staging<C>, C: Store, P: Policy<X::Family, X::Key, X::Value> +
     ensures opened { session.new.opened ≡ session.old.opened }
 {
     let Given::Database(x) = &mut session.held else {
-        return Turn::Reply(Reply::Refused(Refused::NoDatabase));
+        return no_database();
     };
     match take_counted::<X, C>(&mut session.table, number, resolution.slots.len()) {
         Err(refused) => Turn::Reply(Reply::Refused(refused)),

@@ -1,5 +1,5 @@
 use Rattle.std.proofs.Common.{arith, refl}
-use Rattle.qm_engine.proofs.Handling.{uses_line, handles_line}
+use Rattle.qm_engine.proofs.Handling.{uses_line, handles_line, performs-held}
 use Rattle.qm_engine.proofs.turns.held_turn.Goals as goal
 
 pub returns-in-Open : goal.returns-in-Open
@@ -37,45 +37,25 @@ pub returns-in-Commit : goal.returns-in-Commit
 returns-in-Commit g c =
     let table = c.args.table.now.items in
     let count = c.args.opened.now in
-    rw c.in-Commit.is (record {
-      machine = λ s k sound more rest told choices. c.commit.ensures.machine table count s k;
-      left = λ s k sound apart. c.commit.ensures.left table count s k apart;
-      handles = handles_line _ _ _ _ _ (λ rest. refl) c.commit.ensures.handles;
-      opened = omega arith;
-    })
+    rw c.in-Commit.is (performs-held (λ rest. refl) (c.commit.ensures.machine table count) (c.commit.ensures.left table count) c.commit.ensures.handles)
 
 pub returns-in-Sync : goal.returns-in-Sync
 returns-in-Sync g c =
     let table = c.args.table.now.items in
     let count = c.args.opened.now in
-    rw c.in-Sync.is (record {
-      machine = λ s k sound more rest told choices. c.sync.ensures.machine table count s k;
-      left = λ s k sound apart. c.sync.ensures.left table count s k apart;
-      handles = handles_line _ _ _ _ _ (λ rest. refl) c.sync.ensures.handles;
-      opened = omega arith;
-    })
+    rw c.in-Sync.is (performs-held (λ rest. refl) (c.sync.ensures.machine table count) (c.sync.ensures.left table count) c.sync.ensures.handles)
 
 pub returns-in-Close : goal.returns-in-Close
 returns-in-Close g c =
     let table = c.args.table.now.items in
     let count = c.args.opened.now in
-    rw c.in-Close.is (record {
-      machine = λ s k sound more rest told choices. c.close.ensures.machine table count s k;
-      left = λ s k sound apart. c.close.ensures.left table count s k apart;
-      handles = handles_line _ _ _ _ _ (λ rest. refl) c.close.ensures.handles;
-      opened = omega arith;
-    })
+    rw c.in-Close.is (performs-held (λ rest. refl) (c.close.ensures.machine table count) (c.close.ensures.left table count) c.close.ensures.handles)
 
 pub returns-in-Destroy : goal.returns-in-Destroy
 returns-in-Destroy g c =
     let table = c.args.table.now.items in
     let count = c.args.opened.now in
-    rw c.in-Destroy.is (record {
-      machine = λ s k sound more rest told choices. c.destroy.ensures.machine table count s k;
-      left = λ s k sound apart. c.destroy.ensures.left table count s k apart;
-      handles = handles_line _ _ _ _ _ (λ rest. refl) c.destroy.ensures.handles;
-      opened = omega arith;
-    })
+    rw c.in-Destroy.is (performs-held (λ rest. refl) (c.destroy.ensures.machine table count) (c.destroy.ensures.left table count) c.destroy.ensures.handles)
 
 pub returns-in-Crash : goal.returns-in-Crash
 returns-in-Crash g c =

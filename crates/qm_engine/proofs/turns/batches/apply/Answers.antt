@@ -34,7 +34,7 @@ returns-in-Err-clause-left g c = λ opened s k sound apart.
     (λ list chain tip stands is on. (c.in-Err.ensures.kept list chain tip stands is).told) (sym c.in-Some.ensures)
 
 pub returns-in-Store-clause-left : goal.returns-in-Store-clause-left
-returns-in-Store-clause-left g c = λ opened s k sound apart. let held = rw c.in-Store.is at k in rw c.no_database.ensures.given (left_none g.X.Words.scheme s.log _ (g.C.Store.told c.in-Store.store) held.store.told)
+returns-in-Store-clause-left g c = λ opened s k sound apart. let held = rw c.in-Store.is at k in rw c.without_database.ensures.given (left_none g.X.Words.scheme s.log _ (g.C.Store.told c.in-Store.store) held.store.told)
 
 pub returns-in-None-clause-left : goal.returns-in-None-clause-left
 returns-in-None-clause-left g c = λ opened s k sound apart. let held = rw c.in-Database.is at k in left_none g.X.Words.scheme s.log _ (g.C.Store.told (g.X.Words.inside c.in-Database.x)) held.store.told
