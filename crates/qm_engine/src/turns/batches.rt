@@ -253,10 +253,7 @@ pub fn apply<X: Batching<C>, C: Store>(
     match held {
         Given::Store(store) => without_database::<X, C>(store),
         Given::Database(x) => match merkleized_at(table, number) {
-            None => (
-                Given::Database(x),
-                no_such_handle(number),
-            ),
+            None => (Given::Database(x), no_such_handle(number)),
             Some(batch) => match x.apply(alloc, batch) {
                 Ok(x) => {
                     let numbers = x.info();

@@ -10,7 +10,7 @@ use crate::engine::{Basis, Lasting};
 use crate::session::{Turn, into_store, no_database, turn_of};
 use qm_base::Error;
 use qm_chain::Policy;
-use qm_lines::Reply;
+use qm_lines::{Refused, Reply};
 use qm_store::{Given, Refusal, Store};
 use std::alloc::Global;
 
@@ -47,10 +47,7 @@ pub fn without_database<X: Basis<C>, C: Store>(
     ensures given { result.0 ≡ Given.Store store }
     ensures turn { result.1 ≡ Turn.Reply (Reply.Refused Refused.NoDatabase) }
 {
-    (
-        Given::Store(store),
-        no_database(),
-    )
+    (Given::Store(store), no_database())
 }
 
 // What a commit, a sync or a prune came to.

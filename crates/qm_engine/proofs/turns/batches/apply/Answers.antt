@@ -8,7 +8,7 @@ use Rattle.qm_engine.proofs.turns.batches.apply.Goals as goal
 
 pub returns-in-None-clause-machine : goal.returns-in-None-clause-machine
 returns-in-None-clause-machine g c = λ opened s k sound more rest told choices.
-    not_merkleized g.C.Store g.X.Words g.X.Key.ByteString.bytes g.X.Value.ByteString.bytes g.X.Digest.Digest.bytes c.in-Database.x c.args.table.now.items opened c.args.number s (rw c.in-Database.is at k) (sym c.in-None.ensures)
+    rw c.no_such_handle.ensures (not_merkleized g.C.Store g.X.Words g.X.Key.ByteString.bytes g.X.Value.ByteString.bytes g.X.Digest.Digest.bytes c.in-Database.x c.args.table.now.items opened c.args.number s (rw c.in-Database.is at k) (sym c.in-None.ensures))
 
 pub returns-in-Ok-clause-machine : goal.returns-in-Ok-clause-machine
 returns-in-Ok-clause-machine g c = λ opened s k sound more rest told choices.
