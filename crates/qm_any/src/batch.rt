@@ -137,7 +137,7 @@ impl<F: Family, D: Digest, U: Update> UnmerkleizedBatch<F, D, U> {
     /// is read where the database is at a state that the batch's parent knows; the parent of a batch that was begun on a
     /// database is that database as it was. A key that no kept step touches takes one read of the log for each location
     /// in its bucket, at most.
-    pub fn get<C: Store, I: qm_index::Unordered<Value = Location<F>>, H: Hasher<Digest = D> + Drop>(
+    pub fn get<C: Store, I: qm_index::Unordered<Value = Location<F>>, H: Hasher<Digest = D>>(
         &self,
         alloc: Global,
         key: &U::Key,
@@ -156,11 +156,7 @@ impl<F: Family, D: Digest, U: Update> UnmerkleizedBatch<F, D, U> {
     }
 
     /// The values of keys, in their order, as `get` reads them.
-    pub fn get_many<
-        C: Store,
-        I: qm_index::Unordered<Value = Location<F>>,
-        H: Hasher<Digest = D> + Drop,
-    >(
+    pub fn get_many<C: Store, I: qm_index::Unordered<Value = Location<F>>, H: Hasher<Digest = D>>(
         &self,
         alloc: Global,
         keys: &[U::Key],
@@ -182,7 +178,7 @@ impl<F: Family, D: Digest, U: Update> UnmerkleizedBatch<F, D, U> {
     pub(crate) fn located<
         C: Store,
         I: qm_index::Unordered<Value = Location<F>>,
-        H: Hasher<Digest = D> + Drop,
+        H: Hasher<Digest = D>,
     >(
         &self,
         alloc: Global,
@@ -215,7 +211,7 @@ impl<F: Family, D: Digest, U: Update> UnmerkleizedBatch<F, D, U> {
     pub fn merkleize<
         C: Store,
         I: qm_index::Unordered<Value = Location<F>>,
-        H: Hasher<Digest = D> + Drop,
+        H: Hasher<Digest = D>,
         P: Policy<F, U::Key, U::Value>,
     >(
         self,
@@ -253,7 +249,7 @@ impl<F: Family, D: Digest, U: Update> UnmerkleizedBatch<F, D, U> {
     pub(crate) fn merkleized<
         C: Store,
         I: qm_index::Unordered<Value = Location<F>>,
-        H: Hasher<Digest = D> + Drop,
+        H: Hasher<Digest = D>,
         P: Policy<F, U::Key, U::Value>,
     >(
         self,
@@ -390,7 +386,7 @@ impl<F: Family, D: Digest, U: Update> MerkleizedBatch<F, D, U> {
 
     /// The value of a key on the list that the batch makes. It is read where the database is at a state that the batch
     /// knows: its tip, its boundary, or a kept ancestor's tip.
-    pub fn get<C: Store, I: qm_index::Unordered<Value = Location<F>>, H: Hasher<Digest = D> + Drop>(
+    pub fn get<C: Store, I: qm_index::Unordered<Value = Location<F>>, H: Hasher<Digest = D>>(
         &self,
         alloc: Global,
         key: &U::Key,
@@ -410,11 +406,7 @@ impl<F: Family, D: Digest, U: Update> MerkleizedBatch<F, D, U> {
     }
 
     /// The values of keys, in their order, as `get` reads them.
-    pub fn get_many<
-        C: Store,
-        I: qm_index::Unordered<Value = Location<F>>,
-        H: Hasher<Digest = D> + Drop,
-    >(
+    pub fn get_many<C: Store, I: qm_index::Unordered<Value = Location<F>>, H: Hasher<Digest = D>>(
         &self,
         alloc: Global,
         keys: &[U::Key],
@@ -434,11 +426,11 @@ impl<F: Family, D: Digest, U: Update> MerkleizedBatch<F, D, U> {
     }
 
     /// The proof of the batch's own operations in the list that it makes. It verifies against the batch's root.
-    pub fn proof<
-        C: Store,
-        I: qm_index::Unordered<Value = Location<F>>,
-        H: Hasher<Digest = D> + Drop,
-    >(&self, alloc: Global, db: &Db<F, C, I, H, U>) -> Result<Proof<D>, Error>
+    pub fn proof<C: Store, I: qm_index::Unordered<Value = Location<F>>, H: Hasher<Digest = D>>(
+        &self,
+        alloc: Global,
+        db: &Db<F, C, I, H, U>,
+    ) -> Result<Proof<D>, Error>
         ensures proof { (list : List Operation) (chain : Chain) (tip : List Operation) → IsDatabase C.Store ⟦<Db<F, C, I, H, U> as LaidOut>⟧.layout db.now list → IsMade ⟦<Db<F, C, I, H, U> as LaidOut>⟧.layout.hashing self.now chain tip → IsKnown list chain tip
             → IfOk result (λ p. proof_view D.bytes p ≡ ops_proof H.hash F.shape U.form tip (length chain.base) (length tip)) }
         ensures readable { OnOk result (knows self.now.bounds db.now.commitment ≡ true) }
@@ -458,7 +450,7 @@ impl<F: Family, D: Digest, U: Update> MerkleizedBatch<F, D, U> {
     pub fn pinned_nodes<
         C: Store,
         I: qm_index::Unordered<Value = Location<F>>,
-        H: Hasher<Digest = D> + Drop,
+        H: Hasher<Digest = D>,
     >(&self, alloc: Global, db: &Db<F, C, I, H, U>) -> Result<Vec<D>, Error>
         ensures pins { (list : List Operation) (chain : Chain) (tip : List Operation) → IsDatabase C.Store ⟦<Db<F, C, I, H, U> as LaidOut>⟧.layout db.now list → IsMade ⟦<Db<F, C, I, H, U> as LaidOut>⟧.layout.hashing self.now chain tip → IsKnown list chain tip
             → IfOk result (λ pins. map D.bytes pins.items ≡ pins_at H.hash F.shape U.form tip (length chain.base)) }
@@ -651,7 +643,7 @@ fn made_on<
     C: Store,
     D: Digest,
     I: qm_index::Unordered<Value = Location<F>>,
-    H: Hasher<Digest = D> + Drop,
+    H: Hasher<Digest = D>,
     U: Steps<F, I>,
     P: Policy<F, U::Key, U::Value>,
 >(
@@ -700,7 +692,7 @@ fn planned<
     C: Store,
     D: Digest,
     I: qm_index::Unordered<Value = Location<F>>,
-    H: Hasher<Digest = D> + Drop,
+    H: Hasher<Digest = D>,
     U: Steps<F, I>,
     P: Policy<F, U::Key, U::Value>,
 >(

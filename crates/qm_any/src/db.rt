@@ -117,7 +117,7 @@ impl<F: Family, I: qm_index::Unordered<Value = Location<F>>, D: Digest, U: Updat
     U,
 > {
     // The database of this over a log.
-    pub(crate) fn over<C: Store, H: Hasher<Digest = D> + Drop>(
+    pub(crate) fn over<C: Store, H: Hasher<Digest = D>>(
         self,
         log: AuthLog<F, C, H>,
     ) -> Db<F, C, I, H, U>
@@ -155,13 +155,13 @@ impl<F: Family, C: Store, I: qm_index::Unordered<Value = Location<F>>, H: Hasher
     ghost layout = { layout_of H.Digest.bytes H.Hasher F.Family U.Update I.Unordered };
 }
 
-impl<
-    F: Family,
-    C: Store,
-    I: qm_index::Unordered<Value = Location<F>>,
-    H: Hasher + Drop,
-    U: Update,
-> Db<F, C, I, H, U> {
+impl<F: Family, C: Store, I: qm_index::Unordered<Value = Location<F>>, H: Hasher, U: Update> Db<
+    F,
+    C,
+    I,
+    H,
+    U,
+> {
     // The database of an index, a log and what these stand for.
     pub(crate) fn of_parts(
         index: I,
@@ -267,6 +267,9 @@ impl<
         alloc: Global,
         batch: &MerkleizedBatch<F, H::Digest, U>,
     ) -> Result<Self, Refusal<Self, C>>
+    where
+        I: Drop,
+        H: Drop,
         ensures stands { (list : List Operation) (chain : Chain) (tip : List Operation) → IsDatabase C.Store ⟦<Self as LaidOut>⟧.layout self list → IsMade ⟦<Self as LaidOut>⟧.layout.hashing batch.now chain tip → IsOnChain list chain
             → IfOk result (λ next. IsDatabase C.Store ⟦<Self as LaidOut>⟧.layout next tip) }
         ensures fits { OnOk result (is_at self.commitment batch.now.bounds.db batch.now.bounds.ancestors ≡ true) }
@@ -296,6 +299,9 @@ impl<
         lacking: Lacking<'_, F, U>,
         batch: &MerkleizedBatch<F, H::Digest, U>,
     ) -> Result<Self, Refusal<Self, C>>
+    where
+        I: Drop,
+        H: Drop,
         requires count { self.commitment.size + length lacking.items.items ≡ batch.now.bounds.tip.size }
         requires reach { Contains (stops batch.now.tree.leaves batch.now.tree.layers) self.commitment.size }
         ensures log { IfOk result (λ next. (list : List (List ℕ)) (older : List (List (List ℕ))) → logs.IsLog C.Store F.shape H.Digest.bytes H.hash self.log list
@@ -624,6 +630,9 @@ impl<
 
     /// Gives the store back, as it is.
     pub fn close(self) -> C
+    where
+        I: Drop,
+        H: Drop,
         ensures { result ≡ self.log.store }
     {
         self.log.close()
@@ -634,7 +643,7 @@ impl<
     F: Family,
     C: Store,
     I: qm_index::Unordered<Value = Location<F>>,
-    H: Hasher + Drop,
+    H: Hasher,
     U: Steps<F, I>,
 > Db<F, C, I, H, U> {
     // What is wanted, and metadata, make of a base list, under a policy.
@@ -678,7 +687,7 @@ impl<
     F: Family,
     C: Store,
     I: qm_index::Unordered<Value = Location<F>>,
-    H: Hasher + Drop,
+    H: Hasher,
     U: Update,
 > fmt::Debug for Db<F, C, I, H, U> {
     fn fmt<W: fmt::Write>(&self, f: &mut fmt::Formatter<W>) -> fmt::Result {
@@ -728,7 +737,7 @@ fn values_of<F, U: Update>(
 fn indexed<
     F: Family,
     C: Store,
-    I: qm_index::Unordered<Value = Location<F>>,
+    I: qm_index::Unordered<Value = Location<F>> + Drop,
     H: Hasher + Drop,
     U: Update,
 >(
@@ -788,7 +797,7 @@ fn brought_up<F: Family, I: qm_index::Unordered<Value = Location<F>>, K: ByteStr
 fn given_back<
     F: Family,
     C: Store,
-    I: qm_index::Unordered<Value = Location<F>>,
+    I: qm_index::Unordered<Value = Location<F>> + Drop,
     H: Hasher,
     U: Update,
 >(

@@ -20,7 +20,7 @@ use std::alloc::Global;
 impl<
     F: Family,
     C: Store,
-    I: qm_index::Unordered<Value = Location<F>>,
+    I: qm_index::Unordered<Value = Location<F>> + Drop,
     H: Hasher + Drop,
     U: Update,
 > Db<F, C, I, H, U> {
@@ -116,7 +116,7 @@ impl<
 fn over<
     F: Family,
     C: Store,
-    I: qm_index::Unordered<Value = Location<F>>,
+    I: qm_index::Unordered<Value = Location<F>> + Drop,
     H: Hasher + Drop,
     U: Update,
 >(

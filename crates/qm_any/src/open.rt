@@ -69,8 +69,8 @@ fn root_of_one<H: Hasher>(hasher: &mut H, leaf: &H::Digest) -> H::Digest
 // is refused, and the store comes back as it was.
 pub(crate) fn fresh_over<
     F: Family,
-    C: Store,
-    I: Factory<Value = Location<F>>,
+    C: Store + Drop,
+    I: Factory<Value = Location<F>> + Drop,
     H: Hasher + Drop,
     U: Update,
 >(

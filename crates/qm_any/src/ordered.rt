@@ -31,7 +31,7 @@ impl<
     F: Family,
     C: Store,
     I: qm_index::Unordered<Value = Location<F>>,
-    H: Hasher + Drop,
+    H: Hasher,
     U: Steps<F, I>,
 > Db<F, C, I, H, U> {
     /// The live update whose span holds the key, with its location: the key's own, or else that of the nearest live key
@@ -132,7 +132,7 @@ impl<F: Family, D: Digest, U: Update> MerkleizedBatch<F, D, U> {
     pub fn get_next_key<
         C: Store,
         I: qm_index::Unordered<Value = Location<F>>,
-        H: Hasher<Digest = D> + Drop,
+        H: Hasher<Digest = D>,
     >(
         &self,
         alloc: Global,
@@ -159,7 +159,7 @@ impl<F: Family, D: Digest, U: Update> MerkleizedBatch<F, D, U> {
     pub fn get_prev_key<
         C: Store,
         I: qm_index::Unordered<Value = Location<F>>,
-        H: Hasher<Digest = D> + Drop,
+        H: Hasher<Digest = D>,
     >(
         &self,
         alloc: Global,

@@ -28,13 +28,13 @@ use qm_store::{AuthLog, Store};
 use std::alloc::{AllocError, Global};
 use std::num::NonZeroU64;
 
-impl<
-    F: Family,
-    C: Store,
-    I: qm_index::Unordered<Value = Location<F>>,
-    H: Hasher + Drop,
-    U: Update,
-> Db<F, C, I, H, U> {
+impl<F: Family, C: Store, I: qm_index::Unordered<Value = Location<F>>, H: Hasher, U: Update> Db<
+    F,
+    C,
+    I,
+    H,
+    U,
+> {
     /// The operations from `start` on, at most `max`, and their proof in the list of the first `size` operations, which
     /// has to end with a commit. It verifies against the root that the database had with these operations. It is refused
     /// for the first of these: so many operations are past the end; the store no longer has the last of them, or that is
@@ -107,7 +107,7 @@ impl<
 }
 
 // Operations of a log's list, and their proof in the list of the first `size` of them.
-fn proved_over<F: Family, C: Store, H: Hasher + Drop, U: Update>(
+fn proved_over<F: Family, C: Store, H: Hasher, U: Update>(
     alloc: Global,
     log: &mut AuthLog<F, C, H>,
     size: u64,
@@ -137,7 +137,7 @@ fn proved_over<F: Family, C: Store, H: Hasher + Drop, U: Update>(
 }
 
 // The floor of a log's first `size` operations, or why nothing from `start` on is proved in them.
-fn offered<F: Family, C: Store, H: Hasher + Drop, U: Update>(
+fn offered<F: Family, C: Store, H: Hasher, U: Update>(
     alloc: Global,
     log: &mut AuthLog<F, C, H>,
     size: u64,
@@ -168,7 +168,7 @@ fn offered<F: Family, C: Store, H: Hasher + Drop, U: Update>(
 }
 
 // The floor of the commit at the end of a log's first `size` operations, if one stands there.
-fn floor_at_end<F: Family, C: Store, H: Hasher + Drop, U: Update>(
+fn floor_at_end<F: Family, C: Store, H: Hasher, U: Update>(
     alloc: Global,
     log: &mut AuthLog<F, C, H>,
     size: u64,

@@ -50,7 +50,7 @@ fn shared<V: Drop>(alloc: Global, metadata: Option<V>) -> Result<Option<Rc<V>>, 
 fn settled<
     F: Family,
     C: Store,
-    I: qm_index::Unordered<Value = Location<F>>,
+    I: qm_index::Unordered<Value = Location<F>> + Drop,
     H: Hasher + Drop,
     U: Update,
 >(
@@ -101,7 +101,7 @@ fn settled<
 }
 
 // Refuses the links of an ordered list that, from a location on, form no ring.
-fn check_links<F: Family, C: Store, H: Hasher + Drop, U: Update>(
+fn check_links<F: Family, C: Store, H: Hasher, U: Update>(
     alloc: Global,
     log: &mut AuthLog<F, C, H>,
     from: u64,
@@ -128,7 +128,13 @@ fn check_links<F: Family, C: Store, H: Hasher + Drop, U: Update>(
 
 // What is made of the list that ends with the selected commit, where head, items and links of the store are right. So many
 // chunks of its bits are pruned.
-fn open_checked<F: Family, C: Store, I: Factory<Value = Location<F>>, H: Hasher + Drop, U: Update>(
+fn open_checked<
+    F: Family,
+    C: Store + Drop,
+    I: Factory<Value = Location<F>> + Drop,
+    H: Hasher + Drop,
+    U: Update,
+>(
     alloc: Global,
     store: C,
     hasher: H,
@@ -166,7 +172,13 @@ fn open_checked<F: Family, C: Store, I: Factory<Value = Location<F>>, H: Hasher 
 }
 
 // The database of the list that ends with the selected commit. So many chunks of its bits are pruned.
-fn open_list<F: Family, C: Store, I: Factory<Value = Location<F>>, H: Hasher + Drop, U: Update>(
+fn open_list<
+    F: Family,
+    C: Store + Drop,
+    I: Factory<Value = Location<F>> + Drop,
+    H: Hasher + Drop,
+    U: Update,
+>(
     alloc: Global,
     store: C,
     hasher: H,
@@ -199,7 +211,13 @@ fn open_list<F: Family, C: Store, I: Factory<Value = Location<F>>, H: Hasher + D
 }
 
 // The database of the fresh list, over an empty store.
-fn begin<F: Family, C: Store, I: Factory<Value = Location<F>>, H: Hasher + Drop, U: Update>(
+fn begin<
+    F: Family,
+    C: Store + Drop,
+    I: Factory<Value = Location<F>> + Drop,
+    H: Hasher + Drop,
+    U: Update,
+>(
     alloc: Global,
     store: C,
     hasher: H,
@@ -265,7 +283,13 @@ pub struct Config<T, W> {
 /// As many keys as the cache takes are kept to tell those with the same index key apart; for the links each live key is kept, with the
 /// one that it names. A refusal gives back the store, as it was but where memory lacks or a call of it failed, of a store for
 /// which all checks hold: then it may have lost what it had behind the list, or got a first part of the fresh one.
-pub fn init<F: Family, C: Store, I: Factory<Value = Location<F>>, H: Hasher + Drop, U: Update>(
+pub fn init<
+    F: Family,
+    C: Store + Drop,
+    I: Factory<Value = Location<F>> + Drop,
+    H: Hasher + Drop,
+    U: Update,
+>(
     alloc: Global,
     store: C,
     hasher: H,
@@ -293,7 +317,13 @@ pub fn init<F: Family, C: Store, I: Factory<Value = Location<F>>, H: Hasher + Dr
 /// more than those of the chunks. With them it makes the checks of a current database that come after its metadata, and the
 /// bits begin with that many pruned chunks. Without them it makes the checks of a database that has no chunks, and the chunks
 /// below the floor are pruned.
-pub fn init_with<F: Family, C: Store, I: Factory<Value = Location<F>>, H: Hasher + Drop, U: Update>(
+pub fn init_with<
+    F: Family,
+    C: Store + Drop,
+    I: Factory<Value = Location<F>> + Drop,
+    H: Hasher + Drop,
+    U: Update,
+>(
     alloc: Global,
     store: C,
     hasher: H,

@@ -27,7 +27,7 @@ pub struct RangeScan<
     F: Family,
     C: Store,
     I: qm_index::Unordered<Value = Location<F>>,
-    H: Hasher + Drop,
+    H: Hasher,
     U: Update,
 > {
     alloc: Global,
@@ -42,7 +42,7 @@ pub struct KeyScan<
     F: Family,
     C: Store,
     I: qm_index::Unordered<Value = Location<F>>,
-    H: Hasher + Drop,
+    H: Hasher,
     U: Update,
 > {
     pairs: RangeScan<'a, F, C, I, H, U>,
@@ -52,7 +52,7 @@ impl<
     F: Family,
     C: Store,
     I: qm_index::Unordered<Value = Location<F>>,
-    H: Hasher + Drop,
+    H: Hasher,
     U: Steps<F, I>,
 > Db<F, C, I, H, U> {
     /// Begins a scan of the live keys in a range with their values, in key order. It reads nothing yet. A range that ends
@@ -112,7 +112,7 @@ impl<
     F: Family,
     C: Store,
     I: qm_index::Unordered<Value = Location<F>>,
-    H: Hasher + Drop,
+    H: Hasher,
     U: Steps<F, I>,
 > RangeScan<'_, F, C, I, H, U> {
     /// The next live key of the range with its value, or nothing behind the last. A refused read, or want of memory, leaves
@@ -134,7 +134,7 @@ impl<
     F: Family,
     C: Store,
     I: qm_index::Unordered<Value = Location<F>>,
-    H: Hasher + Drop,
+    H: Hasher,
     U: Steps<F, I>,
 > KeyScan<'_, F, C, I, H, U> {
     /// The next live key of the range, or nothing behind the last. It reads as `RangeScan::next` does.

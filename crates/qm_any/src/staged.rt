@@ -56,11 +56,7 @@ impl<F: Family, D: Digest, U: Update> UnmerkleizedBatch<F, D, U> {
     /// Reads the values of keys, as `get_many` does, and keeps what the base list has of each, so that no staged key is looked
     /// up again. The batch is gone also where this is refused. A key that the batch's own writes have is looked up like the
     /// others.
-    pub fn stage<
-        C: Store,
-        I: qm_index::Unordered<Value = Location<F>>,
-        H: Hasher<Digest = D> + Drop,
-    >(
+    pub fn stage<C: Store, I: qm_index::Unordered<Value = Location<F>>, H: Hasher<Digest = D>>(
         self,
         alloc: Global,
         keys: Vec<U::Key>,
@@ -104,11 +100,7 @@ impl<F: Family, D: Digest, U: Update> Staged<F, D, U> {
 
     /// Reads the values of more keys, as `stage` does, and puts them behind the staged ones; a key may be staged again. It
     /// gives their places among these, and is gone also where this is refused.
-    pub fn expand<
-        C: Store,
-        I: qm_index::Unordered<Value = Location<F>>,
-        H: Hasher<Digest = D> + Drop,
-    >(
+    pub fn expand<C: Store, I: qm_index::Unordered<Value = Location<F>>, H: Hasher<Digest = D>>(
         self,
         alloc: Global,
         keys: Vec<U::Key>,
@@ -143,7 +135,7 @@ impl<F: Family, D: Digest, U: Update> Staged<F, D, U> {
     pub fn merkleize<
         C: Store,
         I: qm_index::Unordered<Value = Location<F>>,
-        H: Hasher<Digest = D> + Drop,
+        H: Hasher<Digest = D>,
         P: Policy<F, U::Key, U::Value>,
     >(
         self,

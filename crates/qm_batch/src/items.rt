@@ -28,7 +28,7 @@ pub trait Items {
     ghost failed_later: { (a b c : Self) → reads.keeps a b → reads.failed b c → reads.failed a c };
 }
 
-impl<F: Family, C: Store, H: Hasher + Drop> Items for AuthLog<F, C, H> {
+impl<F: Family, C: Store, H: Hasher> Items for AuthLog<F, C, H> {
     ghost use Rattle.std.proofs.Common.{arith, refl, ◌∙◌};
     ghost use Rattle.qm_store.proofs.Stores.{kept-then};
     ghost use Rattle.qm_batch.specs.Logs.{log_reads};

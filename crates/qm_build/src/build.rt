@@ -34,7 +34,7 @@ pub fn build_snapshot<
     F: Family,
     I: qm_index::Unordered<Value = Location<F>>,
     C: Store,
-    H: Hasher + Drop,
+    H: Hasher,
     U: Update,
 >(
     alloc: Global,
@@ -73,13 +73,7 @@ pub fn build_snapshot<
 }
 
 // Puts in the operation at a location, behind those from the floor up to there.
-fn put<
-    F: Family,
-    I: qm_index::Unordered<Value = Location<F>>,
-    C: Store,
-    H: Hasher + Drop,
-    U: Update,
->(
+fn put<F: Family, I: qm_index::Unordered<Value = Location<F>>, C: Store, H: Hasher, U: Update>(
     index: &mut I,
     log: &mut AuthLog<F, C, H>,
     cache: &mut Cache<U::Key>,

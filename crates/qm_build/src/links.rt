@@ -110,7 +110,7 @@ fn is_closed(links: &Links) -> bool
 /// Whether the live updates among a log's items from a location on form a ring: each names the next live key, and the
 /// last one the first. Each of these items is read once, in order. It takes memory for each key that is live so far: its
 /// bytes, and those of the key that its update names.
-pub fn forms_ring<F: Family, C: Store, H: Hasher + Drop, U: Update>(
+pub fn forms_ring<F: Family, C: Store, H: Hasher, U: Update>(
     alloc: Global,
     log: &mut AuthLog<F, C, H>,
     from: u64,

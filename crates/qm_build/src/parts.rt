@@ -43,7 +43,7 @@ pub fn activity_from<N: Chunks>(
 }
 
 /// The operations root of a log's list, whose floor is given.
-pub fn root_of<F: Family, C: Store, H: Hasher + Drop, U: Update>(
+pub fn root_of<F: Family, C: Store, H: Hasher, U: Update>(
     alloc: Global,
     log: &mut AuthLog<F, C, H>,
     floor: u64,
@@ -58,7 +58,7 @@ pub fn root_of<F: Family, C: Store, H: Hasher + Drop, U: Update>(
 }
 
 /// The metadata of the commit with which a log's list ends. It reads one item.
-pub fn last_metadata<F: Family, C: Store, H: Hasher + Drop, U: Update>(
+pub fn last_metadata<F: Family, C: Store, H: Hasher, U: Update>(
     alloc: Global,
     log: &mut AuthLog<F, C, H>,
 ) -> Result<Option<U::Value>, Error>
@@ -87,7 +87,7 @@ pub(crate) struct Held<N: Chunks, D, V> {
 }
 
 /// What a log's list has, of which this was rebuilt from a floor on. So many chunks of its bits are pruned. It reads one item.
-pub(crate) fn beside<N: Chunks, F: Family, C: Store, H: Hasher + Drop, U: Update>(
+pub(crate) fn beside<N: Chunks, F: Family, C: Store, H: Hasher, U: Update>(
     alloc: Global,
     log: &mut AuthLog<F, C, H>,
     snapshot: &Snapshot,

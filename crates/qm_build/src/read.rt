@@ -18,7 +18,7 @@ use qm_store::{AuthLog, Store};
 use std::alloc::Global;
 
 /// The operation at a location. An item that spells none is refused.
-pub(crate) fn read_operation<F: Family, C: Store, H: Hasher + Drop, U: Update>(
+pub(crate) fn read_operation<F: Family, C: Store, H: Hasher, U: Update>(
     alloc: Global,
     log: &mut AuthLog<F, C, H>,
     at: u64,
@@ -42,7 +42,7 @@ pub(crate) fn read_operation<F: Family, C: Store, H: Hasher + Drop, U: Update>(
 }
 
 // Whether the operation at a location is an update of the key.
-fn has_key<F: Family, C: Store, H: Hasher + Drop, U: Update>(
+fn has_key<F: Family, C: Store, H: Hasher, U: Update>(
     log: &mut AuthLog<F, C, H>,
     at: u64,
     key: &[u8],
@@ -69,7 +69,7 @@ fn spells_key<U: Update>(item: &[u8], key: &[u8]) -> bool
 }
 
 // Whether the operation at a location is an update of the key, by the cache or else by the log.
-fn is_of_key<F: Family, C: Store, H: Hasher + Drop, U: Update>(
+fn is_of_key<F: Family, C: Store, H: Hasher, U: Update>(
     log: &mut AuthLog<F, C, H>,
     cache: &Cache<U::Key>,
     at: u64,
@@ -100,7 +100,7 @@ pub(crate) fn find<
     F: Family,
     I: qm_index::Unordered<Value = Location<F>>,
     C: Store,
-    H: Hasher + Drop,
+    H: Hasher,
     U: Update,
 >(
     index: &I,

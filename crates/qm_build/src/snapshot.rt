@@ -27,7 +27,7 @@ pub trait SnapshotBuild<F: Family>: qm_index::Unordered<Value = Location<F>>
     type Concurrency: Drop;
 
     /// Rebuilds the list of a log in this index, as `build_snapshot` does.
-    final fn build<C: Store, H: Hasher + Drop, U: Update>(
+    final fn build<C: Store, H: Hasher, U: Update>(
         &mut self,
         alloc: Global,
         log: &mut AuthLog<F, C, H>,

@@ -18,9 +18,9 @@ use std::rc::Rc;
 pub(crate) trait Bed {
     type Family: Family;
 
-    type Store: Store;
+    type Store: Store + Drop;
 
-    type Index: Factory<Value = Location<Self::Family>>;
+    type Index: Factory<Value = Location<Self::Family>> + Drop;
 
     type Hasher: Hasher + Drop;
 

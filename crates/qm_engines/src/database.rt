@@ -94,8 +94,8 @@ fn refusal<
 }
 
 impl<
-    C: Store,
-    I: Factory<Value = Location<mmr::Family>, Translator = FourCap>,
+    C: Store + Drop,
+    I: Factory<Value = Location<mmr::Family>, Translator = FourCap> + Drop,
     U: Kind<I, Key = ByteKey, Value = ByteValue>,
 > Words<C> for Database<C, I, U> {
     type Batch = UnmerkleizedBatch<mmr::Family, Sha256Digest, U>;
@@ -128,8 +128,8 @@ impl<
 }
 
 impl<
-    C: Store,
-    I: Factory<Value = Location<mmr::Family>, Translator = FourCap>,
+    C: Store + Drop,
+    I: Factory<Value = Location<mmr::Family>, Translator = FourCap> + Drop,
     U: Kind<I, Key = ByteKey, Value = ByteValue>,
 > Basis<C> for Database<C, I, U> {
     type Family = mmr::Family;
@@ -170,7 +170,7 @@ impl<
 }
 
 impl<
-    C: Store,
-    I: Factory<Value = Location<mmr::Family>, Translator = FourCap>,
+    C: Store + Drop,
+    I: Factory<Value = Location<mmr::Family>, Translator = FourCap> + Drop,
     U: Kind<I, Key = ByteKey, Value = ByteValue>,
 > Engine<C> for Database<C, I, U> {}

@@ -40,7 +40,7 @@ fn collected<
     F: Family,
     C: Store,
     I: qm_index::Unordered<Value = Location<F>>,
-    H: Hasher + Drop,
+    H: Hasher,
     U: Steps<F, I>,
 >(
     alloc: Global,
@@ -70,7 +70,7 @@ pub fn pairs_of<
     F: Family,
     C: Store,
     I: qm_index::Unordered<Value = Location<F>>,
-    H: Hasher + Drop,
+    H: Hasher,
     U: Steps<F, I>,
 >(
     alloc: Global,
@@ -111,7 +111,7 @@ pub fn keys_of<
     F: Family,
     C: Store,
     I: qm_index::Unordered<Value = Location<F>>,
-    H: Hasher + Drop,
+    H: Hasher,
     U: Steps<F, I>,
 >(
     alloc: Global,

@@ -13,7 +13,7 @@ use std::collections::HashMap;
 use std::marker::Model;
 
 /// Values by index key. Of each key only the index key is known, so a bucket has the values of all keys that have its index key.
-pub trait Unordered: Drop {
+pub trait Unordered {
     type Value: Drop;
 
     /// The index key of a key.

@@ -29,7 +29,7 @@ const ENTRIES: &[u8] =
 
 /// A folder in which a store is, and its files.
 trait Folder: Copy {
-    type Kept: Store;
+    type Kept: Store + Drop;
 
     fn alloc(self) -> Global;
 

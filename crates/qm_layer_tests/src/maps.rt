@@ -20,7 +20,7 @@ fn sum_of<I: Unordered<Value = u64>>(index: &I) -> u64 {
 }
 
 // Whether an index, filled so, has these values with a key.
-fn shares<I: Unordered<Value = u64>>(
+fn shares<I: Unordered<Value = u64> + Drop>(
     mut index: I,
     key: &[u8],
     want: &[u64],
@@ -39,7 +39,10 @@ fn keys_share_buckets(rt: HostRuntime) -> Result<(), Fail> {
 }
 
 // Whether the first bucket of an index, filled so, has these values.
-fn begins_with<I: Ordered<Value = u64>>(mut index: I, want: &[u64]) -> Result<bool, AllocError> {
+fn begins_with<I: Ordered<Value = u64> + Drop>(
+    mut index: I,
+    want: &[u64],
+) -> Result<bool, AllocError> {
     fill(&mut index)?;
     Ok(index.first_bucket() == Some(want))
 }

@@ -113,8 +113,8 @@ fn with_tail(
 
 // Answers the lines of an input by databases of this kind, and writes the text.
 fn serve<
-    C: Store,
-    I: Factory<Value = Location<mmr::Family>, Translator = FourCap>,
+    C: Store + Drop,
+    I: Factory<Value = Location<mmr::Family>, Translator = FourCap> + Drop,
     U: Kind<I, Key = ByteKey, Value = ByteValue>,
     K: Sink,
     G: Gate,
@@ -148,7 +148,7 @@ fn serve<
 }
 
 // Answers the lines of an input by ordered databases or by unordered ones, and writes the text.
-fn run<C: Store, K: Sink, G: Gate>(
+fn run<C: Store + Drop, K: Sink, G: Gate>(
     is_ordered: bool,
     alloc: Global,
     input: &[u8],
@@ -181,7 +181,7 @@ fn run<C: Store, K: Sink, G: Gate>(
 /// The statuses: 0, every line has its reply; 1, other words; 2, a line that is none, after whose replies
 /// `bad line` and its number were written; 3, the source failed; 4, the sink failed; 5, want of memory; 6, the
 /// store failed, and after the replies so far `store fault` was written; 7, more than 16,777,216 bytes of input.
-pub fn qmdb_main<C: Store, S: Source, K: Sink, G: Gate>(
+pub fn qmdb_main<C: Store + Drop, S: Source, K: Sink, G: Gate>(
     alloc: Global,
     words: &[String],
     store: C,

@@ -62,7 +62,7 @@ impl<F: Family, D: Digest> KeptTree<F, D> {
     /// The tree with the leaves of these items behind this one's, and the root of its list, the first of whose peaks are
     /// inactive. It leads through this tree's lists of as many items as the boundary or more, and keeps nothing of what led
     /// to the others.
-    pub fn grown<C: Store, H: Hasher<Digest = D> + Drop>(
+    pub fn grown<C: Store, H: Hasher<Digest = D>>(
         &self,
         alloc: Global,
         log: &mut AuthLog<F, C, H>,
@@ -93,7 +93,7 @@ impl<F: Family, D: Digest> KeptTree<F, D> {
     }
 
     // The tree batch that adds these items' leaves to this one, over what this one adds at the boundary or past it.
-    fn batch_behind<C: Store, H: Hasher<Digest = D> + Drop>(
+    fn batch_behind<C: Store, H: Hasher<Digest = D>>(
         &self,
         alloc: Global,
         log: &mut AuthLog<F, C, H>,
@@ -118,7 +118,7 @@ impl<F: Family, D: Digest> KeptTree<F, D> {
     }
 
     /// The proof of the leaves from `start` up to, and without, `end`, in the tree, the first of whose peaks are inactive.
-    pub fn proof<C: Store, H: Hasher<Digest = D> + Drop>(
+    pub fn proof<C: Store, H: Hasher<Digest = D>>(
         &self,
         alloc: Global,
         log: &AuthLog<F, C, H>,
@@ -144,7 +144,7 @@ impl<F: Family, D: Digest> KeptTree<F, D> {
     }
 
     /// The digests of the peaks over the first `count` leaves, from left to right, in the tree.
-    pub fn pins<C: Store, H: Hasher<Digest = D> + Drop>(
+    pub fn pins<C: Store, H: Hasher<Digest = D>>(
         &self,
         alloc: Global,
         log: &AuthLog<F, C, H>,

@@ -88,7 +88,7 @@ impl Model for MetaEntry {
 /// After `Ok` a call leaves what it does not name as it was. Each call but `bounds` and `faults` may answer `Failed`, only where the
 /// count of faults rose, or `Memory`, which leaves what `Failed` may leave: the store reads as a crash inside the call might
 /// have left it, and its stable length is no less than before.
-pub trait Store: Drop {
+pub trait Store {
     /// The location of the first item that is kept.
     ghost start: { Self → ℕ };
 

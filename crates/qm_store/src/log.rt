@@ -292,6 +292,15 @@ impl<F: Family, C: Store, H: Hasher + Drop> AuthLog<F, C, H> {
         }
     }
 
+    /// Gives the store back.
+    pub fn close(self) -> C
+        ensures { result ≡ self.store }
+    {
+        self.store
+    }
+}
+
+impl<F: Family, C: Store, H: Hasher> AuthLog<F, C, H> {
     /// Reads the item at a location.
     pub fn read(&mut self, at: u64) -> Result<Vec<u8>, Error>
         requires { at < self.old.tree.leaves }
@@ -533,13 +542,6 @@ impl<F: Family, C: Store, H: Hasher + Drop> AuthLog<F, C, H> {
         ensures { result.now ≡ self.now.store }
     {
         &self.store
-    }
-
-    /// Gives the store back.
-    pub fn close(self) -> C
-        ensures { result ≡ self.store }
-    {
-        self.store
     }
 }
 

@@ -10,8 +10,8 @@ use qm_store::{Refusal, Store};
 use std::alloc::{AllocError, Global};
 
 impl<
-    C: Store,
-    I: Factory<Value = Location<mmr::Family>, Translator = FourCap>,
+    C: Store + Drop,
+    I: Factory<Value = Location<mmr::Family>, Translator = FourCap> + Drop,
     U: Kind<I, Key = ByteKey, Value = ByteValue>,
 > Batching<C> for Database<C, I, U> {
     fn batch(&self, alloc: Global) -> Result<Self::Batch, AllocError> {

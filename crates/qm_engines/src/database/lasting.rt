@@ -9,8 +9,8 @@ use qm_store::{Refusal, Store};
 use std::alloc::Global;
 
 impl<
-    C: Store,
-    I: Factory<Value = Location<mmr::Family>, Translator = FourCap>,
+    C: Store + Drop,
+    I: Factory<Value = Location<mmr::Family>, Translator = FourCap> + Drop,
     U: Kind<I, Key = ByteKey, Value = ByteValue>,
 > Lasting<C> for Database<C, I, U> {
     type Config = ();

@@ -12,8 +12,8 @@ use std::alloc::Global;
 use std::ops::Bound;
 
 impl<
-    C: Store,
-    I: Factory<Value = Location<mmr::Family>, Translator = FourCap>,
+    C: Store + Drop,
+    I: Factory<Value = Location<mmr::Family>, Translator = FourCap> + Drop,
     U: Kind<I, Key = ByteKey, Value = ByteValue>,
 > Neighbours<C> for Database<C, I, U> {
     fn next(&mut self, alloc: Global, key: &ByteKey) -> Result<Option<ByteKey>, Error> {

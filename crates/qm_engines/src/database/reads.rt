@@ -10,8 +10,8 @@ use qm_store::Store;
 use std::alloc::{AllocError, Global};
 
 impl<
-    C: Store,
-    I: Factory<Value = Location<mmr::Family>, Translator = FourCap>,
+    C: Store + Drop,
+    I: Factory<Value = Location<mmr::Family>, Translator = FourCap> + Drop,
     U: Kind<I, Key = ByteKey, Value = ByteValue>,
 > Reading<C> for Database<C, I, U> {
     fn batch_root(batch: &Self::Merkleized) -> Sha256Digest {

@@ -12,8 +12,8 @@ use std::alloc::Global;
 use std::ops::Range;
 
 impl<
-    C: Store,
-    I: Factory<Value = Location<mmr::Family>, Translator = FourCap>,
+    C: Store + Drop,
+    I: Factory<Value = Location<mmr::Family>, Translator = FourCap> + Drop,
     U: Kind<I, Key = ByteKey, Value = ByteValue>,
 > Staging<C> for Database<C, I, U> {
     fn stage(

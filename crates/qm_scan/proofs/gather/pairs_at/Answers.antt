@@ -35,3 +35,7 @@ pub returns-clause-value : goal.returns-clause-value
 returns-clause-value g c = λ list is of.
     told-one _ _ (g.L.Items.reads.told c.args.log.now) (c.loop-location.invariant.value list is of) (λ all.
     all ∙ ap (fold (put_at (limit_view c.args.low) (limit_view c.args.high) list) []) (take_all c.loop-location.location-index c.args.locations.now c.loop-location-test.false))
+
+pub returns-in_err-put-clause-read : goal.returns-in_err-put-clause-read
+returns-in_err-put-clause-read g c =
+    read-then g.L.Items.reads g.met.L.Items.read_again c.args.log.now c.loop-location.log c.read_in.new.log c.loop-location.invariant.read c.read_in.ensures.read
