@@ -6,7 +6,7 @@ use Rattle.qm_memory.proofs.Mems.{held-on_err, kept-on_err, held-inside, restart
 use Rattle.qm_memory.proofs.mem_store.MemStoreStore.TheImpl.Goals as goal
 
 pub append-tells : goal.append-tells
-append-tells x c =
+append-tells c =
     let old = c.args.self.now in
     record {
       ok = search rules;
@@ -19,7 +19,7 @@ append-tells x c =
     }
 
 pub commit-tells : goal.commit-tells
-commit-tells x c =
+commit-tells c =
     let old = c.args.self.now in
     record {
       ok = search rules;
@@ -31,7 +31,7 @@ commit-tells x c =
     }
 
 pub sync-tells : goal.sync-tells
-sync-tells x c =
+sync-tells c =
     let old = c.args.self.now in
     record {
       ok = search rules;
@@ -43,7 +43,7 @@ sync-tells x c =
     }
 
 pub rewind-tells : goal.rewind-tells
-rewind-tells x c =
+rewind-tells c =
     let old = c.args.self.now in
     record {
       ok = search rules;
@@ -55,7 +55,7 @@ rewind-tells x c =
     }
 
 pub prune-tells : goal.prune-tells
-prune-tells x c =
+prune-tells c =
     let old = c.args.self.now in
     record {
       ok = search rules;
@@ -67,7 +67,7 @@ prune-tells x c =
     }
 
 pub put_meta-tells : goal.put_meta-tells
-put_meta-tells x c =
+put_meta-tells c =
     let old = c.args.self.now in
     record {
       ok = search rules;
@@ -79,7 +79,7 @@ put_meta-tells x c =
     }
 
 pub restart-tells : goal.restart-tells
-restart-tells x c =
+restart-tells c =
     let old = c.args.self.now in
     record {
       same_start = search rules;
@@ -90,7 +90,7 @@ restart-tells x c =
     }
 
 pub destroy-tells : goal.destroy-tells
-destroy-tells x c =
+destroy-tells c =
     let old = c.args.self.now in
     record {
       ok = search rules;
