@@ -1,5 +1,5 @@
 -- What reads of a log leave, one after another.
-use Rattle.std.proofs.Common.{◌≡◌, ◌<◌, ◌∙◌, List, refl, subst, inl, inr}
+use Rattle.std.proofs.Common.{◌<◌, ◌∙◌, refl, subst, inl, inr}
 use Rattle.qm_base.specs.declared.error.Error.{Error}
 use Rattle.qm_base.specs.Reads.{Reads, IsRead, IsReadError}
 
