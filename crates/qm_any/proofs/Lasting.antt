@@ -23,7 +23,7 @@ use Rattle.qm_store.specs.declared.log.LogRefusal.{LogRefusal}
 use Rattle.qm_store.specs.declared.refusal.Refusal.{Refusal}
 use Rattle.qm_store.specs.Log as logs
 use Rattle.qm_store.specs.Log.{Log, IsLog, IsRefused}
-use Rattle.qm_batch.specs.Lent.{NoneBelow}
+use Rattle.qm_step.specs.Lent.{NoneBelow}
 use Rattle.qm_any.specs.Layouts.{Hashing, Layout}
 use Rattle.qm_any.specs.Databases.{Database, Beside, IsDatabase, over}
 use Rattle.qm_any.specs.Lasting.{bits_from, cut_to, given_up, over_log, HasLasted, HasLeftPruned, HasPruned, IsGivenUp, IsHeadAt}

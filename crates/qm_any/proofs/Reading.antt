@@ -11,9 +11,10 @@ use Rattle.qm_base.specs.declared.error.Error.{Error}
 use Rattle.qm_store.specs.declared.Store as store
 use Rattle.qm_step.specs.Changes.{update_of, located}
 use Rattle.qm_step.specs.Layers.{Layer, LeadOver}
-use Rattle.qm_batch.specs.Logs.{IsReadError}
-use Rattle.qm_batch.specs.Lent.{NoneBelow}
-use Rattle.qm_batch.proofs.Logs.{read-none, read-then, error-then, lent-then}
+use Rattle.qm_store.specs.Reads.{IsReadError, log_reads}
+use Rattle.qm_step.specs.Lent.{NoneBelow}
+use Rattle.qm_store.proofs.Reading.{read-none, read-then, error-then}
+use Rattle.qm_step.proofs.Reading.{lent-then}
 use Rattle.qm_any.specs.Layouts.{Hashing, Layout}
 use Rattle.qm_any.specs.Databases.{Database, IsDatabase, IsLeft}
 
@@ -40,7 +41,7 @@ left-database members layout old new list left is =
     subst (λ x. IsDatabase members layout x list) (sym left.rest)
     (record {
       told = subst IsSome (sym ((left.read).told)) is.told;
-      lent = lent-then members by.shape by.bytes by.hash by.form layout.index_key old.entries old.log new.log list left.read is.lent;
+      lent = lent-then (log_reads members by.shape by.bytes by.hash) by.form layout.index_key old.entries old.log new.log list left.read is.lent;
       commitment = is.commitment;
       floor = is.floor;
       live = is.live;

@@ -17,7 +17,8 @@ use Rattle.qm_step.specs.Bases.{Base}
 use Rattle.qm_step.specs.Changes.{update_of}
 use Rattle.qm_step.specs.Kinds.{HasRing}
 use Rattle.qm_step.specs.Layers.{Layer, LeadThrough}
-use Rattle.qm_batch.specs.Logs.{IsLent, IsRead}
+use Rattle.qm_store.specs.Reads.{IsRead}
+use Rattle.qm_any.specs.Lent.{IsLent}
 use Rattle.qm_step.specs.Views.{Plan}
 use Rattle.qm_store.specs.KeptTrees.{KeptTree, IsKeptTree}
 use Rattle.qm_any.specs.Layouts.{Hashing, Layout, list_root, spellings}

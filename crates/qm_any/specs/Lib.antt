@@ -5,3 +5,4 @@ pub mod Reasons
 pub mod Tips
 pub mod Scanned
 pub mod Restoring
+pub mod Lent

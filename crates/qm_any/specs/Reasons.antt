@@ -7,7 +7,7 @@ use Rattle.qm_base.specs.declared.error.MerkleError.TheVariants as merkle
 use Rattle.qm_model.specs.Refused.{Refused, HistoricalFloorPruned, DataCorrupted, Merkle, Journal, FloorExceedsCommit, ItemDoesNotDecode, RangeOutOfBounds, ItemPruned}
 use Rattle.qm_store.specs.declared.Store as store
 use Rattle.qm_store.specs.Log.{Log}
-use Rattle.qm_batch.specs.Logs.{IsReadError}
+use Rattle.qm_store.specs.Reads.{IsReadError}
 
 -- why there may be no proof of operations from `start` on in the first `size`
 abbrev pub proof_reasons : ℕ → ℕ → List Refused

@@ -16,8 +16,8 @@ ghost use Rattle.qm_proofs.specs.Proofs.{proof_view, first_lacked, needed_positi
 ghost use Rattle.qm_chain.specs.Bounds.{commitment_view, is_at, knows};
 ghost use Rattle.qm_step.specs.Bases.{IsBase, base_view};
 ghost use Rattle.qm_step.specs.Kinds.{HasRing};
-ghost use Rattle.qm_batch.specs.Logs.{IsReadError};
-ghost use Rattle.qm_batch.specs.Lent.{NoneBelow};
+ghost use Rattle.qm_store.specs.Reads.{IsReadError};
+ghost use Rattle.qm_step.specs.Lent.{NoneBelow};
 ghost use Rattle.qm_step.specs.Views.{changes_view, keys_of, wanted_view, AreReads, IsPlan, stepped, left_after};
 ghost use Rattle.qm_any.specs.Databases.{AreAgreed, IsDatabase, IsBegun, IsMade, IsLeft, base_of, bases, child_boundary, child_made, child_tips, is_on, kept_by, operations_in, unapplied};
 ghost use Rattle.qm_store.specs.Log.{IsLacked};
@@ -37,7 +37,7 @@ use qm_base::{
     ByteString, Commitment, Digest, Error, Hasher, JournalError, Location, MerkleError, Slot,
     ValueEncoding, twin_option,
 };
-use qm_batch::kind::Steps;
+use qm_step::kind::Steps;
 use qm_batch::{Base, Layer, Plan, Read, Wanted, Write, Writes};
 use qm_chain::{Bounds, Diff, Policy, validate_batch_applicable};
 use qm_merkle::{Family, Position};

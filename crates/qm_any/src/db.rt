@@ -24,8 +24,8 @@ ghost use Rattle.qm_step.specs.Kinds.{HasRing};
 ghost use Rattle.qm_step.specs.Layers.{LeadOver};
 ghost use Rattle.qm_step.specs.Changes.{LeadTo, update_of};
 ghost use Rattle.qm_index.specs.Indexed.{IsIndexed};
-ghost use Rattle.qm_batch.specs.Logs.{IsReadError};
-ghost use Rattle.qm_batch.specs.Lent.{NoneBelow};
+ghost use Rattle.qm_store.specs.Reads.{IsReadError};
+ghost use Rattle.qm_step.specs.Lent.{NoneBelow};
 ghost use Rattle.qm_step.specs.Views.{changes_view, keys_of, read_view, wanted_view, AreReads, IsPlan, stepped, left_after};
 ghost use Rattle.qm_any.specs.Databases.{Database, over, IsBegun, IsDatabase, IsLeft, IsMade, IsTree, at_rest, read_under};
 ghost use Rattle.qm_store.specs.Given.{Appended, AppendedPart, store_given, store_after};
@@ -38,7 +38,7 @@ use qm_base::{
     ByteString, Commitment, Digest, Error, Hasher, JournalError, Location, MerkleError,
     ValueEncoding, twin_option,
 };
-use qm_batch::kind::Steps;
+use qm_step::kind::Steps;
 use qm_batch::{Base, Plan, Read, Wanted, Writes, apply_diffs, read_key, staged};
 use qm_bits::{Chunk64, Prunable};
 use qm_chain::{Diff, Policy};

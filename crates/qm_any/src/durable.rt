@@ -5,7 +5,7 @@ ghost use Rattle.qm_model.specs.Live as lives;
 ghost use Rattle.qm_model.specs.Operations.{Operation};
 ghost use Rattle.qm_model.specs.StoreModel.{end_of, settled, with_metadata, IsImage, IsOldOrNew, ReadsAs};
 ghost use Rattle.qm_store.specs.Log.{HasLeft};
-ghost use Rattle.qm_batch.specs.Lent.{NoneBelow};
+ghost use Rattle.qm_step.specs.Lent.{NoneBelow};
 ghost use Rattle.qm_any.specs.Databases.{IsDatabase};
 ghost use Rattle.qm_any.specs.Lasting.{boundary_of, over_log, HasLasted, HasLeftPruned, HasLeftDestroyed, HasLeftStable, HasPruned, IsDestroyed, IsGivenUp};
 

@@ -12,7 +12,7 @@ ghost use Rattle.qm_model.specs.Refusals.{commit_floor, floor_before, last_refus
 ghost use Rattle.qm_model.specs.Trees.{peak_positions};
 ghost use Rattle.qm_merkle.specs.Mems.{node_at};
 ghost use Rattle.qm_proofs.specs.Proofs.{proof_view, first_lacked};
-ghost use Rattle.qm_batch.specs.Logs.{IsRead};
+ghost use Rattle.qm_store.specs.Reads.{IsRead};
 ghost use Rattle.qm_store.specs.Log.{IsLacked, IsLog};
 ghost use Rattle.qm_any.specs.Databases.{IsDatabase, IsLeft};
 ghost use Rattle.qm_store.specs.Refusals.{IsAmong, IsDue};

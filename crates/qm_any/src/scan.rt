@@ -3,8 +3,8 @@
 ghost use Rattle.std.specs.Prelude.{◌≡◌, ◌≢◌, true, ℕ, List, IfSome, IfErr};
 ghost use Rattle.qm_model.specs.Operations.{Operation};
 ghost use Rattle.qm_model.specs.Ranges.{keys_in, pairs_in};
-ghost use Rattle.qm_batch.specs.Logs.{IsReadError};
-ghost use Rattle.qm_batch.specs.Lent.{NoneBelow};
+ghost use Rattle.qm_store.specs.Reads.{IsReadError};
+ghost use Rattle.qm_step.specs.Lent.{NoneBelow};
 ghost use Rattle.qm_base.specs.Views.{limit_of, pair_view};
 ghost use Rattle.qm_scan.specs.Scans.{IsStep, left_of};
 ghost use Rattle.qm_any.specs.Databases.{IsDatabase, IsLeft};
@@ -13,7 +13,7 @@ ghost use Rattle.qm_any.specs.Scanned.{keys_left, lent_to, lent_to_keys, pairs_l
 use crate::db::{Db, LaidOut};
 use qm_base::update::Update;
 use qm_base::{Error, Hasher, JournalError, Location};
-use qm_batch::kind::Steps;
+use qm_step::kind::Steps;
 use qm_merkle::Family;
 use qm_scan::Scan;
 use qm_store::Store;

@@ -9,8 +9,8 @@ ghost use Rattle.qm_model.specs.Slots.{slotted};
 ghost use Rattle.qm_model.specs.Writes.{read_through};
 ghost use Rattle.qm_merkle.specs.Batches.{stops};
 ghost use Rattle.qm_chain.specs.Bounds.{knows};
-ghost use Rattle.qm_batch.specs.Logs.{IsReadError};
-ghost use Rattle.qm_batch.specs.Lent.{NoneBelow};
+ghost use Rattle.qm_store.specs.Reads.{IsReadError};
+ghost use Rattle.qm_step.specs.Lent.{NoneBelow};
 ghost use Rattle.qm_step.specs.Views.{stepped, left_after};
 ghost use Rattle.qm_any.specs.Databases.{IsDatabase, IsBegun, IsMade, IsLeft, IsStaged, is_on, staged_keys};
 ghost use Rattle.qm_any.specs.Reasons.{IsMakingError};
@@ -23,7 +23,7 @@ use qm_base::{
     ByteString, Digest, Error, Hasher, JournalError, Location, Slot, ValueEncoding, Write,
 };
 use qm_batch::Read;
-use qm_batch::kind::Steps;
+use qm_step::kind::Steps;
 use qm_chain::Policy;
 use qm_merkle::Family;
 use qm_store::Store;

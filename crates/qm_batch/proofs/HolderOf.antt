@@ -24,9 +24,9 @@ use Rattle.qm_step.specs.Changes.{located, next_in, said_by, update_at, update_o
 use Rattle.qm_step.specs.Layers.{Layer, LeadOver, nearest_layer}
 use Rattle.qm_step.specs.Nearest.{kept, last_key, lent_before, nearer_of, own_or_nearer, said_key}
 use Rattle.qm_step.specs.Rings.{holder_of, previous_of}
-use Rattle.qm_batch.proofs.LastKeys.{filter-same, greatest-same, last-is, last-none}
+use Rattle.qm_step.proofs.LastKeys.{filter-same, greatest-same, last-is, last-none}
 use Rattle.qm_batch.proofs.Layered.{lent-update}
-use Rattle.qm_batch.proofs.LentKeys.{live-some}
+use Rattle.qm_step.proofs.LentKeys.{live-some}
 use Rattle.qm_batch.proofs.PreviousOf.{update-parts, previous-lent, previous-nearer}
 use Rattle.qm_step.proofs.Standing.{live-stands}
 
@@ -117,25 +117,6 @@ module _ (layers : List Layer) (lent base : List Operation) (is : LeadOver layer
       by false gone =
           subst (λ o. own_or_nearer layers key (option_or o (previous_of lent key)) ≡ option_or o (previous_of base key)) (sym (dead-update lent key gone))
           (passed gone (predecessor (live_keys lent) key) refl ∙ sym (previous-nearer layers lent base is ring_lent ring_base key))
-
--- the keys of live updates of a form are bytes
-pub live-bytes : (form : Form) (list : List Operation) → ((bs : Bytes) → form.is_key bs ≡ true → AreBytes bs) → All (IsOf form) list → All AreBytes (live_keys list)
-live-bytes form list bytes all =
-    All-map AreBytes (λ (e : Live). e.key) (live list)
-    (All-weaker (Contains (live list)) (λ (e : Live). AreBytes e.key) (λ e within. by list e.location e all (live-stands list e within)) (live list) (All-contains_itself (live list)))
-  where
-    said : (op : Operation) (e : Live) → IsOf form op → said_by op ≡ Some (update e.key e.value e.next) → AreBytes e.key
-    said (update k v n) e of h =
-        let parts : update k v n ≡ update e.key e.value e.next = same_Some (update k v n) (update e.key e.value e.next) h in
-        let same : k ≡ e.key = cc in
-        subst AreBytes same (bytes k (of.0).known)
-    said (delete k) e of h = absurd (none-some h)
-    said (commit m f) e of h = absurd (none-some h)
-
-    by : (ops : List Operation) (at : ℕ) (e : Live) → All (IsOf form) ops → update_at ops at ≡ Some (update e.key e.value e.next) → AreBytes e.key
-    by [] at e all h = absurd (none-some h)
-    by (op ∷ ops) zero e all h = said op e (All-head (IsOf form) op ops all) h
-    by (op ∷ ops) (suc at) e all h = by ops at e (All-tail (IsOf form) op ops all) h
 
 -- the key behind a key around the ring, where it is above it, and the one before, where it is below
 abbrev above : List Bytes → Bytes → List Bytes

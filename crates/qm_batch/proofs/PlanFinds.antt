@@ -21,7 +21,7 @@ use Rattle.qm_step.proofs.PlanWalks.{none-past}
 use Rattle.qm_step.proofs.PlanReads.{slice_get-front, slice_get-behind, update-here, front-none, front-touched, front-gone, front-live}
 use Rattle.qm_step.proofs.PlanReplaced.{touched-replaced}
 use Rattle.qm_batch.proofs.Spellings.{keyed-update, keyless-said}
-use Rattle.qm_batch.proofs.Reading.{in-bucket, own-bucket}
+use Rattle.qm_step.proofs.Reading.{in-bucket, own-bucket}
 use Rattle.qm_step.proofs.Standing.{live-stands, live-of_key}
 use Rattle.qm_index.proofs.Basics.{or-later}
 

@@ -23,43 +23,13 @@ use Rattle.qm_batch.specs.PlanPaths.{Path, AreOwn, IsPath}
 use Rattle.qm_step.specs.declared.decided.Decided as declared
 use Rattle.qm_step.specs.Rings.{touch_in}
 use Rattle.qm_step.specs.Touches.{Touch, IsFrom, IsKeyed, Once, operations_of}
-use Rattle.qm_batch.proofs.PlanCounts.{Stood, count-behind}
+use Rattle.qm_step.proofs.PlanCounts.{Stood, count-behind}
 
 -- a count by what is shown
 pub count-shown : {A X : Type 0} (p : X → Bool) (f : A → X) (xs : List A) → count_by (λ x. p (f x)) xs ≡ count_by p (map f xs)
 count-shown p f [] = refl
 count-shown p f (x ∷ xs) =
     sum_by-cons (λ x. cond (p (f x)) 1 0) x xs ∙ ap (λ n. cond (p (f x)) 1 0 + n) (count-shown p f xs) ∙ sym (sum_by-cons (λ y. cond (p y) 1 0) (f x) (map f xs))
-
--- an operation touches its key alone
-pub own-key : (op : Operation) (key : Bytes) → touches key op ≡ true → key_of op ≡ Some key
-own-key (update k v n) key h = ap (λ k. Some k) (same_key k key h)
-own-key (delete k) key h = ap (λ k. Some k) (same_key k key h)
-own-key (commit m f) key h = cc
-
--- operations, each with where its key stands, are of a step from there
-pub touched-from : (base : List Operation) (ops : List Operation) → Each (IsFrom base) (map (touch_in base) ops)
-touched-from base [] = tt
-touched-from base (op ∷ ops) = (λ key hit. ap (option_and_then (place_in base)) (own-key op key hit), touched-from base ops)
-
-pub touched-operations : (base ops : List Operation) → operations_of (map (touch_in base) ops) ≡ ops
-touched-operations base [] = refl
-touched-operations base (op ∷ ops) = ap (λ xs. op ∷ xs) (touched-operations base ops)
-
--- the operation of a decision in an unordered database, with where its key stands
-decided-touch : (base list : List Operation) (d : Decided) → IsDecided base list d → touch_for d ≡ touch_in base (operation_of (write_for d))
-decided-touch base list d is = ap (λ b. record { operation = operation_of (write_for d); before = b }) (is.before ∙ by d.value)
-  where
-    by : (value : Option Bytes) → place_in base d.key ≡ option_and_then (place_in base) (key_of (operation_of (record { key = d.key; value = value })))
-    by None = refl
-    by (Some v) = refl
-
-pub decided-touches : (base list : List Operation) (ds : List Decided) → All (IsDecided base list) ds → map touch_for ds ≡ map (touch_in base) (map operation_of (map write_for ds))
-decided-touches base list ds are = by ds (recursion_from_All (IsDecided base list) ds are)
-  where
-    by : (us : List Decided) → Each (IsDecided base list) us → map touch_for us ≡ map (touch_in base) (map operation_of (map write_for us))
-    by [] h = refl
-    by (u ∷ us) h = ap₂ (λ t ts. t ∷ ts) (decided-touch base list u h.0) (by us h.1)
 
 -- where a key stood, one is live
 stood-live : (base : List Operation) (t : Touch) → IsFrom base t → Stood base t

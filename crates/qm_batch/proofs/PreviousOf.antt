@@ -22,9 +22,9 @@ use Rattle.qm_step.specs.Changes.{Change, Changes, change_in, located, update_of
 use Rattle.qm_step.specs.Layers.{Layer, LeadOver, nearest_layer, update_by}
 use Rattle.qm_step.specs.Nearest.{changed_keys, is_left, is_nearest, last_key, left_by, left_keys, lent_before, nearer_of, said_key}
 use Rattle.qm_step.specs.Rings.{previous_of}
-use Rattle.qm_batch.proofs.LastKeys.{last-unlimited}
+use Rattle.qm_step.proofs.LastKeys.{last-unlimited}
 use Rattle.qm_batch.proofs.Layered.{layer-update, lent-update}
-use Rattle.qm_batch.proofs.LentKeys.{live-some}
+use Rattle.qm_step.proofs.LentKeys.{live-some}
 use Rattle.qm_step.proofs.Standing.{of_key-within}
 use Rattle.qm_step.proofs.Steps.{layer-stands}
 

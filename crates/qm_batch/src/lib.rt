@@ -2,18 +2,15 @@
 #![tactic(auto)]
 
 pub mod apply;
-pub mod items;
-pub mod kind;
 pub mod neighbours;
 pub mod plan;
 pub mod read;
 pub mod writes;
 
 pub use apply::apply_diffs;
-pub use items::Items;
 pub use neighbours::{holder, next_key, previous, previous_key};
 pub use plan::{Plan, plain, staged};
 pub use qm_base::Write;
 pub use qm_step::{Base, Layer, Read, Wanted, is_before, is_below};
-pub use read::{read_key, read_keys, update_in};
+pub use read::{read_key, read_keys};
 pub use writes::Writes;

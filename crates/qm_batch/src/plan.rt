@@ -12,7 +12,8 @@ ghost use Rattle.qm_model.specs.Writes as writes;
 ghost use Rattle.qm_step.specs.Bases.{base_view, IsBase};
 ghost use Rattle.qm_step.specs.Going.{write_for, IsDecided};
 ghost use Rattle.qm_step.specs.Kinds.{kind_of, CountsMoves, HasRing};
-ghost use Rattle.qm_batch.specs.Lent.{IsLent, IsRead, IsReadError, NoneBelow};
+ghost use Rattle.qm_base.specs.Reads.{IsRead, IsReadError};
+ghost use Rattle.qm_step.specs.Lent.{IsLent, NoneBelow};
 ghost use Rattle.qm_step.specs.PlanViews.{decided_views, touch_views};
 ghost use Rattle.qm_batch.specs.PlanPaths.{AreOwn, IsPath, path_view};
 ghost use Rattle.qm_step.specs.Rings.{touch_in};
@@ -26,10 +27,9 @@ mod walk;
 
 use self::over::{moved_over, written_over};
 use self::walk::{Path, Walked, walk_from};
-use crate::items::Items;
-use crate::kind::Steps;
+use qm_step::kind::Steps;
 use qm_base::update::Update;
-use qm_base::{Error, JournalError, Location, Operation, Write};
+use qm_base::{Error, Items, JournalError, Location, Operation, Write};
 use qm_bits::Candidates;
 use qm_chain::{Diff, Policy};
 use qm_step::decided::evicted;
@@ -179,7 +179,7 @@ fn own_along<
     ensures read { IsRead L.reads log.old log.new }
     ensures error { IfErr result (IsReadError L.reads log.old log.new) }
     ensures whole { (lent : List model.Operation) → IsLent L.reads U.form I.index_key (I.entries path.entry.index.now) log.old lent → NoneBelow (L.reads.start log.old) lent
-        → (L.reads.start log.old) ≤ path.entry.base.floor → IfErr result (λ e. (n : ℕ) → e ≢ Error.Journal (JournalError.ItemPruned n)) }
+        → L.reads.start log.old ≤ path.entry.base.floor → IfErr result (λ e. (n : ℕ) → e ≢ Error.Journal (JournalError.ItemPruned n)) }
 {
     let behind = live_behind(&path.made, path.base.live);
     let limits = policy.limits(made_inactive(&path.made, path.base.live, behind));
@@ -214,7 +214,7 @@ fn own_operations<
     ensures read { IsRead L.reads log.old log.new }
     ensures error { IfErr result (IsReadError L.reads log.old log.new) }
     ensures whole { (lent : List model.Operation) → IsLent L.reads U.form I.index_key (I.entries index.now) log.old lent → NoneBelow (L.reads.start log.old) lent
-        → (L.reads.start log.old) ≤ base.now.floor → IfErr result (λ e. (n : ℕ) → e ≢ Error.Journal (JournalError.ItemPruned n)) }
+        → L.reads.start log.old ≤ base.now.floor → IfErr result (λ e. (n : ℕ) → e ≢ Error.Journal (JournalError.ItemPruned n)) }
 {
     let last = last_writes(alloc, wanted)?;
     let made = written_over(alloc, index, log, base.layers, wanted.reads, &last)?;
@@ -308,7 +308,7 @@ pub fn plain<
     ensures read { IsRead L.reads log.old log.new }
     ensures error { IfErr result (IsReadError L.reads log.old log.new) }
     ensures whole { (lent : List model.Operation) → IsLent L.reads U.form I.index_key (I.entries index.now) log.old lent → NoneBelow (L.reads.start log.old) lent
-        → (L.reads.start log.old) ≤ base.now.floor → IfErr result (λ e. (n : ℕ) → e ≢ Error.Journal (JournalError.ItemPruned n)) }
+        → L.reads.start log.old ≤ base.now.floor → IfErr result (λ e. (n : ℕ) → e ≢ Error.Journal (JournalError.ItemPruned n)) }
 {
     let wanted = Wanted {
         writes,
@@ -354,7 +354,7 @@ pub fn staged<
     ensures read { IsRead L.reads log.old log.new }
     ensures error { IfErr result (IsReadError L.reads log.old log.new) }
     ensures whole { (lent : List model.Operation) → IsLent L.reads U.form I.index_key (I.entries index.now) log.old lent → NoneBelow (L.reads.start log.old) lent
-        → (L.reads.start log.old) ≤ base.now.floor → IfErr result (λ e. (n : ℕ) → e ≢ Error.Journal (JournalError.ItemPruned n)) }
+        → L.reads.start log.old ≤ base.now.floor → IfErr result (λ e. (n : ℕ) → e ≢ Error.Journal (JournalError.ItemPruned n)) }
 {
     match own_operations(alloc, index, candidates, log, base, &wanted, policy) {
         Ok(own) => Ok(planned(alloc, base.size, own, metadata)?),

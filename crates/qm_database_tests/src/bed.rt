@@ -5,7 +5,7 @@ use qm_any::db::Db;
 use qm_any::{Config, init};
 use qm_base::update::Update;
 use qm_base::{ByteString, Error, Hasher, Location};
-use qm_batch::kind::Steps;
+use qm_step::kind::Steps;
 use qm_chain::Policy;
 use qm_index::Factory;
 use qm_merkle::Family;

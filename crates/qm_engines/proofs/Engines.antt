@@ -14,8 +14,8 @@ use Rattle.qm_model.specs.Batches.{Commitment, Chain, boundary_list, IsOnChain, 
 use Rattle.qm_model.specs.Causes.{Rose}
 use Rattle.qm_store.specs.declared.Store as store
 use Rattle.qm_store.specs.Log.{Log}
-use Rattle.qm_batch.specs.Logs.{IsReadError}
-use Rattle.qm_batch.specs.Lent.{NoneBelow}
+use Rattle.qm_store.specs.Reads.{IsReadError}
+use Rattle.qm_step.specs.Lent.{NoneBelow}
 use Rattle.qm_model.specs.Refused.{Refused, Journal, ItemTooLarge, Merkle, LocationOverflow}
 use Rattle.qm_model.specs.Refusals.{tip_refusal, too_long, too_many}
 use Rattle.qm_model.specs.Roots.{sha256_root, sha256_proof, sha256_pins}

@@ -3,15 +3,15 @@ ghost use Rattle.std.specs.Prelude.{◌≡◌, ◌≢◌, ◌≤◌, ℕ, true, 
 ghost use Rattle.qm_model.specs.Operations.{Operation};
 ghost use Rattle.qm_model.specs.Ranges.{keys_in, pairs_in};
 ghost use Rattle.qm_any.specs.Databases.{IsDatabase, IsLeft};
-ghost use Rattle.qm_batch.specs.Logs.{IsReadError};
-ghost use Rattle.qm_batch.specs.Lent.{NoneBelow};
+ghost use Rattle.qm_store.specs.Reads.{IsReadError};
+ghost use Rattle.qm_step.specs.Lent.{NoneBelow};
 ghost use Rattle.qm_base.specs.Views.{limit_of, pair_view};
 ghost use Rattle.qm_scan.specs.Scans.{left_of};
 
 use qm_any::db::{Db, LaidOut};
 use qm_base::update::Update;
 use qm_base::{ByteString, Error, Hasher, JournalError, Location};
-use qm_batch::kind::Steps;
+use qm_step::kind::Steps;
 use qm_merkle::Family;
 use qm_scan::Scan;
 use qm_store::Store;

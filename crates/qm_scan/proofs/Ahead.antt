@@ -20,10 +20,10 @@ use Rattle.qm_index.specs.Neighbours.{least_key, neighbour_at, next_key, near_or
 use Rattle.qm_index.specs.Translated.{IsMonotone}
 use Rattle.qm_index.proofs.Neighbours.{stood-same}
 use Rattle.qm_index.proofs.Picks.{has, has-filter, number_below, number_same, same_number, picks_least, picked-is, picked-none}
-use Rattle.qm_batch.specs.Lent.{NoneBelow}
-use Rattle.qm_batch.proofs.HolderOf.{live-bytes}
-use Rattle.qm_batch.proofs.LastKeys.{before-closed}
-use Rattle.qm_batch.proofs.LentKeys.{bucket-above}
+use Rattle.qm_step.specs.Lent.{NoneBelow}
+use Rattle.qm_step.proofs.LentKeys.{live-bytes}
+use Rattle.qm_step.proofs.LastKeys.{before-closed}
+use Rattle.qm_step.proofs.LentKeys.{bucket-above}
 use Rattle.qm_scan.specs.Gathered.{Pair, is_in, put_at}
 use Rattle.qm_scan.specs.Scans.{BeginsAt, Place, beginning, behind, nowhere, ahead_of, behind_first, is_ahead, valued}
 use Rattle.qm_scan.proofs.Buckets.{bucket-firsts, bucket-pairs, firsts}

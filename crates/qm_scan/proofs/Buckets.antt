@@ -21,7 +21,7 @@ use Rattle.qm_index.specs.Buckets.{bucket_at}
 use Rattle.qm_index.specs.Indexed.{IsIndexed, locations_at}
 use Rattle.qm_step.specs.Changes.{update_at}
 use Rattle.qm_step.specs.Nearest.{said_key}
-use Rattle.qm_batch.proofs.LentKeys.{IsLiveAt, bucket-live, key_at}
+use Rattle.qm_step.proofs.LentKeys.{IsLiveAt, bucket-live, key_at}
 use Rattle.qm_step.proofs.Standing.{live-stands, live-of_key}
 use Rattle.qm_scan.specs.Gathered.{Pair, is_in, only_in, put_at, put_pair, put_said}
 use Rattle.qm_scan.specs.Scans.{valued}

@@ -4,7 +4,8 @@ ghost use Rattle.std.specs.Prelude.{◌≡◌, ◌≢◌, ◌≤◌, true, ℕ, 
 ghost use Rattle.qm_model.specs.Forms.{IsOf, spelling};
 ghost use Rattle.qm_model.specs.Operations.{Operation};
 ghost use Rattle.qm_model.specs.Ranges.{Limit, unlimited};
-ghost use Rattle.qm_batch.specs.Lent.{IsLent, IsRead, IsReadError, NoneBelow};
+ghost use Rattle.qm_base.specs.Reads.{IsRead, IsReadError};
+ghost use Rattle.qm_step.specs.Lent.{IsLent, NoneBelow};
 ghost use Rattle.qm_step.specs.Nearest.{limit_view};
 ghost use Rattle.qm_base.specs.Views.{limit_of, pair_view};
 ghost use Rattle.qm_scan.specs.Gathered.{put_at};
@@ -12,9 +13,8 @@ ghost use Rattle.qm_scan.specs.Scans.{AreNext, BeginsAt, IsStep, IsTaken, beginn
 
 use crate::gather::{bytes_of, pairs_at};
 use qm_base::update::Update;
-use qm_base::{ByteString, Error, JournalError, Location};
-use qm_batch::Items;
-use qm_batch::kind::Steps;
+use qm_base::{ByteString, Error, Items, JournalError, Location};
+use qm_step::kind::Steps;
 use std::alloc::{AllocError, Global};
 use std::collections::VecDeque;
 use std::marker::Model;
@@ -308,7 +308,7 @@ fn read_bucket<F, L: Items, U: Update>(
     ensures place { IfOk result (λ found. place_view U.Key.bytes found.place ≡ behind_first (map (pair_view U.Key.bytes U.Value.bytes) found.pairs.items)) }
     ensures read { IsRead L.reads log.old log.new }
     ensures error { IfErr result (IsReadError L.reads log.old log.new) }
-    ensures pruned { All (λ at. (L.reads.start log.old) ≤ at) locations.now → IfErr result (λ e. (n : ℕ) → e ≢ Error.Journal (JournalError.ItemPruned n)) }
+    ensures pruned { All (λ at. L.reads.start log.old ≤ at) locations.now → IfErr result (λ e. (n : ℕ) → e ≢ Error.Journal (JournalError.ItemPruned n)) }
 {
     let pairs = pairs_at::<F, L, U>(alloc, log, locations, Bound::Unbounded, high)?;
     let place = behind(alloc, &pairs)?;

@@ -27,3 +27,9 @@ pub mod Staged
 pub mod Standing
 pub mod Steps
 pub mod WritesByKey
+pub mod OrderedKinds
+pub mod PlanCounts
+pub mod LastKeys
+pub mod LentKeys
+pub mod Reading
+pub mod Touched

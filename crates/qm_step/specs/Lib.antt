@@ -12,3 +12,4 @@ pub mod Rings
 pub mod Touches
 pub mod Views
 pub mod Written
+pub mod Lent

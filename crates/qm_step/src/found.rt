@@ -1,14 +1,16 @@
 //! What live updates say of keys: where these stand, and which come before and behind them.
 
 ghost use Rattle.std.specs.Prelude.{◌≡◌, Some, option_and_then, option_map, IfOk};
+ghost use Rattle.qm_model.specs.Forms.{IsSpelling};
 ghost use Rattle.qm_model.specs.Keys.{key_lt};
-ghost use Rattle.qm_step.specs.Changes.{link_of, next_in};
+ghost use Rattle.qm_model.specs.Operations as model;
+ghost use Rattle.qm_step.specs.Changes.{link_of, next_in, said_by};
 ghost use Rattle.qm_step.specs.Nearest.{kept, said_key};
 ghost use Rattle.qm_step.specs.Views.{read_view, stands_view};
 
 use crate::order::is_below;
 use qm_base::update::Update;
-use qm_base::{ByteString, Location};
+use qm_base::{ByteString, Location, Operation};
 use std::alloc::{AllocError, Global};
 
 /// Where a key's live update stands and, in an ordered database, the key that it names.
@@ -88,5 +90,16 @@ pub fn key_under<F, U: Update>(found: Option<(Location<F>, U)>, key: &[u8]) -> O
         Some(update.into_key())
     } else {
         None
+    }
+}
+
+/// The update that the bytes spell, if they spell one.
+pub fn update_in<U: Update>(alloc: Global, item: &[u8]) -> Result<Option<U>, AllocError>
+    ensures { (op : model.Operation) → IsSpelling U.form item.now op → IfOk result (λ update. option_map (U.view) update ≡ said_by op) }
+{
+    let operation: Option<Operation<(), U>> = Operation::decode(alloc, item)?;
+    match operation {
+        Some(Operation::Update(update)) => Ok(Some(update)),
+        _ => Ok(None),
     }
 }

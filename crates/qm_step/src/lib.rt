@@ -5,6 +5,7 @@ pub mod base;
 pub mod decided;
 pub mod diff;
 pub mod found;
+pub mod kind;
 pub mod layer;
 pub mod links;
 pub mod moves;

@@ -6,3 +6,4 @@ pub mod Shown
 pub mod Heads
 pub mod Kept
 pub mod Adding
+pub mod Reading

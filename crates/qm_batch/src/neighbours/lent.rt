@@ -6,15 +6,16 @@ ghost use Rattle.qm_index.specs.Buckets.{IsIndex};
 ghost use Rattle.qm_model.specs.Forms.{IsOf, IsSpelling, spelling};
 ghost use Rattle.qm_model.specs.Operations as model;
 ghost use Rattle.qm_step.specs.Changes.{said_by, update_at};
-ghost use Rattle.qm_batch.specs.Lent.{IsLent, IsRead, IsReadError, NoneBelow};
+ghost use Rattle.qm_base.specs.Reads.{IsRead, IsReadError};
+ghost use Rattle.qm_step.specs.Lent.{IsLent, NoneBelow};
 ghost use Rattle.qm_step.specs.Nearest.{lent_before, later_at, limit_view, only_within, said_key};
 ghost use Rattle.qm_step.specs.Views.{read_view};
 
-use crate::items::Items;
-use crate::kind::Steps;
+use qm_step::found::update_in;
+use qm_step::kind::Steps;
 use crate::read::update_in;
 use qm_base::update::Update;
-use qm_base::{ByteString, Error, JournalError, Location, Operation};
+use qm_base::{ByteString, Error, Items, JournalError, Location, Operation};
 use qm_step::order::is_within;
 use std::alloc::{AllocError, Global};
 use std::ops::Bound;
@@ -57,7 +58,7 @@ fn last_at<F, L: Items, U: Update>(
         → IfSome (L.reads.told log.old) (λ _. IfOk result (λ found. option_map (read_view U.view) found ≡ fold (later_at (limit_view limit.entry) list) None locations.now)) }
     ensures read { IsRead L.reads log.old log.new }
     ensures error { IfErr result (IsReadError L.reads log.old log.new) }
-    ensures pruned { All (λ at. (L.reads.start log.old) ≤ at) locations.now → IfErr result (λ e. (n : ℕ) → e ≢ Error.Journal (JournalError.ItemPruned n)) }
+    ensures pruned { All (λ at. L.reads.start log.old ≤ at) locations.now → IfErr result (λ e. (n : ℕ) → e ≢ Error.Journal (JournalError.ItemPruned n)) }
 {
     let mut last: Option<(Location<F>, U)> = None;
     for location in locations {
@@ -105,7 +106,7 @@ fn read_within<L: Items, U: Update>(
         → IfSome (L.reads.told log.old) (λ _. IfOk result (λ update. option_map U.view update ≡ only_within (option_map (λ k. k.now) above.entry) (limit_view limit.entry) (update_at list at))) }
     ensures read { IsRead L.reads log.old log.new }
     ensures error { IfErr result (IsReadError L.reads log.old log.new) }
-    ensures pruned { (L.reads.start log.old) ≤ at → IfErr result (λ e. (n : ℕ) → e ≢ Error.Journal (JournalError.ItemPruned n)) }
+    ensures pruned { L.reads.start log.old ≤ at → IfErr result (λ e. (n : ℕ) → e ≢ Error.Journal (JournalError.ItemPruned n)) }
 {
     match log.read_item(at)? {
         Some(item) => Ok(update_within(alloc, &item, above, limit)?),

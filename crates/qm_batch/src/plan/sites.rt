@@ -4,15 +4,15 @@ ghost use Rattle.std.specs.Prelude.{◌≡◌, ◌≢◌, ℕ, List, map, option
 ghost use Rattle.qm_model.specs.Operations as operations;
 ghost use Rattle.qm_step.specs.Changes.{link_in};
 ghost use Rattle.qm_step.specs.Layers.{LeadOver};
-ghost use Rattle.qm_batch.specs.Lent.{IsLent, IsRead, IsReadError, NoneBelow};
+ghost use Rattle.qm_base.specs.Reads.{IsRead, IsReadError};
+ghost use Rattle.qm_step.specs.Lent.{IsLent, NoneBelow};
 ghost use Rattle.qm_step.specs.PlanViews.{last_write_view, linked_view, AreKnown};
 ghost use Rattle.qm_step.specs.Rings.{linked_in};
 ghost use Rattle.qm_step.specs.Views.{stands_view, AreReads};
 
-use crate::items::Items;
 use crate::read::locate;
 use qm_base::update::Update;
-use qm_base::{ByteString, Error, JournalError, Location};
+use qm_base::{ByteString, Error, Items, JournalError, Location};
 use qm_step::found::{Stands, stands_of};
 use qm_step::site::Site;
 use qm_step::writes::Last;

@@ -16,20 +16,20 @@ ghost use Rattle.qm_step.specs.Changes.{said_by, stands_at, update_at};
 ghost use Rattle.qm_step.specs.Going.{decided_for, value_for, AreDead, AreDeadBetween, AreDecided, IsGoing, IsSpaced};
 ghost use Rattle.qm_step.specs.Layers.{LeadOver};
 ghost use Rattle.qm_index.specs.Indexed.{IsIndexed};
-ghost use Rattle.qm_batch.specs.Lent.{IsLent, IsRead, IsReadError};
+ghost use Rattle.qm_base.specs.Reads.{IsRead, IsReadError};
+ghost use Rattle.qm_step.specs.Lent.{IsLent};
 ghost use Rattle.qm_step.specs.PlanViews.{decided_views, touch_views};
 ghost use Rattle.qm_batch.specs.PlanPaths.{found_view, path_view, IsPath};
 ghost use Rattle.qm_step.specs.Touches.{is_there, moved_touch, operations_of, AreReplaced, IsFrom, IsKeyed, IsMoveAt, Touch as Made};
 ghost use Rattle.qm_step.specs.Views.{change_view};
 
-use crate::items::Items;
 use crate::read::{newest, twin_update, update_in};
 use qm_base::update::Update;
-use qm_base::{ByteString, Error, JournalError, Location, Operation};
+use qm_base::{ByteString, Error, Items, JournalError, Location, Operation};
 use qm_bits::Candidates;
 use qm_chain::{Action, DiffEntry, Entry, Limits, Policy, Walk};
 use qm_step::decided::Decided;
-use qm_step::found::twin_next;
+use qm_step::found::{twin_next, update_in};
 use qm_step::touch::Touch;
 use qm_step::{Base, Layer};
 use std::alloc::{AllocError, Global};
@@ -176,7 +176,7 @@ fn unreplaced_at<F, I: qm_index::Unordered<Value = Location<F>>, L: Items, U: Up
         → IfSome (L.reads.told log.old) (λ _. IfOk result (λ found. IsMoveAt (option_map (λ u. moved_touch (at, U.view u)) found) base (base ++ operations_of made) at)) }
     ensures read { IsRead L.reads log.old log.new }
     ensures error { IfErr result (IsReadError L.reads log.old log.new) }
-    ensures pruned { (L.reads.start log.old) ≤ at → IfErr result (λ e. (n : ℕ) → e ≢ Error.Journal (JournalError.ItemPruned n)) }
+    ensures pruned { L.reads.start log.old ≤ at → IfErr result (λ e. (n : ℕ) → e ≢ Error.Journal (JournalError.ItemPruned n)) }
 {
     if let Some(operation) = in_layers(layers, at) {
         return if is_moved(index, layers, replaced, key_of_update(operation), at) {
@@ -226,7 +226,7 @@ fn live_at<F, I: qm_index::Unordered<Value = Location<F>>, L: Items, U: Update>(
         → IfSome (L.reads.told log.old) (λ _. IfOk result (λ found. IsMoveAt (option_map (found_view U.view) found) base list at)) }
     ensures read { IsRead L.reads log.old log.new }
     ensures error { IfErr result (IsReadError L.reads log.old log.new) }
-    ensures pruned { (L.reads.start log.old) ≤ at → IfErr result (λ e. (n : ℕ) → e ≢ Error.Journal (JournalError.ItemPruned n)) }
+    ensures pruned { L.reads.start log.old ≤ at → IfErr result (λ e. (n : ℕ) → e ≢ Error.Journal (JournalError.ItemPruned n)) }
 {
     if path.base.size <= at {
         return match path.made.get((at - path.base.size) as usize) {
@@ -348,7 +348,7 @@ fn visit<
     ensures end { IfOk result (λ _. going.new.walk.end ≡ going.old.walk.end) }
     ensures read { IsRead L.reads log.old log.new }
     ensures error { IfErr result (IsReadError L.reads log.old log.new) }
-    ensures pruned { (L.reads.start log.old) ≤ at → IfErr result (λ e. (n : ℕ) → e ≢ Error.Journal (JournalError.ItemPruned n)) }
+    ensures pruned { L.reads.start log.old ≤ at → IfErr result (λ e. (n : ℕ) → e ≢ Error.Journal (JournalError.ItemPruned n)) }
 {
     prove!(at < going.walk.end.get());
     if going.walk.entries == 0 {
@@ -389,7 +389,7 @@ fn visit_all<
     ensures end { IfOk result (λ _. going.new.walk.end ≡ going.old.walk.end) }
     ensures read { IsRead L.reads log.old log.new }
     ensures error { IfErr result (IsReadError L.reads log.old log.new) }
-    ensures pruned { (L.reads.start log.old) ≤ going.old.walk.floor → IfErr result (λ e. (n : ℕ) → e ≢ Error.Journal (JournalError.ItemPruned n)) }
+    ensures pruned { L.reads.start log.old ≤ going.old.walk.floor → IfErr result (λ e. (n : ℕ) → e ≢ Error.Journal (JournalError.ItemPruned n)) }
 {
     for at in round {
         let goes = visit(alloc, path, log, policy, going, at.get())?;
@@ -455,7 +455,7 @@ fn walk_round<
     ensures end { IfOk result (λ _. going.new.walk.end ≡ going.old.walk.end) }
     ensures read { IsRead L.reads log.old log.new }
     ensures error { IfErr result (IsReadError L.reads log.old log.new) }
-    ensures pruned { (L.reads.start log.old) ≤ going.old.walk.floor → IfErr result (λ e. (n : ℕ) → e ≢ Error.Journal (JournalError.ItemPruned n)) }
+    ensures pruned { L.reads.start log.old ≤ going.old.walk.floor → IfErr result (λ e. (n : ℕ) → e ≢ Error.Journal (JournalError.ItemPruned n)) }
 {
     let end = Location::new(going.walk.end.get());
     let round = round_from(alloc, activity, from, end, going.walk.entries)?;
@@ -497,7 +497,7 @@ fn walk_on<
         → IfSome (L.reads.told log.old) (λ _. OnOk result (AreDecided base list (decided_views U.Key.bytes U.Value.bytes going.new.decided.items) going.new.walk.floor policy.new all)) }
     ensures read { IsRead L.reads log.old log.new }
     ensures error { IfErr result (IsReadError L.reads log.old log.new) }
-    ensures pruned { (L.reads.start log.old) ≤ going.old.walk.floor → IfErr result (λ e. (n : ℕ) → e ≢ Error.Journal (JournalError.ItemPruned n)) }
+    ensures pruned { L.reads.start log.old ≤ going.old.walk.floor → IfErr result (λ e. (n : ℕ) → e ≢ Error.Journal (JournalError.ItemPruned n)) }
 {
     let end = going.walk.end.get();
     let floor = going.walk.floor.get();
@@ -544,7 +544,7 @@ pub(crate) fn walk_from<
         (walks.walk P.rules list (floor base) (record { entries = limits.entries; skips = limits.skips }) policy.old))) }
     ensures read { IsRead L.reads log.old log.new }
     ensures error { IfErr result (IsReadError L.reads log.old log.new) }
-    ensures pruned { (L.reads.start log.old) ≤ path.now.base.floor → IfErr result (λ e. (n : ℕ) → e ≢ Error.Journal (JournalError.ItemPruned n)) }
+    ensures pruned { L.reads.start log.old ≤ path.now.base.floor → IfErr result (λ e. (n : ℕ) → e ≢ Error.Journal (JournalError.ItemPruned n)) }
 {
     let floor = path.base.floor.get();
     let tip = floor.max(path.base.size + path.made.len() as u64);

@@ -7,8 +7,8 @@ use Rattle.qm_model.proofs.Results.{told-any, told-one}
 use Rattle.qm_model.specs.Forms.{spelling}
 use Rattle.qm_model.specs.Refusals.{proof_count, proof_refusal}
 use Rattle.qm_model.specs.Trees.{inactive_peaks}
-use Rattle.qm_batch.proofs.Logs.{read-then}
-use Rattle.qm_batch.proofs.Reading.{told}
+use Rattle.qm_store.proofs.Reading.{read-then}
+use Rattle.qm_step.proofs.Reading.{told}
 use Rattle.qm_any.specs.Reasons.{proof_reasons}
 use Rattle.qm_any.proofs.Telling.{proof-spelled, part-spelled, part-of, memory-due, no-refusal, decoded-among}
 use Rattle.qm_any.proofs.proof.proved_over.Goals as goal

@@ -6,7 +6,8 @@ use Rattle.qm_step.specs.Layers.{nearest_layer}
 use Rattle.qm_step.specs.Views.{change_view}
 use Rattle.qm_batch.proofs.HolderOf.{holder-none, holder-read, holder-some}
 use Rattle.qm_batch.proofs.Layered.{layer-update}
-use Rattle.qm_batch.proofs.Reading.{ok-same, read-none}
+use Rattle.qm_base.proofs.Reading.{read-none}
+use Rattle.qm_step.proofs.Reading.{ok-same}
 use Rattle.qm_batch.proofs.neighbours.holder.Goals as goal
 
 pub returns-in-Some-2-clause-value : goal.returns-in-Some-2-clause-value

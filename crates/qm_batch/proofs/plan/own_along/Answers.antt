@@ -9,12 +9,13 @@ use Rattle.qm_model.specs.Walk.{walk}
 use Rattle.qm_model.specs.Writes.{made_inactive}
 use Rattle.qm_step.specs.Kinds.{kind_of}
 use Rattle.qm_step.specs.Going.{Decided, AreDecided}
-use Rattle.qm_batch.specs.Lent.{NoneBelow}
+use Rattle.qm_step.specs.Lent.{NoneBelow}
 use Rattle.qm_step.specs.PlanViews.{decided_views, touch_view}
 use Rattle.qm_batch.specs.PlanPaths.{path_view, AreOwn}
 use Rattle.qm_step.specs.Touches.{Touch}
 use Rattle.qm_batch.proofs.PlanOwns.{are-inactive, are-own, count-shown, decided-apart, evicted-shown, path-written}
-use Rattle.qm_batch.proofs.Reading.{read-then, error-then, lent-then, told}
+use Rattle.qm_base.proofs.Reading.{read-then, error-then}
+use Rattle.qm_step.proofs.Reading.{lent-then, told}
 use Rattle.qm_batch.proofs.plan.own_along.Goals as goal
 
 pub returns-clause-own : goal.returns-clause-own

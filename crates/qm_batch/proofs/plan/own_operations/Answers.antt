@@ -2,11 +2,12 @@ use Rattle.std.proofs.Common.{◌++◌, ap, sym, arith, subst}
 use Rattle.std.proofs.lemmas.Result.{err_from_is_err_and}
 use Rattle.qm_model.proofs.Results.{told-then}
 use Rattle.qm_step.specs.Bases.{Base, IsBase}
-use Rattle.qm_batch.specs.Lent.{NoneBelow}
+use Rattle.qm_step.specs.Lent.{NoneBelow}
 use Rattle.qm_step.specs.PlanViews.{touch_views}
 use Rattle.qm_step.specs.Touches.{AreReplaced}
 use Rattle.qm_step.specs.Views.{wanted_view}
-use Rattle.qm_batch.proofs.Reading.{read-then, error-then, lent-then, told}
+use Rattle.qm_base.proofs.Reading.{read-then, error-then}
+use Rattle.qm_step.proofs.Reading.{lent-then, told}
 use Rattle.qm_batch.proofs.plan.own_operations.Goals as goal
 
 pub returns-in_err-own-clause-read : goal.returns-in_err-own-clause-read

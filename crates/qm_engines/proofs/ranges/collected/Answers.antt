@@ -4,8 +4,8 @@ use Rattle.std.proofs.lemmas.List.{append-nil, length-append}
 use Rattle.std.proofs.lemmas.Result.{err_from_is_err_and}
 use Rattle.qm_any.proofs.OrderedReads.{laid_out}
 use Rattle.qm_any.proofs.Reading.{left-then, left-error, left-database}
-use Rattle.qm_batch.specs.Logs.{IsReadError}
-use Rattle.qm_batch.specs.Lent.{NoneBelow}
+use Rattle.qm_store.specs.Reads.{IsReadError}
+use Rattle.qm_step.specs.Lent.{NoneBelow}
 use Rattle.qm_base.specs.declared.error.Error.TheVariants.{Journal}
 use Rattle.qm_base.specs.declared.error.JournalError.TheVariants.{ItemPruned}
 use Rattle.qm_base.specs.Views.{pair_view}

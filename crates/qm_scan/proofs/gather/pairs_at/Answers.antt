@@ -5,7 +5,8 @@ use Rattle.std.proofs.lemmas.List.Sums.{fold_more}
 use Rattle.std.proofs.lemmas.Result.{err_from_is_err_and}
 use Rattle.qm_model.proofs.Results.{told-both, told-one}
 use Rattle.qm_step.specs.Nearest.{limit_view}
-use Rattle.qm_batch.proofs.Reading.{read-then, error-then, told}
+use Rattle.qm_base.proofs.Reading.{read-then, error-then}
+use Rattle.qm_step.proofs.Reading.{told}
 use Rattle.qm_base.specs.Views.{pair_view}
 use Rattle.qm_scan.specs.Gathered.{put_at, put_said}
 use Rattle.qm_scan.proofs.gather.pairs_at.Goals as goal

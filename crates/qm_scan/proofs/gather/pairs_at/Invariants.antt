@@ -2,7 +2,7 @@ use Rattle.std.proofs.Common.{◌≡◌, take, map, List, []}
 use Rattle.std.specs.Prelude.{All, IfSome, fold}
 use Rattle.qm_model.specs.Forms.{IsOf, spelling}
 use Rattle.qm_model.specs.Operations.{Operation}
-use Rattle.qm_batch.specs.Lent.{IsRead}
+use Rattle.qm_base.specs.Reads.{IsRead}
 use Rattle.qm_step.specs.Nearest.{limit_view}
 use Rattle.qm_base.specs.Views.{pair_view}
 use Rattle.qm_scan.specs.Gathered.{put_at}

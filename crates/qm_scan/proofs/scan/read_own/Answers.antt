@@ -4,7 +4,7 @@ use Rattle.std.proofs.lemmas.Result.{err_from_is_err_and}
 use Rattle.qm_model.proofs.Results.{told-one}
 use Rattle.qm_index.specs.Buckets.{bucket_at}
 use Rattle.qm_step.specs.Nearest.{limit_view}
-use Rattle.qm_batch.proofs.LentKeys.{bucket-above}
+use Rattle.qm_step.proofs.LentKeys.{bucket-above}
 use Rattle.qm_scan.specs.Gathered.{put_at}
 use Rattle.qm_scan.specs.Scans.{ahead_of, behind}
 use Rattle.qm_scan.proofs.Ahead.{own-bucket}

@@ -2,7 +2,7 @@ use Rattle.std.proofs.Common.{◌≡◌, ◌∙◌, ◌≤◌, ap, map, sym, sub
 use Rattle.std.specs.Prelude.{IfOk, IfErr, OnOk, is_ok, ◌⊎◌}
 use Rattle.qm_model.proofs.Results.{err-then, ok-then}
 use Rattle.qm_chain.specs.Bounds.{commitment_view, is_at}
-use Rattle.qm_batch.specs.Logs.{IsReadError}
+use Rattle.qm_store.specs.Reads.{IsReadError}
 use Rattle.qm_base.specs.Slots.{slot_views, write_views}
 use Rattle.qm_model.specs.Slots.{slotted}
 use Rattle.qm_step.specs.Views.{keys_of, stepped, left_after}

@@ -1,7 +1,7 @@
 use Rattle.std.proofs.Common.{arith, ap, ◌⊎◌, subst, sym}
 use Rattle.qm_model.proofs.Results.{ok-then, err-then}
 use Rattle.qm_model.specs.StoreModel.{settled}
-use Rattle.qm_batch.specs.Lent.{NoneBelow}
+use Rattle.qm_step.specs.Lent.{NoneBelow}
 use Rattle.qm_any.specs.Layouts.{hashing_of}
 use Rattle.qm_any.specs.Lasting.{HasLeftPruned, HasLeftStable, HasPruned, IsGivenUp}
 use Rattle.qm_any.proofs.Lasting.{all-stable, none-below, pruned-behind, given-behind}

@@ -3,7 +3,7 @@ use Rattle.std.specs.Prelude.{IfOk, IfErr, OnOk, ◌⊎◌}
 use Rattle.qm_model.specs.Slots.{slotted}
 use Rattle.qm_base.specs.declared.error.Error.TheVariants as errors
 use Rattle.qm_base.specs.Slots.{slot_views, write_views}
-use Rattle.qm_batch.specs.Logs.{IsReadError}
+use Rattle.qm_store.specs.Reads.{IsReadError}
 use Rattle.qm_step.specs.Views.{stepped, left_after}
 use Rattle.qm_any.specs.Layouts.{hashing_with}
 use Rattle.qm_any.specs.Databases.{IsBegun, IsMade, is_on}

@@ -5,7 +5,7 @@ use Rattle.qm_model.specs.Ranges.{is_before}
 use Rattle.qm_chain.proofs.KeyOrder.{ascends_from}
 use Rattle.qm_index.proofs.Basics.{or-none}
 use Rattle.qm_step.specs.Nearest.{last_key, limit_view}
-use Rattle.qm_batch.proofs.LastKeys.{go-behind, go-front}
+use Rattle.qm_step.proofs.LastKeys.{go-behind, go-front}
 use Rattle.qm_batch.proofs.neighbours.left.last_before.Goals as goal
 
 pub loop-rest-init : goal.loop-rest-init

@@ -1,7 +1,7 @@
 use Rattle.std.proofs.Common.{◌∙◌, ap, map}
 use Rattle.std.specs.Prelude.{option_map}
 use Rattle.qm_step.specs.Nearest.{last_key, later_key, limit_view}
-use Rattle.qm_batch.proofs.LastKeys.{change-key, changed-more}
+use Rattle.qm_step.proofs.LastKeys.{change-key, changed-more}
 use Rattle.qm_batch.proofs.neighbours.left.last_changed.Goals as goal
 
 pub loop-layer-preserved : goal.loop-layer-preserved

@@ -1,7 +1,7 @@
 use Rattle.std.proofs.Common.{◌∙◌, ap, sym, map}
 use Rattle.std.specs.Prelude.{option_map}
 use Rattle.qm_step.specs.Nearest.{changed_keys, is_left, limit_view}
-use Rattle.qm_batch.proofs.LastKeys.{last-ends, last-fails, last-fewer, last-passes}
+use Rattle.qm_step.proofs.LastKeys.{last-ends, last-fails, last-fewer, last-passes}
 use Rattle.qm_batch.proofs.neighbours.left.last_left.Goals as goal
 
 pub returns-then-is_left : goal.returns-then-is_left

@@ -1,7 +1,7 @@
 use Rattle.std.proofs.Common.{◌∙◌, ap, sym, map}
 use Rattle.qm_step.specs.Nearest.{last_key, limit_view}
 use Rattle.qm_step.specs.Views.{change_view, changes_view}
-use Rattle.qm_batch.proofs.LastKeys.{change-key}
+use Rattle.qm_step.proofs.LastKeys.{change-key}
 use Rattle.qm_step.proofs.Steps.{map-twice}
 use Rattle.qm_batch.proofs.neighbours.left.last_of.Goals as goal
 

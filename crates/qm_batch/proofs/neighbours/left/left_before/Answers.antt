@@ -3,7 +3,7 @@ use Rattle.std.specs.Prelude.{option_map}
 use Rattle.std.specs.Option.{option_or}
 use Rattle.qm_model.specs.Ranges.{unlimited}
 use Rattle.qm_step.specs.Nearest.{last_key, left_keys}
-use Rattle.qm_batch.proofs.LastKeys.{predecessor-last}
+use Rattle.qm_step.proofs.LastKeys.{predecessor-last}
 use Rattle.qm_batch.proofs.neighbours.left.left_before.Goals as goal
 
 pub returns-in-None : goal.returns-in-None

@@ -6,8 +6,9 @@ use Rattle.qm_model.proofs.Results.{told-both}
 use Rattle.qm_model.specs.Operations.{Operation}
 use Rattle.qm_step.specs.Changes.{update_at}
 use Rattle.qm_step.specs.Nearest.{later_at, limit_view, only_within}
-use Rattle.qm_batch.proofs.LentKeys.{key_of_last}
-use Rattle.qm_batch.proofs.Reading.{read-then, told}
+use Rattle.qm_step.proofs.LentKeys.{key_of_last}
+use Rattle.qm_base.proofs.Reading.{read-then}
+use Rattle.qm_step.proofs.Reading.{told}
 use Rattle.qm_batch.proofs.neighbours.lent.last_at.Goals as goal
 
 pub loop-location-preserved : goal.loop-location-preserved

@@ -2,7 +2,7 @@ use Rattle.std.proofs.Common.{◌≡◌, take, map, List, None}
 use Rattle.std.specs.Prelude.{All, IfSome, fold, option_map}
 use Rattle.qm_model.specs.Forms.{IsOf, spelling}
 use Rattle.qm_model.specs.Operations.{Operation}
-use Rattle.qm_batch.specs.Lent.{IsRead}
+use Rattle.qm_base.specs.Reads.{IsRead}
 use Rattle.qm_step.specs.Nearest.{later_at, limit_view}
 use Rattle.qm_step.specs.Views.{read_view}
 use Rattle.qm_batch.proofs.neighbours.lent.last_at.Given as goal

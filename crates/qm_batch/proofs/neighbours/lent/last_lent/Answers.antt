@@ -4,8 +4,9 @@ use Rattle.std.proofs.lemmas.Result.{err_from_is_err_and}
 use Rattle.qm_model.proofs.Results.{err-then, told-both, told-err, told-one}
 use Rattle.qm_step.specs.Nearest.{later_at, limit_view}
 use Rattle.qm_step.specs.Views.{read_view}
-use Rattle.qm_batch.proofs.LentKeys.{bucket-above, own-found, prev-above, prev-found, prev-none}
-use Rattle.qm_batch.proofs.Reading.{error-then, ok-same, read-then, told}
+use Rattle.qm_step.proofs.LentKeys.{bucket-above, own-found, prev-above, prev-found, prev-none}
+use Rattle.qm_base.proofs.Reading.{error-then, read-then}
+use Rattle.qm_step.proofs.Reading.{ok-same, told}
 use Rattle.qm_batch.proofs.neighbours.lent.last_lent.Goals as goal
 
 pub returns-in_err-found-clause-whole : goal.returns-in_err-found-clause-whole

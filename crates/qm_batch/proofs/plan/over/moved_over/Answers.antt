@@ -5,8 +5,8 @@ use Rattle.qm_step.specs.Moves.{before_evicted}
 use Rattle.qm_step.specs.PlanViews.{decided_views, touch_views}
 use Rattle.qm_step.specs.Touches.{IsFrom, operations_of}
 use Rattle.qm_step.specs.Views.{read_view}
-use Rattle.qm_batch.proofs.OrderedKinds.{ring-over}
-use Rattle.qm_batch.proofs.Reading.{told-given}
+use Rattle.qm_step.proofs.OrderedKinds.{ring-over}
+use Rattle.qm_step.proofs.Reading.{told-given}
 use Rattle.qm_batch.proofs.plan.over.moved_over.Goals as goal
 
 pub returns-clause-value : goal.returns-clause-value

@@ -2,12 +2,13 @@ use Rattle.std.proofs.Common.{◌≡◌, ◌∙◌, ap, map, subst, sym, true}
 use Rattle.std.proofs.lemmas.Result.{err_from_is_err_and}
 use Rattle.qm_model.proofs.Results.{told-then}
 use Rattle.qm_model.specs.Writes.{last_writes}
-use Rattle.qm_batch.specs.Lent.{NoneBelow}
+use Rattle.qm_step.specs.Lent.{NoneBelow}
 use Rattle.qm_step.specs.OrderedViews.{neighbour_view}
 use Rattle.qm_step.specs.PlanViews.{last_view, linked_view}
 use Rattle.qm_step.specs.Rings.{linked_in}
 use Rattle.qm_step.proofs.PlanSites.{lasts-shown}
-use Rattle.qm_batch.proofs.Reading.{error-then, lent-then, read-then, told, told-given}
+use Rattle.qm_base.proofs.Reading.{error-then, read-then}
+use Rattle.qm_step.proofs.Reading.{lent-then, told, told-given}
 use Rattle.qm_batch.proofs.plan.over.written_over.Goals as goal
 
 pub returns-clause-value : goal.returns-clause-value

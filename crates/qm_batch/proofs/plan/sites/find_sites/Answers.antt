@@ -3,11 +3,12 @@ use Rattle.std.specs.Map.Iter.{deref}
 use Rattle.std.proofs.lemmas.Map.Iter.{rest_more, rest_all}
 use Rattle.std.proofs.lemmas.Result.{err_from_is_err_and}
 use Rattle.qm_model.proofs.Results.{told-any, told-both, told-err, told-one}
-use Rattle.qm_batch.specs.Lent.{NoneBelow}
+use Rattle.qm_step.specs.Lent.{NoneBelow}
 use Rattle.qm_step.specs.PlanViews.{last_write_view, linked_view}
 use Rattle.qm_step.specs.Rings.{linked_in}
 use Rattle.qm_step.proofs.PlanLoops.{drained-more, drained-all}
-use Rattle.qm_batch.proofs.Reading.{read-none, read-then, lent-then, error-then, told}
+use Rattle.qm_base.proofs.Reading.{read-none, read-then, error-then}
+use Rattle.qm_step.proofs.Reading.{lent-then, told}
 use Rattle.qm_step.proofs.Steps.{map-twice}
 use Rattle.qm_batch.proofs.plan.sites.find_sites.Goals as goal
 

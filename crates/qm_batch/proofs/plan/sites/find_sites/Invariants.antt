@@ -2,7 +2,8 @@ use Rattle.std.proofs.Common.{◌≡◌, ◌++◌, List, map}
 use Rattle.std.specs.Prelude.{IfSome}
 use Rattle.qm_model.specs.Operations.{Operation}
 use Rattle.qm_step.specs.Layers.{LeadOver}
-use Rattle.qm_batch.specs.Lent.{IsRead, IsLent}
+use Rattle.qm_base.specs.Reads.{IsRead}
+use Rattle.qm_step.specs.Lent.{IsLent}
 use Rattle.qm_step.specs.PlanViews.{last_write_view, linked_view, AreKnown}
 use Rattle.qm_step.specs.Rings.{linked_in}
 use Rattle.qm_batch.proofs.plan.sites.find_sites.Given as goal

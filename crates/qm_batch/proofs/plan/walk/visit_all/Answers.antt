@@ -5,7 +5,8 @@ use Rattle.qm_model.proofs.Results.{told-any, told-err, told-one, told-then}
 use Rattle.qm_step.specs.Going.{AreDeadBetween, IsSpaced}
 use Rattle.qm_batch.proofs.PlanGoing.{between-then, spaced-below}
 use Rattle.qm_batch.proofs.PlanRounds.{chosen-false, chosen-true, in-round}
-use Rattle.qm_batch.proofs.Reading.{read-none, read-then, error-then, lent-then, told}
+use Rattle.qm_base.proofs.Reading.{read-none, read-then, error-then}
+use Rattle.qm_step.proofs.Reading.{lent-then, told}
 use Rattle.qm_batch.proofs.plan.walk.visit_all.Goals as goal
 
 pub loop-at-init : goal.loop-at-init

@@ -6,7 +6,8 @@ use Rattle.qm_step.specs.Going.{AreDead}
 use Rattle.qm_step.specs.PlanViews.{decided_views}
 use Rattle.qm_batch.proofs.PlanFinds.{match-none, match-some}
 use Rattle.qm_batch.proofs.PlanGoing.{dead-none, going-finished}
-use Rattle.qm_batch.proofs.Reading.{read-none, read-then, error-then, lent-then, told}
+use Rattle.qm_base.proofs.Reading.{read-none, read-then, error-then}
+use Rattle.qm_step.proofs.Reading.{lent-then, told}
 use Rattle.qm_batch.proofs.plan.walk.walk_on.Goals as goal
 
 pub loop-from-init : goal.loop-from-init

@@ -4,7 +4,8 @@ use Rattle.qm_model.specs.Bits.{bits}
 use Rattle.qm_model.specs.Operations.{Operation}
 use Rattle.qm_model.specs.Walk.{Walked}
 use Rattle.qm_step.specs.Going.{AreDead, IsGoing}
-use Rattle.qm_batch.specs.Lent.{IsLent, IsRead}
+use Rattle.qm_base.specs.Reads.{IsRead}
+use Rattle.qm_step.specs.Lent.{IsLent}
 use Rattle.qm_step.specs.PlanViews.{decided_views}
 use Rattle.qm_batch.specs.PlanPaths.{path_view, IsPath}
 use Rattle.qm_batch.proofs.plan.walk.walk_on.Given as goal

@@ -3,12 +3,13 @@ use Rattle.std.specs.Prelude.{filter_map}
 use Rattle.std.proofs.lemmas.List.{take_all}
 use Rattle.std.proofs.lemmas.Result.{err_from_is_err_and}
 use Rattle.qm_model.proofs.Results.{told-any, told-both, told-err, told-one}
-use Rattle.qm_batch.specs.Lent.{NoneBelow}
+use Rattle.qm_step.specs.Lent.{NoneBelow}
 use Rattle.qm_step.specs.Moves.{before_evicted}
 use Rattle.qm_step.specs.PlanViews.{decided_view}
 use Rattle.qm_step.specs.Views.{read_view}
 use Rattle.qm_step.proofs.MovesLoops.{some-more, given-mapped}
-use Rattle.qm_batch.proofs.Reading.{read-none, read-then, lent-then, error-then, told}
+use Rattle.qm_base.proofs.Reading.{read-none, read-then, error-then}
+use Rattle.qm_step.proofs.Reading.{lent-then, told}
 use Rattle.qm_batch.proofs.plan.ordered.moves.find_before.Goals as goal
 
 pub returns-in_err-found-clause-value : goal.returns-in_err-found-clause-value

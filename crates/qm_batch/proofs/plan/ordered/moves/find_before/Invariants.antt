@@ -3,7 +3,8 @@ use Rattle.std.specs.Prelude.{IfSome, filter_map}
 use Rattle.qm_model.specs.Operations.{Operation}
 use Rattle.qm_model.specs.Ordered.{IsRing}
 use Rattle.qm_step.specs.Layers.{LeadOver}
-use Rattle.qm_batch.specs.Lent.{IsRead, IsLent}
+use Rattle.qm_base.specs.Reads.{IsRead}
+use Rattle.qm_step.specs.Lent.{IsLent}
 use Rattle.qm_step.specs.Moves.{before_evicted}
 use Rattle.qm_step.specs.PlanViews.{decided_view}
 use Rattle.qm_step.specs.Views.{read_view}

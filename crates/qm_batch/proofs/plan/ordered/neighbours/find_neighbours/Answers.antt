@@ -2,13 +2,14 @@ use Rattle.std.proofs.Common.{◌∙◌, ap, sym, map, subst}
 use Rattle.std.specs.Prelude.{filter_map}
 use Rattle.std.proofs.lemmas.Result.{err_from_is_err_and}
 use Rattle.qm_model.proofs.Results.{told-any, told-both, told-err, told-one}
-use Rattle.qm_batch.specs.Lent.{NoneBelow}
+use Rattle.qm_step.specs.Lent.{NoneBelow}
 use Rattle.qm_step.specs.OrderedViews.{neighbour_view}
 use Rattle.qm_step.specs.PlanViews.{linked_view}
 use Rattle.qm_step.specs.Rings.{linked_in, neighbour_in}
 use Rattle.qm_step.proofs.PlanLoops.{made-more, taken-all, write-here}
 use Rattle.qm_step.proofs.PlanSites.{pushed-shown}
-use Rattle.qm_batch.proofs.Reading.{read-none, read-then, lent-then, error-then, told}
+use Rattle.qm_base.proofs.Reading.{read-none, read-then, error-then}
+use Rattle.qm_step.proofs.Reading.{lent-then, told}
 use Rattle.qm_batch.proofs.plan.ordered.neighbours.find_neighbours.Goals as goal
 
 pub loop-site-init : goal.loop-site-init

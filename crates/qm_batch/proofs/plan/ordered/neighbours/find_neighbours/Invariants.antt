@@ -4,7 +4,8 @@ use Rattle.qm_model.specs.Operations.{Operation}
 use Rattle.qm_model.specs.Ordered.{IsRing}
 use Rattle.qm_model.specs.Writes.{Write}
 use Rattle.qm_step.specs.Layers.{LeadOver}
-use Rattle.qm_batch.specs.Lent.{IsRead, IsLent}
+use Rattle.qm_base.specs.Reads.{IsRead}
+use Rattle.qm_step.specs.Lent.{IsLent}
 use Rattle.qm_step.specs.OrderedViews.{neighbour_view}
 use Rattle.qm_step.specs.PlanViews.{linked_view}
 use Rattle.qm_step.specs.Rings.{linked_in, neighbour_in}

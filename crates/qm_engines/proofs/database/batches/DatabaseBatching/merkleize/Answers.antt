@@ -3,7 +3,7 @@ use Rattle.std.proofs.Common.{◌≡◌, ◌≤◌, suc, length, ◌∙◌, ap, 
 use Rattle.qm_model.proofs.Results.{err-then, ok-then}
 use Rattle.qm_model.specs.Batches.{IsOnChain}
 use Rattle.qm_model.specs.Live.{floor}
-use Rattle.qm_batch.specs.Logs.{IsReadError}
+use Rattle.qm_store.specs.Reads.{IsReadError}
 use Rattle.qm_step.specs.Views.{stepped}
 use Rattle.qm_base.specs.declared.sha256.Sha256Digest.{Sha256Digest}
 use Rattle.qm_any.specs.Databases.{Begun, IsBegun, IsDatabase, IsMade}

@@ -5,7 +5,7 @@ use Rattle.qm_model.specs.Batches.{IsOnChain}
 use Rattle.qm_model.specs.Live.{floor}
 use Rattle.qm_model.specs.Slots.{slotted}
 use Rattle.qm_base.specs.Slots.{slot_views, write_views}
-use Rattle.qm_batch.specs.Logs.{IsReadError}
+use Rattle.qm_store.specs.Reads.{IsReadError}
 use Rattle.qm_step.specs.Views.{stepped}
 use Rattle.qm_base.specs.declared.sha256.Sha256Digest.{Sha256Digest}
 use Rattle.qm_any.specs.Databases.{Staged, IsStaged, IsDatabase, IsMade, staged_keys}

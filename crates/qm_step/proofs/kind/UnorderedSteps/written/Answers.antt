@@ -3,7 +3,7 @@ use Rattle.qm_model.specs.Writes.{last_writes}
 use Rattle.qm_step.specs.PlanViews.{unordered_touches}
 use Rattle.qm_step.proofs.PlanPlaces.{written-unordered}
 use Rattle.qm_step.proofs.PlanSites.{sites-placed}
-use Rattle.qm_batch.proofs.kind.UnorderedSteps.written.Goals as goal
+use Rattle.qm_step.proofs.kind.UnorderedSteps.written.Goals as goal
 
 pub returns : goal.returns
 returns g c =

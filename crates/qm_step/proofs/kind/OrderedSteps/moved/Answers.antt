@@ -2,8 +2,8 @@ use Rattle.std.proofs.Common.{◌++◌, refl, subst, sym}
 use Rattle.qm_model.specs.Ordered.{IsRing}
 use Rattle.qm_model.proofs.OrderedWrites.{ordered-ring}
 use Rattle.qm_model.proofs.Results.{ok-then}
-use Rattle.qm_batch.proofs.OrderedKinds.{counts-ordered}
-use Rattle.qm_batch.proofs.kind.OrderedSteps.moved.Goals as goal
+use Rattle.qm_step.proofs.OrderedKinds.{counts-ordered}
+use Rattle.qm_step.proofs.kind.OrderedSteps.moved.Goals as goal
 
 pub returns-clause-value : goal.returns-clause-value
 returns-clause-value g c =

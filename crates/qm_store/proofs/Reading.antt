@@ -1,15 +1,14 @@
--- What reads of an authenticated log leave.
-use Rattle.std.proofs.Common.{◌∙◌, ℕ, List, refl, arith}
-use Rattle.qm_model.specs.Operations.{Bytes, Operation}
-use Rattle.qm_model.specs.Forms.{Form}
+-- What reads of a log leave, one after another.
+use Rattle.std.proofs.Common.{◌∙◌, refl, arith}
+use Rattle.qm_model.specs.Operations.{Bytes}
 use Rattle.qm_model.specs.Trees.{Shape}
+use Rattle.qm_base.specs.Reads.{Reads}
 use Rattle.qm_base.specs.declared.error.Error.{Error}
+use Rattle.qm_base.proofs.Reading as reading
 use Rattle.qm_store.specs.declared.Store as store
 use Rattle.qm_store.specs.Log.{Log}
+use Rattle.qm_store.specs.Reads.{IsKeptLog, IsRead, IsReadError, log_reads}
 use Rattle.qm_store.proofs.Stores.{kept-then}
-use Rattle.qm_batch.specs.Lent.{Reads}
-use Rattle.qm_batch.specs.Logs.{IsKeptLog, IsLent, IsRead, IsReadError, log_reads}
-use Rattle.qm_batch.proofs.Reading as reading
 
 module _ {C D : Type 0} (members : store.Ghosts C) (shape : Shape) (bytes : D → Bytes) (hash : Bytes → Bytes) where
   unread : (a : Log C D) → IsKeptLog members a a
@@ -33,8 +32,3 @@ module _ {C D : Type 0} (members : store.Ghosts C) (shape : Shape) (bytes : D �
   -- an error after reads
   pub error-then : (a b c : Log C D) (e : Error) → IsRead members shape bytes hash a b → IsReadError members b c e → IsReadError members a c e
   error-then = reading.error-then reads (λ a b c before rose. let later = before.later in omega (arith, later, rose))
-
-  -- reads leave what is lent
-  pub lent-then : (form : Form) (index_key : Bytes → ℕ) (entries : List (ℕ × List ℕ)) (a b : Log C D) (list : List Operation) → IsRead members shape bytes hash a b →
-      IsLent members shape bytes hash form index_key entries a list → IsLent members shape bytes hash form index_key entries b list
-  lent-then = reading.lent-then reads

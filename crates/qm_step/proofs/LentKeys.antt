@@ -1,13 +1,14 @@
 -- The last of the updates of a bucket, and the live update before a key in the lent list.
-use Rattle.std.proofs.Common.{◌≡◌, ◌∙◌, refl, sym, ap, subst, ℕ, ◌≤◌, Bool, true, false, cond, List, [], ◌∷◌, map, Option, Some, None, ◌&&◌}
+use Rattle.std.proofs.Common.{zero, suc, ◌≡◌, ◌∙◌, refl, sym, ap, subst, ℕ, ◌≤◌, Bool, true, false, cond, List, [], ◌∷◌, map, Option, Some, None, ◌&&◌}
 use Rattle.std.specs.Prelude.{filter, fold, unwrap_or, option_map, option_and_then, IfSome, All, Contains, ◌==◌, if◌then◌else◌, bytes_eq}
 use Rattle.std.specs.List.{AllByRecursion as Each}
 use Rattle.std.specs.Map.{keys_of}
 use Rattle.std.specs.Option.{option_or, is_some}
-use Rattle.std.proofs.lemmas.List.Elements.{All-contains, All-contains_itself, All-filter, All-map, All-weaker, recursion_from_All}
+use Rattle.std.proofs.lemmas.List.Elements.{All-contains, All-contains_itself, All-filter, All-head, All-map, All-tail, All-weaker, recursion_from_All}
 use Rattle.std.proofs.lemmas.Option.{same_Some}
 use Rattle.std.proofs.lemmas.List.Sorted.{All-permutation, IsPermutation-map, list_any-IsPermutation}
-use Rattle.qm_model.specs.Operations.{Bytes, Operation, update}
+use Rattle.qm_model.specs.Forms.{Form, IsOf}
+use Rattle.qm_model.specs.Operations.{AreBytes, Bytes, Operation, update, delete, commit}
 use Rattle.qm_model.specs.Live.{Live, live, live_of, live_keys}
 use Rattle.qm_model.specs.Keys.{key_lt, greatest, greater, contains_key}
 use Rattle.qm_model.specs.Ranges.{Limit, unlimited, is_before}
@@ -16,10 +17,10 @@ use Rattle.qm_model.proofs.OrderedLists.{live-contains}
 use Rattle.qm_index.specs.Buckets.{bucket_at}
 use Rattle.qm_index.specs.Indexed.{IsIndexed, locations_at}
 use Rattle.qm_index.specs.Neighbours.{keys_at, neighbour_at, prev_key}
-use Rattle.qm_step.specs.Changes.{located, update_at, update_of}
-use Rattle.qm_batch.specs.Lent.{NoneBelow}
+use Rattle.qm_step.specs.Changes.{located, said_by, update_at, update_of}
+use Rattle.qm_step.specs.Lent.{NoneBelow}
 use Rattle.qm_step.specs.Nearest.{last_key, later_at, lent_before, only_within, said_key}
-use Rattle.qm_batch.proofs.LastKeys.{last-is, last-same}
+use Rattle.qm_step.proofs.LastKeys.{last-is, last-same}
 use Rattle.qm_step.proofs.Standing.{live-stands, live-of_key, of_key-within}
 
 -- the greatest of the keys and of one more, where there is one
@@ -211,3 +212,25 @@ module _ (list : List Operation) where
         by : (o : Option (ℕ × Bool)) → None ≡ neighbour_at entries o → None ≡ option_and_then (update_of list) (behind o)
         by None h = refl
         by (Some n) h = cc
+
+none-some : {X : Type 0} {x : X} → None ≡ Some x → ⊥
+none-some h = cc
+
+-- the keys of live updates of a form are bytes
+pub live-bytes : (form : Form) (list : List Operation) → ((bs : Bytes) → form.is_key bs ≡ true → AreBytes bs) → All (IsOf form) list → All AreBytes (live_keys list)
+live-bytes form list bytes all =
+    All-map AreBytes (λ (e : Live). e.key) (live list)
+    (All-weaker (Contains (live list)) (λ (e : Live). AreBytes e.key) (λ e within. by list e.location e all (live-stands list e within)) (live list) (All-contains_itself (live list)))
+  where
+    said : (op : Operation) (e : Live) → IsOf form op → said_by op ≡ Some (update e.key e.value e.next) → AreBytes e.key
+    said (update k v n) e of h =
+        let parts : update k v n ≡ update e.key e.value e.next = same_Some (update k v n) (update e.key e.value e.next) h in
+        let same : k ≡ e.key = cc in
+        subst AreBytes same (bytes k (of.0).known)
+    said (delete k) e of h = absurd (none-some h)
+    said (commit m f) e of h = absurd (none-some h)
+
+    by : (ops : List Operation) (at : ℕ) (e : Live) → All (IsOf form) ops → update_at ops at ≡ Some (update e.key e.value e.next) → AreBytes e.key
+    by [] at e all h = absurd (none-some h)
+    by (op ∷ ops) zero e all h = said op e (All-head (IsOf form) op ops all) h
+    by (op ∷ ops) (suc at) e all h = by ops at e (All-tail (IsOf form) op ops all) h

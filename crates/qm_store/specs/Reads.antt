@@ -1,15 +1,14 @@
--- The same of an authenticated log.
-use Rattle.std.specs.Prelude.{◌≡◌, ◌≤◌, ◌<◌, ◌⊎◌, ℕ, List}
+-- What is told of a log, and what reads leave of it.
+use Rattle.std.specs.Prelude.{◌≡◌, ◌≤◌, ◌<◌, ◌⊎◌, ℕ}
 use Rattle.qm_model.specs.Causes.{Rose}
-use Rattle.qm_model.specs.Operations.{Bytes, Operation}
+use Rattle.qm_model.specs.Operations.{Bytes}
 use Rattle.qm_model.specs.Trees.{Shape}
-use Rattle.qm_model.specs.Forms.{Form}
+use Rattle.qm_base.specs.Reads as base
 use Rattle.qm_base.specs.declared.error.Error.{Error}
 use Rattle.qm_base.specs.declared.error.Error.TheVariants as errors
 use Rattle.qm_base.specs.declared.error.JournalError.TheVariants as journal
 use Rattle.qm_store.specs.declared.Store as store
 use Rattle.qm_store.specs.Log.{Log, IsLog, IsKept}
-use Rattle.qm_batch.specs.Lent as lent
 
 -- what reads keep of it: its tree, what its store has, and a count of faults that does not fall
 pub record IsKeptLog {C D : Type 0} (members : store.Ghosts C) (old new : Log C D) : Type 0 where
@@ -18,7 +17,7 @@ pub record IsKeptLog {C D : Type 0} (members : store.Ghosts C) (old new : Log C 
   pub later : members.faults old.store ≤ members.faults new.store
 
 -- what is told of it
-abbrev pub log_reads : {C D : Type 0} → store.Ghosts C → Shape → (D → Bytes) → (Bytes → Bytes) → lent.Reads (Log C D)
+abbrev pub log_reads : {C D : Type 0} → store.Ghosts C → Shape → (D → Bytes) → (Bytes → Bytes) → base.Reads (Log C D)
 log_reads members shape bytes hash = record {
   logged = IsLog members shape bytes hash;
   start = λ log. (log.tree).start;
@@ -27,11 +26,8 @@ log_reads members shape bytes hash = record {
   failed = λ old new. Rose (members.faults old.store) (members.faults new.store);
 }
 
-abbrev pub IsLent : {C D : Type 0} → store.Ghosts C → Shape → (D → Bytes) → (Bytes → Bytes) → Form → (Bytes → ℕ) → List (ℕ × List ℕ) → Log C D → List Operation → Type 0
-IsLent members shape bytes hash = lent.IsLent (log_reads members shape bytes hash)
-
 abbrev pub IsRead : {C D : Type 0} → store.Ghosts C → Shape → (D → Bytes) → (Bytes → Bytes) → Log C D → Log C D → Type 0
-IsRead members shape bytes hash = lent.IsRead (log_reads members shape bytes hash)
+IsRead members shape bytes hash = base.IsRead (log_reads members shape bytes hash)
 
 -- why a read failed: memory, a fault by which the store's count rose, or an item below the log's start
 abbrev pub IsReadError : {C D : Type 0} → store.Ghosts C → Log C D → Log C D → Error → Type 0

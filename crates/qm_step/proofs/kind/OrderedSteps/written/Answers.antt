@@ -1,8 +1,8 @@
 use Rattle.std.proofs.Common.{refl}
 use Rattle.qm_model.proofs.Results.{ok-then}
 use Rattle.qm_step.specs.OrderedViews.{ordered_touches}
-use Rattle.qm_batch.proofs.OrderedKinds.{written-ordered}
-use Rattle.qm_batch.proofs.kind.OrderedSteps.written.Goals as goal
+use Rattle.qm_step.proofs.OrderedKinds.{written-ordered}
+use Rattle.qm_step.proofs.kind.OrderedSteps.written.Goals as goal
 
 pub returns : goal.returns
 returns g c =

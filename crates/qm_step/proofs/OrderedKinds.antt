@@ -26,8 +26,8 @@ use Rattle.qm_model.proofs.OrderedWrites.{before_them, before_them-kept, ordered
 use Rattle.qm_step.specs.Kinds.{kind_of, AreWritten, CountsMoves, HasRing}
 use Rattle.qm_step.specs.Rings.{touch_in}
 use Rattle.qm_step.specs.Touches.{Touch, IsFrom, IsKeyed, Once, operations_of}
-use Rattle.qm_batch.proofs.PlanCounts.{singles}
-use Rattle.qm_batch.proofs.PlanOwns.{own-key, touched-from, touched-operations}
+use Rattle.qm_step.proofs.PlanCounts.{singles}
+use Rattle.qm_step.proofs.Touched.{own-key, touched-from, touched-operations}
 use Rattle.qm_step.proofs.PlanWrites.{once-append}
 use Rattle.qm_index.proofs.Basics.{or-later}
 

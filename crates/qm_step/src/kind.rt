@@ -22,13 +22,13 @@ ghost use Rattle.qm_step.specs.Views.{read_view};
 
 use qm_base::update::{Ordered, Unordered, Update};
 use qm_base::{ByteString, Location, ValueEncoding};
-use qm_step::decided::{Decided, add_decided};
-use qm_step::links::linked_touches;
-use qm_step::moves::moved_behind;
-use qm_step::neighbour::Neighbour;
-use qm_step::site::Site;
-use qm_step::touch::Touch;
-use qm_step::writes::written;
+use crate::decided::{Decided, add_decided};
+use crate::links::linked_touches;
+use crate::moves::moved_behind;
+use crate::neighbour::Neighbour;
+use crate::site::Site;
+use crate::touch::Touch;
+use crate::writes::written;
 use std::alloc::{AllocError, Global};
 
 /// An update of a kind of database over this index. Only here do the kinds differ; all else is over any of them.

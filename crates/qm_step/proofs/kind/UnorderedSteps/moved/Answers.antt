@@ -3,9 +3,9 @@ use Rattle.std.proofs.lemmas.List.{length-map}
 use Rattle.qm_step.specs.Going.{touch_for}
 use Rattle.qm_step.specs.PlanViews.{decided_views, unordered_touch, unordered_touches}
 use Rattle.qm_step.specs.Touches.{operations_of}
-use Rattle.qm_batch.proofs.PlanCounts.{counts-unordered}
-use Rattle.qm_batch.proofs.PlanOwns.{decided-touches}
-use Rattle.qm_batch.proofs.kind.UnorderedSteps.moved.Goals as goal
+use Rattle.qm_step.proofs.PlanCounts.{counts-unordered}
+use Rattle.qm_step.proofs.Touched.{decided-touches}
+use Rattle.qm_step.proofs.kind.UnorderedSteps.moved.Goals as goal
 
 pub returns-clause-value : goal.returns-clause-value
 returns-clause-value g c = λ list ws long written are apart.

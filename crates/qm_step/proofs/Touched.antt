@@ -1,0 +1,54 @@
+-- Operations with where their keys stand.
+use Rattle.std.proofs.Common.{◌≡◌, ℕ, Bool, true, ◌+◌, ◌-◌, cond, List, [], ◌∷◌, ◌++◌, length, length-append, map, drop, count_by, refl, ap, ap₂, sym, ◌∙◌, subst, Option, None, Some, arith, append_assoc}
+use Rattle.std.specs.Prelude.{bytes_eq, is_none, is_some, option_map, option_and_then, All}
+use Rattle.std.specs.List.{AllByRecursion as Each, IsDistinct}
+use Rattle.std.proofs.lemmas.List.{drop_at, map-append, length-map}
+use Rattle.std.proofs.lemmas.List.Sums.{sum_by-cons}
+use Rattle.std.proofs.lemmas.List.Elements.{All-append, All-from_recursion, All-weaker, recursion_from_All}
+use Rattle.qm_base.specs.Parts.{is_update, key_of}
+use Rattle.qm_model.specs.Keys.{contains_key}
+use Rattle.qm_model.specs.Operations.{Bytes, Operation, update, delete, commit}
+use Rattle.qm_model.specs.Live.{Live, live, live_keys, live_of, floor, touches}
+use Rattle.qm_model.specs.Writes.{Write, operation_of, made_inactive}
+use Rattle.qm_model.specs.Step.{Kind, committed}
+use Rattle.qm_model.specs.Walk.{Limits, Rules, Walked, walk}
+use Rattle.qm_model.proofs.Decisions.{decided-live, decided-once}
+use Rattle.qm_model.proofs.Maps.{same_key}
+use Rattle.qm_model.proofs.OrderedLists.{some-map}
+use Rattle.qm_step.specs.Changes.{place_in, stands_at}
+use Rattle.qm_step.specs.Going.{Decided, write_for, touch_for, AreDecided, IsDecided}
+use Rattle.qm_step.specs.Kinds.{AreWritten, CountsMoves}
+use Rattle.qm_step.specs.PlanViews.{decided_view, decided_views}
+use Rattle.qm_step.specs.declared.decided.Decided as declared
+use Rattle.qm_step.specs.Rings.{touch_in}
+use Rattle.qm_step.specs.Touches.{Touch, IsFrom, IsKeyed, Once, operations_of}
+
+-- an operation touches its key alone
+pub own-key : (op : Operation) (key : Bytes) → touches key op ≡ true → key_of op ≡ Some key
+own-key (update k v n) key h = ap (λ k. Some k) (same_key k key h)
+own-key (delete k) key h = ap (λ k. Some k) (same_key k key h)
+own-key (commit m f) key h = cc
+
+-- operations, each with where its key stands, are of a step from there
+pub touched-from : (base : List Operation) (ops : List Operation) → Each (IsFrom base) (map (touch_in base) ops)
+touched-from base [] = tt
+touched-from base (op ∷ ops) = (λ key hit. ap (option_and_then (place_in base)) (own-key op key hit), touched-from base ops)
+
+pub touched-operations : (base ops : List Operation) → operations_of (map (touch_in base) ops) ≡ ops
+touched-operations base [] = refl
+touched-operations base (op ∷ ops) = ap (λ xs. op ∷ xs) (touched-operations base ops)
+
+-- the operation of a decision in an unordered database, with where its key stands
+decided-touch : (base list : List Operation) (d : Decided) → IsDecided base list d → touch_for d ≡ touch_in base (operation_of (write_for d))
+decided-touch base list d is = ap (λ b. record { operation = operation_of (write_for d); before = b }) (is.before ∙ by d.value)
+  where
+    by : (value : Option Bytes) → place_in base d.key ≡ option_and_then (place_in base) (key_of (operation_of (record { key = d.key; value = value })))
+    by None = refl
+    by (Some v) = refl
+
+pub decided-touches : (base list : List Operation) (ds : List Decided) → All (IsDecided base list) ds → map touch_for ds ≡ map (touch_in base) (map operation_of (map write_for ds))
+decided-touches base list ds are = by ds (recursion_from_All (IsDecided base list) ds are)
+  where
+    by : (us : List Decided) → Each (IsDecided base list) us → map touch_for us ≡ map (touch_in base) (map operation_of (map write_for us))
+    by [] h = refl
+    by (u ∷ us) h = ap₂ (λ t ts. t ∷ ts) (decided-touch base list u h.0) (by us h.1)
