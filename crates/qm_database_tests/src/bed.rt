@@ -1,14 +1,14 @@
 //! Databases under test, whatever they are made of: what a test does to one is said for each bed, and a bed is named once.
 
-use qm_any::batch::{MerkleizedBatch, UnmerkleizedBatch};
+use qm_any::batch::MerkleizedBatch;
 use qm_any::db::Db;
 use qm_any::{Config, init};
 use qm_base::update::Update;
 use qm_base::{ByteString, Error, Hasher, Location};
-use qm_step::kind::Steps;
 use qm_chain::Policy;
 use qm_index::Factory;
 use qm_merkle::Family;
+use qm_step::kind::Steps;
 use qm_store::{Refusal, Store};
 use std::alloc::{AllocError, Global};
 use std::num::NonZeroUsize;
@@ -26,8 +26,8 @@ pub(crate) trait Bed {
 
     type Pair: Steps<Self::Family, Self::Index>;
 
-    /// An empty store, which fails at this call.
-    fn store(alloc: Global, fail: u64) -> Result<Self::Store, AllocError>;
+    /// An empty store.
+    fn store(alloc: Global) -> Self::Store;
 
     /// The hasher of messages.
     fn hasher() -> Self::Hasher;
@@ -48,19 +48,11 @@ pub(crate) type Database<B> = Db<
     <B as Bed>::Pair,
 >;
 
-pub(crate) type Begun<B> = UnmerkleizedBatch<
-    <B as Bed>::Family,
-    <<B as Bed>::Hasher as Hasher>::Digest,
-    <B as Bed>::Pair,
->;
-
 pub(crate) type Batch<B> = MerkleizedBatch<
     <B as Bed>::Family,
     <<B as Bed>::Hasher as Hasher>::Digest,
     <B as Bed>::Pair,
 >;
-
-pub(crate) type Writes<B> = Vec<(Key<B>, Option<Value<B>>)>;
 
 // What a call answers, or why it was refused.
 pub(crate) fn kept<T: Drop, X: Drop, C: Drop>(done: Result<T, Refusal<X, C>>) -> Result<T, Error> {
@@ -79,73 +71,10 @@ pub(crate) fn config<T>(translator: T) -> Config<T, ()> {
     }
 }
 
-// The database of what a store keeps.
-pub(crate) fn reopened<B: Bed>(alloc: Global, store: B::Store) -> Result<Database<B>, Error> {
-    kept(init(alloc, store, B::hasher(), config(B::translator()), None))
-}
-
-// A fresh database over an empty store that fails at this call.
-pub(crate) fn opened<B: Bed>(alloc: Global, fail: u64) -> Result<Database<B>, Error> {
-    let store = B::store(alloc, fail)?;
-    reopened::<B>(alloc, store)
-}
-
-// The batch with these writes, made under a policy.
-pub(crate) fn made<B: Bed, P: Policy<B::Family, Key<B>, Value<B>>>(
-    alloc: Global,
-    begun: Begun<B>,
-    writes: Writes<B>,
-    db: &mut Database<B>,
-    policy: &mut P,
-) -> Result<Rc<Batch<B>>, Error> {
-    let mut batch = begun;
-    for (key, value) in writes {
-        batch = batch.write(key, value)?;
-    }
-    batch.merkleize(alloc, db, None, policy)
-}
-
-// The batch of these writes on the list of a database.
-pub(crate) fn made_on<B: Bed, P: Policy<B::Family, Key<B>, Value<B>>>(
-    alloc: Global,
-    writes: Writes<B>,
-    db: &mut Database<B>,
-    policy: &mut P,
-) -> Result<Rc<Batch<B>>, Error> {
-    let begun = db.new_batch(alloc)?;
-    made::<B, P>(alloc, begun, writes, db, policy)
-}
-
-// The database with the list of a batch.
-pub(crate) fn applied<B: Bed>(
-    alloc: Global,
-    db: Database<B>,
-    batch: &Rc<Batch<B>>,
-) -> Result<Database<B>, Error> {
-    kept(db.apply_batch(alloc, batch))
-}
-
-// The database with these writes, made under a policy.
-pub(crate) fn grown<B: Bed, P: Policy<B::Family, Key<B>, Value<B>>>(
-    alloc: Global,
-    db: Database<B>,
-    writes: Writes<B>,
-    policy: &mut P,
-) -> Result<Database<B>, Error> {
-    let mut db = db;
-    let batch = made_on::<B, P>(alloc, writes, &mut db, policy)?;
-    applied::<B>(alloc, db, &batch)
-}
-
-// A fresh database with these writes, made under a policy, over a store that fails at this call.
-pub(crate) fn filled<B: Bed, P: Policy<B::Family, Key<B>, Value<B>>>(
-    alloc: Global,
-    fail: u64,
-    writes: Writes<B>,
-    policy: &mut P,
-) -> Result<Database<B>, Error> {
-    let db = opened::<B>(alloc, fail)?;
-    grown::<B, P>(alloc, db, writes, policy)
+// A fresh database over an empty store.
+fn opened<B: Bed>(alloc: Global) -> Result<Database<B>, Error> {
+    let opening = config(B::translator());
+    kept(init(alloc, B::store(alloc), B::hasher(), opening, None))
 }
 
 // A key or a value of these bytes. There is none where they are not of its size.
@@ -156,25 +85,46 @@ pub(crate) fn of_bytes<S: ByteString>(alloc: Global, bytes: &[u8]) -> Result<S, 
     S::from_bytes(alloc, bytes)
 }
 
-// The key that most tests write.
+// The key that the tests write.
 pub(crate) fn key<B: Bed>(alloc: Global) -> Result<Key<B>, AllocError> {
     of_bytes(alloc, &[1, 2, 3, 4])
 }
 
-// One write.
-pub(crate) fn one<B: Bed>(
-    alloc: Global,
-    key: Key<B>,
-    value: Value<B>,
-) -> Result<Writes<B>, AllocError> {
-    let mut writes = Vec::new(alloc);
-    writes.push((key, Some(value)))?;
-    Ok(writes)
+// A value with this first byte.
+fn value<B: Bed>(alloc: Global, first: u8) -> Result<Value<B>, AllocError> {
+    of_bytes(alloc, &[first, 11, 12, 13, 14, 15, 16, 17])
 }
 
-// A write of the key, of a value with this first byte.
-pub(crate) fn write<B: Bed>(alloc: Global, first: u8) -> Result<Writes<B>, AllocError> {
+// The batch on the list of a database that gives the key a value with this first byte, made under a policy.
+pub(crate) fn batch_of<B: Bed, P: Policy<B::Family, Key<B>, Value<B>>>(
+    alloc: Global,
+    db: &mut Database<B>,
+    first: u8,
+    policy: &mut P,
+) -> Result<Rc<Batch<B>>, Error> {
     let key = key::<B>(alloc)?;
-    let value = of_bytes(alloc, &[first, 11, 12, 13, 14, 15, 16, 17])?;
-    one::<B>(alloc, key, value)
+    let value = value::<B>(alloc, first)?;
+    let batch = db.new_batch(alloc)?.write(key, Some(value))?;
+    batch.merkleize(alloc, db, None, policy)
+}
+
+// The database with the list of a batch.
+pub(crate) fn applied<B: Bed>(
+    alloc: Global,
+    db: Database<B>,
+    batch: &Rc<Batch<B>>,
+) -> Result<Database<B>, Error> {
+    db.validate_batch(batch)?;
+    kept(db.apply_batch(alloc, batch))
+}
+
+// A database with one write, of a value with this first byte, made under a policy.
+pub(crate) fn written<B: Bed, P: Policy<B::Family, Key<B>, Value<B>>>(
+    alloc: Global,
+    first: u8,
+    policy: &mut P,
+) -> Result<Database<B>, Error> {
+    let mut db = opened::<B>(alloc)?;
+    let batch = batch_of::<B, P>(alloc, &mut db, first, policy)?;
+    applied::<B>(alloc, db, &batch)
 }

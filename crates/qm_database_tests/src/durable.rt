@@ -1,9 +1,10 @@
 //! A database that is committed, pruned and synced, and opened again from its store with what is told of its activity bits.
 
-use crate::bed::{Bed, Database, config, kept, key};
-use crate::fixed::{Fixed, written};
+use crate::bed::{Bed, Database, config, kept, key, written};
+use crate::fixed::Fixed;
 use qm_any::init_with;
 use qm_base::{Error, Hasher, Sha256};
+use qm_chain::Proportional;
 use qm_index::FourCap;
 use qm_memory::MemStore;
 use qm_store::MetaEntry;
@@ -55,29 +56,23 @@ fn entries(alloc: Global) -> Result<Vec<MetaEntry>, AllocError> {
 }
 
 // Where the store starts, whether the key is still there, and how many chunks are pruned.
-fn seen<B: Bed>(alloc: Global, db: &mut Database<B>) -> Result<(u64, bool, usize), Error> {
+fn seen<B: Bed>(alloc: Global, db: Database<B>) -> Result<(u64, bool, usize), Error> {
+    let mut db = db;
     let (start, _) = db.bounds();
-    let key = key::<B>(alloc)?;
-    let value = db.get(alloc, &key)?;
+    let value = db.get(alloc, &key::<B>(alloc)?)?;
     Ok((start.get(), value.is_some(), db.bitmap().pruned_chunks()))
 }
 
-// What a lasting database is opened as again with chunks, of which one is said to be pruned or none.
-fn again<B: Chunked>(alloc: Global, is_pruned: bool) -> Result<Database<B>, Error> {
-    let db = written::<B>(alloc)?;
-    let db = lasting::<B>(alloc, db)?;
-    B::with_chunks(alloc, db.close(), is_pruned)
-}
-
-// What is seen where none is.
-fn seen_again<B: Chunked>(alloc: Global) -> Result<(u64, bool, usize), Error> {
-    let mut db = again::<B>(alloc, false)?;
-    seen::<B>(alloc, &mut db)
+// What is seen of a lasting database that is opened again with chunks, of which one is said to be pruned or none.
+fn again<B: Chunked>(alloc: Global, is_pruned: bool) -> Result<(u64, bool, usize), Error> {
+    let db = written::<B, Proportional>(alloc, 10, &mut Proportional)?;
+    let store = lasting::<B>(alloc, db)?.close();
+    seen::<B>(alloc, B::with_chunks(alloc, store, is_pruned)?)
 }
 
 #[test]
 fn pruned_chunks_are_looked_at(rt: HostRuntime) -> Result<(), Fail> {
-    assert_eq!(rt; seen_again::<Fixed>(rt.alloc())?, (2, true, 0));
+    assert_eq!(rt; again::<Fixed>(rt.alloc(), false)?, (2, true, 0));
     let refused = again::<Fixed>(rt.alloc(), true).err();
     assert_eq!(rt; refused, Some(Error::HistoricalFloorPruned(4)));
     Ok(())

@@ -4,7 +4,7 @@ ghost use Rattle.std.specs.Prelude.{◌≡◌, ◌^◌, ◌-◌, ℕ, Bool, true
 ghost use Rattle.qm_model.specs.Walk as walk;
 ghost use Rattle.qm_chain.specs.Policies.{action_view};
 
-use crate::bed::{Batch, Bed, Database, filled, key, made_on, write};
+use crate::bed::{Bed, key, written};
 use crate::fixed::Fixed;
 use qm_base::{ByteString, Error};
 use qm_chain::{Decision, Entry, Limits, Policy};
@@ -56,24 +56,13 @@ impl<F, K: ByteString, V: ByteString> Policy<F, K, V> for Expiry {
     }
 }
 
-// A database with a value that is valid up to block 7.
-fn dated<B: Bed>(alloc: Global) -> Result<Database<B>, Error> {
-    let dated = write::<B>(alloc, 7)?;
-    filled::<B, Expiry>(alloc, u64::MAX, dated, &mut Expiry { block: 1 })
-}
-
-// Whether the key has a value in a batch.
-fn is_live<B: Bed>(alloc: Global, batch: &Batch<B>, db: &mut Database<B>) -> Result<bool, Error> {
-    let key = key::<B>(alloc)?;
-    let value = batch.get(alloc, &key, db)?;
-    Ok(value.is_some())
-}
-
-// Whether the key has a value in the batch at this block.
+// Whether a value that is valid up to block 7 is there in a batch of this block, which writes nothing.
 fn is_kept_at<B: Bed>(alloc: Global, block: u8) -> Result<bool, Error> {
-    let mut db = dated::<B>(alloc)?;
-    let batch = made_on::<B, Expiry>(alloc, Vec::new(alloc), &mut db, &mut Expiry { block })?;
-    is_live::<B>(alloc, &batch, &mut db)
+    let mut db = written::<B, Expiry>(alloc, 7, &mut Expiry { block: 1 })?;
+    let batch = db.new_batch(alloc)?;
+    let batch = batch.merkleize(alloc, &mut db, None, &mut Expiry { block })?;
+    let value = batch.get(alloc, &key::<B>(alloc)?, &mut db)?;
+    Ok(value.is_some())
 }
 
 #[test]

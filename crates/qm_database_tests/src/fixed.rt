@@ -1,6 +1,6 @@
 //! A database whose keys and values have one size: its text, and a root that was computed by another program.
 
-use crate::bed::{Batch, Bed, Database, applied, made_on, opened, write};
+use crate::bed::{Bed, Database, written};
 use qm_any::hasher;
 use qm_base::{Digest, Error, FixedBytes, FixedEncoding, Hasher, Location, Sha256, Unordered};
 use qm_chain::Proportional;
@@ -10,7 +10,6 @@ use qm_memory::MemStore;
 use qm_merkle::mmr;
 use std::alloc::{AllocError, Global};
 use std::num::NonZeroU64;
-use std::rc::Rc;
 use std::test::Fail;
 
 /// Keys of four bytes and values of eight, in memory.
@@ -27,8 +26,8 @@ impl Bed for Fixed {
 
     type Pair = Unordered<FixedBytes<4>, FixedEncoding<FixedBytes<8>>>;
 
-    fn store(alloc: Global, fail: u64) -> Result<MemStore, AllocError> {
-        Ok(MemStore::new(alloc, vec![in alloc; fail]?))
+    fn store(alloc: Global) -> MemStore {
+        MemStore::new(alloc, Vec::new(alloc))
     }
 
     fn hasher() -> Sha256 {
@@ -38,21 +37,6 @@ impl Bed for Fixed {
     fn translator() -> FourCap {
         FourCap
     }
-}
-
-// The batch that gives the key a value, which can be applied.
-fn batch_of<B: Bed>(alloc: Global, db: &mut Database<B>) -> Result<Rc<Batch<B>>, Error> {
-    let writes = write::<B>(alloc, 10)?;
-    let batch = made_on::<B, Proportional>(alloc, writes, db, &mut Proportional)?;
-    db.validate_batch(&batch)?;
-    Ok(batch)
-}
-
-// A database with one write.
-pub(crate) fn written<B: Bed>(alloc: Global) -> Result<Database<B>, Error> {
-    let mut db = opened::<B>(alloc, u64::MAX)?;
-    let batch = batch_of::<B>(alloc, &mut db)?;
-    applied::<B>(alloc, db, &batch)
 }
 
 // Whether the operation at location 1 is proved.
@@ -71,21 +55,11 @@ fn text<B: Bed>(alloc: Global, db: &Database<B>, begin: &[u8]) -> Result<String,
     format!(in alloc; "{db:?}")
 }
 
-// Whether it is, and the text.
-fn shown<B: Bed>(
-    alloc: Global,
-    db: &mut Database<B>,
-    begin: &[u8],
-) -> Result<(bool, String), Error> {
-    let text = text::<B>(alloc, db, begin)?;
-    let is_proved = is_proved::<B>(alloc, db)?;
-    Ok((is_proved, text))
-}
-
-// The same of a database with one write.
+// Whether the operation is proved of a database with one write, and the text of that.
 fn proved<B: Bed>(alloc: Global, begin: &[u8]) -> Result<(bool, String), Error> {
-    let mut db = written::<B>(alloc)?;
-    shown::<B>(alloc, &mut db, begin)
+    let mut db = written::<B, Proportional>(alloc, 10, &mut Proportional)?;
+    let text = text::<B>(alloc, &db, begin)?;
+    Ok((is_proved::<B>(alloc, &mut db)?, text))
 }
 
 #[test]

@@ -4,14 +4,10 @@
 #[cfg(test)]
 mod bed;
 #[cfg(test)]
-mod chains;
+mod bits;
 #[cfg(test)]
 mod durable;
 #[cfg(test)]
 mod expiry;
 #[cfg(test)]
 mod fixed;
-#[cfg(test)]
-mod scans;
-#[cfg(test)]
-mod staged;
