@@ -20,8 +20,6 @@ ghost use Rattle.qm_step.specs.Rings.{linked_in, neighbour_in, touch_in};
 ghost use Rattle.qm_step.specs.Touches.{operations_of};
 ghost use Rattle.qm_step.specs.Views.{read_view};
 
-use qm_base::update::{Ordered, Unordered, Update};
-use qm_base::{ByteString, Location, ValueEncoding};
 use crate::decided::{Decided, add_decided};
 use crate::links::linked_touches;
 use crate::moves::moved_behind;
@@ -29,6 +27,8 @@ use crate::neighbour::Neighbour;
 use crate::site::Site;
 use crate::touch::Touch;
 use crate::writes::written;
+use qm_base::update::{Ordered, Unordered, Update};
+use qm_base::{ByteString, Location, ValueEncoding};
 use std::alloc::{AllocError, Global};
 
 /// An update of a kind of database over this index. Only here do the kinds differ; all else is over any of them.
