@@ -195,6 +195,15 @@ section('An input of two pieces: its end is the third call.')
 for call in range(4):
     put('5,000 bytes, source call %d fails' % call, (['fill 5000 78'] if call == 0 else []) + ['fail source %d' % call], '' if call < 3 else 'bad line 1\n', 3 if call < 3 else 2, 0, 0, begin='case' if call == 0 else 'again')
 
+section('Keys that are read and then written are read once more where they are merkleized, staged ones are not: call 3 appends, and then come the reads.')
+HELD = 'open\nbatch\nput 1 61 01\nput 1 62 02\nmerkleize 1 hold none\napply 1\nbatch\n'
+for name, rest, faults in (('keys read and written', 'get 61 from=2\nget 62 from=2\nput 2 61 03\nput 2 62 03\nmerkleize 2 hold none\n', (7, 8, 11, 11)), ('keys staged and resolved', 'stage 2 61 62\nresolve 2 hold none put:03 put:03\n', (7, 7))):
+    text, status, store = modelled(name, HELD + rest)
+    replies = text.splitlines(keepends=True)
+    for call, count in enumerate(faults, 4):
+        put('%s, store call %d fails' % (name, call), ['fail store %d' % call], ''.join(replies[:count]) + 'store fault\n', 6, 0, 4, begin='again')
+    put('%s, store call %d would fail' % (name, 4 + len(faults)), ['fail store %d' % (4 + len(faults))], text, 0, 0, 4, begin='again')
+
 # ---- stores
 LASTING = 'open\ncommit\nsync\ncrash 0\nopen\ndestroy\n'
 section('Commits, syncs, crashes, openings of an item, and a destroy, each call in turn that fails: those of the first opening are 0 to 2.')
