@@ -9,12 +9,6 @@ use Rattle.qm_store.specs.declared.Store as store
 use Rattle.qm_store.specs.Log.{Log}
 use Rattle.qm_store.specs.Reads.{IsReadError}
 
--- why there may be no proof of operations from `start` on in the first `size`
-abbrev pub proof_reasons : ℕ → ℕ → List Refused
-proof_reasons size start =
-    Merkle (RangeOutOfBounds size) ∷ Journal (ItemPruned (size - 1)) ∷ HistoricalFloorPruned size ∷ DataCorrupted FloorExceedsCommit
-    ∷ Merkle (RangeOutOfBounds start) ∷ Journal (ItemPruned start) ∷ DataCorrupted ItemDoesNotDecode ∷ []
-
 -- a spelling is too long, or a list is
 abbrev pub IsSizeError : Error → Type 0
 IsSizeError e = ((n : ℕ) × (e ≡ errors.Journal (journal.ItemTooLarge n))) ⊎ ((n : ℕ) × (e ≡ errors.Merkle (merkle.LocationOverflow n)))

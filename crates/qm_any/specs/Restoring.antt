@@ -22,10 +22,6 @@ pub record HasList {D : Type 0} (hashing : Hashing D) (s : Stored) (size : ℕ) 
   pub items : take (size - s.start) s.items ≡ drop s.start (spellings hashing list)
   pub head : IsHead hashing.shape hashing.bytes hashing.hash s.start (digests_from hashing.hash hashing.shape 0 (spellings hashing list)) s.head
 
--- the links of an ordered list, from its floor on up to its size, form no ring
-abbrev pub links_apart : Form → Stored → ℕ → ℕ → Bool
-links_apart form s floor size = form.ordered && not (is_ring (filter_map (λ item. item) (items_within form s floor size)))
-
 -- so many pruned chunks of 512 locations, with the threshold for so many
 abbrev pub pruned_view : ℕ × Option ℕ → Pruned
 pruned_view p = record { chunks = p.0; height = 9; threshold = p.1 }

@@ -1,11 +1,10 @@
-//! How a fresh database begins, and its root.
+//! How a fresh database begins.
 
 ghost use Rattle.std.specs.Prelude.{◌≡◌, ◌≢◌, ◌⊎◌, ◌≤◌, ◌<◌, ◌∷◌, [], length, map, IfSome, IfOk, IfErr};
 ghost use Rattle.qm_model.specs.Bits.{bits};
 ghost use Rattle.qm_model.specs.Causes.{IsCause};
 ghost use Rattle.qm_model.specs.Forms.{spelling};
 ghost use Rattle.qm_model.specs.Operations.{fresh};
-ghost use Rattle.qm_model.specs.Trees as trees;
 ghost use Rattle.qm_store.specs.Log as logs;
 ghost use Rattle.qm_store.specs.Log.{IsLog};
 ghost use Rattle.qm_any.specs.Databases.{Database, IsDatabase};
@@ -13,56 +12,14 @@ ghost use Rattle.qm_store.specs.Given.{Appended, AppendedPart, store_given, IsUn
 
 use crate::db::{Db, LaidOut};
 use crate::operations::spelled;
-use qm_base::operation::eight_bytes;
 use qm_base::update::Update;
-use qm_base::{
-    Commitment, Corrupt, Digest, Error, Hasher, JournalError, Location, Operation, Spelled,
-};
+use qm_base::{Commitment, Corrupt, Digest, Error, Hasher, JournalError, Location, Operation};
 use qm_bits::{Chunk64, Prunable};
 use qm_index::Factory;
-use qm_merkle::{Family, StandardHasher};
-use qm_store::{AuthLog, Given, LogGiven, Refusal, Store};
+use qm_list::{empty_log, store_of};
+use qm_merkle::Family;
+use qm_store::{AuthLog, Given, Refusal, Store};
 use std::alloc::{AllocError, Global};
-
-/// The hasher of operations roots and proofs over a hasher of messages.
-pub fn hasher<H: Hasher>(inner: H) -> StandardHasher<H>
-    ensures { result ≡ 0 }
-{
-    StandardHasher::new(inner)
-}
-
-/// The operations root of a fresh database: of a list of one commit without metadata and with floor 0. It takes no memory.
-pub fn initial_root<F: Family, H: Hasher + Drop, U: Update>(inner: H) -> H::Digest
-    ensures { H.Digest.bytes result ≡ trees.ops_root H.hash F.shape U.form fresh }
-{
-    let mut hasher = inner;
-    let first: Operation<F, U> = Operation::CommitFloor(None, Location::new(0));
-    let position = F::location_to_position(Location::new(0));
-    let leaf = leaf_of(&mut hasher, position.get(), &first);
-    root_of_one(&mut hasher, &leaf)
-}
-
-// The digest of a leaf.
-fn leaf_of<H: Hasher, E: Spelled>(hasher: &mut H, position: u64, element: &E) -> H::Digest
-    ensures { H.Digest.bytes result ≡ trees.leaf_digest H.hash position (E.spelling element.now) }
-{
-    hasher.start();
-    hasher.update(&eight_bytes(position));
-    element.feed(hasher);
-    hasher.finish()
-}
-
-// The root of a tree of one leaf, which is active.
-#[tactic(auto, using(std::proofs::Common::append_assoc))]
-fn root_of_one<H: Hasher>(hasher: &mut H, leaf: &H::Digest) -> H::Digest
-    ensures { H.Digest.bytes result ≡ trees.root_of H.hash 1 0 (H.Digest.bytes leaf.now ∷ []) }
-{
-    hasher.start();
-    hasher.update(&eight_bytes(1));
-    hasher.update(&eight_bytes(0));
-    hasher.update(leaf.bytes());
-    hasher.finish()
-}
 
 // The database over an empty store: a fresh list, one commit without metadata and with floor 0, which it appends.
 // The translator makes the index keys. A refusal gives back the store. The head of an empty store is empty: one with a byte
@@ -115,47 +72,6 @@ fn fresh_items<F, U: Update>(alloc: Global) -> Result<Vec<Vec<u8>>, AllocError>
     let mut list: Vec<Operation<F, U>> = Vec::new(alloc);
     list.push(Operation::CommitFloor(None, Location::new(0)))?;
     spelled(alloc, &list)
-}
-
-// The store that a log gave back.
-pub(crate) fn store_of<F: Family, C: Store, H: Hasher + Drop>(
-    given: LogGiven<AuthLog<F, C, H>, C>,
-) -> C
-    ensures { result ≡ logs.store_given given }
-{
-    match given {
-        LogGiven::Log(log) => log.close(),
-        LogGiven::Store(store) => store,
-    }
-}
-
-// An empty log over an empty store.
-fn empty_log<F: Family, C: Store, H: Hasher + Drop, X: Drop>(
-    alloc: Global,
-    store: C,
-    hasher: H,
-) -> Result<AuthLog<F, C, H>, Refusal<X, C>>
-    requires start { C.start store ≡ 0 }
-    requires empty { C.end store ≡ 0 }
-    ensures stands { IfOk result (λ log. IsLog C.Store F.shape H.Digest.bytes H.hash log []) }
-    ensures kept { IfOk result (λ log. logs.IsKept C.Store store log.store) }
-    ensures later { IfOk result (λ log. C.faults store ≤ C.faults log.store) }
-    ensures bare { IfOk result (λ _. IfSome (C.told store) (λ held. held.head ≡ [])) }
-    ensures head { IfErr result (λ r. r.error ≡ Error.DataCorrupted Corrupt.HeadDoesNotMatch → IfSome (C.told store) (λ held. 0 < length held.head)) }
-    ensures back { IfErr result (λ r. (s : C) × (r.given ≡ Given.Store s) × logs.IsKept C.Store store s × IsCause (C.faults store) (C.faults s) (r.error ≡ Error.Journal JournalError.Store)) }
-    ensures causes { IfErr result (λ r. (r.error ≡ Error.Memory) ⊎ ((r.error ≡ Error.Journal JournalError.Store) ⊎ (r.error ≡ Error.DataCorrupted Corrupt.HeadDoesNotMatch))) }
-{
-    match AuthLog::open(alloc, store, hasher, 0) {
-        Ok(log) => {
-            // The tree is whole, so it has no pins.
-            log.tree().bounds();
-            Ok(log)
-        }
-        Err(refusal) => Err(Refusal {
-            given: Given::Store(store_of(refusal.given)),
-            error: refusal.error,
-        }),
-    }
 }
 
 // The bits of a fresh list: its commit is active.

@@ -7,7 +7,8 @@ use Rattle.qm_model.proofs.Results.{told-one, ok-then, err-then}
 use Rattle.qm_merkle.proofs.Standing.{peaks-none}
 use Rattle.qm_any.proofs.Lasting.{turns-behind}
 use Rattle.qm_any.proofs.Taking.{reads-grown, given-stable}
-use Rattle.qm_any.proofs.Restoring.{nothing-accepted, nothing-due, nothing-headed, refused-none, each-known, known-at, on-ok}
+use Rattle.qm_list.proofs.Checking.{each-known, known-at, on-ok}
+use Rattle.qm_any.proofs.Restoring.{nothing-accepted, nothing-due, nothing-headed, refused-none}
 use Rattle.qm_any.proofs.restore.begin.Goals as goal
 
 pub returns-in_err-fresh_over-clause-refused : goal.returns-in_err-fresh_over-clause-refused

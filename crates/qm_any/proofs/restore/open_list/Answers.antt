@@ -7,7 +7,8 @@ use Rattle.qm_store.specs.Given.{store_given}
 use Rattle.qm_store.specs.Log.{IsHead, digests_from}
 use Rattle.qm_any.proofs.Lasting.{turns-behind}
 use Rattle.qm_any.proofs.Taking.{reads-whole, reads-rewound, given-kept, given-stable, given-unchanged}
-use Rattle.qm_any.proofs.Restoring.{refused-none, each-known, known-at, on-ok}
+use Rattle.qm_list.proofs.Checking.{each-known, known-at, on-ok}
+use Rattle.qm_any.proofs.Restoring.{refused-none}
 use Rattle.qm_any.proofs.restore.open_list.Goals as goal
 
 pub returns-clause-stands : goal.returns-clause-stands

@@ -7,7 +7,8 @@ use Rattle.qm_model.specs.StoreModel.{end_of, RewindLeaves, ReadsAs, Turns}
 use Rattle.qm_store.specs.Log.{store_given}
 use Rattle.qm_any.specs.Layouts.{layout_of}
 use Rattle.qm_any.proofs.Lasting.{still-told}
-use Rattle.qm_any.proofs.Restoring.{shared-bytes, told-so, opened-stands, given-store, known-at}
+use Rattle.qm_list.proofs.Checking.{known-at}
+use Rattle.qm_any.proofs.Restoring.{shared-bytes, told-so, opened-stands, given-store}
 use Rattle.qm_any.proofs.Taking.{reads-whole, turns-kept}
 use Rattle.qm_any.proofs.restore.settled.Goals as goal
 

@@ -2,7 +2,7 @@ use Rattle.std.proofs.Common.{◌≡◌, List, All, map, take}
 use Rattle.qm_base.specs.Views.{operation_views}
 use Rattle.qm_model.specs.Forms.{IsOf, spelling}
 use Rattle.qm_model.specs.Operations.{Operation}
-use Rattle.qm_any.proofs.proof.decoded.Given as goal
+use Rattle.qm_list.proofs.proof.decoded.Given as goal
 
 abbrev pub invariant-loop-item : goal.invariant-loop-item
 invariant-loop-item g l = (list : List Operation) → All (IsOf g.U.Update.form) list → map (λ v. v.items) l.items ≡ map (spelling g.U.Update.form) list

@@ -2,8 +2,8 @@ use Rattle.std.proofs.Common.{[], sym, subst, get_or}
 use Rattle.qm_base.specs.Views.{operation_view}
 use Rattle.qm_model.specs.Forms.{IsSpelling}
 use Rattle.qm_model.specs.Operations.{delete}
-use Rattle.qm_any.proofs.Telling.{item-spells, decoded-more, decoded-all}
-use Rattle.qm_any.proofs.proof.decoded.Goals as goal
+use Rattle.qm_list.proofs.Telling.{item-spells, decoded-more, decoded-all}
+use Rattle.qm_list.proofs.proof.decoded.Goals as goal
 
 pub returns-in-None-clause-whole : goal.returns-in-None-clause-whole
 returns-in-None-clause-whole g c = λ list all spelled.

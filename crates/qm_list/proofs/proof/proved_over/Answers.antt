@@ -9,9 +9,9 @@ use Rattle.qm_model.specs.Refusals.{proof_count, proof_refusal}
 use Rattle.qm_model.specs.Trees.{inactive_peaks}
 use Rattle.qm_store.proofs.Reading.{read-then}
 use Rattle.qm_step.proofs.Reading.{told}
-use Rattle.qm_any.specs.Reasons.{proof_reasons}
-use Rattle.qm_any.proofs.Telling.{proof-spelled, part-spelled, part-of, memory-due, no-refusal, decoded-among}
-use Rattle.qm_any.proofs.proof.proved_over.Goals as goal
+use Rattle.qm_list.specs.Reasons.{proof_reasons}
+use Rattle.qm_list.proofs.Telling.{proof-spelled, part-spelled, part-of, memory-due, no-refusal, decoded-among}
+use Rattle.qm_list.proofs.proof.proved_over.Goals as goal
 
 pub inactive_peaks-inactive-requires : goal.inactive_peaks-inactive-requires
 inactive_peaks-inactive-requires g c = omega (arith, c.new.ensures, c.in_ok-floor.ensures.within.0, c.bounds.ensures.size, c.bounds.ensures.limit)

@@ -2,8 +2,8 @@ use Rattle.std.proofs.Common.{◌∙◌, ap, ap₂, None}
 use Rattle.qm_model.specs.Forms.{spelling}
 use Rattle.qm_model.specs.Operations.{commit}
 use Rattle.qm_model.specs.Trees.{leaf, leaf_digest}
-use Rattle.qm_any.proofs.Telling.{fresh-rooted}
-use Rattle.qm_any.proofs.open.initial_root.Goals as goal
+use Rattle.qm_list.proofs.Telling.{fresh-rooted}
+use Rattle.qm_list.proofs.fresh.initial_root.Goals as goal
 
 pub returns : goal.returns
 returns g c =

@@ -3,8 +3,8 @@ use Rattle.std.proofs.lemmas.Result.{err_from_is_err_and}
 use Rattle.std.proofs.lemmas.List.{length-map}
 use Rattle.qm_model.proofs.Results.{told-any, told-one}
 use Rattle.qm_model.specs.Forms.{spelling}
-use Rattle.qm_any.proofs.Telling.{floor-ended, last-among, refused-last}
-use Rattle.qm_any.proofs.proof.offered.Goals as goal
+use Rattle.qm_list.proofs.Telling.{floor-ended, last-among, refused-last}
+use Rattle.qm_list.proofs.proof.offered.Goals as goal
 
 pub returns-in_err-floor_at_end-clause-refused : goal.returns-in_err-floor_at_end-clause-refused
 returns-in_err-floor_at_end-clause-refused g c = λ list is all.

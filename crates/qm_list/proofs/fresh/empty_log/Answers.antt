@@ -1,7 +1,7 @@
 use Rattle.std.proofs.Common.{subst, sym, ◌∙◌}
 use Rattle.qm_merkle.specs.Mems.{IsWhole}
-use Rattle.qm_any.proofs.Telling.{log-none, head-bare, head-some}
-use Rattle.qm_any.proofs.open.empty_log.Goals as goal
+use Rattle.qm_list.proofs.Telling.{log-none, head-bare, head-some}
+use Rattle.qm_list.proofs.fresh.empty_log.Goals as goal
 
 pub returns-in-Ok-clause-stands : goal.returns-in-Ok-clause-stands
 returns-in-Ok-clause-stands g c =

@@ -9,9 +9,9 @@ use Rattle.qm_store.specs.Log.{IsKept}
 use Rattle.qm_store.proofs.Stores.{kept-then}
 use Rattle.qm_build.specs.Reads.{items_within}
 use Rattle.qm_open.specs.Selecting.{selected_view}
-use Rattle.qm_any.specs.Restoring.{links_apart}
-use Rattle.qm_any.proofs.Restoring.{opened-due, links-due, links-caused, content-accepted, opened-read, each-known, known-at}
-use Rattle.qm_any.proofs.restore.open_checked.Goals as goal
+use Rattle.qm_list.specs.Linked.{links_apart}
+use Rattle.qm_list.proofs.Checking.{opened-due, links-due, links-caused, content-accepted, opened-read, each-known, known-at}
+use Rattle.qm_list.proofs.checked.open_checked.Goals as goal
 
 pub returns-in_err-opened-clause-refused : goal.returns-in_err-opened-clause-refused
 returns-in_err-opened-clause-refused g c =

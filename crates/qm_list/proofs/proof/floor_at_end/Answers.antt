@@ -4,8 +4,8 @@ use Rattle.std.proofs.lemmas.Result.{err_from_is_err_and}
 use Rattle.qm_model.proofs.Results.{told-one}
 use Rattle.qm_model.specs.Forms.{spelling}
 use Rattle.qm_open.proofs.Selecting.{floor-of}
-use Rattle.qm_any.proofs.Telling.{floor-read, last-there, last-due, ok-err, at-or-past}
-use Rattle.qm_any.proofs.proof.floor_at_end.Goals as goal
+use Rattle.qm_list.proofs.Telling.{floor-read, last-there, last-due, ok-err, at-or-past}
+use Rattle.qm_list.proofs.proof.floor_at_end.Goals as goal
 
 pub returns-in_err-item-clause-pruned : goal.returns-in_err-item-clause-pruned
 returns-in_err-item-clause-pruned g c =
