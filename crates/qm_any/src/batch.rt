@@ -37,11 +37,11 @@ use qm_base::{
     ByteString, Commitment, Digest, Error, Hasher, JournalError, Location, MerkleError, Slot,
     ValueEncoding, twin_option,
 };
-use qm_step::kind::Steps;
 use qm_batch::{Base, Layer, Plan, Read, Wanted, Write, Writes};
 use qm_chain::{Bounds, Diff, Policy, validate_batch_applicable};
 use qm_merkle::{Family, Position};
 use qm_proofs::Proof;
+use qm_step::kind::Steps;
 use qm_store::{KeptTree, Store};
 use std::alloc::{AllocError, Global};
 use std::marker::Model;

@@ -38,13 +38,13 @@ use qm_base::{
     ByteString, Commitment, Digest, Error, Hasher, JournalError, Location, MerkleError,
     ValueEncoding, twin_option,
 };
-use qm_step::kind::Steps;
 use qm_batch::{Base, Plan, Read, Wanted, Writes, apply_diffs, read_key, staged};
 use qm_bits::{Chunk64, Prunable};
 use qm_chain::{Diff, Policy};
 use qm_merkle::{Family, Position};
 use qm_overlay::apply_bits;
 use qm_proofs::Proof;
+use qm_step::kind::Steps;
 use qm_store::{AuthLog, Given, KeptTree, LogGiven, LogRefusal, Refusal, Store};
 use std::alloc::{AllocError, Global};
 use std::fmt;

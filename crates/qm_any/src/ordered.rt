@@ -21,9 +21,9 @@ use crate::db::{Db, LaidOut};
 use crate::operations::Step;
 use qm_base::update::Update;
 use qm_base::{Digest, Error, Hasher, JournalError, Location};
-use qm_step::kind::Steps;
 use qm_batch::{holder, next_key, previous_key, read_key};
 use qm_merkle::Family;
+use qm_step::kind::Steps;
 use qm_store::Store;
 use std::alloc::Global;
 

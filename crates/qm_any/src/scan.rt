@@ -13,9 +13,9 @@ ghost use Rattle.qm_any.specs.Scanned.{keys_left, lent_to, lent_to_keys, pairs_l
 use crate::db::{Db, LaidOut};
 use qm_base::update::Update;
 use qm_base::{Error, Hasher, JournalError, Location};
-use qm_step::kind::Steps;
 use qm_merkle::Family;
 use qm_scan::Scan;
+use qm_step::kind::Steps;
 use qm_store::Store;
 use std::alloc::Global;
 use std::ops::Bound;

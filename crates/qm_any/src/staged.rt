@@ -23,9 +23,9 @@ use qm_base::{
     ByteString, Digest, Error, Hasher, JournalError, Location, Slot, ValueEncoding, Write,
 };
 use qm_batch::Read;
-use qm_step::kind::Steps;
 use qm_chain::Policy;
 use qm_merkle::Family;
+use qm_step::kind::Steps;
 use qm_store::Store;
 use std::alloc::{AllocError, Global};
 use std::marker::Model;

@@ -17,12 +17,12 @@ mod lent;
 
 use self::left::{left_before, update_left};
 use self::lent::last_lent;
-use qm_step::kind::Steps;
 use crate::read::{newest, update_from};
 use qm_base::update::Update;
 use qm_base::{ByteString, Error, Items, JournalError, Location};
 use qm_step::Layer;
 use qm_step::found::{key_under, next_above};
+use qm_step::kind::Steps;
 use qm_step::order::is_between;
 use std::alloc::{AllocError, Global};
 use std::ops::Bound;

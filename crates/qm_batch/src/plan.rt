@@ -27,13 +27,13 @@ mod walk;
 
 use self::over::{moved_over, written_over};
 use self::walk::{Path, Walked, walk_from};
-use qm_step::kind::Steps;
 use qm_base::update::Update;
 use qm_base::{Error, Items, JournalError, Location, Operation, Write};
 use qm_bits::Candidates;
 use qm_chain::{Diff, Policy};
 use qm_step::decided::evicted;
 use qm_step::diff::diff_of_touches;
+use qm_step::kind::Steps;
 use qm_step::touch::{Touch, replaced_by};
 use qm_step::writes::last_writes;
 use qm_step::{Base, Wanted};

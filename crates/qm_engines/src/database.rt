@@ -26,10 +26,10 @@ use qm_base::update::{Ordered, Unordered, Update};
 use qm_base::{
     ByteKey, ByteString, ByteValue, Location, Sha256, Sha256Digest, VariableEncoding, VariableValue,
 };
-use qm_step::kind::Steps;
 use qm_engine::{Basis, BatchSizes, Engine, Numbers, Words};
 use qm_index::{Factory, FourCap};
 use qm_merkle::mmr;
+use qm_step::kind::Steps;
 use qm_store::{Given, Refusal, Store};
 use std::num::NonZeroUsize;
 use std::rc::Rc;

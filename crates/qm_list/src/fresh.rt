@@ -55,9 +55,7 @@ fn root_of_one<H: Hasher>(hasher: &mut H, leaf: &H::Digest) -> H::Digest
 }
 
 /// The store that a log gave back.
-pub fn store_of<F: Family, C: Store, H: Hasher + Drop>(
-    given: LogGiven<AuthLog<F, C, H>, C>,
-) -> C
+pub fn store_of<F: Family, C: Store, H: Hasher + Drop>(given: LogGiven<AuthLog<F, C, H>, C>) -> C
     ensures { result ≡ logs.store_given given }
 {
     match given {

@@ -17,9 +17,9 @@ ghost use Rattle.qm_step.specs.Views.{AreReads};
 
 use super::ordered::{befores_of, neighbours_of};
 use super::sites::{find_sites, known_of};
-use qm_step::kind::Steps;
 use qm_base::{Error, Items, JournalError, Location};
 use qm_step::decided::Decided;
+use qm_step::kind::Steps;
 use qm_step::touch::Touch;
 use qm_step::writes::Last;
 use qm_step::{Base, Layer, Read};

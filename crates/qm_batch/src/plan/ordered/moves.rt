@@ -12,10 +12,10 @@ ghost use Rattle.qm_step.specs.PlanViews.{decided_view, decided_views, touch_vie
 ghost use Rattle.qm_step.specs.Touches.{IsFrom, operations_of};
 ghost use Rattle.qm_step.specs.Views.{read_view};
 
-use qm_step::kind::Steps;
 use crate::neighbours::previous;
 use qm_base::{Error, Items, JournalError, Location};
 use qm_step::decided::{Decided, evicted};
+use qm_step::kind::Steps;
 use qm_step::moves::layers_over;
 use qm_step::touch::Touch;
 use qm_step::writes::push_some;

@@ -11,10 +11,10 @@ ghost use Rattle.qm_step.specs.OrderedViews.{neighbour_view};
 ghost use Rattle.qm_step.specs.PlanViews.{linked_view};
 ghost use Rattle.qm_step.specs.Rings.{linked_in, neighbour_in};
 
-use qm_step::kind::Steps;
 use crate::neighbours::previous;
 use qm_base::{Error, Items, JournalError, Location};
 use qm_step::Layer;
+use qm_step::kind::Steps;
 use qm_step::neighbour::{Neighbour, is_changed};
 use qm_step::site::Site;
 use qm_step::writes::push_some;
