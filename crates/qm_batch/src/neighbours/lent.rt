@@ -11,7 +11,6 @@ ghost use Rattle.qm_step.specs.Lent.{IsLent, NoneBelow};
 ghost use Rattle.qm_step.specs.Nearest.{lent_before, later_at, limit_view, only_within, said_key};
 ghost use Rattle.qm_step.specs.Views.{read_view};
 
-use crate::read::update_in;
 use qm_base::update::Update;
 use qm_base::{ByteString, Error, Items, JournalError, Location, Operation};
 use qm_step::found::update_in;

@@ -23,7 +23,7 @@ ghost use Rattle.qm_batch.specs.PlanPaths.{found_view, path_view, IsPath};
 ghost use Rattle.qm_step.specs.Touches.{is_there, moved_touch, operations_of, AreReplaced, IsFrom, IsKeyed, IsMoveAt, Touch as Made};
 ghost use Rattle.qm_step.specs.Views.{change_view};
 
-use crate::read::{newest, twin_update, update_in};
+use crate::read::{newest, twin_update};
 use qm_base::update::Update;
 use qm_base::{ByteString, Error, Items, JournalError, Location, Operation};
 use qm_bits::Candidates;
