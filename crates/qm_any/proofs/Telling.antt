@@ -1,41 +1,26 @@
 -- What a fresh list stands for, proofs in the first operations of a list, and the floor of these.
-use Rattle.std.proofs.Common.{◌≡◌, ℕ, zero, suc, ◌+◌, ◌*◌, ◌^◌, ◌/◌, ◌-◌, ◌≤◌, ◌<◌, List, [], ◌∷◌, ◌++◌, length, take, drop, map, get_or, refl, sym, ◌∙◌, ap, ap₂, subst, arith, Option, None, Some, IfSome, All, Contains, Bool, ◌⊎◌, inl, inr}
-use Rattle.std.specs.Option.{option_or}
-use Rattle.std.specs.Prelude.{◌≢◌, count_by, nat_le, nat_lt, IsSome, slice_get, option_and_then, if◌then◌else◌, Result, Ok, Err, IfOk, IfErr}
-use Rattle.std.proofs.lemmas.Bool.{lt-ltb, le-ltb}
-use Rattle.std.proofs.lemmas.List.{nil_from_length, length-take-le, length-map, take-map, drop-map, take_all, take_more, map-append, get_or-map}
-use Rattle.std.proofs.lemmas.List.Elements.{All-cons, All-nil, All-take, All-drop}
+use Rattle.std.proofs.Common.{◌≡◌, ℕ, ◌+◌, ◌-◌, List, [], length, take, map, refl, sym, ◌∙◌, ap, ap₂, subst, arith, Option, None, Some, IfSome, All}
+use Rattle.std.specs.Prelude.{IsSome, Result, Ok, Err, IfOk}
+use Rattle.std.proofs.lemmas.List.{take_all}
+use Rattle.std.proofs.lemmas.List.Elements.{All-cons, All-nil}
 use Rattle.std.proofs.lemmas.List.Sorted.{IsPermutation-refl}
 use Rattle.qm_model.specs.Batches.{Commitment}
 use Rattle.qm_model.specs.Bits.{bits}
 use Rattle.qm_model.specs.StoreModel.{Stored, Becomes}
-use Rattle.qm_model.specs.Refused as refusals
-use Rattle.qm_model.specs.Refused.{HistoricalFloorPruned, DataCorrupted, Merkle, Journal, FloorExceedsCommit, RangeOutOfBounds, ItemPruned}
 use Rattle.qm_model.specs.Keys.{successor}
-use Rattle.qm_model.specs.Live.{Live, floor, floor_after}
-use Rattle.qm_model.specs.Forms.{Form, IsOf, IsSpelling, spelling}
-use Rattle.qm_model.specs.Operations.{Bytes, Operation, update, delete, commit, fresh}
-use Rattle.qm_model.specs.Proofs.{Proof, proof_of, ops_proof}
-use Rattle.qm_model.specs.Refusals.{commit_floor, floor_before, item_refusal, last_refusal, end_refusal, proof_refusal, proof_count}
-use Rattle.qm_model.specs.Trees.{Shape, Node, leaf, end_of, peaks, row_from, digest_of, leaf_digest, root_of, root, ops_root, inactive_peaks}
-use Rattle.qm_model.proofs.Forms.{IsSpelling-once}
+use Rattle.qm_model.specs.Live.{Live, floor}
+use Rattle.qm_model.specs.Forms.{Form, IsOf, spelling}
+use Rattle.qm_model.specs.Operations.{Bytes, Operation, commit, fresh}
+use Rattle.qm_model.specs.Proofs.{Proof, ops_proof}
+use Rattle.qm_model.specs.Refusals.{proof_count}
+use Rattle.qm_model.specs.Trees.{Shape, root, ops_root, inactive_peaks}
 use Rattle.qm_model.proofs.Steps.{fresh-good}
-use Rattle.qm_model.specs.Families.{Births, IsFamily, HasPeaks, over}
-use Rattle.qm_base.specs.declared.error.Corrupt.TheVariants as corrupt
-use Rattle.qm_base.specs.declared.error.Error.{Error}
-use Rattle.qm_base.specs.declared.error.Error.TheVariants as errors
-use Rattle.qm_base.specs.declared.error.JournalError.TheVariants as journal
-use Rattle.qm_merkle.specs.Mems.{IsWhole}
-use Rattle.qm_merkle.proofs.Numbering.{birth-born}
-use Rattle.qm_merkle.proofs.Standing.{peaks-none, stands-new}
+use Rattle.qm_model.specs.Families.{over}
 use Rattle.qm_store.specs.declared.Store as store
 use Rattle.qm_store.specs.Log.{Log, IsLog, digests_from}
 use Rattle.qm_store.proofs.Leaves.{leaves-spelled}
-use Rattle.qm_batch.proofs.Spellings.{spelled-there}
 use Rattle.qm_any.specs.Layouts.{Layout, list_root}
 use Rattle.qm_any.specs.Databases.{Database, IsDatabase}
-use Rattle.qm_any.specs.Reasons.{proof_reasons}
-use Rattle.qm_store.specs.Refusals.{IsAmong, IsDue, refusal_of}
 
 -- the root over a list's spellings is its operations root
 pub root-spelled : (hash : Bytes → Bytes) (shape : Shape) (form : Form) (list : List Bytes) (ops : List Operation) (inactive : ℕ) → list ≡ map (spelling form) ops → inactive ≡ inactive_peaks shape (length ops) (floor ops)

@@ -1,13 +1,12 @@
 -- The list that an opening takes up of a store.
-use Rattle.std.specs.Prelude.{◌≡◌, ◌-◌, ℕ, zero, suc, min, Bool, ◌&&◌, not, List, length, take, drop, filter_map, All, Option}
-use Rattle.qm_model.specs.Forms.{Form, IsOf}
+use Rattle.std.specs.Prelude.{◌≡◌, ◌-◌, ℕ, zero, suc, min, List, length, take, drop, All, Option}
+use Rattle.qm_model.specs.Forms.{IsOf}
 use Rattle.qm_model.specs.Opening as opening
-use Rattle.qm_model.specs.Opening.{size_of, is_ring}
+use Rattle.qm_model.specs.Opening.{size_of}
 use Rattle.qm_model.specs.Operations.{Operation, fresh}
 use Rattle.qm_model.specs.Step.{IsGood}
 use Rattle.qm_model.specs.StoreModel.{Stored, appended, settled, rewound, HasAppended, ReadsAs, RewindLeaves}
 use Rattle.qm_store.specs.Log.{IsHead, digests_from}
-use Rattle.qm_build.specs.Reads.{items_within}
 use Rattle.qm_open.specs.declared.pruned.Pruned.{Pruned}
 use Rattle.qm_open.specs.Selecting.{any_found}
 use Rattle.qm_step.specs.Kinds.{HasRing}

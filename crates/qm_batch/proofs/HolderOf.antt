@@ -1,13 +1,12 @@
 -- The live update whose span holds a key, and the keys above and below it.
-use Rattle.std.proofs.Common.{◌≡◌, ◌∙◌, refl, sym, ap, ap₂, subst, ℕ, zero, suc, Bool, true, false, List, [], ◌∷◌, Option, Some, None, ◌&&◌, ◌||◌}
-use Rattle.std.specs.Prelude.{filter, option_map, option_and_then, if◌then◌else◌, bytes_eq, All, not, ◌==◌, Contains}
+use Rattle.std.proofs.Common.{◌≡◌, ◌∙◌, refl, sym, ap, ap₂, subst, ℕ, Bool, true, false, List, ◌∷◌, Option, Some, None, ◌&&◌, ◌||◌}
+use Rattle.std.specs.Prelude.{filter, option_map, option_and_then, if◌then◌else◌, bytes_eq, All, not, ◌==◌}
 use Rattle.std.specs.Map.{keys_of}
 use Rattle.std.specs.Option.{option_or, is_some}
 use Rattle.std.proofs.lemmas.Bool.{eq-eqb}
-use Rattle.std.proofs.lemmas.List.Elements.{All-cons, All-head, All-tail, All-map, All-weaker, All-contains_itself}
-use Rattle.std.proofs.lemmas.Option.{same_Some}
+use Rattle.std.proofs.lemmas.List.Elements.{All-cons}
 use Rattle.qm_model.specs.Forms.{Form, IsOf}
-use Rattle.qm_model.specs.Operations.{Bytes, AreBytes, Operation, update, delete, commit}
+use Rattle.qm_model.specs.Operations.{Bytes, AreBytes, Operation, update}
 use Rattle.qm_model.specs.Live.{Live, live, live_of, live_keys}
 use Rattle.qm_model.specs.Keys.{key_lt, least, greatest, successor, predecessor, contains_key, between}
 use Rattle.qm_model.specs.Ordered.{IsRing}
@@ -20,7 +19,7 @@ use Rattle.qm_index.specs.Buckets.{IsIndex}
 use Rattle.qm_index.specs.Indexed.{IsIndexed}
 use Rattle.qm_index.specs.Neighbours.{keys_at, prev_key}
 use Rattle.qm_index.specs.Translated.{IsMonotone}
-use Rattle.qm_step.specs.Changes.{located, next_in, said_by, update_at, update_of}
+use Rattle.qm_step.specs.Changes.{located, next_in, update_of}
 use Rattle.qm_step.specs.Layers.{Layer, LeadOver, nearest_layer}
 use Rattle.qm_step.specs.Nearest.{kept, last_key, lent_before, nearer_of, own_or_nearer, said_key}
 use Rattle.qm_step.specs.Rings.{holder_of, previous_of}
@@ -28,7 +27,6 @@ use Rattle.qm_step.proofs.LastKeys.{filter-same, greatest-same, last-is, last-no
 use Rattle.qm_batch.proofs.Layered.{lent-update}
 use Rattle.qm_step.proofs.LentKeys.{live-some}
 use Rattle.qm_batch.proofs.PreviousOf.{update-parts, previous-lent, previous-nearer}
-use Rattle.qm_step.proofs.Standing.{live-stands}
 
 none-some : {X : Type 0} {x : X} → None ≡ Some x → ⊥
 none-some h = cc

@@ -1,22 +1,21 @@
 -- The own operations of a step: those of its writes, and those of what was decided behind them.
 use Rattle.std.proofs.Common.{◌≡◌, ℕ, Bool, true, ◌+◌, ◌-◌, cond, List, [], ◌∷◌, ◌++◌, length, length-append, map, drop, count_by, refl, ap, ap₂, sym, ◌∙◌, subst, Option, None, Some, arith, append_assoc}
-use Rattle.std.specs.Prelude.{bytes_eq, is_none, is_some, option_map, option_and_then, All}
-use Rattle.std.specs.List.{AllByRecursion as Each, IsDistinct}
+use Rattle.std.specs.Prelude.{bytes_eq, is_none, is_some, option_map, All}
+use Rattle.std.specs.List.{IsDistinct}
 use Rattle.std.proofs.lemmas.List.{drop_at, map-append, length-map}
 use Rattle.std.proofs.lemmas.List.Sums.{sum_by-cons}
 use Rattle.std.proofs.lemmas.List.Elements.{All-append, All-from_recursion, All-weaker, recursion_from_All}
-use Rattle.qm_base.specs.Parts.{is_update, key_of}
+use Rattle.qm_base.specs.Parts.{is_update}
 use Rattle.qm_model.specs.Keys.{contains_key}
-use Rattle.qm_model.specs.Operations.{Bytes, Operation, update, delete, commit}
+use Rattle.qm_model.specs.Operations.{Bytes, Operation}
 use Rattle.qm_model.specs.Live.{Live, live, live_keys, live_of, floor, touches}
-use Rattle.qm_model.specs.Writes.{Write, operation_of, made_inactive}
+use Rattle.qm_model.specs.Writes.{Write, made_inactive}
 use Rattle.qm_model.specs.Step.{Kind, committed}
 use Rattle.qm_model.specs.Walk.{Limits, Rules, Walked, walk}
 use Rattle.qm_model.proofs.Decisions.{decided-live, decided-once}
-use Rattle.qm_model.proofs.Maps.{same_key}
 use Rattle.qm_model.proofs.OrderedLists.{some-map}
-use Rattle.qm_step.specs.Changes.{place_in, stands_at}
-use Rattle.qm_step.specs.Going.{Decided, write_for, touch_for, AreDecided, IsDecided}
+use Rattle.qm_step.specs.Changes.{stands_at}
+use Rattle.qm_step.specs.Going.{Decided, write_for, AreDecided}
 use Rattle.qm_step.specs.Kinds.{AreWritten, CountsMoves}
 use Rattle.qm_step.specs.PlanViews.{decided_view, decided_views}
 use Rattle.qm_batch.specs.PlanPaths.{Path, AreOwn, IsPath}

@@ -1,39 +1,28 @@
 -- What the checks of head, items and links come to.
-use Rattle.std.proofs.Common.{◌≡◌, ◌≢◌, ◌⊎◌, inl, inr, ◌*◌, ◌^◌, Bool, true, false, ◌&&◌, [], ◌∷◌, eq-eqb, ne_eqb, ◌∙◌, ◌-◌, ◌≤◌, ◌<◌, ℕ, zero, suc, List, length, map, take, drop, arith, refl, ap, ap₂, sym, subst, Option, Some, None}
+use Rattle.std.proofs.Common.{◌≡◌, ◌≢◌, ◌⊎◌, inl, inr, ◌*◌, Bool, true, false, [], ◌∷◌, eq-eqb, ne_eqb, ◌∙◌, ◌-◌, ◌≤◌, ℕ, List, length, arith, refl, ap, ap₂, sym, subst, Option, Some, None}
 use native.Mathlib.Nat.{mul_comm}
-use Rattle.std.specs.Prelude.{All, slice_get, option_and_then, option_map, not, ◌==◌, is_none, filter_map, IfSome, IsSome, OnOk, Result, Ok, Err}
+use Rattle.std.specs.Prelude.{not, ◌==◌, is_none, IfSome, OnOk, Result, Ok, Err}
 use Rattle.std.specs.List.{list_any}
 use Rattle.qm_model.specs.Causes.{IsCause}
-use Rattle.qm_model.specs.Forms.{Form, IsOf, decoded, spelling}
-use Rattle.qm_model.specs.Grafted.{pair_absorption_threshold}
+use Rattle.qm_model.specs.Forms.{Form}
 use Rattle.qm_model.specs.Trees.{Shape, peaks}
 use Rattle.qm_model.specs.StoreModel.{Stored}
 use Rattle.qm_model.specs.Opening as opening
-use Rattle.qm_model.specs.Opening.{when, first_refusal, is_ring}
+use Rattle.qm_model.specs.Opening.{when, first_refusal}
 use Rattle.qm_model.specs.Refused.{Refused, DataCorrupted, HeadDoesNotMatch, ItemDoesNotDecode, LinksFormNoRing}
 use Rattle.qm_base.specs.declared.error.Error.TheVariants as errors
 use Rattle.qm_base.specs.declared.error.JournalError.TheVariants as journal
 use Rattle.qm_base.specs.declared.error.Corrupt.TheVariants as corrupt
 use Rattle.qm_store.specs.Refusals.{IsDue}
-use Rattle.qm_open.specs.declared.pruned.Pruned.{Pruned}
-use Rattle.qm_open.specs.Selecting.{any_layout, any_found, bits_of, content_refusal, floor_told, found_of, AreFew, HasThreshold}
-use Rattle.qm_open.proofs.Refusing.{selected-same}
+use Rattle.qm_open.specs.Selecting.{any_layout, any_found, content_refusal}
 use Rattle.qm_build.specs.Reads.{items_within, IsRead, IsReadError}
-use Rattle.std.proofs.lemmas.List.{length-map}
-use Rattle.qm_model.specs.Operations.{Bytes, Operation, update, delete, commit}
-use Rattle.qm_model.specs.Live.{floor, floor_after}
-use Rattle.qm_model.specs.Refusals.{commit_floor}
-use Rattle.qm_model.proofs.Forms.{decoded-spelling}
-use Rattle.qm_store.proofs.Shown.{item_read}
-use Rattle.qm_build.proofs.Reading.{spelled-there, operations-then, caused}
-use Rattle.qm_model.specs.Step.{IsGood}
+use Rattle.qm_model.specs.Operations.{Bytes, Operation}
+use Rattle.qm_model.specs.Live.{floor}
+use Rattle.qm_build.proofs.Reading.{operations-then, caused}
 use Rattle.qm_bits.specs.Bitmaps.{Bitmap}
 use Rattle.qm_store.specs.declared.Store as store
 use Rattle.qm_base.specs.declared.error.Error.{Error}
-use Rattle.qm_store.specs.declared.log.LogGiven.{LogGiven}
-use Rattle.qm_store.specs.declared.log.LogGiven.TheVariants as variants
-use Rattle.qm_store.specs.Log.{Log, IsLog, IsRefused, store_given}
-use Rattle.qm_step.specs.Kinds.{HasRing}
+use Rattle.qm_store.specs.Log.{Log}
 use Rattle.qm_build.specs.Opened.{IsOpened}
 use Rattle.qm_list.specs.Linked.{links_apart}
 

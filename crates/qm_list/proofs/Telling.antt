@@ -1,25 +1,20 @@
 -- An empty log, the root of a fresh list, proofs in the first operations of a list, and the floor of these.
 use Rattle.std.proofs.Common.{◌≡◌, ℕ, zero, suc, ◌+◌, ◌*◌, ◌^◌, ◌/◌, ◌-◌, ◌≤◌, ◌<◌, List, [], ◌∷◌, ◌++◌, length, take, drop, map, get_or, refl, sym, ◌∙◌, ap, ap₂, subst, arith, Option, None, Some, IfSome, All, Contains, Bool, ◌⊎◌, inl, inr}
 use Rattle.std.specs.Option.{option_or}
-use Rattle.std.specs.Prelude.{◌≢◌, count_by, nat_le, nat_lt, IsSome, slice_get, option_and_then, if◌then◌else◌, Result, Ok, Err, IfOk, IfErr}
+use Rattle.std.specs.Prelude.{◌≢◌, count_by, nat_le, nat_lt, slice_get, option_and_then, if◌then◌else◌, Result, Ok, Err, IfErr}
 use Rattle.std.proofs.lemmas.Bool.{lt-ltb, le-ltb}
 use Rattle.std.proofs.lemmas.List.{nil_from_length, length-take-le, length-map, take-map, drop-map, take_all, take_more, map-append, get_or-map}
-use Rattle.std.proofs.lemmas.List.Elements.{All-cons, All-nil, All-take, All-drop}
-use Rattle.std.proofs.lemmas.List.Sorted.{IsPermutation-refl}
-use Rattle.qm_model.specs.Batches.{Commitment}
-use Rattle.qm_model.specs.Bits.{bits}
-use Rattle.qm_model.specs.StoreModel.{Stored, Becomes}
+use Rattle.std.proofs.lemmas.List.Elements.{All-take, All-drop}
+use Rattle.qm_model.specs.StoreModel.{Stored}
 use Rattle.qm_model.specs.Refused as refusals
 use Rattle.qm_model.specs.Refused.{HistoricalFloorPruned, DataCorrupted, Merkle, Journal, FloorExceedsCommit, RangeOutOfBounds, ItemPruned}
-use Rattle.qm_model.specs.Keys.{successor}
-use Rattle.qm_model.specs.Live.{Live, floor, floor_after}
+use Rattle.qm_model.specs.Live.{floor, floor_after}
 use Rattle.qm_model.specs.Forms.{Form, IsOf, IsSpelling, spelling}
 use Rattle.qm_model.specs.Operations.{Bytes, Operation, update, delete, commit, fresh}
-use Rattle.qm_model.specs.Proofs.{Proof, proof_of, ops_proof}
-use Rattle.qm_model.specs.Refusals.{commit_floor, floor_before, item_refusal, last_refusal, end_refusal, proof_refusal, proof_count}
+use Rattle.qm_model.specs.Proofs.{proof_of, ops_proof}
+use Rattle.qm_model.specs.Refusals.{commit_floor, floor_before, item_refusal, last_refusal, end_refusal, proof_refusal}
 use Rattle.qm_model.specs.Trees.{Shape, Node, leaf, end_of, peaks, row_from, digest_of, leaf_digest, root_of, root, ops_root, inactive_peaks}
 use Rattle.qm_model.proofs.Forms.{IsSpelling-once}
-use Rattle.qm_model.proofs.Steps.{fresh-good}
 use Rattle.qm_model.specs.Families.{Births, IsFamily, HasPeaks, over}
 use Rattle.qm_base.specs.declared.error.Corrupt.TheVariants as corrupt
 use Rattle.qm_base.specs.declared.error.Error.{Error}
