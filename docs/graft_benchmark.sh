@@ -10,11 +10,11 @@ top=$(cd "$(dirname "$0")/.." && pwd)
 copy=${COPY:-$(mktemp -d)}
 [ -n "$COPY" ] || trap 'rm -r "$copy"' EXIT
 mkdir -p "$copy/crates/qm_bench/src"
-for crate in qm_model qm_base qm_bits qm_merkle qm_proofs qm_graft; do
+for crate in qm_model qm_base qm_bits qm_merkle qm_proofs qm_chunks qm_graft; do
     cp -r "$top/crates/$crate" "$copy/crates"
     grep -E "^$crate:" "$top/crates.txt"
 done > "$copy/crates.txt"
-echo 'qm_bench: qm_base qm_bits qm_merkle qm_graft' >> "$copy/crates.txt"
+echo 'qm_bench: qm_base qm_bits qm_merkle qm_chunks qm_graft' >> "$copy/crates.txt"
 cp "$top/HANDLES" "$copy"
 git init -q "$copy"
 cat > "$copy/crates/qm_bench/src/main.rt" <<'PROGRAM'
@@ -23,8 +23,8 @@ cat > "$copy/crates/qm_bench/src/main.rt" <<'PROGRAM'
 
 use qm_base::{Location, MerkleError, Sha256, Sha256Digest};
 use qm_bits::{Chunk64, Prunable};
+use qm_chunks::chunks::grafted_chunks;
 use qm_graft::Grafted;
-use qm_graft::chunks::grafted_chunks;
 use qm_graft::grafted::height;
 use qm_graft::tree::{Behind, follow};
 use qm_graft::trees::canonical_root_of;

@@ -3,7 +3,5 @@ mod Peaks
 mod Rooting
 mod Following
 mod Fitting
-mod Spans
-mod Waiting
 mod There
 mod Viewing

@@ -6,9 +6,9 @@ ghost use Rattle.qm_model.specs.Families.{Births, StandsAt};
 ghost use Rattle.qm_graft.specs.Grafting.{grafting, kept_shape, fits};
 ghost use Rattle.qm_graft.specs.Numbers.{kept_family, kept_peaks};
 
-use crate::chunks::raised;
 use qm_base::Location;
 use qm_bits::Chunks;
+use qm_chunks::chunks::raised;
 use qm_merkle::{Family, Node, Position};
 use std::alloc::{AllocError, Global};
 use std::marker::PhantomData;

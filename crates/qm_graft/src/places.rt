@@ -7,11 +7,11 @@ ghost use Rattle.qm_model.specs.Families.{Births};
 ghost use Rattle.qm_model.specs.Grafted as grafted;
 ghost use Rattle.qm_graft.specs.Grafting.{grafting};
 
-use crate::chunks::raised;
-use crate::graftable::Graftable;
 use crate::grafted::{Grafted, height};
 use qm_base::Location;
 use qm_bits::Chunks;
+use qm_chunks::Graftable;
+use qm_chunks::chunks::raised;
 use qm_merkle::family::place;
 use qm_merkle::{Family, Node, Position};
 

@@ -10,11 +10,11 @@ ghost use Rattle.qm_merkle.specs.Batches.{leaves_of, drafted, stops, all_layers,
 ghost use Rattle.qm_merkle.specs.Mems.{more, Stands};
 ghost use Rattle.qm_graft.specs.Grafting.{grafting, kept_shape, CanGraft, made_value, made_values, TellsNodes, IsStep, IsRedrafted, AreMade};
 
-use crate::digests::chunk_value;
-use crate::graftable::Graftable;
 use crate::grafted::{Grafted, height};
 use qm_base::{Digest, Hasher, Location, MerkleError};
 use qm_bits::{Chunks, Readable};
+use qm_chunks::Graftable;
+use qm_chunks::digests::chunk_value;
 use qm_merkle::mem::Mem;
 use qm_merkle::{MerkleizedBatch, StandardHasher, UnmerkleizedBatch};
 use qm_proofs::Nodes;

@@ -11,14 +11,14 @@ ghost use Rattle.qm_bits.specs.Bitmaps.{bit_count, all_bits};
 ghost use Rattle.qm_merkle.specs.Mems.{Stands, more};
 ghost use Rattle.qm_graft.specs.Grafting.{grafting, kept_shape, AreGrafted};
 
-use crate::chunks::grafted_chunks;
-use crate::graftable::Graftable;
 use crate::grafted::{Grafted, height};
 use crate::root::compute_db_root;
 use crate::tree::{Behind, follow};
 use crate::view::GraftedView;
 use qm_base::{Digest, Hasher, Location, MerkleError};
 use qm_bits::{Chunks, Readable};
+use qm_chunks::Graftable;
+use qm_chunks::chunks::grafted_chunks;
 use qm_merkle::StandardHasher;
 use qm_merkle::mem::Mem;
 use std::alloc::{AllocError, Global};

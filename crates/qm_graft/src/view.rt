@@ -8,11 +8,11 @@ ghost use Rattle.qm_proofs.specs.Proofs.{Tells};
 ghost use Rattle.qm_graft.specs.Grafting.{grafting, kept_shape};
 ghost use Rattle.qm_graft.specs.Trees.{Both, Stands, held_at};
 
-use crate::graftable::Graftable;
 use crate::grafted::Grafted;
 use crate::places;
 use qm_base::{Digest, Location};
 use qm_bits::Chunks;
+use qm_chunks::Graftable;
 use qm_merkle::{Family, Position};
 use qm_proofs::Nodes;
 use std::marker::{Model, PhantomData};

@@ -4,11 +4,12 @@ ghost use Rattle.std.specs.Prelude.{◌<◌, ◌≤◌, ◌^◌};
 
 use qm_base::{Digest, Location, Sha256, Sha256Digest};
 use qm_bits::{Chunk32, Prunable};
-use qm_graft::boundary::{needed_size, sync_boundary};
-use qm_graft::chunks::grafted_chunks;
+use qm_chunks::Graftable;
+use qm_chunks::boundary::{needed_size, sync_boundary};
+use qm_chunks::chunks::grafted_chunks;
+use qm_graft::Grafted;
 use qm_graft::grafted::height;
 use qm_graft::trees::{build_grafted_tree, canonical_root_of};
-use qm_graft::{Graftable, Grafted};
 use qm_merkle::mem::Mem;
 use qm_merkle::{Family, StandardHasher, mmb, mmr};
 use std::alloc::{AllocError, Global};

@@ -1,7 +1,7 @@
 use Rattle.std.proofs.Common.{◌≡◌, ◌≤◌, ◌<◌, ◌^◌, ◌*◌, ◌+◌, suc, ap, sym, arith}
 use Rattle.std.proofs.lemmas.Nat.{pow-add}
 use Rattle.qm_model.proofs.MmbFamily.{log_is}
-use Rattle.qm_graft.proofs.Spans.{power_is, power_most}
+use Rattle.qm_chunks.proofs.Spans.{power_is, power_most}
 use Rattle.qm_graft.proofs.grafted.height.Goals as goal
 
 pub returns-clause-exact : goal.returns-clause-exact

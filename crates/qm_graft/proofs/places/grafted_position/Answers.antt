@@ -1,4 +1,4 @@
-use Rattle.qm_graft.proofs.Spans.{lowered_within}
+use Rattle.qm_chunks.proofs.Spans.{lowered_within}
 use Rattle.qm_graft.proofs.places.grafted_position.Goals as goal
 
 pub place-requires : goal.place-requires

@@ -1,5 +1,5 @@
 use Rattle.std.proofs.Common.{◌+◌, arith}
-use Rattle.qm_graft.proofs.Spans.{height_within}
+use Rattle.qm_chunks.proofs.Spans.{height_within}
 use Rattle.qm_graft.proofs.places.operations_position.Goals as goal
 
 pub raised-requires : goal.raised-requires

@@ -1,0 +1,2 @@
+pub mod Spans
+mod Waiting

@@ -1,0 +1,4 @@
+pub mod Bare
+pub mod Lowered
+pub mod Rows
+pub mod Views
