@@ -25,7 +25,7 @@ use Rattle.qm_step.specs.Nearest.{kept, last_key, lent_before, nearer_of, own_or
 use Rattle.qm_step.specs.Rings.{holder_of, previous_of}
 use Rattle.qm_step.proofs.LastKeys.{filter-same, greatest-same, last-is, last-none}
 use Rattle.qm_batch.proofs.Layered.{lent-update}
-use Rattle.qm_step.proofs.LentKeys.{live-some}
+use Rattle.qm_step.proofs.LentKeys.{live-bytes, live-some}
 use Rattle.qm_batch.proofs.PreviousOf.{update-parts, previous-lent, previous-nearer}
 
 none-some : {X : Type 0} {x : X} → None ≡ Some x → ⊥

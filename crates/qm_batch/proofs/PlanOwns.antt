@@ -22,6 +22,7 @@ use Rattle.qm_batch.specs.PlanPaths.{Path, AreOwn, IsPath}
 use Rattle.qm_step.specs.declared.decided.Decided as declared
 use Rattle.qm_step.specs.Rings.{touch_in}
 use Rattle.qm_step.specs.Touches.{Touch, IsFrom, IsKeyed, Once, operations_of}
+use Rattle.qm_step.proofs.Touched.{touched-from, touched-operations}
 use Rattle.qm_step.proofs.PlanCounts.{Stood, count-behind}
 
 -- a count by what is shown
