@@ -24,4 +24,4 @@ for count, first in ROWS:
         engine = model.Engine(True, False, family)
         entries = [model.Entry(op, model.encode(op)) for op in operations(count, first)]
         roots.append(model.OpList(engine, None, entries).canonical().hex())
-    print('    (\n        %d,\n        %d,\n        "%s",\n        "%s",\n    ),' % (count, first, *roots))
+    print(count, first, *roots)

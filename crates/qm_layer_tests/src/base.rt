@@ -1,5 +1,6 @@
 //! Spellings worked by hand, and texts of errors.
 
+use hex::FromHexError;
 use qm_base::{
     ByteKey, ByteString, ByteValue, Corrupt, Digest, Error, FixedBytes, FixedEncoding, Hasher,
     JournalError, MerkleError, Operation, Ordered, Sha256, Spelled as _, Unordered, Update,
@@ -7,150 +8,100 @@ use qm_base::{
 };
 use qm_store::StoreError;
 use std::alloc::{AllocError, Global};
-use std::process::Abort;
 use std::test::Fail;
 
-// Whether an error has this text.
-fn has_text(alloc: Global, error: Error, want: &str) -> Result<bool, AllocError> {
-    let text = format!(in alloc; "{error}")?;
-    Ok(text.as_str() == want)
+// What errors print, a line each, and in the last what those of a store do.
+const TEXTS: &str = "\
+out of memory
+initialization bound is 0
+stale batch: current database state does not match the batch
+stale read: database is at no state of the batch's chain
+prune location 9 beyond minimum required location 4
+historical floor pruned for size: 3
+data corrupted: no retained commit
+data corrupted: item does not decode
+data corrupted: inactivity floor exceeds commit location
+data corrupted: log pruned past the bits
+data corrupted: head does not match the start
+data corrupted: links form no ring
+merkle error: RangeOutOfBounds 5
+journal error: Store
+journal error: ItemPruned 7
+journal error: ItemTooLarge 65546
+out of memory, store fault
+";
+
+// The error that prints the line at an index.
+fn error_at(index: usize) -> Error {
+    match index {
+        0 => Error::Memory,
+        1 => Error::InvalidInitializationBound,
+        2 => Error::StaleBatch,
+        3 => Error::StaleRead,
+        4 => Error::PruneBeyondMinRequired(9, 4),
+        5 => Error::HistoricalFloorPruned(3),
+        6 => Error::DataCorrupted(Corrupt::NoRetainedCommit),
+        7 => Error::DataCorrupted(Corrupt::ItemDoesNotDecode),
+        8 => Error::DataCorrupted(Corrupt::FloorExceedsCommit),
+        9 => Error::DataCorrupted(Corrupt::PrunedPastBits),
+        10 => Error::DataCorrupted(Corrupt::HeadDoesNotMatch),
+        11 => Error::DataCorrupted(Corrupt::LinksFormNoRing),
+        12 => Error::Merkle(MerkleError::RangeOutOfBounds(5)),
+        13 => Error::Journal(JournalError::Store),
+        14 => Error::Journal(JournalError::ItemPruned(7)),
+        _ => Error::Journal(JournalError::ItemTooLarge(65_546)),
+    }
+}
+
+// What all of them print.
+fn texts(alloc: Global) -> Result<String, AllocError> {
+    let mut texts = String::new(alloc);
+    for index in 0..16 {
+        writeln!(texts, "{}", error_at(index))?;
+    }
+    writeln!(texts, "{}, {}", StoreError::Memory, StoreError::Failed)?;
+    Ok(texts)
 }
 
 #[test]
 fn errors_have_text(rt: HostRuntime) -> Result<(), Fail> {
-    let alloc = rt.alloc();
-    assert!(rt; has_text(alloc, Error::Memory, "out of memory")?);
-    assert!(rt;
-        has_text(
-            alloc,
-            Error::InvalidInitializationBound,
-            "initialization bound is 0"
-        )?
-    );
-    assert!(rt;
-        has_text(
-            alloc,
-            Error::StaleBatch,
-            "stale batch: current database state does not match the batch",
-        )?
-    );
-    assert!(rt;
-        has_text(
-            alloc,
-            Error::StaleRead,
-            "stale read: database is at no state of the batch's chain",
-        )?
-    );
-    assert!(rt;
-        has_text(
-            alloc,
-            Error::PruneBeyondMinRequired(9, 4),
-            "prune location 9 beyond minimum required location 4",
-        )?
-    );
-    assert!(rt;
-        has_text(
-            alloc,
-            Error::HistoricalFloorPruned(3),
-            "historical floor pruned for size: 3",
-        )?
-    );
-    let text = format!(in alloc; "{}, {}", StoreError::Memory, StoreError::Failed)?;
-    assert_eq!(rt; text.as_str(), "out of memory, store fault");
+    assert_eq!(rt; texts(rt.alloc())?.as_str(), TEXTS);
     Ok(())
 }
 
-// Whether data that is corrupted so has this text.
-fn is_told(alloc: Global, why: Corrupt, want: &str) -> Result<bool, AllocError> {
-    let text = format!(in alloc; "{}", Error::DataCorrupted(why))?;
-    Ok(text.strip_prefix("data corrupted: ") == Some(want))
-}
-
-#[test]
-fn corruption_has_text(rt: HostRuntime) -> Result<(), Fail> {
-    let alloc = rt.alloc();
-    assert!(rt; is_told(alloc, Corrupt::NoRetainedCommit, "no retained commit")?);
-    assert!(rt; is_told(alloc, Corrupt::ItemDoesNotDecode, "item does not decode")?);
-    assert!(rt;
-        is_told(
-            alloc,
-            Corrupt::FloorExceedsCommit,
-            "inactivity floor exceeds commit location",
-        )?
-    );
-    assert!(rt; is_told(alloc, Corrupt::PrunedPastBits, "log pruned past the bits")?);
-    assert!(rt;
-        is_told(
-            alloc,
-            Corrupt::HeadDoesNotMatch,
-            "head does not match the start"
-        )?
-    );
-    assert!(rt; is_told(alloc, Corrupt::LinksFormNoRing, "links form no ring")?);
-    Ok(())
-}
-
-#[test]
-fn lower_errors_have_text(rt: HostRuntime) -> Result<(), Fail> {
-    let alloc = rt.alloc();
-    let range = Error::Merkle(MerkleError::RangeOutOfBounds(5));
-    assert!(rt; has_text(alloc, range, "merkle error: RangeOutOfBounds 5")?);
-    let store = Error::Journal(JournalError::Store);
-    assert!(rt; has_text(alloc, store, "journal error: Store")?);
-    let pruned = Error::Journal(JournalError::ItemPruned(7));
-    assert!(rt; has_text(alloc, pruned, "journal error: ItemPruned 7")?);
-    let large = Error::Journal(JournalError::ItemTooLarge(65_546));
-    assert!(rt; has_text(alloc, large, "journal error: ItemTooLarge 65546")?);
-    Ok(())
-}
-
-// Whether an operation is spelled and fed as these bytes.
-fn spells<U: Update>(
-    alloc: Global,
-    operation: &Operation<(), U>,
-    bytes: &[u8],
-) -> Result<bool, AllocError> {
+// Whether an operation is fed as these bytes.
+fn feeds<U: Update>(operation: &Operation<(), U>, bytes: &[u8]) -> bool {
     let mut fed = Sha256::new();
     fed.start();
     operation.feed(&mut fed);
     let mut whole = Sha256::new();
     whole.start();
     whole.update(bytes);
-    let encoded = operation.encode(alloc)?;
-    Ok(encoded.as_slice() == bytes && fed.finish().bytes() == whole.finish().bytes())
+    fed.finish().bytes() == whole.finish().bytes()
 }
 
-// The key of an update or a delete that the bytes spell, where they spell an operation that is spelled and fed so again;
-// that of an update as it is lent from them.
-fn key_spelled_by<U: Update>(alloc: Global, bytes: &[u8]) -> Result<Option<Vec<u8>>, AllocError> {
-    let Some(operation) = Operation::<(), U>::decode(alloc, bytes)? else {
-        return Ok(None);
-    };
+// Whether the operation that bytes spell has this key, none where it is a commit, and an update's is lent from the bytes too.
+fn has_key<U: Update>(operation: &Operation<(), U>, bytes: &[u8], key: &[u8]) -> bool {
     let lent = Operation::<(), U>::update_key(bytes);
-    if lent.is_some() != operation.is_update() || !spells(alloc, &operation, bytes)? {
-        return Ok(None);
-    }
-    match operation.key() {
-        Some(key) => Ok(Some(lent.unwrap_or(key.as_bytes()).to_vec(alloc)?)),
-        None => Ok(Some(Vec::new(alloc))),
-    }
+    let kept = match operation.key() {
+        Some(kept) => kept.as_bytes(),
+        None => b"",
+    };
+    kept == key && lent.unwrap_or(key) == key && lent.is_some() == operation.is_update()
 }
 
-// The bytes spell an operation of this kind with this key, or none.
-fn expect_key<U: Update>(
-    rt: &impl Abort,
+// Whether bytes spell an operation of this kind with this key, that is spelled and fed so again, or none.
+fn spells<U: Update>(
     alloc: Global,
     bytes: &[u8],
     key: &[u8],
     is_spelled: bool,
-) -> Result<(), AllocError> {
-    let found = key_spelled_by::<U>(alloc, bytes)?;
-    assert_eq!(rt;
-        found.as_ref().map(|key| key.as_slice()),
-        is_spelled.then_some(key),
-        "at {bytes:?}"
-    );
-    Ok(())
+) -> Result<bool, AllocError> {
+    let Some(operation) = Operation::<(), U>::decode(alloc, bytes)? else {
+        return Ok(!is_spelled);
+    };
+    let is_again = operation.encode(alloc)?.as_slice() == bytes;
+    Ok(is_spelled && is_again && feeds(&operation, bytes) && has_key(&operation, bytes, key))
 }
 
 // Bytes, their key, and of which databases they spell an operation: of unordered (u) and ordered ones (o) with lengths, and of
@@ -174,31 +125,47 @@ const SPELLINGS: &str = "
     03020000000000000002,,
 ";
 
-// The bytes that a field of a row spells.
-fn field(alloc: Global, digits: Option<&str>) -> Result<Vec<u8>, Fail> {
-    Ok(hex::decode(alloc, digits.ok_or("no field")?)?)
-}
-
-fn expect_row(rt: &impl Abort, alloc: Global, row: &str) -> Result<(), Fail> {
+// The same, of the kind of databases with this letter.
+fn spells_as(
+    alloc: Global,
+    kind: char,
+    bytes: &[u8],
+    key: &[u8],
+    is_spelled: bool,
+) -> Result<bool, AllocError> {
     type Variable = VariableEncoding<ByteValue>;
     type Fixed = FixedEncoding<FixedBytes<4>>;
-    let mut fields = row.split(',');
-    let bytes = field(alloc, fields.next())?;
-    let key = field(alloc, fields.next())?;
-    let kinds = fields.next().ok_or("no kinds")?;
-    let (unordered, ordered) = (kinds.contains('u'), kinds.contains('o'));
-    let (fixed, pair) = (kinds.contains('f'), kinds.contains('p'));
-    expect_key::<Unordered<ByteKey, Variable>>(rt, alloc, &bytes, &key, unordered)?;
-    expect_key::<Ordered<ByteKey, Variable>>(rt, alloc, &bytes, &key, ordered)?;
-    expect_key::<Unordered<FixedBytes<2>, Fixed>>(rt, alloc, &bytes, &key, fixed)?;
-    expect_key::<Ordered<FixedBytes<2>, Fixed>>(rt, alloc, &bytes, &key, pair)?;
-    Ok(())
+    match kind {
+        'u' => spells::<Unordered<ByteKey, Variable>>(alloc, bytes, key, is_spelled),
+        'o' => spells::<Ordered<ByteKey, Variable>>(alloc, bytes, key, is_spelled),
+        'f' => spells::<Unordered<FixedBytes<2>, Fixed>>(alloc, bytes, key, is_spelled),
+        _ => spells::<Ordered<FixedBytes<2>, Fixed>>(alloc, bytes, key, is_spelled),
+    }
+}
+
+// Whether bytes spell an operation with this key of these kinds alone.
+fn spells_all(alloc: Global, bytes: &[u8], key: &[u8], kinds: &str) -> Result<bool, AllocError> {
+    for kind in "uofp".chars() {
+        if !spells_as(alloc, kind, bytes, key, kinds.contains(kind))? {
+            return Ok(false);
+        }
+    }
+    Ok(true)
+}
+
+// Whether a row is so.
+fn is_row(alloc: Global, row: &str) -> Result<bool, FromHexError> {
+    let (digits, rest) = row.split_once(',').unwrap_or((row, ""));
+    let (key, kinds) = rest.split_once(',').unwrap_or((rest, ""));
+    let bytes = hex::decode(alloc, digits)?;
+    let key = hex::decode(alloc, key)?;
+    Ok(spells_all(alloc, &bytes, &key, kinds)?)
 }
 
 #[test]
 fn each_kind_and_size_has_its_spellings(rt: HostRuntime) -> Result<(), Fail> {
     for row in SPELLINGS.split_ascii_whitespace() {
-        expect_row(&rt, rt.alloc(), row)?;
+        assert!(rt; is_row(rt.alloc(), row)?, "{row}");
     }
     Ok(())
 }

@@ -1,6 +1,6 @@
 //! Canonical roots of lists, which were computed by another program.
 
-ghost use Rattle.std.specs.Prelude.{◌<◌, ◌≤◌, ◌^◌};
+ghost use Rattle.std.specs.Prelude.{◌<◌, ◌≤◌, ◌^◌, IfOk};
 
 use qm_base::{Digest, Location, Sha256, Sha256Digest};
 use qm_bits::{Chunk32, Prunable};
@@ -25,62 +25,17 @@ type TreeHasher = StandardHasher<Sha256>;
 // How many operations a list has, how many of its first ones write one key, where the others write a key each, and its canonical
 // root, in mountain ranges and where merges are delayed. Its last operation is a commit whose floor is the last write of that key.
 // Made by `python3 docs/canonical_roots.py`.
-const ROOTS: [(u64, u64, &str, &str); 9] = [
-    (
-        4,
-        3,
-        "0039536046d7757e2c64f861a01ab5a5311fb97e03f88637087b670dbc9f876e",
-        "3cb098545be7dc0efe0075561b21ba59fdb58fcafe880194e2492d7492996a5e",
-    ),
-    (
-        255,
-        3,
-        "7dcc91185947d8a2926364dc2923863191710af86a13d10147b6137a7dbebd01",
-        "644e42ebf0de7a9e7d862c4cf0e3e33229e6c1f3598e28279ba578a0586a990a",
-    ),
-    (
-        256,
-        200,
-        "7f5586a1f1b3d7f38cca85af6f6d2f046e7dbcc478f02f9fee308b7e219b959c",
-        "41ce91c84afc5113420ee84ccd68f51dabe79a5b258f4dd6b2f4fffd0587817e",
-    ),
-    (
-        257,
-        200,
-        "6ff508098c99b2454bd648a0fc6b83c2c1ac716cc198596cdabb88e7f27b7eac",
-        "2d3c31b31c68071b0c156b5d02189847f811ad590ae342e5d89749d9c9a3fb4d",
-    ),
-    (
-        300,
-        250,
-        "91c3f4551b84191cf02129e1a3b395be31044c796227949e3f078d41241fbb9e",
-        "82c65a1ac16ba785e860baf638c3ac47e935cde27282530998cb54bd727d5504",
-    ),
-    (
-        511,
-        280,
-        "7092ea2c634060a9f5f75fcf1101e04335c914675528c3c57b375de0d30dab3e",
-        "00ccfc15e3a84ca924987a3f2210fa601360b5bc8d641a12a23cf91ef4b7ffee",
-    ),
-    (
-        512,
-        280,
-        "a69c3c1a14afa7e3f6df107b0f597b2314bde747aaacb62ba0e3cff62759bd32",
-        "6289d7dcc91b6edafd5fe04c4d677f6ccedb8e2df8be0db6ff28cdbdd4a3eb65",
-    ),
-    (
-        513,
-        280,
-        "906a43134bf4c03875f25904a34afd9c99eb9a7e0440fbbf5e4fe9a1ed8afd2d",
-        "b7f63992884f213e711ef1211d4556f8ba57d7905ee045065d3b967ce539bc09",
-    ),
-    (
-        799,
-        600,
-        "22dae2f357c1fa2d4a74558330fbeb410fba9ca72df5c981422d07799319b73e",
-        "22e2d40bc2bcb28897acdb8777be884c71f02351e9627c50c04e54a4aec57da1",
-    ),
-];
+const ROOTS: &str = "\
+4 3 0039536046d7757e2c64f861a01ab5a5311fb97e03f88637087b670dbc9f876e 3cb098545be7dc0efe0075561b21ba59fdb58fcafe880194e2492d7492996a5e
+255 3 7dcc91185947d8a2926364dc2923863191710af86a13d10147b6137a7dbebd01 644e42ebf0de7a9e7d862c4cf0e3e33229e6c1f3598e28279ba578a0586a990a
+256 200 7f5586a1f1b3d7f38cca85af6f6d2f046e7dbcc478f02f9fee308b7e219b959c 41ce91c84afc5113420ee84ccd68f51dabe79a5b258f4dd6b2f4fffd0587817e
+257 200 6ff508098c99b2454bd648a0fc6b83c2c1ac716cc198596cdabb88e7f27b7eac 2d3c31b31c68071b0c156b5d02189847f811ad590ae342e5d89749d9c9a3fb4d
+300 250 91c3f4551b84191cf02129e1a3b395be31044c796227949e3f078d41241fbb9e 82c65a1ac16ba785e860baf638c3ac47e935cde27282530998cb54bd727d5504
+511 280 7092ea2c634060a9f5f75fcf1101e04335c914675528c3c57b375de0d30dab3e 00ccfc15e3a84ca924987a3f2210fa601360b5bc8d641a12a23cf91ef4b7ffee
+512 280 a69c3c1a14afa7e3f6df107b0f597b2314bde747aaacb62ba0e3cff62759bd32 6289d7dcc91b6edafd5fe04c4d677f6ccedb8e2df8be0db6ff28cdbdd4a3eb65
+513 280 906a43134bf4c03875f25904a34afd9c99eb9a7e0440fbbf5e4fe9a1ed8afd2d b7f63992884f213e711ef1211d4556f8ba57d7905ee045065d3b967ce539bc09
+799 600 22dae2f357c1fa2d4a74558330fbeb410fba9ca72df5c981422d07799319b73e 22e2d40bc2bcb28897acdb8777be884c71f02351e9627c50c04e54a4aec57da1
+";
 
 // The bytes of the operation at a location.
 fn spelled(alloc: Global, count: u64, first: u64, at: u64) -> Result<Vec<u8>, AllocError>
@@ -194,7 +149,11 @@ fn expect_root<F: Graftable>(
     want: &str,
 ) -> Result<(), AllocError> {
     let text = root_text(rt, alloc, hasher, list, grafted)?;
-    assert_eq!(rt; text.as_str(), want, "{} operations", list.bits.len());
+    assert!(rt;
+        text.as_str() == want,
+        "{} operations: {text}",
+        list.bits.len()
+    );
     Ok(())
 }
 
@@ -295,11 +254,25 @@ fn has_root<F: Graftable>(
     Ok(())
 }
 
+// The next number of a text.
+fn number(word: Option<&str>) -> Result<u64, Fail>
+    ensures { IfOk result (λ n. n ≤ 1000) }
+{
+    match word.ok_or("no number")?.parse() {
+        Ok(number) if number <= 1000 => Ok(number),
+        _ => Err("no such number".into()),
+    }
+}
+
 #[test]
 fn lists_have_canonical_roots(rt: HostRuntime) -> Result<(), Fail> {
-    for (count, first, mountains, delayed) in ROOTS {
-        assert!(rt; count <= 1000);
+    for row in ROOTS.lines() {
+        let mut words = row.split_ascii_whitespace();
+        let count = number(words.next())?;
+        let first = number(words.next())?;
+        let mountains = words.next().unwrap_or("");
         has_root::<mmr::Family>(&rt, rt.alloc(), count, first, mountains)?;
+        let delayed = words.next().unwrap_or("");
         has_root::<mmb::Family>(&rt, rt.alloc(), count, first, delayed)?;
     }
     Ok(())

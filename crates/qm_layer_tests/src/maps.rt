@@ -2,7 +2,7 @@
 
 use qm_index::unordered::Index;
 use qm_index::{EightCap, Factory as _, OneCap, Ordered, TwoCap, Unordered, ordered};
-use std::alloc::{AllocError, Global};
+use std::alloc::AllocError;
 use std::test::Fail;
 
 // Puts the values 1, 2 and 3 under three keys. The last begins with the second.
@@ -29,15 +29,6 @@ fn shares<I: Unordered<Value = u64> + Drop>(
     Ok(index.bucket(key) == want && sum_of(&index) == 6)
 }
 
-#[test]
-fn keys_share_buckets(rt: HostRuntime) -> Result<(), Fail> {
-    let alloc = rt.alloc();
-    assert!(rt; shares(Index::new(alloc, OneCap), b"a", &[2, 3])?);
-    assert!(rt; shares(Index::new(alloc, TwoCap), b"ab", &[2, 3])?);
-    assert!(rt; shares(Index::new(alloc, EightCap), b"abc", &[3])?);
-    Ok(())
-}
-
 // Whether the first bucket of an index, filled so, has these values.
 fn begins_with<I: Ordered<Value = u64> + Drop>(
     mut index: I,
@@ -48,8 +39,11 @@ fn begins_with<I: Ordered<Value = u64> + Drop>(
 }
 
 #[test]
-fn keys_stand_in_order(rt: HostRuntime) -> Result<(), Fail> {
-    let index = ordered::Index::new(rt.alloc(), TwoCap);
-    assert!(rt; begins_with(index, &[2, 3])?);
+fn keys_share_buckets_and_stand_in_order(rt: HostRuntime) -> Result<(), Fail> {
+    let alloc = rt.alloc();
+    assert!(rt; shares(Index::new(alloc, OneCap), b"a", &[2, 3])?);
+    assert!(rt; shares(Index::new(alloc, TwoCap), b"ab", &[2, 3])?);
+    assert!(rt; shares(Index::new(alloc, EightCap), b"abc", &[3])?);
+    assert!(rt; begins_with(ordered::Index::new(alloc, TwoCap), &[2, 3])?);
     Ok(())
 }

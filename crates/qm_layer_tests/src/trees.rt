@@ -1,6 +1,6 @@
 //! Roots of trees that grow leaf by leaf, and proofs of their ranges, which were computed by other programs.
 
-ghost use Rattle.std.specs.Prelude.{◌≡◌, ◌+◌, ◌≤◌, OnOk};
+ghost use Rattle.std.specs.Prelude.{◌≡◌, ◌+◌, ◌<◌, ◌≤◌, OnOk};
 
 use qm_base::{Digest, Hasher, Location, MerkleError, Sha256, Sha256Digest};
 use qm_merkle::mem::Mem;
@@ -81,35 +81,29 @@ const DELAYED_ROOTS: &str = "
 // The digest of the digests in a row of all proofs of ranges in trees of 1 to 12 leaves; leaf k has the byte k. Made by `python3 docs/proofs.py`.
 const LISTED: &str = "5d215b19194c77384e945b850ed01663df7e7fce578059152f61ecd45e6a74e5";
 
-// There are more leaves than a test makes.
-#[derive(Debug, Drop)]
-struct TooMany;
-
 // Puts a leaf behind those of a tree.
 fn add_leaf<F: Family>(
     alloc: Global,
     hasher: &mut TreeHasher,
     tree: &mut Tree<F>,
     leaf: Sha256Digest,
-) -> Result<(), Fail>
+) -> Result<(), AllocError>
+    requires { tree.old.leaves < 40 }
     ensures { OnOk result (tree.new.leaves ≡ tree.old.leaves + 1) }
 {
     let mut draft = tree.new_batch(alloc);
-    if 1000 < draft.leaves().get() {
-        return Err(TooMany.into());
-    }
     draft.add_leaf_digest(leaf)?;
     let batch = draft.merkleize(alloc, tree, hasher)?;
-    tree.apply_batch(&batch)?;
-    Ok(())
+    tree.apply_batch(&batch)
 }
 
-// The digest of the tree's roots in a row, as text.
-fn roots_in_a_row<F: Family>(
+// Whether the digest of the tree's roots in a row has this text.
+fn has_row<F: Family>(
     alloc: Global,
     hasher: &mut TreeHasher,
     tree: &Tree<F>,
-) -> Result<String, AllocError>
+    want: &str,
+) -> Result<bool, AllocError>
     requires { tree.now.leaves ≤ 40 }
 {
     let peaks = F::peaks(alloc, tree.leaves())?;
@@ -119,7 +113,7 @@ fn roots_in_a_row<F: Family>(
         let root = tree.root(alloc, hasher, inactive)?;
         all.update(root.bytes());
     }
-    hex::encode(alloc, all.finish().bytes())
+    Ok(hex::encode(alloc, all.finish().bytes())?.as_str() == want)
 }
 
 // Grows a tree by its next leaf, and prunes it now and then.
@@ -128,7 +122,7 @@ fn grow<F: Family>(
     alloc: Global,
     hasher: &mut TreeHasher,
     tree: &mut Tree<F>,
-) -> Result<(), Fail>
+) -> Result<(), AllocError>
     ensures { OnOk result (tree.new.leaves ≤ 40) }
 {
     let last = tree.leaves();
@@ -144,13 +138,12 @@ fn grow<F: Family>(
 }
 
 // A tree that grows, and is pruned now and then, has these roots.
-fn has_roots<F: Family>(rt: &impl Abort, alloc: Global, rows: &str) -> Result<(), Fail> {
+fn has_roots<F: Family>(rt: &impl Abort, alloc: Global, rows: &str) -> Result<(), AllocError> {
     let mut hasher = StandardHasher::new(Sha256::new());
     let mut tree: Tree<F> = Mem::new(alloc);
     for want in rows.split_ascii_whitespace() {
         grow(rt, alloc, &mut hasher, &mut tree)?;
-        let text = roots_in_a_row(alloc, &mut hasher, &tree)?;
-        assert_eq!(rt; text.as_str(), want);
+        assert!(rt; has_row(alloc, &mut hasher, &tree, want)?, "{want}");
     }
     Ok(())
 }
@@ -158,7 +151,8 @@ fn has_roots<F: Family>(rt: &impl Abort, alloc: Global, rows: &str) -> Result<()
 #[test]
 fn trees_have_roots(rt: HostRuntime) -> Result<(), Fail> {
     has_roots::<mmr::Family>(&rt, rt.alloc(), ROOTS)?;
-    has_roots::<mmb::Family>(&rt, rt.alloc(), DELAYED_ROOTS)
+    has_roots::<mmb::Family>(&rt, rt.alloc(), DELAYED_ROOTS)?;
+    Ok(())
 }
 
 // Whether a proof of each range of a tree's elements is accepted against its root and not against another digest. Its digests
@@ -170,7 +164,7 @@ fn ranges_are_proved(
     elements: &[Vec<u8>],
     other: &Sha256Digest,
     listed: &mut Sha256,
-) -> Result<(), Fail>
+) -> Result<(), MerkleError>
     requires { tree.now.leaves ≤ 40 }
 {
     let mut hasher = StandardHasher::new(Sha256::new());
@@ -179,8 +173,7 @@ fn ranges_are_proved(
     for start in 0..elements.len() {
         for end in start + 1..=elements.len() {
             let inactive = (start + end) % (peaks + 1);
-            assert!(rt; inactive <= peaks);
-            assert!(rt; end as u64 <= count.get());
+            assert!(rt; inactive <= peaks && end as u64 <= count.get());
             let (first, past) = (Location::new(start as u64), Location::new(end as u64));
             let proof = Proof::new(alloc, tree, count, inactive, first, past)?;
             for digest in &proof.digests {
@@ -188,46 +181,49 @@ fn ranges_are_proved(
             }
             let root = tree.root(alloc, &mut hasher, inactive)?;
             let shown = &elements[start..end];
-            assert!(rt; proof.verify(&mut hasher, shown, first, &root));
-            assert!(rt; !proof.verify(&mut hasher, shown, first, other));
+            let is_proved = proof.verify(&mut hasher, shown, first, &root);
+            assert!(rt; is_proved && !proof.verify(&mut hasher, shown, first, other));
         }
     }
     Ok(())
 }
 
-// Puts the leaf of an element behind those of a tree, and gives its digest.
+// Puts the next element behind others and its leaf behind those of a tree, and gives that leaf's digest.
 fn put_element<F: Family>(
     rt: &impl Abort,
     alloc: Global,
     hasher: &mut TreeHasher,
     tree: &mut Tree<F>,
-    element: &Vec<u8>,
-) -> Result<Sha256Digest, Fail>
+    elements: &mut Vec<Vec<u8>>,
+) -> Result<Sha256Digest, AllocError>
     ensures { OnOk result (tree.new.leaves ≤ 40) }
 {
     let count = tree.leaves();
     assert!(rt; count.get() < 12);
-    let leaf = hasher.leaf_digest_of(F::location_to_position(count), element);
+    let element = Vec::from_slice(alloc, &[count.get() as u8])?;
+    let leaf = hasher.leaf_digest_of(F::location_to_position(count), &element);
+    elements.push(element)?;
     add_leaf(alloc, hasher, tree, leaf)?;
     Ok(leaf)
 }
 
-#[test]
-fn ranges_have_proofs(rt: HostRuntime) -> Result<(), Fail> {
-    let alloc = rt.alloc();
+// The text of the digest of all proofs' digests in a row.
+fn proofs_in_a_row(rt: &impl Abort, alloc: Global) -> Result<String, MerkleError> {
     let mut hasher = StandardHasher::new(Sha256::new());
     let mut listed = Sha256::new();
     listed.start();
     let mut tree: Tree<mmr::Family> = Mem::new(alloc);
     let mut elements: Vec<Vec<u8>> = Vec::new(alloc);
-    for last in 0..12u8 {
-        let element = Vec::from_slice(alloc, &[last])?;
-        let leaf = put_element(&rt, alloc, &mut hasher, &mut tree, &element)?;
-        elements.push(element)?;
-        ranges_are_proved(&rt, alloc, &tree, &elements, &leaf, &mut listed)?;
+    for _ in 0..12 {
+        let leaf = put_element(rt, alloc, &mut hasher, &mut tree, &mut elements)?;
+        ranges_are_proved(rt, alloc, &tree, &elements, &leaf, &mut listed)?;
     }
-    let text = hex::encode(alloc, listed.finish().bytes())?;
-    assert_eq!(rt; text.as_str(), LISTED);
+    Ok(hex::encode(alloc, listed.finish().bytes())?)
+}
+
+#[test]
+fn ranges_have_proofs(rt: HostRuntime) -> Result<(), Fail> {
+    assert_eq!(rt; proofs_in_a_row(&rt, rt.alloc())?.as_str(), LISTED);
     Ok(())
 }
 
@@ -237,7 +233,7 @@ fn root_of_replaced<F: Family>(
     hasher: &mut TreeHasher,
     tree: &Tree<F>,
     digest: Sha256Digest,
-) -> Result<String, Fail> {
+) -> Result<String, MerkleError> {
     let mut draft = tree.new_batch(alloc);
     draft.update_leaf_digest(Location::new(0), digest)?;
     let batch = draft.merkleize(alloc, tree, hasher)?;
@@ -245,13 +241,14 @@ fn root_of_replaced<F: Family>(
     Ok(hex::encode(alloc, root.bytes())?)
 }
 
-// The same, of the leaf with the byte 1 in the place of a digest of zeros.
-fn replaced_root<F: Family>(alloc: Global) -> Result<String, Fail> {
+// The same, of the leaf with the byte 1 in the place of that with the byte 2.
+fn replaced_root<F: Family>(alloc: Global) -> Result<String, MerkleError> {
     let mut hasher = StandardHasher::new(Sha256::new());
-    let first = hasher.leaf_digest(F::location_to_position(Location::new(0)), &[1]);
-    let zeros = Sha256Digest::from_bytes(&[0; 32]).ok_or("no digest")?;
+    let position = F::location_to_position(Location::new(0));
+    let first = hasher.leaf_digest(position, &[1]);
+    let second = hasher.leaf_digest(position, &[2]);
     let mut tree: Tree<F> = Mem::new(alloc);
-    add_leaf(alloc, &mut hasher, &mut tree, zeros)?;
+    add_leaf(alloc, &mut hasher, &mut tree, second)?;
     root_of_replaced(alloc, &mut hasher, &tree, first)
 }
 
@@ -280,10 +277,10 @@ fn of_components(
     alloc: Global,
     leaf: Sha256Digest,
     peak: Sha256Digest,
-) -> Result<Tree<mmr::Family>, Fail> {
+) -> Result<Tree<mmr::Family>, MerkleError> {
     let nodes = Vec::from_slice(alloc, &[leaf])?;
     let pins = Vec::from_slice(alloc, &[peak])?;
-    Ok(Tree::from_components(alloc, nodes, Location::new(2), pins)?)
+    Tree::from_components(alloc, nodes, Location::new(2), pins)
 }
 
 // The same tree, where no pin lacks.
@@ -291,29 +288,44 @@ fn of_retained(
     alloc: Global,
     leaf: Sha256Digest,
     peak: Sha256Digest,
-) -> Result<Tree<mmr::Family>, Fail> {
+) -> Result<Tree<mmr::Family>, AllocError> {
     let nodes = Vec::from_slice(alloc, &[leaf])?;
     let pins = Vec::from_slice(alloc, &[peak])?;
     let two = Location::new(2);
-    Ok(Tree::from_pruned_with_retained(alloc, nodes, two, pins)?)
+    Tree::from_pruned_with_retained(alloc, nodes, two, pins)
 }
 
-#[test]
-fn trees_are_made_of_their_parts(rt: HostRuntime) -> Result<(), Fail> {
-    let alloc = rt.alloc();
+// Whether the trees that are made of these parts have this root.
+fn have_root(
+    alloc: Global,
+    hasher: &mut TreeHasher,
+    leaf: Sha256Digest,
+    peak: Sha256Digest,
+    want: Sha256Digest,
+) -> Result<bool, MerkleError> {
+    let root = of_components(alloc, leaf, peak)?.root(alloc, hasher, 0)?;
+    let again = of_retained(alloc, leaf, peak)?.root(alloc, hasher, 0)?;
+    Ok(root == want && again == want)
+}
+
+// Whether a tree of three leaves has the root of those that are made of its parts.
+fn is_made_of_its_parts(rt: &impl Abort, alloc: Global) -> Result<bool, MerkleError> {
     let mut hasher = StandardHasher::new(Sha256::new());
     let leaf = hasher.leaf_digest(mmr::Family::location_to_position(Location::new(0)), b"a");
     let mut tree: Tree<mmr::Family> = Mem::new(alloc);
     for _ in 0..3 {
+        assert!(rt; tree.leaves().get() < 3);
         add_leaf(alloc, &mut hasher, &mut tree, leaf)?;
     }
-    let peak = tree.get_node(Position::new(2)).ok_or("no peak")?;
     let want = tree.root(alloc, &mut hasher, 0)?;
-    for made in [
-        of_components(alloc, leaf, peak)?,
-        of_retained(alloc, leaf, peak)?,
-    ] {
-        assert_eq!(rt; made.root(alloc, &mut hasher, 0)?, want);
+    match tree.get_node(Position::new(2)) {
+        Some(peak) => have_root(alloc, &mut hasher, leaf, peak, want),
+        None => Ok(false),
     }
+}
+
+#[test]
+fn trees_are_made_of_their_parts(rt: HostRuntime) -> Result<(), Fail> {
+    assert!(rt; is_made_of_its_parts(&rt, rt.alloc())?);
     Ok(())
 }
