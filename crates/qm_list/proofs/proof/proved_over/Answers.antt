@@ -8,7 +8,7 @@ use Rattle.qm_model.specs.Forms.{spelling}
 use Rattle.qm_model.specs.Refusals.{proof_count, proof_refusal}
 use Rattle.qm_model.specs.Trees.{inactive_peaks}
 use Rattle.qm_store.proofs.Reading.{read-then}
-use Rattle.qm_step.proofs.Reading.{told}
+use Rattle.qm_build.proofs.Reading.{told}
 use Rattle.qm_list.specs.Reasons.{proof_reasons}
 use Rattle.qm_list.proofs.Telling.{proof-spelled, part-spelled, part-of, memory-due, no-refusal, decoded-among}
 use Rattle.qm_list.proofs.proof.proved_over.Goals as goal
