@@ -1,5 +1,5 @@
 -- What a fresh list stands for, proofs in the first operations of a list, and the floor of these.
-use Rattle.std.proofs.Common.{◌≡◌, ℕ, ◌+◌, ◌-◌, List, [], length, take, map, refl, sym, ◌∙◌, ap, ap₂, subst, arith, Option, None, Some, IfSome, All}
+use Rattle.std.proofs.Common.{◌≡◌, ℕ, ◌+◌, List, [], length, take, map, refl, sym, ◌∙◌, ap, ap₂, subst, arith, Option, None, Some, IfSome, All}
 use Rattle.std.specs.Prelude.{IsSome, Result, Ok, Err, IfOk}
 use Rattle.std.proofs.lemmas.List.{take_all}
 use Rattle.std.proofs.lemmas.List.Elements.{All-cons, All-nil}
@@ -15,7 +15,6 @@ use Rattle.qm_model.specs.Proofs.{Proof, ops_proof}
 use Rattle.qm_model.specs.Refusals.{proof_count}
 use Rattle.qm_model.specs.Trees.{Shape, root, ops_root, inactive_peaks}
 use Rattle.qm_model.proofs.Steps.{fresh-good}
-use Rattle.qm_model.specs.Families.{over}
 use Rattle.qm_store.specs.declared.Store as store
 use Rattle.qm_store.specs.Log.{Log, IsLog, digests_from}
 use Rattle.qm_store.proofs.Leaves.{leaves-spelled}

@@ -2,7 +2,7 @@ use Rattle.std.proofs.Common.{◌≡◌, ◌∙◌, ◌↔◌, map, sym, ap, sub
 use Rattle.std.proofs.lemmas.List.{length-map}
 use Rattle.std.specs.Prelude.{IfSome}
 use Rattle.qm_model.specs.Forms.{spelling}
-use Rattle.qm_model.specs.Trees.{digest_of, leaves_from}
+use Rattle.qm_model.specs.Trees.{digest_of}
 use Rattle.qm_merkle.specs.Mems.{Holds, node_at}
 use Rattle.qm_proofs.proofs.Telling.{tree_tells}
 use Rattle.qm_store.specs.Log.{digests_from}
