@@ -3,7 +3,7 @@ use Rattle.std.proofs.Common.{◌≡◌, ◌≢◌, ◌∙◌, ℕ, zero, suc, �
 use Rattle.std.specs.Prelude.{All, Contains, IfSome, is_some, nat_le, filter_map, if◌then◌else◌, ◌==◌}
 use Rattle.std.specs.List.{cons_option, AllByRecursion as Each}
 use Rattle.std.proofs.lemmas.Bool.Decides.{leb_tells}
-use Rattle.std.proofs.lemmas.List.{take-map, take_all, take-append-le, take-append-drop, length-append, length-drop, length-map, map-append}
+use Rattle.std.proofs.lemmas.List.{take-map, take-append-le, take-append-drop, length-append, length-drop, length-map, map-append}
 use Rattle.std.proofs.lemmas.List.Elements.{All-cons, All-nil, All-head, All-tail, All-contains, All-take, All-drop, All-append, All-weaker, All-from_recursion, recursion_from_All, Contains-append_right}
 use Rattle.qm_model.specs.Forms.{Form, IsOf, spelling}
 use Rattle.qm_model.specs.Operations.{Bytes, Operation, update, delete, commit}
@@ -428,13 +428,13 @@ module _ {P : Type 0} (form : Form) (rules : Rules P) (base : List Operation) (w
       by false ring is = cc
 
 -- the tips that a child keeps: its parent's own, and the first of those that the parent keeps
-pub kept-tips : {A : Type 0} (view : A → Commitment) (bounds : Bounds) (keep i : ℕ) (older kept tips : List A) → map view older ≡ bounds.ancestors → 0 < keep → keep ≤ suc (length bounds.ancestors)
-    → kept ≡ take (keep - 1) older → length kept ≤ i → map view tips ≡ bounds.tip ∷ map view (take i kept) → map view tips ≡ child_tips keep bounds
-kept-tips view bounds keep i older kept tips same some few front all is =
+pub kept-tips : {A : Type 0} (view : A → Commitment) (bounds : Bounds) (keep : ℕ) (older kept tips : List A) → map view older ≡ bounds.ancestors → 0 < keep → keep ≤ suc (length bounds.ancestors)
+    → kept ≡ take (keep - 1) older → map view tips ≡ bounds.tip ∷ map view kept → map view tips ≡ child_tips keep bounds
+kept-tips view bounds keep older kept tips same some few front is =
     let less : keep - 1 ≤ length bounds.ancestors = omega arith in
     let count : suc (keep - 1) ≡ keep = omega arith in
     is
-    ∙ ap (λ cs. bounds.tip ∷ map view cs) (take_all i kept all ∙ front)
+    ∙ ap (λ cs. bounds.tip ∷ map view cs) front
     ∙ ap (λ cs. bounds.tip ∷ cs) (sym (take-map view (keep - 1) older) ∙ ap (take (keep - 1)) same ∙ sym (take-append-le (keep - 1) bounds.ancestors (bounds.db ∷ []) less))
     ∙ ap (λ n. child_tips n bounds) count
 

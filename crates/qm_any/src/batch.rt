@@ -485,10 +485,7 @@ impl<F: Family, D: Digest, U: Update> MerkleizedBatch<F, D, U> {
           metadata = option_map (λ m. U.Value.bytes m.value) metadata;
         }) }
     {
-        let diff = Rc::new(alloc, Diff::new(Vec::new(alloc)))?;
-        let step = Rc::new(alloc, Layer::new(commitment.size, Vec::new(alloc), diff))?;
-        let mut steps = Vec::new(alloc);
-        steps.push(step)?;
+        let steps = resting(alloc, commitment.size)?;
         let diffs = diffs_of(alloc, &steps)?;
         let bounds = Bounds {
             base: commitment,
@@ -516,14 +513,12 @@ impl<F: Family, D: Digest, U: Update> MerkleizedBatch<F, D, U> {
         requires { keep ≤ suc (length self.now.bounds.ancestors) }
         ensures { IfOk result (λ tips. map (commitment_view D.bytes) tips.items ≡ child_tips keep self.now.bounds) }
     {
-        let mut tips = Vec::new(alloc);
-        if keep > 0 {
-            tips.push(self.bounds.tip)?;
-            let (kept, _) = self.bounds.ancestors.split_at(keep - 1);
-            for state in kept {
-                tips.push(*state)?;
-            }
+        if keep == 0 {
+            return Ok(Vec::new(alloc));
         }
+        let (kept, _) = self.bounds.ancestors.split_at(keep - 1);
+        let mut tips = Vec::from_slice(alloc, kept)?;
+        tips.insert(0, self.bounds.tip)?;
         Ok(tips)
     }
 
@@ -550,13 +545,10 @@ impl<F: Family, D: Digest, U: Update> MerkleizedBatch<F, D, U> {
         requires { keep ≤ suc (length self.now.bounds.ancestors) }
         ensures { IfOk result (λ steps. map (λ l. l.value) steps.items ≡ own ∷ take keep self.now.layers) }
     {
-        let mut steps = Vec::new(alloc);
-        steps.push(Rc::new(alloc, own)?)?;
+        let own = Rc::new(alloc, own)?;
         let (kept, _) = self.steps.split_at(keep);
-        for step in kept {
-            let step = step.clone()?;
-            steps.push(step)?;
-        }
+        let mut steps = kept.to_vec(alloc)?;
+        steps.insert(0, own)?;
         Ok(steps)
     }
 
@@ -634,6 +626,17 @@ impl<F: Family, D: Digest, U: Update> MerkleizedBatch<F, D, U> {
             metadata,
         })
     }
+}
+
+// The steps of a database at rest that has so many operations: one, which does nothing.
+fn resting<F, U: Update>(alloc: Global, size: u64) -> Result<Vec<Step<F, U>>, AllocError>
+    ensures { IfOk result (λ steps. map (λ l. l.value) steps.items ≡ record { base = size; operations = []; changes = [] } ∷ []) }
+{
+    let diff = Rc::new(alloc, Diff::new(Vec::new(alloc)))?;
+    let step = Rc::new(alloc, Layer::new(size, Vec::new(alloc), diff))?;
+    let mut steps = Vec::new(alloc);
+    steps.push(step)?;
+    Ok(steps)
 }
 
 // The list that what is wanted makes on a batch, at a database that is at the child's boundary or one of its kept tips.
