@@ -3,7 +3,7 @@
 use qm_store::StoreError;
 use std::alloc::{AllocError, Global};
 use std::fs::{DirEntry, OpenFile, OpenOptions};
-use std::io::ErrorKind;
+use std::io::{ErrorKind, Write};
 use std::path::{Path, PathBuf};
 use std::rt::Files;
 use std::{fs, io};
@@ -100,6 +100,15 @@ impl<R: Files + Clone + Drop> Folder<R> {
         Ok(())
     }
 
+    // Puts a new file with these bytes in the place of the one with this name, and makes it outlive a crash.
+    pub(crate) fn write(&self, name: &str, bytes: &[u8]) -> Result<(), StoreError> {
+        let mut file = self.create(name)?;
+        file.write_all(bytes)?;
+        file.sync_all()?;
+        self.put(name)?;
+        self.sync()
+    }
+
     // Removes a file, if there is one of this name.
     pub(crate) fn remove(&self, name: &str) -> Result<(), StoreError> {
         let path = self.path_of(name)?;
@@ -137,10 +146,8 @@ impl<R: Files + Clone + Drop> Folder<R> {
 
     // Makes the folder's names outlive a crash.
     pub(crate) fn sync(&self) -> Result<(), StoreError> {
-        let folder = fs::open(
-            &self.rt,
-            Path::new(&self.path).join(self.alloc, ".")?.as_path(),
-        )?;
+        let path = self.path_of(".")?;
+        let folder = fs::open(&self.rt, path.as_path())?;
         folder.sync_all()?;
         Ok(())
     }

@@ -51,7 +51,7 @@ use qm_store::{MetaEntry, Store, StoreError};
 use spelled::{read_entries, spelled_entries, spelled_head};
 use std::alloc::{AllocError, Global};
 use std::fs::{OpenFile, OpenOptions};
-use std::io::{BufReader, Write};
+use std::io::{BufReader, Read, Write};
 use std::marker::Model;
 use std::rt::Files;
 
@@ -102,6 +102,15 @@ fn read_log<R: Files + Clone + Drop>(folder: &Folder<R>) -> Result<LogFile<R::Fi
         Some(file) if file.metadata()?.len() > 0 => LogFile::of(folder.alloc(), file),
         _ => Ok(LogFile::none(folder.alloc(), 0)),
     }
+}
+
+// The entries in a file of metadata.
+fn entries_of<F: Read + OpenFile + Drop>(
+    alloc: Global,
+    file: F,
+) -> Result<Vec<MetaEntry>, StoreError> {
+    let size = file.metadata()?.len();
+    read_entries(alloc, &mut BufReader::new(alloc, file)?, size)
 }
 
 impl<R: Files + Clone + Drop> FileStore<R> {
@@ -165,11 +174,10 @@ impl<R: Files + Clone + Drop> FileStore<R> {
         self.check()?;
         let alloc = self.folder.alloc();
         let name = self.folder.meta_name(name)?;
-        let Some(file) = self.folder.open(&reading(), &name)? else {
-            return Ok(Vec::new(alloc));
-        };
-        let size = file.metadata()?.len();
-        read_entries(alloc, &mut BufReader::new(alloc, file)?, size)
+        match self.folder.open(&reading(), &name)? {
+            Some(file) => entries_of(alloc, file),
+            None => Ok(Vec::new(alloc)),
+        }
     }
 
     fn write_items(&mut self, added: &[Vec<u8>]) -> Result<(), StoreError>
@@ -260,11 +268,7 @@ impl<R: Files + Clone + Drop> FileStore<R> {
         self.check()?;
         let name = self.folder.meta_name(name)?;
         let spelled = spelled_entries(self.folder.alloc(), entries)?;
-        let mut file = self.folder.create(&name)?;
-        file.write_all(&spelled)?;
-        file.sync_all()?;
-        self.folder.put(&name)?;
-        self.folder.sync()
+        self.folder.write(&name, &spelled)
     }
 
     fn read_again(&mut self) -> Result<(), StoreError>
