@@ -15,6 +15,11 @@ pub pushed_behind : {T E : Type 0} (old mid new first next : Bytes) (r : Result 
 pushed_behind old mid new first next (Ok u) h k = k ∙ ap (λ (t : Bytes). t ++ next) h ∙ append_assoc old first next
 pushed_behind old mid new first next (Err e) h k = tt
 
+-- what was written behind what was written
+pub written_behind : {T E : Type 0} (old mid new first next : Bytes) (r : Result T E) → mid ≡ old ++ first → IfOk r (λ _. new ≡ mid ++ next) → IfOk r (λ _. new ≡ old ++ (first ++ next))
+written_behind old mid new first next (Ok u) h k = k ∙ ap (λ (t : Bytes). t ++ next) h ∙ append_assoc old first next
+written_behind old mid new first next (Err e) h k = tt
+
 -- a name, and the texts of one item more
 pub one_more : {A B : Type 0} (text : B → Bytes) (f : A → B) (items : List A) (i : ℕ) (item : A) (old name mid new : Bytes) → i < length items → item ≡ get_or items i item →
     mid ≡ old ++ (name ++ flat_map text (map f (take i items))) → new ≡ mid ++ text (f item) → new ≡ old ++ (name ++ flat_map text (map f (take (i + 1) items)))

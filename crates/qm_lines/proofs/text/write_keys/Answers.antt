@@ -1,4 +1,4 @@
-use Rattle.std.proofs.Common.{◌++◌, codes, []}
+use Rattle.std.proofs.Common.{◌++◌, codes}
 use Rattle.std.specs.String.{string_bytes}
 use Rattle.qm_machine.specs.Text as texts
 use Rattle.qm_lines.proofs.Written.{one_more}
