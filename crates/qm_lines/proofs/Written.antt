@@ -10,11 +10,6 @@ pub pushed : {T E : Type 0} (old new text : Bytes) (r : Result T E) → new ≡ 
 pushed old new text (Ok u) h = h
 pushed old new text (Err e) h = tt
 
--- and what was pushed behind that
-pub pushed_behind : {T E : Type 0} (old mid new first next : Bytes) (r : Result T E) → mid ≡ old ++ first → new ≡ (if is_ok r then mid ++ next else mid) → IfOk r (λ _. new ≡ old ++ (first ++ next))
-pushed_behind old mid new first next (Ok u) h k = k ∙ ap (λ (t : Bytes). t ++ next) h ∙ append_assoc old first next
-pushed_behind old mid new first next (Err e) h k = tt
-
 -- what was written behind what was written
 pub written_behind : {T E : Type 0} (old mid new first next : Bytes) (r : Result T E) → mid ≡ old ++ first → IfOk r (λ _. new ≡ mid ++ next) → IfOk r (λ _. new ≡ old ++ (first ++ next))
 written_behind old mid new first next (Ok u) h k = k ∙ ap (λ (t : Bytes). t ++ next) h ∙ append_assoc old first next
