@@ -13,11 +13,20 @@ use Rattle.qm_base.specs.declared.slot.Slot.{Slot}
 use Rattle.qm_base.specs.declared.write.Write.{Write}
 use Rattle.qm_chain.specs.declared.policy.Limits.{Limits}
 use Rattle.qm_machine.specs.Lines.{Line}
+use Rattle.qm_machine.specs.Lines as lines
 use Rattle.qm_machine.specs.Grammar as grammar
 use Rattle.qm_machine.specs.Grammar.{number_of, policy_of, metadata_of, Reading, begins_with, behind}
 use Rattle.qm_lines.specs.declared.policy.AnyPolicy.{AnyPolicy}
 use Rattle.qm_lines.specs.declared.command.Command.{Command}
 use Rattle.qm_lines.specs.declared.command.Resolution.{Resolution}
+use Rattle.qm_lines.specs.declared.parse.commands.ReadForm.{ReadForm}
+use Rattle.qm_lines.specs.declared.parse.commands.ReadForm.TheVariants as reads
+use Rattle.qm_lines.specs.declared.parse.commands.KeyForm.{KeyForm}
+use Rattle.qm_lines.specs.declared.parse.commands.KeyForm.TheVariants as keys
+use Rattle.qm_lines.specs.declared.parse.ranges.RangeForm.{RangeForm}
+use Rattle.qm_lines.specs.declared.parse.ranges.RangeForm.TheVariants as ranges
+use Rattle.qm_lines.specs.declared.parse.staged.KeyedForm.{KeyedForm}
+use Rattle.qm_lines.specs.declared.parse.staged.KeyedForm.TheVariants as keyeds
 use Rattle.qm_lines.specs.Policies.{policy_view}
 use Rattle.qm_base.specs.Views.{limit_of}
 use Rattle.qm_lines.specs.Views.{line_view}
@@ -64,3 +73,23 @@ limits_view l = record { entries = l.entries; skips = l.skips }
 abbrev pub first_named : Bytes → List Bytes → Option (Bytes × List Bytes)
 first_named name [] = None
 first_named name (part ∷ parts) = if begins_with name part then Some (behind name part, parts) else None
+
+-- the lines of the forms that several names share
+abbrev pub read_line : ReadForm → Bytes → Option ℕ → Line Policy
+read_line reads.Get = lines.Get
+read_line reads.Next = lines.Next
+read_line reads.Prev = lines.Prev
+
+abbrev pub key_line : KeyForm → Bytes → Line Policy
+key_line keys.Span = lines.Span
+key_line keys.All = lines.All
+key_line keys.Held = λ key. lines.Current (lines.Held key)
+key_line keys.Absent = λ key. lines.Current (lines.Absent key)
+
+abbrev pub range_line : RangeForm → Limit → Limit → Line Policy
+range_line ranges.Range = lines.Range
+range_line ranges.Keys = lines.Keys
+
+abbrev pub keyed_line : KeyedForm → ℕ → List Bytes → Line Policy
+keyed_line keyeds.Stage = lines.Stage
+keyed_line keyeds.Expand = lines.Expand

@@ -16,30 +16,65 @@ use qm_base::{ByteString, Corrupt, Digest};
 use std::alloc::{AllocError, Global};
 use std::fmt::Write;
 
-fn write_hex(out: &mut String, bytes: &[u8]) -> Result<(), AllocError>
-    ensures { Adds out.old out.new result (encode_lower bytes.now) }
+// A mark, and bytes in hexadecimal.
+fn write_hex(out: &mut String, mark: &str, bytes: &[u8]) -> Result<(), AllocError>
+    ensures { Adds out.old out.new result (mark.now ++ encode_lower bytes.now) }
 {
+    out.push_str(mark)?;
     let text = hex::encode(*out.allocator(), bytes)?;
     out.push_str(&text)
 }
 
-// The empty bytes as a dash.
-fn write_bytes(out: &mut String, bytes: &[u8]) -> Result<(), AllocError>
-    ensures { Adds out.old out.new result (texts.hex_text bytes.now) }
+// The same, with the empty bytes as a dash.
+fn write_bytes(out: &mut String, mark: &str, bytes: &[u8]) -> Result<(), AllocError>
+    ensures { Adds out.old out.new result (mark.now ++ texts.hex_text bytes.now) }
 {
     if bytes.is_empty() {
+        out.push_str(mark)?;
         return out.push_str("-");
     }
-    write_hex(out, bytes)
+    write_hex(out, mark, bytes)
 }
 
-fn write_optional<B: ByteString>(out: &mut String, value: &Option<B>) -> Result<(), AllocError>
-    ensures { Adds out.old out.new result (texts.optional_text (option_map B.bytes value.now)) }
+// A mark, and bytes or a word for none.
+fn write_optional<B: ByteString>(
+    out: &mut String,
+    mark: &str,
+    value: &Option<B>,
+) -> Result<(), AllocError>
+    ensures { Adds out.old out.new result (mark.now ++ texts.optional_text (option_map B.bytes value.now)) }
 {
-    match value {
-        None => out.push_str("none"),
-        Some(value) => write_bytes(out, value.as_bytes()),
+    let Some(value) = value else {
+        out.push_str(mark)?;
+        return out.push_str("none");
+    };
+    write_bytes(out, mark, value.as_bytes())
+}
+
+// A mark, a key, and its value behind a sign.
+fn write_pair(out: &mut String, mark: &str, key: &[u8], value: &[u8]) -> Result<(), AllocError>
+    ensures { Adds out.old out.new result (mark.now ++ (texts.hex_text key.now ++ (codes "=" ++ texts.hex_text value.now))) }
+{
+    write_bytes(out, mark, key)?;
+    write_bytes(out, "=", value)
+}
+
+// A mark, and a number.
+fn write_number(out: &mut String, mark: &str, number: u64) -> Result<(), AllocError>
+    ensures { Adds out.old out.new result (mark.now ++ decimal number) }
+{
+    write!(out, "{mark}{number}")
+}
+
+// A name, and the numbers, each after a space.
+fn write_numbers(out: &mut String, name: &str, numbers: &[u64]) -> Result<(), AllocError>
+    ensures { Adds out.old out.new result (name.now ++ flat_map (λ n. codes " " ++ decimal n) numbers.now) }
+{
+    out.push_str(name)?;
+    for number in numbers {
+        write_number(out, " ", *number)?;
     }
+    Ok(())
 }
 
 fn write_next<B: ByteString>(out: &mut String, next: &Option<B>) -> Result<(), AllocError>
@@ -48,23 +83,7 @@ fn write_next<B: ByteString>(out: &mut String, next: &Option<B>) -> Result<(), A
     let Some(key) = next else {
         return Ok(());
     };
-    out.push_str(">")?;
-    write_bytes(out, key.as_bytes())
-}
-
-fn write_update<K: ByteString, V: ByteString>(
-    out: &mut String,
-    key: &K,
-    value: &V,
-    next: &Option<K>,
-) -> Result<(), AllocError>
-    ensures { Adds out.old out.new result (texts.operation_text (update (K.bytes key.now) (V.bytes value.now) (option_map K.bytes next.now))) }
-{
-    out.push_str("U:")?;
-    write_bytes(out, key.as_bytes())?;
-    out.push_str("=")?;
-    write_bytes(out, value.as_bytes())?;
-    write_next(out, next)
+    write_bytes(out, ">", key.as_bytes())
 }
 
 fn write_operation<K: ByteString, V: ByteString>(
@@ -74,15 +93,14 @@ fn write_operation<K: ByteString, V: ByteString>(
     ensures { Adds out.old out.new result (texts.operation_text (listed_view K.bytes V.bytes op.now)) }
 {
     match op {
-        Listed::Update(key, value, next) => write_update(out, key, value, next),
-        Listed::Delete(key) => {
-            out.push_str("D:")?;
-            write_bytes(out, key.as_bytes())
+        Listed::Update(key, value, next) => {
+            write_pair(out, "U:", key.as_bytes(), value.as_bytes())?;
+            write_next(out, next)
         }
+        Listed::Delete(key) => write_bytes(out, "D:", key.as_bytes()),
         Listed::Commit(metadata, floor) => {
-            out.push_str("C:")?;
-            write_optional(out, metadata)?;
-            write!(out, "@{floor}")
+            write_optional(out, "C:", metadata)?;
+            write_number(out, "@", *floor)
         }
     }
 }
@@ -106,8 +124,7 @@ fn write_digests<D: Digest>(out: &mut String, digests: &[D]) -> Result<(), Alloc
     ensures { Adds out.old out.new result (texts.digests_text (map D.bytes digests.now)) }
 {
     for digest in digests {
-        out.push_str(" ")?;
-        write_hex(out, digest.bytes())?;
+        write_hex(out, " ", digest.bytes())?;
     }
     Ok(())
 }
@@ -116,10 +133,10 @@ fn write_tree(out: &mut String, refused: TreeRefused) -> Result<(), AllocError>
     ensures { Adds out.old out.new result (texts.tree_text (tree_view refused)) }
 {
     match refused {
-        TreeRefused::RangeOutOfBounds(at) => write!(out, "RangeOutOfBounds {at}"),
-        TreeRefused::ElementPruned(position) => write!(out, "ElementPruned {position}"),
-        TreeRefused::MissingNode(position) => write!(out, "MissingNode {position}"),
-        TreeRefused::LocationOverflow(count) => write!(out, "LocationOverflow {count}"),
+        TreeRefused::RangeOutOfBounds(at) => { write_number(out, "RangeOutOfBounds ", at) }
+        TreeRefused::ElementPruned(position) => { write_number(out, "ElementPruned ", position) }
+        TreeRefused::MissingNode(position) => { write_number(out, "MissingNode ", position) }
+        TreeRefused::LocationOverflow(count) => { write_number(out, "LocationOverflow ", count) }
     }
 }
 
@@ -127,8 +144,8 @@ fn write_log(out: &mut String, refused: LogRefused) -> Result<(), AllocError>
     ensures { Adds out.old out.new result (texts.log_text (log_view refused)) }
 {
     match refused {
-        LogRefused::ItemPruned(location) => write!(out, "ItemPruned {location}"),
-        LogRefused::ItemTooLarge(length) => write!(out, "ItemTooLarge {length}"),
+        LogRefused::ItemPruned(location) => { write_number(out, "ItemPruned ", location) }
+        LogRefused::ItemTooLarge(length) => { write_number(out, "ItemTooLarge ", length) }
     }
 }
 
@@ -145,15 +162,19 @@ fn write_refused(out: &mut String, refused: Refused) -> Result<(), AllocError>
     match refused {
         Refused::NotOffered => out.push_str("NotOffered"),
         Refused::NoDatabase => out.push_str("NoDatabase"),
-        Refused::NoSuchHandle(handle) => write!(out, "NoSuchHandle {handle}"),
-        Refused::SlotCount(staged, given) => write!(out, "SlotCount {staged} {given}"),
+        Refused::NoSuchHandle(handle) => write_number(out, "NoSuchHandle ", handle),
+        Refused::SlotCount(staged, given) => { write_numbers(out, "SlotCount", &[staged, given]) }
         Refused::InvalidInitializationBound => out.push_str("InvalidInitializationBound"),
         Refused::StaleBatch => out.push_str("StaleBatch"),
         Refused::StaleRead => out.push_str("StaleRead"),
-        Refused::PruneBeyondMinRequired(location, boundary) => {
-            write!(out, "PruneBeyondMinRequired {location} {boundary}")
+        Refused::PruneBeyondMinRequired(location, boundary) => write_numbers(
+            out,
+            "PruneBeyondMinRequired",
+            &[location, boundary],
+        ),
+        Refused::HistoricalFloorPruned(size) => {
+            write_number(out, "HistoricalFloorPruned ", size)
         }
-        Refused::HistoricalFloorPruned(size) => write!(out, "HistoricalFloorPruned {size}"),
         Refused::DataCorrupted(corrupt) => write_corrupt(out, corrupt),
         Refused::Merkle(refused) => {
             out.push_str("Merkle ")?;
@@ -166,17 +187,6 @@ fn write_refused(out: &mut String, refused: Refused) -> Result<(), AllocError>
     }
 }
 
-// A name, and the numbers, each after a space.
-fn write_numbers(out: &mut String, name: &str, numbers: &[u64]) -> Result<(), AllocError>
-    ensures { Adds out.old out.new result (name.now ++ flat_map (λ n. codes " " ++ decimal n) numbers.now) }
-{
-    out.push_str(name)?;
-    for number in numbers {
-        write!(out, " {number}")?;
-    }
-    Ok(())
-}
-
 fn write_info(out: &mut String, numbers: &[u64; 4], is_live: bool) -> Result<(), AllocError>
     ensures { Adds out.old out.new result (codes "info" ++ (flat_map (λ n. codes " " ++ decimal n) numbers.now ++ (codes " " ++ texts.live_text is_live))) }
 {
@@ -187,10 +197,8 @@ fn write_info(out: &mut String, numbers: &[u64; 4], is_live: bool) -> Result<(),
 fn write_roots<D: Digest>(out: &mut String, root: &D, operations: &D) -> Result<(), AllocError>
     ensures { Adds out.old out.new result (codes "root " ++ (encode_lower (D.bytes root.now) ++ (codes " " ++ encode_lower (D.bytes operations.now)))) }
 {
-    out.push_str("root ")?;
-    write_hex(out, root.bytes())?;
-    out.push_str(" ")?;
-    write_hex(out, operations.bytes())
+    write_hex(out, "root ", root.bytes())?;
+    write_hex(out, " ", operations.bytes())
 }
 
 // A proof, and a slash for what is behind it.
@@ -240,7 +248,7 @@ fn write_listed<K: ByteString, V: ByteString>(
 ) -> Result<(), AllocError>
     ensures { Adds out.old out.new result (texts.reply_line (lines.Listed base (map (listed_view K.bytes V.bytes) ops.now))) }
 {
-    write_numbers(out, "ops", &[base])?;
+    write_number(out, "ops ", base)?;
     write_operations(out, ops)
 }
 
@@ -249,8 +257,7 @@ fn write_values<V: ByteString>(out: &mut String, values: &[Option<V>]) -> Result
     ensures { Adds out.old out.new result (texts.values_text (map (option_map V.bytes) values.now)) }
 {
     for value in values {
-        out.push_str(" ")?;
-        write_optional(out, value)?;
+        write_optional(out, " ", value)?;
     }
     Ok(())
 }
@@ -281,37 +288,23 @@ fn write_beside<K: ByteString>(out: &mut String, key: &Option<K>) -> Result<(), 
     let Some(key) = key else {
         return out.push_str("none");
     };
-    out.push_str("key ")?;
-    write_bytes(out, key.as_bytes())
+    write_bytes(out, "key ", key.as_bytes())
 }
 
-// Location, key, value and next key of a live update.
-fn write_live<K: ByteString, V: ByteString>(
-    out: &mut String,
-    span: &Span<K, V>,
-) -> Result<(), AllocError>
-    ensures { Adds out.old out.new result (texts.spanning_text (Some (span_view K.bytes V.bytes span.now))) }
-{
-    write_numbers(out, "span", &[span.location])?;
-    out.push_str(" ")?;
-    write_bytes(out, span.key.as_bytes())?;
-    out.push_str(" ")?;
-    write_bytes(out, span.value.as_bytes())?;
-    out.push_str(" ")?;
-    write_bytes(out, span.next.as_bytes())
-}
-
-// The live update whose span holds a key, if there is one.
+// The live update whose span holds a key, if there is one: its location, key, value and next key.
 fn write_span<K: ByteString, V: ByteString>(
     out: &mut String,
     span: &Option<Span<K, V>>,
 ) -> Result<(), AllocError>
     ensures { Adds out.old out.new result (texts.spanning_text (option_map (span_view K.bytes V.bytes) span.now)) }
 {
-    match span {
-        None => out.push_str("none"),
-        Some(span) => write_live(out, span),
-    }
+    let Some(span) = span else {
+        return out.push_str("none");
+    };
+    write_number(out, "span ", span.location)?;
+    write_bytes(out, " ", span.key.as_bytes())?;
+    write_bytes(out, " ", span.value.as_bytes())?;
+    write_bytes(out, " ", span.next.as_bytes())
 }
 
 // A value and the next key, if the key is live.
@@ -324,24 +317,8 @@ fn write_whole<K: ByteString, V: ByteString>(
     let Some((value, next)) = whole else {
         return out.push_str("none");
     };
-    out.push_str("all ")?;
-    write_bytes(out, value.as_bytes())?;
-    out.push_str(" ")?;
-    write_bytes(out, next.as_bytes())
-}
-
-// A key with its value, after a space.
-fn write_pair<K: ByteString, V: ByteString>(
-    out: &mut String,
-    key: &K,
-    value: &V,
-) -> Result<(), AllocError>
-    ensures { Adds out.old out.new result (codes " " ++ (texts.hex_text (K.bytes key.now) ++ (codes "=" ++ texts.hex_text (V.bytes value.now)))) }
-{
-    out.push_str(" ")?;
-    write_bytes(out, key.as_bytes())?;
-    out.push_str("=")?;
-    write_bytes(out, value.as_bytes())
+    write_bytes(out, "all ", value.as_bytes())?;
+    write_bytes(out, " ", next.as_bytes())
 }
 
 // Keys with their values, each after a space.
@@ -353,7 +330,7 @@ fn write_range<K: ByteString, V: ByteString>(
 {
     out.push_str("range")?;
     for (key, value) in pairs {
-        write_pair(out, key, value)?;
+        write_pair(out, " ", key.as_bytes(), value.as_bytes())?;
     }
     Ok(())
 }
@@ -364,17 +341,9 @@ fn write_keys<K: ByteString>(out: &mut String, keys: &[K]) -> Result<(), AllocEr
 {
     out.push_str("keys")?;
     for key in keys {
-        out.push_str(" ")?;
-        write_bytes(out, key.as_bytes())?;
+        write_bytes(out, " ", key.as_bytes())?;
     }
     Ok(())
-}
-
-fn write_metadata<V: ByteString>(out: &mut String, metadata: &Option<V>) -> Result<(), AllocError>
-    ensures { Adds out.old out.new result (texts.reply_line (lines.Metadata (option_map V.bytes metadata.now))) }
-{
-    out.push_str("meta ")?;
-    write_optional(out, metadata)
 }
 
 fn write_pins<D: Digest>(out: &mut String, digests: &[D]) -> Result<(), AllocError>
@@ -403,12 +372,12 @@ fn write_line<K: ByteString, V: ByteString, D: Digest>(
             "open",
             &[*opening, *start, *size],
         ),
-        Reply::Batch(handle) => write_numbers(out, "batch", &[*handle]),
+        Reply::Batch(handle) => write_number(out, "batch ", *handle),
         Reply::Done => out.push_str("ok"),
         Reply::Merkleized(handle, base, size, floor) => {
             write_numbers(out, "merkleized", &[*handle, *base, *size, *floor])
         }
-        Reply::Applied(size) => write_numbers(out, "applied", &[*size]),
+        Reply::Applied(size) => write_number(out, "applied ", *size),
         Reply::Ops(base, ops) => write_listed(out, *base, ops),
         Reply::Read(values) => write_read(out, values),
         Reply::Expanded(first, end, values) => write_expanded(out, *first, *end, values),
@@ -424,7 +393,7 @@ fn write_line<K: ByteString, V: ByteString, D: Digest>(
             write_numbers(out, "info", &[*base, *size, *floor, *boundary])
         }
         Reply::Root(root, operations) => write_roots(out, root, operations),
-        Reply::Meta(metadata) => write_metadata(out, metadata),
+        Reply::Meta(metadata) => write_optional(out, "meta ", metadata),
         Reply::Proof(leaves, inactive, digests, ops) => {
             write_proved(out, *leaves, *inactive, digests, ops)
         }

@@ -3,17 +3,16 @@ ghost use Rattle.std.specs.Prelude.{◌≡◌, ℕ, Option, IfOk, option_map};
 ghost use Rattle.qm_model.specs.Operations.{Bytes};
 ghost use Rattle.qm_model.specs.Policies.{Policy};
 ghost use Rattle.qm_machine.specs.Grammar as grammar;
-ghost use Rattle.qm_machine.specs.Lines as lines;
 ghost use Rattle.qm_machine.specs.Lines.{Line};
-ghost use Rattle.qm_lines.specs.Parsed.{byte_line, lent};
+ghost use Rattle.qm_lines.specs.Parsed.{byte_line, key_line, lent, read_line};
 
 use super::ByteCommand;
 use super::keys::{Reading, key, parse_reading, value};
 use super::merkleize::merkleize;
 use super::numbers::{named_number, number, positive};
 use super::pieces::is;
-use super::ranges::{keys, range};
-use super::staged::{expand, resolve, stage};
+use super::ranges::{RangeForm, range};
+use super::staged::{KeyedForm, keyed, resolve};
 use crate::command::{BatchCommand, Command, InfoCommand, Question, ReadCommand, StoreCommand};
 use qm_base::ByteKey;
 use std::alloc::{AllocError, Global};
@@ -41,9 +40,8 @@ fn info(words: &[&[u8]]) -> Option<ByteCommand>
     if words.is_empty() {
         return Some(Command::Info(InfoCommand::Info));
     }
-    only_number(words)
-        .map(InfoCommand::BatchInfo)
-        .map(Command::Info)
+    let handle = only_number(words)?;
+    Some(Command::Info(InfoCommand::BatchInfo(handle)))
 }
 
 fn root(words: &[&[u8]]) -> Option<ByteCommand>
@@ -52,9 +50,8 @@ fn root(words: &[&[u8]]) -> Option<ByteCommand>
     if words.is_empty() {
         return Some(Command::Info(InfoCommand::Root));
     }
-    only_number(words)
-        .map(InfoCommand::BatchRoot)
-        .map(Command::Info)
+    let handle = only_number(words)?;
+    Some(Command::Info(InfoCommand::BatchRoot(handle)))
 }
 
 // Perhaps up to a size.
@@ -142,47 +139,28 @@ fn one_read(mut reading: Reading) -> Option<OneRead>
     reading.keys.is_empty().then_some(OneRead { key, from })
 }
 
-// A key, at whose end a batch may stand, whatever is made of them.
-fn read(alloc: Global, words: &[&[u8]]) -> Result<Option<OneRead>, AllocError>
-    ensures { IfOk result (λ found. (line : Bytes → Option ℕ → Line Policy) → option_map (λ read. line read.key read.from) found ≡ grammar.read_of line (lent words.now)) }
-{
-    Ok(parse_reading(alloc, words)?.and_then(one_read))
+/// What is read of one key, through the database or a batch.
+#[derive(Clone, Copy)]
+pub enum ReadForm {
+    Get,
+    Next,
+    Prev,
 }
 
-fn get(alloc: Global, words: &[&[u8]]) -> Result<Option<ByteCommand>, AllocError>
-    ensures { IfOk result (λ command. option_map byte_line command ≡ grammar.read_of lines.Get (lent words.now)) }
+// A key, at whose end a batch may stand.
+fn read(alloc: Global, form: ReadForm, words: &[&[u8]]) -> Result<Option<ByteCommand>, AllocError>
+    ensures { IfOk result (λ command. option_map byte_line command ≡ grammar.read_of (read_line form) (lent words.now)) }
 {
-    match read(alloc, words)? {
-        None => Ok(None),
-        Some(read) => Ok(Some(Command::Read(ReadCommand::Get(read.key, read.from)))),
-    }
-}
-
-fn next(alloc: Global, words: &[&[u8]]) -> Result<Option<ByteCommand>, AllocError>
-    ensures { IfOk result (λ command. option_map byte_line command ≡ grammar.read_of lines.Next (lent words.now)) }
-{
-    match read(alloc, words)? {
-        None => Ok(None),
-        Some(read) => Ok(Some(Command::Read(ReadCommand::Next(read.key, read.from)))),
-    }
-}
-
-fn prev(alloc: Global, words: &[&[u8]]) -> Result<Option<ByteCommand>, AllocError>
-    ensures { IfOk result (λ command. option_map byte_line command ≡ grammar.read_of lines.Prev (lent words.now)) }
-{
-    match read(alloc, words)? {
-        None => Ok(None),
-        Some(read) => Ok(Some(Command::Read(ReadCommand::Prev(read.key, read.from)))),
-    }
-}
-
-// One key more, whatever is made of it.
-fn only_key(alloc: Global, words: &[&[u8]]) -> Result<Option<ByteKey>, AllocError>
-    ensures { IfOk result (λ found. (line : Bytes → Line Policy) → option_map line found ≡ grammar.only_key line (lent words.now)) }
-{
-    match words {
-        [word] => key(alloc, word),
-        _ => Ok(None),
+    let Some(reading) = parse_reading(alloc, words)? else {
+        return Ok(None);
+    };
+    let Some(OneRead { key, from }) = one_read(reading) else {
+        return Ok(None);
+    };
+    match form {
+        ReadForm::Get => Ok(Some(Command::Read(ReadCommand::Get(key, from)))),
+        ReadForm::Next => Ok(Some(Command::Read(ReadCommand::Next(key, from)))),
+        ReadForm::Prev => Ok(Some(Command::Read(ReadCommand::Prev(key, from)))),
     }
 }
 
@@ -198,24 +176,40 @@ fn some_read(reading: Reading) -> Option<ByteCommand>
 fn many(alloc: Global, words: &[&[u8]]) -> Result<Option<ByteCommand>, AllocError>
     ensures { IfOk result (λ command. option_map byte_line command ≡ grammar.many_of (lent words.now)) }
 {
-    Ok(parse_reading(alloc, words)?.and_then(some_read))
-}
-
-fn held(alloc: Global, words: &[&[u8]]) -> Result<Option<ByteCommand>, AllocError>
-    ensures { IfOk result (λ command. option_map byte_line command ≡ grammar.only_key (λ key. lines.Current (lines.Held key)) (lent words.now)) }
-{
-    match only_key(alloc, words)? {
+    match parse_reading(alloc, words)? {
         None => Ok(None),
-        Some(key) => Ok(Some(Command::Info(InfoCommand::Current(Question::Held(key))))),
+        Some(reading) => Ok(some_read(reading)),
     }
 }
 
-fn absent(alloc: Global, words: &[&[u8]]) -> Result<Option<ByteCommand>, AllocError>
-    ensures { IfOk result (λ command. option_map byte_line command ≡ grammar.only_key (λ key. lines.Current (lines.Absent key)) (lent words.now)) }
+/// What is asked of one key alone.
+#[derive(Clone, Copy)]
+pub enum KeyForm {
+    Span,
+    All,
+    Held,
+    Absent,
+}
+
+// One key more.
+fn only_key(
+    alloc: Global,
+    form: KeyForm,
+    words: &[&[u8]],
+) -> Result<Option<ByteCommand>, AllocError>
+    ensures { IfOk result (λ command. option_map byte_line command ≡ grammar.only_key (key_line form) (lent words.now)) }
 {
-    match only_key(alloc, words)? {
-        None => Ok(None),
-        Some(key) => Ok(Some(Command::Info(InfoCommand::Current(Question::Absent(key))))),
+    let [word] = words else {
+        return Ok(None);
+    };
+    let Some(key) = key(alloc, word)? else {
+        return Ok(None);
+    };
+    match form {
+        KeyForm::Span => Ok(Some(Command::Read(ReadCommand::Span(key)))),
+        KeyForm::All => Ok(Some(Command::Read(ReadCommand::All(key)))),
+        KeyForm::Held => Ok(Some(Command::Info(InfoCommand::Current(Question::Held(key))))),
+        KeyForm::Absent => Ok(Some(Command::Info(InfoCommand::Current(Question::Absent(key))))),
     }
 }
 
@@ -230,34 +224,14 @@ fn chunks(words: &[&[u8]]) -> Option<ByteCommand>
     Some(Command::Info(InfoCommand::Current(Question::Chunks(start, most))))
 }
 
-fn span(alloc: Global, words: &[&[u8]]) -> Result<Option<ByteCommand>, AllocError>
-    ensures { IfOk result (λ command. option_map byte_line command ≡ grammar.only_key lines.Span (lent words.now)) }
-{
-    Ok(
-        only_key(alloc, words)?
-            .map(ReadCommand::Span)
-            .map(Command::Read),
-    )
-}
-
-fn all(alloc: Global, words: &[&[u8]]) -> Result<Option<ByteCommand>, AllocError>
-    ensures { IfOk result (λ command. option_map byte_line command ≡ grammar.only_key lines.All (lent words.now)) }
-{
-    Ok(
-        only_key(alloc, words)?
-            .map(ReadCommand::All)
-            .map(Command::Read),
-    )
-}
-
 // What a current database offers.
 fn current(alloc: Global, name: &[u8], words: &[&[u8]]) -> Result<Option<ByteCommand>, AllocError>
     ensures { IfOk result (λ command. option_map byte_line command ≡ grammar.form_of name.now (lent words.now) grammar.current_forms) }
 {
     if is(name, b"held") {
-        held(alloc, words)
+        only_key(alloc, KeyForm::Held, words)
     } else if is(name, b"absent") {
-        absent(alloc, words)
+        only_key(alloc, KeyForm::Absent, words)
     } else if is(name, b"chunks") {
         Ok(chunks(words))
     } else if is(name, b"witness") {
@@ -275,11 +249,10 @@ fn lasting(alloc: Global, name: &[u8], words: &[&[u8]]) -> Result<Option<ByteCom
     ensures { IfOk result (λ command. option_map byte_line command ≡ grammar.form_of name.now (lent words.now) grammar.lasting_forms) }
 {
     if is(name, b"prune") {
-        Ok(
-            only_number(words)
-                .map(StoreCommand::Prune)
-                .map(Command::Store),
-        )
+        match only_number(words) {
+            None => Ok(None),
+            Some(location) => Ok(Some(Command::Store(StoreCommand::Prune(location)))),
+        }
     } else if is(name, b"commit") {
         Ok(alone(words, Command::Store(StoreCommand::Commit)))
     } else if is(name, b"sync") {
@@ -289,11 +262,10 @@ fn lasting(alloc: Global, name: &[u8], words: &[&[u8]]) -> Result<Option<ByteCom
     } else if is(name, b"destroy") {
         Ok(alone(words, Command::Store(StoreCommand::Destroy)))
     } else if is(name, b"crash") {
-        Ok(
-            only_number(words)
-                .map(StoreCommand::Crash)
-                .map(Command::Store),
-        )
+        match only_number(words) {
+            None => Ok(None),
+            Some(end) => Ok(Some(Command::Store(StoreCommand::Crash(end)))),
+        }
     } else {
         current(alloc, name, words)
     }
@@ -308,17 +280,19 @@ fn telling(alloc: Global, name: &[u8], words: &[&[u8]]) -> Result<Option<ByteCom
     } else if is(name, b"root") {
         Ok(root(words))
     } else if is(name, b"proof") {
-        Ok(
-            only_number(words)
-                .map(InfoCommand::BatchProof)
-                .map(Command::Info),
-        )
+        match only_number(words) {
+            None => Ok(None),
+            Some(handle) => Ok(Some(Command::Info(InfoCommand::BatchProof(handle)))),
+        }
     } else if is(name, b"meta") {
         Ok(alone(words, Command::Info(InfoCommand::Meta)))
     } else if is(name, b"prove") {
         Ok(prove(words))
     } else if is(name, b"pins") {
-        Ok(only_number(words).map(InfoCommand::Pins).map(Command::Info))
+        match only_number(words) {
+            None => Ok(None),
+            Some(size) => Ok(Some(Command::Info(InfoCommand::Pins(size)))),
+        }
     } else {
         lasting(alloc, name, words)
     }
@@ -329,21 +303,21 @@ fn reading(alloc: Global, name: &[u8], words: &[&[u8]]) -> Result<Option<ByteCom
     ensures { IfOk result (λ command. option_map byte_line command ≡ grammar.form_of name.now (lent words.now) grammar.reading_forms) }
 {
     if is(name, b"get") {
-        get(alloc, words)
+        read(alloc, ReadForm::Get, words)
     } else if is(name, b"many") {
         many(alloc, words)
     } else if is(name, b"next") {
-        next(alloc, words)
+        read(alloc, ReadForm::Next, words)
     } else if is(name, b"prev") {
-        prev(alloc, words)
+        read(alloc, ReadForm::Prev, words)
     } else if is(name, b"span") {
-        span(alloc, words)
+        only_key(alloc, KeyForm::Span, words)
     } else if is(name, b"all") {
-        all(alloc, words)
+        only_key(alloc, KeyForm::All, words)
     } else if is(name, b"range") {
-        range(alloc, words)
+        range(alloc, RangeForm::Range, words)
     } else if is(name, b"keys") {
-        keys(alloc, words)
+        range(alloc, RangeForm::Keys, words)
     } else {
         telling(alloc, name, words)
     }
@@ -354,19 +328,21 @@ fn staged(alloc: Global, name: &[u8], words: &[&[u8]]) -> Result<Option<ByteComm
     ensures { IfOk result (λ command. option_map byte_line command ≡ grammar.form_of name.now (lent words.now) grammar.staged_forms) }
 {
     if is(name, b"stage") {
-        stage(alloc, words)
+        keyed(alloc, KeyedForm::Stage, words)
     } else if is(name, b"expand") {
-        expand(alloc, words)
+        keyed(alloc, KeyedForm::Expand, words)
     } else if is(name, b"resolve") {
         resolve(alloc, words)
     } else if is(name, b"apply") {
-        Ok(
-            only_number(words)
-                .map(StoreCommand::Apply)
-                .map(Command::Store),
-        )
+        match only_number(words) {
+            None => Ok(None),
+            Some(handle) => Ok(Some(Command::Store(StoreCommand::Apply(handle)))),
+        }
     } else if is(name, b"ops") {
-        Ok(only_number(words).map(InfoCommand::Ops).map(Command::Info))
+        match only_number(words) {
+            None => Ok(None),
+            Some(handle) => Ok(Some(Command::Info(InfoCommand::Ops(handle)))),
+        }
     } else {
         reading(alloc, name, words)
     }

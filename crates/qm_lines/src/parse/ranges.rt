@@ -1,11 +1,10 @@
-// Ranges of keys: their ends, and the two commands.
+// Ranges of keys: their ends, and the command.
 ghost use Rattle.std.specs.Prelude.{◌≡◌, IfOk, option_map};
 ghost use Rattle.qm_model.specs.Policies.{Policy};
 ghost use Rattle.qm_model.specs.Ranges.{Limit};
 ghost use Rattle.qm_machine.specs.Grammar as grammar;
-ghost use Rattle.qm_machine.specs.Lines as lines;
 ghost use Rattle.qm_machine.specs.Lines.{Line};
-ghost use Rattle.qm_lines.specs.Parsed.{byte_bound, byte_line, lent};
+ghost use Rattle.qm_lines.specs.Parsed.{byte_bound, byte_line, lent, range_line};
 
 use super::ByteCommand;
 use super::keys::key;
@@ -72,22 +71,26 @@ fn parse_ends(alloc: Global, words: &[&[u8]]) -> Result<Option<Ends>, AllocError
     Ok(Some(Ends { low, high }))
 }
 
-/// A range whose keys are read with their values.
-pub fn range(alloc: Global, words: &[&[u8]]) -> Result<Option<ByteCommand>, AllocError>
-    ensures { IfOk result (λ command. option_map byte_line command ≡ grammar.range_of lines.Range (lent words.now)) }
-{
-    match parse_ends(alloc, words)? {
-        None => Ok(None),
-        Some(ends) => Ok(Some(Command::Read(ReadCommand::Range(ends.low, ends.high)))),
-    }
+/// What is read of a range: keys with their values, or keys alone.
+#[derive(Clone, Copy)]
+pub enum RangeForm {
+    Range,
+    Keys,
 }
 
-/// A range whose keys are read alone.
-pub fn keys(alloc: Global, words: &[&[u8]]) -> Result<Option<ByteCommand>, AllocError>
-    ensures { IfOk result (λ command. option_map byte_line command ≡ grammar.range_of lines.Keys (lent words.now)) }
+/// A range, from one end to the other.
+pub fn range(
+    alloc: Global,
+    form: RangeForm,
+    words: &[&[u8]],
+) -> Result<Option<ByteCommand>, AllocError>
+    ensures { IfOk result (λ command. option_map byte_line command ≡ grammar.range_of (range_line form) (lent words.now)) }
 {
-    match parse_ends(alloc, words)? {
-        None => Ok(None),
-        Some(ends) => Ok(Some(Command::Read(ReadCommand::Keys(ends.low, ends.high)))),
+    let Some(Ends { low, high }) = parse_ends(alloc, words)? else {
+        return Ok(None);
+    };
+    match form {
+        RangeForm::Range => Ok(Some(Command::Read(ReadCommand::Range(low, high)))),
+        RangeForm::Keys => Ok(Some(Command::Read(ReadCommand::Keys(low, high)))),
     }
 }

@@ -1,8 +1,7 @@
-// Staged reads: slots, other writes, and the three commands.
+// Staged reads: slots, other writes, and the commands.
 ghost use Rattle.std.specs.Prelude.{◌≡◌, ◌≤◌, IfOk, drop, length, map, option_map};
 ghost use Rattle.qm_machine.specs.Grammar as grammar;
-ghost use Rattle.qm_machine.specs.Lines as lines;
-ghost use Rattle.qm_lines.specs.Parsed.{byte_line, byte_slot, byte_write, lent, resolution_view};
+ghost use Rattle.qm_lines.specs.Parsed.{byte_line, byte_slot, byte_write, keyed_line, lent, resolution_view};
 
 use super::ByteCommand;
 use super::keys::{key, metadata, some_keys, value};
@@ -92,17 +91,20 @@ fn resolution(
     }
 }
 
-// A batch, and keys.
-#[derive(Drop)]
-struct Keyed {
-    handle: u64,
-    keys: Vec<ByteKey>,
+/// What is done with keys that are read through a batch: it becomes a staged one, or has more of them.
+#[derive(Clone, Copy)]
+pub enum KeyedForm {
+    Stage,
+    Expand,
 }
 
-// A batch, and one key or more.
-fn parse_keyed(alloc: Global, words: &[&[u8]]) -> Result<Option<Keyed>, AllocError>
-    ensures stage { IfOk result (λ found. option_map (λ keyed. lines.Stage keyed.handle keyed.keys.items) found ≡ grammar.keyed_of lines.Stage (lent words.now)) }
-    ensures expand { IfOk result (λ found. option_map (λ keyed. lines.Expand keyed.handle keyed.keys.items) found ≡ grammar.keyed_of lines.Expand (lent words.now)) }
+/// A batch, and one key or more.
+pub fn keyed(
+    alloc: Global,
+    form: KeyedForm,
+    words: &[&[u8]],
+) -> Result<Option<ByteCommand>, AllocError>
+    ensures { IfOk result (λ command. option_map byte_line command ≡ grammar.keyed_of (keyed_line form) (lent words.now)) }
 {
     let Some((handle, words)) = words.split_first() else {
         return Ok(None);
@@ -110,29 +112,12 @@ fn parse_keyed(alloc: Global, words: &[&[u8]]) -> Result<Option<Keyed>, AllocErr
     let Some(handle) = number(handle) else {
         return Ok(None);
     };
-    match some_keys(alloc, words)? {
-        None => Ok(None),
-        Some(keys) => Ok(Some(Keyed { handle, keys })),
-    }
-}
-
-/// Keys that are read through a batch, which becomes a staged one.
-pub fn stage(alloc: Global, words: &[&[u8]]) -> Result<Option<ByteCommand>, AllocError>
-    ensures { IfOk result (λ command. option_map byte_line command ≡ grammar.keyed_of lines.Stage (lent words.now)) }
-{
-    match parse_keyed(alloc, words)? {
-        None => Ok(None),
-        Some(keyed) => Ok(Some(Command::Batch(BatchCommand::Stage(keyed.handle, keyed.keys)))),
-    }
-}
-
-/// More keys of a staged batch.
-pub fn expand(alloc: Global, words: &[&[u8]]) -> Result<Option<ByteCommand>, AllocError>
-    ensures { IfOk result (λ command. option_map byte_line command ≡ grammar.keyed_of lines.Expand (lent words.now)) }
-{
-    match parse_keyed(alloc, words)? {
-        None => Ok(None),
-        Some(keyed) => Ok(Some(Command::Batch(BatchCommand::Expand(keyed.handle, keyed.keys)))),
+    let Some(keys) = some_keys(alloc, words)? else {
+        return Ok(None);
+    };
+    match form {
+        KeyedForm::Stage => Ok(Some(Command::Batch(BatchCommand::Stage(handle, keys)))),
+        KeyedForm::Expand => Ok(Some(Command::Batch(BatchCommand::Expand(handle, keys)))),
     }
 }
 
