@@ -24,7 +24,7 @@ pub use reads::Reading;
 pub use staged::Staging;
 
 /// The numbers of a database.
-#[derive(Clone, Copy, Debug, PartialEq, Eq)]
+#[derive(Clone, Copy)]
 pub struct Numbers {
     /// The location of the first operation that the store keeps.
     pub start: u64,
@@ -39,7 +39,7 @@ pub struct Numbers {
 }
 
 /// The numbers of a merkleized batch.
-#[derive(Clone, Copy, Debug, PartialEq, Eq)]
+#[derive(Clone, Copy)]
 pub struct BatchSizes {
     /// How many operations the list has that the batch was made from.
     pub base: u64,

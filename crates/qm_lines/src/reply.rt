@@ -22,7 +22,7 @@ pub struct Span<K, V> {
 }
 
 /// Why a tree refused.
-#[derive(Clone, Copy, Debug, PartialEq, Eq)]
+#[derive(Clone, Copy)]
 pub enum TreeRefused {
     /// A size, or a location, past the end.
     RangeOutOfBounds(u64),
@@ -35,7 +35,7 @@ pub enum TreeRefused {
 }
 
 /// Why a log refused.
-#[derive(Clone, Copy, Debug, PartialEq, Eq)]
+#[derive(Clone, Copy)]
 pub enum LogRefused {
     /// The item at this location is before the store's start.
     ItemPruned(u64),
@@ -44,7 +44,7 @@ pub enum LogRefused {
 }
 
 /// Why a command was refused.
-#[derive(Clone, Copy, Debug, PartialEq, Eq)]
+#[derive(Clone, Copy)]
 pub enum Refused {
     NotOffered,
     NoDatabase,
