@@ -1,4 +1,4 @@
-use Rattle.std.proofs.Common.{◌≡◌, [], ◌∷◌, ◌++◌, ◌+◌, IfOk, ◌∙◌, Contains, length, ap, subst}
+use Rattle.std.proofs.Common.{◌≡◌, [], ◌+◌, IfOk, ◌∙◌, Contains, length, ap, subst}
 use Rattle.qm_model.proofs.Chains.{Contains-first}
 use Rattle.qm_merkle.specs.Batches.{Draft, all_layers, stops}
 use Rattle.qm_store.proofs.Trees.{if_both, begins, new_reach, new_history}
