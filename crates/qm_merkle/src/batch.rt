@@ -107,7 +107,8 @@ impl<F: Family, D: Digest> UnmerkleizedBatch<F, D> {
         ensures ok { OnOk result (self.new ≡ record self.old { added = self.old.added ++ digest ∷ [] }) }
         ensures err { OnErr result (self.new ≡ self.old) }
     {
-        self.add_leaf_digests(&[digest])
+        self.added.push(digest)?;
+        Ok(())
     }
 
     /// Adds leaves with these digests.
