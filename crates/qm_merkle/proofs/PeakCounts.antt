@@ -1,6 +1,6 @@
 -- Digests that were found at positions, one by one.
 use Rattle.std.proofs.Common.{◌≡◌, ◌∙◌, ◌<◌, ◌+◌, ℕ, List, [], ◌∷◌, ◌++◌, Option, Some, ap, ap₂, sym, length, map, take, get_or}
-use Rattle.std.proofs.lemmas.List.{length-map, map-append, map_more}
+use Rattle.std.proofs.lemmas.List.{length-append, length-map, map-append, map_more}
 use Rattle.qm_model.specs.Trees.{Shape, peaks, peak_positions}
 
 -- those of peaks are as many as these
@@ -13,3 +13,7 @@ pub one_found : {D : Type 0} (found : ℕ → Option D) (ds next : List D) (d : 
     map Some next ≡ map found (take (i + 1) positions)
 one_found found ds next d positions i p lt is before at more =
     ap (map Some) more ∙ map-append Some ds (d ∷ []) ∙ ap₂ (λ xs o. xs ++ o ∷ []) before (sym at ∙ ap found is) ∙ sym (map_more found positions i p lt)
+
+-- and there is one more of them
+pub one_longer : {D : Type 0} (ds next : List D) (d : D) (i : ℕ) → next ≡ ds ++ d ∷ [] → length ds ≡ i → length next ≡ i + 1
+one_longer ds next d i more count = ap length more ∙ length-append ds (d ∷ []) ∙ ap (λ n. n + 1) count

@@ -66,6 +66,11 @@ lists-since leaves P lists holds = all-passing (λ l. nat_le leaves (length l)) 
 pub first-since : {X : Type 0} (leaves : ℕ) (new : List X) (lists : List (List X)) → leaves ≤ length new → lists_since leaves (new ∷ lists) ≡ new ∷ lists_since leaves lists
 first-since leaves new lists within = filter-first (λ list. nat_le leaves (length list)) new lists (le-leb leaves (length new) within)
 
+-- every layer begins at no leaves or later
+pub since-all : {D : Type 0} (layers : List (Layer D)) → layers_since 0 layers ≡ layers
+since-all [] = refl
+since-all (layer ∷ older) = since-here 0 layer older (omega arith) ∙ ap (λ rest. layer ∷ rest) (since-all older)
+
 module _ (shape : Shape) {D : Type 0} where
   -- they are linked
   pub linked-since : (leaves n : ℕ) (layers : List (Layer D)) → AreLinked shape n layers → AreLinked shape n (layers_since leaves layers)

@@ -76,7 +76,7 @@ impl<F: Family, D> Model for MerkleizedBatch<F, D> {
     ghost invariant = { λ b. (b.start ≤ b.newest.value.tree.start) × batches.AreLinked F.shape b.newest.value.tree.leaves (b.newest.value ∷ map (λ r. r.value) b.older.items) };
 }
 
-impl<F: Family, D: Digest> UnmerkleizedBatch<F, D> {
+impl<F: Family, D> UnmerkleizedBatch<F, D> {
     // A batch of a tree of so many leaves, kept from a start.
     pub(crate) fn of_tree(alloc: Global, start: Location<F>, leaves: Location<F>) -> Self
         requires order { start ≤ leaves }
@@ -91,7 +91,9 @@ impl<F: Family, D: Digest> UnmerkleizedBatch<F, D> {
             added: Vec::new(alloc),
         }
     }
+}
 
+impl<F: Family, D: Digest> UnmerkleizedBatch<F, D> {
     /// How many leaves the batch's list has.
     pub fn leaves(&self) -> Location<F>
         ensures { result ≡ leaves_of self.now }
@@ -115,8 +117,7 @@ impl<F: Family, D: Digest> UnmerkleizedBatch<F, D> {
         ensures ok { OnOk result (self.new ≡ record self.old { added = self.old.added ++ digests.now }) }
         ensures err { OnErr result (self.new ≡ self.old) }
     {
-        self.added.extend_from_slice(digests)?;
-        Ok(())
+        self.added.extend_from_slice(digests)
     }
 
     /// Gives a leaf another digest.
@@ -167,13 +168,14 @@ impl<F: Family, D: Digest> UnmerkleizedBatch<F, D> {
         ensures few { (k : ℕ) → self.base < 2 ^ suc k → IfOk result (λ b. length b.newest.replaced ≤ length self.replaced * suc k) }
         ensures made { IfOk result (λ b. hasher.new ≡ more hasher.old ((length b.newest.tree.nodes - length self.added) + (length b.newest.replaced - length self.replaced))) }
     {
-        let (start, _) = mem.bounds();
-        prove!(start.get() <= self.base.get());
+        let start = self.start;
+        // its clauses say that the tree is whole
+        let _bounds = mem.bounds();
         let replaced = self.replaced_nodes(alloc, mem, hasher)?;
         let tree = self.tree(alloc, mem, hasher, &replaced)?;
         let newest = Rc::new(alloc, Layer { tree, replaced })?;
         Ok(MerkleizedBatch {
-            start: self.start,
+            start,
             newest,
             older: self.layers,
         })
@@ -233,7 +235,7 @@ impl<F: Family, D: Digest> UnmerkleizedBatch<F, D> {
     {
         let mut found = Vec::with_capacity(alloc, positions.len())?;
         for position in positions {
-            found.push(self.digest(mem, nodes, *position))?;
+            found.push_reserved(self.digest(mem, nodes, *position));
         }
         Ok(found)
     }
@@ -244,13 +246,7 @@ impl<F: Family, D: Digest> MerkleizedBatch<F, D> {
     pub fn new_batch(&self, alloc: Global) -> Result<UnmerkleizedBatch<F, D>, AllocError>
         ensures { IfOk result (λ b. b ≡ record { start = self.now.start; base = self.now.newest.tree.leaves; layers = all_layers self.now; replaced = []; added = [] }) }
     {
-        Ok(UnmerkleizedBatch {
-            start: self.start,
-            base: self.leaves(),
-            layers: self.layers()?,
-            replaced: BTreeMap::new(alloc),
-            added: Vec::new(alloc),
-        })
+        self.new_batch_since(alloc, Location::new(0))
     }
 
     /// A batch that stands on this one, but on no layer that begins before so many leaves: what those add and replace is then
@@ -286,18 +282,7 @@ impl<F: Family, D: Digest> MerkleizedBatch<F, D> {
             return Ok(Vec::new(alloc));
         }
         let (since, _) = self.older.split_at(put::count_since(&self.older, leaves));
-        let mut layers = since.to_vec(alloc)?;
-        layers.insert(0, self.newest.clone()?)?;
-        Ok(layers)
-    }
-
-    // The layers of the batch, the newest first.
-    fn layers(&self) -> Result<Vec<Rc<Layer<F, D>>>, AllocError>
-        ensures { IfOk result (λ v. map (λ r. r.value) v.items ≡ all_layers self.now) }
-    {
-        let mut layers = self.older.clone()?;
-        layers.insert(0, self.newest.clone()?)?;
-        Ok(layers)
+        first_of(alloc, &self.newest, since)
     }
 
     /// How many leaves the batch's list has.
@@ -376,4 +361,17 @@ fn layers_digest<F: Family, D: Digest>(
         }
     }
     None
+}
+
+// One that is shared, before others.
+fn first_of<T: Drop>(
+    alloc: Global,
+    first: &Rc<T>,
+    others: &[Rc<T>],
+) -> Result<Vec<Rc<T>>, AllocError>
+    ensures { IfOk result (λ all. map (λ r. r.value) all.items ≡ first.now.value ∷ map (λ r. r.value) others.now) }
+{
+    let mut all = others.to_vec(alloc)?;
+    all.insert(0, first.clone()?)?;
+    Ok(all)
 }

@@ -1,6 +1,6 @@
 //! The digests of leaves and nodes, and the root of a row of peaks.
 
-ghost use Rattle.std.specs.Prelude.{◌≡◌, ℕ, List, ◌<◌, ◌≤◌, ◌-◌, ◌++◌, length, map, max};
+ghost use Rattle.std.specs.Prelude.{◌≡◌, ℕ, List, ◌<◌, ◌≤◌, ◌-◌, ◌++◌, length, map, max, take, drop};
 ghost use Rattle.std.specs.List.{concat};
 ghost use Rattle.qm_model.specs.Operations as operations;
 ghost use Rattle.qm_model.specs.Trees as trees;
@@ -58,8 +58,7 @@ impl<H: Hasher> StandardHasher<H> {
         ensures digest { H.Digest.bytes result ≡ trees.leaf_digest H.hash position bytes.now }
         ensures made { self.new ≡ more self.old 1 }
     {
-        self.hasher.start();
-        self.hasher.update(&eight_bytes(position.get()));
+        begin(&mut self.hasher, position.get());
         self.hasher.update(bytes);
         finish(&mut self.hasher, &mut self.made)
     }
@@ -69,8 +68,7 @@ impl<H: Hasher> StandardHasher<H> {
         ensures digest { H.Digest.bytes result ≡ trees.leaf_digest H.hash position (E.spelling element.now) }
         ensures made { self.new ≡ more self.old 1 }
     {
-        self.hasher.start();
-        self.hasher.update(&eight_bytes(position.get()));
+        begin(&mut self.hasher, position.get());
         element.feed(&mut self.hasher);
         finish(&mut self.hasher, &mut self.made)
     }
@@ -80,8 +78,7 @@ impl<H: Hasher> StandardHasher<H> {
         ensures digest { H.Digest.bytes result ≡ trees.node_digest H.hash number (H.Digest.bytes left.now) (H.Digest.bytes right.now) }
         ensures made { self.new ≡ more self.old 1 }
     {
-        self.hasher.start();
-        self.hasher.update(&eight_bytes(number));
+        begin(&mut self.hasher, number);
         self.hasher.update(left.bytes());
         self.hasher.update(right.bytes());
         finish(&mut self.hasher, &mut self.made)
@@ -101,17 +98,26 @@ impl<H: Hasher> StandardHasher<H> {
         if peaks.is_empty() {
             return self.sealed(leaves, inactive, &[]);
         }
+        let folded = self.folded(inactive, peaks);
+        self.sealed(leaves, inactive, folded.bytes())
+    }
+
+    // What peaks fold to, of which the first ones are inactive.
+    fn folded(&mut self, inactive: usize, peaks: &[H::Digest]) -> H::Digest
+        requires some { 0 < length peaks.now }
+        requires inactive { inactive ≤ length peaks.now }
+        ensures digest { H.Digest.bytes result ≡ trees.fold_right H.hash (trees.fold_inactive H.hash (take inactive (map H.Digest.bytes peaks.now)) ++ drop inactive (map H.Digest.bytes peaks.now)) }
+        ensures made { self.new ≡ more self.old (length peaks.now - 1) }
+    {
         if inactive == 0 {
-            let folded = self.fold_right(peaks);
-            return self.sealed(leaves, inactive, folded.bytes());
+            return self.fold_right(peaks);
         }
         let first = self.fold_left(peaks[0], &peaks[1..inactive]);
         if inactive == peaks.len() {
-            return self.sealed(leaves, inactive, first.bytes());
+            return first;
         }
         let rest = self.fold_right(&peaks[inactive..]);
-        let folded = self.pair_digest(&first, &rest);
-        self.sealed(leaves, inactive, folded.bytes())
+        self.pair_digest(&first, &rest)
     }
 
     /// The digest of two digests in a row.
@@ -157,12 +163,19 @@ impl<H: Hasher> StandardHasher<H> {
         ensures digest { H.Digest.bytes result ≡ H.hash (operations.eight_bytes leaves ++ operations.eight_bytes inactive ++ folded.now) }
         ensures made { self.new ≡ more self.old 1 }
     {
-        self.hasher.start();
-        self.hasher.update(&eight_bytes(leaves.get()));
+        begin(&mut self.hasher, leaves.get());
         self.hasher.update(&eight_bytes(inactive as u64));
         self.hasher.update(folded);
         finish(&mut self.hasher, &mut self.made)
     }
+}
+
+// Begins a message with a number.
+fn begin<H: Hasher>(hasher: &mut H, number: u64)
+    ensures { H.holds hasher.new (operations.eight_bytes number) }
+{
+    hasher.start();
+    hasher.update(&eight_bytes(number));
 }
 
 // The digest of the message that the hasher holds, counted.

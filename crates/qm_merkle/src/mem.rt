@@ -87,28 +87,6 @@ impl<F: Family, D: Digest> Mem<F, D> {
         Ok(Mem::of_parts(positions, nodes, pruned_to, pinned))
     }
 
-    // The tree of these nodes, positions of pins and pins.
-    pub(crate) fn of_parts(
-        positions: Vec<Position<F>>,
-        nodes: Vec<D>,
-        start: Location<F>,
-        pins: Vec<D>,
-    ) -> Self
-        requires positions { positions.items ≡ trees.peak_positions F.shape start }
-        requires pins { length pins.items ≡ length (trees.peaks F.shape start) }
-        requires size { (n : ℕ) × (n ≤ 2 ^ 62) × (trees.Shape.size F.shape n ≡ trees.Shape.size F.shape start + length nodes.items) }
-        ensures { (n : ℕ) → trees.Shape.size F.shape n ≡ trees.Shape.size F.shape start + length nodes.items → result ≡ record { start = start; leaves = n; pins = pins.items; nodes = nodes.items } }
-    {
-        let leaves = leaves_past(start, nodes.len() as u64);
-        Mem {
-            start,
-            leaves,
-            positions,
-            pins,
-            nodes,
-        }
-    }
-
     /// How many nodes the tree has, forgotten ones among them.
     pub fn size(&self) -> Position<F>
         ensures { result ≡ trees.Shape.size F.shape self.now.leaves }
@@ -215,17 +193,6 @@ impl<F: Family, D: Digest> Mem<F, D> {
         Ok(())
     }
 
-    // Adds the nodes from the kept start on, where there is room.
-    pub(crate) fn append_to(&self, nodes: &mut Vec<D>)
-        requires { length nodes.old.items + length self.now.nodes ≤ vec_capacity nodes.old }
-        ensures items { nodes.new.items ≡ nodes.old.items ++ self.now.nodes }
-        ensures capacity { vec_capacity nodes.new ≡ vec_capacity nodes.old }
-    {
-        for node in &self.nodes {
-            nodes.push_reserved(*node);
-        }
-    }
-
     // The digest of a node that the tree holds.
     fn node(&self, position: Position<F>) -> D
         requires { Holds F.shape self.now position }
@@ -241,7 +208,7 @@ impl<F: Family, D: Digest> Mem<F, D> {
     {
         let mut found = Vec::with_capacity(alloc, positions.len())?;
         for position in positions {
-            found.push(self.node(*position))?;
+            found.push_reserved(self.node(*position));
         }
         Ok(found)
     }
@@ -285,17 +252,6 @@ impl<F: Family, D: Digest> Mem<F, D> {
         Ok(())
     }
 
-    // Takes the room that the nodes of so many more leaves need.
-    fn make_room(&mut self, more: u64) -> Result<(), AllocError>
-        requires { self.old.leaves + more ≤ 2 ^ 62 }
-        ensures { self.new ≡ self.old }
-    {
-        let leaves = Location::new(self.leaves.get() + more);
-        let size = F::location_to_position(leaves).get();
-        let room = size - F::location_to_position(self.leaves).get();
-        self.nodes.reserve(room as usize)
-    }
-
     // Makes the nodes that are born with a leaf in the buffer, in place of what it has.
     fn births<H: Hasher<Digest = D>>(
         &self,
@@ -310,10 +266,11 @@ impl<F: Family, D: Digest> Mem<F, D> {
     {
         let count = F::birth_count(self.leaves);
         buffer.clear();
-        buffer.push(leaf)?;
+        buffer.reserve(count as usize)?;
+        buffer.push_reserved(leaf);
         for number in 1..count {
             let digest = self.parent(hasher, buffer, number);
-            buffer.push(digest)?;
+            buffer.push_reserved(digest);
         }
         Ok(())
     }
@@ -355,6 +312,54 @@ impl<F: Family, D: Digest> Mem<F, D> {
             self.node(position)
         } else {
             made[(position.get() - size.get()) as usize]
+        }
+    }
+}
+
+impl<F: Family, D> Mem<F, D> {
+    // The tree of these nodes, positions of pins and pins.
+    pub(crate) fn of_parts(
+        positions: Vec<Position<F>>,
+        nodes: Vec<D>,
+        start: Location<F>,
+        pins: Vec<D>,
+    ) -> Self
+        requires positions { positions.items ≡ trees.peak_positions F.shape start }
+        requires pins { length pins.items ≡ length (trees.peaks F.shape start) }
+        requires size { (n : ℕ) × (n ≤ 2 ^ 62) × (trees.Shape.size F.shape n ≡ trees.Shape.size F.shape start + length nodes.items) }
+        ensures { (n : ℕ) → trees.Shape.size F.shape n ≡ trees.Shape.size F.shape start + length nodes.items → result ≡ record { start = start; leaves = n; pins = pins.items; nodes = nodes.items } }
+    {
+        let leaves = leaves_past(start, nodes.len() as u64);
+        Mem {
+            start,
+            leaves,
+            positions,
+            pins,
+            nodes,
+        }
+    }
+
+    // Takes the room that the nodes of so many more leaves need.
+    fn make_room(&mut self, more: u64) -> Result<(), AllocError>
+        requires { self.old.leaves + more ≤ 2 ^ 62 }
+        ensures { self.new ≡ self.old }
+    {
+        let leaves = Location::new(self.leaves.get() + more);
+        let size = F::location_to_position(leaves).get();
+        let room = size - F::location_to_position(self.leaves).get();
+        self.nodes.reserve(room as usize)
+    }
+}
+
+impl<F: Family, D: Copy> Mem<F, D> {
+    // Adds the nodes from the kept start on, where there is room.
+    pub(crate) fn append_to(&self, nodes: &mut Vec<D>)
+        requires { length nodes.old.items + length self.now.nodes ≤ vec_capacity nodes.old }
+        ensures items { nodes.new.items ≡ nodes.old.items ++ self.now.nodes }
+        ensures capacity { vec_capacity nodes.new ≡ vec_capacity nodes.old }
+    {
+        for node in &self.nodes {
+            nodes.push_reserved(*node);
         }
     }
 }

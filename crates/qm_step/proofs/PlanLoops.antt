@@ -168,6 +168,10 @@ module _ {A B Y : Type 0} (f : A → Y) (h : B → Y) (made : List A) (rest : Li
   pub drained-all : rest ≡ [] → map f made ++ map h rest ≡ all → map f made ≡ all
   drained-all none so_far = sym (append-nil (map f made)) ∙ ap (λ xs. map f made ++ map h xs) (sym none) ∙ so_far
 
+  -- before the last of them there is room for one more
+  pub drained-room : (b : B) (rest' : List B) → rest ≡ b ∷ rest' → map f made ++ map h rest ≡ all → length made < length all
+  drained-room b rest' more so_far = omega (arith, ap length so_far, length-append (map f made) (map h rest), length-map made f, length-map rest h, ap length more)
+
 pub none-first : (es : List Live) → [] ≡ filter_map (rewrite_here []) es
 none-first [] = refl
 none-first (e ∷ es) = none-first es

@@ -111,11 +111,11 @@ fn diff_of<F, K: ByteString, V: ByteString>(
     requires { All (λ e. K.has e.0.now ≡ true) notes.entries }
     ensures { IfOk result (λ diff. changes_view K.bytes V.bytes diff ≡ map (λ e. (e.0.now, noted_view V.bytes e.1)) notes.entry.entries) }
 {
-    let mut entries = Vec::new(alloc);
+    let mut entries = Vec::with_capacity(alloc, notes.len())?;
     for (key, noted) in notes {
         let key = K::from_bytes(alloc, key)?;
         let entry = entry_of(alloc, noted)?;
-        entries.push((key, entry))?;
+        entries.push_reserved((key, entry));
     }
     Ok(Diff::new(entries))
 }
@@ -131,6 +131,5 @@ pub fn diff_of_touches<F, U: Update>(
         → AreChanges (changes_view U.Key.bytes U.Value.bytes diff) base (base ++ operations_of (touch_views U.view U.Key.bytes U.Value.bytes touches.now))) }
 {
     let notes = notes_of(alloc, size, touches)?;
-    let diff = diff_of(alloc, notes)?;
-    Ok(diff)
+    diff_of(alloc, notes)
 }

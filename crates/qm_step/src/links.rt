@@ -5,7 +5,7 @@ ghost use Rattle.qm_model.specs.Keys.{predecessor, without};
 ghost use Rattle.qm_model.specs.Operations as operations;
 ghost use Rattle.qm_model.specs.Ordered.{IsRing, ordered_writes};
 ghost use Rattle.qm_model.specs.Writes as model;
-ghost use Rattle.qm_step.specs.Links.{is_kind, of_kind, keys_of_kind, key_after, named, ordered_operation, touch_of, after_of, before_of, next_of, keys_in, ordered_neighbour, SameKeys, IsStanding, AreKeys, AreLive, AreRelinked};
+ghost use Rattle.qm_step.specs.Links.{is_kind, of_kind, keys_of_kind, key_after, named, ordered_operation, touch_of, after_of, before_of, next_of, keys_in, ordered_neighbour, relinked_touches, SameKeys, IsStanding, AreKeys, AreLive, AreRelinked};
 ghost use Rattle.qm_step.specs.OrderedViews.{neighbour_view, ordered_touches, ordered_update};
 ghost use Rattle.qm_step.specs.PlanViews.{last_write_view, linked_view};
 ghost use Rattle.qm_step.specs.Rings.{linked_in, neighbour_in, touch_in};
@@ -324,6 +324,61 @@ fn add_links<'a, F, K: ByteString, V: ValueEncoding<K>>(
     Ok(())
 }
 
+// The operations of writes: those of deletes, then of updates, then of creates.
+fn written_touches<'a, F, K: ByteString, V: ValueEncoding<K>>(
+    alloc: Global,
+    afters: &Keys<'a>,
+    linked: &[Site<'a, K, V::Value>],
+) -> Result<Vec<Touch<F, Ordered<K, V>>>, AllocError>
+    requires { AreKeys K.has afters.now.entries }
+    ensures { IfOk result (λ touches. ordered_touches K.bytes V.Value.bytes touches.items
+        ≡ map (touch_of (keys_in afters.now.entries)) (of_kind Kind.Delete (map (linked_view K.bytes V.Value.bytes) linked.now))
+        ++ map (touch_of (keys_in afters.now.entries)) (of_kind Kind.Update (map (linked_view K.bytes V.Value.bytes) linked.now))
+        ++ map (touch_of (keys_in afters.now.entries)) (of_kind Kind.Create (map (linked_view K.bytes V.Value.bytes) linked.now))) }
+{
+    let mut touches = Vec::new(alloc);
+    add_written(alloc, &mut touches, afters, linked, Kind::Delete)?;
+    add_written(alloc, &mut touches, afters, linked, Kind::Update)?;
+    add_written(alloc, &mut touches, afters, linked, Kind::Create)?;
+    Ok(touches)
+}
+
+// Writes the live updates before the keys that are created or deleted again, unless their own keys were written.
+fn add_relinked<'a, F, K: ByteString, V: ValueEncoding<K>>(
+    alloc: Global,
+    touches: &mut Vec<Touch<F, Ordered<K, V>>>,
+    befores: &Befores<'a, F, K, V>,
+    afters: &Keys<'a>,
+    linked: &'a [Site<'a, K, V::Value>],
+) -> Result<(), AllocError>
+    requires { AreKeys K.has afters.now.entries }
+    ensures { OnOk result ((base : List operations.Operation) → AreLive (ordered_update K.bytes V.Value.bytes) base befores.now.entries
+        → ordered_touches K.bytes V.Value.bytes touches.new.items ≡ ordered_touches K.bytes V.Value.bytes touches.old.items
+        ++ relinked_touches base (keys_in afters.now.entries) (keys_of_kind Kind.Update (map (linked_view K.bytes V.Value.bytes) linked.now))
+        (filter_map (predecessor (keys_in befores.now.entries)) (keys_of_kind Kind.Create (map (linked_view K.bytes V.Value.bytes) linked.now))
+        ++ filter_map (predecessor (keys_in befores.now.entries)) (keys_of_kind Kind.Delete (map (linked_view K.bytes V.Value.bytes) linked.now)))) }
+{
+    let mut written = keys_of(alloc, linked, Kind::Update)?;
+    add_links(
+        alloc,
+        touches,
+        &mut written,
+        befores,
+        afters,
+        linked,
+        Kind::Create,
+    )?;
+    add_links(
+        alloc,
+        touches,
+        &mut written,
+        befores,
+        afters,
+        linked,
+        Kind::Delete,
+    )
+}
+
 /// The operations of the last writes, of which it is known where their keys stand, and what stands before those that are
 /// created or deleted.
 pub fn linked_touches<'a, F, K: ByteString, V: ValueEncoding<K>>(
@@ -338,28 +393,7 @@ pub fn linked_touches<'a, F, K: ByteString, V: ValueEncoding<K>>(
     let deleted = keys_of(alloc, linked, Kind::Delete)?;
     let befores = befores_of(alloc, &deleted, neighbours)?;
     let afters = afters_of(alloc, &deleted, linked, neighbours)?;
-    let mut touches = Vec::new(alloc);
-    add_written(alloc, &mut touches, &afters, linked, Kind::Delete)?;
-    add_written(alloc, &mut touches, &afters, linked, Kind::Update)?;
-    add_written(alloc, &mut touches, &afters, linked, Kind::Create)?;
-    let mut written = keys_of(alloc, linked, Kind::Update)?;
-    add_links(
-        alloc,
-        &mut touches,
-        &mut written,
-        &befores,
-        &afters,
-        linked,
-        Kind::Create,
-    )?;
-    add_links(
-        alloc,
-        &mut touches,
-        &mut written,
-        &befores,
-        &afters,
-        linked,
-        Kind::Delete,
-    )?;
+    let mut touches = written_touches(alloc, &afters, linked)?;
+    add_relinked(alloc, &mut touches, &befores, &afters, linked)?;
     Ok(touches)
 }

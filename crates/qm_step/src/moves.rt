@@ -26,8 +26,9 @@ use crate::diff::diff_of_touches;
 use crate::layer::Layer;
 use crate::nearest::key_behind;
 use crate::touch::Touch;
+use crate::writes::push_some;
 use qm_base::update::{Ordered, Update};
-use qm_base::{ByteString, Location, Operation, ValueEncoding};
+use qm_base::{ByteString, Location, Operation, ValueEncoding, twin_option};
 use std::alloc::{AllocError, Global};
 use std::collections::BTreeMap;
 use std::rc::Rc;
@@ -88,11 +89,8 @@ fn twin_operation<F, U: Update>(
     match operation {
         Operation::Update(update) => Ok(Operation::Update(update.twin(alloc)?)),
         Operation::Delete(key) => Ok(Operation::Delete(key.twin(alloc)?)),
-        Operation::CommitFloor(None, floor) => {
-            Ok(Operation::CommitFloor(None, Location::new(floor.get())))
-        }
-        Operation::CommitFloor(Some(metadata), floor) => Ok(Operation::CommitFloor(
-            Some(metadata.twin(alloc)?),
+        Operation::CommitFloor(metadata, floor) => Ok(Operation::CommitFloor(
+            twin_option(alloc, metadata)?,
             Location::new(floor.get()),
         )),
     }
@@ -107,25 +105,17 @@ fn twin_operations<F, U: Update>(
 {
     let mut operations = Vec::with_capacity(alloc, touches.len())?;
     for touch in touches {
-        operations.push(twin_operation(alloc, &touch.operation)?)?;
+        operations.push_reserved(twin_operation(alloc, &touch.operation)?);
     }
     Ok(operations)
 }
 
-// A layer before others.
-fn layered<F, U: Update>(
-    alloc: Global,
-    newest: Layer<F, U>,
-    layers: &[Rc<Layer<F, U>>],
-) -> Result<Vec<Rc<Layer<F, U>>>, AllocError>
+// A layer, or anything that is kept like one, before others.
+fn layered<T: Drop>(alloc: Global, newest: T, layers: &[Rc<T>]) -> Result<Vec<Rc<T>>, AllocError>
     ensures { IfOk result (λ all. map (λ l. l.value) all.items ≡ newest ∷ map (λ l. l.value) layers.now) }
 {
-    let mut all = Vec::new(alloc);
-    all.push(Rc::new(alloc, newest)?)?;
-    for layer in layers {
-        let layer = layer.clone()?;
-        all.push(layer)?;
-    }
+    let mut all = layers.to_vec(alloc)?;
+    all.insert(0, Rc::new(alloc, newest)?)?;
     Ok(all)
 }
 
@@ -142,21 +132,7 @@ pub fn layers_over<F, U: Update>(
     let diff = diff_of_touches(alloc, base.size, made)?;
     let operations = twin_operations(alloc, made)?;
     let newest = Layer::new(base.size, operations, Rc::new(alloc, diff)?);
-    let layers = layered(alloc, newest, base.layers)?;
-    Ok(layers)
-}
-
-// Adds what there is.
-fn push_some<T: Drop>(all: &mut Vec<T>, one: Option<T>) -> Result<(), AllocError>
-    ensures { OnOk result (all.new.items ≡ all.old.items ++ option_to_list one) }
-{
-    match one {
-        Some(one) => {
-            all.push(one)?;
-            Ok(())
-        }
-        None => Ok(()),
-    }
+    layered(alloc, newest, base.layers)
 }
 
 // Adds the key that a decided key's live update names.
@@ -313,10 +289,9 @@ fn moved_touches<'a, F, K: ByteString, V: ValueEncoding<K>>(
     requires { All (λ e. K.has e.0.now ≡ true) keys.now.entries }
     ensures { IfOk result (λ touches. ordered_touches K.bytes V.Value.bytes touches.items ≡ map (λ d. touch_naming (successor (map (λ e. e.0.now) keys.now.entries) d.key) d) (decided_views K.bytes V.Value.bytes decided.now)) }
 {
-    let mut touches = Vec::new(alloc);
+    let mut touches = Vec::with_capacity(alloc, decided.len())?;
     for one in decided {
-        let touch = moved_touch(alloc, keys, one)?;
-        touches.push(touch)?;
+        touches.push_reserved(moved_touch(alloc, keys, one)?);
     }
     Ok(touches)
 }

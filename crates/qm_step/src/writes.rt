@@ -178,12 +178,12 @@ fn moved_touches<F, K: ByteString, V: ValueEncoding<K>>(
 ) -> Result<Vec<Touch<F, Unordered<K, V>>>, AllocError>
     ensures { IfOk result (λ touches. unordered_touches K.bytes V.Value.bytes touches.items ≡ map (λ e. moved_touch (e.0, unordered_view K.bytes V.Value.bytes e.1)) rewrites.entries) }
 {
-    let mut touches = Vec::new(alloc);
+    let mut touches = Vec::with_capacity(alloc, rewrites.len())?;
     for (at, operation) in rewrites {
-        touches.push(Touch {
+        touches.push_reserved(Touch {
             operation,
             before: Some(at),
-        })?;
+        });
     }
     Ok(touches)
 }

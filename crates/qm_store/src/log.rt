@@ -668,7 +668,7 @@ fn pruned<F: Family, C: Store, D: Digest>(alloc: Global, store: &mut C) -> Resul
     let (start, _) = store.bounds();
     let start = Location::new(start);
     let head = store.head()?;
-    let count = F::peaks(alloc, start)?.len();
+    let count = F::peak_count(start) as usize;
     if !is_long(count, D::SIZE, head.len()) {
         return Err(Error::DataCorrupted(Corrupt::HeadDoesNotMatch));
     }
@@ -723,7 +723,7 @@ fn read_digests<F: Family, C: Store, H: Hasher>(
     let mut made = Vec::with_capacity(alloc, (size - start) as usize)?;
     for at in start..size {
         let item = store.read(at)?;
-        made.push(leaf_digest::<F, H>(hasher, at, &item))?;
+        made.push_reserved(leaf_digest::<F, H>(hasher, at, &item));
     }
     Ok(made)
 }
@@ -757,7 +757,7 @@ fn item_digests<F: Family, H: Hasher>(
 {
     let mut made = Vec::with_capacity(alloc, items.len())?;
     for (index, item) in items.iter().enumerate() {
-        made.push(leaf_digest::<F, H>(hasher, from + index as u64, item))?;
+        made.push_reserved(leaf_digest::<F, H>(hasher, from + index as u64, item));
     }
     Ok(made)
 }
@@ -816,9 +816,8 @@ fn grown<F: Family, H: Hasher>(
     ensures history { (list : List (List ℕ)) → Stands F.shape H.Digest.bytes H.hash tree.now list
         → IfOk result (λ b. IsHistory F.shape H.Digest.bytes H.hash (all_layers b) ((list ++ map H.Digest.bytes digests.now) ∷ list ∷ [])) }
 {
-    let mut batch = tree.new_batch(alloc);
-    batch.add_leaf_digests(digests)?;
-    batch.merkleize(alloc, tree, hasher)
+    let draft = tree.new_batch(alloc);
+    grown_behind(alloc, tree, hasher, draft, digests)
 }
 
 // The batch that puts leaves with these digests behind the list that a draft over a tree stands on.

@@ -39,29 +39,6 @@ impl<F: Family, D: Digest> UnmerkleizedBatch<F, D> {
         Ok(nodes)
     }
 
-    // The replaced leaves, into the nodes; and their row.
-    fn replaced_leaves(
-        &self,
-        alloc: Global,
-        nodes: &mut BTreeMap<u64, D>,
-    ) -> Result<Vec<u64>, AllocError>
-        requires { nodes.old.entries ≡ [] }
-        ensures few { self.now.base ≤ 2 ^ 62 }
-        ensures own { OnOk result (AreOver F.shape self.now.replaced self.now.base 0 nodes.new.entries) }
-        ensures row { IfOk result (λ v. IsRow F.shape self.now.base 0 nodes.new.entries v.items) }
-        ensures digests { (hash : List ℕ → List ℕ) (list : List (List ℕ)) → length list ≡ self.now.base → OnOk result (AreRight F.shape D.bytes hash nodes.new.entries (replaced_from D.bytes self.now.replaced 0 list)) }
-        ensures count { OnOk result (length nodes.new.entries ≡ length self.now.replaced) }
-        ensures rows { IfOk result (λ v. length v.items ≡ length self.now.replaced) }
-    {
-        let mut row = Vec::new(alloc);
-        for (location, digest) in &self.replaced {
-            let position = F::location_to_position(Location::new(*location));
-            replace(nodes, position.get(), *digest)?;
-            row.push(*location)?;
-        }
-        Ok(row)
-    }
-
     // The nodes of this height that stand above a row of replaced nodes, into the nodes; and their row.
     fn row_above<H: Hasher<Digest = D>>(
         &self,
@@ -87,25 +64,17 @@ impl<F: Family, D: Digest> UnmerkleizedBatch<F, D> {
         ensures none { self.now.base < 2 ^ height → IfOk result (λ v. length v.items ≡ 0) }
         ensures made { OnOk result (hasher.new ≡ more hasher.old (length nodes.new.entries - length nodes.old.entries)) }
     {
-        let mut above = Vec::new(alloc);
+        let mut above = Vec::with_capacity(alloc, row.len())?;
         for index in row {
             let node = Node::new(height, *index / 2);
             let number = place::<F>(node).get();
             if !nodes.contains_key(&number) && self.is_below(node) {
                 let digest = self.parent(mem, hasher, nodes, node);
                 replace(nodes, number, digest)?;
-                above.push(node.index())?;
+                above.push_reserved(node.index());
             }
         }
         Ok(above)
-    }
-
-    // Whether a node is there before the batch's own leaves come.
-    fn is_below(&self, node: Node) -> bool
-        requires { trees.end_of node ≤ 2 ^ 62 }
-        ensures { IsTrue result ↔ (trees.Shape.birth F.shape node ≤ self.now.base) }
-    {
-        F::peak_birth_size(place(node), node.height()).get() <= self.base.get()
     }
 
     // The digest of a node over its two halves.
@@ -131,6 +100,41 @@ impl<F: Family, D: Digest> UnmerkleizedBatch<F, D> {
         let left = self.digest(mem, nodes, place(left));
         let right = self.digest(mem, nodes, place(right));
         hasher.node_digest(F::number(node), &left, &right)
+    }
+}
+
+impl<F: Family, D: Copy> UnmerkleizedBatch<F, D> {
+    // The replaced leaves, into the nodes; and their row.
+    fn replaced_leaves(
+        &self,
+        alloc: Global,
+        nodes: &mut BTreeMap<u64, D>,
+    ) -> Result<Vec<u64>, AllocError>
+        requires { nodes.old.entries ≡ [] }
+        ensures few { self.now.base ≤ 2 ^ 62 }
+        ensures own { OnOk result (AreOver F.shape self.now.replaced self.now.base 0 nodes.new.entries) }
+        ensures row { IfOk result (λ v. IsRow F.shape self.now.base 0 nodes.new.entries v.items) }
+        ensures digests { (bytes : D → List ℕ) (hash : List ℕ → List ℕ) (list : List (List ℕ)) → length list ≡ self.now.base → OnOk result (AreRight F.shape bytes hash nodes.new.entries (replaced_from bytes self.now.replaced 0 list)) }
+        ensures count { OnOk result (length nodes.new.entries ≡ length self.now.replaced) }
+        ensures rows { IfOk result (λ v. length v.items ≡ length self.now.replaced) }
+    {
+        let mut row = Vec::with_capacity(alloc, self.replaced.len())?;
+        for (location, digest) in &self.replaced {
+            let position = F::location_to_position(Location::new(*location));
+            replace(nodes, position.get(), *digest)?;
+            row.push_reserved(*location);
+        }
+        Ok(row)
+    }
+}
+
+impl<F: Family, D> UnmerkleizedBatch<F, D> {
+    // Whether a node is there before the batch's own leaves come.
+    fn is_below(&self, node: Node) -> bool
+        requires { trees.end_of node ≤ 2 ^ 62 }
+        ensures { IsTrue result ↔ (trees.Shape.birth F.shape node ≤ self.now.base) }
+    {
+        F::peak_birth_size(place(node), node.height()).get() <= self.base.get()
     }
 }
 

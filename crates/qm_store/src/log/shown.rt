@@ -177,7 +177,7 @@ fn digests_at<F: Family, D: Digest, N: Nodes<F, D>>(
 {
     let mut digests = Vec::with_capacity(alloc, positions.len())?;
     for position in positions {
-        digests.push(digest_at(nodes, *position)?)?;
+        digests.push_reserved(digest_at(nodes, *position)?);
     }
     Ok(digests)
 }
@@ -215,7 +215,7 @@ pub(super) fn read_items<C: Store>(
 {
     let mut items = Vec::with_capacity(alloc, (end - start) as usize)?;
     for at in start..end {
-        items.push(store.read(at)?)?;
+        items.push_reserved(store.read(at)?);
     }
     Ok(items)
 }

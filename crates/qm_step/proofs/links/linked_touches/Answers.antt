@@ -1,11 +1,10 @@
-use Rattle.std.proofs.Common.{◌++◌, [], ◌∙◌, ap, ap₂, sym, map, append-nil}
+use Rattle.std.proofs.Common.{◌++◌, ◌∙◌, ap, ap₂, sym, map}
 use Rattle.std.specs.Prelude.{filter_map}
 use Rattle.std.proofs.lemmas.List.Elements.{filter_map-append, All-same}
 use Rattle.qm_model.specs.Keys.{contains_key, predecessor, without}
 use Rattle.qm_model.specs.Writes.{last_writes}
-use Rattle.qm_model.proofs.OrderedWrites.{created, deleted, updated}
-use Rattle.qm_step.specs.Links.{after_of, before_of, next_of, keys_in, keys_of_kind, of_kind, touch_of, relinked_touches, AreRelinked, IsStanding}
-use Rattle.qm_step.specs.OrderedViews.{ordered_touches}
+use Rattle.qm_model.proofs.OrderedWrites.{created, deleted}
+use Rattle.qm_step.specs.Links.{after_of, before_of, next_of, keys_in, keys_of_kind, of_kind, touch_of, relinked_touches, IsStanding}
 use Rattle.qm_step.specs.Rings.{linked_in, neighbour_in}
 use Rattle.qm_step.specs.declared.links.Kind.{Kind}
 use Rattle.qm_step.specs.declared.links.Kind.TheVariants.{Delete, Update, Create}
@@ -17,32 +16,18 @@ pub returns : goal.returns
 returns g c = λ base ws ring writes_are neighbours_are.
     let key = g.K.ByteString.bytes in
     let value = g.V.Value.ByteString.bytes in
-    let show = ordered_touches key value in
     let us = last_writes ws in
-    let ls = map (linked_in base) us in
     let gone = keys_in c.in_ok-deleted.deleted.entries in
     let befores = keys_in c.in_ok-befores.befores.entries in
     let afters = keys_in c.in_ok-afters.afters.entries in
     let find = predecessor befores in
-    let front = map (touch_of afters) (of_kind Delete ls) ++ map (touch_of afters) (of_kind Update ls) ++ map (touch_of afters) (of_kind Create ls) in
     let written_is = λ (kind : Kind). ap (λ vs. map (touch_of afters) (of_kind kind vs)) writes_are in
     let stand = c.in_ok-befores.ensures.standing base (All-same (IsStanding base) _ (filter_map (neighbour_in base) us) neighbours_are (neighbours-stand base us)) in
-    let start : AreRelinked base afters front (updated base ws) [] (show c.add_written-3.new.touches.items) (keys_in c.in_ok-written.written.entries) = record {
-      touches =
-          c.in_ok-add_written-3.ensures
-          ∙ ap₂ (λ a b. a ++ b)
-          (c.in_ok-add_written-2.ensures ∙ ap₂ (λ a b. a ++ b) (c.in_ok-add_written.ensures ∙ ap₂ (λ a b. a ++ b) (ap show c.new-touches.ensures.items) (written_is Delete)) (written_is Update))
-          (written_is Create)
-          ∙ sym (append-nil front);
-      written = λ x.
-          c.in_ok-written.ensures x ∙ ap (λ ks. contains_key ks x) (ap (keys_of_kind Update) writes_are ∙ put-keys base us ∙ sym (append-nil (updated base ws)));
-    } in
-    let one = c.in_ok-add_links.ensures base front (updated base ws) [] stand start in
-    let two = c.in_ok-add_links-2.ensures base front (updated base ws) _ stand one in
-    two.touches
-    ∙ ap (λ ks. front ++ relinked_touches base afters (updated base ws) ks)
+    c.in_ok-add_relinked.ensures base stand
+    ∙ ap₂ (λ a b. a ++ b) (c.in_ok-touches.ensures ∙ ap₂ (λ a b. a ++ b) (ap₂ (λ a b. a ++ b) (written_is Delete) (written_is Update)) (written_is Create))
+    (ap₂ (relinked_touches base afters) (ap (keys_of_kind Update) writes_are ∙ put-keys base us)
     (ap₂ (λ a b. filter_map find a ++ filter_map find b) (ap (keys_of_kind Create) writes_are ∙ new-keys base us) (ap (keys_of_kind Delete) writes_are ∙ gone-keys base us)
-    ∙ sym (filter_map-append find (created base ws) (deleted base ws)))
+    ∙ sym (filter_map-append find (created base ws) (deleted base ws))))
     ∙ written-touches base ws ring gone befores afters
     (λ x. c.in_ok-deleted.ensures x ∙ ap (λ ks. contains_key ks x) (ap (keys_of_kind Delete) writes_are ∙ gone-keys base us))
     (λ x. c.in_ok-befores.ensures.keys x ∙ ap (λ ks. contains_key (without gone ks) x) (ap (filter_map before_of) neighbours_are ∙ filter_map-twice before_of (neighbour_in base) us))

@@ -22,7 +22,7 @@ loop-found-preserved g c =
     let value = g.V.Value.ByteString.bytes in
     drained-some (ordered_touch key value)
     (λ v. rewritten_naming (successor (map (λ e. e.0.now) c.args.keys.now.entries) (key v.now.1.key)) (place_before c.args.size (ordered_touches key value c.args.made.now) v.now.0) (key v.now.1.key) (value v.now.1.value))
-    c.loop-found.touches.items c.push_some.new.all.items c.in_ok-touch.touch c.in_ok-push_some.ensures c.loop-found.found-iterator c.next.new.self c.in-Some.found.now _
+    c.loop-found.touches.items c.push_some.new.things.items c.in_ok-touch.touch c.in_ok-push_some.ensures c.loop-found.found-iterator c.next.new.self c.in-Some.found.now _
     (rest_more deref c.loop-found.found-iterator c.next.new.self c.next.result c.in-Some.found c.in-Some.is c.next.ensures.steps) c.in_ok-touch.ensures c.loop-found.invariant
 
 pub returns-clause-made : goal.returns-clause-made

@@ -1,4 +1,5 @@
-use Rattle.std.proofs.Common.{◌∙◌, map, ap, add-one}
+use Rattle.std.proofs.Common.{◌∙◌, ◌+◌, [], ◌∷◌, length, map, ap, add-one}
+use Rattle.std.proofs.lemmas.List.{length-append}
 use Rattle.qm_model.specs.Trees.{leaf, leaf_digest}
 use Rattle.qm_store.proofs.Leaves.{listed-next}
 use Rattle.qm_store.proofs.log.item_digests.Goals as goal
@@ -7,6 +8,10 @@ pub loop-index-preserved : goal.loop-index-preserved
 loop-index-preserved g c =
     let shape = g.F.Family.shape in
     let hash = g.H.Hasher.hash in
-    ap (map g.H.Digest.Digest.bytes) c.in_ok-push.ensures.items
-    ∙ rw add-one (listed-next hash shape g.H.Digest.Digest.bytes (λ v. v.items) c.args.from c.loop-index.index c.loop-index.made.items c.leaf_digest.result c.args.items.now c.index-items-index.result c.loop-index-test.true c.index-items-index.is
-    c.loop-index.invariant (c.leaf_digest.ensures ∙ ap (leaf_digest hash (shape.position (leaf _))) c.deref.ensures.value))
+    record {
+      digests = ap (map g.H.Digest.Digest.bytes) c.push_reserved.ensures.items
+          ∙ rw add-one (listed-next hash shape g.H.Digest.Digest.bytes (λ v. v.items) c.args.from c.loop-index.index c.loop-index.made.items c.leaf_digest.result c.args.items.now c.index-items-index.result c.loop-index-test.true c.index-items-index.is
+          c.loop-index.invariant.digests (c.leaf_digest.ensures ∙ ap (leaf_digest hash (shape.position (leaf _))) c.deref.ensures.value));
+      count = ap length c.push_reserved.ensures.items ∙ length-append c.loop-index.made.items (c.leaf_digest.result ∷ []) ∙ ap (λ n. n + 1) c.loop-index.invariant.count;
+      room = c.push_reserved.ensures.capacity ∙ c.loop-index.invariant.room;
+    }

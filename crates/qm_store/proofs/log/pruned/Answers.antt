@@ -15,10 +15,9 @@ returns-clause-stands g c = λ hash list within.
     let start : c.new-start.result ≡ n = c.new-start.ensures ∙ c.bounds-start.ensures.starts in
     let same : shape.size c.new-start.result ≡ shape.size c.new-start.result + length c.new.result.items = omega (arith, ap length c.new.ensures.items) in
     let made = c.in_ok-from_pruned_with_retained.ensures c.new-start.result same in
-    let count : c.len-count.result ≡ length c.in_ok-peaks.field-0.items = omega (arith, c.len-count.ensures, c.in_ok-peaks.field-0.ok.0) in
     IfSome_then (members.told c.args.store.now) c.in_ok-head.ensures.value
     (λ held is told.
     stands-pruned bytes shape g.F.Family.births g.met.F.Family.numbered g.met.F.Family.peaked hash g.D.Digest.SIZE g.met.D.Digest.sized tree n list held.head told
     (omega (arith, c.bounds-start.ensures.starts, c.bounds-start.ensures.order, c.bounds-start.ensures.limit)) within (ap (λ m. m.start) made ∙ start) (ap (λ m. m.leaves) made ∙ start)
-    (ap (λ m. length m.pins) made ∙ c.in_ok-pins.ensures.count ∙ count ∙ ap length c.in_ok-peaks.ensures ∙ ap (λ m. length (peaks shape m)) start)
+    (ap (λ m. length m.pins) made ∙ c.in_ok-pins.ensures.count ∙ c.peak_count-count.ensures ∙ ap (λ m. length (peaks shape m)) start)
     (ap (λ m. concat (map bytes m.pins)) made ∙ c.in_ok-pins.ensures.spelled ∙ c.deref.ensures.value ∙ is))

@@ -17,10 +17,11 @@ loop-at-preserved g c =
       kept = kept-then members c.args.store.now c.loop-at.store c.read.new.self kept
           (record { start = c.read.ensures.same_start; end = c.read.ensures.same_end; told = c.read.ensures.same });
       later = omega (arith, c.loop-at.invariant.later, c.read.ensures.cause.later);
-      count = omega (arith, c.in_ok-push.ensures.len, c.loop-at.invariant.count, c.loop-at.auto.at);
+      count = omega (arith, c.push_reserved.ensures.len, c.loop-at.invariant.count, c.loop-at.auto.at);
+      room = c.push_reserved.ensures.capacity ∙ c.loop-at.invariant.room;
       digests = both (members.told c.args.store.now) c.loop-at.invariant.digests item
           (λ held so_far is.
-          ap (λ ds. map bytes ds) c.in_ok-push.ensures.items
+          ap (λ ds. map bytes ds) c.push_reserved.ensures.items
           ∙ read-next hash shape bytes c.args.start c.loop-at.at c.loop-at.made.items c.leaf_digest.result held.items c.in_ok-item.item.items (omega (arith, c.loop-at.auto.at)) so_far
           (ap (λ k. slice_get held.items (c.loop-at.at - k)) c.requires.start ∙ is) (c.leaf_digest.ensures ∙ ap (leaf_digest hash (shape.position (leaf c.loop-at.at))) c.deref.ensures.value));
     }

@@ -6,30 +6,24 @@ use Rattle.qm_merkle.proofs.Histories.{there, reached, tip_count, seen}
 use Rattle.qm_merkle.proofs.Drafting.{own_nodes, drafted_leads}
 use Rattle.qm_merkle.proofs.batch.UnmerkleizedBatch.merkleize.Goals as goal
 
-pub prove-unreachable-requires : goal.prove-unreachable-requires
-prove-unreachable-requires g c =
-    let linked = subst (λ b. AreLinked g.F.Family.shape b.base b.layers) c.self.view_is c.self.invariant.3 in
-    let low = reached g.F.Family.shape g.F.Family.births g.met.F.Family.numbered g.met.F.Family.peaked c.args.mem.now c.bounds-start.ensures.whole c.args.self.layers c.args.self.base linked c.requires.reach in
-    omega (arith, low, c.bounds-start.ensures.whole.order, c.if-prove.true, c.get.ensures, c.get-2.ensures, c.bounds-start.ensures.start, ap (λ b. b.base) c.self.view_is)
-
 pub replaced_nodes-requires-clause-start : goal.replaced_nodes-requires-clause-start
 replaced_nodes-requires-clause-start g c = c.requires.replaced
 
 pub replaced_nodes-requires-clause-there : goal.replaced_nodes-requires-clause-there
 replaced_nodes-requires-clause-there g c =
     let linked = subst (λ b. AreLinked g.F.Family.shape b.base b.layers) c.self.view_is c.self.invariant.3 in
-    there g.F.Family.shape g.F.Family.births g.met.F.Family.numbered g.met.F.Family.peaked c.args.mem.now c.bounds-start.ensures.whole c.args.self.layers c.args.self.base linked c.requires.reach
+    there g.F.Family.shape g.F.Family.births g.met.F.Family.numbered g.met.F.Family.peaked c.args.mem.now c.bounds-bounds.ensures.whole c.args.self.layers c.args.self.base linked c.requires.reach
 
 pub tree-requires-clause-there : goal.tree-requires-clause-there
 tree-requires-clause-there g c =
     let linked = subst (λ b. AreLinked g.F.Family.shape b.base b.layers) c.self.view_is c.self.invariant.3 in
-    there g.F.Family.shape g.F.Family.births g.met.F.Family.numbered g.met.F.Family.peaked c.args.mem.now c.bounds-start.ensures.whole c.args.self.layers c.args.self.base linked c.requires.reach
+    there g.F.Family.shape g.F.Family.births g.met.F.Family.numbered g.met.F.Family.peaked c.args.mem.now c.bounds-bounds.ensures.whole c.args.self.layers c.args.self.base linked c.requires.reach
 
 pub tree-requires-clause-start : goal.tree-requires-clause-start
 tree-requires-clause-start g c =
     let linked = subst (λ b. AreLinked g.F.Family.shape b.base b.layers) c.self.view_is c.self.invariant.3 in
-    let low = reached g.F.Family.shape g.F.Family.births g.met.F.Family.numbered g.met.F.Family.peaked c.args.mem.now c.bounds-start.ensures.whole c.args.self.layers c.args.self.base linked c.requires.reach in
-    omega (arith, low, c.bounds-start.ensures.whole.order)
+    let low = reached g.F.Family.shape g.F.Family.births g.met.F.Family.numbered g.met.F.Family.peaked c.args.mem.now c.bounds-bounds.ensures.whole c.args.self.layers c.args.self.base linked c.requires.reach in
+    omega (arith, low, c.bounds-bounds.ensures.whole.order)
 
 pub tree-requires-clause-own : goal.tree-requires-clause-own
 tree-requires-clause-own g c = c.in_ok-replaced.ensures.own
@@ -79,7 +73,7 @@ returns-clause-history g c list base lists history found stands =
     let is : c.in_ok-newest.newest.value ≡ layer = c.in_ok-newest.ensures.ok in
     let linked = subst (λ b. AreLinked shape b.base b.layers) c.self.view_is c.self.invariant.3 in
     let count : length base ≡ draft.base = tip_count shape births family bytes hash c.args.mem.now draft.layers draft.base list base lists linked c.requires.reach history found stands in
-    let read = seen shape births family bytes hash g.met.F.Family.peaked c.args.mem.now draft.layers list base lists c.bounds-start.ensures.whole history found stands in
+    let read = seen shape births family bytes hash g.met.F.Family.peaked c.args.mem.now draft.layers list base lists c.bounds-bounds.ensures.whole history found stands in
     let right = c.in_ok-replaced.ensures.digests base count read in
     let leads = drafted_leads shape births family layer draft.replaced draft.base c.in_ok-tree.ensures.start c.in_ok-replaced.ensures.own bytes hash base (map bytes draft.added) count (c.in_ok-tree.ensures.stands base count read right) right in
     (subst (λ l. Leads shape bytes hash l base (drafted bytes draft base)) (sym is) leads, subst (λ b. IsHistory shape bytes hash b.layers (base ∷ lists)) (sym c.self.view_is) history)

@@ -12,34 +12,45 @@ pub loop-location-init : goal.loop-location-init
 loop-location-init g c =
     let is : c.self.inside.replaced.entries ≡ c.args.self.now.replaced = ap (λ d. d.replaced) c.self.view_is in
     let gives = c.into_iter-location-iterator.ensures.into_iter_gives in
-    taken-start (gives.0 ∙ is) (subst (λ es. All (λ e. found_at es e.0 ≡ Some e.1) es) is gives.6) (subst (λ es. IsStrictlySortedBy nat_cmp (keys_of es)) is gives.5) c.requires c.new-row.ensures.items
+    record {
+      taken = taken-start (gives.0 ∙ is) (subst (λ es. All (λ e. found_at es e.0 ≡ Some e.1) es) is gives.6) (subst (λ es. IsStrictlySortedBy nat_cmp (keys_of es)) is gives.5) c.requires c.in_ok-row.ensures.items;
+      room = omega (arith, c.in_ok-row.ensures.exact, c.len.ensures.len, ap length is);
+    }
 
 pub location_to_position-position-requires : goal.location_to_position-position-requires
 location_to_position-position-requires g c =
-    let early = taken-before g.met.F.Family.numbered c.loop-location.invariant c.in-Some.ensures.steps c.args.self.now.base (subst (λ d. All (λ e. e.0 < d.base) d.replaced) c.self.view_is c.self.invariant.2) in
+    let early = taken-before g.met.F.Family.numbered c.loop-location.invariant.taken c.in-Some.ensures.steps c.args.self.now.base (subst (λ d. All (λ e. e.0 < d.base) d.replaced) c.self.view_is c.self.invariant.2) in
     omega (arith, early, c.new.ensures, c.self.invariant.1, ap (λ d. d.base) c.self.view_is)
 
 pub loop-location-preserved : goal.loop-location-preserved
 loop-location-preserved g c =
     let at : c.get.result ≡ g.F.Family.shape.position (leaf c.in-Some.location.now) = c.get.ensures ∙ c.location_to_position-position.ensures.place ∙ ap (λ n. g.F.Family.shape.position (leaf n)) c.new.ensures in
-    taken-more g.met.F.Family.numbered c.loop-location.invariant c.in-Some.ensures.steps at
-    c.in_ok-replace.ensures.here c.in_ok-replace.ensures.other c.in_ok-push.ensures.items
-    (c.in_ok-replace.ensures.count (taken-absent g.met.F.Family.numbered c.loop-location.invariant c.in-Some.ensures.steps at))
+    record {
+      taken = taken-more g.met.F.Family.numbered c.loop-location.invariant.taken c.in-Some.ensures.steps at
+          c.in_ok-replace.ensures.here c.in_ok-replace.ensures.other c.push_reserved.ensures.items
+          (c.in_ok-replace.ensures.count (taken-absent g.met.F.Family.numbered c.loop-location.invariant.taken c.in-Some.ensures.steps at));
+      room = c.push_reserved.ensures.capacity ∙ c.loop-location.invariant.room;
+    }
+
+pub push_reserved-requires : goal.push_reserved-requires
+push_reserved-requires g c =
+    let taken = c.loop-location.invariant.taken in
+    omega (arith, taken.count, taken.rows, ap length c.in-Some.ensures.steps, c.loop-location.invariant.room, ap (λ d. length d.replaced) c.self.view_is, c.loop-location.row.ok.0)
 
 below : (g : Given.Over) (c : goal.In-None g) → All (λ e. e.0 < c.args.self.now.base) c.args.self.now.replaced
 below g c = subst (λ d. All (λ e. e.0 < d.base) d.replaced) c.self.view_is c.self.invariant.2
 
 pub returns-clause-own : goal.returns-clause-own
-returns-clause-own g c = taken-over g.met.F.Family.numbered c.loop-location.invariant c.in-None.ensures.steps.0 c.args.self.now.base (below g c)
+returns-clause-own g c = taken-over g.met.F.Family.numbered c.loop-location.invariant.taken c.in-None.ensures.steps.0 c.args.self.now.base (below g c)
 
 pub returns-clause-row : goal.returns-clause-row
-returns-clause-row g c = taken-row g.met.F.Family.numbered c.loop-location.invariant c.in-None.ensures.steps.0 c.args.self.now.base (below g c)
+returns-clause-row g c = taken-row g.met.F.Family.numbered c.loop-location.invariant.taken c.in-None.ensures.steps.0 c.args.self.now.base (below g c)
 
 pub returns-clause-digests : goal.returns-clause-digests
-returns-clause-digests g c = taken-right g.met.F.Family.numbered c.loop-location.invariant c.in-None.ensures.steps.0 c.args.self.now.base (below g c) g.D.Digest.bytes
+returns-clause-digests g c = taken-right g.met.F.Family.numbered c.loop-location.invariant.taken c.in-None.ensures.steps.0 c.args.self.now.base (below g c)
 
 pub returns-clause-count : goal.returns-clause-count
-returns-clause-count g c = omega (arith, c.loop-location.invariant.count, ap length c.in-None.ensures.steps.0)
+returns-clause-count g c = omega (arith, c.loop-location.invariant.taken.count, ap length c.in-None.ensures.steps.0)
 
 pub returns-clause-rows : goal.returns-clause-rows
-returns-clause-rows g c = omega (arith, c.loop-location.invariant.rows, c.loop-location.invariant.count, ap length c.in-None.ensures.steps.0)
+returns-clause-rows g c = omega (arith, c.loop-location.invariant.taken.rows, c.loop-location.invariant.taken.count, ap length c.in-None.ensures.steps.0)

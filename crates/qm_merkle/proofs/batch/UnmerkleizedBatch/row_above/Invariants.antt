@@ -1,4 +1,5 @@
 use Rattle.std.proofs.Common.{◌≡◌, ◌<◌, ◌≤◌, ◌+◌, ◌-◌, ◌^◌, List, length}
+use Rattle.std.specs.Vec.{vec_capacity}
 use Rattle.qm_model.specs.Operations.{Bytes}
 use Rattle.qm_merkle.specs.Batches.{replaced_from, AreRead, AreRight}
 use Rattle.qm_merkle.specs.Mems.{more}
@@ -13,6 +14,7 @@ invariant-loop-index g l = record {
       AreRight g.F.Family.shape g.D.Digest.bytes g.H.Hasher.hash l.nodes.entries (replaced_from g.D.Digest.bytes l.self.replaced 0 list);
   count : length l.nodes.entries ≡ length l.fn.nodes.entries + length l.above.items;
   fewer : length l.above.items ≤ l.index-index;
+  room : vec_capacity l.above ≡ length l.row;
   none : l.self.base < 2 ^ l.height → length l.above.items ≡ 0;
   made : l.hasher ≡ more l.fn.hasher (length l.nodes.entries - length l.fn.nodes.entries);
 }

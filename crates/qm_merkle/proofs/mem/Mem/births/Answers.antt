@@ -38,13 +38,14 @@ loop-number-preserved g c =
     let n = c.args.self.now.leaves in
     let made = c.loop-number.buffer.items in
     let d = c.parent-digest.result in
-    let more_made : c.push-in-loop-number.new.self.items ≡ made ++ d ∷ [] = c.in_ok-push-2.ensures.items in
-    let count : length c.push-in-loop-number.new.self.items ≡ c.loop-number.number + 1 = omega (arith, ap length more_made, length-append made (d ∷ []), c.loop-number.invariant.count) in record {
+    let more_made : c.push_reserved-in-loop-number.new.self.items ≡ made ++ d ∷ [] = c.push_reserved-in-loop-number.ensures.items in
+    let count : length c.push_reserved-in-loop-number.new.self.items ≡ c.loop-number.number + 1 = omega (arith, ap length more_made, length-append made (d ∷ []), c.loop-number.invariant.count) in record {
       count = count;
       born = λ leaves stands.
           let list = leaves ++ bytes c.args.leaf ∷ [] in
           let before = c.loop-number.invariant.born leaves stands in
           let last = c.parent-digest.ensures.digest leaves c.args.leaf stands (subst (AreBorn shape births bytes hash n list) (sym c.deref.ensures.value) before) in
-          each_next (λ k found. Gives bytes found (digest_of hash shape list (births.born n k))) made c.push-in-loop-number.new.self.items d c.loop-number.number c.loop-number.invariant.count more_made count before (ap Some last);
+          each_next (λ k found. Gives bytes found (digest_of hash shape list (births.born n k))) made c.push_reserved-in-loop-number.new.self.items d c.loop-number.number c.loop-number.invariant.count more_made count before (ap Some last);
+      room = omega (arith, c.loop-number.invariant.room, c.push_reserved-in-loop-number.ensures.capacity);
       made = omega (arith, c.parent-digest.ensures.made, c.loop-number.invariant.made, c.loop-number.auto.number);
     }

@@ -1,6 +1,11 @@
-use Rattle.std.proofs.Common.{◌≡◌, Some, map, take}
+use Rattle.std.proofs.Common.{◌≡◌, Some, length, map, take}
+use Rattle.std.specs.Vec.{vec_capacity}
 use Rattle.qm_merkle.specs.Mems.{node_at}
 use Rattle.qm_merkle.proofs.mem.Mem.digests.Given as goal
 
 abbrev pub invariant-loop-position : goal.invariant-loop-position
-invariant-loop-position g l = map Some l.found.items ≡ map (node_at g.F.Family.shape l.self) (take l.position-index l.positions)
+invariant-loop-position g l = record {
+  found : map Some l.found.items ≡ map (node_at g.F.Family.shape l.self) (take l.position-index l.positions);
+  count : length l.found.items ≡ l.position-index;
+  room : vec_capacity l.found ≡ length l.positions;
+}

@@ -1,4 +1,4 @@
-use Rattle.std.proofs.Common.{◌≡◌, ◌∙◌, ◌+◌, ◌-◌, ◌≤◌, length, take, drop, map, arith, ap, ap₂, sym, subst, IfSome}
+use Rattle.std.proofs.Common.{◌≡◌, ◌∙◌, ◌+◌, ◌-◌, ◌≤◌, length, take, drop, map, arith, refl, ap, ap₂, sym, subst, IfSome}
 use Rattle.std.specs.Prelude.{min}
 use Rattle.std.specs.Int.NonZero.{non_zero_u64_get}
 use Rattle.qm_model.specs.Proofs.{proof_of}
@@ -35,3 +35,48 @@ returns-clause-items g c = λ list is.
     (λ held told shown.
     shown ∙ ap₂ (λ j k. take j (drop (start - k) held.items)) count (sym is.start)
     ∙ part_read held.items list log.tree.start start m (omega (arith, c.bounds-first.ensures.start, c.if-start-first.false)) within told)
+
+pub returns-then-leaves-size : goal.returns-then-leaves-size
+returns-then-leaves-size g c = record {
+  proof = λ list is. tt;
+  items = λ list is. tt;
+  count = tt;
+  size = λ past. refl;
+  start = λ within past. absurd (omega (arith, c.bounds-first.ensures.size, c.if-leaves-size.true));
+  pruned = λ within before low. absurd (omega (arith, c.bounds-first.ensures.size, c.if-leaves-size.true));
+  never = λ within before from. absurd (omega (arith, c.bounds-first.ensures.size, c.if-leaves-size.true));
+  stands = λ list is. is;
+  tree = refl;
+  kept = record { start = refl; end = refl; told = refl };
+  cause = record { later = omega arith; failed = λ fault. absurd cc };
+}
+
+pub returns-then-size-start : goal.returns-then-size-start
+returns-then-size-start g c = record {
+  proof = λ list is. tt;
+  items = λ list is. tt;
+  count = tt;
+  size = λ past. absurd (omega (arith, c.bounds-first.ensures.size, c.if-leaves-size.false));
+  start = λ within past. refl;
+  pruned = λ within before low. absurd (omega (arith, c.if-size-start.true));
+  never = λ within before from. absurd (omega (arith, c.if-size-start.true));
+  stands = λ list is. is;
+  tree = refl;
+  kept = record { start = refl; end = refl; told = refl };
+  cause = record { later = omega arith; failed = λ fault. absurd cc };
+}
+
+pub returns-then-start-first : goal.returns-then-start-first
+returns-then-start-first g c = record {
+  proof = λ list is. tt;
+  items = λ list is. tt;
+  count = tt;
+  size = λ past. absurd (omega (arith, c.bounds-first.ensures.size, c.if-leaves-size.false));
+  start = λ within past. absurd (omega (arith, c.if-size-start.false));
+  pruned = λ within before low. refl;
+  never = λ within before from. absurd (omega (arith, c.bounds-first.ensures.start, c.if-start-first.true));
+  stands = λ list is. is;
+  tree = refl;
+  kept = record { start = refl; end = refl; told = refl };
+  cause = record { later = omega arith; failed = λ fault. absurd cc };
+}

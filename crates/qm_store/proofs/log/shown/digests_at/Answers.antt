@@ -14,7 +14,7 @@ returns-in_err-digest_at-clause-cause g c =
     let lacked : IsLacked at c.args.positions.now c.in_err-digest_at.field-0.0 =
     inr (
       c.position-item.result,
-      lacked_at at c.args.positions.now c.loop-position.digests.items c.loop-position.position-index c.position-item.result c.loop-position.invariant c.loop-position-test.true c.position-item.is lack.0,
+      lacked_at at c.args.positions.now c.loop-position.digests.items c.loop-position.position-index c.position-item.result c.loop-position.invariant.digests c.loop-position-test.true c.position-item.is lack.0,
       lack.1,
     ) in
     rw exit.1 (subst (IsLacked at c.args.positions.now) (sym exit.2) lacked)
@@ -23,4 +23,4 @@ pub returns-clause-held : goal.returns-clause-held
 returns-clause-held g c =
     let at = g.N.Nodes.node_at c.args.nodes.now in
     none_lacked at c.loop-position.digests.items c.args.positions.now
-    (c.loop-position.invariant ∙ ap (map at) (take_all c.loop-position.position-index c.args.positions.now c.loop-position-test.false))
+    (c.loop-position.invariant.digests ∙ ap (map at) (take_all c.loop-position.position-index c.args.positions.now c.loop-position-test.false))

@@ -13,10 +13,11 @@ loop-at-preserved g c =
       kept = kept-then members c.args.store.now c.loop-at.store c.read.new.self kept
           (record { start = c.read.ensures.same_start; end = c.read.ensures.same_end; told = c.read.ensures.same });
       later = omega (arith, c.loop-at.invariant.later, c.read.ensures.cause.later);
-      count = omega (arith, c.in_ok-push.ensures.len, c.loop-at.invariant.count, c.loop-at.auto.at);
+      count = omega (arith, c.push_reserved.ensures.len, c.loop-at.invariant.count, c.loop-at.auto.at);
+      room = c.push_reserved.ensures.capacity ∙ c.loop-at.invariant.room;
       items = both (members.told c.args.store.now) c.loop-at.invariant.items item
           (λ held so_far is.
-          ap (map (λ v. v.items)) c.in_ok-push.ensures.items
+          ap (map (λ v. v.items)) c.push_reserved.ensures.items
           ∙ item-next (λ v. v.items) from c.args.start c.loop-at.at c.loop-at.items.items c.in_ok-read.field-0 held.items c.requires.start (omega (arith, c.loop-at.auto.at)) so_far
           is);
     }
