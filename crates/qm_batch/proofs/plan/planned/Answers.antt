@@ -8,6 +8,7 @@ use Rattle.qm_step.specs.Touches.{operations_of}
 use Rattle.qm_step.specs.Views.{IsPlan, changes_view}
 use Rattle.qm_batch.proofs.PlanOwns.{operations-push, own-length}
 use Rattle.qm_batch.proofs.PlanSteps.{own-plan}
+use Rattle.std.proofs.lemmas.Result.{err_from_is_err_and}
 use Rattle.qm_batch.proofs.plan.planned.Goals as goal
 
 pub returns-clause-plan : goal.returns-clause-plan
@@ -29,3 +30,69 @@ returns-clause-plan g c = λ base size from count.
     subst (λ (n : ℕ). IsPlan (record { operations = map (operation_view g.U.Update.view key value) c.push.new.self.items; changes = changes; floor = n; live = c.args.own.live }) base (committed (base ++ own) c.args.own.floor meta)) (sym c.new-2.ensures)
     (subst (λ (ops : List Operation). IsPlan (record { operations = ops; changes = changes; floor = place; live = c.args.own.live }) base (committed (base ++ own) c.args.own.floor meta)) (sym operations)
     (own-plan base own changes c.args.own.live place c.args.own.floor meta count at (are from)))
+
+pub returns-in_err-diff-clause-count : goal.returns-in_err-diff-clause-count
+returns-in_err-diff-clause-count g c =
+    let exit = err_from_is_err_and c.from_residual.result c.from_residual.ensures.1 in
+    rw exit.1 tt
+
+pub returns-in_err-diff-clause-live : goal.returns-in_err-diff-clause-live
+returns-in_err-diff-clause-live g c =
+    let exit = err_from_is_err_and c.from_residual.result c.from_residual.ensures.1 in
+    rw exit.1 tt
+
+pub returns-in_err-diff-clause-plan : goal.returns-in_err-diff-clause-plan
+returns-in_err-diff-clause-plan g c =
+    let exit = err_from_is_err_and c.from_residual.result c.from_residual.ensures.1 in
+    rw exit.1 tt
+
+pub returns-in_err-diff-clause-memory : goal.returns-in_err-diff-clause-memory
+returns-in_err-diff-clause-memory g c =
+    let exit = err_from_is_err_and c.from_residual.result c.from_residual.ensures.1 in
+    rw exit.1 exit.2
+
+pub returns-in_err-operations-clause-count : goal.returns-in_err-operations-clause-count
+returns-in_err-operations-clause-count g c =
+    let exit = err_from_is_err_and c.from_residual-in_err-operations.result c.from_residual-in_err-operations.ensures.1 in
+    rw exit.1 tt
+
+pub returns-in_err-operations-clause-live : goal.returns-in_err-operations-clause-live
+returns-in_err-operations-clause-live g c =
+    let exit = err_from_is_err_and c.from_residual-in_err-operations.result c.from_residual-in_err-operations.ensures.1 in
+    rw exit.1 tt
+
+pub returns-in_err-operations-clause-plan : goal.returns-in_err-operations-clause-plan
+returns-in_err-operations-clause-plan g c =
+    let exit = err_from_is_err_and c.from_residual-in_err-operations.result c.from_residual-in_err-operations.ensures.1 in
+    rw exit.1 tt
+
+pub returns-in_err-operations-clause-memory : goal.returns-in_err-operations-clause-memory
+returns-in_err-operations-clause-memory g c =
+    let exit = err_from_is_err_and c.from_residual-in_err-operations.result c.from_residual-in_err-operations.ensures.1 in
+    rw exit.1 exit.2
+
+pub returns-in_err-push-clause-count : goal.returns-in_err-push-clause-count
+returns-in_err-push-clause-count g c =
+    let exit = err_from_is_err_and c.from_residual-in_err-push.result c.from_residual-in_err-push.ensures.1 in
+    rw exit.1 tt
+
+pub returns-in_err-push-clause-live : goal.returns-in_err-push-clause-live
+returns-in_err-push-clause-live g c =
+    let exit = err_from_is_err_and c.from_residual-in_err-push.result c.from_residual-in_err-push.ensures.1 in
+    rw exit.1 tt
+
+pub returns-in_err-push-clause-plan : goal.returns-in_err-push-clause-plan
+returns-in_err-push-clause-plan g c =
+    let exit = err_from_is_err_and c.from_residual-in_err-push.result c.from_residual-in_err-push.ensures.1 in
+    rw exit.1 tt
+
+pub returns-in_err-push-clause-memory : goal.returns-in_err-push-clause-memory
+returns-in_err-push-clause-memory g c =
+    let exit = err_from_is_err_and c.from_residual-in_err-push.result c.from_residual-in_err-push.ensures.1 in
+    rw exit.1 exit.2
+
+pub returns-clause-live : goal.returns-clause-live
+returns-clause-live g c = refl
+
+pub returns-clause-memory : goal.returns-clause-memory
+returns-clause-memory g c = tt
