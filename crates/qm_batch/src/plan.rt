@@ -141,20 +141,20 @@ fn own_of<F, I: qm_index::Unordered<Value = Location<F>>, L: Items, U: Steps<F, 
     ensures whole { (lent : List model.Operation) → IsLent L.reads U.form I.index_key (I.entries path.entry.index.now) log.old lent → NoneBelow (L.reads.start log.old) lent
         → IfErr result (λ e. (n : ℕ) → e ≢ Error.Journal (JournalError.ItemPruned n)) }
 {
-    let live = behind.saturating_sub(evicted(&walked.decided) as u64);
-    let found = befores_of(
-        alloc,
-        path.index,
-        log,
-        &path.base,
-        &path.made,
-        &walked.decided,
-    )?;
-    let touches = U::moved(alloc, path.base.size, path.made, walked.decided, &found)?;
+    let Path {
+        index,
+        base,
+        made,
+        ..
+    } = path;
+    let Walked { decided, floor } = walked;
+    let live = behind.saturating_sub(evicted(&decided) as u64);
+    let found = befores_of(alloc, index, log, &base, &made, &decided)?;
+    let touches = U::moved(alloc, base.size, made, decided, &found)?;
     Ok(Own {
         touches,
         live,
-        floor: walked.floor,
+        floor,
     })
 }
 

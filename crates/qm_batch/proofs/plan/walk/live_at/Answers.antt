@@ -1,11 +1,10 @@
-use Rattle.std.proofs.Common.{◌≡◌, ◌++◌, ◌-◌, ap, length, arith, subst, sym}
+use Rattle.std.proofs.Common.{◌≡◌, ◌++◌, ◌-◌, ap, arith, subst, sym}
 use Rattle.std.specs.Prelude.{All, option_map}
 use Rattle.std.proofs.lemmas.Result.{err_from_is_err_and}
 use Rattle.qm_model.proofs.Results.{told-any, told-err, told-one}
 use Rattle.qm_step.specs.Touches.{IsMoveAt, Once, IsFrom, moved_touch, operations_of}
 use Rattle.qm_step.specs.PlanViews.{touch_views}
 use Rattle.qm_base.proofs.Reading.{read-none}
-use Rattle.qm_batch.specs.PlanPaths.{found_view}
 use Rattle.qm_batch.proofs.Memory.{memory-error, memory-whole}
 use Rattle.qm_batch.proofs.plan.walk.live_at.Goals as goal
 

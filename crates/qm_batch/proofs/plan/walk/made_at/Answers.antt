@@ -1,4 +1,4 @@
-use Rattle.std.proofs.Common.{◌∙◌, sym}
+use Rattle.std.proofs.Common.{◌∙◌}
 use Rattle.qm_model.proofs.Results.{ok-four}
 use Rattle.qm_step.specs.PlanViews.{touch_view}
 use Rattle.qm_batch.specs.PlanPaths.{found_view}
