@@ -1,4 +1,5 @@
-use Rattle.std.proofs.Common.{◌≡◌, ◌∙◌, ◌+◌, arith, ◌++◌, ◌∷◌, [], length, ap, sym, map, subst, refl, List, ℕ}
+use Rattle.std.proofs.Common.{◌≡◌, ◌∙◌, ◌+◌, arith, ◌++◌, ◌∷◌, [], length, ap, sym, map, subst, refl, length-append, List, ℕ}
+use Rattle.std.proofs.lemmas.List.{length-map}
 use Rattle.std.specs.Prelude.{option_map, ◌==◌, if◌then◌else◌}
 use Rattle.qm_base.specs.Views.{operation_view}
 use Rattle.qm_model.specs.Operations.{Operation, commit}
@@ -96,3 +97,14 @@ returns-clause-live g c = refl
 
 pub returns-clause-memory : goal.returns-clause-memory
 returns-clause-memory g c = tt
+
+pub overflow_add-size : goal.overflow_add-size
+overflow_add-size g c = omega (arith, c.len.ensures, c.args.own.touches.ok.0, c.requires)
+
+pub returns-clause-count : goal.returns-clause-count
+returns-clause-count g c =
+    let touches = c.args.own.touches.items in
+    length-map c.push.new.self.items (operation_view g.U.Update.view g.U.Key.ByteString.bytes g.U.Value.ByteString.bytes)
+    ∙ ap length c.in_ok-push.ensures.items
+    ∙ length-append c.in_ok-operations.operations.items (_ ∷ [])
+    ∙ ap (λ n. n + 1) (ap length c.in_ok-operations.ensures ∙ length-map touches (λ t. t.operation))
