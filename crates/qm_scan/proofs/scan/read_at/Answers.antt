@@ -3,7 +3,8 @@ use Rattle.std.specs.Prelude.{IfOk, IfSome}
 use Rattle.qm_model.proofs.Results.{ok-then, told-any, told-one}
 use Rattle.qm_base.specs.Views.{limit_of, pair_view}
 use Rattle.qm_scan.specs.Scans.{Place, AreNext, behind, beginning, nowhere, place_view}
-use Rattle.qm_scan.proofs.Going.{nothing-left, over}
+use Rattle.qm_scan.proofs.Going.{nothing-left, over, not-beginning}
+use Rattle.qm_base.proofs.Reading.{read-none}
 use Rattle.qm_scan.proofs.scan.read_at.Goals as goal
 
 pub returns-in-Beginning-clause-value : goal.returns-in-Beginning-clause-value
@@ -43,3 +44,39 @@ returns-in-Nowhere-clause-value g c = λ list is.
 
 pub returns-in-Nowhere-clause-over : goal.returns-in-Nowhere-clause-over
 returns-in-Nowhere-clause-over g c = λ on none. c.nothing.ensures.place
+
+pub returns-in-Beginning-clause-begun : goal.returns-in-Beginning-clause-begun
+returns-in-Beginning-clause-begun g c = c.read_beginning.ensures.begun
+
+pub returns-in-Beginning-clause-error : goal.returns-in-Beginning-clause-error
+returns-in-Beginning-clause-error g c = c.read_beginning.ensures.error
+
+pub returns-in-Beginning-clause-read : goal.returns-in-Beginning-clause-read
+returns-in-Beginning-clause-read g c = c.read_beginning.ensures.read
+
+pub returns-in-Beginning-clause-whole : goal.returns-in-Beginning-clause-whole
+returns-in-Beginning-clause-whole g c = c.read_beginning.ensures.whole
+
+pub returns-in-Behind-clause-begun : goal.returns-in-Behind-clause-begun
+returns-in-Behind-clause-begun g c = c.read_next.ensures.begun
+
+pub returns-in-Behind-clause-error : goal.returns-in-Behind-clause-error
+returns-in-Behind-clause-error g c = c.read_next.ensures.error
+
+pub returns-in-Behind-clause-read : goal.returns-in-Behind-clause-read
+returns-in-Behind-clause-read g c = c.read_next.ensures.read
+
+pub returns-in-Behind-clause-whole : goal.returns-in-Behind-clause-whole
+returns-in-Behind-clause-whole g c = c.read_next.ensures.whole
+
+pub returns-in-Nowhere-clause-read : goal.returns-in-Nowhere-clause-read
+returns-in-Nowhere-clause-read g c = read-none g.L.Items.reads g.met.L.Items.unread c.args.log.now
+
+pub returns-in-Nowhere-clause-error : goal.returns-in-Nowhere-clause-error
+returns-in-Nowhere-clause-error g c = tt
+
+pub returns-in-Nowhere-clause-whole : goal.returns-in-Nowhere-clause-whole
+returns-in-Nowhere-clause-whole g c = λ list is none. tt
+
+pub returns-in-Nowhere-clause-begun : goal.returns-in-Nowhere-clause-begun
+returns-in-Nowhere-clause-begun g c = not-beginning [] (place_view g.U.Key.ByteString.bytes c.nothing.result.place) c.nothing.ensures.place

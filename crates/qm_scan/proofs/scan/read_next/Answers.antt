@@ -9,6 +9,7 @@ use Rattle.qm_scan.specs.Gathered.{put_at}
 use Rattle.qm_scan.specs.Scans.{ahead_of, behind, behind_first, place_view, unwrapped}
 use Rattle.qm_scan.proofs.Ahead.{next-above, next-bucket, over-next}
 use Rattle.qm_scan.proofs.Going.{ends-there, not-beginning, ok-two, over, unwrapped-none, unwrapped-some, went}
+use Rattle.qm_base.proofs.Reading.{read-none}
 use Rattle.qm_scan.proofs.scan.read_next.Goals as goal
 
 pub returns-in-Some-clause-value : goal.returns-in-Some-clause-value
@@ -63,3 +64,21 @@ returns-in-None-clause-value g c = λ list low is.
 
 pub returns-in-None-clause-over : goal.returns-in-None-clause-over
 returns-in-None-clause-over g c = λ none. c.nothing.ensures.place
+
+pub returns-in-Some-clause-read : goal.returns-in-Some-clause-read
+returns-in-Some-clause-read g c = c.read_bucket.ensures.read
+
+pub returns-in-Some-clause-error : goal.returns-in-Some-clause-error
+returns-in-Some-clause-error g c = c.read_bucket.ensures.error
+
+pub returns-in-None-clause-read : goal.returns-in-None-clause-read
+returns-in-None-clause-read g c = read-none g.L.Items.reads g.met.L.Items.unread c.args.log.now
+
+pub returns-in-None-clause-error : goal.returns-in-None-clause-error
+returns-in-None-clause-error g c = tt
+
+pub returns-in-None-clause-whole : goal.returns-in-None-clause-whole
+returns-in-None-clause-whole g c = λ list is none. tt
+
+pub returns-in-None-clause-begun : goal.returns-in-None-clause-begun
+returns-in-None-clause-begun g c = not-beginning [] (place_view g.U.Key.ByteString.bytes c.nothing.result.place) c.nothing.ensures.place
