@@ -1,4 +1,4 @@
-use Rattle.std.proofs.Common.{◌≤◌, ◌∙◌, ap, ap₂, sym, subst, map, [], inl, refl, arith}
+use Rattle.std.proofs.Common.{◌≤◌, ◌∙◌, ap, ap₂, sym, map, [], inl, refl, arith}
 use Rattle.std.specs.Prelude.{fold}
 use Rattle.std.proofs.lemmas.List.{take_all}
 use Rattle.std.proofs.lemmas.List.Sums.{fold_more}

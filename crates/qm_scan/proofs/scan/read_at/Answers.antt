@@ -1,8 +1,8 @@
-use Rattle.std.proofs.Common.{◌≡◌, ◌∙◌, ap, map, sym, subst, []}
+use Rattle.std.proofs.Common.{ap, map, sym, subst, []}
 use Rattle.std.specs.Prelude.{IfOk, IfSome}
-use Rattle.qm_model.proofs.Results.{ok-then, told-any, told-one}
+use Rattle.qm_model.proofs.Results.{ok-then, told-any}
 use Rattle.qm_base.specs.Views.{limit_of, pair_view}
-use Rattle.qm_scan.specs.Scans.{Place, AreNext, behind, beginning, nowhere, place_view}
+use Rattle.qm_scan.specs.Scans.{Place, AreNext, nowhere, place_view}
 use Rattle.qm_scan.proofs.Going.{nothing-left, over, not-beginning}
 use Rattle.qm_base.proofs.Reading.{read-none}
 use Rattle.qm_scan.proofs.scan.read_at.Goals as goal

@@ -1,4 +1,4 @@
-use Rattle.std.proofs.Common.{◌≡◌, ◌∙◌, ap, map, sym, [], Some, None, true, false, Bool, List, ℕ}
+use Rattle.std.proofs.Common.{◌≡◌, ◌∙◌, ap, map, sym, [], Some, false}
 use Rattle.std.specs.Prelude.{fold, option_map}
 use Rattle.std.specs.Map.{keys_of}
 use Rattle.qm_model.specs.Ranges.{unlimited}
@@ -6,7 +6,7 @@ use Rattle.qm_model.proofs.Results.{ok-then, told-any, told-one}
 use Rattle.qm_index.specs.Neighbours.{neighbour_at, next_key}
 use Rattle.qm_base.specs.Views.{limit_of, pair_view}
 use Rattle.qm_scan.specs.Gathered.{put_at}
-use Rattle.qm_scan.specs.Scans.{ahead_of, behind, behind_first, place_view, unwrapped}
+use Rattle.qm_scan.specs.Scans.{behind, place_view, unwrapped}
 use Rattle.qm_scan.proofs.Ahead.{next-above, next-bucket, over-next}
 use Rattle.qm_scan.proofs.Going.{ends-there, not-beginning, ok-two, over, unwrapped-none, unwrapped-some, went}
 use Rattle.qm_base.proofs.Reading.{read-none}

@@ -1,4 +1,4 @@
-use Rattle.std.proofs.Common.{◌≡◌, ◌∙◌, ap, sym, map, refl}
+use Rattle.std.proofs.Common.{◌∙◌, ap, sym, map, refl}
 use Rattle.qm_model.proofs.Results.{told-any, told-one}
 use Rattle.qm_base.specs.Views.{pair_view}
 use Rattle.qm_scan.specs.Scans.{place_view}
