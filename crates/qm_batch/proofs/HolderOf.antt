@@ -6,7 +6,7 @@ use Rattle.std.specs.Option.{option_or, is_some}
 use Rattle.std.proofs.lemmas.Bool.{eq-eqb}
 use Rattle.std.proofs.lemmas.List.Elements.{All-cons}
 use Rattle.qm_model.specs.Forms.{Form, IsOf}
-use Rattle.qm_model.specs.Operations.{Bytes, AreBytes, Operation, update}
+use Rattle.qm_model.specs.Operations.{Bytes, AreBytes, Operation}
 use Rattle.qm_model.specs.Live.{Live, live, live_of, live_keys}
 use Rattle.qm_model.specs.Keys.{key_lt, least, greatest, successor, predecessor, contains_key, between}
 use Rattle.qm_model.specs.Ordered.{IsRing}

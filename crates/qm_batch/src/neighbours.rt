@@ -24,7 +24,7 @@ use qm_step::Layer;
 use qm_step::found::{key_under, next_above};
 use qm_step::kind::Steps;
 use qm_step::order::is_between;
-use std::alloc::{AllocError, Global};
+use std::alloc::Global;
 use std::ops::Bound;
 use std::rc::Rc;
 
@@ -53,7 +53,7 @@ pub fn previous<F, I: qm_index::Unordered<Value = Location<F>>, L: Items, U: Ste
         key.as_bytes(),
         Bound::Excluded(key.as_bytes()),
     )?;
-    Ok(nearer(alloc, layers, key.as_bytes(), lent)?)
+    nearer(alloc, layers, key.as_bytes(), lent)
 }
 
 /// The live update of the base list whose span holds the key, with its location: the key's own, or else the one before it,
@@ -86,7 +86,7 @@ pub fn holder<F, I: qm_index::Unordered<Value = Location<F>>, L: Items, U: Steps
                 key.as_bytes(),
                 Bound::Included(key.as_bytes()),
             )?;
-            Ok(own_or_nearer(alloc, layers, key.as_bytes(), lent)?)
+            own_or_nearer(alloc, layers, key.as_bytes(), lent)
         }
     }
 }
@@ -137,8 +137,9 @@ fn nearer<F, U: Update>(
     layers: &[Rc<Layer<F, U>>],
     key: &[u8],
     lent: Option<(Location<F>, U)>,
-) -> Result<Option<(Location<F>, U)>, AllocError>
-    ensures { IfOk result (λ found. option_map (read_view U.view) found ≡ nearer_of (map (λ l. l.value) layers.now) key.now (option_map (read_view U.view) lent)) }
+) -> Result<Option<(Location<F>, U)>, Error>
+    ensures value { IfOk result (λ found. option_map (read_view U.view) found ≡ nearer_of (map (λ l. l.value) layers.now) key.now (option_map (read_view U.view) lent)) }
+    ensures memory { IfErr result (λ e. e ≡ Error.Memory) }
 {
     let left = left_before(layers, key);
     if let Some(found) = lent {
@@ -176,8 +177,9 @@ fn own_or_nearer<F, U: Update>(
     layers: &[Rc<Layer<F, U>>],
     key: &[u8],
     lent: Option<(Location<F>, U)>,
-) -> Result<Option<(Location<F>, U)>, AllocError>
-    ensures { IfOk result (λ found. option_map (read_view U.view) found ≡ own_or_nearer (map (λ l. l.value) layers.now) key.now (option_map (read_view U.view) lent)) }
+) -> Result<Option<(Location<F>, U)>, Error>
+    ensures value { IfOk result (λ found. option_map (read_view U.view) found ≡ own_or_nearer (map (λ l. l.value) layers.now) key.now (option_map (read_view U.view) lent)) }
+    ensures memory { IfErr result (λ e. e ≡ Error.Memory) }
 {
     match lent {
         Some(found) => {

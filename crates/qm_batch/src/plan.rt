@@ -25,7 +25,8 @@ mod over;
 mod sites;
 mod walk;
 
-use self::over::{moved_over, written_over};
+use self::ordered::befores_of;
+use self::over::written_over;
 use self::walk::{Path, Walked, walk_from};
 use qm_base::update::Update;
 use qm_base::{Error, Items, JournalError, Location, Operation, Write};
@@ -140,18 +141,20 @@ fn own_of<F, I: qm_index::Unordered<Value = Location<F>>, L: Items, U: Steps<F, 
     ensures whole { (lent : List model.Operation) → IsLent L.reads U.form I.index_key (I.entries path.entry.index.now) log.old lent → NoneBelow (L.reads.start log.old) lent
         → IfErr result (λ e. (n : ℕ) → e ≢ Error.Journal (JournalError.ItemPruned n)) }
 {
-    let live = behind.saturating_sub(evicted(&walked.decided) as u64);
     let Path {
         index,
         base,
         made,
         ..
     } = path;
-    let touches = moved_over(alloc, index, log, &base, made, walked.decided)?;
+    let Walked { decided, floor } = walked;
+    let live = behind.saturating_sub(evicted(&decided) as u64);
+    let found = befores_of(alloc, index, log, &base, &made, &decided)?;
+    let touches = U::moved(alloc, base.size, made, decided, &found)?;
     Ok(Own {
         touches,
         live,
-        floor: walked.floor,
+        floor,
     })
 }
 
@@ -184,8 +187,7 @@ fn own_along<
     let behind = live_behind(&path.made, path.base.live);
     let limits = policy.limits(made_inactive(&path.made, path.base.live, behind));
     let walked = walk_from(alloc, activity, &path, log, policy, limits)?;
-    let own = own_of(alloc, path, log, walked, behind)?;
-    Ok(own)
+    own_of(alloc, path, log, walked, behind)
 }
 
 // The own operations of a step, found over its base list: those of the writes, and what the policy decides.
@@ -225,8 +227,7 @@ fn own_operations<
         made,
         replaced,
     };
-    let own = own_along(alloc, candidates, path, log, policy)?;
-    Ok(own)
+    own_along(alloc, candidates, path, log, policy)
 }
 
 // The floor of a commit at this location: where the walk ended, or the location where no key is live.
@@ -256,13 +257,14 @@ fn planned<F, U: Update>(
     size: u64,
     own: Own<F, U>,
     metadata: Option<U::Value>,
-) -> Result<Plan<F, U>, AllocError>
+) -> Result<Plan<F, U>, Error>
     requires { size ≤ 2 ^ 62 }
     ensures count { IfOk result (λ plan. length plan.operations ≡ length own.touches.items + 1) }
     ensures live { IfOk result (λ plan. plan.live ≡ own.live) }
     ensures plan { IfOk result (λ plan. (base : List model.Operation) → size ≡ length base → All (IsFrom base) (touch_views U.view U.Key.bytes U.Value.bytes own.touches.items)
         → own.live ≡ length (lives.live (base ++ operations_of (touch_views U.view U.Key.bytes U.Value.bytes own.touches.items)))
         → IsPlan plan base (committed (base ++ operations_of (touch_views U.view U.Key.bytes U.Value.bytes own.touches.items)) own.floor (option_map U.Value.bytes metadata))) }
+    ensures memory { IfErr result (λ e. e ≡ Error.Memory) }
 {
     let diff = diff_of_touches(alloc, size, &own.touches)?;
     let floor = commit_floor(own.live, size + own.touches.len() as u64, own.floor);
@@ -357,7 +359,7 @@ pub fn staged<
         → L.reads.start log.old ≤ base.now.floor → IfErr result (λ e. (n : ℕ) → e ≢ Error.Journal (JournalError.ItemPruned n)) }
 {
     match own_operations(alloc, index, candidates, log, base, &wanted, policy) {
-        Ok(own) => Ok(planned(alloc, base.size, own, metadata)?),
+        Ok(own) => planned(alloc, base.size, own, metadata),
         Err(error) => Err(error),
     }
 }

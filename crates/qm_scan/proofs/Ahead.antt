@@ -1,8 +1,7 @@
 -- What is ahead of a scan: the pairs of a bucket, and what is behind it.
-use Rattle.std.proofs.Common.{◌≡◌, ◌∙◌, refl, sym, ap, ap₂, subst, ℕ, ◌≤◌, ◌<◌, Bool, true, false, List, [], ◌∷◌, ◌++◌, map, Option, Some, None, ◌&&◌, ◌||◌, inl, inr, min, arith}
-use Rattle.std.specs.Prelude.{cond, filter, filter_map, fold, option_map, All, ◌==◌, nat_lt, nat_le, nat_eq, not}
+use Rattle.std.proofs.Common.{◌≡◌, ◌∙◌, refl, sym, ap, subst, ℕ, ◌≤◌, ◌<◌, Bool, true, false, List, [], ◌∷◌, ◌++◌, map, Option, Some, None, ◌&&◌, ◌||◌, inl, inr, arith}
+use Rattle.std.specs.Prelude.{filter, filter_map, fold, option_map, All, ◌==◌, nat_lt, nat_le, not}
 use Rattle.std.specs.Map.{keys_of}
-use Rattle.std.specs.Option.{option_or}
 use Rattle.std.proofs.lemmas.Bool.Decides.{nat_tests}
 use Rattle.std.proofs.lemmas.List.Elements.{filter_map-append, recursion_from_All}
 use Rattle.std.proofs.lemmas.Option.{same_Some}
@@ -10,13 +9,13 @@ use Rattle.qm_model.specs.Forms.{Form, IsOf}
 use Rattle.qm_model.specs.Operations.{Bytes, AreBytes, Operation}
 use Rattle.qm_model.specs.Live.{Live, live, live_keys}
 use Rattle.qm_model.specs.Keys.{key_lt, by_key, contains_key}
-use Rattle.qm_model.specs.Ranges.{Limit, included, excluded, unlimited, is_after, is_before}
-use Rattle.qm_model.proofs.KeyOrder.{Has, Has-first, lt-back, lt-total, rises, apart, and-true, and-both, and-left, and-right, false-not, not-true, contains-filter}
-use Rattle.qm_model.proofs.KeySorts.{NeverFalls, by_key-up}
+use Rattle.qm_model.specs.Ranges.{Limit, unlimited, is_after, is_before}
+use Rattle.qm_model.proofs.KeyOrder.{Has, Has-first, lt-back, lt-total, rises, apart, and-true, and-both, and-left, false-not, not-true, contains-filter}
+use Rattle.qm_model.proofs.KeySorts.{by_key-up}
 use Rattle.qm_model.proofs.OrderedMoves.{contains-by_key}
 use Rattle.qm_index.specs.Buckets.{IsIndex, bucket_at}
 use Rattle.qm_index.specs.Indexed.{IsIndexed}
-use Rattle.qm_index.specs.Neighbours.{least_key, neighbour_at, next_key, near_or_wrapped, picked}
+use Rattle.qm_index.specs.Neighbours.{least_key, neighbour_at, next_key, near_or_wrapped}
 use Rattle.qm_index.specs.Translated.{IsMonotone}
 use Rattle.qm_index.proofs.Neighbours.{stood-same}
 use Rattle.qm_index.proofs.Picks.{has, has-filter, number_below, number_same, same_number, picks_least, picked-is, picked-none}

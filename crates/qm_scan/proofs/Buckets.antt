@@ -1,16 +1,13 @@
 -- The pairs of a bucket are those of the live keys with its index key, in key order.
-use Rattle.std.proofs.Common.{◌≡◌, ◌∙◌, refl, sym, ap, ap₂, subst, ℕ, Bool, true, false, List, [], ◌∷◌, map, Option, Some, None, ◌&&◌}
-use Rattle.std.specs.Prelude.{cond, filter, filter_map, fold, option_map, All, Contains, IsPermutation, ◌==◌, if◌then◌else◌, bytes_eq, unwrap_or}
-use Rattle.std.specs.List.{AllByRecursion as Each, cons_option, IsDistinct}
-use Rattle.std.specs.List.Sorted.{IsStrictlySortedBy}
-use Rattle.std.specs.Cmp.Lexicographic.{slice_cmp}
-use Rattle.std.specs.Ordering.{nat_cmp}
+use Rattle.std.proofs.Common.{◌≡◌, ◌∙◌, refl, sym, ap, subst, ℕ, Bool, true, false, List, [], ◌∷◌, map, Option, Some, None, ◌&&◌}
+use Rattle.std.specs.Prelude.{cond, filter, filter_map, fold, option_map, Contains, IsPermutation, ◌==◌, if◌then◌else◌, bytes_eq, unwrap_or}
+use Rattle.std.specs.List.{AllByRecursion as Each, cons_option}
 use Rattle.std.proofs.lemmas.Cmp.{nat_list_eq_equiv}
 use Rattle.std.proofs.lemmas.List.Elements.{All-contains_itself, All-weaker, recursion_from_All}
 use Rattle.std.proofs.lemmas.List.Sorted.{IsPermutation-map, list_any-IsPermutation}
 use Rattle.std.proofs.lemmas.Map.Keys.{IsDistinct-IsPermutation}
 use Rattle.qm_model.specs.Operations.{Bytes, Operation, update}
-use Rattle.qm_model.specs.Live.{Live, live, live_of, live_keys, value_of}
+use Rattle.qm_model.specs.Live.{Live, live, live_keys, value_of}
 use Rattle.qm_model.specs.Keys.{key_lt, by_key, contains_key, put_key}
 use Rattle.qm_model.specs.Ranges.{Limit}
 use Rattle.qm_model.proofs.KeyOrder.{SameKeys, contains-filter}

@@ -1,14 +1,13 @@
 -- Keys in key order that pass tests.
-use Rattle.std.proofs.Common.{◌≡◌, ◌∙◌, refl, sym, ap, ap₂, subst, ℕ, Bool, true, false, List, [], ◌∷◌, ◌++◌, map, ◌&&◌, ◌||◌, inl, inr}
-use Rattle.std.specs.Prelude.{cond, filter, nat_eq, bytes_eq}
+use Rattle.std.proofs.Common.{◌≡◌, ◌∙◌, refl, sym, ap, ap₂, subst, ℕ, Bool, true, false, List, [], ◌∷◌, ◌++◌, map, ◌||◌, inl, inr}
+use Rattle.std.specs.Prelude.{cond, filter, nat_eq}
 use Rattle.std.specs.List.{AllByRecursion as Each}
 use Rattle.std.specs.List.Sorted.{IsStrictlySortedBy}
 use Rattle.std.specs.Cmp.Lexicographic.{slice_cmp}
 use Rattle.std.specs.Ordering.{nat_cmp}
 use Rattle.std.specs.declared.cmp.Ordering.TheVariants.{Less}
-use Rattle.std.proofs.lemmas.Map.Keys.{sorted_head, sorted_tail}
 use Rattle.qm_model.specs.Operations.{Bytes}
-use Rattle.qm_model.specs.Keys.{key_lt, contains_key}
+use Rattle.qm_model.specs.Keys.{key_lt}
 use Rattle.qm_model.proofs.KeyOrder.{Has, Has-first, Has-later, Has-either, apart, false-not, lt-irrefl, or-either, or-left, or-right}
 use Rattle.qm_model.proofs.KeySorts.{NeverFalls}
 use Rattle.qm_model.proofs.OrderedLists.{Each-all, Each-filter}

@@ -1,5 +1,5 @@
 -- Pairs that are put in their place.
-use Rattle.std.proofs.Common.{Option, ◌≡◌, ◌∙◌, refl, sym, ap, ap₂, ℕ, suc, ◌+◌, ◌<◌, ◌≤◌, Bool, true, false, List, [], ◌∷◌, ◌++◌, map, length, get_or, take, drop, arith}
+use Rattle.std.proofs.Common.{◌≡◌, ◌∙◌, refl, sym, ap, ap₂, ℕ, suc, ◌+◌, ◌<◌, ◌≤◌, Bool, true, false, List, [], ◌∷◌, ◌++◌, map, length, get_or, take, drop, arith}
 use Rattle.std.specs.Prelude.{if◌then◌else◌, insert}
 use Rattle.std.proofs.lemmas.List.{at_drop_more, at_drop_all, map-append, take-map, drop-map}
 use Rattle.qm_model.specs.Operations.{Bytes}

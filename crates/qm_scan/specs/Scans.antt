@@ -1,5 +1,5 @@
 -- Scans of ranges: where one stands, and what it has left.
-use Rattle.std.specs.Prelude.{◌≡◌, ◌⊎◌, ℕ, Bool, false, nat_lt, ◌&&◌, List, [], ◌∷◌, ◌++◌, map, filter, filter_map, if◌then◌else◌, Option, Some, None, option_map, Result, Ok, Err}
+use Rattle.std.specs.Prelude.{◌≡◌, ◌⊎◌, ℕ, Bool, false, nat_lt, ◌&&◌, List, [], ◌∷◌, ◌++◌, filter, filter_map, if◌then◌else◌, Option, Some, None, option_map, Result, Ok, Err}
 use Rattle.qm_model.specs.Operations.{Bytes, Operation}
 use Rattle.qm_model.specs.Live.{live_keys, value_of}
 use Rattle.qm_model.specs.Keys.{by_key}

@@ -88,7 +88,7 @@ impl<U: Update> Scan<U> {
         if let Some(pair) = self.take() {
             return Some(Ok(pair));
         }
-        if let Err(error) = self.begin(alloc, index, log) {
+        if let Err(error) = self.read_on(alloc, index, log) {
             return Some(Err(error));
         }
         if let Some(pair) = self.take() {
@@ -115,7 +115,7 @@ impl<U: Update> Scan<U> {
         ensures whole { (list : List Operation) → IsLent L.reads U.form I.index_key (I.entries index.now) log.old list → NoneBelow (L.reads.start log.old) list
             → IfSome result (λ r. IfErr r (λ e. (n : ℕ) → e ≢ Error.Journal (JournalError.ItemPruned n))) }
     {
-        match self.go_on(alloc, index, log) {
+        match self.read_on(alloc, index, log) {
             Ok(()) => match self.take() {
                 Some(pair) => Some(Ok(pair)),
                 None => None,
@@ -131,8 +131,8 @@ impl<U: Update> Scan<U> {
         self.ready.pop_front()
     }
 
-    // Reads the first bucket of a scan that has read none.
-    fn begin<F, I: qm_index::Unordered<Value = Location<F>>, L: Items>(
+    // Reads on where nothing that was read is left: the first bucket, or the next one, or none where the range is over.
+    fn read_on<F, I: qm_index::Unordered<Value = Location<F>>, L: Items>(
         &mut self,
         alloc: Global,
         index: &I,
@@ -143,53 +143,42 @@ impl<U: Update> Scan<U> {
         requires ordered { U.form.ordered ≡ true }
         requires empty { self.old.ready ≡ [] }
         ensures value { (list : List Operation) → IsLent L.reads U.form I.index_key (I.entries index.now) log.old list → IfSome (L.reads.told log.old) (λ _. left_of I.index_key self.new list ≡ left_of I.index_key self.old list) }
+        ensures over { (list : List Operation) → IsLent L.reads U.form I.index_key (I.entries index.now) log.old list → IfSome (L.reads.told log.old) (λ _. OnOk result (self.old.place ≢ beginning → self.new.ready ≡ [] → left_of I.index_key self.new list ≡ [])) }
         ensures begun { OnOk result (self.new.place ≢ beginning) }
         ensures read { IsRead L.reads log.old log.new }
         ensures error { IfErr result (IsReadError L.reads log.old log.new) }
         ensures whole { (list : List Operation) → IsLent L.reads U.form I.index_key (I.entries index.now) log.old list → NoneBelow (L.reads.start log.old) list
             → IfErr result (λ e. (n : ℕ) → e ≢ Error.Journal (JournalError.ItemPruned n)) }
     {
-        match &self.place {
-            Place::Beginning => {
-                let found: Found<U> = read_beginning(alloc, index, log, &self.low, &self.high)?;
-                self.ready = VecDeque::from_vec(found.pairs);
-                self.place = found.place;
-                Ok(())
-            }
-            Place::Behind(_) => Ok(()),
-            Place::Nowhere => Ok(()),
-        }
+        let found: Found<U> = read_at(alloc, index, log, &self.place, &self.low, &self.high)?;
+        self.ready = VecDeque::from_vec(found.pairs);
+        self.place = found.place;
+        Ok(())
     }
+}
 
-    // Reads the next bucket of a scan that has begun.
-    fn go_on<F, I: qm_index::Unordered<Value = Location<F>>, L: Items>(
-        &mut self,
-        alloc: Global,
-        index: &I,
-        log: &mut L,
-    ) -> Result<(), Error>
-    where
-        U: Steps<F, I>,
-        requires ordered { U.form.ordered ≡ true }
-        requires begun { self.old.place ≢ beginning }
-        requires empty { self.old.ready ≡ [] }
-        ensures value { (list : List Operation) → IsLent L.reads U.form I.index_key (I.entries index.now) log.old list → IfSome (L.reads.told log.old) (λ _. left_of I.index_key self.new list ≡ left_of I.index_key self.old list) }
-        ensures over { (list : List Operation) → IsLent L.reads U.form I.index_key (I.entries index.now) log.old list → IfSome (L.reads.told log.old) (λ _. OnOk result (self.new.ready ≡ [] → left_of I.index_key self.new list ≡ [])) }
-        ensures read { IsRead L.reads log.old log.new }
-        ensures error { IfErr result (IsReadError L.reads log.old log.new) }
-        ensures whole { (list : List Operation) → IsLent L.reads U.form I.index_key (I.entries index.now) log.old list → NoneBelow (L.reads.start log.old) list
-            → IfErr result (λ e. (n : ℕ) → e ≢ Error.Journal (JournalError.ItemPruned n)) }
-    {
-        match &self.place {
-            Place::Behind(key) => {
-                let found: Found<U> = read_next(alloc, index, log, key, &self.high)?;
-                self.ready = VecDeque::from_vec(found.pairs);
-                self.place = found.place;
-                Ok(())
-            }
-            Place::Beginning => Ok(()),
-            Place::Nowhere => Ok(()),
-        }
+// The next pairs of a range from a place on.
+fn read_at<F, I: qm_index::Unordered<Value = Location<F>>, L: Items, U: Steps<F, I>>(
+    alloc: Global,
+    index: &I,
+    log: &mut L,
+    place: &Place<U::Key>,
+    low: &Bound<U::Key>,
+    high: &Bound<U::Key>,
+) -> Result<Found<U>, Error>
+    requires { U.form.ordered ≡ true }
+    ensures value { (list : List Operation) → IsLent L.reads U.form I.index_key (I.entries index.now) log.old list → IfSome (L.reads.told log.old) (λ _. IfOk result (λ found. AreNext I.index_key (limit_of U.Key.bytes low.now) (limit_of U.Key.bytes high.now) list (place_view U.Key.bytes place.now) (map (pair_view U.Key.bytes U.Value.bytes) found.pairs.items) (place_view U.Key.bytes found.place))) }
+    ensures over { IfOk result (λ found. place_view U.Key.bytes place.now ≢ beginning → map (pair_view U.Key.bytes U.Value.bytes) found.pairs.items ≡ [] → place_view U.Key.bytes found.place ≡ nowhere) }
+    ensures begun { IfOk result (λ found. place_view U.Key.bytes found.place ≢ beginning) }
+    ensures read { IsRead L.reads log.old log.new }
+    ensures error { IfErr result (IsReadError L.reads log.old log.new) }
+    ensures whole { (list : List Operation) → IsLent L.reads U.form I.index_key (I.entries index.now) log.old list → NoneBelow (L.reads.start log.old) list
+        → IfErr result (λ e. (n : ℕ) → e ≢ Error.Journal (JournalError.ItemPruned n)) }
+{
+    match place {
+        Place::Beginning => read_beginning(alloc, index, log, low, high),
+        Place::Behind(key) => read_next(alloc, index, log, key, high),
+        Place::Nowhere => Ok(nothing(alloc)),
     }
 }
 
@@ -273,7 +262,9 @@ fn read_next<F, I: qm_index::Unordered<Value = Location<F>>, L: Items, U: Steps<
     high: &Bound<U::Key>,
 ) -> Result<Found<U>, Error>
     requires { U.form.ordered ≡ true }
-    ensures value { (list : List Operation) (low : Limit) → IsLent L.reads U.form I.index_key (I.entries index.now) log.old list → IfSome (L.reads.told log.old) (λ _. IfOk result (λ found. AreNext I.index_key low (limit_of U.Key.bytes high.now) list (behind (U.Key.bytes key.now)) (map (pair_view U.Key.bytes U.Value.bytes) found.pairs.items) (place_view U.Key.bytes found.place) × (map (pair_view U.Key.bytes U.Value.bytes) found.pairs.items ≡ [] → place_view U.Key.bytes found.place ≡ nowhere))) }
+    ensures value { (list : List Operation) (low : Limit) → IsLent L.reads U.form I.index_key (I.entries index.now) log.old list → IfSome (L.reads.told log.old) (λ _. IfOk result (λ found. AreNext I.index_key low (limit_of U.Key.bytes high.now) list (behind (U.Key.bytes key.now)) (map (pair_view U.Key.bytes U.Value.bytes) found.pairs.items) (place_view U.Key.bytes found.place))) }
+    ensures over { IfOk result (λ found. map (pair_view U.Key.bytes U.Value.bytes) found.pairs.items ≡ [] → place_view U.Key.bytes found.place ≡ nowhere) }
+    ensures begun { IfOk result (λ found. place_view U.Key.bytes found.place ≢ beginning) }
     ensures read { IsRead L.reads log.old log.new }
     ensures error { IfErr result (IsReadError L.reads log.old log.new) }
     ensures whole { (list : List Operation) → IsLent L.reads U.form I.index_key (I.entries index.now) log.old list → NoneBelow (L.reads.start log.old) list

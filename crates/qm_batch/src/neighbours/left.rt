@@ -1,6 +1,6 @@
 //! The keys to which layers leave a live update.
 
-ghost use Rattle.std.specs.Prelude.{◌≡◌, map, option_map, option_and_then, IfOk};
+ghost use Rattle.std.specs.Prelude.{◌≡◌, map, option_map, option_and_then, IfOk, IfErr};
 ghost use Rattle.qm_model.specs.Keys.{predecessor};
 ghost use Rattle.qm_chain.specs.Ascending.{IsAscending};
 ghost use Rattle.qm_step.specs.Nearest.{limit_view, last_key, changed_keys, left_by, left_keys, is_left};
@@ -8,10 +8,10 @@ ghost use Rattle.qm_step.specs.Views.{read_view};
 
 use crate::read::{newest, update_from};
 use qm_base::update::Update;
-use qm_base::{ByteString, Location};
+use qm_base::{ByteString, Error, Location};
 use qm_step::Layer;
 use qm_step::order::{is_before, later};
-use std::alloc::{AllocError, Global};
+use std::alloc::Global;
 use std::ops::Bound;
 use std::rc::Rc;
 
@@ -102,8 +102,9 @@ pub(crate) fn update_left<F, U: Update>(
     alloc: Global,
     layers: &[Rc<Layer<F, U>>],
     key: &[u8],
-) -> Result<Option<(Location<F>, U)>, AllocError>
-    ensures { IfOk result (λ found. option_map (read_view U.view) found ≡ left_by (map (λ l. l.value) layers.now) key.now) }
+) -> Result<Option<(Location<F>, U)>, Error>
+    ensures value { IfOk result (λ found. option_map (read_view U.view) found ≡ left_by (map (λ l. l.value) layers.now) key.now) }
+    ensures memory { IfErr result (λ e. e ≡ Error.Memory) }
 {
     match newest(layers, key) {
         Some((layer, entry)) => update_from(alloc, layer, entry),

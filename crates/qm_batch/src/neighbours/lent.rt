@@ -16,7 +16,7 @@ use qm_base::{ByteString, Error, Items, JournalError, Location, Operation};
 use qm_step::found::update_in;
 use qm_step::kind::Steps;
 use qm_step::order::is_within;
-use std::alloc::{AllocError, Global};
+use std::alloc::Global;
 use std::ops::Bound;
 
 /// The live update with the greatest key before the limit in the key's own bucket, or else the one with the greatest key in
@@ -108,7 +108,7 @@ fn read_within<L: Items, U: Update>(
     ensures pruned { L.reads.start log.old ≤ at → IfErr result (λ e. (n : ℕ) → e ≢ Error.Journal (JournalError.ItemPruned n)) }
 {
     match log.read_item(at)? {
-        Some(item) => Ok(update_within(alloc, &item, above, limit)?),
+        Some(item) => update_within(alloc, &item, above, limit),
         None => Ok(None),
     }
 }
@@ -119,11 +119,12 @@ fn update_within<U: Update>(
     item: &[u8],
     above: Option<&[u8]>,
     limit: Bound<&[u8]>,
-) -> Result<Option<U>, AllocError>
-    ensures { (op : model.Operation) → IsSpelling U.form item.now op → IfOk result (λ update. option_map U.view update ≡ only_within (option_map (λ k. k.now) above.entry) (limit_view limit.entry) (said_by op)) }
+) -> Result<Option<U>, Error>
+    ensures value { (op : model.Operation) → IsSpelling U.form item.now op → IfOk result (λ update. option_map U.view update ≡ only_within (option_map (λ k. k.now) above.entry) (limit_view limit.entry) (said_by op)) }
+    ensures memory { IfErr result (λ e. e ≡ Error.Memory) }
 {
     match Operation::<(), U>::update_key(item) {
-        Some(own) if is_within(above, limit, own) => update_in(alloc, item),
+        Some(own) if is_within(above, limit, own) => Ok(update_in(alloc, item)?),
         _ => Ok(None),
     }
 }

@@ -1,6 +1,6 @@
 //! The walk from the floor, over a base list and the operations that are put behind it.
 
-ghost use Rattle.std.specs.Prelude.{◌≡◌, ◌≢◌, true, ◌≤◌, ◌<◌, ◌+◌, ◌-◌, ◌^◌, ◌++◌, ◌==◌, ℕ, min, List, length, map, All, Option, option_map, slice_get, IfSome, IfOk, IfErr, MatchBool, MatchOption, OnOk, None, Some, option_to_list, is_some, if◌then◌else◌};
+ghost use Rattle.std.specs.Prelude.{◌≡◌, ◌≢◌, true, false, ◌≤◌, ◌<◌, ◌+◌, ◌-◌, ◌^◌, ◌++◌, ◌==◌, ℕ, min, nat_le, List, length, map, All, Option, option_map, slice_get, IfSome, IfOk, IfErr, MatchBool, MatchOption, OnOk, None, Some, option_to_list, is_some, if◌then◌else◌};
 ghost use Rattle.std.specs.List.{list_any};
 ghost use Rattle.qm_base.specs.Parts.{update_key};
 ghost use Rattle.qm_base.specs.Views.{operation_view};
@@ -20,7 +20,7 @@ ghost use Rattle.qm_base.specs.Reads.{IsRead, IsReadError};
 ghost use Rattle.qm_step.specs.Lent.{IsLent};
 ghost use Rattle.qm_step.specs.PlanViews.{decided_views, touch_views};
 ghost use Rattle.qm_batch.specs.PlanPaths.{found_view, path_view, IsPath};
-ghost use Rattle.qm_step.specs.Touches.{is_there, moved_touch, operations_of, AreReplaced, IsFrom, IsKeyed, IsMoveAt, Touch as Made};
+ghost use Rattle.qm_step.specs.Touches.{is_there, moved_touch, operations_of, AreReplaced, IsFrom, IsKeyed, IsMoveAt, Once, Touch as Made};
 ghost use Rattle.qm_step.specs.Views.{change_view};
 
 use crate::read::{newest, twin_update};
@@ -180,7 +180,7 @@ fn unreplaced_at<F, I: qm_index::Unordered<Value = Location<F>>, L: Items, U: Up
 {
     if let Some(operation) = in_layers(layers, at) {
         return if is_moved(index, layers, replaced, key_of_update(operation), at) {
-            Ok(twin_update(alloc, operation)?)
+            twin_update(alloc, operation)
         } else {
             Ok(None)
         };
@@ -202,9 +202,10 @@ fn unreplaced_at<F, I: qm_index::Unordered<Value = Location<F>>, L: Items, U: Up
 }
 
 // The update that an operation behind the base list is.
-fn again<F, U: Update>(alloc: Global, touch: &Touch<F, U>) -> Result<Option<Found<U>>, AllocError>
+fn again<F, U: Update>(alloc: Global, touch: &Touch<F, U>) -> Result<Option<Found<U>>, Error>
     ensures operation { IfOk result (λ found. option_map (λ f. U.view f.update) found ≡ said_by (operation_view U.view U.Key.bytes U.Value.bytes touch.now.operation)) }
     ensures before { IfOk result (λ found. IfSome found (λ f. f.before ≡ touch.now.before)) }
+    ensures memory { IfErr result (λ e. e ≡ Error.Memory) }
 {
     match twin_update(alloc, &touch.operation)? {
         Some(update) => Ok(Some(Found {
@@ -213,6 +214,33 @@ fn again<F, U: Update>(alloc: Global, touch: &Touch<F, U>) -> Result<Option<Foun
         })),
         None => Ok(None),
     }
+}
+
+// The live update at a place among the operations behind the base list.
+fn made_at<F, U: Update>(
+    alloc: Global,
+    made: &[Touch<F, U>],
+    place: u64,
+) -> Result<Option<Found<U>>, Error>
+    ensures value { (base list : List model.Operation) (at : ℕ) → base ++ operations_of (touch_views U.view U.Key.bytes U.Value.bytes made.now) ≡ list → Once (operations_of (touch_views U.view U.Key.bytes U.Value.bytes made.now))
+        → All (IsFrom base) (touch_views U.view U.Key.bytes U.Value.bytes made.now) → length base ≤ at → place ≡ at - length base → IfOk result (λ found. IsMoveAt (option_map (found_view U.view) found) base list at) }
+    ensures memory { IfErr result (λ e. e ≡ Error.Memory) }
+{
+    match made.get(place as usize) {
+        Some(touch) => again(alloc, touch),
+        None => Ok(None),
+    }
+}
+
+// The live update that stands at this location of the base list.
+fn standing<U>(update: Option<U>, at: u64) -> Option<Found<U>>
+    ensures { (view : U → model.Operation) → option_map (found_view view) result ≡ option_map (λ u. moved_touch (at, view u)) update }
+{
+    let update = update?;
+    Some(Found {
+        update,
+        before: Some(at),
+    })
 }
 
 // The live update at a location of the base list and the operations behind it.
@@ -229,18 +257,10 @@ fn live_at<F, I: qm_index::Unordered<Value = Location<F>>, L: Items, U: Update>(
     ensures pruned { L.reads.start log.old ≤ at → IfErr result (λ e. (n : ℕ) → e ≢ Error.Journal (JournalError.ItemPruned n)) }
 {
     if path.base.size <= at {
-        return match path.made.get((at - path.base.size) as usize) {
-            Some(touch) => Ok(again(alloc, touch)?),
-            None => Ok(None),
-        };
+        return made_at(alloc, &path.made, at - path.base.size);
     }
-    match unreplaced_at(alloc, path.index, log, path.base.layers, &path.replaced, at)? {
-        Some(update) => Ok(Some(Found {
-            update,
-            before: Some(at),
-        })),
-        None => Ok(None),
-    }
+    let update = unreplaced_at(alloc, path.index, log, path.base.layers, &path.replaced, at)?;
+    Ok(standing(update, at))
 }
 
 // What the policy says of the live update at a location.
@@ -276,12 +296,13 @@ fn note<F, K: ByteString, V: ByteString>(
     next: Option<K>,
     before: Option<u64>,
     action: Action<V>,
-) -> Result<bool, AllocError>
+) -> Result<bool, Error>
     requires entries { 0 < going.old.walk.entries }
     requires floor { going.old.walk.floor < 2 ^ 64 - 1 }
     ensures goes { IfOk result (λ goes. goes ≡ is_some (decided_for (K.bytes key) (option_map K.bytes next) before (action_view V.bytes action))) }
     ensures decided { IfOk result (λ _. decided_views K.bytes V.bytes going.new.decided.items ≡ decided_views K.bytes V.bytes going.old.decided.items ++ option_to_list (decided_for (K.bytes key) (option_map K.bytes next) before (action_view V.bytes action))) }
     ensures walk { IfOk result (λ goes. going.new.walk ≡ (if goes then record going.old.walk { floor = going.old.walk.floor + 1; entries = going.old.walk.entries - 1 } else going.old.walk)) }
+    ensures memory { IfErr result (λ e. e ≡ Error.Memory) }
 {
     let Some(value) = value_of(action) else {
         return Ok(false);
@@ -302,7 +323,7 @@ fn decide<F, U: Update, P: Policy<F, U::Key, U::Value>>(
     policy: &mut P,
     going: &mut Going<F, U::Key, U::Value>,
     found: Found<U>,
-) -> Result<bool, AllocError>
+) -> Result<bool, Error>
     requires entries { 0 < going.old.walk.entries }
     requires floor { going.old.walk.floor < 2 ^ 64 - 1 }
     ensures value { IfOk result (λ goes. (base list : List model.Operation) (all : walks.Walked P) → IsMoveAt (Some (found_view U.view found)) base list going.old.walk.floor
@@ -312,6 +333,7 @@ fn decide<F, U: Update, P: Policy<F, U::Key, U::Value>>(
     ensures high { IfOk result (λ _. going.new.walk.floor ≤ going.old.walk.floor + 1) }
     ensures passed { IfOk result (λ goes. goes ≡ true → going.new.walk.floor ≡ going.old.walk.floor + 1) }
     ensures end { IfOk result (λ _. going.new.walk.end ≡ going.old.walk.end) }
+    ensures memory { IfErr result (λ e. e ≡ Error.Memory) }
 {
     let Found { update, before } = found;
     let key = update.key().twin(alloc)?;
@@ -319,6 +341,20 @@ fn decide<F, U: Update, P: Policy<F, U::Key, U::Value>>(
     let at = Location::new(going.walk.floor.get());
     let action = ask(alloc, policy, at, &key, update.into_value())?;
     note(going, key, next, before, action)
+}
+
+// Passes the locations up to the next candidate, if the walk may still decide one, and tells whether it came there.
+fn comes_to<F>(walk: &mut Walk<F>, at: u64) -> bool
+    requires { walk.old.floor ≤ at }
+    ensures spent { walk.old.entries ≡ 0 → (result ≡ false) × (walk.new ≡ walk.old) }
+    ensures reached { 0 < walk.old.entries → result ≡ nat_le (at - walk.old.floor) walk.old.skips }
+    ensures floor { 0 < walk.old.entries → walk.new.floor ≡ min at (walk.old.floor + walk.old.skips) }
+    ensures rest { 0 < walk.old.entries → walk.new ≡ record walk.old { floor = walk.new.floor; skips = walk.old.skips - (at - walk.old.floor) } }
+    ensures low { walk.old.floor ≤ walk.new.floor }
+    ensures high { walk.new.floor ≤ at }
+    ensures end { walk.new.end ≡ walk.old.end }
+{
+    walk.entries > 0 && walk.reach(Location::new(at))
 }
 
 // Visits the next candidate, and tells whether the walk goes on.
@@ -351,19 +387,16 @@ fn visit<
     ensures pruned { L.reads.start log.old ≤ at → IfErr result (λ e. (n : ℕ) → e ≢ Error.Journal (JournalError.ItemPruned n)) }
 {
     prove!(at < going.walk.end.get());
-    if going.walk.entries == 0 {
-        return Ok(false);
-    }
-    if !going.walk.reach(Location::new(at)) {
+    if !comes_to(&mut going.walk, at) {
         return Ok(false);
     }
     match live_at(alloc, path, log, at)? {
-        Some(found) => Ok(decide(alloc, policy, going, found)?),
+        Some(found) => decide(alloc, policy, going, found),
         None => Ok(true),
     }
 }
 
-// Visits these candidates, and tells whether the walk goes on behind them.
+// Visits a round of candidates, and gives where the next one begins, if the walk goes on.
 fn visit_all<
     F,
     I: qm_index::Unordered<Value = Location<F>>,
@@ -377,15 +410,17 @@ fn visit_all<
     policy: &mut P,
     going: &mut Going<F, U::Key, U::Value>,
     round: &[Location<F>],
-) -> Result<bool, Error>
+    next: Location<F>,
+) -> Result<Option<Location<F>>, Error>
     requires { IsSpaced going.old.walk.floor round.now going.old.walk.end }
-    ensures value { (lent base list : List model.Operation) (next : ℕ) (all : walks.Walked P) → IsLent L.reads U.form I.index_key (I.entries path.now.index.now) log.old lent → IsPath (path_view U.view U.Key.bytes U.Value.bytes path.now) lent base list
+    ensures value { (lent base list : List model.Operation) (all : walks.Walked P) → IsLent L.reads U.form I.index_key (I.entries path.now.index.now) log.old lent → IsPath (path_view U.view U.Key.bytes U.Value.bytes path.now) lent base list
         → AreDeadBetween list going.old.walk.floor round.now next → IsGoing P.rules base list (decided_views U.Key.bytes U.Value.bytes going.old.decided.items) going.old.walk policy.old all
-        → IfSome (L.reads.told log.old) (λ _. IfOk result (λ goes. MatchBool goes
-        (AreDead list going.new.walk.floor next × IsGoing P.rules base list (decided_views U.Key.bytes U.Value.bytes going.new.decided.items) going.new.walk policy.new all)
-        (AreDecided base list (decided_views U.Key.bytes U.Value.bytes going.new.decided.items) going.new.walk.floor policy.new all))) }
+        → IfSome (L.reads.told log.old) (λ _. IfOk result (λ next. MatchOption next
+        (AreDecided base list (decided_views U.Key.bytes U.Value.bytes going.new.decided.items) going.new.walk.floor policy.new all)
+        (λ next. AreDead list going.new.walk.floor next × IsGoing P.rules base list (decided_views U.Key.bytes U.Value.bytes going.new.decided.items) going.new.walk policy.new all))) }
+    ensures next { IfOk result (λ found. IfSome found (λ n. n ≡ next)) }
     ensures low { IfOk result (λ _. going.old.walk.floor ≤ going.new.walk.floor) }
-    ensures high { IfOk result (λ _. (next : ℕ) → IsSpaced going.old.walk.floor round.now next → going.new.walk.floor ≤ next) }
+    ensures high { IfOk result (λ _. (to : ℕ) → IsSpaced going.old.walk.floor round.now to → going.new.walk.floor ≤ to) }
     ensures end { IfOk result (λ _. going.new.walk.end ≡ going.old.walk.end) }
     ensures read { IsRead L.reads log.old log.new }
     ensures error { IfErr result (IsReadError L.reads log.old log.new) }
@@ -394,10 +429,10 @@ fn visit_all<
     for at in round {
         let goes = visit(alloc, path, log, policy, going, at.get())?;
         if !goes {
-            return Ok(false);
+            return Ok(None);
         }
     }
-    Ok(true)
+    Ok(Some(next))
 }
 
 // How many candidates a round has where so many live updates may still be decided: one at least.
@@ -459,8 +494,8 @@ fn walk_round<
 {
     let end = Location::new(going.walk.end.get());
     let round = round_from(alloc, activity, from, end, going.walk.entries)?;
-    let goes = visit_all(alloc, path, log, policy, going, &round.locations)?;
-    if goes { Ok(Some(round.next)) } else { Ok(None) }
+    let next = Location::new(round.next.get());
+    visit_all(alloc, path, log, policy, going, &round.locations, next)
 }
 
 // Passes what is left where no live update is, if the walk may still decide one.

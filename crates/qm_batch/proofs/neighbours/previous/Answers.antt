@@ -1,5 +1,9 @@
 use Rattle.std.proofs.Common.{◌∙◌, ap, sym, map}
+use Rattle.std.specs.Prelude.{option_map}
 use Rattle.qm_model.proofs.Results.{told-one}
+use Rattle.qm_step.specs.Views.{read_view}
+use Rattle.qm_step.proofs.Reading.{ok-same}
+use Rattle.qm_batch.proofs.Memory.{memory-error, memory-whole}
 use Rattle.qm_batch.proofs.HolderOf.{previous-read}
 use Rattle.qm_batch.proofs.neighbours.previous.Goals as goal
 
@@ -9,6 +13,12 @@ returns-clause-value g c = λ lent base is from ring_lent ring_base.
     let key = g.U.Key.ByteString.bytes c.args.key.now in
     let key_bytes = g.U.Key.ByteString.are_bytes key (sym (ap g.U.Key.ByteString.has c.as_bytes.ensures.value) ∙ c.as_bytes.ensures.known) in
     told-one _ _ (g.L.Items.reads.told c.args.log.now) (c.in_ok-lent.ensures.value lent is) (λ found.
-    c.in_ok-nearer.ensures
-    ∙ previous-read form g.met.U.Steps.known_bytes g.I.Unordered.index_key (g.met.U.Steps.monotone c.requires) (g.I.Unordered.entries c.args.index.now) c.last_lent.ensures.index
-    (map (λ l. l.value) c.args.layers.now) lent base is.indexed is.of from ring_lent ring_base key key_bytes _ _ _ _ c.as_bytes.ensures.value c.as_bytes-2.ensures.value c.as_bytes-3.ensures.value found)
+    ok-same c.nearer.result (option_map (read_view g.U.Update.view)) _ _
+    (previous-read form g.met.U.Steps.known_bytes g.I.Unordered.index_key (g.met.U.Steps.monotone c.requires) (g.I.Unordered.entries c.args.index.now) c.last_lent.ensures.index
+    (map (λ l. l.value) c.args.layers.now) lent base is.indexed is.of from ring_lent ring_base key key_bytes _ _ _ _ c.as_bytes.ensures.value c.as_bytes-2.ensures.value c.as_bytes-3.ensures.value found) c.nearer.ensures.value)
+
+pub returns-clause-error : goal.returns-clause-error
+returns-clause-error g c = memory-error c.nearer.result c.nearer.ensures.memory g.L.Items.reads c.args.log.now c.last_lent.new.log
+
+pub returns-clause-whole : goal.returns-clause-whole
+returns-clause-whole g c = λ lent is none. memory-whole c.nearer.result c.nearer.ensures.memory

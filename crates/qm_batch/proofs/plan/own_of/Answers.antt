@@ -1,22 +1,114 @@
-use Rattle.std.proofs.Common.{◌∙◌, ◌++◌, ap, sym, subst, map}
-use Rattle.qm_model.proofs.Results.{told-one}
+use Rattle.std.proofs.Common.{◌≡◌, ◌∙◌, ◌++◌, ap, sym, subst, subst₂, map, true, inl, refl}
+use Rattle.std.specs.Prelude.{All, IfSome, filter_map}
+use Rattle.qm_model.specs.Ordered.{IsRing}
 use Rattle.qm_step.specs.Kinds.{kind_of}
 use Rattle.qm_step.specs.Going.{write_for, IsDecided}
+use Rattle.qm_step.specs.Moves.{before_evicted}
 use Rattle.qm_step.specs.PlanViews.{decided_views, touch_views}
-use Rattle.qm_batch.specs.PlanPaths.{path_view}
 use Rattle.qm_step.specs.Rings.{touch_in}
-use Rattle.std.specs.Prelude.{All}
+use Rattle.qm_step.specs.Touches.{IsFrom, operations_of}
+use Rattle.qm_step.specs.Views.{read_view}
+use Rattle.qm_step.proofs.OrderedKinds.{ring-over}
+use Rattle.qm_step.proofs.Reading.{told-given}
+use Rattle.qm_batch.specs.PlanPaths.{path_view}
 use Rattle.qm_batch.proofs.PlanOwns.{path-written}
+use Rattle.std.proofs.lemmas.Result.{err_from_is_err_and}
+use Rattle.qm_model.proofs.Results.{told-err}
 use Rattle.qm_batch.proofs.plan.own_of.Goals as goal
 
 pub returns-clause-touches : goal.returns-clause-touches
 returns-clause-touches g c = λ lent base ws is on lent_ring ring are apart.
     let key = g.U.Key.ByteString.bytes in
     let value = g.U.Value.ByteString.bytes in
-    let kind = (kind_of g.U.Update.form) in
-    let made = touch_views g.U.Update.view key value c.args.path.made.items in
+    let form = g.U.Update.form in
+    let kind = kind_of form in
+    let views = touch_views g.U.Update.view key value in
+    let made = views c.args.path.made.items in
     let ds = decided_views key value c.args.walked.decided.items in
-    let path = path_view g.U.Update.view key value c.args.path in
-    told-one _ _ (g.L.Items.reads.told c.args.log.now)
-    (c.in_ok-touches.ensures.value lent base ws is on.known lent_ring ring (path-written kind path lent base ws on) (subst (λ ops. All (IsDecided base ops) ds) (sym on.makes) are) apart) (λ moved.
-    moved ∙ ap (λ ops. made ++ map (touch_in base) (kind.moves ops (map write_for ds))) on.makes)
+    let told_items = g.L.Items.reads.told c.args.log.now in
+    let written = path-written kind (path_view g.U.Update.view key value c.args.path) lent base ws on in
+    let befores : (form.ordered ≡ true → IfSome told_items (λ _. map (read_view g.U.Update.view) c.in_ok-found.found.items ≡ filter_map (before_evicted (base ++ operations_of made)) ds)) = λ ordered.
+    subst₂ (λ ms ds. IsRing (base ++ operations_of (views ms)) → All (IsFrom base) (views ms) → IfSome told_items (λ _. map (read_view g.U.Update.view) c.in_ok-found.found.items ≡ filter_map (before_evicted (base ++ operations_of (views ms))) (decided_views key value ds)))
+    c.deref-2.ensures.value c.deref-3.ensures.value (c.in_ok-found.ensures.value lent base ordered is on.known (lent_ring ordered)) (ring-over form base ws made ring written ordered) written.from in
+    told-given (form.ordered ≡ true) told_items befores (λ found.
+    c.in_ok-touches.ensures.value base ws (on.known).size ring written (subst (λ ops. All (IsDecided base ops) ds) (sym on.makes) are) apart (λ ordered. ap (map (read_view g.U.Update.view)) c.deref-4.ensures.value ∙ found ordered)
+    ∙ ap (λ ops. made ++ map (touch_in base) (kind.moves ops (map write_for ds))) on.makes)
+
+pub returns-in_err-found-clause-touches : goal.returns-in_err-found-clause-touches
+returns-in_err-found-clause-touches g c = λ lent base ws is on lent_ring ring are apart.
+    let exit = err_from_is_err_and c.from_residual.result c.from_residual.ensures.1 in
+    told-err _ (g.L.Items.reads.told c.args.log.now) c.from_residual.result exit.0 exit.1
+
+pub returns-in_err-found-clause-moves : goal.returns-in_err-found-clause-moves
+returns-in_err-found-clause-moves g c =
+    let exit = err_from_is_err_and c.from_residual.result c.from_residual.ensures.1 in
+    rw exit.1 tt
+
+pub returns-in_err-found-clause-live : goal.returns-in_err-found-clause-live
+returns-in_err-found-clause-live g c =
+    let exit = err_from_is_err_and c.from_residual.result c.from_residual.ensures.1 in
+    rw exit.1 tt
+
+pub returns-in_err-found-clause-floor : goal.returns-in_err-found-clause-floor
+returns-in_err-found-clause-floor g c =
+    let exit = err_from_is_err_and c.from_residual.result c.from_residual.ensures.1 in
+    rw exit.1 tt
+
+pub returns-in_err-found-clause-count : goal.returns-in_err-found-clause-count
+returns-in_err-found-clause-count g c =
+    let exit = err_from_is_err_and c.from_residual.result c.from_residual.ensures.1 in
+    rw exit.1 tt
+
+pub returns-in_err-found-clause-read : goal.returns-in_err-found-clause-read
+returns-in_err-found-clause-read g c = c.befores_of.ensures.read
+
+pub returns-in_err-found-clause-error : goal.returns-in_err-found-clause-error
+returns-in_err-found-clause-error g c =
+    let exit = err_from_is_err_and c.from_residual.result c.from_residual.ensures.1 in
+    rw (exit.1, exit.2) c.in_err-found.ensures.error
+
+pub returns-in_err-found-clause-whole : goal.returns-in_err-found-clause-whole
+returns-in_err-found-clause-whole g c = λ lent is none.
+    let exit = err_from_is_err_and c.from_residual.result c.from_residual.ensures.1 in
+    rw (exit.1, exit.2) (c.in_err-found.ensures.whole lent is none)
+
+pub returns-in_err-touches-clause-touches : goal.returns-in_err-touches-clause-touches
+returns-in_err-touches-clause-touches g c = λ lent base ws is on lent_ring ring are apart.
+    let exit = err_from_is_err_and c.from_residual-in_err-touches.result c.from_residual-in_err-touches.ensures.1 in
+    told-err _ (g.L.Items.reads.told c.args.log.now) c.from_residual-in_err-touches.result exit.0 exit.1
+
+pub returns-in_err-touches-clause-moves : goal.returns-in_err-touches-clause-moves
+returns-in_err-touches-clause-moves g c =
+    let exit = err_from_is_err_and c.from_residual-in_err-touches.result c.from_residual-in_err-touches.ensures.1 in
+    rw exit.1 tt
+
+pub returns-in_err-touches-clause-live : goal.returns-in_err-touches-clause-live
+returns-in_err-touches-clause-live g c =
+    let exit = err_from_is_err_and c.from_residual-in_err-touches.result c.from_residual-in_err-touches.ensures.1 in
+    rw exit.1 tt
+
+pub returns-in_err-touches-clause-floor : goal.returns-in_err-touches-clause-floor
+returns-in_err-touches-clause-floor g c =
+    let exit = err_from_is_err_and c.from_residual-in_err-touches.result c.from_residual-in_err-touches.ensures.1 in
+    rw exit.1 tt
+
+pub returns-in_err-touches-clause-count : goal.returns-in_err-touches-clause-count
+returns-in_err-touches-clause-count g c =
+    let exit = err_from_is_err_and c.from_residual-in_err-touches.result c.from_residual-in_err-touches.ensures.1 in
+    rw exit.1 tt
+
+pub returns-in_err-touches-clause-read : goal.returns-in_err-touches-clause-read
+returns-in_err-touches-clause-read g c = c.befores_of.ensures.read
+
+pub returns-in_err-touches-clause-error : goal.returns-in_err-touches-clause-error
+returns-in_err-touches-clause-error g c =
+    let exit = err_from_is_err_and c.from_residual-in_err-touches.result c.from_residual-in_err-touches.ensures.1 in
+    rw (exit.1, exit.2) (inl refl)
+
+pub returns-in_err-touches-clause-whole : goal.returns-in_err-touches-clause-whole
+returns-in_err-touches-clause-whole g c = λ lent is none.
+    let exit = err_from_is_err_and c.from_residual-in_err-touches.result c.from_residual-in_err-touches.ensures.1 in
+    rw (exit.1, exit.2) (λ n same. cc)
+
+pub returns-clause-read : goal.returns-clause-read
+returns-clause-read g c = c.befores_of.ensures.read

@@ -1,4 +1,5 @@
-use Rattle.std.proofs.Common.{◌≡◌, ◌∙◌, ◌+◌, arith, ◌++◌, ◌∷◌, [], length, ap, sym, map, subst, refl, List, ℕ}
+use Rattle.std.proofs.Common.{◌≡◌, ◌∙◌, ◌+◌, arith, ◌++◌, ◌∷◌, [], length, ap, sym, map, subst, refl, length-append, List, ℕ}
+use Rattle.std.proofs.lemmas.List.{length-map}
 use Rattle.std.specs.Prelude.{option_map, ◌==◌, if◌then◌else◌}
 use Rattle.qm_base.specs.Views.{operation_view}
 use Rattle.qm_model.specs.Operations.{Operation, commit}
@@ -8,6 +9,7 @@ use Rattle.qm_step.specs.Touches.{operations_of}
 use Rattle.qm_step.specs.Views.{IsPlan, changes_view}
 use Rattle.qm_batch.proofs.PlanOwns.{operations-push, own-length}
 use Rattle.qm_batch.proofs.PlanSteps.{own-plan}
+use Rattle.std.proofs.lemmas.Result.{err_from_is_err_and}
 use Rattle.qm_batch.proofs.plan.planned.Goals as goal
 
 pub returns-clause-plan : goal.returns-clause-plan
@@ -29,3 +31,80 @@ returns-clause-plan g c = λ base size from count.
     subst (λ (n : ℕ). IsPlan (record { operations = map (operation_view g.U.Update.view key value) c.push.new.self.items; changes = changes; floor = n; live = c.args.own.live }) base (committed (base ++ own) c.args.own.floor meta)) (sym c.new-2.ensures)
     (subst (λ (ops : List Operation). IsPlan (record { operations = ops; changes = changes; floor = place; live = c.args.own.live }) base (committed (base ++ own) c.args.own.floor meta)) (sym operations)
     (own-plan base own changes c.args.own.live place c.args.own.floor meta count at (are from)))
+
+pub returns-in_err-diff-clause-count : goal.returns-in_err-diff-clause-count
+returns-in_err-diff-clause-count g c =
+    let exit = err_from_is_err_and c.from_residual.result c.from_residual.ensures.1 in
+    rw exit.1 tt
+
+pub returns-in_err-diff-clause-live : goal.returns-in_err-diff-clause-live
+returns-in_err-diff-clause-live g c =
+    let exit = err_from_is_err_and c.from_residual.result c.from_residual.ensures.1 in
+    rw exit.1 tt
+
+pub returns-in_err-diff-clause-plan : goal.returns-in_err-diff-clause-plan
+returns-in_err-diff-clause-plan g c =
+    let exit = err_from_is_err_and c.from_residual.result c.from_residual.ensures.1 in
+    rw exit.1 tt
+
+pub returns-in_err-diff-clause-memory : goal.returns-in_err-diff-clause-memory
+returns-in_err-diff-clause-memory g c =
+    let exit = err_from_is_err_and c.from_residual.result c.from_residual.ensures.1 in
+    rw exit.1 exit.2
+
+pub returns-in_err-operations-clause-count : goal.returns-in_err-operations-clause-count
+returns-in_err-operations-clause-count g c =
+    let exit = err_from_is_err_and c.from_residual-in_err-operations.result c.from_residual-in_err-operations.ensures.1 in
+    rw exit.1 tt
+
+pub returns-in_err-operations-clause-live : goal.returns-in_err-operations-clause-live
+returns-in_err-operations-clause-live g c =
+    let exit = err_from_is_err_and c.from_residual-in_err-operations.result c.from_residual-in_err-operations.ensures.1 in
+    rw exit.1 tt
+
+pub returns-in_err-operations-clause-plan : goal.returns-in_err-operations-clause-plan
+returns-in_err-operations-clause-plan g c =
+    let exit = err_from_is_err_and c.from_residual-in_err-operations.result c.from_residual-in_err-operations.ensures.1 in
+    rw exit.1 tt
+
+pub returns-in_err-operations-clause-memory : goal.returns-in_err-operations-clause-memory
+returns-in_err-operations-clause-memory g c =
+    let exit = err_from_is_err_and c.from_residual-in_err-operations.result c.from_residual-in_err-operations.ensures.1 in
+    rw exit.1 exit.2
+
+pub returns-in_err-push-clause-count : goal.returns-in_err-push-clause-count
+returns-in_err-push-clause-count g c =
+    let exit = err_from_is_err_and c.from_residual-in_err-push.result c.from_residual-in_err-push.ensures.1 in
+    rw exit.1 tt
+
+pub returns-in_err-push-clause-live : goal.returns-in_err-push-clause-live
+returns-in_err-push-clause-live g c =
+    let exit = err_from_is_err_and c.from_residual-in_err-push.result c.from_residual-in_err-push.ensures.1 in
+    rw exit.1 tt
+
+pub returns-in_err-push-clause-plan : goal.returns-in_err-push-clause-plan
+returns-in_err-push-clause-plan g c =
+    let exit = err_from_is_err_and c.from_residual-in_err-push.result c.from_residual-in_err-push.ensures.1 in
+    rw exit.1 tt
+
+pub returns-in_err-push-clause-memory : goal.returns-in_err-push-clause-memory
+returns-in_err-push-clause-memory g c =
+    let exit = err_from_is_err_and c.from_residual-in_err-push.result c.from_residual-in_err-push.ensures.1 in
+    rw exit.1 exit.2
+
+pub returns-clause-live : goal.returns-clause-live
+returns-clause-live g c = refl
+
+pub returns-clause-memory : goal.returns-clause-memory
+returns-clause-memory g c = tt
+
+pub overflow_add-size : goal.overflow_add-size
+overflow_add-size g c = omega (arith, c.len.ensures, c.args.own.touches.ok.0, c.requires)
+
+pub returns-clause-count : goal.returns-clause-count
+returns-clause-count g c =
+    let touches = c.args.own.touches.items in
+    length-map c.push.new.self.items (operation_view g.U.Update.view g.U.Key.ByteString.bytes g.U.Value.ByteString.bytes)
+    ∙ ap length c.in_ok-push.ensures.items
+    ∙ length-append c.in_ok-operations.operations.items (_ ∷ [])
+    ∙ ap (λ n. n + 1) (ap length c.in_ok-operations.ensures ∙ length-map touches (λ t. t.operation))

@@ -92,6 +92,5 @@ pub(crate) fn befores_of<F, I: qm_index::Unordered<Value = Location<F>>, L: Item
         return Ok(Vec::new(alloc));
     }
     let layers = layers_over(alloc, base, made)?;
-    let found = find_before(alloc, index, log, &layers, decided)?;
-    Ok(found)
+    find_before(alloc, index, log, &layers, decided)
 }

@@ -48,31 +48,6 @@ fn find_neighbour<'a, F, I: qm_index::Unordered<Value = Location<F>>, L: Items, 
     }))
 }
 
-// What stands in the base list before each key that a write creates or deletes, in the order of the writes.
-fn find_neighbours<'a, F, I: qm_index::Unordered<Value = Location<F>>, L: Items, U: Steps<F, I>>(
-    alloc: Global,
-    index: &I,
-    log: &mut L,
-    layers: &[Rc<Layer<F, U>>],
-    sites: &[Site<'a, U::Key, U::Value>],
-) -> Result<Vec<Neighbour<'a, F, U>>, Error>
-    requires { U.form.ordered ≡ true }
-    ensures value { (lent base : List operations.Operation) (ws : List model.Write) → IsLent L.reads U.form I.index_key (I.entries index.now) log.old lent → LeadOver (map (λ l. l.value) layers.now) lent base
-        → IsRing lent → IsRing base → map (linked_view U.Key.bytes U.Value.bytes) sites.now ≡ map (linked_in base) ws
-        → IfSome (L.reads.told log.old) (λ _. IfOk result (λ neighbours. map (neighbour_view U.view U.Key.bytes) neighbours.items ≡ filter_map (neighbour_in base) ws)) }
-    ensures read { IsRead L.reads log.old log.new }
-    ensures error { IfErr result (IsReadError L.reads log.old log.new) }
-    ensures whole { (lent : List operations.Operation) → IsLent L.reads U.form I.index_key (I.entries index.now) log.old lent → NoneBelow (L.reads.start log.old) lent
-        → IfErr result (λ e. (n : ℕ) → e ≢ Error.Journal (JournalError.ItemPruned n)) }
-{
-    let mut neighbours = Vec::new(alloc);
-    for site in sites {
-        let neighbour = find_neighbour(alloc, index, log, layers, site)?;
-        push_some(&mut neighbours, neighbour)?;
-    }
-    Ok(neighbours)
-}
-
 /// What stands in an ordered base list before each key that a write creates or deletes, in the order of the writes. In an
 /// unordered database nothing is looked for.
 pub(crate) fn neighbours_of<
@@ -96,9 +71,13 @@ pub(crate) fn neighbours_of<
     ensures whole { (lent : List operations.Operation) → IsLent L.reads U.form I.index_key (I.entries index.now) log.old lent → NoneBelow (L.reads.start log.old) lent
         → IfErr result (λ e. (n : ℕ) → e ≢ Error.Journal (JournalError.ItemPruned n)) }
 {
-    if U::is_ordered() {
-        find_neighbours(alloc, index, log, layers, sites)
-    } else {
-        Ok(Vec::new(alloc))
+    let mut neighbours = Vec::new(alloc);
+    if !U::is_ordered() {
+        return Ok(neighbours);
     }
+    for site in sites {
+        let neighbour = find_neighbour(alloc, index, log, layers, site)?;
+        push_some(&mut neighbours, neighbour)?;
+    }
+    Ok(neighbours)
 }

@@ -8,6 +8,7 @@ use Rattle.qm_scan.specs.Gathered.{put_at}
 use Rattle.qm_scan.specs.Scans.{beginning, place_view}
 use Rattle.qm_scan.proofs.Ahead.{first-above, first-bucket, over-first}
 use Rattle.qm_scan.proofs.Going.{not-beginning, ok-two, over, went}
+use Rattle.qm_base.proofs.Reading.{read-none}
 use Rattle.qm_scan.proofs.scan.read_first.Goals as goal
 
 pub returns-in-Some-clause-value : goal.returns-in-Some-clause-value
@@ -39,3 +40,21 @@ returns-in-None-clause-value g c = λ list is.
     (over g.I.Unordered.index_key unlimited high list beginning (map view c.nothing.result.pairs.items) (place_view g.U.Key.ByteString.bytes c.nothing.result.place) (ap (map view) c.nothing.ensures.pairs) c.nothing.ensures.place
     (over-first g.I.Unordered.index_key (g.I.Unordered.entries c.args.index.now) (c.first_bucket.ensures.index c.requires) list is.indexed unlimited high
     (sym (ap (option_map (λ b. b.now)) c.in-None.is) ∙ c.first_bucket.ensures.value c.requires)))
+
+pub returns-in-Some-clause-read : goal.returns-in-Some-clause-read
+returns-in-Some-clause-read g c = c.read_bucket.ensures.read
+
+pub returns-in-Some-clause-error : goal.returns-in-Some-clause-error
+returns-in-Some-clause-error g c = c.read_bucket.ensures.error
+
+pub returns-in-None-clause-read : goal.returns-in-None-clause-read
+returns-in-None-clause-read g c = read-none g.L.Items.reads g.met.L.Items.unread c.args.log.now
+
+pub returns-in-None-clause-error : goal.returns-in-None-clause-error
+returns-in-None-clause-error g c = tt
+
+pub returns-in-None-clause-whole : goal.returns-in-None-clause-whole
+returns-in-None-clause-whole g c = λ list is none. tt
+
+pub returns-in-None-clause-begun : goal.returns-in-None-clause-begun
+returns-in-None-clause-begun g c = not-beginning [] (place_view g.U.Key.ByteString.bytes c.nothing.result.place) c.nothing.ensures.place

@@ -1,7 +1,7 @@
-use Rattle.std.proofs.Common.{◌∙◌, ◌≤◌, ◌++◌, ap, ap₂, subst, sym, []}
+use Rattle.std.proofs.Common.{◌∙◌, ◌≤◌, ◌++◌, ap, ap₂, subst, sym, [], inl, refl}
 use Rattle.std.specs.Prelude.{All, fold}
 use Rattle.std.proofs.lemmas.Result.{err_from_is_err_and}
-use Rattle.qm_model.proofs.Results.{told-one}
+use Rattle.qm_model.proofs.Results.{told-one, told-err}
 use Rattle.qm_index.specs.Buckets.{bucket_at}
 use Rattle.qm_step.specs.Nearest.{limit_view}
 use Rattle.qm_step.proofs.LentKeys.{bucket-above}
@@ -30,3 +30,53 @@ returns-clause-value g c = λ list is begins.
     ∙ sym (ap₂ (λ ps k. ps ++ ahead_of index_key low high (behind k) list)
     (found ∙ ap (fold (put_at low high list) []) (c.bucket.ensures.value ∙ ap (λ k. bucket_at entries (index_key k)) c.as_bytes.ensures.value))
     (ap g.U.Key.ByteString.bytes c.in_ok-key.ensures)))
+
+pub returns-in_err-pairs-clause-value : goal.returns-in_err-pairs-clause-value
+returns-in_err-pairs-clause-value g c = λ list is begins.
+    let exit = err_from_is_err_and c.from_residual.result c.from_residual.ensures.1 in
+    told-err _ (g.L.Items.reads.told c.args.log.now) c.from_residual.result exit.0 exit.1
+
+pub returns-in_err-pairs-clause-begun : goal.returns-in_err-pairs-clause-begun
+returns-in_err-pairs-clause-begun g c =
+    let exit = err_from_is_err_and c.from_residual.result c.from_residual.ensures.1 in
+    rw exit.1 tt
+
+pub returns-in_err-pairs-clause-read : goal.returns-in_err-pairs-clause-read
+returns-in_err-pairs-clause-read g c = c.pairs_at.ensures.read
+
+pub returns-in_err-pairs-clause-error : goal.returns-in_err-pairs-clause-error
+returns-in_err-pairs-clause-error g c =
+    let exit = err_from_is_err_and c.from_residual.result c.from_residual.ensures.1 in
+    rw (exit.1, exit.2) c.in_err-pairs.ensures.error
+
+pub returns-in_err-key-clause-value : goal.returns-in_err-key-clause-value
+returns-in_err-key-clause-value g c = λ list is begins.
+    let exit = err_from_is_err_and c.from_residual-in_err-key.result c.from_residual-in_err-key.ensures.1 in
+    told-err _ (g.L.Items.reads.told c.args.log.now) c.from_residual-in_err-key.result exit.0 exit.1
+
+pub returns-in_err-key-clause-begun : goal.returns-in_err-key-clause-begun
+returns-in_err-key-clause-begun g c =
+    let exit = err_from_is_err_and c.from_residual-in_err-key.result c.from_residual-in_err-key.ensures.1 in
+    rw exit.1 tt
+
+pub returns-in_err-key-clause-read : goal.returns-in_err-key-clause-read
+returns-in_err-key-clause-read g c = c.pairs_at.ensures.read
+
+pub returns-in_err-key-clause-error : goal.returns-in_err-key-clause-error
+returns-in_err-key-clause-error g c =
+    let exit = err_from_is_err_and c.from_residual-in_err-key.result c.from_residual-in_err-key.ensures.1 in
+    rw (exit.1, exit.2) (inl refl)
+
+pub returns-in_err-key-clause-whole : goal.returns-in_err-key-clause-whole
+returns-in_err-key-clause-whole g c = λ list is none.
+    let exit = err_from_is_err_and c.from_residual-in_err-key.result c.from_residual-in_err-key.ensures.1 in
+    rw (exit.1, exit.2) (λ n same. cc)
+
+pub returns-clause-read : goal.returns-clause-read
+returns-clause-read g c = c.pairs_at.ensures.read
+
+pub returns-clause-error : goal.returns-clause-error
+returns-clause-error g c = tt
+
+pub returns-clause-whole : goal.returns-clause-whole
+returns-clause-whole g c = λ list is none. tt

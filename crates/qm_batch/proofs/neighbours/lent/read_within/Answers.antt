@@ -1,10 +1,12 @@
-use Rattle.std.proofs.Common.{◌∙◌, ap, inl, refl, subst, sym, map}
+use Rattle.std.proofs.Common.{◌∙◌, ap, subst, sym, map}
 use Rattle.std.specs.Prelude.{option_and_then, option_map}
 use Rattle.std.proofs.lemmas.Result.{err_from_is_err_and}
 use Rattle.qm_model.specs.Forms.{IsSpelling, spelling}
 use Rattle.qm_model.proofs.Results.{told-err, told-one}
 use Rattle.qm_step.specs.Changes.{said_by}
 use Rattle.qm_step.specs.Nearest.{limit_view, only_within}
+use Rattle.qm_step.proofs.Reading.{ok-same}
+use Rattle.qm_batch.proofs.Memory.{memory-error, memory-whole}
 use Rattle.qm_batch.proofs.Spellings.{spelled-there, unspelled-there}
 use Rattle.qm_batch.proofs.neighbours.lent.read_within.Goals as goal
 
@@ -26,43 +28,25 @@ returns-in_err-item-clause-pruned g c = λ kept.
     let exit = err_from_is_err_and c.from_residual.result c.from_residual.ensures.1 in
     rw (exit.1, exit.2) (c.in_err-item.ensures.pruned kept)
 
-pub returns-in_err-update_within-in-Some-clause-value : goal.returns-in_err-update_within-in-Some-clause-value
-returns-in_err-update_within-in-Some-clause-value g c = λ list is of.
-    let exit = err_from_is_err_and c.from_residual-in_err-update_within-in-Some.result c.from_residual-in_err-update_within-in-Some.ensures.1 in
-    told-err _ (g.L.Items.reads.told c.args.log.now) c.from_residual-in_err-update_within-in-Some.result exit.0 exit.1
-
-pub returns-in_err-update_within-in-Some-clause-read : goal.returns-in_err-update_within-in-Some-clause-read
-returns-in_err-update_within-in-Some-clause-read g c = c.read_item.ensures.read
-
-pub returns-in_err-update_within-in-Some-clause-error : goal.returns-in_err-update_within-in-Some-clause-error
-returns-in_err-update_within-in-Some-clause-error g c =
-    let exit = err_from_is_err_and c.from_residual-in_err-update_within-in-Some.result c.from_residual-in_err-update_within-in-Some.ensures.1 in
-    rw (exit.1, exit.2) (inl refl)
-
-pub returns-in_err-update_within-in-Some-clause-pruned : goal.returns-in_err-update_within-in-Some-clause-pruned
-returns-in_err-update_within-in-Some-clause-pruned g c = λ kept.
-    let exit = err_from_is_err_and c.from_residual-in_err-update_within-in-Some.result c.from_residual-in_err-update_within-in-Some.ensures.1 in
-    rw (exit.1, exit.2) (λ n same. cc)
-
-pub returns-in_ok-update_within-in-Some-clause-value : goal.returns-in_ok-update_within-in-Some-clause-value
-returns-in_ok-update_within-in-Some-clause-value g c = λ list is of.
+pub returns-in-Some-clause-value : goal.returns-in-Some-clause-value
+returns-in-Some-clause-value g c = λ list is of.
     let form = g.U.Update.form in
     let at = c.args.at in
     let above = option_map (λ k. k.now) c.args.above in
     let limit = limit_view c.args.limit in
     told-one _ _ (g.L.Items.reads.told c.args.log.now) (c.in_ok-item.ensures.value (map (spelling form) list) is) (λ said.
     let spelled = spelled-there form list at c.in-Some.item.items of (sym said ∙ ap (option_map (λ v. v.items)) c.in-Some.is) in
-    c.in_ok-update_within-in-Some.ensures spelled.0 (subst (λ bs. IsSpelling form bs spelled.0) (sym c.deref.ensures.value) spelled.2)
-    ∙ ap (λ o. only_within above limit (option_and_then said_by o)) (sym spelled.1))
+    ok-same c.update_within.result (option_map g.U.Update.view) _ _ (ap (λ o. only_within above limit (option_and_then said_by o)) (sym spelled.1))
+    (c.update_within.ensures.value spelled.0 (subst (λ bs. IsSpelling form bs spelled.0) (sym c.deref.ensures.value) spelled.2)))
 
-pub returns-in_ok-update_within-in-Some-clause-read : goal.returns-in_ok-update_within-in-Some-clause-read
-returns-in_ok-update_within-in-Some-clause-read g c = c.read_item.ensures.read
+pub returns-in-Some-clause-read : goal.returns-in-Some-clause-read
+returns-in-Some-clause-read g c = c.read_item.ensures.read
 
-pub returns-in_ok-update_within-in-Some-clause-error : goal.returns-in_ok-update_within-in-Some-clause-error
-returns-in_ok-update_within-in-Some-clause-error g c = tt
+pub returns-in-Some-clause-error : goal.returns-in-Some-clause-error
+returns-in-Some-clause-error g c = memory-error c.update_within.result c.update_within.ensures.memory g.L.Items.reads c.args.log.now c.read_item.new.self
 
-pub returns-in_ok-update_within-in-Some-clause-pruned : goal.returns-in_ok-update_within-in-Some-clause-pruned
-returns-in_ok-update_within-in-Some-clause-pruned g c = λ kept. tt
+pub returns-in-Some-clause-pruned : goal.returns-in-Some-clause-pruned
+returns-in-Some-clause-pruned g c = λ kept. memory-whole c.update_within.result c.update_within.ensures.memory
 
 pub returns-in-None-clause-value : goal.returns-in-None-clause-value
 returns-in-None-clause-value g c = λ list is of.

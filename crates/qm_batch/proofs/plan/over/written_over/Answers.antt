@@ -1,13 +1,13 @@
-use Rattle.std.proofs.Common.{◌≡◌, ◌∙◌, ap, map, subst, sym, true}
+use Rattle.std.proofs.Common.{◌≡◌, ◌∙◌, ap, map, subst, sym, true, inl, refl}
 use Rattle.std.proofs.lemmas.Result.{err_from_is_err_and}
-use Rattle.qm_model.proofs.Results.{told-then}
+use Rattle.qm_model.proofs.Results.{told-then, told-err}
 use Rattle.qm_model.specs.Writes.{last_writes}
 use Rattle.qm_step.specs.Lent.{NoneBelow}
 use Rattle.qm_step.specs.OrderedViews.{neighbour_view}
 use Rattle.qm_step.specs.PlanViews.{last_view, linked_view}
 use Rattle.qm_step.specs.Rings.{linked_in}
 use Rattle.qm_step.proofs.PlanSites.{lasts-shown}
-use Rattle.qm_base.proofs.Reading.{error-then, read-then}
+use Rattle.qm_base.proofs.Reading.{error-then, read-then, read-none}
 use Rattle.qm_step.proofs.Reading.{lent-then, told, told-given}
 use Rattle.qm_batch.proofs.plan.over.written_over.Goals as goal
 
@@ -47,3 +47,65 @@ returns-in_err-neighbours-clause-whole g c = λ lent is none.
     let read = c.in_ok-sites.ensures.read in
     let mid = lent-then g.L.Items.reads form g.I.Unordered.index_key (g.I.Unordered.entries c.args.index.now) c.args.log.now c.find_sites.new.log lent read is in
     rw (exit.1, exit.2) (c.in_err-neighbours.ensures.whole lent mid (subst (λ t. NoneBelow t lent) (sym read.start) none))
+
+pub returns-in_err-known-clause-value : goal.returns-in_err-known-clause-value
+returns-in_err-known-clause-value g c = λ lent base ws is from ring base_ring reads last.
+    let exit = err_from_is_err_and c.from_residual.result c.from_residual.ensures.1 in
+    told-err _ (g.L.Items.reads.told c.args.log.now) c.from_residual.result exit.0 exit.1
+
+pub returns-in_err-known-clause-read : goal.returns-in_err-known-clause-read
+returns-in_err-known-clause-read g c = read-none g.L.Items.reads g.met.L.Items.unread c.args.log.now
+
+pub returns-in_err-known-clause-error : goal.returns-in_err-known-clause-error
+returns-in_err-known-clause-error g c =
+    let exit = err_from_is_err_and c.from_residual.result c.from_residual.ensures.1 in
+    rw (exit.1, exit.2) (inl refl)
+
+pub returns-in_err-known-clause-whole : goal.returns-in_err-known-clause-whole
+returns-in_err-known-clause-whole g c = λ lent is none.
+    let exit = err_from_is_err_and c.from_residual.result c.from_residual.ensures.1 in
+    rw (exit.1, exit.2) (λ n same. cc)
+
+pub returns-in_err-sites-clause-value : goal.returns-in_err-sites-clause-value
+returns-in_err-sites-clause-value g c = λ lent base ws is from ring base_ring reads last.
+    let exit = err_from_is_err_and c.from_residual-in_err-sites.result c.from_residual-in_err-sites.ensures.1 in
+    told-err _ (g.L.Items.reads.told c.args.log.now) c.from_residual-in_err-sites.result exit.0 exit.1
+
+pub returns-in_err-sites-clause-read : goal.returns-in_err-sites-clause-read
+returns-in_err-sites-clause-read g c = c.find_sites.ensures.read
+
+pub returns-in_err-sites-clause-error : goal.returns-in_err-sites-clause-error
+returns-in_err-sites-clause-error g c =
+    let exit = err_from_is_err_and c.from_residual-in_err-sites.result c.from_residual-in_err-sites.ensures.1 in
+    rw (exit.1, exit.2) c.in_err-sites.ensures.error
+
+pub returns-in_err-sites-clause-whole : goal.returns-in_err-sites-clause-whole
+returns-in_err-sites-clause-whole g c = λ lent is none.
+    let exit = err_from_is_err_and c.from_residual-in_err-sites.result c.from_residual-in_err-sites.ensures.1 in
+    rw (exit.1, exit.2) (c.in_err-sites.ensures.whole lent is none)
+
+pub returns-in_err-neighbours-clause-value : goal.returns-in_err-neighbours-clause-value
+returns-in_err-neighbours-clause-value g c = λ lent base ws is from ring base_ring reads last.
+    let exit = err_from_is_err_and c.from_residual-in_err-neighbours.result c.from_residual-in_err-neighbours.ensures.1 in
+    told-err _ (g.L.Items.reads.told c.args.log.now) c.from_residual-in_err-neighbours.result exit.0 exit.1
+
+pub returns-in_err-touches-clause-value : goal.returns-in_err-touches-clause-value
+returns-in_err-touches-clause-value g c = λ lent base ws is from ring base_ring reads last.
+    let exit = err_from_is_err_and c.from_residual-in_err-touches.result c.from_residual-in_err-touches.ensures.1 in
+    told-err _ (g.L.Items.reads.told c.args.log.now) c.from_residual-in_err-touches.result exit.0 exit.1
+
+pub returns-in_err-touches-clause-error : goal.returns-in_err-touches-clause-error
+returns-in_err-touches-clause-error g c =
+    let exit = err_from_is_err_and c.from_residual-in_err-touches.result c.from_residual-in_err-touches.ensures.1 in
+    rw (exit.1, exit.2) (inl refl)
+
+pub returns-in_err-touches-clause-whole : goal.returns-in_err-touches-clause-whole
+returns-in_err-touches-clause-whole g c = λ lent is none.
+    let exit = err_from_is_err_and c.from_residual-in_err-touches.result c.from_residual-in_err-touches.ensures.1 in
+    rw (exit.1, exit.2) (λ n same. cc)
+
+pub returns-clause-error : goal.returns-clause-error
+returns-clause-error g c = tt
+
+pub returns-clause-whole : goal.returns-clause-whole
+returns-clause-whole g c = λ lent is none. tt

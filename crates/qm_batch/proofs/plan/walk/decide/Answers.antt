@@ -6,6 +6,7 @@ use Rattle.qm_step.specs.Going.{decided_for}
 use Rattle.qm_step.specs.PlanViews.{decided_views}
 use Rattle.qm_batch.specs.PlanPaths.{found_view}
 use Rattle.qm_batch.proofs.PlanGoing.{going-decided, passed}
+use Rattle.std.proofs.lemmas.Result.{err_from_is_err_and}
 use Rattle.qm_batch.proofs.plan.walk.decide.Goals as goal
 
 pub returns-clause-value : goal.returns-clause-value
@@ -28,3 +29,96 @@ returns-clause-value g c =
 
 pub returns-clause-passed : goal.returns-clause-passed
 returns-clause-passed g c = ok-then c.note.result c.note.ensures.walk (λ on is. passed on c.args.going.now.walk c.note.new.going.walk is)
+
+pub returns-in_err-key-clause-value : goal.returns-in_err-key-clause-value
+returns-in_err-key-clause-value g c =
+    let exit = err_from_is_err_and c.from_residual.result c.from_residual.ensures.1 in
+    rw exit.1 tt
+
+pub returns-in_err-key-clause-low : goal.returns-in_err-key-clause-low
+returns-in_err-key-clause-low g c =
+    let exit = err_from_is_err_and c.from_residual.result c.from_residual.ensures.1 in
+    rw exit.1 tt
+
+pub returns-in_err-key-clause-high : goal.returns-in_err-key-clause-high
+returns-in_err-key-clause-high g c =
+    let exit = err_from_is_err_and c.from_residual.result c.from_residual.ensures.1 in
+    rw exit.1 tt
+
+pub returns-in_err-key-clause-passed : goal.returns-in_err-key-clause-passed
+returns-in_err-key-clause-passed g c =
+    let exit = err_from_is_err_and c.from_residual.result c.from_residual.ensures.1 in
+    rw exit.1 tt
+
+pub returns-in_err-key-clause-end : goal.returns-in_err-key-clause-end
+returns-in_err-key-clause-end g c =
+    let exit = err_from_is_err_and c.from_residual.result c.from_residual.ensures.1 in
+    rw exit.1 tt
+
+pub returns-in_err-key-clause-memory : goal.returns-in_err-key-clause-memory
+returns-in_err-key-clause-memory g c =
+    let exit = err_from_is_err_and c.from_residual.result c.from_residual.ensures.1 in
+    rw exit.1 exit.2
+
+pub returns-in_err-next-clause-value : goal.returns-in_err-next-clause-value
+returns-in_err-next-clause-value g c =
+    let exit = err_from_is_err_and c.from_residual-in_err-next.result c.from_residual-in_err-next.ensures.1 in
+    rw exit.1 tt
+
+pub returns-in_err-next-clause-low : goal.returns-in_err-next-clause-low
+returns-in_err-next-clause-low g c =
+    let exit = err_from_is_err_and c.from_residual-in_err-next.result c.from_residual-in_err-next.ensures.1 in
+    rw exit.1 tt
+
+pub returns-in_err-next-clause-high : goal.returns-in_err-next-clause-high
+returns-in_err-next-clause-high g c =
+    let exit = err_from_is_err_and c.from_residual-in_err-next.result c.from_residual-in_err-next.ensures.1 in
+    rw exit.1 tt
+
+pub returns-in_err-next-clause-passed : goal.returns-in_err-next-clause-passed
+returns-in_err-next-clause-passed g c =
+    let exit = err_from_is_err_and c.from_residual-in_err-next.result c.from_residual-in_err-next.ensures.1 in
+    rw exit.1 tt
+
+pub returns-in_err-next-clause-end : goal.returns-in_err-next-clause-end
+returns-in_err-next-clause-end g c =
+    let exit = err_from_is_err_and c.from_residual-in_err-next.result c.from_residual-in_err-next.ensures.1 in
+    rw exit.1 tt
+
+pub returns-in_err-next-clause-memory : goal.returns-in_err-next-clause-memory
+returns-in_err-next-clause-memory g c =
+    let exit = err_from_is_err_and c.from_residual-in_err-next.result c.from_residual-in_err-next.ensures.1 in
+    rw exit.1 exit.2
+
+pub returns-in_err-action-clause-value : goal.returns-in_err-action-clause-value
+returns-in_err-action-clause-value g c =
+    let exit = err_from_is_err_and c.from_residual-in_err-action.result c.from_residual-in_err-action.ensures.1 in
+    rw exit.1 tt
+
+pub returns-in_err-action-clause-low : goal.returns-in_err-action-clause-low
+returns-in_err-action-clause-low g c =
+    let exit = err_from_is_err_and c.from_residual-in_err-action.result c.from_residual-in_err-action.ensures.1 in
+    rw exit.1 tt
+
+pub returns-in_err-action-clause-high : goal.returns-in_err-action-clause-high
+returns-in_err-action-clause-high g c =
+    let exit = err_from_is_err_and c.from_residual-in_err-action.result c.from_residual-in_err-action.ensures.1 in
+    rw exit.1 tt
+
+pub returns-in_err-action-clause-passed : goal.returns-in_err-action-clause-passed
+returns-in_err-action-clause-passed g c =
+    let exit = err_from_is_err_and c.from_residual-in_err-action.result c.from_residual-in_err-action.ensures.1 in
+    rw exit.1 tt
+
+pub returns-in_err-action-clause-end : goal.returns-in_err-action-clause-end
+returns-in_err-action-clause-end g c =
+    let exit = err_from_is_err_and c.from_residual-in_err-action.result c.from_residual-in_err-action.ensures.1 in
+    rw exit.1 tt
+
+pub returns-in_err-action-clause-memory : goal.returns-in_err-action-clause-memory
+returns-in_err-action-clause-memory g c =
+    let exit = err_from_is_err_and c.from_residual-in_err-action.result c.from_residual-in_err-action.ensures.1 in
+    rw exit.1 exit.2
+
+pub returns-clause-memory : goal.returns-clause-memory
+returns-clause-memory g c = c.note.ensures.memory

@@ -1,20 +1,30 @@
-use Rattle.std.proofs.Common.{◌∙◌, None, ap, sym, subst, refl, map}
+use Rattle.std.proofs.Common.{◌∙◌, None, ap, sym, subst, refl, map, inl}
 use Rattle.std.specs.Prelude.{option_map, option_and_then}
 use Rattle.qm_model.specs.Forms.{IsSpelling, spelling}
-use Rattle.qm_model.proofs.Results.{told-any, told-one}
+use Rattle.qm_model.proofs.Results.{ok-then, told-any, told-one, told-err}
 use Rattle.qm_base.specs.Views.{operation_view}
 use Rattle.qm_step.specs.Changes.{said_by}
+use Rattle.qm_batch.proofs.Memory.{memory-error, memory-whole}
 use Rattle.qm_batch.proofs.PlanFinds.{match-some, match-none, standing-none, moved-found, moved-not}
 use Rattle.qm_batch.proofs.Spellings.{spelled-there, unspelled-there}
+use Rattle.qm_base.proofs.Reading.{read-none}
+use Rattle.std.proofs.lemmas.Result.{err_from_is_err_and}
 use Rattle.qm_batch.proofs.plan.walk.unreplaced_at.Goals as goal
 
-pub returns-in_ok-twin_update-clause-value : goal.returns-in_ok-twin_update-clause-value
-returns-in_ok-twin_update-clause-value g c = λ lent base made is leads within from keyed replaced.
+pub returns-then-is_moved-clause-value : goal.returns-then-is_moved-clause-value
+returns-then-is_moved-clause-value g c = λ lent base made is leads within from keyed replaced.
     let op = operation_view g.U.Update.view g.U.Key.ByteString.bytes g.U.Value.ByteString.bytes c.in-Some.operation.now in
     let there = match-some c.in_layers.result c.in-Some.operation _ _ c.in-Some.is (c.in_layers.ensures lent base leads within) in
     told-any _ (g.L.Items.reads.told c.args.log.now)
-    (moved-found base made c.args.at op there g.U.Update.view c.in_ok-twin_update.field-0 c.is_moved.result c.if-is_moved.true c.in_ok-twin_update.ensures
-    (c.is_moved.ensures lent base made op is.indexed leads from keyed replaced there c.key_of_update.ensures))
+    (ok-then c.twin_update.result c.twin_update.ensures.value (λ found shown.
+    moved-found base made c.args.at op there g.U.Update.view found c.is_moved.result c.if-is_moved.true shown
+    (c.is_moved.ensures lent base made op is.indexed leads from keyed replaced there c.key_of_update.ensures)))
+
+pub returns-then-is_moved-clause-error : goal.returns-then-is_moved-clause-error
+returns-then-is_moved-clause-error g c = memory-error c.twin_update.result c.twin_update.ensures.memory g.L.Items.reads c.args.log.now c.args.log.now
+
+pub returns-then-is_moved-clause-pruned : goal.returns-then-is_moved-clause-pruned
+returns-then-is_moved-clause-pruned g c = λ kept. memory-whole c.twin_update.result c.twin_update.ensures.memory
 
 pub returns-else-is_moved-clause-value : goal.returns-else-is_moved-clause-value
 returns-else-is_moved-clause-value g c = λ lent base made is leads within from keyed replaced.
@@ -53,3 +63,54 @@ returns-clause-value g c = λ lent base made is leads within from keyed replaced
     let there = same ∙ spelled.1 in
     let lent_key = c.update_key.ensures op (subst (λ bs. IsSpelling form bs op) (sym c.deref.ensures.value) spelled.2) in
     moved-not base made c.args.at op there c.is_moved-2.result c.if-is_moved-2.false (c.is_moved-2.ensures lent base made op is.indexed leads from keyed replaced there lent_key))
+
+pub returns-then-is_moved-clause-read : goal.returns-then-is_moved-clause-read
+returns-then-is_moved-clause-read g c = read-none g.L.Items.reads g.met.L.Items.unread c.args.log.now
+
+pub returns-else-is_moved-clause-read : goal.returns-else-is_moved-clause-read
+returns-else-is_moved-clause-read g c = read-none g.L.Items.reads g.met.L.Items.unread c.args.log.now
+
+pub returns-in_err-item-clause-value : goal.returns-in_err-item-clause-value
+returns-in_err-item-clause-value g c = λ lent base made is leads within from keyed replaced.
+    let exit = err_from_is_err_and c.from_residual.result c.from_residual.ensures.1 in
+    told-err _ (g.L.Items.reads.told c.args.log.now) c.from_residual.result exit.0 exit.1
+
+pub returns-in_err-item-clause-read : goal.returns-in_err-item-clause-read
+returns-in_err-item-clause-read g c = c.read_item.ensures.read
+
+pub returns-in_err-item-clause-error : goal.returns-in_err-item-clause-error
+returns-in_err-item-clause-error g c =
+    let exit = err_from_is_err_and c.from_residual.result c.from_residual.ensures.1 in
+    rw (exit.1, exit.2) c.in_err-item.ensures.error
+
+pub returns-in_err-item-clause-pruned : goal.returns-in_err-item-clause-pruned
+returns-in_err-item-clause-pruned g c = λ kept.
+    let exit = err_from_is_err_and c.from_residual.result c.from_residual.ensures.1 in
+    rw (exit.1, exit.2) (c.in_err-item.ensures.pruned kept)
+
+pub returns-in_err-update_in-clause-value : goal.returns-in_err-update_in-clause-value
+returns-in_err-update_in-clause-value g c = λ lent base made is leads within from keyed replaced.
+    let exit = err_from_is_err_and c.from_residual-in_err-update_in.result c.from_residual-in_err-update_in.ensures.1 in
+    told-err _ (g.L.Items.reads.told c.args.log.now) c.from_residual-in_err-update_in.result exit.0 exit.1
+
+pub returns-in_err-update_in-clause-read : goal.returns-in_err-update_in-clause-read
+returns-in_err-update_in-clause-read g c = c.read_item.ensures.read
+
+pub returns-in_err-update_in-clause-error : goal.returns-in_err-update_in-clause-error
+returns-in_err-update_in-clause-error g c =
+    let exit = err_from_is_err_and c.from_residual-in_err-update_in.result c.from_residual-in_err-update_in.ensures.1 in
+    rw (exit.1, exit.2) (inl refl)
+
+pub returns-in_err-update_in-clause-pruned : goal.returns-in_err-update_in-clause-pruned
+returns-in_err-update_in-clause-pruned g c = λ kept.
+    let exit = err_from_is_err_and c.from_residual-in_err-update_in.result c.from_residual-in_err-update_in.ensures.1 in
+    rw (exit.1, exit.2) (λ n same. cc)
+
+pub returns-in_default-2-clause-read : goal.returns-in_default-2-clause-read
+returns-in_default-2-clause-read g c = c.read_item.ensures.read
+
+pub returns-then-is_moved-2-clause-read : goal.returns-then-is_moved-2-clause-read
+returns-then-is_moved-2-clause-read g c = c.read_item.ensures.read
+
+pub returns-clause-read : goal.returns-clause-read
+returns-clause-read g c = c.read_item.ensures.read

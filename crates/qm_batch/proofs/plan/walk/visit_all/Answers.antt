@@ -34,7 +34,7 @@ visit-requires-clause-high g c =
     omega (arith, high, end, c.get.ensures)
 
 pub returns-in_err-goes-clause-value : goal.returns-in_err-goes-clause-value
-returns-in_err-goes-clause-value g c = λ lent base list next all is on dead going.
+returns-in_err-goes-clause-value g c = λ lent base list all is on dead going.
     let exit = err_from_is_err_and c.from_residual.result c.from_residual.ensures.1 in
     told-err _ (g.L.Items.reads.told c.args.log.now) c.from_residual.result exit.0 exit.1
 
@@ -57,12 +57,12 @@ returns-in_err-goes-clause-pruned g c = λ above.
     rw (exit.1, exit.2) (c.in_err-goes.ensures.pruned (omega (arith, same, low, first, above, c.get.ensures)))
 
 pub returns-then-not-goes-clause-value : goal.returns-then-not-goes-clause-value
-returns-then-not-goes-clause-value g c = λ lent base list next all is on dead going.
+returns-then-not-goes-clause-value g c = λ lent base list all is on dead going.
     let read = c.loop-at.invariant.read in
     let here = in-round c.args.round.now c.loop-at.at-index c.at-item.result c.loop-at-test.true c.at-item.is ∙ ap (λ x. x ∷ drop (c.loop-at.at-index + 1) c.args.round.now) (sym c.get.ensures) in
     let mid = lent-then g.L.Items.reads _ g.I.Unordered.index_key (g.I.Unordered.entries c.args.path.now.index.now) c.args.log.now c.loop-at.log lent read is in
-    told-then _ _ (g.L.Items.reads.told c.args.log.now) (c.loop-at.invariant.value lent base list next all is on dead going) (λ so_far.
-    let between = subst (λ xs. AreDeadBetween list c.loop-at.going.walk.floor xs next) here so_far.0 in
+    told-then _ _ (g.L.Items.reads.told c.args.log.now) (c.loop-at.invariant.value lent base list c.args.next all is on dead going) (λ so_far.
+    let between = subst (λ xs. AreDeadBetween list c.loop-at.going.walk.floor xs c.args.next) here so_far.0 in
     told-one _ _ (g.L.Items.reads.told c.args.log.now) (told _ _ _ read.told (c.in_ok-goes.ensures.value lent base list all mid on between.0 so_far.1)) (λ visited.
     chosen-false c.in_ok-goes.goes _ _ c.if-not-goes.true visited))
 
@@ -103,9 +103,9 @@ loop-at-preserved g c =
     }
 
 pub returns-clause-value : goal.returns-clause-value
-returns-clause-value g c = λ lent base list next all is on dead going.
-    told-one _ _ (g.L.Items.reads.told c.args.log.now) (c.loop-at.invariant.value lent base list next all is on dead going) (λ so_far.
-    (subst (λ xs. AreDeadBetween list c.loop-at.going.walk.floor xs next) (drop_all c.loop-at.at-index c.args.round.now c.loop-at-test.false) so_far.0, so_far.1))
+returns-clause-value g c = λ lent base list all is on dead going.
+    told-one _ _ (g.L.Items.reads.told c.args.log.now) (c.loop-at.invariant.value lent base list c.args.next all is on dead going) (λ so_far.
+    (subst (λ xs. AreDeadBetween list c.loop-at.going.walk.floor xs c.args.next) (drop_all c.loop-at.at-index c.args.round.now c.loop-at-test.false) so_far.0, so_far.1))
 
 pub returns-clause-high : goal.returns-clause-high
 returns-clause-high g c = λ next spaced. subst (λ xs. IsSpaced c.loop-at.going.walk.floor xs next) (drop_all c.loop-at.at-index c.args.round.now c.loop-at-test.false) (c.loop-at.invariant.spaced next spaced)

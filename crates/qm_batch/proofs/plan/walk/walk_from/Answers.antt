@@ -1,11 +1,13 @@
 use Rattle.std.proofs.Common.{◌≡◌, ◌∙◌, ◌+◌, length, map, max, min, ap, sym, subst, arith, ℕ}
-use Rattle.qm_model.proofs.Results.{told-one}
+use Rattle.qm_model.proofs.Results.{told-one, told-err}
 use Rattle.qm_model.specs.Live.{floor}
 use Rattle.qm_model.specs.Walk.{walk}
 use Rattle.qm_step.specs.Going.{AreDecided}
 use Rattle.qm_step.specs.PlanViews.{decided_view, decided_views, touch_view}
 use Rattle.qm_batch.proofs.PlanGoing.{going-begins}
 use Rattle.qm_batch.proofs.PlanMoves.{made-long}
+use Rattle.std.proofs.lemmas.Result.{err_from_is_err_and}
+use Rattle.qm_chain.specs.declared.walk.Walk.{Walk}
 use Rattle.qm_batch.proofs.plan.walk.walk_from.Goals as goal
 
 pub returns-clause-value : goal.returns-clause-value
@@ -24,3 +26,31 @@ returns-clause-value g c = λ lent base list is active on.
     told-one _ _ (g.L.Items.reads.told c.args.log.now) (c.in_ok-walk_on.ensures.value lent base list _ is active on
     (going-begins g.P.Policy.rules base list _ c.new-walk.result c.args.policy.now c.new-2.result c.args.limits.entries c.args.limits.skips (ap (map (decided_view key value)) c.new-3.ensures.items) top begun)) (λ decided.
     subst (λ (n : ℕ). AreDecided base list (decided_views key value c.walk_on.new.going.decided.items) n c.walk_on.new.policy (walk g.P.Policy.rules list (floor base) (record { entries = c.args.limits.entries; skips = c.args.limits.skips }) c.args.policy.now)) (sym c.get.ensures) decided)
+
+pub returns-in_err-walk_on-clause-value : goal.returns-in_err-walk_on-clause-value
+returns-in_err-walk_on-clause-value g c = λ lent base list is active on.
+    let exit = err_from_is_err_and c.from_residual.result c.from_residual.ensures.1 in
+    told-err _ (g.L.Items.reads.told c.args.log.now) c.from_residual.result exit.0 exit.1
+
+pub returns-in_err-walk_on-clause-read : goal.returns-in_err-walk_on-clause-read
+returns-in_err-walk_on-clause-read g c = c.walk_on.ensures.read
+
+pub returns-in_err-walk_on-clause-error : goal.returns-in_err-walk_on-clause-error
+returns-in_err-walk_on-clause-error g c =
+    let exit = err_from_is_err_and c.from_residual.result c.from_residual.ensures.1 in
+    rw (exit.1, exit.2) c.in_err-walk_on.ensures.error
+
+pub returns-in_err-walk_on-clause-pruned : goal.returns-in_err-walk_on-clause-pruned
+returns-in_err-walk_on-clause-pruned g c = λ above.
+    let exit = err_from_is_err_and c.from_residual.result c.from_residual.ensures.1 in
+    let floor = ap (λ (w : Walk _). w.floor) c.new-walk.ensures in
+    rw (exit.1, exit.2) (c.in_err-walk_on.ensures.pruned (omega (arith, above, floor, c.new.ensures, c.get-floor.ensures)))
+
+pub returns-clause-read : goal.returns-clause-read
+returns-clause-read g c = c.walk_on.ensures.read
+
+pub returns-clause-error : goal.returns-clause-error
+returns-clause-error g c = tt
+
+pub returns-clause-pruned : goal.returns-clause-pruned
+returns-clause-pruned g c = λ above. tt

@@ -9,7 +9,7 @@ use Rattle.qm_step.specs.Lent.{IsLent}
 use Rattle.qm_step.specs.OrderedViews.{neighbour_view}
 use Rattle.qm_step.specs.PlanViews.{linked_view}
 use Rattle.qm_step.specs.Rings.{linked_in, neighbour_in}
-use Rattle.qm_batch.proofs.plan.ordered.neighbours.find_neighbours.Given as goal
+use Rattle.qm_batch.proofs.plan.ordered.neighbours.neighbours_of.Given as goal
 
 abbrev pub invariant-loop-site : goal.invariant-loop-site
 invariant-loop-site g l =
