@@ -1,13 +1,13 @@
 #!/usr/bin/env python3
-"""Tries wrong bodies over the program's rows, outside the gate: those whose proof is dear to refuse.
+"""Tries wrong bodies over the program's rows and the tests of layers, outside the gate: those whose proof is dear to refuse.
 
     python3 docs/wrong_bodies.py [CRATE[/NAME] ..]
 
 Each file docs/wrong_bodies/CRATE/NAME.edit is written as a must-fail edit is. It is applied to a copy of the sources, the
 copy's `qmdb_rows` is built without a proof (`rt try --cases`) and run over its rows, some at a time, and the first row that
-does not come out as in its stdout is told. The sources as they stand go first, and change no row. Rows of inputs of many
-megabytes are left out, since such a build is slow. The status is 1 where some body changes no row. A body takes some
-minutes."""
+does not come out as in its stdout is told. Where none does, the copy's `qm_layer_tests` is run (`rt try --test`), and the first
+test that fails is told. The sources as they stand go first, and change no row. Rows of inputs of many megabytes are left out,
+since such a build is slow. The status is 1 where some body changes no row and fails no test. A body takes some minutes."""
 import os
 import re
 import shutil
@@ -72,6 +72,16 @@ def changed(program, rows):
     return None
 
 
+def failed(tests):
+    """The first of a crate's tests that fails, or None."""
+    ran = subprocess.run(["rt", "try", "--test"], cwd=tests, stdin=subprocess.DEVNULL, capture_output=True, text=True, errors="replace")
+    said = ran.stdout + ran.stderr
+    if "test result: " not in said:
+        sys.exit(f"{tests}: the tests were not run")
+    found = re.search(r"(?m)^test (\S+) \.\.\. (?!ok$)", said)
+    return found and f"test {found[1]}"
+
+
 def main(chosen):
     every = sorted(f"{crate}/{name}" for crate in os.listdir(BODIES) for name in os.listdir(f"{BODIES}/{crate}"))
     rows = rows_of(f"{TOP}/crates/qmdb_rows")
@@ -87,9 +97,9 @@ def main(chosen):
             if chosen and not any(it.startswith(word) for word in chosen):
                 continue
             file, was = edited(f"{BODIES}/{it}", f"{copy}/crates/{it.partition('/')[0]}")
-            row = changed(f"{copy}/crates/qmdb_rows", rows)
-            print(f"{it}: {row or 'NO ROW CHANGES'}", flush=True)
-            missed += not row
+            seen = changed(f"{copy}/crates/qmdb_rows", rows) or failed(f"{copy}/crates/qm_layer_tests")
+            print(f"{it}: {seen or 'NO ROW CHANGES AND NO TEST FAILS'}", flush=True)
+            missed += not seen
             write(file, was)
     return 1 if missed else 0
 

@@ -203,6 +203,11 @@ for name, rest, faults in (('keys read and written', 'get 61 from=2\nget 62 from
     for call, count in enumerate(faults, 4):
         put('%s, store call %d fails' % (name, call), ['fail store %d' % call], ''.join(replies[:count]) + 'store fault\n', 6, 0, 4, begin='again')
     put('%s, store call %d would fail' % (name, 4 + len(faults)), ['fail store %d' % (4 + len(faults))], text, 0, 0, 4, begin='again')
+section('A batch under hold reads nothing, also where its floor is a live update: call 4 appends the batch before it, and call 5 its own.')
+NOTHING_MOVED = 'open\nbatch\nput 1 6b 76\nmerkleize 1 prop none\napply 1\nbatch\nput 2 6c 77\nmerkleize 2 hold none\napply 2\n'
+text, status, store = modelled('nothing is moved', NOTHING_MOVED)
+put('nothing is moved, store call 5 fails', ['fail store 5'], ''.join(text.splitlines(keepends=True)[:8]) + 'store fault\n', 6, 0, 4, begin='again')
+put('nothing is moved, store call 6 would fail', ['fail store 6'], text, 0, 0, 6, begin='again')
 
 # ---- stores
 LASTING = 'open\ncommit\nsync\ncrash 0\nopen\ndestroy\n'

@@ -1,15 +1,15 @@
 //! Databases under test, whatever they are made of: what a test does to one is said for each bed, and a bed is named once.
 
+use crate::expiry::Expiry;
 use qm_any::batch::MerkleizedBatch;
 use qm_any::db::Db;
-use qm_any::{Config, init};
+use qm_any::{Config, init_with};
 use qm_base::update::Update;
 use qm_base::{ByteString, Error, Hasher, Location};
-use qm_chain::Policy;
 use qm_index::Factory;
 use qm_merkle::Family;
 use qm_step::kind::Steps;
-use qm_store::{Refusal, Store};
+use qm_store::{MetaEntry, Refusal, Store};
 use std::alloc::{AllocError, Global};
 use std::num::NonZeroUsize;
 use std::rc::Rc;
@@ -54,27 +54,17 @@ pub(crate) type Batch<B> = MerkleizedBatch<
     <B as Bed>::Pair,
 >;
 
+/// The key that the tests write, and its value, which is valid up to block 10.
+pub(crate) const KEY: [u8; 4] = [1, 2, 3, 4];
+
+const VALUE: [u8; 8] = [10, 11, 12, 13, 14, 15, 16, 17];
+
 // What a call answers, or why it was refused.
-pub(crate) fn kept<T: Drop, X: Drop, C: Drop>(done: Result<T, Refusal<X, C>>) -> Result<T, Error> {
+fn kept<T: Drop, X: Drop, C: Drop>(done: Result<T, Refusal<X, C>>) -> Result<T, Error> {
     match done {
         Ok(answer) => Ok(answer),
         Err(refusal) => Err(refusal.error),
     }
-}
-
-// An opening that keeps one key at a time.
-pub(crate) fn config<T>(translator: T) -> Config<T, ()> {
-    Config {
-        translator,
-        init_cache: NonZeroUsize::MIN,
-        init_concurrency: (),
-    }
-}
-
-// A fresh database over an empty store.
-fn opened<B: Bed>(alloc: Global) -> Result<Database<B>, Error> {
-    let opening = config(B::translator());
-    kept(init(alloc, B::store(alloc), B::hasher(), opening, None))
 }
 
 // A key or a value of these bytes. There is none where they are not of its size.
@@ -85,46 +75,44 @@ pub(crate) fn of_bytes<S: ByteString>(alloc: Global, bytes: &[u8]) -> Result<S, 
     S::from_bytes(alloc, bytes)
 }
 
-// The key that the tests write.
-pub(crate) fn key<B: Bed>(alloc: Global) -> Result<Key<B>, AllocError> {
-    of_bytes(alloc, &[1, 2, 3, 4])
+// The database of the whole list that a store keeps, with chunks of activity bits, of which none is pruned.
+fn opened<B: Bed>(alloc: Global, store: B::Store) -> Result<Database<B>, Error> {
+    let opening = Config {
+        translator: B::translator(),
+        init_cache: NonZeroUsize::MIN,
+        init_concurrency: (),
+    };
+    kept(init_with(alloc, store, B::hasher(), opening, None, Some((0, None))))
 }
 
-// A value with this first byte.
-fn value<B: Bed>(alloc: Global, first: u8) -> Result<Value<B>, AllocError> {
-    of_bytes(alloc, &[first, 11, 12, 13, 14, 15, 16, 17])
-}
-
-// The batch on the list of a database that gives the key a value with this first byte, made under a policy.
-pub(crate) fn batch_of<B: Bed, P: Policy<B::Family, Key<B>, Value<B>>>(
+// The batch on the list of a database that gives a key a value, and drops what has expired at a block.
+pub(crate) fn batch_of<B: Bed>(
     alloc: Global,
     db: &mut Database<B>,
-    first: u8,
-    policy: &mut P,
+    key: &[u8],
+    value: &[u8],
+    block: u8,
 ) -> Result<Rc<Batch<B>>, Error> {
-    let key = key::<B>(alloc)?;
-    let value = value::<B>(alloc, first)?;
+    let key: Key<B> = of_bytes(alloc, key)?;
+    let value: Value<B> = of_bytes(alloc, value)?;
     let batch = db.new_batch(alloc)?.write(key, Some(value))?;
-    batch.merkleize(alloc, db, None, policy)
+    batch.merkleize(alloc, db, None, &mut Expiry { block })
 }
 
-// The database with the list of a batch.
-pub(crate) fn applied<B: Bed>(
-    alloc: Global,
-    db: Database<B>,
-    batch: &Rc<Batch<B>>,
-) -> Result<Database<B>, Error> {
-    db.validate_batch(batch)?;
-    kept(db.apply_batch(alloc, batch))
+// A database with one write.
+fn written<B: Bed>(alloc: Global) -> Result<Database<B>, Error> {
+    let mut db = opened::<B>(alloc, B::store(alloc))?;
+    let batch = batch_of::<B>(alloc, &mut db, &KEY, &VALUE, 10)?;
+    kept(db.apply_batch(alloc, &batch))
 }
 
-// A database with one write, of a value with this first byte, made under a policy.
-pub(crate) fn written<B: Bed, P: Policy<B::Family, Key<B>, Value<B>>>(
-    alloc: Global,
-    first: u8,
-    policy: &mut P,
-) -> Result<Database<B>, Error> {
-    let mut db = opened::<B>(alloc)?;
-    let batch = batch_of::<B, P>(alloc, &mut db, first, policy)?;
-    applied::<B>(alloc, db, &batch)
+// The same, with an entry of metadata, and opened again from its store.
+pub(crate) fn again<B: Bed>(alloc: Global) -> Result<Database<B>, Error> {
+    let entry = MetaEntry {
+        key: [1; 9],
+        value: Vec::new(alloc),
+    };
+    let db = written::<B>(alloc)?;
+    let db = kept(db.put_meta("a", &[entry]))?;
+    opened::<B>(alloc, db.close())
 }

@@ -4,7 +4,7 @@ ghost use Rattle.std.specs.Prelude.{◌≡◌, ◌^◌, ◌-◌, ℕ, Bool, true
 ghost use Rattle.qm_model.specs.Walk as walk;
 ghost use Rattle.qm_chain.specs.Policies.{action_view};
 
-use crate::bed::{Bed, key, written};
+use crate::bed::{Bed, KEY, again, batch_of, of_bytes};
 use crate::fixed::Fixed;
 use qm_base::{ByteString, Error};
 use qm_chain::{Decision, Entry, Limits, Policy};
@@ -13,8 +13,8 @@ use std::test::Fail;
 
 /// Drops each value whose first byte is below that of the block, and keeps the others.
 #[derive(Drop)]
-struct Expiry {
-    block: u8,
+pub(crate) struct Expiry {
+    pub(crate) block: u8,
 }
 
 impl<F, K: ByteString, V: ByteString> Policy<F, K, V> for Expiry {
@@ -56,18 +56,18 @@ impl<F, K: ByteString, V: ByteString> Policy<F, K, V> for Expiry {
     }
 }
 
-// Whether a value that is valid up to block 7 is there in a batch of this block, which writes nothing.
+// Whether the key is there in a batch of a block that writes another key.
 fn is_kept_at<B: Bed>(alloc: Global, block: u8) -> Result<bool, Error> {
-    let mut db = written::<B, Expiry>(alloc, 7, &mut Expiry { block: 1 })?;
-    let batch = db.new_batch(alloc)?;
-    let batch = batch.merkleize(alloc, &mut db, None, &mut Expiry { block })?;
-    let value = batch.get(alloc, &key::<B>(alloc)?, &mut db)?;
+    let mut db = again::<B>(alloc)?;
+    let other = [20; 8];
+    let batch = batch_of::<B>(alloc, &mut db, &[5, 6, 7, 8], &other, block)?;
+    let value = batch.get(alloc, &of_bytes(alloc, &KEY)?, &mut db)?;
     Ok(value.is_some())
 }
 
 #[test]
 fn expired_values_are_dropped(rt: HostRuntime) -> Result<(), Fail> {
-    assert!(rt; is_kept_at::<Fixed>(rt.alloc(), 7)?);
-    assert!(rt; !is_kept_at::<Fixed>(rt.alloc(), 8)?);
+    assert!(rt; is_kept_at::<Fixed>(rt.alloc(), 10)?);
+    assert!(rt; !is_kept_at::<Fixed>(rt.alloc(), 11)?);
     Ok(())
 }

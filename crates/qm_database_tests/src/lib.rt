@@ -4,10 +4,6 @@
 #[cfg(test)]
 mod bed;
 #[cfg(test)]
-mod bits;
-#[cfg(test)]
-mod durable;
-#[cfg(test)]
 mod expiry;
 #[cfg(test)]
 mod fixed;

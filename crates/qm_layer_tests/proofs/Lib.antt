@@ -1,2 +1,3 @@
 mod Pruned
 mod Reaches
+mod Spellings

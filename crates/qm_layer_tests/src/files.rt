@@ -110,53 +110,7 @@ faults 10
 clear qm_layer_tests_files
 ";
 
-/// A folder in which a store is, and its files.
-trait Folder: Copy {
-    type Kept: Store + Drop;
-
-    /// The store in the folder.
-    fn open(self) -> Result<Self::Kept, AllocError>;
-
-    /// Takes the items before a location away. A store that tells of its items would ask that these are stable.
-    fn prune(self, store: &mut Self::Kept, to: u64, head: &[u8]) -> Result<(), StoreError>;
-
-    /// Whether a file has these bytes, or what a step says is done to it or to a folder: `write`, `remove` or `clear`.
-    fn file(self, call: &str, path: &str, bytes: &[u8]) -> Result<bool, StoreError>;
-}
-
-impl<'a> Folder for &'a HostRuntime {
-    type Kept = FileStore<&'a HostRuntime>;
-
-    fn open(self) -> Result<FileStore<&'a HostRuntime>, AllocError> {
-        FileStore::open(self, HostRuntime::alloc(self), FOLDER)
-    }
-
-    fn prune(
-        self,
-        store: &mut FileStore<&'a HostRuntime>,
-        to: u64,
-        head: &[u8],
-    ) -> Result<(), StoreError> {
-        let (start, end) = store.bounds();
-        if to < start || end < to {
-            return Err(StoreError::Failed);
-        }
-        store.prune(to, head)
-    }
-
-    fn file(self, call: &str, path: &str, bytes: &[u8]) -> Result<bool, StoreError> {
-        match call {
-            "file" => return Ok(fs::read(self, path)?.as_slice() == bytes),
-            "write" => fs::write(self, path, bytes)?,
-            "remove" => fs::remove_dir(self, path)?,
-            _ => {
-                let _ = fs::remove_dir_all(self, path);
-                let _ = fs::remove_file(self, path);
-            }
-        }
-        Ok(true)
-    }
-}
+type Kept<'a> = FileStore<&'a HostRuntime>;
 
 // A number. What is none is past all locations.
 fn number(text: &str) -> u64 {
@@ -258,44 +212,57 @@ fn change<S: Store>(
     }
 }
 
-// Does what a step says, and answers whether it is so.
-fn is_so<F: Folder>(
-    folder: F,
-    alloc: Global,
-    store: &mut F::Kept,
-    step: &str,
-) -> Result<bool, StoreError> {
-    let (call, given) = step.split_once(' ').unwrap_or((step, ""));
-    let (first, second) = given.split_once(' ').unwrap_or((given, ""));
+// Whether a file has these bytes, or what a step says is done to it or to a folder.
+fn file(rt: &HostRuntime, call: &str, path: &str, bytes: &[u8]) -> Result<bool, StoreError> {
     match call {
-        "#" => {}
-        "open" => *store = folder.open()?,
-        "prune" => folder.prune(store, number(first), second.as_bytes())?,
-        "file" | "write" | "remove" | "clear" => {
-            return folder.file(call, first, second.as_bytes());
+        "file" => return Ok(fs::read(rt, path)?.as_slice() == bytes),
+        "write" => fs::write(rt, path, bytes)?,
+        "remove" => fs::remove_dir(rt, path)?,
+        _ => {
+            let _ = fs::remove_dir_all(rt, path);
+            let _ = fs::remove_file(rt, path);
         }
-        "bounds" | "faults" | "item" | "head" | "meta" => {
-            return is_answered(store, call, first, second);
-        }
-        _ => change(store, alloc, call, first, second)?,
     }
     Ok(true)
 }
 
-// Whether a line's step comes out as it says.
-fn is_met<F: Folder>(folder: F, alloc: Global, store: &mut F::Kept, line: &str) -> bool {
-    let (step, answer) = match line.strip_prefix("fails ") {
-        Some(step) => (step, Err(StoreError::Failed)),
-        None => (line, Ok(true)),
-    };
-    is_so(folder, alloc, store, step) == answer
+// Takes the items before a location away. A store that tells of its items would ask that these are stable.
+fn prune(store: &mut Kept<'_>, to: u64, head: &[u8]) -> Result<(), StoreError> {
+    let (start, end) = store.bounds();
+    if to < start || end < to {
+        return Err(StoreError::Failed);
+    }
+    store.prune(to, head)
+}
+
+// Does what a step says, and answers whether it is so.
+fn is_so<'a>(rt: &'a HostRuntime, store: &mut Kept<'a>, step: &str) -> Result<bool, StoreError> {
+    let (call, given) = step.split_once(' ').unwrap_or((step, ""));
+    let (first, second) = given.split_once(' ').unwrap_or((given, ""));
+    match call {
+        "#" => {}
+        "open" => *store = FileStore::open(rt, rt.alloc(), FOLDER)?,
+        "prune" => prune(store, number(first), second.as_bytes())?,
+        "file" | "write" | "remove" | "clear" => {
+            return file(rt, call, first, second.as_bytes());
+        }
+        "bounds" | "faults" | "item" | "head" | "meta" => {
+            return is_answered(store, call, first, second);
+        }
+        _ => change(store, rt.alloc(), call, first, second)?,
+    }
+    Ok(true)
 }
 
 #[test]
 fn a_folder_keeps_a_store(rt: HostRuntime) -> Result<(), Fail> {
-    let mut store = Folder::open(&rt)?;
+    let mut store = FileStore::open(&rt, rt.alloc(), FOLDER)?;
     for line in STEPS.lines() {
-        assert!(rt; is_met(&rt, rt.alloc(), &mut store, line), "{line:?}");
+        let (step, answer) = match line.strip_prefix("fails ") {
+            Some(step) => (step, Err(StoreError::Failed)),
+            None => (line, Ok(true)),
+        };
+        assert!(rt; is_so(&rt, &mut store, step) == answer, "{line:?}");
     }
     Ok(())
 }

@@ -9,8 +9,6 @@ mod files;
 #[cfg(test)]
 mod grafts;
 #[cfg(test)]
-mod lines;
-#[cfg(test)]
-mod maps;
+mod overlays;
 #[cfg(test)]
 mod trees;

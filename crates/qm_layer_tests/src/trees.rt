@@ -1,13 +1,11 @@
-//! Roots of trees that grow leaf by leaf, and proofs of their ranges, which were computed by other programs.
+//! Roots of trees that grow leaf by leaf, which were computed by another program.
 
-ghost use Rattle.std.specs.Prelude.{◌≡◌, ◌+◌, ◌<◌, ◌≤◌, OnOk};
-
+use crate::grafts::add_leaves;
 use qm_base::{Digest, Hasher, Location, MerkleError, Sha256, Sha256Digest};
 use qm_merkle::mem::Mem;
-use qm_merkle::{Family, Position, StandardHasher, mmb, mmr};
+use qm_merkle::{Family, StandardHasher, mmb, mmr};
 use qm_proofs::Proof;
 use std::alloc::{AllocError, Global};
-use std::process::Abort;
 use std::test::Fail;
 
 type Tree<F> = Mem<F, Sha256Digest>;
@@ -78,24 +76,8 @@ const DELAYED_ROOTS: &str = "
     0ff43d7663d782cdca727bb74c0c80a7ccc4aa40b11d2b9f1471b512d8ce71ad
 ";
 
-// The digest of the digests in a row of all proofs of ranges in trees of 1 to 12 leaves; leaf k has the byte k. Made by `python3 docs/proofs.py`.
-const LISTED: &str = "5d215b19194c77384e945b850ed01663df7e7fce578059152f61ecd45e6a74e5";
-
-// Puts a leaf behind those of a tree.
-fn add_leaf<F: Family>(
-    alloc: Global,
-    hasher: &mut TreeHasher,
-    tree: &mut Tree<F>,
-    leaf: Sha256Digest,
-) -> Result<(), AllocError>
-    requires { tree.old.leaves < 40 }
-    ensures { OnOk result (tree.new.leaves ≡ tree.old.leaves + 1) }
-{
-    let mut draft = tree.new_batch(alloc);
-    draft.add_leaf_digest(leaf)?;
-    let batch = draft.merkleize(alloc, tree, hasher)?;
-    tree.apply_batch(&batch)
-}
+// The root over the digests of "first" and "second" as the peaks of three leaves.
+const REPLACED: &str = "c7c0a9870d3b8895eaa160724b08e36a5ad9bfd5c277bb033fce81c9617dc741";
 
 // Whether the digest of the tree's roots in a row has this text.
 fn has_row<F: Family>(
@@ -103,10 +85,12 @@ fn has_row<F: Family>(
     hasher: &mut TreeHasher,
     tree: &Tree<F>,
     want: &str,
-) -> Result<bool, AllocError>
-    requires { tree.now.leaves ≤ 40 }
-{
-    let peaks = F::peaks(alloc, tree.leaves())?;
+) -> Result<bool, AllocError> {
+    let leaves = tree.leaves();
+    if 40 < leaves.get() {
+        return Ok(false);
+    }
+    let peaks = F::peaks(alloc, leaves)?;
     let mut all = Sha256::new();
     all.start();
     for inactive in 0..=peaks.len() {
@@ -116,160 +100,22 @@ fn has_row<F: Family>(
     Ok(hex::encode(alloc, all.finish().bytes())?.as_str() == want)
 }
 
-// Grows a tree by its next leaf, and prunes it now and then.
-fn grow<F: Family>(
-    rt: &impl Abort,
-    alloc: Global,
-    hasher: &mut TreeHasher,
-    tree: &mut Tree<F>,
-) -> Result<(), AllocError>
-    ensures { OnOk result (tree.new.leaves ≤ 40) }
-{
-    let last = tree.leaves();
-    assert!(rt; last.get() < 40);
-    let leaf = hasher.leaf_digest(F::location_to_position(last), &[last.get() as u8 + 1]);
-    add_leaf(alloc, hasher, tree, leaf)?;
-    if last.get() % 8 == 6 {
-        let (kept, past) = tree.bounds();
-        assert!(rt; kept.get() <= last.get() && last.get() <= past.get());
-        tree.prune(alloc, last)?;
-    }
-    Ok(())
-}
-
-// A tree that grows, and is pruned now and then, has these roots.
-fn has_roots<F: Family>(rt: &impl Abort, alloc: Global, rows: &str) -> Result<(), AllocError> {
+// How many trees, each of one leaf more, have these roots, before one that has not.
+fn rooted<F: Family>(alloc: Global, rows: &str) -> Result<u64, AllocError> {
     let mut hasher = StandardHasher::new(Sha256::new());
     let mut tree: Tree<F> = Mem::new(alloc);
     for want in rows.split_ascii_whitespace() {
-        grow(rt, alloc, &mut hasher, &mut tree)?;
-        assert!(rt; has_row(alloc, &mut hasher, &tree, want)?, "{want}");
-    }
-    Ok(())
-}
-
-#[test]
-fn trees_have_roots(rt: HostRuntime) -> Result<(), Fail> {
-    has_roots::<mmr::Family>(&rt, rt.alloc(), ROOTS)?;
-    has_roots::<mmb::Family>(&rt, rt.alloc(), DELAYED_ROOTS)?;
-    Ok(())
-}
-
-// Whether a proof of each range of a tree's elements is accepted against its root and not against another digest. Its digests
-// are added to the list.
-fn ranges_are_proved(
-    rt: &impl Abort,
-    alloc: Global,
-    tree: &Tree<mmr::Family>,
-    elements: &[Vec<u8>],
-    other: &Sha256Digest,
-    listed: &mut Sha256,
-) -> Result<(), MerkleError>
-    requires { tree.now.leaves ≤ 40 }
-{
-    let mut hasher = StandardHasher::new(Sha256::new());
-    let count = tree.leaves();
-    let peaks = mmr::Family::peak_count(count) as usize;
-    for start in 0..elements.len() {
-        for end in start + 1..=elements.len() {
-            let inactive = (start + end) % (peaks + 1);
-            assert!(rt; inactive <= peaks && end as u64 <= count.get());
-            let (first, past) = (Location::new(start as u64), Location::new(end as u64));
-            let proof = Proof::new(alloc, tree, count, inactive, first, past)?;
-            for digest in &proof.digests {
-                listed.update(digest.bytes());
-            }
-            let root = tree.root(alloc, &mut hasher, inactive)?;
-            let shown = &elements[start..end];
-            let is_proved = proof.verify(&mut hasher, shown, first, &root);
-            assert!(rt; is_proved && !proof.verify(&mut hasher, shown, first, other));
+        let last = tree.leaves();
+        if last.get() >= 40 {
+            return Ok(last.get());
+        }
+        let leaf = hasher.leaf_digest(F::location_to_position(last), &[last.get() as u8 + 1]);
+        add_leaves(alloc, &mut hasher, &mut tree, &[leaf])?;
+        if !has_row(alloc, &mut hasher, &tree, want)? {
+            return Ok(last.get());
         }
     }
-    Ok(())
-}
-
-// Puts the next element behind others and its leaf behind those of a tree, and gives that leaf's digest.
-fn put_element<F: Family>(
-    rt: &impl Abort,
-    alloc: Global,
-    hasher: &mut TreeHasher,
-    tree: &mut Tree<F>,
-    elements: &mut Vec<Vec<u8>>,
-) -> Result<Sha256Digest, AllocError>
-    ensures { OnOk result (tree.new.leaves ≤ 40) }
-{
-    let count = tree.leaves();
-    assert!(rt; count.get() < 12);
-    let element = Vec::from_slice(alloc, &[count.get() as u8])?;
-    let leaf = hasher.leaf_digest_of(F::location_to_position(count), &element);
-    elements.push(element)?;
-    add_leaf(alloc, hasher, tree, leaf)?;
-    Ok(leaf)
-}
-
-// The text of the digest of all proofs' digests in a row.
-fn proofs_in_a_row(rt: &impl Abort, alloc: Global) -> Result<String, MerkleError> {
-    let mut hasher = StandardHasher::new(Sha256::new());
-    let mut listed = Sha256::new();
-    listed.start();
-    let mut tree: Tree<mmr::Family> = Mem::new(alloc);
-    let mut elements: Vec<Vec<u8>> = Vec::new(alloc);
-    for _ in 0..12 {
-        let leaf = put_element(rt, alloc, &mut hasher, &mut tree, &mut elements)?;
-        ranges_are_proved(rt, alloc, &tree, &elements, &leaf, &mut listed)?;
-    }
-    Ok(hex::encode(alloc, listed.finish().bytes())?)
-}
-
-#[test]
-fn ranges_have_proofs(rt: HostRuntime) -> Result<(), Fail> {
-    assert_eq!(rt; proofs_in_a_row(&rt, rt.alloc())?.as_str(), LISTED);
-    Ok(())
-}
-
-// The text of the root of a tree of one leaf, after that leaf's digest is replaced by this one.
-fn root_of_replaced<F: Family>(
-    alloc: Global,
-    hasher: &mut TreeHasher,
-    tree: &Tree<F>,
-    digest: Sha256Digest,
-) -> Result<String, MerkleError> {
-    let mut draft = tree.new_batch(alloc);
-    draft.update_leaf_digest(Location::new(0), digest)?;
-    let batch = draft.merkleize(alloc, tree, hasher)?;
-    let root = batch.root(alloc, hasher, 0)?;
-    Ok(hex::encode(alloc, root.bytes())?)
-}
-
-// The same, of the leaf with the byte 1 in the place of that with the byte 2.
-fn replaced_root<F: Family>(alloc: Global) -> Result<String, MerkleError> {
-    let mut hasher = StandardHasher::new(Sha256::new());
-    let position = F::location_to_position(Location::new(0));
-    let first = hasher.leaf_digest(position, &[1]);
-    let second = hasher.leaf_digest(position, &[2]);
-    let mut tree: Tree<F> = Mem::new(alloc);
-    add_leaf(alloc, &mut hasher, &mut tree, second)?;
-    root_of_replaced(alloc, &mut hasher, &tree, first)
-}
-
-#[test]
-fn leaves_are_replaced(rt: HostRuntime) -> Result<(), Fail> {
-    let root = replaced_root::<mmr::Family>(rt.alloc())?;
-    assert_eq!(rt;
-        root.as_str(),
-        "d89dbfa800e0c9f8c89664a9ca3c79742ff7c84137085f4bd81f434b6f9e49e8"
-    );
-    Ok(())
-}
-
-#[test]
-fn a_pin_lacks(rt: HostRuntime) -> Result<(), Fail> {
-    let none: Vec<Sha256Digest> = Vec::new(rt.alloc());
-    let nodes: Vec<Sha256Digest> = Vec::new(rt.alloc());
-    let three: Location<mmr::Family> = Location::new(3);
-    let missing = Tree::from_components(rt.alloc(), nodes, three, none).err();
-    assert_eq!(rt; missing, Some(MerkleError::MissingNode(2)));
-    Ok(())
+    Ok(tree.leaves().get())
 }
 
 // The tree of three leaves pruned to two, of its last leaf and the peak over the others.
@@ -283,49 +129,43 @@ fn of_components(
     Tree::from_components(alloc, nodes, Location::new(2), pins)
 }
 
-// The same tree, where no pin lacks.
-fn of_retained(
-    alloc: Global,
-    leaf: Sha256Digest,
-    peak: Sha256Digest,
-) -> Result<Tree<mmr::Family>, AllocError> {
-    let nodes = Vec::from_slice(alloc, &[leaf])?;
-    let pins = Vec::from_slice(alloc, &[peak])?;
-    let two = Location::new(2);
-    Tree::from_pruned_with_retained(alloc, nodes, two, pins)
-}
-
-// Whether the trees that are made of these parts have this root.
-fn have_root(
-    alloc: Global,
-    hasher: &mut TreeHasher,
-    leaf: Sha256Digest,
-    peak: Sha256Digest,
-    want: Sha256Digest,
-) -> Result<bool, MerkleError> {
-    let root = of_components(alloc, leaf, peak)?.root(alloc, hasher, 0)?;
-    let again = of_retained(alloc, leaf, peak)?.root(alloc, hasher, 0)?;
-    Ok(root == want && again == want)
-}
-
-// Whether a tree of three leaves has the root of those that are made of its parts.
-fn is_made_of_its_parts(rt: &impl Abort, alloc: Global) -> Result<bool, MerkleError> {
+// The text of the root of such a tree, after its last leaf gets the digest of "second": its peak has that of "first".
+fn replaced_root(alloc: Global) -> Result<String, MerkleError> {
     let mut hasher = StandardHasher::new(Sha256::new());
-    let leaf = hasher.leaf_digest(mmr::Family::location_to_position(Location::new(0)), b"a");
-    let mut tree: Tree<mmr::Family> = Mem::new(alloc);
-    for _ in 0..3 {
-        assert!(rt; tree.leaves().get() < 3);
-        add_leaf(alloc, &mut hasher, &mut tree, leaf)?;
-    }
-    let want = tree.root(alloc, &mut hasher, 0)?;
-    match tree.get_node(Position::new(2)) {
-        Some(peak) => have_root(alloc, &mut hasher, leaf, peak, want),
-        None => Ok(false),
-    }
+    let first = hasher.digest(&[b"first"]);
+    let second = hasher.digest(&[b"second"]);
+    let tree = of_components(alloc, first, first)?;
+    let mut draft = tree.new_batch(alloc);
+    draft.update_leaf_digest(Location::new(2), second)?;
+    let batch = draft.merkleize(alloc, &tree, &mut hasher)?;
+    let root = batch.root(alloc, &mut hasher, 0)?;
+    Ok(hex::encode(alloc, root.bytes())?)
+}
+
+// Whether a proof of the last of three leaves, over a peak with the digest of "first", is accepted against the root and not against
+// another digest.
+fn is_checked(alloc: Global) -> Result<bool, AllocError> {
+    let mut hasher = StandardHasher::new(Sha256::new());
+    let first = hasher.digest(&[b"first"]);
+    let last: Location<mmr::Family> = Location::new(2);
+    let leaf = hasher.leaf_digest(mmr::Family::location_to_position(last), b"third");
+    let three: Location<mmr::Family> = Location::new(3);
+    let root = hasher.root(three, 0, &[first, leaf]);
+    let proof = Proof {
+        leaves: 3,
+        inactive_peaks: 0,
+        digests: Vec::from_slice(alloc, &[first])?,
+    };
+    let shown = [Vec::from_slice(alloc, b"third")?];
+    let is_right = proof.verify(&mut hasher, &shown, last, &root);
+    Ok(is_right && !proof.verify(&mut hasher, &shown, last, &first))
 }
 
 #[test]
-fn trees_are_made_of_their_parts(rt: HostRuntime) -> Result<(), Fail> {
-    assert!(rt; is_made_of_its_parts(&rt, rt.alloc())?);
+fn trees_have_roots(rt: HostRuntime) -> Result<(), Fail> {
+    assert_eq!(rt; rooted::<mmr::Family>(rt.alloc(), ROOTS)?, 40);
+    assert_eq!(rt; rooted::<mmb::Family>(rt.alloc(), DELAYED_ROOTS)?, 16);
+    assert_eq!(rt; replaced_root(rt.alloc())?.as_str(), REPLACED);
+    assert!(rt; is_checked(rt.alloc())?);
     Ok(())
 }

@@ -1,0 +1,70 @@
+//! Steps over bits that are lent, and put into them.
+
+ghost use Rattle.std.specs.Prelude.{◌≡◌, ◌≤◌, IfOk};
+
+use qm_base::{ByteKey, ByteValue, Location};
+use qm_bits::{Candidates, Chunk32, Prunable, Readable};
+use qm_chain::{Diff, DiffEntry};
+use qm_overlay::{BitmapBatch, commit, overlay_of};
+use std::alloc::{AllocError, Global};
+use std::rc::Rc;
+use std::test::Fail;
+
+type Bits<'a> = BitmapBatch<'a, Chunk32>;
+
+// The step that moves the update of one key from a location to another.
+fn moved(
+    alloc: Global,
+    from: u64,
+    to: u64,
+) -> Result<Rc<Diff<(), ByteKey, ByteValue>>, AllocError> {
+    let key = ByteKey::new(Vec::new(alloc));
+    let entry = DiffEntry::Active {
+        value: ByteValue::new(Vec::new(alloc)),
+        loc: Location::new(to),
+        base_old_loc: Some(Location::new(from)),
+    };
+    Ok(Rc::new(alloc, Diff::new(vec![in alloc; (key, entry)]?))?)
+}
+
+// The bits with such a step over them, to a list of two more operations.
+fn pushed<'a>(alloc: Global, bits: Bits<'a>, from: u64) -> Result<Bits<'a>, AllocError>
+    requires { from ≤ 2 }
+    ensures { IfOk result (λ b. b.base ≡ bits.entry.base) }
+{
+    let mut bits = bits;
+    let size = from + 4;
+    if size < Readable::<Chunk32>::len(&bits) {
+        return Err(AllocError);
+    }
+    let step = moved(alloc, from, from + 2)?;
+    let overlay = overlay_of(alloc, &bits, size, &[step])?;
+    bits.push(Rc::new(alloc, overlay)?)?;
+    Ok(bits)
+}
+
+// Whether of six bits the last two are set.
+fn end_with_two<B: Candidates<()>>(alloc: Global, bits: &B) -> Result<bool, AllocError> {
+    let mut found = Vec::new(alloc);
+    bits.fill(Location::new(0), Location::new(6), usize::MAX, &mut found)?;
+    Ok(found.as_slice() == [Location::new(4), Location::new(5)].as_slice())
+}
+
+// Whether two steps over the bits of an update and a commit, and these bits once they are put into them, have those of the last list.
+fn are_laid(alloc: Global) -> Result<bool, AllocError> {
+    let mut base: Prunable<Chunk32> = Prunable::new(alloc);
+    base.push(true)?;
+    base.push(true)?;
+    let bits = pushed(alloc, BitmapBatch::new(alloc, &base), 0)?;
+    let bits = pushed(alloc, bits, 2)?;
+    let is_seen = end_with_two(alloc, &bits)?;
+    let layers = bits.into_layers();
+    commit(&layers, &mut base)?;
+    Ok(is_seen && end_with_two(alloc, &base)?)
+}
+
+#[test]
+fn steps_are_laid_over_bits(rt: HostRuntime) -> Result<(), Fail> {
+    assert!(rt; are_laid(rt.alloc())?);
+    Ok(())
+}
