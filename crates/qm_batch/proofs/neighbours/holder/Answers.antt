@@ -91,3 +91,21 @@ returns-in_ok-lent-in-None-clause-error g c = memory-error c.own_or_nearer.resul
 
 pub returns-in_ok-lent-in-None-clause-whole : goal.returns-in_ok-lent-in-None-clause-whole
 returns-in_ok-lent-in-None-clause-whole g c = λ lent is none. memory-whole c.own_or_nearer.result c.own_or_nearer.ensures.memory
+
+pub returns-in-Some-2-clause-read : goal.returns-in-Some-2-clause-read
+returns-in-Some-2-clause-read g c = read-none g.L.Items.reads g.met.L.Items.unread c.args.log.now
+
+pub returns-in-Some-2-clause-error : goal.returns-in-Some-2-clause-error
+returns-in-Some-2-clause-error g c = tt
+
+pub returns-in-Some-2-clause-whole : goal.returns-in-Some-2-clause-whole
+returns-in-Some-2-clause-whole g c = λ lent is none. tt
+
+pub returns-in-None-2-clause-read : goal.returns-in-None-2-clause-read
+returns-in-None-2-clause-read g c = c.previous.ensures.read
+
+pub returns-in-None-2-clause-error : goal.returns-in-None-2-clause-error
+returns-in-None-2-clause-error g c = c.previous.ensures.error
+
+pub returns-in-None-2-clause-whole : goal.returns-in-None-2-clause-whole
+returns-in-None-2-clause-whole g c = c.previous.ensures.whole

@@ -1,10 +1,11 @@
 use Rattle.std.proofs.Common.{◌∙◌, ap, sym, map}
 use Rattle.std.specs.Prelude.{option_map}
-use Rattle.qm_model.proofs.Results.{told-one}
+use Rattle.qm_model.proofs.Results.{told-one, told-err}
 use Rattle.qm_step.specs.Views.{read_view}
 use Rattle.qm_step.proofs.Reading.{ok-same}
 use Rattle.qm_batch.proofs.Memory.{memory-error, memory-whole}
 use Rattle.qm_batch.proofs.HolderOf.{previous-read}
+use Rattle.std.proofs.lemmas.Result.{err_from_is_err_and}
 use Rattle.qm_batch.proofs.neighbours.previous.Goals as goal
 
 pub returns-clause-value : goal.returns-clause-value
@@ -22,3 +23,24 @@ returns-clause-error g c = memory-error c.nearer.result c.nearer.ensures.memory 
 
 pub returns-clause-whole : goal.returns-clause-whole
 returns-clause-whole g c = λ lent is none. memory-whole c.nearer.result c.nearer.ensures.memory
+
+pub returns-in_err-lent-clause-value : goal.returns-in_err-lent-clause-value
+returns-in_err-lent-clause-value g c = λ lent base is from ring_lent ring_base.
+    let exit = err_from_is_err_and c.from_residual.result c.from_residual.ensures.1 in
+    told-err _ (g.L.Items.reads.told c.args.log.now) c.from_residual.result exit.0 exit.1
+
+pub returns-in_err-lent-clause-read : goal.returns-in_err-lent-clause-read
+returns-in_err-lent-clause-read g c = c.last_lent.ensures.read
+
+pub returns-in_err-lent-clause-error : goal.returns-in_err-lent-clause-error
+returns-in_err-lent-clause-error g c =
+    let exit = err_from_is_err_and c.from_residual.result c.from_residual.ensures.1 in
+    rw (exit.1, exit.2) c.in_err-lent.ensures.error
+
+pub returns-in_err-lent-clause-whole : goal.returns-in_err-lent-clause-whole
+returns-in_err-lent-clause-whole g c = λ lent is none.
+    let exit = err_from_is_err_and c.from_residual.result c.from_residual.ensures.1 in
+    rw (exit.1, exit.2) (c.in_err-lent.ensures.whole lent is none)
+
+pub returns-clause-read : goal.returns-clause-read
+returns-clause-read g c = c.last_lent.ensures.read

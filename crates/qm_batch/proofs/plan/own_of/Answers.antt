@@ -112,3 +112,12 @@ returns-in_err-touches-clause-whole g c = λ lent is none.
 
 pub returns-clause-read : goal.returns-clause-read
 returns-clause-read g c = c.befores_of.ensures.read
+
+pub returns-clause-error : goal.returns-clause-error
+returns-clause-error g c = tt
+
+pub returns-clause-whole : goal.returns-clause-whole
+returns-clause-whole g c = λ lent is none. tt
+
+pub returns-clause-count : goal.returns-clause-count
+returns-clause-count g c = c.in_ok-touches.ensures.count

@@ -1,14 +1,16 @@
-use Rattle.std.proofs.Common.{◌∙◌, ap, ap₂, sym, None}
+use Rattle.std.proofs.Common.{◌∙◌, ◌≤◌, ap, ap₂, sym, None, refl, arith}
 use Rattle.std.specs.Prelude.{option_map}
 use Rattle.std.specs.Option.{option_or}
 use Rattle.std.proofs.lemmas.List.Sums.{fold_more}
-use Rattle.qm_model.proofs.Results.{told-both}
+use Rattle.qm_model.proofs.Results.{told-both, told-err}
 use Rattle.qm_model.specs.Operations.{Operation}
 use Rattle.qm_step.specs.Changes.{update_at}
 use Rattle.qm_step.specs.Nearest.{later_at, limit_view, only_within}
 use Rattle.qm_step.proofs.LentKeys.{key_of_last}
-use Rattle.qm_base.proofs.Reading.{read-then}
-use Rattle.qm_step.proofs.Reading.{told}
+use Rattle.qm_base.proofs.Reading.{read-then, error-then}
+use Rattle.qm_step.proofs.Reading.{told, taken-in}
+use Rattle.std.proofs.lemmas.Result.{err_from_is_err_and}
+use Rattle.std.proofs.lemmas.List.Elements.{All-contains}
 use Rattle.qm_batch.proofs.neighbours.lent.last_at.Goals as goal
 
 pub loop-location-preserved : goal.loop-location-preserved
@@ -26,3 +28,33 @@ loop-location-preserved g c =
           ∙ ap (later_at limit list _) (c.get-at.ensures ∙ c.location-item.is)
           ∙ sym (fold_more (later_at limit list) None c.args.locations.now c.loop-location.location-index c.location-item.result c.loop-location-test.true));
     }
+
+pub returns-in_err-update-clause-value : goal.returns-in_err-update-clause-value
+returns-in_err-update-clause-value g c = λ list is of.
+    let exit = err_from_is_err_and c.from_residual.result c.from_residual.ensures.1 in
+    told-err _ (g.L.Items.reads.told c.args.log.now) c.from_residual.result exit.0 exit.1
+
+pub returns-in_err-update-clause-read : goal.returns-in_err-update-clause-read
+returns-in_err-update-clause-read g c = read-then g.L.Items.reads g.met.L.Items.read_again c.args.log.now c.loop-location.log c.read_within.new.log c.loop-location.invariant.read c.read_within.ensures.read
+
+pub returns-in_err-update-clause-error : goal.returns-in_err-update-clause-error
+returns-in_err-update-clause-error g c =
+    let exit = err_from_is_err_and c.from_residual.result c.from_residual.ensures.1 in
+    rw (exit.1, exit.2) (error-then g.L.Items.reads g.met.L.Items.failed_later c.args.log.now c.loop-location.log c.read_within.new.log _ c.loop-location.invariant.read c.in_err-update.ensures.error)
+
+pub returns-in_err-update-clause-pruned : goal.returns-in_err-update-clause-pruned
+returns-in_err-update-clause-pruned g c = λ kept.
+    let exit = err_from_is_err_and c.from_residual.result c.from_residual.ensures.1 in
+    let within = taken-in c.args.locations.now c.args.locations.now c.loop-location.location-index c.location-item.result refl c.loop-location-test.true c.location-item.is in
+    let here = All-contains (λ at. g.L.Items.reads.start c.args.log.now ≤ at) c.args.locations.now c.location-item.result kept within in
+    let same = (c.loop-location.invariant.read).start in
+    rw (exit.1, exit.2) (c.in_err-update.ensures.pruned (omega (arith, same, here, c.get-at.ensures)))
+
+pub returns-clause-read : goal.returns-clause-read
+returns-clause-read g c = c.loop-location.invariant.read
+
+pub returns-clause-error : goal.returns-clause-error
+returns-clause-error g c = tt
+
+pub returns-clause-pruned : goal.returns-clause-pruned
+returns-clause-pruned g c = λ kept. tt

@@ -1,4 +1,4 @@
-use Rattle.std.proofs.Common.{◌∙◌, ◌++◌, ap₂, sym, map, subst}
+use Rattle.std.proofs.Common.{◌∙◌, ◌++◌, ap₂, sym, map, subst, inl, refl}
 use Rattle.std.specs.Map.Iter.{deref}
 use Rattle.std.proofs.lemmas.Map.Iter.{rest_more, rest_all}
 use Rattle.std.proofs.lemmas.Result.{err_from_is_err_and}
@@ -75,3 +75,22 @@ returns-clause-value g c = λ lent base is from known.
     told-one _ _ (g.L.Items.reads.told c.args.log.now) (c.loop-write.invariant.value lent base is from known) (λ all.
     drained-all (linked_view key value) (λ w. linked_in base (last_write_view key value w)) c.loop-write.sites.items c.loop-write.write-iterator (map (λ e. linked_in base (last_write_view key value e.1)) c.args.last.now.entries)
     (rest_all deref c.loop-write.write-iterator c.next.new.self c.next.result c.in-None.is c.next.ensures.steps) all)
+
+pub returns-in_err-push-clause-error : goal.returns-in_err-push-clause-error
+returns-in_err-push-clause-error g c =
+    let exit = err_from_is_err_and c.from_residual-in_err-push.result c.from_residual-in_err-push.ensures.1 in
+    rw (exit.1, exit.2) (inl refl)
+
+pub returns-in_err-push-clause-whole : goal.returns-in_err-push-clause-whole
+returns-in_err-push-clause-whole g c = λ lent is none.
+    let exit = err_from_is_err_and c.from_residual-in_err-push.result c.from_residual-in_err-push.ensures.1 in
+    rw (exit.1, exit.2) (λ n same. cc)
+
+pub returns-clause-read : goal.returns-clause-read
+returns-clause-read g c = c.loop-write.invariant.read
+
+pub returns-clause-error : goal.returns-clause-error
+returns-clause-error g c = tt
+
+pub returns-clause-whole : goal.returns-clause-whole
+returns-clause-whole g c = λ lent is none. tt

@@ -1,11 +1,13 @@
-use Rattle.std.proofs.Common.{◌∙◌, ap, sym}
+use Rattle.std.proofs.Common.{◌∙◌, ap, sym, inl, refl}
 use Rattle.std.specs.Prelude.{option_map}
 use Rattle.std.specs.Option.{option_copied}
-use Rattle.qm_model.proofs.Results.{told-any}
+use Rattle.qm_model.proofs.Results.{told-any, told-err}
 use Rattle.qm_step.specs.Changes.{link_of, update_of}
 use Rattle.qm_step.specs.Views.{read_view}
 use Rattle.qm_step.proofs.Entries.{link-of_update}
 use Rattle.qm_batch.proofs.PlanKnown.{known-there}
+use Rattle.std.proofs.lemmas.Result.{err_from_is_err_and}
+use Rattle.qm_base.proofs.Reading.{read-none}
 use Rattle.qm_batch.proofs.plan.sites.place_of.Goals as goal
 
 pub returns-in_ok-stands_of-in-Some-clause-value : goal.returns-in_ok-stands_of-in-Some-clause-value
@@ -18,3 +20,39 @@ returns-in_ok-stands_of-in-Some-clause-value g c = λ lent base is from known.
 
 pub returns-in-None-clause-value : goal.returns-in-None-clause-value
 returns-in-None-clause-value g c = λ lent base is from known. c.locate.ensures.value lent base is from
+
+pub returns-in_err-stands_of-in-Some-clause-value : goal.returns-in_err-stands_of-in-Some-clause-value
+returns-in_err-stands_of-in-Some-clause-value g c = λ lent base is from known.
+    let exit = err_from_is_err_and c.from_residual.result c.from_residual.ensures.1 in
+    told-err _ (g.L.Items.reads.told c.args.log.now) c.from_residual.result exit.0 exit.1
+
+pub returns-in_err-stands_of-in-Some-clause-read : goal.returns-in_err-stands_of-in-Some-clause-read
+returns-in_err-stands_of-in-Some-clause-read g c = read-none g.L.Items.reads g.met.L.Items.unread c.args.log.now
+
+pub returns-in_err-stands_of-in-Some-clause-error : goal.returns-in_err-stands_of-in-Some-clause-error
+returns-in_err-stands_of-in-Some-clause-error g c =
+    let exit = err_from_is_err_and c.from_residual.result c.from_residual.ensures.1 in
+    rw (exit.1, exit.2) (inl refl)
+
+pub returns-in_err-stands_of-in-Some-clause-whole : goal.returns-in_err-stands_of-in-Some-clause-whole
+returns-in_err-stands_of-in-Some-clause-whole g c = λ lent is none.
+    let exit = err_from_is_err_and c.from_residual.result c.from_residual.ensures.1 in
+    rw (exit.1, exit.2) (λ n same. cc)
+
+pub returns-in_ok-stands_of-in-Some-clause-read : goal.returns-in_ok-stands_of-in-Some-clause-read
+returns-in_ok-stands_of-in-Some-clause-read g c = read-none g.L.Items.reads g.met.L.Items.unread c.args.log.now
+
+pub returns-in_ok-stands_of-in-Some-clause-error : goal.returns-in_ok-stands_of-in-Some-clause-error
+returns-in_ok-stands_of-in-Some-clause-error g c = tt
+
+pub returns-in_ok-stands_of-in-Some-clause-whole : goal.returns-in_ok-stands_of-in-Some-clause-whole
+returns-in_ok-stands_of-in-Some-clause-whole g c = λ lent is none. tt
+
+pub returns-in-None-clause-read : goal.returns-in-None-clause-read
+returns-in-None-clause-read g c = c.locate.ensures.read
+
+pub returns-in-None-clause-error : goal.returns-in-None-clause-error
+returns-in-None-clause-error g c = c.locate.ensures.error
+
+pub returns-in-None-clause-whole : goal.returns-in-None-clause-whole
+returns-in-None-clause-whole g c = c.locate.ensures.whole

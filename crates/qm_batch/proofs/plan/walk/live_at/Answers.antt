@@ -54,3 +54,9 @@ returns-clause-value g c = λ lent base list is on.
 
 pub returns-clause-read : goal.returns-clause-read
 returns-clause-read g c = c.unreplaced_at.ensures.read
+
+pub returns-clause-error : goal.returns-clause-error
+returns-clause-error g c = tt
+
+pub returns-clause-pruned : goal.returns-clause-pruned
+returns-clause-pruned g c = λ kept. tt

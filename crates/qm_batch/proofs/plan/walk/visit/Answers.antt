@@ -135,3 +135,30 @@ returns-in-None-clause-end g c = c.comes_to.ensures.end
 
 pub returns-in-None-clause-read : goal.returns-in-None-clause-read
 returns-in-None-clause-read g c = c.live_at.ensures.read
+
+pub returns-then-not-comes_to-clause-error : goal.returns-then-not-comes_to-clause-error
+returns-then-not-comes_to-clause-error g c = tt
+
+pub returns-then-not-comes_to-clause-pruned : goal.returns-then-not-comes_to-clause-pruned
+returns-then-not-comes_to-clause-pruned g c = λ kept. tt
+
+pub returns-in_err-found-clause-low : goal.returns-in_err-found-clause-low
+returns-in_err-found-clause-low g c =
+    let exit = err_from_is_err_and c.from_residual.result c.from_residual.ensures.1 in
+    rw exit.1 tt
+
+pub returns-in_err-found-clause-high : goal.returns-in_err-found-clause-high
+returns-in_err-found-clause-high g c =
+    let exit = err_from_is_err_and c.from_residual.result c.from_residual.ensures.1 in
+    rw exit.1 tt
+
+pub returns-in_err-found-clause-end : goal.returns-in_err-found-clause-end
+returns-in_err-found-clause-end g c =
+    let exit = err_from_is_err_and c.from_residual.result c.from_residual.ensures.1 in
+    rw exit.1 tt
+
+pub returns-in-None-clause-error : goal.returns-in-None-clause-error
+returns-in-None-clause-error g c = tt
+
+pub returns-in-None-clause-pruned : goal.returns-in-None-clause-pruned
+returns-in-None-clause-pruned g c = λ kept. tt

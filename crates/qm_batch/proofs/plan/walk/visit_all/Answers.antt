@@ -127,3 +127,41 @@ returns-clause-low g c = c.loop-at.invariant.low
 
 pub returns-clause-end : goal.returns-clause-end
 returns-clause-end g c = c.loop-at.invariant.end
+
+pub returns-in_err-goes-clause-low : goal.returns-in_err-goes-clause-low
+returns-in_err-goes-clause-low g c =
+    let exit = err_from_is_err_and c.from_residual.result c.from_residual.ensures.1 in
+    rw exit.1 tt
+
+pub returns-in_err-goes-clause-high : goal.returns-in_err-goes-clause-high
+returns-in_err-goes-clause-high g c =
+    let exit = err_from_is_err_and c.from_residual.result c.from_residual.ensures.1 in
+    rw exit.1 tt
+
+pub returns-in_err-goes-clause-next : goal.returns-in_err-goes-clause-next
+returns-in_err-goes-clause-next g c =
+    let exit = err_from_is_err_and c.from_residual.result c.from_residual.ensures.1 in
+    rw exit.1 tt
+
+pub returns-in_err-goes-clause-end : goal.returns-in_err-goes-clause-end
+returns-in_err-goes-clause-end g c =
+    let exit = err_from_is_err_and c.from_residual.result c.from_residual.ensures.1 in
+    rw exit.1 tt
+
+pub returns-then-not-goes-clause-next : goal.returns-then-not-goes-clause-next
+returns-then-not-goes-clause-next g c = tt
+
+pub returns-then-not-goes-clause-error : goal.returns-then-not-goes-clause-error
+returns-then-not-goes-clause-error g c = tt
+
+pub returns-then-not-goes-clause-pruned : goal.returns-then-not-goes-clause-pruned
+returns-then-not-goes-clause-pruned g c = λ above. tt
+
+pub returns-clause-next : goal.returns-clause-next
+returns-clause-next g c = refl
+
+pub returns-clause-error : goal.returns-clause-error
+returns-clause-error g c = tt
+
+pub returns-clause-pruned : goal.returns-clause-pruned
+returns-clause-pruned g c = λ above. tt

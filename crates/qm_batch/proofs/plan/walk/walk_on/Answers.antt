@@ -110,3 +110,15 @@ returns-clause-value g c = λ lent base list all is active on going.
 
 pub returns-clause-read : goal.returns-clause-read
 returns-clause-read g c = c.loop-from.invariant.read
+
+pub returns-in_default-clause-error : goal.returns-in_default-clause-error
+returns-in_default-clause-error g c = tt
+
+pub returns-in_default-clause-pruned : goal.returns-in_default-clause-pruned
+returns-in_default-clause-pruned g c = λ above. tt
+
+pub returns-clause-error : goal.returns-clause-error
+returns-clause-error g c = tt
+
+pub returns-clause-pruned : goal.returns-clause-pruned
+returns-clause-pruned g c = λ above. tt

@@ -1,4 +1,4 @@
-use Rattle.std.proofs.Common.{◌≡◌, ◌∙◌, ◌≤◌, ◌<◌, ap, sym, subst, arith, Option, None, Some, ℕ}
+use Rattle.std.proofs.Common.{◌≡◌, ◌∙◌, ◌≤◌, ◌<◌, ap, sym, subst, arith, Option, None, Some, ℕ, inl, refl}
 use Rattle.std.specs.Prelude.{IfSome}
 use Rattle.std.proofs.lemmas.Result.{err_from_is_err_and}
 use Rattle.qm_bits.specs.Candidates.{candidates}
@@ -67,3 +67,28 @@ returns-clause-low g c = c.visit_all.ensures.low
 
 pub returns-clause-end : goal.returns-clause-end
 returns-clause-end g c = c.visit_all.ensures.end
+
+pub returns-in_err-round-clause-next : goal.returns-in_err-round-clause-next
+returns-in_err-round-clause-next g c =
+    let exit = err_from_is_err_and c.from_residual.result c.from_residual.ensures.1 in
+    rw exit.1 tt
+
+pub returns-in_err-round-clause-low : goal.returns-in_err-round-clause-low
+returns-in_err-round-clause-low g c =
+    let exit = err_from_is_err_and c.from_residual.result c.from_residual.ensures.1 in
+    rw exit.1 tt
+
+pub returns-in_err-round-clause-end : goal.returns-in_err-round-clause-end
+returns-in_err-round-clause-end g c =
+    let exit = err_from_is_err_and c.from_residual.result c.from_residual.ensures.1 in
+    rw exit.1 tt
+
+pub returns-in_err-round-clause-error : goal.returns-in_err-round-clause-error
+returns-in_err-round-clause-error g c =
+    let exit = err_from_is_err_and c.from_residual.result c.from_residual.ensures.1 in
+    rw (exit.1, exit.2) (inl refl)
+
+pub returns-in_err-round-clause-pruned : goal.returns-in_err-round-clause-pruned
+returns-in_err-round-clause-pruned g c = λ above.
+    let exit = err_from_is_err_and c.from_residual.result c.from_residual.ensures.1 in
+    rw (exit.1, exit.2) (λ n same. cc)

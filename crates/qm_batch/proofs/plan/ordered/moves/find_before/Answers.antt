@@ -1,4 +1,4 @@
-use Rattle.std.proofs.Common.{◌∙◌, ap, sym, map, subst}
+use Rattle.std.proofs.Common.{◌∙◌, ap, sym, map, subst, inl, refl}
 use Rattle.std.specs.Prelude.{filter_map}
 use Rattle.std.proofs.lemmas.List.{take_all}
 use Rattle.std.proofs.lemmas.Result.{err_from_is_err_and}
@@ -68,3 +68,22 @@ returns-clause-value g c = λ lent list is from ring over.
     let view = decided_view g.U.Key.ByteString.bytes g.U.Value.ByteString.bytes in
     told-one _ _ (g.L.Items.reads.told c.args.log.now) (c.loop-one.invariant.value lent list is from ring over) (λ found.
     found ∙ ap (filter_map (λ d. before_evicted list (view d))) (take_all c.loop-one.one-index c.args.decided.now c.loop-one-test.false) ∙ sym (given-mapped (before_evicted list) view c.args.decided.now))
+
+pub returns-in_err-push_some-clause-error : goal.returns-in_err-push_some-clause-error
+returns-in_err-push_some-clause-error g c =
+    let exit = err_from_is_err_and c.from_residual-in_err-push_some.result c.from_residual-in_err-push_some.ensures.1 in
+    rw (exit.1, exit.2) (inl refl)
+
+pub returns-in_err-push_some-clause-whole : goal.returns-in_err-push_some-clause-whole
+returns-in_err-push_some-clause-whole g c = λ lent is none.
+    let exit = err_from_is_err_and c.from_residual-in_err-push_some.result c.from_residual-in_err-push_some.ensures.1 in
+    rw (exit.1, exit.2) (λ n same. cc)
+
+pub returns-clause-read : goal.returns-clause-read
+returns-clause-read g c = c.loop-one.invariant.read
+
+pub returns-clause-error : goal.returns-clause-error
+returns-clause-error g c = tt
+
+pub returns-clause-whole : goal.returns-clause-whole
+returns-clause-whole g c = λ lent is none. tt

@@ -96,3 +96,15 @@ returns-in_err-push_some-clause-whole g c = λ lent is none.
 
 pub returns-clause-read : goal.returns-clause-read
 returns-clause-read g c = c.loop-site.invariant.read
+
+pub returns-then-not-is_ordered-clause-error : goal.returns-then-not-is_ordered-clause-error
+returns-then-not-is_ordered-clause-error g c = tt
+
+pub returns-then-not-is_ordered-clause-whole : goal.returns-then-not-is_ordered-clause-whole
+returns-then-not-is_ordered-clause-whole g c = λ lent is none. tt
+
+pub returns-clause-error : goal.returns-clause-error
+returns-clause-error g c = tt
+
+pub returns-clause-whole : goal.returns-clause-whole
+returns-clause-whole g c = λ lent is none. tt
