@@ -4,7 +4,7 @@ use Rattle.std.specs.Prelude.{option_map, option_and_then}
 use Rattle.qm_model.specs.Operations.{Bytes, Operation}
 use Rattle.qm_model.specs.Live.{Live, live, live_of}
 use Rattle.qm_model.specs.Trees.{Shape}
-use Rattle.qm_base.specs.Parts.{value_of}
+use Rattle.qm_operations.specs.Parts.{value_of}
 use Rattle.qm_step.specs.Changes.{located, next_in, update_of}
 use Rattle.qm_model.specs.Forms.{Form}
 use Rattle.qm_any.specs.Layouts.{Layout, hashing_with}

@@ -6,7 +6,7 @@ use Rattle.qm_model.specs.Operations.{Bytes, Operation}
 use Rattle.qm_model.specs.Live.{Live, floor, live, live_of, value_of}
 use Rattle.qm_model.specs.Step.{IsGood}
 use Rattle.qm_model.proofs.Chains.{Contains-first}
-use Rattle.qm_base.specs.Parts as parts
+use Rattle.qm_operations.specs.Parts as parts
 use Rattle.qm_base.specs.declared.error.Error.{Error}
 use Rattle.qm_store.specs.declared.Store as store
 use Rattle.qm_step.specs.Changes.{update_of, located}

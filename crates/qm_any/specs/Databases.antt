@@ -7,7 +7,7 @@ use Rattle.qm_model.specs.Live.{live, floor, last_metadata}
 use Rattle.qm_model.specs.Bits.{bits}
 use Rattle.qm_model.specs.Step.{IsGood}
 use Rattle.qm_model.specs.Writes.{Write, last_writes, overwritten, write_of}
-use Rattle.qm_base.specs.Parts.{value_of}
+use Rattle.qm_operations.specs.Parts.{value_of}
 use Rattle.qm_merkle.specs.Batches.{stops}
 use Rattle.qm_chain.specs.Bounds.{Bounds, IsBounds, is_at}
 use Rattle.qm_store.specs.declared.Store as store

@@ -4,7 +4,7 @@ use Rattle.qm_model.specs.Operations.{Bytes, Operation}
 use Rattle.qm_model.specs.Forms.{Form, spelling}
 use Rattle.qm_model.specs.Trees.{Shape, ops_root}
 use Rattle.qm_base.specs.declared.digest.Hasher as hasher
-use Rattle.qm_base.specs.declared.update.Update as update
+use Rattle.qm_operations.specs.declared.update.Update as update
 use Rattle.qm_merkle.specs.declared.family.Family as family
 use Rattle.qm_index.specs.declared.unordered.Unordered as index
 

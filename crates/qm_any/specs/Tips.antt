@@ -1,6 +1,6 @@
 -- When the list of a batch is taken, and why it is refused.
 use Rattle.std.specs.Prelude.{◌≡◌, ◌⊎◌, ◌≤◌, ◌<◌, ◌^◌, ℕ, List, length, map, drop, None, Some, IfSome}
-use Rattle.qm_base.specs.Parts.{floor_of}
+use Rattle.qm_operations.specs.Parts.{floor_of}
 use Rattle.qm_base.specs.declared.error.Error.{Error}
 use Rattle.qm_base.specs.declared.error.Error.TheVariants as errors
 use Rattle.qm_base.specs.declared.error.JournalError.TheVariants as journal

@@ -24,7 +24,7 @@ ghost use Rattle.qm_store.specs.Log.{IsLacked};
 ghost use Rattle.qm_store.specs.KeptTrees.{held_at};
 ghost use Rattle.qm_any.specs.Reasons.{IsMakingError};
 ghost use Rattle.qm_any.specs.Tips.{IsLow, IsTaken, IsRefused};
-ghost use Rattle.qm_base.specs.Views.{operation_views};
+ghost use Rattle.qm_operations.specs.Views.{operation_views};
 ghost use Rattle.qm_any.specs.Layouts.{Hashing, hashing_with};
 ghost use Rattle.qm_base.specs.Slots.{slot_views, write_views};
 
@@ -32,14 +32,14 @@ use crate::db::{Db, LaidOut};
 use crate::operations::{
     Step, diffs_of, refuse, share, shared, spelled, spelled_steps, unapplied_of,
 };
-use qm_base::update::Update;
 use qm_base::{
     ByteString, Commitment, Digest, Error, Hasher, JournalError, Location, MerkleError, Slot,
-    ValueEncoding, twin_option,
+    twin_option,
 };
 use qm_batch::{Base, Layer, Plan, Read, Wanted, Write, Writes};
 use qm_chain::{Bounds, Diff, Policy, validate_batch_applicable};
 use qm_merkle::{Family, Position};
+use qm_operations::{Update, ValueEncoding};
 use qm_proofs::Proof;
 use qm_step::kind::Steps;
 use qm_store::{KeptTree, Store};

@@ -33,15 +33,14 @@ ghost use Rattle.qm_store.specs.KeptTrees.{IsKeptTree, held_at};
 
 use crate::batch::{Lacking, MerkleizedBatch, UnmerkleizedBatch};
 use crate::operations::{Step, copy_of, share};
-use qm_base::update::Update;
 use qm_base::{
-    ByteString, Commitment, Digest, Error, Hasher, JournalError, Location, MerkleError,
-    ValueEncoding, twin_option,
+    ByteString, Commitment, Digest, Error, Hasher, JournalError, Location, MerkleError, twin_option,
 };
 use qm_batch::{Base, Plan, Read, Wanted, Writes, apply_diffs, read_key, staged};
 use qm_bits::{Chunk64, Prunable};
 use qm_chain::{Diff, Policy};
 use qm_merkle::{Family, Position};
+use qm_operations::{Update, ValueEncoding};
 use qm_overlay::apply_bits;
 use qm_proofs::Proof;
 use qm_step::kind::Steps;

@@ -10,10 +10,10 @@ ghost use Rattle.qm_any.specs.Databases.{IsDatabase};
 ghost use Rattle.qm_any.specs.Lasting.{boundary_of, over_log, HasLasted, HasLeftPruned, HasLeftDestroyed, HasLeftStable, HasPruned, IsDestroyed, IsGivenUp};
 
 use crate::db::{Beside, Db, LaidOut};
-use qm_base::update::Update;
 use qm_base::{Error, Hasher, Location};
 use qm_list::store_of;
 use qm_merkle::Family;
+use qm_operations::Update;
 use qm_store::{AuthLog, Given, LogRefusal, MetaEntry, Refusal, Store};
 use std::alloc::Global;
 

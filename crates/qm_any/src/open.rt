@@ -12,12 +12,12 @@ ghost use Rattle.qm_store.specs.Given.{Appended, AppendedPart, store_given, IsUn
 
 use crate::db::{Db, LaidOut};
 use crate::operations::spelled;
-use qm_base::update::Update;
-use qm_base::{Commitment, Corrupt, Digest, Error, Hasher, JournalError, Location, Operation};
+use qm_base::{Commitment, Corrupt, Digest, Error, Hasher, JournalError, Location};
 use qm_bits::{Chunk64, Prunable};
 use qm_index::Factory;
 use qm_list::{empty_log, store_of};
 use qm_merkle::Family;
+use qm_operations::{Operation, Update};
 use qm_store::{AuthLog, Given, Refusal, Store};
 use std::alloc::{AllocError, Global};
 

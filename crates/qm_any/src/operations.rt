@@ -5,13 +5,13 @@ ghost use Rattle.qm_model.specs.Forms.{IsOf, spelling};
 ghost use Rattle.qm_model.specs.Refusals.{too_long};
 ghost use Rattle.qm_any.specs.Databases.{unapplied, operations_in};
 ghost use Rattle.qm_any.specs.Tips.{IsLow, IsTooLong};
-ghost use Rattle.qm_base.specs.Views.{operation_views};
+ghost use Rattle.qm_operations.specs.Views.{operation_views};
 ghost use Rattle.qm_step.specs.Views.{changes_view};
 
-use qm_base::update::Update;
-use qm_base::{ByteString, Error, JournalError, MerkleError, Operation};
+use qm_base::{ByteString, Error, JournalError, MerkleError};
 use qm_batch::Layer;
 use qm_chain::Diff;
+use qm_operations::{Operation, Update};
 use std::alloc::{AllocError, Global};
 use std::rc::Rc;
 

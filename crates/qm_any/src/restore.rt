@@ -24,7 +24,6 @@ ghost use Rattle.qm_any.specs.Restoring.{pruned_view, selected_size, taken, HasL
 
 use crate::db::{Db, LaidOut};
 use crate::open::fresh_over;
-use qm_base::update::Update;
 use qm_base::{Commitment, Digest, Error, Hasher, JournalError, Location};
 use qm_bits::Chunk64;
 use qm_build::Opened;
@@ -32,6 +31,7 @@ use qm_index::Factory;
 use qm_list::{open_checked, store_of};
 use qm_merkle::Family;
 use qm_open::{Pruned, Selected, select_commit};
+use qm_operations::Update;
 use qm_store::{Given, Refusal, Store};
 use std::alloc::{AllocError, Global};
 use std::num::NonZeroUsize;

@@ -11,9 +11,9 @@ ghost use Rattle.qm_any.specs.Databases.{IsDatabase, IsLeft};
 ghost use Rattle.qm_any.specs.Scanned.{keys_left, lent_to, lent_to_keys, pairs_left};
 
 use crate::db::{Db, LaidOut};
-use qm_base::update::Update;
 use qm_base::{Error, Hasher, JournalError, Location};
 use qm_merkle::Family;
+use qm_operations::Update;
 use qm_scan::Scan;
 use qm_step::kind::Steps;
 use qm_store::Store;

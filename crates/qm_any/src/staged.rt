@@ -18,13 +18,11 @@ ghost use Rattle.qm_any.specs.Tips.{IsTaken, IsRefused};
 
 use crate::batch::{MerkleizedBatch, UnmerkleizedBatch};
 use crate::db::{Db, LaidOut};
-use qm_base::update::Update;
-use qm_base::{
-    ByteString, Digest, Error, Hasher, JournalError, Location, Slot, ValueEncoding, Write,
-};
+use qm_base::{ByteString, Digest, Error, Hasher, JournalError, Location, Slot, Write};
 use qm_batch::Read;
 use qm_chain::Policy;
 use qm_merkle::Family;
+use qm_operations::{Update, ValueEncoding};
 use qm_step::kind::Steps;
 use qm_store::Store;
 use std::alloc::{AllocError, Global};

@@ -1,4 +1,3 @@
-pub mod Parts
 pub mod Sizes
 pub mod Views
 pub mod Slots

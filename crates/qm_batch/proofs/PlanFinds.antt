@@ -11,7 +11,7 @@ use Rattle.qm_model.specs.Operations.{Bytes, Operation, update}
 use Rattle.qm_model.specs.Live.{Live, live, live_of, touched}
 use Rattle.qm_model.proofs.Maps.{same_key}
 use Rattle.qm_index.specs.Buckets.{bucket_at}
-use Rattle.qm_base.specs.Parts.{update_key}
+use Rattle.qm_operations.specs.Parts.{update_key}
 use Rattle.qm_step.specs.Changes.{place_in, stands_at, update_at, update_from, said_by}
 use Rattle.qm_step.specs.Layers.{Layer, LeadThrough, LeadOver}
 use Rattle.qm_index.specs.Indexed.{IsIndexed}

@@ -5,7 +5,7 @@ use Rattle.std.proofs.lemmas.Bool.{cases_lt}
 use Rattle.std.proofs.lemmas.List.{map-append}
 use Rattle.std.proofs.lemmas.List.Elements.{All-nil, All-push}
 use Rattle.std.proofs.lemmas.Option.{same_Some}
-use Rattle.qm_base.specs.Parts.{key_of, value_of}
+use Rattle.qm_operations.specs.Parts.{key_of, value_of}
 use Rattle.qm_bits.specs.Candidates.{candidates}
 use Rattle.qm_bits.proofs.Rounds.{candidates_first, candidates_none}
 use Rattle.qm_chain.specs.declared.walk.Walk.{Walk}

@@ -5,7 +5,7 @@ use Rattle.std.proofs.lemmas.Bool.{eqb-true}
 use Rattle.std.proofs.lemmas.List.{length-map}
 use Rattle.std.proofs.lemmas.Option.{same_Some, slice_get-map, slice_get_within, get_or_from_slice_get}
 use Rattle.qm_model.specs.Operations.{Bytes, Operation, update, delete, commit}
-use Rattle.qm_base.specs.Parts.{key_of}
+use Rattle.qm_operations.specs.Parts.{key_of}
 use Rattle.qm_model.specs.Live.{Live, live, live_at, live_of, touches, touched}
 use Rattle.qm_step.specs.Changes.{next_in, said_by, update_at, update_from}
 use Rattle.qm_step.specs.Touches.{Touch, IsFrom, IsMoveAt, Once, is_there, operations_of, live_update_at}

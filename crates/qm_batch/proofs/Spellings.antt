@@ -5,7 +5,7 @@ use Rattle.std.proofs.lemmas.List.Elements.{All-head, All-tail}
 use Rattle.std.proofs.lemmas.Option.{same_Some, slice_get-map}
 use Rattle.qm_model.specs.Forms.{Form, IsOf, IsSpelling, spelling}
 use Rattle.qm_model.specs.Operations.{Bytes, Operation, update, delete, commit}
-use Rattle.qm_base.specs.Parts.{update_key}
+use Rattle.qm_operations.specs.Parts.{update_key}
 use Rattle.qm_step.specs.Changes.{said_by}
 
 -- the bytes at a location among a list's spellings spell its operation there

@@ -2,8 +2,8 @@
 
 ghost use Rattle.std.specs.List.{IsDistinct};
 ghost use Rattle.std.specs.Prelude.{bytes_eq, ◌≡◌, ◌≢◌, ◌≤◌, ◌^◌, ◌++◌, ◌+◌, ◌-◌, ◌==◌, ℕ, List, length, map, count_by, option_map, is_none, is_some, All, IfSome, IfOk, IfErr, OnOk, if◌then◌else◌};
-ghost use Rattle.qm_base.specs.Parts as parts;
-ghost use Rattle.qm_base.specs.Views.{operation_view};
+ghost use Rattle.qm_operations.specs.Parts as parts;
+ghost use Rattle.qm_operations.specs.Views.{operation_view};
 ghost use Rattle.qm_model.specs.Bits.{bits};
 ghost use Rattle.qm_model.specs.Live as lives;
 ghost use Rattle.qm_model.specs.Operations as model;
@@ -28,10 +28,10 @@ mod walk;
 use self::ordered::befores_of;
 use self::over::written_over;
 use self::walk::{Path, Walked, walk_from};
-use qm_base::update::Update;
-use qm_base::{Error, Items, JournalError, Location, Operation, Write};
+use qm_base::{Error, Items, JournalError, Location, Write};
 use qm_bits::Candidates;
 use qm_chain::{Diff, Policy};
+use qm_operations::{Operation, Update};
 use qm_step::decided::evicted;
 use qm_step::diff::diff_of_touches;
 use qm_step::kind::Steps;
@@ -55,7 +55,7 @@ pub struct Plan<F, U: Update> {
 }
 
 impl<F, U: Update> Model for Plan<F, U> {
-    ghost use Rattle.qm_base.specs.Views.{operation_views};
+    ghost use Rattle.qm_operations.specs.Views.{operation_views};
     ghost use Rattle.qm_step.specs.Views.{Plan, changes_view};
 
     ghost Value = { Plan };

@@ -1,7 +1,7 @@
 -- Bits from a floor on with clear ones below it, and what a list's last commit tells.
 use Rattle.std.proofs.Common.{◌≡◌, ◌∙◌, ◌+◌, ◌-◌, ◌*◌, ◌<◌, ◌≤◌, ℕ, zero, suc, ◌≢◌, Bool, true, false, List, [], ◌∷◌, ◌++◌, length, take, drop, replicate, refl, ap, ap₂, sym, arith, append_assoc, append-nil, length-append, Option, Some}
 use Rattle.std.specs.Prelude.{slice_index_or, slice_get, is_some}
-use Rattle.qm_base.specs.Parts.{floor_of, is_update}
+use Rattle.qm_operations.specs.Parts.{floor_of, is_update}
 use Rattle.std.proofs.lemmas.List.{length-replicate, replicate-append-replicate, take_more}
 use Rattle.qm_model.specs.Operations.{Bytes, Operation, update, delete, commit, IsCommitEnded}
 use Rattle.qm_model.specs.Live.{metadata_after}

@@ -6,7 +6,7 @@ use Rattle.std.proofs.lemmas.List.{length-set, get_or_default, get_or-set_same, 
 use Rattle.std.proofs.lemmas.Nat.{div-add-mod', div-mul-add, mod_below, row_fits}
 use Rattle.std.proofs.lemmas.Option.{same_Some, none-some}
 use Rattle.qm_model.specs.Operations.{Bytes, Operation, update, delete, commit}
-use Rattle.qm_base.specs.Parts.{key_of, update_key, is_update}
+use Rattle.qm_operations.specs.Parts.{key_of, update_key, is_update}
 use Rattle.qm_build.specs.Building.{key_at}
 use Rattle.qm_build.specs.Cached.{set_of, Holds, AreSlots}
 

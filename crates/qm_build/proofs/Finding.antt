@@ -10,7 +10,7 @@ use Rattle.qm_model.specs.Operations.{Bytes, Operation, update, delete, commit}
 use Rattle.qm_model.specs.Live.{live_from, touched}
 use Rattle.qm_model.proofs.LastWrites.{bytes_same}
 use Rattle.qm_model.proofs.Maps.{same_key}
-use Rattle.qm_base.specs.Parts.{update_key}
+use Rattle.qm_operations.specs.Parts.{update_key}
 use Rattle.qm_index.specs.Buckets.{bucket_at}
 use Rattle.qm_index.specs.Places.{Places, AreApart, HasPlaces, place_of}
 use Rattle.qm_index.proofs.Members.{first_or_later, from_image, from_filtered}

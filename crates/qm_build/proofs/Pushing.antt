@@ -8,7 +8,7 @@ use Rattle.std.proofs.lemmas.List.Folds.{list_any-append}
 use Rattle.qm_model.specs.Operations.{Bytes, Operation, update, delete, commit}
 use Rattle.qm_model.specs.Live.{Live, live_from, touches, touched}
 use Rattle.qm_model.proofs.Pushes.{live_from-push, live_from-within, Within}
-use Rattle.qm_base.specs.Parts.{key_of, is_update}
+use Rattle.qm_operations.specs.Parts.{key_of, is_update}
 use Rattle.qm_index.specs.Places.{Places, AreApart, place_of, without, moved}
 use Rattle.qm_index.proofs.Basics.{bytes-turned}
 use Rattle.qm_index.proofs.Placing.{place_of-cons, without-cons, without-other, without-none}

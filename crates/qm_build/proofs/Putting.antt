@@ -4,7 +4,7 @@ use Rattle.std.specs.Prelude.{Contains, IfSome, slice_get}
 use Rattle.std.proofs.lemmas.List.{length-take, length-drop}
 use Rattle.std.proofs.lemmas.Option.{slice_get_within}
 use Rattle.qm_model.specs.Operations.{Bytes, Operation}
-use Rattle.qm_base.specs.Parts.{key_of, is_update}
+use Rattle.qm_operations.specs.Parts.{key_of, is_update}
 use Rattle.qm_index.specs.Buckets.{bucket_at}
 use Rattle.qm_index.specs.Places.{Places, AreApart, HasPlaces, place_of, moved}
 use Rattle.qm_index.proofs.Placing.{apart-moved}

@@ -2,7 +2,7 @@
 use Rattle.std.specs.Prelude.{◌≡◌, ◌≢◌, ◌+◌, ◌-◌, ◌≤◌, ◌<◌, ℕ, Bool, List, [], ◌∷◌, length, map, take, drop, set, false, true, All, Option, None, Some, is_some, slice_get, option_and_then}
 use Rattle.qm_model.specs.Operations.{Bytes, Operation}
 use Rattle.qm_model.specs.Live.{live_at, live_from}
-use Rattle.qm_base.specs.Parts.{update_key}
+use Rattle.qm_operations.specs.Parts.{update_key}
 use Rattle.qm_index.specs.Buckets.{bucket_at}
 use Rattle.qm_index.specs.Places.{Places, AreApart, HasPlaces}
 

@@ -3,7 +3,7 @@
 ghost use Rattle.std.specs.Prelude.{◌≡◌, ◌≢◌, ◌⊎◌, true, false, ◌+◌, ◌^◌, ◌<◌, ◌≤◌, ℕ, List, [], Some, is_none, length, slice_get, IfSome, IfOk, IfErr, OnOk};
 ghost use Rattle.std.specs.List.{list_any};
 ghost use Rattle.qm_model.specs.Operations as model;
-ghost use Rattle.qm_base.specs.Views.{operation_view};
+ghost use Rattle.qm_operations.specs.Views.{operation_view};
 ghost use Rattle.qm_build.specs.Building.{ArePlaced, AreWithin, between};
 ghost use Rattle.qm_build.specs.Built.{IsBuilt, NoneBelow};
 ghost use Rattle.qm_build.specs.Cached.{Holds, AreKeys};
@@ -12,10 +12,10 @@ ghost use Rattle.qm_build.specs.Reads.{items_within, HasOperations, IsRead, IsRe
 use crate::cache::Cache;
 use crate::moves::{move_key, note};
 use crate::read::{Found, find, read_operation};
-use qm_base::update::Update;
-use qm_base::{ByteString, Corrupt, Error, Hasher, Location, Operation};
+use qm_base::{ByteString, Corrupt, Error, Hasher, Location};
 use qm_bits::BitMap;
 use qm_merkle::Family;
+use qm_operations::{Operation, Update};
 use qm_store::{AuthLog, Store};
 use std::alloc::Global;
 use std::num::NonZeroUsize;

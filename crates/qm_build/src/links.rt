@@ -6,14 +6,14 @@ ghost use Rattle.std.specs.Option.{option_map_or};
 ghost use Rattle.qm_model.specs.Keys.{successor};
 ghost use Rattle.qm_model.specs.Opening.{same_key, is_ring};
 ghost use Rattle.qm_model.specs.Operations as model;
-ghost use Rattle.qm_base.specs.Views.{operation_view};
+ghost use Rattle.qm_operations.specs.Views.{operation_view};
 ghost use Rattle.qm_build.specs.Linked.{AreLinks};
 ghost use Rattle.qm_build.specs.Reads.{items_within, IsRead, IsReadError};
 
 use crate::read::read_operation;
-use qm_base::update::Update;
-use qm_base::{ByteString, Corrupt, Error, Hasher, Operation};
+use qm_base::{ByteString, Corrupt, Error, Hasher};
 use qm_merkle::Family;
+use qm_operations::{Operation, Update};
 use qm_store::{AuthLog, Store};
 use std::alloc::{AllocError, Global};
 use std::collections::BTreeMap;

@@ -16,12 +16,12 @@ ghost use Rattle.qm_build.specs.Reads.{items_within, HasOperations};
 
 use crate::build::{Snapshot, build_snapshot};
 use crate::parts::{Held, beside};
-use qm_base::update::Update;
 use qm_base::{Corrupt, Digest, Error, Hasher, JournalError, Location};
 use qm_bits::{Chunks, Prunable};
 use qm_index::Factory;
 use qm_merkle::Family;
 use qm_open::Selected;
+use qm_operations::Update;
 use qm_store::{AuthLog, Given, LogGiven, Refusal, Store};
 use std::alloc::Global;
 use std::num::NonZeroUsize;

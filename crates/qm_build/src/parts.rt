@@ -13,10 +13,10 @@ ghost use Rattle.qm_build.specs.Reads.{items_within, HasOperations, IsRead, IsRe
 
 use crate::build::Snapshot;
 use crate::read::read_operation;
-use qm_base::update::Update;
-use qm_base::{Corrupt, Digest, Error, Hasher, Location, Operation};
+use qm_base::{Corrupt, Digest, Error, Hasher, Location};
 use qm_bits::{BitMap, Chunks, Prunable};
 use qm_merkle::Family;
+use qm_operations::{Operation, Update};
 use qm_store::{AuthLog, Store};
 use std::alloc::{AllocError, Global};
 

@@ -3,17 +3,17 @@
 ghost use Rattle.std.specs.Prelude.{◌≡◌, ◌≢◌, ◌↔◌, ◌≤◌, ◌<◌, ℕ, List, Some, true, slice_get, option_map, All, IfSome, IfOk, IfErr};
 ghost use Rattle.qm_model.specs.Forms.{IsSpelling};
 ghost use Rattle.qm_model.specs.Operations as model;
-ghost use Rattle.qm_base.specs.Parts.{update_key};
-ghost use Rattle.qm_base.specs.Views.{operation_view};
+ghost use Rattle.qm_operations.specs.Parts.{update_key};
+ghost use Rattle.qm_operations.specs.Views.{operation_view};
 ghost use Rattle.qm_index.specs.Buckets.{bucket_at};
 ghost use Rattle.qm_build.specs.Building.{key_at, IsFound};
 ghost use Rattle.qm_build.specs.Cached.{AreKeys};
 ghost use Rattle.qm_build.specs.Reads.{operation_at, HasOperations, IsRead, IsReadError, IsReadFault, IsUndecoded};
 
 use crate::cache::Cache;
-use qm_base::update::Update;
-use qm_base::{ByteString, Corrupt, Error, Hasher, Location, Operation};
+use qm_base::{ByteString, Corrupt, Error, Hasher, Location};
 use qm_merkle::Family;
+use qm_operations::{Operation, Update};
 use qm_store::{AuthLog, Store};
 use std::alloc::Global;
 

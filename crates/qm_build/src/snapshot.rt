@@ -7,10 +7,10 @@ ghost use Rattle.qm_build.specs.Built.{IsBuilt, NoneBelow};
 ghost use Rattle.qm_build.specs.Reads.{items_within, HasOperations, IsRead, IsReadError};
 
 use crate::build::{Snapshot, build_snapshot};
-use qm_base::update::Update;
 use qm_base::{Corrupt, Error, Hasher, Location};
 use qm_index::{OrderedTranslator, Translator, ordered, unordered};
 use qm_merkle::Family;
+use qm_operations::Update;
 use qm_store::{AuthLog, Store};
 use std::alloc::Global;
 use std::num::NonZeroUsize;

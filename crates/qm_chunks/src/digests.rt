@@ -10,7 +10,7 @@ ghost use Rattle.qm_model.specs.Grafted as grafted;
 ghost use Rattle.qm_merkle.specs.Mems.{more};
 ghost use Rattle.qm_chunks.specs.Views.{partial_view};
 
-use qm_base::operation::eight_bytes;
+use qm_base::eight_bytes;
 use qm_base::{Digest, Hasher, Location};
 use qm_merkle::{Family, Node, StandardHasher};
 

@@ -1,11 +1,12 @@
 //! A database whose keys and values have one size: its text, and a root that was computed by another program.
 
 use crate::bed::{Bed, again};
-use qm_base::{Digest, Error, FixedBytes, FixedEncoding, Location, Sha256, Unordered};
+use qm_base::{Digest, Error, FixedBytes, Location, Sha256};
 use qm_index::FourCap;
 use qm_index::unordered::Index;
 use qm_memory::MemStore;
 use qm_merkle::mmr;
+use qm_operations::{FixedEncoding, Unordered};
 use std::alloc::Global;
 use std::num::NonZeroU64;
 use std::test::Fail;

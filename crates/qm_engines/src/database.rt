@@ -22,13 +22,11 @@ mod staged;
 use qm_any::batch::{MerkleizedBatch, UnmerkleizedBatch};
 use qm_any::db::Db;
 use qm_any::staged::Staged;
-use qm_base::update::{Ordered, Unordered, Update};
-use qm_base::{
-    ByteKey, ByteString, ByteValue, Location, Sha256, Sha256Digest, VariableEncoding, VariableValue,
-};
+use qm_base::{ByteKey, ByteString, ByteValue, Location, Sha256, Sha256Digest, VariableValue};
 use qm_engine::{Basis, BatchSizes, Engine, Numbers, Words};
 use qm_index::{Factory, FourCap};
 use qm_merkle::mmr;
+use qm_operations::{Ordered, Unordered, Update, VariableEncoding};
 use qm_step::kind::Steps;
 use qm_store::{Given, Refusal, Store};
 use std::num::NonZeroUsize;

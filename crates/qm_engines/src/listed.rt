@@ -3,10 +3,11 @@ ghost use Rattle.std.specs.Prelude.{◌≡◌, true, IfOk, map, option_map};
 ghost use Rattle.qm_step.specs.Changes.{located};
 ghost use Rattle.qm_step.specs.Views.{read_view};
 ghost use Rattle.qm_lines.specs.Views.{listed_view, span_view};
-ghost use Rattle.qm_base.specs.Views.{operation_view, operation_views};
+ghost use Rattle.qm_operations.specs.Views.{operation_view, operation_views};
 
-use qm_base::{ByteString, Location, Operation, Update, twin_option};
+use qm_base::{ByteString, Location, twin_option};
 use qm_lines::{Listed, Span};
+use qm_operations::{Operation, Update};
 use std::alloc::{AllocError, Global};
 
 /// Copies of keys.

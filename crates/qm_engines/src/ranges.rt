@@ -9,9 +9,9 @@ ghost use Rattle.qm_base.specs.Views.{limit_of, pair_view};
 ghost use Rattle.qm_scan.specs.Scans.{left_of};
 
 use qm_any::db::{Db, LaidOut};
-use qm_base::update::Update;
 use qm_base::{ByteString, Error, Hasher, JournalError, Location};
 use qm_merkle::Family;
+use qm_operations::Update;
 use qm_scan::Scan;
 use qm_step::kind::Steps;
 use qm_store::Store;

@@ -15,13 +15,13 @@ ghost use Rattle.qm_open.specs.Selecting.{any_layout, any_found, content_refusal
 ghost use Rattle.qm_store.specs.Refusals.{IsDue};
 ghost use Rattle.qm_list.specs.Linked.{links_apart};
 
-use qm_base::update::Update;
 use qm_base::{Corrupt, Digest, Error, Hasher, JournalError, Location};
 use qm_bits::Chunk64;
 use qm_build::{Opened, forms_ring, open_at};
 use qm_index::Factory;
 use qm_merkle::Family;
 use qm_open::Selected;
+use qm_operations::Update;
 use qm_store::{AuthLog, Given, Refusal, Store};
 use std::alloc::Global;
 use std::num::NonZeroUsize;

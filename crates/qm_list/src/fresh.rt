@@ -7,10 +7,9 @@ ghost use Rattle.qm_model.specs.Trees as trees;
 ghost use Rattle.qm_store.specs.Log as logs;
 ghost use Rattle.qm_store.specs.Log.{IsLog};
 
-use qm_base::operation::eight_bytes;
-use qm_base::update::Update;
-use qm_base::{Corrupt, Digest, Error, Hasher, JournalError, Location, Operation, Spelled};
+use qm_base::{Corrupt, Digest, Error, Hasher, JournalError, Location, Spelled, eight_bytes};
 use qm_merkle::{Family, StandardHasher};
+use qm_operations::{Operation, Update};
 use qm_store::{AuthLog, Given, LogGiven, Refusal, Store};
 use std::alloc::Global;
 

@@ -3,7 +3,7 @@
 ghost use Rattle.std.specs.Prelude.{◌≡◌, ◌≢◌, ◌⊎◌, ◌≤◌, ◌<◌, ◌+◌, ◌-◌, List, None, IfSome, All, map, take, drop, IfOk, IfErr, OnOk};
 ghost use Rattle.std.specs.NonZero.{non_zero_u64_get};
 ghost use Rattle.qm_model.specs.Forms.{IsOf, spelling};
-ghost use Rattle.qm_base.specs.Views.{operation_views};
+ghost use Rattle.qm_operations.specs.Views.{operation_views};
 ghost use Rattle.qm_model.specs.Causes.{Rose};
 ghost use Rattle.qm_model.specs.Live as lives;
 ghost use Rattle.qm_model.specs.Operations as operations;
@@ -15,10 +15,10 @@ ghost use Rattle.qm_store.specs.Log.{IsLog};
 ghost use Rattle.qm_store.specs.Refusals.{IsAmong, IsDue};
 ghost use Rattle.qm_list.specs.Reasons.{proof_reasons};
 
-use qm_base::update::Update;
-use qm_base::{Corrupt, Error, Hasher, JournalError, Location, MerkleError, Operation};
+use qm_base::{Corrupt, Error, Hasher, JournalError, Location, MerkleError};
 use qm_merkle::Family;
 use qm_open::commit_floor_in;
+use qm_operations::{Operation, Update};
 use qm_proofs::Proof;
 use qm_store::{AuthLog, Store};
 use std::alloc::Global;

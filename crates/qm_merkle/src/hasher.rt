@@ -7,7 +7,7 @@ ghost use Rattle.qm_model.specs.Trees as trees;
 ghost use Rattle.qm_merkle.specs.Mems.{more};
 
 use crate::position::Position;
-use qm_base::operation::eight_bytes;
+use qm_base::eight_bytes;
 use qm_base::{Digest, Hasher, Location, Spelled};
 use std::marker::Model;
 

@@ -5,7 +5,7 @@ use Rattle.std.specs.Option.{option_or}
 use Rattle.std.proofs.lemmas.List.{length-map, length-take-le, take_min}
 use Rattle.std.proofs.lemmas.Option.{slice_get-map, slice_get_within}
 use Rattle.qm_model.specs.Operations.{Bytes, Operation, update, delete, commit}
-use Rattle.qm_base.specs.Parts.{floor_of}
+use Rattle.qm_operations.specs.Parts.{floor_of}
 use Rattle.qm_model.specs.Forms.{Form, IsSpelling, decoded}
 use Rattle.qm_model.specs.Refusals.{commit_floor}
 use Rattle.qm_model.specs.Opening.{Selected, commit_at, last_commit}

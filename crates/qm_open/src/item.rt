@@ -4,8 +4,7 @@ ghost use Rattle.std.specs.Prelude.{◌≡◌, option_and_then, IfOk};
 ghost use Rattle.qm_model.specs.Forms.{decoded};
 ghost use Rattle.qm_model.specs.Refusals.{commit_floor};
 
-use qm_base::Operation;
-use qm_base::update::Update;
+use qm_operations::{Operation, Update};
 use std::alloc::{AllocError, Global};
 
 /// The floor of the commit that the bytes spell, if they spell one.

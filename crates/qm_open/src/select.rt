@@ -12,8 +12,8 @@ ghost use Rattle.qm_open.specs.Selecting.{bits_of, content_refusal, floor_told, 
 
 use crate::item::commit_floor_in;
 use crate::pruned::{Pruned, bits_in, is_past, is_too_short};
-use qm_base::update::Update;
 use qm_base::{Corrupt, Error, JournalError};
+use qm_operations::Update;
 use qm_store::Store;
 use std::alloc::Global;
 

@@ -1,7 +1,7 @@
 //! Reads of a bucket: the pairs of the updates in a range, by key.
 
 ghost use Rattle.std.specs.Prelude.{◌≡◌, ◌≢◌, ◌≤◌, ℕ, List, [], fold, map, option_map, All, IfSome, IfOk, IfErr, OnOk};
-ghost use Rattle.qm_base.specs.Views.{operation_view};
+ghost use Rattle.qm_operations.specs.Views.{operation_view};
 ghost use Rattle.qm_model.specs.Forms.{IsOf, IsSpelling, spelling};
 ghost use Rattle.qm_model.specs.Operations as model;
 ghost use Rattle.qm_model.specs.Ranges as ranges;
@@ -11,8 +11,8 @@ ghost use Rattle.qm_step.specs.Nearest.{limit_view};
 ghost use Rattle.qm_base.specs.Views.{limit_of, pair_view};
 ghost use Rattle.qm_scan.specs.Gathered.{is_in, only_in, place_among, put_at, put_said};
 
-use qm_base::update::Update;
-use qm_base::{ByteString, Error, Items, JournalError, Location, Operation};
+use qm_base::{ByteString, Error, Items, JournalError, Location};
+use qm_operations::{Operation, Update};
 use qm_step::found::update_in;
 use qm_step::{is_before, is_below};
 use std::alloc::{AllocError, Global};

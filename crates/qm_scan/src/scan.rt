@@ -12,8 +12,8 @@ ghost use Rattle.qm_scan.specs.Gathered.{put_at};
 ghost use Rattle.qm_scan.specs.Scans.{AreNext, BeginsAt, IsStep, IsTaken, beginning, behind, nowhere, behind_first, left_of, place_view, unwrapped};
 
 use crate::gather::{bytes_of, pairs_at};
-use qm_base::update::Update;
 use qm_base::{ByteString, Error, Items, JournalError, Location};
+use qm_operations::Update;
 use qm_step::kind::Steps;
 use std::alloc::{AllocError, Global};
 use std::collections::VecDeque;

@@ -14,7 +14,7 @@ use Rattle.qm_model.specs.Ordered.{rewritten}
 use Rattle.qm_model.proofs.Maps.{same_key}
 use Rattle.qm_model.proofs.KeyOrder.{or-false, or-either, contains-append}
 use Rattle.qm_model.proofs.OrderedLists.{contains-once}
-use Rattle.qm_base.specs.Parts.{key_of, value_of}
+use Rattle.qm_operations.specs.Parts.{key_of, value_of}
 use Rattle.qm_step.specs.Changes.{located, place_in, update_of}
 use Rattle.qm_step.specs.Rings.{touch_in}
 use Rattle.qm_step.specs.Touches.{Touch}

@@ -12,7 +12,7 @@ use Rattle.qm_model.proofs.LastWrites.{bytes_same}
 use Rattle.qm_model.proofs.KeyOrder.{Has, Has-first, Has-later, Has-either, successor-is, predecessor-is}
 use Rattle.qm_model.proofs.OrderedLists.{Each-both, live-contains, some-map, Single}
 use Rattle.qm_index.proofs.Basics.{bytes-turned}
-use Rattle.qm_base.specs.Parts.{key_of}
+use Rattle.qm_operations.specs.Parts.{key_of}
 use Rattle.qm_step.specs.Changes.{located, next_in, update_of}
 use Rattle.qm_step.specs.Rings.{previous_of, touch_in, linked_in, is_changed, neighbour_in}
 use Rattle.qm_step.specs.Links.{is_kind, of_kind, keys_of_kind, key_after, named, touch_of, after_of, before_of, next_of, Stands, IsStanding}

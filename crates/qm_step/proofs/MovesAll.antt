@@ -10,8 +10,8 @@ use Rattle.std.proofs.lemmas.List.Sums.{length-filter}
 use Rattle.std.proofs.lemmas.List.Elements.{recursion_from_All, All-from_recursion, All-contains, All-contains_itself}
 use Rattle.std.proofs.lemmas.List.Kept.{IsStrictlySortedBy-filter}
 use Rattle.std.proofs.lemmas.Option.{same_Some}
-use Rattle.qm_base.specs.Parts.{key_of}
-use Rattle.qm_base.specs.declared.update.Ordered.{Ordered}
+use Rattle.qm_operations.specs.Parts.{key_of}
+use Rattle.qm_operations.specs.declared.update.Ordered.{Ordered}
 use Rattle.qm_model.specs.Operations.{Bytes, Operation, update}
 use Rattle.qm_model.specs.Live.{Live, live, live_of, live_keys}
 use Rattle.qm_model.specs.Keys.{successor, contains_key, without, by_key}

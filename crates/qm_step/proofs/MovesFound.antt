@@ -2,7 +2,7 @@
 use Rattle.std.proofs.Common.{◌≡◌, ℕ, Bool, true, false, cond, List, [], ◌∷◌, map, refl, ap, sym, ◌∙◌, Option, Some, None, ◌&&◌, inl, inr}
 use Rattle.std.specs.Prelude.{not, filter, filter_map, option_map, option_and_then, is_none, is_some, IfSome, if◌then◌else◌}
 use Rattle.std.specs.List.{cons_option, AllByRecursion as Each}
-use Rattle.qm_base.specs.Parts.{key_of}
+use Rattle.qm_operations.specs.Parts.{key_of}
 use Rattle.qm_model.specs.Operations.{Bytes, Operation}
 use Rattle.qm_model.specs.Live.{Live, live, live_of, live_keys}
 use Rattle.qm_model.specs.Keys.{successor, predecessor, contains_key, without, by_key}

@@ -4,7 +4,7 @@ use Rattle.std.specs.Prelude.{not, filter, bytes_eq, is_some, is_none}
 use Rattle.std.specs.List.{AllByRecursion as Each, IsDistinct}
 use Rattle.std.proofs.lemmas.List.Sums.{sum_by-cons}
 use Rattle.std.proofs.lemmas.List.Elements.{recursion_from_All}
-use Rattle.qm_base.specs.Parts.{is_update, key_of}
+use Rattle.qm_operations.specs.Parts.{is_update, key_of}
 use Rattle.qm_model.specs.Operations.{Bytes, Operation, update, delete, commit}
 use Rattle.qm_model.specs.Live.{Live, live, live_from, live_keys, live_of, touches, touched, value_of}
 use Rattle.qm_model.specs.Writes.{Write, operation_of}

@@ -15,7 +15,7 @@ use Rattle.std.proofs.lemmas.List.{drop_at, take_at}
 use Rattle.std.proofs.lemmas.List.Folds.{list_any-append}
 use Rattle.std.proofs.lemmas.Map.Text.{is_eq-slice_cmp}
 use Rattle.std.proofs.lemmas.Option.{same_Some}
-use Rattle.qm_base.specs.Parts.{is_update, key_of, value_of}
+use Rattle.qm_operations.specs.Parts.{is_update, key_of, value_of}
 use Rattle.qm_model.specs.Operations.{Bytes, Operation, update, delete, commit}
 use Rattle.qm_model.specs.Live.{Live, touches, touched}
 use Rattle.qm_model.proofs.Maps.{same_key}

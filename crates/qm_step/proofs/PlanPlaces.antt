@@ -10,7 +10,7 @@ use Rattle.std.proofs.lemmas.List.Folds.{find-append}
 use Rattle.std.proofs.lemmas.List.Elements.{All-append, All-from_recursion, recursion_from_All, All-contains_itself}
 use Rattle.qm_model.specs.Operations.{Bytes, Operation, update, delete, commit}
 use Rattle.qm_model.specs.Live.{Live, live, live_from, live_of, touched}
-use Rattle.qm_base.specs.Parts.{key_of}
+use Rattle.qm_operations.specs.Parts.{key_of}
 use Rattle.qm_model.specs.Step.{unordered}
 use Rattle.qm_model.specs.Writes.{Write, write_of, last_writes, operation_of, rewrite_of, create_of, unordered_writes}
 use Rattle.qm_model.proofs.LastWrites.{bytes_same, write_of-key}

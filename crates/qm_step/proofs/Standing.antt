@@ -9,7 +9,7 @@ use Rattle.qm_model.proofs.LastWrites.{bytes_same}
 use Rattle.qm_model.proofs.Maps.{same_key}
 use Rattle.qm_model.proofs.Pushes.{Each-weaker}
 use Rattle.qm_step.specs.Changes.{said_by, update_at}
-use Rattle.qm_base.specs.Parts.{is_update}
+use Rattle.qm_operations.specs.Parts.{is_update}
 use Rattle.qm_index.proofs.Basics.{or-later}
 
 Each-option : {X : Type 0} (P : X → Type 0) (o : Option X) (xs : List X) → IfSome o P → Each P xs → Each P (cons_option o xs)

@@ -3,7 +3,7 @@ use Rattle.std.proofs.Common.{◌≡◌, true, List, [], ◌∷◌, map, refl, a
 use Rattle.std.specs.Prelude.{option_and_then, All}
 use Rattle.std.specs.List.{AllByRecursion as Each}
 use Rattle.std.proofs.lemmas.List.Elements.{recursion_from_All}
-use Rattle.qm_base.specs.Parts.{key_of}
+use Rattle.qm_operations.specs.Parts.{key_of}
 use Rattle.qm_model.specs.Operations.{Bytes, Operation, update, delete, commit}
 use Rattle.qm_model.specs.Live.{touches}
 use Rattle.qm_model.specs.Writes.{operation_of}

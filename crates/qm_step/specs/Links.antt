@@ -6,10 +6,10 @@ use Rattle.qm_model.specs.Live.{live}
 use Rattle.qm_model.specs.Keys.{successor, contains_key, without, once}
 use Rattle.qm_model.specs.Writes.{Write, operation_of}
 use Rattle.qm_model.specs.Ordered.{rewritten}
-use Rattle.qm_base.specs.Parts.{key_of}
-use Rattle.qm_base.specs.Views.{operation_view}
-use Rattle.qm_base.specs.declared.operation.Operation as operation
-use Rattle.qm_base.specs.declared.update.Ordered.{Ordered}
+use Rattle.qm_operations.specs.Parts.{key_of}
+use Rattle.qm_operations.specs.Views.{operation_view}
+use Rattle.qm_operations.specs.declared.operation.Operation as operation
+use Rattle.qm_operations.specs.declared.update.Ordered.{Ordered}
 use Rattle.qm_step.specs.Changes.{next_in, update_of}
 use Rattle.qm_step.specs.OrderedViews.{ordered_update, neighbour_view}
 use Rattle.qm_step.specs.Rings.{touch_in}

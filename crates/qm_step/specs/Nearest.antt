@@ -8,7 +8,7 @@ use Rattle.qm_model.specs.Operations.{Bytes, Operation}
 use Rattle.qm_model.specs.Live.{live_keys}
 use Rattle.qm_model.specs.Keys.{key_lt, greatest, predecessor, between}
 use Rattle.qm_model.specs.Ranges.{Limit, included, excluded, unlimited, is_before}
-use Rattle.qm_base.specs.Parts.{key_of}
+use Rattle.qm_operations.specs.Parts.{key_of}
 use Rattle.qm_step.specs.Changes.{update_at, update_of}
 use Rattle.qm_step.specs.Layers.{Layer, nearest_layer, update_by}
 use Rattle.std.specs.Map.{keys_of}

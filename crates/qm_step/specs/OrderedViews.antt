@@ -2,7 +2,7 @@
 use Rattle.std.specs.Prelude.{ℕ, Bool, true, List, map, Option, Some, option_map}
 use Rattle.qm_model.specs.Operations.{Bytes, Operation, update}
 use Rattle.qm_model.specs.Forms.{Form}
-use Rattle.qm_base.specs.declared.update.Ordered.{Ordered}
+use Rattle.qm_operations.specs.declared.update.Ordered.{Ordered}
 use Rattle.qm_step.specs.declared.touch.Touch as declared
 use Rattle.qm_step.specs.declared.neighbour.Neighbour as neighbour
 use Rattle.qm_step.specs.PlanViews.{touch_view}

@@ -7,9 +7,9 @@ use denote.Ref.{Bor}
 use Rattle.qm_model.specs.Operations.{Bytes, Operation, update}
 use Rattle.qm_model.specs.Forms.{Form}
 use Rattle.qm_model.specs.Writes.{Write}
-use Rattle.qm_base.specs.Views.{operation_view}
-use Rattle.qm_base.specs.declared.operation.Operation as operation
-use Rattle.qm_base.specs.declared.update.Unordered.{Unordered}
+use Rattle.qm_operations.specs.Views.{operation_view}
+use Rattle.qm_operations.specs.declared.operation.Operation as operation
+use Rattle.qm_operations.specs.declared.update.Unordered.{Unordered}
 use Rattle.qm_step.specs.declared.touch.Touch as declared
 use Rattle.qm_step.specs.declared.writes.LastWrite as last_write
 use Rattle.qm_step.specs.declared.site.Site as site

@@ -5,7 +5,7 @@ use Rattle.qm_model.specs.Live.{Live, live, live_of, live_keys}
 use Rattle.qm_model.specs.Keys.{predecessor}
 use Rattle.qm_model.specs.Ranges.{span_of}
 use Rattle.qm_model.specs.Writes.{Write}
-use Rattle.qm_base.specs.Parts.{key_of}
+use Rattle.qm_operations.specs.Parts.{key_of}
 use Rattle.qm_step.specs.Changes.{link_in, located, place_in, update_of}
 use Rattle.qm_step.specs.Touches.{Touch}
 

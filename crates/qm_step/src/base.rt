@@ -5,7 +5,7 @@ ghost use Rattle.qm_step.specs.Bases.{base_view};
 
 use crate::layer::Layer;
 use qm_base::Location;
-use qm_base::update::Update;
+use qm_operations::Update;
 use std::rc::Rc;
 
 /// What is known of the list that a batch stands on.

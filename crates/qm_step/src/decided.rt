@@ -5,8 +5,8 @@ ghost use Rattle.qm_step.specs.Going.{touch_for};
 ghost use Rattle.qm_step.specs.PlanViews.{decided_view, decided_views, unordered_touch, unordered_touches};
 
 use crate::touch::Touch;
-use qm_base::update::Unordered;
-use qm_base::{ByteString, Operation, ValueEncoding};
+use qm_base::ByteString;
+use qm_operations::{Operation, Unordered, ValueEncoding};
 use std::alloc::AllocError;
 
 /// What a walk decides of a key: a value to write, or none where the key goes; the key that its live update names, in an

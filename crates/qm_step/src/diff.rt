@@ -8,9 +8,9 @@ ghost use Rattle.qm_step.specs.Touches.{IsFrom, operations_of};
 ghost use Rattle.qm_step.specs.Views.{change_view, changes_view};
 
 use crate::touch::Touch;
-use qm_base::update::Update;
-use qm_base::{ByteString, Location, Operation};
+use qm_base::{ByteString, Location};
 use qm_chain::{Diff, DiffEntry};
+use qm_operations::{Operation, Update};
 use std::alloc::{AllocError, Global};
 use std::collections::BTreeMap;
 

@@ -9,8 +9,8 @@ ghost use Rattle.qm_step.specs.Nearest.{kept, said_key};
 ghost use Rattle.qm_step.specs.Views.{read_view, stands_view};
 
 use crate::order::is_below;
-use qm_base::update::Update;
-use qm_base::{ByteString, Location, Operation};
+use qm_base::{ByteString, Location};
+use qm_operations::{Operation, Update};
 use std::alloc::{AllocError, Global};
 
 /// Where a key's live update stands and, in an ordered database, the key that it names.

@@ -27,8 +27,8 @@ use crate::neighbour::Neighbour;
 use crate::site::Site;
 use crate::touch::Touch;
 use crate::writes::written;
-use qm_base::update::{Ordered, Unordered, Update};
-use qm_base::{ByteString, Location, ValueEncoding};
+use qm_base::{ByteString, Location};
+use qm_operations::{Ordered, Unordered, Update, ValueEncoding};
 use std::alloc::{AllocError, Global};
 
 /// An update of a kind of database over this index. Only here do the kinds differ; all else is over any of them.

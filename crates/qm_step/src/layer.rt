@@ -1,12 +1,11 @@
 //! Kept steps.
 
 ghost use Rattle.std.specs.Prelude.{◌≡◌};
-ghost use Rattle.qm_base.specs.Views.{operation_views};
+ghost use Rattle.qm_operations.specs.Views.{operation_views};
 ghost use Rattle.qm_step.specs.Views.{changes_view};
 
-use qm_base::Operation;
-use qm_base::update::Update;
 use qm_chain::Diff;
+use qm_operations::{Operation, Update};
 use std::marker::Model;
 use std::rc::Rc;
 
@@ -19,7 +18,7 @@ pub struct Layer<F, U: Update> {
 }
 
 impl<F, U: Update> Model for Layer<F, U> {
-    ghost use Rattle.qm_base.specs.Views.{operation_views};
+    ghost use Rattle.qm_operations.specs.Views.{operation_views};
     ghost use Rattle.qm_step.specs.Layers.{Layer};
     ghost use Rattle.qm_step.specs.Views.{changes_view};
 

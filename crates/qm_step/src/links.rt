@@ -17,8 +17,8 @@ use crate::neighbour::Neighbour;
 use crate::site::Site;
 use crate::touch::Touch;
 use crate::writes::LastWrite;
-use qm_base::update::{Ordered, Update};
-use qm_base::{ByteString, Location, Operation, ValueEncoding};
+use qm_base::{ByteString, Location};
+use qm_operations::{Operation, Ordered, Update, ValueEncoding};
 use std::alloc::{AllocError, Global};
 use std::collections::BTreeMap;
 

@@ -9,7 +9,7 @@ ghost use Rattle.qm_step.specs.Rings.{is_changed, linked_in};
 
 use crate::site::Site;
 use qm_base::Location;
-use qm_base::update::Update;
+use qm_operations::Update;
 
 /// A key that is created or deleted, and the live update before it in the base list.
 #[derive(Drop)]

@@ -4,8 +4,7 @@ ghost use Rattle.std.specs.Prelude.{IfOk};
 ghost use Rattle.qm_step.specs.PlanViews.{touch_views};
 ghost use Rattle.qm_step.specs.Touches.{AreReplaced};
 
-use qm_base::Operation;
-use qm_base::update::Update;
+use qm_operations::{Operation, Update};
 use std::alloc::{AllocError, Global};
 use std::collections::BTreeSet;
 

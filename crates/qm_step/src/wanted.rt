@@ -1,7 +1,7 @@
 //! What a batch is to make of keys: writes, and slots of keys that were read.
 
-use qm_base::update::Update;
 use qm_base::{Location, Slot, Write};
+use qm_operations::Update;
 
 /// A key that was read, and what the batch's base list has of it: its live update with its location, or none where it is
 /// not live there. It says so of that list alone, whatever list a database has meanwhile.

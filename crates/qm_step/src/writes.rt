@@ -15,8 +15,8 @@ ghost use Rattle.qm_step.specs.Views.{keys_of, wanted_view, write_view};
 use crate::site::Site;
 use crate::touch::Touch;
 use crate::wanted::{Read, Wanted};
-use qm_base::update::{Unordered, Update};
-use qm_base::{ByteString, Operation, Slot, ValueEncoding, Write};
+use qm_base::{ByteString, Slot, Write};
+use qm_operations::{Operation, Unordered, Update, ValueEncoding};
 use std::alloc::{AllocError, Global};
 use std::collections::BTreeMap;
 

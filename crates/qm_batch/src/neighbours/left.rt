@@ -7,8 +7,8 @@ ghost use Rattle.qm_step.specs.Nearest.{limit_view, last_key, changed_keys, left
 ghost use Rattle.qm_step.specs.Views.{read_view};
 
 use crate::read::{newest, update_from};
-use qm_base::update::Update;
 use qm_base::{ByteString, Error, Location};
+use qm_operations::Update;
 use qm_step::Layer;
 use qm_step::order::{is_before, later};
 use std::alloc::Global;

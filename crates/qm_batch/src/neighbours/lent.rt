@@ -11,8 +11,8 @@ ghost use Rattle.qm_step.specs.Lent.{IsLent, NoneBelow};
 ghost use Rattle.qm_step.specs.Nearest.{lent_before, later_at, limit_view, only_within, said_key};
 ghost use Rattle.qm_step.specs.Views.{read_view};
 
-use qm_base::update::Update;
-use qm_base::{ByteString, Error, Items, JournalError, Location, Operation};
+use qm_base::{ByteString, Error, Items, JournalError, Location};
+use qm_operations::{Operation, Update};
 use qm_step::found::update_in;
 use qm_step::kind::Steps;
 use qm_step::order::is_within;

@@ -11,8 +11,8 @@ ghost use Rattle.qm_step.specs.Rings.{linked_in};
 ghost use Rattle.qm_step.specs.Views.{stands_view, AreReads};
 
 use crate::read::locate;
-use qm_base::update::Update;
 use qm_base::{ByteString, Error, Items, JournalError, Location};
+use qm_operations::Update;
 use qm_step::found::{Stands, stands_of};
 use qm_step::site::Site;
 use qm_step::writes::Last;

@@ -2,8 +2,8 @@
 
 ghost use Rattle.std.specs.Prelude.{◌≡◌, ◌≢◌, true, false, ◌≤◌, ◌<◌, ◌+◌, ◌-◌, ◌^◌, ◌++◌, ◌==◌, ℕ, min, nat_le, List, length, map, All, Option, option_map, slice_get, IfSome, IfOk, IfErr, MatchBool, MatchOption, OnOk, None, Some, option_to_list, is_some, if◌then◌else◌};
 ghost use Rattle.std.specs.List.{list_any};
-ghost use Rattle.qm_base.specs.Parts.{update_key};
-ghost use Rattle.qm_base.specs.Views.{operation_view};
+ghost use Rattle.qm_operations.specs.Parts.{update_key};
+ghost use Rattle.qm_operations.specs.Views.{operation_view};
 ghost use Rattle.qm_chain.specs.Policies.{action_view};
 ghost use Rattle.qm_model.specs.Bits.{bits};
 ghost use Rattle.qm_model.specs.Live.{floor};
@@ -24,10 +24,10 @@ ghost use Rattle.qm_step.specs.Touches.{is_there, moved_touch, operations_of, Ar
 ghost use Rattle.qm_step.specs.Views.{change_view};
 
 use crate::read::{newest, twin_update};
-use qm_base::update::Update;
-use qm_base::{ByteString, Error, Items, JournalError, Location, Operation};
+use qm_base::{ByteString, Error, Items, JournalError, Location};
 use qm_bits::Candidates;
 use qm_chain::{Action, DiffEntry, Entry, Limits, Policy, Walk};
+use qm_operations::{Operation, Update};
 use qm_step::decided::Decided;
 use qm_step::found::{twin_next, update_in};
 use qm_step::touch::Touch;

@@ -3,7 +3,7 @@ use Rattle.std.proofs.lemmas.List.{length-map}
 use Rattle.std.proofs.lemmas.Result.{err_from_is_err_and}
 use Rattle.qm_model.specs.Forms.{IsOf, spelling}
 use Rattle.qm_step.specs.Bases.{IsBase}
-use Rattle.qm_base.specs.Views.{operation_views}
+use Rattle.qm_operations.specs.Views.{operation_views}
 use Rattle.qm_any.specs.Tips.{IsLow}
 use Rattle.qm_any.proofs.Making.{too_long-fresh, too_long-cause, too_long-kept, too_long-size, plan-refused}
 use Rattle.qm_any.proofs.batch.planned.Goals as goal

@@ -1,5 +1,5 @@
 use Rattle.std.proofs.Common.{◌≡◌, ◌∙◌, ◌∷◌, [], ◌++◌, map, ap, ap₂}
-use Rattle.qm_base.specs.Views.{operation_views}
+use Rattle.qm_operations.specs.Views.{operation_views}
 use Rattle.qm_step.specs.Layers.{Layer}
 use Rattle.qm_step.specs.Views.{changes_view}
 use Rattle.qm_any.proofs.batch.resting.Goals as goal

@@ -1,5 +1,5 @@
 use Rattle.std.proofs.Common.{◌≤◌, All, sym, rules, ◌≡◌, ◌∙◌, ◌∷◌, ap, ap₂, subst, refl, take, option_map}
-use Rattle.qm_base.specs.Views.{operation_views}
+use Rattle.qm_operations.specs.Views.{operation_views}
 use Rattle.qm_merkle.specs.Batches.{stops}
 use Rattle.qm_chain.specs.Bounds.{commitment_view}
 use Rattle.qm_step.specs.Layers.{Layer}

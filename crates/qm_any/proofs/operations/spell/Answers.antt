@@ -1,7 +1,7 @@
 use Rattle.std.proofs.Common.{map, sym}
 use Rattle.std.proofs.lemmas.List.{append-nil}
 use Rattle.qm_model.specs.Forms.{IsOf, spelling}
-use Rattle.qm_base.specs.Views.{operation_view}
+use Rattle.qm_operations.specs.Views.{operation_view}
 use Rattle.qm_any.specs.Tips.{IsLow}
 use Rattle.qm_any.proofs.Unapplied.{mapped-behind, all-behind, all-none, all-whole}
 use Rattle.qm_any.proofs.operations.spell.Goals as goal

@@ -1,5 +1,5 @@
 use Rattle.std.proofs.Common.{◌≡◌, ◌++◌, All, take, map}
-use Rattle.qm_base.specs.Views.{operation_views}
+use Rattle.qm_operations.specs.Views.{operation_views}
 use Rattle.qm_model.specs.Forms.{IsOf, spelling}
 use Rattle.qm_any.specs.Tips.{IsLow}
 use Rattle.qm_any.proofs.operations.spell.Given as goal

@@ -2,7 +2,7 @@ use Rattle.std.proofs.Common.{◌≡◌, ◌∙◌, ◌++◌, ◌+◌, ◌-◌, 
 use Rattle.std.specs.Prelude.{is_none, is_some}
 use Rattle.std.proofs.lemmas.List.{length-map}
 use Rattle.qm_model.proofs.Results.{err-then, ok-four, told-one, told-then, told-err}
-use Rattle.qm_base.specs.Parts.{is_update}
+use Rattle.qm_operations.specs.Parts.{is_update}
 use Rattle.qm_model.specs.Live.{floor}
 use Rattle.qm_model.specs.Walk.{walk}
 use Rattle.qm_model.specs.Writes.{made_inactive}

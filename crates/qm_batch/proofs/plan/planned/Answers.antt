@@ -1,7 +1,7 @@
 use Rattle.std.proofs.Common.{◌≡◌, ◌∙◌, ◌+◌, arith, ◌++◌, ◌∷◌, [], length, ap, sym, map, subst, refl, length-append, List, ℕ}
 use Rattle.std.proofs.lemmas.List.{length-map}
 use Rattle.std.specs.Prelude.{option_map, ◌==◌, if◌then◌else◌}
-use Rattle.qm_base.specs.Views.{operation_view}
+use Rattle.qm_operations.specs.Views.{operation_view}
 use Rattle.qm_model.specs.Operations.{Operation, commit}
 use Rattle.qm_model.specs.Step.{committed}
 use Rattle.qm_step.specs.PlanViews.{touch_view, touch_views}

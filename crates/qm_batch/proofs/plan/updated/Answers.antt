@@ -1,6 +1,6 @@
 use Rattle.std.proofs.Common.{◌∙◌, ◌+◌, ap, sym, arith}
-use Rattle.qm_base.specs.Parts.{is_update}
-use Rattle.qm_base.specs.Views.{operation_view}
+use Rattle.qm_operations.specs.Parts.{is_update}
+use Rattle.qm_operations.specs.Views.{operation_view}
 use Rattle.std.proofs.lemmas.List.Sums.{count_by_more_no, count_by_more_yes}
 use Rattle.qm_batch.proofs.plan.updated.Goals as goal
 use Rattle.qm_batch.proofs.plan.updated.Goals.{then-is_update, else-is_update}

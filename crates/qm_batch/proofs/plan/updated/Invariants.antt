@@ -1,6 +1,6 @@
 use Rattle.std.proofs.Common.{◌≡◌, ◌≤◌, take, count_by}
-use Rattle.qm_base.specs.Parts as parts
-use Rattle.qm_base.specs.Views.{operation_view}
+use Rattle.qm_operations.specs.Parts as parts
+use Rattle.qm_operations.specs.Views.{operation_view}
 use Rattle.qm_batch.proofs.plan.updated.Given as goal
 
 abbrev pub invariant-loop-touch : goal.invariant-loop-touch

@@ -3,7 +3,7 @@ use Rattle.std.specs.Prelude.{option_map, option_and_then, slice_get}
 use Rattle.std.proofs.lemmas.Option.{same_Some, slice_get-map, slice_get_past, slice_get_read}
 use Rattle.std.proofs.lemmas.Result.{err_from_is_err_and}
 use Rattle.qm_model.specs.Operations.{Bytes, Operation}
-use Rattle.qm_base.specs.Views.{operation_view}
+use Rattle.qm_operations.specs.Views.{operation_view}
 use Rattle.qm_chain.specs.Diffs.{loc_of}
 use Rattle.qm_chain.specs.declared.diff.DiffEntry.{DiffEntry}
 use Rattle.qm_chain.specs.declared.diff.DiffEntry.TheVariants.{Active, Deleted}

@@ -5,7 +5,7 @@ use Rattle.std.proofs.lemmas.Result.{err_from_is_err_and}
 use Rattle.qm_model.specs.Forms.{spelling}
 use Rattle.std.specs.Prelude.{IfSome, is_none}
 use Rattle.qm_model.proofs.Results.{told-one, told-any, told-both, told-then}
-use Rattle.qm_base.specs.Views.{operation_view}
+use Rattle.qm_operations.specs.Views.{operation_view}
 use Rattle.qm_store.proofs.Stores.{both}
 use Rattle.qm_base.specs.declared.error.Corrupt.TheVariants.{ItemDoesNotDecode}
 use Rattle.qm_base.specs.declared.error.Error.{Error}

@@ -1,7 +1,7 @@
 use Rattle.std.proofs.Common.{◌∙◌, ◌++◌, ◌∷◌, [], ℕ, Vec, Global, ap, sym, subst, None}
 use Rattle.std.specs.Prelude.{bytes_eq}
 use Rattle.qm_model.specs.Live.{touches}
-use Rattle.qm_base.specs.Views.{operation_view}
+use Rattle.qm_operations.specs.Views.{operation_view}
 use Rattle.qm_build.specs.Linked.{AreLinks}
 use Rattle.qm_build.proofs.Linking.{named_by, links-more, links-commit}
 use Rattle.qm_build.proofs.links.put.Goals as goal

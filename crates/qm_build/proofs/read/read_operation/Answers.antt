@@ -2,7 +2,7 @@ use Rattle.std.proofs.Common.{◌∙◌, ap, sym, subst, map, Some}
 use Rattle.qm_model.specs.Forms.{IsSpelling, spelling}
 use Rattle.qm_model.proofs.Forms.{IsSpelling-once}
 use Rattle.qm_model.proofs.Results.{told-one, told-any}
-use Rattle.qm_base.specs.Views.{operation_view}
+use Rattle.qm_operations.specs.Views.{operation_view}
 use Rattle.qm_build.proofs.Reading.{spelled-there}
 use Rattle.qm_build.proofs.Decoding.{each}
 use Rattle.qm_build.proofs.read.read_operation.Goals as goal

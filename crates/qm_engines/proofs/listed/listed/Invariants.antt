@@ -1,6 +1,6 @@
 use Rattle.std.proofs.Common.{◌≡◌, take, map}
 use Rattle.qm_lines.specs.Views.{listed_view}
-use Rattle.qm_base.specs.Views.{operation_views}
+use Rattle.qm_operations.specs.Views.{operation_views}
 use Rattle.qm_engines.proofs.listed.listed.Given as goal
 
 abbrev pub invariant-loop-operation : goal.invariant-loop-operation

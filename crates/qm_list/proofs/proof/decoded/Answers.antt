@@ -1,5 +1,5 @@
 use Rattle.std.proofs.Common.{[], sym, subst, get_or}
-use Rattle.qm_base.specs.Views.{operation_view}
+use Rattle.qm_operations.specs.Views.{operation_view}
 use Rattle.qm_model.specs.Forms.{IsSpelling}
 use Rattle.qm_model.specs.Operations.{delete}
 use Rattle.qm_list.proofs.Telling.{item-spells, decoded-more, decoded-all}

@@ -1,5 +1,5 @@
 use Rattle.std.proofs.Common.{◌≡◌, List, All, map, take}
-use Rattle.qm_base.specs.Views.{operation_views}
+use Rattle.qm_operations.specs.Views.{operation_views}
 use Rattle.qm_model.specs.Forms.{IsOf, spelling}
 use Rattle.qm_model.specs.Operations.{Operation}
 use Rattle.qm_list.proofs.proof.decoded.Given as goal

@@ -4,7 +4,7 @@ use Rattle.std.specs.Cmp.Lexicographic.{slice_cmp}
 use Rattle.std.specs.Ordering.{nat_cmp}
 use Rattle.std.specs.Prelude.{option_map}
 use Rattle.std.proofs.lemmas.Map.Text.{btree_map_updates_str}
-use Rattle.qm_base.specs.Views.{operation_view}
+use Rattle.qm_operations.specs.Views.{operation_view}
 use Rattle.qm_step.specs.PlanViews.{touch_view, noted_view}
 use Rattle.qm_step.proofs.PlanDiffs.{update-parts, noted-update, noted-delete, noted-commit, put-answers}
 use Rattle.qm_step.proofs.PlanLoops.{insert-kept}

@@ -1,7 +1,7 @@
 use Rattle.std.proofs.Common.{◌≡◌, ◌++◌, ◌∙◌, Some, ap, sym, subst}
 use Rattle.std.specs.Prelude.{option_map, option_and_then, option_to_list, IfSome}
 use Rattle.qm_model.specs.Keys.{contains_key, without}
-use Rattle.qm_base.specs.Parts.{key_of}
+use Rattle.qm_operations.specs.Parts.{key_of}
 use Rattle.qm_step.specs.Changes.{update_of}
 use Rattle.qm_step.specs.Links.{keys_in, Stands}
 use Rattle.qm_step.specs.OrderedViews.{ordered_update}

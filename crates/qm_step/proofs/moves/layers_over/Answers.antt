@@ -1,6 +1,6 @@
 use Rattle.std.proofs.Common.{◌∙◌, ◌++◌, ap, sym, subst}
 use Rattle.std.proofs.lemmas.Result.{IfOk-weaker}
-use Rattle.qm_base.specs.Views.{operation_view, operation_views}
+use Rattle.qm_operations.specs.Views.{operation_view, operation_views}
 use Rattle.qm_step.specs.Changes.{AreChanges}
 use Rattle.qm_step.specs.Layers.{Layer, LeadOver}
 use Rattle.qm_step.specs.PlanViews.{touch_view, touch_views}

@@ -1,6 +1,6 @@
 use Rattle.std.proofs.Common.{◌≡◌, ◌∙◌, ap, sym, ℕ, Option, None}
 use Rattle.std.specs.Prelude.{option_map, option_and_then}
-use Rattle.qm_base.specs.Parts as parts
+use Rattle.qm_operations.specs.Parts as parts
 use Rattle.qm_model.specs.Operations.{Bytes, Operation}
 use Rattle.qm_model.specs.Live.{value_of}
 use Rattle.qm_model.specs.Writes.{overwritten, write_of, last_writes}

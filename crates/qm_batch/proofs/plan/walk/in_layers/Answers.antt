@@ -1,7 +1,7 @@
 use Rattle.std.proofs.Common.{◌≡◌, ◌∙◌, ◌-◌, ◌≤◌, ap, ap₂, sym, map, subst}
 use Rattle.std.specs.Prelude.{slice_get}
 use Rattle.std.proofs.lemmas.List.{drop_all}
-use Rattle.qm_base.specs.Views.{operation_view}
+use Rattle.qm_operations.specs.Views.{operation_view}
 use Rattle.qm_step.specs.Layers.{Layer}
 use Rattle.qm_batch.proofs.PlanFinds.{found_in, found-base, found-here, match-shown, match-none, got, got-shown}
 use Rattle.qm_batch.proofs.plan.walk.in_layers.Goals as goal

@@ -2,7 +2,7 @@ use Rattle.std.proofs.Common.{◌∙◌, None, ap, sym, subst, refl, map, inl}
 use Rattle.std.specs.Prelude.{option_map, option_and_then}
 use Rattle.qm_model.specs.Forms.{IsSpelling, spelling}
 use Rattle.qm_model.proofs.Results.{ok-then, told-any, told-one, told-err}
-use Rattle.qm_base.specs.Views.{operation_view}
+use Rattle.qm_operations.specs.Views.{operation_view}
 use Rattle.qm_step.specs.Changes.{said_by}
 use Rattle.qm_batch.proofs.Memory.{memory-error, memory-whole}
 use Rattle.qm_batch.proofs.PlanFinds.{match-some, match-none, standing-none, moved-found, moved-not}

@@ -2,14 +2,13 @@
 
 ghost use Rattle.std.specs.Prelude.{ℕ, ◌≤◌, true, IfSome, ◌≡◌, ◌++◌, ◌<◌, ◌^◌, length, IfOk, OnOk, Option, option_map};
 ghost use Rattle.qm_model.specs.Forms as forms;
-ghost use Rattle.qm_base.specs.Parts as parts;
-ghost use Rattle.qm_base.specs.Views.{operation_view};
-ghost use Rattle.qm_base.specs.Parts.{key_of, floor_of};
+ghost use Rattle.qm_operations.specs.Parts as parts;
+ghost use Rattle.qm_operations.specs.Views.{operation_view};
+ghost use Rattle.qm_operations.specs.Parts.{key_of, floor_of};
 ghost use Rattle.qm_model.specs.Operations as model;
 
-use crate::byte_strings::ByteString;
-use crate::location::Location;
 use crate::update::Update;
+use qm_base::{ByteString, Location};
 use std::alloc::{AllocError, Global};
 
 /// An entry of an operation list: an update, a delete of a key, or a commit with its metadata and floor.
@@ -18,22 +17,6 @@ pub enum Operation<F, U: Update> {
     Update(U),
     Delete(U::Key),
     CommitFloor(Option<U::Value>, Location<F>),
-}
-
-/// The number as 4 bytes, the highest first.
-#[tactic(auto, unfolding(qm_model::specs::Operations::four_bytes))]
-pub(crate) fn four_bytes(number: u32) -> [u8; 4]
-    ensures { result ≡ model.four_bytes number }
-{
-    number.to_be_bytes()
-}
-
-/// The number as 8 bytes, the highest first.
-#[tactic(auto, unfolding(qm_model::specs::Operations::eight_bytes))]
-pub fn eight_bytes(number: u64) -> [u8; 8]
-    ensures { result ≡ model.eight_bytes number }
-{
-    number.to_be_bytes()
 }
 
 /// The size of keys, where it is fixed.

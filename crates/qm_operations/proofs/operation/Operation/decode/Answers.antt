@@ -1,8 +1,8 @@
 -- What the decoder finds is the operation that the bytes spell.
 use Rattle.std.proofs.Common.{arith}
-use Rattle.qm_base.specs.Views.{operation_view}
+use Rattle.qm_operations.specs.Views.{operation_view}
 use Rattle.qm_model.proofs.Forms.{found_spelling, found_none}
-use Rattle.qm_base.proofs.operation.Operation.decode.Goals as goal
+use Rattle.qm_operations.proofs.operation.Operation.decode.Goals as goal
 
 pub returns-clause-some : goal.returns-clause-some
 returns-clause-some g c =

@@ -3,14 +3,13 @@
 ghost use Rattle.std.specs.Prelude.{◌≡◌, ◌<◌, ◌≤◌, ◌^◌, true, length, is_some, IfOk, IfNone, IfSome, option_map};
 ghost use Rattle.qm_model.specs.Forms as model;
 ghost use Rattle.qm_model.specs.Forms.{IsKey, IsValue, IsSpelling};
-ghost use Rattle.qm_base.specs.Parts as parts;
-ghost use Rattle.qm_base.specs.Parts.{update_key};
-ghost use Rattle.qm_base.specs.Views.{operation_view};
+ghost use Rattle.qm_operations.specs.Parts as parts;
+ghost use Rattle.qm_operations.specs.Parts.{update_key};
+ghost use Rattle.qm_operations.specs.Views.{operation_view};
 
-use crate::byte_strings::ByteString;
-use crate::location::Location;
 use crate::operation::{Operation, key_size, longest, value_size};
 use crate::update::Update;
+use qm_base::{ByteString, Location};
 use std::alloc::{AllocError, Global};
 
 impl<F, U: Update> Operation<F, U> {

@@ -1,12 +1,12 @@
 //! What an update says, in each kind of database.
 
 ghost use Rattle.std.specs.Prelude.{◌≡◌, ◌^◌, ◌<◌, ℕ, List, Bool, Some, None, option_map, is_some, refl, true, false, length, IfOk};
-ghost use Rattle.qm_base.specs.Parts.{is_update, key_of, value_of};
+ghost use Rattle.qm_operations.specs.Parts.{is_update, key_of, value_of};
 ghost use Rattle.qm_model.specs.Forms.{Form, IsOf, IsKey, IsValue};
 ghost use Rattle.qm_model.specs.Operations as model;
 
-use crate::byte_strings::ByteString;
 use crate::encoding::ValueEncoding;
+use qm_base::ByteString;
 use std::alloc::{AllocError, Global};
 
 /// What an update says: a key, its value and, in an ordered database, the next key.

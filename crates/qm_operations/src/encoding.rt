@@ -3,7 +3,7 @@
 ghost use Rattle.std.specs.Prelude.{◌≡◌, ◌<◌, ◌^◌, ℕ, List, length, true, Option, Some, None};
 ghost use Rattle.qm_model.specs.Forms.{IsSized, key_size, value_size};
 
-use crate::byte_strings::{ByteString, FixedValue, Sized32, VariableValue};
+use qm_base::{ByteString, FixedValue, Sized32, VariableValue};
 use std::marker::PhantomData;
 
 /// How operations over keys of this type are spelled, and their values.

@@ -5,14 +5,13 @@ ghost use Rattle.std.specs.Prelude.{◌≡◌, ◌<◌, ◌^◌, List, ℕ, ◌-
 ghost use Rattle.qm_model.specs.Forms as forms;
 ghost use Rattle.qm_model.specs.Operations as model;
 
-use crate::byte_strings::ByteString;
-use crate::digest::{Hasher, Spelled};
-use crate::operation::{Operation, eight_bytes, four_bytes, key_size, longest, value_size};
+use crate::operation::{Operation, key_size, longest, value_size};
 use crate::update::Update;
+use qm_base::{ByteString, Hasher, Spelled, eight_bytes, four_bytes};
 
 impl<F, U: Update> Spelled for Operation<F, U> {
     ghost use Rattle.qm_model.specs.Forms.{spelling};
-    ghost use Rattle.qm_base.specs.Views.{operation_view};
+    ghost use Rattle.qm_operations.specs.Views.{operation_view};
 
     ghost spelling = { λ o. spelling U.form (operation_view U.view U.Key.bytes U.Value.bytes o) };
 
