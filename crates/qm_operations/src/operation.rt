@@ -8,7 +8,7 @@ ghost use Rattle.qm_operations.specs.Parts.{key_of, floor_of};
 ghost use Rattle.qm_model.specs.Operations as model;
 
 use crate::update::Update;
-use qm_base::{ByteString, Location};
+use qm_base::{ByteString, Location, eight_bytes, four_bytes};
 use std::alloc::{AllocError, Global};
 
 /// An entry of an operation list: an update, a delete of a key, or a commit with its metadata and floor.
