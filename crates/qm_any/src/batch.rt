@@ -339,7 +339,7 @@ impl<F: Family, D: Digest, U: Update> MerkleizedBatch<F, D, U> {
     }
 
     /// Where the batch's own operations begin, and these.
-    pub fn operations(&self) -> (Location<F>, &[qm_base::Operation<F, U>])
+    pub fn operations(&self) -> (Location<F>, &[qm_operations::Operation<F, U>])
         ensures base { result.0 ≡ self.now.bounds.base.size }
         ensures own { (hashing : Hashing D) (chain : Chain) (tip : List Operation) → IsMade hashing self.now chain tip → operation_views U.view U.Key.bytes U.Value.bytes result.1.now ≡ own_operations chain tip }
         ensures count { result.0 + length result.1.now ≡ self.now.bounds.tip.size }
