@@ -7,6 +7,8 @@ use Rattle.qm_model.specs.Trees.{Shape}
 use Rattle.qm_merkle.specs.Mems.{Kept, Stands}
 use Rattle.qm_model.specs.Causes.{IsCause}
 use Rattle.qm_model.specs.StoreModel.{Stored, end_of, appended, rewound, pruned, Becomes}
+use Rattle.qm_base.specs.declared.error.Corrupt.{Corrupt}
+use Rattle.qm_base.specs.declared.error.Error.{Error}
 use Rattle.qm_base.specs.declared.error.Error.TheVariants as errors
 use Rattle.qm_base.specs.declared.error.JournalError.TheVariants as journal
 use Rattle.qm_store.specs.declared.Store as store
@@ -17,6 +19,36 @@ use Rattle.qm_store.specs.declared.log.LogRefusal.{LogRefusal}
 use Rattle.qm_store.proofs.Leaves.{length-digests_from}
 use Rattle.qm_store.proofs.Shown.{part_read}
 use Rattle.qm_store.specs.Log.{Log, IsLog, IsKept, HasGrown, IsRefused, digests_from, log_error}
+
+-- what holds of all that may be told
+pub any-told : {X : Type 0} (o : Option X) {P : X → Type 0} → ((x : X) → P x) → IfSome o P
+any-told None all = tt
+any-told (Some x) all = all x
+
+-- why a store's call failed, as an error of databases
+failed-store : (e : StoreError) → log_error e ≡ errors.Journal journal.Store → e ≡ stores.Failed
+failed-store stores.Memory fault = absurd cc
+failed-store stores.Failed fault = refl
+
+pub of-store : (e : StoreError) {X : Type 0} → (log_error e ≡ errors.Memory) ⊎ ((log_error e ≡ errors.Journal journal.Store) ⊎ X)
+of-store stores.Memory = inl refl
+of-store stores.Failed = inr (inl refl)
+
+pub never-corrupt : (e : StoreError) (x : Corrupt) → log_error e ≡ errors.DataCorrupted x → ⊥
+never-corrupt stores.Memory x is = cc
+never-corrupt stores.Failed x is = cc
+
+-- a fault that a call hands on is one of the store's call
+pub handed-on : {T U : Type 0} (before now : ℕ) (done : Result T StoreError) (e : StoreError) (made : Result U Error) → done ≡ Err e → made ≡ Err (log_error e) →
+    IsCause before now (IsErrOf done stores.Failed) → IsCause before now (IsErrOf made (errors.Journal journal.Store))
+handed-on before now done e made was is cause = record {
+  later = cause.later;
+  failed = λ fault. let same : log_error e ≡ errors.Journal journal.Store = cc in cause.failed (was ∙ ap Err (failed-store e same));
+}
+
+-- want of memory is no fault
+pub no-fault : {U : Type 0} (before now : ℕ) (made : Result U Error) (y : Error) → made ≡ Err y → y ≡ errors.Memory → before ≤ now → IsCause before now (IsErrOf made (errors.Journal journal.Store))
+no-fault before now made y is memory later = record { later = later; failed = λ fault. absurd cc }
 
 -- what holds of both
 pub both : {X : Type 0} (o : Option X) {P Q R : X → Type 0} → IfSome o P → IfSome o Q → ((x : X) → P x → Q x → R x) → IfSome o R
@@ -56,13 +88,9 @@ refused-store members Left old new error left cause = record {
   never = elim error as (λ e. (log_error e ≡ errors.Memory) ⊎ (log_error e ≡ errors.Journal journal.Store)) [ stores.Memory ↦ inl refl | stores.Failed ↦ inr refl ];
   cause = record {
     later = cause.later;
-    failed = λ fault. cause.failed (ap Err (failed error fault));
+    failed = λ fault. cause.failed (ap Err (failed-store error fault));
   };
 }
-  where
-    failed : (e : StoreError) → log_error e ≡ errors.Journal journal.Store → e ≡ stores.Failed
-    failed stores.Memory fault = absurd cc
-    failed stores.Failed fault = refl
 
 -- a log over a store that was called, where the call failed
 pub refused-after : {C D X : Type 0} (members : store.Ghosts C) (Left : C → C → Type 0) (old : Log C D) (new : C) (done : Result ⊤ StoreError) (made : Result X (LogRefusal (Log C D) C)) →

@@ -1,8 +1,10 @@
-use Rattle.std.proofs.Common.{◌≡◌, ◌∙◌, ◌+◌, length, map, ap, arith}
+use Rattle.std.proofs.Common.{◌≡◌, ◌∙◌, ◌+◌, length, map, ap, arith, refl, inl, inr, Err}
 use Rattle.std.specs.List.{concat}
 use Rattle.std.proofs.lemmas.Option.{IfSome_then}
+use Rattle.std.proofs.lemmas.Result.{err_from_is_err_and}
 use Rattle.qm_model.specs.Trees.{peaks}
 use Rattle.qm_store.proofs.Trees.{stands-pruned}
+use Rattle.qm_store.proofs.Stores.{any-told, of-store, never-corrupt, handed-on, no-fault}
 use Rattle.qm_store.proofs.log.pruned.Goals as goal
 
 pub returns-clause-stands : goal.returns-clause-stands
@@ -21,3 +23,150 @@ returns-clause-stands g c = λ hash list within.
     (omega (arith, c.bounds-start.ensures.starts, c.bounds-start.ensures.order, c.bounds-start.ensures.limit)) within (ap (λ m. m.start) made ∙ start) (ap (λ m. m.leaves) made ∙ start)
     (ap (λ m. length m.pins) made ∙ c.in_ok-pins.ensures.count ∙ c.peak_count-count.ensures ∙ ap (λ m. length (peaks shape m)) start)
     (ap (λ m. concat (map bytes m.pins)) made ∙ c.in_ok-pins.ensures.spelled ∙ c.deref.ensures.value ∙ is))
+
+pub returns-in_err-head-clause-stands : goal.returns-in_err-head-clause-stands
+returns-in_err-head-clause-stands g c = λ hash list within.
+    let exit = err_from_is_err_and c.from_residual.result c.from_residual.ensures.1 in
+    any-told (g.C.Store.told c.args.store.now) (λ held is. rw exit.1 tt)
+
+pub returns-in_err-head-clause-start : goal.returns-in_err-head-clause-start
+returns-in_err-head-clause-start g c = 
+    let exit = err_from_is_err_and c.from_residual.result c.from_residual.ensures.1 in
+    rw exit.1 tt
+
+pub returns-in_err-head-clause-leaves : goal.returns-in_err-head-clause-leaves
+returns-in_err-head-clause-leaves g c = 
+    let exit = err_from_is_err_and c.from_residual.result c.from_residual.ensures.1 in
+    rw exit.1 tt
+
+pub returns-in_err-head-clause-long : goal.returns-in_err-head-clause-long
+returns-in_err-head-clause-long g c = 
+    let exit = err_from_is_err_and c.from_residual.result c.from_residual.ensures.1 in
+    rw exit.1 tt
+
+pub returns-in_err-head-clause-head : goal.returns-in_err-head-clause-head
+returns-in_err-head-clause-head g c = 
+    let exit = err_from_is_err_and c.from_residual.result c.from_residual.ensures.1 in
+    rw (exit.1, exit.2) (λ is. absurd (never-corrupt c.in_err-head.field-0.0 _ is))
+
+pub returns-in_err-head-clause-never : goal.returns-in_err-head-clause-never
+returns-in_err-head-clause-never g c = 
+    let exit = err_from_is_err_and c.from_residual.result c.from_residual.ensures.1 in
+    rw (exit.1, exit.2) (of-store c.in_err-head.field-0.0)
+
+pub returns-in_err-head-clause-kept : goal.returns-in_err-head-clause-kept
+returns-in_err-head-clause-kept g c = record { start = c.head.ensures.same_start; end = c.head.ensures.same_end; told = c.head.ensures.same }
+
+pub returns-in_err-head-clause-cause : goal.returns-in_err-head-clause-cause
+returns-in_err-head-clause-cause g c = 
+    let exit = err_from_is_err_and c.from_residual.result c.from_residual.ensures.1 in
+    handed-on _ _ c.head.result c.in_err-head.field-0.0 c.from_residual.result c.in_err-head.was (exit.1 ∙ ap Err exit.2) c.head.ensures.cause
+
+pub returns-then-not-is_long-clause-stands : goal.returns-then-not-is_long-clause-stands
+returns-then-not-is_long-clause-stands g c = λ hash list within. any-told (g.C.Store.told c.args.store.now) (λ held is. tt)
+
+pub returns-then-not-is_long-clause-start : goal.returns-then-not-is_long-clause-start
+returns-then-not-is_long-clause-start g c = tt
+
+pub returns-then-not-is_long-clause-leaves : goal.returns-then-not-is_long-clause-leaves
+returns-then-not-is_long-clause-leaves g c = tt
+
+pub returns-then-not-is_long-clause-long : goal.returns-then-not-is_long-clause-long
+returns-then-not-is_long-clause-long g c = tt
+
+pub returns-then-not-is_long-clause-never : goal.returns-then-not-is_long-clause-never
+returns-then-not-is_long-clause-never g c = inr (inr refl)
+
+pub returns-then-not-is_long-clause-kept : goal.returns-then-not-is_long-clause-kept
+returns-then-not-is_long-clause-kept g c = record { start = c.head.ensures.same_start; end = c.head.ensures.same_end; told = c.head.ensures.same }
+
+pub returns-then-not-is_long-clause-cause : goal.returns-then-not-is_long-clause-cause
+returns-then-not-is_long-clause-cause g c = record { later = c.head.ensures.cause.later; failed = λ fault. absurd cc }
+
+pub returns-in_err-pins-clause-stands : goal.returns-in_err-pins-clause-stands
+returns-in_err-pins-clause-stands g c = λ hash list within.
+    let exit = err_from_is_err_and c.from_residual-in_err-pins.result c.from_residual-in_err-pins.ensures.1 in
+    any-told (g.C.Store.told c.args.store.now) (λ held is. rw exit.1 tt)
+
+pub returns-in_err-pins-clause-start : goal.returns-in_err-pins-clause-start
+returns-in_err-pins-clause-start g c = 
+    let exit = err_from_is_err_and c.from_residual-in_err-pins.result c.from_residual-in_err-pins.ensures.1 in
+    rw exit.1 tt
+
+pub returns-in_err-pins-clause-leaves : goal.returns-in_err-pins-clause-leaves
+returns-in_err-pins-clause-leaves g c = 
+    let exit = err_from_is_err_and c.from_residual-in_err-pins.result c.from_residual-in_err-pins.ensures.1 in
+    rw exit.1 tt
+
+pub returns-in_err-pins-clause-long : goal.returns-in_err-pins-clause-long
+returns-in_err-pins-clause-long g c = 
+    let exit = err_from_is_err_and c.from_residual-in_err-pins.result c.from_residual-in_err-pins.ensures.1 in
+    rw exit.1 tt
+
+pub returns-in_err-pins-clause-head : goal.returns-in_err-pins-clause-head
+returns-in_err-pins-clause-head g c = 
+    let exit = err_from_is_err_and c.from_residual-in_err-pins.result c.from_residual-in_err-pins.ensures.1 in
+    rw (exit.1, exit.2) (λ is. absurd cc)
+
+pub returns-in_err-pins-clause-never : goal.returns-in_err-pins-clause-never
+returns-in_err-pins-clause-never g c = 
+    let exit = err_from_is_err_and c.from_residual-in_err-pins.result c.from_residual-in_err-pins.ensures.1 in
+    rw (exit.1, exit.2) (inl refl)
+
+pub returns-in_err-pins-clause-kept : goal.returns-in_err-pins-clause-kept
+returns-in_err-pins-clause-kept g c = record { start = c.head.ensures.same_start; end = c.head.ensures.same_end; told = c.head.ensures.same }
+
+pub returns-in_err-pins-clause-cause : goal.returns-in_err-pins-clause-cause
+returns-in_err-pins-clause-cause g c = 
+    let exit = err_from_is_err_and c.from_residual-in_err-pins.result c.from_residual-in_err-pins.ensures.1 in
+    no-fault _ _ c.from_residual-in_err-pins.result exit.0 exit.1 exit.2 c.head.ensures.cause.later
+
+pub returns-in_err-from_pruned_with_retained-clause-stands : goal.returns-in_err-from_pruned_with_retained-clause-stands
+returns-in_err-from_pruned_with_retained-clause-stands g c = λ hash list within.
+    let exit = err_from_is_err_and c.from_residual-in_err-from_pruned_with_retained.result c.from_residual-in_err-from_pruned_with_retained.ensures.1 in
+    any-told (g.C.Store.told c.args.store.now) (λ held is. rw exit.1 tt)
+
+pub returns-in_err-from_pruned_with_retained-clause-start : goal.returns-in_err-from_pruned_with_retained-clause-start
+returns-in_err-from_pruned_with_retained-clause-start g c = 
+    let exit = err_from_is_err_and c.from_residual-in_err-from_pruned_with_retained.result c.from_residual-in_err-from_pruned_with_retained.ensures.1 in
+    rw exit.1 tt
+
+pub returns-in_err-from_pruned_with_retained-clause-leaves : goal.returns-in_err-from_pruned_with_retained-clause-leaves
+returns-in_err-from_pruned_with_retained-clause-leaves g c = 
+    let exit = err_from_is_err_and c.from_residual-in_err-from_pruned_with_retained.result c.from_residual-in_err-from_pruned_with_retained.ensures.1 in
+    rw exit.1 tt
+
+pub returns-in_err-from_pruned_with_retained-clause-long : goal.returns-in_err-from_pruned_with_retained-clause-long
+returns-in_err-from_pruned_with_retained-clause-long g c = 
+    let exit = err_from_is_err_and c.from_residual-in_err-from_pruned_with_retained.result c.from_residual-in_err-from_pruned_with_retained.ensures.1 in
+    rw exit.1 tt
+
+pub returns-in_err-from_pruned_with_retained-clause-head : goal.returns-in_err-from_pruned_with_retained-clause-head
+returns-in_err-from_pruned_with_retained-clause-head g c = 
+    let exit = err_from_is_err_and c.from_residual-in_err-from_pruned_with_retained.result c.from_residual-in_err-from_pruned_with_retained.ensures.1 in
+    rw (exit.1, exit.2) (λ is. absurd cc)
+
+pub returns-in_err-from_pruned_with_retained-clause-never : goal.returns-in_err-from_pruned_with_retained-clause-never
+returns-in_err-from_pruned_with_retained-clause-never g c = 
+    let exit = err_from_is_err_and c.from_residual-in_err-from_pruned_with_retained.result c.from_residual-in_err-from_pruned_with_retained.ensures.1 in
+    rw (exit.1, exit.2) (inl refl)
+
+pub returns-in_err-from_pruned_with_retained-clause-kept : goal.returns-in_err-from_pruned_with_retained-clause-kept
+returns-in_err-from_pruned_with_retained-clause-kept g c = record { start = c.head.ensures.same_start; end = c.head.ensures.same_end; told = c.head.ensures.same }
+
+pub returns-in_err-from_pruned_with_retained-clause-cause : goal.returns-in_err-from_pruned_with_retained-clause-cause
+returns-in_err-from_pruned_with_retained-clause-cause g c = 
+    let exit = err_from_is_err_and c.from_residual-in_err-from_pruned_with_retained.result c.from_residual-in_err-from_pruned_with_retained.ensures.1 in
+    no-fault _ _ c.from_residual-in_err-from_pruned_with_retained.result exit.0 exit.1 exit.2 c.head.ensures.cause.later
+
+pub returns-clause-head : goal.returns-clause-head
+returns-clause-head g c = tt
+
+pub returns-clause-never : goal.returns-clause-never
+returns-clause-never g c = tt
+
+pub returns-clause-kept : goal.returns-clause-kept
+returns-clause-kept g c = record { start = c.head.ensures.same_start; end = c.head.ensures.same_end; told = c.head.ensures.same }
+
+pub returns-clause-cause : goal.returns-clause-cause
+returns-clause-cause g c = record { later = c.head.ensures.cause.later; failed = λ fault. absurd cc }
