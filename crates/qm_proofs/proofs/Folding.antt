@@ -93,6 +93,20 @@ module _ (hash : Bytes → Bytes) (shape : Shape) (items : List Bytes) (a : ℕ)
       pub first_step : (m n : ℕ) → m ≡ suc n → option_map (folded_onto hash t.0 n) (rows ps t.1) ≡ option_map (folded hash m) (rows qs ds)
       first_step m n one = sym (ap (option_map (folded hash m)) first_of ∙ folded_first t.0 m n (rows ps t.1) one)
 
+  -- no digest, or one, from the right onto one
+  pub none_onto : (qs : List Node) (ds : List Bytes) (x : Bytes) (n : ℕ) → None ≡ option_map (fold_right hash) (rows qs ds) → None ≡ option_map (folded_onto hash x n) (rows qs ds)
+  none_onto qs ds x n = at (rows qs ds)
+    where
+      at : (o : Option (List Bytes)) → None ≡ option_map (fold_right hash) o → None ≡ option_map (folded_onto hash x n) o
+      at None e = refl
+      at (Some out) e = cc
+
+  pub right_onto : (qs : List Node) (ds : List Bytes) (x : Bytes) (n : ℕ) (rest d : Bytes) → n ≡ 0 → 0 < length qs → Some rest ≡ option_map (fold_right hash) (rows qs ds) → d ≡ hash (x ++ rest) → Some d ≡ option_map (folded_onto hash x n) (rows qs ds)
+  right_onto qs ds x n rest d none some is is_d =
+      ap Some is_d ∙ ap (option_map (λ y. hash (x ++ y))) is ∙ sym (folded_before x (rows qs ds) (each qs ds some))
+      ∙ mapped_twice (fold_right hash) (λ rest. x ∷ rest) (folded_onto hash x 0) (λ rest. refl) (rows qs ds)
+      ∙ ap (λ k. option_map (folded_onto hash x k) (rows qs ds)) (sym none)
+
   -- no peak is left
   pub onto_last : (qs : List Node) (ds : List Bytes) (x : Bytes) (n : ℕ) (o : Option Bytes) → length qs ≡ 0 → n ≡ 0 → (length ds ≡ 0 → o ≡ Some x) → (0 < length ds → o ≡ None) → o ≡ option_map (folded_onto hash x n) (rows qs ds)
   onto_last qs ds x n o last none all part = at qs ds last all part ∙ ap (λ k. option_map (folded_onto hash x k) (rows qs ds)) (sym none)
