@@ -54,7 +54,15 @@ needed_apart a b x apart = at x.height x.index apart
     at zero i e = ap (λ t. if t then [] else leaf i ∷ []) e
     at (suc h) i e = ap (λ t. if t then needed a b h (2 * i) ++ needed a b h (2 * i + 1) else record { height = suc h; index = i } ∷ []) e
 
--- and of one that has some of them
+-- nothing of a leaf that is one of them
+pub needed_none : (a b : ℕ) (x : Node) → x.height ≡ 0 → meets a b x ≡ true → needed a b x.height x.index ≡ []
+needed_none a b x low met = at x.height x.index low met
+  where
+    at : (h i : ℕ) → h ≡ 0 → meets a b (record { height = h; index = i }) ≡ true → needed a b h i ≡ []
+    at zero i low e = ap (λ t. if t then [] else leaf i ∷ []) e
+    at (suc h) i low e = absurd (omega arith)
+
+-- and of a higher one that has some of them
 pub needed_halves : (a b : ℕ) (x l r : Node) → 0 < x.height → meets a b x ≡ true → l ≡ left_of x → r ≡ right_of x → needed a b x.height x.index ≡ needed a b l.height l.index ++ needed a b r.height r.index
 needed_halves a b x l r high met left right =
     at x.height x.index high met

@@ -41,7 +41,7 @@ returns-in_err-digest g t c =
     let p = c.peak-peak.result in
     let ds = map g.D.Digest.bytes (drop c.args.used c.args.self.now.digests.items) in
     rw c.from_residual-in_err-digest.ensures
-    (none_behind hash shape items c.args.start (drop k (peaks shape n)) p (drop (k + 1) (peaks shape n)) ds (left g _ n k p c.new-leaves.ensures c.peak-peak.ensures)
+    (none_behind hash shape items c.args.start (drop k (peaks shape n)) p (drop (k + 1) (peaks shape n)) ds (left g c.new-leaves.result n k p c.new-leaves.ensures c.peak-peak.ensures)
     (folded_onto hash (g.D.Digest.bytes c.args.folded) (c.args.self.now.inactive_peaks - k)) c.in_err-digest.ensures.digest)
 
 pub returns : goal.returns
@@ -55,7 +55,7 @@ returns g t c =
     let digests = c.args.self.now.digests.items in
     let ds = map g.D.Digest.bytes (drop c.args.used digests) in
     c.fold_onto.ensures
-    ∙ onto_step hash shape items c.args.start (drop k (peaks shape n)) p (drop (k + 1) (peaks shape n)) ds (left g _ n k p c.new-leaves.ensures c.peak-peak.ensures)
+    ∙ onto_step hash shape items c.args.start (drop k (peaks shape n)) p (drop (k + 1) (peaks shape n)) ds (left g c.new-leaves.result n k p c.new-leaves.ensures c.peak-peak.ensures)
     (g.D.Digest.bytes c.in_ok-digest.digest, map g.D.Digest.bytes (drop c.in_ok-digest.used digests)) c.in_ok-digest.ensures.digest
     (g.D.Digest.bytes c.args.folded) (g.D.Digest.bytes c.pair_digest-folded.result) (c.args.self.now.inactive_peaks - k) (c.args.self.now.inactive_peaks - (k + 1))
     (omega (arith, c.requires.number, c.if-number-self.false)) c.pair_digest-folded.ensures.digest

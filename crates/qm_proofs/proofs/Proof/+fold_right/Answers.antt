@@ -21,7 +21,7 @@ returns-in_err-digest g t c =
     let p = c.peak-peak.result in
     let ds = map g.D.Digest.bytes (drop c.args.used c.args.self.now.digests.items) in
     rw c.from_residual.ensures
-    (none_behind hash shape items c.args.start (drop k (peaks shape n)) p (drop (k + 1) (peaks shape n)) ds (left g _ n k p c.new-leaves.ensures c.peak-peak.ensures) (fold_right hash) c.in_err-digest.ensures.digest)
+    (none_behind hash shape items c.args.start (drop k (peaks shape n)) p (drop (k + 1) (peaks shape n)) ds (left g c.new-leaves.result n k p c.new-leaves.ensures c.peak-peak.ensures) (fold_right hash) c.in_err-digest.ensures.digest)
 
 pub returns-then-number-count : goal.returns-then-number-count
 returns-then-number-count g t c =
@@ -34,7 +34,7 @@ returns-then-number-count g t c =
     let digests = c.args.self.now.digests.items in
     let ds = map g.D.Digest.bytes (drop c.args.used digests) in
     let rest = drop c.in_ok-digest.used digests in
-    right_last hash shape items c.args.start (drop k (peaks shape n)) p (drop (k + 1) (peaks shape n)) ds (left g _ n k p c.new-leaves.ensures c.peak-peak.ensures)
+    right_last hash shape items c.args.start (drop k (peaks shape n)) p (drop (k + 1) (peaks shape n)) ds (left g c.new-leaves.result n k p c.new-leaves.ensures c.peak-peak.ensures)
     (g.D.Digest.bytes c.in_ok-digest.digest, map g.D.Digest.bytes rest) c.in_ok-digest.ensures.digest (option_map g.D.Digest.bytes c.all_used.result)
     (omega (arith, length-drop (k + 1) (peaks shape n), c.peak_count-count.ensures, ap (λ m. length (peaks shape m)) c.new-leaves.ensures, c.if-number-count.true))
     (λ all. ap (option_map g.D.Digest.bytes) (c.all_used.ensures.all (omega (arith, all, length-map rest g.D.Digest.bytes, length-drop c.in_ok-digest.used digests, c.in_ok-digest.ensures.used))))
@@ -52,7 +52,7 @@ returns-in_err-rest g t c =
     let ds = map g.D.Digest.bytes (drop c.args.used digests) in
     let more : 0 < length (drop (k + 1) (peaks shape n)) = omega (arith, length-drop (k + 1) (peaks shape n), c.peak_count-count.ensures, ap (λ m. length (peaks shape m)) c.new-leaves.ensures, c.if-number-count.false, c.requires.number) in
     rw c.from_residual-in_err-rest.ensures
-    (right_more hash shape items c.args.start (drop k (peaks shape n)) p (drop (k + 1) (peaks shape n)) ds (left g _ n k p c.new-leaves.ensures c.peak-peak.ensures)
+    (right_more hash shape items c.args.start (drop k (peaks shape n)) p (drop (k + 1) (peaks shape n)) ds (left g c.new-leaves.result n k p c.new-leaves.ensures c.peak-peak.ensures)
     (g.D.Digest.bytes c.in_ok-digest.digest, map g.D.Digest.bytes (drop c.in_ok-digest.used digests)) c.in_ok-digest.ensures.digest None None more c.in_err-rest.ensures refl)
 
 pub returns : goal.returns
@@ -66,7 +66,7 @@ returns g t c =
     let digests = c.args.self.now.digests.items in
     let ds = map g.D.Digest.bytes (drop c.args.used digests) in
     let more : 0 < length (drop (k + 1) (peaks shape n)) = omega (arith, length-drop (k + 1) (peaks shape n), c.peak_count-count.ensures, ap (λ m. length (peaks shape m)) c.new-leaves.ensures, c.if-number-count.false, c.requires.number) in
-    right_more hash shape items c.args.start (drop k (peaks shape n)) p (drop (k + 1) (peaks shape n)) ds (left g _ n k p c.new-leaves.ensures c.peak-peak.ensures)
+    right_more hash shape items c.args.start (drop k (peaks shape n)) p (drop (k + 1) (peaks shape n)) ds (left g c.new-leaves.result n k p c.new-leaves.ensures c.peak-peak.ensures)
     (g.D.Digest.bytes c.in_ok-digest.digest, map g.D.Digest.bytes (drop c.in_ok-digest.used digests)) c.in_ok-digest.ensures.digest
     (Some (g.D.Digest.bytes c.in_ok-rest.rest)) (Some (g.D.Digest.bytes c.pair_digest.result)) more c.in_ok-rest.ensures (ap Some c.pair_digest.ensures.digest)
 
