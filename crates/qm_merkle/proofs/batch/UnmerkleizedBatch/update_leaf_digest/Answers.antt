@@ -1,7 +1,9 @@
-use Rattle.std.proofs.Common.{◌≡◌, ◌∙◌, ◌-◌, ◌<◌, ◌≤◌, length, ap, sym, arith, refl, subst, map, All}
+use Rattle.std.proofs.Common.{◌≡◌, ◌∙◌, ◌-◌, ◌<◌, ◌≤◌, List, ℕ, length, ap, ap₂, sym, arith, refl, subst, map, All, inl, inr}
 use Rattle.std.specs.Prelude.{slice_set}
+use Rattle.std.proofs.lemmas.Result.{err_from_is_err_and}
+use Rattle.qm_base.specs.declared.error.MerkleError.TheVariants.{ElementPruned, RangeOutOfBounds}
 use Rattle.qm_merkle.specs.Batches.{Draft, drafted}
-use Rattle.qm_merkle.proofs.Drafting.{All-inserted, drafted-replaced, drafted-added}
+use Rattle.qm_merkle.proofs.Drafting.{All-inserted, updated-replaced, updated-added, drafted-replaced, drafted-added}
 use Rattle.qm_merkle.proofs.batch.UnmerkleizedBatch.update_leaf_digest.Goals as goal
 
 pub invariant_of-self : goal.invariant_of-self
@@ -39,3 +41,107 @@ returns-else-get-3-clause-leaf g c leaves count =
     let le : length leaves ≤ c.args.location = omega (arith, c.if-get-3.false, base, count) in
     drafted-added bytes old new c.args.location c.args.digest leaves refl le (ap (λ i. slice_set inside.added.items i c.args.digest) at)
     ∙ ap (λ b. slice_set (drafted bytes b leaves) c.args.location (bytes c.args.digest)) c.self.view_is
+
+pub returns-then-get-clause-ok : goal.returns-then-get-clause-ok
+returns-then-get-clause-ok g c = tt
+
+pub returns-then-get-clause-leaf : goal.returns-then-get-clause-leaf
+returns-then-get-clause-leaf g c = λ leaves count. tt
+
+pub returns-then-get-clause-range : goal.returns-then-get-clause-range
+returns-then-get-clause-range g c = tt
+
+pub returns-then-get-clause-cause : goal.returns-then-get-clause-cause
+returns-then-get-clause-cause g c = inr (inl (omega (arith, c.if-get.true, c.get.ensures, c.get-2.ensures, ap (λ b. b.start) c.self.view_is), ap ElementPruned (c.get-then-get.ensures ∙ c.location_to_position-position.ensures.place)))
+
+pub returns-then-get-clause-memory : goal.returns-then-get-clause-memory
+returns-then-get-clause-memory g c = λ from within. absurd (omega (arith, from, c.if-get.true, c.get.ensures, c.get-2.ensures, ap (λ b. b.start) c.self.view_is))
+
+pub returns-then-get-clause-err : goal.returns-then-get-clause-err
+returns-then-get-clause-err g c = refl
+
+pub returns-then-get-2-clause-ok : goal.returns-then-get-2-clause-ok
+returns-then-get-2-clause-ok g c = tt
+
+pub returns-then-get-2-clause-leaf : goal.returns-then-get-2-clause-leaf
+returns-then-get-2-clause-leaf g c = λ leaves count. tt
+
+pub returns-then-get-2-clause-range : goal.returns-then-get-2-clause-range
+returns-then-get-2-clause-range g c = tt
+
+pub returns-then-get-2-clause-cause : goal.returns-then-get-2-clause-cause
+returns-then-get-2-clause-cause g c = inr (inr (omega (arith, c.if-get-2.true, c.get-3.ensures, c.get-4.ensures, c.leaves.ensures), ap RangeOutOfBounds c.get-then-get-2.ensures))
+
+pub returns-then-get-2-clause-memory : goal.returns-then-get-2-clause-memory
+returns-then-get-2-clause-memory g c = λ from within. absurd (omega (arith, within, c.if-get-2.true, c.get-3.ensures, c.get-4.ensures, c.leaves.ensures))
+
+pub returns-then-get-2-clause-err : goal.returns-then-get-2-clause-err
+returns-then-get-2-clause-err g c = refl
+
+pub returns-in_err-replace-clause-ok : goal.returns-in_err-replace-clause-ok
+returns-in_err-replace-clause-ok g c =
+    let exit = err_from_is_err_and c.from_residual.result c.from_residual.ensures.1 in
+    rw exit.1 tt
+
+pub returns-in_err-replace-clause-leaf : goal.returns-in_err-replace-clause-leaf
+returns-in_err-replace-clause-leaf g c = λ leaves count.
+    let exit = err_from_is_err_and c.from_residual.result c.from_residual.ensures.1 in
+    rw exit.1 tt
+
+pub returns-in_err-replace-clause-range : goal.returns-in_err-replace-clause-range
+returns-in_err-replace-clause-range g c =
+    let exit = err_from_is_err_and c.from_residual.result c.from_residual.ensures.1 in
+    rw exit.1 tt
+
+pub returns-in_err-replace-clause-cause : goal.returns-in_err-replace-clause-cause
+returns-in_err-replace-clause-cause g c =
+    let exit = err_from_is_err_and c.from_residual.result c.from_residual.ensures.1 in
+    rw (exit.1, exit.2) (inl refl)
+
+pub returns-in_err-replace-clause-memory : goal.returns-in_err-replace-clause-memory
+returns-in_err-replace-clause-memory g c = λ from within.
+    let exit = err_from_is_err_and c.from_residual.result c.from_residual.ensures.1 in
+    rw (exit.1, exit.2) refl
+
+pub returns-in_err-replace-clause-err : goal.returns-in_err-replace-clause-err
+returns-in_err-replace-clause-err g c =
+    let inside = c.self.inside in
+    let old : Draft g.row.D.Denot = record { start = inside.start; base = inside.base; layers = map (λ r. r.value) inside.layers.items; replaced = inside.replaced.entries; added = inside.added.items } in
+    let exit = err_from_is_err_and c.from_residual.result c.from_residual.ensures.1 in
+    rw exit.1 (ap (λ (es : List (ℕ × g.row.D.Denot)). record old { replaced = es }) c.in_err-replace.ensures.err ∙ c.self.view_is)
+
+pub returns-in_ok-replace-clause-ok : goal.returns-in_ok-replace-clause-ok
+returns-in_ok-replace-clause-ok g c =
+    let inside = c.self.inside in
+    let old : Draft g.row.D.Denot = record { start = inside.start; base = inside.base; layers = map (λ r. r.value) inside.layers.items; replaced = inside.replaced.entries; added = inside.added.items } in
+    updated-replaced old c.args.self.now c.get-then-get-3.result c.args.location c.args.digest c.replace.new.entries.entries c.in_ok-replace.ensures.entries c.get-then-get-3.ensures c.self.view_is (omega (arith, c.get-then-get-3.ensures, c.get-5.ensures, c.get-6.ensures, c.if-get-3.true))
+
+pub returns-in_ok-replace-clause-range : goal.returns-in_ok-replace-clause-range
+returns-in_ok-replace-clause-range g c = (omega (arith, c.if-get.false, c.get.ensures, c.get-2.ensures, ap (λ b. b.start) c.self.view_is), omega (arith, c.if-get-2.false, c.get-3.ensures, c.get-4.ensures, c.leaves.ensures))
+
+pub returns-in_ok-replace-clause-cause : goal.returns-in_ok-replace-clause-cause
+returns-in_ok-replace-clause-cause g c = tt
+
+pub returns-in_ok-replace-clause-memory : goal.returns-in_ok-replace-clause-memory
+returns-in_ok-replace-clause-memory g c = λ from within. tt
+
+pub returns-in_ok-replace-clause-err : goal.returns-in_ok-replace-clause-err
+returns-in_ok-replace-clause-err g c = tt
+
+pub returns-else-get-3-clause-ok : goal.returns-else-get-3-clause-ok
+returns-else-get-3-clause-ok g c =
+    let inside = c.self.inside in
+    let old : Draft g.row.D.Denot = record { start = inside.start; base = inside.base; layers = map (λ r. r.value) inside.layers.items; replaced = inside.replaced.entries; added = inside.added.items } in
+    updated-added old c.args.self.now (c.get-else-get-3.result - c.get-else-get-3-2.result) c.args.location c.args.digest c.self.view_is (omega (arith, c.get-5.ensures, c.get-6.ensures, c.if-get-3.false)) (ap₂ (λ i j. i - j) c.get-else-get-3.ensures c.get-else-get-3-2.ensures)
+
+pub returns-else-get-3-clause-range : goal.returns-else-get-3-clause-range
+returns-else-get-3-clause-range g c = (omega (arith, c.if-get.false, c.get.ensures, c.get-2.ensures, ap (λ b. b.start) c.self.view_is), omega (arith, c.if-get-2.false, c.get-3.ensures, c.get-4.ensures, c.leaves.ensures))
+
+pub returns-else-get-3-clause-cause : goal.returns-else-get-3-clause-cause
+returns-else-get-3-clause-cause g c = tt
+
+pub returns-else-get-3-clause-memory : goal.returns-else-get-3-clause-memory
+returns-else-get-3-clause-memory g c = λ from within. tt
+
+pub returns-else-get-3-clause-err : goal.returns-else-get-3-clause-err
+returns-else-get-3-clause-err g c = tt
