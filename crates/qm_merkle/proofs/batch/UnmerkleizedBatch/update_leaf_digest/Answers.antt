@@ -1,9 +1,13 @@
 use Rattle.std.proofs.Common.{◌≡◌, ◌∙◌, ◌-◌, ◌<◌, ◌≤◌, List, ℕ, length, ap, ap₂, sym, arith, refl, subst, map, All, inl, inr}
-use Rattle.std.specs.Prelude.{slice_set}
+use Rattle.std.specs.Prelude.{slice_set, Err}
+use Rattle.std.specs.Ordering.{nat_cmp}
+use Rattle.std.specs.BTreeMap.{insert_entry}
 use Rattle.std.proofs.lemmas.Result.{err_from_is_err_and}
-use Rattle.qm_base.specs.declared.error.MerkleError.TheVariants.{ElementPruned, RangeOutOfBounds}
+use Rattle.qm_base.specs.declared.error.MerkleError.TheVariants.{Memory, ElementPruned, RangeOutOfBounds}
+use Rattle.qm_base.specs.declared.error.MerkleError.{MerkleError}
 use Rattle.qm_merkle.specs.Batches.{Draft, drafted}
 use Rattle.qm_merkle.proofs.Drafting.{All-inserted, updated-replaced, updated-added, drafted-replaced, drafted-added}
+use Rattle.qm_merkle.proofs.batch.UnmerkleizedBatch.update_leaf_digest.Given
 use Rattle.qm_merkle.proofs.batch.UnmerkleizedBatch.update_leaf_digest.Goals as goal
 
 pub invariant_of-self : goal.invariant_of-self
@@ -11,7 +15,7 @@ invariant_of-self g c =
     let inv = c.self.invariant in (
       inv.0,
       inv.1,
-      subst (All (λ e. e.0 < c.self.inside.base)) (sym c.in_ok-replace.ensures.entries)
+      subst (All (λ e. e.0 < c.self.inside.base)) {x = insert_entry nat_cmp c.self.inside.replaced.entries c.get-then-get-3.result c.args.digest} (sym c.in_ok-replace.ensures.entries)
           (All-inserted (λ n. n < c.self.inside.base) c.self.inside.replaced.entries c.get-then-get-3.result c.args.digest inv.2 (omega (arith, c.get-then-get-3.ensures, c.if-get-3.true))),
       inv.3,
     )
@@ -41,6 +45,9 @@ returns-else-get-3-clause-leaf g c leaves count =
     let le : length leaves ≤ c.args.location = omega (arith, c.if-get-3.false, base, count) in
     drafted-added bytes old new c.args.location c.args.digest leaves refl le (ap (λ i. slice_set inside.added.items i c.args.digest) at)
     ∙ ap (λ b. slice_set (drafted bytes b leaves) c.args.location (bytes c.args.digest)) c.self.view_is
+
+exit : (g : Given.Over) (c : goal.After-from_residual g) → (e : MerkleError) × (c.from_residual.result ≡ Err e) × (e ≡ Memory)
+exit g c = err_from_is_err_and c.from_residual.result c.from_residual.ensures.1
 
 pub returns-then-get-clause-ok : goal.returns-then-get-clause-ok
 returns-then-get-clause-ok g c = tt
@@ -80,35 +87,29 @@ returns-then-get-2-clause-err g c = refl
 
 pub returns-in_err-replace-clause-ok : goal.returns-in_err-replace-clause-ok
 returns-in_err-replace-clause-ok g c =
-    let exit = err_from_is_err_and c.from_residual.result c.from_residual.ensures.1 in
-    rw exit.1 tt
+    rw (exit g c).1 tt
 
 pub returns-in_err-replace-clause-leaf : goal.returns-in_err-replace-clause-leaf
 returns-in_err-replace-clause-leaf g c = λ leaves count.
-    let exit = err_from_is_err_and c.from_residual.result c.from_residual.ensures.1 in
-    rw exit.1 tt
+    rw (exit g c).1 tt
 
 pub returns-in_err-replace-clause-range : goal.returns-in_err-replace-clause-range
 returns-in_err-replace-clause-range g c =
-    let exit = err_from_is_err_and c.from_residual.result c.from_residual.ensures.1 in
-    rw exit.1 tt
+    rw (exit g c).1 tt
 
 pub returns-in_err-replace-clause-cause : goal.returns-in_err-replace-clause-cause
 returns-in_err-replace-clause-cause g c =
-    let exit = err_from_is_err_and c.from_residual.result c.from_residual.ensures.1 in
-    rw (exit.1, exit.2) (inl refl)
+    rw ((exit g c).1, (exit g c).2) (inl refl)
 
 pub returns-in_err-replace-clause-memory : goal.returns-in_err-replace-clause-memory
 returns-in_err-replace-clause-memory g c = λ from within.
-    let exit = err_from_is_err_and c.from_residual.result c.from_residual.ensures.1 in
-    rw (exit.1, exit.2) refl
+    rw ((exit g c).1, (exit g c).2) refl
 
 pub returns-in_err-replace-clause-err : goal.returns-in_err-replace-clause-err
 returns-in_err-replace-clause-err g c =
     let inside = c.self.inside in
     let old : Draft g.row.D.Denot = record { start = inside.start; base = inside.base; layers = map (λ r. r.value) inside.layers.items; replaced = inside.replaced.entries; added = inside.added.items } in
-    let exit = err_from_is_err_and c.from_residual.result c.from_residual.ensures.1 in
-    rw exit.1 (ap (λ (es : List (ℕ × g.row.D.Denot)). record old { replaced = es }) c.in_err-replace.ensures.err ∙ c.self.view_is)
+    rw (exit g c).1 (ap (λ (es : List (ℕ × g.row.D.Denot)). record old { replaced = es }) c.in_err-replace.ensures.err ∙ c.self.view_is)
 
 pub returns-in_ok-replace-clause-ok : goal.returns-in_ok-replace-clause-ok
 returns-in_ok-replace-clause-ok g c =
