@@ -1,9 +1,10 @@
-use Rattle.std.proofs.Common.{◌≡◌, ◌+◌, ◌++◌, ◌<◌, ◌≤◌, ◌∷◌, ◌∙◌, [], ℕ, List, Option, Some, length, arith, ap, sym, ⊎_elim, subst}
+use Rattle.std.proofs.Common.{◌≡◌, ◌+◌, ◌-◌, ◌++◌, ◌<◌, ◌≤◌, ◌∷◌, ◌∙◌, [], ℕ, List, Option, Some, length, arith, ap, sym, ⊎_elim, subst}
 use Rattle.std.specs.Prelude.{slice_get}
 use Rattle.std.proofs.lemmas.Bool.{cases_lt}
 use Rattle.std.proofs.lemmas.List.{length-append}
+use Rattle.std.proofs.lemmas.Result.{err_from_is_err_and}
 use Rattle.qm_model.specs.Trees.{digest_of}
-use Rattle.qm_merkle.specs.Mems.{Gives, AreBorn}
+use Rattle.qm_merkle.specs.Mems.{Gives, AreBorn, more}
 use Rattle.qm_merkle.proofs.Growth.{slice_get-left, slice_get-right}
 use Rattle.qm_merkle.proofs.mem.Mem.births.Goals as goal
 
@@ -49,3 +50,21 @@ loop-number-preserved g c =
       room = omega (arith, c.loop-number.invariant.room, c.push_reserved-in-loop-number.ensures.capacity);
       made = omega (arith, c.parent-digest.ensures.made, c.loop-number.invariant.made, c.loop-number.auto.number);
     }
+
+pub returns-in_err-reserve-clause-count : goal.returns-in_err-reserve-clause-count
+returns-in_err-reserve-clause-count g c = let exit = err_from_is_err_and c.from_residual.result c.from_residual.ensures.1 in rw exit.1 tt
+
+pub returns-in_err-reserve-clause-born : goal.returns-in_err-reserve-clause-born
+returns-in_err-reserve-clause-born g c = λ leaves stands. let exit = err_from_is_err_and c.from_residual.result c.from_residual.ensures.1 in rw exit.1 tt
+
+pub returns-in_err-reserve-clause-made : goal.returns-in_err-reserve-clause-made
+returns-in_err-reserve-clause-made g c = let exit = err_from_is_err_and c.from_residual.result c.from_residual.ensures.1 in rw exit.1 tt
+
+pub push_reserved-requires-in-loop-number : goal.push_reserved-requires-in-loop-number
+push_reserved-requires-in-loop-number g c = omega (arith, c.loop-number.invariant.count, c.loop-number.invariant.room, c.loop-number-test.true, c.birth_count-count.ensures, ap (λ k. g.F.Family.births.count k.leaves) c.self.view_is)
+
+pub returns-clause-born : goal.returns-clause-born
+returns-clause-born g c = c.loop-number.invariant.born
+
+pub returns-clause-made : goal.returns-clause-made
+returns-clause-made g c = c.loop-number.invariant.made ∙ ap (λ n. more c.args.hasher.now (n - 1)) (sym c.loop-number.invariant.count)
