@@ -49,73 +49,51 @@ returns-else-get-3-clause-leaf g c leaves count =
 exit : (g : Given.Over) (c : goal.After-from_residual g) → (e : MerkleError) × (c.from_residual.result ≡ Err e) × (e ≡ Memory)
 exit g c = err_from_is_err_and c.from_residual.result c.from_residual.ensures.1
 
-pub returns-then-get-clause-ok : goal.returns-then-get-clause-ok
-returns-then-get-clause-ok g c = tt
-
-pub returns-then-get-clause-leaf : goal.returns-then-get-clause-leaf
-returns-then-get-clause-leaf g c = λ leaves count. tt
-
-pub returns-then-get-clause-range : goal.returns-then-get-clause-range
-returns-then-get-clause-range g c = tt
-
-pub returns-then-get-clause-cause : goal.returns-then-get-clause-cause
-returns-then-get-clause-cause g c = inr (inl (omega (arith, c.if-get.true, c.get.ensures, c.get-2.ensures, ap (λ b. b.start) c.self.view_is), ap ElementPruned (c.get-then-get.ensures ∙ c.location_to_position-position.ensures.place)))
-
-pub returns-then-get-clause-memory : goal.returns-then-get-clause-memory
-returns-then-get-clause-memory g c = λ from within. absurd (omega (arith, from, c.if-get.true, c.get.ensures, c.get-2.ensures, ap (λ b. b.start) c.self.view_is))
-
-pub returns-then-get-clause-err : goal.returns-then-get-clause-err
-returns-then-get-clause-err g c = refl
-
-pub returns-then-get-2-clause-ok : goal.returns-then-get-2-clause-ok
-returns-then-get-2-clause-ok g c = tt
-
-pub returns-then-get-2-clause-leaf : goal.returns-then-get-2-clause-leaf
-returns-then-get-2-clause-leaf g c = λ leaves count. tt
-
-pub returns-then-get-2-clause-range : goal.returns-then-get-2-clause-range
-returns-then-get-2-clause-range g c = tt
-
-pub returns-then-get-2-clause-cause : goal.returns-then-get-2-clause-cause
-returns-then-get-2-clause-cause g c = inr (inr (omega (arith, c.if-get-2.true, c.get-3.ensures, c.get-4.ensures, c.leaves.ensures), ap RangeOutOfBounds c.get-then-get-2.ensures))
-
-pub returns-then-get-2-clause-memory : goal.returns-then-get-2-clause-memory
-returns-then-get-2-clause-memory g c = λ from within. absurd (omega (arith, within, c.if-get-2.true, c.get-3.ensures, c.get-4.ensures, c.leaves.ensures))
-
-pub returns-then-get-2-clause-err : goal.returns-then-get-2-clause-err
-returns-then-get-2-clause-err g c = refl
-
-pub returns-in_err-replace-clause-ok : goal.returns-in_err-replace-clause-ok
-returns-in_err-replace-clause-ok g c =
-    rw (exit g c).1 tt
-
-pub returns-in_err-replace-clause-leaf : goal.returns-in_err-replace-clause-leaf
-returns-in_err-replace-clause-leaf g c = λ leaves count.
-    rw (exit g c).1 tt
-
-pub returns-in_err-replace-clause-range : goal.returns-in_err-replace-clause-range
-returns-in_err-replace-clause-range g c =
-    rw (exit g c).1 tt
-
-pub returns-in_err-replace-clause-cause : goal.returns-in_err-replace-clause-cause
-returns-in_err-replace-clause-cause g c =
-    rw ((exit g c).1, (exit g c).2) (inl refl)
-
-pub returns-in_err-replace-clause-memory : goal.returns-in_err-replace-clause-memory
-returns-in_err-replace-clause-memory g c = λ from within.
-    rw ((exit g c).1, (exit g c).2) refl
-
-pub returns-in_err-replace-clause-err : goal.returns-in_err-replace-clause-err
-returns-in_err-replace-clause-err g c =
-    let inside = c.self.inside in
-    let old : Draft g.row.D.Denot = record { start = inside.start; base = inside.base; layers = map (λ r. r.value) inside.layers.items; replaced = inside.replaced.entries; added = inside.added.items } in
-    rw (exit g c).1 (ap (λ (es : List (ℕ × g.row.D.Denot)). record old { replaced = es }) c.in_err-replace.ensures.err ∙ c.self.view_is)
-
 pub returns-in_ok-replace-clause-ok : goal.returns-in_ok-replace-clause-ok
 returns-in_ok-replace-clause-ok g c =
     let inside = c.self.inside in
     let old : Draft g.row.D.Denot = record { start = inside.start; base = inside.base; layers = map (λ r. r.value) inside.layers.items; replaced = inside.replaced.entries; added = inside.added.items } in
     updated-replaced old c.args.self.now c.get-then-get-3.result c.args.location c.args.digest c.replace.new.entries.entries c.in_ok-replace.ensures.entries c.get-then-get-3.ensures c.self.view_is (omega (arith, c.get-then-get-3.ensures, c.get-5.ensures, c.get-6.ensures, c.if-get-3.true))
+
+pub returns-else-get-3-clause-ok : goal.returns-else-get-3-clause-ok
+returns-else-get-3-clause-ok g c =
+    let inside = c.self.inside in
+    let old : Draft g.row.D.Denot = record { start = inside.start; base = inside.base; layers = map (λ r. r.value) inside.layers.items; replaced = inside.replaced.entries; added = inside.added.items } in
+    updated-added old c.args.self.now (c.get-else-get-3.result - c.get-else-get-3-2.result) c.args.location c.args.digest c.self.view_is (omega (arith, c.get-5.ensures, c.get-6.ensures, c.if-get-3.false)) (ap₂ (λ i j. i - j) c.get-else-get-3.ensures c.get-else-get-3-2.ensures)
+
+pub returns-then-get : goal.returns-then-get
+returns-then-get g c = record {
+  ok = tt;
+  leaf = λ leaves count. tt;
+  range = tt;
+  cause = inr (inl (omega (arith, c.if-get.true, c.get.ensures, c.get-2.ensures, ap (λ b. b.start) c.self.view_is), ap ElementPruned (c.get-then-get.ensures ∙ c.location_to_position-position.ensures.place)));
+  memory = λ from within. absurd (omega (arith, from, c.if-get.true, c.get.ensures, c.get-2.ensures, ap (λ b. b.start) c.self.view_is));
+  err = refl;
+}
+
+pub returns-then-get-2 : goal.returns-then-get-2
+returns-then-get-2 g c = record {
+  ok = tt;
+  leaf = λ leaves count. tt;
+  range = tt;
+  cause = inr (inr (omega (arith, c.if-get-2.true, c.get-3.ensures, c.get-4.ensures, c.leaves.ensures), ap RangeOutOfBounds c.get-then-get-2.ensures));
+  memory = λ from within. absurd (omega (arith, within, c.if-get-2.true, c.get-3.ensures, c.get-4.ensures, c.leaves.ensures));
+  err = refl;
+}
+
+pub returns-in_err-replace : goal.returns-in_err-replace
+returns-in_err-replace g c = record {
+  ok = rw (exit g c).1 tt;
+  leaf = λ leaves count.
+    rw (exit g c).1 tt;
+  range = rw (exit g c).1 tt;
+  cause = rw ((exit g c).1, (exit g c).2) (inl refl);
+  memory = λ from within.
+    rw ((exit g c).1, (exit g c).2) refl;
+  err = let inside = c.self.inside in
+    let old : Draft g.row.D.Denot = record { start = inside.start; base = inside.base; layers = map (λ r. r.value) inside.layers.items; replaced = inside.replaced.entries; added = inside.added.items } in
+    rw (exit g c).1 (ap (λ (es : List (ℕ × g.row.D.Denot)). record old { replaced = es }) c.in_err-replace.ensures.err ∙ c.self.view_is);
+}
 
 pub returns-in_ok-replace-clause-range : goal.returns-in_ok-replace-clause-range
 returns-in_ok-replace-clause-range g c = (omega (arith, c.if-get.false, c.get.ensures, c.get-2.ensures, ap (λ b. b.start) c.self.view_is), omega (arith, c.if-get-2.false, c.get-3.ensures, c.get-4.ensures, c.leaves.ensures))
@@ -128,12 +106,6 @@ returns-in_ok-replace-clause-memory g c = λ from within. tt
 
 pub returns-in_ok-replace-clause-err : goal.returns-in_ok-replace-clause-err
 returns-in_ok-replace-clause-err g c = tt
-
-pub returns-else-get-3-clause-ok : goal.returns-else-get-3-clause-ok
-returns-else-get-3-clause-ok g c =
-    let inside = c.self.inside in
-    let old : Draft g.row.D.Denot = record { start = inside.start; base = inside.base; layers = map (λ r. r.value) inside.layers.items; replaced = inside.replaced.entries; added = inside.added.items } in
-    updated-added old c.args.self.now (c.get-else-get-3.result - c.get-else-get-3-2.result) c.args.location c.args.digest c.self.view_is (omega (arith, c.get-5.ensures, c.get-6.ensures, c.if-get-3.false)) (ap₂ (λ i j. i - j) c.get-else-get-3.ensures c.get-else-get-3-2.ensures)
 
 pub returns-else-get-3-clause-range : goal.returns-else-get-3-clause-range
 returns-else-get-3-clause-range g c = (omega (arith, c.if-get.false, c.get.ensures, c.get-2.ensures, ap (λ b. b.start) c.self.view_is), omega (arith, c.if-get-2.false, c.get-3.ensures, c.get-4.ensures, c.leaves.ensures))
