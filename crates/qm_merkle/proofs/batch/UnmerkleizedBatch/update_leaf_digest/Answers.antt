@@ -118,3 +118,12 @@ returns-else-get-3-clause-memory g c = λ from within. tt
 
 pub returns-else-get-3-clause-err : goal.returns-else-get-3-clause-err
 returns-else-get-3-clause-err g c = tt
+
+pub location_to_position-position-requires : goal.location_to_position-position-requires
+location_to_position-position-requires g c = omega (arith, c.if-get.true, c.get.ensures, c.get-2.ensures, c.self.invariant.0, c.self.invariant.1)
+
+pub overflow_sub-index : goal.overflow_sub-index
+overflow_sub-index g c = omega (arith, c.if-get-3.false, c.get-5.ensures, c.get-6.ensures, c.get-else-get-3.ensures, c.get-else-get-3-2.ensures)
+
+pub index_mut-requires : goal.index_mut-requires
+index_mut-requires g c = omega (arith, c.if-get-2.false, c.get-3.ensures, c.get-4.ensures, c.leaves.ensures, c.if-get-3.false, c.get-5.ensures, c.get-6.ensures, c.get-else-get-3.ensures, c.get-else-get-3-2.ensures, ap (λ b. b.base) c.self.view_is, ap (λ b. length b.added) c.self.view_is)
