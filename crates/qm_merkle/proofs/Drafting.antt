@@ -1,7 +1,7 @@
 -- What a draft makes of a list and of its nodes.
 use Rattle.std.proofs.Common.{◌≡◌, ◌≢◌, ◌⊎◌, ◌↔◌, ℕ, zero, suc, ◌+◌, ◌-◌, ◌*◌, ◌^◌, ◌<◌, ◌≤◌, true, false, List, [], ◌∷◌, ◌++◌, length, map, get_or, arith, ap, ap₂, sym, ◌∙◌, refl, Option, Some, None, IsSome, IfSome, MatchOption, All, ⊎_elim, inl, inr, subst}
-use Rattle.std.specs.Prelude.{slice_set, is_some}
-use Rattle.std.proofs.lemmas.Bool.{cases_lt}
+use Rattle.std.specs.Prelude.{slice_set, is_some, if◌then◌else◌}
+use Rattle.std.proofs.lemmas.Bool.{cases_lt, lt-ltb, le-ltb}
 use Rattle.std.specs.Option.{unwrap_or, option_map, option_or}
 use Rattle.std.specs.Ordering.{nat_cmp}
 use Rattle.std.specs.BTreeMap.{insert_entry}
@@ -12,7 +12,7 @@ use Rattle.qm_model.specs.Operations.{Bytes}
 use Rattle.qm_model.specs.Trees.{Shape, Node, peaks, peak_positions, node_digest, digest, digest_of}
 use Rattle.qm_model.specs.Families.{Births, IsFamily, HasPeaks, over}
 use Rattle.qm_merkle.specs.Mems.{Kept, IsWhole, Gives, Stands}
-use Rattle.qm_merkle.specs.Batches.{Layer, layer_at, Leads, Draft, found_at, replaced_from, drafted, IsOver, seen_at, made_at, AreThere, AreRead, AreRight, HaveOver}
+use Rattle.qm_merkle.specs.Batches.{Layer, layer_at, Leads, Draft, found_at, replaced_from, drafted, updated, IsOver, seen_at, made_at, AreThere, AreRead, AreRight, HaveOver}
 use Rattle.qm_merkle.proofs.Numbering.{stands_below}
 use Rattle.qm_merkle.proofs.Growth.{digest-append}
 use Rattle.qm_merkle.proofs.Histories.{is_some-other, layer_at-before, layer_added}
@@ -23,6 +23,20 @@ All-inserted P entries n d all here i e lt =
     let next = insert_entry nat_cmp entries n d in
     let keys = All-keys-insert_entry nat_cmp n d P entries (All-map P (λ e. e.0) entries all) here in
     subst P (get_or-map (λ e. e.0) next i e e.0 lt) (keys i e.0 (omega (arith, lt, length-map next (λ e. e.0))))
+
+-- the draft with another digest for a leaf of those before it, and for one of its own
+module _ {D : Type 0} (old now : Draft D) where
+  pub updated-replaced : (place n : ℕ) (d : D) (entries : List (ℕ × D)) → entries ≡ insert_entry nat_cmp old.replaced place d → place ≡ n → old ≡ now → place < old.base → record old { replaced = entries } ≡ updated now n d
+  updated-replaced place n d entries is at same lt =
+      ap (λ (es : List (ℕ × D)). record old { replaced = es }) is
+      ∙ sym (ap (λ t. if t then record old { replaced = insert_entry nat_cmp old.replaced place d } else record old { added = slice_set old.added (place - old.base) d }) (lt-ltb place old.base lt))
+      ∙ ap₂ (λ b m. updated b m d) same at
+
+  pub updated-added : (index n : ℕ) (d : D) → old ≡ now → old.base ≤ n → index ≡ n - old.base → record old { added = slice_set old.added index d } ≡ updated now n d
+  updated-added index n d same le at =
+      ap (λ i. record old { added = slice_set old.added i d }) at
+      ∙ sym (ap (λ t. if t then record old { replaced = insert_entry nat_cmp old.replaced n d } else record old { added = slice_set old.added (n - old.base) d }) (le-ltb n old.base le))
+      ∙ ap (λ b. updated b n d) same
 
 module _ {D : Type 0} (bytes : D → Bytes) where
   pub length-replaced_from : (replaced : List (ℕ × D)) (i : ℕ) (leaves : List Bytes) → length (replaced_from bytes replaced i leaves) ≡ length leaves

@@ -242,12 +242,20 @@ module _ (shape : Shape) {D : Type 0} where
       ap (drop (suc k)) is ∙ since-at value leaves xs k x (omega (arith, ap length is)) at ∙ sym (ap (λ zs. value x ∷ drop (suc (suc k)) zs) is))
       (cases_lt (value y).tree.start leaves)
 
+  -- none of a batch's
+  pub none_since : (leaves : ℕ) (batch : Batch D) → batch.newest.tree.start < leaves → layers_since leaves (all_layers batch) ≡ []
+  none_since leaves batch before = since-past leaves batch.newest batch.older before
+
   -- pins and nodes of a tree of so many leaves, before and after layers are put in
   pub record ArePut (leaves : ℕ) (positions : List ℕ) (size : ℕ) (old_pins old_nodes : List D) (layers : List (Layer D)) (pins nodes : List D) : Type 0 where
     pub pinned : length pins ≡ length old_pins
     pub full : size + length nodes ≡ shape.size (top_of leaves layers)
     pub pins_at : (i p : ℕ) → slice_get positions i ≡ Some p → slice_get pins i ≡ option_or (layers_at shape layers p) (slice_get old_pins i)
     pub nodes_at : (i : ℕ) → slice_get nodes i ≡ option_or (layers_at shape layers (size + i)) (slice_get old_nodes i)
+
+  pub none_put : (leaves : ℕ) (positions : List ℕ) (size : ℕ) (pins nodes : List D) (layers : List (Layer D)) → layers ≡ [] → size + length nodes ≡ shape.size leaves → ArePut leaves positions size pins nodes layers pins nodes
+  none_put leaves positions size pins nodes layers none full =
+      subst (λ ls. ArePut leaves positions size pins nodes ls pins nodes) (sym none) (record { pinned = refl; full = full; pins_at = λ i p at. refl; nodes_at = λ i. refl })
 
   pub one_put : (leaves : ℕ) (positions : List ℕ) (size : ℕ) (old_pins old_nodes : List D) (layers older : List (Layer D)) (layer : Layer D) (pins nodes new_pins new_nodes : List D) → layers ≡ layer ∷ older →
       ArePut leaves positions size old_pins old_nodes older pins nodes → length new_pins ≡ length pins → size + length new_nodes ≡ shape.size layer.tree.leaves →

@@ -1,12 +1,29 @@
 -- The fold of a row of peaks, of which the first are inactive.
-use Rattle.std.proofs.Common.{◌≡◌, ℕ, zero, suc, ◌-◌, ◌<◌, List, [], ◌∷◌, ◌++◌, length, map, take, drop, get_or, arith, ap, ap₂, sym, ◌∙◌, refl}
+use Rattle.std.proofs.Common.{◌≡◌, ℕ, zero, suc, ◌+◌, ◌-◌, ◌<◌, List, [], ◌∷◌, ◌++◌, length, map, take, drop, drop-cons, get_or, arith, ap, ap₂, sym, ◌∙◌, refl}
 use Rattle.qm_model.specs.Operations.{Bytes}
 use Rattle.qm_model.specs.Trees.{fold_left, fold_inactive, fold_right}
-use Rattle.std.proofs.lemmas.List.{take_rest, drop-map, take-map, length-map, length-drop}
+use Rattle.std.proofs.lemmas.List.{take_rest, drop_all, drop-map, take-map, length-map, length-drop}
 
 fold_right-cons : (hash : Bytes → Bytes) (q : Bytes) (xs : List Bytes) → 0 < length xs → fold_right hash (q ∷ xs) ≡ hash (q ++ fold_right hash xs)
 fold_right-cons hash q [] h = absurd (omega arith)
 fold_right-cons hash q (x ∷ xs) h = refl
+
+-- folds from the right: the last digest, and one more before others
+pub fold-last : {D : Type 0} (bytes : D → Bytes) (hash : Bytes → Bytes) (xs : List D) (k : ℕ) (d : D) → suc k ≡ length xs → d ≡ get_or xs k d → bytes d ≡ fold_right hash (map bytes (drop k xs))
+fold-last bytes hash xs k d last is =
+    ap bytes is
+    ∙ ap (λ ys. fold_right hash (map bytes (get_or xs k d ∷ ys))) (sym (drop_all (suc k) xs (omega (arith, last))))
+    ∙ ap (λ ys. fold_right hash (map bytes ys)) (sym (drop-cons xs k d (omega (arith, last))))
+
+pub fold-next : {D : Type 0} (bytes : D → Bytes) (hash : Bytes → Bytes) (xs : List D) (k : ℕ) (d : D) (x y : Bytes) → k + 1 < length xs → d ≡ get_or xs k d → x ≡ fold_right hash (map bytes (drop (k + 1) xs)) → y ≡ hash (bytes d ++ x) →
+    y ≡ fold_right hash (map bytes (drop k xs))
+fold-next bytes hash xs k d x y lt is folded made =
+    let some : 0 < length (map bytes (drop (k + 1) xs)) = omega (arith, lt, length-map (drop (k + 1) xs) bytes, length-drop (k + 1) xs) in
+    let next : k + 1 ≡ suc k = omega arith in
+    made ∙ ap₂ (λ a b. hash (a ++ b)) (ap bytes is) folded
+    ∙ sym (fold_right-cons hash (bytes (get_or xs k d)) (map bytes (drop (k + 1) xs)) some)
+    ∙ ap (λ j. fold_right hash (map bytes (get_or xs k d ∷ drop j xs))) next
+    ∙ ap (λ ys. fold_right hash (map bytes ys)) (sym (drop-cons xs k d (omega (arith, lt))))
 
 pub folded_mid : {D : Type 0} (bytes : D → Bytes) (hash : Bytes → Bytes) (peaks : List D) (j : ℕ) (p : D) → 0 < j → j < length peaks → p ≡ get_or peaks 0 p →
     fold_right hash (fold_inactive hash (take j (map bytes peaks)) ++ drop j (map bytes peaks))

@@ -1,6 +1,7 @@
 -- Rebuilt digests of peaks, and what they fold to.
 use Rattle.std.proofs.Common.{ap₂, ◌≡◌, ℕ, suc, ◌<◌, List, [], ◌∷◌, ◌++◌, length, arith, ap, sym, ◌∙◌, refl, Option, Some, None, take, drop}
-use Rattle.std.specs.Prelude.{◌+◌, ◌^◌, ◌≤◌, ◌&&◌, bytes_eq, option_map, option_and_then}
+use Rattle.std.specs.Prelude.{◌+◌, ◌^◌, ◌≤◌, ◌&&◌, Bool, true, false, nat_le, nat_lt, bytes_eq, option_map, option_and_then}
+use Rattle.std.proofs.lemmas.Bool.{leb-true, ltb-true}
 use Rattle.qm_model.specs.Operations.{Bytes}
 use Rattle.qm_model.specs.Trees.{peaks, root_of, Shape, Node, fold_left, fold_inactive, fold_right}
 use Rattle.qm_model.proofs.MmrPeaks.{test_true}
@@ -93,6 +94,20 @@ module _ (hash : Bytes → Bytes) (shape : Shape) (items : List Bytes) (a : ℕ)
       pub first_step : (m n : ℕ) → m ≡ suc n → option_map (folded_onto hash t.0 n) (rows ps t.1) ≡ option_map (folded hash m) (rows qs ds)
       first_step m n one = sym (ap (option_map (folded hash m)) first_of ∙ folded_first t.0 m n (rows ps t.1) one)
 
+  -- no digest, or one, from the right onto one
+  pub none_onto : (qs : List Node) (ds : List Bytes) (x : Bytes) (n : ℕ) → None ≡ option_map (fold_right hash) (rows qs ds) → None ≡ option_map (folded_onto hash x n) (rows qs ds)
+  none_onto qs ds x n = at (rows qs ds)
+    where
+      at : (o : Option (List Bytes)) → None ≡ option_map (fold_right hash) o → None ≡ option_map (folded_onto hash x n) o
+      at None e = refl
+      at (Some out) e = cc
+
+  pub right_onto : (qs : List Node) (ds : List Bytes) (x : Bytes) (n : ℕ) (rest d : Bytes) → n ≡ 0 → 0 < length qs → Some rest ≡ option_map (fold_right hash) (rows qs ds) → d ≡ hash (x ++ rest) → Some d ≡ option_map (folded_onto hash x n) (rows qs ds)
+  right_onto qs ds x n rest d none some is is_d =
+      ap Some is_d ∙ ap (option_map (λ y. hash (x ++ y))) is ∙ sym (folded_before x (rows qs ds) (each qs ds some))
+      ∙ mapped_twice (fold_right hash) (λ rest. x ∷ rest) (folded_onto hash x 0) (λ rest. refl) (rows qs ds)
+      ∙ ap (λ k. option_map (folded_onto hash x k) (rows qs ds)) (sym none)
+
   -- no peak is left
   pub onto_last : (qs : List Node) (ds : List Bytes) (x : Bytes) (n : ℕ) (o : Option Bytes) → length qs ≡ 0 → n ≡ 0 → (length ds ≡ 0 → o ≡ Some x) → (0 < length ds → o ≡ None) → o ≡ option_map (folded_onto hash x n) (rows qs ds)
   onto_last qs ds x n o last none all part = at qs ds last all part ∙ ap (λ k. option_map (folded_onto hash x k) (rows qs ds)) (sym none)
@@ -114,3 +129,33 @@ module _ (hash : Bytes → Bytes) (shape : Shape) (items : List Bytes) (a : ℕ)
       at : (o : Option (List Bytes)) → Some d ≡ option_map (root_of hash proof.leaves proof.inactive) o → has_root hash shape items a proof expected o ≡ bytes_eq d expected
       at None e = cc
       at (Some out) e = let same : d ≡ root_of hash proof.leaves proof.inactive out = cc in ap (λ x. bytes_eq x expected) (sym same)
+
+  -- it is no where the proof has no root, and where the numbers don't fit
+  pub verdict_none : (proof : Proof) (expected : Bytes) → None ≡ option_map (root_of hash proof.leaves proof.inactive) (rows (peaks shape proof.leaves) proof.digests) → false ≡ verdict hash shape items a proof expected
+  verdict_none proof expected is =
+      none (nat_le proof.leaves (2 ^ 62)) (nat_lt 0 (length items)) (nat_le (a + length items) proof.leaves) (nat_le proof.inactive (length (peaks shape proof.leaves)))
+      (has_root hash shape items a proof expected (rows (peaks shape proof.leaves) proof.digests)) (at (rows (peaks shape proof.leaves) proof.digests) is)
+    where
+      at : (o : Option (List Bytes)) → None ≡ option_map (root_of hash proof.leaves proof.inactive) o → has_root hash shape items a proof expected o ≡ false
+      at None e = refl
+      at (Some out) e = cc
+
+      none : (p q r s t : Bool) → t ≡ false → false ≡ (p && (q && (r && (s && t))))
+      none false q r s t is = refl
+      none true false r s t is = refl
+      none true true false s t is = refl
+      none true true true false t is = refl
+      none true true true true t is = sym is
+
+  pub verdict_unfit : (proof : Proof) (expected : Bytes) → (proof.leaves ≤ 2 ^ 62 → 0 < length items → a + length items ≤ proof.leaves → proof.inactive ≤ length (peaks shape proof.leaves) → ⊥) → false ≡ verdict hash shape items a proof expected
+  verdict_unfit proof expected refuted =
+      unfit (nat_le proof.leaves (2 ^ 62)) (nat_lt 0 (length items)) (nat_le (a + length items) proof.leaves) (nat_le proof.inactive (length (peaks shape proof.leaves)))
+      (has_root hash shape items a proof expected (rows (peaks shape proof.leaves) proof.digests))
+      (λ p q r s. refuted (leb-true proof.leaves (2 ^ 62) p) (ltb-true 0 (length items) q) (leb-true (a + length items) proof.leaves r) (leb-true proof.inactive (length (peaks shape proof.leaves)) s))
+    where
+      unfit : (p q r s t : Bool) → (p ≡ true → q ≡ true → r ≡ true → s ≡ true → ⊥) → false ≡ (p && (q && (r && (s && t))))
+      unfit false q r s t refuted = refl
+      unfit true false r s t refuted = refl
+      unfit true true false s t refuted = refl
+      unfit true true true false t refuted = refl
+      unfit true true true true t refuted = absurd (refuted refl refl refl refl)

@@ -1,12 +1,13 @@
 -- What proofs list and rebuild of a node, by its halves.
 use Rattle.std.proofs.Common.{◌≡◌, ℕ, zero, suc, ◌+◌, ◌-◌, ◌*◌, ◌^◌, ◌<◌, ◌≤◌, Bool, true, false, List, [], ◌∷◌, ◌++◌, length, arith, ap, ap₂, sym, ◌∙◌, Some, None, drop, get_or, map, ⊎_elim}
-use Rattle.std.specs.Prelude.{slice_get, option_map, option_and_then, if◌then◌else◌}
+use Rattle.std.specs.Prelude.{slice_get, slice_index_or, max, min, option_map, option_and_then, if◌then◌else◌}
 use Rattle.std.proofs.Math.Nat.{pow-suc}
-use Rattle.std.proofs.lemmas.Bool.{cases_lt}
-use Rattle.std.proofs.lemmas.List.{length-map}
+use Rattle.std.proofs.lemmas.Bool.{cases_lt, ltb-true}
+use Rattle.std.proofs.lemmas.List.{length-map, get_or-map}
+
 use Rattle.std.proofs.lemmas.Option.{slice_get_within, get_or_from_slice_get}
 use Rattle.qm_model.specs.Operations.{Bytes}
-use Rattle.qm_model.specs.Trees.{Shape, Node, end_of, leaf, peaks, node_digest}
+use Rattle.qm_model.specs.Trees.{Shape, Node, end_of, leaf, peaks, leaf_digest, node_digest}
 use Rattle.qm_model.specs.Families.{Births, IsFamily, HasPeaks}
 use Rattle.qm_model.specs.Proofs.{meets, needed, Taken, taken, rebuilt}
 use Rattle.qm_merkle.specs.Mems.{left_of, right_of}
@@ -53,7 +54,15 @@ needed_apart a b x apart = at x.height x.index apart
     at zero i e = ap (λ t. if t then [] else leaf i ∷ []) e
     at (suc h) i e = ap (λ t. if t then needed a b h (2 * i) ++ needed a b h (2 * i + 1) else record { height = suc h; index = i } ∷ []) e
 
--- and of one that has some of them
+-- nothing of a leaf that is one of them
+pub needed_none : (a b : ℕ) (x : Node) → x.height ≡ 0 → meets a b x ≡ true → needed a b x.height x.index ≡ []
+needed_none a b x low met = at x.height x.index low met
+  where
+    at : (h i : ℕ) → h ≡ 0 → meets a b (record { height = h; index = i }) ≡ true → needed a b h i ≡ []
+    at zero i low e = ap (λ t. if t then [] else leaf i ∷ []) e
+    at (suc h) i low e = absurd (omega arith)
+
+-- and of a higher one that has some of them
 pub needed_halves : (a b : ℕ) (x l r : Node) → 0 < x.height → meets a b x ≡ true → l ≡ left_of x → r ≡ right_of x → needed a b x.height x.index ≡ needed a b l.height l.index ++ needed a b r.height r.index
 needed_halves a b x l r high met left right =
     at x.height x.index high met
@@ -87,6 +96,25 @@ module _ (hash : Bytes → Bytes) (shape : Shape) (items : List Bytes) (a : ℕ)
           ap (λ t. if t then option_and_then (over_left p h (2 * i + 1)) (rebuilt hash shape items a h (2 * i) ds) else taken ds) e
           ∙ ap (λ k. option_and_then (over_left p k (2 * i + 1)) (rebuilt hash shape items a k (2 * i) ds)) same
 
+  -- of a node that has none of the leaves, the first digest that is left
+  pub rebuilt_apart : (x : Node) (ds : List Bytes) → meets a (a + length items) x ≡ false → taken ds ≡ rebuilt hash shape items a x.height x.index ds
+  rebuilt_apart x ds apart = sym (at x.height x.index apart)
+    where
+      at : (h i : ℕ) → meets a (a + length items) (record { height = h; index = i }) ≡ false → rebuilt hash shape items a h i ds ≡ taken ds
+      at zero i e = ap (λ t. if t then Some (leaf_digest hash (shape.position (leaf i)) (slice_index_or items (i - a) []), ds) else taken ds) e
+      at (suc h) i e = ap (λ t. if t then option_and_then (over_left (shape.number (record { height = suc h; index = i })) h (2 * i + 1)) (rebuilt hash shape items a h (2 * i) ds) else taken ds) e
+
+  -- and of a leaf that is one of them, its own
+  pub rebuilt_leaf : (x : Node) (ds : List Bytes) (d : Bytes) → x.height ≡ 0 → meets a (a + length items) x ≡ true → d ≡ leaf_digest hash (shape.position x) (slice_index_or items (x.index - a) []) →
+      ◌≡◌ {A = Taken} (Some (d, ds)) (rebuilt hash shape items a x.height x.index ds)
+  rebuilt_leaf x ds d low met is = sym (at x.height x.index low met is)
+    where
+      at : (h i : ℕ) → h ≡ 0 → meets a (a + length items) (record { height = h; index = i }) ≡ true → d ≡ leaf_digest hash (shape.position (record { height = h; index = i })) (slice_index_or items (i - a) []) → rebuilt hash shape items a h i ds ≡ Some (d, ds)
+      at zero i low met is =
+          ap (λ t. if t then Some (leaf_digest hash (shape.position (leaf i)) (slice_index_or items (i - a) []), ds) else taken ds) met
+          ∙ ap (λ e. Some (e, ds)) (sym is)
+      at (suc h) i low met is = absurd (omega arith)
+
   module _ (x l r : Node) (ds : List Bytes) (high : 0 < x.height) (met : meets a (a + length items) x ≡ true) (left : l ≡ left_of x) (right : r ≡ right_of x) where
     pub no_left : None ≡ rebuilt hash shape items a l.height l.index ds → None ≡ rebuilt hash shape items a x.height x.index ds
     no_left none = sym (rebuilt_halves x l r ds high met left right ∙ ap (option_and_then (over_left (shape.number x) r.height r.index)) (sym none))
@@ -104,8 +132,20 @@ module _ (hash : Bytes → Bytes) (shape : Shape) (items : List Bytes) (a : ℕ)
         ∙ sym (rebuilt_halves x l r ds high met left right ∙ ap (option_and_then (over_left (shape.number x) r.height r.index)) (sym some)
         ∙ ap (option_map (λ t. (node_digest hash (shape.number x) p.0 t.0, t.1))) (sym other))
 
--- a node meets the claimed leaves, where the code found that it does
-pub met : {E : Type 0} (f : E → Bytes) (elements : List E) (s a e : ℕ) (x : Node) (found : Bool) → found ≡ meets s e x → found ≡ true → s ≡ a → e ≡ a + length elements → meets a (a + length (map f elements)) x ≡ true
-met f elements s a e x found is true_is start end =
+-- whether a node meets the claimed leaves is what the code found
+pub met : {E : Type 0} (f : E → Bytes) (elements : List E) (s a e : ℕ) (x : Node) (found : Bool) {told : Bool} → found ≡ meets s e x → found ≡ told → s ≡ a → e ≡ a + length elements → meets a (a + length (map f elements)) x ≡ told
+met f elements s a e x found is told_is start end =
     let long : a + length (map f elements) ≡ e = omega (arith, length-map elements f, end) in
-    ap₂ (λ i j. meets i j x) (sym start) long ∙ sym is ∙ true_is
+    ap₂ (λ i j. meets i j x) (sym start) long ∙ sym is ∙ told_is
+
+-- a leaf that meets leaves is one of them
+pub leaf_within : (a b : ℕ) (x : Node) → x.height ≡ 0 → meets a b x ≡ true → (a ≤ x.index) × (x.index < b)
+leaf_within a b x low met = at x.height x.index low met
+  where
+    at : (h i : ℕ) → h ≡ 0 → meets a b (record { height = h; index = i }) ≡ true → (a ≤ i) × (i < b)
+    at zero i low met = let lt = ltb-true (max a (i * 1)) (min b (suc i * 1)) met in (omega (arith, lt), omega (arith, lt))
+    at (suc h) i low met = absurd (omega arith)
+
+-- an element, mapped
+pub element_at : {E : Type 0} (f : E → Bytes) (elements : List E) (k : ℕ) (e : E) → k < length elements → e ≡ get_or elements k e → f e ≡ slice_index_or (map f elements) k []
+element_at f elements k e lt is = ap f is ∙ sym (get_or-map f elements k e [] lt)

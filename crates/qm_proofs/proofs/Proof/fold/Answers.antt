@@ -25,7 +25,7 @@ returns-in_err-first g c =
     let items = map g.E.Spelled.spelling c.args.elements.now in
     let n = c.args.self.now.leaves in
     rw c.from_residual.ensures
-    (none_behind hash shape items c.args.start (peaks shape n) c.peak-peak.result (drop 1 (peaks shape n)) (map g.D.Digest.bytes c.args.self.now.digests.items) (left g _ n c.peak-peak.result c.new.ensures c.peak-peak.ensures)
+    (none_behind hash shape items c.args.start (peaks shape n) c.peak-peak.result (drop 1 (peaks shape n)) (map g.D.Digest.bytes c.args.self.now.digests.items) (left g c.new.result n c.peak-peak.result c.new.ensures c.peak-peak.ensures)
     (folded hash c.args.self.now.inactive_peaks) c.in_err-first.ensures.digest)
 
 pub returns : goal.returns
@@ -36,5 +36,5 @@ returns g c =
     let n = c.args.self.now.leaves in
     let digests = c.args.self.now.digests.items in
     c.fold_onto.ensures
-    ∙ first_step hash shape items c.args.start (peaks shape n) c.peak-peak.result (drop 1 (peaks shape n)) (map g.D.Digest.bytes digests) (left g _ n c.peak-peak.result c.new.ensures c.peak-peak.ensures)
+    ∙ first_step hash shape items c.args.start (peaks shape n) c.peak-peak.result (drop 1 (peaks shape n)) (map g.D.Digest.bytes digests) (left g c.new.result n c.peak-peak.result c.new.ensures c.peak-peak.ensures)
     (g.D.Digest.bytes c.in_ok-first.first, map g.D.Digest.bytes (drop c.in_ok-first.used digests)) c.in_ok-first.ensures.digest c.args.self.now.inactive_peaks (c.args.self.now.inactive_peaks - 1) (omega (arith, c.if-self-eq0.false))

@@ -1,4 +1,5 @@
-use Rattle.std.proofs.Common.{◌≡◌, ◌⊎◌, ◌∙◌, ℕ, List, length, map, take, drop, true, All, ap, sym, arith, rules, subst, zero, suc, ◌∷◌, []}
+use Rattle.std.proofs.Common.{◌≡◌, ◌⊎◌, ◌∙◌, ℕ, List, length, map, take, drop, true, false, All, ap, sym, arith, rules, subst, zero, suc, ◌∷◌, []}
+use Rattle.std.proofs.lemmas.Bool.{false≢true}
 use Rattle.std.proofs.lemmas.List.{length-map}
 use Rattle.qm_model.specs.Operations.{Bytes}
 use Rattle.qm_model.specs.Trees.{root}
@@ -7,7 +8,7 @@ use Rattle.qm_model.proofs.Speaking.{speaks}
 use Rattle.qm_proofs.specs.Proofs.{proof_view}
 use Rattle.std.specs.Prelude.{bytes_eq}
 use Rattle.qm_merkle.proofs.Numbering.{birth-born}
-use Rattle.qm_proofs.proofs.Folding.{verdict_is}
+use Rattle.qm_proofs.proofs.Folding.{verdict_is, verdict_none, verdict_unfit}
 use Rattle.qm_proofs.proofs.Proof.verify.Goals as goal
 
 -- digests of the proof's type are as long as hashes
@@ -38,3 +39,31 @@ returns-in-Some-clause-speaks g c = λ list inactive few low is yes_is.
     subst (λ n. (take n (drop c.args.start list) ≡ items) ⊎ Collides hash (checked_inputs hash shape items c.args.start proof) (root_inputs hash shape list inactive)) (length-map c.args.elements.now g.E.Spelled.spelling)
     (speaks hash g.D.Digest.SIZE g.met.H.Hasher.sized shape g.F.Family.births g.met.F.Family.numbered g.met.F.Family.peaked born list items c.args.start inactive few low proof
     (all_sized g.D.Digest.bytes g.D.Digest.SIZE g.met.D.Digest.sized c.args.self.now.digests.items) said)
+
+pub returns-then-not-is_about-clause-answer : goal.returns-then-not-is_about-clause-answer
+returns-then-not-is_about-clause-answer g c =
+    let long = length-map c.args.elements.now g.E.Spelled.spelling in
+    verdict_unfit g.H.Hasher.hash g.F.Family.shape (map g.E.Spelled.spelling c.args.elements.now) c.args.start (proof_view g.D.Digest.bytes c.args.self.now) (g.D.Digest.bytes c.args.root.now)
+    (λ few some within inactive. absurd (false≢true (sym c.if-not-is_about.true ∙ c.is_about.ensures.1 (few, omega (arith, some, long), omega (arith, within, long, c.get.ensures), inactive))))
+
+pub returns-then-not-is_about-clause-speaks : goal.returns-then-not-is_about-clause-speaks
+returns-then-not-is_about-clause-speaks g c = λ list inactive few low is yes_is. absurd (false≢true yes_is)
+
+pub root-requires-clause-few : goal.root-requires-clause-few
+root-requires-clause-few g c = (c.is_about.ensures.0 c.if-not-is_about.false).0
+
+pub root-requires-clause-some : goal.root-requires-clause-some
+root-requires-clause-some g c = (c.is_about.ensures.0 c.if-not-is_about.false).1
+
+pub root-requires-clause-within : goal.root-requires-clause-within
+root-requires-clause-within g c = omega (arith, (c.is_about.ensures.0 c.if-not-is_about.false).2, c.get.ensures)
+
+pub root-requires-clause-inactive : goal.root-requires-clause-inactive
+root-requires-clause-inactive g c = (c.is_about.ensures.0 c.if-not-is_about.false).3
+
+pub returns-in-None-clause-answer : goal.returns-in-None-clause-answer
+returns-in-None-clause-answer g c =
+    verdict_none g.H.Hasher.hash g.F.Family.shape (map g.E.Spelled.spelling c.args.elements.now) c.args.start (proof_view g.D.Digest.bytes c.args.self.now) (g.D.Digest.bytes c.args.root.now) c.in-None.ensures
+
+pub returns-in-None-clause-speaks : goal.returns-in-None-clause-speaks
+returns-in-None-clause-speaks g c = λ list inactive few low is yes_is. absurd (false≢true yes_is)

@@ -1,9 +1,10 @@
-use Rattle.std.proofs.Common.{◌≡◌, ◌≤◌, ◌<◌, ◌∙◌, ◌+◌, ◌-◌, ◌∷◌, suc, map, drop, ap, sym, subst, arith}
+use Rattle.std.proofs.Common.{◌≡◌, ◌≤◌, ◌<◌, ◌∙◌, ◌+◌, ◌-◌, ◌∷◌, suc, refl, length, map, take, drop, ap, sym, subst, arith}
 use Rattle.std.specs.Prelude.{slice_get}
 use Rattle.std.specs.Option.{option_or}
+use Rattle.std.proofs.lemmas.List.{drop_all, length-map, length-take}
 use Rattle.qm_merkle.specs.Batches.{all_layers, layers_at, layers_since}
 use Rattle.qm_merkle.proofs.Numbering.{sizes}
-use Rattle.qm_merkle.proofs.Putting.{ArePut, top_of, one_put, none_next, newest_next, older_next}
+use Rattle.qm_merkle.proofs.Putting.{ArePut, none_since, none_put, top_of, one_put, none_next, newest_next, older_next}
 use Rattle.qm_merkle.proofs.batch.MerkleizedBatch.put.Goals as goal
 
 pub put-requires : goal.put-requires
@@ -98,3 +99,27 @@ pub returns-clause-size : goal.returns-clause-size
 returns-clause-size g c =
     let shape = g.F.Family.shape in
     c.put-2.ensures.size ∙ ap (λ l. shape.size l.tree.leaves) c.deref-3.ensures ∙ ap (λ b. shape.size b.newest.tree.leaves) c.self.view_is
+
+pub returns-then-get-clause-length : goal.returns-then-get-clause-length
+returns-then-get-clause-length g c = refl
+
+pub returns-then-get-clause-pins : goal.returns-then-get-clause-pins
+returns-then-get-clause-pins g c = λ i p at.
+    ap (λ ls. option_or (layers_at g.F.Family.shape ls p) (slice_get c.args.pins.now i)) (sym (none_since g.F.Family.shape c.args.leaves c.args.self.now (omega (arith, c.if-get.true, c.get.ensures, c.base.ensures.start, c.get-2.ensures, ap (λ l. l.tree.start) c.deref.ensures, ap (λ b. b.newest.tree.start) c.self.view_is))))
+
+pub returns-then-get-clause-nodes : goal.returns-then-get-clause-nodes
+returns-then-get-clause-nodes g c = λ i.
+    ap (λ ls. option_or (layers_at g.F.Family.shape ls (c.args.size + i)) (slice_get c.args.nodes.now.items i)) (sym (none_since g.F.Family.shape c.args.leaves c.args.self.now (omega (arith, c.if-get.true, c.get.ensures, c.base.ensures.start, c.get-2.ensures, ap (λ l. l.tree.start) c.deref.ensures, ap (λ b. b.newest.tree.start) c.self.view_is))))
+
+pub loop-count-init : goal.loop-count-init
+loop-count-init g c =
+    let all = map (λ r. r.value) c.self.inside.older.items in
+    let layers = layers_since c.args.leaves all in
+    let count = c.count_since-count.result in
+    let since : take count all ≡ layers = ap (λ rs. take count (map (λ r. r.value) rs)) (sym c.deref-2.ensures.value) ∙ c.count_since-count.ensures.since ∙ ap (λ rs. layers_since c.args.leaves (map (λ r. r.value) rs)) c.deref-2.ensures.value in
+    let long : length layers ≡ count = omega (arith, ap length since, length-take count all, length-map c.self.inside.older.items (λ r. r.value), c.count_since-count.ensures.within, ap length c.deref-2.ensures.value) in
+    record {
+      within = omega (arith, long);
+      put = none_put g.F.Family.shape c.args.leaves c.args.positions.now c.args.size c.args.pins.now c.args.nodes.now.items (drop count layers) (drop_all count layers (omega (arith, long))) c.requires.size;
+      capacity = refl;
+    }

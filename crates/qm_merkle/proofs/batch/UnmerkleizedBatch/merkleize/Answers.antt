@@ -1,4 +1,5 @@
 use Rattle.std.proofs.Common.{◌≡◌, ◌↔◌, ◌⊎◌, ◌<◌, ◌∷◌, ◌∙◌, length, ap, sym, subst, arith, map, refl, IsSome}
+use Rattle.std.proofs.lemmas.Result.{err_from_is_err_and}
 use Rattle.qm_model.specs.Trees.{Shape}
 use Rattle.qm_merkle.specs.Mems.{IsWhole}
 use Rattle.qm_merkle.specs.Batches.{Layer, AreLinked, IsOver, Leads, IsHistory, layer_at, drafted}
@@ -87,3 +88,45 @@ pub returns-clause-made : goal.returns-clause-made
 returns-clause-made g c =
     let is = c.in_ok-newest.ensures.ok in
     omega (arith, c.in_ok-replaced.ensures.made, c.in_ok-tree.ensures.made, ap (λ (l : Layer g.row.D.Denot). length l.tree.nodes) is, ap (λ (l : Layer g.row.D.Denot). length l.replaced) is)
+
+pub returns-in_err-replaced : goal.returns-in_err-replaced
+returns-in_err-replaced g c =
+    let exit = err_from_is_err_and c.from_residual.result c.from_residual.ensures.1 in
+    record {
+      start = rw exit.1 tt;
+      base = rw exit.1 tt;
+      leaves = rw exit.1 tt;
+      older = rw exit.1 tt;
+      own = rw exit.1 tt;
+      history = λ list base lists history found stands. rw exit.1 tt;
+      few = λ k high. rw exit.1 tt;
+      made = rw exit.1 tt;
+    }
+
+pub returns-in_err-tree : goal.returns-in_err-tree
+returns-in_err-tree g c =
+    let exit = err_from_is_err_and c.from_residual-in_err-tree.result c.from_residual-in_err-tree.ensures.1 in
+    record {
+      start = rw exit.1 tt;
+      base = rw exit.1 tt;
+      leaves = rw exit.1 tt;
+      older = rw exit.1 tt;
+      own = rw exit.1 tt;
+      history = λ list base lists history found stands. rw exit.1 tt;
+      few = λ k high. rw exit.1 tt;
+      made = rw exit.1 tt;
+    }
+
+pub returns-in_err-newest : goal.returns-in_err-newest
+returns-in_err-newest g c =
+    let exit = err_from_is_err_and c.from_residual-in_err-newest.result c.from_residual-in_err-newest.ensures.1 in
+    record {
+      start = rw exit.1 tt;
+      base = rw exit.1 tt;
+      leaves = rw exit.1 tt;
+      older = rw exit.1 tt;
+      own = rw exit.1 tt;
+      history = λ list base lists history found stands. rw exit.1 tt;
+      few = λ k high. rw exit.1 tt;
+      made = rw exit.1 tt;
+    }

@@ -2,6 +2,7 @@ use Rattle.std.proofs.Common.{◌≡◌, ◌∙◌, ◌<◌, All, Some, ap, arit
 use Rattle.std.specs.Ordering.{nat_cmp}
 use Rattle.std.specs.List.Sorted.{IsStrictlySortedBy}
 use Rattle.std.specs.Map.{keys_of}
+use Rattle.std.proofs.lemmas.Result.{err_from_is_err_and}
 use Rattle.qm_model.specs.Trees.{leaf}
 use Rattle.qm_merkle.specs.Batches.{found_at}
 use Rattle.qm_merkle.proofs.Rows.{taken-start, taken-more, taken-absent, taken-before, taken-over, taken-row, taken-right}
@@ -54,3 +55,30 @@ returns-clause-count g c = omega (arith, c.loop-location.invariant.taken.count, 
 
 pub returns-clause-rows : goal.returns-clause-rows
 returns-clause-rows g c = omega (arith, c.loop-location.invariant.taken.rows, c.loop-location.invariant.taken.count, ap length c.in-None.ensures.steps.0)
+
+pub returns-in_err-row : goal.returns-in_err-row
+returns-in_err-row g c =
+    let exit = err_from_is_err_and c.from_residual.result c.from_residual.ensures.1 in
+    record {
+      few = omega (arith, c.self.invariant.1, ap (λ d. d.base) c.self.view_is);
+      own = rw exit.1 tt;
+      row = rw exit.1 tt;
+      digests = λ bytes hash list count. rw exit.1 tt;
+      count = rw exit.1 tt;
+      rows = rw exit.1 tt;
+    }
+
+pub returns-in_err-replace : goal.returns-in_err-replace
+returns-in_err-replace g c =
+    let exit = err_from_is_err_and c.from_residual-in_err-replace.result c.from_residual-in_err-replace.ensures.1 in
+    record {
+      few = omega (arith, c.self.invariant.1, ap (λ d. d.base) c.self.view_is);
+      own = rw exit.1 tt;
+      row = rw exit.1 tt;
+      digests = λ bytes hash list count. rw exit.1 tt;
+      count = rw exit.1 tt;
+      rows = rw exit.1 tt;
+    }
+
+pub returns-clause-few : goal.returns-clause-few
+returns-clause-few g c = omega (arith, c.self.invariant.1, ap (λ d. d.base) c.self.view_is)

@@ -1,4 +1,5 @@
 use Rattle.std.proofs.Common.{◌≡◌, ◌+◌, ◌-◌, ◌≤◌, length, ap, sym, subst, arith}
+use Rattle.std.proofs.lemmas.Result.{err_from_is_err_and}
 use Rattle.qm_merkle.specs.Batches.{AreOver, IsRow}
 use Rattle.qm_merkle.proofs.Growth.{height_within}
 use Rattle.qm_merkle.proofs.Fewness.{few-start, few-next, few-all}
@@ -52,3 +53,25 @@ returns-clause-few g c = λ k high. few-all (length c.args.self.now.replaced) (l
 
 pub returns-clause-made : goal.returns-clause-made
 returns-clause-made g c = c.loop-height.invariant.made
+
+pub returns-in_err-row : goal.returns-in_err-row
+returns-in_err-row g c =
+    let exit = err_from_is_err_and c.from_residual.result c.from_residual.ensures.1 in
+    record {
+      own = rw exit.1 tt;
+      digests = λ list long read. rw exit.1 tt;
+      count = rw exit.1 tt;
+      few = λ k high. rw exit.1 tt;
+      made = rw exit.1 tt;
+    }
+
+pub returns-in_err-row-2 : goal.returns-in_err-row-2
+returns-in_err-row-2 g c =
+    let exit = err_from_is_err_and c.from_residual-in_err-row-2.result c.from_residual-in_err-row-2.ensures.1 in
+    record {
+      own = rw exit.1 tt;
+      digests = λ list long read. rw exit.1 tt;
+      count = rw exit.1 tt;
+      few = λ k high. rw exit.1 tt;
+      made = rw exit.1 tt;
+    }

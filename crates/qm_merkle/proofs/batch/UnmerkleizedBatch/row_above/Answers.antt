@@ -1,4 +1,5 @@
 use Rattle.std.proofs.Common.{◌≡◌, ◌∙◌, ◌≤◌, ◌^◌, ap, sym, subst, arith, refl, length, ◌≢◌, ℕ, ◌+◌, ◌-◌, Some}
+use Rattle.std.proofs.lemmas.Result.{err_from_is_err_and}
 use Rattle.qm_model.specs.Trees.{Node, end_of}
 use Rattle.qm_merkle.specs.Batches.{found_at, replaced_from, IsOver, AreRight}
 use Rattle.std.specs.Prelude.{is_some}
@@ -118,3 +119,29 @@ returns-clause-none g c = c.loop-index.invariant.none
 
 pub returns-clause-made : goal.returns-clause-made
 returns-clause-made g c = c.loop-index.invariant.made
+
+pub returns-in_err-above : goal.returns-in_err-above
+returns-in_err-above g c =
+    let exit = err_from_is_err_and c.from_residual.result c.from_residual.ensures.1 in
+    record {
+      own = rw exit.1 tt;
+      row = rw exit.1 tt;
+      digests = λ list long read right. rw exit.1 tt;
+      count = rw exit.1 tt;
+      fewer = rw exit.1 tt;
+      none = λ high. rw exit.1 tt;
+      made = rw exit.1 tt;
+    }
+
+pub returns-in_err-replace : goal.returns-in_err-replace
+returns-in_err-replace g c =
+    let exit = err_from_is_err_and c.from_residual-in_err-replace.result c.from_residual-in_err-replace.ensures.1 in
+    record {
+      own = rw exit.1 tt;
+      row = rw exit.1 tt;
+      digests = λ list long read right. rw exit.1 tt;
+      count = rw exit.1 tt;
+      fewer = rw exit.1 tt;
+      none = λ high. rw exit.1 tt;
+      made = rw exit.1 tt;
+    }

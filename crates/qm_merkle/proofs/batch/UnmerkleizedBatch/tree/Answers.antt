@@ -1,4 +1,5 @@
 use Rattle.std.proofs.Common.{◌≡◌, ◌∙◌, ◌^◌, ◌≤◌, ◌+◌, ◌++◌, Some, IsSome, All, ap, ap₂, sym, subst, arith, map, length}
+use Rattle.std.proofs.lemmas.Result.{err_from_is_err_and}
 use Rattle.qm_model.specs.Trees.{peak_positions}
 use Rattle.qm_merkle.specs.Mems.{IsWhole, Stands}
 use Rattle.qm_merkle.specs.Batches.{made_at, replaced_from}
@@ -72,3 +73,36 @@ returns-clause-made g c =
     let start : new.start ≡ c.of_parts-tree.result.leaves = bounds.0 ∙ ap (λ t. t.start) tree ∙ sym (ap (λ t. t.leaves) tree) in
     let added = c.deref-2.ensures.value ∙ ap (λ b. b.added) c.self.view_is in
     omega (arith, c.in_ok-add_all.ensures.made, whole.full, ap shape.size start, ap length added)
+
+pub returns-in_err-positions : goal.returns-in_err-positions
+returns-in_err-positions g c =
+    let exit = err_from_is_err_and c.from_residual.result c.from_residual.ensures.1 in
+    record {
+      start = rw exit.1 tt;
+      leaves = rw exit.1 tt;
+      whole = rw exit.1 tt;
+      stands = λ list count read right. rw exit.1 tt;
+      made = rw exit.1 tt;
+    }
+
+pub returns-in_err-pins : goal.returns-in_err-pins
+returns-in_err-pins g c =
+    let exit = err_from_is_err_and c.from_residual-in_err-pins.result c.from_residual-in_err-pins.ensures.1 in
+    record {
+      start = rw exit.1 tt;
+      leaves = rw exit.1 tt;
+      whole = rw exit.1 tt;
+      stands = λ list count read right. rw exit.1 tt;
+      made = rw exit.1 tt;
+    }
+
+pub returns-in_err-add_all : goal.returns-in_err-add_all
+returns-in_err-add_all g c =
+    let exit = err_from_is_err_and c.from_residual-in_err-add_all.result c.from_residual-in_err-add_all.ensures.1 in
+    record {
+      start = rw exit.1 tt;
+      leaves = rw exit.1 tt;
+      whole = rw exit.1 tt;
+      stands = λ list count read right. rw exit.1 tt;
+      made = rw exit.1 tt;
+    }

@@ -1,5 +1,6 @@
-use Rattle.std.proofs.Common.{◌≡◌, ◌<◌, ◌+◌, ◌-◌, ◌++◌, ℕ, List, length, take, drop, arith, ap, ap₂, sym, ◌∙◌}
+use Rattle.std.proofs.Common.{◌≡◌, ◌<◌, ◌+◌, ◌-◌, ◌++◌, ℕ, List, length, map, take, drop, arith, ap, ap₂, sym, ◌∙◌}
 use Rattle.std.proofs.lemmas.List.{length-take, length-drop}
+use Rattle.qm_model.specs.Trees.{fold_inactive, fold_right}
 use Rattle.qm_merkle.specs.Mems.{more}
 use Rattle.qm_merkle.proofs.Rooting.{folded_mid}
 use Rattle.qm_merkle.proofs.hasher.StandardHasher.folded.Goals as goal
@@ -28,3 +29,12 @@ returns-clause-digest g c =
     c.pair_digest.ensures.digest
     ∙ ap₂ (λ a b. hash (a ++ b)) c.fold_left-first.ensures.digest c.fold_right-rest.ensures.digest
     ∙ sym (folded_mid bytes hash c.args.peaks.now c.args.inactive c.index-peaks-0.result (omega arith) (omega arith) c.index-peaks-0.is)
+
+pub returns-then-inactive-eq0 : goal.returns-then-inactive-eq0
+returns-then-inactive-eq0 g c =
+    let hash = g.H.Hasher.hash in
+    let all = map g.H.Digest.Digest.bytes c.args.peaks.now in
+    record {
+      digest = c.fold_right.ensures.digest ∙ ap (λ i. fold_right hash (fold_inactive hash (take i all) ++ drop i all)) (sym c.if-inactive-eq0.true);
+      made = c.fold_right.ensures.made;
+    }

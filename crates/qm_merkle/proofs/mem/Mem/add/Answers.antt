@@ -1,5 +1,6 @@
-use Rattle.std.proofs.Common.{◌≡◌, ◌∙◌, ◌<◌, ◌+◌, ◌-◌, ◌^◌, ◌++◌, ◌∷◌, [], suc, length, ap, ap₂, sym, subst, arith}
+use Rattle.std.proofs.Common.{refl, ◌≡◌, ◌∙◌, ◌<◌, ◌+◌, ◌-◌, ◌^◌, ◌++◌, ◌∷◌, [], suc, length, ap, ap₂, sym, subst, arith}
 use Rattle.std.proofs.lemmas.List.{length-append}
+use Rattle.std.proofs.lemmas.Result.{err_from_is_err_and}
 use Rattle.qm_merkle.specs.Mems.{Kept, IsWhole, Stands, more}
 use Rattle.qm_merkle.proofs.Growth.{stands-grown, grown-fields}
 use Rattle.qm_merkle.proofs.mem.Mem.add.Goals as goal
@@ -56,3 +57,25 @@ returns-clause-stands g c = λ leaves stands.
     (ap₂ (λ xs ys. xs ++ ys) (ap (λ k. k.nodes) (sym c.self.view_is)) (sym c.deref.ensures.value) ∙ sym c.in_ok-extend_from_slice.ensures.items) in
     subst (λ k. Stands shape bytes g.H.Hasher.hash k (leaves ++ bytes c.args.leaf ∷ [])) is
     (stands-grown shape g.F.Family.births g.met.F.Family.numbered g.met.F.Family.peaked bytes g.H.Hasher.hash kept whole leaves stands c.args.leaf c.births.new.buffer.items c.in_ok-births.ensures.count (c.in_ok-births.ensures.born leaves stands))
+
+pub returns-in_err-births : goal.returns-in_err-births
+returns-in_err-births g c =
+    let exit = err_from_is_err_and c.from_residual.result c.from_residual.ensures.1 in
+    record {
+      bounds = rw exit.1 tt;
+      stands = λ leaves stands. rw exit.1 tt;
+      made = rw exit.1 tt;
+      err = rw exit.1 refl;
+    }
+
+pub returns-in_err-extend_from_slice-clause-bounds : goal.returns-in_err-extend_from_slice-clause-bounds
+returns-in_err-extend_from_slice-clause-bounds g c = let exit = err_from_is_err_and c.from_residual-in_err-extend_from_slice.result c.from_residual-in_err-extend_from_slice.ensures.1 in rw exit.1 tt
+
+pub returns-in_err-extend_from_slice-clause-stands : goal.returns-in_err-extend_from_slice-clause-stands
+returns-in_err-extend_from_slice-clause-stands g c = λ leaves stands. let exit = err_from_is_err_and c.from_residual-in_err-extend_from_slice.result c.from_residual-in_err-extend_from_slice.ensures.1 in rw exit.1 tt
+
+pub returns-in_err-extend_from_slice-clause-made : goal.returns-in_err-extend_from_slice-clause-made
+returns-in_err-extend_from_slice-clause-made g c = let exit = err_from_is_err_and c.from_residual-in_err-extend_from_slice.result c.from_residual-in_err-extend_from_slice.ensures.1 in rw exit.1 tt
+
+pub returns-clause-err : goal.returns-clause-err
+returns-clause-err g c = tt

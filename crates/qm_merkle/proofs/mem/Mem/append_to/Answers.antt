@@ -1,5 +1,5 @@
-use Rattle.std.proofs.Common.{◌≡◌, ◌∙◌, ◌+◌, ◌<◌, ℕ, List, [], ◌∷◌, ◌++◌, length, take, get_or, ap, sym, append_assoc}
-use Rattle.std.proofs.lemmas.List.{take_more}
+use Rattle.std.proofs.Common.{◌≡◌, ◌∙◌, ◌+◌, ◌<◌, ℕ, List, [], ◌∷◌, ◌++◌, length, take, get_or, arith, refl, ap, sym, append_assoc, append-nil}
+use Rattle.std.proofs.lemmas.List.{take_more, take_all, length-append, length-take}
 use Rattle.qm_merkle.proofs.mem.Mem.append_to.Goals as goal
 
 -- one more is appended
@@ -14,3 +14,18 @@ loop-node-preserved g c = record {
       (c.deref-node-items.ensures.value ∙ ap (λ k. k.nodes) c.self.view_is) c.loop-node-test.true c.node-item.is c.loop-node.invariant.items c.push_reserved.ensures.items;
   capacity = c.push_reserved.ensures.capacity ∙ c.loop-node.invariant.capacity;
 }
+
+pub loop-node-init : goal.loop-node-init
+loop-node-init g c = record { items = sym (append-nil c.args.nodes.now.items); capacity = refl }
+
+pub push_reserved-requires : goal.push_reserved-requires
+push_reserved-requires g c =
+    omega (arith, ap length c.loop-node.invariant.items, length-append c.args.nodes.now.items (take c.loop-node.node-index c.args.self.now.nodes), length-take c.loop-node.node-index c.args.self.now.nodes,
+    c.loop-node.invariant.capacity, c.requires, c.loop-node-test.true, ap length (c.deref-node-items.ensures.value ∙ ap (λ k. k.nodes) c.self.view_is))
+
+pub returns-clause-items : goal.returns-clause-items
+returns-clause-items g c =
+    c.loop-node.invariant.items ∙ ap (λ xs. c.args.nodes.now.items ++ xs) (take_all c.loop-node.node-index c.args.self.now.nodes (omega (arith, c.loop-node-test.false, ap length (c.deref-node-items.ensures.value ∙ ap (λ k. k.nodes) c.self.view_is))))
+
+pub returns-clause-capacity : goal.returns-clause-capacity
+returns-clause-capacity g c = c.loop-node.invariant.capacity

@@ -1,9 +1,11 @@
-use Rattle.std.proofs.Common.{◌≡◌, ◌+◌, ◌++◌, ◌<◌, ◌≤◌, ◌∷◌, ◌∙◌, [], ℕ, List, Option, Some, length, arith, ap, sym, ⊎_elim, subst}
-use Rattle.std.specs.Prelude.{slice_get}
+use Rattle.std.proofs.Common.{◌≡◌, ◌+◌, ◌-◌, ◌++◌, ◌<◌, ◌≤◌, ◌∷◌, ◌∙◌, [], ℕ, List, Option, Some, length, get_or, refl, arith, ap, sym, ⊎_elim, subst}
+use Rattle.std.specs.Prelude.{slice_get, option_map}
 use Rattle.std.proofs.lemmas.Bool.{cases_lt}
-use Rattle.std.proofs.lemmas.List.{length-append}
-use Rattle.qm_model.specs.Trees.{digest_of}
-use Rattle.qm_merkle.specs.Mems.{Gives, AreBorn}
+use Rattle.std.proofs.lemmas.List.{length-append, get_or-append_right}
+use Rattle.std.proofs.lemmas.Result.{err_from_is_err_and}
+use Rattle.qm_model.specs.Trees.{Node, leaf, digest_of}
+use Rattle.qm_model.specs.Operations.{Bytes}
+use Rattle.qm_merkle.specs.Mems.{Gives, AreBorn, more}
 use Rattle.qm_merkle.proofs.Growth.{slice_get-left, slice_get-right}
 use Rattle.qm_merkle.proofs.mem.Mem.births.Goals as goal
 
@@ -16,6 +18,17 @@ each_next P xs ys d n count is long all last k lt = ⊎_elim
     let at : length xs + 0 ≡ n = omega arith in
     subst (λ j. P j (slice_get ys j)) same (subst (P n) (sym (ap (λ zs. slice_get zs n) is ∙ ap (slice_get (xs ++ d ∷ [])) (sym at) ∙ slice_get-right xs (d ∷ []) 0)) last))
     (cases_lt k (length xs))
+
+-- the first is the leaf's own
+first_born : {D : Type 0} (bytes : D → Bytes) (made : List D) (d : D) (leaves : List Bytes) (digest : Node → Bytes) (born : ℕ → Node) (n : ℕ) → made ≡ d ∷ [] → n ≡ length leaves → born 0 ≡ leaf n → ((i : ℕ) → digest (leaf i) ≡ get_or (leaves ++ bytes d ∷ []) i []) →
+    (k : ℕ) → k < length made → Gives bytes (slice_get made k) (digest (born k))
+first_born bytes made d leaves digest born n is count first reads k lt =
+    let same : 0 ≡ k = omega (arith, ap length is, lt) in
+    let end : digest (born 0) ≡ bytes d = ap digest first ∙ reads n ∙ ap (λ i. get_or (leaves ++ bytes d ∷ []) i []) count ∙ get_or-append_right leaves (bytes d ∷ []) (length leaves) (length leaves) [] refl (omega arith) ∙ ap (λ i. get_or (bytes d ∷ []) i []) (less (length leaves)) in
+    subst (λ j. Gives bytes (slice_get made j) (digest (born j))) same (ap (λ xs. option_map bytes (slice_get xs 0)) is ∙ ap Some (sym end))
+  where
+    less : (m : ℕ) → m - m ≡ 0
+    less m = omega arith
 
 pub parent-digest-requires-clause-few : goal.parent-digest-requires-clause-few
 parent-digest-requires-clause-few g c = c.requires
@@ -49,3 +62,41 @@ loop-number-preserved g c =
       room = omega (arith, c.loop-number.invariant.room, c.push_reserved-in-loop-number.ensures.capacity);
       made = omega (arith, c.parent-digest.ensures.made, c.loop-number.invariant.made, c.loop-number.auto.number);
     }
+
+pub returns-in_err-reserve-clause-count : goal.returns-in_err-reserve-clause-count
+returns-in_err-reserve-clause-count g c = let exit = err_from_is_err_and c.from_residual.result c.from_residual.ensures.1 in rw exit.1 tt
+
+pub returns-in_err-reserve-clause-born : goal.returns-in_err-reserve-clause-born
+returns-in_err-reserve-clause-born g c = λ leaves stands. let exit = err_from_is_err_and c.from_residual.result c.from_residual.ensures.1 in rw exit.1 tt
+
+pub returns-in_err-reserve-clause-made : goal.returns-in_err-reserve-clause-made
+returns-in_err-reserve-clause-made g c = let exit = err_from_is_err_and c.from_residual.result c.from_residual.ensures.1 in rw exit.1 tt
+
+pub push_reserved-requires-in-loop-number : goal.push_reserved-requires-in-loop-number
+push_reserved-requires-in-loop-number g c = omega (arith, c.loop-number.invariant.count, c.loop-number.invariant.room, c.loop-number-test.true, c.birth_count-count.ensures, ap (λ k. g.F.Family.births.count k.leaves) c.self.view_is)
+
+pub returns-clause-born : goal.returns-clause-born
+returns-clause-born g c = c.loop-number.invariant.born
+
+pub returns-clause-made : goal.returns-clause-made
+returns-clause-made g c = c.loop-number.invariant.made ∙ ap (λ n. more c.args.hasher.now (n - 1)) (sym c.loop-number.invariant.count)
+
+pub loop-number-init : goal.loop-number-init
+loop-number-init g c =
+    let made = c.push_reserved.ensures.items ∙ ap (λ xs. xs ++ c.args.leaf ∷ []) (c.reserve.ensures.items ∙ c.clear.ensures.items) in
+    let family = g.met.F.Family.numbered in
+    record {
+      count = ap length made;
+      born = λ leaves stands k lt. first_born g.D.Digest.bytes c.push_reserved.new.self.items c.args.leaf leaves (digest_of g.H.Hasher.hash g.F.Family.shape (leaves ++ g.D.Digest.bytes c.args.leaf ∷ [])) (g.F.Family.births.born c.args.self.now.leaves)
+          c.args.self.now.leaves made stands.count (family.first c.args.self.now.leaves) (λ _. refl) k lt;
+      room = omega (arith, c.in_ok-reserve.ensures.ok, c.push_reserved.ensures.capacity, c.birth_count-count.ensures, ap (λ k. g.F.Family.births.count k.leaves) c.self.view_is);
+      made = omega arith;
+    }
+
+pub push_reserved-requires : goal.push_reserved-requires
+push_reserved-requires g c = omega (arith, c.in_ok-reserve.ensures.ok, c.birth_count-count.ensures, g.met.F.Family.numbered.some c.self.inside.leaves)
+
+pub returns-clause-count : goal.returns-clause-count
+returns-clause-count g c =
+    let some = g.met.F.Family.numbered.some c.self.inside.leaves in
+    omega (arith, c.loop-number.invariant.count, c.loop-number-test.false, c.loop-number.auto.number-end (omega (arith, some, c.birth_count-count.ensures)), c.birth_count-count.ensures, ap (λ k. g.F.Family.births.count k.leaves) c.self.view_is)

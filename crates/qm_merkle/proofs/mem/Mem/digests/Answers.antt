@@ -1,5 +1,7 @@
-use Rattle.std.proofs.Common.{◌∙◌, sym, subst}
+use Rattle.std.proofs.Common.{◌∙◌, Some, length, map, ap, arith, sym, subst}
 use Rattle.qm_merkle.specs.Mems.{Holds, node_at}
+use Rattle.std.proofs.lemmas.List.{take_all}
+use Rattle.std.proofs.lemmas.Result.{err_from_is_err_and}
 use Rattle.qm_merkle.proofs.PeakCounts.{one_found, one_longer}
 use Rattle.qm_merkle.proofs.mem.Mem.digests.Goals as goal
 
@@ -14,3 +16,15 @@ loop-position-preserved g c = record {
   count = one_longer _ _ _ _ c.push_reserved.ensures.items c.loop-position.invariant.count;
   room = c.push_reserved.ensures.capacity ∙ c.loop-position.invariant.room;
 }
+
+pub loop-position-init : goal.loop-position-init
+loop-position-init g c = record { found = ap (map Some) c.in_ok-found.ensures.items; count = ap length c.in_ok-found.ensures.items; room = c.in_ok-found.ensures.exact }
+
+pub push_reserved-requires : goal.push_reserved-requires
+push_reserved-requires g c = omega (arith, c.loop-position.invariant.count, c.loop-position.invariant.room, c.loop-position-test.true)
+
+pub returns : goal.returns
+returns g c = c.loop-position.invariant.found ∙ ap (map (node_at g.F.Family.shape c.args.self.now)) (take_all c.loop-position.position-index c.args.positions.now c.loop-position-test.false)
+
+pub returns-in_err-found : goal.returns-in_err-found
+returns-in_err-found g c = let exit = err_from_is_err_and c.from_residual.result c.from_residual.ensures.1 in rw exit.1 tt

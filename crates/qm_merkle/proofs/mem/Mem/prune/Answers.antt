@@ -1,4 +1,5 @@
-use Rattle.std.proofs.Common.{◌≡◌, ◌≤◌, ◌∙◌, ◌-◌, ap, ap₂, sym, subst, arith, length, map, drop, All}
+use Rattle.std.proofs.Common.{refl, ◌≡◌, ◌≤◌, ◌∙◌, ◌-◌, ap, ap₂, sym, subst, arith, length, map, drop, All}
+use Rattle.std.proofs.lemmas.Result.{err_from_is_err_and}
 use Rattle.qm_merkle.specs.Mems.{Kept, IsWhole, Holds, node_at}
 use Rattle.qm_merkle.proofs.Numbering.{sizes}
 use Rattle.qm_merkle.proofs.Standing.{peaks_held}
@@ -64,3 +65,39 @@ pub returns-clause-stands : goal.returns-clause-stands
 unfolding next
 returns-clause-stands g c =
     stands-pruned g.F.Family.shape g.F.Family.births g.met.F.Family.numbered g.met.F.Family.peaked c.args.self.now (next g c) (subst (IsWhole g.F.Family.shape) c.self.view_is c.self.invariant.1) (pruned g c) g.D.Digest.bytes
+
+pub returns-in_err-positions : goal.returns-in_err-positions
+returns-in_err-positions g c =
+    let exit = err_from_is_err_and c.from_residual.result c.from_residual.ensures.1 in
+    record {
+      bounds = rw exit.1 tt;
+      same = rw exit.1 tt;
+      stands = λ hash leaves stands. rw exit.1 tt;
+      err = rw exit.1 refl;
+    }
+
+pub returns-in_err-pins : goal.returns-in_err-pins
+returns-in_err-pins g c =
+    let exit = err_from_is_err_and c.from_residual-in_err-pins.result c.from_residual-in_err-pins.ensures.1 in
+    record {
+      bounds = rw exit.1 tt;
+      same = rw exit.1 tt;
+      stands = λ hash leaves stands. rw exit.1 tt;
+      err = rw exit.1 refl;
+    }
+
+pub returns-in_err-nodes : goal.returns-in_err-nodes
+returns-in_err-nodes g c =
+    let exit = err_from_is_err_and c.from_residual-in_err-nodes.result c.from_residual-in_err-nodes.ensures.1 in
+    record {
+      bounds = rw exit.1 tt;
+      same = rw exit.1 tt;
+      stands = λ hash leaves stands. rw exit.1 tt;
+      err = rw exit.1 refl;
+    }
+
+pub returns-clause-bounds : goal.returns-clause-bounds
+returns-clause-bounds g c = (refl, ap (λ k. k.leaves) c.self.view_is)
+
+pub returns-clause-err : goal.returns-clause-err
+returns-clause-err g c = tt
