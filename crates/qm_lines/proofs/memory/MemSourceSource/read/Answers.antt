@@ -1,5 +1,7 @@
-use Rattle.std.proofs.Common.{◌∙◌, ap}
+use Rattle.std.proofs.Common.{◌∙◌, Decides, ap, subst}
+use Rattle.std.specs.Prelude.{Contains}
 use Rattle.qm_lines.specs.Ports.{SourceState, one_more}
+use Rattle.qm_lines.proofs.Failing.{Decides-failing}
 use Rattle.qm_lines.proofs.memory.MemSourceSource.read.Goals as goal
 
 pub returns-then-is_failing-clause-kept : goal.returns-then-is_failing-clause-kept
@@ -22,3 +24,9 @@ returns-clause-steady c = ap (λ (s : SourceState). s.faults) c.self.view_is
 
 pub returns-clause-counted : goal.returns-clause-counted
 returns-clause-counted c = c.saturating_add-self-inside.ensures ∙ ap (λ (s : SourceState). one_more s.calls) c.self.view_is
+
+pub returns-then-is_failing-clause-fails : goal.returns-then-is_failing-clause-fails
+returns-then-is_failing-clause-fails c = subst (λ (s : SourceState). Decides _ (Contains s.fail s.calls)) c.self.view_is (Decides-failing _ _ _ (rw c.deref.ensures.value at c.if-is_failing.ensures.cases))
+
+pub returns-clause-fails : goal.returns-clause-fails
+returns-clause-fails c = subst (λ (s : SourceState). Decides _ (Contains s.fail s.calls)) c.self.view_is (Decides-failing _ _ _ (rw c.deref.ensures.value at c.if-is_failing.ensures.cases))
