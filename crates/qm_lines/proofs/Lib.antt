@@ -6,4 +6,5 @@ pub mod Written
 pub mod Inputs
 pub mod Parts
 pub mod Failing
+pub mod Steps
 pub mod SameWalks
