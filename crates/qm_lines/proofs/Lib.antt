@@ -5,4 +5,6 @@ pub mod Told
 pub mod Written
 pub mod Inputs
 pub mod Parts
+pub mod Failing
+pub mod Steps
 pub mod SameWalks

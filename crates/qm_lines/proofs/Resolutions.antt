@@ -7,10 +7,12 @@ use Rattle.qm_model.specs.Operations.{Bytes}
 use Rattle.qm_model.specs.Slots.{Slot}
 use Rattle.qm_model.specs.Writes.{Write}
 use Rattle.qm_model.specs.Policies.{Policy}
-use Rattle.qm_machine.specs.Lines.{Merkleize, Resolve}
+use Rattle.qm_machine.specs.Lines.{Line, Merkleize, Resolve}
 use Rattle.qm_machine.specs.Grammar.{Resolution, with_slot, slot_of, each_write, resolution_of, resolve_of, number_of, policy_of, metadata_of, merkleize_of}
-use Rattle.qm_lines.specs.Parsed.{lent, with_slots, merkleizing_of}
+use Rattle.qm_lines.specs.Parsed.{Unreads, lent, with_slots, merkleizing_of}
+use Rattle.qm_lines.specs.declared.parse.unread.Unread.{Unread}
 use Rattle.qm_lines.proofs.Lines.{opened}
+use Rattle.qm_lines.proofs.Readings.{unread-of}
 
 -- slots, and the others behind them, if there are those
 abbrev pub with_others : List Slot → Option (List Write) → Option Resolution
@@ -89,8 +91,16 @@ made_then made (Some a) (Some b) (Some c) = refl
 merkleize-made : (a b c : Bytes) → option_map (λ (m : ℕ × Policy × Option Bytes). Merkleize m.0 m.1 m.2) (merkleizing_of a b c) ≡ merkleize_of (a ∷ b ∷ c ∷ [])
 merkleize-made a b c = made_of (λ h p meta. Merkleize h p meta) (number_of a) (policy_of b) (metadata_of c)
 
+-- of a batch, a policy and metadata, and of what becomes of staged keys
+abbrev pub resolved : Option Resolution → Option (ℕ × Policy × Option Bytes) → Option (Line Policy)
+resolved r m = option_and_then (λ (m : ℕ × Policy × Option Bytes). option_map (λ (r : Resolution). Resolve m.0 m.1 m.2 r.0 r.1) r) m
+
+resolved-none : (m : Option (ℕ × Policy × Option Bytes)) → None ≡ resolved None m
+resolved-none None = refl
+resolved-none (Some m) = refl
+
 resolve-made : (a b c : Bytes) (ws : List Bytes) →
-    option_and_then (λ (m : ℕ × Policy × Option Bytes). option_map (λ (r : Resolution). Resolve m.0 m.1 m.2 r.0 r.1) (resolution_of ws)) (merkleizing_of a b c) ≡ resolve_of (a ∷ b ∷ c ∷ ws)
+    resolved (resolution_of ws) (merkleizing_of a b c) ≡ resolve_of (a ∷ b ∷ c ∷ ws)
 resolve-made a b c ws = made_then (λ h p meta. option_map (λ (r : Resolution). Resolve h p meta r.0 r.1) (resolution_of ws)) (number_of a) (policy_of b) (metadata_of c)
 
 pub merkleize-lent : (words : List (Bor Bytes)) (d : Bor Bytes) → 3 ≤ length words → length words < 4 → (m : Option (ℕ × Policy × Option Bytes)) →
@@ -103,11 +113,20 @@ merkleize-lent (a ∷ b ∷ c ∷ e ∷ words) d enough few m is = absurd (omega
 
 pub resolve-lent : (words : List (Bor Bytes)) (d : Bor Bytes) → 3 ≤ length words → (m : Option (ℕ × Policy × Option Bytes)) →
     m ≡ merkleizing_of (get_or words 0 d).now (get_or words 1 d).now (get_or words 2 d).now → (r : Option Resolution) → r ≡ resolution_of (drop 3 (lent words)) →
-    option_and_then (λ (m : ℕ × Policy × Option Bytes). option_map (λ (r : Resolution). Resolve m.0 m.1 m.2 r.0 r.1) r) m ≡ resolve_of (lent words)
+    resolved r m ≡ resolve_of (lent words)
 resolve-lent [] d enough m is r are = absurd (omega arith)
 resolve-lent (a ∷ []) d enough m is r are = absurd (omega arith)
 resolve-lent (a ∷ b ∷ []) d enough m is r are = absurd (omega arith)
 resolve-lent (a ∷ b ∷ c ∷ words) d enough m is r are =
-    ap (λ o. option_and_then (λ (m : ℕ × Policy × Option Bytes). option_map (λ (r : Resolution). Resolve m.0 m.1 m.2 r.0 r.1) o) m) are
-    ∙ ap (option_and_then (λ (m : ℕ × Policy × Option Bytes). option_map (λ (r : Resolution). Resolve m.0 m.1 m.2 r.0 r.1) (resolution_of (lent words)))) is
+    ap (λ o. resolved o m) are
+    ∙ ap (resolved (resolution_of (lent words))) is
     ∙ resolve-made a.now b.now c.now (lent words)
+
+-- what becomes of staged keys is not read
+pub resolve-lent_err : (words : List (Bor Bytes)) → 3 ≤ length words → (r : Option Resolution) → r ≡ resolution_of (drop 3 (lent words)) → (e : Unread) → Unreads e r → Unreads e (resolve_of (lent words))
+resolve-lent_err [] enough r are = absurd (omega arith)
+resolve-lent_err (a ∷ []) enough r are = absurd (omega arith)
+resolve-lent_err (a ∷ b ∷ []) enough r are = absurd (omega arith)
+resolve-lent_err (a ∷ b ∷ c ∷ words) enough r are =
+    let m = merkleizing_of a.now b.now c.now in
+    unread-of (λ o. resolved o m) (resolved-none m) r _ (resolve-lent (a ∷ b ∷ c ∷ words) a enough m refl r are)

@@ -1,5 +1,5 @@
 -- The commands that lines are read as.
-use Rattle.std.specs.Prelude.{ℕ, if◌then◌else◌, List, [], ◌∷◌, ◌++◌, Option, Some, None, map, option_map, option_and_then}
+use Rattle.std.specs.Prelude.{◌≡◌, ℕ, ⊤, if◌then◌else◌, List, [], ◌∷◌, ◌++◌, Option, Some, None, Result, Ok, Err, map, option_map, option_and_then}
 use Rattle.std.specs.Borrow.{Bor}
 use Rattle.std.specs.declared.ops.Bound.{Bound}
 use Rattle.qm_model.specs.Operations.{Bytes}
@@ -19,6 +19,8 @@ use Rattle.qm_machine.specs.Grammar.{number_of, policy_of, metadata_of, Reading,
 use Rattle.qm_lines.specs.declared.policy.AnyPolicy.{AnyPolicy}
 use Rattle.qm_lines.specs.declared.command.Command.{Command}
 use Rattle.qm_lines.specs.declared.command.Resolution.{Resolution}
+use Rattle.qm_lines.specs.declared.parse.unread.Unread.{Unread}
+use Rattle.qm_lines.specs.declared.parse.unread.Unread.TheVariants as unreads
 use Rattle.qm_lines.specs.declared.parse.commands.ReadForm.{ReadForm}
 use Rattle.qm_lines.specs.declared.parse.commands.ReadForm.TheVariants as reads
 use Rattle.qm_lines.specs.declared.parse.commands.KeyForm.{KeyForm}
@@ -38,6 +40,15 @@ byte_line = line_view (λ k. k) (λ v. v) policy_view
 -- words that are lent
 abbrev pub lent : List (Bor Bytes) → List Bytes
 lent words = map (λ (w : Bor Bytes). w.now) words
+
+-- what is read of a text that is read as this: none where it is malformed, and nothing is said where memory is wanting
+abbrev pub Unreads : {A : Type 0} → Unread → Option A → Type 0
+Unreads unreads.Malformed o = None ≡ o
+Unreads unreads.Memory o = ⊤
+
+abbrev pub Reads : {T A : Type 0} → (T → A) → Result T Unread → Option A → Type 0
+Reads view (Ok found) o = Some (view found) ≡ o
+Reads view (Err e) o = Unreads e o
 
 -- a slot, and a write, whose keys and values are seen as their bytes
 abbrev pub byte_slot : Slot Bytes → model.Slot

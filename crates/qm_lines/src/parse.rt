@@ -12,6 +12,7 @@ mod pieces;
 mod policies;
 mod ranges;
 mod staged;
+mod unread;
 
 use crate::command::Command;
 use crate::policy::AnyPolicy;
@@ -19,6 +20,7 @@ use commands::of_words;
 use pieces::pieces;
 use qm_base::{ByteKey, ByteValue};
 use std::alloc::{AllocError, Global};
+use unread::Unread;
 
 /// A command that a line can ask for.
 pub type ByteCommand = Command<ByteKey, ByteValue, AnyPolicy>;
@@ -28,7 +30,11 @@ pub fn parse_line(alloc: Global, line: &[u8]) -> Result<Option<ByteCommand>, All
     ensures { IfOk result (λ command. option_map byte_line command ≡ grammar.line_of line.now) }
 {
     let words = pieces(alloc, line, b' ')?;
-    of_words(alloc, &words)
+    match of_words(alloc, &words) {
+        Ok(command) => Ok(Some(command)),
+        Err(Unread::Malformed) => Ok(None),
+        Err(Unread::Memory) => Err(AllocError),
+    }
 }
 
 // How many bytes come before the first line feed, or at all.

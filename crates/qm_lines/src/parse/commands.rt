@@ -1,10 +1,10 @@
 // Each command, of the words behind its name.
-ghost use Rattle.std.specs.Prelude.{◌≡◌, ℕ, Option, IfOk, option_map};
+ghost use Rattle.std.specs.Prelude.{◌≡◌, ℕ, Option, option_map};
 ghost use Rattle.qm_model.specs.Operations.{Bytes};
 ghost use Rattle.qm_model.specs.Policies.{Policy};
 ghost use Rattle.qm_machine.specs.Grammar as grammar;
 ghost use Rattle.qm_machine.specs.Lines.{Line};
-ghost use Rattle.qm_lines.specs.Parsed.{byte_line, key_line, lent, read_line};
+ghost use Rattle.qm_lines.specs.Parsed.{Reads, byte_line, key_line, lent, read_line};
 
 use super::ByteCommand;
 use super::keys::{Reading, key, parse_reading, value};
@@ -13,115 +13,109 @@ use super::numbers::{named_number, number, positive};
 use super::pieces::is;
 use super::ranges::{RangeForm, range};
 use super::staged::{KeyedForm, keyed, resolve};
+use super::unread::Unread;
 use crate::command::{BatchCommand, Command, InfoCommand, Question, ReadCommand, StoreCommand};
 use qm_base::ByteKey;
-use std::alloc::{AllocError, Global};
+use std::alloc::Global;
 
 // No word more.
-fn alone(words: &[&[u8]], command: ByteCommand) -> Option<ByteCommand>
-    ensures { option_map byte_line result ≡ grammar.alone (byte_line command) (lent words.now) }
+fn alone(words: &[&[u8]], command: ByteCommand) -> Result<ByteCommand, Unread>
+    ensures { Reads byte_line result (grammar.alone (byte_line command) (lent words.now)) }
 {
-    words.is_empty().then_some(command)
+    words.is_empty().then_some(command).ok_or(Unread::Malformed)
 }
 
 // One number more.
-fn only_number(words: &[&[u8]]) -> Option<u64>
-    ensures { result ≡ grammar.only_number (lent words.now) }
+fn only_number(words: &[&[u8]]) -> Result<u64, Unread>
+    ensures { Reads (λ n. n) result (grammar.only_number (lent words.now)) }
 {
     match words {
         [word] => number(word),
-        _ => None,
+        _ => Err(Unread::Malformed),
     }
 }
 
-fn info(words: &[&[u8]]) -> Option<ByteCommand>
-    ensures { option_map byte_line result ≡ grammar.info_of (lent words.now) }
+fn info(words: &[&[u8]]) -> Result<ByteCommand, Unread>
+    ensures { Reads byte_line result (grammar.info_of (lent words.now)) }
 {
     if words.is_empty() {
-        return Some(Command::Info(InfoCommand::Info));
+        return Ok(Command::Info(InfoCommand::Info));
     }
     let handle = only_number(words)?;
-    Some(Command::Info(InfoCommand::BatchInfo(handle)))
+    Ok(Command::Info(InfoCommand::BatchInfo(handle)))
 }
 
-fn root(words: &[&[u8]]) -> Option<ByteCommand>
-    ensures { option_map byte_line result ≡ grammar.root_of (lent words.now) }
+fn root(words: &[&[u8]]) -> Result<ByteCommand, Unread>
+    ensures { Reads byte_line result (grammar.root_of (lent words.now)) }
 {
     if words.is_empty() {
-        return Some(Command::Info(InfoCommand::Root));
+        return Ok(Command::Info(InfoCommand::Root));
     }
     let handle = only_number(words)?;
-    Some(Command::Info(InfoCommand::BatchRoot(handle)))
+    Ok(Command::Info(InfoCommand::BatchRoot(handle)))
 }
 
 // Perhaps up to a size.
-fn open(words: &[&[u8]]) -> Option<ByteCommand>
-    ensures { option_map byte_line result ≡ grammar.open_of (lent words.now) }
+fn open(words: &[&[u8]]) -> Result<ByteCommand, Unread>
+    ensures { Reads byte_line result (grammar.open_of (lent words.now)) }
 {
     match words {
-        [] => Some(Command::Store(StoreCommand::Open(None))),
-        [bound] => Some(Command::Store(StoreCommand::Open(Some(named_number(b"max=", bound)?)))),
-        _ => None,
+        [] => Ok(Command::Store(StoreCommand::Open(None))),
+        [word] => {
+            let bound = named_number(b"max=", word).ok_or(Unread::Malformed)?;
+            Ok(Command::Store(StoreCommand::Open(Some(bound))))
+        }
+        _ => Err(Unread::Malformed),
     }
 }
 
 // Of a batch, and perhaps of how many ancestors are kept.
-fn child(words: &[&[u8]]) -> Option<ByteCommand>
-    ensures { option_map byte_line result ≡ grammar.child_of (lent words.now) }
+fn child(words: &[&[u8]]) -> Result<ByteCommand, Unread>
+    ensures { Reads byte_line result (grammar.child_of (lent words.now)) }
 {
     match words {
-        [handle] => Some(Command::Batch(BatchCommand::Child(number(handle)?, None))),
-        [handle, kept] => {
-            let keep = named_number(b"keep=", kept)?;
-            Some(Command::Batch(BatchCommand::Child(number(handle)?, Some(keep))))
+        [handle] => Ok(Command::Batch(BatchCommand::Child(number(handle)?, None))),
+        [handle, word] => {
+            let kept = named_number(b"keep=", word).ok_or(Unread::Malformed)?;
+            Ok(Command::Batch(BatchCommand::Child(number(handle)?, Some(kept))))
         }
-        _ => None,
+        _ => Err(Unread::Malformed),
     }
 }
 
-fn put(alloc: Global, words: &[&[u8]]) -> Result<Option<ByteCommand>, AllocError>
-    ensures { IfOk result (λ command. option_map byte_line command ≡ grammar.put_of (lent words.now)) }
+fn put(alloc: Global, words: &[&[u8]]) -> Result<ByteCommand, Unread>
+    ensures { Reads byte_line result (grammar.put_of (lent words.now)) }
 {
     let [handle, key_word, value_word] = words else {
-        return Ok(None);
+        return Err(Unread::Malformed);
     };
-    let Some(handle) = number(handle) else {
-        return Ok(None);
-    };
-    let Some(key) = key(alloc, key_word)? else {
-        return Ok(None);
-    };
-    let Some(value) = value(alloc, value_word)? else {
-        return Ok(None);
-    };
-    Ok(Some(Command::Batch(BatchCommand::Put(handle, key, value))))
+    let handle = number(handle)?;
+    let key = key(alloc, key_word)?;
+    let value = value(alloc, value_word)?;
+    Ok(Command::Batch(BatchCommand::Put(handle, key, value)))
 }
 
-fn del(alloc: Global, words: &[&[u8]]) -> Result<Option<ByteCommand>, AllocError>
-    ensures { IfOk result (λ command. option_map byte_line command ≡ grammar.del_of (lent words.now)) }
+fn del(alloc: Global, words: &[&[u8]]) -> Result<ByteCommand, Unread>
+    ensures { Reads byte_line result (grammar.del_of (lent words.now)) }
 {
     let [handle, key_word] = words else {
-        return Ok(None);
+        return Err(Unread::Malformed);
     };
-    let Some(handle) = number(handle) else {
-        return Ok(None);
-    };
-    let Some(key) = key(alloc, key_word)? else {
-        return Ok(None);
-    };
-    Ok(Some(Command::Batch(BatchCommand::Del(handle, key))))
+    let handle = number(handle)?;
+    let key = key(alloc, key_word)?;
+    Ok(Command::Batch(BatchCommand::Del(handle, key)))
 }
 
-fn prove(words: &[&[u8]]) -> Option<ByteCommand>
-    ensures { option_map byte_line result ≡ grammar.prove_of (lent words.now) }
+fn prove(words: &[&[u8]]) -> Result<ByteCommand, Unread>
+    ensures { Reads byte_line result (grammar.prove_of (lent words.now)) }
 {
     let [size, start, most] = words else {
-        return None;
+        return Err(Unread::Malformed);
     };
     let size = number(size)?;
     let start = number(start)?;
     let most = positive(most)?;
-    Some(Command::Info(InfoCommand::Prove(size, start, most)))
+    Ok(Command::Info(InfoCommand::Prove(size, start, most)))
 }
 
 // A key, and the batch through which it is read.
@@ -148,38 +142,28 @@ pub enum ReadForm {
 }
 
 // A key, at whose end a batch may stand.
-fn read(alloc: Global, form: ReadForm, words: &[&[u8]]) -> Result<Option<ByteCommand>, AllocError>
-    ensures { IfOk result (λ command. option_map byte_line command ≡ grammar.read_of (read_line form) (lent words.now)) }
+fn read(alloc: Global, form: ReadForm, words: &[&[u8]]) -> Result<ByteCommand, Unread>
+    ensures { Reads byte_line result (grammar.read_of (read_line form) (lent words.now)) }
 {
-    let Some(reading) = parse_reading(alloc, words)? else {
-        return Ok(None);
-    };
+    let reading = parse_reading(alloc, words)?;
     let Some(OneRead { key, from }) = one_read(reading) else {
-        return Ok(None);
+        return Err(Unread::Malformed);
     };
     match form {
-        ReadForm::Get => Ok(Some(Command::Read(ReadCommand::Get(key, from)))),
-        ReadForm::Next => Ok(Some(Command::Read(ReadCommand::Next(key, from)))),
-        ReadForm::Prev => Ok(Some(Command::Read(ReadCommand::Prev(key, from)))),
+        ReadForm::Get => Ok(Command::Read(ReadCommand::Get(key, from))),
+        ReadForm::Next => Ok(Command::Read(ReadCommand::Next(key, from))),
+        ReadForm::Prev => Ok(Command::Read(ReadCommand::Prev(key, from))),
     }
 }
 
-fn some_read(reading: Reading) -> Option<ByteCommand>
-    ensures { option_map byte_line result ≡ grammar.some_read reading }
+fn many(alloc: Global, words: &[&[u8]]) -> Result<ByteCommand, Unread>
+    ensures { Reads byte_line result (grammar.many_of (lent words.now)) }
 {
+    let reading = parse_reading(alloc, words)?;
     if reading.keys.is_empty() {
-        return None;
+        return Err(Unread::Malformed);
     }
-    Some(Command::Read(ReadCommand::Many(reading.keys, reading.from)))
-}
-
-fn many(alloc: Global, words: &[&[u8]]) -> Result<Option<ByteCommand>, AllocError>
-    ensures { IfOk result (λ command. option_map byte_line command ≡ grammar.many_of (lent words.now)) }
-{
-    match parse_reading(alloc, words)? {
-        None => Ok(None),
-        Some(reading) => Ok(some_read(reading)),
-    }
+    Ok(Command::Read(ReadCommand::Many(reading.keys, reading.from)))
 }
 
 /// What is asked of one key alone.
@@ -192,115 +176,97 @@ pub enum KeyForm {
 }
 
 // One key more.
-fn only_key(
-    alloc: Global,
-    form: KeyForm,
-    words: &[&[u8]],
-) -> Result<Option<ByteCommand>, AllocError>
-    ensures { IfOk result (λ command. option_map byte_line command ≡ grammar.only_key (key_line form) (lent words.now)) }
+fn only_key(alloc: Global, form: KeyForm, words: &[&[u8]]) -> Result<ByteCommand, Unread>
+    ensures { Reads byte_line result (grammar.only_key (key_line form) (lent words.now)) }
 {
     let [word] = words else {
-        return Ok(None);
+        return Err(Unread::Malformed);
     };
-    let Some(key) = key(alloc, word)? else {
-        return Ok(None);
-    };
+    let key = key(alloc, word)?;
     match form {
-        KeyForm::Span => Ok(Some(Command::Read(ReadCommand::Span(key)))),
-        KeyForm::All => Ok(Some(Command::Read(ReadCommand::All(key)))),
-        KeyForm::Held => Ok(Some(Command::Info(InfoCommand::Current(Question::Held(key))))),
-        KeyForm::Absent => Ok(Some(Command::Info(InfoCommand::Current(Question::Absent(key))))),
+        KeyForm::Span => Ok(Command::Read(ReadCommand::Span(key))),
+        KeyForm::All => Ok(Command::Read(ReadCommand::All(key))),
+        KeyForm::Held => Ok(Command::Info(InfoCommand::Current(Question::Held(key)))),
+        KeyForm::Absent => Ok(Command::Info(InfoCommand::Current(Question::Absent(key)))),
     }
 }
 
-fn chunks(words: &[&[u8]]) -> Option<ByteCommand>
-    ensures { option_map byte_line result ≡ grammar.chunks_of (lent words.now) }
+fn chunks(words: &[&[u8]]) -> Result<ByteCommand, Unread>
+    ensures { Reads byte_line result (grammar.chunks_of (lent words.now)) }
 {
     let [start, most] = words else {
-        return None;
+        return Err(Unread::Malformed);
     };
     let start = number(start)?;
     let most = positive(most)?;
-    Some(Command::Info(InfoCommand::Current(Question::Chunks(start, most))))
+    Ok(Command::Info(InfoCommand::Current(Question::Chunks(start, most))))
 }
 
 // What a current database offers.
-fn current(alloc: Global, name: &[u8], words: &[&[u8]]) -> Result<Option<ByteCommand>, AllocError>
-    ensures { IfOk result (λ command. option_map byte_line command ≡ grammar.form_of name.now (lent words.now) grammar.current_forms) }
+fn current(alloc: Global, name: &[u8], words: &[&[u8]]) -> Result<ByteCommand, Unread>
+    ensures { Reads byte_line result (grammar.form_of name.now (lent words.now) grammar.current_forms) }
 {
     if is(name, b"held") {
         only_key(alloc, KeyForm::Held, words)
     } else if is(name, b"absent") {
         only_key(alloc, KeyForm::Absent, words)
     } else if is(name, b"chunks") {
-        Ok(chunks(words))
+        chunks(words)
     } else if is(name, b"witness") {
-        Ok(alone(
+        alone(
             words,
             Command::Info(InfoCommand::Current(Question::Witness)),
-        ))
+        )
     } else {
-        Ok(None)
+        Err(Unread::Malformed)
     }
 }
 
 // What makes a store last, or ends a database.
-fn lasting(alloc: Global, name: &[u8], words: &[&[u8]]) -> Result<Option<ByteCommand>, AllocError>
-    ensures { IfOk result (λ command. option_map byte_line command ≡ grammar.form_of name.now (lent words.now) grammar.lasting_forms) }
+fn lasting(alloc: Global, name: &[u8], words: &[&[u8]]) -> Result<ByteCommand, Unread>
+    ensures { Reads byte_line result (grammar.form_of name.now (lent words.now) grammar.lasting_forms) }
 {
     if is(name, b"prune") {
-        match only_number(words) {
-            None => Ok(None),
-            Some(location) => Ok(Some(Command::Store(StoreCommand::Prune(location)))),
-        }
+        Ok(Command::Store(StoreCommand::Prune(only_number(words)?)))
     } else if is(name, b"commit") {
-        Ok(alone(words, Command::Store(StoreCommand::Commit)))
+        alone(words, Command::Store(StoreCommand::Commit))
     } else if is(name, b"sync") {
-        Ok(alone(words, Command::Store(StoreCommand::Sync)))
+        alone(words, Command::Store(StoreCommand::Sync))
     } else if is(name, b"close") {
-        Ok(alone(words, Command::Store(StoreCommand::Close)))
+        alone(words, Command::Store(StoreCommand::Close))
     } else if is(name, b"destroy") {
-        Ok(alone(words, Command::Store(StoreCommand::Destroy)))
+        alone(words, Command::Store(StoreCommand::Destroy))
     } else if is(name, b"crash") {
-        match only_number(words) {
-            None => Ok(None),
-            Some(end) => Ok(Some(Command::Store(StoreCommand::Crash(end)))),
-        }
+        Ok(Command::Store(StoreCommand::Crash(only_number(words)?)))
     } else {
         current(alloc, name, words)
     }
 }
 
 // What tells what a list or a batch is.
-fn telling(alloc: Global, name: &[u8], words: &[&[u8]]) -> Result<Option<ByteCommand>, AllocError>
-    ensures { IfOk result (λ command. option_map byte_line command ≡ grammar.form_of name.now (lent words.now) grammar.telling_forms) }
+fn telling(alloc: Global, name: &[u8], words: &[&[u8]]) -> Result<ByteCommand, Unread>
+    ensures { Reads byte_line result (grammar.form_of name.now (lent words.now) grammar.telling_forms) }
 {
     if is(name, b"info") {
-        Ok(info(words))
+        info(words)
     } else if is(name, b"root") {
-        Ok(root(words))
+        root(words)
     } else if is(name, b"proof") {
-        match only_number(words) {
-            None => Ok(None),
-            Some(handle) => Ok(Some(Command::Info(InfoCommand::BatchProof(handle)))),
-        }
+        Ok(Command::Info(InfoCommand::BatchProof(only_number(words)?)))
     } else if is(name, b"meta") {
-        Ok(alone(words, Command::Info(InfoCommand::Meta)))
+        alone(words, Command::Info(InfoCommand::Meta))
     } else if is(name, b"prove") {
-        Ok(prove(words))
+        prove(words)
     } else if is(name, b"pins") {
-        match only_number(words) {
-            None => Ok(None),
-            Some(size) => Ok(Some(Command::Info(InfoCommand::Pins(size)))),
-        }
+        Ok(Command::Info(InfoCommand::Pins(only_number(words)?)))
     } else {
         lasting(alloc, name, words)
     }
 }
 
 // What reads.
-fn reading(alloc: Global, name: &[u8], words: &[&[u8]]) -> Result<Option<ByteCommand>, AllocError>
-    ensures { IfOk result (λ command. option_map byte_line command ≡ grammar.form_of name.now (lent words.now) grammar.reading_forms) }
+fn reading(alloc: Global, name: &[u8], words: &[&[u8]]) -> Result<ByteCommand, Unread>
+    ensures { Reads byte_line result (grammar.form_of name.now (lent words.now) grammar.reading_forms) }
 {
     if is(name, b"get") {
         read(alloc, ReadForm::Get, words)
@@ -324,8 +290,8 @@ fn reading(alloc: Global, name: &[u8], words: &[&[u8]]) -> Result<Option<ByteCom
 }
 
 // What stages a batch, and what is done with one that is made.
-fn staged(alloc: Global, name: &[u8], words: &[&[u8]]) -> Result<Option<ByteCommand>, AllocError>
-    ensures { IfOk result (λ command. option_map byte_line command ≡ grammar.form_of name.now (lent words.now) grammar.staged_forms) }
+fn staged(alloc: Global, name: &[u8], words: &[&[u8]]) -> Result<ByteCommand, Unread>
+    ensures { Reads byte_line result (grammar.form_of name.now (lent words.now) grammar.staged_forms) }
 {
     if is(name, b"stage") {
         keyed(alloc, KeyedForm::Stage, words)
@@ -334,35 +300,29 @@ fn staged(alloc: Global, name: &[u8], words: &[&[u8]]) -> Result<Option<ByteComm
     } else if is(name, b"resolve") {
         resolve(alloc, words)
     } else if is(name, b"apply") {
-        match only_number(words) {
-            None => Ok(None),
-            Some(handle) => Ok(Some(Command::Store(StoreCommand::Apply(handle)))),
-        }
+        Ok(Command::Store(StoreCommand::Apply(only_number(words)?)))
     } else if is(name, b"ops") {
-        match only_number(words) {
-            None => Ok(None),
-            Some(handle) => Ok(Some(Command::Info(InfoCommand::Ops(handle)))),
-        }
+        Ok(Command::Info(InfoCommand::Ops(only_number(words)?)))
     } else {
         reading(alloc, name, words)
     }
 }
 
 /// The command that words are, by the first.
-pub fn of_words(alloc: Global, words: &[&[u8]]) -> Result<Option<ByteCommand>, AllocError>
-    ensures { IfOk result (λ command. option_map byte_line command ≡ grammar.of_words (lent words.now)) }
+pub fn of_words(alloc: Global, words: &[&[u8]]) -> Result<ByteCommand, Unread>
+    ensures { Reads byte_line result (grammar.of_words (lent words.now)) }
 {
     let Some((name, words)) = words.split_first() else {
-        return Ok(None);
+        return Err(Unread::Malformed);
     };
     if is(name, b"open") {
-        Ok(open(words))
+        open(words)
     } else if is(name, b"batch") {
-        Ok(alone(words, Command::Batch(BatchCommand::Batch)))
+        alone(words, Command::Batch(BatchCommand::Batch))
     } else if is(name, b"child") {
-        Ok(child(words))
+        child(words)
     } else if is(name, b"tip") {
-        Ok(alone(words, Command::Batch(BatchCommand::Tip)))
+        alone(words, Command::Batch(BatchCommand::Tip))
     } else if is(name, b"put") {
         put(alloc, words)
     } else if is(name, b"del") {

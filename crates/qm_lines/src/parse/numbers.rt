@@ -1,8 +1,10 @@
 // Decimal numbers.
-ghost use Rattle.std.specs.Prelude.{◌≡◌, option_map};
+ghost use Rattle.std.specs.Prelude.{◌≡◌};
 ghost use Rattle.std.specs.Int.NonZero.{non_zero_u64_get};
 ghost use Rattle.qm_machine.specs.Grammar as grammar;
+ghost use Rattle.qm_lines.specs.Parsed.{Reads};
 
+use super::unread::Unread;
 use std::num::NonZeroU64;
 
 // The number with one decimal digit more.
@@ -25,8 +27,8 @@ fn digits(word: &[u8]) -> Option<u64>
     Some(number)
 }
 
-/// A number without leading zeros.
-pub fn number(word: &[u8]) -> Option<u64>
+// A number without leading zeros.
+fn plain_number(word: &[u8]) -> Option<u64>
     ensures { result ≡ grammar.number_of word.now }
 {
     if word.is_empty() || (word.len() > 1 && word[0] == b'0') {
@@ -35,16 +37,23 @@ pub fn number(word: &[u8]) -> Option<u64>
     digits(word)
 }
 
+/// A number without leading zeros.
+pub fn number(word: &[u8]) -> Result<u64, Unread>
+    ensures { Reads (λ n. n) result (grammar.number_of word.now) }
+{
+    plain_number(word).ok_or(Unread::Malformed)
+}
+
 /// The number behind this name.
 pub fn named_number(name: &[u8], word: &[u8]) -> Option<u64>
     ensures { result ≡ grammar.named_number name.now word.now }
 {
-    number(word.strip_prefix(name)?)
+    plain_number(word.strip_prefix(name)?)
 }
 
 /// A number that is at least 1.
-pub fn positive(word: &[u8]) -> Option<NonZeroU64>
-    ensures { option_map non_zero_u64_get result ≡ grammar.positive_of word.now }
+pub fn positive(word: &[u8]) -> Result<NonZeroU64, Unread>
+    ensures { Reads non_zero_u64_get result (grammar.positive_of word.now) }
 {
-    NonZeroU64::new(number(word)?)
+    NonZeroU64::new(number(word)?).ok_or(Unread::Malformed)
 }

@@ -1,50 +1,44 @@
 // Ranges of keys: their ends, and the command.
-ghost use Rattle.std.specs.Prelude.{◌≡◌, IfOk, option_map};
 ghost use Rattle.qm_model.specs.Policies.{Policy};
 ghost use Rattle.qm_model.specs.Ranges.{Limit};
 ghost use Rattle.qm_machine.specs.Grammar as grammar;
 ghost use Rattle.qm_machine.specs.Lines.{Line};
-ghost use Rattle.qm_lines.specs.Parsed.{byte_bound, byte_line, lent, range_line};
+ghost use Rattle.qm_lines.specs.Parsed.{Reads, byte_bound, byte_line, lent, range_line};
 
 use super::ByteCommand;
 use super::keys::key;
 use super::pieces::is;
+use super::unread::Unread;
 use crate::command::{Command, ReadCommand};
 use qm_base::ByteKey;
-use std::alloc::{AllocError, Global};
+use std::alloc::Global;
 use std::ops::Bound;
 
 // A sign for no end, or a bracket and behind it a key: a square one where the key itself is in the range.
-fn low(alloc: Global, word: &[u8]) -> Result<Option<Bound<ByteKey>>, AllocError>
-    ensures { IfOk result (λ found. option_map byte_bound found ≡ grammar.low_of word.now) }
+fn low(alloc: Global, word: &[u8]) -> Result<Bound<ByteKey>, Unread>
+    ensures { Reads byte_bound result (grammar.low_of word.now) }
 {
     if is(word, b"*") {
-        return Ok(Some(Bound::Unbounded));
+        return Ok(Bound::Unbounded);
     }
-    let Some((bracket, word)) = word.split_first() else {
-        return Ok(None);
-    };
-    match bracket {
-        b'[' => Ok(key(alloc, word)?.map(Bound::Included)),
-        b'(' => Ok(key(alloc, word)?.map(Bound::Excluded)),
-        _ => Ok(None),
+    match word.split_first() {
+        Some((b'[', word)) => Ok(Bound::Included(key(alloc, word)?)),
+        Some((b'(', word)) => Ok(Bound::Excluded(key(alloc, word)?)),
+        _ => Err(Unread::Malformed),
     }
 }
 
 // A sign for no end, or a key and behind it a bracket.
-fn high(alloc: Global, word: &[u8]) -> Result<Option<Bound<ByteKey>>, AllocError>
-    ensures { IfOk result (λ found. option_map byte_bound found ≡ grammar.high_of word.now) }
+fn high(alloc: Global, word: &[u8]) -> Result<Bound<ByteKey>, Unread>
+    ensures { Reads byte_bound result (grammar.high_of word.now) }
 {
     if is(word, b"*") {
-        return Ok(Some(Bound::Unbounded));
+        return Ok(Bound::Unbounded);
     }
-    let Some((bracket, word)) = word.split_last() else {
-        return Ok(None);
-    };
-    match bracket {
-        b']' => Ok(key(alloc, word)?.map(Bound::Included)),
-        b')' => Ok(key(alloc, word)?.map(Bound::Excluded)),
-        _ => Ok(None),
+    match word.split_last() {
+        Some((b']', word)) => Ok(Bound::Included(key(alloc, word)?)),
+        Some((b')', word)) => Ok(Bound::Excluded(key(alloc, word)?)),
+        _ => Err(Unread::Malformed),
     }
 }
 
@@ -56,19 +50,15 @@ struct Ends {
 }
 
 // Two ends and no word more, whatever is made of them.
-fn parse_ends(alloc: Global, words: &[&[u8]]) -> Result<Option<Ends>, AllocError>
-    ensures { IfOk result (λ found. (line : Limit → Limit → Line Policy) → option_map (λ ends. line (byte_bound ends.low) (byte_bound ends.high)) found ≡ grammar.range_of line (lent words.now)) }
+fn parse_ends(alloc: Global, words: &[&[u8]]) -> Result<Ends, Unread>
+    ensures { (line : Limit → Limit → Line Policy) → Reads (λ ends. line (byte_bound ends.low) (byte_bound ends.high)) result (grammar.range_of line (lent words.now)) }
 {
     let [low_word, high_word] = words else {
-        return Ok(None);
+        return Err(Unread::Malformed);
     };
-    let Some(low) = low(alloc, low_word)? else {
-        return Ok(None);
-    };
-    let Some(high) = high(alloc, high_word)? else {
-        return Ok(None);
-    };
-    Ok(Some(Ends { low, high }))
+    let low = low(alloc, low_word)?;
+    let high = high(alloc, high_word)?;
+    Ok(Ends { low, high })
 }
 
 /// What is read of a range: keys with their values, or keys alone.
@@ -79,18 +69,12 @@ pub enum RangeForm {
 }
 
 /// A range, from one end to the other.
-pub fn range(
-    alloc: Global,
-    form: RangeForm,
-    words: &[&[u8]],
-) -> Result<Option<ByteCommand>, AllocError>
-    ensures { IfOk result (λ command. option_map byte_line command ≡ grammar.range_of (range_line form) (lent words.now)) }
+pub fn range(alloc: Global, form: RangeForm, words: &[&[u8]]) -> Result<ByteCommand, Unread>
+    ensures { Reads byte_line result (grammar.range_of (range_line form) (lent words.now)) }
 {
-    let Some(Ends { low, high }) = parse_ends(alloc, words)? else {
-        return Ok(None);
-    };
+    let Ends { low, high } = parse_ends(alloc, words)?;
     match form {
-        RangeForm::Range => Ok(Some(Command::Read(ReadCommand::Range(low, high)))),
-        RangeForm::Keys => Ok(Some(Command::Read(ReadCommand::Keys(low, high)))),
+        RangeForm::Range => Ok(Command::Read(ReadCommand::Range(low, high))),
+        RangeForm::Keys => Ok(Command::Read(ReadCommand::Keys(low, high))),
     }
 }

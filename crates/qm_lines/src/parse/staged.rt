@@ -1,65 +1,56 @@
 // Staged reads: slots, other writes, and the commands.
 ghost use Rattle.std.specs.Prelude.{◌≡◌, ◌≤◌, IfOk, drop, length, map, option_map};
 ghost use Rattle.qm_machine.specs.Grammar as grammar;
-ghost use Rattle.qm_lines.specs.Parsed.{byte_line, byte_slot, byte_write, keyed_line, lent, resolution_view};
+ghost use Rattle.qm_lines.specs.Parsed.{Reads, byte_line, byte_slot, byte_write, keyed_line, lent, resolution_view};
 
 use super::ByteCommand;
 use super::keys::{key, metadata, some_keys, value};
 use super::merkleize::parse_merkleizing;
 use super::numbers::number;
 use super::pieces::{is, pieces};
+use super::unread::Unread;
 use crate::command::{BatchCommand, Command, Resolution};
 use qm_base::{ByteKey, ByteValue, Slot, Write};
 use std::alloc::{AllocError, Global};
 
 // A word for itself, or a value behind a name.
-fn slot(alloc: Global, word: &[u8]) -> Result<Option<Slot<ByteValue>>, AllocError>
-    ensures { IfOk result (λ found. option_map byte_slot found ≡ grammar.slot_of word.now) }
+fn slot(alloc: Global, word: &[u8]) -> Result<Slot<ByteValue>, Unread>
+    ensures { Reads byte_slot result (grammar.slot_of word.now) }
 {
     if is(word, b"keep") {
-        return Ok(Some(Slot::Keep));
+        return Ok(Slot::Keep);
     }
     if is(word, b"del") {
-        return Ok(Some(Slot::Delete));
+        return Ok(Slot::Delete);
     }
     match word.strip_prefix(b"put:") {
-        None => Ok(None),
-        Some(word) => Ok(value(alloc, word)?.map(Slot::Put)),
+        None => Err(Unread::Malformed),
+        Some(word) => Ok(Slot::Put(value(alloc, word)?)),
     }
 }
 
 // A key and what it gets, with a sign between them.
-fn write(alloc: Global, word: &[u8]) -> Result<Option<Write<ByteKey, ByteValue>>, AllocError>
-    ensures { IfOk result (λ found. option_map byte_write found ≡ grammar.write_of word.now) }
+fn write(alloc: Global, word: &[u8]) -> Result<Write<ByteKey, ByteValue>, Unread>
+    ensures { Reads byte_write result (grammar.write_of word.now) }
 {
     let words = pieces(alloc, word, b'=')?;
     let [key_word, value_word] = words.as_slice() else {
-        return Ok(None);
+        return Err(Unread::Malformed);
     };
-    let Some(key) = key(alloc, key_word)? else {
-        return Ok(None);
-    };
-    let Some(value) = metadata(alloc, value_word)? else {
-        return Ok(None);
-    };
-    Ok(Some(Write { key, value }))
+    let key = key(alloc, key_word)?;
+    let value = metadata(alloc, value_word)?;
+    Ok(Write { key, value })
 }
 
 // These words as writes, if each is one.
-fn writes(
-    alloc: Global,
-    words: &[&[u8]],
-) -> Result<Option<Vec<Write<ByteKey, ByteValue>>>, AllocError>
-    ensures { IfOk result (λ found. option_map (λ writes. map byte_write writes.items) found ≡ grammar.each_write (lent words.now)) }
+fn writes(alloc: Global, words: &[&[u8]]) -> Result<Vec<Write<ByteKey, ByteValue>>, Unread>
+    ensures { Reads (λ writes. map byte_write writes.items) result (grammar.each_write (lent words.now)) }
 {
     let mut writes = Vec::new(alloc);
     for word in words {
-        let Some(write) = write(alloc, word)? else {
-            return Ok(None);
-        };
-        writes.push(write)?;
+        writes.push(write(alloc, word)?)?;
     }
-    Ok(Some(writes))
+    Ok(writes)
 }
 
 // Slots as far as there are any.
@@ -69,26 +60,22 @@ fn slots(alloc: Global, words: &[&[u8]]) -> Result<Vec<Slot<ByteValue>>, AllocEr
 {
     let mut slots = Vec::new(alloc);
     for word in words {
-        let Some(slot) = slot(alloc, word)? else {
-            break;
-        };
-        slots.push(slot)?;
+        match slot(alloc, word) {
+            Ok(slot) => slots.push(slot)?,
+            Err(Unread::Malformed) => break,
+            Err(Unread::Memory) => return Err(AllocError),
+        }
     }
     Ok(slots)
 }
 
 // Slots, and behind them other writes.
-fn resolution(
-    alloc: Global,
-    words: &[&[u8]],
-) -> Result<Option<Resolution<ByteKey, ByteValue>>, AllocError>
-    ensures { IfOk result (λ found. option_map resolution_view found ≡ grammar.resolution_of (lent words.now)) }
+fn resolution(alloc: Global, words: &[&[u8]]) -> Result<Resolution<ByteKey, ByteValue>, Unread>
+    ensures { Reads resolution_view result (grammar.resolution_of (lent words.now)) }
 {
     let slots = slots(alloc, words)?;
-    match writes(alloc, &words[slots.len()..])? {
-        None => Ok(None),
-        Some(others) => Ok(Some(Resolution { slots, others })),
-    }
+    let others = writes(alloc, &words[slots.len()..])?;
+    Ok(Resolution { slots, others })
 }
 
 /// What is done with keys that are read through a batch: it becomes a staged one, or has more of them.
@@ -99,42 +86,28 @@ pub enum KeyedForm {
 }
 
 /// A batch, and one key or more.
-pub fn keyed(
-    alloc: Global,
-    form: KeyedForm,
-    words: &[&[u8]],
-) -> Result<Option<ByteCommand>, AllocError>
-    ensures { IfOk result (λ command. option_map byte_line command ≡ grammar.keyed_of (keyed_line form) (lent words.now)) }
+pub fn keyed(alloc: Global, form: KeyedForm, words: &[&[u8]]) -> Result<ByteCommand, Unread>
+    ensures { Reads byte_line result (grammar.keyed_of (keyed_line form) (lent words.now)) }
 {
     let Some((handle, words)) = words.split_first() else {
-        return Ok(None);
+        return Err(Unread::Malformed);
     };
-    let Some(handle) = number(handle) else {
-        return Ok(None);
-    };
-    let Some(keys) = some_keys(alloc, words)? else {
-        return Ok(None);
-    };
+    let handle = number(handle)?;
+    let keys = some_keys(alloc, words)?;
     match form {
-        KeyedForm::Stage => Ok(Some(Command::Batch(BatchCommand::Stage(handle, keys)))),
-        KeyedForm::Expand => Ok(Some(Command::Batch(BatchCommand::Expand(handle, keys)))),
+        KeyedForm::Stage => Ok(Command::Batch(BatchCommand::Stage(handle, keys))),
+        KeyedForm::Expand => Ok(Command::Batch(BatchCommand::Expand(handle, keys))),
     }
 }
 
 /// What becomes of the keys of a staged batch, behind what every merkleize says.
-pub fn resolve(alloc: Global, words: &[&[u8]]) -> Result<Option<ByteCommand>, AllocError>
-    ensures { IfOk result (λ command. option_map byte_line command ≡ grammar.resolve_of (lent words.now)) }
+pub fn resolve(alloc: Global, words: &[&[u8]]) -> Result<ByteCommand, Unread>
+    ensures { Reads byte_line result (grammar.resolve_of (lent words.now)) }
 {
     let [handle, policy, metadata, rest @ ..] = words else {
-        return Ok(None);
+        return Err(Unread::Malformed);
     };
-    let Some(resolution) = resolution(alloc, rest)? else {
-        return Ok(None);
-    };
-    match parse_merkleizing(alloc, handle, policy, metadata)? {
-        None => Ok(None),
-        Some(m) => Ok(Some(Command::Batch(BatchCommand::Resolve(
-            m.handle, m.policy, m.metadata, resolution,
-        )))),
-    }
+    let resolution = resolution(alloc, rest)?;
+    let m = parse_merkleizing(alloc, handle, policy, metadata)?;
+    Ok(Command::Batch(BatchCommand::Resolve(m.handle, m.policy, m.metadata, resolution)))
 }

@@ -1,14 +1,20 @@
-use Rattle.std.proofs.Common.{◌∙◌, ap, sym, Some}
+use Rattle.std.proofs.Common.{◌∙◌, ap, refl, Some}
 use Rattle.std.specs.Prelude.{option_map}
 use Rattle.std.proofs.lemmas.Iterator.Adapters.{option_map_id}
+use Rattle.std.proofs.lemmas.Result.{err_from_is_err_and}
 use Rattle.qm_machine.specs.Lines.{Merkleize}
 use Rattle.qm_lines.specs.Policies.{policy_view}
+use Rattle.qm_lines.proofs.Readings.{unread-of}
 use Rattle.qm_lines.proofs.Resolutions.{merkleize-lent}
 use Rattle.qm_lines.proofs.parse.merkleize.merkleize.Goals as goal
 
-pub returns-in-Some : goal.returns-in-Some
-returns-in-Some c =
-    let m = c.in-Some.m in
+pub returns-in_err-m : goal.returns-in_err-m
+returns-in_err-m c =
+    let exit = err_from_is_err_and c.from_residual.result c.from_residual.ensures.1 in
+    rw (exit.1, exit.2) (unread-of (option_map (λ m. Merkleize m.0 m.1 m.2)) refl _ _ (merkleize-lent c.args.words.now _ c.in-len3.len_at_least c.in-len3.len_below _ refl) _ c.in_err-m.ensures)
+
+pub returns : goal.returns
+returns c =
+    let m = c.in_ok-m.m in
     ap (λ v. Some (Merkleize m.handle (policy_view m.policy) v)) (option_map_id m.metadata)
-    ∙ merkleize-lent c.args.words.now _ c.in-len3.len_at_least c.in-len3.len_below _
-    (ap (option_map (λ p. (p.handle, policy_view p.policy, p.metadata))) (sym c.in-Some.is) ∙ c.in_ok-parse_merkleizing.ensures)
+    ∙ merkleize-lent c.args.words.now _ c.in-len3.len_at_least c.in-len3.len_below _ c.in_ok-m.ensures

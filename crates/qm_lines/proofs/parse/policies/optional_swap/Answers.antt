@@ -1,10 +1,9 @@
-use Rattle.std.proofs.Common.{◌∙◌, sym}
+use Rattle.std.proofs.Common.{sym}
 use Rattle.qm_machine.specs.Grammar as grammar
 use Rattle.qm_lines.specs.Parsed.{lent}
 use Rattle.qm_lines.proofs.Parts.{some_said}
 use Rattle.qm_lines.proofs.parse.policies.optional_swap.Goals as goal
 
-pub returns-in-Some-2 : goal.returns-in-Some-2
-returns-in-Some-2 c =
-    some_said c.args.name.now grammar.swap_of (lent c.args.parts.now) c.in-Some.word.now (lent c.in-Some.rest.now) c.in-Some-2.pair c.in-Some.ensures
-    (sym c.in_ok-swap.ensures ∙ c.in-Some-2.is)
+pub returns : goal.returns
+returns c =
+    some_said c.args.name.now grammar.swap_of (lent c.args.parts.now) c.in-Some.word.now (lent c.in-Some.rest.now) _ c.in-Some.ensures (sym c.in_ok-swap.ensures)
