@@ -20,7 +20,7 @@ loop-written-preserved g c =
           written-next (linked_view key value) afters (is_kind c.args.kind) c.args.linked.now c.loop-written.written-index d c.loop-written-test.true c.written-item.is (show c.args.touches.now.items) (show c.loop-written.touches.items)
           (show c.if-is_of.touches.items) c.loop-written.invariant _ w.if-is_of.ensures
           (ap (λ v. show v.items) w.touches-is ∙ push-shown (ordered_touch key value) c.loop-written.touches.items w.push.new.self.items _ w.in_ok-push.ensures.items)
-          w.in_ok-operation.ensures (w.place_of.ensures ∙ place-shown (λ s. s.at) _ d.stands)
+          w.in_ok-operation.ensures (w.at.ensures ∙ place-shown (λ s. s.at) _ d.stands)
       | else-is_of w ↦
           written-not (linked_view key value) afters (is_kind c.args.kind) c.args.linked.now c.loop-written.written-index d c.loop-written-test.true c.written-item.is (show c.args.touches.now.items) (show c.loop-written.touches.items)
           (show c.if-is_of.touches.items) c.loop-written.invariant w.if-is_of.ensures (ap (λ v. show v.items) w.touches-is)
