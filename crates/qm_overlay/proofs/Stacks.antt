@@ -12,6 +12,11 @@ pub layered-more : (size : ℕ) (os : List Overlay) (o : Overlay) (base : Bitmap
 layered-more size [] o base = refl
 layered-more size (x ∷ os) o base = layered-more size os o (laid size x base)
 
+-- no step changes nothing
+pub layered-none : {R : Type 0} (value : R → Overlay) (size : ℕ) (xs : List R) (base : Bitmap) → length xs ≡ 0 → base ≡ layered size (map value xs) base
+layered-none value size [] base none = refl
+layered-none value size (x ∷ xs) base none = absurd (omega (arith, none))
+
 pub pruned-layered : (size : ℕ) (os : List Overlay) (base : Bitmap) → (layered size os base).pruned ≡ base.pruned
 pruned-layered size [] base = refl
 pruned-layered size (x ∷ os) base = pruned-layered size os (laid size x base) ∙ pruned-laid size x base

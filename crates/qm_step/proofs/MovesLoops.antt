@@ -3,12 +3,14 @@ use Rattle.std.proofs.Common.{◌≡◌, ℕ, ◌+◌, ◌<◌, Bool, true, fals
 use Rattle.std.specs.Prelude.{not, filter_map, option_map, option_to_list, is_none, is_some, bytes_eq}
 use Rattle.std.specs.List.{cons_option}
 use Rattle.std.proofs.lemmas.List.{take_more, map-append}
+use Rattle.std.proofs.lemmas.Option.{same_Some}
 use Rattle.std.proofs.lemmas.List.Elements.{filter_map-append}
-use Rattle.qm_model.specs.Operations.{Bytes, Operation}
+use Rattle.qm_model.specs.Operations.{Bytes, Operation, update}
 use Rattle.qm_model.specs.Keys.{contains_key}
 use Rattle.qm_index.proofs.Members.{Contains-later}
 use Rattle.qm_step.specs.Changes.{AreChanges}
 use Rattle.qm_step.specs.Layers.{Layer, LeadOver}
+use Rattle.qm_step.specs.Moves.{rewritten_naming, update_naming}
 
 -- one layer more
 pub lead-more : (layers : List Layer) (lent list own : List Operation) (newest : Layer) → newest.base ≡ length list → newest.operations ≡ own → AreChanges newest.changes list (list ++ own) → LeadOver layers lent list → LeadOver (newest ∷ layers) lent (list ++ own)
@@ -69,3 +71,17 @@ mapped-more f view xs i d made made' x l here pushed shown so_far =
     ap (map view) pushed ∙ map-append view made (x ∷ [])
     ∙ ap₂ (λ ys y. ys ++ y ∷ []) so_far (shown ∙ ap f here)
     ∙ sym (ap (map f) (take_more xs i d l) ∙ map-append f (take i xs) (get_or xs i d ∷ []))
+
+-- one thing more of those that are made of the first elements
+pub taken-more : {A Y : Type 0} (f : A → Y) (xs : List A) (i : ℕ) (d : A) (made made' : List Y) (y : Y) → i < length xs → d ≡ get_or xs i d → made' ≡ made ++ y ∷ [] → y ≡ f d → made ≡ map f (take i xs) → made' ≡ map f (take (i + 1) xs)
+taken-more f xs i d made made' y l here pushed shown so_far =
+    pushed ∙ ap₂ (λ ys z. ys ++ z ∷ []) so_far (shown ∙ ap f here) ∙ sym (ap (map f) (take_more xs i d l) ∙ map-append f (take i xs) (get_or xs i d ∷ []))
+
+-- an update written again, and none where it would name no key
+pub rewritten-some : (next : Option Bytes) (key value : Bytes) (said : Operation) (before at : Option ℕ) → Some said ≡ update_naming next key (Some value) → before ≡ at → Some (record { operation = said; before = before }) ≡ rewritten_naming next at key value
+rewritten-some None key value said before at is there = cc
+rewritten-some (Some n) key value said before at is there = ap₂ (λ op b. Some (record { operation = op; before = b })) (same_Some said (update key value (Some n)) is) there
+
+pub rewritten-none : (next : Option Bytes) (key value : Bytes) (at : Option ℕ) → None ≡ update_naming next key (Some value) → None ≡ rewritten_naming next at key value
+rewritten-none None key value at is = refl
+rewritten-none (Some n) key value at is = cc

@@ -1,5 +1,5 @@
 -- Where the key of a live update stood before the operations of writes.
-use Rattle.std.proofs.Common.{◌≡◌, ℕ, ◌-◌, ◌≤◌, ◌<◌, Bool, true, false, List, ◌++◌, length, refl, ap, sym, ◌∙◌, subst, Option, Some, None, arith}
+use Rattle.std.proofs.Common.{◌≡◌, ℕ, ◌-◌, ◌≤◌, ◌<◌, Bool, true, false, List, ◌++◌, length, map, refl, ap, sym, ◌∙◌, subst, Option, Some, None, arith}
 use Rattle.std.specs.Prelude.{All, slice_get, nat_lt, option_map, option_and_then, if◌then◌else◌}
 use Rattle.std.proofs.lemmas.Bool.Decides.{nat_tests}
 use Rattle.std.proofs.lemmas.Option.{same_Some, slice_get-map, slice_get_within, get_or_from_slice_get}
@@ -18,6 +18,22 @@ below a b h = grind (arith, nat_tests, h)
 
 not_below : (a b : ℕ) → b ≤ a → nat_lt a b ≡ false
 not_below a b h = grind (arith, nat_tests, h)
+
+-- a place in the base list, one of an operation behind it, and one behind all
+pub placed-low : (size : ℕ) (made : List Touch) (at : ℕ) → at < size → Some at ≡ place_before size made at
+placed-low size made at low = ap (λ t. if t then Some at else option_and_then (λ (t : Touch). t.before) (slice_get made (at - size))) (sym (below at size low))
+
+module _ {A : Type 0} (view : A → Touch) (size : ℕ) (made : List A) (at : ℕ) (high : size ≤ at) where
+  placed-at : (o : Option Touch) → slice_get (map view made) (at - size) ≡ o → option_and_then (λ (t : Touch). t.before) o ≡ place_before size (map view made) at
+  placed-at o is =
+      ap (option_and_then (λ (t : Touch). t.before)) (sym is)
+      ∙ ap (λ t. if t then Some at else option_and_then (λ (t : Touch). t.before) (slice_get (map view made) (at - size))) (sym (not_below at size high))
+
+  pub placed-behind : (t : A) → slice_get made (at - size) ≡ Some t → (view t).before ≡ place_before size (map view made) at
+  placed-behind t is = placed-at (Some (view t)) (slice_get-map view made (at - size) ∙ ap (option_map view) is)
+
+  pub placed-past : slice_get made (at - size) ≡ None → None ≡ place_before size (map view made) at
+  placed-past is = placed-at None (slice_get-map view made (at - size) ∙ ap (option_map view) is)
 
 module _ (list : List Operation) (made : List Touch) (from : All (IsFrom list) made) (key : Bytes) (e : Live) (is : live_of (live (list ++ operations_of made)) key ≡ Some e) where
   pub place-is : (size : ℕ) → size ≡ length list → place_before size made e.location ≡ place_in list key

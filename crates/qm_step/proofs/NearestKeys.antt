@@ -1,5 +1,5 @@
 -- The entry next to a key, from ranges of a map by key.
-use Rattle.std.proofs.Common.{◌≡◌, ℕ, zero, suc, ◌-◌, Bool, true, false, cond, List, [], ◌∷◌, ◌++◌, length, map, refl, ap, sym, ◌∙◌, subst, Some, arith, Bor, ◌&&◌, inl, inr}
+use Rattle.std.proofs.Common.{◌≡◌, ℕ, zero, suc, ◌-◌, Bool, true, false, cond, List, [], ◌∷◌, ◌++◌, length, map, refl, ap, sym, ◌∙◌, subst, Some, arith, Bor, ◌&&◌, inl, inr, true≢false, ◌<◌}
 use Rattle.std.specs.Prelude.{not, filter, slice_get, Contains}
 use Rattle.std.specs.Cmp.Lexicographic.{slice_cmp}
 use Rattle.std.specs.Ordering.{nat_cmp, is_lt, is_le, ordering_reverse}
@@ -171,3 +171,8 @@ module _ {X : Type 0} where
           subst (λ xs. Contains xs e) (sym split.1) (contains-middle front e []),
           ap (λ ks. predecessor ks key) keys ∙ predecessor-wraps (key_list front) key e.0.now (up (key_list front ++ e.0.now ∷ []) keys) (λ y has. none y (ap (λ ks. contains_key ks y) keys ∙ has)),
         )
+
+-- no entries where none can be taken
+pub none-left : {E : Type 0} (es : List E) → (0 < length es → false ≡ true) → es ≡ []
+none-left [] none = refl
+none-left (e ∷ es) none = absurd (true≢false (sym (none (omega arith))))

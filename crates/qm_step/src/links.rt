@@ -11,7 +11,6 @@ ghost use Rattle.qm_step.specs.PlanViews.{last_write_view, linked_view};
 ghost use Rattle.qm_step.specs.Rings.{linked_in, neighbour_in, touch_in};
 ghost use Rattle.qm_step.specs.Touches as lists;
 
-use crate::found::Stands;
 use crate::nearest::{entry_before, key_behind};
 use crate::neighbour::Neighbour;
 use crate::site::Site;
@@ -239,16 +238,6 @@ fn operation_of<'a, F, K: ByteString, V: ValueEncoding<K>>(
     }
 }
 
-// Where a key's live update stands, if it has one.
-fn place_of<K>(stands: &Option<Stands<K>>) -> Option<u64>
-    ensures { result ≡ option_map (λ s. s.at) stands.now }
-{
-    match stands {
-        Some(stands) => Some(stands.at),
-        None => None,
-    }
-}
-
 // Adds the operations of the writes of a kind.
 fn add_written<'a, F, K: ByteString, V: ValueEncoding<K>>(
     alloc: Global,
@@ -266,7 +255,7 @@ fn add_written<'a, F, K: ByteString, V: ValueEncoding<K>>(
             let operation = operation_of(alloc, afters, &written.write)?;
             touches.push(Touch {
                 operation,
-                before: place_of(&written.stands),
+                before: written.at(),
             })?;
         }
     }

@@ -1,9 +1,11 @@
 use Rattle.std.proofs.Common.{◌≡◌, ◌∙◌, ◌-◌, ◌*◌, ◌/◌, ◌%◌, ◌≤◌, [], false, get_or, suc, ap, sym, subst, map, length, add-one, refl, arith}
 use Rattle.qm_bits.specs.Bitmaps.{bit_count, all_bits}
 use Rattle.qm_overlay.specs.Layers.{layered, bit_over, changed_at, IsClearBehind}
-use Rattle.qm_overlay.proofs.Stacks.{count_last}
+use Rattle.qm_overlay.proofs.Stacks.{count_last, layered-none}
 use Rattle.qm_overlay.proofs.Applying.{grows, none_applied, one_applied, all_applied, AreApplied}
 use Rattle.qm_overlay.proofs.apply.commit.Given
+use Rattle.std.proofs.lemmas.Result.{IfOk-from_err}
+use Rattle.qm_overlay.proofs.Laying.{on_err}
 use Rattle.qm_overlay.proofs.apply.commit.Goals as goal
 
 -- the last step says how many bits there are
@@ -38,3 +40,18 @@ pub returns-clause-ok : goal.returns-clause-ok
 returns-clause-ok g c =
     all_applied (λ r. r.value) g.N.Chunks.LEN c.args.layers.now c.args.bits.now c.requires c.loop-layer.layer-index
     (bit_count g.N.Chunks.LEN (layered g.N.Chunks.LEN (map (λ r. r.value) c.args.layers.now) c.args.bits.now)) c.loop-layer.bits (omega (arith, c.loop-layer-test.false)) refl c.loop-layer.invariant
+
+pub returns-in_err-extend_to-clause-ok : goal.returns-in_err-extend_to-clause-ok
+returns-in_err-extend_to-clause-ok g c = IfOk-from_err c.from_residual.result _ c.from_residual.ensures.0
+
+pub returns-in_err-extend_to-clause-err : goal.returns-in_err-extend_to-clause-err
+returns-in_err-extend_to-clause-err g c = on_err c.from_residual.result c.in_err-extend_to.ensures.err
+
+pub returns-clause-err : goal.returns-clause-err
+returns-clause-err g c = tt
+
+pub returns-then-count-eq0-clause-ok : goal.returns-then-count-eq0-clause-ok
+returns-then-count-eq0-clause-ok g c = layered-none (λ r. r.value) g.N.Chunks.LEN c.args.layers.now c.args.bits.now c.if-count-eq0.true
+
+pub returns-then-count-eq0-clause-err : goal.returns-then-count-eq0-clause-err
+returns-then-count-eq0-clause-err g c = tt

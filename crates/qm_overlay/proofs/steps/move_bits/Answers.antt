@@ -5,6 +5,9 @@ use Rattle.qm_step.specs.Views.{changes_view}
 use Rattle.qm_step.proofs.Staged.{lead-at}
 use Rattle.qm_overlay.specs.Marks.{HasLive}
 use Rattle.qm_overlay.proofs.Shifting.{lead-longer, alike-then}
+use Rattle.std.proofs.lemmas.Result.{IfOk-from_err}
+use Rattle.qm_overlay.proofs.Laying.{on_err}
+use Rattle.qm_chain.specs.Ascending.{IsAscending}
 use Rattle.qm_overlay.proofs.steps.move_bits.Goals as goal
 
 pub loop-step-init : goal.loop-step-init
@@ -46,3 +49,27 @@ returns-clause-live g c = λ from tip lead few has.
     let last = c.loop-step.invariant.2 from tip lead few has in
     let same : last.0 ≡ tip = subst (λ n. LeadTo (map (λ d. views d.value) (take n c.args.diffs.now)) last.0 tip) none last.1 in
     subst (HasLive g.N.Chunks.LEN (g.M.Marks.bitmap c.loop-step.activity)) same last.2
+
+pub returns-in_err-move_entries-clause-alike : goal.returns-in_err-move_entries-clause-alike
+returns-in_err-move_entries-clause-alike g c = IfOk-from_err c.from_residual.result _ c.from_residual.ensures.0
+
+pub returns-in_err-move_entries-clause-live : goal.returns-in_err-move_entries-clause-live
+returns-in_err-move_entries-clause-live g c = λ from tip lead few has. IfOk-from_err c.from_residual.result _ c.from_residual.ensures.0
+
+pub returns-in_err-move_entries-clause-below : goal.returns-in_err-move_entries-clause-below
+returns-in_err-move_entries-clause-below g c = IfOk-from_err c.from_residual.result _ c.from_residual.ensures.0
+
+pub returns-in_err-move_entries-clause-err : goal.returns-in_err-move_entries-clause-err
+returns-in_err-move_entries-clause-err g c = on_err c.from_residual.result c.in_err-move_entries.ensures.err
+
+pub returns-clause-alike : goal.returns-clause-alike
+returns-clause-alike g c = c.loop-step.invariant.0
+
+pub returns-clause-below : goal.returns-clause-below
+returns-clause-below g c = c.loop-step.invariant.1
+
+pub returns-clause-err : goal.returns-clause-err
+returns-clause-err g c = tt
+
+pub move_entries-requires : goal.move_entries-requires
+move_entries-requires g c = subst (λ es. IsAscending (map (λ e. g.K.ByteString.bytes e.0) es)) (sym c.entries.ensures.value) c.entries.ensures.ascending

@@ -5,6 +5,8 @@ use Rattle.qm_step.specs.Views.{change_view, changes_view}
 use Rattle.qm_step.proofs.Entries.{view-before, view-now}
 use Rattle.qm_overlay.specs.Marks.{AreMarked}
 use Rattle.qm_overlay.proofs.Shifting.{stage, stage-next, stage-all, tip-longer, alike-start, alike-then}
+use Rattle.std.proofs.lemmas.Result.{IfOk-from_err}
+use Rattle.qm_overlay.proofs.Laying.{on_err}
 use Rattle.qm_overlay.proofs.steps.move_entries.Goals as goal
 
 pub loop-entry-init : goal.loop-entry-init
@@ -43,3 +45,36 @@ returns-clause-live g c = λ base tip are few has.
           (subst (λ xs. AreMarked bits (stage (views xs) base)) (take_all c.loop-entry.entry-index c.args.entries.now c.loop-entry-test.false) (c.loop-entry.invariant.2 base tip are few has));
       kept = omega (arith, start_is, longer, kept);
     }
+
+pub returns-in_err-clear_at-clause-alike : goal.returns-in_err-clear_at-clause-alike
+returns-in_err-clear_at-clause-alike g c = IfOk-from_err c.from_residual.result _ c.from_residual.ensures.0
+
+pub returns-in_err-clear_at-clause-live : goal.returns-in_err-clear_at-clause-live
+returns-in_err-clear_at-clause-live g c = λ base tip are few has. IfOk-from_err c.from_residual.result _ c.from_residual.ensures.0
+
+pub returns-in_err-clear_at-clause-below : goal.returns-in_err-clear_at-clause-below
+returns-in_err-clear_at-clause-below g c = IfOk-from_err c.from_residual.result _ c.from_residual.ensures.0
+
+pub returns-in_err-clear_at-clause-err : goal.returns-in_err-clear_at-clause-err
+returns-in_err-clear_at-clause-err g c = on_err c.from_residual.result c.in_err-clear_at.ensures.err
+
+pub returns-in_err-mark_at-clause-alike : goal.returns-in_err-mark_at-clause-alike
+returns-in_err-mark_at-clause-alike g c = IfOk-from_err c.from_residual-in_err-mark_at.result _ c.from_residual-in_err-mark_at.ensures.0
+
+pub returns-in_err-mark_at-clause-live : goal.returns-in_err-mark_at-clause-live
+returns-in_err-mark_at-clause-live g c = λ base tip are few has. IfOk-from_err c.from_residual-in_err-mark_at.result _ c.from_residual-in_err-mark_at.ensures.0
+
+pub returns-in_err-mark_at-clause-below : goal.returns-in_err-mark_at-clause-below
+returns-in_err-mark_at-clause-below g c = IfOk-from_err c.from_residual-in_err-mark_at.result _ c.from_residual-in_err-mark_at.ensures.0
+
+pub returns-in_err-mark_at-clause-err : goal.returns-in_err-mark_at-clause-err
+returns-in_err-mark_at-clause-err g c = on_err c.from_residual-in_err-mark_at.result c.in_err-mark_at.ensures.err
+
+pub returns-clause-alike : goal.returns-clause-alike
+returns-clause-alike g c = c.loop-entry.invariant.0
+
+pub returns-clause-below : goal.returns-clause-below
+returns-clause-below g c = c.loop-entry.invariant.1
+
+pub returns-clause-err : goal.returns-clause-err
+returns-clause-err g c = tt

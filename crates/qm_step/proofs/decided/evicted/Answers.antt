@@ -1,7 +1,8 @@
-use Rattle.std.proofs.Common.{◌≡◌, ◌∙◌, ◌+◌, Bool, Option, true, false, ap, sym, subst, arith}
+use Rattle.std.proofs.Common.{◌≡◌, ◌∙◌, ◌+◌, Bool, Option, true, false, ap, sym, subst, arith, refl, le_refl, count_by}
 use Rattle.std.specs.Prelude.{is_none, is_some, not}
 use Rattle.std.proofs.lemmas.List.Sums.{count_by_more_yes, count_by_more_no}
 use Rattle.qm_step.proofs.MovesLoops.{none-is}
+use Rattle.std.proofs.lemmas.List.{take_all}
 use Rattle.qm_step.proofs.decided.evicted.Goals as goal
 use Rattle.qm_step.proofs.decided.evicted.Goals.{then-is_none, else-is_none}
 
@@ -25,3 +26,12 @@ loop-one-preserved g c =
         omega (arith, w.count-is, c.loop-one.invariant.1),
       )
     ]
+
+pub loop-one-init : goal.loop-one-init
+loop-one-init g c = (refl, le_refl _)
+
+pub returns-clause-count : goal.returns-clause-count
+returns-clause-count g c = c.loop-one.invariant.0 ∙ ap (count_by (λ d. is_none d.value)) (take_all c.loop-one.one-index c.args.decided.now c.loop-one-test.false)
+
+pub returns-clause-bound : goal.returns-clause-bound
+returns-clause-bound g c = omega (arith, c.loop-one.invariant.1, c.loop-one.auto.one-index-end)

@@ -1,8 +1,11 @@
-use Rattle.std.proofs.Common.{◌≡◌, ◌∙◌, arith, ap₂, map, true, Bor, List, ℕ}
+use Rattle.std.proofs.Common.{◌≡◌, ◌∙◌, arith, ap₂, map, true, Bor, List, ℕ, ◌++◌, ap}
 use Rattle.std.proofs.lemmas.List.{length-map}
+use Rattle.std.proofs.lemmas.Result.{IfOk-from_err}
 use Rattle.std.proofs.lemmas.Map.Iter.{rest_more, rest_all}
 use Rattle.qm_step.proofs.PlanEntries.{entry_shown, note_shown, kept-first, kept-rest, ascends-shown}
 use Rattle.qm_step.proofs.PlanLoops.{drained-more, drained-room, drained-all}
+use Rattle.std.proofs.lemmas.List.Elements.{All-same}
+use Rattle.qm_step.specs.Views.{changes_view}
 use Rattle.qm_step.proofs.diff.diff_of.Goals as goal
 
 pub loop-key-preserved : goal.loop-key-preserved
@@ -38,3 +41,32 @@ new-requires g c =
     (drained-all (entry_shown key value) (note_shown value) c.loop-key.entries.items c.loop-key.key-iterator (map (note_shown value) c.args.notes.entries)
     (rest_all (λ x. x) c.loop-key.key-iterator c.next.new.self c.next.result c.in-None.is c.next.ensures.steps) c.loop-key.invariant.value)
     c.into_iter-key-iterator.ensures.into_iter_gives.5
+
+pub returns-in_err-entries : goal.returns-in_err-entries
+returns-in_err-entries g c = IfOk-from_err c.from_residual.result _ c.from_residual.ensures.0
+
+pub returns-in_err-key : goal.returns-in_err-key
+returns-in_err-key g c = IfOk-from_err c.from_residual-in_err-key.result _ c.from_residual-in_err-key.ensures.0
+
+pub returns-in_err-entry : goal.returns-in_err-entry
+returns-in_err-entry g c = IfOk-from_err c.from_residual-in_err-entry.result _ c.from_residual-in_err-entry.ensures.0
+
+pub loop-key-init : goal.loop-key-init
+loop-key-init g c =
+    let key = g.K.ByteString.bytes in
+    let value = g.V.ByteString.bytes in
+    let made = c.in_ok-entries.ensures in
+    let all = c.into_iter-key-iterator.ensures.into_iter_gives.0 in
+    record {
+      value = ap₂ (λ xs es. map (entry_shown key value) xs ++ map (note_shown value) es) made.items all;
+      room = made.exact ∙ c.len.ensures.len;
+      known = All-same (λ e. g.K.ByteString.has e.0.now ≡ true) c.into_iter-key-iterator.result c.args.notes.entries all c.requires;
+    }
+
+pub returns : goal.returns
+returns g c =
+    let key = g.K.ByteString.bytes in
+    let value = g.V.ByteString.bytes in
+    ap (changes_view key value) c.new.ensures
+    ∙ drained-all (entry_shown key value) (note_shown value) c.loop-key.entries.items c.loop-key.key-iterator (map (note_shown value) c.args.notes.entries)
+    (rest_all (λ x. x) c.loop-key.key-iterator c.next.new.self c.next.result c.in-None.is c.next.ensures.steps) c.loop-key.invariant.value

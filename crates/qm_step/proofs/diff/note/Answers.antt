@@ -8,6 +8,7 @@ use Rattle.qm_operations.specs.Views.{operation_view}
 use Rattle.qm_step.specs.PlanViews.{touch_view, noted_view}
 use Rattle.qm_step.proofs.PlanDiffs.{update-parts, noted-update, noted-delete, noted-commit, put-answers}
 use Rattle.qm_step.proofs.PlanLoops.{insert-kept}
+use Rattle.std.proofs.lemmas.Result.{IfOk-from_err}
 use Rattle.qm_step.proofs.diff.note.Goals as goal
 
 pub returns-in_ok-insert-in-Update-clause-noted : goal.returns-in_ok-insert-in-Update-clause-noted
@@ -52,3 +53,18 @@ returns-in-CommitFloor-clause-noted g c = λ base own at from so_far.
     let value = g.U.Value.ByteString.bytes in
     let view = operation_view g.U.Update.view key value in
     noted-commit base own (view c.args.touch.now.operation) _ _ (λ q. option_map (noted_view value) (get_by (λ k. slice_cmp nat_cmp q k.now) c.args.notes.now)) (ap view c.in-CommitFloor.is) so_far
+
+pub returns-in_err-insert-in-Update-clause-noted : goal.returns-in_err-insert-in-Update-clause-noted
+returns-in_err-insert-in-Update-clause-noted g c = IfOk-from_err c.from_residual.result _ c.from_residual.ensures.0
+
+pub returns-in_err-insert-in-Update-clause-known : goal.returns-in_err-insert-in-Update-clause-known
+returns-in_err-insert-in-Update-clause-known g c = IfOk-from_err c.from_residual.result _ c.from_residual.ensures.0
+
+pub returns-in_err-insert-in-Delete-clause-noted : goal.returns-in_err-insert-in-Delete-clause-noted
+returns-in_err-insert-in-Delete-clause-noted g c = IfOk-from_err c.from_residual-in_err-insert-in-Delete.result _ c.from_residual-in_err-insert-in-Delete.ensures.0
+
+pub returns-in_err-insert-in-Delete-clause-known : goal.returns-in_err-insert-in-Delete-clause-known
+returns-in_err-insert-in-Delete-clause-known g c = IfOk-from_err c.from_residual-in_err-insert-in-Delete.result _ c.from_residual-in_err-insert-in-Delete.ensures.0
+
+pub returns-in-CommitFloor-clause-known : goal.returns-in-CommitFloor-clause-known
+returns-in-CommitFloor-clause-known g c = λ all. all

@@ -7,6 +7,7 @@ use Rattle.qm_step.specs.Links.{keys_in, Stands}
 use Rattle.qm_step.specs.OrderedViews.{ordered_update}
 use Rattle.qm_step.specs.Views.{read_view}
 use Rattle.qm_step.proofs.LinksSets.{looked, kept-more, gone-none, all-more}
+use Rattle.std.proofs.lemmas.Result.{IfOk-from_err}
 use Rattle.qm_step.proofs.links.add_before.Goals as goal
 
 pub returns-in_ok-insert-clause-keys : goal.returns-in_ok-insert-clause-keys
@@ -31,3 +32,9 @@ returns-else-not-contains_key-clause-keys g c = λ x.
     let gone = keys_in c.args.deleted.now.entries in
     gone-none c.args.befores.now.entries gone key (looked c.args.deleted.now.entries c.as_bytes-key.result.now key _ c.if-not-contains_key.ensures c.as_bytes-key.ensures.value) x
     ∙ ap (λ o. contains_key (keys_in c.args.befores.now.entries ++ without gone (option_to_list (option_and_then (λ p. key_of p.1) (option_map (read_view view) o)))) x) (sym c.in-Some.is)
+
+pub returns-in_err-insert-clause-keys : goal.returns-in_err-insert-clause-keys
+returns-in_err-insert-clause-keys g c = IfOk-from_err c.from_residual.result _ c.from_residual.ensures.0
+
+pub returns-in_err-insert-clause-standing : goal.returns-in_err-insert-clause-standing
+returns-in_err-insert-clause-standing g c = IfOk-from_err c.from_residual.result _ c.from_residual.ensures.0

@@ -3,6 +3,7 @@ use Rattle.std.specs.Prelude.{filter_map}
 use Rattle.qm_model.specs.Keys.{contains_key, without}
 use Rattle.qm_step.specs.Links.{before_of, keys_in, ordered_neighbour, IsStanding}
 use Rattle.qm_step.proofs.LinksSets.{all-at, made-next, whole}
+use Rattle.std.proofs.lemmas.Result.{IfOk-from_err}
 use Rattle.qm_step.proofs.links.befores_of.Goals as goal
 
 pub loop-neighbour-preserved : goal.loop-neighbour-preserved
@@ -23,3 +24,9 @@ returns-clause-keys g c = λ x.
     c.loop-neighbour.invariant.keys x
     ∙ ap (λ ns. contains_key (without (keys_in c.args.deleted.now.entries) (filter_map before_of ns)) x)
     (whole (ordered_neighbour g.K.ByteString.bytes g.V.Value.ByteString.bytes) c.args.neighbours.now c.loop-neighbour.neighbour-index c.loop-neighbour-test.false)
+
+pub returns-in_err-add_before-clause-keys : goal.returns-in_err-add_before-clause-keys
+returns-in_err-add_before-clause-keys g c = IfOk-from_err c.from_residual.result _ c.from_residual.ensures.0
+
+pub returns-in_err-add_before-clause-standing : goal.returns-in_err-add_before-clause-standing
+returns-in_err-add_before-clause-standing g c = IfOk-from_err c.from_residual.result _ c.from_residual.ensures.0

@@ -10,6 +10,7 @@ use Rattle.qm_step.specs.declared.links.Kind.{Kind}
 use Rattle.qm_step.specs.declared.links.Kind.TheVariants.{Delete, Update, Create}
 use Rattle.qm_step.proofs.LinksMade.{filter_map-twice, filter_map-map, gone-keys, put-keys, new-keys, neighbours-stand}
 use Rattle.qm_step.proofs.LinksWhole.{written-touches}
+use Rattle.std.proofs.lemmas.Result.{IfOk-from_err}
 use Rattle.qm_step.proofs.links.linked_touches.Goals as goal
 
 pub returns : goal.returns
@@ -35,3 +36,18 @@ returns g c = λ base ws ring writes_are neighbours_are.
     ∙ ap₂ (λ ns ms. contains_key (without gone ns ++ without gone ms) x)
     (ap (filter_map after_of) writes_are ∙ filter_map-map after_of (linked_in base) us)
     (ap (filter_map next_of) neighbours_are ∙ filter_map-twice next_of (neighbour_in base) us))
+
+pub returns-in_err-deleted : goal.returns-in_err-deleted
+returns-in_err-deleted g c = IfOk-from_err c.from_residual.result _ c.from_residual.ensures.0
+
+pub returns-in_err-befores : goal.returns-in_err-befores
+returns-in_err-befores g c = IfOk-from_err c.from_residual-in_err-befores.result _ c.from_residual-in_err-befores.ensures.0
+
+pub returns-in_err-afters : goal.returns-in_err-afters
+returns-in_err-afters g c = IfOk-from_err c.from_residual-in_err-afters.result _ c.from_residual-in_err-afters.ensures.0
+
+pub returns-in_err-touches : goal.returns-in_err-touches
+returns-in_err-touches g c = IfOk-from_err c.from_residual-in_err-touches.result _ c.from_residual-in_err-touches.ensures.0
+
+pub returns-in_err-add_relinked : goal.returns-in_err-add_relinked
+returns-in_err-add_relinked g c = IfOk-from_err c.from_residual-in_err-add_relinked.result _ c.from_residual-in_err-add_relinked.ensures.0

@@ -6,6 +6,7 @@ use Rattle.qm_model.specs.Keys.{successor}
 use Rattle.qm_step.specs.Moves.{place_before, rewritten_naming}
 use Rattle.qm_step.specs.OrderedViews.{ordered_touch, ordered_touches}
 use Rattle.qm_step.proofs.MovesLoops.{drained-some, drained-none, given-mapped}
+use Rattle.std.proofs.lemmas.Result.{IfOk-from_err}
 use Rattle.qm_step.proofs.moves.add_rewritten.Goals as goal
 
 pub loop-found-init : goal.loop-found-init
@@ -35,3 +36,18 @@ returns-clause-made g c =
     c.loop-found.touches.items c.loop-found.found-iterator _ (rest_all deref c.loop-found.found-iterator c.next.new.self c.next.result c.in-None.is c.next.ensures.steps) c.loop-found.invariant
     ∙ ap (λ ts. map view c.args.touches.now.items ++ ts)
     (given-mapped (λ v. rewritten_naming (successor (map (λ e. e.0.now) c.args.keys.now.entries) (key v.now.1.key)) (place_before c.args.size (ordered_touches key value c.args.made.now) v.now.0) (key v.now.1.key) (value v.now.1.value)) (λ e. e.1) c.args.broken.now.entries)
+
+pub returns-in_err-touch-clause-made : goal.returns-in_err-touch-clause-made
+returns-in_err-touch-clause-made g c = IfOk-from_err c.from_residual.result _ c.from_residual.ensures.0
+
+pub returns-in_err-touch-clause-ordered : goal.returns-in_err-touch-clause-ordered
+returns-in_err-touch-clause-ordered g c = c.values-found-items.ensures.ordered
+
+pub returns-in_err-push_some-clause-made : goal.returns-in_err-push_some-clause-made
+returns-in_err-push_some-clause-made g c = IfOk-from_err c.from_residual-in_err-push_some.result _ c.from_residual-in_err-push_some.ensures.0
+
+pub returns-in_err-push_some-clause-ordered : goal.returns-in_err-push_some-clause-ordered
+returns-in_err-push_some-clause-ordered g c = c.values-found-items.ensures.ordered
+
+pub returns-clause-ordered : goal.returns-clause-ordered
+returns-clause-ordered g c = c.values-found-items.ensures.ordered

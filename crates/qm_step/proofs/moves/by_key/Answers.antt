@@ -8,6 +8,7 @@ use Rattle.qm_step.specs.Changes.{update_of}
 use Rattle.qm_step.specs.OrderedViews.{ordered_update}
 use Rattle.qm_step.specs.Views.{read_view}
 use Rattle.qm_step.proofs.MovesMaps.{has-none, has-put, all-none, all-more, more-keys}
+use Rattle.std.proofs.lemmas.Result.{IfOk-from_err}
 use Rattle.qm_step.proofs.moves.by_key.Goals as goal
 
 pub loop-one-init : goal.loop-one-init
@@ -38,3 +39,9 @@ returns-clause-has g c = λ x. c.loop-one.invariant.has x ∙ ap (λ fs. contain
 
 pub returns-clause-stand : goal.returns-clause-stand
 returns-clause-stand g c = c.loop-one.invariant.stand
+
+pub returns-in_err-insert-clause-has : goal.returns-in_err-insert-clause-has
+returns-in_err-insert-clause-has g c = IfOk-from_err c.from_residual.result _ c.from_residual.ensures.0
+
+pub returns-in_err-insert-clause-stand : goal.returns-in_err-insert-clause-stand
+returns-in_err-insert-clause-stand g c = IfOk-from_err c.from_residual.result _ c.from_residual.ensures.0

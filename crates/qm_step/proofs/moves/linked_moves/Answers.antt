@@ -7,6 +7,7 @@ use Rattle.qm_step.specs.PlanViews.{decided_views}
 use Rattle.qm_step.specs.Touches.{operations_of}
 use Rattle.qm_step.proofs.MovesAll.{nexts-shown, gone-shown, keys-shown, found-stand, moves-are}
 use Rattle.qm_step.proofs.MovesMaps.{has-listed}
+use Rattle.std.proofs.lemmas.Result.{IfOk-from_err}
 use Rattle.qm_step.proofs.moves.linked_moves.Goals as goal
 
 pub returns : goal.returns
@@ -26,3 +27,15 @@ returns g c = λ list long ring from decided distinct is_found.
     key value found is_found broken c.add_rewritten.ensures.ordered
     (λ x. sym (has-listed broken x) ∙ c.in_ok-broken.ensures.has x ∙ ap (λ ks. contains_key (map (λ f. key f.1.key) found) x && not (contains_key ks x)) (keys-shown key value c.args.decided.now))
     (c.in_ok-broken.ensures.stand (list ++ operations_of made) (found-stand list made c.args.size long ds ring from decided distinct key value found is_found))
+
+pub returns-in_err-keys : goal.returns-in_err-keys
+returns-in_err-keys g c = IfOk-from_err c.from_residual.result _ c.from_residual.ensures.0
+
+pub returns-in_err-broken : goal.returns-in_err-broken
+returns-in_err-broken g c = IfOk-from_err c.from_residual-in_err-broken.result _ c.from_residual-in_err-broken.ensures.0
+
+pub returns-in_err-touches : goal.returns-in_err-touches
+returns-in_err-touches g c = IfOk-from_err c.from_residual-in_err-touches.result _ c.from_residual-in_err-touches.ensures.0
+
+pub returns-in_err-add_rewritten : goal.returns-in_err-add_rewritten
+returns-in_err-add_rewritten g c = IfOk-from_err c.from_residual-in_err-add_rewritten.result _ c.from_residual-in_err-add_rewritten.ensures.0

@@ -12,6 +12,7 @@ use Rattle.qm_step.specs.Rings.{touch_in}
 use Rattle.qm_step.specs.Touches.{IsFrom, operations_of}
 use Rattle.qm_step.specs.Views.{read_view}
 use Rattle.qm_step.proofs.MovesAll.{kept-are, none-gone}
+use Rattle.std.proofs.lemmas.Result.{IfOk-from_err}
 use Rattle.qm_step.proofs.moves.moved_behind.Goals as goal
 
 pub returns-then-evicted-eq0-clause-value : goal.returns-then-evicted-eq0-clause-value
@@ -46,3 +47,15 @@ returns-then-evicted-eq0-clause-count g c =
     let long : length own ≡ length made + length more =
     sym (length-map own view) ∙ ap length is ∙ length-append (map view made) more ∙ ap (λ n. n + length more) (length-map made view) in
     omega (arith, long))
+
+pub returns-in_err-moves-clause-value : goal.returns-in_err-moves-clause-value
+returns-in_err-moves-clause-value g c = IfOk-from_err c.from_residual.result _ c.from_residual.ensures.0
+
+pub returns-in_err-moves-clause-count : goal.returns-in_err-moves-clause-count
+returns-in_err-moves-clause-count g c = IfOk-from_err c.from_residual.result _ c.from_residual.ensures.0
+
+pub returns-in_err-append-clause-value : goal.returns-in_err-append-clause-value
+returns-in_err-append-clause-value g c = IfOk-from_err c.from_residual-in_err-append.result _ c.from_residual-in_err-append.ensures.0
+
+pub returns-in_err-append-clause-count : goal.returns-in_err-append-clause-count
+returns-in_err-append-clause-count g c = IfOk-from_err c.from_residual-in_err-append.result _ c.from_residual-in_err-append.ensures.0

@@ -1,4 +1,4 @@
-use Rattle.std.proofs.Common.{◌∙◌, ap, sym, map, arith}
+use Rattle.std.proofs.Common.{◌∙◌, ap, sym, map, arith, length}
 use Rattle.std.proofs.lemmas.List.{take_all}
 use Rattle.qm_model.specs.Keys.{successor}
 use Rattle.qm_step.specs.Going.{Decided}
@@ -7,6 +7,7 @@ use Rattle.qm_step.specs.OrderedViews.{ordered_touch}
 use Rattle.qm_step.specs.PlanViews.{decided_view}
 use Rattle.qm_step.proofs.MovesLoops.{mapped-more}
 use Rattle.qm_step.proofs.Steps.{map-twice}
+use Rattle.std.proofs.lemmas.Result.{IfOk-from_err}
 use Rattle.qm_step.proofs.moves.moved_touches.Goals as goal
 
 pub loop-one-preserved : goal.loop-one-preserved
@@ -27,3 +28,16 @@ returns g c =
     c.loop-one.invariant.touches
     ∙ ap (map (λ d. touch_naming (successor names (key d.key)) (decided_view key value d))) (take_all c.loop-one.one-index c.args.decided.now c.loop-one-test.false)
     ∙ sym (map-twice (λ (d : Decided). touch_naming (successor names d.key) d) (decided_view key value) c.args.decided.now)
+
+pub returns-in_err-touches : goal.returns-in_err-touches
+returns-in_err-touches g c = IfOk-from_err c.from_residual.result _ c.from_residual.ensures.0
+
+pub returns-in_err-moved_touch : goal.returns-in_err-moved_touch
+returns-in_err-moved_touch g c = IfOk-from_err c.from_residual-in_err-moved_touch.result _ c.from_residual-in_err-moved_touch.ensures.0
+
+pub loop-one-init : goal.loop-one-init
+loop-one-init g c = record {
+  touches = ap (map (ordered_touch g.K.ByteString.bytes g.V.Value.ByteString.bytes)) c.in_ok-touches.ensures.items;
+  count = ap length c.in_ok-touches.ensures.items;
+  room = c.in_ok-touches.ensures.exact;
+}

@@ -1,4 +1,4 @@
-use Rattle.std.proofs.Common.{◌≡◌, ◌∙◌, ◌++◌, ◌∷◌, [], ap, sym, arith, length, map}
+use Rattle.std.proofs.Common.{◌≡◌, ◌∙◌, ◌++◌, ◌∷◌, [], ap, sym, arith, length, map, append-nil}
 use Rattle.std.proofs.lemmas.Iterator.Adapters.{YieldsList-from_vec}
 use Rattle.std.proofs.lemmas.Iterator.Consumers.{YieldsList-end}
 use Rattle.std.proofs.lemmas.List.{map-id}
@@ -8,6 +8,7 @@ use Rattle.qm_step.specs.OrderedViews.{ordered_touch, ordered_touches}
 use Rattle.qm_step.specs.PlanViews.{decided_view, decided_views}
 use Rattle.qm_step.proofs.PlanLoops.{pushed-more}
 use Rattle.qm_step.proofs.Steps.{map-twice}
+use Rattle.std.proofs.lemmas.Result.{IfOk-from_err}
 use Rattle.qm_step.proofs.moves.with_moves.Goals as goal
 
 pub loop-one-preserved : goal.loop-one-preserved
@@ -28,3 +29,9 @@ returns g c =
     let all = YieldsList-end (YieldsList-from_vec {s = c.into_iter-one-iterator.result} c.args.decided.items gives.0 count) c.loop-one.yielded _ c.loop-one.yielded_by _ c.next.new.self c.in-None.is c.next.ensures.steps in
     c.loop-one.invariant
     ∙ ap (λ ds. ordered_touches key value c.args.made.items ++ map (λ (d : Decided). touch_naming d.next d) (decided_views key value ds)) (sym (map-id c.loop-one.yielded) ∙ all.0)
+
+pub returns-in_err-push : goal.returns-in_err-push
+returns-in_err-push g c = IfOk-from_err c.from_residual.result _ c.from_residual.ensures.0
+
+pub loop-one-init : goal.loop-one-init
+loop-one-init g c = sym (append-nil (ordered_touches g.K.ByteString.bytes g.V.Value.ByteString.bytes c.args.made.items))

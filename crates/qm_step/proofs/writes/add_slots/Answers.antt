@@ -8,6 +8,7 @@ use Rattle.qm_model.specs.Slots.{write_in}
 use Rattle.qm_model.specs.Writes.{last_writes}
 use Rattle.qm_step.specs.PlanViews.{keyed}
 use Rattle.qm_step.proofs.PlanWanted.{slot_writes, slot-next, slots-all}
+use Rattle.std.proofs.lemmas.Result.{IfOk-from_err}
 use Rattle.qm_step.proofs.writes.add_slots.Goals as goal
 
 pub loop-read-init : goal.loop-read-init
@@ -43,3 +44,6 @@ returns g c = λ ws so_far.
     ∙ ap (λ us. map keyed (last_writes us))
     (slots-all key value all.0 (ws ++ slot_writes key value c.args.reads.now c.args.slots.now) (iter_rest (zip_first c.loop-read.read-iterator)) (iter_rest (zip_second c.loop-read.read-iterator))
     (either_empty_from_Zip c.loop-read.read-iterator c.next.new.self c.next.result c.in-None.is c.next.ensures.steps) all.2)
+
+pub returns-in_err-add_slot : goal.returns-in_err-add_slot
+returns-in_err-add_slot g c = IfOk-from_err c.from_residual.result _ c.from_residual.ensures.0
