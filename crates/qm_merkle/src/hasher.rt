@@ -7,8 +7,7 @@ ghost use Rattle.qm_model.specs.Trees as trees;
 ghost use Rattle.qm_merkle.specs.Mems.{more};
 
 use crate::position::Position;
-use qm_base::eight_bytes;
-use qm_base::{Digest, Hasher, Location, Spelled};
+use qm_base::{Digest, Hasher, Location, Spelled, eight_bytes};
 use std::marker::Model;
 
 /// A hasher of trees over a hasher of messages, which counts the digests that it makes. It takes no memory.

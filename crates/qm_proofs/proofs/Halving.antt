@@ -4,7 +4,6 @@ use Rattle.std.specs.Prelude.{slice_get, slice_index_or, max, min, option_map, o
 use Rattle.std.proofs.Math.Nat.{pow-suc}
 use Rattle.std.proofs.lemmas.Bool.{cases_lt, ltb-true}
 use Rattle.std.proofs.lemmas.List.{length-map, get_or-map}
-
 use Rattle.std.proofs.lemmas.Option.{slice_get_within, get_or_from_slice_get}
 use Rattle.qm_model.specs.Operations.{Bytes}
 use Rattle.qm_model.specs.Trees.{Shape, Node, end_of, leaf, peaks, leaf_digest, node_digest}

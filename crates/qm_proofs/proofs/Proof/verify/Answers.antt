@@ -1,4 +1,4 @@
-use Rattle.std.proofs.Common.{◌≡◌, ◌⊎◌, ◌∙◌, ℕ, List, length, map, take, drop, true, false, All, ap, sym, arith, rules, subst, zero, suc, ◌∷◌, []}
+use Rattle.std.proofs.Common.{◌≡◌, ◌⊎◌, ◌∙◌, ℕ, List, length, map, take, drop, true, All, ap, sym, arith, rules, subst, zero, suc, ◌∷◌, []}
 use Rattle.std.proofs.lemmas.Bool.{false≢true}
 use Rattle.std.proofs.lemmas.List.{length-map}
 use Rattle.qm_model.specs.Operations.{Bytes}

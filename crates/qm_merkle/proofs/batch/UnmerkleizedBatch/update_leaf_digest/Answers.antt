@@ -85,14 +85,14 @@ pub returns-in_err-replace : goal.returns-in_err-replace
 returns-in_err-replace g c = record {
   ok = rw (exit g c).1 tt;
   leaf = λ leaves count.
-    rw (exit g c).1 tt;
+      rw (exit g c).1 tt;
   range = rw (exit g c).1 tt;
   cause = rw ((exit g c).1, (exit g c).2) (inl refl);
   memory = λ from within.
-    rw ((exit g c).1, (exit g c).2) refl;
+      rw ((exit g c).1, (exit g c).2) refl;
   err = let inside = c.self.inside in
-    let old : Draft g.row.D.Denot = record { start = inside.start; base = inside.base; layers = map (λ r. r.value) inside.layers.items; replaced = inside.replaced.entries; added = inside.added.items } in
-    rw (exit g c).1 (ap (λ (es : List (ℕ × g.row.D.Denot)). record old { replaced = es }) c.in_err-replace.ensures.err ∙ c.self.view_is);
+      let old : Draft g.row.D.Denot = record { start = inside.start; base = inside.base; layers = map (λ r. r.value) inside.layers.items; replaced = inside.replaced.entries; added = inside.added.items } in
+      rw (exit g c).1 (ap (λ (es : List (ℕ × g.row.D.Denot)). record old { replaced = es }) c.in_err-replace.ensures.err ∙ c.self.view_is);
 }
 
 pub returns-in_ok-replace-clause-range : goal.returns-in_ok-replace-clause-range

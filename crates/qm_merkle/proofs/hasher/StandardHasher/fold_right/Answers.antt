@@ -1,6 +1,5 @@
-use Rattle.std.proofs.Common.{◌≡◌, ◌∙◌, ◌+◌, ◌-◌, sym, ap, arith, drop, length, map, subst}
+use Rattle.std.proofs.Common.{◌≡◌, ◌∙◌, ◌+◌, ◌-◌, sym, ap, arith, drop, length, map}
 use Rattle.qm_model.specs.Trees.{fold_right}
-use Rattle.qm_merkle.specs.Mems.{more}
 use Rattle.qm_merkle.proofs.Rooting.{fold-last, fold-next}
 use Rattle.qm_merkle.proofs.hasher.StandardHasher.fold_right.Goals as goal
 

@@ -20,8 +20,16 @@ loop-node-init g c = record { items = sym (append-nil c.args.nodes.now.items); c
 
 pub push_reserved-requires : goal.push_reserved-requires
 push_reserved-requires g c =
-    omega (arith, ap length c.loop-node.invariant.items, length-append c.args.nodes.now.items (take c.loop-node.node-index c.args.self.now.nodes), length-take c.loop-node.node-index c.args.self.now.nodes,
-    c.loop-node.invariant.capacity, c.requires, c.loop-node-test.true, ap length (c.deref-node-items.ensures.value ∙ ap (λ k. k.nodes) c.self.view_is))
+    omega (
+      arith,
+      ap length c.loop-node.invariant.items,
+      length-append c.args.nodes.now.items (take c.loop-node.node-index c.args.self.now.nodes),
+      length-take c.loop-node.node-index c.args.self.now.nodes,
+      c.loop-node.invariant.capacity,
+      c.requires,
+      c.loop-node-test.true,
+      ap length (c.deref-node-items.ensures.value ∙ ap (λ k. k.nodes) c.self.view_is),
+    )
 
 pub returns-clause-items : goal.returns-clause-items
 returns-clause-items g c =
