@@ -30,27 +30,27 @@ returns-in_err-head-clause-stands g c = λ hash list within.
     any-told (g.C.Store.told c.args.store.now) (λ held is. rw exit.1 tt)
 
 pub returns-in_err-head-clause-start : goal.returns-in_err-head-clause-start
-returns-in_err-head-clause-start g c = 
+returns-in_err-head-clause-start g c =
     let exit = err_from_is_err_and c.from_residual.result c.from_residual.ensures.1 in
     rw exit.1 tt
 
 pub returns-in_err-head-clause-leaves : goal.returns-in_err-head-clause-leaves
-returns-in_err-head-clause-leaves g c = 
+returns-in_err-head-clause-leaves g c =
     let exit = err_from_is_err_and c.from_residual.result c.from_residual.ensures.1 in
     rw exit.1 tt
 
 pub returns-in_err-head-clause-long : goal.returns-in_err-head-clause-long
-returns-in_err-head-clause-long g c = 
+returns-in_err-head-clause-long g c =
     let exit = err_from_is_err_and c.from_residual.result c.from_residual.ensures.1 in
     rw exit.1 tt
 
 pub returns-in_err-head-clause-head : goal.returns-in_err-head-clause-head
-returns-in_err-head-clause-head g c = 
+returns-in_err-head-clause-head g c =
     let exit = err_from_is_err_and c.from_residual.result c.from_residual.ensures.1 in
     rw (exit.1, exit.2) (λ is. absurd (never-corrupt c.in_err-head.field-0.0 _ is))
 
 pub returns-in_err-head-clause-never : goal.returns-in_err-head-clause-never
-returns-in_err-head-clause-never g c = 
+returns-in_err-head-clause-never g c =
     let exit = err_from_is_err_and c.from_residual.result c.from_residual.ensures.1 in
     rw (exit.1, exit.2) (of-store c.in_err-head.field-0.0)
 
@@ -58,7 +58,7 @@ pub returns-in_err-head-clause-kept : goal.returns-in_err-head-clause-kept
 returns-in_err-head-clause-kept g c = record { start = c.head.ensures.same_start; end = c.head.ensures.same_end; told = c.head.ensures.same }
 
 pub returns-in_err-head-clause-cause : goal.returns-in_err-head-clause-cause
-returns-in_err-head-clause-cause g c = 
+returns-in_err-head-clause-cause g c =
     let exit = err_from_is_err_and c.from_residual.result c.from_residual.ensures.1 in
     handed-on _ _ c.head.result c.in_err-head.field-0.0 c.from_residual.result c.in_err-head.was (exit.1 ∙ ap Err exit.2) c.head.ensures.cause
 
@@ -89,27 +89,27 @@ returns-in_err-pins-clause-stands g c = λ hash list within.
     any-told (g.C.Store.told c.args.store.now) (λ held is. rw exit.1 tt)
 
 pub returns-in_err-pins-clause-start : goal.returns-in_err-pins-clause-start
-returns-in_err-pins-clause-start g c = 
+returns-in_err-pins-clause-start g c =
     let exit = err_from_is_err_and c.from_residual-in_err-pins.result c.from_residual-in_err-pins.ensures.1 in
     rw exit.1 tt
 
 pub returns-in_err-pins-clause-leaves : goal.returns-in_err-pins-clause-leaves
-returns-in_err-pins-clause-leaves g c = 
+returns-in_err-pins-clause-leaves g c =
     let exit = err_from_is_err_and c.from_residual-in_err-pins.result c.from_residual-in_err-pins.ensures.1 in
     rw exit.1 tt
 
 pub returns-in_err-pins-clause-long : goal.returns-in_err-pins-clause-long
-returns-in_err-pins-clause-long g c = 
+returns-in_err-pins-clause-long g c =
     let exit = err_from_is_err_and c.from_residual-in_err-pins.result c.from_residual-in_err-pins.ensures.1 in
     rw exit.1 tt
 
 pub returns-in_err-pins-clause-head : goal.returns-in_err-pins-clause-head
-returns-in_err-pins-clause-head g c = 
+returns-in_err-pins-clause-head g c =
     let exit = err_from_is_err_and c.from_residual-in_err-pins.result c.from_residual-in_err-pins.ensures.1 in
     rw (exit.1, exit.2) (λ is. absurd cc)
 
 pub returns-in_err-pins-clause-never : goal.returns-in_err-pins-clause-never
-returns-in_err-pins-clause-never g c = 
+returns-in_err-pins-clause-never g c =
     let exit = err_from_is_err_and c.from_residual-in_err-pins.result c.from_residual-in_err-pins.ensures.1 in
     rw (exit.1, exit.2) (inl refl)
 
@@ -117,7 +117,7 @@ pub returns-in_err-pins-clause-kept : goal.returns-in_err-pins-clause-kept
 returns-in_err-pins-clause-kept g c = record { start = c.head.ensures.same_start; end = c.head.ensures.same_end; told = c.head.ensures.same }
 
 pub returns-in_err-pins-clause-cause : goal.returns-in_err-pins-clause-cause
-returns-in_err-pins-clause-cause g c = 
+returns-in_err-pins-clause-cause g c =
     let exit = err_from_is_err_and c.from_residual-in_err-pins.result c.from_residual-in_err-pins.ensures.1 in
     no-fault _ _ c.from_residual-in_err-pins.result exit.0 exit.1 exit.2 c.head.ensures.cause.later
 
@@ -127,27 +127,27 @@ returns-in_err-from_pruned_with_retained-clause-stands g c = λ hash list within
     any-told (g.C.Store.told c.args.store.now) (λ held is. rw exit.1 tt)
 
 pub returns-in_err-from_pruned_with_retained-clause-start : goal.returns-in_err-from_pruned_with_retained-clause-start
-returns-in_err-from_pruned_with_retained-clause-start g c = 
+returns-in_err-from_pruned_with_retained-clause-start g c =
     let exit = err_from_is_err_and c.from_residual-in_err-from_pruned_with_retained.result c.from_residual-in_err-from_pruned_with_retained.ensures.1 in
     rw exit.1 tt
 
 pub returns-in_err-from_pruned_with_retained-clause-leaves : goal.returns-in_err-from_pruned_with_retained-clause-leaves
-returns-in_err-from_pruned_with_retained-clause-leaves g c = 
+returns-in_err-from_pruned_with_retained-clause-leaves g c =
     let exit = err_from_is_err_and c.from_residual-in_err-from_pruned_with_retained.result c.from_residual-in_err-from_pruned_with_retained.ensures.1 in
     rw exit.1 tt
 
 pub returns-in_err-from_pruned_with_retained-clause-long : goal.returns-in_err-from_pruned_with_retained-clause-long
-returns-in_err-from_pruned_with_retained-clause-long g c = 
+returns-in_err-from_pruned_with_retained-clause-long g c =
     let exit = err_from_is_err_and c.from_residual-in_err-from_pruned_with_retained.result c.from_residual-in_err-from_pruned_with_retained.ensures.1 in
     rw exit.1 tt
 
 pub returns-in_err-from_pruned_with_retained-clause-head : goal.returns-in_err-from_pruned_with_retained-clause-head
-returns-in_err-from_pruned_with_retained-clause-head g c = 
+returns-in_err-from_pruned_with_retained-clause-head g c =
     let exit = err_from_is_err_and c.from_residual-in_err-from_pruned_with_retained.result c.from_residual-in_err-from_pruned_with_retained.ensures.1 in
     rw (exit.1, exit.2) (λ is. absurd cc)
 
 pub returns-in_err-from_pruned_with_retained-clause-never : goal.returns-in_err-from_pruned_with_retained-clause-never
-returns-in_err-from_pruned_with_retained-clause-never g c = 
+returns-in_err-from_pruned_with_retained-clause-never g c =
     let exit = err_from_is_err_and c.from_residual-in_err-from_pruned_with_retained.result c.from_residual-in_err-from_pruned_with_retained.ensures.1 in
     rw (exit.1, exit.2) (inl refl)
 
@@ -155,7 +155,7 @@ pub returns-in_err-from_pruned_with_retained-clause-kept : goal.returns-in_err-f
 returns-in_err-from_pruned_with_retained-clause-kept g c = record { start = c.head.ensures.same_start; end = c.head.ensures.same_end; told = c.head.ensures.same }
 
 pub returns-in_err-from_pruned_with_retained-clause-cause : goal.returns-in_err-from_pruned_with_retained-clause-cause
-returns-in_err-from_pruned_with_retained-clause-cause g c = 
+returns-in_err-from_pruned_with_retained-clause-cause g c =
     let exit = err_from_is_err_and c.from_residual-in_err-from_pruned_with_retained.result c.from_residual-in_err-from_pruned_with_retained.ensures.1 in
     no-fault _ _ c.from_residual-in_err-from_pruned_with_retained.result exit.0 exit.1 exit.2 c.head.ensures.cause.later
 
