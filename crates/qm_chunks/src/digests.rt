@@ -10,8 +10,7 @@ ghost use Rattle.qm_model.specs.Grafted as grafted;
 ghost use Rattle.qm_merkle.specs.Mems.{more};
 ghost use Rattle.qm_chunks.specs.Views.{partial_view};
 
-use qm_base::eight_bytes;
-use qm_base::{Digest, Hasher, Location};
+use qm_base::{Digest, Hasher, Location, eight_bytes};
 use qm_merkle::{Family, Node, StandardHasher};
 
 /// The value of a chunk's node, from the chunk and the node's digest.
