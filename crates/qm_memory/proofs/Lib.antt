@@ -1,3 +1,4 @@
 pub mod Cuts
 pub mod Mems
 pub mod Changes
+pub mod Exits

@@ -1,0 +1,72 @@
+-- What a call that may fail tells at each of its exits.
+use Rattle.std.proofs.Common.{◌≡◌, ◌↔◌, ◌∙◌, ◌∷◌, ◌++◌, List, [], reverse, ap, ap₂, sym, subst, arith, Result, Ok, Err}
+use Rattle.std.proofs.lemmas.List.{reverse-append}
+use Rattle.std.specs.Prelude.{⊤, OnOk, OnErr, IsErrOf, Contains}
+use Rattle.qm_model.specs.Causes.{IsCause}
+use Rattle.qm_model.specs.StoreModel.{Stored}
+use Rattle.qm_store.specs.declared.StoreError.{StoreError}
+use Rattle.qm_store.specs.declared.StoreError.TheVariants as stores
+use Rattle.qm_memory.specs.Changes.{Change}
+use Rattle.qm_memory.specs.Mem.{Mem, IsInside, called, failed, made}
+
+-- the clauses that these calls share, of one that is to have done this
+abbrev Told : Result ⊤ StoreError → Mem → Mem → Type 0 → Type 0
+Told result old new Done = record {
+  inside : IsInside old;
+  cause : IsCause old.faults new.faults (IsErrOf result stores.Failed);
+  fails : (result ≡ Err stores.Failed) ↔ Contains old.fail old.calls;
+  fault : result ≡ Err stores.Failed → new ≡ failed old;
+  ok : OnOk result Done;
+  memory : result ≡ Err stores.Memory → new ≡ called old;
+}
+
+-- what changed, behind what had changed before
+pub noted : (before room after : List Change) (x y : Change) → after ≡ room ++ x ∷ [] → room ≡ before → x ≡ y → reverse after ≡ y ∷ reverse before
+noted before room after x y more same is = ap reverse more ∙ reverse-append room (x ∷ []) ∙ ap₂ (λ c cs. c ∷ reverse cs) is same
+
+module _ (counted : Result ⊤ StoreError) (old now : Mem) (inside : IsInside old) (listed : (counted ≡ Err stores.Failed) ↔ Contains old.fail old.calls) where
+  -- the count of the call failed
+  pub uncounted : (Done : Type 0) (result : Result ⊤ StoreError) (e : StoreError) → counted ≡ Err e → ((y : StoreError) × (result ≡ Err y) × (y ≡ e)) → OnErr counted (now ≡ failed old) → OnErr counted (counted ≡ Err stores.Failed) →
+      IsCause old.faults now.faults (IsErrOf counted stores.Failed) → Told result old now Done
+  uncounted Done result e was exit err only cause =
+      let same : result ≡ counted = exit.1 ∙ ap Err exit.2 ∙ sym was in
+      let is : now ≡ failed old = rw was at err in
+      let fault : counted ≡ Err stores.Failed = subst (λ r. OnErr r (counted ≡ Err stores.Failed)) was only in
+      record {
+        inside = inside;
+        cause = rw same cause;
+        fails = rw same listed;
+        fault = λ failed. is;
+        ok = rw (same, was) tt;
+        memory = λ memory. absurd cc;
+      }
+
+  module _ (m : Mem) (x : ⊤) (was : counted ≡ Ok x) (view : m ≡ now) (is : now ≡ called old) where
+    -- there was no memory, and nothing has changed but the counts
+    pub unmade : (Done : Type 0) (result : Result ⊤ StoreError) (held : Stored) (changes : List Change) → ((y : StoreError) × (result ≡ Err y) × (y ≡ stores.Memory)) → held ≡ m.held → changes ≡ m.changes →
+        Told result old (record m { held = held; changes = changes }) Done
+    unmade Done result held changes exit here before =
+        let same : result ≡ Err stores.Memory = exit.1 ∙ ap Err exit.2 in
+        let faults : m.faults ≡ old.faults = ap (λ s. s.faults) (view ∙ is) in
+        record {
+          inside = inside;
+          cause = record { later = omega arith; failed = λ fault. absurd cc };
+          fails = (λ fault. absurd cc, λ contains. let never = listed.1 contains in absurd cc);
+          fault = λ fault. absurd cc;
+          ok = rw same tt;
+          memory = λ memory. ap₂ {C = Mem} (λ h cs. record m { held = h; changes = cs }) here before ∙ view ∙ is;
+        }
+
+    -- the call came off
+    pub come_off : (f : Stored → Stored) (change : Stored → Change) (held : Stored) (changes : List Change) → held ≡ f m.held → changes ≡ change m.held ∷ m.changes →
+        Told (Ok tt) old (record m { held = held; changes = changes }) (record m { held = held; changes = changes } ≡ made change f old)
+    come_off f change held changes here more =
+        let faults : m.faults ≡ old.faults = ap (λ s. s.faults) (view ∙ is) in
+        record {
+          inside = inside;
+          cause = record { later = omega arith; failed = λ fault. absurd cc };
+          fails = (λ fault. absurd cc, λ contains. let never = listed.1 contains in absurd cc);
+          fault = λ fault. absurd cc;
+          ok = ap₂ {C = Mem} (λ h cs. record m { held = h; changes = cs }) here more ∙ ap {B = Mem} (λ s. record s { held = f s.held; changes = change s.held ∷ s.changes }) (view ∙ is);
+          memory = λ memory. absurd cc;
+        }
