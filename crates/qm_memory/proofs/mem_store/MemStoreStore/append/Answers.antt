@@ -1,0 +1,31 @@
+use Rattle.std.proofs.Common.{map, reverse, refl, ap, sym}
+use Rattle.std.proofs.lemmas.List.{length-map}
+use Rattle.std.proofs.lemmas.Result.{err_from_is_err_and}
+use Rattle.qm_model.specs.StoreModel.{Stored, appended}
+use Rattle.qm_memory.specs.Changes.{grew, appending}
+use Rattle.qm_memory.proofs.Exits.{noted, uncounted, unmade, come_off}
+use Rattle.qm_memory.proofs.mem_store.MemStoreStore.append.Goals as goal
+
+pub returns-in_err-call : goal.returns-in_err-call
+returns-in_err-call c =
+    let exit = err_from_is_err_and c.from_residual.result c.from_residual.ensures.1 in
+    uncounted c.call.result c.args.self.now c.call.new.self c.call.ensures.inside c.call.ensures.listed _ c.from_residual.result c.in_err-call.field-0.0 c.in_err-call.was exit c.call.ensures.err c.call.ensures.only c.call.ensures.cause
+
+pub returns-in_err-reserve : goal.returns-in_err-reserve
+returns-in_err-reserve c =
+    let exit = err_from_is_err_and c.from_residual-in_err-reserve.result c.from_residual-in_err-reserve.ensures.1 in
+    unmade c.call.result c.args.self.now c.call.new.self c.call.ensures.inside c.call.ensures.listed _ _ c.in_ok-call.was c.self.view_is c.in_ok-call.ensures.ok _ c.from_residual-in_err-reserve.result _ _ exit refl (ap reverse c.reserve.ensures.items)
+
+pub returns-in_err-append : goal.returns-in_err-append
+returns-in_err-append c =
+    let exit = err_from_is_err_and c.from_residual-in_err-append.result c.from_residual-in_err-append.ensures.1 in
+    let s = c.self.inside in
+    unmade c.call.result c.args.self.now c.call.new.self c.call.ensures.inside c.call.ensures.listed _ _ c.in_ok-call.was c.self.view_is c.in_ok-call.ensures.ok _ c.from_residual-in_err-append.result _ _ exit
+    (ap {B = Stored} (λ items. record { start = s.first; items = items; head = s.head.items; metadata = s.metadata.items; stable = s.stable; ends = s.ends.items }) c.in_err-append.ensures.err) (ap reverse c.reserve.ensures.items)
+
+pub returns : goal.returns
+returns c =
+    let s = c.self.inside in
+    come_off c.call.result c.args.self.now c.call.new.self c.call.ensures.inside c.call.ensures.listed _ _ c.in_ok-call.was c.self.view_is c.in_ok-call.ensures.ok (appended (map (λ v. v.items) c.args.added.now)) (appending (map (λ v. v.items) c.args.added.now)) _ _
+    (ap {B = Stored} (λ items. record { start = s.first; items = items; head = s.head.items; metadata = s.metadata.items; stable = s.stable; ends = s.ends.items }) c.in_ok-append.ensures.ok)
+    (noted _ _ _ _ _ c.push_reserved.ensures.items c.reserve.ensures.items (ap grew (sym (length-map c.args.added.now (λ v. v.items)))))
