@@ -1,0 +1,34 @@
+use Rattle.std.proofs.Common.{◌∙◌, reverse, refl, ap, ap₂}
+use Rattle.std.proofs.lemmas.Result.{err_from_is_err_and}
+use Rattle.qm_model.specs.StoreModel.{Stored, rewound}
+use Rattle.qm_memory.specs.Changes.{rewound_from, rewinding}
+use Rattle.qm_memory.proofs.Exits.{noted, uncounted, unmade, come_off}
+use Rattle.qm_memory.proofs.mem_store.MemStoreStore.rewind.Goals as goal
+
+pub returns-in_err-call : goal.returns-in_err-call
+returns-in_err-call c =
+    let exit = err_from_is_err_and c.from_residual.result c.from_residual.ensures.1 in
+    uncounted c.call.result c.args.self.now c.call.new.self c.call.ensures.inside c.call.ensures.listed _ c.from_residual.result c.in_err-call.field-0.0 c.in_err-call.was exit c.call.ensures.err c.call.ensures.only c.call.ensures.cause
+
+pub returns-in_err-reserve : goal.returns-in_err-reserve
+returns-in_err-reserve c =
+    let exit = err_from_is_err_and c.from_residual-in_err-reserve.result c.from_residual-in_err-reserve.ensures.1 in
+    unmade c.call.result c.args.self.now c.call.new.self c.call.ensures.inside c.call.ensures.listed _ _ c.in_ok-call.was c.self.view_is c.in_ok-call.ensures.ok _ c.from_residual-in_err-reserve.result _ _ exit refl (ap reverse c.reserve.ensures.items)
+
+pub returns-in_err-behind : goal.returns-in_err-behind
+returns-in_err-behind c =
+    let exit = err_from_is_err_and c.from_residual-in_err-behind.result c.from_residual-in_err-behind.ensures.1 in
+    unmade c.call.result c.args.self.now c.call.new.self c.call.ensures.inside c.call.ensures.listed _ _ c.in_ok-call.was c.self.view_is c.in_ok-call.ensures.ok _ c.from_residual-in_err-behind.result _ _ exit refl (ap reverse c.reserve.ensures.items)
+
+pub returns-in_err-cut : goal.returns-in_err-cut
+returns-in_err-cut c =
+    let exit = err_from_is_err_and c.from_residual-in_err-cut.result c.from_residual-in_err-cut.ensures.1 in
+    unmade c.call.result c.args.self.now c.call.new.self c.call.ensures.inside c.call.ensures.listed _ _ c.in_ok-call.was c.self.view_is c.in_ok-call.ensures.ok _ c.from_residual-in_err-cut.result _ _ exit refl (ap reverse c.reserve.ensures.items)
+
+pub returns : goal.returns
+returns c =
+    let s = c.self.inside in
+    come_off c.call.result c.args.self.now c.call.new.self c.call.ensures.inside c.call.ensures.listed _ _ c.in_ok-call.was c.self.view_is c.in_ok-call.ensures.ok (rewound c.args.to) (rewinding c.args.to) _ _
+    (ap₂ {C = Stored} (λ items stable. record { start = s.first; items = items; head = s.head.items; metadata = s.metadata.items; stable = stable; ends = s.ends.items }) c.truncate.ensures c.min-self-inside.ensures)
+    (noted _ _ _ _ _ c.push_reserved.ensures.items c.reserve.ensures.items
+    (ap (λ cut. rewound_from cut.items cut.stable) c.in_ok-cut.ensures.ok ∙ ap (λ items. rewound_from items s.stable) c.in_ok-behind.ensures))
