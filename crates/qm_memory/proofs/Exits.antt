@@ -1,5 +1,10 @@
 -- What a call that may fail tells at each of its exits.
-use Rattle.std.proofs.Common.{◌≡◌, ◌↔◌, ◌∙◌, ◌∷◌, ◌++◌, List, [], reverse, ap, ap₂, sym, subst, arith, Result, Ok, Err}
+use Rattle.std.proofs.Common.{◌≡◌, ◌↔◌, ◌∙◌, ◌∷◌, ◌++◌, ◌<◌, ◌^◌, ℕ, Bool, true, false, List, [], reverse, refl, ap, ap₂, sym, subst, arith, Result, Ok, Err}
+use Rattle.std.proofs.Math.Dec.{eqb}
+use Rattle.std.proofs.lemmas.Bool.Decides.{Decides-eqb}
+use Rattle.std.proofs.lemmas.List.Elements.{Decides-contains, contains_decides}
+use Rattle.std.specs.Bool.{Decides}
+use Rattle.std.specs.List.{IsAnyAnswer}
 use Rattle.std.proofs.lemmas.List.{reverse-append}
 use Rattle.std.specs.Prelude.{⊤, OnOk, OnErr, IsErrOf, Contains}
 use Rattle.qm_model.specs.Causes.{IsCause}
@@ -7,7 +12,7 @@ use Rattle.qm_model.specs.StoreModel.{Stored}
 use Rattle.qm_store.specs.declared.StoreError.{StoreError}
 use Rattle.qm_store.specs.declared.StoreError.TheVariants as stores
 use Rattle.qm_memory.specs.Changes.{Change}
-use Rattle.qm_memory.specs.Mem.{Mem, IsInside, called, failed, made}
+use Rattle.qm_memory.specs.Mem.{Mem, IsInside, one_more, called, failed, made}
 
 -- the clauses that these calls share, of one that is to have done this
 abbrev Told : Result ⊤ StoreError → Mem → Mem → Type 0 → Type 0
@@ -70,3 +75,41 @@ module _ (counted : Result ⊤ StoreError) (old now : Mem) (inside : IsInside ol
           ok = ap₂ {C = Mem} (λ h cs. record m { held = h; changes = cs }) here more ∙ ap {B = Mem} (λ s. record s { held = f s.held; changes = change s.held ∷ s.changes }) (view ∙ is);
           memory = λ memory. absurd cc;
         }
+
+-- a call that is counted fails where its number is listed
+pub found-listed : (fail found : List ℕ) (number : ℕ) (fails : Bool) → found ≡ fail → IsAnyAnswer (λ n b. eqb n number ≡ b) found fails → Decides fails (Contains fail number)
+found-listed fail found number fails same answer = subst (λ (ks : List ℕ). Decides fails (Contains ks number)) same (Decides-contains found number fails (contains_decides eqb Decides-eqb found number fails answer))
+
+-- what the count of a call tells
+abbrev Counted : Result ⊤ StoreError → Mem → Mem → Type 0
+Counted result old new = record {
+  listed : (result ≡ Err stores.Failed) ↔ Contains old.fail old.calls;
+  ok : OnOk result (new ≡ called old);
+  err : OnErr result (new ≡ failed old);
+  only : OnErr result (result ≡ Err stores.Failed);
+  inside : IsInside old;
+  cause : IsCause old.faults new.faults (IsErrOf result stores.Failed);
+}
+
+module _ (m old : Mem) (view : m ≡ old) (inside : IsInside m) (fails : Bool) (found : Decides fails (Contains m.fail m.calls)) where
+  -- of one that is listed
+  pub counted-listed : fails ≡ true → m.faults < 2 ^ 64 → (calls faults : ℕ) → calls ≡ one_more m.calls → faults ≡ one_more m.faults → Counted (Err stores.Failed) old (record m { calls = calls; faults = faults })
+  counted-listed listed limit calls faults called-more failed-more = record {
+    listed = (λ fault. subst (λ (s : Mem). Contains s.fail s.calls) view (found.0 listed), λ contains. refl);
+    ok = tt;
+    err = ap₂ {C = Mem} (λ n k. record m { calls = n; faults = k }) called-more failed-more ∙ ap failed view;
+    only = refl;
+    inside = subst IsInside view inside;
+    cause = subst (λ (s : Mem). IsCause s.faults faults (IsErrOf {T = ⊤} (Err stores.Failed) stores.Failed)) view (record { later = omega arith; failed = λ fault. omega arith });
+  }
+
+  -- of one that is not
+  pub counted-other : fails ≡ false → (calls : ℕ) → calls ≡ one_more m.calls → Counted (Ok tt) old (record m { calls = calls })
+  counted-other other calls called-more = record {
+    listed = (λ fault. absurd cc, λ contains. let listed = found.1 (subst (λ (s : Mem). Contains s.fail s.calls) (sym view) contains) in absurd cc);
+    ok = ap {B = Mem} (λ n. record m { calls = n }) called-more ∙ ap called view;
+    err = tt;
+    only = tt;
+    inside = subst IsInside view inside;
+    cause = subst (λ (s : Mem). IsCause s.faults m.faults (IsErrOf {T = ⊤} {E = StoreError} (Ok tt) stores.Failed)) view (record { later = omega arith; failed = λ fault. absurd cc });
+  }
