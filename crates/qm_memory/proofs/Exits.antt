@@ -1,5 +1,5 @@
 -- What a call that may fail tells at each of its exits.
-use Rattle.std.proofs.Common.{◌≡◌, ◌↔◌, ◌∙◌, ◌∷◌, ◌++◌, ◌<◌, ◌^◌, ℕ, Bool, true, false, List, [], reverse, refl, ap, ap₂, sym, subst, arith, Result, Ok, Err}
+use Rattle.std.proofs.Common.{◌≡◌, ◌↔◌, ◌∙◌, ◌∷◌, ◌++◌, ◌<◌, ◌≢◌, ◌^◌, ℕ, Bool, true, false, List, [], reverse, refl, ap, ap₂, sym, subst, arith, Result, Ok, Err}
 use Rattle.std.proofs.Math.Dec.{eqb}
 use Rattle.std.proofs.lemmas.Bool.Decides.{Decides-eqb}
 use Rattle.std.proofs.lemmas.List.Elements.{Decides-contains, contains_decides}
@@ -113,3 +113,46 @@ module _ (m old : Mem) (view : m ≡ old) (inside : IsInside m) (fails : Bool) (
     inside = subst IsInside view inside;
     cause = subst (λ (s : Mem). IsCause s.faults m.faults (IsErrOf {T = ⊤} {E = StoreError} (Ok tt) stores.Failed)) view (record { later = omega arith; failed = λ fault. absurd cc });
   }
+
+-- the clauses that the calls share which read
+abbrev Asked : {T : Type 0} → Result T StoreError → Mem → Mem → Type 0
+Asked result old new = record {
+  same : new.held ≡ old.held;
+  cause : IsCause old.faults new.faults (IsErrOf result stores.Failed);
+  fails : (result ≡ Err stores.Failed) ↔ Contains old.fail old.calls;
+  fault : result ≡ Err stores.Failed → new ≡ failed old;
+  other : result ≢ Err stores.Failed → new ≡ called old;
+}
+
+module _ {T : Type 0} (counted : Result ⊤ StoreError) (old now : Mem) (listed : (counted ≡ Err stores.Failed) ↔ Contains old.fail old.calls) (result : Result T StoreError) where
+  -- of one whose count failed
+  pub unasked : (e : StoreError) → counted ≡ Err e → ((y : StoreError) × (result ≡ Err y) × (y ≡ e)) → OnErr counted (now ≡ failed old) → OnErr counted (counted ≡ Err stores.Failed) → IsCause old.faults now.faults (IsErrOf counted stores.Failed) → Asked result old now
+  unasked e was exit err only cause =
+      let is : now ≡ failed old = rw was at err in
+      let fault : counted ≡ Err stores.Failed = subst (λ r. OnErr r (counted ≡ Err stores.Failed)) was only in
+      let same : result ≡ Err stores.Failed = cc in
+      record {
+        same = ap (λ s. s.held) is;
+        cause = subst (λ r. IsCause old.faults now.faults (IsErrOf r stores.Failed)) (sym same) (record { later = cause.later; failed = λ fails. cause.failed fault });
+        fails = (λ fails. listed.0 fault, λ contains. same);
+        fault = λ fails. is;
+        other = λ other. absurd (other same);
+      }
+
+  -- of one that the store let through
+  pub asked : (x : ⊤) → counted ≡ Ok x → now ≡ called old → result ≢ Err stores.Failed → Asked result old now
+  asked x was is other =
+      let faults : now.faults ≡ old.faults = ap (λ s. s.faults) is in
+      record {
+        same = ap (λ s. s.held) is;
+        cause = record { later = omega arith; failed = λ fault. absurd (other fault) };
+        fails = (λ fault. absurd (other fault), λ contains. let never = listed.1 contains in absurd cc);
+        fault = λ fault. absurd (other fault);
+        other = λ rest. is;
+      }
+
+  -- of one for which there was no memory
+  pub unanswered : (x : ⊤) → counted ≡ Ok x → now ≡ called old → ((y : StoreError) × (result ≡ Err y) × (y ≡ stores.Memory)) → Asked result old now
+  unanswered x was is exit =
+      let same : result ≡ Err stores.Memory = exit.1 ∙ ap Err exit.2 in
+      asked x was is (λ fault. absurd cc)
