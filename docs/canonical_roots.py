@@ -1,7 +1,7 @@
 #!/usr/bin/env python3
 # Prints canonical roots, by the independent model: of lists of so many operations, in which the first so many write one key and
 # the others a key each, with a last commit whose floor is the last write of that one key; over chunks of 32 bytes, in mountain
-# ranges and where merges are delayed. `crates/qm_layer_tests/src/grafts.rt` has them as rows.
+# ranges and where merges are delayed. `crates/qm_tests/src/grafts.rt` has them as rows.
 import os
 import sys
 

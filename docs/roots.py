@@ -1,5 +1,5 @@
 #!/usr/bin/env python3
-"""Prints the table of roots in crates/qm_layer_tests/src/trees.rt, computed apart from the crates.
+"""Prints the table of roots in crates/qm_tests/src/trees.rt, computed apart from the crates.
 
 A line for each tree of 1 to 40 leaves: the digest of its roots in a row, with 0, 1, .. inactive
 peaks up to all of them. Leaf k has the one byte k + 1.

@@ -1,11 +1,11 @@
 #!/usr/bin/env python3
-"""Tries wrong bodies over the program's rows and the tests of layers, outside the gate: those whose proof is dear to refuse.
+"""Tries wrong bodies over the program's rows and the tests, outside the gate: those whose proof is dear to refuse.
 
     python3 docs/wrong_bodies.py [CRATE[/NAME] ..]
 
 Each file docs/wrong_bodies/CRATE/NAME.edit is written as a must-fail edit is. It is applied to a copy of the sources, the
 copy's `qmdb_rows` is built without a proof (`rt try --cases`) and run over its rows, some at a time, and the first row that
-does not come out as in its stdout is told. Where none does, the copy's `qm_layer_tests` is run (`rt try --test`), and the first
+does not come out as in its stdout is told. Where none does, the copy's `qm_tests` is run (`rt try --test`), and the first
 test that fails is told. The sources as they stand go first, and change no row. Rows of inputs of many megabytes are left out,
 since such a build is slow. The status is 1 where some body changes no row and fails no test. A body takes some minutes."""
 import os
@@ -97,7 +97,7 @@ def main(chosen):
             if chosen and not any(it.startswith(word) for word in chosen):
                 continue
             file, was = edited(f"{BODIES}/{it}", f"{copy}/crates/{it.partition('/')[0]}")
-            seen = changed(f"{copy}/crates/qmdb_rows", rows) or failed(f"{copy}/crates/qm_layer_tests")
+            seen = changed(f"{copy}/crates/qmdb_rows", rows) or failed(f"{copy}/crates/qm_tests")
             print(f"{it}: {seen or 'NO ROW CHANGES AND NO TEST FAILS'}", flush=True)
             missed += not seen
             write(file, was)

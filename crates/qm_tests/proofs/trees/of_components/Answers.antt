@@ -1,6 +1,6 @@
 use Rattle.std.proofs.Common.{arith}
-use Rattle.qm_layer_tests.proofs.Pruned.{one_pin, one_node}
-use Rattle.qm_layer_tests.proofs.trees.of_components.Goals as goal
+use Rattle.qm_tests.proofs.Pruned.{one_pin, one_node}
+use Rattle.qm_tests.proofs.trees.of_components.Goals as goal
 
 pub from_components-requires-clause-pins : goal.from_components-requires-clause-pins
 from_components-requires-clause-pins c = rw c.in_ok-pins.ensures.items (rw c.new.ensures (omega (arith, one_pin)))

@@ -6,13 +6,13 @@ use std::alloc::{AllocError, Global};
 use std::fs;
 use std::test::Fail;
 
-const FOLDER: &str = "qm_layer_tests_files";
+const FOLDER: &str = "qm_tests_files";
 
 // What is done to a folder and its store, a step a line: a call, and what it is given or what it is to answer. A step that
 // begins with `fails` is to be a fault of the store. An entry of metadata is a word: its key of nine letters, then its bytes.
 const STEPS: &str = "\
 # A missing folder is an empty store.
-clear qm_layer_tests_files
+clear qm_tests_files
 open
 bounds 0 0
 head
@@ -23,7 +23,7 @@ rewind 1
 append
 append three
 commit
-file qm_layer_tests_files/log \0\0\0\0\0\0\0\0\0\0\0\0\0\0\0\x03one\0\0\0\0\0\0\0\x05three
+file qm_tests_files/log \0\0\0\0\0\0\0\0\0\0\0\0\0\0\0\x03one\0\0\0\0\0\0\0\x05three
 # The next store has them.
 open
 bounds 0 3
@@ -33,7 +33,7 @@ item 2 three
 # What stands before a location goes, with a new head, in this store and in the next.
 open
 prune 1 ab
-file qm_layer_tests_files/log \0\0\0\0\0\0\0\x01\0\0\0\x02ab\0\0\0\0\0\0\0\x05three
+file qm_tests_files/log \0\0\0\0\0\0\0\x01\0\0\0\x02ab\0\0\0\0\0\0\0\x05three
 item 1
 item 2 three
 open
@@ -45,22 +45,22 @@ item 2 three
 open
 put grafted kkkkkkkkkold
 put grafted aaaaaaaaax bbbbbbbbb
-file qm_layer_tests_files/meta-grafted aaaaaaaaa\0\0\0\x01xbbbbbbbbb\0\0\0\0
+file qm_tests_files/meta-grafted aaaaaaaaa\0\0\0\x01xbbbbbbbbb\0\0\0\0
 # A tail that is no whole entry is dropped, and another name has none.
-write qm_layer_tests_files/meta-grafted aaaaaaaaa\0\0\0\x01xbbbbbbbbb\0\0\0\0ccccccccc\0\0\0\x02y
+write qm_tests_files/meta-grafted aaaaaaaaa\0\0\0\x01xbbbbbbbbb\0\0\0\0ccccccccc\0\0\0\x02y
 meta grafted aaaaaaaaax bbbbbbbbb
 meta other
 # A tail that is no whole item is dropped, and the next item takes its place.
-write qm_layer_tests_files/log \0\0\0\0\0\0\0\x01\0\0\0\x02ab\0\0\0\0\0\0\0\x05three\0\0\0\x09torn
+write qm_tests_files/log \0\0\0\0\0\0\0\x01\0\0\0\x02ab\0\0\0\0\0\0\0\x05three\0\0\0\x09torn
 open
 bounds 1 3
 append four
 sync
-file qm_layer_tests_files/log \0\0\0\0\0\0\0\x01\0\0\0\x02ab\0\0\0\0\0\0\0\x05three\0\0\0\x04four
+file qm_tests_files/log \0\0\0\0\0\0\0\x01\0\0\0\x02ab\0\0\0\0\0\0\0\x05three\0\0\0\x04four
 item 3 four
 # A file that is cut fails a read past its end, and after a restart its end is that of the items that are left.
 open
-write qm_layer_tests_files/log \0\0\0\0\0\0\0\x01\0\0\0\x02ab\0\0\0\0\0\0\0\x05three\0\0\0
+write qm_tests_files/log \0\0\0\0\0\0\0\x01\0\0\0\x02ab\0\0\0\0\0\0\0\x05three\0\0\0
 fails item 3
 item 1
 item 2 three
@@ -71,17 +71,17 @@ item 2 three
 bounds 1 3
 faults 1
 # A log that has others' bytes when it is read again breaks the store: from another start on,
-write qm_layer_tests_files/log \0\0\0\0\0\0\0\x01\0\0\0\x02ab\0\0\0\0\0\0\0\x05three
+write qm_tests_files/log \0\0\0\0\0\0\0\x01\0\0\0\x02ab\0\0\0\0\0\0\0\x05three
 open
-write qm_layer_tests_files/log \0\0\0\0\0\0\0\0\0\0\0\0\0\0\0\x03one\0\0\0\0\0\0\0\x05three
+write qm_tests_files/log \0\0\0\0\0\0\0\0\0\0\0\0\0\0\0\x03one\0\0\0\0\0\0\0\x05three
 fails restart 3
 fails head
 faults 2
 bounds 1 1
 # and with more items.
-write qm_layer_tests_files/log \0\0\0\0\0\0\0\x01\0\0\0\x02ab\0\0\0\0\0\0\0\x05three
+write qm_tests_files/log \0\0\0\0\0\0\0\x01\0\0\0\x02ab\0\0\0\0\0\0\0\x05three
 open
-write qm_layer_tests_files/log \0\0\0\0\0\0\0\x01\0\0\0\x02ab\0\0\0\0\0\0\0\x05three\0\0\0\x04four
+write qm_tests_files/log \0\0\0\0\0\0\0\x01\0\0\0\x02ab\0\0\0\0\0\0\0\x05three\0\0\0\x04four
 fails restart 3
 fails head
 faults 2
@@ -91,9 +91,9 @@ open
 destroy
 bounds 0 0
 meta grafted
-remove qm_layer_tests_files
+remove qm_tests_files
 # Where no folder can be, each call fails and is counted.
-write qm_layer_tests_files no folder
+write qm_tests_files no folder
 open
 bounds 0 0
 fails head
@@ -107,7 +107,7 @@ fails prune 0
 fails put grafted
 fails destroy
 faults 10
-clear qm_layer_tests_files
+clear qm_tests_files
 ";
 
 type Kept<'a> = FileStore<&'a HostRuntime>;

@@ -1,7 +1,7 @@
 use Rattle.std.proofs.Common.{◌∙◌, ◌++◌, ap}
 use Rattle.qm_merkle.specs.Batches.{Draft}
-use Rattle.qm_layer_tests.proofs.Reaches.{reaches}
-use Rattle.qm_layer_tests.proofs.grafts.add_leaves.Goals as goal
+use Rattle.qm_tests.proofs.Reaches.{reaches}
+use Rattle.qm_tests.proofs.grafts.add_leaves.Goals as goal
 
 pub apply_batch-requires : goal.apply_batch-requires
 apply_batch-requires g c =

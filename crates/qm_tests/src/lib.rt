@@ -1,0 +1,19 @@
+//! Tests of what no clause says, and no run of the program shows.
+#![tactic(auto)]
+
+#[cfg(test)]
+mod base;
+#[cfg(test)]
+mod bed;
+#[cfg(test)]
+mod expiry;
+#[cfg(test)]
+mod files;
+#[cfg(test)]
+mod fixed;
+#[cfg(test)]
+mod grafts;
+#[cfg(test)]
+mod overlays;
+#[cfg(test)]
+mod trees;
