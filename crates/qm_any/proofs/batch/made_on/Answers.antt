@@ -1,19 +1,19 @@
 use Rattle.std.proofs.Common.{◌∷◌, ◌++◌, ◌≡◌, ◌≤◌, ◌^◌, ◌∙◌, None, ap, sym, subst, refl, map, length, arith, inl, option_map}
 use Rattle.std.specs.Prelude.{Contains}
 use Rattle.std.proofs.lemmas.List.{length-map}
-use Rattle.std.proofs.lemmas.Result.{err_from_is_err_and}
+use Rattle.std.proofs.lemmas.Result.{IfOk-from_err, err_from_is_err_and}
 use Rattle.qm_model.specs.Forms.{spelling}
 use Rattle.qm_model.specs.Refusals.{too_long}
 use Rattle.qm_merkle.specs.Batches.{stops}
 use Rattle.qm_step.specs.Views.{stepped, wanted_view}
 use Rattle.qm_any.specs.Layouts.{hashing_with, spellings}
-use Rattle.qm_any.specs.Databases.{AreAgreed, AreLinked, IsMade, IsTree, bases_of, child_boundary, child_made}
+use Rattle.qm_any.specs.Databases.{AreAgreed, AreLinked, IsLeft, IsMade, IsTree, bases_of, child_boundary, child_made}
 use Rattle.qm_merkle.specs.Batches.{lists_since}
 use Rattle.qm_store.specs.KeptTrees.{KeptTree, IsKeptTree}
 use Rattle.qm_any.proofs.Agreed.{child-reached, child-above}
 use Rattle.qm_any.proofs.Known.{on_chain-base, child-base, child-linked}
 use Rattle.qm_any.proofs.Making.{child-among, child-is_made, plan-length, plan-spelled, stepped-good, stepped-metadata, stepped-of, stepped-ring}
-use Rattle.qm_any.proofs.Reading.{left-database}
+use Rattle.qm_any.proofs.Reading.{left-database, left-none}
 use Rattle.qm_any.proofs.batch.made_on.Goals as goal
 
 pub returns-in_err-plan-clause-refused : goal.returns-in_err-plan-clause-refused
@@ -134,3 +134,168 @@ pub returns-in_err-plan-clause-cause : goal.returns-in_err-plan-clause-cause
 returns-in_err-plan-clause-cause g c =
     let exit = err_from_is_err_and c.from_residual-in_err-plan.result c.from_residual-in_err-plan.ensures.1 in
     rw (exit.1, exit.2) c.in_err-plan.ensures.cause
+
+pub returns-in_err-twin_option-clause-made : goal.returns-in_err-twin_option-clause-made
+returns-in_err-twin_option-clause-made g c = λ list chain above is made kept on reads. IfOk-from_err c.from_residual.result _ c.from_residual.ensures.0
+
+pub returns-in_err-twin_option-clause-taken : goal.returns-in_err-twin_option-clause-taken
+returns-in_err-twin_option-clause-taken g c = λ list chain above is made kept on reads. IfOk-from_err c.from_residual.result _ c.from_residual.ensures.0
+
+pub returns-in_err-twin_option-clause-next : goal.returns-in_err-twin_option-clause-next
+returns-in_err-twin_option-clause-next g c = λ list chain above is made kept on reads. IfOk-from_err c.from_residual.result _ c.from_residual.ensures.0
+
+pub returns-in_err-twin_option-clause-above : goal.returns-in_err-twin_option-clause-above
+returns-in_err-twin_option-clause-above g c = IfOk-from_err c.from_residual.result _ c.from_residual.ensures.0
+
+pub returns-in_err-twin_option-clause-refused : goal.returns-in_err-twin_option-clause-refused
+returns-in_err-twin_option-clause-refused g c = λ list chain above is made kept on reads.
+    let exit = err_from_is_err_and c.from_residual.result c.from_residual.ensures.1 in
+    rw (exit.1, exit.2) (inl (inl refl))
+
+pub returns-in_err-twin_option-clause-causes : goal.returns-in_err-twin_option-clause-causes
+returns-in_err-twin_option-clause-causes g c =
+    let exit = err_from_is_err_and c.from_residual.result c.from_residual.ensures.1 in
+    rw (exit.1, exit.2) (inl (inl refl))
+
+pub returns-in_err-twin_option-clause-whole : goal.returns-in_err-twin_option-clause-whole
+returns-in_err-twin_option-clause-whole g c = λ list is none low.
+    let exit = err_from_is_err_and c.from_residual.result c.from_residual.ensures.1 in
+    rw (exit.1, exit.2) (λ n pruned. cc)
+
+pub returns-in_err-twin_option-clause-never : goal.returns-in_err-twin_option-clause-never
+returns-in_err-twin_option-clause-never g c =
+    let exit = err_from_is_err_and c.from_residual.result c.from_residual.ensures.1 in
+    rw (exit.1, exit.2) (λ stale. cc)
+
+pub returns-in_err-twin_option-clause-cause : goal.returns-in_err-twin_option-clause-cause
+returns-in_err-twin_option-clause-cause g c =
+    let exit = err_from_is_err_and c.from_residual.result c.from_residual.ensures.1 in
+    rw (exit.1, exit.2) (λ store. absurd cc)
+
+pub returns-in_err-twin_option-clause-left : goal.returns-in_err-twin_option-clause-left
+returns-in_err-twin_option-clause-left g c = left-none g.C.Store (hashing_with g.D.Digest.bytes g.H.Hasher.hash g.F.Family.shape g.U.Update.form) c.args.db.now
+
+pub returns-in_err-copy-clause-made : goal.returns-in_err-copy-clause-made
+returns-in_err-copy-clause-made g c = λ list chain above is made kept on reads. IfOk-from_err c.from_residual-in_err-copy.result _ c.from_residual-in_err-copy.ensures.0
+
+pub returns-in_err-copy-clause-taken : goal.returns-in_err-copy-clause-taken
+returns-in_err-copy-clause-taken g c = λ list chain above is made kept on reads. IfOk-from_err c.from_residual-in_err-copy.result _ c.from_residual-in_err-copy.ensures.0
+
+pub returns-in_err-copy-clause-next : goal.returns-in_err-copy-clause-next
+returns-in_err-copy-clause-next g c = λ list chain above is made kept on reads. IfOk-from_err c.from_residual-in_err-copy.result _ c.from_residual-in_err-copy.ensures.0
+
+pub returns-in_err-copy-clause-above : goal.returns-in_err-copy-clause-above
+returns-in_err-copy-clause-above g c = IfOk-from_err c.from_residual-in_err-copy.result _ c.from_residual-in_err-copy.ensures.0
+
+pub returns-in_err-copy-clause-refused : goal.returns-in_err-copy-clause-refused
+returns-in_err-copy-clause-refused g c = λ list chain above is made kept on reads.
+    let exit = err_from_is_err_and c.from_residual-in_err-copy.result c.from_residual-in_err-copy.ensures.1 in
+    rw (exit.1, exit.2) (inl (inl refl))
+
+pub returns-in_err-copy-clause-causes : goal.returns-in_err-copy-clause-causes
+returns-in_err-copy-clause-causes g c =
+    let exit = err_from_is_err_and c.from_residual-in_err-copy.result c.from_residual-in_err-copy.ensures.1 in
+    rw (exit.1, exit.2) (inl (inl refl))
+
+pub returns-in_err-copy-clause-whole : goal.returns-in_err-copy-clause-whole
+returns-in_err-copy-clause-whole g c = λ list is none low.
+    let exit = err_from_is_err_and c.from_residual-in_err-copy.result c.from_residual-in_err-copy.ensures.1 in
+    rw (exit.1, exit.2) (λ n pruned. cc)
+
+pub returns-in_err-copy-clause-never : goal.returns-in_err-copy-clause-never
+returns-in_err-copy-clause-never g c =
+    let exit = err_from_is_err_and c.from_residual-in_err-copy.result c.from_residual-in_err-copy.ensures.1 in
+    rw (exit.1, exit.2) (λ stale. cc)
+
+pub returns-in_err-copy-clause-cause : goal.returns-in_err-copy-clause-cause
+returns-in_err-copy-clause-cause g c =
+    let exit = err_from_is_err_and c.from_residual-in_err-copy.result c.from_residual-in_err-copy.ensures.1 in
+    rw (exit.1, exit.2) (λ store. absurd cc)
+
+pub returns-in_err-copy-clause-left : goal.returns-in_err-copy-clause-left
+returns-in_err-copy-clause-left g c = left-none g.C.Store (hashing_with g.D.Digest.bytes g.H.Hasher.hash g.F.Family.shape g.U.Update.form) c.args.db.now
+
+pub returns-in_err-plan-clause-made : goal.returns-in_err-plan-clause-made
+returns-in_err-plan-clause-made g c = λ list chain above is made kept on reads. IfOk-from_err c.from_residual-in_err-plan.result _ c.from_residual-in_err-plan.ensures.0
+
+pub returns-in_err-plan-clause-taken : goal.returns-in_err-plan-clause-taken
+returns-in_err-plan-clause-taken g c = λ list chain above is made kept on reads. IfOk-from_err c.from_residual-in_err-plan.result _ c.from_residual-in_err-plan.ensures.0
+
+pub returns-in_err-plan-clause-next : goal.returns-in_err-plan-clause-next
+returns-in_err-plan-clause-next g c = λ list chain above is made kept on reads. IfOk-from_err c.from_residual-in_err-plan.result _ c.from_residual-in_err-plan.ensures.0
+
+pub returns-in_err-plan-clause-above : goal.returns-in_err-plan-clause-above
+returns-in_err-plan-clause-above g c = IfOk-from_err c.from_residual-in_err-plan.result _ c.from_residual-in_err-plan.ensures.0
+
+pub returns-in_err-plan-clause-causes : goal.returns-in_err-plan-clause-causes
+returns-in_err-plan-clause-causes g c =
+    let exit = err_from_is_err_and c.from_residual-in_err-plan.result c.from_residual-in_err-plan.ensures.1 in
+    rw (exit.1, exit.2) c.in_err-plan.ensures.causes
+
+pub returns-in_err-plan-clause-never : goal.returns-in_err-plan-clause-never
+returns-in_err-plan-clause-never g c =
+    let exit = err_from_is_err_and c.from_residual-in_err-plan.result c.from_residual-in_err-plan.ensures.1 in
+    rw (exit.1, exit.2) c.in_err-plan.ensures.never
+
+pub returns-in_err-plan-clause-left : goal.returns-in_err-plan-clause-left
+returns-in_err-plan-clause-left g c = c.in_err-plan.ensures.left
+
+pub returns-in_err-tree-clause-made : goal.returns-in_err-tree-clause-made
+returns-in_err-tree-clause-made g c = λ list chain above is made kept on reads. IfOk-from_err c.from_residual-in_err-tree.result _ c.from_residual-in_err-tree.ensures.0
+
+pub returns-in_err-tree-clause-taken : goal.returns-in_err-tree-clause-taken
+returns-in_err-tree-clause-taken g c = λ list chain above is made kept on reads. IfOk-from_err c.from_residual-in_err-tree.result _ c.from_residual-in_err-tree.ensures.0
+
+pub returns-in_err-tree-clause-next : goal.returns-in_err-tree-clause-next
+returns-in_err-tree-clause-next g c = λ list chain above is made kept on reads. IfOk-from_err c.from_residual-in_err-tree.result _ c.from_residual-in_err-tree.ensures.0
+
+pub returns-in_err-tree-clause-above : goal.returns-in_err-tree-clause-above
+returns-in_err-tree-clause-above g c = IfOk-from_err c.from_residual-in_err-tree.result _ c.from_residual-in_err-tree.ensures.0
+
+pub returns-in_err-tree-clause-causes : goal.returns-in_err-tree-clause-causes
+returns-in_err-tree-clause-causes g c =
+    let exit = err_from_is_err_and c.from_residual-in_err-tree.result c.from_residual-in_err-tree.ensures.1 in
+    rw (exit.1, exit.2) (inl (inl refl))
+
+pub returns-in_err-tree-clause-never : goal.returns-in_err-tree-clause-never
+returns-in_err-tree-clause-never g c =
+    let exit = err_from_is_err_and c.from_residual-in_err-tree.result c.from_residual-in_err-tree.ensures.1 in
+    rw (exit.1, exit.2) (λ stale. cc)
+
+pub returns-in_err-tree-clause-cause : goal.returns-in_err-tree-clause-cause
+returns-in_err-tree-clause-cause g c =
+    let exit = err_from_is_err_and c.from_residual-in_err-tree.result c.from_residual-in_err-tree.ensures.1 in
+    rw (exit.1, exit.2) (λ store. absurd cc)
+
+pub returns-in_err-tree-clause-left : goal.returns-in_err-tree-clause-left
+returns-in_err-tree-clause-left g c = subst (IsLeft g.C.Store (hashing_with g.D.Digest.bytes g.H.Hasher.hash g.F.Family.shape g.U.Update.form) c.args.db.now) (sym c.grown.ensures.same) c.in_ok-plan.ensures.left
+
+pub returns-in_err-batch-clause-made : goal.returns-in_err-batch-clause-made
+returns-in_err-batch-clause-made g c = λ list chain above is made kept on reads. IfOk-from_err c.from_residual-in_err-batch.result _ c.from_residual-in_err-batch.ensures.0
+
+pub returns-in_err-batch-clause-taken : goal.returns-in_err-batch-clause-taken
+returns-in_err-batch-clause-taken g c = λ list chain above is made kept on reads. IfOk-from_err c.from_residual-in_err-batch.result _ c.from_residual-in_err-batch.ensures.0
+
+pub returns-in_err-batch-clause-next : goal.returns-in_err-batch-clause-next
+returns-in_err-batch-clause-next g c = λ list chain above is made kept on reads. IfOk-from_err c.from_residual-in_err-batch.result _ c.from_residual-in_err-batch.ensures.0
+
+pub returns-in_err-batch-clause-above : goal.returns-in_err-batch-clause-above
+returns-in_err-batch-clause-above g c = IfOk-from_err c.from_residual-in_err-batch.result _ c.from_residual-in_err-batch.ensures.0
+
+pub returns-in_err-batch-clause-causes : goal.returns-in_err-batch-clause-causes
+returns-in_err-batch-clause-causes g c =
+    let exit = err_from_is_err_and c.from_residual-in_err-batch.result c.from_residual-in_err-batch.ensures.1 in
+    rw (exit.1, exit.2) (inl (inl refl))
+
+pub returns-in_err-batch-clause-never : goal.returns-in_err-batch-clause-never
+returns-in_err-batch-clause-never g c =
+    let exit = err_from_is_err_and c.from_residual-in_err-batch.result c.from_residual-in_err-batch.ensures.1 in
+    rw (exit.1, exit.2) (λ stale. cc)
+
+pub returns-in_err-batch-clause-cause : goal.returns-in_err-batch-clause-cause
+returns-in_err-batch-clause-cause g c =
+    let exit = err_from_is_err_and c.from_residual-in_err-batch.result c.from_residual-in_err-batch.ensures.1 in
+    rw (exit.1, exit.2) (λ store. absurd cc)
+
+pub returns-in_err-batch-clause-left : goal.returns-in_err-batch-clause-left
+returns-in_err-batch-clause-left g c = subst (IsLeft g.C.Store (hashing_with g.D.Digest.bytes g.H.Hasher.hash g.F.Family.shape g.U.Update.form) c.args.db.now) (sym c.grown.ensures.same) c.in_ok-plan.ensures.left
