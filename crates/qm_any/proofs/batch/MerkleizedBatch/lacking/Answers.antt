@@ -1,6 +1,7 @@
-use Rattle.std.proofs.Common.{◌≡◌, ◌∙◌, ◌∷◌, ◌+◌, List, length, map, take, ap, sym, subst}
+use Rattle.std.proofs.Common.{◌≡◌, ◌∙◌, ◌∷◌, ◌+◌, List, length, map, take, ap, sym, subst, refl, inl, inr}
 use Rattle.std.specs.Prelude.{Contains}
 use Rattle.std.proofs.lemmas.List.{length-map}
+use Rattle.std.proofs.lemmas.Result.{IfOk-from_err, err_from_is_err_and}
 use Rattle.qm_model.specs.Forms.{spelling}
 use Rattle.qm_step.specs.Layers.{Layer}
 use Rattle.qm_step.specs.Views.{changes_view}
@@ -33,3 +34,104 @@ returns-clause-diffs g c =
     ap (map (λ d. changes_view g.U.Key.ByteString.bytes g.U.Value.ByteString.bytes d.value)) (c.split_at.ensures.front ∙ ap (take (length steps)) c.deref-2.ensures.value)
     ∙ diffs-first (λ d. changes_view g.U.Key.ByteString.bytes g.U.Value.ByteString.bytes d.value) (λ l. l.value) (λ (l : Layer). l.changes) c.self.inside.diffs.items c.self.inside.steps.items steps (length steps) c.self.invariant.1 (c.unapplied_of-steps.ensures.first ∙ ap (take (length steps)) c.deref.ensures.value)
     ∙ ap (map (λ (l : Layer). l.changes)) lacked
+
+pub returns-in_err-fits-clause-items : goal.returns-in_err-fits-clause-items
+returns-in_err-fits-clause-items g c = IfOk-from_err c.from_residual.result _ c.from_residual.ensures.0
+
+pub returns-in_err-fits-clause-diffs : goal.returns-in_err-fits-clause-diffs
+returns-in_err-fits-clause-diffs g c = IfOk-from_err c.from_residual.result _ c.from_residual.ensures.0
+
+pub returns-in_err-fits-clause-metadata : goal.returns-in_err-fits-clause-metadata
+returns-in_err-fits-clause-metadata g c = IfOk-from_err c.from_residual.result _ c.from_residual.ensures.0
+
+pub returns-in_err-fits-clause-count : goal.returns-in_err-fits-clause-count
+returns-in_err-fits-clause-count g c = IfOk-from_err c.from_residual.result _ c.from_residual.ensures.0
+
+pub returns-in_err-fits-clause-among : goal.returns-in_err-fits-clause-among
+returns-in_err-fits-clause-among g c = IfOk-from_err c.from_residual.result _ c.from_residual.ensures.0
+
+pub returns-in_err-fits-clause-reached : goal.returns-in_err-fits-clause-reached
+returns-in_err-fits-clause-reached g c = IfOk-from_err c.from_residual.result _ c.from_residual.ensures.0
+
+pub returns-in_err-fits-clause-fits : goal.returns-in_err-fits-clause-fits
+returns-in_err-fits-clause-fits g c = IfOk-from_err c.from_residual.result _ c.from_residual.ensures.0
+
+pub returns-in_err-fits-clause-stale : goal.returns-in_err-fits-clause-stale
+returns-in_err-fits-clause-stale g c =
+    let exit = err_from_is_err_and c.from_residual.result c.from_residual.ensures.1 in
+    rw (exit.1, exit.2) (inr c.in_err-fits.ensures.stale)
+
+pub returns-in_err-items-clause-items : goal.returns-in_err-items-clause-items
+returns-in_err-items-clause-items g c = IfOk-from_err c.from_residual-in_err-items.result _ c.from_residual-in_err-items.ensures.0
+
+pub returns-in_err-items-clause-diffs : goal.returns-in_err-items-clause-diffs
+returns-in_err-items-clause-diffs g c = IfOk-from_err c.from_residual-in_err-items.result _ c.from_residual-in_err-items.ensures.0
+
+pub returns-in_err-items-clause-metadata : goal.returns-in_err-items-clause-metadata
+returns-in_err-items-clause-metadata g c = IfOk-from_err c.from_residual-in_err-items.result _ c.from_residual-in_err-items.ensures.0
+
+pub returns-in_err-items-clause-count : goal.returns-in_err-items-clause-count
+returns-in_err-items-clause-count g c = IfOk-from_err c.from_residual-in_err-items.result _ c.from_residual-in_err-items.ensures.0
+
+pub returns-in_err-items-clause-among : goal.returns-in_err-items-clause-among
+returns-in_err-items-clause-among g c = IfOk-from_err c.from_residual-in_err-items.result _ c.from_residual-in_err-items.ensures.0
+
+pub returns-in_err-items-clause-reached : goal.returns-in_err-items-clause-reached
+returns-in_err-items-clause-reached g c = IfOk-from_err c.from_residual-in_err-items.result _ c.from_residual-in_err-items.ensures.0
+
+pub returns-in_err-items-clause-fits : goal.returns-in_err-items-clause-fits
+returns-in_err-items-clause-fits g c = IfOk-from_err c.from_residual-in_err-items.result _ c.from_residual-in_err-items.ensures.0
+
+pub returns-in_err-items-clause-stale : goal.returns-in_err-items-clause-stale
+returns-in_err-items-clause-stale g c =
+    let exit = err_from_is_err_and c.from_residual-in_err-items.result c.from_residual-in_err-items.ensures.1 in
+    rw (exit.1, exit.2) (inl refl)
+
+pub returns-in_err-metadata-clause-items : goal.returns-in_err-metadata-clause-items
+returns-in_err-metadata-clause-items g c = IfOk-from_err c.from_residual-in_err-metadata.result _ c.from_residual-in_err-metadata.ensures.0
+
+pub returns-in_err-metadata-clause-diffs : goal.returns-in_err-metadata-clause-diffs
+returns-in_err-metadata-clause-diffs g c = IfOk-from_err c.from_residual-in_err-metadata.result _ c.from_residual-in_err-metadata.ensures.0
+
+pub returns-in_err-metadata-clause-metadata : goal.returns-in_err-metadata-clause-metadata
+returns-in_err-metadata-clause-metadata g c = IfOk-from_err c.from_residual-in_err-metadata.result _ c.from_residual-in_err-metadata.ensures.0
+
+pub returns-in_err-metadata-clause-count : goal.returns-in_err-metadata-clause-count
+returns-in_err-metadata-clause-count g c = IfOk-from_err c.from_residual-in_err-metadata.result _ c.from_residual-in_err-metadata.ensures.0
+
+pub returns-in_err-metadata-clause-among : goal.returns-in_err-metadata-clause-among
+returns-in_err-metadata-clause-among g c = IfOk-from_err c.from_residual-in_err-metadata.result _ c.from_residual-in_err-metadata.ensures.0
+
+pub returns-in_err-metadata-clause-reached : goal.returns-in_err-metadata-clause-reached
+returns-in_err-metadata-clause-reached g c = IfOk-from_err c.from_residual-in_err-metadata.result _ c.from_residual-in_err-metadata.ensures.0
+
+pub returns-in_err-metadata-clause-fits : goal.returns-in_err-metadata-clause-fits
+returns-in_err-metadata-clause-fits g c = IfOk-from_err c.from_residual-in_err-metadata.result _ c.from_residual-in_err-metadata.ensures.0
+
+pub returns-in_err-metadata-clause-stale : goal.returns-in_err-metadata-clause-stale
+returns-in_err-metadata-clause-stale g c =
+    let exit = err_from_is_err_and c.from_residual-in_err-metadata.result c.from_residual-in_err-metadata.ensures.1 in
+    rw (exit.1, exit.2) (inl refl)
+
+pub returns-clause-items : goal.returns-clause-items
+returns-clause-items g c =
+    let n = c.args.current.now.size in
+    let layers : List Layer = c.args.self.now.layers in
+    let lacked : map (λ l. l.value) c.unapplied_of-steps.result.now ≡ unapplied n layers =
+    c.unapplied_of-steps.ensures.value ∙ ap (λ ls. unapplied n (map (λ l. l.value) ls)) c.deref.ensures.value ∙ ap (λ b. unapplied n b.layers) c.self.view_is in
+    c.in_ok-items.ensures ∙ ap (λ ls. map (spelling g.U.Update.form) (operations_in ls)) lacked
+
+pub returns-clause-metadata : goal.returns-clause-metadata
+returns-clause-metadata g c = c.in_ok-metadata.ensures ∙ ap (λ b. b.metadata) c.self.view_is
+
+pub returns-clause-among : goal.returns-clause-among
+returns-clause-among g c = c.in_ok-fits.ensures.among
+
+pub returns-clause-reached : goal.returns-clause-reached
+returns-clause-reached g c = c.in_ok-fits.ensures.reached
+
+pub returns-clause-fits : goal.returns-clause-fits
+returns-clause-fits g c = c.in_ok-fits.ensures.fits
+
+pub returns-clause-stale : goal.returns-clause-stale
+returns-clause-stale g c = tt

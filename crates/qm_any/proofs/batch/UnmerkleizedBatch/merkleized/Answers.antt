@@ -1,4 +1,5 @@
-use Rattle.std.proofs.Common.{◌≡◌, ◌∙◌, ◌≤◌, ap, map, sym, subst, true, inr, option_map}
+use Rattle.std.proofs.Common.{◌≡◌, ◌∙◌, ◌≤◌, ap, map, sym, subst, refl, true, inl, inr, option_map}
+use Rattle.std.proofs.lemmas.Result.{IfOk-from_err, err_from_is_err_and}
 use Rattle.std.specs.Prelude.{IfOk, IfErr, OnOk, is_ok, ◌⊎◌}
 use Rattle.qm_model.proofs.Results.{err-then, ok-then}
 use Rattle.qm_chain.specs.Bounds.{commitment_view, is_at}
@@ -9,6 +10,7 @@ use Rattle.qm_step.specs.Views.{keys_of, stepped, left_after}
 use Rattle.qm_any.specs.Layouts.{hashing_with}
 use Rattle.qm_any.specs.Databases.{IsMade, child_boundary, child_tips, is_on, kept_by}
 use Rattle.qm_any.specs.Tips.{IsTaken, IsRefused}
+use Rattle.qm_any.proofs.Reading.{left-none}
 use Rattle.qm_any.proofs.batch.UnmerkleizedBatch.merkleized.Goals as goal
 
 pub returns-in-Ok-clause-made : goal.returns-in-Ok-clause-made
@@ -102,3 +104,78 @@ returns-in-Ok-clause-order g c =
     (subst (λ b. is_at (view c.commitment.result.now) b (child_tips inside.keep inside.parent.value.bounds) ≡ true) boundary
     (subst (λ t. is_at (view c.commitment.result.now) (view c.child_boundary-boundary.result) t ≡ true) tips tested))) in
     err-then c.made_on.result c.made_on.ensures.never (λ e never memory stale. on)
+
+pub returns-in_err-tips-clause-made : goal.returns-in_err-tips-clause-made
+returns-in_err-tips-clause-made g c = λ list chain above is begun on reads. IfOk-from_err c.from_residual.result _ c.from_residual.ensures.0
+
+pub returns-in_err-tips-clause-taken : goal.returns-in_err-tips-clause-taken
+returns-in_err-tips-clause-taken g c = λ list chain above is begun on reads. IfOk-from_err c.from_residual.result _ c.from_residual.ensures.0
+
+pub returns-in_err-tips-clause-next : goal.returns-in_err-tips-clause-next
+returns-in_err-tips-clause-next g c = λ list chain above is begun on reads. IfOk-from_err c.from_residual.result _ c.from_residual.ensures.0
+
+pub returns-in_err-tips-clause-fits : goal.returns-in_err-tips-clause-fits
+returns-in_err-tips-clause-fits g c = IfOk-from_err c.from_residual.result _ c.from_residual.ensures.0
+
+pub returns-in_err-tips-clause-above : goal.returns-in_err-tips-clause-above
+returns-in_err-tips-clause-above g c = IfOk-from_err c.from_residual.result _ c.from_residual.ensures.0
+
+pub returns-in_err-tips-clause-refused : goal.returns-in_err-tips-clause-refused
+returns-in_err-tips-clause-refused g c = λ list chain above is begun on reads.
+    let exit = err_from_is_err_and c.from_residual.result c.from_residual.ensures.1 in
+    rw (exit.1, exit.2) (inl (inl refl))
+
+pub returns-in_err-tips-clause-stale : goal.returns-in_err-tips-clause-stale
+returns-in_err-tips-clause-stale g c =
+    let exit = err_from_is_err_and c.from_residual.result c.from_residual.ensures.1 in
+    rw (exit.1, exit.2) (λ stale. absurd cc)
+
+pub returns-in_err-tips-clause-order : goal.returns-in_err-tips-clause-order
+returns-in_err-tips-clause-order g c =
+    let exit = err_from_is_err_and c.from_residual.result c.from_residual.ensures.1 in
+    rw (exit.1, exit.2) (λ memory stale. absurd (memory refl))
+
+pub returns-in_err-tips-clause-causes : goal.returns-in_err-tips-clause-causes
+returns-in_err-tips-clause-causes g c =
+    let exit = err_from_is_err_and c.from_residual.result c.from_residual.ensures.1 in
+    rw (exit.1, exit.2) (inr (inl (inl refl)))
+
+pub returns-in_err-tips-clause-whole : goal.returns-in_err-tips-clause-whole
+returns-in_err-tips-clause-whole g c = λ list is none low.
+    let exit = err_from_is_err_and c.from_residual.result c.from_residual.ensures.1 in
+    rw (exit.1, exit.2) (λ n pruned. cc)
+
+pub returns-in_err-tips-clause-cause : goal.returns-in_err-tips-clause-cause
+returns-in_err-tips-clause-cause g c =
+    let exit = err_from_is_err_and c.from_residual.result c.from_residual.ensures.1 in
+    rw (exit.1, exit.2) (λ store. absurd cc)
+
+pub returns-in_err-tips-clause-left : goal.returns-in_err-tips-clause-left
+returns-in_err-tips-clause-left g c = left-none g.C.Store (hashing_with g.D.Digest.bytes g.H.Hasher.hash g.F.Family.shape g.U.Update.form) c.args.db.now
+
+pub returns-in-Err-clause-made : goal.returns-in-Err-clause-made
+returns-in-Err-clause-made g c = λ list chain above is begun on reads. tt
+
+pub returns-in-Err-clause-taken : goal.returns-in-Err-clause-taken
+returns-in-Err-clause-taken g c = λ list chain above is begun on reads. tt
+
+pub returns-in-Err-clause-next : goal.returns-in-Err-clause-next
+returns-in-Err-clause-next g c = λ list chain above is begun on reads. tt
+
+pub returns-in-Err-clause-fits : goal.returns-in-Err-clause-fits
+returns-in-Err-clause-fits g c = tt
+
+pub returns-in-Err-clause-above : goal.returns-in-Err-clause-above
+returns-in-Err-clause-above g c = tt
+
+pub returns-in-Err-clause-left : goal.returns-in-Err-clause-left
+returns-in-Err-clause-left g c = left-none g.C.Store (hashing_with g.D.Digest.bytes g.H.Hasher.hash g.F.Family.shape g.U.Update.form) c.args.db.now
+
+pub returns-in-Ok-clause-above : goal.returns-in-Ok-clause-above
+returns-in-Ok-clause-above g c = c.made_on.ensures.above
+
+pub returns-in-Ok-clause-cause : goal.returns-in-Ok-clause-cause
+returns-in-Ok-clause-cause g c = c.made_on.ensures.cause
+
+pub returns-in-Ok-clause-left : goal.returns-in-Ok-clause-left
+returns-in-Ok-clause-left g c = c.made_on.ensures.left
