@@ -16,11 +16,27 @@ use Rattle.qm_any.proofs.Making.{child-among, child-is_made, plan-length, plan-s
 use Rattle.qm_any.proofs.Reading.{left-database, left-none}
 use Rattle.qm_any.proofs.batch.made_on.Goals as goal
 
-pub returns-in_err-plan-clause-refused : goal.returns-in_err-plan-clause-refused
-returns-in_err-plan-clause-refused g c = λ list chain above is made kept on reads.
+pub returns-in_err-plan : goal.returns-in_err-plan
+returns-in_err-plan g c =
     let exit = err_from_is_err_and c.from_residual-in_err-plan.result c.from_residual-in_err-plan.ensures.1 in
-    let from = child-base c.args.parent.now c.args.keep list chain above made kept on in
-    rw (exit.1, exit.2) (c.in_err-plan.ensures.refused list chain.base is from made.ring reads)
+    record {
+      made = λ list chain above is made kept on reads. IfOk-from_err c.from_residual-in_err-plan.result _ c.from_residual-in_err-plan.ensures.0;
+      taken = λ list chain above is made kept on reads. IfOk-from_err c.from_residual-in_err-plan.result _ c.from_residual-in_err-plan.ensures.0;
+      refused = λ list chain above is made kept on reads.
+        let from = child-base c.args.parent.now c.args.keep list chain above made kept on in
+        rw (exit.1, exit.2) (c.in_err-plan.ensures.refused list chain.base is from made.ring reads);
+      next = λ list chain above is made kept on reads. IfOk-from_err c.from_residual-in_err-plan.result _ c.from_residual-in_err-plan.ensures.0;
+      above = IfOk-from_err c.from_residual-in_err-plan.result _ c.from_residual-in_err-plan.ensures.0;
+      causes =
+        rw (exit.1, exit.2) c.in_err-plan.ensures.causes;
+      whole = λ list is none low.
+        rw (exit.1, exit.2) (c.in_err-plan.ensures.whole list is none low);
+      never =
+        rw (exit.1, exit.2) c.in_err-plan.ensures.never;
+      cause =
+        rw (exit.1, exit.2) c.in_err-plan.ensures.cause;
+      left = c.in_err-plan.ensures.left;
+    }
 
 pub grown-requires-clause-reach : goal.grown-requires-clause-reach
 grown-requires-clause-reach g c =
@@ -38,10 +54,26 @@ grown-requires-clause-boundary g c =
     let low : c.args.boundary.size ≡ (child_boundary c.args.keep parent.bounds).size = ap (λ k. k.size) c.requires.boundary in
     omega (arith, size, low, child-above parent agreed c.args.keep c.args.db.now.commitment c.requires.keep c.requires.on)
 
-pub returns-in_err-tree-clause-refused : goal.returns-in_err-tree-clause-refused
-returns-in_err-tree-clause-refused g c = λ list chain above is made kept on reads.
+pub returns-in_err-tree : goal.returns-in_err-tree
+returns-in_err-tree g c =
     let exit = err_from_is_err_and c.from_residual-in_err-tree.result c.from_residual-in_err-tree.ensures.1 in
-    rw (exit.1, exit.2) (inl (inl refl))
+    record {
+      made = λ list chain above is made kept on reads. IfOk-from_err c.from_residual-in_err-tree.result _ c.from_residual-in_err-tree.ensures.0;
+      taken = λ list chain above is made kept on reads. IfOk-from_err c.from_residual-in_err-tree.result _ c.from_residual-in_err-tree.ensures.0;
+      refused = λ list chain above is made kept on reads.
+        rw (exit.1, exit.2) (inl (inl refl));
+      next = λ list chain above is made kept on reads. IfOk-from_err c.from_residual-in_err-tree.result _ c.from_residual-in_err-tree.ensures.0;
+      above = IfOk-from_err c.from_residual-in_err-tree.result _ c.from_residual-in_err-tree.ensures.0;
+      causes =
+        rw (exit.1, exit.2) (inl (inl refl));
+      whole = λ list is none low.
+        rw (exit.1, exit.2) (λ n pruned. cc);
+      never =
+        rw (exit.1, exit.2) (λ stale. cc);
+      cause =
+        rw (exit.1, exit.2) (λ store. absurd cc);
+      left = subst (IsLeft g.C.Store (hashing_with g.D.Digest.bytes g.H.Hasher.hash g.F.Family.shape g.U.Update.form) c.args.db.now) (sym c.grown.ensures.same) c.in_ok-plan.ensures.left;
+    }
 
 pub sealed-requires-clause-count : goal.sealed-requires-clause-count
 sealed-requires-clause-count g c =
@@ -53,249 +85,128 @@ sealed-requires-clause-count g c =
     let grown = c.in_ok-tree.ensures.leaves in
     omega (arith, grown, tree, own, items, count)
 
-pub returns-clause-made : goal.returns-clause-made
-returns-clause-made g c = λ list chain above is made kept on reads.
-    let bytes = g.D.Digest.bytes in
-    let form = g.U.Update.form in
-    let hashing = hashing_with bytes g.H.Hasher.hash g.F.Family.shape form in
-    let parent = c.args.parent.now in
-    let base = chain.base in
-    let ws = wanted_view g.U.Key.ByteString.bytes g.U.Value.ByteString.bytes c.args.wanted in
-    let meta = option_map g.U.Value.ByteString.bytes c.args.metadata in
-    let tip = stepped form g.P.Policy.rules base ws c.args.policy.now meta in
-    let items = map (λ v. v.items) c.in_ok-plan.items.items in
-    let size = ap (λ k. k.size) made.bounds.tip in
-    let from = child-base parent c.args.keep list chain above made kept on in
-    let plan = c.in_ok-plan.ensures.plan list base is from made.ring reads in
-    let short = subst (λ xs. too_long xs ≡ None) (c.in_ok-plan.ensures.items ∙ ap (map (spelling g.U.Update.form)) plan.operations) c.in_ok-plan.ensures.short in
-    let count : length c.in_ok-plan.items.items ≡ length c.in_ok-plan.plan.operations = sym (length-map c.in_ok-plan.items.items (λ v. v.items)) ∙ ap length c.in_ok-plan.ensures.items ∙ length-map c.in_ok-plan.plan.operations (spelling g.U.Update.form) in
-    let room = c.in_ok-plan.ensures.room in
-    let few : length tip ≤ 2 ^ 62 = omega (arith, room, size, count, plan-length c.in_ok-plan.plan base tip plan) in
-    let stands = left-database g.C.Store (record { hashing = hashing; index_key = g.I.Unordered.index_key }) c.args.db.now c.planned.new.db list c.in_ok-plan.ensures.left is in
-    let linked = subst (AreLinked base) (sym kept) (child-linked c.args.keep above base made.linked) in
-    let among = child-among parent c.args.keep chain above c.requires.keep made kept list (on_chain-base list chain linked on) in
-    let spelled = plan-spelled form c.in_ok-plan.plan base tip (map (λ v. v.items) c.deref.result.now) plan (ap (map (λ v. v.items)) c.deref.ensures.value ∙ c.in_ok-plan.ensures.items) in
-    let kept_tree = subst (λ t. IsTree hashing t base (bases_of above)) (sym (ap (λ m. m.tree) c.parent.view_is)) made.tree in
-    let boundary = ap (λ k. k.size) c.requires.boundary in
-    let low = c.get-floor.ensures ∙ ap (λ p. p.floor) c.plan.view_is ∙ plan.floor in
-    let tree = subst (λ xs. IsKeptTree bytes g.H.Hasher.hash g.F.Family.shape c.in_ok-tree.tree xs (lists_since (child_boundary c.args.keep parent.bounds).size (map (spellings hashing) (base ∷ bases_of above)))) spelled
-    (subst (λ n. IsKeptTree bytes g.H.Hasher.hash g.F.Family.shape c.in_ok-tree.tree (spellings hashing base ++ map (λ v. v.items) c.deref.result.now) (lists_since n (map (spellings hashing) (base ∷ bases_of above)))) boundary
-    (c.in_ok-tree.ensures.tree list base (bases_of above) stands kept_tree among)) in
-    let root = c.in_ok-tree.ensures.root list base tip (bases_of above) stands kept_tree among spelled low in
-    let metadata = c.in_ok-copy.ensures ∙ ap (option_map g.U.Value.ByteString.bytes) c.in_ok-twin_option.ensures in
-    let all = stepped-of form g.P.Policy.rules base ws c.args.policy.now meta c.in_ok-plan.plan.operations made.of plan.changes.begins plan.operations c.in_ok-plan.ensures.of few in
-    subst (λ b. IsMade hashing b chain tip) (sym (c.in_ok-batch.ensures.value ∙ ap (λ m. child_made parent c.args.keep c.in_ok-plan.plan c.in_ok-tree.tree (bytes c.in_ok-tree.root) m) metadata))
-    (child-is_made parent c.args.keep chain above c.requires.keep made kept c.in_ok-plan.plan c.in_ok-tree.tree (bytes c.in_ok-tree.root) meta tip plan tree root (stepped-metadata form g.P.Policy.rules base ws c.args.policy.now meta) all
-    (stepped-good form g.P.Policy.rules base ws c.args.policy.now meta made.good) (stepped-ring form g.P.Policy.rules base ws c.args.policy.now meta made.ring))
+pub returns : goal.returns
+returns g c =
+    record {
+      made = λ list chain above is made kept on reads.
+        let bytes = g.D.Digest.bytes in
+        let form = g.U.Update.form in
+        let hashing = hashing_with bytes g.H.Hasher.hash g.F.Family.shape form in
+        let parent = c.args.parent.now in
+        let base = chain.base in
+        let ws = wanted_view g.U.Key.ByteString.bytes g.U.Value.ByteString.bytes c.args.wanted in
+        let meta = option_map g.U.Value.ByteString.bytes c.args.metadata in
+        let tip = stepped form g.P.Policy.rules base ws c.args.policy.now meta in
+        let items = map (λ v. v.items) c.in_ok-plan.items.items in
+        let size = ap (λ k. k.size) made.bounds.tip in
+        let from = child-base parent c.args.keep list chain above made kept on in
+        let plan = c.in_ok-plan.ensures.plan list base is from made.ring reads in
+        let short = subst (λ xs. too_long xs ≡ None) (c.in_ok-plan.ensures.items ∙ ap (map (spelling g.U.Update.form)) plan.operations) c.in_ok-plan.ensures.short in
+        let count : length c.in_ok-plan.items.items ≡ length c.in_ok-plan.plan.operations = sym (length-map c.in_ok-plan.items.items (λ v. v.items)) ∙ ap length c.in_ok-plan.ensures.items ∙ length-map c.in_ok-plan.plan.operations (spelling g.U.Update.form) in
+        let room = c.in_ok-plan.ensures.room in
+        let few : length tip ≤ 2 ^ 62 = omega (arith, room, size, count, plan-length c.in_ok-plan.plan base tip plan) in
+        let stands = left-database g.C.Store (record { hashing = hashing; index_key = g.I.Unordered.index_key }) c.args.db.now c.planned.new.db list c.in_ok-plan.ensures.left is in
+        let linked = subst (AreLinked base) (sym kept) (child-linked c.args.keep above base made.linked) in
+        let among = child-among parent c.args.keep chain above c.requires.keep made kept list (on_chain-base list chain linked on) in
+        let spelled = plan-spelled form c.in_ok-plan.plan base tip (map (λ v. v.items) c.deref.result.now) plan (ap (map (λ v. v.items)) c.deref.ensures.value ∙ c.in_ok-plan.ensures.items) in
+        let kept_tree = subst (λ t. IsTree hashing t base (bases_of above)) (sym (ap (λ m. m.tree) c.parent.view_is)) made.tree in
+        let boundary = ap (λ k. k.size) c.requires.boundary in
+        let low = c.get-floor.ensures ∙ ap (λ p. p.floor) c.plan.view_is ∙ plan.floor in
+        let tree = subst (λ xs. IsKeptTree bytes g.H.Hasher.hash g.F.Family.shape c.in_ok-tree.tree xs (lists_since (child_boundary c.args.keep parent.bounds).size (map (spellings hashing) (base ∷ bases_of above)))) spelled
+        (subst (λ n. IsKeptTree bytes g.H.Hasher.hash g.F.Family.shape c.in_ok-tree.tree (spellings hashing base ++ map (λ v. v.items) c.deref.result.now) (lists_since n (map (spellings hashing) (base ∷ bases_of above)))) boundary
+        (c.in_ok-tree.ensures.tree list base (bases_of above) stands kept_tree among)) in
+        let root = c.in_ok-tree.ensures.root list base tip (bases_of above) stands kept_tree among spelled low in
+        let metadata = c.in_ok-copy.ensures ∙ ap (option_map g.U.Value.ByteString.bytes) c.in_ok-twin_option.ensures in
+        let all = stepped-of form g.P.Policy.rules base ws c.args.policy.now meta c.in_ok-plan.plan.operations made.of plan.changes.begins plan.operations c.in_ok-plan.ensures.of few in
+        subst (λ b. IsMade hashing b chain tip) (sym (c.in_ok-batch.ensures.value ∙ ap (λ m. child_made parent c.args.keep c.in_ok-plan.plan c.in_ok-tree.tree (bytes c.in_ok-tree.root) m) metadata))
+        (child-is_made parent c.args.keep chain above c.requires.keep made kept c.in_ok-plan.plan c.in_ok-tree.tree (bytes c.in_ok-tree.root) meta tip plan tree root (stepped-metadata form g.P.Policy.rules base ws c.args.policy.now meta) all
+        (stepped-good form g.P.Policy.rules base ws c.args.policy.now meta made.good) (stepped-ring form g.P.Policy.rules base ws c.args.policy.now meta made.ring));
+      taken = λ list chain above is made kept on reads.
+        let bytes = g.D.Digest.bytes in
+        let form = g.U.Update.form in
+        let hashing = hashing_with bytes g.H.Hasher.hash g.F.Family.shape form in
+        let base = chain.base in
+        let ws = wanted_view g.U.Key.ByteString.bytes g.U.Value.ByteString.bytes c.args.wanted in
+        let meta = option_map g.U.Value.ByteString.bytes c.args.metadata in
+        let tip = stepped form g.P.Policy.rules base ws c.args.policy.now meta in
+        let size = ap (λ k. k.size) made.bounds.tip in
+        let from = child-base c.args.parent.now c.args.keep list chain above made kept on in
+        let plan = c.in_ok-plan.ensures.plan list base is from made.ring reads in
+        let count : length c.in_ok-plan.items.items ≡ length c.in_ok-plan.plan.operations = sym (length-map c.in_ok-plan.items.items (λ v. v.items)) ∙ ap length c.in_ok-plan.ensures.items ∙ length-map c.in_ok-plan.plan.operations (spelling g.U.Update.form) in
+        let room = c.in_ok-plan.ensures.room in (
+          subst (λ xs. too_long xs ≡ None) (c.in_ok-plan.ensures.items ∙ ap (map (spelling g.U.Update.form)) plan.operations) c.in_ok-plan.ensures.short,
+          omega (arith, room, size, count, plan-length c.in_ok-plan.plan base tip plan),
+        );
+      refused = λ list chain above is made kept on reads. tt;
+      next = λ list chain above is made kept on reads.
+        c.in_ok-plan.ensures.next list chain.base is (child-base c.args.parent.now c.args.keep list chain above made kept on) made.ring reads;
+      above = c.in_ok-batch.ensures.above;
+      causes = tt;
+      whole = λ list is none low. tt;
+      never = tt;
+      cause = tt;
+      left = subst (IsLeft g.C.Store (hashing_with g.D.Digest.bytes g.H.Hasher.hash g.F.Family.shape g.U.Update.form) c.args.db.now) (sym c.grown.ensures.same) c.in_ok-plan.ensures.left;
+    }
 
-pub returns-clause-taken : goal.returns-clause-taken
-returns-clause-taken g c = λ list chain above is made kept on reads.
-    let bytes = g.D.Digest.bytes in
-    let form = g.U.Update.form in
-    let hashing = hashing_with bytes g.H.Hasher.hash g.F.Family.shape form in
-    let base = chain.base in
-    let ws = wanted_view g.U.Key.ByteString.bytes g.U.Value.ByteString.bytes c.args.wanted in
-    let meta = option_map g.U.Value.ByteString.bytes c.args.metadata in
-    let tip = stepped form g.P.Policy.rules base ws c.args.policy.now meta in
-    let size = ap (λ k. k.size) made.bounds.tip in
-    let from = child-base c.args.parent.now c.args.keep list chain above made kept on in
-    let plan = c.in_ok-plan.ensures.plan list base is from made.ring reads in
-    let count : length c.in_ok-plan.items.items ≡ length c.in_ok-plan.plan.operations = sym (length-map c.in_ok-plan.items.items (λ v. v.items)) ∙ ap length c.in_ok-plan.ensures.items ∙ length-map c.in_ok-plan.plan.operations (spelling g.U.Update.form) in
-    let room = c.in_ok-plan.ensures.room in (
-      subst (λ xs. too_long xs ≡ None) (c.in_ok-plan.ensures.items ∙ ap (map (spelling g.U.Update.form)) plan.operations) c.in_ok-plan.ensures.short,
-      omega (arith, room, size, count, plan-length c.in_ok-plan.plan base tip plan),
-    )
-
-pub returns-in_err-batch-clause-refused : goal.returns-in_err-batch-clause-refused
-returns-in_err-batch-clause-refused g c = λ list chain above is made kept on reads.
+pub returns-in_err-batch : goal.returns-in_err-batch
+returns-in_err-batch g c =
     let exit = err_from_is_err_and c.from_residual-in_err-batch.result c.from_residual-in_err-batch.ensures.1 in
-    rw (exit.1, exit.2) (inl (inl refl))
+    record {
+      made = λ list chain above is made kept on reads. IfOk-from_err c.from_residual-in_err-batch.result _ c.from_residual-in_err-batch.ensures.0;
+      taken = λ list chain above is made kept on reads. IfOk-from_err c.from_residual-in_err-batch.result _ c.from_residual-in_err-batch.ensures.0;
+      refused = λ list chain above is made kept on reads.
+        rw (exit.1, exit.2) (inl (inl refl));
+      next = λ list chain above is made kept on reads. IfOk-from_err c.from_residual-in_err-batch.result _ c.from_residual-in_err-batch.ensures.0;
+      above = IfOk-from_err c.from_residual-in_err-batch.result _ c.from_residual-in_err-batch.ensures.0;
+      causes =
+        rw (exit.1, exit.2) (inl (inl refl));
+      whole = λ list is none low.
+        rw (exit.1, exit.2) (λ n pruned. cc);
+      never =
+        rw (exit.1, exit.2) (λ stale. cc);
+      cause =
+        rw (exit.1, exit.2) (λ store. absurd cc);
+      left = subst (IsLeft g.C.Store (hashing_with g.D.Digest.bytes g.H.Hasher.hash g.F.Family.shape g.U.Update.form) c.args.db.now) (sym c.grown.ensures.same) c.in_ok-plan.ensures.left;
+    }
 
-pub returns-in_err-batch-clause-whole : goal.returns-in_err-batch-clause-whole
-returns-in_err-batch-clause-whole g c = λ list is none low.
-    let exit = err_from_is_err_and c.from_residual-in_err-batch.result c.from_residual-in_err-batch.ensures.1 in
-    rw (exit.1, exit.2) (λ n pruned. cc)
-
-pub returns-clause-next : goal.returns-clause-next
-returns-clause-next g c = λ list chain above is made kept on reads.
-    c.in_ok-plan.ensures.next list chain.base is (child-base c.args.parent.now c.args.keep list chain above made kept on) made.ring reads
-
-pub returns-in_err-tree-clause-whole : goal.returns-in_err-tree-clause-whole
-returns-in_err-tree-clause-whole g c = λ list is none low.
-    let exit = err_from_is_err_and c.from_residual-in_err-tree.result c.from_residual-in_err-tree.ensures.1 in
-    rw (exit.1, exit.2) (λ n pruned. cc)
-
-pub returns-in_err-plan-clause-whole : goal.returns-in_err-plan-clause-whole
-returns-in_err-plan-clause-whole g c = λ list is none low.
-    let exit = err_from_is_err_and c.from_residual-in_err-plan.result c.from_residual-in_err-plan.ensures.1 in
-    rw (exit.1, exit.2) (c.in_err-plan.ensures.whole list is none low)
-
-pub returns-in_err-plan-clause-cause : goal.returns-in_err-plan-clause-cause
-returns-in_err-plan-clause-cause g c =
-    let exit = err_from_is_err_and c.from_residual-in_err-plan.result c.from_residual-in_err-plan.ensures.1 in
-    rw (exit.1, exit.2) c.in_err-plan.ensures.cause
-
-pub returns-in_err-twin_option-clause-made : goal.returns-in_err-twin_option-clause-made
-returns-in_err-twin_option-clause-made g c = λ list chain above is made kept on reads. IfOk-from_err c.from_residual.result _ c.from_residual.ensures.0
-
-pub returns-in_err-twin_option-clause-taken : goal.returns-in_err-twin_option-clause-taken
-returns-in_err-twin_option-clause-taken g c = λ list chain above is made kept on reads. IfOk-from_err c.from_residual.result _ c.from_residual.ensures.0
-
-pub returns-in_err-twin_option-clause-next : goal.returns-in_err-twin_option-clause-next
-returns-in_err-twin_option-clause-next g c = λ list chain above is made kept on reads. IfOk-from_err c.from_residual.result _ c.from_residual.ensures.0
-
-pub returns-in_err-twin_option-clause-above : goal.returns-in_err-twin_option-clause-above
-returns-in_err-twin_option-clause-above g c = IfOk-from_err c.from_residual.result _ c.from_residual.ensures.0
-
-pub returns-in_err-twin_option-clause-refused : goal.returns-in_err-twin_option-clause-refused
-returns-in_err-twin_option-clause-refused g c = λ list chain above is made kept on reads.
+pub returns-in_err-twin_option : goal.returns-in_err-twin_option
+returns-in_err-twin_option g c =
     let exit = err_from_is_err_and c.from_residual.result c.from_residual.ensures.1 in
-    rw (exit.1, exit.2) (inl (inl refl))
+    record {
+      made = λ list chain above is made kept on reads. IfOk-from_err c.from_residual.result _ c.from_residual.ensures.0;
+      taken = λ list chain above is made kept on reads. IfOk-from_err c.from_residual.result _ c.from_residual.ensures.0;
+      refused = λ list chain above is made kept on reads.
+        rw (exit.1, exit.2) (inl (inl refl));
+      next = λ list chain above is made kept on reads. IfOk-from_err c.from_residual.result _ c.from_residual.ensures.0;
+      above = IfOk-from_err c.from_residual.result _ c.from_residual.ensures.0;
+      causes =
+        rw (exit.1, exit.2) (inl (inl refl));
+      whole = λ list is none low.
+        rw (exit.1, exit.2) (λ n pruned. cc);
+      never =
+        rw (exit.1, exit.2) (λ stale. cc);
+      cause =
+        rw (exit.1, exit.2) (λ store. absurd cc);
+      left = left-none g.C.Store (hashing_with g.D.Digest.bytes g.H.Hasher.hash g.F.Family.shape g.U.Update.form) c.args.db.now;
+    }
 
-pub returns-in_err-twin_option-clause-causes : goal.returns-in_err-twin_option-clause-causes
-returns-in_err-twin_option-clause-causes g c =
-    let exit = err_from_is_err_and c.from_residual.result c.from_residual.ensures.1 in
-    rw (exit.1, exit.2) (inl (inl refl))
-
-pub returns-in_err-twin_option-clause-whole : goal.returns-in_err-twin_option-clause-whole
-returns-in_err-twin_option-clause-whole g c = λ list is none low.
-    let exit = err_from_is_err_and c.from_residual.result c.from_residual.ensures.1 in
-    rw (exit.1, exit.2) (λ n pruned. cc)
-
-pub returns-in_err-twin_option-clause-never : goal.returns-in_err-twin_option-clause-never
-returns-in_err-twin_option-clause-never g c =
-    let exit = err_from_is_err_and c.from_residual.result c.from_residual.ensures.1 in
-    rw (exit.1, exit.2) (λ stale. cc)
-
-pub returns-in_err-twin_option-clause-cause : goal.returns-in_err-twin_option-clause-cause
-returns-in_err-twin_option-clause-cause g c =
-    let exit = err_from_is_err_and c.from_residual.result c.from_residual.ensures.1 in
-    rw (exit.1, exit.2) (λ store. absurd cc)
-
-pub returns-in_err-twin_option-clause-left : goal.returns-in_err-twin_option-clause-left
-returns-in_err-twin_option-clause-left g c = left-none g.C.Store (hashing_with g.D.Digest.bytes g.H.Hasher.hash g.F.Family.shape g.U.Update.form) c.args.db.now
-
-pub returns-in_err-copy-clause-made : goal.returns-in_err-copy-clause-made
-returns-in_err-copy-clause-made g c = λ list chain above is made kept on reads. IfOk-from_err c.from_residual-in_err-copy.result _ c.from_residual-in_err-copy.ensures.0
-
-pub returns-in_err-copy-clause-taken : goal.returns-in_err-copy-clause-taken
-returns-in_err-copy-clause-taken g c = λ list chain above is made kept on reads. IfOk-from_err c.from_residual-in_err-copy.result _ c.from_residual-in_err-copy.ensures.0
-
-pub returns-in_err-copy-clause-next : goal.returns-in_err-copy-clause-next
-returns-in_err-copy-clause-next g c = λ list chain above is made kept on reads. IfOk-from_err c.from_residual-in_err-copy.result _ c.from_residual-in_err-copy.ensures.0
-
-pub returns-in_err-copy-clause-above : goal.returns-in_err-copy-clause-above
-returns-in_err-copy-clause-above g c = IfOk-from_err c.from_residual-in_err-copy.result _ c.from_residual-in_err-copy.ensures.0
-
-pub returns-in_err-copy-clause-refused : goal.returns-in_err-copy-clause-refused
-returns-in_err-copy-clause-refused g c = λ list chain above is made kept on reads.
+pub returns-in_err-copy : goal.returns-in_err-copy
+returns-in_err-copy g c =
     let exit = err_from_is_err_and c.from_residual-in_err-copy.result c.from_residual-in_err-copy.ensures.1 in
-    rw (exit.1, exit.2) (inl (inl refl))
-
-pub returns-in_err-copy-clause-causes : goal.returns-in_err-copy-clause-causes
-returns-in_err-copy-clause-causes g c =
-    let exit = err_from_is_err_and c.from_residual-in_err-copy.result c.from_residual-in_err-copy.ensures.1 in
-    rw (exit.1, exit.2) (inl (inl refl))
-
-pub returns-in_err-copy-clause-whole : goal.returns-in_err-copy-clause-whole
-returns-in_err-copy-clause-whole g c = λ list is none low.
-    let exit = err_from_is_err_and c.from_residual-in_err-copy.result c.from_residual-in_err-copy.ensures.1 in
-    rw (exit.1, exit.2) (λ n pruned. cc)
-
-pub returns-in_err-copy-clause-never : goal.returns-in_err-copy-clause-never
-returns-in_err-copy-clause-never g c =
-    let exit = err_from_is_err_and c.from_residual-in_err-copy.result c.from_residual-in_err-copy.ensures.1 in
-    rw (exit.1, exit.2) (λ stale. cc)
-
-pub returns-in_err-copy-clause-cause : goal.returns-in_err-copy-clause-cause
-returns-in_err-copy-clause-cause g c =
-    let exit = err_from_is_err_and c.from_residual-in_err-copy.result c.from_residual-in_err-copy.ensures.1 in
-    rw (exit.1, exit.2) (λ store. absurd cc)
-
-pub returns-in_err-copy-clause-left : goal.returns-in_err-copy-clause-left
-returns-in_err-copy-clause-left g c = left-none g.C.Store (hashing_with g.D.Digest.bytes g.H.Hasher.hash g.F.Family.shape g.U.Update.form) c.args.db.now
-
-pub returns-in_err-plan-clause-made : goal.returns-in_err-plan-clause-made
-returns-in_err-plan-clause-made g c = λ list chain above is made kept on reads. IfOk-from_err c.from_residual-in_err-plan.result _ c.from_residual-in_err-plan.ensures.0
-
-pub returns-in_err-plan-clause-taken : goal.returns-in_err-plan-clause-taken
-returns-in_err-plan-clause-taken g c = λ list chain above is made kept on reads. IfOk-from_err c.from_residual-in_err-plan.result _ c.from_residual-in_err-plan.ensures.0
-
-pub returns-in_err-plan-clause-next : goal.returns-in_err-plan-clause-next
-returns-in_err-plan-clause-next g c = λ list chain above is made kept on reads. IfOk-from_err c.from_residual-in_err-plan.result _ c.from_residual-in_err-plan.ensures.0
-
-pub returns-in_err-plan-clause-above : goal.returns-in_err-plan-clause-above
-returns-in_err-plan-clause-above g c = IfOk-from_err c.from_residual-in_err-plan.result _ c.from_residual-in_err-plan.ensures.0
-
-pub returns-in_err-plan-clause-causes : goal.returns-in_err-plan-clause-causes
-returns-in_err-plan-clause-causes g c =
-    let exit = err_from_is_err_and c.from_residual-in_err-plan.result c.from_residual-in_err-plan.ensures.1 in
-    rw (exit.1, exit.2) c.in_err-plan.ensures.causes
-
-pub returns-in_err-plan-clause-never : goal.returns-in_err-plan-clause-never
-returns-in_err-plan-clause-never g c =
-    let exit = err_from_is_err_and c.from_residual-in_err-plan.result c.from_residual-in_err-plan.ensures.1 in
-    rw (exit.1, exit.2) c.in_err-plan.ensures.never
-
-pub returns-in_err-plan-clause-left : goal.returns-in_err-plan-clause-left
-returns-in_err-plan-clause-left g c = c.in_err-plan.ensures.left
-
-pub returns-in_err-tree-clause-made : goal.returns-in_err-tree-clause-made
-returns-in_err-tree-clause-made g c = λ list chain above is made kept on reads. IfOk-from_err c.from_residual-in_err-tree.result _ c.from_residual-in_err-tree.ensures.0
-
-pub returns-in_err-tree-clause-taken : goal.returns-in_err-tree-clause-taken
-returns-in_err-tree-clause-taken g c = λ list chain above is made kept on reads. IfOk-from_err c.from_residual-in_err-tree.result _ c.from_residual-in_err-tree.ensures.0
-
-pub returns-in_err-tree-clause-next : goal.returns-in_err-tree-clause-next
-returns-in_err-tree-clause-next g c = λ list chain above is made kept on reads. IfOk-from_err c.from_residual-in_err-tree.result _ c.from_residual-in_err-tree.ensures.0
-
-pub returns-in_err-tree-clause-above : goal.returns-in_err-tree-clause-above
-returns-in_err-tree-clause-above g c = IfOk-from_err c.from_residual-in_err-tree.result _ c.from_residual-in_err-tree.ensures.0
-
-pub returns-in_err-tree-clause-causes : goal.returns-in_err-tree-clause-causes
-returns-in_err-tree-clause-causes g c =
-    let exit = err_from_is_err_and c.from_residual-in_err-tree.result c.from_residual-in_err-tree.ensures.1 in
-    rw (exit.1, exit.2) (inl (inl refl))
-
-pub returns-in_err-tree-clause-never : goal.returns-in_err-tree-clause-never
-returns-in_err-tree-clause-never g c =
-    let exit = err_from_is_err_and c.from_residual-in_err-tree.result c.from_residual-in_err-tree.ensures.1 in
-    rw (exit.1, exit.2) (λ stale. cc)
-
-pub returns-in_err-tree-clause-cause : goal.returns-in_err-tree-clause-cause
-returns-in_err-tree-clause-cause g c =
-    let exit = err_from_is_err_and c.from_residual-in_err-tree.result c.from_residual-in_err-tree.ensures.1 in
-    rw (exit.1, exit.2) (λ store. absurd cc)
-
-pub returns-in_err-tree-clause-left : goal.returns-in_err-tree-clause-left
-returns-in_err-tree-clause-left g c = subst (IsLeft g.C.Store (hashing_with g.D.Digest.bytes g.H.Hasher.hash g.F.Family.shape g.U.Update.form) c.args.db.now) (sym c.grown.ensures.same) c.in_ok-plan.ensures.left
-
-pub returns-in_err-batch-clause-made : goal.returns-in_err-batch-clause-made
-returns-in_err-batch-clause-made g c = λ list chain above is made kept on reads. IfOk-from_err c.from_residual-in_err-batch.result _ c.from_residual-in_err-batch.ensures.0
-
-pub returns-in_err-batch-clause-taken : goal.returns-in_err-batch-clause-taken
-returns-in_err-batch-clause-taken g c = λ list chain above is made kept on reads. IfOk-from_err c.from_residual-in_err-batch.result _ c.from_residual-in_err-batch.ensures.0
-
-pub returns-in_err-batch-clause-next : goal.returns-in_err-batch-clause-next
-returns-in_err-batch-clause-next g c = λ list chain above is made kept on reads. IfOk-from_err c.from_residual-in_err-batch.result _ c.from_residual-in_err-batch.ensures.0
-
-pub returns-in_err-batch-clause-above : goal.returns-in_err-batch-clause-above
-returns-in_err-batch-clause-above g c = IfOk-from_err c.from_residual-in_err-batch.result _ c.from_residual-in_err-batch.ensures.0
-
-pub returns-in_err-batch-clause-causes : goal.returns-in_err-batch-clause-causes
-returns-in_err-batch-clause-causes g c =
-    let exit = err_from_is_err_and c.from_residual-in_err-batch.result c.from_residual-in_err-batch.ensures.1 in
-    rw (exit.1, exit.2) (inl (inl refl))
-
-pub returns-in_err-batch-clause-never : goal.returns-in_err-batch-clause-never
-returns-in_err-batch-clause-never g c =
-    let exit = err_from_is_err_and c.from_residual-in_err-batch.result c.from_residual-in_err-batch.ensures.1 in
-    rw (exit.1, exit.2) (λ stale. cc)
-
-pub returns-in_err-batch-clause-cause : goal.returns-in_err-batch-clause-cause
-returns-in_err-batch-clause-cause g c =
-    let exit = err_from_is_err_and c.from_residual-in_err-batch.result c.from_residual-in_err-batch.ensures.1 in
-    rw (exit.1, exit.2) (λ store. absurd cc)
-
-pub returns-in_err-batch-clause-left : goal.returns-in_err-batch-clause-left
-returns-in_err-batch-clause-left g c = subst (IsLeft g.C.Store (hashing_with g.D.Digest.bytes g.H.Hasher.hash g.F.Family.shape g.U.Update.form) c.args.db.now) (sym c.grown.ensures.same) c.in_ok-plan.ensures.left
+    record {
+      made = λ list chain above is made kept on reads. IfOk-from_err c.from_residual-in_err-copy.result _ c.from_residual-in_err-copy.ensures.0;
+      taken = λ list chain above is made kept on reads. IfOk-from_err c.from_residual-in_err-copy.result _ c.from_residual-in_err-copy.ensures.0;
+      refused = λ list chain above is made kept on reads.
+        rw (exit.1, exit.2) (inl (inl refl));
+      next = λ list chain above is made kept on reads. IfOk-from_err c.from_residual-in_err-copy.result _ c.from_residual-in_err-copy.ensures.0;
+      above = IfOk-from_err c.from_residual-in_err-copy.result _ c.from_residual-in_err-copy.ensures.0;
+      causes =
+        rw (exit.1, exit.2) (inl (inl refl));
+      whole = λ list is none low.
+        rw (exit.1, exit.2) (λ n pruned. cc);
+      never =
+        rw (exit.1, exit.2) (λ stale. cc);
+      cause =
+        rw (exit.1, exit.2) (λ store. absurd cc);
+      left = left-none g.C.Store (hashing_with g.D.Digest.bytes g.H.Hasher.hash g.F.Family.shape g.U.Update.form) c.args.db.now;
+    }
