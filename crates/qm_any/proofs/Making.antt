@@ -1,6 +1,6 @@
 -- What a step makes of a list, and the merkleized batch of a plan on its parent.
 use Rattle.std.proofs.Common.{◌≡◌, ◌≢◌, ◌∙◌, ℕ, zero, suc, ◌+◌, ◌-◌, ◌≤◌, ◌<◌, ◌^◌, arith, ap, ap₂, sym, subst, refl, Bool, true, false, List, [], ◌∷◌, ◌++◌, length, take, drop, map, inl, inr, ⊎_elim, Option, Some, None, option_map, option_and_then}
-use Rattle.std.specs.Prelude.{All, Contains, IfSome, is_some, nat_le, filter_map, if◌then◌else◌, ◌==◌}
+use Rattle.std.specs.Prelude.{All, Contains, IfSome, get_or, is_some, nat_le, filter_map, if◌then◌else◌, slice_get, ◌==◌}
 use Rattle.std.specs.List.{cons_option, AllByRecursion as Each}
 use Rattle.std.proofs.lemmas.Bool.Decides.{leb_tells}
 use Rattle.std.proofs.lemmas.List.{take-map, take-append-le, take-append-drop, length-append, length-drop, length-map, map-append}
@@ -437,6 +437,33 @@ kept-tips view bounds keep older kept tips same some few front is =
     ∙ ap (λ cs. bounds.tip ∷ map view cs) front
     ∙ ap (λ cs. bounds.tip ∷ cs) (sym (take-map view (keep - 1) older) ∙ ap (take (keep - 1)) same ∙ sym (take-append-le (keep - 1) bounds.ancestors (bounds.db ∷ []) less))
     ∙ ap (λ n. child_tips n bounds) count
+
+-- what stands for the boundary of a child that keeps some of its parent's ancestors: the next of these
+state-kept : {A : Type 0} (view : A → Commitment) (db : Commitment) (older : List A) (n : ℕ) (state : A) → slice_get older n ≡ Some state → view state ≡ get_or (map view older ++ db ∷ []) n db
+state-kept view db [] n state is = absurd cc
+state-kept view db (x ∷ xs) zero state is = cc
+state-kept view db (x ∷ xs) (suc n) state is = state-kept view db xs n state is
+
+pub child-kept : {A : Type 0} (view : A → Commitment) (bounds : Bounds) (keep : ℕ) (older : List A) (state : A) → map view older ≡ bounds.ancestors → 0 < keep → slice_get older (keep - 1) ≡ Some state → view state ≡ child_boundary keep bounds
+child-kept view bounds keep older state same some is =
+    let count : suc (keep - 1) ≡ keep = omega arith in
+    state-kept view bounds.db older (keep - 1) state is
+    ∙ ap (λ cs. get_or (cs ++ bounds.db ∷ []) (keep - 1) bounds.db) same
+    ∙ ap (λ n. child_boundary n bounds) count
+
+-- or, where it keeps all of them, its parent's boundary
+state-last : {A : Type 0} (view : A → Commitment) (db : Commitment) (older : List A) (n : ℕ) → slice_get older n ≡ None → db ≡ get_or (map view older ++ db ∷ []) n db
+state-last view db [] zero is = refl
+state-last view db [] (suc n) is = refl
+state-last view db (x ∷ xs) zero is = absurd cc
+state-last view db (x ∷ xs) (suc n) is = state-last view db xs n is
+
+pub child-last : {A : Type 0} (view : A → Commitment) (bounds : Bounds) (keep : ℕ) (older : List A) → map view older ≡ bounds.ancestors → 0 < keep → slice_get older (keep - 1) ≡ None → bounds.db ≡ child_boundary keep bounds
+child-last view bounds keep older same some is =
+    let count : suc (keep - 1) ≡ keep = omega arith in
+    state-last view bounds.db older (keep - 1) is
+    ∙ ap (λ cs. get_or (cs ++ bounds.db ∷ []) (keep - 1) bounds.db) same
+    ∙ ap (λ n. child_boundary n bounds) count
 
 -- an error that tells what is too long is of no batch left behind
 pub too_long-fresh : (spelt : List Bytes) (size : ℕ) (e : Error) → IsTooLong spelt size e → e ≢ errors.StaleBatch

@@ -1,6 +1,9 @@
-use Rattle.std.proofs.Common.{arith, ◌≡◌, ◌≤◌, ◌∙◌, ◌∷◌, ◌++◌, ℕ, List, Contains, ap, sym, subst, refl, map}
+use Rattle.std.proofs.Common.{arith, ◌≡◌, ◌≤◌, ◌∙◌, ◌∷◌, ◌++◌, ℕ, List, Contains, ap, sym, subst, refl, map, inl}
 use Rattle.qm_model.proofs.Results.{err-then, ok-then}
 use Rattle.qm_model.specs.Bits.{bits}
+use Rattle.qm_model.specs.Causes.{IsCause}
+use Rattle.qm_base.specs.declared.error.Error.TheVariants as errors
+use Rattle.qm_base.specs.declared.error.JournalError.TheVariants as journal
 use Rattle.qm_model.specs.Operations.{Bytes}
 use Rattle.qm_bits.specs.Bitmaps.{all_bits}
 use Rattle.qm_store.specs.KeptTrees.{KeptTree, IsKeptTree}
@@ -22,65 +25,72 @@ given_back-requires-clause-whole g c = λ log given.
     let leaves = sym (ap (λ l. l.tree.leaves) was) in
     (c.self.invariant.0 ∙ leaves, ap (λ l. g.C.Store.«end» l.store) was ∙ c.self.invariant.1 ∙ leaves)
 
-pub returns-in-Ok-clause-log : goal.returns-in-Ok-clause-log
-returns-in-Ok-clause-log g c =
-    ok-then c.indexed.result c.indexed.ensures.log (λ next is. λ list older was.
-    let members = g.C.Store in
-    let shape = g.F.Family.shape in
-    let bytes = g.H.Digest.Digest.bytes in
-    let hash = g.H.Hasher.hash in
-    let from = subst (λ l. IsLog members shape bytes hash l list) (sym (ap (λ db. db.log) c.self.view_is)) was in
-    three (λ (xs : List Bytes) (t : KeptTree g.row.H-Digest.Denot) (l : Log g.row.C.Denot g.row.H-Digest.Denot). IsKeptTree bytes hash shape t (list ++ xs) older → Contains ((list ++ xs) ∷ older) list → IsLog members shape bytes hash l (list ++ xs))
-    (ap (map (λ v. v.items)) c.deref.ensures.value) (ap (λ b. b.tree) c.batch.view_is) (sym is) (c.in-Ok.ensures.stands list older from))
+pub returns-in-Ok : goal.returns-in-Ok
+returns-in-Ok g c =
+    record {
+      log =
+        ok-then c.indexed.result c.indexed.ensures.log (λ next is. λ list older was.
+        let members = g.C.Store in
+        let shape = g.F.Family.shape in
+        let bytes = g.H.Digest.Digest.bytes in
+        let hash = g.H.Hasher.hash in
+        let from = subst (λ l. IsLog members shape bytes hash l list) (sym (ap (λ db. db.log) c.self.view_is)) was in
+        three (λ (xs : List Bytes) (t : KeptTree g.row.H-Digest.Denot) (l : Log g.row.C.Denot g.row.H-Digest.Denot). IsKeptTree bytes hash shape t (list ++ xs) older → Contains ((list ++ xs) ∷ older) list → IsLog members shape bytes hash l (list ++ xs))
+        (ap (map (λ v. v.items)) c.deref.ensures.value) (ap (λ b. b.tree) c.batch.view_is) (sym is) (c.in-Ok.ensures.stands list older from));
+      index =
+        ok-then c.indexed.result c.indexed.ensures.index (λ next takes. λ list tip lead indexed.
+        takes list tip lead (subst (λ db. IsIndexed g.I.Unordered.index_key db.entries list) (sym c.self.view_is) indexed));
+      active =
+        ok-then c.indexed.result c.indexed.ensures.active (λ next takes. λ list tip lead ended size from.
+        takes list tip lead ended size (subst (λ db. all_bits 64 db.activity ≡ bits list) (sym c.self.view_is) from));
+      rest = c.indexed.ensures.rest;
+      grown =
+        ok-then c.indexed.result c.indexed.ensures.log (λ next is.
+        three (λ (a b : g.row.C.Denot) (xs : List Bytes). Appended g.C.Store a b xs) (ap (λ db. db.log.store) c.self.view_is) (sym (ap (λ l. l.store) is)) (ap (map (λ v. v.items)) c.deref.ensures.value)
+        (grown-appended g.C.Store c.self.inside.log.store c.in-Ok.log.store (map (λ v. v.items) c.deref.result.now) c.in-Ok.ensures.grown));
+      later =
+        let here : g.C.Store.faults c.self.inside.log.store ≡ g.C.Store.faults c.self.inside.log.store = refl in
+        ok-then c.indexed.result c.indexed.ensures.log (λ next is.
+        three (λ (a b : g.row.C.Denot) (n : ℕ). g.C.Store.faults a ≤ g.C.Store.faults b) (ap (λ db. db.log.store) c.self.view_is) (sym (ap (λ l. l.store) is)) here c.in-Ok.ensures.later);
+      part =
+        err-then c.indexed.result c.indexed.ensures.back (λ r back.
+        let more = map (λ v. v.items) c.args.lacking.items.items in
+        let grown = subst (λ items. AppendedPart g.C.Store c.self.inside.log.store c.in-Ok.log.store (map (λ v. v.items) items)) c.deref.ensures.value
+        (appended-part g.C.Store c.self.inside.log.store c.in-Ok.log.store (map (λ v. v.items) c.deref.result.now) (grown-appended g.C.Store c.self.inside.log.store c.in-Ok.log.store (map (λ v. v.items) c.deref.result.now) c.in-Ok.ensures.grown)) in
+        let here = subst (λ s. AppendedPart g.C.Store s c.in-Ok.log.store more) (ap (λ db. db.log.store) c.self.view_is) grown in
+        subst (λ given. AppendedPart g.C.Store c.args.self.log.store (store_given (λ db. db.log.store) given) more) (sym back.0) here);
+      back = err-then c.indexed.result c.indexed.ensures.back (λ r back. λ x given. absurd (cc (back.0, given)));
+      causes = err-then c.indexed.result c.indexed.ensures.back (λ r back. inl back.1);
+      cause =
+        err-then c.indexed.result c.indexed.ensures.back (λ r back.
+        memory-cause (g.C.Store.faults c.args.self.log.store) (g.C.Store.faults (store_given (λ db. db.log.store) r.given)) r.error
+        (subst (λ s. g.C.Store.faults s ≤ g.C.Store.faults (store_given (λ db. db.log.store) r.given)) (ap (λ db. db.log.store) c.self.view_is)
+        (subst (λ given. g.C.Store.faults c.self.inside.log.store ≤ g.C.Store.faults (store_given (λ db. db.log.store) given)) (sym back.0) c.in-Ok.ensures.later)) back.1);
+    }
 
-pub returns-in-Ok-clause-grown : goal.returns-in-Ok-clause-grown
-returns-in-Ok-clause-grown g c =
-    ok-then c.indexed.result c.indexed.ensures.log (λ next is.
-    three (λ (a b : g.row.C.Denot) (xs : List Bytes). Appended g.C.Store a b xs) (ap (λ db. db.log.store) c.self.view_is) (sym (ap (λ l. l.store) is)) (ap (map (λ v. v.items)) c.deref.ensures.value)
-    (grown-appended g.C.Store c.self.inside.log.store c.in-Ok.log.store (map (λ v. v.items) c.deref.result.now) c.in-Ok.ensures.grown))
-
-pub returns-in-Ok-clause-later : goal.returns-in-Ok-clause-later
-returns-in-Ok-clause-later g c =
-    let here : g.C.Store.faults c.self.inside.log.store ≡ g.C.Store.faults c.self.inside.log.store = refl in
-    ok-then c.indexed.result c.indexed.ensures.log (λ next is.
-    three (λ (a b : g.row.C.Denot) (n : ℕ). g.C.Store.faults a ≤ g.C.Store.faults b) (ap (λ db. db.log.store) c.self.view_is) (sym (ap (λ l. l.store) is)) here c.in-Ok.ensures.later)
-
-pub returns-in-Ok-clause-cause : goal.returns-in-Ok-clause-cause
-returns-in-Ok-clause-cause g c =
-    err-then c.indexed.result c.indexed.ensures.back (λ r back.
-    memory-cause (g.C.Store.faults c.args.self.log.store) (g.C.Store.faults (store_given (λ db. db.log.store) r.given)) r.error
-    (subst (λ s. g.C.Store.faults s ≤ g.C.Store.faults (store_given (λ db. db.log.store) r.given)) (ap (λ db. db.log.store) c.self.view_is)
-    (subst (λ given. g.C.Store.faults c.self.inside.log.store ≤ g.C.Store.faults (store_given (λ db. db.log.store) given)) (sym back.0) c.in-Ok.ensures.later)) back.1)
-
-pub returns-in-Ok-clause-index : goal.returns-in-Ok-clause-index
-returns-in-Ok-clause-index g c =
-    ok-then c.indexed.result c.indexed.ensures.index (λ next takes. λ list tip lead indexed.
-    takes list tip lead (subst (λ db. IsIndexed g.I.Unordered.index_key db.entries list) (sym c.self.view_is) indexed))
-
-pub returns-in-Ok-clause-active : goal.returns-in-Ok-clause-active
-returns-in-Ok-clause-active g c =
-    ok-then c.indexed.result c.indexed.ensures.active (λ next takes. λ list tip lead ended size from.
-    takes list tip lead ended size (subst (λ db. all_bits 64 db.activity ≡ bits list) (sym c.self.view_is) from))
-
-pub returns-in-Ok-clause-part : goal.returns-in-Ok-clause-part
-returns-in-Ok-clause-part g c =
-    err-then c.indexed.result c.indexed.ensures.back (λ r back.
-    let more = map (λ v. v.items) c.args.lacking.items.items in
-    let grown = subst (λ items. AppendedPart g.C.Store c.self.inside.log.store c.in-Ok.log.store (map (λ v. v.items) items)) c.deref.ensures.value
-    (appended-part g.C.Store c.self.inside.log.store c.in-Ok.log.store (map (λ v. v.items) c.deref.result.now) (grown-appended g.C.Store c.self.inside.log.store c.in-Ok.log.store (map (λ v. v.items) c.deref.result.now) c.in-Ok.ensures.grown)) in
-    let here = subst (λ s. AppendedPart g.C.Store s c.in-Ok.log.store more) (ap (λ db. db.log.store) c.self.view_is) grown in
-    subst (λ given. AppendedPart g.C.Store c.args.self.log.store (store_given (λ db. db.log.store) given) more) (sym back.0) here)
-
-pub returns-in-Err-clause-back : goal.returns-in-Err-clause-back
-returns-in-Err-clause-back g c = λ x given.
-    let at = c.given_back.ensures.back x given in
-    let was = c.in-Err.ensures.refused.back x.log at.0 in
-    (same-database _ c.args.self x c.self.view_is at.1 was.0, was.1)
-
-pub returns-in-Err-clause-part : goal.returns-in-Err-clause-part
-returns-in-Err-clause-part g c =
-    let more = map (λ v. v.items) c.args.lacking.items.items in
-    let part = refused-appended-part g.C.Store c.self.inside.log (map (λ v. v.items) c.deref.result.now) c.in-Err.field-0.given c.in-Err.field-0.error c.in-Err.ensures.refused in
-    let due = subst (λ items. AppendedPart g.C.Store c.self.inside.log.store (logs.store_given c.in-Err.field-0.given) (map (λ v. v.items) items)) c.deref.ensures.value part in
-    let here = subst (λ s. AppendedPart g.C.Store s (logs.store_given c.in-Err.field-0.given) more) (ap (λ db. db.log.store) c.self.view_is) due in
-    subst (λ s. AppendedPart g.C.Store c.args.self.log.store s more) (sym c.given_back.ensures.store) here
+pub returns-in-Err : goal.returns-in-Err
+returns-in-Err g c =
+    record {
+      log = tt;
+      index = tt;
+      active = tt;
+      rest = tt;
+      grown = tt;
+      later = tt;
+      part =
+        let more = map (λ v. v.items) c.args.lacking.items.items in
+        let part = refused-appended-part g.C.Store c.self.inside.log (map (λ v. v.items) c.deref.result.now) c.in-Err.field-0.given c.in-Err.field-0.error c.in-Err.ensures.refused in
+        let due = subst (λ items. AppendedPart g.C.Store c.self.inside.log.store (logs.store_given c.in-Err.field-0.given) (map (λ v. v.items) items)) c.deref.ensures.value part in
+        let here = subst (λ s. AppendedPart g.C.Store s (logs.store_given c.in-Err.field-0.given) more) (ap (λ db. db.log.store) c.self.view_is) due in
+        subst (λ s. AppendedPart g.C.Store c.args.self.log.store s more) (sym c.given_back.ensures.store) here;
+      back = λ x given.
+        let at = c.given_back.ensures.back x given in
+        let was = c.in-Err.ensures.refused.back x.log at.0 in
+        (same-database _ c.args.self x c.self.view_is at.1 was.0, was.1);
+      causes = c.in-Err.ensures.refused.never;
+      cause =
+        let faults = g.C.Store.faults in
+        let failed = c.in-Err.field-0.error ≡ errors.Journal journal.Store in
+        subst (λ s. IsCause (faults s) (faults (store_given (λ db. db.log.store) c.given_back.result)) failed) (ap (λ db. db.log.store) c.self.view_is)
+        (subst (λ s. IsCause (faults c.self.inside.log.store) (faults s) failed) (sym c.given_back.ensures.store) c.in-Err.ensures.refused.cause);
+    }
