@@ -9,11 +9,6 @@ use Rattle.qm_any.specs.Lasting.{HasLasted, IsGivenUp}
 use Rattle.qm_any.proofs.Lasting.{ok-two, still-told, ok-over, err-over, joined, relogged, lasted, given-up}
 use Rattle.qm_any.proofs.db.Db.put_meta.Goals as goal
 
-pub over-requires : goal.over-requires
-over-requires g c =
-    ok-two c.put_meta.result c.put_meta.ensures.tree c.put_meta.ensures.put
-    (λ log tree become. joined g.C.Store c.apart-log.result.1 c.apart-log.result.0 log c.apart-log.ensures.size c.apart-log.ensures.end tree become.end)
-
 pub returns-clause-stands : goal.returns-clause-stands
 returns-clause-stands g c = λ list is.
     let layout = layout_of g.H.Digest.Digest.bytes g.H.Hasher g.F.Family g.U.Update g.I.Unordered in
