@@ -1,10 +1,13 @@
 -- What a log tells at the exits of a call that may fail.
-use Rattle.std.proofs.Common.{◌≡◌, ◌∙◌, ◌-◌, ◌<◌, ◌≤◌, ℕ, List, length, take, drop, ap, sym, subst, refl, arith, Result, Ok, Err, IfSome}
+use Rattle.std.proofs.Common.{◌≡◌, ◌⊎◌, inl, inr, ◌∙◌, ◌-◌, ◌<◌, ◌≤◌, ℕ, List, length, take, drop, ap, sym, subst, refl, arith, Result, Ok, Err, IfSome}
 use Rattle.std.specs.Prelude.{IsErrOf}
 use Rattle.qm_model.specs.Operations.{Bytes}
 use Rattle.qm_model.specs.Trees.{Shape}
-use Rattle.qm_model.specs.Causes.{IsCause}
+use Rattle.qm_model.specs.Causes.{IsCause, Rose}
+use Rattle.qm_base.specs.declared.error.Corrupt.{Corrupt}
 use Rattle.qm_base.specs.declared.error.Error.{Error}
+use Rattle.qm_base.specs.declared.error.Error.TheVariants as errors
+use Rattle.qm_base.specs.declared.error.JournalError.TheVariants as journal
 use Rattle.qm_store.specs.declared.Store as store
 use Rattle.qm_store.specs.Log.{Log, IsLog, IsKept}
 
@@ -35,3 +38,19 @@ log-kept members shape bytes hash inside old new list view kept is =
       size = was.size;
       items = subst (λ o. IfSome o (λ held. take (length list - inside.tree.start) held.items ≡ drop inside.tree.start list)) (sym kept.told) was.items;
     }
+
+-- want of memory and a store's fault name no damage
+pub undamaged : (e : Error) (x : Corrupt) → (e ≡ errors.Memory) ⊎ (e ≡ errors.Journal journal.Store) → e ≡ errors.DataCorrupted x → ⊥
+undamaged e x (inl memory) damaged = absurd cc
+undamaged e x (inr fault) damaged = absurd cc
+
+pub either : {X : Type 0} (e : Error) → (e ≡ errors.Memory) ⊎ (e ≡ errors.Journal journal.Store) → (e ≡ errors.Memory) ⊎ ((e ≡ errors.Journal journal.Store) ⊎ X)
+either e (inl memory) = inl memory
+either e (inr fault) = inr (inl fault)
+
+-- a cause of a later call is one of both
+pub later-cause : {Failed : Type 0} (before between now : ℕ) → before ≤ between → IsCause between now Failed → IsCause before now Failed
+later-cause before between now first cause = record {
+  later = omega (arith, cause.later);
+  failed = λ failed. let rose : Rose between now = cause.failed failed in omega arith;
+}
