@@ -9,7 +9,9 @@ use Rattle.qm_base.specs.declared.error.Error.{Error}
 use Rattle.qm_base.specs.declared.error.Error.TheVariants as errors
 use Rattle.qm_base.specs.declared.error.JournalError.TheVariants as journal
 use Rattle.qm_store.specs.declared.Store as store
-use Rattle.qm_store.specs.Log.{Log, IsLog, IsKept}
+use Rattle.qm_store.specs.declared.StoreError.{StoreError}
+use Rattle.qm_store.specs.declared.StoreError.TheVariants as stores
+use Rattle.qm_store.specs.Log.{Log, IsLog, IsKept, log_error}
 
 -- what is at most a bound is not past it
 pub unlike : (n bound m : ℕ) → bound ≡ n → m ≤ bound → n < m → ⊥
@@ -54,3 +56,8 @@ later-cause before between now first cause = record {
   later = omega (arith, cause.later);
   failed = λ failed. let rose : Rose between now = cause.failed failed in omega arith;
 }
+
+-- a store's error names no item that is gone
+pub never-pruned : {T : Type 0} (e : StoreError) {result : Result T Error} {y : Error} (n : ℕ) → result ≡ Err y → y ≡ log_error e → result ≡ Err (errors.Journal (journal.ItemPruned n)) → ⊥
+never-pruned stores.Memory n is same pruned = absurd cc
+never-pruned stores.Failed n is same pruned = absurd cc
