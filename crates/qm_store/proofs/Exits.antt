@@ -61,3 +61,8 @@ later-cause before between now first cause = record {
 pub never-pruned : {T : Type 0} (e : StoreError) {result : Result T Error} {y : Error} (n : ℕ) → result ≡ Err y → y ≡ log_error e → result ≡ Err (errors.Journal (journal.ItemPruned n)) → ⊥
 never-pruned stores.Memory n is same pruned = absurd cc
 never-pruned stores.Failed n is same pruned = absurd cc
+
+-- what a store's error is as one of a log
+pub store-error : (e : StoreError) → (log_error e ≡ errors.Memory) ⊎ (log_error e ≡ errors.Journal journal.Store)
+store-error stores.Memory = inl refl
+store-error stores.Failed = inr refl
