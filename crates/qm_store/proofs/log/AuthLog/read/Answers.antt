@@ -55,7 +55,7 @@ returns-in_err-read g c =
       tree = ap (λ l. l.tree) c.self.view_is;
       kept = subst (λ l. IsKept members l.store read.new.self) c.self.view_is kept;
       cause = subst (λ l. IsCause (members.faults l.store) (members.faults read.new.self) (IsErrOf result (errors.Journal journal.Store))) c.self.view_is
-      (handed-on _ _ read.result e result c.in_err-read.was (exit.1 ∙ ap Err exit.2) read.ensures.cause);
+          (handed-on _ _ read.result e result c.in_err-read.was (exit.1 ∙ ap Err exit.2) read.ensures.cause);
     }
 
 pub returns-clause-held : goal.returns-clause-held

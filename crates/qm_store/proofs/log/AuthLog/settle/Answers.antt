@@ -6,7 +6,7 @@ use Rattle.qm_model.specs.StoreModel.{Stored, end_of, rewound, RewindLeaves, Rea
 use Rattle.qm_model.proofs.Results.{ok-then, err-then}
 use Rattle.qm_model.proofs.Stores.{rewound-whole}
 use Rattle.qm_store.specs.Log.{Log, IsLog, IsRefused, HasLeft}
-use Rattle.qm_store.proofs.Stores.{after-ok, both, log-settled, refused-after}
+use Rattle.qm_store.proofs.Stores.{after-ok, log-settled, refused-after}
 use Rattle.qm_store.specs.declared.log.LogGiven.{LogGiven}
 use Rattle.qm_store.specs.declared.log.LogGiven.TheVariants as variants
 use Rattle.qm_store.proofs.log.AuthLog.settle.Goals as goal
@@ -30,7 +30,7 @@ returns-then-end-size g c =
       start = refl;
       last = last;
       settled = rewound-end (members.told c.args.self.store) c.args.self.tree.leaves (subst (λ l. IfSome (members.told l.store) (λ s. (s.start ≤ s.stable) × (s.stable ≤ end_of s))) c.self.view_is c.bounds-end.ensures.stable)
-      (subst (λ n. IfSome (members.told c.args.self.store) (λ s. end_of s ≡ n)) last (g.met.C.Store.told_end c.args.self.store));
+          (subst (λ n. IfSome (members.told c.args.self.store) (λ s. end_of s ≡ n)) last (g.met.C.Store.told_end c.args.self.store));
       refused = tt;
       given = tt;
       later = le_refl _;
