@@ -7,3 +7,4 @@ pub mod Heads
 pub mod Kept
 pub mod Adding
 pub mod Reading
+pub mod Exits

@@ -1,4 +1,6 @@
-use Rattle.std.proofs.Common.{◌≡◌, ◌∙◌, ◌+◌, length, map, ap, arith, refl, inl, inr, Err}
+use Rattle.std.proofs.Common.{◌≡◌, ◌↔◌, ◌∙◌, ◌+◌, ◌*◌, ◌^◌, ◌≤◌, ℕ, Bool, true, false, length, map, ap, ap₂, sym, subst, arith, refl, inl, inr, Err}
+use Rattle.std.proofs.Math.Nat.{le_trans}
+use Rattle.std.specs.Prelude.{IsTrue}
 use Rattle.std.specs.List.{concat}
 use Rattle.std.proofs.lemmas.Option.{IfSome_then}
 use Rattle.std.proofs.lemmas.Result.{err_from_is_err_and}
@@ -170,3 +172,42 @@ returns-clause-kept g c = record { start = c.head.ensures.same_start; end = c.he
 
 pub returns-clause-cause : goal.returns-clause-cause
 returns-clause-cause g c = record { later = c.head.ensures.cause.later; failed = λ fault. absurd cc }
+
+-- none more
+none-more : (n k : ℕ) → k ≡ 0 → n ≡ n + k
+none-more n k none = omega arith
+
+pub returns-clause-start : goal.returns-clause-start
+returns-clause-start g c = ap (λ m. m.start) (c.in_ok-from_pruned_with_retained.ensures c.new-start.result (none-more _ _ (ap length c.new.ensures.items))) ∙ c.new-start.ensures ∙ c.bounds-start.ensures.starts
+
+pub returns-clause-leaves : goal.returns-clause-leaves
+returns-clause-leaves g c = ap (λ m. m.leaves) (c.in_ok-from_pruned_with_retained.ensures c.new-start.result (none-more _ _ (ap length c.new.ensures.items))) ∙ c.new-start.ensures ∙ c.bounds-start.ensures.starts
+
+-- a test that failed does not hold
+untrue : {P : Type 0} (test : Bool) → (IsTrue test ↔ P) → test ≡ false → P → ⊥
+untrue test tells failed holds = let passed : test ≡ true = tells.1 holds in absurd cc
+
+pub returns-then-not-is_long-clause-head : goal.returns-then-not-is_long-clause-head
+returns-then-not-is_long-clause-head g c = λ same.
+    IfSome_then (g.C.Store.told c.args.store.now) c.in_ok-head.ensures.value
+    (λ held is long.
+    untrue c.is_long.result c.is_long.ensures c.if-not-is_long.true
+    (c.len.ensures ∙ c.in_ok-head.head.ok.0 ∙ ap length is ∙ long
+    ∙ sym (ap₂ (λ n size. n * size) (c.peak_count-count.ensures ∙ ap (λ m. length (peaks g.F.Family.shape m)) (c.new-start.ensures ∙ c.bounds-start.ensures.starts)) c.SIZE.ensures)))
+
+pub pieces-requires : goal.pieces-requires
+pieces-requires g c =
+    ap length c.deref.ensures.value ∙ sym (c.len.ensures ∙ c.in_ok-head.head.ok.0) ∙ c.is_long.ensures.0 c.if-not-is_long.false ∙ ap (λ size. c.peak_count-count.result * size) c.SIZE.ensures
+
+pub returns-clause-long : goal.returns-clause-long
+returns-clause-long g c =
+    IfSome_then (g.C.Store.told c.args.store.now) c.in_ok-head.ensures.value
+    (λ held is.
+    sym (c.len.ensures ∙ c.in_ok-head.head.ok.0 ∙ ap length is) ∙ c.is_long.ensures.0 c.if-not-is_long.false
+    ∙ ap₂ (λ n size. n * size) (c.peak_count-count.ensures ∙ ap (λ m. length (peaks g.F.Family.shape m)) (c.new-start.ensures ∙ c.bounds-start.ensures.starts)) c.SIZE.ensures)
+
+pub from_pruned_with_retained-requires : goal.from_pruned_with_retained-requires
+from_pruned_with_retained-requires g c = record {
+  pins = c.in_ok-pins.ensures.count ∙ c.peak_count-count.ensures;
+  size = (c.new-start.result, subst (λ n. n ≤ 2 ^ 62) (sym c.new-start.ensures) (le_trans c.bounds-start.ensures.order c.bounds-start.ensures.limit), none-more _ _ (ap length c.new.ensures.items));
+}

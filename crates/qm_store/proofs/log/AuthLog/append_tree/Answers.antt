@@ -1,6 +1,6 @@
-use Rattle.std.proofs.Common.{◌≡◌, ◌∙◌, ◌++◌, map, ap, sym, subst}
-use Rattle.qm_model.proofs.Results.{err-then}
-use Rattle.qm_store.specs.Log.{Log, IsLog, HasGrownPart}
+use Rattle.std.proofs.Common.{◌≡◌, ◌∙◌, ◌≤◌, ◌++◌, map, ap, sym, subst}
+use Rattle.qm_model.proofs.Results.{ok-then, err-then}
+use Rattle.qm_store.specs.Log.{Log, IsLog, HasGrown, HasGrownPart}
 use Rattle.qm_store.specs.KeptTrees.{leaves_of}
 use Rattle.qm_store.proofs.Kept.{kept-among}
 use Rattle.qm_store.proofs.Stores.{refused-whole, log-stored}
@@ -29,3 +29,31 @@ pub returns-in-Err-clause-refused : goal.returns-in-Err-clause-refused
 returns-in-Err-clause-refused g c =
     let same = ap (λ t. record { store = c.self.inside.store; tree = t }) c.in-Err.ensures.err ∙ c.self.view_is in
     refused-whole g.C.Store (λ old new. HasGrownPart g.C.Store old new (map (λ v. v.items) c.args.items.now)) c.args.self _ same
+
+pub returns-in-Ok-clause-start : goal.returns-in-Ok-clause-start
+returns-in-Ok-clause-start g c = ok-then c.stored.result c.stored.ensures.tree (λ log same. ap (λ t. t.start) same ∙ c.in-Ok.ensures.start ∙ ap (λ l. l.tree.start) c.self.view_is)
+
+pub returns-in-Ok-clause-grown : goal.returns-in-Ok-clause-grown
+returns-in-Ok-clause-grown g c =
+    let members = g.C.Store in
+    ok-then c.stored.result c.stored.ensures.grown (λ log grown. subst (λ l. HasGrown members l.store log.store (map (λ v. v.items) c.args.items.now)) c.self.view_is grown)
+
+pub returns-in-Ok-clause-later : goal.returns-in-Ok-clause-later
+returns-in-Ok-clause-later g c =
+    let members = g.C.Store in
+    ok-then c.stored.result c.stored.ensures.later (λ log later. subst (λ l. members.faults l.store ≤ members.faults log.store) c.self.view_is later)
+
+pub returns-in-Err-clause-stands : goal.returns-in-Err-clause-stands
+returns-in-Err-clause-stands g c = λ list older is kept found. tt
+
+pub returns-in-Err-clause-start : goal.returns-in-Err-clause-start
+returns-in-Err-clause-start g c = tt
+
+pub returns-in-Err-clause-size : goal.returns-in-Err-clause-size
+returns-in-Err-clause-size g c = tt
+
+pub returns-in-Err-clause-grown : goal.returns-in-Err-clause-grown
+returns-in-Err-clause-grown g c = tt
+
+pub returns-in-Err-clause-later : goal.returns-in-Err-clause-later
+returns-in-Err-clause-later g c = tt

@@ -1,11 +1,18 @@
-use Rattle.std.proofs.Common.{◌≡◌, ◌∙◌, ◌+◌, ◌-◌, ◌≤◌, length, take, drop, map, arith, refl, ap, ap₂, sym, subst, IfSome}
+use Rattle.std.proofs.Common.{◌≡◌, ◌∙◌, ◌+◌, ◌-◌, ◌<◌, ◌≤◌, ℕ, inl, length, take, drop, map, arith, refl, ap, ap₂, sym, subst, IfSome}
 use Rattle.std.specs.Prelude.{min}
 use Rattle.std.specs.Int.NonZero.{non_zero_u64_get}
+use Rattle.std.proofs.lemmas.Result.{IfOk-from_err, err_from_is_err_and}
+use Rattle.std.proofs.Math.Nat.{le_refl}
+use Rattle.std.specs.Prelude.{IsErrOf}
+use Rattle.qm_base.specs.declared.error.Error.TheVariants as errors
+use Rattle.qm_base.specs.declared.error.JournalError.TheVariants as journal
+use Rattle.qm_model.specs.Causes.{IsCause}
 use Rattle.qm_model.specs.Proofs.{proof_of}
 use Rattle.qm_merkle.specs.Mems.{Stands}
-use Rattle.qm_store.specs.Log.{digests_from}
+use Rattle.qm_store.specs.Log.{IsKept, digests_from}
 use Rattle.qm_store.proofs.Leaves.{digests_from-take}
-use Rattle.qm_store.proofs.Stores.{both}
+use Rattle.qm_store.proofs.Stores.{both, no-fault}
+use Rattle.qm_store.proofs.Exits.{unlike, handed-error, no-error, log-kept}
 use Rattle.qm_store.proofs.Shown.{part_read}
 use Rattle.qm_store.proofs.log.AuthLog.historical_proof.Given
 use Rattle.qm_store.proofs.log.AuthLog.historical_proof.Goals as goal
@@ -80,3 +87,76 @@ returns-then-start-first g c = record {
   kept = record { start = refl; end = refl; told = refl };
   cause = record { later = omega arith; failed = λ fault. absurd cc };
 }
+
+pub returns-in_err-proof : goal.returns-in_err-proof
+returns-in_err-proof g c =
+    let result = c.from_residual.result in
+    let failed = c.from_residual.ensures.0 in
+    let exit = err_from_is_err_and result c.from_residual.ensures.1 in
+    let memory = c.in_err-proof.ensures.whole (subst (λ n. n ≤ c.args.start) (c.bounds-first.ensures.start ∙ sym (ap (λ l. l.tree.start) c.self.view_is)) c.if-start-first.false) in
+    record {
+      proof = λ list is. IfOk-from_err result _ failed;
+      items = λ list is. IfOk-from_err result _ failed;
+      count = IfOk-from_err result _ failed;
+      size = λ past. absurd (unlike c.args.self.now.tree.leaves c.bounds-first.result.1 c.args.size c.bounds-first.ensures.size c.if-leaves-size.false past);
+      start = λ within past. absurd (unlike c.args.start c.args.start c.args.size refl past c.if-size-start.false);
+      pruned = λ within before low. absurd (unlike c.args.start c.args.start c.bounds-first.result.0 refl c.if-start-first.false (subst (λ n. c.args.start < n) (sym c.bounds-first.ensures.start) low));
+      never = λ within before from. rw (exit.1, exit.2) (inl memory);
+      stands = λ list is. is;
+      tree = refl;
+      kept = record { start = refl; end = refl; told = refl };
+      cause = no-fault _ _ result exit.0 exit.1 (exit.2 ∙ memory) (le_refl _);
+    }
+
+pub returns-in_err-items : goal.returns-in_err-items
+returns-in_err-items g c =
+    let members = g.C.Store in
+    let read = c.read_items in
+    let result = c.from_residual-in_err-items.result in
+    let failed = c.from_residual-in_err-items.ensures.0 in
+    let exit = err_from_is_err_and result c.from_residual-in_err-items.ensures.1 in
+    let cause = handed-error _ _ read.result c.in_err-items.field-0.0 result _ c.in_err-items.was exit read.ensures.cause in
+    record {
+      proof = λ list is. IfOk-from_err result _ failed;
+      items = λ list is. IfOk-from_err result _ failed;
+      count = IfOk-from_err result _ failed;
+      size = λ past. absurd (unlike c.args.self.now.tree.leaves c.bounds-first.result.1 c.args.size c.bounds-first.ensures.size c.if-leaves-size.false past);
+      start = λ within past. absurd (unlike c.args.start c.args.start c.args.size refl past c.if-size-start.false);
+      pruned = λ within before low. absurd (unlike c.args.start c.args.start c.bounds-first.result.0 refl c.if-start-first.false (subst (λ n. c.args.start < n) (sym c.bounds-first.ensures.start) low));
+      never = λ within before from. rw (exit.1, exit.2) c.in_err-items.ensures.never;
+      stands = λ list is. log-kept members g.F.Family.shape g.H.Digest.Digest.bytes g.H.Hasher.hash _ c.args.self.now read.new.store list c.self.view_is read.ensures.kept is;
+      tree = ap (λ l. l.tree) c.self.view_is;
+      kept = subst (λ l. IsKept members l.store read.new.store) c.self.view_is read.ensures.kept;
+      cause = subst (λ l. IsCause (members.faults l.store) (members.faults read.new.store) (IsErrOf result (errors.Journal journal.Store))) c.self.view_is cause;
+    }
+
+-- how many lie between
+between : (from count : ℕ) → from + count - from ≡ count
+between from count = omega arith
+
+pub returns-clause-count : goal.returns-clause-count
+returns-clause-count g c = c.in_ok-items.ensures.count ∙ between c.args.start c.min.result ∙ shown g c
+
+pub returns-clause-size : goal.returns-clause-size
+returns-clause-size g c = λ past. absurd (unlike c.args.self.now.tree.leaves c.bounds-first.result.1 c.args.size c.bounds-first.ensures.size c.if-leaves-size.false past)
+
+pub returns-clause-start : goal.returns-clause-start
+returns-clause-start g c = λ within past. absurd (unlike c.args.start c.args.start c.args.size refl past c.if-size-start.false)
+
+pub returns-clause-pruned : goal.returns-clause-pruned
+returns-clause-pruned g c = λ within before low. absurd (unlike c.args.start c.args.start c.bounds-first.result.0 refl c.if-start-first.false (subst (λ n. c.args.start < n) (sym c.bounds-first.ensures.start) low))
+
+pub returns-clause-never : goal.returns-clause-never
+returns-clause-never g c = λ within before from. tt
+
+pub returns-clause-stands : goal.returns-clause-stands
+returns-clause-stands g c = λ list is. log-kept g.C.Store g.F.Family.shape g.H.Digest.Digest.bytes g.H.Hasher.hash _ c.args.self.now c.read_items.new.store list c.self.view_is c.read_items.ensures.kept is
+
+pub returns-clause-tree : goal.returns-clause-tree
+returns-clause-tree g c = ap (λ l. l.tree) c.self.view_is
+
+pub returns-clause-kept : goal.returns-clause-kept
+returns-clause-kept g c = subst (λ l. IsKept g.C.Store l.store c.read_items.new.store) c.self.view_is c.read_items.ensures.kept
+
+pub returns-clause-cause : goal.returns-clause-cause
+returns-clause-cause g c = no-error _ _ _ _ (subst (λ l. g.C.Store.faults l.store ≤ g.C.Store.faults c.read_items.new.store) c.self.view_is c.read_items.ensures.cause.later)

@@ -1,5 +1,5 @@
-use Rattle.std.proofs.Common.{◌∙◌, ◌≤◌, List, ℕ, length, ap, sym, subst, arith, IfOk}
-use Rattle.std.proofs.lemmas.Result.{on_err_weaker}
+use Rattle.std.proofs.Common.{◌≡◌, ◌∙◌, ◌≤◌, List, ℕ, length, ap, sym, subst, arith, IfOk}
+use Rattle.std.proofs.lemmas.Result.{on_ok_weaker, on_err_weaker}
 use Rattle.qm_model.proofs.Results.{ok-then, err-then}
 use Rattle.qm_model.specs.StoreModel.{pruned, Becomes}
 use Rattle.qm_merkle.specs.Mems.{Stands}
@@ -76,3 +76,40 @@ returns-in-Err-clause-refused g c =
           let leaves = digests_from hash shape 0 list in
           kept.1 hash leaves (subst (λ log. Stands shape bytes hash log.tree leaves) (sym c.self.view_is) is.tree),
     )
+
+pub returns-in-Ok-clause-start : goal.returns-in-Ok-clause-start
+returns-in-Ok-clause-start g c = ok-then c.log_after.result c.log_after.ensures.ok (λ log is. ap (λ t. t.start) is.2 ∙ c.in-Ok.ensures.start)
+
+pub returns-in-Ok-clause-size : goal.returns-in-Ok-clause-size
+returns-in-Ok-clause-size g c = ok-then c.log_after.result c.log_after.ensures.ok (λ log is. ap (λ t. t.leaves) is.2 ∙ c.in-Ok.ensures.leaves ∙ ap (λ l. l.tree.leaves) c.self.view_is)
+
+pub returns-in-Ok-clause-end : goal.returns-in-Ok-clause-end
+returns-in-Ok-clause-end g c =
+    let members = g.C.Store in
+    after-ok c.prune-done.result c.log_after.result c.prune-done.new.self c.forget.new.tree (λ log. members.«end» log.store ≡ members.«end» c.args.self.store) c.log_after.ensures.ok
+    (on_ok_weaker c.prune-done.result (λ ends. ends ∙ ap (λ l. members.«end» l.store) c.self.view_is) c.prune-done.ensures.ok_end)
+
+pub returns-in-Ok-clause-later : goal.returns-in-Ok-clause-later
+returns-in-Ok-clause-later g c =
+    let members = g.C.Store in
+    let done = c.prune-done in
+    let later = subst (λ l. members.faults l.store ≤ members.faults done.new.self) c.self.view_is done.ensures.cause.later in
+    ok-then c.log_after.result c.log_after.ensures.ok (λ log is. subst (λ s. members.faults c.args.self.store ≤ members.faults s) (sym is.1) later)
+
+pub returns-in-Err-clause-stands : goal.returns-in-Err-clause-stands
+returns-in-Err-clause-stands g c = λ list is. tt
+
+pub returns-in-Err-clause-start : goal.returns-in-Err-clause-start
+returns-in-Err-clause-start g c = tt
+
+pub returns-in-Err-clause-size : goal.returns-in-Err-clause-size
+returns-in-Err-clause-size g c = tt
+
+pub returns-in-Err-clause-end : goal.returns-in-Err-clause-end
+returns-in-Err-clause-end g c = tt
+
+pub returns-in-Err-clause-pruned : goal.returns-in-Err-clause-pruned
+returns-in-Err-clause-pruned g c = tt
+
+pub returns-in-Err-clause-later : goal.returns-in-Err-clause-later
+returns-in-Err-clause-later g c = tt

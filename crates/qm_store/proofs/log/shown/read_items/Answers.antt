@@ -1,6 +1,9 @@
-use Rattle.std.proofs.Common.{◌∙◌, map, ap, arith}
+use Rattle.std.proofs.Common.{◌∙◌, map, ap, arith, refl, inl, Err}
+use Rattle.std.proofs.Math.Nat.{le_refl}
+use Rattle.std.proofs.lemmas.Result.{IfOk-from_err, err_from_is_err_and}
 use Rattle.qm_store.proofs.Shown.{item-next}
-use Rattle.qm_store.proofs.Stores.{both, kept-then, read-kept}
+use Rattle.qm_store.proofs.Stores.{both, kept-then, read-kept, handed-on, no-fault}
+use Rattle.qm_store.proofs.Exits.{no-error, later-cause, store-error}
 use Rattle.qm_store.proofs.log.shown.read_items.Goals as goal
 
 pub loop-at-preserved : goal.loop-at-preserved
@@ -21,3 +24,41 @@ loop-at-preserved g c =
           ∙ item-next (λ v. v.items) from c.args.start c.loop-at.at c.loop-at.items.items c.in_ok-read.field-0 held.items c.requires.start (omega (arith, c.loop-at.auto.at)) so_far
           is);
     }
+
+pub returns-in_err-items : goal.returns-in_err-items
+returns-in_err-items g c =
+    let result = c.from_residual.result in
+    let failed = c.from_residual.ensures.0 in
+    let exit = err_from_is_err_and result c.from_residual.ensures.1 in
+    record {
+      count = IfOk-from_err result _ failed;
+      items = IfOk-from_err result _ failed;
+      never = rw (exit.1, exit.2) (inl refl);
+      kept = record { start = refl; end = refl; told = refl };
+      cause = no-fault _ _ result exit.0 exit.1 exit.2 (le_refl _);
+    }
+
+pub returns-in_err-read : goal.returns-in_err-read
+returns-in_err-read g c =
+    let members = g.C.Store in
+    let read = c.read in
+    let e = c.in_err-read.field-0.0 in
+    let result = c.from_residual-in_err-read.result in
+    let failed = c.from_residual-in_err-read.ensures.0 in
+    let exit = err_from_is_err_and result c.from_residual-in_err-read.ensures.1 in
+    record {
+      count = IfOk-from_err result _ failed;
+      items = IfOk-from_err result _ failed;
+      never = rw (exit.1, exit.2) (store-error e);
+      kept = kept-then members c.args.store.now c.loop-at.store read.new.self c.loop-at.invariant.kept (record { start = read.ensures.same_start; end = read.ensures.same_end; told = read.ensures.same });
+      cause = later-cause _ _ _ c.loop-at.invariant.later (handed-on _ _ read.result e result c.in_err-read.was (exit.1 ∙ ap Err exit.2) read.ensures.cause);
+    }
+
+pub returns-clause-never : goal.returns-clause-never
+returns-clause-never g c = tt
+
+pub returns-clause-kept : goal.returns-clause-kept
+returns-clause-kept g c = c.loop-at.invariant.kept
+
+pub returns-clause-cause : goal.returns-clause-cause
+returns-clause-cause g c = no-error _ _ _ _ c.loop-at.invariant.later
