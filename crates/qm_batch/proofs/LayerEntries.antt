@@ -1,16 +1,18 @@
 -- What an entry of a layer says of its key's live update.
-use Rattle.std.proofs.Common.{◌≡◌, ◌∙◌, ◌-◌, ℕ, List, ap, map, refl, sym, Option, Some, None, get_or, length}
+use Rattle.std.proofs.Common.{◌≡◌, ◌∙◌, ◌-◌, ℕ, List, ap, map, refl, sym, Option, Some, None, get_or, length, drop, ◌∷◌, ◌+◌, ◌<◌}
 use Rattle.std.specs.Borrow.{Bor}
 use Rattle.std.specs.Prelude.{option_map, option_and_then, slice_get, is_some, IfSome}
+use Rattle.std.specs.Option.{option_or}
 use Rattle.std.proofs.Math.Dec.{ltb}
+use Rattle.std.proofs.lemmas.List.{drop_more}
 use Rattle.std.proofs.lemmas.Bool.{ltb-true, ltb-false}
 use Rattle.std.proofs.lemmas.Option.{same_Some, slice_get-map, slice_get_past, slice_get_read}
 use Rattle.qm_model.specs.Operations.{Bytes, Operation}
 use Rattle.qm_chain.specs.Diffs.{loc_of}
 use Rattle.qm_chain.specs.declared.diff.DiffEntry.{DiffEntry}
 use Rattle.qm_chain.specs.declared.diff.DiffEntry.TheVariants.{Active, Deleted}
-use Rattle.qm_step.specs.Changes.{link_of, said_by, update_at}
-use Rattle.qm_step.specs.Layers.{Layer, update_by}
+use Rattle.qm_step.specs.Changes.{Change, change_in, link_of, said_by, update_at}
+use Rattle.qm_step.specs.Layers.{Layer, nearest_layer, update_by}
 use Rattle.qm_step.specs.Views.{change_view}
 
 -- an entry that deletes its key leaves it no update
@@ -44,3 +46,19 @@ pub said-at : {A : Type 0} (view : A → Operation) (ops : List A) (list : List 
     option_and_then said_by (option_map (λ op. view op.now) o) ≡ update_at list n
 said-at view ops list i n None same place known shown = sym (none-there view ops list i n same place (slice_get_past ops i (ltb-false i (length ops) (sym known))))
 said-at view ops list i n (Some op) same place known shown = sym (said-there view ops list i n op.now same place (slice_get_read ops (length ops) i op.now refl (ltb-true i (length ops) (sym known)) shown))
+
+-- the first of the layers from a place on that do anything to a key
+module _ {A : Type 0} (value : A → Layer) (layers : List A) (i : ℕ) (d : A) (key : Bytes) (within : i < length layers) (is : d ≡ get_or layers i d) where
+  nearest-drop : nearest_layer (map value (drop i layers)) key
+      ≡ option_or (option_map (λ change. (value d, change)) (change_in (value d).changes key)) (nearest_layer (map value (drop (i + 1) layers)) key)
+  nearest-drop =
+      ap (λ ls. nearest_layer (map value ls) key) (drop_more layers i d within)
+      ∙ ap (λ l. nearest_layer (value l ∷ map value (drop (i + 1) layers)) key) (sym is)
+
+  pub nearest-here : (change : Change) → Some change ≡ change_in (value d).changes key → nearest_layer (map value (drop i layers)) key ≡ Some (value d, change)
+  nearest-here change found =
+      nearest-drop ∙ ap (λ o. option_or (option_map (λ change. (value d, change)) o) (nearest_layer (map value (drop (i + 1) layers)) key)) (sym found)
+
+  pub nearest-older : None ≡ change_in (value d).changes key → nearest_layer (map value (drop i layers)) key ≡ nearest_layer (map value (drop (i + 1) layers)) key
+  nearest-older none =
+      nearest-drop ∙ ap (λ o. option_or (option_map (λ change. (value d, change)) o) (nearest_layer (map value (drop (i + 1) layers)) key)) (sym none)
