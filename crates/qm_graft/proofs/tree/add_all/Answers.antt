@@ -59,9 +59,6 @@ returns-in_err-add_leaf_digest-clause-added g c = IfOk-from_err c.from_residual-
 pub returns-in_err-add_leaf_digest-clause-made : goal.returns-in_err-add_leaf_digest-clause-made
 returns-in_err-add_leaf_digest-clause-made g c = IfOk-from_err c.from_residual-in_err-add_leaf_digest.result _ c.from_residual-in_err-add_leaf_digest.ensures.0
 
-pub value_of-requires : goal.value_of-requires
-value_of-requires g c = c.requires.can c.loop-at.at c.loop-at.invariant.from c.loop-at-test.true
-
 pub returns-clause-same : goal.returns-clause-same
 returns-clause-same g c = c.loop-at.invariant.same
 

@@ -81,6 +81,3 @@ returns-clause-made g c = on_ok_weaker c.update_leaf_digest.result (λ known. (1
 
 pub returns-clause-cause : goal.returns-clause-cause
 returns-clause-cause g c = c.update_leaf_digest.ensures.memory (omega (arith, c.requires.kept, c.new.ensures)) (omega (arith, c.new.ensures, c.if-get-at.false, c.get.ensures, c.leaves.ensures))
-
-pub value_of-requires : goal.value_of-requires
-value_of-requires g c = c.requires.can (omega (arith, c.if-get-at.false, c.get.ensures, c.leaves.ensures, ap length c.requires.fresh))

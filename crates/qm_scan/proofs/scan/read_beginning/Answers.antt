@@ -28,12 +28,6 @@ returns-in-Unbounded-clause-read g c = c.read_first.ensures.read
 pub returns-in-Unbounded-clause-whole : goal.returns-in-Unbounded-clause-whole
 returns-in-Unbounded-clause-whole g c = c.read_first.ensures.whole
 
-pub read_own-requires : goal.read_own-requires
-read_own-requires g c = c.requires
-
-pub read_first-requires : goal.read_first-requires
-read_first-requires g c = c.requires
-
 pub returns-in-Included-clause-value : goal.returns-in-Included-clause-value
 returns-in-Included-clause-value g c = λ list is.
     let bytes = g.U.Key.ByteString.bytes in

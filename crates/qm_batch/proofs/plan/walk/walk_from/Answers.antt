@@ -54,9 +54,3 @@ returns-clause-error g c = tt
 
 pub returns-clause-pruned : goal.returns-clause-pruned
 returns-clause-pruned g c = λ above. tt
-
-pub walk_on-requires : goal.walk_on-requires
-walk_on-requires g c =
-    let floor = ap (λ (w : Walk _). w.floor) c.new-walk.ensures in
-    let end = ap (λ (w : Walk _). w.end) c.new-walk.ensures in
-    omega (arith, floor, end, c.new.ensures, c.new-2.ensures, c.max-tip.ensures)
