@@ -2,7 +2,7 @@
 use Rattle.std.proofs.Common.{◌≡◌, ℕ, suc, ◌+◌, ◌-◌, ◌≤◌, ◌<◌, Bool, true, false, List, [], ◌∷◌, ◌++◌, length, map, drop, get_or, refl, ap, sym, ◌∙◌, subst, Option, Some, None, arith, ◌||◌, ◌⊎◌, inl, inr, append_assoc, append-nil, length-append, true≢false, Bor, leb}
 use Rattle.std.specs.Prelude.{◌==◌, Contains, slice_get, option_map, option_and_then, MatchOption, All, if◌then◌else◌}
 use Rattle.std.specs.List.{list_any}
-use Rattle.std.proofs.lemmas.Bool.{eqb-true, eq-eqb, leb-true, cases_lt, le-leb}
+use Rattle.std.proofs.lemmas.Bool.{eqb-true, eq-eqb, leb-true, cases_lt, le-leb, lt-leb}
 use Rattle.std.specs.Option.{option_copied}
 use Rattle.std.specs.Slice.{IsItemAt}
 use Rattle.std.proofs.lemmas.List.{drop_more}
@@ -249,6 +249,10 @@ module _ {A : Type 0} (value : A → Layer) (layers : List A) (i : ℕ) (d : A) 
 
   pub found-here : (value d).base ≤ at → found_in (map value (drop i layers)) at ≡ slice_get (value d).operations (at - (value d).base)
   found-here low = found-drop ∙ ap (λ t. if t then slice_get (value d).operations (at - (value d).base) else found_in (map value (drop (i + 1) layers)) at) (le-leb (value d).base at low)
+
+  -- and one that is in older layers
+  pub found-older : at < (value d).base → found_in (map value (drop i layers)) at ≡ found_in (map value (drop (i + 1) layers)) at
+  found-older high = found-drop ∙ ap (λ t. if t then slice_get (value d).operations (at - (value d).base) else found_in (map value (drop (i + 1) layers)) at) (lt-leb (value d).base at high)
 
 pub got-shown : {X Y : Type 0} (f : X → Y) (r : Option (Bor X)) (ops : List X) (i : ℕ) → option_copied r ≡ slice_get ops i → option_map (λ o. f o.now) r ≡ slice_get (map f ops) i
 got-shown f r ops i h = by r ∙ ap (option_map f) h ∙ sym (slice_get-map f ops i)

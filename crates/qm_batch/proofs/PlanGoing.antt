@@ -257,6 +257,18 @@ pub passed : {F : Type 0} (on : Bool) (w next : Walk F) → next ≡ (if on then
 passed true w next is goes = ap (λ (x : Walk _). x.floor) is
 passed false w next is goes = cc
 
+pub not-back : {F : Type 0} (on : Bool) (w next : Walk F) → next ≡ (if on then record w { floor = w.floor + 1; entries = w.entries - 1 } else w) → w.floor ≤ next.floor
+not-back true w next is = let floor = ap (λ (x : Walk _). x.floor) is in omega (arith, floor)
+not-back false w next is = let floor = ap (λ (x : Walk _). x.floor) is in omega (arith, floor)
+
+pub one-on : {F : Type 0} (on : Bool) (w next : Walk F) → next ≡ (if on then record w { floor = w.floor + 1; entries = w.entries - 1 } else w) → next.floor ≤ w.floor + 1
+one-on true w next is = let floor = ap (λ (x : Walk _). x.floor) is in omega (arith, floor)
+one-on false w next is = let floor = ap (λ (x : Walk _). x.floor) is in omega (arith, floor)
+
+pub same-end : {F : Type 0} (on : Bool) (w next : Walk F) → next ≡ (if on then record w { floor = w.floor + 1; entries = w.entries - 1 } else w) → next.end ≡ w.end
+same-end true w next is = ap (λ (x : Walk _). x.end) is
+same-end false w next is = ap (λ (x : Walk _). x.end) is
+
 -- the first of two facts, where it is chosen
 pub chosen : (b : Bool) (P Q R : Type 0) → MatchBool b P R → (b ≡ true → P → Q) → MatchBool b Q R
 chosen true P Q R h next = next refl h

@@ -19,7 +19,7 @@ use Rattle.qm_merkle.specs.Batches.{Draft, updated, drafted, replaced_from}
 use Rattle.qm_merkle.specs.Mems.{more}
 use Rattle.qm_merkle.proofs.Drafting.{All-inserted}
 use Rattle.qm_merkle.proofs.Growth.{digest-append}
-use Rattle.qm_graft.specs.Grafting.{grafting, node_over, made_value, made_values, AreMade, IsStep, TellsNodes}
+use Rattle.qm_graft.specs.Grafting.{IsRedrafted, grafting, node_over, made_value, made_values, AreMade, IsStep, TellsNodes}
 
 -- Few leaves are replaced.
 
@@ -37,6 +37,12 @@ updated-few draft location d low =
     subst (λ (n : Draft _). length n.replaced ≤ length draft.replaced + 1)
     (sym (ap (λ b. if b then record draft { replaced = insert_entry nat_cmp draft.replaced location d } else record draft { added = slice_set draft.added (location - draft.base) d }) (lt-ltb location draft.base low)))
     (length-inserted draft.replaced location d)
+
+pub updated-same : {D : Type 0} (draft : Draft D) (location : ℕ) (d : D) → location < draft.base → IsRedrafted draft (updated draft location d)
+updated-same draft location d low =
+    subst (λ (n : Draft _). IsRedrafted draft n)
+    (sym (ap (λ b. if b then record draft { replaced = insert_entry nat_cmp draft.replaced location d } else record draft { added = slice_set draft.added (location - draft.base) d }) (lt-ltb location draft.base low)))
+    (record { start = refl; base = refl; layers = refl; added = refl })
 
 pub updated-above : {D : Type 0} (draft : Draft D) (location : ℕ) (d : D) (least : ℕ) → location < draft.base → All (λ e. least ≤ e.0) draft.replaced → least ≤ location → All (λ e. least ≤ e.0) (updated draft location d).replaced
 updated-above draft location d least low each high =

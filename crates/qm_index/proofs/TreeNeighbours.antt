@@ -1,5 +1,5 @@
 -- Neighbours of an index key in a tree, from its ranges and its ends.
-use Rattle.std.proofs.Common.{◌≡◌, ℕ, Bool, true, false, cond, nat_lt, List, [], ◌∷◌, ◌++◌, Option, Some, None, refl, ap, sym, ◌∙◌, BTreeMap}
+use Rattle.std.proofs.Common.{◌≡◌, ◌<◌, ℕ, Bool, true, false, true≢false, cond, nat_lt, List, [], ◌∷◌, ◌++◌, length, Option, Some, None, refl, ap, sym, ◌∙◌, BTreeMap, arith}
 use Rattle.std.specs.Prelude.{filter, option_map, ◌==◌}
 use Rattle.std.specs.BTreeMap.{get, IsLowerBound, IsUpperBound}
 use Rattle.std.specs.BTreeMap.Range.{IsRangeOf}
@@ -94,3 +94,8 @@ module _ {V : Type 0} (m : BTreeMap ℕ (List V)) where
         far : (o : Option ℕ) → option_map (bucket_at m.entries) o ≡ Some values → neighbour_at m.entries (near_or_wrapped None o) ≡ Some (values, true)
         far None h = absurd (cc)
         far (Some n) h = ap (option_map (λ values. (values, true))) h
+
+-- a map whose length is not above zero has no entry
+pub none-in : {A : Type 0} (entries : List A) → (0 < length entries → false ≡ true) → entries ≡ []
+none-in [] more = refl
+none-in (e ∷ es) more = absurd (true≢false (sym (more (omega arith))))

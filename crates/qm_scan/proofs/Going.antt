@@ -1,6 +1,7 @@
 -- What a scan makes of what it reads.
 use Rattle.std.proofs.Common.{◌≡◌, ◌∙◌, refl, sym, ap, ap₂, ℕ, List, [], ◌∷◌, ◌++◌, ◌&&◌, Bool, true, false, Option, Some, None}
-use Rattle.std.specs.Prelude.{Result, Ok, Err, IfOk, filter_map}
+use Rattle.std.specs.Prelude.{Result, Ok, Err, IfOk, IfSome, filter_map, map, slice_get}
+use Rattle.qm_base.specs.Views.{pair_view}
 use Rattle.std.proofs.lemmas.Option.{same_Some}
 use Rattle.qm_model.specs.Operations.{Bytes, Operation}
 use Rattle.qm_model.specs.Live.{live_keys}
@@ -75,3 +76,22 @@ unwrapped-none o h t is = none (h ∙ ap unwrapped is)
   where
     none : {X : Type 0} {x : X} → None ≡ Some x → ⊥
     none e = cc
+
+-- what holds of all that may be told
+pub told-any : {X : Type 0} (o : Option X) {P : X → Type 0} → ((x : X) → P x) → IfSome o P
+told-any None all = tt
+told-any (Some x) all = all x
+
+-- what holds by two facts
+pub told-two : {X : Type 0} (o : Option X) {P Q R : X → Type 0} → IfSome o P → IfSome o Q → ((x : X) → P x → Q x → R x) → IfSome o R
+told-two None p q then = tt
+told-two (Some x) p q then = then x p q
+
+-- behind the first pair, where there is one
+pub behind-some : {K V : Type 0} (key : K → Bytes) (value : V → Bytes) (pairs : List (K × V)) (p : K × V) → slice_get pairs 0 ≡ Some p → behind (key p.0) ≡ behind_first (map (pair_view key value) pairs)
+behind-some key value [] p is = cc
+behind-some key value (q ∷ ps) p is = ap (λ (x : _ × _). behind (key x.0)) (sym (same_Some q p is))
+
+pub behind-none : {K V : Type 0} (key : K → Bytes) (value : V → Bytes) (pairs : List (K × V)) → slice_get pairs 0 ≡ None → nowhere ≡ behind_first (map (pair_view key value) pairs)
+behind-none key value [] is = refl
+behind-none key value (q ∷ ps) is = cc

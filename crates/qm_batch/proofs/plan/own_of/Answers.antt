@@ -1,5 +1,5 @@
-use Rattle.std.proofs.Common.{◌≡◌, ◌∙◌, ◌++◌, ap, sym, subst, subst₂, map, true, inl, refl}
-use Rattle.std.specs.Prelude.{All, IfSome, filter_map}
+use Rattle.std.proofs.Common.{◌≡◌, ◌∙◌, ◌++◌, ap, sym, subst, subst₂, ◌-◌, map, count_by, true, inl, refl}
+use Rattle.std.specs.Prelude.{All, IfSome, filter_map, is_none}
 use Rattle.qm_model.specs.Ordered.{IsRing}
 use Rattle.qm_step.specs.Kinds.{kind_of}
 use Rattle.qm_step.specs.Going.{write_for, IsDecided}
@@ -10,6 +10,7 @@ use Rattle.qm_step.specs.Touches.{IsFrom, operations_of}
 use Rattle.qm_step.specs.Views.{read_view}
 use Rattle.qm_step.proofs.OrderedKinds.{ring-over}
 use Rattle.qm_step.proofs.Reading.{told-given}
+use Rattle.qm_step.specs.declared.decided.Decided.{Decided}
 use Rattle.qm_batch.specs.PlanPaths.{path_view}
 use Rattle.qm_batch.proofs.PlanOwns.{path-written}
 use Rattle.std.proofs.lemmas.Result.{err_from_is_err_and}
@@ -121,3 +122,12 @@ returns-clause-whole g c = λ lent is none. tt
 
 pub returns-clause-count : goal.returns-clause-count
 returns-clause-count g c = c.in_ok-touches.ensures.count
+
+pub returns-clause-moves : goal.returns-clause-moves
+returns-clause-moves g c = c.moved.ensures.live
+
+pub returns-clause-live : goal.returns-clause-live
+returns-clause-live g c = c.saturating_sub-live.ensures ∙ ap (λ n. c.args.behind - n) (c.evicted.ensures.count ∙ ap (count_by (λ (d : Decided _ _). is_none d.value)) c.deref.ensures.value)
+
+pub returns-clause-floor : goal.returns-clause-floor
+returns-clause-floor g c = refl

@@ -1,4 +1,4 @@
-use Rattle.std.proofs.Common.{◌++◌, ap, sym, arith, subst, inl, refl}
+use Rattle.std.proofs.Common.{◌++◌, ◌≤◌, ◌^◌, ap, sym, arith, subst, inl, refl}
 use Rattle.qm_model.proofs.Results.{err-then, told-then, told-err, ok-then}
 use Rattle.qm_step.specs.Bases.{Base, IsBase}
 use Rattle.qm_step.specs.Lent.{NoneBelow}
@@ -117,3 +117,9 @@ pub returns-clause-count : goal.returns-clause-count
 returns-clause-count g c =
     let size = ap (λ (b : Base). b.size) c.lent.ensures in
     ok-then c.own_along.result c.own_along.ensures.count (λ own live. omega (arith, size, live))
+
+pub own_along-requires-clause-size : goal.own_along-requires-clause-size
+own_along-requires-clause-size g c = subst (λ (b : Base). b.size ≤ 2 ^ 62) (sym c.lent.ensures) c.requires.size
+
+pub own_along-requires-clause-live : goal.own_along-requires-clause-live
+own_along-requires-clause-live g c = subst (λ (b : Base). b.live ≤ b.size) (sym c.lent.ensures) c.requires.live

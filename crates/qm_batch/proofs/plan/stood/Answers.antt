@@ -1,8 +1,12 @@
-use Rattle.std.proofs.Common.{◌∙◌, ◌+◌, ap, sym, arith}
+use Rattle.std.proofs.Common.{◌∙◌, ◌+◌, ap, sym, refl, arith, count_by}
 use Rattle.std.specs.Prelude.{is_some}
+use Rattle.std.proofs.lemmas.List.{take_all}
 use Rattle.std.proofs.lemmas.List.Sums.{count_by_more_no, count_by_more_yes}
 use Rattle.qm_batch.proofs.plan.stood.Goals as goal
 use Rattle.qm_batch.proofs.plan.stood.Goals.{then-is_some, else-is_some}
+
+pub loop-touch-init : goal.loop-touch-init
+loop-touch-init g c = (refl, omega arith)
 
 pub loop-touch-preserved : goal.loop-touch-preserved
 loop-touch-preserved g c =
@@ -17,3 +21,11 @@ loop-touch-preserved g c =
           let is = w.count-is in
           (is ∙ before ∙ sym (count_by_more_no (λ t. is_some t.before) c.args.touches.now c.loop-touch.touch-index c.touch-item.result c.loop-touch-test.true (here ∙ w.if-is_some.false)), omega (arith, is, low))
     ]
+
+pub returns-clause-count : goal.returns-clause-count
+returns-clause-count g c = c.loop-touch.invariant.0 ∙ ap (count_by (λ t. is_some t.before)) (take_all c.loop-touch.touch-index c.args.touches.now c.loop-touch-test.false)
+
+pub returns-clause-bound : goal.returns-clause-bound
+returns-clause-bound g c =
+    let low = c.loop-touch.invariant.1 in
+    omega (arith, low, c.loop-touch.auto.touch-index-end)

@@ -1,7 +1,10 @@
-use Rattle.std.proofs.Common.{◌∙◌, ◌∷◌, [], arith, ap, length}
+use Rattle.std.proofs.Common.{◌≡◌, ◌∙◌, ◌-◌, ◌++◌, ◌∷◌, [], arith, ap, append-nil, length, map, refl, sym}
 use Rattle.std.proofs.lemmas.List.{length-append}
+use Rattle.std.proofs.lemmas.Result.{IfOk-from_err}
 use Rattle.qm_bits.specs.Bitmaps.{all_bits}
 use Rattle.qm_merkle.specs.Batches.{Draft, leaves_of}
+use Rattle.qm_merkle.specs.Mems.{more}
+use Rattle.qm_graft.specs.Grafting.{made_values}
 use Rattle.qm_graft.proofs.Following.{more-values}
 use Rattle.qm_graft.proofs.tree.add_all.Goals as goal
 
@@ -24,3 +27,49 @@ loop-at-preserved g c =
           _ (leaves_of c.args.draft.now) c.loop-at.at draft.added c.add_leaf_digest.new.self.added c.in_ok-value.value is.from is.added (ap (λ (d : Draft g.row.H-Digest.Denot). d.added) ok) c.in_ok-value.ensures.value;
       made = omega (arith, is.made, is.from, c.in_ok-value.ensures.made);
     }
+
+pub loop-at-init : goal.loop-at-init
+loop-at-init g c =
+    let draft = c.args.draft.now in
+    let here = c.get-at.ensures ∙ c.leaves.ensures in
+    let none : c.get-at.result - leaves_of draft ≡ 0 = omega (arith, here) in
+    record {
+      same = (refl, refl, refl, refl);
+      from = omega (arith, here);
+      here = here;
+      added = sym (append-nil (map g.H.Digest.Digest.bytes draft.added)) ∙ ap (λ n. map g.H.Digest.Digest.bytes draft.added ++ made_values g.H.Digest.Digest.bytes g.H.Hasher.hash (g.O.Nodes.node_at c.args.behind.now.operations.now) g.F.Family.shape g.N.Chunks.LEN (all_bits g.N.Chunks.LEN (g.B.Readable.bitmap c.args.behind.now.bits.now)) (leaves_of draft) n) (sym none);
+      made = omega (arith, none);
+    }
+
+pub returns-in_err-value-clause-same : goal.returns-in_err-value-clause-same
+returns-in_err-value-clause-same g c = IfOk-from_err c.from_residual.result _ c.from_residual.ensures.0
+
+pub returns-in_err-value-clause-added : goal.returns-in_err-value-clause-added
+returns-in_err-value-clause-added g c = IfOk-from_err c.from_residual.result _ c.from_residual.ensures.0
+
+pub returns-in_err-value-clause-made : goal.returns-in_err-value-clause-made
+returns-in_err-value-clause-made g c = IfOk-from_err c.from_residual.result _ c.from_residual.ensures.0
+
+pub returns-in_err-add_leaf_digest-clause-same : goal.returns-in_err-add_leaf_digest-clause-same
+returns-in_err-add_leaf_digest-clause-same g c = IfOk-from_err c.from_residual-in_err-add_leaf_digest.result _ c.from_residual-in_err-add_leaf_digest.ensures.0
+
+pub returns-in_err-add_leaf_digest-clause-added : goal.returns-in_err-add_leaf_digest-clause-added
+returns-in_err-add_leaf_digest-clause-added g c = IfOk-from_err c.from_residual-in_err-add_leaf_digest.result _ c.from_residual-in_err-add_leaf_digest.ensures.0
+
+pub returns-in_err-add_leaf_digest-clause-made : goal.returns-in_err-add_leaf_digest-clause-made
+returns-in_err-add_leaf_digest-clause-made g c = IfOk-from_err c.from_residual-in_err-add_leaf_digest.result _ c.from_residual-in_err-add_leaf_digest.ensures.0
+
+pub returns-clause-same : goal.returns-clause-same
+returns-clause-same g c = c.loop-at.invariant.same
+
+pub returns-clause-added : goal.returns-clause-added
+returns-clause-added g c =
+    let draft = c.args.draft.now in
+    let end : c.loop-at.at ≡ c.args.count = omega (arith, c.loop-at-test.false, c.loop-at.auto.at-end, c.loop-at.auto.at, c.requires.order, c.get-at.ensures, c.leaves.ensures) in
+    c.loop-at.invariant.added ∙ ap (λ n. map g.H.Digest.Digest.bytes draft.added ++ made_values g.H.Digest.Digest.bytes g.H.Hasher.hash (g.O.Nodes.node_at c.args.behind.now.operations.now) g.F.Family.shape g.N.Chunks.LEN (all_bits g.N.Chunks.LEN (g.B.Readable.bitmap c.args.behind.now.bits.now)) (leaves_of draft) (n - leaves_of draft)) end
+
+pub returns-clause-made : goal.returns-clause-made
+returns-clause-made g c =
+    let draft = c.args.draft.now in
+    let end : c.loop-at.at ≡ c.args.count = omega (arith, c.loop-at-test.false, c.loop-at.auto.at-end, c.loop-at.auto.at, c.requires.order, c.get-at.ensures, c.leaves.ensures) in
+    c.loop-at.invariant.made ∙ ap (λ n. more c.args.hasher.now (n - leaves_of draft)) end

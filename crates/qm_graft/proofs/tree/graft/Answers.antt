@@ -1,6 +1,7 @@
-use Rattle.std.proofs.Common.{◌≡◌, ◌∙◌, ◌-◌, ◌<◌, ◌++◌, ℕ, List, length, map, arith, ap, ap₂, sym, subst}
-use Rattle.std.specs.Prelude.{IsSome}
+use Rattle.std.proofs.Common.{◌≡◌, ◌∙◌, ◌-◌, ◌<◌, ◌≤◌, ◌++◌, ℕ, List, length, map, arith, ap, ap₂, refl, sym, subst}
+use Rattle.std.specs.Prelude.{All, IsSome}
 use Rattle.std.proofs.lemmas.List.{length-append, length-map, append_assoc}
+use Rattle.std.proofs.lemmas.Result.{IfOk-from_err, err_from_is_err_and}
 use Rattle.qm_model.specs.Operations.{Bytes}
 use Rattle.qm_model.specs.Grafted.{chunk_values}
 use Rattle.qm_model.proofs.GraftedLemmas.{length-chunk_values}
@@ -63,3 +64,96 @@ returns-clause-values g c = λ old new before step tells.
     ∙ followed (bytes g c) hash held shape size bits count base c.args.changed.now old new before step tells (drafted (bytes g c) draft values) c.requires.order are
     (λ i found low. (subst (λ k. k < base → IsSome (node_over held shape (grafting size) k)) found.2 (λ less. (c.requires.changed found.0 i found.1 (less)).node)) low)
     (λ i past low. (c.requires.added i past low).node)
+
+pub update_all-requires-clause-fresh : goal.update_all-requires-clause-fresh
+update_all-requires-clause-fresh g c = c.requires.fresh.1
+
+pub update_all-requires-clause-kept : goal.update_all-requires-clause-kept
+update_all-requires-clause-kept g c = c.requires.kept
+
+pub update_all-requires-clause-can : goal.update_all-requires-clause-can
+update_all-requires-clause-can g c = c.requires.changed
+
+pub add_all-requires-clause-order : goal.add_all-requires-clause-order
+add_all-requires-clause-order g c =
+    let same = c.in_ok-update_all.ensures.same in
+    omega (arith, same.base, ap length (same.added ∙ c.requires.fresh.1), c.requires.order)
+
+pub add_all-requires-clause-can : goal.add_all-requires-clause-can
+add_all-requires-clause-can g c = λ chunk past low.
+    let same = c.in_ok-update_all.ensures.same in
+    c.requires.added chunk (omega (arith, past, same.base)) low
+
+pub returns-in_err-update_all-clause-same : goal.returns-in_err-update_all-clause-same
+returns-in_err-update_all-clause-same g c = IfOk-from_err c.from_residual.result _ c.from_residual.ensures.0
+
+pub returns-in_err-update_all-clause-leaves : goal.returns-in_err-update_all-clause-leaves
+returns-in_err-update_all-clause-leaves g c = IfOk-from_err c.from_residual.result _ c.from_residual.ensures.0
+
+pub returns-in_err-update_all-clause-replaced : goal.returns-in_err-update_all-clause-replaced
+returns-in_err-update_all-clause-replaced g c = IfOk-from_err c.from_residual.result _ c.from_residual.ensures.0
+
+pub returns-in_err-update_all-clause-above : goal.returns-in_err-update_all-clause-above
+returns-in_err-update_all-clause-above g c = λ least each. IfOk-from_err c.from_residual.result _ c.from_residual.ensures.0
+
+pub returns-in_err-update_all-clause-added : goal.returns-in_err-update_all-clause-added
+returns-in_err-update_all-clause-added g c = IfOk-from_err c.from_residual.result _ c.from_residual.ensures.0
+
+pub returns-in_err-update_all-clause-values : goal.returns-in_err-update_all-clause-values
+returns-in_err-update_all-clause-values g c = λ old new before step tells. IfOk-from_err c.from_residual.result _ c.from_residual.ensures.0
+
+pub returns-in_err-update_all-clause-made : goal.returns-in_err-update_all-clause-made
+returns-in_err-update_all-clause-made g c = IfOk-from_err c.from_residual.result _ c.from_residual.ensures.0
+
+pub returns-in_err-update_all-clause-cause : goal.returns-in_err-update_all-clause-cause
+returns-in_err-update_all-clause-cause g c =
+    let exit = err_from_is_err_and c.from_residual.result c.from_residual.ensures.1 in
+    rw (exit.1, exit.2) c.in_err-update_all.ensures.cause
+
+pub returns-in_err-add_all-clause-same : goal.returns-in_err-add_all-clause-same
+returns-in_err-add_all-clause-same g c = IfOk-from_err c.from_residual-in_err-add_all.result _ c.from_residual-in_err-add_all.ensures.0
+
+pub returns-in_err-add_all-clause-leaves : goal.returns-in_err-add_all-clause-leaves
+returns-in_err-add_all-clause-leaves g c = IfOk-from_err c.from_residual-in_err-add_all.result _ c.from_residual-in_err-add_all.ensures.0
+
+pub returns-in_err-add_all-clause-replaced : goal.returns-in_err-add_all-clause-replaced
+returns-in_err-add_all-clause-replaced g c = IfOk-from_err c.from_residual-in_err-add_all.result _ c.from_residual-in_err-add_all.ensures.0
+
+pub returns-in_err-add_all-clause-above : goal.returns-in_err-add_all-clause-above
+returns-in_err-add_all-clause-above g c = λ least each. IfOk-from_err c.from_residual-in_err-add_all.result _ c.from_residual-in_err-add_all.ensures.0
+
+pub returns-in_err-add_all-clause-added : goal.returns-in_err-add_all-clause-added
+returns-in_err-add_all-clause-added g c = IfOk-from_err c.from_residual-in_err-add_all.result _ c.from_residual-in_err-add_all.ensures.0
+
+pub returns-in_err-add_all-clause-values : goal.returns-in_err-add_all-clause-values
+returns-in_err-add_all-clause-values g c = λ old new before step tells. IfOk-from_err c.from_residual-in_err-add_all.result _ c.from_residual-in_err-add_all.ensures.0
+
+pub returns-in_err-add_all-clause-made : goal.returns-in_err-add_all-clause-made
+returns-in_err-add_all-clause-made g c = IfOk-from_err c.from_residual-in_err-add_all.result _ c.from_residual-in_err-add_all.ensures.0
+
+pub returns-in_err-add_all-clause-cause : goal.returns-in_err-add_all-clause-cause
+returns-in_err-add_all-clause-cause g c =
+    let exit = err_from_is_err_and c.from_residual-in_err-add_all.result c.from_residual-in_err-add_all.ensures.1 in
+    rw (exit.1, exit.2) refl
+
+pub returns-clause-same : goal.returns-clause-same
+returns-clause-same g c =
+    let one = c.in_ok-update_all.ensures.same in
+    let two = c.in_ok-add_all.ensures.same in
+    (two.0 ∙ one.start, two.1 ∙ one.base, two.2 ∙ one.layers)
+
+pub returns-clause-replaced : goal.returns-clause-replaced
+returns-clause-replaced g c = let few = c.in_ok-update_all.ensures.few in omega (arith, few, ap length c.in_ok-add_all.ensures.same.3, ap length c.requires.fresh.0)
+
+pub returns-clause-above : goal.returns-clause-above
+returns-clause-above g c = λ least each.
+    let none = subst (All (λ (e : ℕ × g.row.H-Digest.Denot). least ≤ e.0)) (sym c.requires.fresh.0) (λ k d low. absurd (omega (arith, low))) in
+    subst (All (λ (e : ℕ × g.row.H-Digest.Denot). least ≤ e.0)) (sym c.in_ok-add_all.ensures.same.3) (c.in_ok-update_all.ensures.above least none each)
+
+pub returns-clause-made : goal.returns-clause-made
+returns-clause-made g c =
+    let one = c.in_ok-update_all.ensures.made in
+    (one.0, one.1, omega (arith, one.2, c.in_ok-add_all.ensures.made, begun g c))
+
+pub returns-clause-cause : goal.returns-clause-cause
+returns-clause-cause g c = tt

@@ -1,7 +1,8 @@
-use Rattle.std.proofs.Common.{◌≡◌, ◌∙◌, ◌+◌, ◌<◌, ◌≤◌, ◌++◌, ◌∷◌, [], suc, get_or, length, map, take, arith, ap, sym, subst, ⊎_elim}
+use Rattle.std.proofs.Common.{◌≡◌, ◌∙◌, ◌+◌, ◌<◌, ◌≤◌, ◌++◌, ◌∷◌, [], suc, get_or, length, map, take, arith, ap, refl, sym, subst, ⊎_elim}
 use Rattle.std.proofs.Math.Seq.{take-suc}
 use Rattle.std.proofs.lemmas.Bool.{cases_lt}
-use Rattle.std.proofs.lemmas.List.{length-append, length-map}
+use Rattle.std.proofs.lemmas.List.{length-append, length-map, take_all}
+use Rattle.std.proofs.lemmas.Result.{IfOk-from_err, err_from_is_err_and}
 use Rattle.qm_bits.specs.Bitmaps.{all_bits}
 use Rattle.qm_merkle.specs.Batches.{Draft, drafted, replaced_from}
 use Rattle.qm_merkle.proofs.Drafting.{length-replaced_from}
@@ -38,3 +39,63 @@ loop-at-preserved g c =
           (cases_lt at draft.base);
       made = (is.made.0 + done.made.0, omega (arith, is.made.1, done.made.1), omega (arith, is.made.2, done.made.2));
     }
+
+pub loop-at-init : goal.loop-at-init
+loop-at-init g c =
+    record {
+      same = record { start = refl; base = refl; layers = refl; added = refl };
+      few = omega arith;
+      above = λ least each high. each;
+      values = λ values long. record { long = refl; put = λ k found low. let none = found.1 in absurd (omega (arith, none)); others = λ k never. refl };
+      made = (0, omega arith, omega arith);
+    }
+
+pub update_one-requires-clause-fresh : goal.update_one-requires-clause-fresh
+update_one-requires-clause-fresh g c = c.loop-at.invariant.same.added ∙ c.requires.fresh
+
+pub update_one-requires-clause-kept : goal.update_one-requires-clause-kept
+update_one-requires-clause-kept g c = subst (λ n. n ≤ get_or c.args.changed.now c.loop-at.at-index 0) (sym c.loop-at.invariant.same.start) (c.requires.kept c.loop-at.at-index 0 c.loop-at-test.true)
+
+pub update_one-requires-clause-can : goal.update_one-requires-clause-can
+update_one-requires-clause-can g c = λ low. c.requires.can c.loop-at.at-index 0 c.loop-at-test.true (subst (λ n. get_or c.args.changed.now c.loop-at.at-index 0 < n) c.loop-at.invariant.same.base low)
+
+pub returns-in_err-update_one-clause-same : goal.returns-in_err-update_one-clause-same
+returns-in_err-update_one-clause-same g c = IfOk-from_err c.from_residual.result _ c.from_residual.ensures.0
+
+pub returns-in_err-update_one-clause-few : goal.returns-in_err-update_one-clause-few
+returns-in_err-update_one-clause-few g c = IfOk-from_err c.from_residual.result _ c.from_residual.ensures.0
+
+pub returns-in_err-update_one-clause-above : goal.returns-in_err-update_one-clause-above
+returns-in_err-update_one-clause-above g c = λ least each high. IfOk-from_err c.from_residual.result _ c.from_residual.ensures.0
+
+pub returns-in_err-update_one-clause-values : goal.returns-in_err-update_one-clause-values
+returns-in_err-update_one-clause-values g c = λ values long. IfOk-from_err c.from_residual.result _ c.from_residual.ensures.0
+
+pub returns-in_err-update_one-clause-made : goal.returns-in_err-update_one-clause-made
+returns-in_err-update_one-clause-made g c = IfOk-from_err c.from_residual.result _ c.from_residual.ensures.0
+
+pub returns-in_err-update_one-clause-cause : goal.returns-in_err-update_one-clause-cause
+returns-in_err-update_one-clause-cause g c =
+    let exit = err_from_is_err_and c.from_residual.result c.from_residual.ensures.1 in
+    rw (exit.1, exit.2) c.in_err-update_one.ensures.cause
+
+pub returns-clause-same : goal.returns-clause-same
+returns-clause-same g c = c.loop-at.invariant.same
+
+pub returns-clause-few : goal.returns-clause-few
+returns-clause-few g c = let few = c.loop-at.invariant.few in omega (arith, few, c.loop-at.auto.at-index-end)
+
+pub returns-clause-above : goal.returns-clause-above
+returns-clause-above g c = c.loop-at.invariant.above
+
+pub returns-clause-values : goal.returns-clause-values
+returns-clause-values g c = λ values long.
+    let bytes = g.H.Digest.Digest.bytes in
+    let made = made_value bytes g.H.Hasher.hash (g.O.Nodes.node_at c.args.behind.now.operations.now) g.F.Family.shape g.N.Chunks.LEN (all_bits g.N.Chunks.LEN (g.B.Readable.bitmap c.args.behind.now.bits.now)) in
+    subst (λ cs. AreMade made cs (drafted bytes c.args.draft.now values) (drafted bytes c.loop-at.draft values)) (take_all c.loop-at.at-index c.args.changed.now c.loop-at-test.false) (c.loop-at.invariant.values values long)
+
+pub returns-clause-made : goal.returns-clause-made
+returns-clause-made g c = let made = c.loop-at.invariant.made in (made.0, omega (arith, made.1, c.loop-at.auto.at-index-end), made.2)
+
+pub returns-clause-cause : goal.returns-clause-cause
+returns-clause-cause g c = tt

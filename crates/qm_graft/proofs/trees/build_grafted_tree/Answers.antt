@@ -1,5 +1,6 @@
 use Rattle.std.proofs.Common.{◌≡◌, ◌∙◌, ◌*◌, ◌^◌, ◌≤◌, ◌∷◌, [], ℕ, List, length, map, arith, ap, ap₂, refl, sym, subst}
 use Rattle.std.specs.Prelude.{Contains}
+use Rattle.std.proofs.lemmas.Result.{IfOk-from_err, err_from_is_err_and}
 use Rattle.qm_model.specs.Operations.{Bytes}
 use Rattle.qm_model.specs.Trees.{Shape, digest_of, peaks}
 use Rattle.qm_model.specs.Bits.{chunk}
@@ -88,3 +89,51 @@ returns-clause-stands g c = λ digests stands pins.
     (subst (λ (d : Draft g.row.H-Digest.Denot). IsHistory (kept_shape (shape g) (height g)) bytes hash d.layers (values draft.base ∷ [])) (sym c.new_batch-draft.ensures) tt) (0, omega arith, refl) begun in
     subst (λ n. Stands (kept_shape (shape g) (height g)) bytes hash c.apply_batch.new.self (values n)) count
     (c.in_ok-apply_batch.ensures.stands hash (values draft.base) (values c.grafted_chunks-count.result) (values draft.base ∷ []) history (1, omega arith, refl) begun)
+
+pub follow-requires-clause-fresh : goal.follow-requires-clause-fresh
+follow-requires-clause-fresh g c = (ap (λ (d : Draft g.row.H-Digest.Denot). d.replaced) c.new_batch-draft.ensures, ap (λ (d : Draft g.row.H-Digest.Denot). d.added) c.new_batch-draft.ensures)
+
+pub follow-requires-clause-kept : goal.follow-requires-clause-kept
+follow-requires-clause-kept g c = λ i at low. absurd (omega (arith, low))
+
+pub follow-requires-clause-held : goal.follow-requires-clause-held
+follow-requires-clause-held g c = λ i at low. absurd (omega (arith, low))
+
+pub follow-requires-clause-changed : goal.follow-requires-clause-changed
+follow-requires-clause-changed g c = λ i at low. absurd (omega (arith, low))
+
+pub returns-in_err-tree-clause-bounds : goal.returns-in_err-tree-clause-bounds
+returns-in_err-tree-clause-bounds g c = IfOk-from_err c.from_residual.result _ c.from_residual.ensures.0
+
+pub returns-in_err-tree-clause-stands : goal.returns-in_err-tree-clause-stands
+returns-in_err-tree-clause-stands g c = λ digests stands pins. IfOk-from_err c.from_residual.result _ c.from_residual.ensures.0
+
+pub returns-in_err-tree-clause-cause : goal.returns-in_err-tree-clause-cause
+returns-in_err-tree-clause-cause g c =
+    let exit = err_from_is_err_and c.from_residual.result c.from_residual.ensures.1 in
+    rw (exit.1, exit.2) refl
+
+pub returns-in_err-batch-clause-bounds : goal.returns-in_err-batch-clause-bounds
+returns-in_err-batch-clause-bounds g c = IfOk-from_err c.from_residual-in_err-batch.result _ c.from_residual-in_err-batch.ensures.0
+
+pub returns-in_err-batch-clause-stands : goal.returns-in_err-batch-clause-stands
+returns-in_err-batch-clause-stands g c = λ digests stands pins. IfOk-from_err c.from_residual-in_err-batch.result _ c.from_residual-in_err-batch.ensures.0
+
+pub returns-in_err-batch-clause-cause : goal.returns-in_err-batch-clause-cause
+returns-in_err-batch-clause-cause g c =
+    let exit = err_from_is_err_and c.from_residual-in_err-batch.result c.from_residual-in_err-batch.ensures.1 in
+    rw (exit.1, exit.2) c.in_err-batch.ensures.cause
+
+pub returns-in_err-apply_batch-clause-bounds : goal.returns-in_err-apply_batch-clause-bounds
+returns-in_err-apply_batch-clause-bounds g c = IfOk-from_err c.from_residual-in_err-apply_batch.result _ c.from_residual-in_err-apply_batch.ensures.0
+
+pub returns-in_err-apply_batch-clause-stands : goal.returns-in_err-apply_batch-clause-stands
+returns-in_err-apply_batch-clause-stands g c = λ digests stands pins. IfOk-from_err c.from_residual-in_err-apply_batch.result _ c.from_residual-in_err-apply_batch.ensures.0
+
+pub returns-in_err-apply_batch-clause-cause : goal.returns-in_err-apply_batch-clause-cause
+returns-in_err-apply_batch-clause-cause g c =
+    let exit = err_from_is_err_and c.from_residual-in_err-apply_batch.result c.from_residual-in_err-apply_batch.ensures.1 in
+    rw (exit.1, exit.2) refl
+
+pub returns-clause-cause : goal.returns-clause-cause
+returns-clause-cause g c = tt

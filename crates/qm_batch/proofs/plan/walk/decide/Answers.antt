@@ -5,7 +5,7 @@ use Rattle.qm_model.proofs.Results.{ok-four, ok-then}
 use Rattle.qm_step.specs.Going.{decided_for}
 use Rattle.qm_step.specs.PlanViews.{decided_views}
 use Rattle.qm_batch.specs.PlanPaths.{found_view}
-use Rattle.qm_batch.proofs.PlanGoing.{going-decided, passed}
+use Rattle.qm_batch.proofs.PlanGoing.{going-decided, not-back, one-on, passed, same-end}
 use Rattle.std.proofs.lemmas.Result.{err_from_is_err_and}
 use Rattle.qm_batch.proofs.plan.walk.decide.Goals as goal
 
@@ -122,3 +122,18 @@ returns-in_err-action-clause-memory g c =
 
 pub returns-clause-memory : goal.returns-clause-memory
 returns-clause-memory g c = c.note.ensures.memory
+
+pub note-requires-clause-entries : goal.note-requires-clause-entries
+note-requires-clause-entries g c = c.requires.entries
+
+pub note-requires-clause-floor : goal.note-requires-clause-floor
+note-requires-clause-floor g c = c.requires.floor
+
+pub returns-clause-low : goal.returns-clause-low
+returns-clause-low g c = ok-then c.note.result c.note.ensures.walk (λ on is. not-back on c.args.going.now.walk c.note.new.going.walk is)
+
+pub returns-clause-high : goal.returns-clause-high
+returns-clause-high g c = ok-then c.note.result c.note.ensures.walk (λ on is. one-on on c.args.going.now.walk c.note.new.going.walk is)
+
+pub returns-clause-end : goal.returns-clause-end
+returns-clause-end g c = ok-then c.note.result c.note.ensures.walk (λ on is. same-end on c.args.going.now.walk c.note.new.going.walk is)

@@ -114,3 +114,27 @@ returns-then-is_moved-2-clause-read g c = c.read_item.ensures.read
 
 pub returns-clause-read : goal.returns-clause-read
 returns-clause-read g c = c.read_item.ensures.read
+
+pub returns-else-is_moved-clause-error : goal.returns-else-is_moved-clause-error
+returns-else-is_moved-clause-error g c = tt
+
+pub returns-else-is_moved-clause-pruned : goal.returns-else-is_moved-clause-pruned
+returns-else-is_moved-clause-pruned g c = λ kept. tt
+
+pub returns-in_default-2-clause-error : goal.returns-in_default-2-clause-error
+returns-in_default-2-clause-error g c = tt
+
+pub returns-in_default-2-clause-pruned : goal.returns-in_default-2-clause-pruned
+returns-in_default-2-clause-pruned g c = λ kept. tt
+
+pub returns-then-is_moved-2-clause-error : goal.returns-then-is_moved-2-clause-error
+returns-then-is_moved-2-clause-error g c = tt
+
+pub returns-then-is_moved-2-clause-pruned : goal.returns-then-is_moved-2-clause-pruned
+returns-then-is_moved-2-clause-pruned g c = λ kept. tt
+
+pub returns-clause-error : goal.returns-clause-error
+returns-clause-error g c = tt
+
+pub returns-clause-pruned : goal.returns-clause-pruned
+returns-clause-pruned g c = λ kept. tt

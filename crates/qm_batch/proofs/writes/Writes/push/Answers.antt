@@ -1,4 +1,4 @@
-use Rattle.std.proofs.Common.{◌∙◌, ◌∷◌, [], ℕ, Vec, Global, ap, sym, subst, arith, map}
+use Rattle.std.proofs.Common.{◌∙◌, ◌++◌, ◌∷◌, [], ℕ, Vec, Global, ap, sym, subst, arith, map}
 use Rattle.std.proofs.lemmas.List.{length-map, map-append}
 use Rattle.qm_step.specs.Views.{write_view}
 use Rattle.qm_step.specs.Written.{ArePlaces}
@@ -31,3 +31,8 @@ pub returns-in_err-push : goal.returns-in_err-push
 returns-in_err-push g c =
     let exit = err_from_is_err_and c.from_residual-in_err-push.result c.from_residual-in_err-push.ensures.1 in
     rw exit.1 tt
+
+pub returns : goal.returns
+returns g c =
+    let view = write_view g.K.ByteString.bytes g.V.ByteString.bytes in
+    ap (map view) c.in_ok-push.ensures.items ∙ map-append view (c.self.inside.list).items (_ ∷ []) ∙ ap (λ ws. ws ++ view (record { key = c.args.key; value = c.args.value }) ∷ []) c.self.view_is

@@ -1,8 +1,8 @@
-use Rattle.std.proofs.Common.{ap, subst, ◌∙◌}
+use Rattle.std.proofs.Common.{ap, arith, length, refl, subst, sym, ◌∙◌}
 use Rattle.std.specs.List.{FoldsTo, flat_map}
 use Rattle.std.specs.Map.{values_of}
 use Rattle.std.specs.Fn.{CalledAt}
-use Rattle.qm_index.specs.Buckets.{all_values}
+use Rattle.qm_index.specs.Buckets.{IsIndex, all_values}
 use Rattle.qm_index.proofs.Visits.{LeadOn-next}
 use Rattle.qm_index.proofs.unordered.IndexUnordered.for_each_value.Goals as goal
 
@@ -23,3 +23,20 @@ loop-bucket-preserved g c = (
   LeadOn-next (λ p x q. CalledAt g.F.FnMut p x tt q) c.args.visit (all_values c.args.self.now) c.loop-bucket.visit c.show-visit.result _ _ c.in-Some.bucket.now c.values.result.now c.in-Some.ensures.steps c.values.ensures.value c.show-visit.ensures.shown
       c.loop-bucket.invariant.3,
 )
+
+pub returns-clause-shown : goal.returns-clause-shown
+returns-clause-shown g c =
+    let last = c.loop-bucket.visit in
+    (last, c.loop-bucket.invariant.3 last (subst (λ buckets. FoldsTo (λ p x q. CalledAt g.F.FnMut p x tt q) last (flat_map (λ bucket. bucket) buckets) last) (sym c.in-None.ensures.steps.0) refl))
+
+pub returns-clause-index : goal.returns-clause-index
+returns-clause-index g c = subst IsIndex c.self.view_is c.self.invariant
+
+pub loop-bucket-smaller : goal.loop-bucket-smaller
+loop-bucket-smaller g c = omega (arith, ap length c.in-Some.ensures.steps)
+
+pub next-requires : goal.next-requires
+next-requires g c = tt
+
+pub show-visit-requires : goal.show-visit-requires
+show-visit-requires g c = c.loop-bucket.invariant.2

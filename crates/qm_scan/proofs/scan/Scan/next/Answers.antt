@@ -1,4 +1,12 @@
-use Rattle.qm_base.proofs.Reading.{read-none, read-then}
+use Rattle.std.proofs.Common.{◌∙◌, ap, subst, sym}
+use Rattle.std.proofs.lemmas.Option.{IfSome_then}
+use Rattle.std.proofs.lemmas.Result.{IfErr-weaker}
+use Rattle.qm_base.proofs.Reading.{error-then, read-none, read-then}
+use Rattle.qm_base.specs.Views.{pair_view}
+use Rattle.qm_step.specs.Lent.{NoneBelow}
+use Rattle.qm_step.proofs.Reading.{lent-then, told}
+use Rattle.qm_scan.specs.Scans.{IsStep, Scanning, left_of}
+use Rattle.qm_scan.proofs.Going.{told-any, told-two}
 use Rattle.qm_scan.proofs.scan.Scan.next.Goals as goal
 
 pub returns-in-Some-clause-read : goal.returns-in-Some-clause-read
@@ -30,3 +38,33 @@ returns-in-Err-clause-whole g c = c.in-Err.ensures.whole
 
 pub returns-clause-read : goal.returns-clause-read
 returns-clause-read g c = read-then g.L.Items.reads g.met.L.Items.read_again c.args.log.now c.read_on.new.log c.next_behind.new.log c.read_on.ensures.read c.next_behind.ensures.read
+
+pub returns-in-Some-clause-value : goal.returns-in-Some-clause-value
+returns-in-Some-clause-value g c = λ list is. told-any (g.L.Items.reads.told c.args.log.now) (λ _. ap (λ (s : Scanning). left_of g.I.Unordered.index_key s list) c.in-Some.ensures)
+
+pub returns-in-Some-take-clause-value : goal.returns-in-Some-take-clause-value
+returns-in-Some-take-clause-value g c = λ list is.
+    IfSome_then (g.L.Items.reads.told c.args.log.now) (c.read_on.ensures.value list is) (λ _ same. sym (same ∙ ap (λ (s : Scanning). left_of g.I.Unordered.index_key s list) c.in_default.ensures.1) ∙ ap (λ (s : Scanning). left_of g.I.Unordered.index_key s list) c.in-Some-take.ensures)
+
+pub returns-in-Err-clause-value : goal.returns-in-Err-clause-value
+returns-in-Err-clause-value g c = λ list is.
+    IfSome_then (g.L.Items.reads.told c.args.log.now) (c.read_on.ensures.value list is) (λ _ same. same ∙ ap (λ (s : Scanning). left_of g.I.Unordered.index_key s list) c.in_default.ensures.1)
+
+pub returns-clause-value : goal.returns-clause-value
+returns-clause-value g c = λ list is.
+    let read = c.read_on.ensures.read in
+    let mid = lent-then g.L.Items.reads _ g.I.Unordered.index_key (g.I.Unordered.entries c.args.index.now) c.args.log.now c.read_on.new.log list read is in
+    let view = pair_view g.U.Key.ByteString.bytes g.U.Value.ByteString.bytes in
+    told-two (g.L.Items.reads.told c.args.log.now) (c.read_on.ensures.value list is) (told _ _ _ read.told (c.next_behind.ensures.value list mid))
+    (λ _ same step. subst (λ before. IsStep view before (left_of g.I.Unordered.index_key c.next_behind.new.self list) c.next_behind.result) (ap (λ (s : Scanning). left_of g.I.Unordered.index_key s list) c.in_default-take.ensures.1 ∙ same ∙ ap (λ (s : Scanning). left_of g.I.Unordered.index_key s list) c.in_default.ensures.1) step)
+
+pub returns-clause-error : goal.returns-clause-error
+returns-clause-error g c =
+    IfSome_then c.next_behind.result c.next_behind.ensures.error (λ r failed.
+    IfErr-weaker r _ _ (λ e was. error-then g.L.Items.reads g.met.L.Items.failed_later c.args.log.now c.read_on.new.log c.next_behind.new.log e c.read_on.ensures.read was) failed)
+
+pub returns-clause-whole : goal.returns-clause-whole
+returns-clause-whole g c = λ list is none.
+    let read = c.read_on.ensures.read in
+    let mid = lent-then g.L.Items.reads _ g.I.Unordered.index_key (g.I.Unordered.entries c.args.index.now) c.args.log.now c.read_on.new.log list read is in
+    c.next_behind.ensures.whole list mid (subst (λ n. NoneBelow n list) (sym read.start) none)
