@@ -1,11 +1,12 @@
 -- What reads of a log leave.
-use Rattle.std.proofs.Common.{◌≡◌, ◌≤◌, ℕ, zero, suc, List, [], ◌∷◌, map, refl, ◌∙◌, subst, Option, Some, arith, inl, inr}
+use Rattle.std.proofs.Common.{◌≡◌, ◌⊎◌, ◌≤◌, ℕ, zero, suc, List, [], ◌∷◌, map, refl, ◌∙◌, subst, Option, Some, arith, inl, inr}
 use Rattle.std.specs.Prelude.{All, IfSome, slice_get}
 use Rattle.std.proofs.lemmas.List.Elements.{All-head, All-tail}
 use Rattle.qm_model.specs.Causes.{IsCause, Rose}
 use Rattle.qm_model.specs.Operations.{Bytes, Operation}
 use Rattle.qm_model.specs.Trees.{Shape}
 use Rattle.qm_model.specs.Forms.{Form, IsOf, IsSpelling, spelling}
+use Rattle.qm_base.specs.declared.error.Corrupt.TheVariants.{ItemDoesNotDecode}
 use Rattle.qm_base.specs.declared.error.Error.{Error}
 use Rattle.qm_base.specs.declared.error.Error.TheVariants as errors
 use Rattle.qm_base.specs.declared.error.JournalError.TheVariants as journal
@@ -66,3 +67,9 @@ caused members a b c e before after failed = record { later = omega (arith, befo
     by (inl (inl memory)) is = cc
     by (inl (inr (fault, rose))) is = rose-later (members.faults a.store) (members.faults b.store) (members.faults c.store) before rose
     by (inr lost) is = cc
+
+-- the errors that reads fail with
+pub which-error : {C D : Type 0} (members : store.Ghosts C) (a b : Log C D) (e : Error) → IsReadError members a b e → (e ≡ errors.Memory) ⊎ ((e ≡ errors.Journal journal.Store) ⊎ (e ≡ errors.DataCorrupted ItemDoesNotDecode))
+which-error members a b e (inl (inl memory)) = inl memory
+which-error members a b e (inl (inr (fault, rose))) = inr (inl fault)
+which-error members a b e (inr lost) = inr (inr lost)
