@@ -1,7 +1,6 @@
 use Rattle.std.proofs.Common.{◌≡◌, ◌+◌, ◌<◌, ◌≤◌, ◌++◌, ◌∷◌, [], ◌∙◌, ap, ap₂, sym, subst, length, Some, arith, ⊎_elim, inl, refl}
 use Rattle.std.specs.Prelude.{All, IfSome, option_map}
 use Rattle.std.specs.Bool.{then_some}
-use Rattle.std.proofs.lemmas.List.Elements.{All-weaker}
 use Rattle.std.proofs.lemmas.Result.{err_from_is_err_and}
 use Rattle.qm_model.proofs.Results.{told-one, told-any}
 use Rattle.qm_operations.specs.Views.{operation_view}
@@ -67,14 +66,6 @@ returns g c = record {
   read = c.find.ensures.read;
   error = tt;
 }
-
-pub find-requires : goal.find-requires
-find-requires g c =
-    let tree = c.args.log.now.tree in
-    All-weaker (λ n. (c.args.floor ≤ n) × (n < c.args.at)) (λ n. (tree.start ≤ n) × (n < tree.leaves))
-    (λ n h. let low = h.0 in let high = h.1 in (omega (arith, low, c.requires.kept), omega (arith, high, c.requires.below)))
-    (bucket_at (g.I.Unordered.entries c.args.index.now) (g.I.Unordered.index_key c.as_bytes-bytes.result.now))
-    (c.requires.within (g.I.Unordered.index_key c.as_bytes-bytes.result.now))
 
 pub move_key-requires : goal.move_key-requires
 move_key-requires g c = c.in_ok-found.ensures.place
