@@ -60,14 +60,6 @@ returns-in_err-operation-clause-corrupt g c =
     let less : at < c.args.log.now.tree.leaves = omega (arith, c.loop-at-test.true, c.bounds-size.ensures.size) in
     one-undecoded form s c.args.from c.args.log.now.tree.leaves at low c.loop-at.invariant.low less (corrupt is)))
 
-pub read_operation-requires : goal.read_operation-requires
-read_operation-requires g c =
-    let tree = c.loop-at.invariant.read.tree in
-    record {
-      kept = rw tree (omega (arith, c.requires.kept, c.loop-at.invariant.low));
-      below = rw tree (omega (arith, c.loop-at-test.true, c.bounds-size.ensures.size));
-    }
-
 pub returns-in_err-operation-clause-ring : goal.returns-in_err-operation-clause-ring
 returns-in_err-operation-clause-ring g c =
     let exit = err_from_is_err_and c.from_residual.result c.from_residual.ensures.1 in
