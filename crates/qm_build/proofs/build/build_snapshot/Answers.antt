@@ -64,8 +64,7 @@ loop-at-preserved g c =
     }
 
 pub returns : goal.returns
-returns g c =
-    record {
+returns g c = record {
       built = λ ops has none.
           let index_key = g.I.Unordered.index_key in
           let entries = g.I.Unordered.entries c.loop-at.index in
