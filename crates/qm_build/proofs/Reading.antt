@@ -1,5 +1,5 @@
 -- What reads of a log leave.
-use Rattle.std.proofs.Common.{◌≡◌, ◌⊎◌, ◌≤◌, ℕ, zero, suc, List, [], ◌∷◌, map, refl, ◌∙◌, subst, Option, Some, arith, inl, inr}
+use Rattle.std.proofs.Common.{◌≡◌, ◌≢◌, ◌⊎◌, ◌<◌, ◌≤◌, ℕ, zero, suc, List, [], ◌∷◌, map, refl, ◌∙◌, subst, Option, Some, arith, ap, inl, inr, Result, Err}
 use Rattle.std.specs.Prelude.{All, IfSome, slice_get}
 use Rattle.std.proofs.lemmas.List.Elements.{All-head, All-tail}
 use Rattle.qm_model.specs.Causes.{IsCause, Rose}
@@ -73,3 +73,16 @@ pub which-error : {C D : Type 0} (members : store.Ghosts C) (a b : Log C D) (e :
 which-error members a b e (inl (inl memory)) = inl memory
 which-error members a b e (inl (inr (fault, rose))) = inr (inl fault)
 which-error members a b e (inr lost) = inr (inr lost)
+
+-- a read's fault is no item that spells no operation
+pub decodes-anyway : {C D : Type 0} (members : store.Ghosts C) (a b : Log C D) (e : Error) → IsReadFault members a b e → e ≢ errors.DataCorrupted ItemDoesNotDecode
+decodes-anyway members a b e (inl memory) = λ is. cc
+decodes-anyway members a b e (inr (fault, rose)) = λ is. cc
+
+-- why a log's read of an item that it has failed
+pub read-fault : {C D T : Type 0} (members : store.Ghosts C) (a b : Log C D) (at : ℕ) (read : Result T Error) (e : Error) → read ≡ Err e → a.tree.start ≤ at →
+    (read ≡ Err (errors.Journal (journal.ItemPruned at)) → at < a.tree.start) → (e ≡ errors.Memory) ⊎ ((e ≡ errors.Journal journal.Store) ⊎ (e ≡ errors.Journal (journal.ItemPruned at))) →
+    IsCause (members.faults a.store) (members.faults b.store) (read ≡ Err (errors.Journal journal.Store)) → IsReadFault members a b e
+read-fault members a b at read e was low below (inl memory) cause = inl memory
+read-fault members a b at read e was low below (inr (inl fault)) cause = inr (fault, cause.failed (was ∙ ap Err fault))
+read-fault members a b at read e was low below (inr (inr pruned)) cause = let less = below (was ∙ ap Err pruned) in absurd (omega (arith, low, less))

@@ -1,4 +1,4 @@
-use Rattle.std.proofs.Common.{◌≡◌, ◌-◌, ◌<◌, ◌≤◌, ◌≢◌, ◌∙◌, ap, sym, subst, length, set, true, arith, Some, inl, inr, refl}
+use Rattle.std.proofs.Common.{◌≡◌, ◌-◌, ◌<◌, ◌≤◌, ◌∙◌, ap, sym, subst, length, set, true, arith, Some, inl, inr, refl}
 use Rattle.std.proofs.Math.ListN.{length-set}
 use Rattle.std.proofs.lemmas.List.{length-map}
 use Rattle.std.proofs.lemmas.Result.{err_from_is_err_and}
@@ -7,15 +7,10 @@ use Rattle.std.specs.Prelude.{IfSome, is_none}
 use Rattle.qm_model.proofs.Results.{told-one, told-any, told-both, told-then}
 use Rattle.qm_operations.specs.Views.{operation_view}
 use Rattle.qm_store.proofs.Stores.{both}
-use Rattle.qm_base.specs.declared.error.Corrupt.TheVariants.{ItemDoesNotDecode}
-use Rattle.qm_base.specs.declared.error.Error.{Error}
-use Rattle.qm_base.specs.declared.error.Error.TheVariants as errors
-use Rattle.qm_store.specs.declared.Store as store
-use Rattle.qm_store.specs.Log.{Log}
-use Rattle.qm_build.specs.Reads.{operation_at, IsReadFault}
+use Rattle.qm_build.specs.Reads.{operation_at}
 use Rattle.qm_build.specs.Building.{ArePlaced, between}
 use Rattle.qm_build.specs.Built.{NoneBelow, IsBuilt}
-use Rattle.qm_build.proofs.Reading.{read-none, read-then, fault-then, error-then, operations-then, told}
+use Rattle.qm_build.proofs.Reading.{decodes-anyway, read-none, read-then, fault-then, error-then, operations-then, told}
 use Rattle.qm_build.proofs.Within.{within-none}
 use Rattle.qm_build.proofs.Whole.{placed-none, built}
 use Rattle.qm_build.proofs.Decoding.{each, over, one-more, all-decoded, one-undecoded}
@@ -65,34 +60,34 @@ loop-at-preserved g c =
 
 pub returns : goal.returns
 returns g c = record {
-      built = λ ops has none.
-          let index_key = g.I.Unordered.index_key in
-          let entries = g.I.Unordered.entries c.loop-at.index in
-          let live = c.loop-at.snapshot.live in
-          let floor = c.get-floor.result in
-          let size = c.bounds-size.result.1 in
-          let low : floor < size = omega (arith, c.get-floor.ensures, c.bounds-size.ensures.size, c.requires.below) in
-          let all : size ≡ length ops = c.bounds-size.ensures.size ∙ has.logged.size ∙ length-map ops (spelling g.U.Update.form) in
-          let last : c.loop-at.at ≡ size = omega (arith, c.loop-at.auto.at-end, c.loop-at-test.false) in
-          told-one _ _ (g.C.Store.told c.args.log.now.store) (c.loop-at.invariant.placed ops has) (λ placed.
-          subst (λ bits. IsBuilt index_key entries live bits c.args.floor ops) (sym c.set_bit.ensures)
-          (subst (λ f. IsBuilt index_key entries live (set c.loop-at.snapshot.activity (size - floor - 1) true) f ops) c.get-floor.ensures
-          (built index_key entries live c.loop-at.snapshot.activity floor size ops low all (subst (λ f. NoneBelow f ops) (sym c.get-floor.ensures) none)
-          (subst (λ to. ArePlaced index_key entries live c.loop-at.snapshot.activity floor (between floor to ops)) last placed))));
-      decodes = λ ops has. told-any _ (g.C.Store.told c.args.log.now.store) tt;
-      long =
-          let same : length c.set_bit.new.self ≡ length c.loop-at.snapshot.activity = ap length c.set_bit.ensures ∙ simp length-set in
-          (omega (arith, same, c.loop-at.invariant.here, c.loop-at.auto.at-end, c.loop-at-test.false, c.get-floor.ensures, c.bounds-size.ensures.size, c.requires.below), omega (arith, same, c.loop-at.invariant.counted));
-      decoded =
-          let floor = c.get-floor.result in
-          let last : c.loop-at.at ≡ c.args.log.now.tree.leaves = omega (arith, c.loop-at.auto.at-end, c.loop-at-test.false, c.bounds-size.ensures.size) in
-          both (g.C.Store.told c.args.log.now.store) c.loop-at.invariant.decode (g.met.C.Store.told_start c.args.log.now.store) (λ s all start.
-          let low : s.start ≤ c.args.floor = omega (arith, start, c.bounds-size.ensures.first, c.requires.kept) in
-          all-decoded g.U.Update.form s c.args.floor c.args.log.now.tree.leaves low (λ i more less. all i (omega (arith, more, c.get-floor.ensures)) (omega (arith, less, last))));
-      corrupt = each (g.C.Store.told c.args.log.now.store) (λ s. tt);
-      read = c.loop-at.invariant.read;
-      error = tt;
-    }
+  built = λ ops has none.
+      let index_key = g.I.Unordered.index_key in
+      let entries = g.I.Unordered.entries c.loop-at.index in
+      let live = c.loop-at.snapshot.live in
+      let floor = c.get-floor.result in
+      let size = c.bounds-size.result.1 in
+      let low : floor < size = omega (arith, c.get-floor.ensures, c.bounds-size.ensures.size, c.requires.below) in
+      let all : size ≡ length ops = c.bounds-size.ensures.size ∙ has.logged.size ∙ length-map ops (spelling g.U.Update.form) in
+      let last : c.loop-at.at ≡ size = omega (arith, c.loop-at.auto.at-end, c.loop-at-test.false) in
+      told-one _ _ (g.C.Store.told c.args.log.now.store) (c.loop-at.invariant.placed ops has) (λ placed.
+      subst (λ bits. IsBuilt index_key entries live bits c.args.floor ops) (sym c.set_bit.ensures)
+      (subst (λ f. IsBuilt index_key entries live (set c.loop-at.snapshot.activity (size - floor - 1) true) f ops) c.get-floor.ensures
+      (built index_key entries live c.loop-at.snapshot.activity floor size ops low all (subst (λ f. NoneBelow f ops) (sym c.get-floor.ensures) none)
+      (subst (λ to. ArePlaced index_key entries live c.loop-at.snapshot.activity floor (between floor to ops)) last placed))));
+  decodes = λ ops has. told-any _ (g.C.Store.told c.args.log.now.store) tt;
+  long =
+      let same : length c.set_bit.new.self ≡ length c.loop-at.snapshot.activity = ap length c.set_bit.ensures ∙ simp length-set in
+      (omega (arith, same, c.loop-at.invariant.here, c.loop-at.auto.at-end, c.loop-at-test.false, c.get-floor.ensures, c.bounds-size.ensures.size, c.requires.below), omega (arith, same, c.loop-at.invariant.counted));
+  decoded =
+      let floor = c.get-floor.result in
+      let last : c.loop-at.at ≡ c.args.log.now.tree.leaves = omega (arith, c.loop-at.auto.at-end, c.loop-at-test.false, c.bounds-size.ensures.size) in
+      both (g.C.Store.told c.args.log.now.store) c.loop-at.invariant.decode (g.met.C.Store.told_start c.args.log.now.store) (λ s all start.
+      let low : s.start ≤ c.args.floor = omega (arith, start, c.bounds-size.ensures.first, c.requires.kept) in
+      all-decoded g.U.Update.form s c.args.floor c.args.log.now.tree.leaves low (λ i more less. all i (omega (arith, more, c.get-floor.ensures)) (omega (arith, less, last))));
+  corrupt = each (g.C.Store.told c.args.log.now.store) (λ s. tt);
+  read = c.loop-at.invariant.read;
+  error = tt;
+}
 
 pub returns-in_err-operation : goal.returns-in_err-operation
 returns-in_err-operation g c =
@@ -116,11 +111,6 @@ returns-in_err-operation g c =
       read = read-then g.C.Store g.F.Family.shape g.H.Digest.Digest.bytes g.H.Hasher.hash c.args.log.now c.loop-at.log c.read_operation.new.log c.loop-at.invariant.read c.read_operation.ensures.read;
       error = rw (exit.1, exit.2) (error-then g.C.Store g.F.Family.shape g.H.Digest.Digest.bytes g.H.Hasher.hash c.args.log.now c.loop-at.log c.read_operation.new.log _ c.loop-at.invariant.read c.in_err-operation.ensures.error);
     }
-
--- a read's fault is no item that spells no operation
-decodes-anyway : {C D : Type 0} (members : store.Ghosts C) (a b : Log C D) (e : Error) → IsReadFault members a b e → e ≢ errors.DataCorrupted ItemDoesNotDecode
-decodes-anyway members a b e (inl memory) = λ is. cc
-decodes-anyway members a b e (inr (fault, rose)) = λ is. cc
 
 pub set_bit-requires : goal.set_bit-requires
 set_bit-requires g c = omega (arith, c.loop-at.invariant.here, c.loop-at.auto.at-end, c.loop-at-test.false, c.get-floor.ensures, c.bounds-size.ensures.size, c.requires.below)

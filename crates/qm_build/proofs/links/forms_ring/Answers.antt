@@ -45,15 +45,15 @@ loop-at-preserved g c =
 
 pub returns : goal.returns
 returns g c = record {
-      ring =
-          let last : c.loop-at.at ≡ c.args.log.now.tree.leaves = omega (arith, c.loop-at.auto.at-end, c.loop-at-test.false, c.bounds-size.ensures.size) in
-          then-told (g.C.Store.told c.args.log.now.store) c.loop-at.invariant.links (λ s _ are.
-          subst (λ to. c.is_closed.result ≡ is_ring (filter_map (λ item. item) (items_within g.U.Update.form s c.args.from to))) last
-          (c.is_closed.ensures (filter_map (λ item. item) (items_within g.U.Update.form s c.args.from c.loop-at.at)) are));
-      corrupt = each (g.C.Store.told c.args.log.now.store) (λ s. tt);
-      read = c.loop-at.invariant.read;
-      error = tt;
-    }
+  ring =
+      let last : c.loop-at.at ≡ c.args.log.now.tree.leaves = omega (arith, c.loop-at.auto.at-end, c.loop-at-test.false, c.bounds-size.ensures.size) in
+      then-told (g.C.Store.told c.args.log.now.store) c.loop-at.invariant.links (λ s _ are.
+      subst (λ to. c.is_closed.result ≡ is_ring (filter_map (λ item. item) (items_within g.U.Update.form s c.args.from to))) last
+      (c.is_closed.ensures (filter_map (λ item. item) (items_within g.U.Update.form s c.args.from c.loop-at.at)) are));
+  corrupt = each (g.C.Store.told c.args.log.now.store) (λ s. tt);
+  read = c.loop-at.invariant.read;
+  error = tt;
+}
 
 pub returns-in_err-operation : goal.returns-in_err-operation
 returns-in_err-operation g c =
