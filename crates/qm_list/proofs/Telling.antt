@@ -253,3 +253,10 @@ ok-err r x e ok err = cc
 -- what is not below is at or past it
 pub at-or-past : (a b : ℕ) → (b < a → ⊥) → a ≤ b
 at-or-past a b past = omega (arith, past)
+
+-- where a log's length puts a number of its first operations
+pub within-list : (form : Form) (list : List Operation) (size bound leaves : ℕ) → size ≤ bound → bound ≡ leaves → leaves ≡ length (map (spelling form) list) → size ≤ length list
+within-list form list size bound leaves low is long = omega (arith, low, is, long, length-map list (spelling form))
+
+pub past-list : (form : Form) (list : List Operation) (size bound leaves : ℕ) → bound < size → bound ≡ leaves → leaves ≡ length (map (spelling form) list) → length list < size
+past-list form list size bound leaves past is long = omega (arith, past, is, long, length-map list (spelling form))
