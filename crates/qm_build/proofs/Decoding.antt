@@ -1,6 +1,6 @@
 -- Which items between two locations spell operations.
-use Rattle.std.proofs.Common.{Bool, ◌≡◌, ◌⊎◌, inl, inr, ◌≤◌, ◌<◌, ◌-◌, ◌∙◌, ℕ, ◌+◌, zero, suc, true, false, List, [], ◌∷◌, map, take, drop, arith, refl, ap, subst, sym, Option, Some, None}
-use Rattle.std.specs.Prelude.{IfSome, is_none, slice_get, option_and_then}
+use Rattle.std.proofs.Common.{Bool, ◌≡◌, ◌⊎◌, inl, inr, ◌≤◌, ◌<◌, ◌-◌, ◌∙◌, ℕ, ◌+◌, zero, suc, true, false, List, [], ◌∷◌, map, take, drop, arith, refl, ap, subst, sym, Option, Some, None, Result, Ok, Err}
+use Rattle.std.specs.Prelude.{IfSome, OnOk, is_none, slice_get, option_and_then}
 use Rattle.std.specs.List.{list_any}
 use Rattle.qm_model.specs.Forms.{Form, decoded}
 use Rattle.qm_model.specs.StoreModel.{Stored}
@@ -73,6 +73,11 @@ one-more form s at i before here within = one-case form s at i before here (belo
 pub each : {X : Type 0} (o : Option X) {P : X → Type 0} → ((x : X) → P x) → IfSome o P
 each None all = tt
 each (Some x) all = all x
+
+-- what holds anyway
+pub any-ok : {X E : Type 0} (r : Result X E) {P : Type 0} → P → OnOk r P
+any-ok (Ok x) p = p
+any-ok (Err e) p = tt
 
 -- what is told of a store that kept what another has
 pub over : {X : Type 0} (old new : Option X) {P Q R : X → Type 0} → new ≡ old → IfSome new P → IfSome old Q → ((x : X) → P x → Q x → R x) → IfSome old R

@@ -1,11 +1,12 @@
 -- What reads of a log leave.
-use Rattle.std.proofs.Common.{◌≡◌, ◌≤◌, ℕ, zero, suc, List, [], ◌∷◌, map, refl, ◌∙◌, subst, Option, Some, arith, inl, inr}
+use Rattle.std.proofs.Common.{◌≡◌, ◌≢◌, ◌⊎◌, ◌<◌, ◌≤◌, ℕ, zero, suc, List, [], ◌∷◌, map, refl, ◌∙◌, subst, Option, Some, arith, ap, inl, inr, Result, Err}
 use Rattle.std.specs.Prelude.{All, IfSome, slice_get}
 use Rattle.std.proofs.lemmas.List.Elements.{All-head, All-tail}
 use Rattle.qm_model.specs.Causes.{IsCause, Rose}
 use Rattle.qm_model.specs.Operations.{Bytes, Operation}
 use Rattle.qm_model.specs.Trees.{Shape}
 use Rattle.qm_model.specs.Forms.{Form, IsOf, IsSpelling, spelling}
+use Rattle.qm_base.specs.declared.error.Corrupt.TheVariants.{ItemDoesNotDecode}
 use Rattle.qm_base.specs.declared.error.Error.{Error}
 use Rattle.qm_base.specs.declared.error.Error.TheVariants as errors
 use Rattle.qm_base.specs.declared.error.JournalError.TheVariants as journal
@@ -57,6 +58,10 @@ spelled-there form (op ∷ rest) zero bs all is =
     (op, refl, record { of = All-head (IsOf form) op rest all; spelled = same })
 spelled-there form (op ∷ rest) (suc at) bs all is = spelled-there form rest at bs (All-tail (IsOf form) op rest all) is
 
+-- a cause after a count that did not fall
+pub cause-later : {Failed : Type 0} (a b c : ℕ) → a ≤ b → IsCause b c Failed → IsCause a c Failed
+cause-later a b c before cause = let after = cause.later in record { later = omega (arith, before, after); failed = λ fault. rose-later a b c before (cause.failed fault) }
+
 -- an error tells of the store only where its count of faults rose
 pub caused : {C D : Type 0} (members : store.Ghosts C) (a b c : Log C D) (e : Error) → members.faults a.store ≤ members.faults b.store → members.faults b.store ≤ members.faults c.store → IsReadError members b c e
     → IsCause (members.faults a.store) (members.faults c.store) (e ≡ errors.Journal journal.Store)
@@ -66,3 +71,22 @@ caused members a b c e before after failed = record { later = omega (arith, befo
     by (inl (inl memory)) is = cc
     by (inl (inr (fault, rose))) is = rose-later (members.faults a.store) (members.faults b.store) (members.faults c.store) before rose
     by (inr lost) is = cc
+
+-- the errors that reads fail with
+pub which-error : {C D : Type 0} (members : store.Ghosts C) (a b : Log C D) (e : Error) → IsReadError members a b e → (e ≡ errors.Memory) ⊎ ((e ≡ errors.Journal journal.Store) ⊎ (e ≡ errors.DataCorrupted ItemDoesNotDecode))
+which-error members a b e (inl (inl memory)) = inl memory
+which-error members a b e (inl (inr (fault, rose))) = inr (inl fault)
+which-error members a b e (inr lost) = inr (inr lost)
+
+-- a read's fault is no item that spells no operation
+pub decodes-anyway : {C D : Type 0} (members : store.Ghosts C) (a b : Log C D) (e : Error) → IsReadFault members a b e → e ≢ errors.DataCorrupted ItemDoesNotDecode
+decodes-anyway members a b e (inl memory) = λ is. cc
+decodes-anyway members a b e (inr (fault, rose)) = λ is. cc
+
+-- why a log's read of an item that it has failed
+pub read-fault : {C D T : Type 0} (members : store.Ghosts C) (a b : Log C D) (at : ℕ) (read : Result T Error) (e : Error) → read ≡ Err e → a.tree.start ≤ at →
+    (read ≡ Err (errors.Journal (journal.ItemPruned at)) → at < a.tree.start) → (e ≡ errors.Memory) ⊎ ((e ≡ errors.Journal journal.Store) ⊎ (e ≡ errors.Journal (journal.ItemPruned at))) →
+    IsCause (members.faults a.store) (members.faults b.store) (read ≡ Err (errors.Journal journal.Store)) → IsReadFault members a b e
+read-fault members a b at read e was low below (inl memory) cause = inl memory
+read-fault members a b at read e was low below (inr (inl fault)) cause = inr (fault, cause.failed (was ∙ ap Err fault))
+read-fault members a b at read e was low below (inr (inr pruned)) cause = let less = below (was ∙ ap Err pruned) in absurd (omega (arith, low, less))

@@ -1,7 +1,7 @@
 -- An empty log, the root of a fresh list, proofs in the first operations of a list, and the floor of these.
 use Rattle.std.proofs.Common.{◌≡◌, ℕ, zero, suc, ◌+◌, ◌*◌, ◌^◌, ◌/◌, ◌-◌, ◌≤◌, ◌<◌, List, [], ◌∷◌, ◌++◌, length, take, drop, map, get_or, refl, sym, ◌∙◌, ap, ap₂, subst, arith, Option, None, Some, IfSome, All, Contains, Bool, ◌⊎◌, inl, inr}
 use Rattle.std.specs.Option.{option_or}
-use Rattle.std.specs.Prelude.{◌≢◌, count_by, nat_le, nat_lt, slice_get, option_and_then, if◌then◌else◌, Result, Ok, Err, IfErr}
+use Rattle.std.specs.Prelude.{◌≢◌, count_by, nat_le, nat_lt, slice_get, option_and_then, if◌then◌else◌, Result, Ok, Err}
 use Rattle.std.proofs.lemmas.Bool.{lt-ltb, le-ltb}
 use Rattle.std.proofs.lemmas.List.{nil_from_length, length-take-le, length-map, take-map, drop-map, take_all, take_more, map-append, get_or-map}
 use Rattle.std.proofs.lemmas.List.Elements.{All-take, All-drop}
@@ -193,6 +193,10 @@ module _ (kept : ℕ) (list : List Operation) (size start : ℕ) where
   past_end : size ≤ length list → proof_refusal kept list size start ≡ option_or (last_refusal kept size) (end_refusal kept size start (floor_before list size))
   past_end within = ap (λ b. if b then Some (Merkle (RangeOutOfBounds size)) else option_or (last_refusal kept size) (end_refusal kept size start (floor_before list size))) (le-ltb (length list) size within)
 
+  -- the list is shorter
+  pub refused-end : length list < size → proof_refusal kept list size start ≡ Some (Merkle (RangeOutOfBounds size))
+  refused-end past = ap (λ b. if b then Some (Merkle (RangeOutOfBounds size)) else option_or (last_refusal kept size) (end_refusal kept size start (floor_before list size))) (lt-ltb (length list) size past)
+
   -- the last item is
   pub refused-last : (e : Error) → size ≤ length list → IsDue e (last_refusal kept size) → IsDue e (proof_refusal kept list size start)
   refused-last e within due = by (refusal_of e) due
@@ -239,8 +243,8 @@ pub part-of : (form : Form) (list : List Operation) (a n : ℕ) → All (IsOf fo
 part-of form list a n all = All-take (IsOf form) n (drop a list) (All-drop (IsOf form) a list all)
 
 -- want of memory is due to nothing
-pub memory-due : {X : Type 0} (r : Result X Error) (y e : Error) (due : Option refusals.Refused) → r ≡ Err y → y ≡ e → e ≡ errors.Memory → IfErr r (λ e. IsDue e due)
-memory-due r y e due is from memory = subst (λ x. IfErr x (λ e. IsDue e due)) (sym (is ∙ ap Err (from ∙ memory))) tt
+pub due-memory : (e : Error) (due : Option refusals.Refused) → e ≡ errors.Memory → IsDue e due
+due-memory e due memory = subst (λ e. IsDue e due) (sym memory) tt
 
 -- a call that answered was not refused
 pub ok-err : {X E : Type 0} (r : Result X E) (x : X) (e : E) → r ≡ Ok x → r ≡ Err e → ⊥
@@ -249,3 +253,10 @@ ok-err r x e ok err = cc
 -- what is not below is at or past it
 pub at-or-past : (a b : ℕ) → (b < a → ⊥) → a ≤ b
 at-or-past a b past = omega (arith, past)
+
+-- where a log's length puts a number of its first operations
+pub within-list : (form : Form) (list : List Operation) (size bound leaves : ℕ) → size ≤ bound → bound ≡ leaves → leaves ≡ length (map (spelling form) list) → size ≤ length list
+within-list form list size bound leaves low is long = omega (arith, low, is, long, length-map list (spelling form))
+
+pub past-list : (form : Form) (list : List Operation) (size bound leaves : ℕ) → bound < size → bound ≡ leaves → leaves ≡ length (map (spelling form) list) → length list < size
+past-list form list size bound leaves past is long = omega (arith, past, is, long, length-map list (spelling form))

@@ -1,4 +1,4 @@
-use Rattle.std.proofs.Common.{◌≡◌, ◌-◌, ◌<◌, ◌≤◌, ◌≢◌, ◌∙◌, ap, sym, subst, length, set, true, arith, Some, inl, inr}
+use Rattle.std.proofs.Common.{◌≡◌, ◌-◌, ◌<◌, ◌≤◌, ◌∙◌, ap, sym, subst, length, set, true, arith, Some, inl, refl}
 use Rattle.std.proofs.Math.ListN.{length-set}
 use Rattle.std.proofs.lemmas.List.{length-map}
 use Rattle.std.proofs.lemmas.Result.{err_from_is_err_and}
@@ -7,15 +7,10 @@ use Rattle.std.specs.Prelude.{IfSome, is_none}
 use Rattle.qm_model.proofs.Results.{told-one, told-any, told-both, told-then}
 use Rattle.qm_operations.specs.Views.{operation_view}
 use Rattle.qm_store.proofs.Stores.{both}
-use Rattle.qm_base.specs.declared.error.Corrupt.TheVariants.{ItemDoesNotDecode}
-use Rattle.qm_base.specs.declared.error.Error.{Error}
-use Rattle.qm_base.specs.declared.error.Error.TheVariants as errors
-use Rattle.qm_store.specs.declared.Store as store
-use Rattle.qm_store.specs.Log.{Log}
-use Rattle.qm_build.specs.Reads.{operation_at, IsReadFault}
+use Rattle.qm_build.specs.Reads.{operation_at}
 use Rattle.qm_build.specs.Building.{ArePlaced, between}
 use Rattle.qm_build.specs.Built.{NoneBelow, IsBuilt}
-use Rattle.qm_build.proofs.Reading.{read-none, read-then, fault-then, error-then, operations-then, told}
+use Rattle.qm_build.proofs.Reading.{decodes-anyway, read-none, read-then, fault-then, error-then, operations-then, told}
 use Rattle.qm_build.proofs.Within.{within-none}
 use Rattle.qm_build.proofs.Whole.{placed-none, built}
 use Rattle.qm_build.proofs.Decoding.{each, over, one-more, all-decoded, one-undecoded}
@@ -63,108 +58,76 @@ loop-at-preserved g c =
           (λ s all here i low less. one-more form s c.loop-at.at i (all i low) (ap is_none here) (omega (arith, less)));
     }
 
-pub returns-clause-built : goal.returns-clause-built
-returns-clause-built g c = λ ops has none.
-    let index_key = g.I.Unordered.index_key in
-    let entries = g.I.Unordered.entries c.loop-at.index in
-    let live = c.loop-at.snapshot.live in
-    let floor = c.get-floor.result in
-    let size = c.bounds-size.result.1 in
-    let low : floor < size = omega (arith, c.get-floor.ensures, c.bounds-size.ensures.size, c.requires.below) in
-    let all : size ≡ length ops = c.bounds-size.ensures.size ∙ has.logged.size ∙ length-map ops (spelling g.U.Update.form) in
-    let last : c.loop-at.at ≡ size = omega (arith, c.loop-at.auto.at-end, c.loop-at-test.false) in
-    told-one _ _ (g.C.Store.told c.args.log.now.store) (c.loop-at.invariant.placed ops has) (λ placed.
-    subst (λ bits. IsBuilt index_key entries live bits c.args.floor ops) (sym c.set_bit.ensures)
-    (subst (λ f. IsBuilt index_key entries live (set c.loop-at.snapshot.activity (size - floor - 1) true) f ops) c.get-floor.ensures
-    (built index_key entries live c.loop-at.snapshot.activity floor size ops low all (subst (λ f. NoneBelow f ops) (sym c.get-floor.ensures) none)
-    (subst (λ to. ArePlaced index_key entries live c.loop-at.snapshot.activity floor (between floor to ops)) last placed))))
+pub returns : goal.returns
+returns g c = record {
+  built = λ ops has none.
+      let index_key = g.I.Unordered.index_key in
+      let entries = g.I.Unordered.entries c.loop-at.index in
+      let live = c.loop-at.snapshot.live in
+      let floor = c.get-floor.result in
+      let size = c.bounds-size.result.1 in
+      let low : floor < size = omega (arith, c.get-floor.ensures, c.bounds-size.ensures.size, c.requires.below) in
+      let all : size ≡ length ops = c.bounds-size.ensures.size ∙ has.logged.size ∙ length-map ops (spelling g.U.Update.form) in
+      let last : c.loop-at.at ≡ size = omega (arith, c.loop-at.auto.at-end, c.loop-at-test.false) in
+      told-one _ _ (g.C.Store.told c.args.log.now.store) (c.loop-at.invariant.placed ops has) (λ placed.
+      subst (λ bits. IsBuilt index_key entries live bits c.args.floor ops) (sym c.set_bit.ensures)
+      (subst (λ f. IsBuilt index_key entries live (set c.loop-at.snapshot.activity (size - floor - 1) true) f ops) c.get-floor.ensures
+      (built index_key entries live c.loop-at.snapshot.activity floor size ops low all (subst (λ f. NoneBelow f ops) (sym c.get-floor.ensures) none)
+      (subst (λ to. ArePlaced index_key entries live c.loop-at.snapshot.activity floor (between floor to ops)) last placed))));
+  decodes = λ ops has. told-any _ (g.C.Store.told c.args.log.now.store) tt;
+  long =
+      let same : length c.set_bit.new.self ≡ length c.loop-at.snapshot.activity = ap length c.set_bit.ensures ∙ simp length-set in
+      (omega (arith, same, c.loop-at.invariant.here, c.loop-at.auto.at-end, c.loop-at-test.false, c.get-floor.ensures, c.bounds-size.ensures.size, c.requires.below), omega (arith, same, c.loop-at.invariant.counted));
+  decoded =
+      let floor = c.get-floor.result in
+      let last : c.loop-at.at ≡ c.args.log.now.tree.leaves = omega (arith, c.loop-at.auto.at-end, c.loop-at-test.false, c.bounds-size.ensures.size) in
+      both (g.C.Store.told c.args.log.now.store) c.loop-at.invariant.decode (g.met.C.Store.told_start c.args.log.now.store) (λ s all start.
+      let low : s.start ≤ c.args.floor = omega (arith, start, c.bounds-size.ensures.first, c.requires.kept) in
+      all-decoded g.U.Update.form s c.args.floor c.args.log.now.tree.leaves low (λ i more less. all i (omega (arith, more, c.get-floor.ensures)) (omega (arith, less, last))));
+  corrupt = each (g.C.Store.told c.args.log.now.store) (λ s. tt);
+  read = c.loop-at.invariant.read;
+  error = tt;
+}
 
-pub returns-clause-decoded : goal.returns-clause-decoded
-returns-clause-decoded g c =
-    let floor = c.get-floor.result in
-    let last : c.loop-at.at ≡ c.args.log.now.tree.leaves = omega (arith, c.loop-at.auto.at-end, c.loop-at-test.false, c.bounds-size.ensures.size) in
-    both (g.C.Store.told c.args.log.now.store) c.loop-at.invariant.decode (g.met.C.Store.told_start c.args.log.now.store) (λ s all start.
-    let low : s.start ≤ c.args.floor = omega (arith, start, c.bounds-size.ensures.first, c.requires.kept) in
-    all-decoded g.U.Update.form s c.args.floor c.args.log.now.tree.leaves low (λ i more less. all i (omega (arith, more, c.get-floor.ensures)) (omega (arith, less, last))))
-
-pub returns-in_err-operation-clause-corrupt : goal.returns-in_err-operation-clause-corrupt
-returns-in_err-operation-clause-corrupt g c =
+pub returns-in_err-operation : goal.returns-in_err-operation
+returns-in_err-operation g c =
     let exit = err_from_is_err_and c.from_residual-in_err-operation.result c.from_residual-in_err-operation.ensures.1 in
-    let form = g.U.Update.form in
-    let at = c.loop-at.at in
-    rw (exit.1, exit.2) (over (g.C.Store.told c.args.log.now.store) (g.C.Store.told c.loop-at.log.store) c.loop-at.invariant.read.kept.told c.in_err-operation.ensures.corrupt (g.met.C.Store.told_start c.args.log.now.store) (λ s corrupt start is.
-    let low : s.start ≤ c.args.floor = omega (arith, start, c.bounds-size.ensures.first, c.requires.kept) in
-    let more : c.args.floor ≤ at = omega (arith, c.loop-at.invariant.here, c.get-floor.ensures) in
-    let less : at < c.args.log.now.tree.leaves = omega (arith, c.loop-at-test.true, c.bounds-size.ensures.size) in
-    one-undecoded form s c.args.floor c.args.log.now.tree.leaves at low more less (corrupt is)))
-
--- a read's fault is no item that spells no operation
-decodes-anyway : {C D : Type 0} (members : store.Ghosts C) (a b : Log C D) (e : Error) → IsReadFault members a b e → e ≢ errors.DataCorrupted ItemDoesNotDecode
-decodes-anyway members a b e (inl memory) = λ is. cc
-decodes-anyway members a b e (inr (fault, rose)) = λ is. cc
-
-pub read_operation-requires : goal.read_operation-requires
-read_operation-requires g c =
-    let tree = c.loop-at.invariant.read.tree in
     record {
-      kept = rw tree (omega (arith, c.requires.kept, c.get-floor.ensures, c.loop-at.invariant.here));
-      below = rw tree (omega (arith, c.loop-at-test.true, c.bounds-size.ensures.size));
+      built = λ ops has none.
+          told-any _ (g.C.Store.told c.args.log.now.store) (rw exit.1 tt);
+      decodes = λ ops has.
+          let before = c.loop-at.invariant.read in
+          rw (exit.1, exit.2) (told _ _ _ before.kept.told (c.in_err-operation.ensures.decodes ops (operations-then g.C.Store g.F.Family.shape g.H.Digest.Digest.bytes g.H.Hasher.hash g.U.Update.form c.args.log.now c.loop-at.log ops before has)));
+      long = rw exit.1 tt;
+      decoded = each (g.C.Store.told c.args.log.now.store) (λ s. rw exit.1 tt);
+      corrupt =
+          let form = g.U.Update.form in
+          let at = c.loop-at.at in
+          rw (exit.1, exit.2) (over (g.C.Store.told c.args.log.now.store) (g.C.Store.told c.loop-at.log.store) c.loop-at.invariant.read.kept.told c.in_err-operation.ensures.corrupt (g.met.C.Store.told_start c.args.log.now.store) (λ s corrupt start is.
+          let low : s.start ≤ c.args.floor = omega (arith, start, c.bounds-size.ensures.first, c.requires.kept) in
+          let more : c.args.floor ≤ at = omega (arith, c.loop-at.invariant.here, c.get-floor.ensures) in
+          let less : at < c.args.log.now.tree.leaves = omega (arith, c.loop-at-test.true, c.bounds-size.ensures.size) in
+          one-undecoded form s c.args.floor c.args.log.now.tree.leaves at low more less (corrupt is)));
+      read = read-then g.C.Store g.F.Family.shape g.H.Digest.Digest.bytes g.H.Hasher.hash c.args.log.now c.loop-at.log c.read_operation.new.log c.loop-at.invariant.read c.read_operation.ensures.read;
+      error = rw (exit.1, exit.2) (error-then g.C.Store g.F.Family.shape g.H.Digest.Digest.bytes g.H.Hasher.hash c.args.log.now c.loop-at.log c.read_operation.new.log _ c.loop-at.invariant.read c.in_err-operation.ensures.error);
     }
-
-pub put-requires-clause-kept : goal.put-requires-clause-kept
-put-requires-clause-kept g c =
-    let tree = c.read_operation.ensures.read.tree ∙ c.loop-at.invariant.read.tree in
-    rw tree (omega (arith, c.requires.kept, c.get-floor.ensures))
-
-pub put-requires-clause-below : goal.put-requires-clause-below
-put-requires-clause-below g c =
-    let tree = c.read_operation.ensures.read.tree ∙ c.loop-at.invariant.read.tree in
-    rw tree (omega (arith, c.loop-at-test.true, c.bounds-size.ensures.size))
-
-pub put-requires-clause-few : goal.put-requires-clause-few
-put-requires-clause-few g c = omega (arith, c.loop-at-test.true, c.bounds-size.ensures.limit)
-
-pub put-requires-clause-here : goal.put-requires-clause-here
-put-requires-clause-here g c = c.loop-at.invariant.here
-
-pub put-requires-clause-within : goal.put-requires-clause-within
-put-requires-clause-within g c = c.loop-at.invariant.within
-
-pub put-requires-clause-counted : goal.put-requires-clause-counted
-put-requires-clause-counted g c = c.loop-at.invariant.counted
 
 pub set_bit-requires : goal.set_bit-requires
 set_bit-requires g c = omega (arith, c.loop-at.invariant.here, c.loop-at.auto.at-end, c.loop-at-test.false, c.get-floor.ensures, c.bounds-size.ensures.size, c.requires.below)
 
-pub returns-in_err-operation-clause-built : goal.returns-in_err-operation-clause-built
-returns-in_err-operation-clause-built g c = λ ops has none.
-    let exit = err_from_is_err_and c.from_residual-in_err-operation.result c.from_residual-in_err-operation.ensures.1 in
-    told-any _ (g.C.Store.told c.args.log.now.store) (rw exit.1 tt)
-
-pub returns-in_err-operation-clause-decodes : goal.returns-in_err-operation-clause-decodes
-returns-in_err-operation-clause-decodes g c = λ ops has.
-    let exit = err_from_is_err_and c.from_residual-in_err-operation.result c.from_residual-in_err-operation.ensures.1 in
-    let before = c.loop-at.invariant.read in
-    rw (exit.1, exit.2) (told _ _ _ before.kept.told (c.in_err-operation.ensures.decodes ops (operations-then g.C.Store g.F.Family.shape g.H.Digest.Digest.bytes g.H.Hasher.hash g.U.Update.form c.args.log.now c.loop-at.log ops before has)))
-
-pub returns-in_err-operation-clause-long : goal.returns-in_err-operation-clause-long
-returns-in_err-operation-clause-long g c =
-    let exit = err_from_is_err_and c.from_residual-in_err-operation.result c.from_residual-in_err-operation.ensures.1 in
-    rw exit.1 tt
-
-pub returns-in_err-operation-clause-decoded : goal.returns-in_err-operation-clause-decoded
-returns-in_err-operation-clause-decoded g c =
-    let exit = err_from_is_err_and c.from_residual-in_err-operation.result c.from_residual-in_err-operation.ensures.1 in
-    each (g.C.Store.told c.args.log.now.store) (λ s. rw exit.1 tt)
-
-pub returns-in_err-operation-clause-read : goal.returns-in_err-operation-clause-read
-returns-in_err-operation-clause-read g c =
-    read-then g.C.Store g.F.Family.shape g.H.Digest.Digest.bytes g.H.Hasher.hash c.args.log.now c.loop-at.log c.read_operation.new.log c.loop-at.invariant.read c.read_operation.ensures.read
-
-pub returns-in_err-operation-clause-error : goal.returns-in_err-operation-clause-error
-returns-in_err-operation-clause-error g c =
-    let exit = err_from_is_err_and c.from_residual-in_err-operation.result c.from_residual-in_err-operation.ensures.1 in
-    rw (exit.1, exit.2) (error-then g.C.Store g.F.Family.shape g.H.Digest.Digest.bytes g.H.Hasher.hash c.args.log.now c.loop-at.log c.read_operation.new.log _ c.loop-at.invariant.read c.in_err-operation.ensures.error)
+pub returns-in_err-cache : goal.returns-in_err-cache
+returns-in_err-cache g c =
+    let told = g.C.Store.told c.args.log.now.store in
+    let exit = err_from_is_err_and c.from_residual.result c.from_residual.ensures.1 in
+    rw (exit.1, exit.2) (record {
+      built = λ ops has none. told-any _ told tt;
+      decodes = λ ops has. told-any _ told (λ is. cc);
+      long = tt;
+      decoded = each told (λ s. tt);
+      corrupt = each told (λ s. λ is. absurd cc);
+      read = read-none g.C.Store g.F.Family.shape g.H.Digest.Digest.bytes g.H.Hasher.hash c.args.log.now;
+      error = inl (inl refl);
+    })
 
 pub returns-in_err-put : goal.returns-in_err-put
 returns-in_err-put g c =
@@ -185,20 +148,3 @@ returns-in_err-put g c =
       read = read-then members shape bytes hash c.args.log.now c.read_operation.new.log c.put.new.log read c.put.ensures.read;
       error = rw (exit.1, exit.2) (inl (fault-then members shape bytes hash c.args.log.now c.read_operation.new.log c.put.new.log _ read c.in_err-put.ensures.error));
     }
-
-pub returns-clause-long : goal.returns-clause-long
-returns-clause-long g c =
-    let same : length c.set_bit.new.self ≡ length c.loop-at.snapshot.activity = ap length c.set_bit.ensures ∙ simp length-set in
-    (omega (arith, same, c.loop-at.invariant.here, c.loop-at.auto.at-end, c.loop-at-test.false, c.get-floor.ensures, c.bounds-size.ensures.size, c.requires.below), omega (arith, same, c.loop-at.invariant.counted))
-
-pub returns-clause-decodes : goal.returns-clause-decodes
-returns-clause-decodes g c = λ ops has. told-any _ (g.C.Store.told c.args.log.now.store) tt
-
-pub returns-clause-corrupt : goal.returns-clause-corrupt
-returns-clause-corrupt g c = each (g.C.Store.told c.args.log.now.store) (λ s. tt)
-
-pub returns-clause-read : goal.returns-clause-read
-returns-clause-read g c = c.loop-at.invariant.read
-
-pub returns-clause-error : goal.returns-clause-error
-returns-clause-error g c = tt

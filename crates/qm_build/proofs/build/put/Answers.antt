@@ -1,7 +1,6 @@
-use Rattle.std.proofs.Common.{◌≡◌, ◌+◌, ◌<◌, ◌≤◌, ◌++◌, ◌∷◌, [], ◌∙◌, ap, ap₂, sym, subst, length, Some, arith, ⊎_elim}
+use Rattle.std.proofs.Common.{◌≡◌, ◌+◌, ◌<◌, ◌≤◌, ◌++◌, ◌∷◌, [], ◌∙◌, ap, ap₂, sym, subst, length, Some, arith, ⊎_elim, inl, refl}
 use Rattle.std.specs.Prelude.{All, IfSome, option_map}
 use Rattle.std.specs.Bool.{then_some}
-use Rattle.std.proofs.lemmas.List.Elements.{All-weaker}
 use Rattle.std.proofs.lemmas.Result.{err_from_is_err_and}
 use Rattle.qm_model.proofs.Results.{told-one, told-any}
 use Rattle.qm_operations.specs.Views.{operation_view}
@@ -16,61 +15,57 @@ use Rattle.qm_build.proofs.Putting.{stood, placed-more, placed-commit}
 use Rattle.qm_build.proofs.Within.{within-wider, found-within, found-contained, found-offset, left-within}
 use Rattle.qm_build.proofs.build.put.Goals as goal
 
-pub returns-in_default-clause-placed : goal.returns-in_default-clause-placed
-returns-in_default-clause-placed g c = λ ops has here placed keys.
-    let op = operation_view g.U.Update.view g.U.Key.ByteString.bytes g.U.Value.ByteString.bytes c.args.operation in
-    let low : c.args.floor ≤ c.args.at = omega (arith, c.requires.here) in
-    told-any _ (g.C.Store.told c.args.log.now.store)
-    (placed-commit g.I.Unordered.index_key (g.I.Unordered.entries c.args.index.now) c.args.snapshot.now.live c.args.snapshot.now.activity c.args.floor c.args.at ops op low here placed
-    c.note.new.snapshot.live c.note.new.snapshot.activity (sym c.in_default.ensures) c.in_ok-note.ensures.live c.in_ok-note.ensures.active)
+pub returns-in_default : goal.returns-in_default
+returns-in_default g c = record {
+  placed = λ ops has here placed keys.
+      let op = operation_view g.U.Update.view g.U.Key.ByteString.bytes g.U.Value.ByteString.bytes c.args.operation in
+      let low : c.args.floor ≤ c.args.at = omega (arith, c.requires.here) in
+      told-any _ (g.C.Store.told c.args.log.now.store)
+      (placed-commit g.I.Unordered.index_key (g.I.Unordered.entries c.args.index.now) c.args.snapshot.now.live c.args.snapshot.now.activity c.args.floor c.args.at ops op low here placed
+      c.note.new.snapshot.live c.note.new.snapshot.activity (sym c.in_default.ensures) c.in_ok-note.ensures.live c.in_ok-note.ensures.active);
+  keys = λ ops here keys. keys;
+  long = c.in_ok-note.ensures.long;
+  within = within-wider (g.I.Unordered.entries c.args.index.now) c.args.floor c.args.at (c.args.at + 1) (omega arith) c.requires.within;
+  counted = c.in_ok-note.ensures.counted;
+  read = read-none g.C.Store g.F.Family.shape g.H.Digest.Digest.bytes g.H.Hasher.hash c.args.log.now;
+  error = tt;
+}
 
-pub note-requires-2-clause-within : goal.note-requires-2-clause-within
-note-requires-2-clause-within g c =
-    let bucket = bucket_at (g.I.Unordered.entries c.args.index.now) (g.I.Unordered.index_key c.as_bytes-bytes.result.now) in
-    found-within bucket (λ n. (c.args.floor ≤ n) × (n < c.args.floor + length c.args.snapshot.now.activity)) c.in_ok-found.found
-    (subst (λ to. All (λ n. (c.args.floor ≤ n) × (n < to)) bucket) c.requires.here (c.requires.within (g.I.Unordered.index_key c.as_bytes-bytes.result.now))) c.in_ok-found.ensures.place
-
-pub returns-clause-within : goal.returns-clause-within
-returns-clause-within g c =
-    let op = operation_view g.U.Update.view g.U.Key.ByteString.bytes g.U.Value.ByteString.bytes c.args.operation in
-    let low : c.args.floor ≤ c.args.at = omega (arith, c.requires.here) in
-    let here : c.then_some.result ≡ left_at op c.args.at = c.then_some.ensures ∙ ap₂ (λ t n. then_some t n) c.is_update-is_update.ensures c.new.ensures in
-    c.in_ok-move_key.ensures.within c.args.floor (c.args.at + 1)
-    (within-wider (g.I.Unordered.entries c.args.index.now) c.args.floor c.args.at (c.args.at + 1) (omega arith) c.requires.within)
-    (subst (λ o. IfSome o (λ n. (c.args.floor ≤ n) × (n < c.args.at + 1))) (sym here) (left-within op c.args.floor c.args.at low))
-
-pub returns-clause-placed : goal.returns-clause-placed
-returns-clause-placed g c = λ ops has here placed keys.
-    let index_key = g.I.Unordered.index_key in
-    let old = g.I.Unordered.entries c.args.index.now in
-    let new = g.I.Unordered.entries c.move_key.new.index in
-    let op = operation_view g.U.Update.view g.U.Key.ByteString.bytes g.U.Value.ByteString.bytes c.args.operation in
-    let key = c.as_bytes-bytes.result.now in
-    let found = option_map (λ (f : Found). f.location) c.in_ok-found.found in
-    let low : c.args.floor ≤ c.args.at = omega (arith, c.requires.here) in
-    let left : c.then_some.result ≡ left_at op c.args.at = c.then_some.ensures ∙ ap₂ (λ t n. then_some t n) c.is_update-is_update.ensures c.new.ensures in
-    told-one _ _ (g.C.Store.told c.args.log.now.store) (c.in_ok-found.ensures.key ops has keys) (λ is.
-    let place = stood index_key old c.args.snapshot.now.live c.args.snapshot.now.activity c.args.floor c.args.at ops op low here placed key found (found-contained (bucket_at old (index_key key)) c.in_ok-found.found c.in_ok-found.ensures.place) is in
-    placed-more index_key old c.args.snapshot.now.live c.args.snapshot.now.activity c.args.floor c.args.at ops op low here placed
-    new c.note-2.new.snapshot.live c.note-2.new.snapshot.activity key found
-    (sym c.in-Some.ensures ∙ ap Some (sym c.as_bytes-bytes.ensures.value)) place
-    (λ ps apart has place. subst (λ o. HasPlaces index_key new (moved ps key o)) left (c.in_ok-move_key.ensures.moved ps apart has place))
-    (c.in_ok-note-2.ensures.live ∙ ap (counted_after c.args.snapshot.now.live found) c.is_update-is_update.ensures)
-    (c.in_ok-note-2.ensures.active ∙ ap₂ (λ o t. cleared c.args.snapshot.now.activity o ++ t ∷ []) (found-offset c.args.floor c.in_ok-found.found) c.is_update-is_update.ensures))
-
-pub returns-clause-keys : goal.returns-clause-keys
-returns-clause-keys g c = λ ops here keys at key holds. ⊎_elim
-    (λ own. own-key g.U.Key.ByteString.bytes ops (operation_view g.U.Update.view g.U.Key.ByteString.bytes g.U.Value.ByteString.bytes c.args.operation) c.args.at at c.in-Some.key key here (sym c.is_update-is_update.ensures ∙ own.0) (sym c.in-Some.ensures) own.1.0 own.1.1)
-    (λ old. keys at key old)
-    (c.keep.ensures at key holds)
-
-pub find-requires : goal.find-requires
-find-requires g c =
-    let tree = c.args.log.now.tree in
-    All-weaker (λ n. (c.args.floor ≤ n) × (n < c.args.at)) (λ n. (tree.start ≤ n) × (n < tree.leaves))
-    (λ n h. let low = h.0 in let high = h.1 in (omega (arith, low, c.requires.kept), omega (arith, high, c.requires.below)))
-    (bucket_at (g.I.Unordered.entries c.args.index.now) (g.I.Unordered.index_key c.as_bytes-bytes.result.now))
-    (c.requires.within (g.I.Unordered.index_key c.as_bytes-bytes.result.now))
+pub returns : goal.returns
+returns g c = record {
+  placed = λ ops has here placed keys.
+      let index_key = g.I.Unordered.index_key in
+      let old = g.I.Unordered.entries c.args.index.now in
+      let new = g.I.Unordered.entries c.move_key.new.index in
+      let op = operation_view g.U.Update.view g.U.Key.ByteString.bytes g.U.Value.ByteString.bytes c.args.operation in
+      let key = c.as_bytes-bytes.result.now in
+      let found = option_map (λ (f : Found). f.location) c.in_ok-found.found in
+      let low : c.args.floor ≤ c.args.at = omega (arith, c.requires.here) in
+      let left : c.then_some.result ≡ left_at op c.args.at = c.then_some.ensures ∙ ap₂ (λ t n. then_some t n) c.is_update-is_update.ensures c.new.ensures in
+      told-one _ _ (g.C.Store.told c.args.log.now.store) (c.in_ok-found.ensures.key ops has keys) (λ is.
+      let place = stood index_key old c.args.snapshot.now.live c.args.snapshot.now.activity c.args.floor c.args.at ops op low here placed key found (found-contained (bucket_at old (index_key key)) c.in_ok-found.found c.in_ok-found.ensures.place) is in
+      placed-more index_key old c.args.snapshot.now.live c.args.snapshot.now.activity c.args.floor c.args.at ops op low here placed
+      new c.note-2.new.snapshot.live c.note-2.new.snapshot.activity key found
+      (sym c.in-Some.ensures ∙ ap Some (sym c.as_bytes-bytes.ensures.value)) place
+      (λ ps apart has place. subst (λ o. HasPlaces index_key new (moved ps key o)) left (c.in_ok-move_key.ensures.moved ps apart has place))
+      (c.in_ok-note-2.ensures.live ∙ ap (counted_after c.args.snapshot.now.live found) c.is_update-is_update.ensures)
+      (c.in_ok-note-2.ensures.active ∙ ap₂ (λ o t. cleared c.args.snapshot.now.activity o ++ t ∷ []) (found-offset c.args.floor c.in_ok-found.found) c.is_update-is_update.ensures));
+  keys = λ ops here keys at key holds. ⊎_elim
+      (λ own. own-key g.U.Key.ByteString.bytes ops (operation_view g.U.Update.view g.U.Key.ByteString.bytes g.U.Value.ByteString.bytes c.args.operation) c.args.at at c.in-Some.key key here (sym c.is_update-is_update.ensures ∙ own.0) (sym c.in-Some.ensures) own.1.0 own.1.1)
+      (λ old. keys at key old)
+      (c.keep.ensures at key holds);
+  long = c.in_ok-note-2.ensures.long;
+  within =
+      let op = operation_view g.U.Update.view g.U.Key.ByteString.bytes g.U.Value.ByteString.bytes c.args.operation in
+      let low : c.args.floor ≤ c.args.at = omega (arith, c.requires.here) in
+      let here : c.then_some.result ≡ left_at op c.args.at = c.then_some.ensures ∙ ap₂ (λ t n. then_some t n) c.is_update-is_update.ensures c.new.ensures in
+      c.in_ok-move_key.ensures.within c.args.floor (c.args.at + 1)
+      (within-wider (g.I.Unordered.entries c.args.index.now) c.args.floor c.args.at (c.args.at + 1) (omega arith) c.requires.within)
+      (subst (λ o. IfSome o (λ n. (c.args.floor ≤ n) × (n < c.args.at + 1))) (sym here) (left-within op c.args.floor c.args.at low));
+  counted = c.in_ok-note-2.ensures.counted;
+  read = c.find.ensures.read;
+  error = tt;
+}
 
 pub move_key-requires : goal.move_key-requires
 move_key-requires g c = c.in_ok-found.ensures.place
@@ -82,29 +77,14 @@ note-requires g c = record {
   counted = c.requires.counted;
 }
 
-pub note-requires-2-clause-few : goal.note-requires-2-clause-few
-note-requires-2-clause-few g c = omega (arith, c.requires.here, c.requires.few)
-
-pub note-requires-2-clause-counted : goal.note-requires-2-clause-counted
-note-requires-2-clause-counted g c = c.requires.counted
-
-pub returns-in_default-clause-keys : goal.returns-in_default-clause-keys
-returns-in_default-clause-keys g c = λ ops here keys. keys
-
-pub returns-in_default-clause-long : goal.returns-in_default-clause-long
-returns-in_default-clause-long g c = c.in_ok-note.ensures.long
-
-pub returns-in_default-clause-within : goal.returns-in_default-clause-within
-returns-in_default-clause-within g c = within-wider (g.I.Unordered.entries c.args.index.now) c.args.floor c.args.at (c.args.at + 1) (omega arith) c.requires.within
-
-pub returns-in_default-clause-counted : goal.returns-in_default-clause-counted
-returns-in_default-clause-counted g c = c.in_ok-note.ensures.counted
-
-pub returns-in_default-clause-read : goal.returns-in_default-clause-read
-returns-in_default-clause-read g c = read-none g.C.Store g.F.Family.shape g.H.Digest.Digest.bytes g.H.Hasher.hash c.args.log.now
-
-pub returns-in_default-clause-error : goal.returns-in_default-clause-error
-returns-in_default-clause-error g c = tt
+pub note-requires-2 : goal.note-requires-2
+note-requires-2 g c = record {
+  within = let bucket = bucket_at (g.I.Unordered.entries c.args.index.now) (g.I.Unordered.index_key c.as_bytes-bytes.result.now) in
+      found-within bucket (λ n. (c.args.floor ≤ n) × (n < c.args.floor + length c.args.snapshot.now.activity)) c.in_ok-found.found
+      (subst (λ to. All (λ n. (c.args.floor ≤ n) × (n < to)) bucket) c.requires.here (c.requires.within (g.I.Unordered.index_key c.as_bytes-bytes.result.now))) c.in_ok-found.ensures.place;
+  few = omega (arith, c.requires.here, c.requires.few);
+  counted = c.requires.counted;
+}
 
 pub returns-in_err-found : goal.returns-in_err-found
 returns-in_err-found g c =
@@ -119,14 +99,41 @@ returns-in_err-found g c =
       error = rw (exit.1, exit.2) c.in_err-found.ensures.error;
     }
 
-pub returns-clause-long : goal.returns-clause-long
-returns-clause-long g c = c.in_ok-note-2.ensures.long
+pub returns-in_err-note : goal.returns-in_err-note
+returns-in_err-note g c =
+    let exit = err_from_is_err_and c.from_residual.result c.from_residual.ensures.1 in
+    record {
+      placed = λ ops has here placed keys. told-any _ (g.C.Store.told c.args.log.now.store) (rw exit.1 tt);
+      keys = λ ops here keys. rw exit.1 tt;
+      long = rw exit.1 tt;
+      within = rw exit.1 tt;
+      counted = rw exit.1 tt;
+      read = read-none g.C.Store g.F.Family.shape g.H.Digest.Digest.bytes g.H.Hasher.hash c.args.log.now;
+      error = rw (exit.1, exit.2) (inl refl);
+    }
 
-pub returns-clause-counted : goal.returns-clause-counted
-returns-clause-counted g c = c.in_ok-note-2.ensures.counted
+pub returns-in_err-move_key : goal.returns-in_err-move_key
+returns-in_err-move_key g c =
+    let exit = err_from_is_err_and c.from_residual-in_err-move_key.result c.from_residual-in_err-move_key.ensures.1 in
+    record {
+      placed = λ ops has here placed keys. told-any _ (g.C.Store.told c.args.log.now.store) (rw exit.1 tt);
+      keys = λ ops here keys. rw exit.1 tt;
+      long = rw exit.1 tt;
+      within = rw exit.1 tt;
+      counted = rw exit.1 tt;
+      read = c.find.ensures.read;
+      error = rw (exit.1, exit.2) (inl refl);
+    }
 
-pub returns-clause-read : goal.returns-clause-read
-returns-clause-read g c = c.find.ensures.read
-
-pub returns-clause-error : goal.returns-clause-error
-returns-clause-error g c = tt
+pub returns-in_err-note-2 : goal.returns-in_err-note-2
+returns-in_err-note-2 g c =
+    let exit = err_from_is_err_and c.from_residual-in_err-note-2.result c.from_residual-in_err-note-2.ensures.1 in
+    record {
+      placed = λ ops has here placed keys. told-any _ (g.C.Store.told c.args.log.now.store) (rw exit.1 tt);
+      keys = λ ops here keys. rw exit.1 tt;
+      long = rw exit.1 tt;
+      within = rw exit.1 tt;
+      counted = rw exit.1 tt;
+      read = c.find.ensures.read;
+      error = rw (exit.1, exit.2) (inl refl);
+    }

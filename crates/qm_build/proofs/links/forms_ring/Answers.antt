@@ -1,4 +1,4 @@
-use Rattle.std.proofs.Common.{◌≡◌, ◌<◌, ◌≤◌, ap, sym, subst, arith, Some, ℕ, Vec, Global}
+use Rattle.std.proofs.Common.{◌≡◌, ◌<◌, ◌≤◌, ap, sym, subst, arith, Some, ℕ, Vec, Global, inl, refl}
 use Rattle.std.proofs.lemmas.Result.{err_from_is_err_and}
 use Rattle.std.specs.Prelude.{IfSome, filter_map}
 use Rattle.qm_operations.specs.Views.{operation_view}
@@ -43,50 +43,41 @@ loop-at-preserved g c =
           (c.in_ok-put.ensures (filter_map (λ item. item) (items_within form s c.args.from c.loop-at.at)) are));
     }
 
-pub returns-clause-ring : goal.returns-clause-ring
-returns-clause-ring g c =
-    let last : c.loop-at.at ≡ c.args.log.now.tree.leaves = omega (arith, c.loop-at.auto.at-end, c.loop-at-test.false, c.bounds-size.ensures.size) in
-    then-told (g.C.Store.told c.args.log.now.store) c.loop-at.invariant.links (λ s _ are.
-    subst (λ to. c.is_closed.result ≡ is_ring (filter_map (λ item. item) (items_within g.U.Update.form s c.args.from to))) last
-    (c.is_closed.ensures (filter_map (λ item. item) (items_within g.U.Update.form s c.args.from c.loop-at.at)) are))
+pub returns : goal.returns
+returns g c = record {
+  ring =
+      let last : c.loop-at.at ≡ c.args.log.now.tree.leaves = omega (arith, c.loop-at.auto.at-end, c.loop-at-test.false, c.bounds-size.ensures.size) in
+      then-told (g.C.Store.told c.args.log.now.store) c.loop-at.invariant.links (λ s _ are.
+      subst (λ to. c.is_closed.result ≡ is_ring (filter_map (λ item. item) (items_within g.U.Update.form s c.args.from to))) last
+      (c.is_closed.ensures (filter_map (λ item. item) (items_within g.U.Update.form s c.args.from c.loop-at.at)) are));
+  corrupt = each (g.C.Store.told c.args.log.now.store) (λ s. tt);
+  read = c.loop-at.invariant.read;
+  error = tt;
+}
 
-pub returns-in_err-operation-clause-corrupt : goal.returns-in_err-operation-clause-corrupt
-returns-in_err-operation-clause-corrupt g c =
+pub returns-in_err-operation : goal.returns-in_err-operation
+returns-in_err-operation g c =
     let exit = err_from_is_err_and c.from_residual.result c.from_residual.ensures.1 in
-    let form = g.U.Update.form in
-    let at = c.loop-at.at in
-    rw (exit.1, exit.2) (over (g.C.Store.told c.args.log.now.store) (g.C.Store.told c.loop-at.log.store) c.loop-at.invariant.read.kept.told c.in_err-operation.ensures.corrupt (g.met.C.Store.told_start c.args.log.now.store) (λ s corrupt start is.
-    let low : s.start ≤ c.args.from = omega (arith, start, c.bounds-size.ensures.first, c.requires.kept) in
-    let less : at < c.args.log.now.tree.leaves = omega (arith, c.loop-at-test.true, c.bounds-size.ensures.size) in
-    one-undecoded form s c.args.from c.args.log.now.tree.leaves at low c.loop-at.invariant.low less (corrupt is)))
-
-pub read_operation-requires : goal.read_operation-requires
-read_operation-requires g c =
-    let tree = c.loop-at.invariant.read.tree in
     record {
-      kept = rw tree (omega (arith, c.requires.kept, c.loop-at.invariant.low));
-      below = rw tree (omega (arith, c.loop-at-test.true, c.bounds-size.ensures.size));
+      ring = rw exit.1 tt;
+      corrupt =
+          let form = g.U.Update.form in
+          let at = c.loop-at.at in
+          rw (exit.1, exit.2) (over (g.C.Store.told c.args.log.now.store) (g.C.Store.told c.loop-at.log.store) c.loop-at.invariant.read.kept.told c.in_err-operation.ensures.corrupt (g.met.C.Store.told_start c.args.log.now.store) (λ s corrupt start is.
+          let low : s.start ≤ c.args.from = omega (arith, start, c.bounds-size.ensures.first, c.requires.kept) in
+          let less : at < c.args.log.now.tree.leaves = omega (arith, c.loop-at-test.true, c.bounds-size.ensures.size) in
+          one-undecoded form s c.args.from c.args.log.now.tree.leaves at low c.loop-at.invariant.low less (corrupt is)));
+      read = read-then g.C.Store g.F.Family.shape g.H.Digest.Digest.bytes g.H.Hasher.hash c.args.log.now c.loop-at.log c.read_operation.new.log c.loop-at.invariant.read c.read_operation.ensures.read;
+      error = rw (exit.1, exit.2) (error-then g.C.Store g.F.Family.shape g.H.Digest.Digest.bytes g.H.Hasher.hash c.args.log.now c.loop-at.log c.read_operation.new.log _ c.loop-at.invariant.read c.in_err-operation.ensures.error);
     }
 
-pub returns-in_err-operation-clause-ring : goal.returns-in_err-operation-clause-ring
-returns-in_err-operation-clause-ring g c =
-    let exit = err_from_is_err_and c.from_residual.result c.from_residual.ensures.1 in
-    rw exit.1 tt
-
-pub returns-in_err-operation-clause-read : goal.returns-in_err-operation-clause-read
-returns-in_err-operation-clause-read g c =
-    read-then g.C.Store g.F.Family.shape g.H.Digest.Digest.bytes g.H.Hasher.hash c.args.log.now c.loop-at.log c.read_operation.new.log c.loop-at.invariant.read c.read_operation.ensures.read
-
-pub returns-in_err-operation-clause-error : goal.returns-in_err-operation-clause-error
-returns-in_err-operation-clause-error g c =
-    let exit = err_from_is_err_and c.from_residual.result c.from_residual.ensures.1 in
-    rw (exit.1, exit.2) (error-then g.C.Store g.F.Family.shape g.H.Digest.Digest.bytes g.H.Hasher.hash c.args.log.now c.loop-at.log c.read_operation.new.log _ c.loop-at.invariant.read c.in_err-operation.ensures.error)
-
-pub returns-clause-corrupt : goal.returns-clause-corrupt
-returns-clause-corrupt g c = each (g.C.Store.told c.args.log.now.store) (λ s. tt)
-
-pub returns-clause-read : goal.returns-clause-read
-returns-clause-read g c = c.loop-at.invariant.read
-
-pub returns-clause-error : goal.returns-clause-error
-returns-clause-error g c = tt
+pub returns-in_err-put : goal.returns-in_err-put
+returns-in_err-put g c =
+    let told = g.C.Store.told c.args.log.now.store in
+    let exit = err_from_is_err_and c.from_residual-in_err-put.result c.from_residual-in_err-put.ensures.1 in
+    rw (exit.1, exit.2) (record {
+      ring = tt;
+      corrupt = each told (λ s is. absurd cc);
+      read = read-then g.C.Store g.F.Family.shape g.H.Digest.Digest.bytes g.H.Hasher.hash c.args.log.now c.loop-at.log c.read_operation.new.log c.loop-at.invariant.read c.read_operation.ensures.read;
+      error = inl (inl refl);
+    })

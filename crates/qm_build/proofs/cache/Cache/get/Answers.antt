@@ -14,3 +14,13 @@ key_in-requires g c =
 
 pub returns : goal.returns
 returns g c = subst (λ slots. IfSome c.key_in.result (λ key. Holds slots c.args.location key.now)) (c.deref.ensures.value ∙ c.self.view_is) c.key_in.ensures
+
+pub overflow_mul-first : goal.overflow_mul-first
+overflow_mul-first g c =
+    let ends = set-ends c.set_of.result c.self.inside.sets c.self.inside.ways c.set_of.ensures.below in
+    omega (arith, ends, c.self.invariant.long, c.self.inside.slots.ok.0)
+
+pub overflow_add-first : goal.overflow_add-first
+overflow_add-first g c =
+    let ends = set-ends c.set_of.result c.self.inside.sets c.self.inside.ways c.set_of.ensures.below in
+    omega (arith, ends, c.self.invariant.long, c.self.inside.slots.ok.0)

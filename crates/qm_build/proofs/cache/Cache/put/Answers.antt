@@ -33,3 +33,13 @@ pub clear_in-requires : goal.clear_in-requires
 clear_in-requires g c =
     let ends = set-ends c.set_of.result c.self.inside.sets c.self.inside.ways c.set_of.ensures.below in
     record { order = omega arith; within = omega (arith, ends, c.self.invariant.long) }
+
+pub overflow_mul-first : goal.overflow_mul-first
+overflow_mul-first g c =
+    let ends = set-ends c.set_of.result c.self.inside.sets c.self.inside.ways c.set_of.ensures.below in
+    omega (arith, ends, c.self.invariant.long, c.self.inside.slots.ok.0)
+
+pub overflow_add-end : goal.overflow_add-end
+overflow_add-end g c =
+    let ends = set-ends c.set_of.result c.self.inside.sets c.self.inside.ways c.set_of.ensures.below in
+    omega (arith, ends, c.self.invariant.long, c.self.inside.slots.ok.0)

@@ -19,3 +19,13 @@ clear_in-requires g c =
 pub invariant_of-self : goal.invariant_of-self
 invariant_of-self g c =
     cleared-slots c.self.inside.ways c.self.inside.sets c.args.location c.set_of.result c.self.inside.slots.items c.clear_in.new.slots.items c.self.invariant c.set_of.ensures.value c.clear_in.ensures.long c.clear_in.ensures.kept c.clear_in.ensures.clear
+
+pub overflow_mul-first : goal.overflow_mul-first
+overflow_mul-first g c =
+    let ends = set-ends c.set_of.result c.self.inside.sets c.self.inside.ways c.set_of.ensures.below in
+    omega (arith, ends, c.self.invariant.long, c.self.inside.slots.ok.0)
+
+pub overflow_add-end : goal.overflow_add-end
+overflow_add-end g c =
+    let ends = set-ends c.set_of.result c.self.inside.sets c.self.inside.ways c.set_of.ensures.below in
+    omega (arith, ends, c.self.invariant.long, c.self.inside.slots.ok.0)
