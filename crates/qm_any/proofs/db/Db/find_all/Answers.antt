@@ -16,11 +16,11 @@ returns-in_err-found g c =
       keys = IfOk-from_err c.from_residual.result _ c.from_residual.ensures.0;
       reads = λ list base is from. IfOk-from_err c.from_residual.result _ c.from_residual.ensures.0;
       error =
-        rw (exit.1, exit.2) (left-error g.C.Store (hashing_of g.H.Digest.Digest.bytes g.H.Hasher g.F.Family g.U.Update) c.args.self.now c.loop-key.self c.find.new.self _ c.loop-key.invariant.left c.in_err-found.ensures.error);
+          rw (exit.1, exit.2) (left-error g.C.Store (hashing_of g.H.Digest.Digest.bytes g.H.Hasher g.F.Family g.U.Update) c.args.self.now c.loop-key.self c.find.new.self _ c.loop-key.invariant.left c.in_err-found.ensures.error);
       whole = λ list is none.
-        let left = c.loop-key.invariant.left in
-        let mid = left-database g.C.Store (layout_of g.H.Digest.Digest.bytes g.H.Hasher g.F.Family g.U.Update g.I.Unordered) c.args.self.now c.loop-key.self list left is in
-        rw (exit.1, exit.2) (c.in_err-found.ensures.whole list mid (subst (λ t. NoneBelow t list) (sym (left.read).start) none));
+          let left = c.loop-key.invariant.left in
+          let mid = left-database g.C.Store (layout_of g.H.Digest.Digest.bytes g.H.Hasher g.F.Family g.U.Update g.I.Unordered) c.args.self.now c.loop-key.self list left is in
+          rw (exit.1, exit.2) (c.in_err-found.ensures.whole list mid (subst (λ t. NoneBelow t list) (sym (left.read).start) none));
       left = left-then g.C.Store (hashing_of g.H.Digest.Digest.bytes g.H.Hasher g.F.Family g.U.Update) c.args.self.now c.loop-key.self c.find.new.self c.loop-key.invariant.left c.find.ensures.left;
     }
 
@@ -43,9 +43,9 @@ returns-in_err-push g c =
       keys = IfOk-from_err c.from_residual-in_err-push.result _ c.from_residual-in_err-push.ensures.0;
       reads = λ list base is from. IfOk-from_err c.from_residual-in_err-push.result _ c.from_residual-in_err-push.ensures.0;
       error =
-        rw (exit.1, exit.2) (inl refl);
+          rw (exit.1, exit.2) (inl refl);
       whole = λ list is none.
-        rw (exit.1, exit.2) (λ n pruned. cc);
+          rw (exit.1, exit.2) (λ n pruned. cc);
       left = left-then g.C.Store (hashing_of g.H.Digest.Digest.bytes g.H.Hasher g.F.Family g.U.Update) c.args.self.now c.loop-key.self c.find.new.self c.loop-key.invariant.left c.find.ensures.left;
     }
 
@@ -53,10 +53,10 @@ pub returns : goal.returns
 returns g c =
     record {
       keys =
-        let gives = c.into_iter-key-iterator.ensures.into_iter_gives in
-        let count : c.into_iter-key-iterator.result.rest.len ≡ length c.args.keys.items = omega (arith, gives.1, c.args.keys.ok.0) in
-        let all = YieldsList-end (YieldsList-from_vec {s = c.into_iter-key-iterator.result} c.args.keys.items gives.0 count) c.loop-key.yielded _ c.loop-key.yielded_by _ c.next.new.self c.in-None.is c.next.ensures.steps in
-        c.loop-key.invariant.keys ∙ ap (map g.U.Key.ByteString.bytes) (sym (map-id c.loop-key.yielded) ∙ all.0);
+          let gives = c.into_iter-key-iterator.ensures.into_iter_gives in
+          let count : c.into_iter-key-iterator.result.rest.len ≡ length c.args.keys.items = omega (arith, gives.1, c.args.keys.ok.0) in
+          let all = YieldsList-end (YieldsList-from_vec {s = c.into_iter-key-iterator.result} c.args.keys.items gives.0 count) c.loop-key.yielded _ c.loop-key.yielded_by _ c.next.new.self c.in-None.is c.next.ensures.steps in
+          c.loop-key.invariant.keys ∙ ap (map g.U.Key.ByteString.bytes) (sym (map-id c.loop-key.yielded) ∙ all.0);
       reads = c.loop-key.invariant.reads;
       error = tt;
       whole = λ list is none. tt;

@@ -75,9 +75,6 @@ returns-clause-value g c = λ lent base ws ordered is from ring base_ring are.
     told-one _ _ (g.L.Items.reads.told c.args.log.now) (c.loop-site.invariant.value lent base ws is from ring base_ring are) (λ all.
     all ∙ ap (filter_map (neighbour_in base)) (taken-all (linked_view key value) (linked_in base) c.args.sites.now ws c.loop-site.site-index are c.loop-site-test.false))
 
-pub find_neighbour-requires : goal.find_neighbour-requires
-find_neighbour-requires g c = sym c.is_ordered.ensures ∙ c.if-not-is_ordered.false
-
 pub returns-then-not-is_ordered-clause-value : goal.returns-then-not-is_ordered-clause-value
 returns-then-not-is_ordered-clause-value g c = λ lent base ws ordered is from ring base_ring are. absurd (true≢false (sym ordered ∙ sym c.is_ordered.ensures ∙ c.if-not-is_ordered.true))
 
