@@ -1,7 +1,9 @@
 pub mod Agreed
+pub mod Applying
 pub mod Known
 pub mod Lasting
 pub mod Making
+pub mod Openings
 pub mod OrderedReads
 pub mod Reading
 pub mod Resting
