@@ -3,6 +3,7 @@ use Rattle.std.proofs.Common.{◌≡◌, ◌≤◌, ◌⊎◌, inl, inr, ℕ, Op
 use Rattle.std.specs.Prelude.{IsSome}
 use Rattle.qm_model.specs.Causes.{IsCause, Rose}
 use Rattle.qm_model.specs.Refused.{Refused}
+use Rattle.qm_base.specs.declared.error.Corrupt.{Corrupt}
 use Rattle.qm_base.specs.declared.error.Error.{Error}
 use Rattle.qm_base.specs.declared.error.Error.TheVariants as errors
 use Rattle.qm_base.specs.declared.error.JournalError.TheVariants as journal
@@ -24,3 +25,13 @@ later-cause before between now first cause = record {
   later = omega (arith, cause.later);
   failed = λ failed. let rose : Rose between now = cause.failed failed in omega arith;
 }
+
+-- they tell of no damage
+pub plain-damage : {X : Type 0} {x : Corrupt} (e : Error) → (e ≡ errors.Memory) ⊎ (e ≡ errors.Journal journal.Store) → e ≡ errors.DataCorrupted x → X
+plain-damage e (inl memory) damaged = absurd (cc (memory, damaged))
+plain-damage e (inr fault) damaged = absurd (cc (fault, damaged))
+
+-- an error is one of these, or another one
+pub plain-or : {X : Type 0} (e : Error) → (e ≡ errors.Memory) ⊎ (e ≡ errors.Journal journal.Store) → (e ≡ errors.Memory) ⊎ ((e ≡ errors.Journal journal.Store) ⊎ X)
+plain-or e (inl memory) = inl memory
+plain-or e (inr fault) = inr (inl fault)
