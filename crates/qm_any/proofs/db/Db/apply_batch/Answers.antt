@@ -1,4 +1,4 @@
-use Rattle.std.proofs.Common.{◌≡◌, ◌∙◌, true, false, [], ap, refl, sym, subst, inl, inr, map, drop}
+use Rattle.std.proofs.Common.{◌≡◌, ◌∙◌, true, false, [], ap, refl, sym, subst, inr, map, drop}
 use Rattle.std.specs.Prelude.{Contains, if◌then◌else◌}
 use Rattle.qm_model.proofs.Results.{err-then, ok-then}
 use Rattle.qm_model.specs.Forms.{spelling}
@@ -7,7 +7,6 @@ use Rattle.qm_chain.specs.Bounds.{is_at}
 use Rattle.qm_step.specs.Views.{changes_view}
 use Rattle.qm_any.specs.Layouts.{layout_of}
 use Rattle.qm_model.specs.StoreModel.{beside_items}
-use Rattle.qm_base.specs.declared.error.Error.TheVariants as errors
 use Rattle.qm_list.proofs.Checking.{on-ok}
 use Rattle.qm_store.proofs.Told.{appended-beside, part-beside, unchanged-appended-part}
 use Rattle.qm_any.proofs.Applying.{after-both, never-stale, stale-told, stale-or, stale-causes, stale-cause}
