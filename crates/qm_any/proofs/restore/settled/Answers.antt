@@ -31,25 +31,25 @@ returns-in-Err g c =
       stands = λ list opened good ring low. each-known (g.C.Store.told c.args.opened.log.store) (λ s is. tt);
       became = tt;
       left =
-        let members = g.C.Store in
-        let old = c.args.opened.log in
-        let size = c.args.selected.size in
-        let left = given-store members _ old c.in-Err.refusal.given c.in-Err.refusal.error c.in-Err.ensures.refused c.in-Err.ensures.given in
-        let there = subst (λ n. Turns (members.told old.store) (members.told (store_given c.in-Err.refusal.given)) (λ s. ReadsAs (min s.stable n) (RewindLeaves n s))) c.requires.size left.told in
-        subst (λ s. Turns (members.told old.store) (members.told s) (λ s. ReadsAs (min s.stable size) (RewindLeaves size s))) (sym c.store_of.ensures) there;
+          let members = g.C.Store in
+          let old = c.args.opened.log in
+          let size = c.args.selected.size in
+          let left = given-store members _ old c.in-Err.refusal.given c.in-Err.refusal.error c.in-Err.ensures.refused c.in-Err.ensures.given in
+          let there = subst (λ n. Turns (members.told old.store) (members.told (store_given c.in-Err.refusal.given)) (λ s. ReadsAs (min s.stable n) (RewindLeaves n s))) c.requires.size left.told in
+          subst (λ s. Turns (members.told old.store) (members.told s) (λ s. ReadsAs (min s.stable size) (RewindLeaves size s))) (sym c.store_of.ensures) there;
       activity = tt;
       start = tt;
       later = tt;
       back =
-        let members = g.C.Store in
-        let old = c.args.opened.log in
-        let refused = c.in-Err.ensures.refused in
-        let left = given-store members _ old c.in-Err.refusal.given c.in-Err.refusal.error refused c.in-Err.ensures.given in (
-          c.store_of.result,
-          refl,
-          ap members.start c.store_of.ensures ∙ left.start,
-          subst (λ s. IsCause (members.faults old.store) (members.faults s) (c.in-Err.refusal.error ≡ errors.Journal journal.Store)) (sym c.store_of.ensures) refused.cause,
-        );
+          let members = g.C.Store in
+          let old = c.args.opened.log in
+          let refused = c.in-Err.ensures.refused in
+          let left = given-store members _ old c.in-Err.refusal.given c.in-Err.refusal.error refused c.in-Err.ensures.given in (
+            c.store_of.result,
+            refl,
+            ap members.start c.store_of.ensures ∙ left.start,
+            subst (λ s. IsCause (members.faults old.store) (members.faults s) (c.in-Err.refusal.error ≡ errors.Journal journal.Store)) (sym c.store_of.ensures) refused.cause,
+          );
       never = c.in-Err.ensures.refused.never;
     }
 
@@ -59,20 +59,20 @@ returns-in_default g c =
       stands = λ list opened good ring low. each-known (g.C.Store.told c.args.opened.log.store) (λ s is. tt);
       became = tt;
       left =
-        let told = g.C.Store.told in
-        let old = c.args.opened.log.store in
-        turns-kept (told old) (told c.close.result) _ (ap told c.close.ensures) (λ s is. reads-whole c.args.selected.size s (known-at (λ s. s.stable ≤ end_of s) (told old) s is c.requires.stable));
+          let told = g.C.Store.told in
+          let old = c.args.opened.log.store in
+          turns-kept (told old) (told c.close.result) _ (ap told c.close.ensures) (λ s is. reads-whole c.args.selected.size s (known-at (λ s. s.stable ≤ end_of s) (told old) s is c.requires.stable));
       activity = tt;
       start = tt;
       later = tt;
       back =
-        let members = g.C.Store in
-        let old = c.args.opened.log.store in
-        let later = subst (λ s. members.faults old ≤ members.faults s) (sym c.close.ensures) (omega arith) in (
-          c.close.result,
-          refl,
-          ap members.start c.close.ensures,
-          memory-cause (members.faults old) (members.faults c.close.result) errors.Memory later refl,
-        );
+          let members = g.C.Store in
+          let old = c.args.opened.log.store in
+          let later = subst (λ s. members.faults old ≤ members.faults s) (sym c.close.ensures) (omega arith) in (
+            c.close.result,
+            refl,
+            ap members.start c.close.ensures,
+            memory-cause (members.faults old) (members.faults c.close.result) errors.Memory later refl,
+          );
       never = inl refl;
     }

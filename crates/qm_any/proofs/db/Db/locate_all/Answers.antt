@@ -14,14 +14,14 @@ returns g c =
       keys = c.in_ok-reads.ensures.keys;
       reads = c.in_ok-reads.ensures.reads;
       values = λ list base stands from.
-        let key = g.U.Key.ByteString.bytes in
-        let view = g.U.Update.view in
-        let writes = c.args.writes.now in
-        c.in_ok-values.ensures
-        ∙ ap (map (λ r. read_under writes (key r.key) (option_map (read_view view) r.found))) c.deref.ensures.value
-        ∙ read-through view key base writes c.in_ok-reads.reads.items (c.in_ok-reads.ensures.reads list base stands from)
-        ∙ ap (map (read_through base writes)) c.in_ok-reads.ensures.keys
-        ∙ map-twice (read_through base writes) key c.args.keys.items;
+          let key = g.U.Key.ByteString.bytes in
+          let view = g.U.Update.view in
+          let writes = c.args.writes.now in
+          c.in_ok-values.ensures
+          ∙ ap (map (λ r. read_under writes (key r.key) (option_map (read_view view) r.found))) c.deref.ensures.value
+          ∙ read-through view key base writes c.in_ok-reads.reads.items (c.in_ok-reads.ensures.reads list base stands from)
+          ∙ ap (map (read_through base writes)) c.in_ok-reads.ensures.keys
+          ∙ map-twice (read_through base writes) key c.args.keys.items;
       error = tt;
       whole = λ list is none. tt;
       left = c.find_all.ensures.left;

@@ -16,27 +16,27 @@ pub returns : goal.returns
 returns g c =
     record {
       stands = λ list is.
-        c.cut.ensures.stands list (omega (arith, is.floor, c.if-get-boundary.false)) (c.in_ok-commit.ensures.stands list is);
+          c.cut.ensures.stands list (omega (arith, is.floor, c.if-get-boundary.false)) (c.in_ok-commit.ensures.stands list is);
       whole = λ list is none.
-        let last = c.in_ok-commit.ensures.committed in
-        let start = subst (λ n. NoneBelow n list) (sym (ap (λ t. t.start) last.tree)) none in
-        ok-then c.cut.result c.cut.ensures.pruned (λ db cut.
-        subst (λ n. NoneBelow n list) (sym cut.start) (none-below c.in_ok-commit.field-0.log.tree.start c.get-4.result list is.good (omega (arith, is.floor, c.if-get-boundary.false)) start));
+          let last = c.in_ok-commit.ensures.committed in
+          let start = subst (λ n. NoneBelow n list) (sym (ap (λ t. t.start) last.tree)) none in
+          ok-then c.cut.result c.cut.ensures.pruned (λ db cut.
+          subst (λ n. NoneBelow n list) (sym cut.start) (none-below c.in_ok-commit.field-0.log.tree.start c.get-4.result list is.good (omega (arith, is.floor, c.if-get-boundary.false)) start));
       pruned =
-        let hashing = hashing_of g.H.Digest.Digest.bytes g.H.Hasher g.F.Family g.U.Update in
-        ok-then c.cut.result c.cut.ensures.pruned (λ db cut.
-        subst (λ to. HasPruned g.C.Store hashing settled to c.args.self db) c.get-4.ensures
-        (pruned-behind g.C.Store hashing settled c.get-4.result c.args.self c.in_ok-commit.field-0 db c.in_ok-commit.ensures.committed cut));
+          let hashing = hashing_of g.H.Digest.Digest.bytes g.H.Hasher g.F.Family g.U.Update in
+          ok-then c.cut.result c.cut.ensures.pruned (λ db cut.
+          subst (λ to. HasPruned g.C.Store hashing settled to c.args.self db) c.get-4.ensures
+          (pruned-behind g.C.Store hashing settled c.get-4.result c.args.self c.in_ok-commit.field-0 db c.in_ok-commit.ensures.committed cut));
       boundary = λ list is.
-        let size : c.args.self.commitment.size ≡ length list = ap (λ k. k.size) is.commitment in
-        omega (arith, is.floor, is.good.floor_within, size);
+          let size : c.args.self.commitment.size ≡ length list = ap (λ k. k.size) is.commitment in
+          omega (arith, is.floor, is.good.floor_within, size);
       fits = on-ok c.cut.result (omega (arith, c.if-get-boundary.false));
       beyond = err-then c.cut.result c.cut.ensures.refused (λ r given past. absurd (omega (arith, c.if-get-boundary.false, past)));
       refused =
-        let hashing = hashing_of g.H.Digest.Digest.bytes g.H.Hasher g.F.Family g.U.Update in
-        err-then c.cut.result c.cut.ensures.refused (λ r given low.
-        subst (λ to. IsGivenUp g.C.Store (λ old new. HasLeftStable g.C.Store old new ⊎ HasLeftPruned g.C.Store hashing settled to c.args.self.log new) c.args.self.log.store r) c.get-4.ensures
-        (given-behind g.C.Store hashing settled c.get-4.result c.args.self c.in_ok-commit.field-0 r (HasLeftStable g.C.Store) c.in_ok-commit.ensures.committed given));
+          let hashing = hashing_of g.H.Digest.Digest.bytes g.H.Hasher g.F.Family g.U.Update in
+          err-then c.cut.result c.cut.ensures.refused (λ r given low.
+          subst (λ to. IsGivenUp g.C.Store (λ old new. HasLeftStable g.C.Store old new ⊎ HasLeftPruned g.C.Store hashing settled to c.args.self.log new) c.args.self.log.store r) c.get-4.ensures
+          (given-behind g.C.Store hashing settled c.get-4.result c.args.self c.in_ok-commit.field-0 r (HasLeftStable g.C.Store) c.in_ok-commit.ensures.committed given));
     }
 
 pub returns-in_err-commit : goal.returns-in_err-commit

@@ -14,15 +14,15 @@ pub returns-in-Some-2 : goal.returns-in-Some-2
 returns-in-Some-2 g c =
     record {
       value = λ list base stands from.
-        let key = g.U.Key.ByteString.bytes in
-        let value = g.U.Value.ByteString.bytes in
-        let at = key c.args.key.now in
-        let writes = c.args.writes.now in
-        let unwritten : write_of (last_writes writes) at ≡ None = ap (write_of (last_writes writes)) (sym c.as_bytes.ensures.value) ∙ sym c.last.ensures ∙ ap (option_map (λ w. write_view key value w.now)) c.in_default.is in
-        let view = read_view g.U.Update.view in
-        let said : ℕ × Operation → Option Bytes = λ p. parts.value_of p.1 in
-        sym c.into_value.ensures ∙ ap (λ o. option_and_then said (option_map view o)) (sym c.in-Some-2.is)
-        ∙ ap (option_and_then said) (c.in_ok-update.ensures.value list base stands from) ∙ value-found base at ∙ sym (ap (λ w. overwritten w (value_of base at)) unwritten);
+          let key = g.U.Key.ByteString.bytes in
+          let value = g.U.Value.ByteString.bytes in
+          let at = key c.args.key.now in
+          let writes = c.args.writes.now in
+          let unwritten : write_of (last_writes writes) at ≡ None = ap (write_of (last_writes writes)) (sym c.as_bytes.ensures.value) ∙ sym c.last.ensures ∙ ap (option_map (λ w. write_view key value w.now)) c.in_default.is in
+          let view = read_view g.U.Update.view in
+          let said : ℕ × Operation → Option Bytes = λ p. parts.value_of p.1 in
+          sym c.into_value.ensures ∙ ap (λ o. option_and_then said (option_map view o)) (sym c.in-Some-2.is)
+          ∙ ap (option_and_then said) (c.in_ok-update.ensures.value list base stands from) ∙ value-found base at ∙ sym (ap (λ w. overwritten w (value_of base at)) unwritten);
       error = tt;
       whole = λ list is none. tt;
       left = c.find.ensures.left;
@@ -32,15 +32,15 @@ pub returns-in-None : goal.returns-in-None
 returns-in-None g c =
     record {
       value = λ list base stands from.
-        let key = g.U.Key.ByteString.bytes in
-        let value = g.U.Value.ByteString.bytes in
-        let at = key c.args.key.now in
-        let writes = c.args.writes.now in
-        let unwritten : write_of (last_writes writes) at ≡ None = ap (write_of (last_writes writes)) (sym c.as_bytes.ensures.value) ∙ sym c.last.ensures ∙ ap (option_map (λ w. write_view key value w.now)) c.in_default.is in
-        let view = read_view g.U.Update.view in
-        let said : ℕ × Operation → Option Bytes = λ p. parts.value_of p.1 in
-        ap (λ o. option_and_then said (option_map view o)) (sym c.in-None.is)
-        ∙ ap (option_and_then said) (c.in_ok-update.ensures.value list base stands from) ∙ value-found base at ∙ sym (ap (λ w. overwritten w (value_of base at)) unwritten);
+          let key = g.U.Key.ByteString.bytes in
+          let value = g.U.Value.ByteString.bytes in
+          let at = key c.args.key.now in
+          let writes = c.args.writes.now in
+          let unwritten : write_of (last_writes writes) at ≡ None = ap (write_of (last_writes writes)) (sym c.as_bytes.ensures.value) ∙ sym c.last.ensures ∙ ap (option_map (λ w. write_view key value w.now)) c.in_default.is in
+          let view = read_view g.U.Update.view in
+          let said : ℕ × Operation → Option Bytes = λ p. parts.value_of p.1 in
+          ap (λ o. option_and_then said (option_map view o)) (sym c.in-None.is)
+          ∙ ap (option_and_then said) (c.in_ok-update.ensures.value list base stands from) ∙ value-found base at ∙ sym (ap (λ w. overwritten w (value_of base at)) unwritten);
       error = tt;
       whole = λ list is none. tt;
       left = c.find.ensures.left;
