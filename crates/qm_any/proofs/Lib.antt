@@ -4,6 +4,7 @@ pub mod Lasting
 pub mod Making
 pub mod OrderedReads
 pub mod Reading
+pub mod Reasons
 pub mod Resting
 pub mod Restoring
 pub mod Staging
