@@ -1,4 +1,5 @@
 pub mod Agreed
+pub mod Firsts
 pub mod Known
 pub mod Lasting
 pub mod Making

@@ -37,12 +37,12 @@ returns g c =
     subst (λ k. knows c.args.self.now.bounds k ≡ true) c.commitment.ensures.value (subst (λ b. knows b (view c.commitment.result.now) ≡ true) at tested) in
     record {
       value = λ list chain tip stands made known.
-        let key = g.U.Key.ByteString.bytes in
-        let value = g.U.Value.ByteString.bytes in
-        let layers = ap (map (λ l. l.value)) c.deref.ensures.value ∙ ap (λ b. b.layers) c.self.view_is in
-        let base = subst (λ ls. LeadOver ls list tip) (sym layers) (made-base c.args.self.now list chain tip made known) in
-        subst (λ ws. IfOk c.read_one.result (λ v. option_map value v ≡ read_through tip ws (key c.args.key.now))) c.new-writes.ensures
-        (c.read_one.ensures.value list tip stands base);
+          let key = g.U.Key.ByteString.bytes in
+          let value = g.U.Value.ByteString.bytes in
+          let layers = ap (map (λ l. l.value)) c.deref.ensures.value ∙ ap (λ b. b.layers) c.self.view_is in
+          let base = subst (λ ls. LeadOver ls list tip) (sym layers) (made-base c.args.self.now list chain tip made known) in
+          subst (λ ws. IfOk c.read_one.result (λ v. option_map value v ≡ read_through tip ws (key c.args.key.now))) c.new-writes.ensures
+          (c.read_one.ensures.value list tip stands base);
       readable = on-ok c.read_one.result told;
       error = err-then c.read_one.result c.read_one.ensures.error (λ e failed. inr (inr (told, failed)));
       whole = c.read_one.ensures.whole;

@@ -36,9 +36,9 @@ returns g c =
     subst (λ k. knows c.args.self.now.bounds k ≡ true) c.commitment.ensures.value (subst (λ b. knows b (view c.commitment.result.now) ≡ true) at tested) in
     record {
       value = λ list chain tip stands made known.
-        let layers = ap (map (λ l. l.value)) c.deref.ensures.value ∙ ap (λ b. b.layers) c.self.view_is in
-        let base = subst (λ ls. LeadOver ls list tip) (sym layers) (made-base c.args.self.now list chain tip made known) in
-        c.previous_over.ensures.value list tip stands base (made.ring c.requires);
+          let layers = ap (map (λ l. l.value)) c.deref.ensures.value ∙ ap (λ b. b.layers) c.self.view_is in
+          let base = subst (λ ls. LeadOver ls list tip) (sym layers) (made-base c.args.self.now list chain tip made known) in
+          c.previous_over.ensures.value list tip stands base (made.ring c.requires);
       readable = on-ok c.previous_over.result told;
       error = err-then c.previous_over.result c.previous_over.ensures.error (λ e failed. inr (inr (told, failed)));
       whole = c.previous_over.ensures.whole;

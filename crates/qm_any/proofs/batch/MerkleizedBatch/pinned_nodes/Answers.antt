@@ -29,7 +29,7 @@ returns-in_err-known g c =
       held = IfOk-from_err c.from_residual.result _ c.from_residual.ensures.0;
       lacked = rw (exit.1, exit.2) (λ fresh. absurd (fresh stale));
       whole = λ first list chain tip is made known.
-        known-read (list_root (hashing_of g.D.Digest.bytes g.H.Hasher g.F.Family g.U.Update)) c.args.self.now.bounds chain tip list (commitment_view g.D.Digest.bytes c.commitment.result.now) made.bounds (c.commitment.ensures.value ∙ is.commitment) known c.in_err-known.ensures.stale.1;
+          known-read (list_root (hashing_of g.D.Digest.bytes g.H.Hasher g.F.Family g.U.Update)) c.args.self.now.bounds chain tip list (commitment_view g.D.Digest.bytes c.commitment.result.now) made.bounds (c.commitment.ensures.value ∙ is.commitment) known c.in_err-known.ensures.stale.1;
     }
 
 pub returns : goal.returns
@@ -37,10 +37,10 @@ returns g c =
     let on = subst (λ k. knows c.args.self.now.bounds k ≡ true) c.commitment.ensures.value c.in_ok-known.ensures.readable in
     record {
       pins = λ list chain tip is made known.
-        let tree = subst (λ t. IsTree (hashing_of g.D.Digest.bytes g.H.Hasher g.F.Family g.U.Update) t tip (bases_of chain)) (sym (ap (λ b. b.tree) c.self.view_is)) made.tree in
-        subst (λ a. IfOk c.pins_through.result (λ pins. map g.D.Digest.bytes pins.items ≡ pins_at g.H.Hasher.hash g.F.Family.shape g.U.Update.form tip a))
-        (c.start.ensures.value ∙ ap (λ k. k.size) made.bounds.base)
-        (c.pins_through.ensures.value list tip (bases_of chain) is tree (known-base list chain tip made.linked known));
+          let tree = subst (λ t. IsTree (hashing_of g.D.Digest.bytes g.H.Hasher g.F.Family g.U.Update) t tip (bases_of chain)) (sym (ap (λ b. b.tree) c.self.view_is)) made.tree in
+          subst (λ a. IfOk c.pins_through.result (λ pins. map g.D.Digest.bytes pins.items ≡ pins_at g.H.Hasher.hash g.F.Family.shape g.U.Update.form tip a))
+          (c.start.ensures.value ∙ ap (λ k. k.size) made.bounds.base)
+          (c.pins_through.ensures.value list tip (bases_of chain) is tree (known-base list chain tip made.linked known));
       readable = on-ok c.pins_through.result on;
       stale = err-then c.pins_through.result c.pins_through.ensures.cause (λ e lacked same. absurd (lacked-fresh (held_at g.F.Family.shape c.self.inside.tree c.args.db.now.log.tree) (peak_positions g.F.Family.shape c.start.result) e lacked same));
       never = err-then c.pins_through.result c.pins_through.ensures.cause (λ e lacked. lacked-never (held_at g.F.Family.shape c.self.inside.tree c.args.db.now.log.tree) (peak_positions g.F.Family.shape c.start.result) e lacked);
@@ -52,6 +52,6 @@ returns g c =
           (subst (λ t. IfErr c.pins_through.result (IsLacked (held_at g.F.Family.shape t c.args.db.now.log.tree) (peak_positions g.F.Family.shape c.start.result))) (ap (λ b. b.tree) c.self.view_is) c.pins_through.ensures.cause))
           (λ e lacked fresh. lacked);
       whole = λ first list chain tip is made known.
-        let tree = subst (λ t. IsTree (hashing_of g.D.Digest.bytes g.H.Hasher g.F.Family g.U.Update) t tip (bases_of chain)) (sym (ap (λ b. b.tree) c.self.view_is)) made.tree in
-        c.pins_through.ensures.whole first list tip (bases_of chain) is tree (known-base list chain tip made.linked known);
+          let tree = subst (λ t. IsTree (hashing_of g.D.Digest.bytes g.H.Hasher g.F.Family g.U.Update) t tip (bases_of chain)) (sym (ap (λ b. b.tree) c.self.view_is)) made.tree in
+          c.pins_through.ensures.whole first list tip (bases_of chain) is tree (known-base list chain tip made.linked known);
     }

@@ -33,7 +33,7 @@ returns-in_err-known g c =
       held = IfOk-from_err c.from_residual.result _ c.from_residual.ensures.0;
       lacked = rw (exit.1, exit.2) (λ fresh. absurd (fresh stale));
       whole = λ first list chain tip is made known.
-        known-read (list_root (hashing_of g.D.Digest.bytes g.H.Hasher g.F.Family g.U.Update)) c.args.self.now.bounds chain tip list (commitment_view g.D.Digest.bytes c.commitment.result.now) made.bounds (c.commitment.ensures.value ∙ is.commitment) known c.in_err-known.ensures.stale.1;
+          known-read (list_root (hashing_of g.D.Digest.bytes g.H.Hasher g.F.Family g.U.Update)) c.args.self.now.bounds chain tip list (commitment_view g.D.Digest.bytes c.commitment.result.now) made.bounds (c.commitment.ensures.value ∙ is.commitment) known c.in_err-known.ensures.stale.1;
     }
 
 pub returns : goal.returns
@@ -41,10 +41,10 @@ returns g c =
     let on = subst (λ k. knows c.args.self.now.bounds k ≡ true) c.commitment.ensures.value c.in_ok-known.ensures.readable in
     record {
       proof = λ list chain tip is made known.
-        let tree = subst (λ t. IsTree (hashing_of g.D.Digest.bytes g.H.Hasher g.F.Family g.U.Update) t tip (bases_of chain)) (sym (ap (λ b. b.tree) c.self.view_is)) made.tree in
-        subst (λ a. IfOk c.proof_through.result (λ p. proof_view g.D.Digest.bytes p ≡ ops_proof g.H.Hasher.hash g.F.Family.shape g.U.Update.form tip a (length tip)))
-        (c.start.ensures.value ∙ ap (λ k. k.size) made.bounds.base)
-        (c.proof_through.ensures.value list tip (bases_of chain) is tree (known-base list chain tip made.linked known) (c.floor.ensures ∙ made.lowest));
+          let tree = subst (λ t. IsTree (hashing_of g.D.Digest.bytes g.H.Hasher g.F.Family g.U.Update) t tip (bases_of chain)) (sym (ap (λ b. b.tree) c.self.view_is)) made.tree in
+          subst (λ a. IfOk c.proof_through.result (λ p. proof_view g.D.Digest.bytes p ≡ ops_proof g.H.Hasher.hash g.F.Family.shape g.U.Update.form tip a (length tip)))
+          (c.start.ensures.value ∙ ap (λ k. k.size) made.bounds.base)
+          (c.proof_through.ensures.value list tip (bases_of chain) is tree (known-base list chain tip made.linked known) (c.floor.ensures ∙ made.lowest));
       readable = on-ok c.proof_through.result on;
       stale = err-then c.proof_through.result c.proof_through.ensures.cause (λ e lacked same. absurd (lacked-fresh (held_at g.F.Family.shape c.self.inside.tree c.args.db.now.log.tree) (needed_positions g.F.Family.shape c.self.inside.tree.leaves c.start.result c.self.inside.tree.leaves) e lacked same));
       never = err-then c.proof_through.result c.proof_through.ensures.cause (λ e lacked. lacked-never (held_at g.F.Family.shape c.self.inside.tree c.args.db.now.log.tree) (needed_positions g.F.Family.shape c.self.inside.tree.leaves c.start.result c.self.inside.tree.leaves) e lacked);
@@ -58,6 +58,6 @@ returns g c =
           (subst (λ t. IfErr c.proof_through.result (IsLacked (held_at g.F.Family.shape t c.args.db.now.log.tree) (needed_positions g.F.Family.shape t.leaves c.start.result t.leaves))) (ap (λ b. b.tree) c.self.view_is) c.proof_through.ensures.cause)))
           (λ e lacked fresh. lacked);
       whole = λ first list chain tip is made known.
-        let tree = subst (λ t. IsTree (hashing_of g.D.Digest.bytes g.H.Hasher g.F.Family g.U.Update) t tip (bases_of chain)) (sym (ap (λ b. b.tree) c.self.view_is)) made.tree in
-        c.proof_through.ensures.whole first list tip (bases_of chain) is tree (known-base list chain tip made.linked known);
+          let tree = subst (λ t. IsTree (hashing_of g.D.Digest.bytes g.H.Hasher g.F.Family g.U.Update) t tip (bases_of chain)) (sym (ap (λ b. b.tree) c.self.view_is)) made.tree in
+          c.proof_through.ensures.whole first list tip (bases_of chain) is tree (known-base list chain tip made.linked known);
     }

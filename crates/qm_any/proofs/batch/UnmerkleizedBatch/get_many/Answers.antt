@@ -37,15 +37,15 @@ returns g c =
     subst (λ k. knows c.args.self.now.parent.bounds k ≡ true) c.commitment.ensures.value (subst (λ b. knows b (view c.commitment.result.now) ≡ true) at tested) in
     record {
       values = λ list chain above stands begun known.
-        let key = g.U.Key.ByteString.bytes in
-        let value = g.U.Value.ByteString.bytes in
-        let parent = c.behind-self-2.view_is ∙ c.deref-2.ensures ∙ ap (λ b. b.parent) c.self.view_is in
-        let layers = ap (map (λ l. l.value)) c.deref-3.ensures.value ∙ ap (λ b. b.layers) parent in
-        let base = subst (λ ls. LeadOver ls list chain.base) (sym layers)
-        (made-base (c.args.self.now).parent list above chain.base begun.parent known) in
-        subst (λ ws. IfOk c.read_all.result (λ v. map (option_map value) v.items ≡ map (λ k. read_through chain.base ws (key k)) c.args.keys.now))
-        (ap (λ b. b.writes) c.self.view_is)
-        (c.read_all.ensures.values list chain.base stands base);
+          let key = g.U.Key.ByteString.bytes in
+          let value = g.U.Value.ByteString.bytes in
+          let parent = c.behind-self-2.view_is ∙ c.deref-2.ensures ∙ ap (λ b. b.parent) c.self.view_is in
+          let layers = ap (map (λ l. l.value)) c.deref-3.ensures.value ∙ ap (λ b. b.layers) parent in
+          let base = subst (λ ls. LeadOver ls list chain.base) (sym layers)
+          (made-base (c.args.self.now).parent list above chain.base begun.parent known) in
+          subst (λ ws. IfOk c.read_all.result (λ v. map (option_map value) v.items ≡ map (λ k. read_through chain.base ws (key k)) c.args.keys.now))
+          (ap (λ b. b.writes) c.self.view_is)
+          (c.read_all.ensures.values list chain.base stands base);
       readable = on-ok c.read_all.result told;
       error = err-then c.read_all.result c.read_all.ensures.error (λ e failed. inr (inr (told, failed)));
       whole = c.read_all.ensures.whole;

@@ -40,21 +40,21 @@ returns g c =
     record {
       keys = c.locate_all.ensures.keys;
       reads = λ list chain above stands begun known.
-        let parent = c.behind-self-2.view_is ∙ c.deref-2.ensures ∙ ap (λ b. b.parent) c.self.view_is in
-        let layers = ap (map (λ l. l.value)) c.deref-3.ensures.value ∙ ap (λ b. b.layers) parent in
-        let base = subst (λ ls. LeadOver ls list chain.base) (sym layers)
-        (made-base (c.args.self.now).parent list above chain.base begun.parent known) in
-        c.locate_all.ensures.reads list chain.base stands base;
+          let parent = c.behind-self-2.view_is ∙ c.deref-2.ensures ∙ ap (λ b. b.parent) c.self.view_is in
+          let layers = ap (map (λ l. l.value)) c.deref-3.ensures.value ∙ ap (λ b. b.layers) parent in
+          let base = subst (λ ls. LeadOver ls list chain.base) (sym layers)
+          (made-base (c.args.self.now).parent list above chain.base begun.parent known) in
+          c.locate_all.ensures.reads list chain.base stands base;
       values = λ list chain above stands begun known.
-        let key = g.U.Key.ByteString.bytes in
-        let value = g.U.Value.ByteString.bytes in
-        let parent = c.behind-self-2.view_is ∙ c.deref-2.ensures ∙ ap (λ b. b.parent) c.self.view_is in
-        let layers = ap (map (λ l. l.value)) c.deref-3.ensures.value ∙ ap (λ b. b.layers) parent in
-        let base = subst (λ ls. LeadOver ls list chain.base) (sym layers)
-        (made-base (c.args.self.now).parent list above chain.base begun.parent known) in
-        subst (λ ws. IfOk c.locate_all.result (λ r. map (option_map value) r.1.items ≡ map (λ k. read_through chain.base ws (key k)) c.args.keys.items))
-        (ap (λ b. b.writes) c.self.view_is)
-        (c.locate_all.ensures.values list chain.base stands base);
+          let key = g.U.Key.ByteString.bytes in
+          let value = g.U.Value.ByteString.bytes in
+          let parent = c.behind-self-2.view_is ∙ c.deref-2.ensures ∙ ap (λ b. b.parent) c.self.view_is in
+          let layers = ap (map (λ l. l.value)) c.deref-3.ensures.value ∙ ap (λ b. b.layers) parent in
+          let base = subst (λ ls. LeadOver ls list chain.base) (sym layers)
+          (made-base (c.args.self.now).parent list above chain.base begun.parent known) in
+          subst (λ ws. IfOk c.locate_all.result (λ r. map (option_map value) r.1.items ≡ map (λ k. read_through chain.base ws (key k)) c.args.keys.items))
+          (ap (λ b. b.writes) c.self.view_is)
+          (c.locate_all.ensures.values list chain.base stands base);
       readable = on-ok c.locate_all.result told;
       error = err-then c.locate_all.result c.locate_all.ensures.error (λ e failed. inr (inr (told, failed)));
       whole = c.locate_all.ensures.whole;

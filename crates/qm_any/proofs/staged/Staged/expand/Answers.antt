@@ -49,29 +49,29 @@ pub returns : goal.returns
 returns g c =
     record {
       range =
-        let key = g.U.Key.ByteString.bytes in
-        let reads = ap (λ s. length s.reads) c.self.view_is in
-        let had = length-map {B = Bytes × Option (ℕ × Operation)} c.self.inside.reads.items (λ r. (key r.key, option_map (read_view g.U.Update.view) r.found)) in
-        let keys = length-map c.args.self.reads (λ r. r.0) in
-        let more = keys-count key c.in_ok-found.found.items c.args.keys.items c.in_ok-found.ensures.keys in
-        let all = ap length c.in_ok-reads.ensures ∙ length-append c.self.inside.reads.items c.in_ok-found.found.items in
-        (omega (arith, reads, had, keys, c.len-start.ensures), omega (arith, reads, had, keys, more, all, c.len.ensures));
+          let key = g.U.Key.ByteString.bytes in
+          let reads = ap (λ s. length s.reads) c.self.view_is in
+          let had = length-map {B = Bytes × Option (ℕ × Operation)} c.self.inside.reads.items (λ r. (key r.key, option_map (read_view g.U.Update.view) r.found)) in
+          let keys = length-map c.args.self.reads (λ r. r.0) in
+          let more = keys-count key c.in_ok-found.found.items c.args.keys.items c.in_ok-found.ensures.keys in
+          let all = ap length c.in_ok-reads.ensures ∙ length-append c.self.inside.reads.items c.in_ok-found.found.items in
+          (omega (arith, reads, had, keys, c.len-start.ensures), omega (arith, reads, had, keys, more, all, c.len.ensures));
       values = λ list chain above is staged known.
-        let key = g.U.Key.ByteString.bytes in
-        let value = g.U.Value.ByteString.bytes in
-        let batch = ap (λ s. s.batch) c.self.view_is in
-        let begun = subst (λ b. IsBegun (hashing_of g.D.Digest.bytes g.H.Hasher g.F.Family g.U.Update) b chain above) (sym batch) staged.begun in
-        c.in_ok-found.ensures.values list chain above is begun known
-        ∙ ap (λ b. map (λ k. read_through chain.base b.writes (key k)) c.args.keys.items) batch;
+          let key = g.U.Key.ByteString.bytes in
+          let value = g.U.Value.ByteString.bytes in
+          let batch = ap (λ s. s.batch) c.self.view_is in
+          let begun = subst (λ b. IsBegun (hashing_of g.D.Digest.bytes g.H.Hasher g.F.Family g.U.Update) b chain above) (sym batch) staged.begun in
+          c.in_ok-found.ensures.values list chain above is begun known
+          ∙ ap (λ b. map (λ k. read_through chain.base b.writes (key k)) c.args.keys.items) batch;
       staged = λ list chain above is staged known.
-        let key = g.U.Key.ByteString.bytes in
-        let batch = ap (λ s. s.batch) c.self.view_is in
-        let begun = subst (λ b. IsBegun (hashing_of g.D.Digest.bytes g.H.Hasher g.F.Family g.U.Update) b chain above) (sym batch) staged.begun in
-        record {
-          begun = begun;
-          reads = staged-more g.U.Update.view key chain.base c.in_ok-reads.reads.items c.self.inside.reads.items c.in_ok-found.found.items c.args.self.reads c.in_ok-reads.ensures (ap (λ s. s.reads) c.self.view_is) staged.reads
-              (c.in_ok-found.ensures.reads list chain above is begun known);
-        };
+          let key = g.U.Key.ByteString.bytes in
+          let batch = ap (λ s. s.batch) c.self.view_is in
+          let begun = subst (λ b. IsBegun (hashing_of g.D.Digest.bytes g.H.Hasher g.F.Family g.U.Update) b chain above) (sym batch) staged.begun in
+          record {
+            begun = begun;
+            reads = staged-more g.U.Update.view key chain.base c.in_ok-reads.reads.items c.self.inside.reads.items c.in_ok-found.found.items c.args.self.reads c.in_ok-reads.ensures (ap (λ s. s.reads) c.self.view_is) staged.reads
+                (c.in_ok-found.ensures.reads list chain above is begun known);
+          };
       batch = ap (λ s. s.batch) c.self.view_is;
       keys = staged-keys-more g.U.Update.view g.U.Key.ByteString.bytes c.in_ok-reads.reads.items c.self.inside.reads.items c.in_ok-found.found.items c.args.self.reads c.args.keys.items c.in_ok-reads.ensures (ap (λ s. s.reads) c.self.view_is) c.in_ok-found.ensures.keys;
       readable = subst (λ (b : Begun g.row.D.Denot). knows b.parent.bounds c.args.db.now.commitment ≡ true) (ap (λ s. s.batch) c.self.view_is) c.in_ok-found.ensures.readable;
