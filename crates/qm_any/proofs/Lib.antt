@@ -1,9 +1,13 @@
 pub mod Agreed
+pub mod Applying
+pub mod Firsts
 pub mod Known
 pub mod Lasting
 pub mod Making
+pub mod Openings
 pub mod OrderedReads
 pub mod Reading
+pub mod Reasons
 pub mod Resting
 pub mod Restoring
 pub mod Staging

@@ -10,16 +10,8 @@ use Rattle.qm_any.specs.Layouts.{hashing_of}
 use Rattle.qm_any.specs.Restoring.{selected_size, taken, LeavesOpening}
 use Rattle.qm_any.proofs.Taking.{taken-some, leaves-some, leaves-whole, turns-weaker, turns-kept, unchanged-behind}
 use Rattle.qm_list.proofs.Checking.{each-known, known-at}
-use Rattle.qm_any.proofs.Restoring.{told-floor, few-seen, selects-same, threshold-seen, so-pruned, none-pruned}
+use Rattle.qm_any.proofs.Restoring.{told-floor, selects-same, threshold-seen, so-pruned, none-pruned}
 use Rattle.qm_any.proofs.restore.init_with.Goals as goal
-
-pub select_commit-requires : goal.select_commit-requires
-select_commit-requires g c = record { few = few-seen c.args.pruned c.pruned_bits.result c.pruned_bits.ensures c.requires.few }
-
-pub chunks_below-chunks-requires : goal.chunks_below-chunks-requires
-chunks_below-chunks-requires g c =
-    let within = rw (c.in-Ok-Some.field-0-is, c.pruned_bits.ensures) at c.in-Ok-Some.ensures.within in
-    within.1
 
 pub returns-in-Ok-Some-clause-pruned : goal.returns-in-Ok-Some-clause-pruned
 returns-in-Ok-Some-clause-pruned g c = ok-then c.open_list.result c.open_list.ensures.pruned (λ db is. so-pruned c.args.pruned db.activity.pruned c.chunks_below-chunks.result is c.chunks_below-chunks.ensures.told)

@@ -1,16 +1,33 @@
-use Rattle.std.proofs.lemmas.Result.{err_from_is_err_and}
+use Rattle.std.proofs.lemmas.Result.{IfOk-from_err, err_from_is_err_and}
+use Rattle.std.proofs.Common.{◌∙◌, ◌++◌, ap, map, ℕ, Option}
+use Rattle.qm_model.specs.Operations.{Bytes, Operation}
+use Rattle.qm_step.specs.Views.{reads_view}
 use Rattle.qm_any.proofs.Staging.{staged-none}
 use Rattle.qm_any.proofs.batch.UnmerkleizedBatch.stage.Goals as goal
 
-pub returns-in_err-values-clause-whole : goal.returns-in_err-values-clause-whole
-returns-in_err-values-clause-whole g c = λ list is none.
+pub returns-in_err-values : goal.returns-in_err-values
+returns-in_err-values g c =
     let exit = err_from_is_err_and c.from_residual.result c.from_residual.ensures.1 in
-    rw (exit.1, exit.2) (c.in_err-values.ensures.whole list is none)
+    record {
+      values = λ list chain above is begun known. IfOk-from_err c.from_residual.result _ c.from_residual.ensures.0;
+      staged = λ list chain above is begun known. IfOk-from_err c.from_residual.result _ c.from_residual.ensures.0;
+      batch = IfOk-from_err c.from_residual.result _ c.from_residual.ensures.0;
+      keys = IfOk-from_err c.from_residual.result _ c.from_residual.ensures.0;
+      readable = IfOk-from_err c.from_residual.result _ c.from_residual.ensures.0;
+      error = rw (exit.1, exit.2) c.in_err-values.ensures.error;
+      whole = λ list is none. rw (exit.1, exit.2) (c.in_err-values.ensures.whole list is none);
+      left = c.in_err-values.ensures.left;
+    }
 
-pub returns-clause-values : goal.returns-clause-values
-returns-clause-values g c = λ list chain above is begun known.
-    c.in_ok-values.ensures.values list chain above is (record { begun = begun; reads = staged-none g.U.Update.view g.U.Key.ByteString.bytes chain.base _ c.new.ensures.items }) known
-
-pub returns-clause-staged : goal.returns-clause-staged
-returns-clause-staged g c = λ list chain above is begun known.
-    c.in_ok-values.ensures.staged list chain above is (record { begun = begun; reads = staged-none g.U.Update.view g.U.Key.ByteString.bytes chain.base _ c.new.ensures.items }) known
+pub returns : goal.returns
+returns g c =
+    record {
+      values = λ list chain above is begun known. c.in_ok-values.ensures.values list chain above is (record { begun = begun; reads = staged-none g.U.Update.view g.U.Key.ByteString.bytes chain.base _ c.new.ensures.items }) known;
+      staged = λ list chain above is begun known. c.in_ok-values.ensures.staged list chain above is (record { begun = begun; reads = staged-none g.U.Update.view g.U.Key.ByteString.bytes chain.base _ c.new.ensures.items }) known;
+      batch = c.in_ok-values.ensures.batch;
+      keys = c.in_ok-values.ensures.keys ∙ ap (λ rs. map {A = Bytes × Option (ℕ × Operation)} (λ r. r.0) (reads_view g.U.Update.view g.U.Key.ByteString.bytes rs) ++ map g.U.Key.ByteString.bytes c.args.keys.items) c.new.ensures.items;
+      readable = c.in_ok-values.ensures.readable;
+      error = tt;
+      whole = λ list is none. tt;
+      left = c.in_ok-values.ensures.left;
+    }

@@ -1,4 +1,4 @@
-use Rattle.std.proofs.Common.{◌≡◌, ◌∙◌, true, [], ap, sym, subst, inr, map, drop}
+use Rattle.std.proofs.Common.{◌≡◌, ◌∙◌, true, false, [], ap, refl, sym, subst, inr, map, drop}
 use Rattle.std.specs.Prelude.{Contains, if◌then◌else◌}
 use Rattle.qm_model.proofs.Results.{err-then, ok-then}
 use Rattle.qm_model.specs.Forms.{spelling}
@@ -6,6 +6,10 @@ use Rattle.qm_merkle.specs.Batches.{stops}
 use Rattle.qm_chain.specs.Bounds.{is_at}
 use Rattle.qm_step.specs.Views.{changes_view}
 use Rattle.qm_any.specs.Layouts.{layout_of}
+use Rattle.qm_model.specs.StoreModel.{beside_items}
+use Rattle.qm_list.proofs.Checking.{on-ok}
+use Rattle.qm_store.proofs.Told.{appended-beside, part-beside, unchanged-appended-part}
+use Rattle.qm_any.proofs.Applying.{after-both, never-stale, stale-told, stale-or, stale-causes, stale-cause}
 use Rattle.qm_store.specs.Given.{Appended, AppendedPart, store_given}
 use Rattle.qm_any.proofs.Unapplied.{applied, lacked-spelled, ok-five}
 use Rattle.qm_any.proofs.db.Db.apply_batch.Goals as goal
@@ -15,39 +19,76 @@ moved-requires-clause-reach g c =
     let tree = c.args.batch.now.tree in
     subst (Contains (stops tree.leaves tree.layers)) (ap (λ db. db.commitment.size) c.self.view_is) c.in-Ok.ensures.reached
 
-pub returns-in-Ok-clause-stands : goal.returns-in-Ok-clause-stands
-returns-in-Ok-clause-stands g c = λ list chain tip is made on.
-    let n = c.self.inside.commitment.size in
-    let items = map (λ v. v.items) c.in-Ok.lacking.items.items in
-    let changes = map (λ d. changes_view g.U.Key.ByteString.bytes g.U.Value.ByteString.bytes d.value) c.in-Ok.lacking.diffs.now in
-    ok-five c.moved.result c.moved.ensures.log c.moved.ensures.index c.moved.ensures.active c.moved.ensures.rest c.moved.ensures.grown (λ next log index active rest grown.
-    applied g.C.Store (layout_of g.H.Digest.Digest.bytes g.H.Hasher g.F.Family g.U.Update g.I.Unordered) c.args.self next c.args.batch.now list chain tip n items changes is made on
-    (ap (λ db. db.commitment.size) c.self.view_is) c.in-Ok.ensures.items c.in-Ok.ensures.diffs log index active
-    (rest.0, rest.1, rest.2, rest.3 ∙ c.in-Ok.ensures.metadata) grown)
+pub returns-in-Ok : goal.returns-in-Ok
+returns-in-Ok g c =
+    record {
+      stands = λ list chain tip is made on.
+          let n = c.self.inside.commitment.size in
+          let items = map (λ v. v.items) c.in-Ok.lacking.items.items in
+          let changes = map (λ d. changes_view g.U.Key.ByteString.bytes g.U.Value.ByteString.bytes d.value) c.in-Ok.lacking.diffs.now in
+          ok-five c.moved.result c.moved.ensures.log c.moved.ensures.index c.moved.ensures.active c.moved.ensures.rest c.moved.ensures.grown (λ next log index active rest grown.
+          applied g.C.Store (layout_of g.H.Digest.Digest.bytes g.H.Hasher g.F.Family g.U.Update g.I.Unordered) c.args.self next c.args.batch.now list chain tip n items changes is made on
+          (ap (λ db. db.commitment.size) c.self.view_is) c.in-Ok.ensures.items c.in-Ok.ensures.diffs log index active
+          (rest.0, rest.1, rest.2, rest.3 ∙ c.in-Ok.ensures.metadata) grown);
+      fits =
+          let bounds = c.args.batch.now.bounds in
+          on-ok c.moved.result (subst (λ k. is_at k bounds.db bounds.ancestors ≡ true) (ap (λ db. db.commitment) c.self.view_is) c.in-Ok.ensures.fits);
+      grown = λ chain tip made.
+          let n = c.self.inside.commitment.size in
+          let items = map (λ v. v.items) c.in-Ok.lacking.items.items in
+          let behind = lacked-spelled g.C.Store (layout_of g.H.Digest.Digest.bytes g.H.Hasher g.F.Family g.U.Update g.I.Unordered) c.args.batch.now chain tip n c.args.self.commitment.size items made
+          (ap (λ db. db.commitment.size) c.self.view_is) c.in-Ok.ensures.among c.in-Ok.ensures.items in
+          ok-then c.moved.result c.moved.ensures.grown (λ next grown. subst (Appended g.C.Store c.args.self.log.store next.log.store) behind grown);
+      start =
+          let start = g.C.Store.start in
+          after-both (λ db. db.log.store) c.moved.result (λ s. start s ≡ start c.args.self.log.store) (ok-then c.moved.result c.moved.ensures.grown (λ next grown. grown.start)) (err-then c.moved.result c.moved.ensures.part (λ r part. part.start));
+      beside =
+          let told = g.C.Store.told in
+          let old = c.args.self.log.store in
+          let items = map (λ v. v.items) c.in-Ok.lacking.items.items in
+          after-both (λ db. db.log.store) c.moved.result (λ s. beside_items (told s) ≡ beside_items (told old))
+          (ok-then c.moved.result c.moved.ensures.grown (λ next grown. appended-beside g.C.Store old next.log.store items grown))
+          (err-then c.moved.result c.moved.ensures.part (λ r part. part-beside g.C.Store old (store_given (λ db. db.log.store) r.given) items part));
+      later = c.moved.ensures.later;
+      stale = err-then c.moved.result c.moved.ensures.causes (λ r causes stale. never-stale r.error causes stale);
+      part = λ chain tip made.
+          let n = c.self.inside.commitment.size in
+          let items = map (λ v. v.items) c.in-Ok.lacking.items.items in
+          let behind = lacked-spelled g.C.Store (layout_of g.H.Digest.Digest.bytes g.H.Hasher g.F.Family g.U.Update g.I.Unordered) c.args.batch.now chain tip n c.args.self.commitment.size items made
+          (ap (λ db. db.commitment.size) c.self.view_is) c.in-Ok.ensures.among c.in-Ok.ensures.items in
+          let bounds = c.args.batch.now.bounds in
+          let fits : is_at c.args.self.commitment bounds.db bounds.ancestors ≡ true = subst (λ k. is_at k bounds.db bounds.ancestors ≡ true) (ap (λ db. db.commitment) c.self.view_is) c.in-Ok.ensures.fits in
+          let more = map (spelling g.U.Update.form) (drop c.args.self.commitment.size tip) in
+          err-then c.moved.result c.moved.ensures.part (λ r part.
+          let after = store_given (λ db. db.log.store) r.given in
+          subst (λ b. AppendedPart g.C.Store c.args.self.log.store after (if b then more else [])) (sym fits)
+          (subst (AppendedPart g.C.Store c.args.self.log.store after) behind part));
+      back = err-then c.moved.result c.moved.ensures.back (λ r back x given.
+          let was = back x given in
+          (was.0, inr was.1));
+      causes = err-then c.moved.result c.moved.ensures.causes (λ r causes. inr causes);
+      cause = c.moved.ensures.cause;
+    }
 
-pub returns-in-Ok-clause-grown : goal.returns-in-Ok-clause-grown
-returns-in-Ok-clause-grown g c = λ chain tip made.
-    let n = c.self.inside.commitment.size in
-    let items = map (λ v. v.items) c.in-Ok.lacking.items.items in
-    let behind = lacked-spelled g.C.Store (layout_of g.H.Digest.Digest.bytes g.H.Hasher g.F.Family g.U.Update g.I.Unordered) c.args.batch.now chain tip n c.args.self.commitment.size items made
-    (ap (λ db. db.commitment.size) c.self.view_is) c.in-Ok.ensures.among c.in-Ok.ensures.items in
-    ok-then c.moved.result c.moved.ensures.grown (λ next grown. subst (Appended g.C.Store c.args.self.log.store next.log.store) behind grown)
-
-pub returns-in-Ok-clause-part : goal.returns-in-Ok-clause-part
-returns-in-Ok-clause-part g c = λ chain tip made.
-    let n = c.self.inside.commitment.size in
-    let items = map (λ v. v.items) c.in-Ok.lacking.items.items in
-    let behind = lacked-spelled g.C.Store (layout_of g.H.Digest.Digest.bytes g.H.Hasher g.F.Family g.U.Update g.I.Unordered) c.args.batch.now chain tip n c.args.self.commitment.size items made
-    (ap (λ db. db.commitment.size) c.self.view_is) c.in-Ok.ensures.among c.in-Ok.ensures.items in
+pub returns-in-Err : goal.returns-in-Err
+returns-in-Err g c =
+    let error = c.in-Err.error in
+    let why = c.in-Err.ensures.stale in
     let bounds = c.args.batch.now.bounds in
-    let fits : is_at c.args.self.commitment bounds.db bounds.ancestors ≡ true = subst (λ k. is_at k bounds.db bounds.ancestors ≡ true) (ap (λ db. db.commitment) c.self.view_is) c.in-Ok.ensures.fits in
-    let more = map (spelling g.U.Update.form) (drop c.args.self.commitment.size tip) in
-    err-then c.moved.result c.moved.ensures.part (λ r part.
-    let after = store_given (λ db. db.log.store) r.given in
-    subst (λ b. AppendedPart g.C.Store c.args.self.log.store after (if b then more else [])) (sym fits)
-    (subst (AppendedPart g.C.Store c.args.self.log.store after) behind part))
-
-pub returns-in-Ok-clause-back : goal.returns-in-Ok-clause-back
-returns-in-Ok-clause-back g c = err-then c.moved.result c.moved.ensures.back (λ r back x given.
-    let was = back x given in
-    (was.0, inr was.1))
+    let old = c.args.self.log.store in
+    record {
+      stands = λ list chain tip is made on. tt;
+      fits = tt;
+      grown = λ chain tip made. tt;
+      start = refl;
+      beside = refl;
+      later = tt;
+      stale = λ stale. (
+        refl,
+        subst (λ k. is_at k bounds.db bounds.ancestors ≡ false) (ap (λ db. db.commitment) c.self.view_is) (stale-told error why stale),
+      );
+      part = λ chain tip made. unchanged-appended-part g.C.Store old old _ (record { start = refl; told = refl });
+      back = λ x given. (cc given, stale-or error why);
+      causes = stale-causes error why;
+      cause = stale-cause error why (g.C.Store.faults old);
+    }

@@ -1,50 +1,81 @@
-use Rattle.std.proofs.Common.{◌∙◌, ap, arith, length, map, subst, sym, ℕ, Option}
+use Rattle.std.proofs.Common.{◌≡◌, ◌∙◌, ap, true, false, arith, length, map, subst, sym, refl, inl, inr, ℕ, Option}
 use Rattle.qm_model.specs.Operations.{Bytes, Operation}
-use Rattle.std.specs.Prelude.{option_map}
+use Rattle.std.specs.Prelude.{◌⊎◌, option_map}
 use Rattle.std.proofs.lemmas.List.{length-append, length-map}
-use Rattle.std.proofs.lemmas.Result.{err_from_is_err_and}
+use Rattle.std.proofs.lemmas.Result.{IfOk-from_err, err_from_is_err_and}
 use Rattle.qm_model.specs.Writes.{read_through}
+use Rattle.qm_base.specs.declared.error.Error.TheVariants as errors
+use Rattle.qm_chain.specs.Bounds.{knows}
+use Rattle.qm_store.specs.Reads.{IsReadError}
 use Rattle.qm_step.specs.Views.{read_view}
 use Rattle.qm_any.specs.Layouts.{hashing_of}
-use Rattle.qm_any.specs.Databases.{IsBegun}
+use Rattle.qm_any.specs.Databases.{Begun, IsBegun}
 use Rattle.qm_any.proofs.Staging.{keys-count, staged-keys-more, staged-more}
 use Rattle.qm_any.proofs.staged.Staged.expand.Goals as goal
 
-pub returns-in_err-found-clause-whole : goal.returns-in_err-found-clause-whole
-returns-in_err-found-clause-whole g c = λ list is none.
+pub returns-in_err-found : goal.returns-in_err-found
+returns-in_err-found g c =
     let exit = err_from_is_err_and c.from_residual.result c.from_residual.ensures.1 in
-    rw (exit.1, exit.2) (c.in_err-found.ensures.whole list is none)
-
-pub returns-clause-range : goal.returns-clause-range
-returns-clause-range g c =
-    let key = g.U.Key.ByteString.bytes in
-    let reads = ap (λ s. length s.reads) c.self.view_is in
-    let had = length-map {B = Bytes × Option (ℕ × Operation)} c.self.inside.reads.items (λ r. (key r.key, option_map (read_view g.U.Update.view) r.found)) in
-    let keys = length-map c.args.self.reads (λ r. r.0) in
-    let more = keys-count key c.in_ok-found.found.items c.args.keys.items c.in_ok-found.ensures.keys in
-    let all = ap length c.in_ok-reads.ensures ∙ length-append c.self.inside.reads.items c.in_ok-found.found.items in
-    (omega (arith, reads, had, keys, c.len-start.ensures), omega (arith, reads, had, keys, more, all, c.len.ensures))
-
-pub returns-clause-values : goal.returns-clause-values
-returns-clause-values g c = λ list chain above is staged known.
-    let key = g.U.Key.ByteString.bytes in
-    let value = g.U.Value.ByteString.bytes in
-    let batch = ap (λ s. s.batch) c.self.view_is in
-    let begun = subst (λ b. IsBegun (hashing_of g.D.Digest.bytes g.H.Hasher g.F.Family g.U.Update) b chain above) (sym batch) staged.begun in
-    c.in_ok-found.ensures.values list chain above is begun known
-    ∙ ap (λ b. map (λ k. read_through chain.base b.writes (key k)) c.args.keys.items) batch
-
-pub returns-clause-staged : goal.returns-clause-staged
-returns-clause-staged g c = λ list chain above is staged known.
-    let key = g.U.Key.ByteString.bytes in
-    let batch = ap (λ s. s.batch) c.self.view_is in
-    let begun = subst (λ b. IsBegun (hashing_of g.D.Digest.bytes g.H.Hasher g.F.Family g.U.Update) b chain above) (sym batch) staged.begun in
     record {
-      begun = begun;
-      reads = staged-more g.U.Update.view key chain.base c.in_ok-reads.reads.items c.self.inside.reads.items c.in_ok-found.found.items c.args.self.reads c.in_ok-reads.ensures (ap (λ s. s.reads) c.self.view_is) staged.reads
-          (c.in_ok-found.ensures.reads list chain above is begun known);
+      range = IfOk-from_err c.from_residual.result _ c.from_residual.ensures.0;
+      values = λ list chain above is staged known. IfOk-from_err c.from_residual.result _ c.from_residual.ensures.0;
+      staged = λ list chain above is staged known. IfOk-from_err c.from_residual.result _ c.from_residual.ensures.0;
+      batch = IfOk-from_err c.from_residual.result _ c.from_residual.ensures.0;
+      keys = IfOk-from_err c.from_residual.result _ c.from_residual.ensures.0;
+      readable = IfOk-from_err c.from_residual.result _ c.from_residual.ensures.0;
+      error = rw (exit.1, exit.2) (subst (λ (b : Begun g.row.D.Denot). ((c.in_err-found.field-0.0 ≡ errors.StaleRead) × (knows b.parent.bounds c.args.db.now.commitment ≡ false))
+          ⊎ ((c.in_err-found.field-0.0 ≡ errors.Memory) ⊎ ((knows b.parent.bounds c.args.db.now.commitment ≡ true) × IsReadError g.C.Store c.args.db.now.log c.located.new.db.log c.in_err-found.field-0.0)))
+          (ap (λ s. s.batch) c.self.view_is) c.in_err-found.ensures.error);
+      whole = λ list is none. rw (exit.1, exit.2) (c.in_err-found.ensures.whole list is none);
+      left = c.in_err-found.ensures.left;
     }
 
-pub returns-clause-keys : goal.returns-clause-keys
-returns-clause-keys g c =
-    staged-keys-more g.U.Update.view g.U.Key.ByteString.bytes c.in_ok-reads.reads.items c.self.inside.reads.items c.in_ok-found.found.items c.args.self.reads c.args.keys.items c.in_ok-reads.ensures (ap (λ s. s.reads) c.self.view_is) c.in_ok-found.ensures.keys
+pub returns-in_err-reads : goal.returns-in_err-reads
+returns-in_err-reads g c =
+    let exit = err_from_is_err_and c.from_residual-in_err-reads.result c.from_residual-in_err-reads.ensures.1 in
+    record {
+      range = IfOk-from_err c.from_residual-in_err-reads.result _ c.from_residual-in_err-reads.ensures.0;
+      values = λ list chain above is staged known. IfOk-from_err c.from_residual-in_err-reads.result _ c.from_residual-in_err-reads.ensures.0;
+      staged = λ list chain above is staged known. IfOk-from_err c.from_residual-in_err-reads.result _ c.from_residual-in_err-reads.ensures.0;
+      batch = IfOk-from_err c.from_residual-in_err-reads.result _ c.from_residual-in_err-reads.ensures.0;
+      keys = IfOk-from_err c.from_residual-in_err-reads.result _ c.from_residual-in_err-reads.ensures.0;
+      readable = IfOk-from_err c.from_residual-in_err-reads.result _ c.from_residual-in_err-reads.ensures.0;
+      error = rw (exit.1, exit.2) (inr (inl refl));
+      whole = λ list is none. rw (exit.1, exit.2) (λ n pruned. cc);
+      left = c.in_ok-found.ensures.left;
+    }
+
+pub returns : goal.returns
+returns g c =
+    record {
+      range =
+          let key = g.U.Key.ByteString.bytes in
+          let reads = ap (λ s. length s.reads) c.self.view_is in
+          let had = length-map {B = Bytes × Option (ℕ × Operation)} c.self.inside.reads.items (λ r. (key r.key, option_map (read_view g.U.Update.view) r.found)) in
+          let keys = length-map c.args.self.reads (λ r. r.0) in
+          let more = keys-count key c.in_ok-found.found.items c.args.keys.items c.in_ok-found.ensures.keys in
+          let all = ap length c.in_ok-reads.ensures ∙ length-append c.self.inside.reads.items c.in_ok-found.found.items in
+          (omega (arith, reads, had, keys, c.len-start.ensures), omega (arith, reads, had, keys, more, all, c.len.ensures));
+      values = λ list chain above is staged known.
+          let key = g.U.Key.ByteString.bytes in
+          let value = g.U.Value.ByteString.bytes in
+          let batch = ap (λ s. s.batch) c.self.view_is in
+          let begun = subst (λ b. IsBegun (hashing_of g.D.Digest.bytes g.H.Hasher g.F.Family g.U.Update) b chain above) (sym batch) staged.begun in
+          c.in_ok-found.ensures.values list chain above is begun known
+          ∙ ap (λ b. map (λ k. read_through chain.base b.writes (key k)) c.args.keys.items) batch;
+      staged = λ list chain above is staged known.
+          let key = g.U.Key.ByteString.bytes in
+          let batch = ap (λ s. s.batch) c.self.view_is in
+          let begun = subst (λ b. IsBegun (hashing_of g.D.Digest.bytes g.H.Hasher g.F.Family g.U.Update) b chain above) (sym batch) staged.begun in
+          record {
+            begun = begun;
+            reads = staged-more g.U.Update.view key chain.base c.in_ok-reads.reads.items c.self.inside.reads.items c.in_ok-found.found.items c.args.self.reads c.in_ok-reads.ensures (ap (λ s. s.reads) c.self.view_is) staged.reads
+                (c.in_ok-found.ensures.reads list chain above is begun known);
+          };
+      batch = ap (λ s. s.batch) c.self.view_is;
+      keys = staged-keys-more g.U.Update.view g.U.Key.ByteString.bytes c.in_ok-reads.reads.items c.self.inside.reads.items c.in_ok-found.found.items c.args.self.reads c.args.keys.items c.in_ok-reads.ensures (ap (λ s. s.reads) c.self.view_is) c.in_ok-found.ensures.keys;
+      readable = subst (λ (b : Begun g.row.D.Denot). knows b.parent.bounds c.args.db.now.commitment ≡ true) (ap (λ s. s.batch) c.self.view_is) c.in_ok-found.ensures.readable;
+      error = tt;
+      whole = λ list is none. tt;
+      left = c.in_ok-found.ensures.left;
+    }
