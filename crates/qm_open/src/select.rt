@@ -1,6 +1,6 @@
 //! Which list an opening takes up.
 
-ghost use Rattle.std.specs.Prelude.{false, ◌≡◌, ◌⊎◌, ◌≤◌, ◌<◌, ◌-◌, ◌==◌, ◌&&◌, ℕ, Some, None, Ok, Err, option_map, IfSome, IfOk, IfErr, IsErrOf, IsSome};
+ghost use Rattle.std.specs.Prelude.{false, ◌≡◌, ◌⊎◌, ◌≤◌, ◌<◌, ◌-◌, ◌==◌, ◌&&◌, ℕ, Some, None, Ok, Err, min, option_map, IfSome, IfOk, IfErr, IsErrOf, IsSome};
 ghost use Rattle.std.specs.Option.{option_map_or};
 ghost use Rattle.qm_model.specs.Causes.{IsCause};
 ghost use Rattle.qm_model.specs.Opening as opening;
@@ -24,6 +24,16 @@ pub struct Selected {
     pub floor: u64,
 }
 
+// Up to where a store that ends there is looked at, under a bound.
+fn top(end: u64, bound: Option<u64>) -> u64
+    ensures { result ≡ option_map_or (λ b. min b end) bound end }
+{
+    match bound {
+        Some(bound) => bound.min(end),
+        None => end,
+    }
+}
+
 /// The last commit that a store keeps of a list of at most so many operations. It reads the items behind it, from the last
 /// one on, and its own.
 fn last_commit<F, C: Store, U: Update>(
@@ -39,8 +49,7 @@ fn last_commit<F, C: Store, U: Update>(
     ensures cause { IsCause (C.faults store.old) (C.faults store.new) (IsErrOf result (Error.Journal JournalError.Store)) }
 {
     let (start, end) = store.bounds();
-    let top = bound.map_or(end, |bound| bound.min(end));
-    for at in (start..top).rev() {
+    for at in (start..top(end, bound)).rev() {
         let item = store.read(at)?;
         if let Some(floor) = commit_floor_in::<F, U>(alloc, &item)? {
             return Ok(Some(Selected {
