@@ -58,10 +58,6 @@ spelled-there form (op ∷ rest) zero bs all is =
     (op, refl, record { of = All-head (IsOf form) op rest all; spelled = same })
 spelled-there form (op ∷ rest) (suc at) bs all is = spelled-there form rest at bs (All-tail (IsOf form) op rest all) is
 
--- a cause after a count that did not fall
-pub cause-later : {Failed : Type 0} (a b c : ℕ) → a ≤ b → IsCause b c Failed → IsCause a c Failed
-cause-later a b c before cause = let after = cause.later in record { later = omega (arith, before, after); failed = λ fault. rose-later a b c before (cause.failed fault) }
-
 -- an error tells of the store only where its count of faults rose
 pub caused : {C D : Type 0} (members : store.Ghosts C) (a b c : Log C D) (e : Error) → members.faults a.store ≤ members.faults b.store → members.faults b.store ≤ members.faults c.store → IsReadError members b c e
     → IsCause (members.faults a.store) (members.faults c.store) (e ≡ errors.Journal journal.Store)

@@ -46,6 +46,7 @@ pub undamaged : (e : Error) (x : Corrupt) → (e ≡ errors.Memory) ⊎ (e ≡ e
 undamaged e x (inl memory) damaged = absurd cc
 undamaged e x (inr fault) damaged = absurd cc
 
+-- nor do they leave more than these two, whatever else an error may be
 pub either : {X : Type 0} (e : Error) → (e ≡ errors.Memory) ⊎ (e ≡ errors.Journal journal.Store) → (e ≡ errors.Memory) ⊎ ((e ≡ errors.Journal journal.Store) ⊎ X)
 either e (inl memory) = inl memory
 either e (inr fault) = inr (inl fault)

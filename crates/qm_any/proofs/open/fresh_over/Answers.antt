@@ -9,7 +9,7 @@ use Rattle.qm_base.specs.declared.error.JournalError.TheVariants as journal
 use Rattle.qm_store.specs.Given.{AppendedPart, store_given}
 use Rattle.qm_store.proofs.Told.{unchanged-appended-part}
 use Rattle.qm_list.proofs.Checking.{each-known, known-at}
-use Rattle.qm_any.proofs.Openings.{later-cause, plain-damage, plain-or}
+use Rattle.qm_store.proofs.Exits.{either, later-cause, undamaged}
 use Rattle.qm_any.proofs.Taking.{given-unchanged}
 use Rattle.qm_any.proofs.Unapplied.{memory-cause}
 use Rattle.qm_any.proofs.open.fresh_over.Goals as goal
@@ -74,13 +74,13 @@ returns-in-Ok-empty_log g c =
       grown = ok-then c.begun.result begun.grown (λ db grown. record { start = grown.start ∙ kept.start; told = subst (λ o. Becomes o (told db.log.store) (appended own)) kept.told grown.told });
       later = ok-then c.begun.result begun.later (λ db later. omega (arith, first, later));
       bare = ok-then c.begun.result begun.pruned (λ db none. c.in-Ok-empty_log.ensures.bare);
-      head = err-then c.begun.result begun.causes (λ r causes damaged. plain-damage r.error causes damaged);
-      back_head = err-then c.begun.result begun.causes (λ r causes damaged. plain-damage r.error causes damaged);
+      head = err-then c.begun.result begun.causes (λ r causes damaged. absurd (undamaged r.error _ causes damaged));
+      back_head = err-then c.begun.result begun.causes (λ r causes damaged. absurd (undamaged r.error _ causes damaged));
       unopened = err-then c.begun.result begun.causes (λ r causes. each-known (told store) (λ held is some.
           let none = ap length (known-at _ (told store) held is c.in-Ok-empty_log.ensures.bare) in
           absurd (omega (arith, some, none))));
       part = err-then c.begun.result begun.part (λ r part. record { start = part.start ∙ kept.start; told = subst (λ o. Turns o (told (store_given (λ db. db.log.store) r.given)) (HasAppended own)) kept.told part.told });
       back = begun.back;
-      causes = err-then c.begun.result begun.causes (λ r causes. plain-or r.error causes);
+      causes = err-then c.begun.result begun.causes (λ r causes. either r.error causes);
       cause = err-then c.begun.result begun.cause (λ r cause. later-cause (faults store) (faults log.store) (faults (store_given (λ db. db.log.store) r.given)) first cause);
     }

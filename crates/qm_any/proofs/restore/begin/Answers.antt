@@ -6,7 +6,8 @@ use Rattle.qm_model.specs.StoreModel.{settled, appended, HasAppended}
 use Rattle.qm_model.proofs.Results.{told-one, ok-then, err-then}
 use Rattle.qm_merkle.proofs.Standing.{peaks-none}
 use Rattle.qm_any.proofs.Lasting.{turns-behind}
-use Rattle.qm_any.proofs.Openings.{fresh-back, later-cause, plain-due, plain-refusal}
+use Rattle.qm_store.proofs.Exits.{later-cause}
+use Rattle.qm_any.proofs.Openings.{fresh-back, plain-due, plain-refusal}
 use Rattle.qm_any.proofs.Taking.{reads-grown, given-stable}
 use Rattle.qm_list.proofs.Checking.{each-known, known-at, on-ok}
 use Rattle.qm_any.proofs.Restoring.{nothing-accepted, nothing-due, nothing-headed, refused-none}

@@ -11,7 +11,7 @@ use Rattle.qm_store.specs.declared.refusal.Given.TheVariants.{Store}
 use Rattle.qm_store.specs.Log.{store_given}
 use Rattle.qm_store.proofs.Stores.{both, kept-then}
 use Rattle.qm_build.proofs.Decoding.{any-ok, each, known, then-told}
-use Rattle.qm_build.proofs.Reading.{cause-later}
+use Rattle.qm_store.proofs.Exits.{later-cause}
 use Rattle.qm_build.proofs.opened.open_at.Goals as goal
 
 no-head : (e : Error) → (e ≡ errors.Memory) ⊎ ((e ≡ errors.Journal journal.Store) ⊎ (e ≡ errors.DataCorrupted ItemDoesNotDecode)) → e ≡ errors.DataCorrupted HeadDoesNotMatch → ⊥
@@ -53,7 +53,7 @@ returns-in-Ok g c =
       bits = ok-then c.whole.result whole.bits (λ o bits. (bits.0 ∙ opened.size, omega (arith, bits.1, opened.size)));
       head = IfSome_then told opened.long (λ s long. any-ok c.whole.result long);
       decoded = rw (opened.kept.told, opened.size) at whole.decoded;
-      back = err-then c.whole.result whole.back (λ r back. (back.0, back.1, kept-then members store made back.0 opened.kept back.2, cause-later (members.faults store) (members.faults made) (members.faults back.0) opened.later back.3));
+      back = err-then c.whole.result whole.back (λ r back. (back.0, back.1, kept-then members store made back.0 opened.kept back.2, later-cause (members.faults store) (members.faults made) (members.faults back.0) opened.later back.3));
       other_head = err-then c.whole.result whole.never (λ r never is. absurd (no-head r.error never is));
       undecoded = err-then c.whole.result whole.undecoded (λ r lost is. both told opened.long (rw (opened.kept.told, opened.size) at (lost is)) (λ s long here. (long, here)));
       never = err-then c.whole.result whole.never (λ r never. wider never);

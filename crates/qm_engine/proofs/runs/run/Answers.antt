@@ -30,48 +30,50 @@ loop-command-init g c =
           (λ apart. (ap (map a) c.new-replies.ensures.items, begins-between g.C.Store g.X.Words rules c.in-Ok.session log rest (c.in-Ok.ensures.session log rest (log-of m rules (g.C.Store.told c.args.store) stored log is own) (kept-low m rules log own.kept) own.kept.stable) own.kept));
     }
 
-pub returns-in-Err-clause-machine : goal.returns-in-Err-clause-machine
-returns-in-Err-clause-machine g c =
+pub returns-in-Err : goal.returns-in-Err
+returns-in-Err g c =
     let f = line_view g.X.Key.ByteString.bytes g.X.Value.ByteString.bytes (λ p. p) in
     let a = answer_view g.X.Key.ByteString.bytes g.X.Value.ByteString.bytes g.X.Digest.Digest.bytes in
     let none : map a c.new-replies.result.items ≡ [] = ap (map a) c.new-replies.ensures.items in
-    each (g.C.Store.told c.args.store) (λ stored is log own choices told.
-    ended_at g.X.Words.scheme g.P.Policy.rules log choices (map f c.args.commands.now) 0 (map a c.new-replies.result.items) _ (omega arith) (ap length none)
-    (λ apart. (none, log-of g.X.Words.scheme g.P.Policy.rules _ stored log (ap g.C.Store.told c.in-Err.ensures.back ∙ is) own, own.kept)))
+    record {
+      machine = each (g.C.Store.told c.args.store) (λ stored is log own choices told.
+          ended_at g.X.Words.scheme g.P.Policy.rules log choices (map f c.args.commands.now) 0 (map a c.new-replies.result.items) _ (omega arith) (ap length none)
+          (λ apart. (none, log-of g.X.Words.scheme g.P.Policy.rules _ stored log (ap g.C.Store.told c.in-Err.ensures.back ∙ is) own, own.kept)));
+      done = λ e. absurd (cc e);
+      short = λ e. absurd (cc e);
+      beside = ([], turns-same (g.C.Store.told c.args.store) _ (ap g.C.Store.told c.in-Err.ensures.back));
+      later = omega (arith, ap g.C.Store.faults c.in-Err.ensures.back);
+      fault = λ e. absurd (cc e);
+    }
 
-pub returns-in-Err-clause-beside : goal.returns-in-Err-clause-beside
-returns-in-Err-clause-beside g c = ([], turns-same (g.C.Store.told c.args.store) _ (ap g.C.Store.told c.in-Err.ensures.back))
-
-pub returns-in-Some-clause-machine : goal.returns-in-Some-clause-machine
-returns-in-Some-clause-machine g c =
+pub returns-in-Some : goal.returns-in-Some
+returns-in-Some g c =
     let f = line_view g.X.Key.ByteString.bytes g.X.Value.ByteString.bytes (λ p. p) in
     let a = answer_view g.X.Key.ByteString.bytes g.X.Value.ByteString.bytes g.X.Digest.Digest.bytes in
     let i = c.loop-command.command-index in
     let kept : c.step-next.new.replies.items ≡ c.loop-command.replies.items = rw c.in-Some.is at c.step-next.ensures.kept in
     let before = c.loop-command.invariant.beside in
     let behind = c.step-next.ensures.beside in
-    each (g.C.Store.told c.args.store) (λ stored is log own choices told.
-    rw (kept, c.returned.ensures.store) (subst (λ xs. IsRun g.X.Words.scheme g.P.Policy.rules log xs (map f c.args.commands.now) (map a c.loop-command.replies.items) (g.C.Store.told (store_given g.X.Words.inside c.step-next.result.0.held)))
-    (sym (more-parts (g.C.Store.told c.args.store) _ _ stored before.0 behind.0 choices is before.1 behind.1 (rw c.returned.ensures.store at told)))
-    (ended_in g.X.Words.scheme g.P.Policy.rules log (before.0 ++ behind.0) (map f c.args.commands.now) i (f c.command-item.result) (map a c.loop-command.replies.items) _
-    (λ s. Between g.C.Store g.X.Words g.P.Policy.rules c.loop-command.session behind.0 s)
-    (rw (length-map c.args.commands.now f) c.loop-command-test.true)
-    (line_here f c.args.commands.now i c.command-item.result c.loop-command-test.true c.command-item.is)
-    (length-map c.loop-command.replies.items a ∙ c.loop-command.invariant.count)
-    (c.loop-command.invariant.machine stored log is own before.0 behind.0 before.1)
-    (λ s between apart. own-left g.C.Store g.X.Words g.P.Policy.rules c.loop-command.session behind.0 (f c.command-item.result) _ s (rw c.returned.ensures.store at c.returned.ensures.stable) between apart
-    (c.step-next.ensures.left s between.stands (sound-steady g.X.Words.scheme g.P.Policy.rules s between.sound) apart)))))
-
-pub returns-in-Some-clause-beside : goal.returns-in-Some-clause-beside
-returns-in-Some-clause-beside g c =
-    let before = c.loop-command.invariant.beside in
-    let behind = c.step-next.ensures.beside in
-    rw c.returned.ensures.store (before.0 ++ behind.0, turns-through before.0 behind.0 (g.C.Store.told c.args.store) _ _ before.1 behind.1)
-
-pub returns-in-Some-clause-fault : goal.returns-in-Some-clause-fault
-returns-in-Some-clause-fault g c = λ e.
-    let rose = c.step-next.ensures.fault (c.in-Some.is ∙ ap Some e) in
-    rw c.returned.ensures.store (Rose-wider _ _ _ _ c.loop-command.invariant.later rose (omega arith))
+    record {
+      machine = each (g.C.Store.told c.args.store) (λ stored is log own choices told.
+          rw (kept, c.returned.ensures.store) (subst (λ xs. IsRun g.X.Words.scheme g.P.Policy.rules log xs (map f c.args.commands.now) (map a c.loop-command.replies.items) (g.C.Store.told (store_given g.X.Words.inside c.step-next.result.0.held)))
+          (sym (more-parts (g.C.Store.told c.args.store) _ _ stored before.0 behind.0 choices is before.1 behind.1 (rw c.returned.ensures.store at told)))
+          (ended_in g.X.Words.scheme g.P.Policy.rules log (before.0 ++ behind.0) (map f c.args.commands.now) i (f c.command-item.result) (map a c.loop-command.replies.items) _
+          (λ s. Between g.C.Store g.X.Words g.P.Policy.rules c.loop-command.session behind.0 s)
+          (rw (length-map c.args.commands.now f) c.loop-command-test.true)
+          (line_here f c.args.commands.now i c.command-item.result c.loop-command-test.true c.command-item.is)
+          (length-map c.loop-command.replies.items a ∙ c.loop-command.invariant.count)
+          (c.loop-command.invariant.machine stored log is own before.0 behind.0 before.1)
+          (λ s between apart. own-left g.C.Store g.X.Words g.P.Policy.rules c.loop-command.session behind.0 (f c.command-item.result) _ s (rw c.returned.ensures.store at c.returned.ensures.stable) between apart
+          (c.step-next.ensures.left s between.stands (sound-steady g.X.Words.scheme g.P.Policy.rules s between.sound) apart)))));
+      done = λ e. absurd ((rw c.in-Some.is at c.step-next.ensures.not_done) e);
+      short = λ e. omega (arith, ap length kept, c.loop-command.invariant.count, c.loop-command-test.true);
+      beside = rw c.returned.ensures.store (before.0 ++ behind.0, turns-through before.0 behind.0 (g.C.Store.told c.args.store) _ _ before.1 behind.1);
+      later = rw c.returned.ensures.store (omega (arith, c.loop-command.invariant.later, c.step-next.ensures.later));
+      fault = λ e.
+          let rose = c.step-next.ensures.fault (c.in-Some.is ∙ ap Some e) in
+          rw c.returned.ensures.store (Rose-wider _ _ _ _ c.loop-command.invariant.later rose (omega arith));
+    }
 
 pub loop-command-preserved : goal.loop-command-preserved
 loop-command-preserved g c =
@@ -103,18 +105,22 @@ loop-command-preserved g c =
           (λ s stands sound choices. rw c.in_default.is at (c.step-next.ensures.machine s stands sound behind.0 rest behind.1 choices))));
     }
 
-pub returns-clause-machine : goal.returns-clause-machine
-returns-clause-machine g c =
+pub returns : goal.returns
+returns g c =
     let f = line_view g.X.Key.ByteString.bytes g.X.Value.ByteString.bytes (λ p. p) in
     let a = answer_view g.X.Key.ByteString.bytes g.X.Value.ByteString.bytes g.X.Digest.Digest.bytes in
     let m = g.X.Words.scheme in
     let i = c.loop-command.command-index in
-    each (g.C.Store.told c.args.store) (λ stored is log own choices told.
-    rw c.returned-2.ensures.store (ended_at m g.P.Policy.rules log choices (map f c.args.commands.now) i (map a c.loop-command.replies.items) _
-    (omega (arith, length-map c.args.commands.now f, c.loop-command.auto.command-index-end))
-    (length-map c.loop-command.replies.items a ∙ c.loop-command.invariant.count)
-    (subst (λ xs. Apart m.root (after m g.P.Policy.rules log xs (map f c.args.commands.now) i).had → (map a c.loop-command.replies.items ≡ answers m g.P.Policy.rules (initial log xs) (take i (map f c.args.commands.now))) × HasLog m (g.C.Store.told (store_given g.X.Words.inside c.loop-command.session.held)) (after m g.P.Policy.rules log xs (map f c.args.commands.now) i).log × IsKept (engine_of m g.P.Policy.rules) (after m g.P.Policy.rules log xs (map f c.args.commands.now) i).log) (append-nil choices)
-    (λ apart. let at_end = c.loop-command.invariant.machine stored log is own choices [] (rw c.returned-2.ensures.store at told) apart in (at_end.0, (at_end.1).stands.store.told, (at_end.1).sound.kept)))))
-
-pub returns-clause-beside : goal.returns-clause-beside
-returns-clause-beside g c = rw c.returned-2.ensures.store c.loop-command.invariant.beside
+    record {
+      machine = each (g.C.Store.told c.args.store) (λ stored is log own choices told.
+          rw c.returned-2.ensures.store (ended_at m g.P.Policy.rules log choices (map f c.args.commands.now) i (map a c.loop-command.replies.items) _
+          (omega (arith, length-map c.args.commands.now f, c.loop-command.auto.command-index-end))
+          (length-map c.loop-command.replies.items a ∙ c.loop-command.invariant.count)
+          (subst (λ xs. Apart m.root (after m g.P.Policy.rules log xs (map f c.args.commands.now) i).had → (map a c.loop-command.replies.items ≡ answers m g.P.Policy.rules (initial log xs) (take i (map f c.args.commands.now))) × HasLog m (g.C.Store.told (store_given g.X.Words.inside c.loop-command.session.held)) (after m g.P.Policy.rules log xs (map f c.args.commands.now) i).log × IsKept (engine_of m g.P.Policy.rules) (after m g.P.Policy.rules log xs (map f c.args.commands.now) i).log) (append-nil choices)
+          (λ apart. let at_end = c.loop-command.invariant.machine stored log is own choices [] (rw c.returned-2.ensures.store at told) apart in (at_end.0, (at_end.1).stands.store.told, (at_end.1).sound.kept)))));
+      done = λ e. omega (arith, c.loop-command.invariant.count, c.loop-command.auto.command-index-end, c.loop-command-test.false);
+      short = λ e. absurd (cc e);
+      beside = rw c.returned-2.ensures.store c.loop-command.invariant.beside;
+      later = rw c.returned-2.ensures.store c.loop-command.invariant.later;
+      fault = λ e. absurd (cc e);
+    }

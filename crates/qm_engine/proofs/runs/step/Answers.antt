@@ -1,15 +1,69 @@
-use Rattle.std.proofs.Common.{◌∷◌, [], ◌++◌, map, ap, ◌∙◌}
+use Rattle.std.proofs.Common.{◌∷◌, [], ◌++◌, map, ap, ◌∙◌, length, arith, refl, length-append}
 use Rattle.std.proofs.lemmas.List.{map-append}
 use Rattle.qm_lines.specs.Views.{answer_view}
 use Rattle.qm_engine.proofs.runs.step.Goals as goal
 
-pub returns-in-Ok-clause-machine : goal.returns-in-Ok-clause-machine
-returns-in-Ok-clause-machine g c = λ s k sound more rest told choices apart.
+pub returns-in-Ok : goal.returns-in-Ok
+returns-in-Ok g c =
     let view = answer_view g.X.Key.ByteString.bytes g.X.Value.ByteString.bytes g.X.Digest.Digest.bytes in
-    let answered = (rw c.in-Reply.is at (c.turn-session.ensures.machine s k sound more rest told choices)) apart in (
-      rw c.in-Ok.ensures.ok (map-append view c.args.replies.now.items (c.in-Reply.reply ∷ []) ∙ ap (λ a. map view c.args.replies.now.items ++ a ∷ []) answered.0),
-      answered.1,
-    )
+    let handles = c.turn-session.ensures.handles in
+    record {
+      machine = λ s k sound more rest told choices apart.
+          let answered = (rw c.in-Reply.is at (c.turn-session.ensures.machine s k sound more rest told choices)) apart in (
+            rw c.in-Ok.ensures.ok (map-append view c.args.replies.now.items (c.in-Reply.reply ∷ []) ∙ ap (λ a. map view c.args.replies.now.items ++ a ∷ []) answered.0),
+            answered.1,
+          );
+      left = c.turn-session.ensures.left;
+      grown = omega (arith, ap length c.in-Ok.ensures.ok, length-append c.args.replies.now.items (c.in-Reply.reply ∷ []));
+      kept = tt;
+      not_done = tt;
+      beside = (handles.more, handles.beside, rw c.in-Reply.is at handles.chosen);
+      later = handles.later;
+      fault = λ e. absurd (cc e);
+      opened = c.turn-session.ensures.opened;
+    }
 
-pub returns-in-Ok-clause-beside : goal.returns-in-Ok-clause-beside
-returns-in-Ok-clause-beside g c = let handles = c.turn-session.ensures.handles in (handles.more, handles.beside, rw c.in-Reply.is at handles.chosen)
+pub returns-in-Err : goal.returns-in-Err
+returns-in-Err g c =
+    let handles = c.turn-session.ensures.handles in
+    record {
+      machine = λ s k sound more rest told choices. tt;
+      left = c.turn-session.ensures.left;
+      grown = tt;
+      kept = c.in-Err.ensures.err;
+      not_done = λ e. absurd (cc e);
+      beside = (handles.more, handles.beside, tt);
+      later = handles.later;
+      fault = λ e. absurd (cc e);
+      opened = c.turn-session.ensures.opened;
+    }
+
+pub returns-in-Memory : goal.returns-in-Memory
+returns-in-Memory g c =
+    let handles = c.turn-session.ensures.handles in
+    record {
+      machine = λ s k sound more rest told choices. tt;
+      left = c.turn-session.ensures.left;
+      grown = tt;
+      kept = refl;
+      not_done = λ e. absurd (cc e);
+      beside = (handles.more, handles.beside, tt);
+      later = handles.later;
+      fault = λ e. absurd (cc e);
+      opened = c.turn-session.ensures.opened;
+    }
+
+pub returns-in-StoreFault : goal.returns-in-StoreFault
+returns-in-StoreFault g c =
+    let handles = c.turn-session.ensures.handles in
+    record {
+      machine = λ s k sound more rest told choices. tt;
+      left = c.turn-session.ensures.left;
+      grown = tt;
+      kept = refl;
+      not_done = λ e. absurd (cc e);
+      beside = (handles.more, handles.beside, tt);
+      later = handles.later;
+      fault = λ e. handles.fault c.in-StoreFault.is;
+      opened = c.turn-session.ensures.opened;
+    }
