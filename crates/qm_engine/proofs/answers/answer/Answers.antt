@@ -1,11 +1,61 @@
-use Rattle.std.proofs.Common.{◌∷◌, [], ◌++◌, ap, ◌∙◌}
+use Rattle.std.proofs.Common.{◌∷◌, [], ◌++◌, ap, ◌∙◌, refl}
 use Rattle.qm_machine.specs.Text.{reply_line}
 use Rattle.qm_engine.proofs.answers.answer.Goals as goal
 
-pub returns-in-Ok-clause-machine : goal.returns-in-Ok-clause-machine
-returns-in-Ok-clause-machine g c = λ s k sound more rest told choices apart.
-    let answered = (rw c.in-Reply.is at (c.turn-session.ensures.machine s k sound more rest told choices)) apart in
-    ((rw c.in-Ok.is at c.push_line-pushed.ensures.ok) ∙ ap (λ a. c.args.text.now.items ++ (reply_line a ++ 10 ∷ [])) answered.0, answered.1)
+pub returns-in-Ok : goal.returns-in-Ok
+returns-in-Ok g c =
+    let handles = c.turn-session.ensures.handles in
+    record {
+      machine = λ s k sound more rest told choices apart.
+          let answered = (rw c.in-Reply.is at (c.turn-session.ensures.machine s k sound more rest told choices)) apart in
+          ((rw c.in-Ok.is at c.push_line-pushed.ensures.ok) ∙ ap (λ a. c.args.text.now.items ++ (reply_line a ++ 10 ∷ [])) answered.0, answered.1);
+      left = c.turn-session.ensures.left;
+      kept = tt;
+      cause = tt;
+      beside = (handles.more, handles.beside, rw c.in-Reply.is at handles.chosen);
+      later = handles.later;
+      fault = λ e. absurd (cc e);
+      opened = c.turn-session.ensures.opened;
+    }
 
-pub returns-in-Ok-clause-beside : goal.returns-in-Ok-clause-beside
-returns-in-Ok-clause-beside g c = let handles = c.turn-session.ensures.handles in (handles.more, handles.beside, rw c.in-Reply.is at handles.chosen)
+pub returns-in-Err : goal.returns-in-Err
+returns-in-Err g c =
+    let handles = c.turn-session.ensures.handles in
+    record {
+      machine = λ s k sound more rest told choices. tt;
+      left = c.turn-session.ensures.left;
+      kept = rw c.in-Err.is at c.push_line-pushed.ensures.err;
+      cause = (λ e. absurd (cc e), λ e. absurd (cc e));
+      beside = (handles.more, handles.beside, tt);
+      later = handles.later;
+      fault = λ e. absurd (cc e);
+      opened = c.turn-session.ensures.opened;
+    }
+
+pub returns-in-Memory : goal.returns-in-Memory
+returns-in-Memory g c =
+    let handles = c.turn-session.ensures.handles in
+    record {
+      machine = λ s k sound more rest told choices. tt;
+      left = c.turn-session.ensures.left;
+      kept = refl;
+      cause = (λ e. absurd (cc e), λ e. absurd (cc e));
+      beside = (handles.more, handles.beside, tt);
+      later = handles.later;
+      fault = λ e. absurd (cc e);
+      opened = c.turn-session.ensures.opened;
+    }
+
+pub returns-in-StoreFault : goal.returns-in-StoreFault
+returns-in-StoreFault g c =
+    let handles = c.turn-session.ensures.handles in
+    record {
+      machine = λ s k sound more rest told choices. tt;
+      left = c.turn-session.ensures.left;
+      kept = refl;
+      cause = (λ e. absurd (cc e), λ e. absurd (cc e));
+      beside = (handles.more, handles.beside, tt);
+      later = handles.later;
+      fault = λ e. handles.fault c.in-StoreFault.is;
+      opened = c.turn-session.ensures.opened;
+    }

@@ -12,7 +12,7 @@ use Rattle.qm_engine.specs.Stores.{HasLog}
 use Rattle.qm_engine.specs.Runs.{after}
 use Rattle.qm_engine.specs.Answered.{IsAnswered}
 use Rattle.qm_engine.proofs.LastingStores.{turns-same, turns-through}
-use Rattle.qm_engine.proofs.Loops.{Between, each, log-of, begins-between, none-more, more-parts}
+use Rattle.qm_engine.proofs.Loops.{Between, each, log-of, begins-between, none-more, more-parts, Rose-wider}
 use Rattle.qm_engine.proofs.Owned.{own-of}
 use Rattle.qm_engine.proofs.Answerings.{at_next, at_short, line_step, line_goes, line-own, answered_in, answered_at}
 use Rattle.qm_engine.proofs.answers.answer_lines.Goals as goal
@@ -34,47 +34,51 @@ loop-line-init g c =
           (λ apart. (c.new-text.ensures.items, begins-between g.C.Store g.X.Words policies c.in-Ok.session log rest (c.in-Ok.ensures.session log rest (log-of m policies (g.C.Store.told c.args.store) stored log is own) (kept-low m policies log own.kept) own.kept.stable) own.kept));
     }
 
-pub returns-in-Err-clause-machine : goal.returns-in-Err-clause-machine
-returns-in-Err-clause-machine g c =
-    each (g.C.Store.told c.args.store) (λ stored is log own choices told.
-    answered_at g.X.Words.scheme log choices c.args.input.now 0 c.new-text.result.items _ (omega arith)
-    (λ apart. (c.new-text.ensures.items, log-of g.X.Words.scheme policies _ stored log (ap g.C.Store.told c.in-Err.ensures.back ∙ is) own, own.kept)))
+pub returns-in-Err : goal.returns-in-Err
+returns-in-Err g c = record {
+  machine = each (g.C.Store.told c.args.store) (λ stored is log own choices told.
+      answered_at g.X.Words.scheme log choices c.args.input.now 0 c.new-text.result.items _ (omega arith)
+      (λ apart. (c.new-text.ensures.items, log-of g.X.Words.scheme policies _ stored log (ap g.C.Store.told c.in-Err.ensures.back ∙ is) own, own.kept)));
+  done = λ e. absurd (cc e);
+  bad = λ e. absurd (cc e);
+  short = λ e. absurd (cc e);
+  beside = ([], turns-same (g.C.Store.told c.args.store) _ (ap g.C.Store.told c.in-Err.ensures.back));
+  bound = omega arith;
+  later = omega (arith, ap g.C.Store.faults c.in-Err.ensures.back);
+  fault = λ e. absurd (cc e);
+}
 
-pub returns-in-Err-clause-beside : goal.returns-in-Err-clause-beside
-returns-in-Err-clause-beside g c = ([], turns-same (g.C.Store.told c.args.store) _ (ap g.C.Store.told c.in-Err.ensures.back))
-
-pub returns-in-Some-ended-clause-machine : goal.returns-in-Some-ended-clause-machine
-returns-in-Some-ended-clause-machine g c =
+pub returns-in-Some-ended : goal.returns-in-Some-ended
+returns-in-Some-ended g c =
     let m = g.X.Words.scheme in
     let kept : c.answer_line-next.new.text.items ≡ c.loop-line.text.items = rw c.in-Some-ended.is at c.answer_line-next.ensures.kept in
     let before = c.loop-line.invariant.beside in
     let behind = c.answer_line-next.ensures.beside in
-    each (g.C.Store.told c.args.store) (λ stored is log own choices told.
-    rw (kept, c.returned.ensures.store) (subst (λ xs. IsAnswered m policies log xs (commands_in c.args.input.now) c.loop-line.answered c.loop-line.text.items (g.C.Store.told (store_given g.X.Words.inside c.answer_line-next.result.0.held)))
-    (sym (more-parts (g.C.Store.told c.args.store) _ _ stored before.0 behind.0 choices is before.1 behind.1 (rw c.returned.ensures.store at told)))
-    (answered_in c.args.input.now c.loop-line.rest.now c.in-Some.line.now c.in-Some.behind.now c.loop-line.answered c.loop-line.invariant.at c.in-Some.ensures.some
-    m log (before.0 ++ behind.0) c.loop-line.text.items _
-    (λ s. Between g.C.Store g.X.Words policies c.loop-line.session behind.0 s)
-    (c.loop-line.invariant.machine stored log is own before.0 behind.0 before.1)
-    (λ s between none. own-of m policies _ s.log (rw (sym (c.answer_line-next.ensures.unused none)) at between.stands.store.told) between.sound.kept)
-    (λ s between apart. line-own g.C.Store g.X.Words c.loop-line.session behind.0 (line_of c.in-Some.line.now) _ s (rw c.returned.ensures.store at c.returned.ensures.stable) between apart
-    (c.answer_line-next.ensures.left s between.stands (sound-steady m policies s between.sound) apart)))))
-
-pub returns-in-Some-ended-clause-beside : goal.returns-in-Some-ended-clause-beside
-returns-in-Some-ended-clause-beside g c =
-    let before = c.loop-line.invariant.beside in
-    let behind = c.answer_line-next.ensures.beside in
-    rw c.returned.ensures.store (before.0 ++ behind.0, turns-through before.0 behind.0 (g.C.Store.told c.args.store) _ _ before.1 behind.1)
-
-pub returns-in-Some-ended-clause-bad : goal.returns-in-Some-ended-clause-bad
-returns-in-Some-ended-clause-bad g c = λ e.
-    at_bad c.args.input.now c.loop-line.rest.now c.in-Some.line.now c.in-Some.behind.now c.loop-line.answered c.loop-line.invariant.at c.in-Some.ensures.some
-    (c.answer_line-next.ensures.bad (c.in-Some-ended.is ∙ ap Some e))
-
-pub returns-in-Some-ended-clause-short : goal.returns-in-Some-ended-clause-short
-returns-in-Some-ended-clause-short g c = λ e.
-    at_short c.args.input.now c.loop-line.rest.now c.in-Some.line.now c.in-Some.behind.now c.loop-line.answered c.loop-line.invariant.at c.in-Some.ensures.some
-    (line_of c.in-Some.line.now) refl (c.answer_line-next.ensures.fault_command (c.in-Some-ended.is ∙ ap Some e))
+    record {
+      machine = each (g.C.Store.told c.args.store) (λ stored is log own choices told.
+          rw (kept, c.returned.ensures.store) (subst (λ xs. IsAnswered m policies log xs (commands_in c.args.input.now) c.loop-line.answered c.loop-line.text.items (g.C.Store.told (store_given g.X.Words.inside c.answer_line-next.result.0.held)))
+          (sym (more-parts (g.C.Store.told c.args.store) _ _ stored before.0 behind.0 choices is before.1 behind.1 (rw c.returned.ensures.store at told)))
+          (answered_in c.args.input.now c.loop-line.rest.now c.in-Some.line.now c.in-Some.behind.now c.loop-line.answered c.loop-line.invariant.at c.in-Some.ensures.some
+          m log (before.0 ++ behind.0) c.loop-line.text.items _
+          (λ s. Between g.C.Store g.X.Words policies c.loop-line.session behind.0 s)
+          (c.loop-line.invariant.machine stored log is own before.0 behind.0 before.1)
+          (λ s between none. own-of m policies _ s.log (rw (sym (c.answer_line-next.ensures.unused none)) at between.stands.store.told) between.sound.kept)
+          (λ s between apart. line-own g.C.Store g.X.Words c.loop-line.session behind.0 (line_of c.in-Some.line.now) _ s (rw c.returned.ensures.store at c.returned.ensures.stable) between apart
+          (c.answer_line-next.ensures.left s between.stands (sound-steady m policies s between.sound) apart)))));
+      done = λ e. absurd ((rw c.in-Some-ended.is at c.answer_line-next.ensures.not_done) e);
+      bad = λ e.
+          at_bad c.args.input.now c.loop-line.rest.now c.in-Some.line.now c.in-Some.behind.now c.loop-line.answered c.loop-line.invariant.at c.in-Some.ensures.some
+          (c.answer_line-next.ensures.bad (c.in-Some-ended.is ∙ ap Some e));
+      short = λ e.
+          at_short c.args.input.now c.loop-line.rest.now c.in-Some.line.now c.in-Some.behind.now c.loop-line.answered c.loop-line.invariant.at c.in-Some.ensures.some
+          (line_of c.in-Some.line.now) refl (c.answer_line-next.ensures.fault_command (c.in-Some-ended.is ∙ ap Some e));
+      beside = rw c.returned.ensures.store (before.0 ++ behind.0, turns-through before.0 behind.0 (g.C.Store.told c.args.store) _ _ before.1 behind.1);
+      bound = omega (arith, c.loop-line.invariant.room);
+      later = rw c.returned.ensures.store (omega (arith, c.loop-line.invariant.later, c.answer_line-next.ensures.later));
+      fault = λ e.
+          let rose = c.answer_line-next.ensures.fault (c.in-Some-ended.is ∙ ap Some e) in
+          rw c.returned.ensures.store (Rose-wider _ _ _ _ c.loop-line.invariant.later rose (omega arith));
+    }
 
 pub loop-line-preserved : goal.loop-line-preserved
 loop-line-preserved g c =
@@ -102,18 +106,21 @@ loop-line-preserved g c =
           (λ s stands steady choices. rw c.in_default-ended.is at (c.answer_line-next.ensures.machine s stands steady behind.0 rest behind.1 choices))));
     }
 
-pub returns-clause-machine : goal.returns-clause-machine
-returns-clause-machine g c =
+pub returns : goal.returns
+returns g c =
     let m = g.X.Words.scheme in
     let lines = commands_in c.args.input.now in
     let k = c.loop-line.answered in
-    each (g.C.Store.told c.args.store) (λ stored is log own choices told.
-    rw c.returned-2.ensures.store (answered_at m log choices c.args.input.now k c.loop-line.text.items _ c.loop-line.invariant.at.few
-    (subst (λ xs. Apart m.root (after m policies log xs lines k).had → (c.loop-line.text.items ≡ text_of (answers m policies (initial log xs) (take k lines))) × HasLog m (g.C.Store.told (store_given g.X.Words.inside c.loop-line.session.held)) (after m policies log xs lines k).log × IsKept (engine_of m policies) (after m policies log xs lines k).log) (append-nil choices)
-    (λ apart. let at_end = c.loop-line.invariant.machine stored log is own choices [] (rw c.returned-2.ensures.store at told) apart in (at_end.0, (at_end.1).stands.store.told, (at_end.1).sound.kept)))))
-
-pub returns-clause-beside : goal.returns-clause-beside
-returns-clause-beside g c = rw c.returned-2.ensures.store c.loop-line.invariant.beside
-
-pub returns-clause-done : goal.returns-clause-done
-returns-clause-done g c = λ e. at_end c.args.input.now c.loop-line.rest.now c.loop-line.answered c.loop-line.invariant.at c.in_default.ensures.none
+    record {
+      machine = each (g.C.Store.told c.args.store) (λ stored is log own choices told.
+          rw c.returned-2.ensures.store (answered_at m log choices c.args.input.now k c.loop-line.text.items _ c.loop-line.invariant.at.few
+          (subst (λ xs. Apart m.root (after m policies log xs lines k).had → (c.loop-line.text.items ≡ text_of (answers m policies (initial log xs) (take k lines))) × HasLog m (g.C.Store.told (store_given g.X.Words.inside c.loop-line.session.held)) (after m policies log xs lines k).log × IsKept (engine_of m policies) (after m policies log xs lines k).log) (append-nil choices)
+          (λ apart. let at_end = c.loop-line.invariant.machine stored log is own choices [] (rw c.returned-2.ensures.store at told) apart in (at_end.0, (at_end.1).stands.store.told, (at_end.1).sound.kept)))));
+      done = λ e. at_end c.args.input.now c.loop-line.rest.now c.loop-line.answered c.loop-line.invariant.at c.in_default.ensures.none;
+      bad = λ e. absurd (cc e);
+      short = λ e. absurd (cc e);
+      beside = rw c.returned-2.ensures.store c.loop-line.invariant.beside;
+      bound = omega (arith, c.loop-line.invariant.room);
+      later = rw c.returned-2.ensures.store c.loop-line.invariant.later;
+      fault = λ e. absurd (cc e);
+    }
