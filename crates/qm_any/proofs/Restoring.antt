@@ -7,14 +7,15 @@ use Rattle.qm_model.specs.Grafted.{pair_absorption_threshold}
 use Rattle.qm_model.specs.Trees.{Shape, peaks}
 use Rattle.qm_model.specs.StoreModel.{Stored}
 use Rattle.qm_model.specs.Opening as opening
-use Rattle.qm_model.specs.Opening.{is_ring}
+use Rattle.qm_model.specs.Opening.{is_ring, opening_refusal}
 use Rattle.qm_model.specs.Refused.{Refused, DataCorrupted, HeadDoesNotMatch}
 use Rattle.qm_base.specs.declared.error.Error.TheVariants as errors
 use Rattle.qm_base.specs.declared.error.JournalError.TheVariants as journal
 use Rattle.qm_base.specs.declared.error.Corrupt.TheVariants as corrupt
 use Rattle.qm_store.specs.Refusals.{IsDue}
 use Rattle.qm_open.specs.declared.pruned.Pruned.{Pruned}
-use Rattle.qm_open.specs.Selecting.{any_layout, any_found, bits_of, content_refusal, floor_told, found_of, AreFew, HasThreshold}
+use Rattle.qm_open.specs.declared.select.Selected.{Selected}
+use Rattle.qm_open.specs.Selecting.{any_layout, any_found, bits_of, content_refusal, floor_told, found_of, layout_of, selected_view, AreFew, HasThreshold}
 use Rattle.qm_open.proofs.Refusing.{selected-same}
 use Rattle.qm_build.specs.Reads.{items_within}
 use Rattle.std.proofs.lemmas.List.{length-map}
@@ -160,6 +161,16 @@ few-seen (Some p) seen is few = subst AreFew (sym is) (omega arith, few)
 pub threshold-seen : (shape : Shape) (pruned : Option (ℕ × Option ℕ)) → IfSome pruned (λ p. p.1 ≡ pair_absorption_threshold shape 9 p.0) → HasThreshold shape (option_map pruned_view pruned)
 threshold-seen shape None same = tt
 threshold-seen shape (Some p) same = same
+
+-- what the commit that is found tells of why an opening refuses the store
+module _ (form : Form) (told : Option Stored) (bound : Option ℕ) where
+  abbrev Accepts : Shape → ℕ → Option Pruned → Option Selected → Type 0
+  Accepts shape size pruned at = IfSome told (λ s. opening_refusal (layout_of form shape size pruned) (found_of form s pruned) bound ≡ content_refusal (layout_of form shape size pruned) (found_of form s pruned) (option_map selected_view at))
+
+  pub accepted-at : (shape : Shape) (size : ℕ) (seen pruned : Option Pruned) (found at : Option Selected) → seen ≡ pruned → found ≡ at → HasThreshold shape pruned
+      → ((shape : Shape) (size : ℕ) → HasThreshold shape seen → Accepts shape size seen found) → Accepts shape size pruned at
+  accepted-at shape size seen pruned found at same is threshold tells =
+      subst (λ p. Accepts shape size p at) same (subst (λ o. Accepts shape size seen o) is (tells shape size (subst (HasThreshold shape) (sym same) threshold)))
 
 -- what is selected does not hang on them
 pub selects-same : (form : Form) (s : Stored) (pruned : Option Pruned) (bound : Option ℕ) → opening.selected (found_of form s pruned) bound ≡ opening.selected (any_found form s) bound
