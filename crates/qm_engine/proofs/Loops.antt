@@ -1,6 +1,6 @@
 -- The loop over the commands: one more, and its ends.
 use Rattle.std.proofs.Common.{◌≡◌, ◌≤◌, ◌<◌, ℕ, suc, ◌+◌, List, [], ◌∷◌, ◌++◌, length, get_or, take, map, Option, Some, None, IfSome, arith, refl, sym, ◌∙◌, ap, subst, add-one}
-use Rattle.std.specs.Prelude.{All, slice_index_or}
+use Rattle.std.specs.Prelude.{All, IfNone, slice_index_or}
 use Rattle.std.proofs.lemmas.List.{take_all, take_more, get_or-map}
 use Rattle.qm_model.specs.Causes.{Rose}
 use Rattle.qm_model.specs.Own.{Log, IsKept, IsOwn}
@@ -26,11 +26,24 @@ use Rattle.qm_engine.specs.declared.session.Session.{Session}
 use Rattle.qm_engine.specs.declared.table.Slot.{Slot}
 use Rattle.qm_engine.specs.declared.table.Slot.TheVariants.{Gone, Writing, Staged, Merkleized}
 use Rattle.qm_machine.specs.Machine as machine
-use Rattle.qm_engine.specs.Session.{HeldIs, SlotIs, Holds, Stands, IsChosen}
+use Rattle.qm_lines.specs.declared.reply.Reply as reply
+use Rattle.qm_engine.specs.declared.session.Turn.{Turn}
+use Rattle.qm_engine.specs.declared.session.Turn.TheVariants.{Reply}
+use Rattle.qm_engine.specs.Session.{HeldIs, SlotIs, Holds, Stands, IfReply, IsChosen}
 use Rattle.qm_engine.specs.Stores.{IsBeside}
 use Rattle.qm_engine.proofs.LastingStores.{beside-self, turns-told, turns-through}
 use Rattle.qm_engine.proofs.Owned.{own-of, none-left, owned}
 use Rattle.qm_engine.proofs.Followed.{turn-followed}
+
+-- what is told of a turn that replied, of a step that ended the run, and of one that did not
+pub reply-at : {K V D : Type 0} (P : reply.Reply K V D → Type 0) {turn : Turn K V D} {r : reply.Reply K V D} → turn ≡ Reply r → IfReply turn P → P r
+reply-at P is told = subst (λ t. IfReply t P) is told
+
+pub ended-at : {X : Type 0} (P : X → Type 0) {o : Option X} {x : X} → o ≡ Some x → IfSome o P → P x
+ended-at P is told = subst (λ o. IfSome o P) is told
+
+pub none-at : {X : Type 0} (P : Type 0) {o : Option X} → o ≡ None → IfNone o P → P
+none-at P is told = subst (λ o. IfNone o P) is told
 
 pub line_here : {A B : Type 0} (f : A → B) (xs : List A) (i : ℕ) (x : A) → i < length xs → x ≡ get_or xs i x → f x ≡ get_or (map f xs) i (f x)
 line_here f xs i x h e = ap f e ∙ sym (get_or-map f xs i x (f x) h)

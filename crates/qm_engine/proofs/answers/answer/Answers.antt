@@ -1,5 +1,6 @@
 use Rattle.std.proofs.Common.{◌∷◌, [], ◌++◌, ap, ◌∙◌, refl}
 use Rattle.qm_machine.specs.Text.{reply_line}
+use Rattle.qm_engine.proofs.Loops.{reply-at}
 use Rattle.qm_engine.proofs.answers.answer.Goals as goal
 
 pub returns-in-Ok : goal.returns-in-Ok
@@ -7,12 +8,12 @@ returns-in-Ok g c =
     let handles = c.turn-session.ensures.handles in
     record {
       machine = λ s k sound more rest told choices apart.
-          let answered = (rw c.in-Reply.is at (c.turn-session.ensures.machine s k sound more rest told choices)) apart in
+          let answered = reply-at _ c.in-Reply.is (c.turn-session.ensures.machine s k sound more rest told choices) apart in
           ((rw c.in-Ok.is at c.push_line-pushed.ensures.ok) ∙ ap (λ a. c.args.text.now.items ++ (reply_line a ++ 10 ∷ [])) answered.0, answered.1);
       left = c.turn-session.ensures.left;
       kept = tt;
       cause = tt;
-      beside = (handles.more, handles.beside, rw c.in-Reply.is at handles.chosen);
+      beside = (handles.more, handles.beside, reply-at _ c.in-Reply.is handles.chosen);
       later = handles.later;
       fault = λ e. absurd (cc e);
       opened = c.turn-session.ensures.opened;

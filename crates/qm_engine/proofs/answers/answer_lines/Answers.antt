@@ -12,7 +12,7 @@ use Rattle.qm_engine.specs.Stores.{HasLog}
 use Rattle.qm_engine.specs.Runs.{after}
 use Rattle.qm_engine.specs.Answered.{IsAnswered}
 use Rattle.qm_engine.proofs.LastingStores.{turns-same, turns-through}
-use Rattle.qm_engine.proofs.Loops.{Between, each, log-of, begins-between, none-more, more-parts, Rose-wider}
+use Rattle.qm_engine.proofs.Loops.{ended-at, none-at, Between, each, log-of, begins-between, none-more, more-parts, Rose-wider}
 use Rattle.qm_engine.proofs.Owned.{own-of}
 use Rattle.qm_engine.proofs.Answerings.{at_next, at_short, line_step, line_goes, line-own, answered_in, answered_at}
 use Rattle.qm_engine.proofs.answers.answer_lines.Goals as goal
@@ -51,7 +51,7 @@ returns-in-Err g c = record {
 pub returns-in-Some-ended : goal.returns-in-Some-ended
 returns-in-Some-ended g c =
     let m = g.X.Words.scheme in
-    let kept : c.answer_line-next.new.text.items ≡ c.loop-line.text.items = rw c.in-Some-ended.is at c.answer_line-next.ensures.kept in
+    let kept : c.answer_line-next.new.text.items ≡ c.loop-line.text.items = ended-at _ c.in-Some-ended.is c.answer_line-next.ensures.kept in
     let before = c.loop-line.invariant.beside in
     let behind = c.answer_line-next.ensures.beside in
     record {
@@ -65,7 +65,7 @@ returns-in-Some-ended g c =
           (λ s between none. own-of m policies _ s.log (rw (sym (c.answer_line-next.ensures.unused none)) at between.stands.store.told) between.sound.kept)
           (λ s between apart. line-own g.C.Store g.X.Words c.loop-line.session behind.0 (line_of c.in-Some.line.now) _ s (rw c.returned.ensures.store at c.returned.ensures.stable) between apart
           (c.answer_line-next.ensures.left s between.stands (sound-steady m policies s between.sound) apart)))));
-      done = λ e. absurd ((rw c.in-Some-ended.is at c.answer_line-next.ensures.not_done) e);
+      done = λ e. absurd (ended-at _ c.in-Some-ended.is c.answer_line-next.ensures.not_done e);
       bad = λ e.
           at_bad c.args.input.now c.loop-line.rest.now c.in-Some.line.now c.in-Some.behind.now c.loop-line.answered c.loop-line.invariant.at c.in-Some.ensures.some
           (c.answer_line-next.ensures.bad (c.in-Some-ended.is ∙ ap Some e));
@@ -85,7 +85,7 @@ loop-line-preserved g c =
     let m = g.X.Words.scheme in
     let lines = commands_in c.args.input.now in
     let k = c.loop-line.answered in
-    let some = rw c.in_default-ended.is at c.answer_line-next.ensures.command in
+    let some = none-at _ c.in_default-ended.is c.answer_line-next.ensures.command in
     let before = c.loop-line.invariant.beside in
     let behind = c.answer_line-next.ensures.beside in
     record {
@@ -102,8 +102,8 @@ loop-line-preserved g c =
           (λ s. Between g.C.Store g.X.Words policies c.loop-line.session (behind.0 ++ rest) s)
           (λ s. Between g.C.Store g.X.Words policies c.answer_line-next.result.0 rest s)
           (c.loop-line.invariant.machine stored log is own before.0 (behind.0 ++ rest) before.1)
-          (line_goes g.C.Store g.X.Words c.loop-line.session c.answer_line-next.result.0 behind.0 rest c.loop-line.text.items c.answer_line-next.new.text.items (line_of c.in-Some.line.now) (rw c.in_default-ended.is at behind.2)
-          (λ s stands steady choices. rw c.in_default-ended.is at (c.answer_line-next.ensures.machine s stands steady behind.0 rest behind.1 choices))));
+          (line_goes g.C.Store g.X.Words c.loop-line.session c.answer_line-next.result.0 behind.0 rest c.loop-line.text.items c.answer_line-next.new.text.items (line_of c.in-Some.line.now) (none-at _ c.in_default-ended.is behind.2)
+          (λ s stands steady choices. none-at _ c.in_default-ended.is (c.answer_line-next.ensures.machine s stands steady behind.0 rest behind.1 choices))));
     }
 
 pub returns : goal.returns

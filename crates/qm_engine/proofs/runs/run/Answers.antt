@@ -9,7 +9,7 @@ use Rattle.qm_engine.specs.Stores.{HasLog}
 use Rattle.qm_engine.specs.Runs.{IsRun, after}
 use Rattle.qm_machine.proofs.Sounds.{kept-low, sound-steady}
 use Rattle.qm_engine.proofs.LastingStores.{turns-same, turns-through}
-use Rattle.qm_engine.proofs.Loops.{Between, each, loop_step, ended_in, ended_at, line_here, log-of, begins-between, goes-between, own-left, none-more, more-parts, Rose-wider}
+use Rattle.qm_engine.proofs.Loops.{ended-at, none-at, Between, each, loop_step, ended_in, ended_at, line_here, log-of, begins-between, goes-between, own-left, none-more, more-parts, Rose-wider}
 use Rattle.qm_engine.proofs.runs.run.Goals as goal
 
 pub loop-command-init : goal.loop-command-init
@@ -51,7 +51,7 @@ returns-in-Some g c =
     let f = line_view g.X.Key.ByteString.bytes g.X.Value.ByteString.bytes (λ p. p) in
     let a = answer_view g.X.Key.ByteString.bytes g.X.Value.ByteString.bytes g.X.Digest.Digest.bytes in
     let i = c.loop-command.command-index in
-    let kept : c.step-next.new.replies.items ≡ c.loop-command.replies.items = rw c.in-Some.is at c.step-next.ensures.kept in
+    let kept : c.step-next.new.replies.items ≡ c.loop-command.replies.items = ended-at _ c.in-Some.is c.step-next.ensures.kept in
     let before = c.loop-command.invariant.beside in
     let behind = c.step-next.ensures.beside in
     record {
@@ -66,7 +66,7 @@ returns-in-Some g c =
           (c.loop-command.invariant.machine stored log is own before.0 behind.0 before.1)
           (λ s between apart. own-left g.C.Store g.X.Words g.P.Policy.rules c.loop-command.session behind.0 (f c.command-item.result) _ s (rw c.returned.ensures.store at c.returned.ensures.stable) between apart
           (c.step-next.ensures.left s between.stands (sound-steady g.X.Words.scheme g.P.Policy.rules s between.sound) apart)))));
-      done = λ e. absurd ((rw c.in-Some.is at c.step-next.ensures.not_done) e);
+      done = λ e. absurd (ended-at _ c.in-Some.is c.step-next.ensures.not_done e);
       short = λ e. omega (arith, ap length kept, c.loop-command.invariant.count, c.loop-command-test.true);
       beside = rw c.returned.ensures.store (before.0 ++ behind.0, turns-through before.0 behind.0 (g.C.Store.told c.args.store) _ _ before.1 behind.1);
       later = rw c.returned.ensures.store (omega (arith, c.loop-command.invariant.later, c.step-next.ensures.later));
@@ -83,10 +83,10 @@ loop-command-preserved g c =
     let rules = g.P.Policy.rules in
     let lines = map f c.args.commands.now in
     let i = c.loop-command.command-index in
-    let grown = rw c.in_default.is at c.step-next.ensures.grown in
+    let grown = none-at _ c.in_default.is c.step-next.ensures.grown in
     let before = c.loop-command.invariant.beside in
     let behind = c.step-next.ensures.beside in
-    let chosen = rw c.in_default.is at behind.2 in
+    let chosen = none-at _ c.in_default.is behind.2 in
     record {
       count = grown ∙ ap (λ n. n + 1) c.loop-command.invariant.count;
       opened = omega arith;
@@ -102,7 +102,7 @@ loop-command-preserved g c =
           (line_here f c.args.commands.now i c.command-item.result c.loop-command-test.true c.command-item.is)
           (c.loop-command.invariant.machine stored log is own before.0 (behind.0 ++ rest) before.1)
           (goes-between g.C.Store g.X.Words rules c.loop-command.session c.step-next.result.0 behind.0 rest (f c.command-item.result) (λ s. map a c.step-next.new.replies.items ≡ map a c.loop-command.replies.items ++ (turn m rules s (f c.command-item.result)).0 ∷ []) chosen
-          (λ s stands sound choices. rw c.in_default.is at (c.step-next.ensures.machine s stands sound behind.0 rest behind.1 choices))));
+          (λ s stands sound choices. none-at _ c.in_default.is (c.step-next.ensures.machine s stands sound behind.0 rest behind.1 choices))));
     }
 
 pub returns : goal.returns

@@ -1,6 +1,7 @@
 use Rattle.std.proofs.Common.{◌∷◌, [], ◌++◌, map, ap, ◌∙◌, length, arith, refl, length-append}
 use Rattle.std.proofs.lemmas.List.{map-append}
 use Rattle.qm_lines.specs.Views.{answer_view}
+use Rattle.qm_engine.proofs.Loops.{reply-at}
 use Rattle.qm_engine.proofs.runs.step.Goals as goal
 
 pub returns-in-Ok : goal.returns-in-Ok
@@ -9,7 +10,7 @@ returns-in-Ok g c =
     let handles = c.turn-session.ensures.handles in
     record {
       machine = λ s k sound more rest told choices apart.
-          let answered = (rw c.in-Reply.is at (c.turn-session.ensures.machine s k sound more rest told choices)) apart in (
+          let answered = reply-at _ c.in-Reply.is (c.turn-session.ensures.machine s k sound more rest told choices) apart in (
             rw c.in-Ok.ensures.ok (map-append view c.args.replies.now.items (c.in-Reply.reply ∷ []) ∙ ap (λ a. map view c.args.replies.now.items ++ a ∷ []) answered.0),
             answered.1,
           );
@@ -17,7 +18,7 @@ returns-in-Ok g c =
       grown = omega (arith, ap length c.in-Ok.ensures.ok, length-append c.args.replies.now.items (c.in-Reply.reply ∷ []));
       kept = tt;
       not_done = tt;
-      beside = (handles.more, handles.beside, rw c.in-Reply.is at handles.chosen);
+      beside = (handles.more, handles.beside, reply-at _ c.in-Reply.is handles.chosen);
       later = handles.later;
       fault = λ e. absurd (cc e);
       opened = c.turn-session.ensures.opened;
