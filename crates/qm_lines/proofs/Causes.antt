@@ -36,6 +36,9 @@ kept (Some old) (Some new) p = ap Some (p ∙ sym (append-nil old))
 pub took : (n : ℕ) → IsErrOf {T = ℕ} (Ok n) sinks.Failed → ⊥
 took n h = cc
 
+pub wanting : IsErrOf {T = ℕ} (Err sinks.Memory) sinks.Failed → ⊥
+wanting h = cc
+
 -- something is not empty
 pub some_empty : (n : ℕ) (t : Bool) → 0 < n → t ≡ (n == 0) → t ≡ true → ⊥
 some_empty n t some is empty = grind (arith, nat_tests)
@@ -90,3 +93,11 @@ extended (Err e) t new old more h is ok = absurd (false≢true (sym ok ∙ is))
 -- what grew by a part stays short
 pub short_on : {limit count len : ℕ} (new all part : List ℕ) → new ≡ all ++ part → count ≤ limit - len → len ≡ length all → count ≡ length part → length all ≤ limit → length new ≤ limit
 short_on new all part items few is part_is before = omega (arith, few, is, part_is, before, ap length items, length-append all part)
+
+-- what stayed, since that failed
+pub unextended : {T E : Type 0} (r : Result T E) (t : Bool) (new old more : List ℕ) → new ≡ (if is_ok r then old ++ more else old) → t ≡ is_err r → t ≡ true → new ≡ old
+unextended (Ok u) t new old more h is err = absurd (false≢true (sym is ∙ err))
+unextended (Err e) t new old more h is err = h
+
+pub itself : (n : ℕ) → n ≤ n
+itself n = omega arith
