@@ -11,3 +11,4 @@ pub mod SameWalks
 pub mod Forms
 pub mod Ends
 pub mod Causes
+pub mod Fronts

@@ -1,12 +1,8 @@
-use Rattle.std.proofs.Common.{◌≡◌, ◌∙◌, ◌≤◌, ◌-◌, ℕ, List, length, take, drop, arith, length-drop}
-use Rattle.std.proofs.lemmas.List.{take_all}
+use Rattle.std.proofs.Common.{◌∙◌, ◌≤◌, length, drop, arith, length-drop}
 use Rattle.std.proofs.lemmas.Result.{err_from_is_err_and}
+use Rattle.qm_lines.proofs.Fronts.{rest}
 use Rattle.qm_lines.proofs.Told.{Grows-further, GrowsPart-at_err}
 use Rattle.qm_lines.proofs.whole.write_all.Goals as goal
-
--- the piece `&text[at..]`
-rest : (at : ℕ) (text : List ℕ) → take (length text - at) (drop at text) ≡ drop at text
-rest at text = take_all (length text - at) (drop at text) (omega (arith, length-drop at text))
 
 pub returns-in_err-at-clause-err : goal.returns-in_err-at-clause-err
 returns-in_err-at-clause-err g c =
