@@ -35,6 +35,19 @@ module _ {D : Type 0} (of : List Bytes → Option D) where
   over_two none (a ∷ b ∷ []) many = absurd (omega arith)
   over_two none (a ∷ b ∷ c ∷ words) many = none a.now b.now c.now (lent words)
 
+  pub under_three : None ≡ of [] → ((a : Bytes) → None ≡ of (a ∷ [])) → ((a b : Bytes) → None ≡ of (a ∷ b ∷ [])) → (words : List (Bor Bytes)) → length words < 3 → None ≡ of (lent words)
+  under_three none one two [] few = none
+  under_three none one two (a ∷ []) few = one a.now
+  under_three none one two (a ∷ b ∷ []) few = two a.now b.now
+  under_three none one two (a ∷ b ∷ c ∷ words) few = absurd (omega arith)
+
+  pub over_three : ((a b c d : Bytes) (words : List Bytes) → None ≡ of (a ∷ b ∷ c ∷ d ∷ words)) → (words : List (Bor Bytes)) → 4 ≤ length words → None ≡ of (lent words)
+  over_three none [] many = absurd (omega arith)
+  over_three none (a ∷ []) many = absurd (omega arith)
+  over_three none (a ∷ b ∷ []) many = absurd (omega arith)
+  over_three none (a ∷ b ∷ c ∷ []) many = absurd (omega arith)
+  over_three none (a ∷ b ∷ c ∷ d ∷ words) many = none a.now b.now c.now d.now (lent words)
+
 -- what is not there is malformed
 pub missing : {A : Type 0} (o : Option A) (e : Unread) → ◌≡◌ {A = Result A Unread} (Err e) (ok_or o Malformed) → (p : Option A) → o ≡ p → Unreads e p
 missing None Malformed err p is = is
