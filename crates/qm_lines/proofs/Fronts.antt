@@ -25,3 +25,7 @@ module _ (bytes lent : List ℕ) (at count : ℕ) (out : List ℕ) (same : lent 
 
   pub front_end : count ≡ 0 → 0 < length out → drop (at + count) bytes ≡ []
   front_end none room = drop_all (at + count) bytes (omega (arith, front_full, none, room, length-drop at bytes))
+
+-- n bytes of those behind `at` end within the text
+pub reach : (at n : ℕ) (text : List ℕ) → at < length text → n ≤ length (drop at text) → at + n ≤ length text
+reach at n text more few = omega (arith, more, few, length-drop at text)
