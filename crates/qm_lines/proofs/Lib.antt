@@ -8,3 +8,7 @@ pub mod Parts
 pub mod Failing
 pub mod Steps
 pub mod SameWalks
+pub mod Forms
+pub mod Ends
+pub mod Causes
+pub mod Fronts

@@ -1,7 +1,7 @@
 -- What is written behind a string, piece by piece.
-use Rattle.std.proofs.Common.{◌≡◌, ◌+◌, ◌<◌, ℕ, List, [], ◌∷◌, ◌++◌, take, length, get_or, map, flat_map, Result, Ok, Err, sym, ◌∙◌, ap, append_assoc, append-nil}
+use Rattle.std.proofs.Common.{◌≡◌, ◌+◌, ◌-◌, ◌<◌, ◌≤◌, ℕ, List, [], ◌∷◌, ◌++◌, take, length, get_or, map, flat_map, Result, Ok, Err, arith, sym, ◌∙◌, ap, append_assoc, append-nil}
 use Rattle.std.specs.Prelude.{if◌then◌else◌, is_ok, IfOk}
-use Rattle.std.proofs.lemmas.List.{map-append, take_more}
+use Rattle.std.proofs.lemmas.List.{map-append, take_all, take_more}
 use Rattle.std.proofs.lemmas.List.Concat.{flat_map-append}
 use Rattle.qm_model.specs.Operations.{Bytes}
 
@@ -26,3 +26,12 @@ one_more text f items i item old name mid new h is so_far one =
     ∙ flat_map-append text (map f (take i items)) (f item ∷ []) ∙ ap (λ (t : Bytes). before ++ t) (append-nil (text (f item))) in
     one ∙ ap (λ (t : Bytes). t ++ text (f item)) so_far ∙ append_assoc old (name ++ before) (text (f item))
     ∙ ap (λ (t : Bytes). old ++ t) (append_assoc name before (text (f item)) ∙ ap (λ (t : Bytes). name ++ t) (sym further))
+
+-- all items are written
+pub all_written : {A B : Type 0} (text : B → Bytes) (f : A → B) (items : List A) (i : ℕ) (old name new : Bytes) → length items ≤ i →
+    new ≡ old ++ (name ++ flat_map text (map f (take i items))) → new ≡ old ++ (name ++ flat_map text (map f items))
+all_written text f items i old name new none_left so_far = so_far ∙ ap (λ l. old ++ (name ++ flat_map text (map f l))) (take_all i items none_left)
+
+-- one item fewer is left
+pub fewer : (n i : ℕ) → i < n → n - (i + 1) < n - i
+fewer n i h = omega (arith, h)

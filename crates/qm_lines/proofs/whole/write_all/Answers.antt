@@ -1,12 +1,9 @@
-use Rattle.std.proofs.Common.{◌≡◌, ◌∙◌, ◌≤◌, ◌-◌, ℕ, List, length, take, drop, arith, length-drop}
-use Rattle.std.proofs.lemmas.List.{take_all}
+use Rattle.std.proofs.Common.{◌∙◌, ◌≤◌, length, drop}
 use Rattle.std.proofs.lemmas.Result.{err_from_is_err_and}
+use Rattle.qm_lines.proofs.Causes.{took}
+use Rattle.qm_lines.proofs.Fronts.{reach, rest}
 use Rattle.qm_lines.proofs.Told.{Grows-further, GrowsPart-at_err}
 use Rattle.qm_lines.proofs.whole.write_all.Goals as goal
-
--- the piece `&text[at..]`
-rest : (at : ℕ) (text : List ℕ) → take (length text - at) (drop at text) ≡ drop at text
-rest at text = take_all (length text - at) (drop at text) (omega (arith, length-drop at text))
 
 pub returns-in_err-at-clause-err : goal.returns-in_err-at-clause-err
 returns-in_err-at-clause-err g c =
@@ -21,7 +18,7 @@ loop-at-preserved g c =
     let at = c.loop-at.at in
     let bound : c.in_ok-at.field-0 ≤ length (drop at text) = rw (rest at text) at c.in_ok-at.ensures.bound in
     record {
-      within = omega (arith, bound, length-drop at text);
+      within = reach at c.in_ok-at.field-0 text c.loop-at-test.true bound;
       written = Grows-further _ _ _ at text c.loop-at.invariant.written c.in_ok-at.field-0 (rw (rest at text) at c.in_ok-at.ensures.bytes);
-      steady = c.in_ok-at.ensures.steady (λ e. cc) ∙ c.loop-at.invariant.steady;
+      steady = c.in_ok-at.ensures.steady (took _) ∙ c.loop-at.invariant.steady;
     }

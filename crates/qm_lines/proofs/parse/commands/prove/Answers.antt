@@ -1,8 +1,9 @@
-use Rattle.std.proofs.Common.{refl}
+use Rattle.std.proofs.Common.{arith, refl}
 use Rattle.std.proofs.lemmas.Result.{err_from_is_err_and}
 use Rattle.qm_machine.specs.Lines.{Prove}
 use Rattle.qm_machine.specs.Grammar.{number_of, positive_of, prove_of}
-use Rattle.qm_lines.proofs.Steps.{three-first_err, three-second_err, three-third_err, three-read}
+use Rattle.qm_lines.proofs.Steps.{under_three, over_three, three-first_err, three-second_err, three-third_err, three-read}
+use Rattle.qm_lines.proofs.parse.commands.prove.Goals.{in_default-via-then-words-lt3, in_default-via-else-words-lt3+else-words-lt4}
 use Rattle.qm_lines.proofs.parse.commands.prove.Goals as goal
 
 pub returns-in_err-size : goal.returns-in_err-size
@@ -22,3 +23,9 @@ returns-in_err-most c =
 
 pub returns : goal.returns
 returns c = three-read number_of number_of positive_of Prove prove_of (λ a b c. refl) c.args.words.now _ c.in-len3.len_at_least c.in-len3.len_below _ c.in_ok-size.ensures _ c.in_ok-start.ensures _ c.in_ok-most.ensures
+
+pub returns-in_default : goal.returns-in_default
+returns-in_default c = elim c.in_default.branch [
+  | in_default-via-then-words-lt3 w ↦ under_three prove_of refl (λ a. refl) (λ a b. refl) c.args.words.now (grind arith)
+  | in_default-via-else-words-lt3+else-words-lt4 w ↦ over_three prove_of (λ a b c d words. refl) c.args.words.now (grind arith)
+]
