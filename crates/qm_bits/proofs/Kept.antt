@@ -3,7 +3,7 @@ use Rattle.std.proofs.Common.{◌≡◌, ℕ, ◌+◌, ◌-◌, ◌*◌, ◌/◌
 use Rattle.std.proofs.lemmas.List.{length-append, length-replicate, length-drop, get_or_append_left, get_or-append_right, get_or-replicate, get_or_past, get_or_default}
 use lib.Seq.{drop-append-add}
 use Rattle.std.proofs.lemmas.Bool.{cases_lt}
-use Rattle.std.proofs.lemmas.Nat.{div-add-mod'}
+use Rattle.std.proofs.lemmas.Nat.{div-add-mod', le-div}
 use Rattle.qm_model.specs.Bits.{packed, chunk}
 use Rattle.qm_bits.specs.Bitmaps.{Bitmap, start, bit_count, all_bits}
 use Rattle.qm_bits.specs.Candidates.{is_candidate}
@@ -58,6 +58,12 @@ module _ (size at : ℕ) (old : Bitmap) (whole : size % 8 ≡ 0) (within : at �
   chunks_split : (at / (8 * size) - old.pruned) * (8 * size) + old.pruned * (8 * size) ≡ at / (8 * size) * (8 * size)
   chunks_split = let sum : at / (8 * size) - old.pruned + old.pruned ≡ at / (8 * size) = omega arith in omega arith ∙ ap (λ k. k * (8 * size)) sum
 
+  pub chunks_within : (at / (8 * size) - old.pruned) * (8 * size) ≤ at
+  chunks_within =
+      let split = chunks_split in
+      let parts = div-add-mod' at (8 * size) in
+      omega arith
+
   pub words_within : 64 * ((at / (8 * size) - old.pruned) * (8 * size) / 64) ≤ length old.kept
   words_within =
       let split = chunks_split in
@@ -77,6 +83,24 @@ module _ (size at : ℕ) (old : Bitmap) (whole : size % 8 ≡ 0) (within : at �
   pruned_is =
       let greater : at / (8 * size) ≡ max old.pruned (at / (8 * size)) = omega arith in
       ap₂ (λ c k. record { pruned = c; kept = drop k old.kept }) greater (whole_words (at / (8 * size) - old.pruned) size whole)
+
+-- Nothing is pruned up to a place that is in a pruned chunk.
+pub pruned_same : (size at : ℕ) (old : Bitmap) → at / (8 * size) ≤ old.pruned → ◌≡◌ {A = Bitmap} old (record { pruned = max old.pruned (at / (8 * size)); kept = drop ((at / (8 * size) - old.pruned) * (8 * size)) old.kept })
+pruned_same size at old low =
+    let same : old.pruned ≡ max old.pruned (at / (8 * size)) = omega arith in
+    let zero : at / (8 * size) - old.pruned ≡ 0 = omega arith in
+    let none : 0 ≡ (at / (8 * size) - old.pruned) * (8 * size) = omega arith ∙ ap (λ k. k * (8 * size)) (sym zero) in
+    ap₂ (λ c k. record { pruned = c; kept = drop k old.kept }) same none
+
+-- The chunk behind the complete ones.
+module _ (size : ℕ) (map : Bitmap) where
+  -- it is not pruned
+  pub last_kept : 32 ≤ size → map.pruned ≤ bit_count size map / (8 * size)
+  last_kept least = le-div map.pruned (bit_count size map) (8 * size) (omega arith) (omega arith)
+
+  -- and begins at the end of the bits or before
+  pub last_begun : bit_count size map / (8 * size) * (8 * size) ≤ bit_count size map
+  last_begun = let parts = div-add-mod' (bit_count size map) (8 * size) in omega arith
 
 -- The bytes of a chunk.
 module _ (size pruned c : ℕ) (whole : size % 8 ≡ 0) (from : pruned ≤ c) where
