@@ -1,5 +1,6 @@
 -- A bitmap's kept bits.
 use Rattle.std.proofs.Common.{◌≡◌, ℕ, ◌+◌, ◌-◌, ◌*◌, ◌/◌, ◌%◌, ◌^◌, ◌<◌, ◌≤◌, Bool, true, false, List, ◌++◌, length, drop, get_or, replicate, min, max, ⊎_elim, arith, ap, ap₂, sym, ◌∙◌}
+use Rattle.std.specs.Prelude.{Result, Ok, Err, OnOk, OnErr}
 use Rattle.std.proofs.lemmas.List.{length-append, length-replicate, length-drop, get_or_append_left, get_or-append_right, get_or-replicate, get_or_past, get_or_default}
 use lib.Seq.{drop-append-add}
 use Rattle.std.proofs.lemmas.Bool.{cases_lt}
@@ -101,6 +102,19 @@ module _ (size : ℕ) (map : Bitmap) where
   -- and begins at the end of the bits or before
   pub last_begun : bit_count size map / (8 * size) * (8 * size) ≤ bit_count size map
   last_begun = let parts = div-add-mod' (bit_count size map) (8 * size) in omega arith
+
+  -- a chunk before it begins before that end too
+  pub complete_begun : (at : ℕ) → at < bit_count size map / (8 * size) → at * (8 * size) ≤ bit_count size map
+  complete_begun at complete =
+      let parts = last_begun in
+      let split : at + (bit_count size map / (8 * size) - at) ≡ bit_count size map / (8 * size) = omega arith in
+      let product : at * (8 * size) + (bit_count size map / (8 * size) - at) * (8 * size) ≡ bit_count size map / (8 * size) * (8 * size) = omega arith ∙ ap (λ k. k * (8 * size)) split in
+      omega arith
+
+-- Bits that came behind the others, or did not.
+pub grown_fits : {T E : Type 0} (before : ℕ) (old more new : List Bool) (r : Result T E) → OnOk r (new ≡ old ++ more) → OnErr r (new ≡ old) → before + length old + length more ≤ 2 ^ 62 → before + length new ≤ 2 ^ 62
+grown_fits before old more new (Ok x) ok err fits = omega (arith, ap length ok, length-append old more)
+grown_fits before old more new (Err e) ok err fits = omega (arith, ap length err)
 
 -- The bytes of a chunk.
 module _ (size pruned c : ℕ) (whole : size % 8 ≡ 0) (from : pruned ≤ c) where
