@@ -47,6 +47,14 @@ module _ (size : ℕ) (map : Bitmap) where
         (λ (past : end - at ≤ found). later_found (at + found) (omega arith))
         (cases_lt found (end - at))
 
+  -- What is passed where there is none of them.
+  module _ (from tip at first end : ℕ) (at_is : at ≡ start size map) (first_is : first ≡ max from at) (end_is : end ≡ min tip (bit_count size map)) (none : end ≤ first) where
+    pub none_clear : (i : ℕ) → from ≤ i → i < max from end → is_candidate (all_bits size map) i ≡ false
+    none_clear i after before = pruned_clear i (omega arith)
+
+    pub none_found : max from end < tip → is_candidate (all_bits size map) (max from end) ≡ true
+    none_found before = later_found (max from end) (omega arith)
+
 -- Whole chunks are whole words.
 pub whole_words : (k size : ℕ) → size % 8 ≡ 0 → 64 * (k * (8 * size) / 64) ≡ k * (8 * size)
 whole_words k size whole =
