@@ -1,4 +1,4 @@
-use Rattle.std.proofs.Common.{◌<◌, arith, length, refl, subst, subst₂, sym}
+use Rattle.std.proofs.Common.{◌<◌, length, refl, subst, subst₂, sym}
 use Rattle.std.specs.Prelude.{remove}
 use Rattle.qm_index.specs.Buckets.{IsIndex, Puts, bucket_at}
 use Rattle.qm_index.proofs.Changed.{place-in}

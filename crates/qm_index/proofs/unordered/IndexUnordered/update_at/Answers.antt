@@ -1,4 +1,4 @@
-use Rattle.std.proofs.Common.{◌<◌, ap, sym, subst, subst₂, length}
+use Rattle.std.proofs.Common.{◌<◌, sym, subst, subst₂, length}
 use Rattle.std.specs.Prelude.{set}
 use Rattle.qm_index.specs.Buckets.{IsIndex, Puts, bucket_at}
 use Rattle.qm_index.proofs.Changed.{place-in, no-place}
