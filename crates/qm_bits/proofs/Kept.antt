@@ -1,9 +1,10 @@
 -- A bitmap's kept bits.
 use Rattle.std.proofs.Common.{◌≡◌, ℕ, ◌+◌, ◌-◌, ◌*◌, ◌/◌, ◌%◌, ◌^◌, ◌<◌, ◌≤◌, Bool, true, false, List, ◌++◌, length, drop, get_or, replicate, min, max, ⊎_elim, arith, ap, ap₂, sym, ◌∙◌}
+use Rattle.std.specs.Prelude.{Result, Ok, Err, OnOk, OnErr}
 use Rattle.std.proofs.lemmas.List.{length-append, length-replicate, length-drop, get_or_append_left, get_or-append_right, get_or-replicate, get_or_past, get_or_default}
 use lib.Seq.{drop-append-add}
 use Rattle.std.proofs.lemmas.Bool.{cases_lt}
-use Rattle.std.proofs.lemmas.Nat.{div-add-mod'}
+use Rattle.std.proofs.lemmas.Nat.{div-add-mod', le-div}
 use Rattle.qm_model.specs.Bits.{packed, chunk}
 use Rattle.qm_bits.specs.Bitmaps.{Bitmap, start, bit_count, all_bits}
 use Rattle.qm_bits.specs.Candidates.{is_candidate}
@@ -46,6 +47,14 @@ module _ (size : ℕ) (map : Bitmap) where
         (λ (past : end - at ≤ found). later_found (at + found) (omega arith))
         (cases_lt found (end - at))
 
+  -- What is passed where there is none of them.
+  module _ (from tip at first end : ℕ) (at_is : at ≡ start size map) (first_is : first ≡ max from at) (end_is : end ≡ min tip (bit_count size map)) (none : end ≤ first) where
+    pub none_clear : (i : ℕ) → from ≤ i → i < max from end → is_candidate (all_bits size map) i ≡ false
+    none_clear i after before = pruned_clear i (omega arith)
+
+    pub none_found : max from end < tip → is_candidate (all_bits size map) (max from end) ≡ true
+    none_found before = later_found (max from end) (omega arith)
+
 -- Whole chunks are whole words.
 pub whole_words : (k size : ℕ) → size % 8 ≡ 0 → 64 * (k * (8 * size) / 64) ≡ k * (8 * size)
 whole_words k size whole =
@@ -57,6 +66,12 @@ whole_words k size whole =
 module _ (size at : ℕ) (old : Bitmap) (whole : size % 8 ≡ 0) (within : at ≤ bit_count size old) (order : old.pruned < at / (8 * size)) where
   chunks_split : (at / (8 * size) - old.pruned) * (8 * size) + old.pruned * (8 * size) ≡ at / (8 * size) * (8 * size)
   chunks_split = let sum : at / (8 * size) - old.pruned + old.pruned ≡ at / (8 * size) = omega arith in omega arith ∙ ap (λ k. k * (8 * size)) sum
+
+  pub chunks_within : (at / (8 * size) - old.pruned) * (8 * size) ≤ at
+  chunks_within =
+      let split = chunks_split in
+      let parts = div-add-mod' at (8 * size) in
+      omega arith
 
   pub words_within : 64 * ((at / (8 * size) - old.pruned) * (8 * size) / 64) ≤ length old.kept
   words_within =
@@ -77,6 +92,37 @@ module _ (size at : ℕ) (old : Bitmap) (whole : size % 8 ≡ 0) (within : at �
   pruned_is =
       let greater : at / (8 * size) ≡ max old.pruned (at / (8 * size)) = omega arith in
       ap₂ (λ c k. record { pruned = c; kept = drop k old.kept }) greater (whole_words (at / (8 * size) - old.pruned) size whole)
+
+-- Nothing is pruned up to a place that is in a pruned chunk.
+pub pruned_same : (size at : ℕ) (old : Bitmap) → at / (8 * size) ≤ old.pruned → ◌≡◌ {A = Bitmap} old (record { pruned = max old.pruned (at / (8 * size)); kept = drop ((at / (8 * size) - old.pruned) * (8 * size)) old.kept })
+pruned_same size at old low =
+    let same : old.pruned ≡ max old.pruned (at / (8 * size)) = omega arith in
+    let zero : at / (8 * size) - old.pruned ≡ 0 = omega arith in
+    let none : 0 ≡ (at / (8 * size) - old.pruned) * (8 * size) = omega arith ∙ ap (λ k. k * (8 * size)) (sym zero) in
+    ap₂ (λ c k. record { pruned = c; kept = drop k old.kept }) same none
+
+-- The chunk behind the complete ones.
+module _ (size : ℕ) (map : Bitmap) where
+  -- it is not pruned
+  pub last_kept : 32 ≤ size → map.pruned ≤ bit_count size map / (8 * size)
+  last_kept least = le-div map.pruned (bit_count size map) (8 * size) (omega arith) (omega arith)
+
+  -- and begins at the end of the bits or before
+  pub last_begun : bit_count size map / (8 * size) * (8 * size) ≤ bit_count size map
+  last_begun = let parts = div-add-mod' (bit_count size map) (8 * size) in omega arith
+
+  -- a chunk before it begins before that end too
+  pub complete_begun : (at : ℕ) → at < bit_count size map / (8 * size) → at * (8 * size) ≤ bit_count size map
+  complete_begun at complete =
+      let parts = last_begun in
+      let split : at + (bit_count size map / (8 * size) - at) ≡ bit_count size map / (8 * size) = omega arith in
+      let product : at * (8 * size) + (bit_count size map / (8 * size) - at) * (8 * size) ≡ bit_count size map / (8 * size) * (8 * size) = omega arith ∙ ap (λ k. k * (8 * size)) split in
+      omega arith
+
+-- Bits that came behind the others, or did not.
+pub grown_fits : {T E : Type 0} (before : ℕ) (old more new : List Bool) (r : Result T E) → OnOk r (new ≡ old ++ more) → OnErr r (new ≡ old) → before + length old + length more ≤ 2 ^ 62 → before + length new ≤ 2 ^ 62
+grown_fits before old more new (Ok x) ok err fits = omega (arith, ap length ok, length-append old more)
+grown_fits before old more new (Err e) ok err fits = omega (arith, ap length err)
 
 -- The bytes of a chunk.
 module _ (size pruned c : ℕ) (whole : size % 8 ≡ 0) (from : pruned ≤ c) where

@@ -1,5 +1,6 @@
 pub mod Basics
 pub mod Caps
+pub mod Changed
 pub mod Counts
 pub mod Maps
 pub mod Members
@@ -7,6 +8,7 @@ pub mod Moving
 pub mod Neighbours
 pub mod Picks
 pub mod Placing
+pub mod Tables
 pub mod TreeNeighbours
 pub mod Trees
 pub mod Visits

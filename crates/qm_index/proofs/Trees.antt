@@ -1,7 +1,7 @@
 -- Trees of buckets by index key: the order of numbers tells index keys apart, so that a tree is read as an index.
-use Rattle.std.proofs.Common.{◌≡◌, ℕ, Bool, true, false, cond, nat_eq, length, ◌<◌, List, [], Option, Some, None, refl, ap, sym, ◌∙◌, subst, arith, BTreeMap}
+use Rattle.std.proofs.Common.{◌≡◌, ℕ, cond, nat_eq, length, ◌<◌, List, [], Option, Some, None, ap, sym, ◌∙◌, subst, arith, BTreeMap}
 use Rattle.std.proofs.Math.Path.{fun_ext}
-use Rattle.std.specs.Prelude.{if◌then◌else◌, unwrap_or}
+use Rattle.std.specs.Prelude.{unwrap_or}
 use Rattle.std.specs.BTreeMap.{get, is_at, Updates, WritesThrough, IsOrdered}
 use Rattle.std.specs.List.{IsDistinct}
 use Rattle.std.specs.List.Sorted.{IsStrictlySortedBy}
@@ -12,6 +12,7 @@ use Rattle.std.proofs.lemmas.Bool.Decides.{nat_tests}
 use Rattle.std.proofs.lemmas.Map.Keys.{IsDistinct-from_sorted}
 use Rattle.std.proofs.lemmas.Map.Steps.{set_value_same}
 use Rattle.qm_index.specs.Buckets.{bucket_at, Puts, IsIndex}
+use Rattle.qm_index.proofs.Changed.{bucket-at, place-in, no-place, changed-puts, changed-index, changed-by}
 
 same_answer : (q k : ℕ) → is_eq (nat_cmp q k) ≡ nat_eq q k
 same_answer q k = grind (arith, nat_tests)
@@ -38,26 +39,15 @@ module _ {V : Type 0} where
 
   -- puts the values that the tree has there then
   pub puts : (m n : BTreeMap ℕ (List V)) (k : ℕ) (w : Option (List V)) → Updates nat_cmp m n k w → Puts m.entries n.entries k (unwrap_or w [])
-  puts m n k w updates q = ap (λ o. unwrap_or o []) (changed m n k w updates q) ∙ cases (nat_eq k q)
-    where
-      cases : (t : Bool) → unwrap_or (cond t w (lookup (nat_eq q) m.entries)) [] ≡ (if t then unwrap_or w [] else bucket_at m.entries q)
-      cases true = refl
-      cases false = refl
+  puts m n k w updates = changed-puts m.entries k n.entries w (changed m n k w updates)
 
   -- and the tree stays an index, if they are some or none at all
   pub stays_index : (m n : BTreeMap ℕ (List V)) (k : ℕ) (w : Option (List V)) → IsIndex m.entries → Updates nat_cmp m n k w → IsOrdered nat_cmp n → (w ≡ Some [] → ⊥) → IsIndex n.entries
-  stays_index m n k w was updates rising some = (
-    ordered-distinct (keys_of n.entries) rising,
-    λ q none. cases (nat_eq k q) q (sym (changed m n k w updates q) ∙ none),
-  )
-    where
-      cases : (t : Bool) (q : ℕ) → cond t w (lookup (nat_eq q) m.entries) ≡ Some [] → ⊥
-      cases true q h = some h
-      cases false q h = was.1 q h
+  stays_index m n k w was updates rising some = changed-index m.entries k n.entries w (changed m n k w updates) was (ordered-distinct (keys_of n.entries) rising) some
 
   -- the bucket that the tree has at an index key
   pub bucket-found : (m : BTreeMap ℕ (List V)) (k : ℕ) (found : Option (List V)) → found ≡ get nat_cmp m k → unwrap_or found [] ≡ bucket_at m.entries k
-  bucket-found m k found is = ap (λ o. unwrap_or o []) (is ∙ looked_up m k)
+  bucket-found m k found is = bucket-at m.entries k found (is ∙ looked_up m k)
 
   -- a bucket that is written through
   module _ (m n : BTreeMap ℕ (List V)) (k : ℕ) (found written : List V) (is : Some found ≡ get nat_cmp m k) (through : WritesThrough nat_cmp (nat_cmp k) m written n) where
@@ -68,18 +58,18 @@ module _ {V : Type 0} where
     written-index was some = stays_index m n k (Some written) was updates through.4 (λ none. some (ap (λ o. unwrap_or o []) none))
 
     pub written-puts : (values : List V → List V) → written ≡ values found → Puts m.entries n.entries k (values (bucket_at m.entries k))
-    written-puts values by = subst (Puts m.entries n.entries k) (by ∙ ap values (bucket-found m k (Some found) is)) (puts m n k (Some written) updates)
+    written-puts values by = changed-by m.entries k n.entries (Some written) (changed m n k (Some written) updates) (Some found) (is ∙ looked_up m k) values by
 
     -- what was found there, written back
     pub written-back : written ≡ found → n.entries ≡ m.entries
     written-back same = through.0 ∙ ap (set_value (is_at (nat_cmp k)) m.entries) same ∙ set_value_same (is_at (nat_cmp k)) m.entries found (sym is)
 
     pub place-found : (i : ℕ) → i < length (bucket_at m.entries k) → i < length found
-    place-found i place = subst (λ values. i < length values) (sym (bucket-found m k (Some found) is)) place
+    place-found i place = place-in m.entries k found i (is ∙ looked_up m k) place
 
   -- no place is in a bucket that is not there
   pub place-none : (m : BTreeMap ℕ (List V)) (k i : ℕ) → None ≡ get nat_cmp m k → i < length (bucket_at m.entries k) → ⊥
-  place-none m k i is place = let none : i < length {A = V} [] = subst (λ values. i < length values) (sym (bucket-found m k None is)) place in omega (arith, none)
+  place-none m k i is place = no-place m.entries k i (is ∙ looked_up m k) place
 
   -- a tree without buckets is an index
   pub new-index : (m : BTreeMap ℕ (List V)) → IsOrdered nat_cmp m → m.entries ≡ [] → IsIndex m.entries

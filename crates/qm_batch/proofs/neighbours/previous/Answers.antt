@@ -8,39 +8,27 @@ use Rattle.qm_batch.proofs.HolderOf.{previous-read}
 use Rattle.std.proofs.lemmas.Result.{err_from_is_err_and}
 use Rattle.qm_batch.proofs.neighbours.previous.Goals as goal
 
-pub returns-clause-value : goal.returns-clause-value
-returns-clause-value g c = λ lent base is from ring_lent ring_base.
-    let form = g.U.Update.form in
-    let key = g.U.Key.ByteString.bytes c.args.key.now in
-    let key_bytes = g.U.Key.ByteString.are_bytes key (sym (ap g.U.Key.ByteString.has c.as_bytes.ensures.value) ∙ c.as_bytes.ensures.known) in
-    told-one _ _ (g.L.Items.reads.told c.args.log.now) (c.in_ok-lent.ensures.value lent is) (λ found.
-    ok-same c.nearer.result (option_map (read_view g.U.Update.view)) _ _
-    (previous-read form g.met.U.Steps.known_bytes g.I.Unordered.index_key (g.met.U.Steps.monotone c.requires) (g.I.Unordered.entries c.args.index.now) c.last_lent.ensures.index
-    (map (λ l. l.value) c.args.layers.now) lent base is.indexed is.of from ring_lent ring_base key key_bytes _ _ _ _ c.as_bytes.ensures.value c.as_bytes-2.ensures.value c.as_bytes-3.ensures.value found) c.nearer.ensures.value)
+pub returns : goal.returns
+returns g c = record {
+  value = λ lent base is from ring_lent ring_base.
+      let form = g.U.Update.form in
+      let key = g.U.Key.ByteString.bytes c.args.key.now in
+      let key_bytes = g.U.Key.ByteString.are_bytes key (sym (ap g.U.Key.ByteString.has c.as_bytes.ensures.value) ∙ c.as_bytes.ensures.known) in
+      told-one _ _ (g.L.Items.reads.told c.args.log.now) (c.in_ok-lent.ensures.value lent is) (λ found.
+      ok-same c.nearer.result (option_map (read_view g.U.Update.view)) _ _
+      (previous-read form g.met.U.Steps.known_bytes g.I.Unordered.index_key (g.met.U.Steps.monotone c.requires) (g.I.Unordered.entries c.args.index.now) c.last_lent.ensures.index
+      (map (λ l. l.value) c.args.layers.now) lent base is.indexed is.of from ring_lent ring_base key key_bytes _ _ _ _ c.as_bytes.ensures.value c.as_bytes-2.ensures.value c.as_bytes-3.ensures.value found) c.nearer.ensures.value);
+  read = c.last_lent.ensures.read;
+  error = memory-error c.nearer.result c.nearer.ensures.memory g.L.Items.reads c.args.log.now c.last_lent.new.log;
+  whole = λ lent is none. memory-whole c.nearer.result c.nearer.ensures.memory;
+}
 
-pub returns-clause-error : goal.returns-clause-error
-returns-clause-error g c = memory-error c.nearer.result c.nearer.ensures.memory g.L.Items.reads c.args.log.now c.last_lent.new.log
-
-pub returns-clause-whole : goal.returns-clause-whole
-returns-clause-whole g c = λ lent is none. memory-whole c.nearer.result c.nearer.ensures.memory
-
-pub returns-in_err-lent-clause-value : goal.returns-in_err-lent-clause-value
-returns-in_err-lent-clause-value g c = λ lent base is from ring_lent ring_base.
+pub returns-in_err-lent : goal.returns-in_err-lent
+returns-in_err-lent g c =
     let exit = err_from_is_err_and c.from_residual.result c.from_residual.ensures.1 in
-    told-err _ (g.L.Items.reads.told c.args.log.now) c.from_residual.result exit.0 exit.1
-
-pub returns-in_err-lent-clause-read : goal.returns-in_err-lent-clause-read
-returns-in_err-lent-clause-read g c = c.last_lent.ensures.read
-
-pub returns-in_err-lent-clause-error : goal.returns-in_err-lent-clause-error
-returns-in_err-lent-clause-error g c =
-    let exit = err_from_is_err_and c.from_residual.result c.from_residual.ensures.1 in
-    rw (exit.1, exit.2) c.in_err-lent.ensures.error
-
-pub returns-in_err-lent-clause-whole : goal.returns-in_err-lent-clause-whole
-returns-in_err-lent-clause-whole g c = λ lent is none.
-    let exit = err_from_is_err_and c.from_residual.result c.from_residual.ensures.1 in
-    rw (exit.1, exit.2) (c.in_err-lent.ensures.whole lent is none)
-
-pub returns-clause-read : goal.returns-clause-read
-returns-clause-read g c = c.last_lent.ensures.read
+    record {
+      value = λ lent base is from ring_lent ring_base. told-err _ (g.L.Items.reads.told c.args.log.now) c.from_residual.result exit.0 exit.1;
+      read = c.last_lent.ensures.read;
+      error = rw (exit.1, exit.2) c.in_err-lent.ensures.error;
+      whole = λ lent is none. rw (exit.1, exit.2) (c.in_err-lent.ensures.whole lent is none);
+    }

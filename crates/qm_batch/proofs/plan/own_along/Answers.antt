@@ -18,86 +18,67 @@ use Rattle.qm_step.proofs.Reading.{lent-then, told}
 use Rattle.std.proofs.lemmas.Result.{err_from_is_err_and}
 use Rattle.qm_batch.proofs.plan.own_along.Goals as goal
 
-pub returns-clause-own : goal.returns-clause-own
-returns-clause-own g c = λ lent base ws is active on lent_ring ring.
-    let key = g.U.Key.ByteString.bytes in
-    let value = g.U.Value.ByteString.bytes in
-    let view = touch_view g.U.Update.view key value in
-    let kind = (kind_of g.U.Update.form) in
-    let rules = g.P.Policy.rules in
-    let live = c.args.path.base.live in
-    let touches = c.args.path.made.items in
-    let behind = c.live_behind-behind.result in
-    let policy = c.args.policy.now in
-    let next = c.walk_from.new.policy in
-    let ds = decided_views key value c.in_ok-walked.walked.decided.items in
-    let end = c.in_ok-walked.walked.floor in
-    let list = base ++ kind.writes base ws in
-    let written = path-written kind (path_view g.U.Update.view key value c.args.path) lent base ws on in
-    let stood : count_by (λ t. is_some t.before) c.deref.result.now ≡ count_by (λ (t : Touch). is_some t.before) (map view touches) =
-    ap (count_by (λ t. is_some t.before)) c.deref.ensures.value ∙ count-shown (λ (t : Touch). is_some t.before) view touches in
-    let new : count_by (λ t. is_update (view t).operation) c.deref.result.now ≡ count_by (λ (t : Touch). is_update t.operation) (map view touches) =
-    ap (count_by (λ t. is_update (view t).operation)) c.deref.ensures.value ∙ count-shown (λ (t : Touch). is_update t.operation) view touches in
-    let count : behind ≡ live - count_by (λ (t : Touch). is_some t.before) (map view touches) + count_by (λ (t : Touch). is_update t.operation) (map view touches) =
-    c.live_behind-behind.ensures.value ∙ ap₂ (λ a b. live - a + b) stood new in
-    let inactive : c.made_inactive.result ≡ made_inactive base (kind.writes base ws) =
-    c.made_inactive.ensures ∙ ap (λ n. n + live - behind) (ap length c.deref-2.ensures.value ∙ sym (length-map touches view))
-    ∙ are-inactive kind rules policy next base ws (map view touches) written.operations written.from written.keyed written.once live behind (on.known).live count in
-    let read = c.walk_from.ensures.read in
-    let mid = lent-then g.L.Items.reads _ g.I.Unordered.index_key (g.I.Unordered.entries c.args.path.index.now) c.args.log.now c.walk_from.new.log lent read is in
-    told-then _ _ (g.L.Items.reads.told c.args.log.now) (c.in_ok-walked.ensures.value lent base list is active on) (λ are.
-    let limits = ap₂ (λ e s. walk rules list (floor base) (record { entries = e; skips = s }) policy)
-    (c.limits-limits.ensures.entries ∙ ap (λ n. (rules.limits policy n).entries) inactive) (c.limits-limits.ensures.skips ∙ ap (λ n. (rules.limits policy n).skips) inactive) in
-    let apart = decided-apart rules base list (floor base) _ policy next ds end are in
-    told-one _ _ (g.L.Items.reads.told c.args.log.now) (told _ _ _ read.told (c.own_of.ensures.touches lent base ws mid on lent_ring ring are.from apart)) (λ found.
-    ok-four c.own_of.result found c.own_of.ensures.moves c.own_of.ensures.live c.own_of.ensures.floor (λ own same moves left floors.
-    let all_own =
-    are-own kind rules policy next base ws (map view touches) written.operations written.from written.keyed written.once live behind (on.known).live count ds end (subst (λ all. AreDecided base list ds end next all) limits are) moves in
-    let keys = left ∙ ap (λ n. behind - n) (sym (evicted-shown key value c.in_ok-walked.walked.decided.items)) in
-    subst (λ (n : ℕ). AreOwn kind rules policy next (map view own.touches.items) own.live n base ws) (sym floors)
-    (subst (λ (n : ℕ). AreOwn kind rules policy next (map view own.touches.items) n end base ws) (sym keys)
-    (subst (λ (ts : List Touch). AreOwn kind rules policy next ts (behind - count_by (λ (d : Decided). is_none d.value) ds) end base ws) (sym same) all_own)))))
+pub returns : goal.returns
+returns g c = record {
+  own = λ lent base ws is active on lent_ring ring.
+      let key = g.U.Key.ByteString.bytes in
+      let value = g.U.Value.ByteString.bytes in
+      let view = touch_view g.U.Update.view key value in
+      let kind = (kind_of g.U.Update.form) in
+      let rules = g.P.Policy.rules in
+      let live = c.args.path.base.live in
+      let touches = c.args.path.made.items in
+      let behind = c.live_behind-behind.result in
+      let policy = c.args.policy.now in
+      let next = c.walk_from.new.policy in
+      let ds = decided_views key value c.in_ok-walked.walked.decided.items in
+      let end = c.in_ok-walked.walked.floor in
+      let list = base ++ kind.writes base ws in
+      let written = path-written kind (path_view g.U.Update.view key value c.args.path) lent base ws on in
+      let stood : count_by (λ t. is_some t.before) c.deref.result.now ≡ count_by (λ (t : Touch). is_some t.before) (map view touches) =
+      ap (count_by (λ t. is_some t.before)) c.deref.ensures.value ∙ count-shown (λ (t : Touch). is_some t.before) view touches in
+      let new : count_by (λ t. is_update (view t).operation) c.deref.result.now ≡ count_by (λ (t : Touch). is_update t.operation) (map view touches) =
+      ap (count_by (λ t. is_update (view t).operation)) c.deref.ensures.value ∙ count-shown (λ (t : Touch). is_update t.operation) view touches in
+      let count : behind ≡ live - count_by (λ (t : Touch). is_some t.before) (map view touches) + count_by (λ (t : Touch). is_update t.operation) (map view touches) =
+      c.live_behind-behind.ensures.value ∙ ap₂ (λ a b. live - a + b) stood new in
+      let inactive : c.made_inactive.result ≡ made_inactive base (kind.writes base ws) =
+      c.made_inactive.ensures ∙ ap (λ n. n + live - behind) (ap length c.deref-2.ensures.value ∙ sym (length-map touches view))
+      ∙ are-inactive kind rules policy next base ws (map view touches) written.operations written.from written.keyed written.once live behind (on.known).live count in
+      let read = c.walk_from.ensures.read in
+      let mid = lent-then g.L.Items.reads _ g.I.Unordered.index_key (g.I.Unordered.entries c.args.path.index.now) c.args.log.now c.walk_from.new.log lent read is in
+      told-then _ _ (g.L.Items.reads.told c.args.log.now) (c.in_ok-walked.ensures.value lent base list is active on) (λ are.
+      let limits = ap₂ (λ e s. walk rules list (floor base) (record { entries = e; skips = s }) policy)
+      (c.limits-limits.ensures.entries ∙ ap (λ n. (rules.limits policy n).entries) inactive) (c.limits-limits.ensures.skips ∙ ap (λ n. (rules.limits policy n).skips) inactive) in
+      let apart = decided-apart rules base list (floor base) _ policy next ds end are in
+      told-one _ _ (g.L.Items.reads.told c.args.log.now) (told _ _ _ read.told (c.own_of.ensures.touches lent base ws mid on lent_ring ring are.from apart)) (λ found.
+      ok-four c.own_of.result found c.own_of.ensures.moves c.own_of.ensures.live c.own_of.ensures.floor (λ own same moves left floors.
+      let all_own =
+      are-own kind rules policy next base ws (map view touches) written.operations written.from written.keyed written.once live behind (on.known).live count ds end (subst (λ all. AreDecided base list ds end next all) limits are) moves in
+      let keys = left ∙ ap (λ n. behind - n) (sym (evicted-shown key value c.in_ok-walked.walked.decided.items)) in
+      subst (λ (n : ℕ). AreOwn kind rules policy next (map view own.touches.items) own.live n base ws) (sym floors)
+      (subst (λ (n : ℕ). AreOwn kind rules policy next (map view own.touches.items) n end base ws) (sym keys)
+      (subst (λ (ts : List Touch). AreOwn kind rules policy next ts (behind - count_by (λ (d : Decided). is_none d.value) ds) end base ws) (sym same) all_own)))));
+  count =
+      ok-four c.own_of.result c.own_of.ensures.live c.own_of.ensures.count c.own_of.ensures.live c.own_of.ensures.count (λ own live more _ _.
+      let same = ap length c.deref.ensures.value in
+      let bound = c.live_behind-behind.ensures.bound in
+      let low = c.requires.live in
+      omega (arith, same, live, more, bound, low));
+  read = read-then g.L.Items.reads g.met.L.Items.read_again c.args.log.now c.walk_from.new.log c.own_of.new.log c.walk_from.ensures.read c.own_of.ensures.read;
+  error = err-then c.own_of.result c.own_of.ensures.error (λ e was. error-then g.L.Items.reads g.met.L.Items.failed_later c.args.log.now c.walk_from.new.log c.own_of.new.log e c.walk_from.ensures.read was);
+  whole = λ lent is none above.
+      let read = c.walk_from.ensures.read in
+      let mid = lent-then g.L.Items.reads _ g.I.Unordered.index_key (g.I.Unordered.entries c.args.path.index.now) c.args.log.now c.walk_from.new.log lent read is in
+      c.own_of.ensures.whole lent mid (subst (λ n. NoneBelow n lent) (sym (read.start)) none);
+}
 
-pub returns-clause-count : goal.returns-clause-count
-returns-clause-count g c =
-    ok-four c.own_of.result c.own_of.ensures.live c.own_of.ensures.count c.own_of.ensures.live c.own_of.ensures.count (λ own live more _ _.
-    let same = ap length c.deref.ensures.value in
-    let bound = c.live_behind-behind.ensures.bound in
-    let low = c.requires.live in
-    omega (arith, same, live, more, bound, low))
-
-pub returns-clause-read : goal.returns-clause-read
-returns-clause-read g c = read-then g.L.Items.reads g.met.L.Items.read_again c.args.log.now c.walk_from.new.log c.own_of.new.log c.walk_from.ensures.read c.own_of.ensures.read
-
-pub returns-clause-error : goal.returns-clause-error
-returns-clause-error g c =
-    err-then c.own_of.result c.own_of.ensures.error (λ e was. error-then g.L.Items.reads g.met.L.Items.failed_later c.args.log.now c.walk_from.new.log c.own_of.new.log e c.walk_from.ensures.read was)
-
-pub returns-clause-whole : goal.returns-clause-whole
-returns-clause-whole g c = λ lent is none above.
-    let read = c.walk_from.ensures.read in
-    let mid = lent-then g.L.Items.reads _ g.I.Unordered.index_key (g.I.Unordered.entries c.args.path.index.now) c.args.log.now c.walk_from.new.log lent read is in
-    c.own_of.ensures.whole lent mid (subst (λ n. NoneBelow n lent) (sym (read.start)) none)
-
-pub returns-in_err-walked-clause-own : goal.returns-in_err-walked-clause-own
-returns-in_err-walked-clause-own g c = λ lent base ws is active on lent_ring ring.
+pub returns-in_err-walked : goal.returns-in_err-walked
+returns-in_err-walked g c =
     let exit = err_from_is_err_and c.from_residual.result c.from_residual.ensures.1 in
-    told-err _ (g.L.Items.reads.told c.args.log.now) c.from_residual.result exit.0 exit.1
-
-pub returns-in_err-walked-clause-count : goal.returns-in_err-walked-clause-count
-returns-in_err-walked-clause-count g c =
-    let exit = err_from_is_err_and c.from_residual.result c.from_residual.ensures.1 in
-    rw exit.1 tt
-
-pub returns-in_err-walked-clause-read : goal.returns-in_err-walked-clause-read
-returns-in_err-walked-clause-read g c = c.walk_from.ensures.read
-
-pub returns-in_err-walked-clause-error : goal.returns-in_err-walked-clause-error
-returns-in_err-walked-clause-error g c =
-    let exit = err_from_is_err_and c.from_residual.result c.from_residual.ensures.1 in
-    rw (exit.1, exit.2) c.in_err-walked.ensures.error
-
-pub returns-in_err-walked-clause-whole : goal.returns-in_err-walked-clause-whole
-returns-in_err-walked-clause-whole g c = λ lent is none above.
-    let exit = err_from_is_err_and c.from_residual.result c.from_residual.ensures.1 in
-    rw (exit.1, exit.2) (c.in_err-walked.ensures.pruned above)
+    record {
+      own = λ lent base ws is active on lent_ring ring. told-err _ (g.L.Items.reads.told c.args.log.now) c.from_residual.result exit.0 exit.1;
+      count = rw exit.1 tt;
+      read = c.walk_from.ensures.read;
+      error = rw (exit.1, exit.2) c.in_err-walked.ensures.error;
+      whole = λ lent is none above. rw (exit.1, exit.2) (c.in_err-walked.ensures.pruned above);
+    }

@@ -17,117 +17,57 @@ use Rattle.std.proofs.lemmas.Result.{err_from_is_err_and}
 use Rattle.qm_model.proofs.Results.{told-err}
 use Rattle.qm_batch.proofs.plan.own_of.Goals as goal
 
-pub returns-clause-touches : goal.returns-clause-touches
-returns-clause-touches g c = λ lent base ws is on lent_ring ring are apart.
-    let key = g.U.Key.ByteString.bytes in
-    let value = g.U.Value.ByteString.bytes in
-    let form = g.U.Update.form in
-    let kind = kind_of form in
-    let views = touch_views g.U.Update.view key value in
-    let made = views c.args.path.made.items in
-    let ds = decided_views key value c.args.walked.decided.items in
-    let told_items = g.L.Items.reads.told c.args.log.now in
-    let written = path-written kind (path_view g.U.Update.view key value c.args.path) lent base ws on in
-    let befores : (form.ordered ≡ true → IfSome told_items (λ _. map (read_view g.U.Update.view) c.in_ok-found.found.items ≡ filter_map (before_evicted (base ++ operations_of made)) ds)) = λ ordered.
-    subst₂ (λ ms ds. IsRing (base ++ operations_of (views ms)) → All (IsFrom base) (views ms) → IfSome told_items (λ _. map (read_view g.U.Update.view) c.in_ok-found.found.items ≡ filter_map (before_evicted (base ++ operations_of (views ms))) (decided_views key value ds)))
-    c.deref-2.ensures.value c.deref-3.ensures.value (c.in_ok-found.ensures.value lent base ordered is on.known (lent_ring ordered)) (ring-over form base ws made ring written ordered) written.from in
-    told-given (form.ordered ≡ true) told_items befores (λ found.
-    c.in_ok-touches.ensures.value base ws (on.known).size ring written (subst (λ ops. All (IsDecided base ops) ds) (sym on.makes) are) apart (λ ordered. ap (map (read_view g.U.Update.view)) c.deref-4.ensures.value ∙ found ordered)
-    ∙ ap (λ ops. made ++ map (touch_in base) (kind.moves ops (map write_for ds))) on.makes)
+pub returns : goal.returns
+returns g c = record {
+  touches = λ lent base ws is on lent_ring ring are apart.
+      let key = g.U.Key.ByteString.bytes in
+      let value = g.U.Value.ByteString.bytes in
+      let form = g.U.Update.form in
+      let kind = kind_of form in
+      let views = touch_views g.U.Update.view key value in
+      let made = views c.args.path.made.items in
+      let ds = decided_views key value c.args.walked.decided.items in
+      let told_items = g.L.Items.reads.told c.args.log.now in
+      let written = path-written kind (path_view g.U.Update.view key value c.args.path) lent base ws on in
+      let befores : (form.ordered ≡ true → IfSome told_items (λ _. map (read_view g.U.Update.view) c.in_ok-found.found.items ≡ filter_map (before_evicted (base ++ operations_of made)) ds)) = λ ordered.
+      subst₂ (λ ms ds. IsRing (base ++ operations_of (views ms)) → All (IsFrom base) (views ms) → IfSome told_items (λ _. map (read_view g.U.Update.view) c.in_ok-found.found.items ≡ filter_map (before_evicted (base ++ operations_of (views ms))) (decided_views key value ds)))
+      c.deref-2.ensures.value c.deref-3.ensures.value (c.in_ok-found.ensures.value lent base ordered is on.known (lent_ring ordered)) (ring-over form base ws made ring written ordered) written.from in
+      told-given (form.ordered ≡ true) told_items befores (λ found.
+      c.in_ok-touches.ensures.value base ws (on.known).size ring written (subst (λ ops. All (IsDecided base ops) ds) (sym on.makes) are) apart (λ ordered. ap (map (read_view g.U.Update.view)) c.deref-4.ensures.value ∙ found ordered)
+      ∙ ap (λ ops. made ++ map (touch_in base) (kind.moves ops (map write_for ds))) on.makes);
+  moves = c.moved.ensures.live;
+  live = c.saturating_sub-live.ensures ∙ ap (λ n. c.args.behind - n) (c.evicted.ensures.count ∙ ap (count_by (λ (d : Decided _ _). is_none d.value)) c.deref.ensures.value);
+  floor = refl;
+  count = c.in_ok-touches.ensures.count;
+  read = c.befores_of.ensures.read;
+  error = tt;
+  whole = λ lent is none. tt;
+}
 
-pub returns-in_err-found-clause-touches : goal.returns-in_err-found-clause-touches
-returns-in_err-found-clause-touches g c = λ lent base ws is on lent_ring ring are apart.
+pub returns-in_err-found : goal.returns-in_err-found
+returns-in_err-found g c =
     let exit = err_from_is_err_and c.from_residual.result c.from_residual.ensures.1 in
-    told-err _ (g.L.Items.reads.told c.args.log.now) c.from_residual.result exit.0 exit.1
+    record {
+      touches = λ lent base ws is on lent_ring ring are apart. told-err _ (g.L.Items.reads.told c.args.log.now) c.from_residual.result exit.0 exit.1;
+      moves = rw exit.1 tt;
+      live = rw exit.1 tt;
+      floor = rw exit.1 tt;
+      count = rw exit.1 tt;
+      read = c.befores_of.ensures.read;
+      error = rw (exit.1, exit.2) c.in_err-found.ensures.error;
+      whole = λ lent is none. rw (exit.1, exit.2) (c.in_err-found.ensures.whole lent is none);
+    }
 
-pub returns-in_err-found-clause-moves : goal.returns-in_err-found-clause-moves
-returns-in_err-found-clause-moves g c =
-    let exit = err_from_is_err_and c.from_residual.result c.from_residual.ensures.1 in
-    rw exit.1 tt
-
-pub returns-in_err-found-clause-live : goal.returns-in_err-found-clause-live
-returns-in_err-found-clause-live g c =
-    let exit = err_from_is_err_and c.from_residual.result c.from_residual.ensures.1 in
-    rw exit.1 tt
-
-pub returns-in_err-found-clause-floor : goal.returns-in_err-found-clause-floor
-returns-in_err-found-clause-floor g c =
-    let exit = err_from_is_err_and c.from_residual.result c.from_residual.ensures.1 in
-    rw exit.1 tt
-
-pub returns-in_err-found-clause-count : goal.returns-in_err-found-clause-count
-returns-in_err-found-clause-count g c =
-    let exit = err_from_is_err_and c.from_residual.result c.from_residual.ensures.1 in
-    rw exit.1 tt
-
-pub returns-in_err-found-clause-read : goal.returns-in_err-found-clause-read
-returns-in_err-found-clause-read g c = c.befores_of.ensures.read
-
-pub returns-in_err-found-clause-error : goal.returns-in_err-found-clause-error
-returns-in_err-found-clause-error g c =
-    let exit = err_from_is_err_and c.from_residual.result c.from_residual.ensures.1 in
-    rw (exit.1, exit.2) c.in_err-found.ensures.error
-
-pub returns-in_err-found-clause-whole : goal.returns-in_err-found-clause-whole
-returns-in_err-found-clause-whole g c = λ lent is none.
-    let exit = err_from_is_err_and c.from_residual.result c.from_residual.ensures.1 in
-    rw (exit.1, exit.2) (c.in_err-found.ensures.whole lent is none)
-
-pub returns-in_err-touches-clause-touches : goal.returns-in_err-touches-clause-touches
-returns-in_err-touches-clause-touches g c = λ lent base ws is on lent_ring ring are apart.
+pub returns-in_err-touches : goal.returns-in_err-touches
+returns-in_err-touches g c =
     let exit = err_from_is_err_and c.from_residual-in_err-touches.result c.from_residual-in_err-touches.ensures.1 in
-    told-err _ (g.L.Items.reads.told c.args.log.now) c.from_residual-in_err-touches.result exit.0 exit.1
-
-pub returns-in_err-touches-clause-moves : goal.returns-in_err-touches-clause-moves
-returns-in_err-touches-clause-moves g c =
-    let exit = err_from_is_err_and c.from_residual-in_err-touches.result c.from_residual-in_err-touches.ensures.1 in
-    rw exit.1 tt
-
-pub returns-in_err-touches-clause-live : goal.returns-in_err-touches-clause-live
-returns-in_err-touches-clause-live g c =
-    let exit = err_from_is_err_and c.from_residual-in_err-touches.result c.from_residual-in_err-touches.ensures.1 in
-    rw exit.1 tt
-
-pub returns-in_err-touches-clause-floor : goal.returns-in_err-touches-clause-floor
-returns-in_err-touches-clause-floor g c =
-    let exit = err_from_is_err_and c.from_residual-in_err-touches.result c.from_residual-in_err-touches.ensures.1 in
-    rw exit.1 tt
-
-pub returns-in_err-touches-clause-count : goal.returns-in_err-touches-clause-count
-returns-in_err-touches-clause-count g c =
-    let exit = err_from_is_err_and c.from_residual-in_err-touches.result c.from_residual-in_err-touches.ensures.1 in
-    rw exit.1 tt
-
-pub returns-in_err-touches-clause-read : goal.returns-in_err-touches-clause-read
-returns-in_err-touches-clause-read g c = c.befores_of.ensures.read
-
-pub returns-in_err-touches-clause-error : goal.returns-in_err-touches-clause-error
-returns-in_err-touches-clause-error g c =
-    let exit = err_from_is_err_and c.from_residual-in_err-touches.result c.from_residual-in_err-touches.ensures.1 in
-    rw (exit.1, exit.2) (inl refl)
-
-pub returns-in_err-touches-clause-whole : goal.returns-in_err-touches-clause-whole
-returns-in_err-touches-clause-whole g c = λ lent is none.
-    let exit = err_from_is_err_and c.from_residual-in_err-touches.result c.from_residual-in_err-touches.ensures.1 in
-    rw (exit.1, exit.2) (λ n same. cc)
-
-pub returns-clause-read : goal.returns-clause-read
-returns-clause-read g c = c.befores_of.ensures.read
-
-pub returns-clause-error : goal.returns-clause-error
-returns-clause-error g c = tt
-
-pub returns-clause-whole : goal.returns-clause-whole
-returns-clause-whole g c = λ lent is none. tt
-
-pub returns-clause-count : goal.returns-clause-count
-returns-clause-count g c = c.in_ok-touches.ensures.count
-
-pub returns-clause-moves : goal.returns-clause-moves
-returns-clause-moves g c = c.moved.ensures.live
-
-pub returns-clause-live : goal.returns-clause-live
-returns-clause-live g c = c.saturating_sub-live.ensures ∙ ap (λ n. c.args.behind - n) (c.evicted.ensures.count ∙ ap (count_by (λ (d : Decided _ _). is_none d.value)) c.deref.ensures.value)
-
-pub returns-clause-floor : goal.returns-clause-floor
-returns-clause-floor g c = refl
+    record {
+      touches = λ lent base ws is on lent_ring ring are apart. told-err _ (g.L.Items.reads.told c.args.log.now) c.from_residual-in_err-touches.result exit.0 exit.1;
+      moves = rw exit.1 tt;
+      live = rw exit.1 tt;
+      floor = rw exit.1 tt;
+      count = rw exit.1 tt;
+      read = c.befores_of.ensures.read;
+      error = rw (exit.1, exit.2) (inl refl);
+      whole = λ lent is none. rw (exit.1, exit.2) (λ n same. cc);
+    }

@@ -10,113 +10,70 @@ use Rattle.qm_step.proofs.Reading.{lent-then, told}
 use Rattle.std.proofs.lemmas.Result.{err_from_is_err_and}
 use Rattle.qm_batch.proofs.plan.own_operations.Goals as goal
 
-pub returns-clause-read : goal.returns-clause-read
-returns-clause-read g c = read-then g.L.Items.reads g.met.L.Items.read_again c.args.log.now c.written_over.new.log c.own_along.new.log c.written_over.ensures.read c.own_along.ensures.read
+pub returns : goal.returns
+returns g c = record {
+  own = λ lent base is active from lent_ring ring reads.
+      let key = g.U.Key.ByteString.bytes in
+      let value = g.U.Value.ByteString.bytes in
+      let views = touch_views g.U.Update.view key value in
+      let ws = wanted_view key value c.args.wanted.now in
+      let items = g.L.Items.reads.told c.args.log.now in
+      let read = c.written_over.ensures.read in
+      let mid = lent-then g.L.Items.reads _ g.I.Unordered.index_key (g.I.Unordered.entries c.args.index.now) c.args.log.now c.written_over.new.log lent read is in
+      told-then _ _ items (c.in_ok-made.ensures.value lent base ws is from.leads lent_ring ring reads c.in_ok-last.ensures) (λ made.
+      told _ _ _ read.told (c.own_along.ensures.own lent base ws mid active (record {
+        known = subst (λ b. IsBase b lent base) (sym c.lent.ensures) from;
+        makes = ap (λ ops. base ++ ops) made.operations;
+        from = made.from;
+        keyed = made.keyed;
+        once = made.once;
+        replaced = subst (λ ts. AreReplaced c.in_ok-replaced.replaced (views ts)) c.deref.ensures.value c.in_ok-replaced.ensures;
+      }) lent_ring ring));
+  count =
+      let size = ap (λ (b : Base). b.size) c.lent.ensures in
+      ok-then c.own_along.result c.own_along.ensures.count (λ own live. omega (arith, size, live));
+  read = read-then g.L.Items.reads g.met.L.Items.read_again c.args.log.now c.written_over.new.log c.own_along.new.log c.written_over.ensures.read c.own_along.ensures.read;
+  error = err-then c.own_along.result c.own_along.ensures.error (λ e was. error-then g.L.Items.reads g.met.L.Items.failed_later c.args.log.now c.written_over.new.log c.own_along.new.log e c.written_over.ensures.read was);
+  whole = λ lent is none above.
+      let read = c.written_over.ensures.read in
+      let same = read.start in
+      let low = ap (λ (b : Base). b.floor) c.lent.ensures in
+      let mid = lent-then g.L.Items.reads _ g.I.Unordered.index_key (g.I.Unordered.entries c.args.index.now) c.args.log.now c.written_over.new.log lent read is in
+      c.own_along.ensures.whole lent mid (subst (λ n. NoneBelow n lent) (sym same) none) (omega (arith, same, low, above));
+}
 
-pub returns-clause-own : goal.returns-clause-own
-returns-clause-own g c = λ lent base is active from lent_ring ring reads.
-    let key = g.U.Key.ByteString.bytes in
-    let value = g.U.Value.ByteString.bytes in
-    let views = touch_views g.U.Update.view key value in
-    let ws = wanted_view key value c.args.wanted.now in
-    let items = g.L.Items.reads.told c.args.log.now in
-    let read = c.written_over.ensures.read in
-    let mid = lent-then g.L.Items.reads _ g.I.Unordered.index_key (g.I.Unordered.entries c.args.index.now) c.args.log.now c.written_over.new.log lent read is in
-    told-then _ _ items (c.in_ok-made.ensures.value lent base ws is from.leads lent_ring ring reads c.in_ok-last.ensures) (λ made.
-    told _ _ _ read.told (c.own_along.ensures.own lent base ws mid active (record {
-      known = subst (λ b. IsBase b lent base) (sym c.lent.ensures) from;
-      makes = ap (λ ops. base ++ ops) made.operations;
-      from = made.from;
-      keyed = made.keyed;
-      once = made.once;
-      replaced = subst (λ ts. AreReplaced c.in_ok-replaced.replaced (views ts)) c.deref.ensures.value c.in_ok-replaced.ensures;
-    }) lent_ring ring))
-
-pub returns-clause-error : goal.returns-clause-error
-returns-clause-error g c =
-    err-then c.own_along.result c.own_along.ensures.error (λ e was. error-then g.L.Items.reads g.met.L.Items.failed_later c.args.log.now c.written_over.new.log c.own_along.new.log e c.written_over.ensures.read was)
-
-pub returns-clause-whole : goal.returns-clause-whole
-returns-clause-whole g c = λ lent is none above.
-    let read = c.written_over.ensures.read in
-    let same = read.start in
-    let low = ap (λ (b : Base). b.floor) c.lent.ensures in
-    let mid = lent-then g.L.Items.reads _ g.I.Unordered.index_key (g.I.Unordered.entries c.args.index.now) c.args.log.now c.written_over.new.log lent read is in
-    c.own_along.ensures.whole lent mid (subst (λ n. NoneBelow n lent) (sym same) none) (omega (arith, same, low, above))
-
-pub returns-in_err-last-clause-own : goal.returns-in_err-last-clause-own
-returns-in_err-last-clause-own g c = λ lent base is active from lent_ring ring reads.
+pub returns-in_err-last : goal.returns-in_err-last
+returns-in_err-last g c =
     let exit = err_from_is_err_and c.from_residual.result c.from_residual.ensures.1 in
-    told-err _ (g.L.Items.reads.told c.args.log.now) c.from_residual.result exit.0 exit.1
+    record {
+      own = λ lent base is active from lent_ring ring reads. told-err _ (g.L.Items.reads.told c.args.log.now) c.from_residual.result exit.0 exit.1;
+      count = rw exit.1 tt;
+      read = read-none g.L.Items.reads g.met.L.Items.unread c.args.log.now;
+      error = rw (exit.1, exit.2) (inl refl);
+      whole = λ lent is none above. rw (exit.1, exit.2) (λ n same. cc);
+    }
 
-pub returns-in_err-last-clause-count : goal.returns-in_err-last-clause-count
-returns-in_err-last-clause-count g c =
-    let exit = err_from_is_err_and c.from_residual.result c.from_residual.ensures.1 in
-    rw exit.1 tt
-
-pub returns-in_err-last-clause-read : goal.returns-in_err-last-clause-read
-returns-in_err-last-clause-read g c = read-none g.L.Items.reads g.met.L.Items.unread c.args.log.now
-
-pub returns-in_err-last-clause-error : goal.returns-in_err-last-clause-error
-returns-in_err-last-clause-error g c =
-    let exit = err_from_is_err_and c.from_residual.result c.from_residual.ensures.1 in
-    rw (exit.1, exit.2) (inl refl)
-
-pub returns-in_err-last-clause-whole : goal.returns-in_err-last-clause-whole
-returns-in_err-last-clause-whole g c = λ lent is none above.
-    let exit = err_from_is_err_and c.from_residual.result c.from_residual.ensures.1 in
-    rw (exit.1, exit.2) (λ n same. cc)
-
-pub returns-in_err-made-clause-own : goal.returns-in_err-made-clause-own
-returns-in_err-made-clause-own g c = λ lent base is active from lent_ring ring reads.
+pub returns-in_err-made : goal.returns-in_err-made
+returns-in_err-made g c =
     let exit = err_from_is_err_and c.from_residual-in_err-made.result c.from_residual-in_err-made.ensures.1 in
-    told-err _ (g.L.Items.reads.told c.args.log.now) c.from_residual-in_err-made.result exit.0 exit.1
+    record {
+      own = λ lent base is active from lent_ring ring reads. told-err _ (g.L.Items.reads.told c.args.log.now) c.from_residual-in_err-made.result exit.0 exit.1;
+      count = rw exit.1 tt;
+      read = c.written_over.ensures.read;
+      error = rw (exit.1, exit.2) c.in_err-made.ensures.error;
+      whole = λ lent is none above. rw (exit.1, exit.2) (c.in_err-made.ensures.whole lent is none);
+    }
 
-pub returns-in_err-made-clause-count : goal.returns-in_err-made-clause-count
-returns-in_err-made-clause-count g c =
-    let exit = err_from_is_err_and c.from_residual-in_err-made.result c.from_residual-in_err-made.ensures.1 in
-    rw exit.1 tt
-
-pub returns-in_err-made-clause-read : goal.returns-in_err-made-clause-read
-returns-in_err-made-clause-read g c = c.written_over.ensures.read
-
-pub returns-in_err-made-clause-error : goal.returns-in_err-made-clause-error
-returns-in_err-made-clause-error g c =
-    let exit = err_from_is_err_and c.from_residual-in_err-made.result c.from_residual-in_err-made.ensures.1 in
-    rw (exit.1, exit.2) c.in_err-made.ensures.error
-
-pub returns-in_err-made-clause-whole : goal.returns-in_err-made-clause-whole
-returns-in_err-made-clause-whole g c = λ lent is none above.
-    let exit = err_from_is_err_and c.from_residual-in_err-made.result c.from_residual-in_err-made.ensures.1 in
-    rw (exit.1, exit.2) (c.in_err-made.ensures.whole lent is none)
-
-pub returns-in_err-replaced-clause-own : goal.returns-in_err-replaced-clause-own
-returns-in_err-replaced-clause-own g c = λ lent base is active from lent_ring ring reads.
+pub returns-in_err-replaced : goal.returns-in_err-replaced
+returns-in_err-replaced g c =
     let exit = err_from_is_err_and c.from_residual-in_err-replaced.result c.from_residual-in_err-replaced.ensures.1 in
-    told-err _ (g.L.Items.reads.told c.args.log.now) c.from_residual-in_err-replaced.result exit.0 exit.1
-
-pub returns-in_err-replaced-clause-count : goal.returns-in_err-replaced-clause-count
-returns-in_err-replaced-clause-count g c =
-    let exit = err_from_is_err_and c.from_residual-in_err-replaced.result c.from_residual-in_err-replaced.ensures.1 in
-    rw exit.1 tt
-
-pub returns-in_err-replaced-clause-read : goal.returns-in_err-replaced-clause-read
-returns-in_err-replaced-clause-read g c = c.written_over.ensures.read
-
-pub returns-in_err-replaced-clause-error : goal.returns-in_err-replaced-clause-error
-returns-in_err-replaced-clause-error g c =
-    let exit = err_from_is_err_and c.from_residual-in_err-replaced.result c.from_residual-in_err-replaced.ensures.1 in
-    rw (exit.1, exit.2) (inl refl)
-
-pub returns-in_err-replaced-clause-whole : goal.returns-in_err-replaced-clause-whole
-returns-in_err-replaced-clause-whole g c = λ lent is none above.
-    let exit = err_from_is_err_and c.from_residual-in_err-replaced.result c.from_residual-in_err-replaced.ensures.1 in
-    rw (exit.1, exit.2) (λ n same. cc)
-
-pub returns-clause-count : goal.returns-clause-count
-returns-clause-count g c =
-    let size = ap (λ (b : Base). b.size) c.lent.ensures in
-    ok-then c.own_along.result c.own_along.ensures.count (λ own live. omega (arith, size, live))
+    record {
+      own = λ lent base is active from lent_ring ring reads. told-err _ (g.L.Items.reads.told c.args.log.now) c.from_residual-in_err-replaced.result exit.0 exit.1;
+      count = rw exit.1 tt;
+      read = c.written_over.ensures.read;
+      error = rw (exit.1, exit.2) (inl refl);
+      whole = λ lent is none above. rw (exit.1, exit.2) (λ n same. cc);
+    }
 
 pub own_along-requires-clause-size : goal.own_along-requires-clause-size
 own_along-requires-clause-size g c = subst (λ (b : Base). b.size ≤ 2 ^ 62) (sym c.lent.ensures) c.requires.size

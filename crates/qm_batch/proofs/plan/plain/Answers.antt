@@ -8,13 +8,17 @@ use Rattle.qm_step.specs.Views.{write_view, IsPlan}
 use Rattle.qm_step.proofs.PlanWanted.{slotted-none}
 use Rattle.qm_batch.proofs.plan.plain.Goals as goal
 
-pub returns-clause-plan : goal.returns-clause-plan
-returns-clause-plan g c = λ lent base is active from lent_ring ring.
-    subst
-    (λ (ws : List Write). IfSome (g.L.Items.reads.told c.args.log.now) (λ _. IfOk c.staged.result (λ plan. IsPlan plan base (step (kind_of g.U.Update.form) g.P.Policy.rules base ws c.args.policy.now (option_map g.U.Value.ByteString.bytes c.args.metadata)))))
-    (slotted-none (map (write_view g.U.Key.ByteString.bytes g.U.Value.ByteString.bytes) c.args.writes.now)) (c.staged.ensures.plan lent base is active from lent_ring ring (All-nil _))
-
-pub returns-clause-next : goal.returns-clause-next
-returns-clause-next g c = λ lent base is active from lent_ring ring.
-    subst (λ (ws : List Write). IfSome (g.L.Items.reads.told c.args.log.now) (λ _. IfOk c.staged.result (λ _. c.staged.new.policy ≡ policy_after (kind_of g.U.Update.form) g.P.Policy.rules base ws c.args.policy.now)))
-    (slotted-none (map (write_view g.U.Key.ByteString.bytes g.U.Value.ByteString.bytes) c.args.writes.now)) (c.staged.ensures.next lent base is active from lent_ring ring (All-nil _))
+pub returns : goal.returns
+returns g c = record {
+  plan = λ lent base is active from lent_ring ring.
+      subst
+      (λ (ws : List Write). IfSome (g.L.Items.reads.told c.args.log.now) (λ _. IfOk c.staged.result (λ plan. IsPlan plan base (step (kind_of g.U.Update.form) g.P.Policy.rules base ws c.args.policy.now (option_map g.U.Value.ByteString.bytes c.args.metadata)))))
+      (slotted-none (map (write_view g.U.Key.ByteString.bytes g.U.Value.ByteString.bytes) c.args.writes.now)) (c.staged.ensures.plan lent base is active from lent_ring ring (All-nil _));
+  next = λ lent base is active from lent_ring ring.
+      subst (λ (ws : List Write). IfSome (g.L.Items.reads.told c.args.log.now) (λ _. IfOk c.staged.result (λ _. c.staged.new.policy ≡ policy_after (kind_of g.U.Update.form) g.P.Policy.rules base ws c.args.policy.now)))
+      (slotted-none (map (write_view g.U.Key.ByteString.bytes g.U.Value.ByteString.bytes) c.args.writes.now)) (c.staged.ensures.next lent base is active from lent_ring ring (All-nil _));
+  live = c.staged.ensures.live;
+  read = c.staged.ensures.read;
+  error = c.staged.ensures.error;
+  whole = c.staged.ensures.whole;
+}

@@ -12,99 +12,65 @@ use Rattle.qm_batch.proofs.PlanSteps.{own-plan}
 use Rattle.std.proofs.lemmas.Result.{err_from_is_err_and}
 use Rattle.qm_batch.proofs.plan.planned.Goals as goal
 
-pub returns-clause-plan : goal.returns-clause-plan
-returns-clause-plan g c = λ base size from count.
-    let key = g.U.Key.ByteString.bytes in
-    let value = g.U.Value.ByteString.bytes in
-    let view = touch_view g.U.Update.view key value in
-    let touches = c.args.own.touches.items in
-    let own = operations_of (touch_views g.U.Update.view key value touches) in
-    let meta = option_map value c.args.metadata in
-    let place = c.commit_floor-floor.result in
-    let changes = changes_view key value c.in_ok-diff.diff in
-    let long : c.args.size + c.len.result ≡ length (base ++ own) = omega (arith, c.len.ensures, c.args.own.touches.ok.0, own-length view base touches c.args.size size) in
-    let at : place ≡ (if c.args.own.live == 0 then length (base ++ own) else c.args.own.floor) =
-    c.commit_floor-floor.ensures ∙ ap (λ n. if c.args.own.live == 0 then n else c.args.own.floor) long in
-    let operations : map (operation_view g.U.Update.view key value) c.push.new.self.items ≡ own ++ commit meta place ∷ [] =
-    operations-push (operation_view g.U.Update.view key value) view (λ t. t.operation) (λ t. refl) touches c.in_ok-operations.operations.items c.push.new.self.items _ (commit meta place) c.in_ok-operations.ensures c.in_ok-push.ensures.items (ap (commit meta) c.new.ensures) in
-    let are = rw c.deref.ensures.value at (c.in_ok-diff.ensures base size) in
-    subst (λ (n : ℕ). IsPlan (record { operations = map (operation_view g.U.Update.view key value) c.push.new.self.items; changes = changes; floor = n; live = c.args.own.live }) base (committed (base ++ own) c.args.own.floor meta)) (sym c.new-2.ensures)
-    (subst (λ (ops : List Operation). IsPlan (record { operations = ops; changes = changes; floor = place; live = c.args.own.live }) base (committed (base ++ own) c.args.own.floor meta)) (sym operations)
-    (own-plan base own changes c.args.own.live place c.args.own.floor meta count at (are from)))
+pub returns : goal.returns
+returns g c = record {
+  count =
+      let touches = c.args.own.touches.items in
+      length-map c.push.new.self.items (operation_view g.U.Update.view g.U.Key.ByteString.bytes g.U.Value.ByteString.bytes)
+      ∙ ap length c.in_ok-push.ensures.items
+      ∙ length-append c.in_ok-operations.operations.items (_ ∷ [])
+      ∙ ap (λ n. n + 1) (ap length c.in_ok-operations.ensures ∙ length-map touches (λ t. t.operation));
+  live = refl;
+  plan = λ base size from count.
+      let key = g.U.Key.ByteString.bytes in
+      let value = g.U.Value.ByteString.bytes in
+      let view = touch_view g.U.Update.view key value in
+      let touches = c.args.own.touches.items in
+      let own = operations_of (touch_views g.U.Update.view key value touches) in
+      let meta = option_map value c.args.metadata in
+      let place = c.commit_floor-floor.result in
+      let changes = changes_view key value c.in_ok-diff.diff in
+      let long : c.args.size + c.len.result ≡ length (base ++ own) = omega (arith, c.len.ensures, c.args.own.touches.ok.0, own-length view base touches c.args.size size) in
+      let at : place ≡ (if c.args.own.live == 0 then length (base ++ own) else c.args.own.floor) =
+      c.commit_floor-floor.ensures ∙ ap (λ n. if c.args.own.live == 0 then n else c.args.own.floor) long in
+      let operations : map (operation_view g.U.Update.view key value) c.push.new.self.items ≡ own ++ commit meta place ∷ [] =
+      operations-push (operation_view g.U.Update.view key value) view (λ t. t.operation) (λ t. refl) touches c.in_ok-operations.operations.items c.push.new.self.items _ (commit meta place) c.in_ok-operations.ensures c.in_ok-push.ensures.items (ap (commit meta) c.new.ensures) in
+      let are = rw c.deref.ensures.value at (c.in_ok-diff.ensures base size) in
+      subst (λ (n : ℕ). IsPlan (record { operations = map (operation_view g.U.Update.view key value) c.push.new.self.items; changes = changes; floor = n; live = c.args.own.live }) base (committed (base ++ own) c.args.own.floor meta)) (sym c.new-2.ensures)
+      (subst (λ (ops : List Operation). IsPlan (record { operations = ops; changes = changes; floor = place; live = c.args.own.live }) base (committed (base ++ own) c.args.own.floor meta)) (sym operations)
+      (own-plan base own changes c.args.own.live place c.args.own.floor meta count at (are from)));
+  memory = tt;
+}
 
-pub returns-in_err-diff-clause-count : goal.returns-in_err-diff-clause-count
-returns-in_err-diff-clause-count g c =
+pub returns-in_err-diff : goal.returns-in_err-diff
+returns-in_err-diff g c =
     let exit = err_from_is_err_and c.from_residual.result c.from_residual.ensures.1 in
-    rw exit.1 tt
+    record {
+      count = rw exit.1 tt;
+      live = rw exit.1 tt;
+      plan = rw exit.1 tt;
+      memory = rw exit.1 exit.2;
+    }
 
-pub returns-in_err-diff-clause-live : goal.returns-in_err-diff-clause-live
-returns-in_err-diff-clause-live g c =
-    let exit = err_from_is_err_and c.from_residual.result c.from_residual.ensures.1 in
-    rw exit.1 tt
-
-pub returns-in_err-diff-clause-plan : goal.returns-in_err-diff-clause-plan
-returns-in_err-diff-clause-plan g c =
-    let exit = err_from_is_err_and c.from_residual.result c.from_residual.ensures.1 in
-    rw exit.1 tt
-
-pub returns-in_err-diff-clause-memory : goal.returns-in_err-diff-clause-memory
-returns-in_err-diff-clause-memory g c =
-    let exit = err_from_is_err_and c.from_residual.result c.from_residual.ensures.1 in
-    rw exit.1 exit.2
-
-pub returns-in_err-operations-clause-count : goal.returns-in_err-operations-clause-count
-returns-in_err-operations-clause-count g c =
+pub returns-in_err-operations : goal.returns-in_err-operations
+returns-in_err-operations g c =
     let exit = err_from_is_err_and c.from_residual-in_err-operations.result c.from_residual-in_err-operations.ensures.1 in
-    rw exit.1 tt
+    record {
+      count = rw exit.1 tt;
+      live = rw exit.1 tt;
+      plan = rw exit.1 tt;
+      memory = rw exit.1 exit.2;
+    }
 
-pub returns-in_err-operations-clause-live : goal.returns-in_err-operations-clause-live
-returns-in_err-operations-clause-live g c =
-    let exit = err_from_is_err_and c.from_residual-in_err-operations.result c.from_residual-in_err-operations.ensures.1 in
-    rw exit.1 tt
-
-pub returns-in_err-operations-clause-plan : goal.returns-in_err-operations-clause-plan
-returns-in_err-operations-clause-plan g c =
-    let exit = err_from_is_err_and c.from_residual-in_err-operations.result c.from_residual-in_err-operations.ensures.1 in
-    rw exit.1 tt
-
-pub returns-in_err-operations-clause-memory : goal.returns-in_err-operations-clause-memory
-returns-in_err-operations-clause-memory g c =
-    let exit = err_from_is_err_and c.from_residual-in_err-operations.result c.from_residual-in_err-operations.ensures.1 in
-    rw exit.1 exit.2
-
-pub returns-in_err-push-clause-count : goal.returns-in_err-push-clause-count
-returns-in_err-push-clause-count g c =
+pub returns-in_err-push : goal.returns-in_err-push
+returns-in_err-push g c =
     let exit = err_from_is_err_and c.from_residual-in_err-push.result c.from_residual-in_err-push.ensures.1 in
-    rw exit.1 tt
-
-pub returns-in_err-push-clause-live : goal.returns-in_err-push-clause-live
-returns-in_err-push-clause-live g c =
-    let exit = err_from_is_err_and c.from_residual-in_err-push.result c.from_residual-in_err-push.ensures.1 in
-    rw exit.1 tt
-
-pub returns-in_err-push-clause-plan : goal.returns-in_err-push-clause-plan
-returns-in_err-push-clause-plan g c =
-    let exit = err_from_is_err_and c.from_residual-in_err-push.result c.from_residual-in_err-push.ensures.1 in
-    rw exit.1 tt
-
-pub returns-in_err-push-clause-memory : goal.returns-in_err-push-clause-memory
-returns-in_err-push-clause-memory g c =
-    let exit = err_from_is_err_and c.from_residual-in_err-push.result c.from_residual-in_err-push.ensures.1 in
-    rw exit.1 exit.2
-
-pub returns-clause-live : goal.returns-clause-live
-returns-clause-live g c = refl
-
-pub returns-clause-memory : goal.returns-clause-memory
-returns-clause-memory g c = tt
+    record {
+      count = rw exit.1 tt;
+      live = rw exit.1 tt;
+      plan = rw exit.1 tt;
+      memory = rw exit.1 exit.2;
+    }
 
 pub overflow_add-size : goal.overflow_add-size
 overflow_add-size g c = omega (arith, c.len.ensures, c.args.own.touches.ok.0, c.requires)
-
-pub returns-clause-count : goal.returns-clause-count
-returns-clause-count g c =
-    let touches = c.args.own.touches.items in
-    length-map c.push.new.self.items (operation_view g.U.Update.view g.U.Key.ByteString.bytes g.U.Value.ByteString.bytes)
-    ∙ ap length c.in_ok-push.ensures.items
-    ∙ length-append c.in_ok-operations.operations.items (_ ∷ [])
-    ∙ ap (λ n. n + 1) (ap length c.in_ok-operations.ensures ∙ length-map touches (λ t. t.operation))

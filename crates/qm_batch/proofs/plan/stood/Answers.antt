@@ -22,10 +22,10 @@ loop-touch-preserved g c =
           (is ∙ before ∙ sym (count_by_more_no (λ t. is_some t.before) c.args.touches.now c.loop-touch.touch-index c.touch-item.result c.loop-touch-test.true (here ∙ w.if-is_some.false)), omega (arith, is, low))
     ]
 
-pub returns-clause-count : goal.returns-clause-count
-returns-clause-count g c = c.loop-touch.invariant.0 ∙ ap (count_by (λ t. is_some t.before)) (take_all c.loop-touch.touch-index c.args.touches.now c.loop-touch-test.false)
-
-pub returns-clause-bound : goal.returns-clause-bound
-returns-clause-bound g c =
-    let low = c.loop-touch.invariant.1 in
-    omega (arith, low, c.loop-touch.auto.touch-index-end)
+pub returns : goal.returns
+returns g c = record {
+  count = c.loop-touch.invariant.0 ∙ ap (count_by (λ t. is_some t.before)) (take_all c.loop-touch.touch-index c.args.touches.now c.loop-touch-test.false);
+  bound =
+      let low = c.loop-touch.invariant.1 in
+      omega (arith, low, c.loop-touch.auto.touch-index-end);
+}

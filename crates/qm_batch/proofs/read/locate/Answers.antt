@@ -12,78 +12,54 @@ use Rattle.std.proofs.lemmas.Result.{err_from_is_err_and}
 use Rattle.qm_base.proofs.Reading.{read-none}
 use Rattle.qm_batch.proofs.read.locate.Goals as goal
 
-pub returns-in-Some-clause-value : goal.returns-in-Some-clause-value
-returns-in-Some-clause-value g c = λ lent base is from.
-    let key = g.U.Key.ByteString.bytes c.args.key.now in
-    let value = g.U.Value.ByteString.bytes in
-    let layers = map (λ l. l.value) c.args.layers.now in
-    told-any _ (g.L.Items.reads.told c.args.log.now)
-    (ok-same c.stands_by.result (option_map (stands_view g.U.Key.ByteString.bytes)) _ _
-    (ap (option_map link_of) (sym (layer-update layers lent base from key c.in-Some.layer.now (change_view value c.in-Some.entry.now)
-    (ap (option_map (λ p. (p.0.now, change_view value p.1.now))) (sym c.in-Some.is) ∙ c.newest.ensures ∙ ap (nearest_layer layers) c.as_bytes.ensures.value)))
-    ∙ link-of_update base key)
-    c.stands_by.ensures.value)
+pub returns-in-Some : goal.returns-in-Some
+returns-in-Some g c = record {
+  value = λ lent base is from.
+      let key = g.U.Key.ByteString.bytes c.args.key.now in
+      let value = g.U.Value.ByteString.bytes in
+      let layers = map (λ l. l.value) c.args.layers.now in
+      told-any _ (g.L.Items.reads.told c.args.log.now)
+      (ok-same c.stands_by.result (option_map (stands_view g.U.Key.ByteString.bytes)) _ _
+      (ap (option_map link_of) (sym (layer-update layers lent base from key c.in-Some.layer.now (change_view value c.in-Some.entry.now)
+      (ap (option_map (λ p. (p.0.now, change_view value p.1.now))) (sym c.in-Some.is) ∙ c.newest.ensures ∙ ap (nearest_layer layers) c.as_bytes.ensures.value)))
+      ∙ link-of_update base key)
+      c.stands_by.ensures.value);
+  read = read-none g.L.Items.reads g.met.L.Items.unread c.args.log.now;
+  error = memory-error c.stands_by.result c.stands_by.ensures.memory g.L.Items.reads c.args.log.now c.args.log.now;
+  whole = λ lent is none. memory-whole c.stands_by.result c.stands_by.ensures.memory;
+}
 
-pub returns-in-Some-clause-error : goal.returns-in-Some-clause-error
-returns-in-Some-clause-error g c = memory-error c.stands_by.result c.stands_by.ensures.memory g.L.Items.reads c.args.log.now c.args.log.now
+pub returns-in_ok-stands-in-None : goal.returns-in_ok-stands-in-None
+returns-in_ok-stands-in-None g c = record {
+  value = λ lent base is from.
+      let key = g.U.Key.ByteString.bytes c.args.key.now in
+      let value = g.U.Value.ByteString.bytes in
+      let layers = map (λ l. l.value) c.args.layers.now in
+      told-one _ _ (g.L.Items.reads.told c.args.log.now) (c.in_ok-found-in-None.ensures.value lent is) (λ found.
+      c.in_ok-stands-in-None.ensures ∙ ap (option_map link_of) (found ∙ sym (lent-update layers lent base from key
+      (ap (option_map (λ p. (p.0.now, change_view value p.1.now))) (sym c.in-None.is) ∙ c.newest.ensures ∙ ap (nearest_layer layers) c.as_bytes.ensures.value)))
+      ∙ link-of_update base key);
+  read = c.read_bucket.ensures.read;
+  error = tt;
+  whole = λ lent is none. tt;
+}
 
-pub returns-in-Some-clause-whole : goal.returns-in-Some-clause-whole
-returns-in-Some-clause-whole g c = λ lent is none. memory-whole c.stands_by.result c.stands_by.ensures.memory
-
-pub returns-in_ok-stands-in-None-clause-value : goal.returns-in_ok-stands-in-None-clause-value
-returns-in_ok-stands-in-None-clause-value g c = λ lent base is from.
-    let key = g.U.Key.ByteString.bytes c.args.key.now in
-    let value = g.U.Value.ByteString.bytes in
-    let layers = map (λ l. l.value) c.args.layers.now in
-    told-one _ _ (g.L.Items.reads.told c.args.log.now) (c.in_ok-found-in-None.ensures.value lent is) (λ found.
-    c.in_ok-stands-in-None.ensures ∙ ap (option_map link_of) (found ∙ sym (lent-update layers lent base from key
-    (ap (option_map (λ p. (p.0.now, change_view value p.1.now))) (sym c.in-None.is) ∙ c.newest.ensures ∙ ap (nearest_layer layers) c.as_bytes.ensures.value)))
-    ∙ link-of_update base key)
-
-pub returns-in_err-found-in-None-clause-value : goal.returns-in_err-found-in-None-clause-value
-returns-in_err-found-in-None-clause-value g c = λ lent base is from.
+pub returns-in_err-found-in-None : goal.returns-in_err-found-in-None
+returns-in_err-found-in-None g c =
     let exit = err_from_is_err_and c.from_residual.result c.from_residual.ensures.1 in
-    told-err _ (g.L.Items.reads.told c.args.log.now) c.from_residual.result exit.0 exit.1
+    record {
+      value = λ lent base is from. told-err _ (g.L.Items.reads.told c.args.log.now) c.from_residual.result exit.0 exit.1;
+      read = c.read_bucket.ensures.read;
+      error = rw (exit.1, exit.2) c.in_err-found-in-None.ensures.error;
+      whole = λ lent is none. rw (exit.1, exit.2) (c.in_err-found-in-None.ensures.whole lent is none);
+    }
 
-pub returns-in_err-found-in-None-clause-read : goal.returns-in_err-found-in-None-clause-read
-returns-in_err-found-in-None-clause-read g c = c.read_bucket.ensures.read
-
-pub returns-in_err-found-in-None-clause-error : goal.returns-in_err-found-in-None-clause-error
-returns-in_err-found-in-None-clause-error g c =
-    let exit = err_from_is_err_and c.from_residual.result c.from_residual.ensures.1 in
-    rw (exit.1, exit.2) c.in_err-found-in-None.ensures.error
-
-pub returns-in_err-found-in-None-clause-whole : goal.returns-in_err-found-in-None-clause-whole
-returns-in_err-found-in-None-clause-whole g c = λ lent is none.
-    let exit = err_from_is_err_and c.from_residual.result c.from_residual.ensures.1 in
-    rw (exit.1, exit.2) (c.in_err-found-in-None.ensures.whole lent is none)
-
-pub returns-in_err-stands-in-None-clause-value : goal.returns-in_err-stands-in-None-clause-value
-returns-in_err-stands-in-None-clause-value g c = λ lent base is from.
+pub returns-in_err-stands-in-None : goal.returns-in_err-stands-in-None
+returns-in_err-stands-in-None g c =
     let exit = err_from_is_err_and c.from_residual-in_err-stands-in-None.result c.from_residual-in_err-stands-in-None.ensures.1 in
-    told-err _ (g.L.Items.reads.told c.args.log.now) c.from_residual-in_err-stands-in-None.result exit.0 exit.1
-
-pub returns-in_err-stands-in-None-clause-read : goal.returns-in_err-stands-in-None-clause-read
-returns-in_err-stands-in-None-clause-read g c = c.read_bucket.ensures.read
-
-pub returns-in_err-stands-in-None-clause-error : goal.returns-in_err-stands-in-None-clause-error
-returns-in_err-stands-in-None-clause-error g c =
-    let exit = err_from_is_err_and c.from_residual-in_err-stands-in-None.result c.from_residual-in_err-stands-in-None.ensures.1 in
-    rw (exit.1, exit.2) (inl refl)
-
-pub returns-in_err-stands-in-None-clause-whole : goal.returns-in_err-stands-in-None-clause-whole
-returns-in_err-stands-in-None-clause-whole g c = λ lent is none.
-    let exit = err_from_is_err_and c.from_residual-in_err-stands-in-None.result c.from_residual-in_err-stands-in-None.ensures.1 in
-    rw (exit.1, exit.2) (λ n same. cc)
-
-pub returns-in-Some-clause-read : goal.returns-in-Some-clause-read
-returns-in-Some-clause-read g c = read-none g.L.Items.reads g.met.L.Items.unread c.args.log.now
-
-pub returns-in_ok-stands-in-None-clause-read : goal.returns-in_ok-stands-in-None-clause-read
-returns-in_ok-stands-in-None-clause-read g c = c.read_bucket.ensures.read
-
-pub returns-in_ok-stands-in-None-clause-error : goal.returns-in_ok-stands-in-None-clause-error
-returns-in_ok-stands-in-None-clause-error g c = tt
-
-pub returns-in_ok-stands-in-None-clause-whole : goal.returns-in_ok-stands-in-None-clause-whole
-returns-in_ok-stands-in-None-clause-whole g c = λ lent is none. tt
+    record {
+      value = λ lent base is from. told-err _ (g.L.Items.reads.told c.args.log.now) c.from_residual-in_err-stands-in-None.result exit.0 exit.1;
+      read = c.read_bucket.ensures.read;
+      error = rw (exit.1, exit.2) (inl refl);
+      whole = λ lent is none. rw (exit.1, exit.2) (λ n same. cc);
+    }

@@ -36,22 +36,22 @@ loop-layer-preserved g c =
     (subst (IsClearBehind g.N.Chunks.LEN) c.deref-in-loop-layer.ensures c.write_into.ensures.clear) c.write_into.ensures.pruned c.write_into.ensures.count (omega (arith, g.met.N.Chunks.least))
     (λ i kept inside. c.write_into.ensures.bits i kept inside ∙ ap (λ o. bit_over (changed_at o.changed (i / (8 * g.N.Chunks.LEN))) (i % (8 * g.N.Chunks.LEN)) (get_or (all_bits g.N.Chunks.LEN c.loop-layer.bits) i false)) c.deref-in-loop-layer.ensures))
 
-pub returns-clause-ok : goal.returns-clause-ok
-returns-clause-ok g c =
-    all_applied (λ r. r.value) g.N.Chunks.LEN c.args.layers.now c.args.bits.now c.requires c.loop-layer.layer-index
-    (bit_count g.N.Chunks.LEN (layered g.N.Chunks.LEN (map (λ r. r.value) c.args.layers.now) c.args.bits.now)) c.loop-layer.bits (omega (arith, c.loop-layer-test.false)) refl c.loop-layer.invariant
+pub returns : goal.returns
+returns g c = record {
+  ok =
+      all_applied (λ r. r.value) g.N.Chunks.LEN c.args.layers.now c.args.bits.now c.requires c.loop-layer.layer-index
+      (bit_count g.N.Chunks.LEN (layered g.N.Chunks.LEN (map (λ r. r.value) c.args.layers.now) c.args.bits.now)) c.loop-layer.bits (omega (arith, c.loop-layer-test.false)) refl c.loop-layer.invariant;
+  err = tt;
+}
 
-pub returns-in_err-extend_to-clause-ok : goal.returns-in_err-extend_to-clause-ok
-returns-in_err-extend_to-clause-ok g c = IfOk-from_err c.from_residual.result _ c.from_residual.ensures.0
+pub returns-in_err-extend_to : goal.returns-in_err-extend_to
+returns-in_err-extend_to g c = record {
+  ok = IfOk-from_err c.from_residual.result _ c.from_residual.ensures.0;
+  err = on_err c.from_residual.result c.in_err-extend_to.ensures.err;
+}
 
-pub returns-in_err-extend_to-clause-err : goal.returns-in_err-extend_to-clause-err
-returns-in_err-extend_to-clause-err g c = on_err c.from_residual.result c.in_err-extend_to.ensures.err
-
-pub returns-clause-err : goal.returns-clause-err
-returns-clause-err g c = tt
-
-pub returns-then-count-eq0-clause-ok : goal.returns-then-count-eq0-clause-ok
-returns-then-count-eq0-clause-ok g c = layered-none (λ r. r.value) g.N.Chunks.LEN c.args.layers.now c.args.bits.now c.if-count-eq0.true
-
-pub returns-then-count-eq0-clause-err : goal.returns-then-count-eq0-clause-err
-returns-then-count-eq0-clause-err g c = tt
+pub returns-then-count-eq0 : goal.returns-then-count-eq0
+returns-then-count-eq0 g c = record {
+  ok = layered-none (λ r. r.value) g.N.Chunks.LEN c.args.layers.now c.args.bits.now c.if-count-eq0.true;
+  err = tt;
+}

@@ -4,36 +4,28 @@ use Rattle.qm_overlay.proofs.Puts.{chunk_other, chunk_kept, chunk_within, chunk_
 use Rattle.qm_overlay.proofs.Laying.{some_bits}
 use Rattle.qm_overlay.proofs.apply.write_chunk.Goals as goal
 
-pub returns-then-at-pruned_chunks-clause-pruned : goal.returns-then-at-pruned_chunks-clause-pruned
-returns-then-at-pruned_chunks-clause-pruned g c = refl
-
-pub returns-then-at-pruned_chunks-clause-count : goal.returns-then-at-pruned_chunks-clause-count
-returns-then-at-pruned_chunks-clause-count g c = refl
-
-pub returns-then-at-pruned_chunks-clause-here : goal.returns-then-at-pruned_chunks-clause-here
-returns-then-at-pruned_chunks-clause-here g c = λ i is from lt.
-    let kept = chunk_kept c.span-span.result g.N.Chunks.LEN c.args.at c.span-span.ensures (some_bits g.N.Chunks.LEN g.met.N.Chunks.least) c.args.bits.now.pruned i is from in
-    absurd (omega (arith, kept, c.pruned_chunks.ensures, c.if-at-pruned_chunks.true))
-
-pub returns-then-at-pruned_chunks-clause-other : goal.returns-then-at-pruned_chunks-clause-other
-returns-then-at-pruned_chunks-clause-other g c = λ i apart. refl
+pub returns-then-at-pruned_chunks : goal.returns-then-at-pruned_chunks
+returns-then-at-pruned_chunks g c = record {
+  pruned = refl;
+  count = refl;
+  here = λ i is from lt.
+      let kept = chunk_kept c.span-span.result g.N.Chunks.LEN c.args.at c.span-span.ensures (some_bits g.N.Chunks.LEN g.met.N.Chunks.least) c.args.bits.now.pruned i is from in
+      absurd (omega (arith, kept, c.pruned_chunks.ensures, c.if-at-pruned_chunks.true));
+  other = λ i apart. refl;
+}
 
 pub nonzero_div-len : goal.nonzero_div-len
 nonzero_div-len g c = subst (λ n. 0 < n) (sym c.span-span.ensures) (some_bits g.N.Chunks.LEN g.met.N.Chunks.least)
 
-pub returns-then-len-span-clause-pruned : goal.returns-then-len-span-clause-pruned
-returns-then-len-span-clause-pruned g c = refl
-
-pub returns-then-len-span-clause-count : goal.returns-then-len-span-clause-count
-returns-then-len-span-clause-count g c = refl
-
-pub returns-then-len-span-clause-here : goal.returns-then-len-span-clause-here
-returns-then-len-span-clause-here g c = λ i is from lt.
-    let past = chunk_past c.span-span.result g.N.Chunks.LEN c.args.at c.span-span.ensures (some_bits g.N.Chunks.LEN g.met.N.Chunks.least) c.len.result i is c.if-len-span.true in
-    absurd (omega (arith, past, lt, c.len.ensures.value))
-
-pub returns-then-len-span-clause-other : goal.returns-then-len-span-clause-other
-returns-then-len-span-clause-other g c = λ i apart. refl
+pub returns-then-len-span : goal.returns-then-len-span
+returns-then-len-span g c = record {
+  pruned = refl;
+  count = refl;
+  here = λ i is from lt.
+      let past = chunk_past c.span-span.result g.N.Chunks.LEN c.args.at c.span-span.ensures (some_bits g.N.Chunks.LEN g.met.N.Chunks.least) c.len.result i is c.if-len-span.true in
+      absurd (omega (arith, past, lt, c.len.ensures.value));
+  other = λ i apart. refl;
+}
 
 pub overflow_mul-at : goal.overflow_mul-at
 overflow_mul-at g c =
@@ -48,18 +40,14 @@ pub write_from-requires-clause-within : goal.write_from-requires-clause-within
 write_from-requires-clause-within g c =
     subst (λ n. c.args.at * c.span-span.result ≤ n) c.len.ensures.value (chunk_within c.span-span.result g.N.Chunks.LEN c.args.at c.span-span.ensures (some_bits g.N.Chunks.LEN g.met.N.Chunks.least) c.len.result c.if-len-span.false)
 
-pub returns-clause-pruned : goal.returns-clause-pruned
-returns-clause-pruned g c = c.write_from.ensures.pruned
-
-pub returns-clause-count : goal.returns-clause-count
-returns-clause-count g c = c.write_from.ensures.count
-
-pub returns-clause-here : goal.returns-clause-here
-returns-clause-here g c = λ i is from lt.
-    let some : 0 < 8 * g.N.Chunks.LEN = some_bits g.N.Chunks.LEN g.met.N.Chunks.least in
-    let place : c.args.at * c.span-span.result + i % (8 * g.N.Chunks.LEN) ≡ i = chunk_place c.span-span.result g.N.Chunks.LEN c.args.at c.span-span.ensures some i is in
-    ap (λ j. get_or (all_bits g.N.Chunks.LEN c.write_from.new.bits) j false) (sym place)
-    ∙ c.write_from.ensures.here (i % (8 * g.N.Chunks.LEN)) (mod-lt i some) (subst (λ j. j < bit_count g.N.Chunks.LEN c.args.bits.now) (sym place) lt)
-
-pub returns-clause-other : goal.returns-clause-other
-returns-clause-other g c = λ i apart. c.write_from.ensures.other i (chunk_other c.span-span.result g.N.Chunks.LEN c.args.at c.span-span.ensures (some_bits g.N.Chunks.LEN g.met.N.Chunks.least) i apart)
+pub returns : goal.returns
+returns g c = record {
+  pruned = c.write_from.ensures.pruned;
+  count = c.write_from.ensures.count;
+  here = λ i is from lt.
+      let some : 0 < 8 * g.N.Chunks.LEN = some_bits g.N.Chunks.LEN g.met.N.Chunks.least in
+      let place : c.args.at * c.span-span.result + i % (8 * g.N.Chunks.LEN) ≡ i = chunk_place c.span-span.result g.N.Chunks.LEN c.args.at c.span-span.ensures some i is in
+      ap (λ j. get_or (all_bits g.N.Chunks.LEN c.write_from.new.bits) j false) (sym place)
+      ∙ c.write_from.ensures.here (i % (8 * g.N.Chunks.LEN)) (mod-lt i some) (subst (λ j. j < bit_count g.N.Chunks.LEN c.args.bits.now) (sym place) lt);
+  other = λ i apart. c.write_from.ensures.other i (chunk_other c.span-span.result g.N.Chunks.LEN c.args.at c.span-span.ensures (some_bits g.N.Chunks.LEN g.met.N.Chunks.least) i apart);
+}

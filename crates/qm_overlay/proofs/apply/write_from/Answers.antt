@@ -18,14 +18,10 @@ loop-i-preserved g c =
     (begun_within g.N.Chunks.LEN c.args.bits.now c.args.first c.args.chunk.now c.loop-i.i c.loop-i.bits c.span.result c.len.result c.min-end.result c.loop-i.invariant c.min-end.ensures c.len.ensures.value c.loop-i-test.true)
     c.set_bit.ensures c.get.ensures
 
-pub returns-clause-pruned : goal.returns-clause-pruned
-returns-clause-pruned g c = c.loop-i.invariant.pruned
-
-pub returns-clause-count : goal.returns-clause-count
-returns-clause-count g c = c.loop-i.invariant.count
-
-pub returns-clause-here : goal.returns-clause-here
-returns-clause-here g c = λ i low within. c.loop-i.invariant.done i (omega (arith, low, within, c.span.ensures, c.min-end.ensures, c.len.ensures.value, c.loop-i-test.false))
-
-pub returns-clause-other : goal.returns-clause-other
-returns-clause-other g c = λ i out. c.loop-i.invariant.rest i (⊎_elim (λ (lt : i < c.args.first). inl lt) (λ (le : c.args.first + 8 * g.N.Chunks.LEN ≤ i). inr (omega (arith, le, c.span.ensures, c.min-end.ensures, c.loop-i.auto.i-end))) out)
+pub returns : goal.returns
+returns g c = record {
+  pruned = c.loop-i.invariant.pruned;
+  count = c.loop-i.invariant.count;
+  here = λ i low within. c.loop-i.invariant.done i (omega (arith, low, within, c.span.ensures, c.min-end.ensures, c.len.ensures.value, c.loop-i-test.false));
+  other = λ i out. c.loop-i.invariant.rest i (⊎_elim (λ (lt : i < c.args.first). inl lt) (λ (le : c.args.first + 8 * g.N.Chunks.LEN ≤ i). inr (omega (arith, le, c.span.ensures, c.min-end.ensures, c.loop-i.auto.i-end))) out);
+}

@@ -42,34 +42,26 @@ loop-step-preserved g c =
           (step.0, step.2, c.in_ok-move_entries.ensures.live before.0 step.0 (subst (λ cs. AreChanges cs before.0 step.0) (sym entries) step.1) (omega (arith, longer, few, count)) before.2),
     )
 
-pub returns-clause-live : goal.returns-clause-live
-returns-clause-live g c = λ from tip lead few has.
-    let none : c.loop-step.step ≡ 0 = omega (arith, c.loop-step-test.false) in
-    let views = changes_view g.K.ByteString.bytes g.V.ByteString.bytes in
-    let last = c.loop-step.invariant.2 from tip lead few has in
-    let same : last.0 ≡ tip = subst (λ n. LeadTo (map (λ d. views d.value) (take n c.args.diffs.now)) last.0 tip) none last.1 in
-    subst (HasLive g.N.Chunks.LEN (g.M.Marks.bitmap c.loop-step.activity)) same last.2
+pub returns : goal.returns
+returns g c = record {
+  alike = c.loop-step.invariant.0;
+  live = λ from tip lead few has.
+      let none : c.loop-step.step ≡ 0 = omega (arith, c.loop-step-test.false) in
+      let views = changes_view g.K.ByteString.bytes g.V.ByteString.bytes in
+      let last = c.loop-step.invariant.2 from tip lead few has in
+      let same : last.0 ≡ tip = subst (λ n. LeadTo (map (λ d. views d.value) (take n c.args.diffs.now)) last.0 tip) none last.1 in
+      subst (HasLive g.N.Chunks.LEN (g.M.Marks.bitmap c.loop-step.activity)) same last.2;
+  below = c.loop-step.invariant.1;
+  err = tt;
+}
 
-pub returns-in_err-move_entries-clause-alike : goal.returns-in_err-move_entries-clause-alike
-returns-in_err-move_entries-clause-alike g c = IfOk-from_err c.from_residual.result _ c.from_residual.ensures.0
-
-pub returns-in_err-move_entries-clause-live : goal.returns-in_err-move_entries-clause-live
-returns-in_err-move_entries-clause-live g c = λ from tip lead few has. IfOk-from_err c.from_residual.result _ c.from_residual.ensures.0
-
-pub returns-in_err-move_entries-clause-below : goal.returns-in_err-move_entries-clause-below
-returns-in_err-move_entries-clause-below g c = IfOk-from_err c.from_residual.result _ c.from_residual.ensures.0
-
-pub returns-in_err-move_entries-clause-err : goal.returns-in_err-move_entries-clause-err
-returns-in_err-move_entries-clause-err g c = on_err c.from_residual.result c.in_err-move_entries.ensures.err
-
-pub returns-clause-alike : goal.returns-clause-alike
-returns-clause-alike g c = c.loop-step.invariant.0
-
-pub returns-clause-below : goal.returns-clause-below
-returns-clause-below g c = c.loop-step.invariant.1
-
-pub returns-clause-err : goal.returns-clause-err
-returns-clause-err g c = tt
+pub returns-in_err-move_entries : goal.returns-in_err-move_entries
+returns-in_err-move_entries g c = record {
+  alike = IfOk-from_err c.from_residual.result _ c.from_residual.ensures.0;
+  live = λ from tip lead few has. IfOk-from_err c.from_residual.result _ c.from_residual.ensures.0;
+  below = IfOk-from_err c.from_residual.result _ c.from_residual.ensures.0;
+  err = on_err c.from_residual.result c.in_err-move_entries.ensures.err;
+}
 
 pub move_entries-requires : goal.move_entries-requires
 move_entries-requires g c = subst (λ es. IsAscending (map (λ e. g.K.ByteString.bytes e.0) es)) (sym c.entries.ensures.value) c.entries.ensures.ascending

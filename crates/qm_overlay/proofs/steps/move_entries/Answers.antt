@@ -30,51 +30,39 @@ loop-entry-preserved g c =
           (c.loop-entry.invariant.2 base tip are few has),
     )
 
-pub returns-clause-live : goal.returns-clause-live
-returns-clause-live g c = λ base tip are few has.
-    let size = g.N.Chunks.LEN in
-    let first = g.M.Marks.bitmap c.args.activity.now in
-    let last = g.M.Marks.bitmap c.loop-entry.activity in
-    let views = changes_view g.K.ByteString.bytes g.V.ByteString.bytes in
-    let bits = all_bits size last in
-    let start_is = alike-start size first last c.loop-entry.invariant.0.pruned in
-    let longer = tip-longer (views c.args.entries.now) base tip are in
-    let kept = has.kept in
-    record {
-      live = stage-all (views c.args.entries.now) base tip are bits
-          (subst (λ xs. AreMarked bits (stage (views xs) base)) (take_all c.loop-entry.entry-index c.args.entries.now c.loop-entry-test.false) (c.loop-entry.invariant.2 base tip are few has));
-      kept = omega (arith, start_is, longer, kept);
-    }
+pub returns : goal.returns
+returns g c = record {
+  alike = c.loop-entry.invariant.0;
+  live = λ base tip are few has.
+      let size = g.N.Chunks.LEN in
+      let first = g.M.Marks.bitmap c.args.activity.now in
+      let last = g.M.Marks.bitmap c.loop-entry.activity in
+      let views = changes_view g.K.ByteString.bytes g.V.ByteString.bytes in
+      let bits = all_bits size last in
+      let start_is = alike-start size first last c.loop-entry.invariant.0.pruned in
+      let longer = tip-longer (views c.args.entries.now) base tip are in
+      let kept = has.kept in
+      record {
+        live = stage-all (views c.args.entries.now) base tip are bits
+            (subst (λ xs. AreMarked bits (stage (views xs) base)) (take_all c.loop-entry.entry-index c.args.entries.now c.loop-entry-test.false) (c.loop-entry.invariant.2 base tip are few has));
+        kept = omega (arith, start_is, longer, kept);
+      };
+  below = c.loop-entry.invariant.1;
+  err = tt;
+}
 
-pub returns-in_err-clear_at-clause-alike : goal.returns-in_err-clear_at-clause-alike
-returns-in_err-clear_at-clause-alike g c = IfOk-from_err c.from_residual.result _ c.from_residual.ensures.0
+pub returns-in_err-clear_at : goal.returns-in_err-clear_at
+returns-in_err-clear_at g c = record {
+  alike = IfOk-from_err c.from_residual.result _ c.from_residual.ensures.0;
+  live = λ base tip are few has. IfOk-from_err c.from_residual.result _ c.from_residual.ensures.0;
+  below = IfOk-from_err c.from_residual.result _ c.from_residual.ensures.0;
+  err = on_err c.from_residual.result c.in_err-clear_at.ensures.err;
+}
 
-pub returns-in_err-clear_at-clause-live : goal.returns-in_err-clear_at-clause-live
-returns-in_err-clear_at-clause-live g c = λ base tip are few has. IfOk-from_err c.from_residual.result _ c.from_residual.ensures.0
-
-pub returns-in_err-clear_at-clause-below : goal.returns-in_err-clear_at-clause-below
-returns-in_err-clear_at-clause-below g c = IfOk-from_err c.from_residual.result _ c.from_residual.ensures.0
-
-pub returns-in_err-clear_at-clause-err : goal.returns-in_err-clear_at-clause-err
-returns-in_err-clear_at-clause-err g c = on_err c.from_residual.result c.in_err-clear_at.ensures.err
-
-pub returns-in_err-mark_at-clause-alike : goal.returns-in_err-mark_at-clause-alike
-returns-in_err-mark_at-clause-alike g c = IfOk-from_err c.from_residual-in_err-mark_at.result _ c.from_residual-in_err-mark_at.ensures.0
-
-pub returns-in_err-mark_at-clause-live : goal.returns-in_err-mark_at-clause-live
-returns-in_err-mark_at-clause-live g c = λ base tip are few has. IfOk-from_err c.from_residual-in_err-mark_at.result _ c.from_residual-in_err-mark_at.ensures.0
-
-pub returns-in_err-mark_at-clause-below : goal.returns-in_err-mark_at-clause-below
-returns-in_err-mark_at-clause-below g c = IfOk-from_err c.from_residual-in_err-mark_at.result _ c.from_residual-in_err-mark_at.ensures.0
-
-pub returns-in_err-mark_at-clause-err : goal.returns-in_err-mark_at-clause-err
-returns-in_err-mark_at-clause-err g c = on_err c.from_residual-in_err-mark_at.result c.in_err-mark_at.ensures.err
-
-pub returns-clause-alike : goal.returns-clause-alike
-returns-clause-alike g c = c.loop-entry.invariant.0
-
-pub returns-clause-below : goal.returns-clause-below
-returns-clause-below g c = c.loop-entry.invariant.1
-
-pub returns-clause-err : goal.returns-clause-err
-returns-clause-err g c = tt
+pub returns-in_err-mark_at : goal.returns-in_err-mark_at
+returns-in_err-mark_at g c = record {
+  alike = IfOk-from_err c.from_residual-in_err-mark_at.result _ c.from_residual-in_err-mark_at.ensures.0;
+  live = λ base tip are few has. IfOk-from_err c.from_residual-in_err-mark_at.result _ c.from_residual-in_err-mark_at.ensures.0;
+  below = IfOk-from_err c.from_residual-in_err-mark_at.result _ c.from_residual-in_err-mark_at.ensures.0;
+  err = on_err c.from_residual-in_err-mark_at.result c.in_err-mark_at.ensures.err;
+}

@@ -30,8 +30,8 @@ loop-one-preserved g c =
 pub loop-one-init : goal.loop-one-init
 loop-one-init g c = (refl, le_refl _)
 
-pub returns-clause-count : goal.returns-clause-count
-returns-clause-count g c = c.loop-one.invariant.0 ∙ ap (count_by (λ d. is_none d.value)) (take_all c.loop-one.one-index c.args.decided.now c.loop-one-test.false)
-
-pub returns-clause-bound : goal.returns-clause-bound
-returns-clause-bound g c = omega (arith, c.loop-one.invariant.1, c.loop-one.auto.one-index-end)
+pub returns : goal.returns
+returns g c = record {
+  count = c.loop-one.invariant.0 ∙ ap (count_by (λ d. is_none d.value)) (take_all c.loop-one.one-index c.args.decided.now c.loop-one-test.false);
+  bound = omega (arith, c.loop-one.invariant.1, c.loop-one.auto.one-index-end);
+}

@@ -11,60 +11,60 @@ use Rattle.qm_step.proofs.PlanLoops.{insert-kept}
 use Rattle.std.proofs.lemmas.Result.{IfOk-from_err}
 use Rattle.qm_step.proofs.diff.note.Goals as goal
 
-pub returns-in_ok-insert-in-Update-clause-noted : goal.returns-in_ok-insert-in-Update-clause-noted
-returns-in_ok-insert-in-Update-clause-noted g c = λ base own at from so_far.
-    let key = g.U.Key.ByteString.bytes in
-    let value = g.U.Value.ByteString.bytes in
-    let touch = touch_view g.U.Update.view key value c.args.touch.now in
-    let parts = update-parts (g.U.Update.view c.in-Update.update) _ _ c.key.ensures c.value.ensures in
-    noted-update base own touch (key c.key.result.now) (value c.value.result.now) parts.0
-    (λ q. option_map (noted_view value) (get_by (λ k. slice_cmp nat_cmp q k.now) c.args.notes.now)) (λ q. option_map (noted_view value) (get_by (λ k. slice_cmp nat_cmp q k.now) c.insert.new.self))
-    (ap (operation_view g.U.Update.view key value) c.in-Update.is ∙ parts.1) from
-    (put-answers (noted_view value) (λ q. get_by (λ k. slice_cmp nat_cmp q k.now) c.args.notes.now) (λ q. get_by (λ k. slice_cmp nat_cmp q k.now) c.insert.new.self)
-    c.as_bytes.result.now (key c.key.result.now) _ (record { now = Some (length (base ++ own), value c.value.result.now); before = touch.before })
-    (ap (λ n. record { now = Some (n, value c.value.result.now); before = touch.before }) at) c.as_bytes.ensures.value
-    (btree_map_updates_str c.as_bytes.result.now c.args.notes.now c.insert.new.self _ c.in_ok-insert-in-Update.ensures.updates))
-    so_far
+pub returns-in_ok-insert-in-Update : goal.returns-in_ok-insert-in-Update
+returns-in_ok-insert-in-Update g c = record {
+  noted = λ base own at from so_far.
+      let key = g.U.Key.ByteString.bytes in
+      let value = g.U.Value.ByteString.bytes in
+      let touch = touch_view g.U.Update.view key value c.args.touch.now in
+      let parts = update-parts (g.U.Update.view c.in-Update.update) _ _ c.key.ensures c.value.ensures in
+      noted-update base own touch (key c.key.result.now) (value c.value.result.now) parts.0
+      (λ q. option_map (noted_view value) (get_by (λ k. slice_cmp nat_cmp q k.now) c.args.notes.now)) (λ q. option_map (noted_view value) (get_by (λ k. slice_cmp nat_cmp q k.now) c.insert.new.self))
+      (ap (operation_view g.U.Update.view key value) c.in-Update.is ∙ parts.1) from
+      (put-answers (noted_view value) (λ q. get_by (λ k. slice_cmp nat_cmp q k.now) c.args.notes.now) (λ q. get_by (λ k. slice_cmp nat_cmp q k.now) c.insert.new.self)
+      c.as_bytes.result.now (key c.key.result.now) _ (record { now = Some (length (base ++ own), value c.value.result.now); before = touch.before })
+      (ap (λ n. record { now = Some (n, value c.value.result.now); before = touch.before }) at) c.as_bytes.ensures.value
+      (btree_map_updates_str c.as_bytes.result.now c.args.notes.now c.insert.new.self _ c.in_ok-insert-in-Update.ensures.updates))
+      so_far;
+  known = λ all.
+      insert-kept (λ (k : Bor (List ℕ)). g.U.Key.ByteString.has k.now ≡ true) _ c.args.notes.now.entries c.insert.new.self.entries c.as_bytes.result _ c.in_ok-insert-in-Update.ensures.entries c.as_bytes.ensures.known all;
+}
 
-pub returns-in_ok-insert-in-Update-clause-known : goal.returns-in_ok-insert-in-Update-clause-known
-returns-in_ok-insert-in-Update-clause-known g c = λ all.
-    insert-kept (λ (k : Bor (List ℕ)). g.U.Key.ByteString.has k.now ≡ true) _ c.args.notes.now.entries c.insert.new.self.entries c.as_bytes.result _ c.in_ok-insert-in-Update.ensures.entries c.as_bytes.ensures.known all
+pub returns-in_ok-insert-in-Delete : goal.returns-in_ok-insert-in-Delete
+returns-in_ok-insert-in-Delete g c = record {
+  noted = λ base own at from so_far.
+      let key = g.U.Key.ByteString.bytes in
+      let value = g.U.Value.ByteString.bytes in
+      let touch = touch_view g.U.Update.view key value c.args.touch.now in
+      noted-delete base own touch (key c.in-Delete.key)
+      (λ q. option_map (noted_view value) (get_by (λ k. slice_cmp nat_cmp q k.now) c.args.notes.now)) (λ q. option_map (noted_view value) (get_by (λ k. slice_cmp nat_cmp q k.now) c.insert-in-Delete.new.self))
+      (ap (operation_view g.U.Update.view key value) c.in-Delete.is) from
+      (put-answers (noted_view value) (λ q. get_by (λ k. slice_cmp nat_cmp q k.now) c.args.notes.now) (λ q. get_by (λ k. slice_cmp nat_cmp q k.now) c.insert-in-Delete.new.self)
+      c.as_bytes-in-Delete.result.now (key c.in-Delete.key) _ (record { now = None; before = touch.before }) refl c.as_bytes-in-Delete.ensures.value
+      (btree_map_updates_str c.as_bytes-in-Delete.result.now c.args.notes.now c.insert-in-Delete.new.self _ c.in_ok-insert-in-Delete.ensures.updates))
+      so_far;
+  known = λ all.
+      insert-kept (λ (k : Bor (List ℕ)). g.U.Key.ByteString.has k.now ≡ true) _ c.args.notes.now.entries c.insert-in-Delete.new.self.entries c.as_bytes-in-Delete.result _ c.in_ok-insert-in-Delete.ensures.entries c.as_bytes-in-Delete.ensures.known all;
+}
 
-pub returns-in_ok-insert-in-Delete-clause-noted : goal.returns-in_ok-insert-in-Delete-clause-noted
-returns-in_ok-insert-in-Delete-clause-noted g c = λ base own at from so_far.
-    let key = g.U.Key.ByteString.bytes in
-    let value = g.U.Value.ByteString.bytes in
-    let touch = touch_view g.U.Update.view key value c.args.touch.now in
-    noted-delete base own touch (key c.in-Delete.key)
-    (λ q. option_map (noted_view value) (get_by (λ k. slice_cmp nat_cmp q k.now) c.args.notes.now)) (λ q. option_map (noted_view value) (get_by (λ k. slice_cmp nat_cmp q k.now) c.insert-in-Delete.new.self))
-    (ap (operation_view g.U.Update.view key value) c.in-Delete.is) from
-    (put-answers (noted_view value) (λ q. get_by (λ k. slice_cmp nat_cmp q k.now) c.args.notes.now) (λ q. get_by (λ k. slice_cmp nat_cmp q k.now) c.insert-in-Delete.new.self)
-    c.as_bytes-in-Delete.result.now (key c.in-Delete.key) _ (record { now = None; before = touch.before }) refl c.as_bytes-in-Delete.ensures.value
-    (btree_map_updates_str c.as_bytes-in-Delete.result.now c.args.notes.now c.insert-in-Delete.new.self _ c.in_ok-insert-in-Delete.ensures.updates))
-    so_far
+pub returns-in-CommitFloor : goal.returns-in-CommitFloor
+returns-in-CommitFloor g c = record {
+  noted = λ base own at from so_far.
+      let key = g.U.Key.ByteString.bytes in
+      let value = g.U.Value.ByteString.bytes in
+      let view = operation_view g.U.Update.view key value in
+      noted-commit base own (view c.args.touch.now.operation) _ _ (λ q. option_map (noted_view value) (get_by (λ k. slice_cmp nat_cmp q k.now) c.args.notes.now)) (ap view c.in-CommitFloor.is) so_far;
+  known = λ all. all;
+}
 
-pub returns-in_ok-insert-in-Delete-clause-known : goal.returns-in_ok-insert-in-Delete-clause-known
-returns-in_ok-insert-in-Delete-clause-known g c = λ all.
-    insert-kept (λ (k : Bor (List ℕ)). g.U.Key.ByteString.has k.now ≡ true) _ c.args.notes.now.entries c.insert-in-Delete.new.self.entries c.as_bytes-in-Delete.result _ c.in_ok-insert-in-Delete.ensures.entries c.as_bytes-in-Delete.ensures.known all
+pub returns-in_err-insert-in-Update : goal.returns-in_err-insert-in-Update
+returns-in_err-insert-in-Update g c = record {
+  noted = IfOk-from_err c.from_residual.result _ c.from_residual.ensures.0;
+  known = IfOk-from_err c.from_residual.result _ c.from_residual.ensures.0;
+}
 
-pub returns-in-CommitFloor-clause-noted : goal.returns-in-CommitFloor-clause-noted
-returns-in-CommitFloor-clause-noted g c = λ base own at from so_far.
-    let key = g.U.Key.ByteString.bytes in
-    let value = g.U.Value.ByteString.bytes in
-    let view = operation_view g.U.Update.view key value in
-    noted-commit base own (view c.args.touch.now.operation) _ _ (λ q. option_map (noted_view value) (get_by (λ k. slice_cmp nat_cmp q k.now) c.args.notes.now)) (ap view c.in-CommitFloor.is) so_far
-
-pub returns-in_err-insert-in-Update-clause-noted : goal.returns-in_err-insert-in-Update-clause-noted
-returns-in_err-insert-in-Update-clause-noted g c = IfOk-from_err c.from_residual.result _ c.from_residual.ensures.0
-
-pub returns-in_err-insert-in-Update-clause-known : goal.returns-in_err-insert-in-Update-clause-known
-returns-in_err-insert-in-Update-clause-known g c = IfOk-from_err c.from_residual.result _ c.from_residual.ensures.0
-
-pub returns-in_err-insert-in-Delete-clause-noted : goal.returns-in_err-insert-in-Delete-clause-noted
-returns-in_err-insert-in-Delete-clause-noted g c = IfOk-from_err c.from_residual-in_err-insert-in-Delete.result _ c.from_residual-in_err-insert-in-Delete.ensures.0
-
-pub returns-in_err-insert-in-Delete-clause-known : goal.returns-in_err-insert-in-Delete-clause-known
-returns-in_err-insert-in-Delete-clause-known g c = IfOk-from_err c.from_residual-in_err-insert-in-Delete.result _ c.from_residual-in_err-insert-in-Delete.ensures.0
-
-pub returns-in-CommitFloor-clause-known : goal.returns-in-CommitFloor-clause-known
-returns-in-CommitFloor-clause-known g c = λ all. all
+pub returns-in_err-insert-in-Delete : goal.returns-in_err-insert-in-Delete
+returns-in_err-insert-in-Delete g c = record {
+  noted = IfOk-from_err c.from_residual-in_err-insert-in-Delete.result _ c.from_residual-in_err-insert-in-Delete.ensures.0;
+  known = IfOk-from_err c.from_residual-in_err-insert-in-Delete.result _ c.from_residual-in_err-insert-in-Delete.ensures.0;
+}

@@ -15,11 +15,11 @@ loop-written-preserved g c = record {
   known = λ all. c.in_ok-add_kept.ensures.known (c.loop-written.invariant.known all);
 }
 
-pub returns-in_err-add_kept-clause-keys : goal.returns-in_err-add_kept-clause-keys
-returns-in_err-add_kept-clause-keys g c = IfOk-from_err c.from_residual.result _ c.from_residual.ensures.0
-
-pub returns-in_err-add_kept-clause-known : goal.returns-in_err-add_kept-clause-known
-returns-in_err-add_kept-clause-known g c = IfOk-from_err c.from_residual.result _ c.from_residual.ensures.0
+pub returns-in_err-add_kept : goal.returns-in_err-add_kept
+returns-in_err-add_kept g c = record {
+  keys = IfOk-from_err c.from_residual.result _ c.from_residual.ensures.0;
+  known = IfOk-from_err c.from_residual.result _ c.from_residual.ensures.0;
+}
 
 pub loop-written-init : goal.loop-written-init
 loop-written-init g c = record {
@@ -27,10 +27,10 @@ loop-written-init g c = record {
   known = λ all. all;
 }
 
-pub returns-clause-keys : goal.returns-clause-keys
-returns-clause-keys g c = λ x.
-    c.loop-written.invariant.keys x
-    ∙ ap (λ vs. contains_key (keys_in c.args.keys.now.entries ++ without (keys_in c.args.deleted.now.entries) (filter_map after_of vs)) x) (whole (linked_view g.K.ByteString.bytes g.V.ByteString.bytes) c.args.linked.now c.loop-written.written-index c.loop-written-test.false)
-
-pub returns-clause-known : goal.returns-clause-known
-returns-clause-known g c = c.loop-written.invariant.known
+pub returns : goal.returns
+returns g c = record {
+  keys = λ x.
+      c.loop-written.invariant.keys x
+      ∙ ap (λ vs. contains_key (keys_in c.args.keys.now.entries ++ without (keys_in c.args.deleted.now.entries) (filter_map after_of vs)) x) (whole (linked_view g.K.ByteString.bytes g.V.ByteString.bytes) c.args.linked.now c.loop-written.written-index c.loop-written-test.false);
+  known = c.loop-written.invariant.known;
+}

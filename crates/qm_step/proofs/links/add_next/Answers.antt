@@ -14,11 +14,11 @@ loop-neighbour-preserved g c = record {
   known = λ all. c.in_ok-add_kept.ensures.known (c.loop-neighbour.invariant.known all);
 }
 
-pub returns-in_err-add_kept-clause-keys : goal.returns-in_err-add_kept-clause-keys
-returns-in_err-add_kept-clause-keys g c = IfOk-from_err c.from_residual.result _ c.from_residual.ensures.0
-
-pub returns-in_err-add_kept-clause-known : goal.returns-in_err-add_kept-clause-known
-returns-in_err-add_kept-clause-known g c = IfOk-from_err c.from_residual.result _ c.from_residual.ensures.0
+pub returns-in_err-add_kept : goal.returns-in_err-add_kept
+returns-in_err-add_kept g c = record {
+  keys = IfOk-from_err c.from_residual.result _ c.from_residual.ensures.0;
+  known = IfOk-from_err c.from_residual.result _ c.from_residual.ensures.0;
+}
 
 pub loop-neighbour-init : goal.loop-neighbour-init
 loop-neighbour-init g c = record {
@@ -26,10 +26,10 @@ loop-neighbour-init g c = record {
   known = λ all. all;
 }
 
-pub returns-clause-keys : goal.returns-clause-keys
-returns-clause-keys g c = λ x.
-    c.loop-neighbour.invariant.keys x
-    ∙ ap (λ vs. contains_key (keys_in c.args.keys.now.entries ++ without (keys_in c.args.deleted.now.entries) (filter_map next_of vs)) x) (whole (ordered_neighbour g.K.ByteString.bytes g.V.Value.ByteString.bytes) c.args.neighbours.now c.loop-neighbour.neighbour-index c.loop-neighbour-test.false)
-
-pub returns-clause-known : goal.returns-clause-known
-returns-clause-known g c = c.loop-neighbour.invariant.known
+pub returns : goal.returns
+returns g c = record {
+  keys = λ x.
+      c.loop-neighbour.invariant.keys x
+      ∙ ap (λ vs. contains_key (keys_in c.args.keys.now.entries ++ without (keys_in c.args.deleted.now.entries) (filter_map next_of vs)) x) (whole (ordered_neighbour g.K.ByteString.bytes g.V.Value.ByteString.bytes) c.args.neighbours.now c.loop-neighbour.neighbour-index c.loop-neighbour-test.false);
+  known = c.loop-neighbour.invariant.known;
+}

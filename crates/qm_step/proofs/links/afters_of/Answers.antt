@@ -8,28 +8,27 @@ use Rattle.qm_step.specs.PlanViews.{linked_view}
 use Rattle.qm_step.proofs.LinksSets.{same-more}
 use Rattle.qm_step.proofs.links.afters_of.Goals as goal
 
-pub returns-clause-known : goal.returns-clause-known
-returns-clause-known g c =
-    c.in_ok-add_next.ensures.known (c.in_ok-add_named.ensures.known (All-same (λ e. g.K.ByteString.has e.0.now ≡ true) c.new-keys.result.entries [] c.new-keys.ensures.empty (All-nil (λ e. g.K.ByteString.has e.0.now ≡ true))))
+pub returns : goal.returns
+returns g c = record {
+  keys = λ x.
+      let key = g.K.ByteString.bytes in
+      let value = g.V.Value.ByteString.bytes in
+      let gone = keys_in c.args.deleted.now.entries in
+      let afters = without gone (filter_map after_of (map (linked_view key value) c.args.linked.now)) in
+      let nexts = without gone (filter_map next_of (map (ordered_neighbour key value) c.args.neighbours.now)) in
+      same-more (keys_in c.add_named.new.keys.entries) afters (keys_in c.add_next.new.keys.entries) (keys_in c.new-keys.result.entries) nexts (afters ++ nexts) c.in_ok-add_named.ensures.keys c.in_ok-add_next.ensures.keys refl x
+      ∙ ap (λ es. contains_key (keys_in es ++ (afters ++ nexts)) x) c.new-keys.ensures.empty;
+  known = c.in_ok-add_next.ensures.known (c.in_ok-add_named.ensures.known (All-same (λ e. g.K.ByteString.has e.0.now ≡ true) c.new-keys.result.entries [] c.new-keys.ensures.empty (All-nil (λ e. g.K.ByteString.has e.0.now ≡ true))));
+}
 
-pub returns-in_err-add_named-clause-keys : goal.returns-in_err-add_named-clause-keys
-returns-in_err-add_named-clause-keys g c = IfOk-from_err c.from_residual.result _ c.from_residual.ensures.0
+pub returns-in_err-add_named : goal.returns-in_err-add_named
+returns-in_err-add_named g c = record {
+  keys = IfOk-from_err c.from_residual.result _ c.from_residual.ensures.0;
+  known = IfOk-from_err c.from_residual.result _ c.from_residual.ensures.0;
+}
 
-pub returns-in_err-add_named-clause-known : goal.returns-in_err-add_named-clause-known
-returns-in_err-add_named-clause-known g c = IfOk-from_err c.from_residual.result _ c.from_residual.ensures.0
-
-pub returns-in_err-add_next-clause-keys : goal.returns-in_err-add_next-clause-keys
-returns-in_err-add_next-clause-keys g c = IfOk-from_err c.from_residual-in_err-add_next.result _ c.from_residual-in_err-add_next.ensures.0
-
-pub returns-in_err-add_next-clause-known : goal.returns-in_err-add_next-clause-known
-returns-in_err-add_next-clause-known g c = IfOk-from_err c.from_residual-in_err-add_next.result _ c.from_residual-in_err-add_next.ensures.0
-
-pub returns-clause-keys : goal.returns-clause-keys
-returns-clause-keys g c = λ x.
-    let key = g.K.ByteString.bytes in
-    let value = g.V.Value.ByteString.bytes in
-    let gone = keys_in c.args.deleted.now.entries in
-    let afters = without gone (filter_map after_of (map (linked_view key value) c.args.linked.now)) in
-    let nexts = without gone (filter_map next_of (map (ordered_neighbour key value) c.args.neighbours.now)) in
-    same-more (keys_in c.add_named.new.keys.entries) afters (keys_in c.add_next.new.keys.entries) (keys_in c.new-keys.result.entries) nexts (afters ++ nexts) c.in_ok-add_named.ensures.keys c.in_ok-add_next.ensures.keys refl x
-    ∙ ap (λ es. contains_key (keys_in es ++ (afters ++ nexts)) x) c.new-keys.ensures.empty
+pub returns-in_err-add_next : goal.returns-in_err-add_next
+returns-in_err-add_next g c = record {
+  keys = IfOk-from_err c.from_residual-in_err-add_next.result _ c.from_residual-in_err-add_next.ensures.0;
+  known = IfOk-from_err c.from_residual-in_err-add_next.result _ c.from_residual-in_err-add_next.ensures.0;
+}

@@ -25,8 +25,8 @@ returns-clause-keys g c = λ x.
     ∙ ap (λ ns. contains_key (without (keys_in c.args.deleted.now.entries) (filter_map before_of ns)) x)
     (whole (ordered_neighbour g.K.ByteString.bytes g.V.Value.ByteString.bytes) c.args.neighbours.now c.loop-neighbour.neighbour-index c.loop-neighbour-test.false)
 
-pub returns-in_err-add_before-clause-keys : goal.returns-in_err-add_before-clause-keys
-returns-in_err-add_before-clause-keys g c = IfOk-from_err c.from_residual.result _ c.from_residual.ensures.0
-
-pub returns-in_err-add_before-clause-standing : goal.returns-in_err-add_before-clause-standing
-returns-in_err-add_before-clause-standing g c = IfOk-from_err c.from_residual.result _ c.from_residual.ensures.0
+pub returns-in_err-add_before : goal.returns-in_err-add_before
+returns-in_err-add_before g c = record {
+  keys = IfOk-from_err c.from_residual.result _ c.from_residual.ensures.0;
+  standing = IfOk-from_err c.from_residual.result _ c.from_residual.ensures.0;
+}

@@ -26,28 +26,28 @@ loop-found-preserved g c =
     c.loop-found.touches.items c.push_some.new.things.items c.in_ok-touch.touch c.in_ok-push_some.ensures c.loop-found.found-iterator c.next.new.self c.in-Some.found.now _
     (rest_more deref c.loop-found.found-iterator c.next.new.self c.next.result c.in-Some.found c.in-Some.is c.next.ensures.steps) c.in_ok-touch.ensures c.loop-found.invariant
 
-pub returns-clause-made : goal.returns-clause-made
-returns-clause-made g c =
-    let key = g.K.ByteString.bytes in
-    let value = g.V.Value.ByteString.bytes in
-    let view = ordered_touch key value in
-    drained-none view
-    (λ v. rewritten_naming (successor (map (λ e. e.0.now) c.args.keys.now.entries) (key v.now.1.key)) (place_before c.args.size (ordered_touches key value c.args.made.now) v.now.0) (key v.now.1.key) (value v.now.1.value))
-    c.loop-found.touches.items c.loop-found.found-iterator _ (rest_all deref c.loop-found.found-iterator c.next.new.self c.next.result c.in-None.is c.next.ensures.steps) c.loop-found.invariant
-    ∙ ap (λ ts. map view c.args.touches.now.items ++ ts)
-    (given-mapped (λ v. rewritten_naming (successor (map (λ e. e.0.now) c.args.keys.now.entries) (key v.now.1.key)) (place_before c.args.size (ordered_touches key value c.args.made.now) v.now.0) (key v.now.1.key) (value v.now.1.value)) (λ e. e.1) c.args.broken.now.entries)
+pub returns : goal.returns
+returns g c = record {
+  made =
+      let key = g.K.ByteString.bytes in
+      let value = g.V.Value.ByteString.bytes in
+      let view = ordered_touch key value in
+      drained-none view
+      (λ v. rewritten_naming (successor (map (λ e. e.0.now) c.args.keys.now.entries) (key v.now.1.key)) (place_before c.args.size (ordered_touches key value c.args.made.now) v.now.0) (key v.now.1.key) (value v.now.1.value))
+      c.loop-found.touches.items c.loop-found.found-iterator _ (rest_all deref c.loop-found.found-iterator c.next.new.self c.next.result c.in-None.is c.next.ensures.steps) c.loop-found.invariant
+      ∙ ap (λ ts. map view c.args.touches.now.items ++ ts)
+      (given-mapped (λ v. rewritten_naming (successor (map (λ e. e.0.now) c.args.keys.now.entries) (key v.now.1.key)) (place_before c.args.size (ordered_touches key value c.args.made.now) v.now.0) (key v.now.1.key) (value v.now.1.value)) (λ e. e.1) c.args.broken.now.entries);
+  ordered = c.values-found-items.ensures.ordered;
+}
 
-pub returns-in_err-touch-clause-made : goal.returns-in_err-touch-clause-made
-returns-in_err-touch-clause-made g c = IfOk-from_err c.from_residual.result _ c.from_residual.ensures.0
+pub returns-in_err-touch : goal.returns-in_err-touch
+returns-in_err-touch g c = record {
+  made = IfOk-from_err c.from_residual.result _ c.from_residual.ensures.0;
+  ordered = c.values-found-items.ensures.ordered;
+}
 
-pub returns-in_err-touch-clause-ordered : goal.returns-in_err-touch-clause-ordered
-returns-in_err-touch-clause-ordered g c = c.values-found-items.ensures.ordered
-
-pub returns-in_err-push_some-clause-made : goal.returns-in_err-push_some-clause-made
-returns-in_err-push_some-clause-made g c = IfOk-from_err c.from_residual-in_err-push_some.result _ c.from_residual-in_err-push_some.ensures.0
-
-pub returns-in_err-push_some-clause-ordered : goal.returns-in_err-push_some-clause-ordered
-returns-in_err-push_some-clause-ordered g c = c.values-found-items.ensures.ordered
-
-pub returns-clause-ordered : goal.returns-clause-ordered
-returns-clause-ordered g c = c.values-found-items.ensures.ordered
+pub returns-in_err-push_some : goal.returns-in_err-push_some
+returns-in_err-push_some g c = record {
+  made = IfOk-from_err c.from_residual-in_err-push_some.result _ c.from_residual-in_err-push_some.ensures.0;
+  ordered = c.values-found-items.ensures.ordered;
+}

@@ -21,9 +21,8 @@ loop-one-preserved g c =
       known = c.in_ok-add_named.ensures.known c.loop-one.invariant.known;
     }
 
-pub returns-clause-has : goal.returns-clause-has
-returns-clause-has g c = λ x.
-    c.loop-one.invariant.has x ∙ ap (λ ds. contains_key (filter_map (λ d. option_map g.K.ByteString.bytes d.next) ds) x) (take_all c.loop-one.one-index c.args.decided.now c.loop-one-test.false)
-
-pub returns-clause-known : goal.returns-clause-known
-returns-clause-known g c = c.loop-one.invariant.known
+pub returns : goal.returns
+returns g c = record {
+  has = λ x. c.loop-one.invariant.has x ∙ ap (λ ds. contains_key (filter_map (λ d. option_map g.K.ByteString.bytes d.next) ds) x) (take_all c.loop-one.one-index c.args.decided.now c.loop-one-test.false);
+  known = c.loop-one.invariant.known;
+}

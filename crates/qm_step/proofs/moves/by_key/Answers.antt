@@ -34,14 +34,14 @@ loop-one-preserved g c =
           (subst (λ b. update_of list b ≡ Some (view one)) (sym c.as_bytes.ensures.value) here) (c.loop-one.invariant.stand list stands);
     }
 
-pub returns-clause-has : goal.returns-clause-has
-returns-clause-has g c = λ x. c.loop-one.invariant.has x ∙ ap (λ fs. contains_key (map (λ f. g.K.ByteString.bytes f.1.key) fs) x) (take_all c.loop-one.one-index c.args.found.now c.loop-one-test.false)
+pub returns : goal.returns
+returns g c = record {
+  has = λ x. c.loop-one.invariant.has x ∙ ap (λ fs. contains_key (map (λ f. g.K.ByteString.bytes f.1.key) fs) x) (take_all c.loop-one.one-index c.args.found.now c.loop-one-test.false);
+  stand = c.loop-one.invariant.stand;
+}
 
-pub returns-clause-stand : goal.returns-clause-stand
-returns-clause-stand g c = c.loop-one.invariant.stand
-
-pub returns-in_err-insert-clause-has : goal.returns-in_err-insert-clause-has
-returns-in_err-insert-clause-has g c = IfOk-from_err c.from_residual.result _ c.from_residual.ensures.0
-
-pub returns-in_err-insert-clause-stand : goal.returns-in_err-insert-clause-stand
-returns-in_err-insert-clause-stand g c = IfOk-from_err c.from_residual.result _ c.from_residual.ensures.0
+pub returns-in_err-insert : goal.returns-in_err-insert
+returns-in_err-insert g c = record {
+  has = IfOk-from_err c.from_residual.result _ c.from_residual.ensures.0;
+  stand = IfOk-from_err c.from_residual.result _ c.from_residual.ensures.0;
+}

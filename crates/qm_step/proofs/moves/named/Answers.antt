@@ -24,11 +24,11 @@ loop-one-preserved g c = record {
   known = c.drop_gone.ensures.known c.loop-one.invariant.known;
 }
 
-pub returns-clause-has : goal.returns-clause-has
-returns-clause-has g c = λ x.
-    c.loop-one.invariant.has x
-    ∙ ap (λ ds. contains_key (filter_map (λ d. option_map g.K.ByteString.bytes d.next) c.args.decided.now) x && not (contains_key (map (λ d. g.K.ByteString.bytes d.key) (filter (λ d. is_none d.value) ds)) x))
-    (take_all c.loop-one.one-index c.args.decided.now c.loop-one-test.false)
-
-pub returns-clause-known : goal.returns-clause-known
-returns-clause-known g c = c.loop-one.invariant.known
+pub returns : goal.returns
+returns g c = record {
+  has = λ x.
+      c.loop-one.invariant.has x
+      ∙ ap (λ ds. contains_key (filter_map (λ d. option_map g.K.ByteString.bytes d.next) c.args.decided.now) x && not (contains_key (map (λ d. g.K.ByteString.bytes d.key) (filter (λ d. is_none d.value) ds)) x))
+      (take_all c.loop-one.one-index c.args.decided.now c.loop-one-test.false);
+  known = c.loop-one.invariant.known;
+}

@@ -33,10 +33,10 @@ loop-one-preserved g c =
           all-fewer (λ (k : Bytes) v. update_of list k ≡ Some (view v.now)) c.loop-one.all.entries c.remove.new.self.entries _ c.remove.ensures.entries (c.loop-one.invariant.stand list stands);
     }
 
-pub returns-clause-has : goal.returns-clause-has
-returns-clause-has g c = λ x.
-    c.loop-one.invariant.has x
-    ∙ ap (λ ds. contains_key (map (λ f. g.K.ByteString.bytes f.1.key) c.args.found.now) x && not (contains_key (map (λ d. g.K.ByteString.bytes d.key) ds) x)) (take_all c.loop-one.one-index c.args.decided.now c.loop-one-test.false)
-
-pub returns-clause-stand : goal.returns-clause-stand
-returns-clause-stand g c = c.loop-one.invariant.stand
+pub returns : goal.returns
+returns g c = record {
+  has = λ x.
+      c.loop-one.invariant.has x
+      ∙ ap (λ ds. contains_key (map (λ f. g.K.ByteString.bytes f.1.key) c.args.found.now) x && not (contains_key (map (λ d. g.K.ByteString.bytes d.key) ds) x)) (take_all c.loop-one.one-index c.args.decided.now c.loop-one-test.false);
+  stand = c.loop-one.invariant.stand;
+}

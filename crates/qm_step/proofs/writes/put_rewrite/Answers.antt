@@ -13,14 +13,14 @@ returns-in_ok-insert-in-Some-clause-live g c = λ at is.
     ap (map (λ e. (e.0, view e.1))) c.in_ok-insert-in-Some.ensures.entries ∙ insert-shown view c.args.rewrites.now.entries c.in-Some.at c.in_ok-operation-in-Some.operation
     ∙ ap₂ (λ n op. insert_entry nat_cmp (map (λ e. (e.0, view e.1)) c.args.rewrites.now.entries) n op) (same_Some c.in-Some.at at (sym c.in-Some.is ∙ c.at.ensures ∙ is)) c.in_ok-operation-in-Some.ensures
 
-pub returns-in_err-operation-in-Some-clause-live : goal.returns-in_err-operation-in-Some-clause-live
-returns-in_err-operation-in-Some-clause-live g c = IfOk-from_err c.from_residual.result _ c.from_residual.ensures.0
+pub returns-in_err-operation-in-Some : goal.returns-in_err-operation-in-Some
+returns-in_err-operation-in-Some g c = record {
+  live = IfOk-from_err c.from_residual.result _ c.from_residual.ensures.0;
+  other = IfOk-from_err c.from_residual.result _ c.from_residual.ensures.0;
+}
 
-pub returns-in_err-operation-in-Some-clause-other : goal.returns-in_err-operation-in-Some-clause-other
-returns-in_err-operation-in-Some-clause-other g c = IfOk-from_err c.from_residual.result _ c.from_residual.ensures.0
-
-pub returns-in_err-insert-in-Some-clause-live : goal.returns-in_err-insert-in-Some-clause-live
-returns-in_err-insert-in-Some-clause-live g c = IfOk-from_err c.from_residual-in_err-insert-in-Some.result _ c.from_residual-in_err-insert-in-Some.ensures.0
-
-pub returns-in_err-insert-in-Some-clause-other : goal.returns-in_err-insert-in-Some-clause-other
-returns-in_err-insert-in-Some-clause-other g c = IfOk-from_err c.from_residual-in_err-insert-in-Some.result _ c.from_residual-in_err-insert-in-Some.ensures.0
+pub returns-in_err-insert-in-Some : goal.returns-in_err-insert-in-Some
+returns-in_err-insert-in-Some g c = record {
+  live = IfOk-from_err c.from_residual-in_err-insert-in-Some.result _ c.from_residual-in_err-insert-in-Some.ensures.0;
+  other = IfOk-from_err c.from_residual-in_err-insert-in-Some.result _ c.from_residual-in_err-insert-in-Some.ensures.0;
+}

@@ -1,8 +1,9 @@
 use Rattle.std.proofs.Common.{◌∙◌, ◌≤◌, ap, ap₂, sym, None, refl, arith}
-use Rattle.std.specs.Prelude.{option_map}
+use Rattle.std.specs.Prelude.{option_map, fold}
 use Rattle.std.specs.Option.{option_or}
+use Rattle.std.proofs.lemmas.List.{take_all}
 use Rattle.std.proofs.lemmas.List.Sums.{fold_more}
-use Rattle.qm_model.proofs.Results.{told-both, told-err}
+use Rattle.qm_model.proofs.Results.{told-both, told-err, told-one}
 use Rattle.qm_model.specs.Operations.{Operation}
 use Rattle.qm_step.specs.Changes.{update_at}
 use Rattle.qm_step.specs.Nearest.{later_at, limit_view, only_within}
@@ -29,32 +30,26 @@ loop-location-preserved g c =
           ∙ sym (fold_more (later_at limit list) None c.args.locations.now c.loop-location.location-index c.location-item.result c.loop-location-test.true));
     }
 
-pub returns-in_err-update-clause-value : goal.returns-in_err-update-clause-value
-returns-in_err-update-clause-value g c = λ list is of.
+pub returns-in_err-update : goal.returns-in_err-update
+returns-in_err-update g c =
     let exit = err_from_is_err_and c.from_residual.result c.from_residual.ensures.1 in
-    told-err _ (g.L.Items.reads.told c.args.log.now) c.from_residual.result exit.0 exit.1
+    record {
+      value = λ list is of. told-err _ (g.L.Items.reads.told c.args.log.now) c.from_residual.result exit.0 exit.1;
+      read = read-then g.L.Items.reads g.met.L.Items.read_again c.args.log.now c.loop-location.log c.read_within.new.log c.loop-location.invariant.read c.read_within.ensures.read;
+      error = rw (exit.1, exit.2) (error-then g.L.Items.reads g.met.L.Items.failed_later c.args.log.now c.loop-location.log c.read_within.new.log _ c.loop-location.invariant.read c.in_err-update.ensures.error);
+      pruned = λ kept.
+          let within = taken-in c.args.locations.now c.args.locations.now c.loop-location.location-index c.location-item.result refl c.loop-location-test.true c.location-item.is in
+          let here = All-contains (λ at. g.L.Items.reads.start c.args.log.now ≤ at) c.args.locations.now c.location-item.result kept within in
+          let same = (c.loop-location.invariant.read).start in
+          rw (exit.1, exit.2) (c.in_err-update.ensures.pruned (omega (arith, same, here, c.get-at.ensures)));
+    }
 
-pub returns-in_err-update-clause-read : goal.returns-in_err-update-clause-read
-returns-in_err-update-clause-read g c = read-then g.L.Items.reads g.met.L.Items.read_again c.args.log.now c.loop-location.log c.read_within.new.log c.loop-location.invariant.read c.read_within.ensures.read
-
-pub returns-in_err-update-clause-error : goal.returns-in_err-update-clause-error
-returns-in_err-update-clause-error g c =
-    let exit = err_from_is_err_and c.from_residual.result c.from_residual.ensures.1 in
-    rw (exit.1, exit.2) (error-then g.L.Items.reads g.met.L.Items.failed_later c.args.log.now c.loop-location.log c.read_within.new.log _ c.loop-location.invariant.read c.in_err-update.ensures.error)
-
-pub returns-in_err-update-clause-pruned : goal.returns-in_err-update-clause-pruned
-returns-in_err-update-clause-pruned g c = λ kept.
-    let exit = err_from_is_err_and c.from_residual.result c.from_residual.ensures.1 in
-    let within = taken-in c.args.locations.now c.args.locations.now c.loop-location.location-index c.location-item.result refl c.loop-location-test.true c.location-item.is in
-    let here = All-contains (λ at. g.L.Items.reads.start c.args.log.now ≤ at) c.args.locations.now c.location-item.result kept within in
-    let same = (c.loop-location.invariant.read).start in
-    rw (exit.1, exit.2) (c.in_err-update.ensures.pruned (omega (arith, same, here, c.get-at.ensures)))
-
-pub returns-clause-read : goal.returns-clause-read
-returns-clause-read g c = c.loop-location.invariant.read
-
-pub returns-clause-error : goal.returns-clause-error
-returns-clause-error g c = tt
-
-pub returns-clause-pruned : goal.returns-clause-pruned
-returns-clause-pruned g c = λ kept. tt
+pub returns : goal.returns
+returns g c = record {
+  value = λ list is of.
+      told-one _ _ (g.L.Items.reads.told c.args.log.now) (c.loop-location.invariant.value list is of) (λ all.
+      all ∙ ap (fold (later_at (limit_view c.args.limit) list) None) (take_all c.loop-location.location-index c.args.locations.now c.loop-location-test.false));
+  read = c.loop-location.invariant.read;
+  error = tt;
+  pruned = λ kept. tt;
+}

@@ -11,101 +11,66 @@ use Rattle.qm_base.proofs.Reading.{error-then, read-then, read-none}
 use Rattle.qm_step.proofs.Reading.{lent-then, told, told-given}
 use Rattle.qm_batch.proofs.plan.over.written_over.Goals as goal
 
-pub returns-clause-value : goal.returns-clause-value
-returns-clause-value g c = λ lent base ws is from ring base_ring reads last.
-    let key = g.U.Key.ByteString.bytes in
-    let value = g.U.Value.ByteString.bytes in
-    let form = g.U.Update.form in
-    let told_items = g.L.Items.reads.told c.args.log.now in
-    let read = c.in_ok-sites.ensures.read in
-    let mid = lent-then g.L.Items.reads form g.I.Unordered.index_key (g.I.Unordered.entries c.args.index.now) c.args.log.now _ lent read is in
-    told-then _ _ told_items (c.in_ok-sites.ensures.value lent base is from (c.in_ok-known.ensures base reads)) (λ found.
-    let are = found ∙ lasts-shown (last_view key value) (linked_in base) c.args.last.now.entries (last_writes ws) last in
-    let sites = ap (map (linked_view key value)) c.deref.ensures.value ∙ are in
-    let again = ap (map (linked_view key value)) c.deref-2.ensures.value ∙ are in
-    told-given (form.ordered ≡ true) told_items (λ ordered. told _ _ _ read.told (c.in_ok-neighbours.ensures.value lent base (last_writes ws) ordered mid from (ring ordered) (base_ring ordered) sites)) (λ beside.
-    c.in_ok-touches.ensures base ws base_ring again (λ ordered. ap (map (neighbour_view g.U.Update.view key)) c.deref-3.ensures.value ∙ beside ordered)))
+pub returns : goal.returns
+returns g c = record {
+  value = λ lent base ws is from ring base_ring reads last.
+      let key = g.U.Key.ByteString.bytes in
+      let value = g.U.Value.ByteString.bytes in
+      let form = g.U.Update.form in
+      let told_items = g.L.Items.reads.told c.args.log.now in
+      let read = c.in_ok-sites.ensures.read in
+      let mid = lent-then g.L.Items.reads form g.I.Unordered.index_key (g.I.Unordered.entries c.args.index.now) c.args.log.now _ lent read is in
+      told-then _ _ told_items (c.in_ok-sites.ensures.value lent base is from (c.in_ok-known.ensures base reads)) (λ found.
+      let are = found ∙ lasts-shown (last_view key value) (linked_in base) c.args.last.now.entries (last_writes ws) last in
+      let sites = ap (map (linked_view key value)) c.deref.ensures.value ∙ are in
+      let again = ap (map (linked_view key value)) c.deref-2.ensures.value ∙ are in
+      told-given (form.ordered ≡ true) told_items (λ ordered. told _ _ _ read.told (c.in_ok-neighbours.ensures.value lent base (last_writes ws) ordered mid from (ring ordered) (base_ring ordered) sites)) (λ beside.
+      c.in_ok-touches.ensures base ws base_ring again (λ ordered. ap (map (neighbour_view g.U.Update.view key)) c.deref-3.ensures.value ∙ beside ordered)));
+  read = read-then g.L.Items.reads g.met.L.Items.read_again c.args.log.now c.find_sites.new.log c.neighbours_of.new.log c.in_ok-sites.ensures.read c.in_ok-neighbours.ensures.read;
+  error = tt;
+  whole = λ lent is none. tt;
+}
 
-pub returns-clause-read : goal.returns-clause-read
-returns-clause-read g c = read-then g.L.Items.reads g.met.L.Items.read_again c.args.log.now c.find_sites.new.log c.neighbours_of.new.log c.in_ok-sites.ensures.read c.in_ok-neighbours.ensures.read
-
-pub returns-in_err-touches-clause-read : goal.returns-in_err-touches-clause-read
-returns-in_err-touches-clause-read g c = read-then g.L.Items.reads g.met.L.Items.read_again c.args.log.now c.find_sites.new.log c.neighbours_of.new.log c.in_ok-sites.ensures.read c.in_ok-neighbours.ensures.read
-
-pub returns-in_err-neighbours-clause-read : goal.returns-in_err-neighbours-clause-read
-returns-in_err-neighbours-clause-read g c = read-then g.L.Items.reads g.met.L.Items.read_again c.args.log.now c.find_sites.new.log c.neighbours_of.new.log c.in_ok-sites.ensures.read c.in_err-neighbours.ensures.read
-
-pub returns-in_err-neighbours-clause-error : goal.returns-in_err-neighbours-clause-error
-returns-in_err-neighbours-clause-error g c =
-    let exit = err_from_is_err_and c.from_residual-in_err-neighbours.result c.from_residual-in_err-neighbours.ensures.1 in
-    rw (exit.1, exit.2) (error-then g.L.Items.reads g.met.L.Items.failed_later c.args.log.now c.find_sites.new.log c.neighbours_of.new.log _ c.in_ok-sites.ensures.read c.in_err-neighbours.ensures.error)
-
-pub returns-in_err-neighbours-clause-whole : goal.returns-in_err-neighbours-clause-whole
-returns-in_err-neighbours-clause-whole g c = λ lent is none.
-    let exit = err_from_is_err_and c.from_residual-in_err-neighbours.result c.from_residual-in_err-neighbours.ensures.1 in
-    let form = g.U.Update.form in
-    let read = c.in_ok-sites.ensures.read in
-    let mid = lent-then g.L.Items.reads form g.I.Unordered.index_key (g.I.Unordered.entries c.args.index.now) c.args.log.now c.find_sites.new.log lent read is in
-    rw (exit.1, exit.2) (c.in_err-neighbours.ensures.whole lent mid (subst (λ t. NoneBelow t lent) (sym read.start) none))
-
-pub returns-in_err-known-clause-value : goal.returns-in_err-known-clause-value
-returns-in_err-known-clause-value g c = λ lent base ws is from ring base_ring reads last.
-    let exit = err_from_is_err_and c.from_residual.result c.from_residual.ensures.1 in
-    told-err _ (g.L.Items.reads.told c.args.log.now) c.from_residual.result exit.0 exit.1
-
-pub returns-in_err-known-clause-read : goal.returns-in_err-known-clause-read
-returns-in_err-known-clause-read g c = read-none g.L.Items.reads g.met.L.Items.unread c.args.log.now
-
-pub returns-in_err-known-clause-error : goal.returns-in_err-known-clause-error
-returns-in_err-known-clause-error g c =
-    let exit = err_from_is_err_and c.from_residual.result c.from_residual.ensures.1 in
-    rw (exit.1, exit.2) (inl refl)
-
-pub returns-in_err-known-clause-whole : goal.returns-in_err-known-clause-whole
-returns-in_err-known-clause-whole g c = λ lent is none.
-    let exit = err_from_is_err_and c.from_residual.result c.from_residual.ensures.1 in
-    rw (exit.1, exit.2) (λ n same. cc)
-
-pub returns-in_err-sites-clause-value : goal.returns-in_err-sites-clause-value
-returns-in_err-sites-clause-value g c = λ lent base ws is from ring base_ring reads last.
-    let exit = err_from_is_err_and c.from_residual-in_err-sites.result c.from_residual-in_err-sites.ensures.1 in
-    told-err _ (g.L.Items.reads.told c.args.log.now) c.from_residual-in_err-sites.result exit.0 exit.1
-
-pub returns-in_err-sites-clause-read : goal.returns-in_err-sites-clause-read
-returns-in_err-sites-clause-read g c = c.find_sites.ensures.read
-
-pub returns-in_err-sites-clause-error : goal.returns-in_err-sites-clause-error
-returns-in_err-sites-clause-error g c =
-    let exit = err_from_is_err_and c.from_residual-in_err-sites.result c.from_residual-in_err-sites.ensures.1 in
-    rw (exit.1, exit.2) c.in_err-sites.ensures.error
-
-pub returns-in_err-sites-clause-whole : goal.returns-in_err-sites-clause-whole
-returns-in_err-sites-clause-whole g c = λ lent is none.
-    let exit = err_from_is_err_and c.from_residual-in_err-sites.result c.from_residual-in_err-sites.ensures.1 in
-    rw (exit.1, exit.2) (c.in_err-sites.ensures.whole lent is none)
-
-pub returns-in_err-neighbours-clause-value : goal.returns-in_err-neighbours-clause-value
-returns-in_err-neighbours-clause-value g c = λ lent base ws is from ring base_ring reads last.
-    let exit = err_from_is_err_and c.from_residual-in_err-neighbours.result c.from_residual-in_err-neighbours.ensures.1 in
-    told-err _ (g.L.Items.reads.told c.args.log.now) c.from_residual-in_err-neighbours.result exit.0 exit.1
-
-pub returns-in_err-touches-clause-value : goal.returns-in_err-touches-clause-value
-returns-in_err-touches-clause-value g c = λ lent base ws is from ring base_ring reads last.
+pub returns-in_err-touches : goal.returns-in_err-touches
+returns-in_err-touches g c =
     let exit = err_from_is_err_and c.from_residual-in_err-touches.result c.from_residual-in_err-touches.ensures.1 in
-    told-err _ (g.L.Items.reads.told c.args.log.now) c.from_residual-in_err-touches.result exit.0 exit.1
+    record {
+      value = λ lent base ws is from ring base_ring reads last. told-err _ (g.L.Items.reads.told c.args.log.now) c.from_residual-in_err-touches.result exit.0 exit.1;
+      read = read-then g.L.Items.reads g.met.L.Items.read_again c.args.log.now c.find_sites.new.log c.neighbours_of.new.log c.in_ok-sites.ensures.read c.in_ok-neighbours.ensures.read;
+      error = rw (exit.1, exit.2) (inl refl);
+      whole = λ lent is none. rw (exit.1, exit.2) (λ n same. cc);
+    }
 
-pub returns-in_err-touches-clause-error : goal.returns-in_err-touches-clause-error
-returns-in_err-touches-clause-error g c =
-    let exit = err_from_is_err_and c.from_residual-in_err-touches.result c.from_residual-in_err-touches.ensures.1 in
-    rw (exit.1, exit.2) (inl refl)
+pub returns-in_err-neighbours : goal.returns-in_err-neighbours
+returns-in_err-neighbours g c =
+    let exit = err_from_is_err_and c.from_residual-in_err-neighbours.result c.from_residual-in_err-neighbours.ensures.1 in
+    record {
+      value = λ lent base ws is from ring base_ring reads last. told-err _ (g.L.Items.reads.told c.args.log.now) c.from_residual-in_err-neighbours.result exit.0 exit.1;
+      read = read-then g.L.Items.reads g.met.L.Items.read_again c.args.log.now c.find_sites.new.log c.neighbours_of.new.log c.in_ok-sites.ensures.read c.in_err-neighbours.ensures.read;
+      error = rw (exit.1, exit.2) (error-then g.L.Items.reads g.met.L.Items.failed_later c.args.log.now c.find_sites.new.log c.neighbours_of.new.log _ c.in_ok-sites.ensures.read c.in_err-neighbours.ensures.error);
+      whole = λ lent is none.
+          let form = g.U.Update.form in
+          let read = c.in_ok-sites.ensures.read in
+          let mid = lent-then g.L.Items.reads form g.I.Unordered.index_key (g.I.Unordered.entries c.args.index.now) c.args.log.now c.find_sites.new.log lent read is in
+          rw (exit.1, exit.2) (c.in_err-neighbours.ensures.whole lent mid (subst (λ t. NoneBelow t lent) (sym read.start) none));
+    }
 
-pub returns-in_err-touches-clause-whole : goal.returns-in_err-touches-clause-whole
-returns-in_err-touches-clause-whole g c = λ lent is none.
-    let exit = err_from_is_err_and c.from_residual-in_err-touches.result c.from_residual-in_err-touches.ensures.1 in
-    rw (exit.1, exit.2) (λ n same. cc)
+pub returns-in_err-known : goal.returns-in_err-known
+returns-in_err-known g c =
+    let exit = err_from_is_err_and c.from_residual.result c.from_residual.ensures.1 in
+    record {
+      value = λ lent base ws is from ring base_ring reads last. told-err _ (g.L.Items.reads.told c.args.log.now) c.from_residual.result exit.0 exit.1;
+      read = read-none g.L.Items.reads g.met.L.Items.unread c.args.log.now;
+      error = rw (exit.1, exit.2) (inl refl);
+      whole = λ lent is none. rw (exit.1, exit.2) (λ n same. cc);
+    }
 
-pub returns-clause-error : goal.returns-clause-error
-returns-clause-error g c = tt
-
-pub returns-clause-whole : goal.returns-clause-whole
-returns-clause-whole g c = λ lent is none. tt
+pub returns-in_err-sites : goal.returns-in_err-sites
+returns-in_err-sites g c =
+    let exit = err_from_is_err_and c.from_residual-in_err-sites.result c.from_residual-in_err-sites.ensures.1 in
+    record {
+      value = λ lent base ws is from ring base_ring reads last. told-err _ (g.L.Items.reads.told c.args.log.now) c.from_residual-in_err-sites.result exit.0 exit.1;
+      read = c.find_sites.ensures.read;
+      error = rw (exit.1, exit.2) c.in_err-sites.ensures.error;
+      whole = λ lent is none. rw (exit.1, exit.2) (c.in_err-sites.ensures.whole lent is none);
+    }

@@ -12,34 +12,29 @@ use Rattle.qm_step.proofs.Reading.{lent-then, told}
 use Rattle.qm_step.proofs.Steps.{map-twice}
 use Rattle.qm_batch.proofs.plan.sites.find_sites.Goals as goal
 
-pub returns-in_err-stands-clause-value : goal.returns-in_err-stands-clause-value
-returns-in_err-stands-clause-value g c = λ lent base is from known.
+pub returns-in_err-stands : goal.returns-in_err-stands
+returns-in_err-stands g c =
     let exit = err_from_is_err_and c.from_residual.result c.from_residual.ensures.1 in
-    told-err _ (g.L.Items.reads.told c.args.log.now) c.from_residual.result exit.0 exit.1
+    record {
+      value = λ lent base is from known. told-err _ (g.L.Items.reads.told c.args.log.now) c.from_residual.result exit.0 exit.1;
+      read = read-then g.L.Items.reads g.met.L.Items.read_again c.args.log.now c.loop-write.log c.place_of.new.log c.loop-write.invariant.read c.place_of.ensures.read;
+      error = rw (exit.1, exit.2) (error-then g.L.Items.reads g.met.L.Items.failed_later c.args.log.now c.loop-write.log c.place_of.new.log _ c.loop-write.invariant.read c.in_err-stands.ensures.error);
+      whole = λ lent is none.
+          let entries = g.I.Unordered.entries c.args.index.now in
+          let read = c.loop-write.invariant.read in
+          let mid = lent-then g.L.Items.reads g.U.Update.form g.I.Unordered.index_key entries c.args.log.now c.loop-write.log lent read is in
+          rw (exit.1, exit.2) (c.in_err-stands.ensures.whole lent mid (subst (λ t. NoneBelow t lent) (sym read.start) none));
+    }
 
-pub returns-in_err-stands-clause-read : goal.returns-in_err-stands-clause-read
-returns-in_err-stands-clause-read g c = read-then g.L.Items.reads g.met.L.Items.read_again c.args.log.now c.loop-write.log c.place_of.new.log c.loop-write.invariant.read c.place_of.ensures.read
-
-pub returns-in_err-stands-clause-error : goal.returns-in_err-stands-clause-error
-returns-in_err-stands-clause-error g c =
-    let exit = err_from_is_err_and c.from_residual.result c.from_residual.ensures.1 in
-    rw (exit.1, exit.2) (error-then g.L.Items.reads g.met.L.Items.failed_later c.args.log.now c.loop-write.log c.place_of.new.log _ c.loop-write.invariant.read c.in_err-stands.ensures.error)
-
-pub returns-in_err-stands-clause-whole : goal.returns-in_err-stands-clause-whole
-returns-in_err-stands-clause-whole g c = λ lent is none.
-    let exit = err_from_is_err_and c.from_residual.result c.from_residual.ensures.1 in
-    let entries = g.I.Unordered.entries c.args.index.now in
-    let read = c.loop-write.invariant.read in
-    let mid = lent-then g.L.Items.reads g.U.Update.form g.I.Unordered.index_key entries c.args.log.now c.loop-write.log lent read is in
-    rw (exit.1, exit.2) (c.in_err-stands.ensures.whole lent mid (subst (λ t. NoneBelow t lent) (sym read.start) none))
-
-pub returns-in_err-push-clause-value : goal.returns-in_err-push-clause-value
-returns-in_err-push-clause-value g c = λ lent base is from known.
+pub returns-in_err-push : goal.returns-in_err-push
+returns-in_err-push g c =
     let exit = err_from_is_err_and c.from_residual-in_err-push.result c.from_residual-in_err-push.ensures.1 in
-    told-err _ (g.L.Items.reads.told c.args.log.now) c.from_residual-in_err-push.result exit.0 exit.1
-
-pub returns-in_err-push-clause-read : goal.returns-in_err-push-clause-read
-returns-in_err-push-clause-read g c = read-then g.L.Items.reads g.met.L.Items.read_again c.args.log.now c.loop-write.log c.place_of.new.log c.loop-write.invariant.read c.place_of.ensures.read
+    record {
+      value = λ lent base is from known. told-err _ (g.L.Items.reads.told c.args.log.now) c.from_residual-in_err-push.result exit.0 exit.1;
+      read = read-then g.L.Items.reads g.met.L.Items.read_again c.args.log.now c.loop-write.log c.place_of.new.log c.loop-write.invariant.read c.place_of.ensures.read;
+      error = rw (exit.1, exit.2) (inl refl);
+      whole = λ lent is none. rw (exit.1, exit.2) (λ n same. cc);
+    }
 
 pub loop-write-init : goal.loop-write-init
 loop-write-init g c = record {
@@ -68,29 +63,15 @@ loop-write-preserved g c =
           (rest_more deref c.loop-write.write-iterator c.next.new.self c.next.result c.in-Some.write c.in-Some.is c.next.ensures.steps) c.in_ok-push.ensures.items (ap₂ (λ w o. (last_write_view key value w, o)) c.lent.ensures found) before);
     }
 
-pub returns-clause-value : goal.returns-clause-value
-returns-clause-value g c = λ lent base is from known.
-    let key = g.U.Key.ByteString.bytes in
-    let value = g.U.Value.ByteString.bytes in
-    told-one _ _ (g.L.Items.reads.told c.args.log.now) (c.loop-write.invariant.value lent base is from known) (λ all.
-    drained-all (linked_view key value) (λ w. linked_in base (last_write_view key value w)) c.loop-write.sites.items c.loop-write.write-iterator (map (λ e. linked_in base (last_write_view key value e.1)) c.args.last.now.entries)
-    (rest_all deref c.loop-write.write-iterator c.next.new.self c.next.result c.in-None.is c.next.ensures.steps) all)
-
-pub returns-in_err-push-clause-error : goal.returns-in_err-push-clause-error
-returns-in_err-push-clause-error g c =
-    let exit = err_from_is_err_and c.from_residual-in_err-push.result c.from_residual-in_err-push.ensures.1 in
-    rw (exit.1, exit.2) (inl refl)
-
-pub returns-in_err-push-clause-whole : goal.returns-in_err-push-clause-whole
-returns-in_err-push-clause-whole g c = λ lent is none.
-    let exit = err_from_is_err_and c.from_residual-in_err-push.result c.from_residual-in_err-push.ensures.1 in
-    rw (exit.1, exit.2) (λ n same. cc)
-
-pub returns-clause-read : goal.returns-clause-read
-returns-clause-read g c = c.loop-write.invariant.read
-
-pub returns-clause-error : goal.returns-clause-error
-returns-clause-error g c = tt
-
-pub returns-clause-whole : goal.returns-clause-whole
-returns-clause-whole g c = λ lent is none. tt
+pub returns : goal.returns
+returns g c = record {
+  value = λ lent base is from known.
+      let key = g.U.Key.ByteString.bytes in
+      let value = g.U.Value.ByteString.bytes in
+      told-one _ _ (g.L.Items.reads.told c.args.log.now) (c.loop-write.invariant.value lent base is from known) (λ all.
+      drained-all (linked_view key value) (λ w. linked_in base (last_write_view key value w)) c.loop-write.sites.items c.loop-write.write-iterator (map (λ e. linked_in base (last_write_view key value e.1)) c.args.last.now.entries)
+      (rest_all deref c.loop-write.write-iterator c.next.new.self c.next.result c.in-None.is c.next.ensures.steps) all);
+  read = c.loop-write.invariant.read;
+  error = tt;
+  whole = λ lent is none. tt;
+}

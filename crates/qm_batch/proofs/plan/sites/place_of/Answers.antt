@@ -10,49 +10,33 @@ use Rattle.std.proofs.lemmas.Result.{err_from_is_err_and}
 use Rattle.qm_base.proofs.Reading.{read-none}
 use Rattle.qm_batch.proofs.plan.sites.place_of.Goals as goal
 
-pub returns-in_ok-stands_of-in-Some-clause-value : goal.returns-in_ok-stands_of-in-Some-clause-value
-returns-in_ok-stands_of-in-Some-clause-value g c = λ lent base is from known.
-    let key = g.U.Key.ByteString.bytes c.args.key.now in
-    told-any _ (g.L.Items.reads.told c.args.log.now)
-    (c.in_ok-stands_of-in-Some.ensures
-    ∙ ap (option_map link_of) (known-there (λ r. option_map (read_view g.U.Update.view) r.now.found) (update_of base) c.args.known.now.entries c.as_bytes.result.now c.in-Some.read.now known (sym c.get.ensures.value ∙ ap option_copied c.in-Some.is) ∙ ap (update_of base) c.as_bytes.ensures.value)
-    ∙ link-of_update base key)
+pub returns-in_ok-stands_of-in-Some : goal.returns-in_ok-stands_of-in-Some
+returns-in_ok-stands_of-in-Some g c = record {
+  value = λ lent base is from known.
+      let key = g.U.Key.ByteString.bytes c.args.key.now in
+      told-any _ (g.L.Items.reads.told c.args.log.now)
+      (c.in_ok-stands_of-in-Some.ensures
+      ∙ ap (option_map link_of) (known-there (λ r. option_map (read_view g.U.Update.view) r.now.found) (update_of base) c.args.known.now.entries c.as_bytes.result.now c.in-Some.read.now known (sym c.get.ensures.value ∙ ap option_copied c.in-Some.is) ∙ ap (update_of base) c.as_bytes.ensures.value)
+      ∙ link-of_update base key);
+  read = read-none g.L.Items.reads g.met.L.Items.unread c.args.log.now;
+  error = tt;
+  whole = λ lent is none. tt;
+}
 
-pub returns-in-None-clause-value : goal.returns-in-None-clause-value
-returns-in-None-clause-value g c = λ lent base is from known. c.locate.ensures.value lent base is from
+pub returns-in-None : goal.returns-in-None
+returns-in-None g c = record {
+  value = λ lent base is from known. c.locate.ensures.value lent base is from;
+  read = c.locate.ensures.read;
+  error = c.locate.ensures.error;
+  whole = c.locate.ensures.whole;
+}
 
-pub returns-in_err-stands_of-in-Some-clause-value : goal.returns-in_err-stands_of-in-Some-clause-value
-returns-in_err-stands_of-in-Some-clause-value g c = λ lent base is from known.
+pub returns-in_err-stands_of-in-Some : goal.returns-in_err-stands_of-in-Some
+returns-in_err-stands_of-in-Some g c =
     let exit = err_from_is_err_and c.from_residual.result c.from_residual.ensures.1 in
-    told-err _ (g.L.Items.reads.told c.args.log.now) c.from_residual.result exit.0 exit.1
-
-pub returns-in_err-stands_of-in-Some-clause-read : goal.returns-in_err-stands_of-in-Some-clause-read
-returns-in_err-stands_of-in-Some-clause-read g c = read-none g.L.Items.reads g.met.L.Items.unread c.args.log.now
-
-pub returns-in_err-stands_of-in-Some-clause-error : goal.returns-in_err-stands_of-in-Some-clause-error
-returns-in_err-stands_of-in-Some-clause-error g c =
-    let exit = err_from_is_err_and c.from_residual.result c.from_residual.ensures.1 in
-    rw (exit.1, exit.2) (inl refl)
-
-pub returns-in_err-stands_of-in-Some-clause-whole : goal.returns-in_err-stands_of-in-Some-clause-whole
-returns-in_err-stands_of-in-Some-clause-whole g c = λ lent is none.
-    let exit = err_from_is_err_and c.from_residual.result c.from_residual.ensures.1 in
-    rw (exit.1, exit.2) (λ n same. cc)
-
-pub returns-in_ok-stands_of-in-Some-clause-read : goal.returns-in_ok-stands_of-in-Some-clause-read
-returns-in_ok-stands_of-in-Some-clause-read g c = read-none g.L.Items.reads g.met.L.Items.unread c.args.log.now
-
-pub returns-in_ok-stands_of-in-Some-clause-error : goal.returns-in_ok-stands_of-in-Some-clause-error
-returns-in_ok-stands_of-in-Some-clause-error g c = tt
-
-pub returns-in_ok-stands_of-in-Some-clause-whole : goal.returns-in_ok-stands_of-in-Some-clause-whole
-returns-in_ok-stands_of-in-Some-clause-whole g c = λ lent is none. tt
-
-pub returns-in-None-clause-read : goal.returns-in-None-clause-read
-returns-in-None-clause-read g c = c.locate.ensures.read
-
-pub returns-in-None-clause-error : goal.returns-in-None-clause-error
-returns-in-None-clause-error g c = c.locate.ensures.error
-
-pub returns-in-None-clause-whole : goal.returns-in-None-clause-whole
-returns-in-None-clause-whole g c = c.locate.ensures.whole
+    record {
+      value = λ lent base is from known. told-err _ (g.L.Items.reads.told c.args.log.now) c.from_residual.result exit.0 exit.1;
+      read = read-none g.L.Items.reads g.met.L.Items.unread c.args.log.now;
+      error = rw (exit.1, exit.2) (inl refl);
+      whole = λ lent is none. rw (exit.1, exit.2) (λ n same. cc);
+    }

@@ -8,55 +8,39 @@ use Rattle.qm_base.proofs.Reading.{read-none}
 use Rattle.qm_batch.proofs.Memory.{memory-error, memory-whole}
 use Rattle.qm_batch.proofs.plan.walk.live_at.Goals as goal
 
-pub returns-then-path-at-clause-value : goal.returns-then-path-at-clause-value
-returns-then-path-at-clause-value g c = λ lent base list is on.
-    let size = (on.known).size in
-    let views = touch_views g.U.Update.view g.U.Key.ByteString.bytes g.U.Value.ByteString.bytes in
-    let same = sym (ap views c.deref.ensures.value) in
-    told-any _ (g.L.Items.reads.told c.args.log.now)
-    (c.made_at.ensures.value base list c.args.at (subst (λ ts. base ++ operations_of ts ≡ list) same on.makes) (subst (λ ts. Once (operations_of ts)) same on.once) (subst (All (IsFrom base)) same on.from)
-    (omega (arith, size, c.if-path-at.true)) (ap (λ n. c.args.at - n) size))
+pub returns-then-path-at : goal.returns-then-path-at
+returns-then-path-at g c = record {
+  value = λ lent base list is on.
+      let size = (on.known).size in
+      let views = touch_views g.U.Update.view g.U.Key.ByteString.bytes g.U.Value.ByteString.bytes in
+      let same = sym (ap views c.deref.ensures.value) in
+      told-any _ (g.L.Items.reads.told c.args.log.now)
+      (c.made_at.ensures.value base list c.args.at (subst (λ ts. base ++ operations_of ts ≡ list) same on.makes) (subst (λ ts. Once (operations_of ts)) same on.once) (subst (All (IsFrom base)) same on.from)
+      (omega (arith, size, c.if-path-at.true)) (ap (λ n. c.args.at - n) size));
+  read = read-none g.L.Items.reads g.met.L.Items.unread c.args.log.now;
+  error = memory-error c.made_at.result c.made_at.ensures.memory g.L.Items.reads c.args.log.now c.args.log.now;
+  pruned = λ kept. memory-whole c.made_at.result c.made_at.ensures.memory;
+}
 
-pub returns-then-path-at-clause-read : goal.returns-then-path-at-clause-read
-returns-then-path-at-clause-read g c = read-none g.L.Items.reads g.met.L.Items.unread c.args.log.now
-
-pub returns-then-path-at-clause-error : goal.returns-then-path-at-clause-error
-returns-then-path-at-clause-error g c = memory-error c.made_at.result c.made_at.ensures.memory g.L.Items.reads c.args.log.now c.args.log.now
-
-pub returns-then-path-at-clause-pruned : goal.returns-then-path-at-clause-pruned
-returns-then-path-at-clause-pruned g c = λ kept. memory-whole c.made_at.result c.made_at.ensures.memory
-
-pub returns-in_err-update-clause-value : goal.returns-in_err-update-clause-value
-returns-in_err-update-clause-value g c = λ lent base list is on.
+pub returns-in_err-update : goal.returns-in_err-update
+returns-in_err-update g c =
     let exit = err_from_is_err_and c.from_residual.result c.from_residual.ensures.1 in
-    told-err _ (g.L.Items.reads.told c.args.log.now) c.from_residual.result exit.0 exit.1
+    record {
+      value = λ lent base list is on. told-err _ (g.L.Items.reads.told c.args.log.now) c.from_residual.result exit.0 exit.1;
+      read = c.unreplaced_at.ensures.read;
+      error = rw (exit.1, exit.2) c.in_err-update.ensures.error;
+      pruned = λ kept. rw (exit.1, exit.2) (c.in_err-update.ensures.pruned kept);
+    }
 
-pub returns-in_err-update-clause-read : goal.returns-in_err-update-clause-read
-returns-in_err-update-clause-read g c = c.unreplaced_at.ensures.read
-
-pub returns-in_err-update-clause-error : goal.returns-in_err-update-clause-error
-returns-in_err-update-clause-error g c =
-    let exit = err_from_is_err_and c.from_residual.result c.from_residual.ensures.1 in
-    rw (exit.1, exit.2) c.in_err-update.ensures.error
-
-pub returns-in_err-update-clause-pruned : goal.returns-in_err-update-clause-pruned
-returns-in_err-update-clause-pruned g c = λ kept.
-    let exit = err_from_is_err_and c.from_residual.result c.from_residual.ensures.1 in
-    rw (exit.1, exit.2) (c.in_err-update.ensures.pruned kept)
-
-pub returns-clause-value : goal.returns-clause-value
-returns-clause-value g c = λ lent base list is on.
-    let size = (on.known).size in
-    let update = c.in_ok-update.update in
-    told-one _ _ (g.L.Items.reads.told c.args.log.now) (c.in_ok-update.ensures.value lent base _ is (on.known).leads (omega (arith, size, c.if-path-at.false)) on.from on.keyed on.replaced) (λ found.
-    subst (λ found. IsMoveAt found base list c.args.at) (sym (c.standing.ensures g.U.Update.view))
-    (subst (λ ops. IsMoveAt (option_map (λ u. moved_touch (c.args.at, g.U.Update.view u)) update) base ops c.args.at) on.makes found))
-
-pub returns-clause-read : goal.returns-clause-read
-returns-clause-read g c = c.unreplaced_at.ensures.read
-
-pub returns-clause-error : goal.returns-clause-error
-returns-clause-error g c = tt
-
-pub returns-clause-pruned : goal.returns-clause-pruned
-returns-clause-pruned g c = λ kept. tt
+pub returns : goal.returns
+returns g c = record {
+  value = λ lent base list is on.
+      let size = (on.known).size in
+      let update = c.in_ok-update.update in
+      told-one _ _ (g.L.Items.reads.told c.args.log.now) (c.in_ok-update.ensures.value lent base _ is (on.known).leads (omega (arith, size, c.if-path-at.false)) on.from on.keyed on.replaced) (λ found.
+      subst (λ found. IsMoveAt found base list c.args.at) (sym (c.standing.ensures g.U.Update.view))
+      (subst (λ ops. IsMoveAt (option_map (λ u. moved_touch (c.args.at, g.U.Update.view u)) update) base ops c.args.at) on.makes found));
+  read = c.unreplaced_at.ensures.read;
+  error = tt;
+  pruned = λ kept. tt;
+}

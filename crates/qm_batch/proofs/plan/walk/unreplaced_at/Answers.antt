@@ -11,130 +11,94 @@ use Rattle.qm_base.proofs.Reading.{read-none}
 use Rattle.std.proofs.lemmas.Result.{err_from_is_err_and}
 use Rattle.qm_batch.proofs.plan.walk.unreplaced_at.Goals as goal
 
-pub returns-then-is_moved-clause-value : goal.returns-then-is_moved-clause-value
-returns-then-is_moved-clause-value g c = λ lent base made is leads within from keyed replaced.
-    let op = operation_view g.U.Update.view g.U.Key.ByteString.bytes g.U.Value.ByteString.bytes c.in-Some.operation.now in
-    let there = match-some c.in_layers.result c.in-Some.operation _ _ c.in-Some.is (c.in_layers.ensures lent base leads within) in
-    told-any _ (g.L.Items.reads.told c.args.log.now)
-    (ok-then c.twin_update.result c.twin_update.ensures.value (λ found shown.
-    moved-found base made c.args.at op there g.U.Update.view found c.is_moved.result c.if-is_moved.true shown
-    (c.is_moved.ensures lent base made op is.indexed leads from keyed replaced there c.key_of_update.ensures)))
+pub returns-then-is_moved : goal.returns-then-is_moved
+returns-then-is_moved g c = record {
+  value = λ lent base made is leads within from keyed replaced.
+      let op = operation_view g.U.Update.view g.U.Key.ByteString.bytes g.U.Value.ByteString.bytes c.in-Some.operation.now in
+      let there = match-some c.in_layers.result c.in-Some.operation _ _ c.in-Some.is (c.in_layers.ensures lent base leads within) in
+      told-any _ (g.L.Items.reads.told c.args.log.now)
+      (ok-then c.twin_update.result c.twin_update.ensures.value (λ found shown.
+      moved-found base made c.args.at op there g.U.Update.view found c.is_moved.result c.if-is_moved.true shown
+      (c.is_moved.ensures lent base made op is.indexed leads from keyed replaced there c.key_of_update.ensures)));
+  read = read-none g.L.Items.reads g.met.L.Items.unread c.args.log.now;
+  error = memory-error c.twin_update.result c.twin_update.ensures.memory g.L.Items.reads c.args.log.now c.args.log.now;
+  pruned = λ kept. memory-whole c.twin_update.result c.twin_update.ensures.memory;
+}
 
-pub returns-then-is_moved-clause-error : goal.returns-then-is_moved-clause-error
-returns-then-is_moved-clause-error g c = memory-error c.twin_update.result c.twin_update.ensures.memory g.L.Items.reads c.args.log.now c.args.log.now
+pub returns-else-is_moved : goal.returns-else-is_moved
+returns-else-is_moved g c = record {
+  value = λ lent base made is leads within from keyed replaced.
+      let op = operation_view g.U.Update.view g.U.Key.ByteString.bytes g.U.Value.ByteString.bytes c.in-Some.operation.now in
+      let there = match-some c.in_layers.result c.in-Some.operation _ _ c.in-Some.is (c.in_layers.ensures lent base leads within) in
+      told-any _ (g.L.Items.reads.told c.args.log.now)
+      (moved-not base made c.args.at op there c.is_moved.result c.if-is_moved.false (c.is_moved.ensures lent base made op is.indexed leads from keyed replaced there c.key_of_update.ensures));
+  read = read-none g.L.Items.reads g.met.L.Items.unread c.args.log.now;
+  error = tt;
+  pruned = λ kept. tt;
+}
 
-pub returns-then-is_moved-clause-pruned : goal.returns-then-is_moved-clause-pruned
-returns-then-is_moved-clause-pruned g c = λ kept. memory-whole c.twin_update.result c.twin_update.ensures.memory
+pub returns-in_default-2 : goal.returns-in_default-2
+returns-in_default-2 g c = record {
+  value = λ lent base made is leads within from keyed replaced.
+      let form = g.U.Update.form in
+      told-one _ _ (g.L.Items.reads.told c.args.log.now) (c.in_ok-item.ensures.value (map (spelling form) lent) is.logged) (λ said.
+      let none = unspelled-there form lent c.args.at (sym said ∙ ap (option_map (λ v. v.items)) c.in_default-2.is) in
+      let same = match-none c.in_layers.result _ _ c.in_default.is (c.in_layers.ensures lent base leads within) in
+      standing-none base made c.args.at within None (sym (ap (option_and_then said_by) (same ∙ none))) refl);
+  read = c.read_item.ensures.read;
+  error = tt;
+  pruned = λ kept. tt;
+}
 
-pub returns-else-is_moved-clause-value : goal.returns-else-is_moved-clause-value
-returns-else-is_moved-clause-value g c = λ lent base made is leads within from keyed replaced.
-    let op = operation_view g.U.Update.view g.U.Key.ByteString.bytes g.U.Value.ByteString.bytes c.in-Some.operation.now in
-    let there = match-some c.in_layers.result c.in-Some.operation _ _ c.in-Some.is (c.in_layers.ensures lent base leads within) in
-    told-any _ (g.L.Items.reads.told c.args.log.now)
-    (moved-not base made c.args.at op there c.is_moved.result c.if-is_moved.false (c.is_moved.ensures lent base made op is.indexed leads from keyed replaced there c.key_of_update.ensures))
+pub returns-then-is_moved-2 : goal.returns-then-is_moved-2
+returns-then-is_moved-2 g c = record {
+  value = λ lent base made is leads within from keyed replaced.
+      let form = g.U.Update.form in
+      let same = match-none c.in_layers.result _ _ c.in_default.is (c.in_layers.ensures lent base leads within) in
+      told-one _ _ (g.L.Items.reads.told c.args.log.now) (c.in_ok-item.ensures.value (map (spelling form) lent) is.logged) (λ said.
+      let spelled = spelled-there form lent c.args.at c.in-Some-2.item.items is.of (sym said ∙ ap (option_map (λ v. v.items)) c.in-Some-2.is) in
+      let op = spelled.0 in
+      let there = same ∙ spelled.1 in
+      let lent_key = c.update_key.ensures op (subst (λ bs. IsSpelling form bs op) (sym c.deref.ensures.value) spelled.2) in
+      let found = c.in_ok-update_in.ensures op (subst (λ bs. IsSpelling form bs op) (sym c.deref-then-is_moved-2.ensures.value) spelled.2) in
+      moved-found base made c.args.at op there g.U.Update.view c.in_ok-update_in.field-0 c.is_moved-2.result c.if-is_moved-2.true found (c.is_moved-2.ensures lent base made op is.indexed leads from keyed replaced there lent_key));
+  read = c.read_item.ensures.read;
+  error = tt;
+  pruned = λ kept. tt;
+}
 
-pub returns-in_default-2-clause-value : goal.returns-in_default-2-clause-value
-returns-in_default-2-clause-value g c = λ lent base made is leads within from keyed replaced.
-    let form = g.U.Update.form in
-    told-one _ _ (g.L.Items.reads.told c.args.log.now) (c.in_ok-item.ensures.value (map (spelling form) lent) is.logged) (λ said.
-    let none = unspelled-there form lent c.args.at (sym said ∙ ap (option_map (λ v. v.items)) c.in_default-2.is) in
-    let same = match-none c.in_layers.result _ _ c.in_default.is (c.in_layers.ensures lent base leads within) in
-    standing-none base made c.args.at within None (sym (ap (option_and_then said_by) (same ∙ none))) refl)
+pub returns : goal.returns
+returns g c = record {
+  value = λ lent base made is leads within from keyed replaced.
+      let form = g.U.Update.form in
+      let same = match-none c.in_layers.result _ _ c.in_default.is (c.in_layers.ensures lent base leads within) in
+      told-one _ _ (g.L.Items.reads.told c.args.log.now) (c.in_ok-item.ensures.value (map (spelling form) lent) is.logged) (λ said.
+      let spelled = spelled-there form lent c.args.at c.in-Some-2.item.items is.of (sym said ∙ ap (option_map (λ v. v.items)) c.in-Some-2.is) in
+      let op = spelled.0 in
+      let there = same ∙ spelled.1 in
+      let lent_key = c.update_key.ensures op (subst (λ bs. IsSpelling form bs op) (sym c.deref.ensures.value) spelled.2) in
+      moved-not base made c.args.at op there c.is_moved-2.result c.if-is_moved-2.false (c.is_moved-2.ensures lent base made op is.indexed leads from keyed replaced there lent_key));
+  read = c.read_item.ensures.read;
+  error = tt;
+  pruned = λ kept. tt;
+}
 
-pub returns-then-is_moved-2-clause-value : goal.returns-then-is_moved-2-clause-value
-returns-then-is_moved-2-clause-value g c = λ lent base made is leads within from keyed replaced.
-    let form = g.U.Update.form in
-    let same = match-none c.in_layers.result _ _ c.in_default.is (c.in_layers.ensures lent base leads within) in
-    told-one _ _ (g.L.Items.reads.told c.args.log.now) (c.in_ok-item.ensures.value (map (spelling form) lent) is.logged) (λ said.
-    let spelled = spelled-there form lent c.args.at c.in-Some-2.item.items is.of (sym said ∙ ap (option_map (λ v. v.items)) c.in-Some-2.is) in
-    let op = spelled.0 in
-    let there = same ∙ spelled.1 in
-    let lent_key = c.update_key.ensures op (subst (λ bs. IsSpelling form bs op) (sym c.deref.ensures.value) spelled.2) in
-    let found = c.in_ok-update_in.ensures op (subst (λ bs. IsSpelling form bs op) (sym c.deref-then-is_moved-2.ensures.value) spelled.2) in
-    moved-found base made c.args.at op there g.U.Update.view c.in_ok-update_in.field-0 c.is_moved-2.result c.if-is_moved-2.true found (c.is_moved-2.ensures lent base made op is.indexed leads from keyed replaced there lent_key))
-
-pub returns-clause-value : goal.returns-clause-value
-returns-clause-value g c = λ lent base made is leads within from keyed replaced.
-    let form = g.U.Update.form in
-    let same = match-none c.in_layers.result _ _ c.in_default.is (c.in_layers.ensures lent base leads within) in
-    told-one _ _ (g.L.Items.reads.told c.args.log.now) (c.in_ok-item.ensures.value (map (spelling form) lent) is.logged) (λ said.
-    let spelled = spelled-there form lent c.args.at c.in-Some-2.item.items is.of (sym said ∙ ap (option_map (λ v. v.items)) c.in-Some-2.is) in
-    let op = spelled.0 in
-    let there = same ∙ spelled.1 in
-    let lent_key = c.update_key.ensures op (subst (λ bs. IsSpelling form bs op) (sym c.deref.ensures.value) spelled.2) in
-    moved-not base made c.args.at op there c.is_moved-2.result c.if-is_moved-2.false (c.is_moved-2.ensures lent base made op is.indexed leads from keyed replaced there lent_key))
-
-pub returns-then-is_moved-clause-read : goal.returns-then-is_moved-clause-read
-returns-then-is_moved-clause-read g c = read-none g.L.Items.reads g.met.L.Items.unread c.args.log.now
-
-pub returns-else-is_moved-clause-read : goal.returns-else-is_moved-clause-read
-returns-else-is_moved-clause-read g c = read-none g.L.Items.reads g.met.L.Items.unread c.args.log.now
-
-pub returns-in_err-item-clause-value : goal.returns-in_err-item-clause-value
-returns-in_err-item-clause-value g c = λ lent base made is leads within from keyed replaced.
+pub returns-in_err-item : goal.returns-in_err-item
+returns-in_err-item g c =
     let exit = err_from_is_err_and c.from_residual.result c.from_residual.ensures.1 in
-    told-err _ (g.L.Items.reads.told c.args.log.now) c.from_residual.result exit.0 exit.1
+    record {
+      value = λ lent base made is leads within from keyed replaced. told-err _ (g.L.Items.reads.told c.args.log.now) c.from_residual.result exit.0 exit.1;
+      read = c.read_item.ensures.read;
+      error = rw (exit.1, exit.2) c.in_err-item.ensures.error;
+      pruned = λ kept. rw (exit.1, exit.2) (c.in_err-item.ensures.pruned kept);
+    }
 
-pub returns-in_err-item-clause-read : goal.returns-in_err-item-clause-read
-returns-in_err-item-clause-read g c = c.read_item.ensures.read
-
-pub returns-in_err-item-clause-error : goal.returns-in_err-item-clause-error
-returns-in_err-item-clause-error g c =
-    let exit = err_from_is_err_and c.from_residual.result c.from_residual.ensures.1 in
-    rw (exit.1, exit.2) c.in_err-item.ensures.error
-
-pub returns-in_err-item-clause-pruned : goal.returns-in_err-item-clause-pruned
-returns-in_err-item-clause-pruned g c = λ kept.
-    let exit = err_from_is_err_and c.from_residual.result c.from_residual.ensures.1 in
-    rw (exit.1, exit.2) (c.in_err-item.ensures.pruned kept)
-
-pub returns-in_err-update_in-clause-value : goal.returns-in_err-update_in-clause-value
-returns-in_err-update_in-clause-value g c = λ lent base made is leads within from keyed replaced.
+pub returns-in_err-update_in : goal.returns-in_err-update_in
+returns-in_err-update_in g c =
     let exit = err_from_is_err_and c.from_residual-in_err-update_in.result c.from_residual-in_err-update_in.ensures.1 in
-    told-err _ (g.L.Items.reads.told c.args.log.now) c.from_residual-in_err-update_in.result exit.0 exit.1
-
-pub returns-in_err-update_in-clause-read : goal.returns-in_err-update_in-clause-read
-returns-in_err-update_in-clause-read g c = c.read_item.ensures.read
-
-pub returns-in_err-update_in-clause-error : goal.returns-in_err-update_in-clause-error
-returns-in_err-update_in-clause-error g c =
-    let exit = err_from_is_err_and c.from_residual-in_err-update_in.result c.from_residual-in_err-update_in.ensures.1 in
-    rw (exit.1, exit.2) (inl refl)
-
-pub returns-in_err-update_in-clause-pruned : goal.returns-in_err-update_in-clause-pruned
-returns-in_err-update_in-clause-pruned g c = λ kept.
-    let exit = err_from_is_err_and c.from_residual-in_err-update_in.result c.from_residual-in_err-update_in.ensures.1 in
-    rw (exit.1, exit.2) (λ n same. cc)
-
-pub returns-in_default-2-clause-read : goal.returns-in_default-2-clause-read
-returns-in_default-2-clause-read g c = c.read_item.ensures.read
-
-pub returns-then-is_moved-2-clause-read : goal.returns-then-is_moved-2-clause-read
-returns-then-is_moved-2-clause-read g c = c.read_item.ensures.read
-
-pub returns-clause-read : goal.returns-clause-read
-returns-clause-read g c = c.read_item.ensures.read
-
-pub returns-else-is_moved-clause-error : goal.returns-else-is_moved-clause-error
-returns-else-is_moved-clause-error g c = tt
-
-pub returns-else-is_moved-clause-pruned : goal.returns-else-is_moved-clause-pruned
-returns-else-is_moved-clause-pruned g c = λ kept. tt
-
-pub returns-in_default-2-clause-error : goal.returns-in_default-2-clause-error
-returns-in_default-2-clause-error g c = tt
-
-pub returns-in_default-2-clause-pruned : goal.returns-in_default-2-clause-pruned
-returns-in_default-2-clause-pruned g c = λ kept. tt
-
-pub returns-then-is_moved-2-clause-error : goal.returns-then-is_moved-2-clause-error
-returns-then-is_moved-2-clause-error g c = tt
-
-pub returns-then-is_moved-2-clause-pruned : goal.returns-then-is_moved-2-clause-pruned
-returns-then-is_moved-2-clause-pruned g c = λ kept. tt
-
-pub returns-clause-error : goal.returns-clause-error
-returns-clause-error g c = tt
-
-pub returns-clause-pruned : goal.returns-clause-pruned
-returns-clause-pruned g c = λ kept. tt
+    record {
+      value = λ lent base made is leads within from keyed replaced. told-err _ (g.L.Items.reads.told c.args.log.now) c.from_residual-in_err-update_in.result exit.0 exit.1;
+      read = c.read_item.ensures.read;
+      error = rw (exit.1, exit.2) (inl refl);
+      pruned = λ kept. rw (exit.1, exit.2) (λ n same. cc);
+    }

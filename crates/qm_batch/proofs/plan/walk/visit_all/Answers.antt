@@ -33,46 +33,49 @@ visit-requires-clause-high g c =
     let end = c.loop-at.invariant.end in
     omega (arith, high, end, c.get.ensures)
 
-pub returns-in_err-goes-clause-value : goal.returns-in_err-goes-clause-value
-returns-in_err-goes-clause-value g c = λ lent base list all is on dead going.
+pub returns-in_err-goes : goal.returns-in_err-goes
+returns-in_err-goes g c =
     let exit = err_from_is_err_and c.from_residual.result c.from_residual.ensures.1 in
-    told-err _ (g.L.Items.reads.told c.args.log.now) c.from_residual.result exit.0 exit.1
+    record {
+      value = λ lent base list all is on dead going. told-err _ (g.L.Items.reads.told c.args.log.now) c.from_residual.result exit.0 exit.1;
+      next = rw exit.1 tt;
+      low = rw exit.1 tt;
+      high = rw exit.1 tt;
+      end = rw exit.1 tt;
+      read = read-then g.L.Items.reads g.met.L.Items.read_again c.args.log.now c.loop-at.log c.visit.new.log c.loop-at.invariant.read c.visit.ensures.read;
+      error = rw (exit.1, exit.2) (error-then g.L.Items.reads g.met.L.Items.failed_later c.args.log.now c.loop-at.log c.visit.new.log _ c.loop-at.invariant.read c.in_err-goes.ensures.error);
+      pruned = λ above.
+          let same = (c.loop-at.invariant.read).start in
+          let here = in-round c.args.round.now c.loop-at.at-index c.at-item.result c.loop-at-test.true c.at-item.is in
+          let spaced = subst (λ xs. IsSpaced c.loop-at.going.walk.floor xs c.args.going.now.walk.end) here (c.loop-at.invariant.spaced c.args.going.now.walk.end c.requires) in
+          let first = spaced.0 in
+          let low = c.loop-at.invariant.low in
+          rw (exit.1, exit.2) (c.in_err-goes.ensures.pruned (omega (arith, same, low, first, above, c.get.ensures)));
+    }
 
-pub returns-in_err-goes-clause-read : goal.returns-in_err-goes-clause-read
-returns-in_err-goes-clause-read g c = read-then g.L.Items.reads g.met.L.Items.read_again c.args.log.now c.loop-at.log c.visit.new.log c.loop-at.invariant.read c.visit.ensures.read
-
-pub returns-in_err-goes-clause-error : goal.returns-in_err-goes-clause-error
-returns-in_err-goes-clause-error g c =
-    let exit = err_from_is_err_and c.from_residual.result c.from_residual.ensures.1 in
-    rw (exit.1, exit.2) (error-then g.L.Items.reads g.met.L.Items.failed_later c.args.log.now c.loop-at.log c.visit.new.log _ c.loop-at.invariant.read c.in_err-goes.ensures.error)
-
-pub returns-in_err-goes-clause-pruned : goal.returns-in_err-goes-clause-pruned
-returns-in_err-goes-clause-pruned g c = λ above.
-    let exit = err_from_is_err_and c.from_residual.result c.from_residual.ensures.1 in
-    let same = (c.loop-at.invariant.read).start in
-    let here = in-round c.args.round.now c.loop-at.at-index c.at-item.result c.loop-at-test.true c.at-item.is in
-    let spaced = subst (λ xs. IsSpaced c.loop-at.going.walk.floor xs c.args.going.now.walk.end) here (c.loop-at.invariant.spaced c.args.going.now.walk.end c.requires) in
-    let first = spaced.0 in
-    let low = c.loop-at.invariant.low in
-    rw (exit.1, exit.2) (c.in_err-goes.ensures.pruned (omega (arith, same, low, first, above, c.get.ensures)))
-
-pub returns-then-not-goes-clause-value : goal.returns-then-not-goes-clause-value
-returns-then-not-goes-clause-value g c = λ lent base list all is on dead going.
-    let read = c.loop-at.invariant.read in
-    let here = in-round c.args.round.now c.loop-at.at-index c.at-item.result c.loop-at-test.true c.at-item.is ∙ ap (λ x. x ∷ drop (c.loop-at.at-index + 1) c.args.round.now) (sym c.get.ensures) in
-    let mid = lent-then g.L.Items.reads _ g.I.Unordered.index_key (g.I.Unordered.entries c.args.path.now.index.now) c.args.log.now c.loop-at.log lent read is in
-    told-then _ _ (g.L.Items.reads.told c.args.log.now) (c.loop-at.invariant.value lent base list c.args.next all is on dead going) (λ so_far.
-    let between = subst (λ xs. AreDeadBetween list c.loop-at.going.walk.floor xs c.args.next) here so_far.0 in
-    told-one _ _ (g.L.Items.reads.told c.args.log.now) (told _ _ _ read.told (c.in_ok-goes.ensures.value lent base list all mid on between.0 so_far.1)) (λ visited.
-    chosen-false c.in_ok-goes.goes _ _ c.if-not-goes.true visited))
-
-pub returns-then-not-goes-clause-high : goal.returns-then-not-goes-clause-high
-returns-then-not-goes-clause-high g c = λ next spaced.
-    let here = in-round c.args.round.now c.loop-at.at-index c.at-item.result c.loop-at-test.true c.at-item.is in
-    let now = subst (λ xs. IsSpaced c.loop-at.going.walk.floor xs next) here (c.loop-at.invariant.spaced next spaced) in
-    let high = now.1 in
-    let past = c.in_ok-goes.ensures.high in
-    omega (arith, high, past, c.get.ensures)
+pub returns-then-not-goes : goal.returns-then-not-goes
+returns-then-not-goes g c = record {
+  value = λ lent base list all is on dead going.
+      let read = c.loop-at.invariant.read in
+      let here = in-round c.args.round.now c.loop-at.at-index c.at-item.result c.loop-at-test.true c.at-item.is ∙ ap (λ x. x ∷ drop (c.loop-at.at-index + 1) c.args.round.now) (sym c.get.ensures) in
+      let mid = lent-then g.L.Items.reads _ g.I.Unordered.index_key (g.I.Unordered.entries c.args.path.now.index.now) c.args.log.now c.loop-at.log lent read is in
+      told-then _ _ (g.L.Items.reads.told c.args.log.now) (c.loop-at.invariant.value lent base list c.args.next all is on dead going) (λ so_far.
+      let between = subst (λ xs. AreDeadBetween list c.loop-at.going.walk.floor xs c.args.next) here so_far.0 in
+      told-one _ _ (g.L.Items.reads.told c.args.log.now) (told _ _ _ read.told (c.in_ok-goes.ensures.value lent base list all mid on between.0 so_far.1)) (λ visited.
+      chosen-false c.in_ok-goes.goes _ _ c.if-not-goes.true visited));
+  next = tt;
+  low = let low = c.loop-at.invariant.low in let later = c.in_ok-goes.ensures.low in omega (arith, low, later);
+  high = λ next spaced.
+      let here = in-round c.args.round.now c.loop-at.at-index c.at-item.result c.loop-at-test.true c.at-item.is in
+      let now = subst (λ xs. IsSpaced c.loop-at.going.walk.floor xs next) here (c.loop-at.invariant.spaced next spaced) in
+      let high = now.1 in
+      let past = c.in_ok-goes.ensures.high in
+      omega (arith, high, past, c.get.ensures);
+  end = c.in_ok-goes.ensures.end ∙ c.loop-at.invariant.end;
+  read = read-then g.L.Items.reads g.met.L.Items.read_again c.args.log.now c.loop-at.log c.visit.new.log c.loop-at.invariant.read c.visit.ensures.read;
+  error = tt;
+  pruned = λ above. tt;
+}
 
 pub loop-at-preserved : goal.loop-at-preserved
 loop-at-preserved g c =
@@ -102,66 +105,16 @@ loop-at-preserved g c =
           (between-then list c.visit.new.going.walk.floor (c.get.result + 1) next rest goes.0 between.1, goes.1)));
     }
 
-pub returns-clause-value : goal.returns-clause-value
-returns-clause-value g c = λ lent base list all is on dead going.
-    told-one _ _ (g.L.Items.reads.told c.args.log.now) (c.loop-at.invariant.value lent base list c.args.next all is on dead going) (λ so_far.
-    (subst (λ xs. AreDeadBetween list c.loop-at.going.walk.floor xs c.args.next) (drop_all c.loop-at.at-index c.args.round.now c.loop-at-test.false) so_far.0, so_far.1))
-
-pub returns-clause-high : goal.returns-clause-high
-returns-clause-high g c = λ next spaced. subst (λ xs. IsSpaced c.loop-at.going.walk.floor xs next) (drop_all c.loop-at.at-index c.args.round.now c.loop-at-test.false) (c.loop-at.invariant.spaced next spaced)
-
-pub returns-then-not-goes-clause-read : goal.returns-then-not-goes-clause-read
-returns-then-not-goes-clause-read g c = read-then g.L.Items.reads g.met.L.Items.read_again c.args.log.now c.loop-at.log c.visit.new.log c.loop-at.invariant.read c.visit.ensures.read
-
-pub returns-then-not-goes-clause-low : goal.returns-then-not-goes-clause-low
-returns-then-not-goes-clause-low g c = let low = c.loop-at.invariant.low in let later = c.in_ok-goes.ensures.low in omega (arith, low, later)
-
-pub returns-then-not-goes-clause-end : goal.returns-then-not-goes-clause-end
-returns-then-not-goes-clause-end g c = c.in_ok-goes.ensures.end ∙ c.loop-at.invariant.end
-
-pub returns-clause-read : goal.returns-clause-read
-returns-clause-read g c = c.loop-at.invariant.read
-
-pub returns-clause-low : goal.returns-clause-low
-returns-clause-low g c = c.loop-at.invariant.low
-
-pub returns-clause-end : goal.returns-clause-end
-returns-clause-end g c = c.loop-at.invariant.end
-
-pub returns-in_err-goes-clause-low : goal.returns-in_err-goes-clause-low
-returns-in_err-goes-clause-low g c =
-    let exit = err_from_is_err_and c.from_residual.result c.from_residual.ensures.1 in
-    rw exit.1 tt
-
-pub returns-in_err-goes-clause-high : goal.returns-in_err-goes-clause-high
-returns-in_err-goes-clause-high g c =
-    let exit = err_from_is_err_and c.from_residual.result c.from_residual.ensures.1 in
-    rw exit.1 tt
-
-pub returns-in_err-goes-clause-next : goal.returns-in_err-goes-clause-next
-returns-in_err-goes-clause-next g c =
-    let exit = err_from_is_err_and c.from_residual.result c.from_residual.ensures.1 in
-    rw exit.1 tt
-
-pub returns-in_err-goes-clause-end : goal.returns-in_err-goes-clause-end
-returns-in_err-goes-clause-end g c =
-    let exit = err_from_is_err_and c.from_residual.result c.from_residual.ensures.1 in
-    rw exit.1 tt
-
-pub returns-then-not-goes-clause-next : goal.returns-then-not-goes-clause-next
-returns-then-not-goes-clause-next g c = tt
-
-pub returns-then-not-goes-clause-error : goal.returns-then-not-goes-clause-error
-returns-then-not-goes-clause-error g c = tt
-
-pub returns-then-not-goes-clause-pruned : goal.returns-then-not-goes-clause-pruned
-returns-then-not-goes-clause-pruned g c = λ above. tt
-
-pub returns-clause-next : goal.returns-clause-next
-returns-clause-next g c = refl
-
-pub returns-clause-error : goal.returns-clause-error
-returns-clause-error g c = tt
-
-pub returns-clause-pruned : goal.returns-clause-pruned
-returns-clause-pruned g c = λ above. tt
+pub returns : goal.returns
+returns g c = record {
+  value = λ lent base list all is on dead going.
+      told-one _ _ (g.L.Items.reads.told c.args.log.now) (c.loop-at.invariant.value lent base list c.args.next all is on dead going) (λ so_far.
+      (subst (λ xs. AreDeadBetween list c.loop-at.going.walk.floor xs c.args.next) (drop_all c.loop-at.at-index c.args.round.now c.loop-at-test.false) so_far.0, so_far.1));
+  next = refl;
+  low = c.loop-at.invariant.low;
+  high = λ next spaced. subst (λ xs. IsSpaced c.loop-at.going.walk.floor xs next) (drop_all c.loop-at.at-index c.args.round.now c.loop-at-test.false) (c.loop-at.invariant.spaced next spaced);
+  end = c.loop-at.invariant.end;
+  read = c.loop-at.invariant.read;
+  error = tt;
+  pruned = λ above. tt;
+}

@@ -10,47 +10,36 @@ use Rattle.std.proofs.lemmas.Result.{err_from_is_err_and}
 use Rattle.qm_chain.specs.declared.walk.Walk.{Walk}
 use Rattle.qm_batch.proofs.plan.walk.walk_from.Goals as goal
 
-pub returns-clause-value : goal.returns-clause-value
-returns-clause-value g c = λ lent base list is active on.
-    let key = g.U.Key.ByteString.bytes in
-    let value = g.U.Value.ByteString.bytes in
-    let made = c.args.path.now.made.items in
-    let long = made-long (touch_view g.U.Update.view key value) base list made on.makes in
-    let size = (on.known).size in
-    let low = (on.known).floor in
-    let place = c.get-floor.ensures in
-    let top : c.new-2.result ≡ max (floor base) (length list) = omega (arith, c.new-2.ensures, c.max-tip.ensures, long, size, low, place) in
-    let at : c.new.result ≡ floor base = c.new.ensures ∙ place ∙ low in
-    let begun : c.new-walk.result ≡ record { floor = floor base; end = min c.new-2.result (floor base + c.args.limits.entries + c.args.limits.skips); entries = c.args.limits.entries; skips = c.args.limits.skips } =
-    c.new-walk.ensures ∙ ap (λ n. record { floor = n; end = min c.new-2.result (n + c.args.limits.entries + c.args.limits.skips); entries = c.args.limits.entries; skips = c.args.limits.skips }) at in
-    told-one _ _ (g.L.Items.reads.told c.args.log.now) (c.in_ok-walk_on.ensures.value lent base list _ is active on
-    (going-begins g.P.Policy.rules base list _ c.new-walk.result c.args.policy.now c.new-2.result c.args.limits.entries c.args.limits.skips (ap (map (decided_view key value)) c.new-3.ensures.items) top begun)) (λ decided.
-    subst (λ (n : ℕ). AreDecided base list (decided_views key value c.walk_on.new.going.decided.items) n c.walk_on.new.policy (walk g.P.Policy.rules list (floor base) (record { entries = c.args.limits.entries; skips = c.args.limits.skips }) c.args.policy.now)) (sym c.get.ensures) decided)
+pub returns : goal.returns
+returns g c = record {
+  value = λ lent base list is active on.
+      let key = g.U.Key.ByteString.bytes in
+      let value = g.U.Value.ByteString.bytes in
+      let made = c.args.path.now.made.items in
+      let long = made-long (touch_view g.U.Update.view key value) base list made on.makes in
+      let size = (on.known).size in
+      let low = (on.known).floor in
+      let place = c.get-floor.ensures in
+      let top : c.new-2.result ≡ max (floor base) (length list) = omega (arith, c.new-2.ensures, c.max-tip.ensures, long, size, low, place) in
+      let at : c.new.result ≡ floor base = c.new.ensures ∙ place ∙ low in
+      let begun : c.new-walk.result ≡ record { floor = floor base; end = min c.new-2.result (floor base + c.args.limits.entries + c.args.limits.skips); entries = c.args.limits.entries; skips = c.args.limits.skips } =
+      c.new-walk.ensures ∙ ap (λ n. record { floor = n; end = min c.new-2.result (n + c.args.limits.entries + c.args.limits.skips); entries = c.args.limits.entries; skips = c.args.limits.skips }) at in
+      told-one _ _ (g.L.Items.reads.told c.args.log.now) (c.in_ok-walk_on.ensures.value lent base list _ is active on
+      (going-begins g.P.Policy.rules base list _ c.new-walk.result c.args.policy.now c.new-2.result c.args.limits.entries c.args.limits.skips (ap (map (decided_view key value)) c.new-3.ensures.items) top begun)) (λ decided.
+      subst (λ (n : ℕ). AreDecided base list (decided_views key value c.walk_on.new.going.decided.items) n c.walk_on.new.policy (walk g.P.Policy.rules list (floor base) (record { entries = c.args.limits.entries; skips = c.args.limits.skips }) c.args.policy.now)) (sym c.get.ensures) decided);
+  read = c.walk_on.ensures.read;
+  error = tt;
+  pruned = λ above. tt;
+}
 
-pub returns-in_err-walk_on-clause-value : goal.returns-in_err-walk_on-clause-value
-returns-in_err-walk_on-clause-value g c = λ lent base list is active on.
+pub returns-in_err-walk_on : goal.returns-in_err-walk_on
+returns-in_err-walk_on g c =
     let exit = err_from_is_err_and c.from_residual.result c.from_residual.ensures.1 in
-    told-err _ (g.L.Items.reads.told c.args.log.now) c.from_residual.result exit.0 exit.1
-
-pub returns-in_err-walk_on-clause-read : goal.returns-in_err-walk_on-clause-read
-returns-in_err-walk_on-clause-read g c = c.walk_on.ensures.read
-
-pub returns-in_err-walk_on-clause-error : goal.returns-in_err-walk_on-clause-error
-returns-in_err-walk_on-clause-error g c =
-    let exit = err_from_is_err_and c.from_residual.result c.from_residual.ensures.1 in
-    rw (exit.1, exit.2) c.in_err-walk_on.ensures.error
-
-pub returns-in_err-walk_on-clause-pruned : goal.returns-in_err-walk_on-clause-pruned
-returns-in_err-walk_on-clause-pruned g c = λ above.
-    let exit = err_from_is_err_and c.from_residual.result c.from_residual.ensures.1 in
-    let floor = ap (λ (w : Walk _). w.floor) c.new-walk.ensures in
-    rw (exit.1, exit.2) (c.in_err-walk_on.ensures.pruned (omega (arith, above, floor, c.new.ensures, c.get-floor.ensures)))
-
-pub returns-clause-read : goal.returns-clause-read
-returns-clause-read g c = c.walk_on.ensures.read
-
-pub returns-clause-error : goal.returns-clause-error
-returns-clause-error g c = tt
-
-pub returns-clause-pruned : goal.returns-clause-pruned
-returns-clause-pruned g c = λ above. tt
+    record {
+      value = λ lent base list is active on. told-err _ (g.L.Items.reads.told c.args.log.now) c.from_residual.result exit.0 exit.1;
+      read = c.walk_on.ensures.read;
+      error = rw (exit.1, exit.2) c.in_err-walk_on.ensures.error;
+      pruned = λ above.
+          let floor = ap (λ (w : Walk _). w.floor) c.new-walk.ensures in
+          rw (exit.1, exit.2) (c.in_err-walk_on.ensures.pruned (omega (arith, above, floor, c.new.ensures, c.get-floor.ensures)));
+    }

@@ -29,37 +29,32 @@ walk_round-requires-clause-low g c = let here = c.loop-from.invariant.here in om
 pub walk_round-requires-clause-high : goal.walk_round-requires-clause-high
 walk_round-requires-clause-high g c = let end = c.loop-from.invariant.end in omega (arith, end, c.loop-from-test.true, c.get-end.ensures, c.new.ensures)
 
-pub returns-in_err-next-clause-value : goal.returns-in_err-next-clause-value
-returns-in_err-next-clause-value g c = λ lent base list all is active on going.
+pub returns-in_err-next : goal.returns-in_err-next
+returns-in_err-next g c =
     let exit = err_from_is_err_and c.from_residual.result c.from_residual.ensures.1 in
-    told-err _ (g.L.Items.reads.told c.args.log.now) c.from_residual.result exit.0 exit.1
+    record {
+      value = λ lent base list all is active on going. told-err _ (g.L.Items.reads.told c.args.log.now) c.from_residual.result exit.0 exit.1;
+      read = read-then g.L.Items.reads g.met.L.Items.read_again c.args.log.now c.loop-from.log c.walk_round.new.log c.loop-from.invariant.read c.walk_round.ensures.read;
+      error = rw (exit.1, exit.2) (error-then g.L.Items.reads g.met.L.Items.failed_later c.args.log.now c.loop-from.log c.walk_round.new.log _ c.loop-from.invariant.read c.in_err-next.ensures.error);
+      pruned = λ above.
+          let same = (c.loop-from.invariant.read).start in
+          let low = c.loop-from.invariant.low in
+          rw (exit.1, exit.2) (c.in_err-next.ensures.pruned (omega (arith, same, low, above)));
+    }
 
-pub returns-in_err-next-clause-read : goal.returns-in_err-next-clause-read
-returns-in_err-next-clause-read g c = read-then g.L.Items.reads g.met.L.Items.read_again c.args.log.now c.loop-from.log c.walk_round.new.log c.loop-from.invariant.read c.walk_round.ensures.read
-
-pub returns-in_err-next-clause-error : goal.returns-in_err-next-clause-error
-returns-in_err-next-clause-error g c =
-    let exit = err_from_is_err_and c.from_residual.result c.from_residual.ensures.1 in
-    rw (exit.1, exit.2) (error-then g.L.Items.reads g.met.L.Items.failed_later c.args.log.now c.loop-from.log c.walk_round.new.log _ c.loop-from.invariant.read c.in_err-next.ensures.error)
-
-pub returns-in_err-next-clause-pruned : goal.returns-in_err-next-clause-pruned
-returns-in_err-next-clause-pruned g c = λ above.
-    let exit = err_from_is_err_and c.from_residual.result c.from_residual.ensures.1 in
-    let same = (c.loop-from.invariant.read).start in
-    let low = c.loop-from.invariant.low in
-    rw (exit.1, exit.2) (c.in_err-next.ensures.pruned (omega (arith, same, low, above)))
-
-pub returns-in_default-clause-value : goal.returns-in_default-clause-value
-returns-in_default-clause-value g c = λ lent base list all is active on going.
-    let read = c.loop-from.invariant.read in
-    let mid = lent-then g.L.Items.reads _ g.I.Unordered.index_key (g.I.Unordered.entries c.args.path.now.index.now) c.args.log.now c.loop-from.log lent read is in
-    told-then _ _ (g.L.Items.reads.told c.args.log.now) (c.loop-from.invariant.value lent base list all is active on going) (λ so_far.
-    let dead = subst (λ n. AreDead list c.loop-from.going.walk.floor n) (sym c.new.ensures) so_far.0 in
-    told-one _ _ (g.L.Items.reads.told c.args.log.now) (told _ _ _ read.told (c.in_ok-next.ensures.value lent base list all mid active on dead so_far.1)) (λ walked.
-    match-none c.in_ok-next.next _ _ c.in_default.is walked))
-
-pub returns-in_default-clause-read : goal.returns-in_default-clause-read
-returns-in_default-clause-read g c = read-then g.L.Items.reads g.met.L.Items.read_again c.args.log.now c.loop-from.log c.walk_round.new.log c.loop-from.invariant.read c.walk_round.ensures.read
+pub returns-in_default : goal.returns-in_default
+returns-in_default g c = record {
+  value = λ lent base list all is active on going.
+      let read = c.loop-from.invariant.read in
+      let mid = lent-then g.L.Items.reads _ g.I.Unordered.index_key (g.I.Unordered.entries c.args.path.now.index.now) c.args.log.now c.loop-from.log lent read is in
+      told-then _ _ (g.L.Items.reads.told c.args.log.now) (c.loop-from.invariant.value lent base list all is active on going) (λ so_far.
+      let dead = subst (λ n. AreDead list c.loop-from.going.walk.floor n) (sym c.new.ensures) so_far.0 in
+      told-one _ _ (g.L.Items.reads.told c.args.log.now) (told _ _ _ read.told (c.in_ok-next.ensures.value lent base list all mid active on dead so_far.1)) (λ walked.
+      match-none c.in_ok-next.next _ _ c.in_default.is walked));
+  read = read-then g.L.Items.reads g.met.L.Items.read_again c.args.log.now c.loop-from.log c.walk_round.new.log c.loop-from.invariant.read c.walk_round.ensures.read;
+  error = tt;
+  pruned = λ above. tt;
+}
 
 pub loop-from-smaller : goal.loop-from-smaller
 loop-from-smaller g c =
@@ -97,28 +92,18 @@ finish-requires g c =
     let within = c.loop-from.invariant.within in
     omega (arith, here, within)
 
-pub returns-clause-value : goal.returns-clause-value
-returns-clause-value g c = λ lent base list all is active on going.
-    let w = c.loop-from.going.walk in
-    let here = c.loop-from.invariant.here in
-    let within = c.loop-from.invariant.within in
-    let end = c.loop-from.invariant.end in
-    let last : c.loop-from.from ≡ w.end = omega (arith, within, end, c.loop-from-test.false, c.get-end.ensures) in
-    told-one _ _ (g.L.Items.reads.told c.args.log.now) (c.loop-from.invariant.value lent base list all is active on going) (λ so_far.
-    going-finished g.P.Policy.rules base list (decided_views g.U.Key.ByteString.bytes g.U.Value.ByteString.bytes c.loop-from.going.decided.items) w c.loop-from.policy all so_far.1 c.finish.new.walk (omega (arith, here, within))
-    (subst (λ n. AreDead list w.floor n) last so_far.0) c.finish.ensures.none c.finish.ensures.some)
-
-pub returns-clause-read : goal.returns-clause-read
-returns-clause-read g c = c.loop-from.invariant.read
-
-pub returns-in_default-clause-error : goal.returns-in_default-clause-error
-returns-in_default-clause-error g c = tt
-
-pub returns-in_default-clause-pruned : goal.returns-in_default-clause-pruned
-returns-in_default-clause-pruned g c = λ above. tt
-
-pub returns-clause-error : goal.returns-clause-error
-returns-clause-error g c = tt
-
-pub returns-clause-pruned : goal.returns-clause-pruned
-returns-clause-pruned g c = λ above. tt
+pub returns : goal.returns
+returns g c = record {
+  value = λ lent base list all is active on going.
+      let w = c.loop-from.going.walk in
+      let here = c.loop-from.invariant.here in
+      let within = c.loop-from.invariant.within in
+      let end = c.loop-from.invariant.end in
+      let last : c.loop-from.from ≡ w.end = omega (arith, within, end, c.loop-from-test.false, c.get-end.ensures) in
+      told-one _ _ (g.L.Items.reads.told c.args.log.now) (c.loop-from.invariant.value lent base list all is active on going) (λ so_far.
+      going-finished g.P.Policy.rules base list (decided_views g.U.Key.ByteString.bytes g.U.Value.ByteString.bytes c.loop-from.going.decided.items) w c.loop-from.policy all so_far.1 c.finish.new.walk (omega (arith, here, within))
+      (subst (λ n. AreDead list w.floor n) last so_far.0) c.finish.ensures.none c.finish.ensures.some);
+  read = c.loop-from.invariant.read;
+  error = tt;
+  pruned = λ above. tt;
+}

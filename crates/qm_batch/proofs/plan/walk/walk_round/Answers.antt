@@ -24,71 +24,41 @@ visit_all-requires g c =
     (spaced-above c.args.going.now.walk.floor c.in_ok-round.round.next c.args.going.now.walk.end c.in_ok-round.round.locations.items (omega (arith, next.1, top))
     (spaced-below c.args.going.now.walk.floor c.args.from c.in_ok-round.round.next c.in_ok-round.round.locations.items low c.in_ok-round.ensures.spaced))
 
-pub returns-in_err-round-clause-value : goal.returns-in_err-round-clause-value
-returns-in_err-round-clause-value g c = λ lent base list all is active on dead going.
+pub returns-in_err-round : goal.returns-in_err-round
+returns-in_err-round g c =
     let exit = err_from_is_err_and c.from_residual.result c.from_residual.ensures.1 in
-    told-err _ (g.L.Items.reads.told c.args.log.now) c.from_residual.result exit.0 exit.1
+    record {
+      value = λ lent base list all is active on dead going. told-err _ (g.L.Items.reads.told c.args.log.now) c.from_residual.result exit.0 exit.1;
+      low = rw exit.1 tt;
+      next = rw exit.1 tt;
+      end = rw exit.1 tt;
+      read = read-none g.L.Items.reads g.met.L.Items.unread c.args.log.now;
+      error = rw (exit.1, exit.2) (inl refl);
+      pruned = λ above. rw (exit.1, exit.2) (λ n same. cc);
+    }
 
-pub returns-in_err-round-clause-read : goal.returns-in_err-round-clause-read
-returns-in_err-round-clause-read g c = read-none g.L.Items.reads g.met.L.Items.unread c.args.log.now
-
-pub returns-clause-value : goal.returns-clause-value
-returns-clause-value g c = λ lent base list all is active on dead going.
-    let next = c.in_ok-round.round.next in
-    let round = c.deref.result.now in
-    let path = path_view g.U.Update.view g.U.Key.ByteString.bytes g.U.Value.ByteString.bytes c.args.path.now in
-    let found = ap (λ bs. candidates bs c.args.from next) (sym active) ∙ c.in_ok-round.ensures.found ∙ sym c.deref.ensures.value in
-    let between = between-then list c.args.going.now.walk.floor c.args.from next round dead (path-dead path lent base list c.args.from next round on found) in
-    c.visit_all.ensures.value lent base list all is on (subst (λ n. AreDeadBetween list c.args.going.now.walk.floor round n) (sym (c.new-next.ensures ∙ c.get-2.ensures)) between) going
-
-pub returns-clause-next : goal.returns-clause-next
-returns-clause-next g c =
-    let round = c.in_ok-round.round in
-    let low = c.in_ok-round.ensures.next in
-    let top = c.new-end.ensures ∙ c.get.ensures in
-    let there = c.new-next.ensures ∙ c.get-2.ensures in
-    let spaced = subst (λ xs. IsSpaced c.args.going.now.walk.floor xs round.next) (sym c.deref.ensures.value)
-    (spaced-below c.args.going.now.walk.floor c.args.from round.next round.locations.items c.requires.low c.in_ok-round.ensures.spaced) in
-    ok-four c.visit_all.result c.visit_all.ensures.next c.visit_all.ensures.high c.visit_all.ensures.end c.visit_all.ensures.end (λ next is high same _.
-    let above = high round.next spaced in
-    begins-there next c.args.from c.visit_all.new.going.walk.floor c.visit_all.new.going.walk.end c.new-next.result is (omega (arith, there, low.0)) (omega (arith, there, above)) (omega (arith, there, low.1, top, same)))
-
-pub returns-clause-read : goal.returns-clause-read
-returns-clause-read g c = c.visit_all.ensures.read
-
-pub returns-clause-error : goal.returns-clause-error
-returns-clause-error g c = c.visit_all.ensures.error
-
-pub returns-clause-pruned : goal.returns-clause-pruned
-returns-clause-pruned g c = c.visit_all.ensures.pruned
-
-pub returns-clause-low : goal.returns-clause-low
-returns-clause-low g c = c.visit_all.ensures.low
-
-pub returns-clause-end : goal.returns-clause-end
-returns-clause-end g c = c.visit_all.ensures.end
-
-pub returns-in_err-round-clause-next : goal.returns-in_err-round-clause-next
-returns-in_err-round-clause-next g c =
-    let exit = err_from_is_err_and c.from_residual.result c.from_residual.ensures.1 in
-    rw exit.1 tt
-
-pub returns-in_err-round-clause-low : goal.returns-in_err-round-clause-low
-returns-in_err-round-clause-low g c =
-    let exit = err_from_is_err_and c.from_residual.result c.from_residual.ensures.1 in
-    rw exit.1 tt
-
-pub returns-in_err-round-clause-end : goal.returns-in_err-round-clause-end
-returns-in_err-round-clause-end g c =
-    let exit = err_from_is_err_and c.from_residual.result c.from_residual.ensures.1 in
-    rw exit.1 tt
-
-pub returns-in_err-round-clause-error : goal.returns-in_err-round-clause-error
-returns-in_err-round-clause-error g c =
-    let exit = err_from_is_err_and c.from_residual.result c.from_residual.ensures.1 in
-    rw (exit.1, exit.2) (inl refl)
-
-pub returns-in_err-round-clause-pruned : goal.returns-in_err-round-clause-pruned
-returns-in_err-round-clause-pruned g c = λ above.
-    let exit = err_from_is_err_and c.from_residual.result c.from_residual.ensures.1 in
-    rw (exit.1, exit.2) (λ n same. cc)
+pub returns : goal.returns
+returns g c = record {
+  value = λ lent base list all is active on dead going.
+      let next = c.in_ok-round.round.next in
+      let round = c.deref.result.now in
+      let path = path_view g.U.Update.view g.U.Key.ByteString.bytes g.U.Value.ByteString.bytes c.args.path.now in
+      let found = ap (λ bs. candidates bs c.args.from next) (sym active) ∙ c.in_ok-round.ensures.found ∙ sym c.deref.ensures.value in
+      let between = between-then list c.args.going.now.walk.floor c.args.from next round dead (path-dead path lent base list c.args.from next round on found) in
+      c.visit_all.ensures.value lent base list all is on (subst (λ n. AreDeadBetween list c.args.going.now.walk.floor round n) (sym (c.new-next.ensures ∙ c.get-2.ensures)) between) going;
+  low = c.visit_all.ensures.low;
+  next =
+      let round = c.in_ok-round.round in
+      let low = c.in_ok-round.ensures.next in
+      let top = c.new-end.ensures ∙ c.get.ensures in
+      let there = c.new-next.ensures ∙ c.get-2.ensures in
+      let spaced = subst (λ xs. IsSpaced c.args.going.now.walk.floor xs round.next) (sym c.deref.ensures.value)
+      (spaced-below c.args.going.now.walk.floor c.args.from round.next round.locations.items c.requires.low c.in_ok-round.ensures.spaced) in
+      ok-four c.visit_all.result c.visit_all.ensures.next c.visit_all.ensures.high c.visit_all.ensures.end c.visit_all.ensures.end (λ next is high same _.
+      let above = high round.next spaced in
+      begins-there next c.args.from c.visit_all.new.going.walk.floor c.visit_all.new.going.walk.end c.new-next.result is (omega (arith, there, low.0)) (omega (arith, there, above)) (omega (arith, there, low.1, top, same)));
+  end = c.visit_all.ensures.end;
+  read = c.visit_all.ensures.read;
+  error = c.visit_all.ensures.error;
+  pruned = c.visit_all.ensures.pruned;
+}

@@ -19,13 +19,11 @@ returns-in-Some-clause-none g c = (λ same. absurd (none-some _ (sym same)), λ 
 pub returns-in-Some-clause-index : goal.returns-in-Some-clause-index
 returns-in-Some-clause-index g c = subst IsIndex c.self.view_is c.self.invariant
 
-pub returns-in-None-clause-value : goal.returns-in-None-clause-value
-returns-in-None-clause-value g c =
-    let empty = sym c.self.view_is ∙ none-in c.self.inside.buckets.entries c.in-None.ensures.variant.1 in
-    ap (λ entries. option_map (bucket_at entries) (least_key (keys_of entries))) (sym empty)
-
-pub returns-in-None-clause-none : goal.returns-in-None-clause-none
-returns-in-None-clause-none g c = (λ same. sym c.self.view_is ∙ none-in c.self.inside.buckets.entries c.in-None.ensures.variant.1, λ empty. refl)
-
-pub returns-in-None-clause-index : goal.returns-in-None-clause-index
-returns-in-None-clause-index g c = subst IsIndex c.self.view_is c.self.invariant
+pub returns-in-None : goal.returns-in-None
+returns-in-None g c = record {
+  value =
+      let empty = sym c.self.view_is ∙ none-in c.self.inside.buckets.entries c.in-None.ensures.variant.1 in
+      ap (λ entries. option_map (bucket_at entries) (least_key (keys_of entries))) (sym empty);
+  none = (λ same. sym c.self.view_is ∙ none-in c.self.inside.buckets.entries c.in-None.ensures.variant.1, λ empty. refl);
+  index = subst IsIndex c.self.view_is c.self.invariant;
+}

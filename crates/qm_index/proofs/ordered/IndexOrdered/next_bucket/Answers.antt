@@ -36,13 +36,11 @@ returns-in-Some-first_bucket-clause-none g c = (λ same. absurd (none-some _ (sy
 pub returns-in-Some-first_bucket-clause-index : goal.returns-in-Some-first_bucket-clause-index
 returns-in-Some-first_bucket-clause-index g c = subst IsIndex c.self.view_is c.self.invariant
 
-pub returns-in-None-first_bucket-clause-value : goal.returns-in-None-first_bucket-clause-value
-returns-in-None-first_bucket-clause-value g c =
-    let empty = c.in-None-first_bucket.ensures.none.0 refl in
-    ap (λ entries. neighbour_at entries (next_key (keys_of entries) (g.T.Translator.index_key c.args.key.now))) (sym empty)
-
-pub returns-in-None-first_bucket-clause-none : goal.returns-in-None-first_bucket-clause-none
-returns-in-None-first_bucket-clause-none g c = (λ same. c.in-None-first_bucket.ensures.none.0 refl, λ empty. refl)
-
-pub returns-in-None-first_bucket-clause-index : goal.returns-in-None-first_bucket-clause-index
-returns-in-None-first_bucket-clause-index g c = subst IsIndex c.self.view_is c.self.invariant
+pub returns-in-None-first_bucket : goal.returns-in-None-first_bucket
+returns-in-None-first_bucket g c = record {
+  value =
+      let empty = c.in-None-first_bucket.ensures.none.0 refl in
+      ap (λ entries. neighbour_at entries (next_key (keys_of entries) (g.T.Translator.index_key c.args.key.now))) (sym empty);
+  none = (λ same. c.in-None-first_bucket.ensures.none.0 refl, λ empty. refl);
+  index = subst IsIndex c.self.view_is c.self.invariant;
+}

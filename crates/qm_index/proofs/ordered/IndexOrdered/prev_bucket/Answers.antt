@@ -37,13 +37,11 @@ returns-in-Some-last_key_value-clause-none g c = (λ same. absurd (none-some _ (
 pub returns-in-Some-last_key_value-clause-index : goal.returns-in-Some-last_key_value-clause-index
 returns-in-Some-last_key_value-clause-index g c = subst IsIndex c.self.view_is c.self.invariant
 
-pub returns-in-None-last_key_value-clause-value : goal.returns-in-None-last_key_value-clause-value
-returns-in-None-last_key_value-clause-value g c =
-    let empty = sym c.self.view_is ∙ none-in c.self.inside.buckets.entries c.in-None-last_key_value.ensures.variant.1 in
-    ap (λ entries. neighbour_at entries (prev_key (keys_of entries) (g.T.Translator.index_key c.args.key.now))) (sym empty)
-
-pub returns-in-None-last_key_value-clause-none : goal.returns-in-None-last_key_value-clause-none
-returns-in-None-last_key_value-clause-none g c = (λ same. sym c.self.view_is ∙ none-in c.self.inside.buckets.entries c.in-None-last_key_value.ensures.variant.1, λ empty. refl)
-
-pub returns-in-None-last_key_value-clause-index : goal.returns-in-None-last_key_value-clause-index
-returns-in-None-last_key_value-clause-index g c = subst IsIndex c.self.view_is c.self.invariant
+pub returns-in-None-last_key_value : goal.returns-in-None-last_key_value
+returns-in-None-last_key_value g c = record {
+  value =
+      let empty = sym c.self.view_is ∙ none-in c.self.inside.buckets.entries c.in-None-last_key_value.ensures.variant.1 in
+      ap (λ entries. neighbour_at entries (prev_key (keys_of entries) (g.T.Translator.index_key c.args.key.now))) (sym empty);
+  none = (λ same. sym c.self.view_is ∙ none-in c.self.inside.buckets.entries c.in-None-last_key_value.ensures.variant.1, λ empty. refl);
+  index = subst IsIndex c.self.view_is c.self.invariant;
+}

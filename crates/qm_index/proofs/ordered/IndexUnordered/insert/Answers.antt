@@ -19,31 +19,30 @@ invariant_of-self-in-None g c =
     let updates : Updates nat_cmp m n k (Some (c.args.value ∷ [])) = subst₂ (λ m w. Updates nat_cmp m n k (Some w)) c.get_mut.follows.holds-at-none c.of.ensures c.in_ok-insert-in-None.ensures.updates in
     stays_index m n k (Some (c.args.value ∷ [])) c.self.invariant updates c.insert.ensures.ordered (λ none. cc)
 
-pub returns-in-Some-clause-ok : goal.returns-in-Some-clause-ok
-returns-in-Some-clause-ok g c =
-    on_ok_weaker c.push.result
-    (λ pushed. subst₂ (λ old k. Puts old (c.get_mut.follows.lender c.push.new.self).entries k (bucket_at old k ++ c.args.value ∷ [])) c.self.view_is c.index_key-index_key.ensures
-    (written-puts c.self.inside.buckets (c.get_mut.follows.lender c.push.new.self) c.index_key-index_key.result c.in-Some.bucket.now c.push.new.self c.in-Some.ensures.value (c.get_mut.follows.holds c.push.new.self)
-    (λ values. values ++ c.args.value ∷ []) pushed))
-    c.push.ensures.ok
+pub returns-in-Some : goal.returns-in-Some
+returns-in-Some g c = record {
+  ok =
+      on_ok_weaker c.push.result
+      (λ pushed. subst₂ (λ old k. Puts old (c.get_mut.follows.lender c.push.new.self).entries k (bucket_at old k ++ c.args.value ∷ [])) c.self.view_is c.index_key-index_key.ensures
+      (written-puts c.self.inside.buckets (c.get_mut.follows.lender c.push.new.self) c.index_key-index_key.result c.in-Some.bucket.now c.push.new.self c.in-Some.ensures.value (c.get_mut.follows.holds c.push.new.self)
+      (λ values. values ++ c.args.value ∷ []) pushed))
+      c.push.ensures.ok;
+  err =
+      on_err_weaker c.push.result
+      (λ same. written-back c.self.inside.buckets (c.get_mut.follows.lender c.push.new.self) c.index_key-index_key.result c.in-Some.bucket.now c.push.new.self c.in-Some.ensures.value (c.get_mut.follows.holds c.push.new.self) same ∙ c.self.view_is)
+      c.push.ensures.err;
+  index = invariant_of-self g c;
+}
 
-pub returns-in-Some-clause-err : goal.returns-in-Some-clause-err
-returns-in-Some-clause-err g c =
-    on_err_weaker c.push.result
-    (λ same. written-back c.self.inside.buckets (c.get_mut.follows.lender c.push.new.self) c.index_key-index_key.result c.in-Some.bucket.now c.push.new.self c.in-Some.ensures.value (c.get_mut.follows.holds c.push.new.self) same ∙ c.self.view_is)
-    c.push.ensures.err
-
-pub returns-in-Some-clause-index : goal.returns-in-Some-clause-index
-returns-in-Some-clause-index g c = invariant_of-self g c
-
-pub returns-in_ok-insert-in-None-clause-ok : goal.returns-in_ok-insert-in-None-clause-ok
-returns-in_ok-insert-in-None-clause-ok g c =
-    let m = c.self.inside.buckets in
-    let n = c.insert.new.self in
-    let k = c.index_key-index_key.result in
-    let updates : Updates nat_cmp m n k (Some (c.args.value ∷ [])) = subst₂ (λ m w. Updates nat_cmp m n k (Some w)) c.get_mut.follows.holds-at-none c.of.ensures c.in_ok-insert-in-None.ensures.updates in
-    subst₂ (λ old k. Puts old n.entries k (bucket_at old k ++ c.args.value ∷ [])) c.self.view_is c.index_key-index_key.ensures
-    (subst (λ values. Puts m.entries n.entries k (values ++ c.args.value ∷ [])) (bucket-found m k None c.in-None.ensures.value) (puts m n k (Some (c.args.value ∷ [])) updates))
-
-pub returns-in_ok-insert-in-None-clause-index : goal.returns-in_ok-insert-in-None-clause-index
-returns-in_ok-insert-in-None-clause-index g c = invariant_of-self-in-None g c
+pub returns-in_ok-insert-in-None : goal.returns-in_ok-insert-in-None
+returns-in_ok-insert-in-None g c = record {
+  ok =
+      let m = c.self.inside.buckets in
+      let n = c.insert.new.self in
+      let k = c.index_key-index_key.result in
+      let updates : Updates nat_cmp m n k (Some (c.args.value ∷ [])) = subst₂ (λ m w. Updates nat_cmp m n k (Some w)) c.get_mut.follows.holds-at-none c.of.ensures c.in_ok-insert-in-None.ensures.updates in
+      subst₂ (λ old k. Puts old n.entries k (bucket_at old k ++ c.args.value ∷ [])) c.self.view_is c.index_key-index_key.ensures
+      (subst (λ values. Puts m.entries n.entries k (values ++ c.args.value ∷ [])) (bucket-found m k None c.in-None.ensures.value) (puts m n k (Some (c.args.value ∷ [])) updates));
+  err = tt;
+  index = invariant_of-self-in-None g c;
+}

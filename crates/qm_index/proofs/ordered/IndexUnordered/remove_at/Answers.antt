@@ -14,14 +14,14 @@ pub invariant_of-self : goal.invariant_of-self
 invariant_of-self g c =
     written-index c.self.inside.buckets (c.get_mut.follows.lender c.remove.new.self) c.index_key-index_key.result c.in-Some.bucket.now c.remove.new.self c.in-Some.ensures.value (c.get_mut.follows.holds c.remove.new.self) c.self.invariant c.remove.ensures.some
 
-pub returns-in-Some-clause-remove : goal.returns-in-Some-clause-remove
-returns-in-Some-clause-remove g c =
-    subst₂ (λ old k. Puts old (c.get_mut.follows.lender c.remove.new.self).entries k (remove (bucket_at old k) c.args.i)) c.self.view_is c.index_key-index_key.ensures
-    (written-puts c.self.inside.buckets (c.get_mut.follows.lender c.remove.new.self) c.index_key-index_key.result c.in-Some.bucket.now c.remove.new.self c.in-Some.ensures.value (c.get_mut.follows.holds c.remove.new.self)
-    (λ values. remove values c.args.i) c.remove.ensures.value)
-
-pub returns-in-Some-clause-index : goal.returns-in-Some-clause-index
-returns-in-Some-clause-index g c = invariant_of-self g c
+pub returns-in-Some : goal.returns-in-Some
+returns-in-Some g c = record {
+  remove =
+      subst₂ (λ old k. Puts old (c.get_mut.follows.lender c.remove.new.self).entries k (remove (bucket_at old k) c.args.i)) c.self.view_is c.index_key-index_key.ensures
+      (written-puts c.self.inside.buckets (c.get_mut.follows.lender c.remove.new.self) c.index_key-index_key.result c.in-Some.bucket.now c.remove.new.self c.in-Some.ensures.value (c.get_mut.follows.holds c.remove.new.self)
+      (λ values. remove values c.args.i) c.remove.ensures.value);
+  index = invariant_of-self g c;
+}
 
 pub invariant_of-self-in-Some-2 : goal.invariant_of-self-in-Some-2
 invariant_of-self-in-Some-2 g c =
@@ -31,20 +31,20 @@ invariant_of-self-in-Some-2 g c =
     let same : m.entries ≡ c.self.inside.buckets.entries = written-back c.self.inside.buckets m k c.in-Some.bucket.now c.in-Some.bucket.now c.in-Some.ensures.value (c.get_mut.follows.holds c.in-Some.bucket.now) refl in
     stays_index m n k None (subst IsIndex (sym same) c.self.invariant) c.remove-in-Some-2.ensures.updates c.remove-in-Some-2.ensures.ordered (λ none. cc)
 
-pub returns-in-Some-2-clause-remove : goal.returns-in-Some-2-clause-remove
-returns-in-Some-2-clause-remove g c =
-    let m = c.get_mut.follows.lender c.in-Some.bucket.now in
-    let n = c.remove-in-Some-2.new.self in
-    let k = c.index_key-index_key.result in
-    let found = c.in-Some.bucket.now in
-    let same : m.entries ≡ c.self.inside.buckets.entries = written-back c.self.inside.buckets m k c.in-Some.bucket.now c.in-Some.bucket.now c.in-Some.ensures.value (c.get_mut.follows.holds c.in-Some.bucket.now) refl in
-    let there : found ≡ bucket_at c.args.self.now (g.T.Translator.index_key c.args.key.now) =
-    bucket-found c.self.inside.buckets k (Some found) c.in-Some.ensures.value ∙ ap₂ bucket_at c.self.view_is c.index_key-index_key.ensures in
-    let place : c.args.i < length found = subst (λ values. c.args.i < length values) (sym there) c.requires in
-    let one : length found ≤ 1 = subst (λ values. length values ≤ 1) c.values.ensures.value (omega (arith, c.if-values-gt1.false)) in
-    let none : [] ≡ remove (bucket_at c.args.self.now (g.T.Translator.index_key c.args.key.now)) c.args.i = sym (remove_last found c.args.i place one) ∙ ap (λ values. remove values c.args.i) there in
-    subst (λ old. Puts old n.entries (g.T.Translator.index_key c.args.key.now) (remove (bucket_at c.args.self.now (g.T.Translator.index_key c.args.key.now)) c.args.i)) (same ∙ c.self.view_is)
-    (subst₂ (λ k values. Puts m.entries n.entries k values) c.index_key-index_key.ensures none (puts m n k None c.remove-in-Some-2.ensures.updates))
-
-pub returns-in-Some-2-clause-index : goal.returns-in-Some-2-clause-index
-returns-in-Some-2-clause-index g c = invariant_of-self-in-Some-2 g c
+pub returns-in-Some-2 : goal.returns-in-Some-2
+returns-in-Some-2 g c = record {
+  remove =
+      let m = c.get_mut.follows.lender c.in-Some.bucket.now in
+      let n = c.remove-in-Some-2.new.self in
+      let k = c.index_key-index_key.result in
+      let found = c.in-Some.bucket.now in
+      let same : m.entries ≡ c.self.inside.buckets.entries = written-back c.self.inside.buckets m k c.in-Some.bucket.now c.in-Some.bucket.now c.in-Some.ensures.value (c.get_mut.follows.holds c.in-Some.bucket.now) refl in
+      let there : found ≡ bucket_at c.args.self.now (g.T.Translator.index_key c.args.key.now) =
+      bucket-found c.self.inside.buckets k (Some found) c.in-Some.ensures.value ∙ ap₂ bucket_at c.self.view_is c.index_key-index_key.ensures in
+      let place : c.args.i < length found = subst (λ values. c.args.i < length values) (sym there) c.requires in
+      let one : length found ≤ 1 = subst (λ values. length values ≤ 1) c.values.ensures.value (omega (arith, c.if-values-gt1.false)) in
+      let none : [] ≡ remove (bucket_at c.args.self.now (g.T.Translator.index_key c.args.key.now)) c.args.i = sym (remove_last found c.args.i place one) ∙ ap (λ values. remove values c.args.i) there in
+      subst (λ old. Puts old n.entries (g.T.Translator.index_key c.args.key.now) (remove (bucket_at c.args.self.now (g.T.Translator.index_key c.args.key.now)) c.args.i)) (same ∙ c.self.view_is)
+      (subst₂ (λ k values. Puts m.entries n.entries k values) c.index_key-index_key.ensures none (puts m n k None c.remove-in-Some-2.ensures.updates));
+  index = invariant_of-self-in-Some-2 g c;
+}

@@ -19,19 +19,19 @@ invariant_of-self g c =
       | in_default w ↦ subst (λ inside. IsIndex inside.buckets.entries) (sym w.self-inside-is) (subst (λ m. IsIndex m.entries) (sym c.get_mut.follows.holds-at-none) c.self.invariant)
     ]
 
-pub returns-clause-update : goal.returns-clause-update
-returns-clause-update g c =
-    elim c.match-get_mut.branch [
-      | in-Some w ↦
-          subst (λ inside. Puts c.args.self.now inside.buckets.entries (g.T.Translator.index_key c.args.key.now) (set (bucket_at c.args.self.now (g.T.Translator.index_key c.args.key.now)) c.args.i c.args.value)) (sym w.self-inside-is)
-          (subst₂ (λ old k. Puts old (c.get_mut.follows.lender w.set.new.self).entries k (set (bucket_at old k) c.args.i c.args.value)) c.self.view_is c.index_key-index_key.ensures
-          (written-puts c.self.inside.buckets (c.get_mut.follows.lender w.set.new.self) c.index_key-index_key.result w.in-Some.bucket.now w.set.new.self w.in-Some.ensures.value (c.get_mut.follows.holds w.set.new.self)
-          (λ values. set values c.args.i c.args.value) w.set.ensures.value))
-      | in_default w ↦
-          absurd
-          (place-none c.self.inside.buckets c.index_key-index_key.result c.args.i w.in_default.ensures.value
-          (subst₂ (λ entries k. c.args.i < length (bucket_at entries k)) (sym c.self.view_is) (sym c.index_key-index_key.ensures) c.requires))
-    ]
-
-pub returns-clause-index : goal.returns-clause-index
-returns-clause-index g c = invariant_of-self g c
+pub returns : goal.returns
+returns g c = record {
+  update =
+      elim c.match-get_mut.branch [
+        | in-Some w ↦
+            subst (λ inside. Puts c.args.self.now inside.buckets.entries (g.T.Translator.index_key c.args.key.now) (set (bucket_at c.args.self.now (g.T.Translator.index_key c.args.key.now)) c.args.i c.args.value)) (sym w.self-inside-is)
+            (subst₂ (λ old k. Puts old (c.get_mut.follows.lender w.set.new.self).entries k (set (bucket_at old k) c.args.i c.args.value)) c.self.view_is c.index_key-index_key.ensures
+            (written-puts c.self.inside.buckets (c.get_mut.follows.lender w.set.new.self) c.index_key-index_key.result w.in-Some.bucket.now w.set.new.self w.in-Some.ensures.value (c.get_mut.follows.holds w.set.new.self)
+            (λ values. set values c.args.i c.args.value) w.set.ensures.value))
+        | in_default w ↦
+            absurd
+            (place-none c.self.inside.buckets c.index_key-index_key.result c.args.i w.in_default.ensures.value
+            (subst₂ (λ entries k. c.args.i < length (bucket_at entries k)) (sym c.self.view_is) (sym c.index_key-index_key.ensures) c.requires))
+      ];
+  index = invariant_of-self g c;
+}

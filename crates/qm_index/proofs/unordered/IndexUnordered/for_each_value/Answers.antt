@@ -24,13 +24,13 @@ loop-bucket-preserved g c = (
       c.loop-bucket.invariant.3,
 )
 
-pub returns-clause-shown : goal.returns-clause-shown
-returns-clause-shown g c =
-    let last = c.loop-bucket.visit in
-    (last, c.loop-bucket.invariant.3 last (subst (λ buckets. FoldsTo (λ p x q. CalledAt g.F.FnMut p x tt q) last (flat_map (λ bucket. bucket) buckets) last) (sym c.in-None.ensures.steps.0) refl))
-
-pub returns-clause-index : goal.returns-clause-index
-returns-clause-index g c = subst IsIndex c.self.view_is c.self.invariant
+pub returns : goal.returns
+returns g c = record {
+  shown =
+      let last = c.loop-bucket.visit in
+      (last, c.loop-bucket.invariant.3 last (subst (λ buckets. FoldsTo (λ p x q. CalledAt g.F.FnMut p x tt q) last (flat_map (λ bucket. bucket) buckets) last) (sym c.in-None.ensures.steps.0) refl));
+  index = subst IsIndex c.self.view_is c.self.invariant;
+}
 
 pub loop-bucket-smaller : goal.loop-bucket-smaller
 loop-bucket-smaller g c = omega (arith, ap length c.in-Some.ensures.steps)

@@ -23,17 +23,17 @@ nonzero_div-len g c = subst (λ n. 0 < n) (sym c.span-span.ensures) (some_bits g
 pub chunk-requires : goal.chunk-requires
 chunk-requires g c = pruned_within g.N.Chunks.LEN (seen g.N.Chunks.LEN c.args.self.now) c.span-span.result c.len-len.result c.span-span.ensures c.len-len.ensures (some_bits g.N.Chunks.LEN g.met.N.Chunks.least)
 
-pub returns-in_err-bytes-clause-bytes : goal.returns-in_err-bytes-clause-bytes
-returns-in_err-bytes-clause-bytes g c = if_ok_of_err _ c.from_residual.result c.from_residual.ensures.0
-
-pub returns-in_err-bytes-clause-bits : goal.returns-in_err-bytes-clause-bits
-returns-in_err-bytes-clause-bits g c = if_ok_of_err _ c.from_residual.result c.from_residual.ensures.0
+pub returns-in_err-bytes : goal.returns-in_err-bytes
+returns-in_err-bytes g c = record {
+  bytes = if_ok_of_err _ c.from_residual.result c.from_residual.ensures.0;
+  bits = if_ok_of_err _ c.from_residual.result c.from_residual.ensures.0;
+}
 
 pub nonzero_rem-result : goal.nonzero_rem-result
 nonzero_rem-result g c = subst (λ n. 0 < n) (sym c.span-span.ensures) (some_bits g.N.Chunks.LEN g.met.N.Chunks.least)
 
-pub returns-clause-bytes : goal.returns-clause-bytes
-returns-clause-bytes g c = c.in_ok-bytes.ensures ∙ ap₂ (λ n s. chunk g.N.Chunks.LEN (all_bits g.N.Chunks.LEN (seen g.N.Chunks.LEN c.args.self.now)) (n / s)) c.len-len.ensures c.span-span.ensures
-
-pub returns-clause-bits : goal.returns-clause-bits
-returns-clause-bits g c = ap₂ (λ n s. n % s) c.len-len.ensures c.span-span.ensures
+pub returns : goal.returns
+returns g c = record {
+  bytes = c.in_ok-bytes.ensures ∙ ap₂ (λ n s. chunk g.N.Chunks.LEN (all_bits g.N.Chunks.LEN (seen g.N.Chunks.LEN c.args.self.now)) (n / s)) c.len-len.ensures c.span-span.ensures;
+  bits = ap₂ (λ n s. n % s) c.len-len.ensures c.span-span.ensures;
+}

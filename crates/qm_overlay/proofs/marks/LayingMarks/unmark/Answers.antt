@@ -9,39 +9,26 @@ returns-in_ok-clear_bit-clause-pruned g c = changed-pruned g.N.Chunks.LEN (g.B.R
 pub returns-in_ok-clear_bit-clause-count : goal.returns-in_ok-clear_bit-clause-count
 returns-in_ok-clear_bit-clause-count g c = changed-count g.N.Chunks.LEN (g.B.Readable.bitmap c.self.inside.base.now) c.self.inside.overlay c.clear_bit.new.self c.args.self.now c.self.view_is c.self.invariant c.clear_bit.ensures.count
 
-pub returns-else-at-len-clause-bits : goal.returns-else-at-len-clause-bits
-returns-else-at-len-clause-bits g c =
-    unchanged-past g.N.Chunks.LEN (g.B.Readable.bitmap c.self.inside.base.now) c.self.inside.overlay c.self.inside.overlay c.args.self.now c.self.view_is c.self.invariant c.args.at false (omega (arith, c.if-at-len.false, c.len.ensures.value))
+pub returns-else-at-len : goal.returns-else-at-len
+returns-else-at-len g c = record {
+  pruned = refl;
+  count = refl;
+  bits = unchanged-past g.N.Chunks.LEN (g.B.Readable.bitmap c.self.inside.base.now) c.self.inside.overlay c.self.inside.overlay c.args.self.now c.self.view_is c.self.invariant c.args.at false (omega (arith, c.if-at-len.false, c.len.ensures.value));
+  below = refl;
+  err = tt;
+}
 
-pub returns-in_err-clear_bit-clause-pruned : goal.returns-in_err-clear_bit-clause-pruned
-returns-in_err-clear_bit-clause-pruned g c = changed-pruned g.N.Chunks.LEN (g.B.Readable.bitmap c.self.inside.base.now) c.self.inside.overlay c.clear_bit.new.self c.args.self.now c.self.view_is c.self.invariant
-
-pub returns-in_err-clear_bit-clause-count : goal.returns-in_err-clear_bit-clause-count
-returns-in_err-clear_bit-clause-count g c = changed-count g.N.Chunks.LEN (g.B.Readable.bitmap c.self.inside.base.now) c.self.inside.overlay c.clear_bit.new.self c.args.self.now c.self.view_is c.self.invariant c.clear_bit.ensures.count
-
-pub returns-in_err-clear_bit-clause-bits : goal.returns-in_err-clear_bit-clause-bits
-returns-in_err-clear_bit-clause-bits g c = IfOk-from_err c.from_residual.result _ c.from_residual.ensures.0
-
-pub returns-in_err-clear_bit-clause-below : goal.returns-in_err-clear_bit-clause-below
-returns-in_err-clear_bit-clause-below g c = ap (λ l. l.base) c.self.view_is
-
-pub returns-in_err-clear_bit-clause-err : goal.returns-in_err-clear_bit-clause-err
-returns-in_err-clear_bit-clause-err g c = on_err c.from_residual.result tt
+pub returns-in_err-clear_bit : goal.returns-in_err-clear_bit
+returns-in_err-clear_bit g c = record {
+  pruned = changed-pruned g.N.Chunks.LEN (g.B.Readable.bitmap c.self.inside.base.now) c.self.inside.overlay c.clear_bit.new.self c.args.self.now c.self.view_is c.self.invariant;
+  count = changed-count g.N.Chunks.LEN (g.B.Readable.bitmap c.self.inside.base.now) c.self.inside.overlay c.clear_bit.new.self c.args.self.now c.self.view_is c.self.invariant c.clear_bit.ensures.count;
+  bits = IfOk-from_err c.from_residual.result _ c.from_residual.ensures.0;
+  below = ap (λ l. l.base) c.self.view_is;
+  err = on_err c.from_residual.result tt;
+}
 
 pub returns-in_ok-clear_bit-clause-below : goal.returns-in_ok-clear_bit-clause-below
 returns-in_ok-clear_bit-clause-below g c = ap (λ l. l.base) c.self.view_is
 
 pub returns-in_ok-clear_bit-clause-err : goal.returns-in_ok-clear_bit-clause-err
 returns-in_ok-clear_bit-clause-err g c = tt
-
-pub returns-else-at-len-clause-below : goal.returns-else-at-len-clause-below
-returns-else-at-len-clause-below g c = refl
-
-pub returns-else-at-len-clause-err : goal.returns-else-at-len-clause-err
-returns-else-at-len-clause-err g c = tt
-
-pub returns-else-at-len-clause-pruned : goal.returns-else-at-len-clause-pruned
-returns-else-at-len-clause-pruned g c = refl
-
-pub returns-else-at-len-clause-count : goal.returns-else-at-len-clause-count
-returns-else-at-len-clause-count g c = refl

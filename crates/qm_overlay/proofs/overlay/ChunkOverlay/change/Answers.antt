@@ -7,19 +7,15 @@ use Rattle.qm_overlay.proofs.overlay.ChunkOverlay.change.Goals as goal
 pub nonzero_div-chunk : goal.nonzero_div-chunk
 nonzero_div-chunk g c = subst (λ n. 0 < n) (sym c.span.ensures) (some_bits g.N.Chunks.LEN g.met.N.Chunks.least)
 
-pub returns-then-chunk-pruned_chunks-clause-count : goal.returns-then-chunk-pruned_chunks-clause-count
-returns-then-chunk-pruned_chunks-clause-count g c = refl
-
-pub returns-then-chunk-pruned_chunks-clause-kept : goal.returns-then-chunk-pruned_chunks-clause-kept
-returns-then-chunk-pruned_chunks-clause-kept g c = λ from.
-    let low = place_pruned g.N.Chunks.LEN (g.B.Readable.bitmap c.args.base.now) c.span.result c.args.at c.span.ensures (some_bits g.N.Chunks.LEN g.met.N.Chunks.least) (omega (arith, c.if-chunk-pruned_chunks.true, c.pruned_chunks.ensures)) in
-    absurd (omega arith)
-
-pub returns-then-chunk-pruned_chunks-clause-pruned : goal.returns-then-chunk-pruned_chunks-clause-pruned
-returns-then-chunk-pruned_chunks-clause-pruned g c = λ low. refl
-
-pub returns-then-chunk-pruned_chunks-clause-err : goal.returns-then-chunk-pruned_chunks-clause-err
-returns-then-chunk-pruned_chunks-clause-err g c = tt
+pub returns-then-chunk-pruned_chunks : goal.returns-then-chunk-pruned_chunks
+returns-then-chunk-pruned_chunks g c = record {
+  count = refl;
+  kept = λ from.
+      let low = place_pruned g.N.Chunks.LEN (g.B.Readable.bitmap c.args.base.now) c.span.result c.args.at c.span.ensures (some_bits g.N.Chunks.LEN g.met.N.Chunks.least) (omega (arith, c.if-chunk-pruned_chunks.true, c.pruned_chunks.ensures)) in
+      absurd (omega arith);
+  pruned = λ low. refl;
+  err = tt;
+}
 
 pub hold-requires-clause-not_below : goal.hold-requires-clause-not_below
 hold-requires-clause-not_below g c = c.requires.not_below
@@ -27,17 +23,13 @@ hold-requires-clause-not_below g c = c.requires.not_below
 pub hold-requires-clause-kept : goal.hold-requires-clause-kept
 hold-requires-clause-kept g c = subst (λ p. p ≤ c.args.at / c.span.result) c.pruned_chunks.ensures c.if-chunk-pruned_chunks.false
 
-pub returns-in_err-hold-clause-count : goal.returns-in_err-hold-clause-count
-returns-in_err-hold-clause-count g c = c.hold.ensures.count
-
-pub returns-in_err-hold-clause-kept : goal.returns-in_err-hold-clause-kept
-returns-in_err-hold-clause-kept g c = λ from. ok_of_err _ c.from_residual.result c.from_residual.ensures.0
-
-pub returns-in_err-hold-clause-pruned : goal.returns-in_err-hold-clause-pruned
-returns-in_err-hold-clause-pruned g c = λ low. c.in_err-hold.ensures.err
-
-pub returns-in_err-hold-clause-err : goal.returns-in_err-hold-clause-err
-returns-in_err-hold-clause-err g c = on_err c.from_residual.result c.in_err-hold.ensures.err
+pub returns-in_err-hold : goal.returns-in_err-hold
+returns-in_err-hold g c = record {
+  count = c.hold.ensures.count;
+  kept = λ from. ok_of_err _ c.from_residual.result c.from_residual.ensures.0;
+  pruned = λ low. c.in_err-hold.ensures.err;
+  err = on_err c.from_residual.result c.in_err-hold.ensures.err;
+}
 
 pub put-requires-clause-within : goal.put-requires-clause-within
 put-requires-clause-within g c = subst (λ n. c.args.at < n) (sym c.hold.ensures.count) c.requires.within
@@ -45,16 +37,12 @@ put-requires-clause-within g c = subst (λ n. c.args.at < n) (sym c.hold.ensures
 pub put-requires-clause-held : goal.put-requires-clause-held
 put-requires-clause-held g c = subst (λ s. IsSome (changed_at c.hold.new.self.changed (c.args.at / s))) c.span.ensures c.in_ok-hold.ensures.held
 
-pub returns-clause-count : goal.returns-clause-count
-returns-clause-count g c = c.put.ensures.count ∙ c.hold.ensures.count
-
-pub returns-clause-kept : goal.returns-clause-kept
-returns-clause-kept g c = λ from. c.put.ensures.bits (g.B.Readable.bitmap c.args.base.now) from ∙ ap (λ m. set (all_bits g.N.Chunks.LEN m) c.args.at c.args.value) c.hold.ensures.same
-
-pub returns-clause-pruned : goal.returns-clause-pruned
-returns-clause-pruned g c = λ low.
-    let from = place_kept g.N.Chunks.LEN (g.B.Readable.bitmap c.args.base.now) c.span.result c.args.at c.span.ensures (some_bits g.N.Chunks.LEN g.met.N.Chunks.least) (subst (λ p. p ≤ c.args.at / c.span.result) c.pruned_chunks.ensures c.if-chunk-pruned_chunks.false) in
-    absurd (omega arith)
-
-pub returns-clause-err : goal.returns-clause-err
-returns-clause-err g c = tt
+pub returns : goal.returns
+returns g c = record {
+  count = c.put.ensures.count ∙ c.hold.ensures.count;
+  kept = λ from. c.put.ensures.bits (g.B.Readable.bitmap c.args.base.now) from ∙ ap (λ m. set (all_bits g.N.Chunks.LEN m) c.args.at c.args.value) c.hold.ensures.same;
+  pruned = λ low.
+      let from = place_kept g.N.Chunks.LEN (g.B.Readable.bitmap c.args.base.now) c.span.result c.args.at c.span.ensures (some_bits g.N.Chunks.LEN g.met.N.Chunks.least) (subst (λ p. p ≤ c.args.at / c.span.result) c.pruned_chunks.ensures c.if-chunk-pruned_chunks.false) in
+      absurd (omega arith);
+  err = tt;
+}

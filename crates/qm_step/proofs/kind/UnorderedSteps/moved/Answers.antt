@@ -7,28 +7,26 @@ use Rattle.qm_step.proofs.PlanCounts.{counts-unordered}
 use Rattle.qm_step.proofs.Touched.{decided-touches}
 use Rattle.qm_step.proofs.kind.UnorderedSteps.moved.Goals as goal
 
-pub returns-clause-value : goal.returns-clause-value
-returns-clause-value g c = λ list ws long written are apart.
-    let key = g.K.ByteString.bytes in
-    let value = g.V.Value.ByteString.bytes in
-    let made = unordered_touches key value c.args.made.items in
-    let ds = decided_views key value c.args.decided.items in
-    c.in_ok-add_decided.ensures ∙ ap (λ ts. made ++ ts) (decided-touches list (list ++ operations_of made) ds are)
-
-pub returns-clause-live : goal.returns-clause-live
-returns-clause-live g c = counts-unordered
+pub returns : goal.returns
+returns g c = record {
+  value = λ list ws long written are apart.
+      let key = g.K.ByteString.bytes in
+      let value = g.V.Value.ByteString.bytes in
+      let made = unordered_touches key value c.args.made.items in
+      let ds = decided_views key value c.args.decided.items in
+      c.in_ok-add_decided.ensures ∙ ap (λ ts. made ++ ts) (decided-touches list (list ++ operations_of made) ds are);
+  live = counts-unordered;
+  count =
+      let key = g.K.ByteString.bytes in
+      let value = g.V.Value.ByteString.bytes in
+      let view = unordered_touch key value in
+      let made = c.args.made.items in
+      let more = map touch_for (decided_views key value c.args.decided.items) in
+      let own = c.add_decided.new.touches.items in
+      let long : length own ≡ length made + length more =
+      sym (length-map own view) ∙ ap length c.in_ok-add_decided.ensures ∙ length-append (map view made) more ∙ ap (λ n. n + length more) (length-map made view) in
+      omega (arith, long);
+}
 
 pub returns-in_err-add_decided-clause-live : goal.returns-in_err-add_decided-clause-live
 returns-in_err-add_decided-clause-live g c = counts-unordered
-
-pub returns-clause-count : goal.returns-clause-count
-returns-clause-count g c =
-    let key = g.K.ByteString.bytes in
-    let value = g.V.Value.ByteString.bytes in
-    let view = unordered_touch key value in
-    let made = c.args.made.items in
-    let more = map touch_for (decided_views key value c.args.decided.items) in
-    let own = c.add_decided.new.touches.items in
-    let long : length own ≡ length made + length more =
-    sym (length-map own view) ∙ ap length c.in_ok-add_decided.ensures ∙ length-append (map view made) more ∙ ap (λ n. n + length more) (length-map made view) in
-    omega (arith, long)

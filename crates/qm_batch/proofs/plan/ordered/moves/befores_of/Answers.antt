@@ -11,59 +11,43 @@ use Rattle.qm_base.proofs.Reading.{read-none}
 use Rattle.qm_batch.proofs.plan.ordered.moves.befores_of.Goals as goal
 use Rattle.qm_batch.proofs.plan.ordered.moves.befores_of.Goals.{then-not-is_ordered-via-then-not-is_ordered, then-not-is_ordered-via-else-not-is_ordered+then-evicted-eq0}
 
-pub returns-then-not-is_ordered-clause-value : goal.returns-then-not-is_ordered-clause-value
-returns-then-not-is_ordered-clause-value g c = λ lent list ordered is base ring over from.
-    let key = g.U.Key.ByteString.bytes in
-    let value = g.U.Value.ByteString.bytes in
-    elim c.then-not-is_ordered.branch [
-      | then-not-is_ordered-via-then-not-is_ordered w ↦ absurd (true≢false (sym ordered ∙ sym c.is_ordered.ensures ∙ w.if-not-is_ordered.true))
-      | then-not-is_ordered-via-else-not-is_ordered+then-evicted-eq0 w ↦
-          told-any _ (g.L.Items.reads.told c.args.log.now)
-          (ap (map (read_view g.U.Update.view)) c.new.ensures.items
-          ∙ sym (none-before (list ++ operations_of (touch_views g.U.Update.view key value c.args.made.now)) (decided_views key value c.args.decided.now)
-          (none-gone key value c.args.decided.now (sym w.evicted.ensures.count ∙ w.if-evicted-eq0.true))))
-    ]
+pub returns-then-not-is_ordered : goal.returns-then-not-is_ordered
+returns-then-not-is_ordered g c = record {
+  value = λ lent list ordered is base ring over from.
+      let key = g.U.Key.ByteString.bytes in
+      let value = g.U.Value.ByteString.bytes in
+      elim c.then-not-is_ordered.branch [
+        | then-not-is_ordered-via-then-not-is_ordered w ↦ absurd (true≢false (sym ordered ∙ sym c.is_ordered.ensures ∙ w.if-not-is_ordered.true))
+        | then-not-is_ordered-via-else-not-is_ordered+then-evicted-eq0 w ↦
+            told-any _ (g.L.Items.reads.told c.args.log.now)
+            (ap (map (read_view g.U.Update.view)) c.new.ensures.items
+            ∙ sym (none-before (list ++ operations_of (touch_views g.U.Update.view key value c.args.made.now)) (decided_views key value c.args.decided.now)
+            (none-gone key value c.args.decided.now (sym w.evicted.ensures.count ∙ w.if-evicted-eq0.true))))
+      ];
+  read = read-none g.L.Items.reads g.met.L.Items.unread c.args.log.now;
+  error = tt;
+  whole = λ lent is none. tt;
+}
 
-pub returns-clause-value : goal.returns-clause-value
-returns-clause-value g c = λ lent list ordered is base ring over from.
-    let key = g.U.Key.ByteString.bytes in
-    let value = g.U.Value.ByteString.bytes in
-    let mid = list ++ operations_of (touch_views g.U.Update.view key value c.args.made.now) in
-    let leads = subst (λ ls. LeadOver (map (λ l. l.value) ls) lent mid) (sym c.deref.ensures.value) (c.in_ok-layers.ensures lent list base from) in
-    c.find_before.ensures.value lent mid is leads ring over
+pub returns : goal.returns
+returns g c = record {
+  value = λ lent list ordered is base ring over from.
+      let key = g.U.Key.ByteString.bytes in
+      let value = g.U.Value.ByteString.bytes in
+      let mid = list ++ operations_of (touch_views g.U.Update.view key value c.args.made.now) in
+      let leads = subst (λ ls. LeadOver (map (λ l. l.value) ls) lent mid) (sym c.deref.ensures.value) (c.in_ok-layers.ensures lent list base from) in
+      c.find_before.ensures.value lent mid is leads ring over;
+  read = c.find_before.ensures.read;
+  error = c.find_before.ensures.error;
+  whole = c.find_before.ensures.whole;
+}
 
-pub returns-in_err-layers-clause-value : goal.returns-in_err-layers-clause-value
-returns-in_err-layers-clause-value g c = λ lent list ordered is base ring over from.
+pub returns-in_err-layers : goal.returns-in_err-layers
+returns-in_err-layers g c =
     let exit = err_from_is_err_and c.from_residual.result c.from_residual.ensures.1 in
-    told-err _ (g.L.Items.reads.told c.args.log.now) c.from_residual.result exit.0 exit.1
-
-pub returns-in_err-layers-clause-read : goal.returns-in_err-layers-clause-read
-returns-in_err-layers-clause-read g c = read-none g.L.Items.reads g.met.L.Items.unread c.args.log.now
-
-pub returns-in_err-layers-clause-error : goal.returns-in_err-layers-clause-error
-returns-in_err-layers-clause-error g c =
-    let exit = err_from_is_err_and c.from_residual.result c.from_residual.ensures.1 in
-    rw (exit.1, exit.2) (inl refl)
-
-pub returns-in_err-layers-clause-whole : goal.returns-in_err-layers-clause-whole
-returns-in_err-layers-clause-whole g c = λ lent is none.
-    let exit = err_from_is_err_and c.from_residual.result c.from_residual.ensures.1 in
-    rw (exit.1, exit.2) (λ n same. cc)
-
-pub returns-then-not-is_ordered-clause-read : goal.returns-then-not-is_ordered-clause-read
-returns-then-not-is_ordered-clause-read g c = read-none g.L.Items.reads g.met.L.Items.unread c.args.log.now
-
-pub returns-then-not-is_ordered-clause-error : goal.returns-then-not-is_ordered-clause-error
-returns-then-not-is_ordered-clause-error g c = tt
-
-pub returns-then-not-is_ordered-clause-whole : goal.returns-then-not-is_ordered-clause-whole
-returns-then-not-is_ordered-clause-whole g c = λ lent is none. tt
-
-pub returns-clause-read : goal.returns-clause-read
-returns-clause-read g c = c.find_before.ensures.read
-
-pub returns-clause-error : goal.returns-clause-error
-returns-clause-error g c = c.find_before.ensures.error
-
-pub returns-clause-whole : goal.returns-clause-whole
-returns-clause-whole g c = c.find_before.ensures.whole
+    record {
+      value = λ lent list ordered is base ring over from. told-err _ (g.L.Items.reads.told c.args.log.now) c.from_residual.result exit.0 exit.1;
+      read = read-none g.L.Items.reads g.met.L.Items.unread c.args.log.now;
+      error = rw (exit.1, exit.2) (inl refl);
+      whole = λ lent is none. rw (exit.1, exit.2) (λ n same. cc);
+    }

@@ -12,34 +12,29 @@ use Rattle.qm_base.proofs.Reading.{read-none, read-then, error-then}
 use Rattle.qm_step.proofs.Reading.{lent-then, told}
 use Rattle.qm_batch.proofs.plan.ordered.moves.find_before.Goals as goal
 
-pub returns-in_err-found-clause-value : goal.returns-in_err-found-clause-value
-returns-in_err-found-clause-value g c = λ lent list is from ring over.
+pub returns-in_err-found : goal.returns-in_err-found
+returns-in_err-found g c =
     let exit = err_from_is_err_and c.from_residual.result c.from_residual.ensures.1 in
-    told-err _ (g.L.Items.reads.told c.args.log.now) c.from_residual.result exit.0 exit.1
+    record {
+      value = λ lent list is from ring over. told-err _ (g.L.Items.reads.told c.args.log.now) c.from_residual.result exit.0 exit.1;
+      read = read-then g.L.Items.reads g.met.L.Items.read_again c.args.log.now c.loop-one.log c.before_gone.new.log c.loop-one.invariant.read c.before_gone.ensures.read;
+      error = rw (exit.1, exit.2) (error-then g.L.Items.reads g.met.L.Items.failed_later c.args.log.now c.loop-one.log c.before_gone.new.log _ c.loop-one.invariant.read c.in_err-found.ensures.error);
+      whole = λ lent is none.
+          let entries = g.I.Unordered.entries c.args.index.now in
+          let read = c.loop-one.invariant.read in
+          let mid = lent-then g.L.Items.reads _ g.I.Unordered.index_key entries c.args.log.now c.loop-one.log lent read is in
+          rw (exit.1, exit.2) (c.in_err-found.ensures.whole lent mid (subst (λ t. NoneBelow t lent) (sym read.start) none));
+    }
 
-pub returns-in_err-found-clause-read : goal.returns-in_err-found-clause-read
-returns-in_err-found-clause-read g c = read-then g.L.Items.reads g.met.L.Items.read_again c.args.log.now c.loop-one.log c.before_gone.new.log c.loop-one.invariant.read c.before_gone.ensures.read
-
-pub returns-in_err-found-clause-error : goal.returns-in_err-found-clause-error
-returns-in_err-found-clause-error g c =
-    let exit = err_from_is_err_and c.from_residual.result c.from_residual.ensures.1 in
-    rw (exit.1, exit.2) (error-then g.L.Items.reads g.met.L.Items.failed_later c.args.log.now c.loop-one.log c.before_gone.new.log _ c.loop-one.invariant.read c.in_err-found.ensures.error)
-
-pub returns-in_err-found-clause-whole : goal.returns-in_err-found-clause-whole
-returns-in_err-found-clause-whole g c = λ lent is none.
-    let exit = err_from_is_err_and c.from_residual.result c.from_residual.ensures.1 in
-    let entries = g.I.Unordered.entries c.args.index.now in
-    let read = c.loop-one.invariant.read in
-    let mid = lent-then g.L.Items.reads _ g.I.Unordered.index_key entries c.args.log.now c.loop-one.log lent read is in
-    rw (exit.1, exit.2) (c.in_err-found.ensures.whole lent mid (subst (λ t. NoneBelow t lent) (sym read.start) none))
-
-pub returns-in_err-push_some-clause-value : goal.returns-in_err-push_some-clause-value
-returns-in_err-push_some-clause-value g c = λ lent list is from ring over.
+pub returns-in_err-push_some : goal.returns-in_err-push_some
+returns-in_err-push_some g c =
     let exit = err_from_is_err_and c.from_residual-in_err-push_some.result c.from_residual-in_err-push_some.ensures.1 in
-    told-err _ (g.L.Items.reads.told c.args.log.now) c.from_residual-in_err-push_some.result exit.0 exit.1
-
-pub returns-in_err-push_some-clause-read : goal.returns-in_err-push_some-clause-read
-returns-in_err-push_some-clause-read g c = read-then g.L.Items.reads g.met.L.Items.read_again c.args.log.now c.loop-one.log c.before_gone.new.log c.loop-one.invariant.read c.before_gone.ensures.read
+    record {
+      value = λ lent list is from ring over. told-err _ (g.L.Items.reads.told c.args.log.now) c.from_residual-in_err-push_some.result exit.0 exit.1;
+      read = read-then g.L.Items.reads g.met.L.Items.read_again c.args.log.now c.loop-one.log c.before_gone.new.log c.loop-one.invariant.read c.before_gone.ensures.read;
+      error = rw (exit.1, exit.2) (inl refl);
+      whole = λ lent is none. rw (exit.1, exit.2) (λ n same. cc);
+    }
 
 pub loop-one-init : goal.loop-one-init
 loop-one-init g c = record {
@@ -63,27 +58,13 @@ loop-one-preserved g c =
           c.args.decided.now c.loop-one.one-index c.one-item.result c.loop-one-test.true c.one-item.is found before);
     }
 
-pub returns-clause-value : goal.returns-clause-value
-returns-clause-value g c = λ lent list is from ring over.
-    let view = decided_view g.U.Key.ByteString.bytes g.U.Value.ByteString.bytes in
-    told-one _ _ (g.L.Items.reads.told c.args.log.now) (c.loop-one.invariant.value lent list is from ring over) (λ found.
-    found ∙ ap (filter_map (λ d. before_evicted list (view d))) (take_all c.loop-one.one-index c.args.decided.now c.loop-one-test.false) ∙ sym (given-mapped (before_evicted list) view c.args.decided.now))
-
-pub returns-in_err-push_some-clause-error : goal.returns-in_err-push_some-clause-error
-returns-in_err-push_some-clause-error g c =
-    let exit = err_from_is_err_and c.from_residual-in_err-push_some.result c.from_residual-in_err-push_some.ensures.1 in
-    rw (exit.1, exit.2) (inl refl)
-
-pub returns-in_err-push_some-clause-whole : goal.returns-in_err-push_some-clause-whole
-returns-in_err-push_some-clause-whole g c = λ lent is none.
-    let exit = err_from_is_err_and c.from_residual-in_err-push_some.result c.from_residual-in_err-push_some.ensures.1 in
-    rw (exit.1, exit.2) (λ n same. cc)
-
-pub returns-clause-read : goal.returns-clause-read
-returns-clause-read g c = c.loop-one.invariant.read
-
-pub returns-clause-error : goal.returns-clause-error
-returns-clause-error g c = tt
-
-pub returns-clause-whole : goal.returns-clause-whole
-returns-clause-whole g c = λ lent is none. tt
+pub returns : goal.returns
+returns g c = record {
+  value = λ lent list is from ring over.
+      let view = decided_view g.U.Key.ByteString.bytes g.U.Value.ByteString.bytes in
+      told-one _ _ (g.L.Items.reads.told c.args.log.now) (c.loop-one.invariant.value lent list is from ring over) (λ found.
+      found ∙ ap (filter_map (λ d. before_evicted list (view d))) (take_all c.loop-one.one-index c.args.decided.now c.loop-one-test.false) ∙ sym (given-mapped (before_evicted list) view c.args.decided.now));
+  read = c.loop-one.invariant.read;
+  error = tt;
+  whole = λ lent is none. tt;
+}

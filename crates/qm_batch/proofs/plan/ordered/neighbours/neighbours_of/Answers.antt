@@ -19,35 +19,30 @@ loop-site-init g c = record {
       told-any _ (g.L.Items.reads.told c.args.log.now) (ap (map (neighbour_view g.U.Update.view g.U.Key.ByteString.bytes)) c.new-neighbours.ensures.items);
 }
 
-pub returns-in_err-neighbour-clause-value : goal.returns-in_err-neighbour-clause-value
-returns-in_err-neighbour-clause-value g c = λ lent base ws ordered is from ring base_ring are.
+pub returns-in_err-neighbour : goal.returns-in_err-neighbour
+returns-in_err-neighbour g c =
     let exit = err_from_is_err_and c.from_residual.result c.from_residual.ensures.1 in
-    told-err _ (g.L.Items.reads.told c.args.log.now) c.from_residual.result exit.0 exit.1
+    record {
+      value = λ lent base ws ordered is from ring base_ring are. told-err _ (g.L.Items.reads.told c.args.log.now) c.from_residual.result exit.0 exit.1;
+      read = read-then g.L.Items.reads g.met.L.Items.read_again c.args.log.now c.loop-site.log c.find_neighbour.new.log c.loop-site.invariant.read c.find_neighbour.ensures.read;
+      error = rw (exit.1, exit.2) (error-then g.L.Items.reads g.met.L.Items.failed_later c.args.log.now c.loop-site.log c.find_neighbour.new.log _ c.loop-site.invariant.read c.in_err-neighbour.ensures.error);
+      whole = λ lent is none.
+          let entries = g.I.Unordered.entries c.args.index.now in
+          let read = c.loop-site.invariant.read in
+          let form = g.U.Update.form in
+          let mid = lent-then g.L.Items.reads form g.I.Unordered.index_key entries c.args.log.now c.loop-site.log lent read is in
+          rw (exit.1, exit.2) (c.in_err-neighbour.ensures.whole lent mid (subst (λ t. NoneBelow t lent) (sym read.start) none));
+    }
 
-pub returns-in_err-neighbour-clause-read : goal.returns-in_err-neighbour-clause-read
-returns-in_err-neighbour-clause-read g c = read-then g.L.Items.reads g.met.L.Items.read_again c.args.log.now c.loop-site.log c.find_neighbour.new.log c.loop-site.invariant.read c.find_neighbour.ensures.read
-
-pub returns-in_err-neighbour-clause-error : goal.returns-in_err-neighbour-clause-error
-returns-in_err-neighbour-clause-error g c =
-    let exit = err_from_is_err_and c.from_residual.result c.from_residual.ensures.1 in
-    rw (exit.1, exit.2) (error-then g.L.Items.reads g.met.L.Items.failed_later c.args.log.now c.loop-site.log c.find_neighbour.new.log _ c.loop-site.invariant.read c.in_err-neighbour.ensures.error)
-
-pub returns-in_err-neighbour-clause-whole : goal.returns-in_err-neighbour-clause-whole
-returns-in_err-neighbour-clause-whole g c = λ lent is none.
-    let exit = err_from_is_err_and c.from_residual.result c.from_residual.ensures.1 in
-    let entries = g.I.Unordered.entries c.args.index.now in
-    let read = c.loop-site.invariant.read in
-    let form = g.U.Update.form in
-    let mid = lent-then g.L.Items.reads form g.I.Unordered.index_key entries c.args.log.now c.loop-site.log lent read is in
-    rw (exit.1, exit.2) (c.in_err-neighbour.ensures.whole lent mid (subst (λ t. NoneBelow t lent) (sym read.start) none))
-
-pub returns-in_err-push_some-clause-value : goal.returns-in_err-push_some-clause-value
-returns-in_err-push_some-clause-value g c = λ lent base ws ordered is from ring base_ring are.
+pub returns-in_err-push_some : goal.returns-in_err-push_some
+returns-in_err-push_some g c =
     let exit = err_from_is_err_and c.from_residual-in_err-push_some.result c.from_residual-in_err-push_some.ensures.1 in
-    told-err _ (g.L.Items.reads.told c.args.log.now) c.from_residual-in_err-push_some.result exit.0 exit.1
-
-pub returns-in_err-push_some-clause-read : goal.returns-in_err-push_some-clause-read
-returns-in_err-push_some-clause-read g c = read-then g.L.Items.reads g.met.L.Items.read_again c.args.log.now c.loop-site.log c.find_neighbour.new.log c.loop-site.invariant.read c.find_neighbour.ensures.read
+    record {
+      value = λ lent base ws ordered is from ring base_ring are. told-err _ (g.L.Items.reads.told c.args.log.now) c.from_residual-in_err-push_some.result exit.0 exit.1;
+      read = read-then g.L.Items.reads g.met.L.Items.read_again c.args.log.now c.loop-site.log c.find_neighbour.new.log c.loop-site.invariant.read c.find_neighbour.ensures.read;
+      error = rw (exit.1, exit.2) (inl refl);
+      whole = λ lent is none. rw (exit.1, exit.2) (λ n same. cc);
+    }
 
 pub loop-site-preserved : goal.loop-site-preserved
 loop-site-preserved g c =
@@ -68,40 +63,22 @@ loop-site-preserved g c =
           (pushed-shown view c.push_some.new.things.items c.loop-site.neighbours.items _ c.in_ok-push_some.ensures) before);
     }
 
-pub returns-clause-value : goal.returns-clause-value
-returns-clause-value g c = λ lent base ws ordered is from ring base_ring are.
-    let key = g.U.Key.ByteString.bytes in
-    let value = g.U.Value.ByteString.bytes in
-    told-one _ _ (g.L.Items.reads.told c.args.log.now) (c.loop-site.invariant.value lent base ws is from ring base_ring are) (λ all.
-    all ∙ ap (filter_map (neighbour_in base)) (taken-all (linked_view key value) (linked_in base) c.args.sites.now ws c.loop-site.site-index are c.loop-site-test.false))
+pub returns : goal.returns
+returns g c = record {
+  value = λ lent base ws ordered is from ring base_ring are.
+      let key = g.U.Key.ByteString.bytes in
+      let value = g.U.Value.ByteString.bytes in
+      told-one _ _ (g.L.Items.reads.told c.args.log.now) (c.loop-site.invariant.value lent base ws is from ring base_ring are) (λ all.
+      all ∙ ap (filter_map (neighbour_in base)) (taken-all (linked_view key value) (linked_in base) c.args.sites.now ws c.loop-site.site-index are c.loop-site-test.false));
+  read = c.loop-site.invariant.read;
+  error = tt;
+  whole = λ lent is none. tt;
+}
 
-pub returns-then-not-is_ordered-clause-value : goal.returns-then-not-is_ordered-clause-value
-returns-then-not-is_ordered-clause-value g c = λ lent base ws ordered is from ring base_ring are. absurd (true≢false (sym ordered ∙ sym c.is_ordered.ensures ∙ c.if-not-is_ordered.true))
-
-pub returns-then-not-is_ordered-clause-read : goal.returns-then-not-is_ordered-clause-read
-returns-then-not-is_ordered-clause-read g c = read-none g.L.Items.reads g.met.L.Items.unread c.args.log.now
-
-pub returns-in_err-push_some-clause-error : goal.returns-in_err-push_some-clause-error
-returns-in_err-push_some-clause-error g c =
-    let exit = err_from_is_err_and c.from_residual-in_err-push_some.result c.from_residual-in_err-push_some.ensures.1 in
-    rw (exit.1, exit.2) (inl refl)
-
-pub returns-in_err-push_some-clause-whole : goal.returns-in_err-push_some-clause-whole
-returns-in_err-push_some-clause-whole g c = λ lent is none.
-    let exit = err_from_is_err_and c.from_residual-in_err-push_some.result c.from_residual-in_err-push_some.ensures.1 in
-    rw (exit.1, exit.2) (λ n same. cc)
-
-pub returns-clause-read : goal.returns-clause-read
-returns-clause-read g c = c.loop-site.invariant.read
-
-pub returns-then-not-is_ordered-clause-error : goal.returns-then-not-is_ordered-clause-error
-returns-then-not-is_ordered-clause-error g c = tt
-
-pub returns-then-not-is_ordered-clause-whole : goal.returns-then-not-is_ordered-clause-whole
-returns-then-not-is_ordered-clause-whole g c = λ lent is none. tt
-
-pub returns-clause-error : goal.returns-clause-error
-returns-clause-error g c = tt
-
-pub returns-clause-whole : goal.returns-clause-whole
-returns-clause-whole g c = λ lent is none. tt
+pub returns-then-not-is_ordered : goal.returns-then-not-is_ordered
+returns-then-not-is_ordered g c = record {
+  value = λ lent base ws ordered is from ring base_ring are. absurd (true≢false (sym ordered ∙ sym c.is_ordered.ensures ∙ c.if-not-is_ordered.true));
+  read = read-none g.L.Items.reads g.met.L.Items.unread c.args.log.now;
+  error = tt;
+  whole = λ lent is none. tt;
+}
