@@ -1,7 +1,44 @@
-use Rattle.std.proofs.Common.{◌∙◌, ◌++◌, ◌∷◌, IfOk, ap, sym, subst}
-use Rattle.qm_merkle.specs.Batches.{Draft, all_layers, IsHistory}
+use Rattle.std.proofs.Common.{◌≡◌, ◌≤◌, ◌∙◌, ◌+◌, ◌++◌, ◌∷◌, ℕ, IfOk, All, Contains, length, ap, sym, subst, arith}
+use Rattle.std.proofs.lemmas.List.Elements.{All-nil}
+use Rattle.std.proofs.lemmas.Result.{IfOk-from_err}
+use Rattle.qm_merkle.specs.Batches.{Draft, all_layers, leaves_of, stops, IsHistory}
 use Rattle.qm_store.proofs.Trees.{adds, drafted-added}
 use Rattle.qm_store.proofs.log.grown_behind.Goals as goal
+
+pub add_leaf_digests-requires : goal.add_leaf_digests-requires
+add_leaf_digests-requires g c = omega (arith, c.requires.room, ap length c.requires.fresh)
+
+pub merkleize-requires-clause-reach : goal.merkleize-requires-clause-reach
+merkleize-requires-clause-reach g c = subst (λ (d : Draft _). Contains (stops d.base d.layers) c.args.tree.now.leaves) (sym c.in_ok-add_leaf_digests.ensures.ok) c.requires.reach
+
+pub merkleize-requires-clause-replaced : goal.merkleize-requires-clause-replaced
+merkleize-requires-clause-replaced g c =
+    let late = λ (e : ℕ × _). c.args.tree.now.start ≤ e.0 in
+    subst (All late) (sym (ap (λ (d : Draft _). d.replaced) c.in_ok-add_leaf_digests.ensures.ok ∙ c.requires.none)) (All-nil late)
+
+pub returns-in_err-add_leaf_digests : goal.returns-in_err-add_leaf_digests
+returns-in_err-add_leaf_digests g c =
+    let result = c.from_residual.result in
+    let failed = c.from_residual.ensures.0 in
+    record {
+      leaves = IfOk-from_err result _ failed;
+      start = IfOk-from_err result _ failed;
+      older = IfOk-from_err result _ failed;
+      adding = IfOk-from_err result _ failed;
+      history = λ list base lists stands history found. IfOk-from_err result _ failed;
+    }
+
+pub returns-clause-leaves : goal.returns-clause-leaves
+returns-clause-leaves g c =
+    let added = c.args.digests.now in
+    subst (λ n. IfOk c.merkleize.result (λ b. b.newest.tree.leaves ≡ n))
+    (ap (λ (d : Draft _). leaves_of d) c.in_ok-add_leaf_digests.ensures.ok ∙ ap (λ ds. c.args.draft.base + length (ds ++ added)) c.requires.fresh) c.merkleize.ensures.leaves
+
+pub returns-clause-start : goal.returns-clause-start
+returns-clause-start g c = subst (λ n. IfOk c.merkleize.result (λ b. b.newest.tree.start ≡ n)) (ap (λ (d : Draft _). d.base) c.in_ok-add_leaf_digests.ensures.ok) c.merkleize.ensures.base
+
+pub returns-clause-older : goal.returns-clause-older
+returns-clause-older g c = subst (λ ls. IfOk c.merkleize.result (λ b. b.older ≡ ls)) (ap (λ (d : Draft _). d.layers) c.in_ok-add_leaf_digests.ensures.ok) c.merkleize.ensures.older
 
 pub returns-clause-history : goal.returns-clause-history
 returns-clause-history g c = λ list base lists stands history found.
