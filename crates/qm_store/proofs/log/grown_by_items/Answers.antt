@@ -1,4 +1,5 @@
 use Rattle.std.proofs.Common.{◌≡◌, ◌∙◌, ◌+◌, ◌++◌, ◌∷◌, [], IfOk, length, map, ap, sym, subst, arith}
+use Rattle.std.proofs.lemmas.Result.{IfOk-from_err}
 use Rattle.qm_merkle.specs.Batches.{all_layers, IsHistory}
 use Rattle.qm_store.specs.Log.{digests_from}
 use Rattle.qm_store.proofs.Leaves.{digests-count, digests_from-append, length-digests_from}
@@ -27,3 +28,28 @@ returns-clause-history g c = λ list stands.
     subst (λ ds. IfOk c.grown.result (λ b. IsHistory shape bytes hash (all_layers b) (ds ∷ before ∷ [])))
     (ap (λ ds. before ++ map bytes ds) c.deref.ensures.value ∙ ap (λ l. before ++ l) (c.in_ok-digests.ensures ∙ ap (λ i. digests_from hash shape i more) start) ∙ sym (digests_from-append hash shape 0 list more))
     (c.grown.ensures.history before stands)
+
+pub returns-in_err-digests : goal.returns-in_err-digests
+returns-in_err-digests g c =
+    let result = c.from_residual.result in
+    let failed = c.from_residual.ensures.0 in
+    record {
+      leaves = IfOk-from_err result _ failed;
+      start = IfOk-from_err result _ failed;
+      older = IfOk-from_err result _ failed;
+      adding = IfOk-from_err result _ failed;
+      reach = IfOk-from_err result _ failed;
+      history = λ list stands. IfOk-from_err result _ failed;
+    }
+
+pub returns-clause-start : goal.returns-clause-start
+returns-clause-start g c = c.grown.ensures.start
+
+pub returns-clause-older : goal.returns-clause-older
+returns-clause-older g c = c.grown.ensures.older
+
+pub returns-clause-adding : goal.returns-clause-adding
+returns-clause-adding g c = c.grown.ensures.adding
+
+pub returns-clause-reach : goal.returns-clause-reach
+returns-clause-reach g c = c.grown.ensures.reach
