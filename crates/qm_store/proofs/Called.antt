@@ -1,5 +1,5 @@
 -- What a call leaves that changes a log's store and none of its items.
-use Rattle.std.proofs.Common.{◌≡◌, ◌≢◌, ◌≤◌, ◌∙◌, ℕ, List, ap, sym, subst, refl, Result, Ok, Err, IfOk, IfErr, OnOk, OnErr, IfSome}
+use Rattle.std.proofs.Common.{◌≡◌, ◌≢◌, ◌≤◌, List, sym, subst, refl, Result, Ok, IfOk, IfErr, OnOk, OnErr, IfSome}
 use Rattle.std.specs.Prelude.{⊤, IsErrOf}
 use Rattle.std.proofs.lemmas.Result.{on_ok_weaker, on_err_weaker}
 use Rattle.qm_model.specs.Causes.{IsCause}

@@ -21,9 +21,9 @@ returns g c = record {
   start = on_ok_weaker c.apply_batch.result (λ ends. ends.0) c.apply_batch.ensures.bounds;
   leaves = on_ok_weaker c.apply_batch.result (λ ends. ends.1 ∙ c.in_ok-batch.ensures.leaves) c.apply_batch.ensures.bounds;
   stands = λ list stands.
-        let leaves = digests_from g.H.Hasher.hash g.F.Family.shape 0 in
-        let old = leaves list in
-        let new = leaves (list ++ map (λ v. v.items) c.args.items.now) in
-        c.apply_batch.ensures.stands g.H.Hasher.hash old new (old ∷ []) (c.in_ok-batch.ensures.history list stands) (Contains-more (old ∷ []) new old (Contains-first old [])) stands;
+      let leaves = digests_from g.H.Hasher.hash g.F.Family.shape 0 in
+      let old = leaves list in
+      let new = leaves (list ++ map (λ v. v.items) c.args.items.now) in
+      c.apply_batch.ensures.stands g.H.Hasher.hash old new (old ∷ []) (c.in_ok-batch.ensures.history list stands) (Contains-more (old ∷ []) new old (Contains-first old [])) stands;
   err = c.apply_batch.ensures.err;
 }

@@ -20,7 +20,7 @@ returns g c = record {
   start = on_ok_weaker c.apply_batch.result (λ ends. ends.0) c.apply_batch.ensures.bounds;
   leaves = on_ok_weaker c.apply_batch.result (λ ends. ends.1 ∙ c.in_ok-batch.ensures.leaves) c.apply_batch.ensures.bounds;
   stands = λ list stands.
-        c.apply_batch.ensures.stands g.H.Hasher.hash list (list ++ map g.H.Digest.Digest.bytes c.args.digests.now) (list ∷ [])
-        (c.in_ok-batch.ensures.history list stands) (Contains-more (list ∷ []) (list ++ map g.H.Digest.Digest.bytes c.args.digests.now) list (Contains-first list [])) stands;
+      c.apply_batch.ensures.stands g.H.Hasher.hash list (list ++ map g.H.Digest.Digest.bytes c.args.digests.now) (list ∷ [])
+      (c.in_ok-batch.ensures.history list stands) (Contains-more (list ∷ []) (list ++ map g.H.Digest.Digest.bytes c.args.digests.now) list (Contains-first list [])) stands;
   err = c.apply_batch.ensures.err;
 }

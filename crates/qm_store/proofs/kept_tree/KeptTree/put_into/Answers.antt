@@ -1,4 +1,4 @@
-use Rattle.std.proofs.Common.{◌≡◌, ◌≤◌, ◌∙◌, ◌^◌, ◌∷◌, ap, sym, subst, refl}
+use Rattle.std.proofs.Common.{◌≤◌, ◌∙◌, ◌^◌, ◌∷◌, ap, sym, subst, refl}
 use Rattle.std.proofs.lemmas.Result.{on_ok_weaker}
 use Rattle.qm_merkle.specs.Batches.{IsHistory}
 use Rattle.qm_merkle.specs.Mems.{Stands}
