@@ -7,21 +7,6 @@ use Rattle.qm_graft.specs.Grafting.{grafting, kept_shape}
 use Rattle.qm_graft.proofs.Following.{follow-cost}
 use Rattle.qm_graft.proofs.tree.follow.Goals as goal
 
-pub graft-requires-clause-fresh : goal.graft-requires-clause-fresh
-graft-requires-clause-fresh g c = c.requires.fresh
-
-pub graft-requires-clause-kept : goal.graft-requires-clause-kept
-graft-requires-clause-kept g c = c.requires.kept
-
-pub graft-requires-clause-order : goal.graft-requires-clause-order
-graft-requires-clause-order g c = c.requires.order
-
-pub graft-requires-clause-changed : goal.graft-requires-clause-changed
-graft-requires-clause-changed g c = c.requires.changed
-
-pub graft-requires-clause-added : goal.graft-requires-clause-added
-graft-requires-clause-added g c = c.requires.added
-
 pub merkleize-requires-clause-reach : goal.merkleize-requires-clause-reach
 merkleize-requires-clause-reach g c = subst₂ (λ n ls. Contains (stops n ls) c.args.mem.now.leaves) (sym c.in_ok-graft.ensures.same.1) (sym c.in_ok-graft.ensures.same.2) c.requires.reach
 

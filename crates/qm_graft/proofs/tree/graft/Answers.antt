@@ -65,15 +65,6 @@ returns-clause-values g c = λ old new before step tells.
     (λ i found low. (subst (λ k. k < base → IsSome (node_over held shape (grafting size) k)) found.2 (λ less. (c.requires.changed found.0 i found.1 (less)).node)) low)
     (λ i past low. (c.requires.added i past low).node)
 
-pub update_all-requires-clause-fresh : goal.update_all-requires-clause-fresh
-update_all-requires-clause-fresh g c = c.requires.fresh.1
-
-pub update_all-requires-clause-kept : goal.update_all-requires-clause-kept
-update_all-requires-clause-kept g c = c.requires.kept
-
-pub update_all-requires-clause-can : goal.update_all-requires-clause-can
-update_all-requires-clause-can g c = c.requires.changed
-
 pub add_all-requires-clause-order : goal.add_all-requires-clause-order
 add_all-requires-clause-order g c =
     let same = c.in_ok-update_all.ensures.same in

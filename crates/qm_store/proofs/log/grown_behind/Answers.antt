@@ -5,9 +5,6 @@ use Rattle.qm_merkle.specs.Batches.{Draft, all_layers, leaves_of, stops, IsHisto
 use Rattle.qm_store.proofs.Trees.{adds, drafted-added}
 use Rattle.qm_store.proofs.log.grown_behind.Goals as goal
 
-pub add_leaf_digests-requires : goal.add_leaf_digests-requires
-add_leaf_digests-requires g c = omega (arith, c.requires.room, ap length c.requires.fresh)
-
 pub merkleize-requires-clause-reach : goal.merkleize-requires-clause-reach
 merkleize-requires-clause-reach g c = subst (λ (d : Draft _). Contains (stops d.base d.layers) c.args.tree.now.leaves) (sym c.in_ok-add_leaf_digests.ensures.ok) c.requires.reach
 

@@ -90,10 +90,6 @@ read_digests-requires g c =
       few = le_trans within (subst (λ n. n ≤ 2 ^ 62) c.bounds-start.ensures.ends c.bounds-start.ensures.limit);
     }
 
-pub add_leaves-requires : goal.add_leaves-requires
-add_leaves-requires g c =
-    omega (arith, c.in_ok-tree.ensures.leaves, ap length c.deref.ensures.value, c.in_ok-digests.ensures.count, c.bounds-start.ensures.starts, c.bounds-start.ensures.ends, c.bounds-start.ensures.limit, c.pruned.ensures.kept.start, c.pruned.ensures.kept.end, c.requires.start, c.requires.end)
-
 pub returns-clause-start : goal.returns-clause-start
 returns-clause-start g c = c.in_ok-add_leaves.ensures.start ∙ c.in_ok-tree.ensures.start
 

@@ -55,9 +55,3 @@ returns-clause-cause g c =
     let shape = g.F.Family.shape in
     let at = over_at shape c.args.batch.now c.args.tree.now in
     subst (λ m. IfErr c.proof_from.result (IsLacked at (needed_positions shape m c.args.start c.args.end))) (c.get-3.ensures ∙ c.leaves-leaves.ensures.count) c.proof_from.ensures.cause
-
-pub proof_from-requires-clause-within : goal.proof_from-requires-clause-within
-proof_from-requires-clause-within g c = subst (λ m. c.args.end ≤ m) (sym (c.get-3.ensures ∙ c.leaves-leaves.ensures.count)) c.requires.within
-
-pub proof_from-requires-clause-inactive : goal.proof_from-requires-clause-inactive
-proof_from-requires-clause-inactive g c = subst (λ m. c.args.inactive ≤ length (peaks g.F.Family.shape m)) (sym (c.get-3.ensures ∙ c.leaves-leaves.ensures.count)) c.requires.inactive
