@@ -1,17 +1,8 @@
-use Rattle.std.proofs.Common.{◌≡◌, ◌≤◌, ◌∙◌, ◌+◌, ◌++◌, ◌∷◌, ℕ, IfOk, All, Contains, length, ap, sym, subst, arith}
-use Rattle.std.proofs.lemmas.List.Elements.{All-nil}
+use Rattle.std.proofs.Common.{◌≡◌, ◌∙◌, ◌+◌, ◌++◌, ◌∷◌, IfOk, length, ap, sym, subst}
 use Rattle.std.proofs.lemmas.Result.{IfOk-from_err}
-use Rattle.qm_merkle.specs.Batches.{Draft, all_layers, leaves_of, stops, IsHistory}
+use Rattle.qm_merkle.specs.Batches.{Draft, all_layers, leaves_of, IsHistory}
 use Rattle.qm_store.proofs.Trees.{adds, drafted-added}
 use Rattle.qm_store.proofs.log.grown_behind.Goals as goal
-
-pub merkleize-requires-clause-reach : goal.merkleize-requires-clause-reach
-merkleize-requires-clause-reach g c = subst (λ (d : Draft _). Contains (stops d.base d.layers) c.args.tree.now.leaves) (sym c.in_ok-add_leaf_digests.ensures.ok) c.requires.reach
-
-pub merkleize-requires-clause-replaced : goal.merkleize-requires-clause-replaced
-merkleize-requires-clause-replaced g c =
-    let late = λ (e : ℕ × _). c.args.tree.now.start ≤ e.0 in
-    subst (All late) (sym (ap (λ (d : Draft _). d.replaced) c.in_ok-add_leaf_digests.ensures.ok ∙ c.requires.none)) (All-nil late)
 
 pub returns-in_err-add_leaf_digests : goal.returns-in_err-add_leaf_digests
 returns-in_err-add_leaf_digests g c =

@@ -1,8 +1,7 @@
-use Rattle.std.proofs.Common.{◌≡◌, ◌∙◌, ◌≤◌, ◌^◌, None, IfOk, IfErr, OnOk, length, arith, sym, subst, le_refl}
+use Rattle.std.proofs.Common.{◌≡◌, ◌∙◌, ◌≤◌, ◌^◌, None, IfOk, IfErr, OnOk, length, arith, subst, le_refl}
 use Rattle.std.proofs.lemmas.List.{take_all}
 use Rattle.std.proofs.lemmas.Result.{IfErr-weaker}
 use Rattle.qm_base.specs.declared.error.Error.TheVariants as errors
-use Rattle.qm_model.specs.Trees.{peaks}
 use Rattle.qm_model.specs.Proofs.{proof_of}
 use Rattle.qm_merkle.specs.Batches.{all_layers}
 use Rattle.qm_proofs.specs.Proofs.{proof_view, needed_positions, first_lacked, over_at}
