@@ -16,9 +16,6 @@ digests-requires g c =
     (sym (c.deref.ensures.value ∙ c.in_ok-positions.ensures ∙ ap (peak_positions shape) is))
     (peaks_there shape g.met.F.Family.peaked c.args.mem.now c.args.self.now.layers c.args.nodes.now.entries base (omega (arith, c.self.invariant.1, is)) c.requires.start c.requires.there)
 
-pub of_parts-tree-requires-clause-positions : goal.of_parts-tree-requires-clause-positions
-of_parts-tree-requires-clause-positions g c = c.in_ok-positions.ensures
-
 pub of_parts-tree-requires-clause-pins : goal.of_parts-tree-requires-clause-pins
 of_parts-tree-requires-clause-pins g c =
     let shape = g.F.Family.shape in

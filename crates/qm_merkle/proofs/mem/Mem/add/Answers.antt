@@ -5,9 +5,6 @@ use Rattle.qm_merkle.specs.Mems.{Kept, IsWhole, Stands, more}
 use Rattle.qm_merkle.proofs.Growth.{stands-grown, grown-fields}
 use Rattle.qm_merkle.proofs.mem.Mem.add.Goals as goal
 
-pub births-requires : goal.births-requires
-births-requires g c = c.requires
-
 pub invariant_of-self-2 : goal.invariant_of-self-2
 invariant_of-self-2 g c =
     let shape = g.F.Family.shape in

@@ -15,12 +15,6 @@ loop-leaf-preserved g c = record {
   made = made-next g.F.Family.shape g.F.Family.births g.met.F.Family.numbered c.args.self.now.leaves c.loop-leaf.leaf-index c.loop-leaf.self.leaves c.args.hasher.now c.loop-leaf.hasher c.add.new.hasher c.loop-leaf.invariant.leaves c.loop-leaf.invariant.made c.in_ok-add.ensures.made;
 }
 
-pub make_room-requires : goal.make_room-requires
-make_room-requires g c = c.requires
-
-pub add-requires : goal.add-requires
-add-requires g c = omega (arith, c.requires, c.loop-leaf.invariant.leaves, c.loop-leaf-test.true)
-
 pub returns-in_err-make_room : goal.returns-in_err-make_room
 returns-in_err-make_room g c = record {
   bounds = IfOk-from_err c.from_residual.result _ c.from_residual.ensures.0;

@@ -30,15 +30,6 @@ first_born bytes made d leaves digest born n is count first reads k lt =
     less : (m : ℕ) → m - m ≡ 0
     less m = omega arith
 
-pub parent-digest-requires-clause-few : goal.parent-digest-requires-clause-few
-parent-digest-requires-clause-few g c = c.requires
-
-pub parent-digest-requires-clause-number : goal.parent-digest-requires-clause-number
-parent-digest-requires-clause-number g c = ap length c.deref.ensures.value ∙ c.loop-number.invariant.count
-
-pub parent-digest-requires-clause-some : goal.parent-digest-requires-clause-some
-parent-digest-requires-clause-some g c = c.loop-number.auto.number
-
 pub parent-digest-requires-clause-room : goal.parent-digest-requires-clause-room
 parent-digest-requires-clause-room g c = omega (arith, c.loop-number-test.true, c.birth_count-count.ensures, ap (λ k. g.F.Family.births.count k.leaves) c.self.view_is)
 
