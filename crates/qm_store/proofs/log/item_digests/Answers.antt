@@ -1,4 +1,4 @@
-use Rattle.std.proofs.Common.{◌∙◌, ◌+◌, [], ◌∷◌, length, map, ap, add-one}
+use Rattle.std.proofs.Common.{◌∙◌, ◌+◌, [], ◌∷◌, length, map, ap, arith, add-one}
 use Rattle.std.proofs.lemmas.List.{length-append, take_all}
 use Rattle.std.proofs.lemmas.Result.{IfOk-from_err}
 use Rattle.qm_model.specs.Trees.{leaf, leaf_digest}
@@ -24,6 +24,9 @@ loop-index-init g c = record {
   count = ap length c.in_ok-made.ensures.items;
   room = c.in_ok-made.ensures.exact;
 }
+
+pub push_reserved-requires : goal.push_reserved-requires
+push_reserved-requires g c = omega (arith, c.loop-index.invariant.count, c.loop-index.invariant.room, c.loop-index-test.true)
 
 pub returns-in_err-made : goal.returns-in_err-made
 returns-in_err-made g c = IfOk-from_err c.from_residual.result _ c.from_residual.ensures.0

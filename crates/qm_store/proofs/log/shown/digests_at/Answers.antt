@@ -1,4 +1,4 @@
-use Rattle.std.proofs.Common.{◌∙◌, inl, inr, refl, length, map, ap, sym, subst, Some}
+use Rattle.std.proofs.Common.{◌∙◌, inl, inr, refl, length, map, ap, arith, sym, subst, Some}
 use Rattle.std.proofs.lemmas.List.{take_all}
 use Rattle.std.proofs.lemmas.Result.{IfOk-from_err, err_from_is_err_and}
 use Rattle.qm_merkle.proofs.PeakCounts.{one_found, one_longer}
@@ -21,6 +21,9 @@ loop-position-preserved g c = record {
   count = one_longer _ _ _ _ c.push_reserved.ensures.items c.loop-position.invariant.count;
   room = c.push_reserved.ensures.capacity ∙ c.loop-position.invariant.room;
 }
+
+pub push_reserved-requires : goal.push_reserved-requires
+push_reserved-requires g c = omega (arith, c.loop-position.invariant.count, c.loop-position.invariant.room, c.loop-position-test.true)
 
 pub returns-in_err-digests : goal.returns-in_err-digests
 returns-in_err-digests g c =

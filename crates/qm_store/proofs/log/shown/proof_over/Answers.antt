@@ -1,7 +1,8 @@
-use Rattle.std.proofs.Common.{◌≡◌, ◌∙◌, ◌≤◌, ◌^◌, None, IfOk, IfErr, OnOk, length, arith, subst, le_refl}
+use Rattle.std.proofs.Common.{◌≡◌, ◌∙◌, ◌≤◌, ◌^◌, None, IfOk, IfErr, OnOk, length, arith, sym, subst, le_refl}
 use Rattle.std.proofs.lemmas.List.{take_all}
 use Rattle.std.proofs.lemmas.Result.{IfErr-weaker}
 use Rattle.qm_base.specs.declared.error.Error.TheVariants as errors
+use Rattle.qm_model.specs.Trees.{peaks}
 use Rattle.qm_model.specs.Proofs.{proof_of}
 use Rattle.qm_merkle.specs.Batches.{all_layers}
 use Rattle.qm_proofs.specs.Proofs.{proof_view, needed_positions, first_lacked, over_at}
@@ -54,3 +55,9 @@ returns-clause-cause g c =
     let shape = g.F.Family.shape in
     let at = over_at shape c.args.batch.now c.args.tree.now in
     subst (λ m. IfErr c.proof_from.result (IsLacked at (needed_positions shape m c.args.start c.args.end))) (c.get-3.ensures ∙ c.leaves-leaves.ensures.count) c.proof_from.ensures.cause
+
+pub proof_from-requires-clause-within : goal.proof_from-requires-clause-within
+proof_from-requires-clause-within g c = subst (λ m. c.args.end ≤ m) (sym (c.get-3.ensures ∙ c.leaves-leaves.ensures.count)) c.requires.within
+
+pub proof_from-requires-clause-inactive : goal.proof_from-requires-clause-inactive
+proof_from-requires-clause-inactive g c = subst (λ m. c.args.inactive ≤ length (peaks g.F.Family.shape m)) (sym (c.get-3.ensures ∙ c.leaves-leaves.ensures.count)) c.requires.inactive
