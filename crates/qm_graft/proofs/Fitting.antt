@@ -43,3 +43,10 @@ fits-high g high x is above =
     let sum : 63 ≤ x.height + g = omega (arith, is, above) in
     let wide : 2 ^ 63 ≤ 2 ^ (x.height + g) = pow_mono sum in
     sym (lt-leb (suc x.index * 2 ^ (x.height + g)) (2 ^ 62) (omega (arith, wide)))
+
+-- a chunk within 2 ^ 62 operations has a lower number
+pub chunk-low : (size e c : ℕ) → size ≡ 2 ^ e → suc c * (8 * size) ≤ 2 ^ 62 → c < 2 ^ 62
+chunk-low size e c is within =
+    let some = pow_pos e in
+    let least = mul-le (suc c) 1 (suc c) (8 * size) (le_refl (suc c)) (omega (arith, is, some)) in
+    omega (arith, least, within)

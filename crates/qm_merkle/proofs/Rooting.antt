@@ -3,6 +3,7 @@ use Rattle.std.proofs.Common.{◌≡◌, ℕ, zero, suc, ◌+◌, ◌-◌, ◌<�
 use Rattle.qm_model.specs.Operations.{Bytes}
 use Rattle.qm_model.specs.Trees.{fold_left, fold_inactive, fold_right}
 use Rattle.std.proofs.lemmas.List.{take_rest, drop_all, drop-map, take-map, length-map, length-drop}
+use Rattle.qm_merkle.specs.Mems.{more}
 
 fold_right-cons : (hash : Bytes → Bytes) (q : Bytes) (xs : List Bytes) → 0 < length xs → fold_right hash (q ∷ xs) ≡ hash (q ++ fold_right hash xs)
 fold_right-cons hash q [] h = absurd (omega arith)
@@ -37,3 +38,16 @@ folded_mid bytes hash (q ∷ qs) (suc i) p pos lt is =
     ∙ ap₂ (λ a b. hash (a ++ fold_right hash b))
     (ap (fold_left hash (bytes q)) (take-map bytes i qs ∙ ap (λ k. map bytes (take k qs)) before) ∙ ap (λ d. fold_left hash (bytes d) (map bytes (take (suc i - 1) qs))) (sym is))
     (drop-map bytes i qs ∙ ap (map bytes) (sym (take_rest (q ∷ qs) (suc i))))
+
+pub folded_all : {D : Type 0} (bytes : D → Bytes) (hash : Bytes → Bytes) (peaks : List D) (j : ℕ) (p : D) → 0 < j → j ≡ length peaks → p ≡ get_or peaks 0 p →
+    fold_right hash (fold_inactive hash (take j (map bytes peaks)) ++ drop j (map bytes peaks)) ≡ fold_left hash (bytes p) (map bytes (take (j - 1) (drop 1 peaks)))
+folded_all bytes hash [] j p pos all is = absurd (omega arith)
+folded_all bytes hash (q ∷ qs) zero p pos all is = absurd (omega arith)
+folded_all bytes hash (q ∷ qs) (suc i) p pos all is =
+    let before : i ≡ suc i - 1 = omega arith in
+    ap (λ rest. fold_right hash (fold_left hash (bytes q) (take i (map bytes qs)) ∷ rest)) (drop_all i (map bytes qs) (omega (arith, length-map qs bytes, all)))
+    ∙ ap (fold_left hash (bytes q)) (take-map bytes i qs ∙ ap (λ k. map bytes (take k qs)) before) ∙ ap (λ d. fold_left hash (bytes d) (map bytes (take (suc i - 1) qs))) (sym is)
+
+-- digests that are counted one after another are counted together
+pub more_twice : (a m n : ℕ) → more (more a m) n ≡ more a (m + n)
+more_twice a m n = omega arith

@@ -1,14 +1,14 @@
 -- The trees that batches keep, over a log at one of their lists.
-use Rattle.std.proofs.Common.{◌≡◌, ℕ, ◌≤◌, ◌+◌, List, [], ◌∷◌, ◌++◌, length, refl, sym, ◌∙◌, ap, ap₂, subst, arith, Contains, All}
+use Rattle.std.proofs.Common.{◌≡◌, ℕ, ◌≤◌, ◌+◌, List, [], ◌∷◌, ◌++◌, length, refl, sym, ◌∙◌, ap, ap₂, subst, arith, Contains, All, Option, Some, None, IfSome, Result, Ok, Err, IfOk}
 use Rattle.std.proofs.lemmas.List.{length-append}
 use Rattle.std.proofs.lemmas.List.Elements.{All-nil, All-cons, All-contains, All-weaker}
 use Rattle.qm_model.specs.Operations.{Bytes}
 use Rattle.qm_model.specs.Trees.{Shape}
 use Rattle.qm_model.proofs.Chains.{Contains-first, Contains-more}
-use Rattle.qm_merkle.specs.Batches.{Layer, stops, lists_since, IsHistory}
-use Rattle.qm_merkle.proofs.Since.{list-since, lists-since, first-since}
+use Rattle.qm_merkle.specs.Batches.{Layer, Batch, all_layers, stops, stops_since, lists_since, IsHistory}
+use Rattle.qm_merkle.proofs.Since.{list-since, lists-since, first-since, stops-since}
 use Rattle.qm_store.specs.Log.{digests_from}
-use Rattle.qm_store.specs.KeptTrees.{KeptTree, IsAdding, IsKeptTree, leaves_of}
+use Rattle.qm_store.specs.KeptTrees.{KeptTree, IsAdding, IsKeptTree, layers_of, leaves_of}
 use Rattle.qm_store.proofs.Leaves.{digests_from-append, length-digests_from}
 
 -- a list of one has no other
@@ -18,6 +18,26 @@ only-one x y found = All-contains (λ z. x ≡ z) (x ∷ []) y (All-cons (λ z. 
 -- with no layers there is one stop
 pub rest-stop : {D : Type 0} (leaves n : ℕ) (layers : List (Layer D)) → layers ≡ [] → Contains (stops leaves layers) n → leaves ≡ n
 rest-stop leaves n layers none reach = only-one leaves n (subst (λ l. Contains (stops leaves l) n) none reach)
+
+-- the tree of a batch
+pub tree-of : {D : Type 0} (tree : KeptTree D) (leaves : ℕ) (held : Option (Batch D)) (batch : Batch D) → tree ≡ record { leaves = leaves; layers = layers_of held } → held ≡ Some batch → IfSome held (λ b. b.newest.tree.leaves ≡ leaves)
+    → tree ≡ record { leaves = batch.newest.tree.leaves; layers = all_layers batch }
+tree-of {D = D} tree leaves held batch view is count =
+    let made : ℕ → Option (Batch D) → KeptTree D = λ n o. record { leaves = n; layers = layers_of o } in
+    view ∙ ap₂ made (sym (subst (λ o. IfSome o (λ b. b.newest.tree.leaves ≡ leaves)) is count)) is
+
+-- the tree of none
+pub rest-of : {D : Type 0} (tree : KeptTree D) (leaves : ℕ) (held : Option (Batch D)) → tree ≡ record { leaves = leaves; layers = layers_of held } → held ≡ None → tree ≡ record { leaves = leaves; layers = [] }
+rest-of {D = D} tree leaves held view is =
+    let made : Option (Batch D) → KeptTree D = λ o. record { leaves = leaves; layers = layers_of o } in
+    view ∙ ap made is
+
+-- the stops of a first batch behind it
+pub rest-stops : {D E : Type 0} (shape : Shape) (made : Result (Batch D) E) (tree : KeptTree D) (n boundary : ℕ) → tree.layers ≡ [] → tree.leaves ≡ n → boundary ≤ n
+    → IfOk made (λ b. b.older ≡ []) → IfOk made (λ b. b.newest.tree.start ≡ n) → IfOk made (λ b. stops b.newest.tree.leaves (all_layers b) ≡ b.newest.tree.leaves ∷ stops_since boundary (stops tree.leaves tree.layers))
+rest-stops shape (Err e) tree n boundary none last within older start = tt
+rest-stops {D = D} shape (Ok b) tree n boundary none last within older start =
+    ap (λ ns. b.newest.tree.leaves ∷ ns) (ap₂ stops start older ∙ stops-since shape {D = D} boundary n [] tt within ∙ ap (stops_since boundary) (sym (ap₂ stops last none)))
 
 module _ (hash : Bytes → Bytes) (shape : Shape) where
   -- lists of the same leaves have the same leaves with more behind them
@@ -31,6 +51,12 @@ module _ (hash : Bytes → Bytes) (shape : Shape) where
     one-list : (leaves : List Bytes) (lists : List (List Bytes)) → IsHistory {D = D} shape bytes hash [] (leaves ∷ lists) → lists ≡ []
     one-list leaves [] history = refl
     one-list leaves (more ∷ lists) history = absurd history
+
+    -- so the list of a history is each that it contains
+    pub rest-list : (layers : List (Layer D)) (new list : List Bytes) (lists : List (List Bytes)) → layers ≡ [] → IsHistory shape bytes hash layers (new ∷ lists) → Contains (new ∷ lists) list → new ≡ list
+    rest-list layers new list lists none history found =
+        let alone = one-list new lists (subst (λ l. IsHistory shape bytes hash l (new ∷ lists)) none history) in
+        only-one new list (subst (λ l. Contains (new ∷ l) list) alone found)
 
     -- so the tree of a list in it is the only one, and grows as that of any other list of the same leaves
     pub rest-grown : (layers : List (Layer D)) (list base more : List Bytes) (lists : List (List Bytes)) (boundary : ℕ) → layers ≡ [] → boundary ≤ length list → IsHistory shape bytes hash layers (leaves_of hash shape base ∷ lists)

@@ -8,3 +8,4 @@ pub mod Kept
 pub mod Adding
 pub mod Reading
 pub mod Exits
+pub mod Called

@@ -1,9 +1,13 @@
 -- What reads of a log leave, one after another.
-use Rattle.std.proofs.Common.{◌∙◌, refl, arith}
+use Rattle.std.proofs.Common.{◌≡◌, ◌≢◌, ◌⊎◌, ◌↔◌, ◌∙◌, ◌<◌, ◌≤◌, ℕ, Result, Err, ap, inl, inr, refl, arith}
+use Rattle.std.specs.Prelude.{IsErrOf}
+use Rattle.qm_model.specs.Causes.{IsCause}
 use Rattle.qm_model.specs.Operations.{Bytes}
 use Rattle.qm_model.specs.Trees.{Shape}
 use Rattle.qm_base.specs.Reads.{Reads}
 use Rattle.qm_base.specs.declared.error.Error.{Error}
+use Rattle.qm_base.specs.declared.error.Error.TheVariants as errors
+use Rattle.qm_base.specs.declared.error.JournalError.TheVariants as journal
 use Rattle.qm_base.proofs.Reading as reading
 use Rattle.qm_store.specs.declared.Store as store
 use Rattle.qm_store.specs.Log.{Log}
@@ -32,3 +36,13 @@ module _ {C D : Type 0} (members : store.Ghosts C) (shape : Shape) (bytes : D �
   -- an error after reads
   pub error-then : (a b c : Log C D) (e : Error) → IsRead members shape bytes hash a b → IsReadError members b c e → IsReadError members a c e
   error-then = reading.error-then reads (λ a b c before rose. let later = before.later in omega (arith, later, rose))
+
+-- why the read of an item failed, which does not lie below the start where the log begins before it
+pub failed-read : {C D T : Type 0} (members : store.Ghosts C) (old new : Log C D) (at : ℕ) (done : Result T Error) (e : Error) → done ≡ Err e →
+    (e ≡ errors.Memory) ⊎ ((e ≡ errors.Journal journal.Store) ⊎ (e ≡ errors.Journal (journal.ItemPruned at))) → (done ≡ Err (errors.Journal (journal.ItemPruned at))) ↔ (at < old.tree.start) →
+    IsCause (members.faults old.store) (members.faults new.store) (IsErrOf done (errors.Journal journal.Store)) → IsReadError members old new e × (old.tree.start ≤ at → (n : ℕ) → e ≢ errors.Journal (journal.ItemPruned n))
+failed-read members old new at done e was (inl memory) pruned cause = (inl memory, λ from n gone. absurd cc)
+failed-read members old new at done e was (inr (inl fault)) pruned cause = (inr (inl (fault, cause.failed (was ∙ ap Err fault))), λ from n gone. absurd cc)
+failed-read members old new at done e was (inr (inr gone)) pruned cause =
+    let low = pruned.0 (was ∙ ap Err gone) in
+    (inr (inr (at, low, gone)), λ from n _. absurd (omega (arith, low, from)))

@@ -147,6 +147,13 @@ module _ {C D : Type 0} (members : store.Ghosts C) (shape : Shape) (bytes : D �
       take_all (length (list ++ more) - new.tree.start) (s.items ++ more) (omega (arith, length-append s.items more, length-append list more, whole, within, start))
       ∙ ap (λ l. l ++ more) rest ∙ sym (drop-append-le n list more within) ∙ ap (λ k. drop k (list ++ more)) (sym start))
 
+  -- a log whose store was made this, of the same items
+  pub log-become : (f : Stored → Stored) → ((s : Stored) → (f s).items ≡ s.items) → new.tree ≡ old.tree → members.start new.store ≡ members.start old.store → Becomes (members.told old.store) (members.told new.store) f → IsLog members shape bytes hash new list
+  log-become f items same start made =
+      let from = ap (λ t. t.start) same in
+      log-made f list (subst (λ t. Stands shape bytes hash t (digests_from hash shape 0 list)) (sym same) is.tree) (from ∙ is.start ∙ sym start) made
+      (λ s first end has. subst (λ n. take (length list - n) (f s).items ≡ drop n list) (sym from) (ap (take (length list - old.tree.start)) (items s) ∙ has))
+
   -- a log whose store ends with it from now on
   pub log-settled : new.tree ≡ old.tree → members.start new.store ≡ members.start old.store → Becomes (members.told old.store) (members.told new.store) (rewound old.tree.leaves) → IsLog members shape bytes hash new list
   log-settled same start settled =
@@ -175,3 +182,21 @@ pub log-stored : {C D E : Type 0} (members : store.Ghosts C) (shape : Shape) (by
 log-stored members shape bytes hash old tree (Ok log) list more is stands start same grown starts ends last order =
     log-grown members shape bytes hash old log list is starts ends more (subst (λ t. Stands shape bytes hash t (digests_from hash shape 0 (list ++ more))) (sym same) stands) (ap (λ t. t.start) same ∙ start) grown last order
 log-stored members shape bytes hash old tree (Err e) list more is stands start same grown starts ends last order = tt
+
+-- the log of a store whose tree stands for what the store has
+pub log-opened : {C D : Type 0} (members : store.Ghosts C) (shape : Shape) (bytes : D → Bytes) (hash : Bytes → Bytes) (old : C) (log : Log C D) (list : List Bytes) (size : ℕ) (B : Stored → Type 0) →
+    IsKept members old log.store → log.tree.start ≡ members.start old → log.tree.leaves ≡ size → length list ≡ size →
+    IfSome (members.told old) (λ held. take (size - members.start old) held.items ≡ drop (members.start old) list → B held → Stands shape bytes hash log.tree (digests_from hash shape 0 list)) →
+    IfSome (members.told old) (λ held. take (size - members.start old) held.items ≡ drop (members.start old) list → B held → IsLog members shape bytes hash log list)
+log-opened members shape bytes hash old log list size B kept start leaves long = by (members.told old) kept.told
+  where
+    by : (o : Option Stored) → members.told log.store ≡ o → IfSome o (λ held. take (size - members.start old) held.items ≡ drop (members.start old) list → B held → Stands shape bytes hash log.tree (digests_from hash shape 0 list)) →
+        IfSome o (λ held. take (size - members.start old) held.items ≡ drop (members.start old) list → B held → IsLog members shape bytes hash log list)
+    by None same stands = tt
+    by (Some held) same stands = λ has head. record {
+      tree = stands has head;
+      start = start ∙ sym kept.start;
+      size = leaves ∙ sym long;
+      items = subst (λ o. IfSome o (λ s. take (length list - log.tree.start) s.items ≡ drop log.tree.start list)) (sym same)
+          (subst (λ n. take (length list - n) held.items ≡ drop n list) (sym start) (subst (λ n. take (n - members.start old) held.items ≡ drop (members.start old) list) (sym long) has));
+    }

@@ -1,4 +1,5 @@
 use Rattle.std.proofs.Common.{◌≡◌, ◌∙◌, ◌+◌, arith, ap, length}
+use Rattle.std.proofs.lemmas.Result.{IfOk-from_err}
 use Rattle.qm_model.specs.Trees.{peaks}
 use Rattle.qm_bits.specs.Bitmaps.{bit_count, all_bits}
 use Rattle.qm_graft.specs.Grafting.{grafting}
@@ -29,3 +30,21 @@ returns-clause-made g c =
     let last = c.canonical_root.ensures.made in
     let leaves = ap (λ n. length (peaks g.F.Family.shape n)) (c.new-leaves.ensures ∙ c.len.ensures) in
     (second.0 + third.0 + 1, omega (arith, second.1, third.1), omega (arith, first, second.2, third.2, last, leaves))
+
+pub returns-in_err-grafted : goal.returns-in_err-grafted
+returns-in_err-grafted g c = record {
+  canonical = λ form ops same floor ops_root tells. IfOk-from_err c.from_residual.result _ c.from_residual.ensures.0;
+  made = IfOk-from_err c.from_residual.result _ c.from_residual.ensures.0;
+}
+
+pub returns-in_err-pending : goal.returns-in_err-pending
+returns-in_err-pending g c = record {
+  canonical = λ form ops same floor ops_root tells. IfOk-from_err c.from_residual-in_err-pending.result _ c.from_residual-in_err-pending.ensures.0;
+  made = IfOk-from_err c.from_residual-in_err-pending.result _ c.from_residual-in_err-pending.ensures.0;
+}
+
+pub returns-in_err-partial : goal.returns-in_err-partial
+returns-in_err-partial g c = record {
+  canonical = λ form ops same floor ops_root tells. IfOk-from_err c.from_residual-in_err-partial.result _ c.from_residual-in_err-partial.ensures.0;
+  made = IfOk-from_err c.from_residual-in_err-partial.result _ c.from_residual-in_err-partial.ensures.0;
+}

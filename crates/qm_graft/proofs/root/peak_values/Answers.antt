@@ -4,11 +4,11 @@ use Rattle.std.proofs.lemmas.Result.{IfOk-from_err, IfOk-weaker}
 use Rattle.qm_model.specs.Trees.{Shape, peak_positions, peaks}
 use Rattle.qm_graft.proofs.root.peak_values.Goals as goal
 
-pub returns-in_err-positions-clause-held : goal.returns-in_err-positions-clause-held
-returns-in_err-positions-clause-held g c = IfOk-from_err c.from_residual.result _ c.from_residual.ensures.0
-
-pub returns-in_err-positions-clause-count : goal.returns-in_err-positions-clause-count
-returns-in_err-positions-clause-count g c = IfOk-from_err c.from_residual.result _ c.from_residual.ensures.0
+pub returns-in_err-positions : goal.returns-in_err-positions
+returns-in_err-positions g c = record {
+  held = IfOk-from_err c.from_residual.result _ c.from_residual.ensures.0;
+  count = IfOk-from_err c.from_residual.result _ c.from_residual.ensures.0;
+}
 
 pub returns-clause-held : goal.returns-clause-held
 returns-clause-held g c =

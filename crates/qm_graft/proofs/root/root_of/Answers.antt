@@ -1,4 +1,5 @@
 use Rattle.std.proofs.Common.{◌≡◌, ◌∙◌, length, map, ap, sym}
+use Rattle.std.proofs.lemmas.Result.{IfOk-from_err}
 use Rattle.qm_model.specs.Trees.{Shape, peaks, peak_positions, leaves_from}
 use Rattle.qm_model.specs.Grafted.{chunk_of, grafted_value, grafted_inactive, grafted_root_of}
 use Rattle.qm_graft.specs.Grafting.{grafting}
@@ -17,3 +18,9 @@ returns-clause-root g c = λ form ops long floor tells.
     (c.in_ok-values.ensures.held ∙ ap (λ n. map (g.V.Nodes.node_at c.args.view.now) (peak_positions shape n)) count) tells in
     c.grafted_root.ensures.root height list (chunk_of height ops) count values
     ∙ ap (grafted_root_of hash shape height list (chunk_of height ops)) (c.grafted_inactive-inactive.ensures.list ops long floor ∙ ap (λ h. grafted_inactive shape h ops) c.height.ensures.exact)
+
+pub returns-in_err-values : goal.returns-in_err-values
+returns-in_err-values g c = record {
+  root = λ form ops long floor tells. IfOk-from_err c.from_residual.result _ c.from_residual.ensures.0;
+  made = IfOk-from_err c.from_residual.result _ c.from_residual.ensures.0;
+}

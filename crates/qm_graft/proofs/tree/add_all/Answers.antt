@@ -1,10 +1,11 @@
-use Rattle.std.proofs.Common.{◌≡◌, ◌∙◌, ◌-◌, ◌++◌, ◌∷◌, [], arith, ap, append-nil, length, map, refl, sym}
+use Rattle.std.proofs.Common.{◌≡◌, ◌∙◌, ◌-◌, ◌^◌, ◌<◌, ◌++◌, ◌∷◌, [], arith, ap, append-nil, length, map, refl, subst, sym}
 use Rattle.std.proofs.lemmas.List.{length-append}
 use Rattle.std.proofs.lemmas.Result.{IfOk-from_err}
 use Rattle.qm_bits.specs.Bitmaps.{all_bits}
 use Rattle.qm_merkle.specs.Batches.{Draft, leaves_of}
 use Rattle.qm_merkle.specs.Mems.{more}
 use Rattle.qm_graft.specs.Grafting.{made_values}
+use Rattle.qm_graft.proofs.Fitting.{chunk-low}
 use Rattle.qm_graft.proofs.Following.{more-values}
 use Rattle.qm_graft.proofs.tree.add_all.Goals as goal
 
@@ -41,35 +42,34 @@ loop-at-init g c =
       made = omega (arith, none);
     }
 
-pub returns-in_err-value-clause-same : goal.returns-in_err-value-clause-same
-returns-in_err-value-clause-same g c = IfOk-from_err c.from_residual.result _ c.from_residual.ensures.0
+pub returns-in_err-value : goal.returns-in_err-value
+returns-in_err-value g c = record {
+  same = IfOk-from_err c.from_residual.result _ c.from_residual.ensures.0;
+  added = IfOk-from_err c.from_residual.result _ c.from_residual.ensures.0;
+  made = IfOk-from_err c.from_residual.result _ c.from_residual.ensures.0;
+}
 
-pub returns-in_err-value-clause-added : goal.returns-in_err-value-clause-added
-returns-in_err-value-clause-added g c = IfOk-from_err c.from_residual.result _ c.from_residual.ensures.0
+pub returns-in_err-add_leaf_digest : goal.returns-in_err-add_leaf_digest
+returns-in_err-add_leaf_digest g c = record {
+  same = IfOk-from_err c.from_residual-in_err-add_leaf_digest.result _ c.from_residual-in_err-add_leaf_digest.ensures.0;
+  added = IfOk-from_err c.from_residual-in_err-add_leaf_digest.result _ c.from_residual-in_err-add_leaf_digest.ensures.0;
+  made = IfOk-from_err c.from_residual-in_err-add_leaf_digest.result _ c.from_residual-in_err-add_leaf_digest.ensures.0;
+}
 
-pub returns-in_err-value-clause-made : goal.returns-in_err-value-clause-made
-returns-in_err-value-clause-made g c = IfOk-from_err c.from_residual.result _ c.from_residual.ensures.0
+pub returns : goal.returns
+returns g c = record {
+  same = c.loop-at.invariant.same;
+  added =
+      let draft = c.args.draft.now in
+      let end : c.loop-at.at ≡ c.args.count = omega (arith, c.loop-at-test.false, c.loop-at.auto.at-end, c.loop-at.auto.at, c.requires.order, c.get-at.ensures, c.leaves.ensures) in
+      c.loop-at.invariant.added ∙ ap (λ n. map g.H.Digest.Digest.bytes draft.added ++ made_values g.H.Digest.Digest.bytes g.H.Hasher.hash (g.O.Nodes.node_at c.args.behind.now.operations.now) g.F.Family.shape g.N.Chunks.LEN (all_bits g.N.Chunks.LEN (g.B.Readable.bitmap c.args.behind.now.bits.now)) (leaves_of draft) (n - leaves_of draft)) end;
+  made =
+      let draft = c.args.draft.now in
+      let end : c.loop-at.at ≡ c.args.count = omega (arith, c.loop-at-test.false, c.loop-at.auto.at-end, c.loop-at.auto.at, c.requires.order, c.get-at.ensures, c.leaves.ensures) in
+      c.loop-at.invariant.made ∙ ap (λ n. more c.args.hasher.now (n - leaves_of draft)) end;
+}
 
-pub returns-in_err-add_leaf_digest-clause-same : goal.returns-in_err-add_leaf_digest-clause-same
-returns-in_err-add_leaf_digest-clause-same g c = IfOk-from_err c.from_residual-in_err-add_leaf_digest.result _ c.from_residual-in_err-add_leaf_digest.ensures.0
-
-pub returns-in_err-add_leaf_digest-clause-added : goal.returns-in_err-add_leaf_digest-clause-added
-returns-in_err-add_leaf_digest-clause-added g c = IfOk-from_err c.from_residual-in_err-add_leaf_digest.result _ c.from_residual-in_err-add_leaf_digest.ensures.0
-
-pub returns-in_err-add_leaf_digest-clause-made : goal.returns-in_err-add_leaf_digest-clause-made
-returns-in_err-add_leaf_digest-clause-made g c = IfOk-from_err c.from_residual-in_err-add_leaf_digest.result _ c.from_residual-in_err-add_leaf_digest.ensures.0
-
-pub returns-clause-same : goal.returns-clause-same
-returns-clause-same g c = c.loop-at.invariant.same
-
-pub returns-clause-added : goal.returns-clause-added
-returns-clause-added g c =
-    let draft = c.args.draft.now in
-    let end : c.loop-at.at ≡ c.args.count = omega (arith, c.loop-at-test.false, c.loop-at.auto.at-end, c.loop-at.auto.at, c.requires.order, c.get-at.ensures, c.leaves.ensures) in
-    c.loop-at.invariant.added ∙ ap (λ n. map g.H.Digest.Digest.bytes draft.added ++ made_values g.H.Digest.Digest.bytes g.H.Hasher.hash (g.O.Nodes.node_at c.args.behind.now.operations.now) g.F.Family.shape g.N.Chunks.LEN (all_bits g.N.Chunks.LEN (g.B.Readable.bitmap c.args.behind.now.bits.now)) (leaves_of draft) (n - leaves_of draft)) end
-
-pub returns-clause-made : goal.returns-clause-made
-returns-clause-made g c =
-    let draft = c.args.draft.now in
-    let end : c.loop-at.at ≡ c.args.count = omega (arith, c.loop-at-test.false, c.loop-at.auto.at-end, c.loop-at.auto.at, c.requires.order, c.get-at.ensures, c.leaves.ensures) in
-    c.loop-at.invariant.made ∙ ap (λ n. more c.args.hasher.now (n - leaves_of draft)) end
+pub add_leaf_digest-requires : goal.add_leaf_digest-requires
+add_leaf_digest-requires g c =
+    let power = g.met.N.Chunks.power in
+    subst (λ n. n < 2 ^ 62) c.loop-at.invariant.here (chunk-low g.N.Chunks.LEN power.0 c.loop-at.at power.1 (c.requires.can c.loop-at.at c.loop-at.invariant.from c.loop-at-test.true).within)

@@ -65,15 +65,6 @@ returns-clause-values g c = λ old new before step tells.
     (λ i found low. (subst (λ k. k < base → IsSome (node_over held shape (grafting size) k)) found.2 (λ less. (c.requires.changed found.0 i found.1 (less)).node)) low)
     (λ i past low. (c.requires.added i past low).node)
 
-pub update_all-requires-clause-fresh : goal.update_all-requires-clause-fresh
-update_all-requires-clause-fresh g c = c.requires.fresh.1
-
-pub update_all-requires-clause-kept : goal.update_all-requires-clause-kept
-update_all-requires-clause-kept g c = c.requires.kept
-
-pub update_all-requires-clause-can : goal.update_all-requires-clause-can
-update_all-requires-clause-can g c = c.requires.changed
-
 pub add_all-requires-clause-order : goal.add_all-requires-clause-order
 add_all-requires-clause-order g c =
     let same = c.in_ok-update_all.ensures.same in
@@ -84,57 +75,33 @@ add_all-requires-clause-can g c = λ chunk past low.
     let same = c.in_ok-update_all.ensures.same in
     c.requires.added chunk (omega (arith, past, same.base)) low
 
-pub returns-in_err-update_all-clause-same : goal.returns-in_err-update_all-clause-same
-returns-in_err-update_all-clause-same g c = IfOk-from_err c.from_residual.result _ c.from_residual.ensures.0
+pub returns-in_err-update_all : goal.returns-in_err-update_all
+returns-in_err-update_all g c = record {
+  same = IfOk-from_err c.from_residual.result _ c.from_residual.ensures.0;
+  leaves = IfOk-from_err c.from_residual.result _ c.from_residual.ensures.0;
+  replaced = IfOk-from_err c.from_residual.result _ c.from_residual.ensures.0;
+  above = λ least each. IfOk-from_err c.from_residual.result _ c.from_residual.ensures.0;
+  added = IfOk-from_err c.from_residual.result _ c.from_residual.ensures.0;
+  values = λ old new before step tells. IfOk-from_err c.from_residual.result _ c.from_residual.ensures.0;
+  made = IfOk-from_err c.from_residual.result _ c.from_residual.ensures.0;
+  cause =
+      let exit = err_from_is_err_and c.from_residual.result c.from_residual.ensures.1 in
+      rw (exit.1, exit.2) c.in_err-update_all.ensures.cause;
+}
 
-pub returns-in_err-update_all-clause-leaves : goal.returns-in_err-update_all-clause-leaves
-returns-in_err-update_all-clause-leaves g c = IfOk-from_err c.from_residual.result _ c.from_residual.ensures.0
-
-pub returns-in_err-update_all-clause-replaced : goal.returns-in_err-update_all-clause-replaced
-returns-in_err-update_all-clause-replaced g c = IfOk-from_err c.from_residual.result _ c.from_residual.ensures.0
-
-pub returns-in_err-update_all-clause-above : goal.returns-in_err-update_all-clause-above
-returns-in_err-update_all-clause-above g c = λ least each. IfOk-from_err c.from_residual.result _ c.from_residual.ensures.0
-
-pub returns-in_err-update_all-clause-added : goal.returns-in_err-update_all-clause-added
-returns-in_err-update_all-clause-added g c = IfOk-from_err c.from_residual.result _ c.from_residual.ensures.0
-
-pub returns-in_err-update_all-clause-values : goal.returns-in_err-update_all-clause-values
-returns-in_err-update_all-clause-values g c = λ old new before step tells. IfOk-from_err c.from_residual.result _ c.from_residual.ensures.0
-
-pub returns-in_err-update_all-clause-made : goal.returns-in_err-update_all-clause-made
-returns-in_err-update_all-clause-made g c = IfOk-from_err c.from_residual.result _ c.from_residual.ensures.0
-
-pub returns-in_err-update_all-clause-cause : goal.returns-in_err-update_all-clause-cause
-returns-in_err-update_all-clause-cause g c =
-    let exit = err_from_is_err_and c.from_residual.result c.from_residual.ensures.1 in
-    rw (exit.1, exit.2) c.in_err-update_all.ensures.cause
-
-pub returns-in_err-add_all-clause-same : goal.returns-in_err-add_all-clause-same
-returns-in_err-add_all-clause-same g c = IfOk-from_err c.from_residual-in_err-add_all.result _ c.from_residual-in_err-add_all.ensures.0
-
-pub returns-in_err-add_all-clause-leaves : goal.returns-in_err-add_all-clause-leaves
-returns-in_err-add_all-clause-leaves g c = IfOk-from_err c.from_residual-in_err-add_all.result _ c.from_residual-in_err-add_all.ensures.0
-
-pub returns-in_err-add_all-clause-replaced : goal.returns-in_err-add_all-clause-replaced
-returns-in_err-add_all-clause-replaced g c = IfOk-from_err c.from_residual-in_err-add_all.result _ c.from_residual-in_err-add_all.ensures.0
-
-pub returns-in_err-add_all-clause-above : goal.returns-in_err-add_all-clause-above
-returns-in_err-add_all-clause-above g c = λ least each. IfOk-from_err c.from_residual-in_err-add_all.result _ c.from_residual-in_err-add_all.ensures.0
-
-pub returns-in_err-add_all-clause-added : goal.returns-in_err-add_all-clause-added
-returns-in_err-add_all-clause-added g c = IfOk-from_err c.from_residual-in_err-add_all.result _ c.from_residual-in_err-add_all.ensures.0
-
-pub returns-in_err-add_all-clause-values : goal.returns-in_err-add_all-clause-values
-returns-in_err-add_all-clause-values g c = λ old new before step tells. IfOk-from_err c.from_residual-in_err-add_all.result _ c.from_residual-in_err-add_all.ensures.0
-
-pub returns-in_err-add_all-clause-made : goal.returns-in_err-add_all-clause-made
-returns-in_err-add_all-clause-made g c = IfOk-from_err c.from_residual-in_err-add_all.result _ c.from_residual-in_err-add_all.ensures.0
-
-pub returns-in_err-add_all-clause-cause : goal.returns-in_err-add_all-clause-cause
-returns-in_err-add_all-clause-cause g c =
-    let exit = err_from_is_err_and c.from_residual-in_err-add_all.result c.from_residual-in_err-add_all.ensures.1 in
-    rw (exit.1, exit.2) refl
+pub returns-in_err-add_all : goal.returns-in_err-add_all
+returns-in_err-add_all g c = record {
+  same = IfOk-from_err c.from_residual-in_err-add_all.result _ c.from_residual-in_err-add_all.ensures.0;
+  leaves = IfOk-from_err c.from_residual-in_err-add_all.result _ c.from_residual-in_err-add_all.ensures.0;
+  replaced = IfOk-from_err c.from_residual-in_err-add_all.result _ c.from_residual-in_err-add_all.ensures.0;
+  above = λ least each. IfOk-from_err c.from_residual-in_err-add_all.result _ c.from_residual-in_err-add_all.ensures.0;
+  added = IfOk-from_err c.from_residual-in_err-add_all.result _ c.from_residual-in_err-add_all.ensures.0;
+  values = λ old new before step tells. IfOk-from_err c.from_residual-in_err-add_all.result _ c.from_residual-in_err-add_all.ensures.0;
+  made = IfOk-from_err c.from_residual-in_err-add_all.result _ c.from_residual-in_err-add_all.ensures.0;
+  cause =
+      let exit = err_from_is_err_and c.from_residual-in_err-add_all.result c.from_residual-in_err-add_all.ensures.1 in
+      rw (exit.1, exit.2) refl;
+}
 
 pub returns-clause-same : goal.returns-clause-same
 returns-clause-same g c =

@@ -59,43 +59,27 @@ update_one-requires-clause-kept g c = subst (λ n. n ≤ get_or c.args.changed.n
 pub update_one-requires-clause-can : goal.update_one-requires-clause-can
 update_one-requires-clause-can g c = λ low. c.requires.can c.loop-at.at-index 0 c.loop-at-test.true (subst (λ n. get_or c.args.changed.now c.loop-at.at-index 0 < n) c.loop-at.invariant.same.base low)
 
-pub returns-in_err-update_one-clause-same : goal.returns-in_err-update_one-clause-same
-returns-in_err-update_one-clause-same g c = IfOk-from_err c.from_residual.result _ c.from_residual.ensures.0
+pub returns-in_err-update_one : goal.returns-in_err-update_one
+returns-in_err-update_one g c = record {
+  same = IfOk-from_err c.from_residual.result _ c.from_residual.ensures.0;
+  few = IfOk-from_err c.from_residual.result _ c.from_residual.ensures.0;
+  above = λ least each high. IfOk-from_err c.from_residual.result _ c.from_residual.ensures.0;
+  values = λ values long. IfOk-from_err c.from_residual.result _ c.from_residual.ensures.0;
+  made = IfOk-from_err c.from_residual.result _ c.from_residual.ensures.0;
+  cause =
+      let exit = err_from_is_err_and c.from_residual.result c.from_residual.ensures.1 in
+      rw (exit.1, exit.2) c.in_err-update_one.ensures.cause;
+}
 
-pub returns-in_err-update_one-clause-few : goal.returns-in_err-update_one-clause-few
-returns-in_err-update_one-clause-few g c = IfOk-from_err c.from_residual.result _ c.from_residual.ensures.0
-
-pub returns-in_err-update_one-clause-above : goal.returns-in_err-update_one-clause-above
-returns-in_err-update_one-clause-above g c = λ least each high. IfOk-from_err c.from_residual.result _ c.from_residual.ensures.0
-
-pub returns-in_err-update_one-clause-values : goal.returns-in_err-update_one-clause-values
-returns-in_err-update_one-clause-values g c = λ values long. IfOk-from_err c.from_residual.result _ c.from_residual.ensures.0
-
-pub returns-in_err-update_one-clause-made : goal.returns-in_err-update_one-clause-made
-returns-in_err-update_one-clause-made g c = IfOk-from_err c.from_residual.result _ c.from_residual.ensures.0
-
-pub returns-in_err-update_one-clause-cause : goal.returns-in_err-update_one-clause-cause
-returns-in_err-update_one-clause-cause g c =
-    let exit = err_from_is_err_and c.from_residual.result c.from_residual.ensures.1 in
-    rw (exit.1, exit.2) c.in_err-update_one.ensures.cause
-
-pub returns-clause-same : goal.returns-clause-same
-returns-clause-same g c = c.loop-at.invariant.same
-
-pub returns-clause-few : goal.returns-clause-few
-returns-clause-few g c = let few = c.loop-at.invariant.few in omega (arith, few, c.loop-at.auto.at-index-end)
-
-pub returns-clause-above : goal.returns-clause-above
-returns-clause-above g c = c.loop-at.invariant.above
-
-pub returns-clause-values : goal.returns-clause-values
-returns-clause-values g c = λ values long.
-    let bytes = g.H.Digest.Digest.bytes in
-    let made = made_value bytes g.H.Hasher.hash (g.O.Nodes.node_at c.args.behind.now.operations.now) g.F.Family.shape g.N.Chunks.LEN (all_bits g.N.Chunks.LEN (g.B.Readable.bitmap c.args.behind.now.bits.now)) in
-    subst (λ cs. AreMade made cs (drafted bytes c.args.draft.now values) (drafted bytes c.loop-at.draft values)) (take_all c.loop-at.at-index c.args.changed.now c.loop-at-test.false) (c.loop-at.invariant.values values long)
-
-pub returns-clause-made : goal.returns-clause-made
-returns-clause-made g c = let made = c.loop-at.invariant.made in (made.0, omega (arith, made.1, c.loop-at.auto.at-index-end), made.2)
-
-pub returns-clause-cause : goal.returns-clause-cause
-returns-clause-cause g c = tt
+pub returns : goal.returns
+returns g c = record {
+  same = c.loop-at.invariant.same;
+  few = let few = c.loop-at.invariant.few in omega (arith, few, c.loop-at.auto.at-index-end);
+  above = c.loop-at.invariant.above;
+  values = λ values long.
+      let bytes = g.H.Digest.Digest.bytes in
+      let made = made_value bytes g.H.Hasher.hash (g.O.Nodes.node_at c.args.behind.now.operations.now) g.F.Family.shape g.N.Chunks.LEN (all_bits g.N.Chunks.LEN (g.B.Readable.bitmap c.args.behind.now.bits.now)) in
+      subst (λ cs. AreMade made cs (drafted bytes c.args.draft.now values) (drafted bytes c.loop-at.draft values)) (take_all c.loop-at.at-index c.args.changed.now c.loop-at-test.false) (c.loop-at.invariant.values values long);
+  made = let made = c.loop-at.invariant.made in (made.0, omega (arith, made.1, c.loop-at.auto.at-index-end), made.2);
+  cause = tt;
+}

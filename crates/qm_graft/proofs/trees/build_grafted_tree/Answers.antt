@@ -102,38 +102,32 @@ follow-requires-clause-held g c = λ i at low. absurd (omega (arith, low))
 pub follow-requires-clause-changed : goal.follow-requires-clause-changed
 follow-requires-clause-changed g c = λ i at low. absurd (omega (arith, low))
 
-pub returns-in_err-tree-clause-bounds : goal.returns-in_err-tree-clause-bounds
-returns-in_err-tree-clause-bounds g c = IfOk-from_err c.from_residual.result _ c.from_residual.ensures.0
+pub returns-in_err-tree : goal.returns-in_err-tree
+returns-in_err-tree g c = record {
+  bounds = IfOk-from_err c.from_residual.result _ c.from_residual.ensures.0;
+  stands = λ digests stands pins. IfOk-from_err c.from_residual.result _ c.from_residual.ensures.0;
+  cause =
+      let exit = err_from_is_err_and c.from_residual.result c.from_residual.ensures.1 in
+      rw (exit.1, exit.2) refl;
+}
 
-pub returns-in_err-tree-clause-stands : goal.returns-in_err-tree-clause-stands
-returns-in_err-tree-clause-stands g c = λ digests stands pins. IfOk-from_err c.from_residual.result _ c.from_residual.ensures.0
+pub returns-in_err-batch : goal.returns-in_err-batch
+returns-in_err-batch g c = record {
+  bounds = IfOk-from_err c.from_residual-in_err-batch.result _ c.from_residual-in_err-batch.ensures.0;
+  stands = λ digests stands pins. IfOk-from_err c.from_residual-in_err-batch.result _ c.from_residual-in_err-batch.ensures.0;
+  cause =
+      let exit = err_from_is_err_and c.from_residual-in_err-batch.result c.from_residual-in_err-batch.ensures.1 in
+      rw (exit.1, exit.2) c.in_err-batch.ensures.cause;
+}
 
-pub returns-in_err-tree-clause-cause : goal.returns-in_err-tree-clause-cause
-returns-in_err-tree-clause-cause g c =
-    let exit = err_from_is_err_and c.from_residual.result c.from_residual.ensures.1 in
-    rw (exit.1, exit.2) refl
-
-pub returns-in_err-batch-clause-bounds : goal.returns-in_err-batch-clause-bounds
-returns-in_err-batch-clause-bounds g c = IfOk-from_err c.from_residual-in_err-batch.result _ c.from_residual-in_err-batch.ensures.0
-
-pub returns-in_err-batch-clause-stands : goal.returns-in_err-batch-clause-stands
-returns-in_err-batch-clause-stands g c = λ digests stands pins. IfOk-from_err c.from_residual-in_err-batch.result _ c.from_residual-in_err-batch.ensures.0
-
-pub returns-in_err-batch-clause-cause : goal.returns-in_err-batch-clause-cause
-returns-in_err-batch-clause-cause g c =
-    let exit = err_from_is_err_and c.from_residual-in_err-batch.result c.from_residual-in_err-batch.ensures.1 in
-    rw (exit.1, exit.2) c.in_err-batch.ensures.cause
-
-pub returns-in_err-apply_batch-clause-bounds : goal.returns-in_err-apply_batch-clause-bounds
-returns-in_err-apply_batch-clause-bounds g c = IfOk-from_err c.from_residual-in_err-apply_batch.result _ c.from_residual-in_err-apply_batch.ensures.0
-
-pub returns-in_err-apply_batch-clause-stands : goal.returns-in_err-apply_batch-clause-stands
-returns-in_err-apply_batch-clause-stands g c = λ digests stands pins. IfOk-from_err c.from_residual-in_err-apply_batch.result _ c.from_residual-in_err-apply_batch.ensures.0
-
-pub returns-in_err-apply_batch-clause-cause : goal.returns-in_err-apply_batch-clause-cause
-returns-in_err-apply_batch-clause-cause g c =
-    let exit = err_from_is_err_and c.from_residual-in_err-apply_batch.result c.from_residual-in_err-apply_batch.ensures.1 in
-    rw (exit.1, exit.2) refl
+pub returns-in_err-apply_batch : goal.returns-in_err-apply_batch
+returns-in_err-apply_batch g c = record {
+  bounds = IfOk-from_err c.from_residual-in_err-apply_batch.result _ c.from_residual-in_err-apply_batch.ensures.0;
+  stands = λ digests stands pins. IfOk-from_err c.from_residual-in_err-apply_batch.result _ c.from_residual-in_err-apply_batch.ensures.0;
+  cause =
+      let exit = err_from_is_err_and c.from_residual-in_err-apply_batch.result c.from_residual-in_err-apply_batch.ensures.1 in
+      rw (exit.1, exit.2) refl;
+}
 
 pub returns-clause-cause : goal.returns-clause-cause
 returns-clause-cause g c = tt

@@ -5,7 +5,7 @@ use Rattle.qm_merkle.specs.Mems.{Stands}
 use Rattle.qm_store.specs.Log.{digests_from}
 use Rattle.qm_store.proofs.Leaves.{digests_from-split}
 use Rattle.qm_store.proofs.Stores.{any-told, both, kept-then, no-fault}
-use Rattle.qm_store.proofs.Exits.{handed-error, undamaged, either, later-cause}
+use Rattle.qm_store.proofs.Exits.{handed-error, no-error, undamaged, either, later-cause}
 use Rattle.qm_store.proofs.log.load.Goals as goal
 
 pub returns-clause-stands : goal.returns-clause-stands
@@ -89,3 +89,25 @@ read_digests-requires g c =
       end = within;
       few = le_trans within (subst (λ n. n ≤ 2 ^ 62) c.bounds-start.ensures.ends c.bounds-start.ensures.limit);
     }
+
+pub returns-clause-start : goal.returns-clause-start
+returns-clause-start g c = c.in_ok-add_leaves.ensures.start ∙ c.in_ok-tree.ensures.start
+
+pub returns-clause-size : goal.returns-clause-size
+returns-clause-size g c =
+    omega (arith, c.in_ok-add_leaves.ensures.leaves, c.in_ok-tree.ensures.leaves, ap length c.deref.ensures.value, c.in_ok-digests.ensures.count, c.bounds-start.ensures.starts, c.pruned.ensures.kept.start, c.requires.start)
+
+pub returns-clause-long : goal.returns-clause-long
+returns-clause-long g c = c.in_ok-tree.ensures.long
+
+pub returns-clause-head : goal.returns-clause-head
+returns-clause-head g c = tt
+
+pub returns-clause-never : goal.returns-clause-never
+returns-clause-never g c = tt
+
+pub returns-clause-kept : goal.returns-clause-kept
+returns-clause-kept g c = kept-then g.C.Store c.args.store.now c.pruned.new.store c.read_digests.new.store c.pruned.ensures.kept c.read_digests.ensures.kept
+
+pub returns-clause-cause : goal.returns-clause-cause
+returns-clause-cause g c = no-error _ _ _ _ (le_trans c.pruned.ensures.cause.later c.read_digests.ensures.cause.later)

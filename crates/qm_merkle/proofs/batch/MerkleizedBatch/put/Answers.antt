@@ -13,8 +13,8 @@ put-requires g c =
     let from : c.args.leaves ≤ c.self.inside.newest.value.tree.start = omega (arith, c.if-get.false, c.get.ensures, c.base.ensures.start, c.get-2.ensures, ap (λ l. l.tree.start) c.deref.ensures) in
     let layer = c.deref-in-loop-count.result.now in
     let turn = older_next shape (λ r. r.value) c.self.inside.start c.self.inside.newest.value c.self.inside.older.items c.args.self.now c.self.view_is c.args.leaves c.self.invariant.1 c.requires.reach (c.loop-count.count - 1) c.index.result.now layer
-    from (omega (arith, c.loop-count.invariant.within)) c.index.ensures c.deref-in-loop-count.ensures in
-    let last : suc (c.loop-count.count - 1) ≡ c.loop-count.count = omega arith in
+    from (omega (arith, c.loop-count.invariant.within, c.loop-count-test.true)) c.index.ensures c.deref-in-loop-count.ensures in
+    let last : suc (c.loop-count.count - 1) ≡ c.loop-count.count = omega (arith, c.loop-count-test.true) in
     let put = c.loop-count.invariant.put in
     let start : layer.tree.start ≡ top_of shape c.args.leaves (drop c.loop-count.count (layers_since c.args.leaves (map (λ r. r.value) c.self.inside.older.items))) =
     turn.0.start ∙ ap (λ k. top_of shape c.args.leaves (drop k (layers_since c.args.leaves (map (λ r. r.value) c.self.inside.older.items)))) last in
@@ -32,11 +32,11 @@ loop-count-preserved g c =
     let from : c.args.leaves ≤ c.self.inside.newest.value.tree.start = omega (arith, c.if-get.false, c.get.ensures, c.base.ensures.start, c.get-2.ensures, ap (λ l. l.tree.start) c.deref.ensures) in
     let layer = c.deref-in-loop-count.result.now in
     let turn = older_next shape (λ r. r.value) c.self.inside.start c.self.inside.newest.value c.self.inside.older.items c.args.self.now c.self.view_is c.args.leaves c.self.invariant.1 c.requires.reach (c.loop-count.count - 1) c.index.result.now layer
-    from (omega (arith, c.loop-count.invariant.within)) c.index.ensures c.deref-in-loop-count.ensures in
-    let last : suc (c.loop-count.count - 1) ≡ c.loop-count.count = omega arith in
+    from (omega (arith, c.loop-count.invariant.within, c.loop-count-test.true)) c.index.ensures c.deref-in-loop-count.ensures in
+    let last : suc (c.loop-count.count - 1) ≡ c.loop-count.count = omega (arith, c.loop-count-test.true) in
     let layers = layers_since c.args.leaves (map (λ r. r.value) c.self.inside.older.items) in
     record {
-      within = omega (arith, c.loop-count.invariant.within);
+      within = omega (arith, c.loop-count.invariant.within, c.loop-count-test.true);
       put = one_put shape c.args.leaves c.args.positions.now c.args.size c.args.pins.now c.args.nodes.now.items (drop (c.loop-count.count - 1) layers) (drop c.loop-count.count layers) layer
           c.loop-count.pins c.loop-count.nodes.items c.put.new.pins c.put.new.nodes.items (turn.0.is ∙ ap (λ k. layer ∷ drop k layers) last)
           c.loop-count.invariant.put c.put.ensures.length c.put.ensures.size c.put.ensures.pins c.put.ensures.nodes;
@@ -49,7 +49,7 @@ put-requires-2 g c =
     let layer = c.deref-3.result.now in
     let from : c.args.leaves ≤ layer.tree.start = omega (arith, c.if-get.false, c.get.ensures, c.base.ensures.start, c.get-2.ensures, ap (λ l. l.tree.start) c.deref.ensures, ap (λ l. l.tree.start) c.deref-3.ensures) in
     let turn = newest_next shape (λ r. r.value) c.self.inside.start c.self.inside.newest.value c.self.inside.older.items c.args.self.now c.self.view_is c.args.leaves c.self.invariant.1 c.requires.reach layer c.deref-3.ensures from in
-    let none : c.loop-count.count ≡ 0 = omega arith in
+    let none : c.loop-count.count ≡ 0 = omega (arith, c.loop-count-test.false) in
     let layers = layers_since c.args.leaves (map (λ r. r.value) c.self.inside.older.items) in
     let put = subst (λ k. ArePut shape c.args.leaves c.args.positions.now c.args.size c.args.pins.now c.args.nodes.now.items (drop k layers) c.loop-count.pins c.loop-count.nodes.items) none c.loop-count.invariant.put in
     record {
@@ -60,56 +60,48 @@ put-requires-2 g c =
       room = omega (arith, ap (λ l. shape.size l.tree.leaves) c.deref-3.ensures, c.requires.room, c.loop-count.invariant.capacity, ap (λ b. shape.size b.newest.tree.leaves) c.self.view_is);
     }
 
-pub returns-then-get-clause-size : goal.returns-then-get-clause-size
-returns-then-get-clause-size g c =
-    let shape = g.F.Family.shape in
-    let before : c.self.inside.newest.value.tree.start < c.args.leaves = omega (arith, c.if-get.true, c.get.ensures, c.base.ensures.start, c.get-2.ensures, ap (λ l. l.tree.start) c.deref.ensures) in
-    c.requires.size ∙ ap shape.size (none_next shape (λ r. r.value) c.self.inside.start c.self.inside.newest.value c.self.inside.older.items c.args.self.now c.self.view_is c.args.leaves c.self.invariant.1 c.requires.reach before) ∙ ap (λ b. shape.size b.newest.tree.leaves) c.self.view_is
+pub returns : goal.returns
+returns g c = record {
+  pins = λ i p at.
+      let shape = g.F.Family.shape in
+      let layer = c.deref-3.result.now in
+      let from : c.args.leaves ≤ layer.tree.start = omega (arith, c.if-get.false, c.get.ensures, c.base.ensures.start, c.get-2.ensures, ap (λ l. l.tree.start) c.deref.ensures, ap (λ l. l.tree.start) c.deref-3.ensures) in
+      let turn = newest_next shape (λ r. r.value) c.self.inside.start c.self.inside.newest.value c.self.inside.older.items c.args.self.now c.self.view_is c.args.leaves c.self.invariant.1 c.requires.reach layer c.deref-3.ensures from in
+      let none : c.loop-count.count ≡ 0 = omega (arith, c.loop-count-test.false) in
+      let layers = layers_since c.args.leaves (map (λ r. r.value) c.self.inside.older.items) in
+      let put = subst (λ k. ArePut shape c.args.leaves c.args.positions.now c.args.size c.args.pins.now c.args.nodes.now.items (drop k layers) c.loop-count.pins c.loop-count.nodes.items) none c.loop-count.invariant.put in
+      (one_put shape c.args.leaves c.args.positions.now c.args.size c.args.pins.now c.args.nodes.now.items (layers_since c.args.leaves (c.self.inside.newest.value ∷ map (λ r. r.value) c.self.inside.older.items)) layers layer
+      c.loop-count.pins c.loop-count.nodes.items c.put-2.new.pins c.put-2.new.nodes.items turn.is put c.put-2.ensures.length c.put-2.ensures.size c.put-2.ensures.pins c.put-2.ensures.nodes).pins_at i p at
+      ∙ ap (λ b. option_or (layers_at shape (layers_since c.args.leaves (all_layers b)) p) (slice_get c.args.pins.now i)) c.self.view_is;
+  nodes = λ i.
+      let shape = g.F.Family.shape in
+      let layer = c.deref-3.result.now in
+      let from : c.args.leaves ≤ layer.tree.start = omega (arith, c.if-get.false, c.get.ensures, c.base.ensures.start, c.get-2.ensures, ap (λ l. l.tree.start) c.deref.ensures, ap (λ l. l.tree.start) c.deref-3.ensures) in
+      let turn = newest_next shape (λ r. r.value) c.self.inside.start c.self.inside.newest.value c.self.inside.older.items c.args.self.now c.self.view_is c.args.leaves c.self.invariant.1 c.requires.reach layer c.deref-3.ensures from in
+      let none : c.loop-count.count ≡ 0 = omega (arith, c.loop-count-test.false) in
+      let layers = layers_since c.args.leaves (map (λ r. r.value) c.self.inside.older.items) in
+      let put = subst (λ k. ArePut shape c.args.leaves c.args.positions.now c.args.size c.args.pins.now c.args.nodes.now.items (drop k layers) c.loop-count.pins c.loop-count.nodes.items) none c.loop-count.invariant.put in
+      (one_put shape c.args.leaves c.args.positions.now c.args.size c.args.pins.now c.args.nodes.now.items (layers_since c.args.leaves (c.self.inside.newest.value ∷ map (λ r. r.value) c.self.inside.older.items)) layers layer
+      c.loop-count.pins c.loop-count.nodes.items c.put-2.new.pins c.put-2.new.nodes.items turn.is put c.put-2.ensures.length c.put-2.ensures.size c.put-2.ensures.pins c.put-2.ensures.nodes).nodes_at i
+      ∙ ap (λ b. option_or (layers_at shape (layers_since c.args.leaves (all_layers b)) (c.args.size + i)) (slice_get c.args.nodes.now.items i)) c.self.view_is;
+  length = c.put-2.ensures.length ∙ c.loop-count.invariant.put.pinned;
+  size =
+      let shape = g.F.Family.shape in
+      c.put-2.ensures.size ∙ ap (λ l. shape.size l.tree.leaves) c.deref-3.ensures ∙ ap (λ b. shape.size b.newest.tree.leaves) c.self.view_is;
+}
 
-pub returns-clause-pins : goal.returns-clause-pins
-returns-clause-pins g c = λ i p at.
-    let shape = g.F.Family.shape in
-    let layer = c.deref-3.result.now in
-    let from : c.args.leaves ≤ layer.tree.start = omega (arith, c.if-get.false, c.get.ensures, c.base.ensures.start, c.get-2.ensures, ap (λ l. l.tree.start) c.deref.ensures, ap (λ l. l.tree.start) c.deref-3.ensures) in
-    let turn = newest_next shape (λ r. r.value) c.self.inside.start c.self.inside.newest.value c.self.inside.older.items c.args.self.now c.self.view_is c.args.leaves c.self.invariant.1 c.requires.reach layer c.deref-3.ensures from in
-    let none : c.loop-count.count ≡ 0 = omega arith in
-    let layers = layers_since c.args.leaves (map (λ r. r.value) c.self.inside.older.items) in
-    let put = subst (λ k. ArePut shape c.args.leaves c.args.positions.now c.args.size c.args.pins.now c.args.nodes.now.items (drop k layers) c.loop-count.pins c.loop-count.nodes.items) none c.loop-count.invariant.put in
-    (one_put shape c.args.leaves c.args.positions.now c.args.size c.args.pins.now c.args.nodes.now.items (layers_since c.args.leaves (c.self.inside.newest.value ∷ map (λ r. r.value) c.self.inside.older.items)) layers layer
-    c.loop-count.pins c.loop-count.nodes.items c.put-2.new.pins c.put-2.new.nodes.items turn.is put c.put-2.ensures.length c.put-2.ensures.size c.put-2.ensures.pins c.put-2.ensures.nodes).pins_at i p at
-    ∙ ap (λ b. option_or (layers_at shape (layers_since c.args.leaves (all_layers b)) p) (slice_get c.args.pins.now i)) c.self.view_is
-
-pub returns-clause-nodes : goal.returns-clause-nodes
-returns-clause-nodes g c = λ i.
-    let shape = g.F.Family.shape in
-    let layer = c.deref-3.result.now in
-    let from : c.args.leaves ≤ layer.tree.start = omega (arith, c.if-get.false, c.get.ensures, c.base.ensures.start, c.get-2.ensures, ap (λ l. l.tree.start) c.deref.ensures, ap (λ l. l.tree.start) c.deref-3.ensures) in
-    let turn = newest_next shape (λ r. r.value) c.self.inside.start c.self.inside.newest.value c.self.inside.older.items c.args.self.now c.self.view_is c.args.leaves c.self.invariant.1 c.requires.reach layer c.deref-3.ensures from in
-    let none : c.loop-count.count ≡ 0 = omega arith in
-    let layers = layers_since c.args.leaves (map (λ r. r.value) c.self.inside.older.items) in
-    let put = subst (λ k. ArePut shape c.args.leaves c.args.positions.now c.args.size c.args.pins.now c.args.nodes.now.items (drop k layers) c.loop-count.pins c.loop-count.nodes.items) none c.loop-count.invariant.put in
-    (one_put shape c.args.leaves c.args.positions.now c.args.size c.args.pins.now c.args.nodes.now.items (layers_since c.args.leaves (c.self.inside.newest.value ∷ map (λ r. r.value) c.self.inside.older.items)) layers layer
-    c.loop-count.pins c.loop-count.nodes.items c.put-2.new.pins c.put-2.new.nodes.items turn.is put c.put-2.ensures.length c.put-2.ensures.size c.put-2.ensures.pins c.put-2.ensures.nodes).nodes_at i
-    ∙ ap (λ b. option_or (layers_at shape (layers_since c.args.leaves (all_layers b)) (c.args.size + i)) (slice_get c.args.nodes.now.items i)) c.self.view_is
-
-pub returns-clause-length : goal.returns-clause-length
-returns-clause-length g c = c.put-2.ensures.length ∙ c.loop-count.invariant.put.pinned
-
-pub returns-clause-size : goal.returns-clause-size
-returns-clause-size g c =
-    let shape = g.F.Family.shape in
-    c.put-2.ensures.size ∙ ap (λ l. shape.size l.tree.leaves) c.deref-3.ensures ∙ ap (λ b. shape.size b.newest.tree.leaves) c.self.view_is
-
-pub returns-then-get-clause-length : goal.returns-then-get-clause-length
-returns-then-get-clause-length g c = refl
-
-pub returns-then-get-clause-pins : goal.returns-then-get-clause-pins
-returns-then-get-clause-pins g c = λ i p at.
-    ap (λ ls. option_or (layers_at g.F.Family.shape ls p) (slice_get c.args.pins.now i)) (sym (none_since g.F.Family.shape c.args.leaves c.args.self.now (omega (arith, c.if-get.true, c.get.ensures, c.base.ensures.start, c.get-2.ensures, ap (λ l. l.tree.start) c.deref.ensures, ap (λ b. b.newest.tree.start) c.self.view_is))))
-
-pub returns-then-get-clause-nodes : goal.returns-then-get-clause-nodes
-returns-then-get-clause-nodes g c = λ i.
-    ap (λ ls. option_or (layers_at g.F.Family.shape ls (c.args.size + i)) (slice_get c.args.nodes.now.items i)) (sym (none_since g.F.Family.shape c.args.leaves c.args.self.now (omega (arith, c.if-get.true, c.get.ensures, c.base.ensures.start, c.get-2.ensures, ap (λ l. l.tree.start) c.deref.ensures, ap (λ b. b.newest.tree.start) c.self.view_is))))
+pub returns-then-get : goal.returns-then-get
+returns-then-get g c = record {
+  size =
+      let shape = g.F.Family.shape in
+      let before : c.self.inside.newest.value.tree.start < c.args.leaves = omega (arith, c.if-get.true, c.get.ensures, c.base.ensures.start, c.get-2.ensures, ap (λ l. l.tree.start) c.deref.ensures) in
+      c.requires.size ∙ ap shape.size (none_next shape (λ r. r.value) c.self.inside.start c.self.inside.newest.value c.self.inside.older.items c.args.self.now c.self.view_is c.args.leaves c.self.invariant.1 c.requires.reach before) ∙ ap (λ b. shape.size b.newest.tree.leaves) c.self.view_is;
+  length = refl;
+  pins = λ i p at.
+      ap (λ ls. option_or (layers_at g.F.Family.shape ls p) (slice_get c.args.pins.now i)) (sym (none_since g.F.Family.shape c.args.leaves c.args.self.now (omega (arith, c.if-get.true, c.get.ensures, c.base.ensures.start, c.get-2.ensures, ap (λ l. l.tree.start) c.deref.ensures, ap (λ b. b.newest.tree.start) c.self.view_is))));
+  nodes = λ i.
+      ap (λ ls. option_or (layers_at g.F.Family.shape ls (c.args.size + i)) (slice_get c.args.nodes.now.items i)) (sym (none_since g.F.Family.shape c.args.leaves c.args.self.now (omega (arith, c.if-get.true, c.get.ensures, c.base.ensures.start, c.get-2.ensures, ap (λ l. l.tree.start) c.deref.ensures, ap (λ b. b.newest.tree.start) c.self.view_is))));
+}
 
 pub loop-count-init : goal.loop-count-init
 loop-count-init g c =

@@ -26,9 +26,6 @@ tree-requires-clause-start g c =
     let low = reached g.F.Family.shape g.F.Family.births g.met.F.Family.numbered g.met.F.Family.peaked c.args.mem.now c.bounds-bounds.ensures.whole c.args.self.layers c.args.self.base linked c.requires.reach in
     omega (arith, low, c.bounds-bounds.ensures.whole.order)
 
-pub tree-requires-clause-own : goal.tree-requires-clause-own
-tree-requires-clause-own g c = c.in_ok-replaced.ensures.own
-
 pub invariant_of-result : goal.invariant_of-result
 invariant_of-result g c =
     let shape = g.F.Family.shape in

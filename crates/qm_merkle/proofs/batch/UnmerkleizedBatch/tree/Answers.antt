@@ -16,9 +16,6 @@ digests-requires g c =
     (sym (c.deref.ensures.value ∙ c.in_ok-positions.ensures ∙ ap (peak_positions shape) is))
     (peaks_there shape g.met.F.Family.peaked c.args.mem.now c.args.self.now.layers c.args.nodes.now.entries base (omega (arith, c.self.invariant.1, is)) c.requires.start c.requires.there)
 
-pub of_parts-tree-requires-clause-positions : goal.of_parts-tree-requires-clause-positions
-of_parts-tree-requires-clause-positions g c = c.in_ok-positions.ensures
-
 pub of_parts-tree-requires-clause-pins : goal.of_parts-tree-requires-clause-pins
 of_parts-tree-requires-clause-pins g c =
     let shape = g.F.Family.shape in
@@ -32,47 +29,41 @@ add_all-requires g c =
     let tree = c.of_parts-tree.ensures c.self.inside.base (omega (arith, ap length c.new.ensures.items)) in
     omega (arith, ap (λ t. t.leaves) tree, c.self.invariant.1, ap length c.deref-2.ensures.value)
 
-pub returns-clause-start : goal.returns-clause-start
-returns-clause-start g c =
-    let tree = c.of_parts-tree.ensures c.self.inside.base (omega (arith, ap length c.new.ensures.items)) in
-    c.in_ok-add_all.ensures.bounds.0 ∙ ap (λ t. t.start) tree ∙ ap (λ b. b.base) c.self.view_is
-
-pub returns-clause-leaves : goal.returns-clause-leaves
-returns-clause-leaves g c =
-    let tree = c.of_parts-tree.ensures c.self.inside.base (omega (arith, ap length c.new.ensures.items)) in
-    c.in_ok-add_all.ensures.bounds.1
-    ∙ ap₂ ◌+◌ (ap (λ t. t.leaves) tree ∙ ap (λ b. b.base) c.self.view_is) (ap length (c.deref-2.ensures.value ∙ ap (λ b. b.added) c.self.view_is))
-
-pub returns-clause-whole : goal.returns-clause-whole
-returns-clause-whole g c = subst (IsWhole g.F.Family.shape) c.tree.view_is c.tree.invariant.1
-
-pub returns-clause-stands : goal.returns-clause-stands
-returns-clause-stands g c list count read right =
-    let shape = g.F.Family.shape in
-    let bytes = g.D.Digest.bytes in
-    let hash = g.H.Hasher.hash in
-    let base = c.args.self.now.base in
-    let is : c.self.inside.base ≡ base = ap (λ b. b.base) c.self.view_is in
-    let few : base ≤ 2 ^ 62 = omega (arith, c.self.invariant.1, is) in
-    let tree = c.of_parts-tree.ensures c.self.inside.base (omega (arith, ap length c.new.ensures.items)) in
-    let made = made_at shape c.args.nodes.now.entries c.args.self.now.layers c.args.mem.now in
-    let pins : map Some c.of_parts-tree.result.pins ≡ map made (peak_positions shape base) =
-    ap (λ t. map Some t.pins) tree ∙ c.in_ok-pins.ensures ∙ ap (map made) (c.deref.ensures.value ∙ c.in_ok-positions.ensures ∙ ap (peak_positions shape) is) in
-    let fresh = stands-fresh shape g.met.F.Family.peaked c.args.mem.now c.args.self.now.layers c.args.nodes.now.entries bytes hash c.args.self.now.replaced base list count c.requires.own read right
-    c.of_parts-tree.result (ap (λ t. t.start) tree ∙ is) (ap (λ t. t.leaves) tree ∙ is) few c.requires.start pins in
-    subst (λ added. Stands shape bytes hash c.add_all.new.self (replaced_from bytes c.args.self.now.replaced 0 list ++ map bytes added)) (c.deref-2.ensures.value ∙ ap (λ b. b.added) c.self.view_is)
-    (c.in_ok-add_all.ensures.stands (replaced_from bytes c.args.self.now.replaced 0 list) fresh)
-
-pub returns-clause-made : goal.returns-clause-made
-returns-clause-made g c =
-    let shape = g.F.Family.shape in
-    let whole = subst (IsWhole shape) c.tree.view_is c.tree.invariant.1 in
-    let tree = c.of_parts-tree.ensures c.self.inside.base (omega (arith, ap length c.new.ensures.items)) in
-    let new = c.add_all.new.self in
-    let bounds = c.in_ok-add_all.ensures.bounds in
-    let start : new.start ≡ c.of_parts-tree.result.leaves = bounds.0 ∙ ap (λ t. t.start) tree ∙ sym (ap (λ t. t.leaves) tree) in
-    let added = c.deref-2.ensures.value ∙ ap (λ b. b.added) c.self.view_is in
-    omega (arith, c.in_ok-add_all.ensures.made, whole.full, ap shape.size start, ap length added)
+pub returns : goal.returns
+returns g c = record {
+  start =
+      let tree = c.of_parts-tree.ensures c.self.inside.base (omega (arith, ap length c.new.ensures.items)) in
+      c.in_ok-add_all.ensures.bounds.0 ∙ ap (λ t. t.start) tree ∙ ap (λ b. b.base) c.self.view_is;
+  leaves =
+      let tree = c.of_parts-tree.ensures c.self.inside.base (omega (arith, ap length c.new.ensures.items)) in
+      c.in_ok-add_all.ensures.bounds.1
+      ∙ ap₂ ◌+◌ (ap (λ t. t.leaves) tree ∙ ap (λ b. b.base) c.self.view_is) (ap length (c.deref-2.ensures.value ∙ ap (λ b. b.added) c.self.view_is));
+  whole = subst (IsWhole g.F.Family.shape) c.tree.view_is c.tree.invariant.1;
+  stands = λ list count read right.
+      let shape = g.F.Family.shape in
+      let bytes = g.D.Digest.bytes in
+      let hash = g.H.Hasher.hash in
+      let base = c.args.self.now.base in
+      let is : c.self.inside.base ≡ base = ap (λ b. b.base) c.self.view_is in
+      let few : base ≤ 2 ^ 62 = omega (arith, c.self.invariant.1, is) in
+      let tree = c.of_parts-tree.ensures c.self.inside.base (omega (arith, ap length c.new.ensures.items)) in
+      let made = made_at shape c.args.nodes.now.entries c.args.self.now.layers c.args.mem.now in
+      let pins : map Some c.of_parts-tree.result.pins ≡ map made (peak_positions shape base) =
+      ap (λ t. map Some t.pins) tree ∙ c.in_ok-pins.ensures ∙ ap (map made) (c.deref.ensures.value ∙ c.in_ok-positions.ensures ∙ ap (peak_positions shape) is) in
+      let fresh = stands-fresh shape g.met.F.Family.peaked c.args.mem.now c.args.self.now.layers c.args.nodes.now.entries bytes hash c.args.self.now.replaced base list count c.requires.own read right
+      c.of_parts-tree.result (ap (λ t. t.start) tree ∙ is) (ap (λ t. t.leaves) tree ∙ is) few c.requires.start pins in
+      subst (λ added. Stands shape bytes hash c.add_all.new.self (replaced_from bytes c.args.self.now.replaced 0 list ++ map bytes added)) (c.deref-2.ensures.value ∙ ap (λ b. b.added) c.self.view_is)
+      (c.in_ok-add_all.ensures.stands (replaced_from bytes c.args.self.now.replaced 0 list) fresh);
+  made =
+      let shape = g.F.Family.shape in
+      let whole = subst (IsWhole shape) c.tree.view_is c.tree.invariant.1 in
+      let tree = c.of_parts-tree.ensures c.self.inside.base (omega (arith, ap length c.new.ensures.items)) in
+      let new = c.add_all.new.self in
+      let bounds = c.in_ok-add_all.ensures.bounds in
+      let start : new.start ≡ c.of_parts-tree.result.leaves = bounds.0 ∙ ap (λ t. t.start) tree ∙ sym (ap (λ t. t.leaves) tree) in
+      let added = c.deref-2.ensures.value ∙ ap (λ b. b.added) c.self.view_is in
+      omega (arith, c.in_ok-add_all.ensures.made, whole.full, ap shape.size start, ap length added);
+}
 
 pub returns-in_err-positions : goal.returns-in_err-positions
 returns-in_err-positions g c =

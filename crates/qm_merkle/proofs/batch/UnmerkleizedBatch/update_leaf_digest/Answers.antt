@@ -20,46 +20,8 @@ invariant_of-self g c =
       inv.3,
     )
 
-pub returns-in_ok-replace-clause-leaf : goal.returns-in_ok-replace-clause-leaf
-returns-in_ok-replace-clause-leaf g c leaves count =
-    let bytes = g.D.Digest.bytes in
-    let inside = c.self.inside in
-    let old : Draft g.row.D.Denot = record { start = inside.start; base = inside.base; layers = map (λ r. r.value) inside.layers.items; replaced = inside.replaced.entries; added = inside.added.items } in
-    let new : Draft g.row.D.Denot = record old { replaced = c.replace.new.entries.entries } in
-    let place = c.get-then-get-3 in
-    let done = c.in_ok-replace.ensures in
-    let lt : place.result < length leaves = omega (arith, place.ensures, c.if-get-3.true, ap (λ b. b.base) c.self.view_is, count) in
-    drafted-replaced bytes old new place.result c.args.digest leaves done.here done.other refl lt
-    ∙ ap (λ n. slice_set (drafted bytes old leaves) n (bytes c.args.digest)) place.ensures
-    ∙ ap (λ b. slice_set (drafted bytes b leaves) c.args.location (bytes c.args.digest)) c.self.view_is
-
-pub returns-else-get-3-clause-leaf : goal.returns-else-get-3-clause-leaf
-returns-else-get-3-clause-leaf g c leaves count =
-    let bytes = g.D.Digest.bytes in
-    let inside = c.self.inside in
-    let old : Draft g.row.D.Denot = record { start = inside.start; base = inside.base; layers = map (λ r. r.value) inside.layers.items; replaced = inside.replaced.entries; added = inside.added.items } in
-    let index = c.get-else-get-3.result - c.get-else-get-3-2.result in
-    let new : Draft g.row.D.Denot = record old { added = slice_set inside.added.items index c.args.digest } in
-    let base : inside.base ≡ c.args.self.now.base = ap (λ b. b.base) c.self.view_is in
-    let at : index ≡ c.args.location - length leaves = omega (arith, c.get-else-get-3.ensures, c.get-else-get-3-2.ensures, base, count) in
-    let le : length leaves ≤ c.args.location = omega (arith, c.if-get-3.false, base, count) in
-    drafted-added bytes old new c.args.location c.args.digest leaves refl le (ap (λ i. slice_set inside.added.items i c.args.digest) at)
-    ∙ ap (λ b. slice_set (drafted bytes b leaves) c.args.location (bytes c.args.digest)) c.self.view_is
-
 exit : (g : Given.Over) (c : goal.After-from_residual g) → (e : MerkleError) × (c.from_residual.result ≡ Err e) × (e ≡ Memory)
 exit g c = err_from_is_err_and c.from_residual.result c.from_residual.ensures.1
-
-pub returns-in_ok-replace-clause-ok : goal.returns-in_ok-replace-clause-ok
-returns-in_ok-replace-clause-ok g c =
-    let inside = c.self.inside in
-    let old : Draft g.row.D.Denot = record { start = inside.start; base = inside.base; layers = map (λ r. r.value) inside.layers.items; replaced = inside.replaced.entries; added = inside.added.items } in
-    updated-replaced old c.args.self.now c.get-then-get-3.result c.args.location c.args.digest c.replace.new.entries.entries c.in_ok-replace.ensures.entries c.get-then-get-3.ensures c.self.view_is (omega (arith, c.get-then-get-3.ensures, c.get-5.ensures, c.get-6.ensures, c.if-get-3.true))
-
-pub returns-else-get-3-clause-ok : goal.returns-else-get-3-clause-ok
-returns-else-get-3-clause-ok g c =
-    let inside = c.self.inside in
-    let old : Draft g.row.D.Denot = record { start = inside.start; base = inside.base; layers = map (λ r. r.value) inside.layers.items; replaced = inside.replaced.entries; added = inside.added.items } in
-    updated-added old c.args.self.now (c.get-else-get-3.result - c.get-else-get-3-2.result) c.args.location c.args.digest c.self.view_is (omega (arith, c.get-5.ensures, c.get-6.ensures, c.if-get-3.false)) (ap₂ (λ i j. i - j) c.get-else-get-3.ensures c.get-else-get-3-2.ensures)
 
 pub returns-then-get : goal.returns-then-get
 returns-then-get g c = record {
@@ -95,29 +57,51 @@ returns-in_err-replace g c = record {
       rw (exit g c).1 (ap (λ (es : List (ℕ × g.row.D.Denot)). record old { replaced = es }) c.in_err-replace.ensures.err ∙ c.self.view_is);
 }
 
-pub returns-in_ok-replace-clause-range : goal.returns-in_ok-replace-clause-range
-returns-in_ok-replace-clause-range g c = (omega (arith, c.if-get.false, c.get.ensures, c.get-2.ensures, ap (λ b. b.start) c.self.view_is), omega (arith, c.if-get-2.false, c.get-3.ensures, c.get-4.ensures, c.leaves.ensures))
+pub returns-in_ok-replace : goal.returns-in_ok-replace
+returns-in_ok-replace g c = record {
+  leaf = λ leaves count.
+      let bytes = g.D.Digest.bytes in
+      let inside = c.self.inside in
+      let old : Draft g.row.D.Denot = record { start = inside.start; base = inside.base; layers = map (λ r. r.value) inside.layers.items; replaced = inside.replaced.entries; added = inside.added.items } in
+      let new : Draft g.row.D.Denot = record old { replaced = c.replace.new.entries.entries } in
+      let place = c.get-then-get-3 in
+      let done = c.in_ok-replace.ensures in
+      let lt : place.result < length leaves = omega (arith, place.ensures, c.if-get-3.true, ap (λ b. b.base) c.self.view_is, count) in
+      drafted-replaced bytes old new place.result c.args.digest leaves done.here done.other refl lt
+      ∙ ap (λ n. slice_set (drafted bytes old leaves) n (bytes c.args.digest)) place.ensures
+      ∙ ap (λ b. slice_set (drafted bytes b leaves) c.args.location (bytes c.args.digest)) c.self.view_is;
+  ok =
+      let inside = c.self.inside in
+      let old : Draft g.row.D.Denot = record { start = inside.start; base = inside.base; layers = map (λ r. r.value) inside.layers.items; replaced = inside.replaced.entries; added = inside.added.items } in
+      updated-replaced old c.args.self.now c.get-then-get-3.result c.args.location c.args.digest c.replace.new.entries.entries c.in_ok-replace.ensures.entries c.get-then-get-3.ensures c.self.view_is (omega (arith, c.get-then-get-3.ensures, c.get-5.ensures, c.get-6.ensures, c.if-get-3.true));
+  range = (omega (arith, c.if-get.false, c.get.ensures, c.get-2.ensures, ap (λ b. b.start) c.self.view_is), omega (arith, c.if-get-2.false, c.get-3.ensures, c.get-4.ensures, c.leaves.ensures));
+  cause = tt;
+  memory = λ from within. tt;
+  err = tt;
+}
 
-pub returns-in_ok-replace-clause-cause : goal.returns-in_ok-replace-clause-cause
-returns-in_ok-replace-clause-cause g c = tt
-
-pub returns-in_ok-replace-clause-memory : goal.returns-in_ok-replace-clause-memory
-returns-in_ok-replace-clause-memory g c = λ from within. tt
-
-pub returns-in_ok-replace-clause-err : goal.returns-in_ok-replace-clause-err
-returns-in_ok-replace-clause-err g c = tt
-
-pub returns-else-get-3-clause-range : goal.returns-else-get-3-clause-range
-returns-else-get-3-clause-range g c = (omega (arith, c.if-get.false, c.get.ensures, c.get-2.ensures, ap (λ b. b.start) c.self.view_is), omega (arith, c.if-get-2.false, c.get-3.ensures, c.get-4.ensures, c.leaves.ensures))
-
-pub returns-else-get-3-clause-cause : goal.returns-else-get-3-clause-cause
-returns-else-get-3-clause-cause g c = tt
-
-pub returns-else-get-3-clause-memory : goal.returns-else-get-3-clause-memory
-returns-else-get-3-clause-memory g c = λ from within. tt
-
-pub returns-else-get-3-clause-err : goal.returns-else-get-3-clause-err
-returns-else-get-3-clause-err g c = tt
+pub returns-else-get-3 : goal.returns-else-get-3
+returns-else-get-3 g c = record {
+  leaf = λ leaves count.
+      let bytes = g.D.Digest.bytes in
+      let inside = c.self.inside in
+      let old : Draft g.row.D.Denot = record { start = inside.start; base = inside.base; layers = map (λ r. r.value) inside.layers.items; replaced = inside.replaced.entries; added = inside.added.items } in
+      let index = c.get-else-get-3.result - c.get-else-get-3-2.result in
+      let new : Draft g.row.D.Denot = record old { added = slice_set inside.added.items index c.args.digest } in
+      let base : inside.base ≡ c.args.self.now.base = ap (λ b. b.base) c.self.view_is in
+      let at : index ≡ c.args.location - length leaves = omega (arith, c.get-else-get-3.ensures, c.get-else-get-3-2.ensures, base, count) in
+      let le : length leaves ≤ c.args.location = omega (arith, c.if-get-3.false, base, count) in
+      drafted-added bytes old new c.args.location c.args.digest leaves refl le (ap (λ i. slice_set inside.added.items i c.args.digest) at)
+      ∙ ap (λ b. slice_set (drafted bytes b leaves) c.args.location (bytes c.args.digest)) c.self.view_is;
+  ok =
+      let inside = c.self.inside in
+      let old : Draft g.row.D.Denot = record { start = inside.start; base = inside.base; layers = map (λ r. r.value) inside.layers.items; replaced = inside.replaced.entries; added = inside.added.items } in
+      updated-added old c.args.self.now (c.get-else-get-3.result - c.get-else-get-3-2.result) c.args.location c.args.digest c.self.view_is (omega (arith, c.get-5.ensures, c.get-6.ensures, c.if-get-3.false)) (ap₂ (λ i j. i - j) c.get-else-get-3.ensures c.get-else-get-3-2.ensures);
+  range = (omega (arith, c.if-get.false, c.get.ensures, c.get-2.ensures, ap (λ b. b.start) c.self.view_is), omega (arith, c.if-get-2.false, c.get-3.ensures, c.get-4.ensures, c.leaves.ensures));
+  cause = tt;
+  memory = λ from within. tt;
+  err = tt;
+}
 
 pub location_to_position-position-requires : goal.location_to_position-position-requires
 location_to_position-position-requires g c = omega (arith, c.if-get.true, c.get.ensures, c.get-2.ensures, c.self.invariant.0, c.self.invariant.1)

@@ -1,6 +1,6 @@
 use Rattle.std.proofs.Common.{◌≡◌, ◌∙◌, ◌+◌, ◌-◌, ◌++◌, append-nil, length, map, take, ap, ap₂, sym, subst, arith}
 use Rattle.std.proofs.lemmas.List.{take_all}
-use Rattle.std.proofs.lemmas.Result.{err_from_is_err_and}
+use Rattle.std.proofs.lemmas.Result.{IfOk-from_err}
 use Rattle.qm_merkle.specs.Mems.{Stands, more}
 use Rattle.qm_merkle.proofs.Counting.{made-next, next-leaves}
 use Rattle.qm_merkle.proofs.mem.Mem.add_all.Goals as goal
@@ -15,29 +15,19 @@ loop-leaf-preserved g c = record {
   made = made-next g.F.Family.shape g.F.Family.births g.met.F.Family.numbered c.args.self.now.leaves c.loop-leaf.leaf-index c.loop-leaf.self.leaves c.args.hasher.now c.loop-leaf.hasher c.add.new.hasher c.loop-leaf.invariant.leaves c.loop-leaf.invariant.made c.in_ok-add.ensures.made;
 }
 
-pub make_room-requires : goal.make_room-requires
-make_room-requires g c = c.requires
+pub returns-in_err-make_room : goal.returns-in_err-make_room
+returns-in_err-make_room g c = record {
+  bounds = IfOk-from_err c.from_residual.result _ c.from_residual.ensures.0;
+  stands = λ list stands. IfOk-from_err c.from_residual.result _ c.from_residual.ensures.0;
+  made = IfOk-from_err c.from_residual.result _ c.from_residual.ensures.0;
+}
 
-pub add-requires : goal.add-requires
-add-requires g c = omega (arith, c.requires, c.loop-leaf.invariant.leaves, c.loop-leaf-test.true)
-
-pub returns-in_err-make_room-clause-bounds : goal.returns-in_err-make_room-clause-bounds
-returns-in_err-make_room-clause-bounds g c = let exit = err_from_is_err_and c.from_residual.result c.from_residual.ensures.1 in rw exit.1 tt
-
-pub returns-in_err-make_room-clause-stands : goal.returns-in_err-make_room-clause-stands
-returns-in_err-make_room-clause-stands g c = λ list stands. let exit = err_from_is_err_and c.from_residual.result c.from_residual.ensures.1 in rw exit.1 tt
-
-pub returns-in_err-make_room-clause-made : goal.returns-in_err-make_room-clause-made
-returns-in_err-make_room-clause-made g c = let exit = err_from_is_err_and c.from_residual.result c.from_residual.ensures.1 in rw exit.1 tt
-
-pub returns-in_err-add-clause-bounds : goal.returns-in_err-add-clause-bounds
-returns-in_err-add-clause-bounds g c = let exit = err_from_is_err_and c.from_residual-in_err-add.result c.from_residual-in_err-add.ensures.1 in rw exit.1 tt
-
-pub returns-in_err-add-clause-stands : goal.returns-in_err-add-clause-stands
-returns-in_err-add-clause-stands g c = λ list stands. let exit = err_from_is_err_and c.from_residual-in_err-add.result c.from_residual-in_err-add.ensures.1 in rw exit.1 tt
-
-pub returns-in_err-add-clause-made : goal.returns-in_err-add-clause-made
-returns-in_err-add-clause-made g c = let exit = err_from_is_err_and c.from_residual-in_err-add.result c.from_residual-in_err-add.ensures.1 in rw exit.1 tt
+pub returns-in_err-add : goal.returns-in_err-add
+returns-in_err-add g c = record {
+  bounds = IfOk-from_err c.from_residual-in_err-add.result _ c.from_residual-in_err-add.ensures.0;
+  stands = λ list stands. IfOk-from_err c.from_residual-in_err-add.result _ c.from_residual-in_err-add.ensures.0;
+  made = IfOk-from_err c.from_residual-in_err-add.result _ c.from_residual-in_err-add.ensures.0;
+}
 
 pub loop-leaf-init : goal.loop-leaf-init
 loop-leaf-init g c =
@@ -50,15 +40,13 @@ loop-leaf-init g c =
       made = omega (arith, ap g.F.Family.shape.size none);
     }
 
-pub returns-clause-bounds : goal.returns-clause-bounds
-returns-clause-bounds g c = (c.loop-leaf.invariant.start, omega (arith, c.loop-leaf.invariant.leaves, c.loop-leaf-test.false))
-
-pub returns-clause-stands : goal.returns-clause-stands
-returns-clause-stands g c = λ list stands.
-    subst (λ ds. Stands g.F.Family.shape g.D.Digest.bytes g.H.Hasher.hash c.loop-leaf.self (list ++ map g.D.Digest.bytes ds)) (take_all c.loop-leaf.leaf-index c.args.leaves.now c.loop-leaf-test.false) (c.loop-leaf.invariant.stands list stands)
-
-pub returns-clause-made : goal.returns-clause-made
-returns-clause-made g c =
-    let all : c.loop-leaf.leaf-index ≡ length c.args.leaves.now = omega (arith, c.loop-leaf-test.false) in
-    c.loop-leaf.invariant.made
-    ∙ ap₂ (λ n i. more c.args.hasher.now (g.F.Family.shape.size n - g.F.Family.shape.size c.args.self.now.leaves - i)) (sym c.loop-leaf.invariant.leaves) all
+pub returns : goal.returns
+returns g c = record {
+  bounds = (c.loop-leaf.invariant.start, omega (arith, c.loop-leaf.invariant.leaves, c.loop-leaf-test.false));
+  stands = λ list stands.
+      subst (λ ds. Stands g.F.Family.shape g.D.Digest.bytes g.H.Hasher.hash c.loop-leaf.self (list ++ map g.D.Digest.bytes ds)) (take_all c.loop-leaf.leaf-index c.args.leaves.now c.loop-leaf-test.false) (c.loop-leaf.invariant.stands list stands);
+  made =
+      let all : c.loop-leaf.leaf-index ≡ length c.args.leaves.now = omega (arith, c.loop-leaf-test.false) in
+      c.loop-leaf.invariant.made
+      ∙ ap₂ (λ n i. more c.args.hasher.now (g.F.Family.shape.size n - g.F.Family.shape.size c.args.self.now.leaves - i)) (sym c.loop-leaf.invariant.leaves) all;
+}

@@ -2,7 +2,7 @@ use Rattle.std.proofs.Common.{◌≡◌, ◌+◌, ◌-◌, ◌++◌, ◌<◌, �
 use Rattle.std.specs.Prelude.{slice_get, option_map}
 use Rattle.std.proofs.lemmas.Bool.{cases_lt}
 use Rattle.std.proofs.lemmas.List.{length-append, get_or-append_right}
-use Rattle.std.proofs.lemmas.Result.{err_from_is_err_and}
+use Rattle.std.proofs.lemmas.Result.{IfOk-from_err}
 use Rattle.qm_model.specs.Trees.{Node, leaf, digest_of}
 use Rattle.qm_model.specs.Operations.{Bytes}
 use Rattle.qm_merkle.specs.Mems.{Gives, AreBorn, more}
@@ -30,15 +30,6 @@ first_born bytes made d leaves digest born n is count first reads k lt =
     less : (m : ℕ) → m - m ≡ 0
     less m = omega arith
 
-pub parent-digest-requires-clause-few : goal.parent-digest-requires-clause-few
-parent-digest-requires-clause-few g c = c.requires
-
-pub parent-digest-requires-clause-number : goal.parent-digest-requires-clause-number
-parent-digest-requires-clause-number g c = ap length c.deref.ensures.value ∙ c.loop-number.invariant.count
-
-pub parent-digest-requires-clause-some : goal.parent-digest-requires-clause-some
-parent-digest-requires-clause-some g c = c.loop-number.auto.number
-
 pub parent-digest-requires-clause-room : goal.parent-digest-requires-clause-room
 parent-digest-requires-clause-room g c = omega (arith, c.loop-number-test.true, c.birth_count-count.ensures, ap (λ k. g.F.Family.births.count k.leaves) c.self.view_is)
 
@@ -63,23 +54,15 @@ loop-number-preserved g c =
       made = omega (arith, c.parent-digest.ensures.made, c.loop-number.invariant.made, c.loop-number.auto.number);
     }
 
-pub returns-in_err-reserve-clause-count : goal.returns-in_err-reserve-clause-count
-returns-in_err-reserve-clause-count g c = let exit = err_from_is_err_and c.from_residual.result c.from_residual.ensures.1 in rw exit.1 tt
-
-pub returns-in_err-reserve-clause-born : goal.returns-in_err-reserve-clause-born
-returns-in_err-reserve-clause-born g c = λ leaves stands. let exit = err_from_is_err_and c.from_residual.result c.from_residual.ensures.1 in rw exit.1 tt
-
-pub returns-in_err-reserve-clause-made : goal.returns-in_err-reserve-clause-made
-returns-in_err-reserve-clause-made g c = let exit = err_from_is_err_and c.from_residual.result c.from_residual.ensures.1 in rw exit.1 tt
+pub returns-in_err-reserve : goal.returns-in_err-reserve
+returns-in_err-reserve g c = record {
+  count = IfOk-from_err c.from_residual.result _ c.from_residual.ensures.0;
+  born = λ leaves stands. IfOk-from_err c.from_residual.result _ c.from_residual.ensures.0;
+  made = IfOk-from_err c.from_residual.result _ c.from_residual.ensures.0;
+}
 
 pub push_reserved-requires-in-loop-number : goal.push_reserved-requires-in-loop-number
 push_reserved-requires-in-loop-number g c = omega (arith, c.loop-number.invariant.count, c.loop-number.invariant.room, c.loop-number-test.true, c.birth_count-count.ensures, ap (λ k. g.F.Family.births.count k.leaves) c.self.view_is)
-
-pub returns-clause-born : goal.returns-clause-born
-returns-clause-born g c = c.loop-number.invariant.born
-
-pub returns-clause-made : goal.returns-clause-made
-returns-clause-made g c = c.loop-number.invariant.made ∙ ap (λ n. more c.args.hasher.now (n - 1)) (sym c.loop-number.invariant.count)
 
 pub loop-number-init : goal.loop-number-init
 loop-number-init g c =
@@ -96,7 +79,11 @@ loop-number-init g c =
 pub push_reserved-requires : goal.push_reserved-requires
 push_reserved-requires g c = omega (arith, c.in_ok-reserve.ensures.ok, c.birth_count-count.ensures, g.met.F.Family.numbered.some c.self.inside.leaves)
 
-pub returns-clause-count : goal.returns-clause-count
-returns-clause-count g c =
-    let some = g.met.F.Family.numbered.some c.self.inside.leaves in
-    omega (arith, c.loop-number.invariant.count, c.loop-number-test.false, c.loop-number.auto.number-end (omega (arith, some, c.birth_count-count.ensures)), c.birth_count-count.ensures, ap (λ k. g.F.Family.births.count k.leaves) c.self.view_is)
+pub returns : goal.returns
+returns g c = record {
+  born = c.loop-number.invariant.born;
+  made = c.loop-number.invariant.made ∙ ap (λ n. more c.args.hasher.now (n - 1)) (sym c.loop-number.invariant.count);
+  count =
+      let some = g.met.F.Family.numbered.some c.self.inside.leaves in
+      omega (arith, c.loop-number.invariant.count, c.loop-number-test.false, c.loop-number.auto.number-end (omega (arith, some, c.birth_count-count.ensures)), c.birth_count-count.ensures, ap (λ k. g.F.Family.births.count k.leaves) c.self.view_is);
+}

@@ -1,4 +1,4 @@
-use Rattle.std.proofs.Common.{◌∙◌, Some, length, map, ap, arith, sym, subst}
+use Rattle.std.proofs.Common.{◌∙◌, Some, length, map, ap, sym, subst}
 use Rattle.qm_merkle.specs.Mems.{Holds, node_at}
 use Rattle.std.proofs.lemmas.List.{take_all}
 use Rattle.std.proofs.lemmas.Result.{err_from_is_err_and}
@@ -19,9 +19,6 @@ loop-position-preserved g c = record {
 
 pub loop-position-init : goal.loop-position-init
 loop-position-init g c = record { found = ap (map Some) c.in_ok-found.ensures.items; count = ap length c.in_ok-found.ensures.items; room = c.in_ok-found.ensures.exact }
-
-pub push_reserved-requires : goal.push_reserved-requires
-push_reserved-requires g c = omega (arith, c.loop-position.invariant.count, c.loop-position.invariant.room, c.loop-position-test.true)
 
 pub returns : goal.returns
 returns g c = c.loop-position.invariant.found ∙ ap (map (node_at g.F.Family.shape c.args.self.now)) (take_all c.loop-position.position-index c.args.positions.now c.loop-position-test.false)

@@ -10,15 +10,9 @@ nodes_to_pin-requires g c =
     let r = c.requires.size in
     omega (arith, r.1, sizes_tell g.F.Family.shape g.F.Family.births g.met.F.Family.numbered c.args.pruned_to r.0 (omega (arith, r.2)))
 
-pub of_parts-requires-clause-positions : goal.of_parts-requires-clause-positions
-of_parts-requires-clause-positions g c = c.in_ok-positions.ensures
-
 pub of_parts-requires-clause-pins : goal.of_parts-requires-clause-pins
 of_parts-requires-clause-pins g c =
     omega (arith, c.requires.pins, ap length c.in_ok-positions.ensures, length-map (peaks g.F.Family.shape c.args.pruned_to) g.F.Family.shape.position)
-
-pub of_parts-requires-clause-size : goal.of_parts-requires-clause-size
-of_parts-requires-clause-size g c = c.requires.size
 
 pub returns-in_err-positions : goal.returns-in_err-positions
 returns-in_err-positions g c =

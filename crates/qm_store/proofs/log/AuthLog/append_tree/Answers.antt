@@ -25,11 +25,6 @@ pub returns-in-Ok-clause-refused : goal.returns-in-Ok-clause-refused
 returns-in-Ok-clause-refused g c =
     err-then c.stored.result c.stored.ensures.refused (λ r refused. refused c.args.self (sym (ap (λ l. l.store) c.self.view_is)))
 
-pub returns-in-Err-clause-refused : goal.returns-in-Err-clause-refused
-returns-in-Err-clause-refused g c =
-    let same = ap (λ t. record { store = c.self.inside.store; tree = t }) c.in-Err.ensures.err ∙ c.self.view_is in
-    refused-whole g.C.Store (λ old new. HasGrownPart g.C.Store old new (map (λ v. v.items) c.args.items.now)) c.args.self _ same
-
 pub returns-in-Ok-clause-start : goal.returns-in-Ok-clause-start
 returns-in-Ok-clause-start g c = ok-then c.stored.result c.stored.ensures.tree (λ log same. ap (λ t. t.start) same ∙ c.in-Ok.ensures.start ∙ ap (λ l. l.tree.start) c.self.view_is)
 
@@ -43,17 +38,14 @@ returns-in-Ok-clause-later g c =
     let members = g.C.Store in
     ok-then c.stored.result c.stored.ensures.later (λ log later. subst (λ l. members.faults l.store ≤ members.faults log.store) c.self.view_is later)
 
-pub returns-in-Err-clause-stands : goal.returns-in-Err-clause-stands
-returns-in-Err-clause-stands g c = λ list older is kept found. tt
-
-pub returns-in-Err-clause-start : goal.returns-in-Err-clause-start
-returns-in-Err-clause-start g c = tt
-
-pub returns-in-Err-clause-size : goal.returns-in-Err-clause-size
-returns-in-Err-clause-size g c = tt
-
-pub returns-in-Err-clause-grown : goal.returns-in-Err-clause-grown
-returns-in-Err-clause-grown g c = tt
-
-pub returns-in-Err-clause-later : goal.returns-in-Err-clause-later
-returns-in-Err-clause-later g c = tt
+pub returns-in-Err : goal.returns-in-Err
+returns-in-Err g c = record {
+  refused =
+      let same = ap (λ t. record { store = c.self.inside.store; tree = t }) c.in-Err.ensures.err ∙ c.self.view_is in
+      refused-whole g.C.Store (λ old new. HasGrownPart g.C.Store old new (map (λ v. v.items) c.args.items.now)) c.args.self _ same;
+  stands = λ list older is kept found. tt;
+  start = tt;
+  size = tt;
+  grown = tt;
+  later = tt;
+}

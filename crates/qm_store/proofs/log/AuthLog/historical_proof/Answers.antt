@@ -160,3 +160,21 @@ returns-clause-kept g c = subst (λ l. IsKept g.C.Store l.store c.read_items.new
 
 pub returns-clause-cause : goal.returns-clause-cause
 returns-clause-cause g c = no-error _ _ _ _ (subst (λ l. g.C.Store.faults l.store ≤ g.C.Store.faults c.read_items.new.store) c.self.view_is c.read_items.ensures.cause.later)
+
+pub kept_proof-requires-clause-size : goal.kept_proof-requires-clause-size
+kept_proof-requires-clause-size g c = subst (λ n. c.args.size ≤ n) (c.bounds-first.ensures.size ∙ sym (ap (λ l. l.tree.leaves) c.self.view_is)) c.if-leaves-size.false
+
+pub kept_proof-requires-clause-inactive : goal.kept_proof-requires-clause-inactive
+kept_proof-requires-clause-inactive g c = c.requires (subst (λ n. c.args.size ≤ n) c.bounds-first.ensures.size c.if-leaves-size.false)
+
+pub read_items-requires-clause-start : goal.read_items-requires-clause-start
+read_items-requires-clause-start g c =
+    subst (λ l. g.C.Store.start l.store ≤ c.args.start) (sym c.self.view_is) (subst (λ n. n ≤ c.args.start) (c.bounds-first.ensures.start ∙ sym c.bounds-first.ensures.first) c.if-start-first.false)
+
+pub read_items-requires-clause-end : goal.read_items-requires-clause-end
+read_items-requires-clause-end g c =
+    let within = subst (λ n. c.args.size ≤ n) c.bounds-first.ensures.size c.if-leaves-size.false in
+    subst (λ l. c.args.start + c.min.result ≤ g.C.Store.«end» l.store) (sym c.self.view_is) (omega (arith, within, c.bounds-first.ensures.past, c.min.ensures, c.if-size-start.false))
+
+pub read_items-requires-clause-few : goal.read_items-requires-clause-few
+read_items-requires-clause-few g c = omega (arith, c.bounds-first.ensures.limit, c.if-leaves-size.false, c.min.ensures, c.if-size-start.false)

@@ -1,30 +1,20 @@
 use Rattle.std.proofs.Common.{◌∙◌, ap, refl, Err}
-use Rattle.qm_store.proofs.Stores.{any-told}
+use Rattle.qm_store.proofs.Stores.{any-told, log-opened}
 use Rattle.qm_store.proofs.log.AuthLog.open.Goals as goal
 
-pub returns-in-Ok-clause-start : goal.returns-in-Ok-clause-start
-returns-in-Ok-clause-start g c = c.in-Ok.ensures.start
-
-pub returns-in-Ok-clause-size : goal.returns-in-Ok-clause-size
-returns-in-Ok-clause-size g c = c.in-Ok.ensures.size
-
-pub returns-in-Ok-clause-kept : goal.returns-in-Ok-clause-kept
-returns-in-Ok-clause-kept g c = c.load.ensures.kept
-
-pub returns-in-Ok-clause-back : goal.returns-in-Ok-clause-back
-returns-in-Ok-clause-back g c = tt
-
-pub returns-in-Ok-clause-long : goal.returns-in-Ok-clause-long
-returns-in-Ok-clause-long g c = c.in-Ok.ensures.long
-
-pub returns-in-Ok-clause-head : goal.returns-in-Ok-clause-head
-returns-in-Ok-clause-head g c = tt
-
-pub returns-in-Ok-clause-never : goal.returns-in-Ok-clause-never
-returns-in-Ok-clause-never g c = tt
-
-pub returns-in-Ok-clause-later : goal.returns-in-Ok-clause-later
-returns-in-Ok-clause-later g c = c.load.ensures.cause.later
+pub returns-in-Ok : goal.returns-in-Ok
+returns-in-Ok g c = record {
+  stands = λ list long.
+      log-opened g.C.Store g.F.Family.shape g.H.Digest.Digest.bytes g.H.Hasher.hash c.args.store (record { store = c.load.new.store; tree = c.in-Ok.tree }) list c.args.size _ c.load.ensures.kept c.in-Ok.ensures.start c.in-Ok.ensures.size long (c.in-Ok.ensures.stands list long);
+  start = c.in-Ok.ensures.start;
+  size = c.in-Ok.ensures.size;
+  kept = c.load.ensures.kept;
+  back = tt;
+  long = c.in-Ok.ensures.long;
+  head = tt;
+  never = tt;
+  later = c.load.ensures.cause.later;
+}
 
 pub returns-in-Err : goal.returns-in-Err
 returns-in-Err g c = record {

@@ -1,12 +1,7 @@
-use Rattle.std.proofs.Common.{◌≤◌, ◌∙◌, ◌+◌, ◌++◌, ◌∷◌, [], ap, sym, subst, length, map}
-use Rattle.qm_model.specs.Trees.{peaks}
+use Rattle.std.proofs.Common.{◌++◌, ◌∷◌, [], sym, subst, map}
 use Rattle.qm_merkle.specs.Mems.{Stands}
 use Rattle.qm_store.specs.Log.{digests_from}
 use Rattle.qm_store.proofs.log.AuthLog.root_with.Goals as goal
-
-pub root-requires : goal.root-requires
-root-requires g c =
-    subst (λ n. c.args.inactive ≤ length (peaks g.F.Family.shape n)) (sym (c.in_ok-batch.ensures.leaves ∙ ap (λ log. log.tree.leaves + length c.args.items.now) c.self.view_is)) c.requires.peaks
 
 pub returns-clause-value : goal.returns-clause-value
 returns-clause-value g c = λ list is.

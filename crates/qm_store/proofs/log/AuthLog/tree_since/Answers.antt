@@ -1,10 +1,12 @@
 use Rattle.std.proofs.Common.{◌≡◌, ◌≤◌, ◌∙◌, ◌+◌, ◌++◌, ◌∷◌, Contains, IfOk, length, map, ap, ap₂, sym, subst, arith}
 use Rattle.std.proofs.lemmas.List.Elements.{All-contains}
+use Rattle.std.proofs.lemmas.Result.{IfOk-from_err}
 use Rattle.qm_merkle.specs.Mems.{Stands}
-use Rattle.qm_merkle.specs.Batches.{Draft, all_layers, stops, lists_since, IsHistory}
+use Rattle.qm_merkle.specs.Batches.{Draft, all_layers, layers_since, stops, stops_since, lists_since, IsHistory}
 use Rattle.qm_merkle.proofs.Putting.{history-count}
 use Rattle.qm_merkle.proofs.Since.{stop-since, list-since, first-since}
 use Rattle.qm_store.specs.Log.{digests_from}
+use Rattle.qm_store.proofs.Trees.{if_both}
 use Rattle.qm_store.proofs.Leaves.{digests-count, digests_from-append, length-digests_from}
 use Rattle.qm_store.proofs.log.AuthLog.tree_since.Goals as goal
 
@@ -50,3 +52,50 @@ returns-clause-history g c = λ list base lists is history found.
     (ap₂ (λ ds ls. ds ∷ ls)
     (ap (λ ds. before ++ map bytes ds) c.deref.ensures.value ∙ ap (λ l. before ++ l) (c.in_ok-digests.ensures ∙ ap (λ i. digests_from hash shape i more) start) ∙ sym (digests_from-append hash shape 0 base more)) (sym first))
     (c.grown_behind.ensures.history own before rest (subst (λ log. Stands shape bytes hash log.tree own) (sym c.self.view_is) is.tree) since among)
+
+pub returns-in_err-digests : goal.returns-in_err-digests
+returns-in_err-digests g c =
+    let result = c.from_residual.result in
+    let failed = c.from_residual.ensures.0 in
+    record {
+      history = λ list base lists is history found. IfOk-from_err result _ failed;
+      leaves = IfOk-from_err result _ failed;
+      start = IfOk-from_err result _ failed;
+      older = IfOk-from_err result _ failed;
+      adding = IfOk-from_err result _ failed;
+      stops = IfOk-from_err result _ failed;
+      same = c.self.view_is;
+    }
+
+pub returns-in_err-draft : goal.returns-in_err-draft
+returns-in_err-draft g c =
+    let result = c.from_residual-in_err-draft.result in
+    let failed = c.from_residual-in_err-draft.ensures.0 in
+    record {
+      history = λ list base lists is history found. IfOk-from_err result _ failed;
+      leaves = IfOk-from_err result _ failed;
+      start = IfOk-from_err result _ failed;
+      older = IfOk-from_err result _ failed;
+      adding = IfOk-from_err result _ failed;
+      stops = IfOk-from_err result _ failed;
+      same = c.self.view_is;
+    }
+
+pub returns-clause-start : goal.returns-clause-start
+returns-clause-start g c = subst (λ n. IfOk c.grown_behind.result (λ b. b.newest.tree.start ≡ n)) (ap (λ (d : Draft _). d.base) c.in_ok-draft.ensures.draft) c.grown_behind.ensures.start
+
+pub returns-clause-older : goal.returns-clause-older
+returns-clause-older g c =
+    subst (λ ls. IfOk c.grown_behind.result (λ b. b.older ≡ ls)) (ap (λ (d : Draft _). d.layers) c.in_ok-draft.ensures.draft ∙ ap (λ n. layers_since n (all_layers c.args.batch.now)) c.new.ensures) c.grown_behind.ensures.older
+
+pub returns-clause-adding : goal.returns-clause-adding
+returns-clause-adding g c = c.grown_behind.ensures.adding
+
+pub returns-clause-stops : goal.returns-clause-stops
+returns-clause-stops g c =
+    let all = stops c.args.batch.now.newest.tree.leaves (all_layers c.args.batch.now) in
+    if_both c.grown_behind.result (λ b. b.older ≡ c.in_ok-draft.draft.layers) (λ b. b.newest.tree.start ≡ c.in_ok-draft.draft.base) (λ b. stops b.newest.tree.start b.older ≡ stops_since c.args.boundary all)
+    (λ b older start. ap₂ stops start older ∙ c.in_ok-draft.ensures.stops ∙ ap (λ n. stops_since n all) c.new.ensures) c.grown_behind.ensures.older c.grown_behind.ensures.start
+
+pub returns-clause-same : goal.returns-clause-same
+returns-clause-same g c = c.self.view_is

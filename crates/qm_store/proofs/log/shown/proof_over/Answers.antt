@@ -1,10 +1,11 @@
-use Rattle.std.proofs.Common.{◌≡◌, ◌∙◌, ◌≤◌, ◌^◌, IfOk, IfErr, length, arith, subst, le_refl}
+use Rattle.std.proofs.Common.{◌≡◌, ◌∙◌, ◌≤◌, ◌^◌, None, IfOk, IfErr, OnOk, length, arith, sym, subst, le_refl}
 use Rattle.std.proofs.lemmas.List.{take_all}
 use Rattle.std.proofs.lemmas.Result.{IfErr-weaker}
 use Rattle.qm_base.specs.declared.error.Error.TheVariants as errors
+use Rattle.qm_model.specs.Trees.{peaks}
 use Rattle.qm_model.specs.Proofs.{proof_of}
 use Rattle.qm_merkle.specs.Batches.{all_layers}
-use Rattle.qm_proofs.specs.Proofs.{proof_view, needed_positions, over_at}
+use Rattle.qm_proofs.specs.Proofs.{proof_view, needed_positions, first_lacked, over_at}
 use Rattle.qm_proofs.proofs.Keeping.{needed_seen}
 use Rattle.qm_store.specs.Log.{IsLacked}
 use Rattle.qm_store.proofs.Shown.{over_count, over_tells, over_there, only_memory}
@@ -42,3 +43,21 @@ returns-clause-whole g c = λ hash list new lists from stands history found.
     let none = needed_seen shape births family peaked tree (all_layers batch) n few there n c.args.start c.args.end from (omega (arith, c.requires.order, c.requires.within)) (le_refl n) in
     IfErr-weaker c.proof_from.result (IsLacked at needed) (λ e. e ≡ errors.Memory) (λ e lack. only_memory at needed e none lack)
     (subst (λ m. IfErr c.proof_from.result (IsLacked at (needed_positions shape m c.args.start c.args.end))) (c.get-3.ensures ∙ c.leaves-leaves.ensures.count) c.proof_from.ensures.cause)
+
+pub returns-clause-held : goal.returns-clause-held
+returns-clause-held g c =
+    let shape = g.F.Family.shape in
+    let at = over_at shape c.args.batch.now c.args.tree.now in
+    subst (λ m. OnOk c.proof_from.result (first_lacked at (needed_positions shape m c.args.start c.args.end) ≡ None)) (c.get-3.ensures ∙ c.leaves-leaves.ensures.count) c.proof_from.ensures.held
+
+pub returns-clause-cause : goal.returns-clause-cause
+returns-clause-cause g c =
+    let shape = g.F.Family.shape in
+    let at = over_at shape c.args.batch.now c.args.tree.now in
+    subst (λ m. IfErr c.proof_from.result (IsLacked at (needed_positions shape m c.args.start c.args.end))) (c.get-3.ensures ∙ c.leaves-leaves.ensures.count) c.proof_from.ensures.cause
+
+pub proof_from-requires-clause-within : goal.proof_from-requires-clause-within
+proof_from-requires-clause-within g c = subst (λ m. c.args.end ≤ m) (sym (c.get-3.ensures ∙ c.leaves-leaves.ensures.count)) c.requires.within
+
+pub proof_from-requires-clause-inactive : goal.proof_from-requires-clause-inactive
+proof_from-requires-clause-inactive g c = subst (λ m. c.args.inactive ≤ length (peaks g.F.Family.shape m)) (sym (c.get-3.ensures ∙ c.leaves-leaves.ensures.count)) c.requires.inactive

@@ -1,0 +1,8 @@
+use Rattle.std.proofs.lemmas.Result.{IfOk-from_err}
+use Rattle.qm_graft.proofs.root.pending_digest.Goals as goal
+
+pub returns-in_err-chunk-in-Some : goal.returns-in_err-chunk-in-Some
+returns-in_err-chunk-in-Some g c = record {
+  digest = IfOk-from_err c.from_residual.result _ c.from_residual.ensures.0;
+  made = IfOk-from_err c.from_residual.result _ c.from_residual.ensures.0;
+}
