@@ -4,6 +4,7 @@ pub mod Handling
 pub mod Commands
 pub mod BatchCommands
 pub mod ReadCommands
+pub mod ReadStores
 pub mod StagedCommands
 pub mod OrderedCommands
 pub mod ProofCommands

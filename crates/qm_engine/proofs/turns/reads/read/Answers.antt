@@ -1,14 +1,21 @@
-use Rattle.std.proofs.Common.{map, option_map, subst, sym, ◌∙◌}
+use Rattle.std.proofs.Common.{map, option_map, subst, sym, ◌∙◌, refl}
 use Rattle.qm_model.specs.Live.{value_of}
 use Rattle.qm_engine.specs.Session.{SlotIs}
 use Rattle.qm_engine.proofs.ReadCommands.{map-through, database_read, named_read}
+use Rattle.qm_engine.proofs.ReadStores.{read-keeps, read-uses}
 use Rattle.qm_engine.proofs.turns.reads.read.Goals as goal
 
-pub returns-in-Ok-clause-machine : goal.returns-in-Ok-clause-machine
-returns-in-Ok-clause-machine g c = λ s k.
-    rw c.in-None.is (λ _. database_read g.C.Store g.X.Words g.X.Key.ByteString.bytes g.X.Value.ByteString.bytes g.X.Digest.Digest.bytes c.in-Database.x c.get.new.self c.args.session.now.table.items c.args.session.now.opened (map g.X.Key.ByteString.bytes c.args.keys.now)
-    (map (option_map g.X.Value.ByteString.bytes) c.in-Ok.values.items) s (rw c.in-Database.is at k) c.get.ensures.reads.same c.get.ensures.reads.store
-    (λ list stands. c.in-Ok.ensures.values list stands ∙ map-through g.X.Key.ByteString.bytes (value_of list) c.args.keys.now))
+pub returns-in-Ok : goal.returns-in-Ok
+returns-in-Ok g c =
+    record {
+      machine = λ s k.
+          rw c.in-None.is (λ _. database_read g.C.Store g.X.Words g.X.Key.ByteString.bytes g.X.Value.ByteString.bytes g.X.Digest.Digest.bytes c.in-Database.x c.get.new.self c.args.session.now.table.items c.args.session.now.opened (map g.X.Key.ByteString.bytes c.args.keys.now)
+          (map (option_map g.X.Value.ByteString.bytes) c.in-Ok.values.items) s (rw c.in-Database.is at k) c.get.ensures.reads.same c.get.ensures.reads.store
+          (λ list stands. c.in-Ok.ensures.values list stands ∙ map-through g.X.Key.ByteString.bytes (value_of list) c.args.keys.now));
+      store = read-keeps g.C.Store g.X.Words c.in-Database.is c.get.ensures.reads;
+      uses = read-uses g.C.Store g.X.Words c.in-Database.is c.get.ensures.reads _ (λ e. absurd (cc e));
+      opened = refl;
+    }
 
 pub returns-in-Some-slot_at-clause-machine : goal.returns-in-Some-slot_at-clause-machine
 returns-in-Some-slot_at-clause-machine g c = λ s k.
