@@ -1,6 +1,9 @@
 // Cases, and how they are read.
-use anyhow::{Context, Result, bail};
+use anyhow::{Context, Result, bail, ensure};
 use std::alloc::{AllocError, Global};
+
+/// Where a store's last item may end.
+pub const END: u64 = 1 << 62;
 
 /// A run of the program, with the ports that it is given.
 #[derive(Drop)]
@@ -99,25 +102,33 @@ impl Case {
                 self.input.push(b'\n')?;
             }
             "hex" => self.input.extend_from_slice(&hex::decode(alloc, rest)?)?,
-            "fill" => {
-                let (count, bytes) = rest.split_once(' ').context("no bytes")?;
-                let bytes = hex::decode(alloc, bytes)?;
-                for _ in 0..count.parse::<u32>()? {
-                    self.input.extend_from_slice(&bytes)?;
-                }
-            }
-            "start" => self.new_store()?.start = rest.parse()?,
+            "fill" => self.fill(alloc, rest)?,
+            "start" => self.new_store()?.start = start(rest)?,
             "head" => self.new_store()?.head = hex::decode(alloc, rest)?,
-            "fail" => {
-                let (port, numbers) = rest.split_once(' ').context("no numbers")?;
-                let fails = self.fails_of(port)?;
-                for number in numbers.split(' ') {
-                    fails.push(number.parse()?)?;
-                }
-            }
+            "fail" => self.fail(rest)?,
             "keep" => self.store = StoreOf::Kept,
             "items" => self.tells_items = true,
             _ => bail!("unknown: {first}"),
+        }
+        Ok(())
+    }
+
+    // Goes on with bytes, so many times.
+    fn fill(&mut self, alloc: Global, rest: &str) -> Result<()> {
+        let (count, bytes) = rest.split_once(' ').context("no bytes")?;
+        let bytes = hex::decode(alloc, bytes)?;
+        for _ in 0..count.parse::<u32>()? {
+            self.input.extend_from_slice(&bytes)?;
+        }
+        Ok(())
+    }
+
+    // Has calls of a port fail.
+    fn fail(&mut self, rest: &str) -> Result<()> {
+        let (port, numbers) = rest.split_once(' ').context("no numbers")?;
+        let fails = self.fails_of(port)?;
+        for number in numbers.split(' ') {
+            fails.push(number.parse()?)?;
         }
         Ok(())
     }
@@ -138,6 +149,13 @@ impl Case {
             _ => bail!("no port: {port}"),
         }
     }
+}
+
+// Where a store starts.
+fn start(text: &str) -> Result<u64> {
+    let start = text.parse()?;
+    ensure!(start <= END, "a store that starts at {start}");
+    Ok(start)
 }
 
 fn words(alloc: Global, text: &str) -> Result<Vec<String>, AllocError> {

@@ -1,6 +1,6 @@
 // Runs of cases.
-use crate::cases::{Case, NewStore, StoreOf};
-use anyhow::{Result, ensure};
+use crate::cases::{Case, END, NewStore, StoreOf};
+use anyhow::Result;
 use qm_base::OpenGate;
 use qm_lines::{MemSink, MemSource};
 use qm_memory::MemStore;
@@ -9,11 +9,24 @@ use qm_store::Store;
 use std::alloc::Global;
 use std::io::Write;
 
-// Where a store's last item may end.
-const END: u64 = 1 << 62;
+// What came of a case.
+#[derive(Drop)]
+struct Outcome {
+    name: String,
+    status: u8,
+    sink: MemSink,
+    store: MemStore,
+    tells_items: bool,
+}
 
 /// Runs a case, tells what came of it, and gives back the store. `kept` is that of the case before.
 pub fn run<W: Write>(alloc: Global, case: Case, kept: MemStore, out: &mut W) -> Result<MemStore> {
+    let ran = ran(alloc, case, kept);
+    tell(&ran, out)?;
+    Ok(ran.store)
+}
+
+fn ran(alloc: Global, case: Case, kept: MemStore) -> Outcome {
     let Case {
         name,
         words,
@@ -25,21 +38,29 @@ pub fn run<W: Write>(alloc: Global, case: Case, kept: MemStore, out: &mut W) -> 
     } = case;
     let store = match store {
         StoreOf::Kept => kept,
-        StoreOf::New(store) => new_store(alloc, store)?,
+        StoreOf::New(store) => new_store(alloc, store),
     };
     let mut source = MemSource::new(input, source_fails);
     let mut sink = MemSink::new(alloc, sink_fails);
     let (status, store) = qmdb_main(alloc, &words, store, &mut source, &mut sink, &OpenGate);
-    writeln!(out, "case {name}")?;
-    out.write_all(sink.bytes())?;
-    writeln!(out, "status {status}")?;
-    tell_store(&store, tells_items, out)?;
-    Ok(store)
+    Outcome {
+        name,
+        status,
+        sink,
+        store,
+        tells_items,
+    }
 }
 
-fn new_store(alloc: Global, store: NewStore) -> Result<MemStore> {
-    ensure!(store.start <= END, "a store that starts at {}", store.start);
-    Ok(MemStore::with_head(alloc, store.start, store.head, store.fails))
+fn new_store(alloc: Global, store: NewStore) -> MemStore {
+    MemStore::with_head(alloc, store.start.min(END), store.head, store.fails)
+}
+
+fn tell<W: Write>(ran: &Outcome, out: &mut W) -> Result<()> {
+    writeln!(out, "case {}", ran.name)?;
+    out.write_all(ran.sink.bytes())?;
+    writeln!(out, "status {}", ran.status)?;
+    tell_store(&ran.store, ran.tells_items, out)
 }
 
 fn tell_store<W: Write>(store: &MemStore, tells_items: bool, out: &mut W) -> Result<()> {
