@@ -108,11 +108,11 @@ fn written<B: Bed>(alloc: Global) -> Result<Database<B>, Error> {
 
 // The same, with an entry of metadata, and opened again from its store.
 pub(crate) fn again<B: Bed>(alloc: Global) -> Result<Database<B>, Error> {
+    let db = written::<B>(alloc)?;
     let entry = MetaEntry {
         key: [1; 9],
         value: Vec::new(alloc),
     };
-    let db = written::<B>(alloc)?;
     let db = kept(db.put_meta("a", &[entry]))?;
     opened::<B>(alloc, db.close())
 }

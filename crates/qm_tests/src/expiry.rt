@@ -4,7 +4,7 @@ ghost use Rattle.std.specs.Prelude.{◌≡◌, ◌^◌, ◌-◌, ℕ, Bool, true
 ghost use Rattle.qm_model.specs.Walk as walk;
 ghost use Rattle.qm_chain.specs.Policies.{action_view};
 
-use crate::bed::{Bed, KEY, again, batch_of, of_bytes};
+use crate::bed::{Bed, Database, KEY, Key, again, batch_of, of_bytes};
 use crate::fixed::Fixed;
 use qm_base::{ByteString, Error};
 use qm_chain::{Decision, Entry, Limits, Policy};
@@ -56,13 +56,18 @@ impl<F, K: ByteString, V: ByteString> Policy<F, K, V> for Expiry {
     }
 }
 
-// Whether the key is there in a batch of a block that writes another key.
+// Whether the key is there in a batch of a block that writes another key, on the list of a database.
+fn is_kept<B: Bed>(alloc: Global, db: &mut Database<B>, block: u8) -> Result<bool, Error> {
+    let key: Key<B> = of_bytes(alloc, &KEY)?;
+    let other = [20; 8];
+    let batch = batch_of::<B>(alloc, db, &[5, 6, 7, 8], &other, block)?;
+    let value = batch.get(alloc, &key, db)?;
+    Ok(value.is_some())
+}
+
 fn is_kept_at<B: Bed>(alloc: Global, block: u8) -> Result<bool, Error> {
     let mut db = again::<B>(alloc)?;
-    let other = [20; 8];
-    let batch = batch_of::<B>(alloc, &mut db, &[5, 6, 7, 8], &other, block)?;
-    let value = batch.get(alloc, &of_bytes(alloc, &KEY)?, &mut db)?;
-    Ok(value.is_some())
+    is_kept::<B>(alloc, &mut db, block)
 }
 
 #[test]

@@ -1,6 +1,6 @@
 //! A database whose keys and values have one size: its text, and a root that was computed by another program.
 
-use crate::bed::{Bed, again};
+use crate::bed::{Bed, Database, again};
 use qm_base::{Digest, Error, FixedBytes, Location, Sha256};
 use qm_index::FourCap;
 use qm_index::unordered::Index;
@@ -38,12 +38,16 @@ impl Bed for Fixed {
     }
 }
 
-// The text of a database whose root begins with these bytes, and how many operations from location 1 on are proved.
-fn told<B: Bed>(alloc: Global, begin: &[u8]) -> Result<String, Error> {
-    let mut db = again::<B>(alloc)?;
+// The text of a database, whether its root begins with these bytes, and how many operations from location 1 on are proved.
+fn text_of<B: Bed>(alloc: Global, db: &mut Database<B>, begin: &[u8]) -> Result<String, Error> {
     let (_, shown) = db.proof(alloc, Location::new(1), NonZeroU64::MIN)?;
     let is_rooted = db.root().bytes().starts_with(begin);
     Ok(format!(in alloc; "{db:?} {is_rooted} {}", shown.len())?)
+}
+
+fn told<B: Bed>(alloc: Global, begin: &[u8]) -> Result<String, Error> {
+    let mut db = again::<B>(alloc)?;
+    text_of::<B>(alloc, &mut db, begin)
 }
 
 #[test]

@@ -74,6 +74,39 @@ struct Listed<F: Family> {
     floor: Location<F>,
 }
 
+// The tree of so many operations.
+fn tree_of<F: Family>(
+    alloc: Global,
+    hasher: &mut TreeHasher,
+    count: u64,
+    first: u64,
+) -> Result<Tree<F>, AllocError>
+    requires { count ≤ 1000 }
+{
+    let mut leaves = Vec::new(alloc);
+    for at in 0..count {
+        let bytes = spelled(alloc, count, first, at)?;
+        leaves.push(hasher.leaf_digest(F::location_to_position(Location::new(at)), &bytes))?;
+    }
+    let mut tree = Mem::new(alloc);
+    add_leaves(alloc, hasher, &mut tree, &leaves)?;
+    Ok(tree)
+}
+
+// Its bits.
+fn bits_of(alloc: Global, count: u64, first: u64) -> Result<Prunable<Chunk32>, AllocError>
+    requires { count ≤ 1000 }
+{
+    let mut bits = Prunable::new(alloc);
+    for at in 0..count {
+        if 1000 < bits.len() {
+            return Err(AllocError);
+        }
+        bits.push(at > 0 && first <= at + 1)?;
+    }
+    Ok(bits)
+}
+
 // The list of so many operations.
 fn list<F: Family>(
     alloc: Global,
@@ -83,18 +116,8 @@ fn list<F: Family>(
 ) -> Result<Listed<F>, AllocError>
     requires { count ≤ 1000 }
 {
-    let mut leaves = Vec::new(alloc);
-    let mut bits = Prunable::new(alloc);
-    for at in 0..count {
-        let bytes = spelled(alloc, count, first, at)?;
-        leaves.push(hasher.leaf_digest(F::location_to_position(Location::new(at)), &bytes))?;
-        if 1000 < bits.len() || 1000 < leaves.len() {
-            return Err(AllocError);
-        }
-        bits.push(at > 0 && first <= at + 1)?;
-    }
-    let mut tree = Mem::new(alloc);
-    add_leaves(alloc, hasher, &mut tree, &leaves)?;
+    let bits = bits_of(alloc, count, first)?;
+    let tree = tree_of(alloc, hasher, count, first)?;
     let floor = Location::new(first.saturating_sub(1));
     Ok(Listed { tree, bits, floor })
 }
@@ -184,6 +207,18 @@ fn prune_bits<F: Graftable>(rt: &impl Abort, list: &mut Listed<F>) -> Location<G
     Location::new(pruned)
 }
 
+// Prunes as many chunks of a list's bits as may go, and answers the values of the peaks over them.
+fn prune<F: Graftable>(
+    rt: &impl Abort,
+    alloc: Global,
+    hasher: &mut TreeHasher,
+    list: &mut Listed<F>,
+) -> Result<Vec<Sha256Digest>, MerkleError> {
+    let whole = built(rt, alloc, hasher, list, Vec::new(alloc))?;
+    let pruned = prune_bits(rt, list);
+    Ok(pins_of(alloc, &whole, pruned)?)
+}
+
 // The text of the canonical root of a list, by a grafted tree that is built from another's pins where chunks may be pruned.
 fn pruned_root<F: Graftable>(
     rt: &impl Abort,
@@ -195,9 +230,7 @@ fn pruned_root<F: Graftable>(
 {
     let mut hasher = StandardHasher::new(Sha256::new());
     let mut list = list::<F>(alloc, &mut hasher, count, first)?;
-    let whole = built(rt, alloc, &mut hasher, &list, Vec::new(alloc))?;
-    let pruned = prune_bits(rt, &mut list);
-    let pins = pins_of(alloc, &whole, pruned)?;
+    let pins = prune(rt, alloc, &mut hasher, &mut list)?;
     let grafted = built(rt, alloc, &mut hasher, &list, pins)?;
     Ok(root_text(rt, alloc, &mut hasher, &list, &grafted)?)
 }
