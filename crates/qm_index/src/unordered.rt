@@ -134,9 +134,8 @@ impl<T: Translator, V: IndexValue> Unordered for Index<T, V> {
         let index_key = self.translator.index_key(key);
         match self.buckets.get_mut(&index_key) {
             Some(bucket) if 1 < bucket.values().len() => bucket.remove(i),
-            _ => {
-                self.buckets.remove(&index_key);
-            }
+            Some(_) => drop(self.buckets.remove(&index_key)),
+            None => {}
         }
     }
 

@@ -64,13 +64,9 @@ fn add_field<B: ByteString>(
         None => {
             let count = four_bytes(bytes.len() as u32);
             out.extend_from_slice(&count)?;
-            out.extend_from_slice(bytes)?;
-            Ok(())
+            out.extend_from_slice(bytes)
         }
-        Some(_) => {
-            out.extend_from_slice(bytes)?;
-            Ok(())
-        }
+        Some(_) => out.extend_from_slice(bytes),
     }
 }
 
@@ -140,8 +136,7 @@ fn add_plain<F, U: Update>(out: &mut Vec<u8>, operation: &Operation<F, U>) -> Re
         Operation::CommitFloor(metadata, floor) => {
             out.push(3)?;
             add_metadata(out, value_size(sizes), metadata)?;
-            out.extend_from_slice(&eight_bytes(floor.get()))?;
-            Ok(())
+            out.extend_from_slice(&eight_bytes(floor.get()))
         }
     }
 }
