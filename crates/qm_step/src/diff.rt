@@ -7,6 +7,7 @@ ghost use Rattle.qm_step.specs.PlanViews.{touch_view, touch_views, noted_view, I
 ghost use Rattle.qm_step.specs.Touches.{IsFrom, operations_of};
 ghost use Rattle.qm_step.specs.Views.{change_view, changes_view};
 
+use crate::put::put;
 use crate::touch::Touch;
 use qm_base::{ByteString, Location};
 use qm_chain::{Diff, DiffEntry};
@@ -38,16 +39,14 @@ fn note<'a, F, U: Update>(
                 now: Some((at, update.value())),
                 before: touch.before,
             };
-            notes.insert(update.key().as_bytes(), noted)?;
-            Ok(())
+            put(notes, update.key().as_bytes(), noted)
         }
         Operation::Delete(key) => {
             let noted = Noted {
                 now: None,
                 before: touch.before,
             };
-            notes.insert(key.as_bytes(), noted)?;
-            Ok(())
+            put(notes, key.as_bytes(), noted)
         }
         Operation::CommitFloor(_, _) => Ok(()),
     }
@@ -84,9 +83,9 @@ fn location_of<F>(at: Option<u64>) -> Option<Location<F>>
 // The entry of a diff for what is noted of a key.
 fn entry_of<F, V: ByteString>(
     alloc: Global,
-    noted: Noted<'_, V>,
+    noted: &Noted<'_, V>,
 ) -> Result<DiffEntry<F, V>, AllocError>
-    ensures { IfOk result (λ entry. change_view V.bytes entry ≡ noted_view V.bytes noted.entry) }
+    ensures { IfOk result (λ entry. change_view V.bytes entry ≡ noted_view V.bytes noted.entry.now) }
 {
     match noted.now {
         Some((at, value)) => {
@@ -106,14 +105,14 @@ fn entry_of<F, V: ByteString>(
 // The diff of what is noted.
 fn diff_of<F, K: ByteString, V: ByteString>(
     alloc: Global,
-    notes: BTreeMap<&[u8], Noted<'_, V>>,
+    notes: &BTreeMap<&[u8], Noted<'_, V>>,
 ) -> Result<Diff<F, K, V>, AllocError>
-    requires { All (λ e. K.has e.0.now ≡ true) notes.entries }
-    ensures { IfOk result (λ diff. changes_view K.bytes V.bytes diff ≡ map (λ e. (e.0.now, noted_view V.bytes e.1)) notes.entry.entries) }
+    requires { All (λ e. K.has e.0.now ≡ true) notes.now.entries }
+    ensures { IfOk result (λ diff. changes_view K.bytes V.bytes diff ≡ map (λ e. (e.0.now, noted_view V.bytes e.1)) notes.now.entries) }
 {
     let mut entries = Vec::with_capacity(alloc, notes.len())?;
     for (key, noted) in notes {
-        let key = K::from_bytes(alloc, key)?;
+        let key = K::from_bytes(alloc, *key)?;
         let entry = entry_of(alloc, noted)?;
         entries.push_reserved((key, entry));
     }
@@ -131,5 +130,5 @@ pub fn diff_of_touches<F, U: Update>(
         → AreChanges (changes_view U.Key.bytes U.Value.bytes diff) base (base ++ operations_of (touch_views U.view U.Key.bytes U.Value.bytes touches.now))) }
 {
     let notes = notes_of(alloc, size, touches)?;
-    diff_of(alloc, notes)
+    diff_of(alloc, &notes)
 }

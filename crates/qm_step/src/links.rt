@@ -13,6 +13,7 @@ ghost use Rattle.qm_step.specs.Touches as lists;
 
 use crate::nearest::{entry_before, key_behind};
 use crate::neighbour::Neighbour;
+use crate::put::put;
 use crate::site::Site;
 use crate::touch::Touch;
 use crate::writes::LastWrite;
@@ -59,7 +60,7 @@ fn keys_of<'a, K: ByteString, V: ByteString>(
     let mut keys = BTreeMap::new(alloc);
     for written in linked {
         if is_of(written, kind) {
-            keys.insert(written.write.key.as_bytes(), ())?;
+            put(&mut keys, written.write.key.as_bytes(), ())?;
         }
     }
     Ok(keys)
@@ -78,7 +79,7 @@ fn add_before<'a, F, K: ByteString, V: ValueEncoding<K>>(
     if let Some(found) = &neighbour.before {
         let key = found.1.key.as_bytes();
         if !deleted.contains_key(key) {
-            befores.insert(key, found)?;
+            put(befores, key, found)?;
         }
     }
     Ok(())
@@ -113,7 +114,7 @@ fn add_kept<'a, K: ByteString>(
     if let Some(key) = key {
         let key = key.as_bytes();
         if !deleted.contains_key(key) {
-            keys.insert(key, ())?;
+            put(keys, key, ())?;
         }
     }
     Ok(())
@@ -285,7 +286,7 @@ fn add_link<'a, F, K: ByteString, V: ValueEncoding<K>>(
             operation,
             before: Some(found.0.get()),
         })?;
-        written.insert(before, ())?;
+        put(written, before, ())?;
     }
     Ok(())
 }
@@ -311,25 +312,6 @@ fn add_links<'a, F, K: ByteString, V: ValueEncoding<K>>(
         }
     }
     Ok(())
-}
-
-// The operations of writes: those of deletes, then of updates, then of creates.
-fn written_touches<'a, F, K: ByteString, V: ValueEncoding<K>>(
-    alloc: Global,
-    afters: &Keys<'a>,
-    linked: &[Site<'a, K, V::Value>],
-) -> Result<Vec<Touch<F, Ordered<K, V>>>, AllocError>
-    requires { AreKeys K.has afters.now.entries }
-    ensures { IfOk result (λ touches. ordered_touches K.bytes V.Value.bytes touches.items
-        ≡ map (touch_of (keys_in afters.now.entries)) (of_kind Kind.Delete (map (linked_view K.bytes V.Value.bytes) linked.now))
-        ++ map (touch_of (keys_in afters.now.entries)) (of_kind Kind.Update (map (linked_view K.bytes V.Value.bytes) linked.now))
-        ++ map (touch_of (keys_in afters.now.entries)) (of_kind Kind.Create (map (linked_view K.bytes V.Value.bytes) linked.now))) }
-{
-    let mut touches = Vec::new(alloc);
-    add_written(alloc, &mut touches, afters, linked, Kind::Delete)?;
-    add_written(alloc, &mut touches, afters, linked, Kind::Update)?;
-    add_written(alloc, &mut touches, afters, linked, Kind::Create)?;
-    Ok(touches)
 }
 
 // Writes the live updates before the keys that are created or deleted again, unless their own keys were written.
@@ -368,6 +350,31 @@ fn add_relinked<'a, F, K: ByteString, V: ValueEncoding<K>>(
     )
 }
 
+// The operations of writes: those of deletes, then of updates, then of creates, and then the links that these change.
+fn written_touches<'a, F, K: ByteString, V: ValueEncoding<K>>(
+    alloc: Global,
+    befores: &Befores<'a, F, K, V>,
+    afters: &Keys<'a>,
+    linked: &'a [Site<'a, K, V::Value>],
+) -> Result<Vec<Touch<F, Ordered<K, V>>>, AllocError>
+    requires { AreKeys K.has afters.now.entries }
+    ensures { IfOk result (λ touches. (base : List operations.Operation) → AreLive (ordered_update K.bytes V.Value.bytes) base befores.now.entries
+        → ordered_touches K.bytes V.Value.bytes touches.items
+        ≡ (map (touch_of (keys_in afters.now.entries)) (of_kind Kind.Delete (map (linked_view K.bytes V.Value.bytes) linked.now))
+        ++ map (touch_of (keys_in afters.now.entries)) (of_kind Kind.Update (map (linked_view K.bytes V.Value.bytes) linked.now))
+        ++ map (touch_of (keys_in afters.now.entries)) (of_kind Kind.Create (map (linked_view K.bytes V.Value.bytes) linked.now)))
+        ++ relinked_touches base (keys_in afters.now.entries) (keys_of_kind Kind.Update (map (linked_view K.bytes V.Value.bytes) linked.now))
+        (filter_map (predecessor (keys_in befores.now.entries)) (keys_of_kind Kind.Create (map (linked_view K.bytes V.Value.bytes) linked.now))
+        ++ filter_map (predecessor (keys_in befores.now.entries)) (keys_of_kind Kind.Delete (map (linked_view K.bytes V.Value.bytes) linked.now)))) }
+{
+    let mut touches = Vec::new(alloc);
+    add_written(alloc, &mut touches, afters, linked, Kind::Delete)?;
+    add_written(alloc, &mut touches, afters, linked, Kind::Update)?;
+    add_written(alloc, &mut touches, afters, linked, Kind::Create)?;
+    add_relinked(alloc, &mut touches, befores, afters, linked)?;
+    Ok(touches)
+}
+
 /// The operations of the last writes, of which it is known where their keys stand, and what stands before those that are
 /// created or deleted.
 pub fn linked_touches<'a, F, K: ByteString, V: ValueEncoding<K>>(
@@ -382,7 +389,5 @@ pub fn linked_touches<'a, F, K: ByteString, V: ValueEncoding<K>>(
     let deleted = keys_of(alloc, linked, Kind::Delete)?;
     let befores = befores_of(alloc, &deleted, neighbours)?;
     let afters = afters_of(alloc, &deleted, linked, neighbours)?;
-    let mut touches = written_touches(alloc, &afters, linked)?;
-    add_relinked(alloc, &mut touches, &befores, &afters, linked)?;
-    Ok(touches)
+    written_touches(alloc, &befores, &afters, linked)
 }

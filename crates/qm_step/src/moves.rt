@@ -25,6 +25,7 @@ use crate::decided::{Decided, evicted};
 use crate::diff::diff_of_touches;
 use crate::layer::Layer;
 use crate::nearest::key_behind;
+use crate::put::put;
 use crate::touch::Touch;
 use crate::writes::push_some;
 use qm_base::{ByteString, Location, twin_option};
@@ -144,10 +145,7 @@ fn add_named<'a, K: ByteString, V>(
     ensures known { OnOk result (All (λ e. K.has e.0.now ≡ true) keys.old.entries → All (λ e. K.has e.0.now ≡ true) keys.new.entries) }
 {
     match &one.next {
-        Some(next) => {
-            keys.insert(next.as_bytes(), ())?;
-            Ok(())
-        }
+        Some(next) => { put(keys, next.as_bytes(), ()) }
         None => Ok(()),
     }
 }
@@ -202,7 +200,7 @@ fn by_key<'a, F, K: ByteString, V: ValueEncoding<K>>(
 {
     let mut all = BTreeMap::new(alloc);
     for one in found {
-        all.insert(one.1.key.as_bytes(), one)?;
+        put(&mut all, one.1.key.as_bytes(), one)?;
     }
     Ok(all)
 }

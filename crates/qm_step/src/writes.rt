@@ -12,6 +12,7 @@ ghost use Rattle.qm_step.specs.PlanViews.{keyed, last_view, last_write_view, loc
 ghost use Rattle.qm_step.specs.Touches.{rewrite_here, moved_touch, new_touch, written_touches};
 ghost use Rattle.qm_step.specs.Views.{keys_of, wanted_view, write_view};
 
+use crate::put::put;
 use crate::site::Site;
 use crate::touch::Touch;
 use crate::wanted::{Read, Wanted};
@@ -56,8 +57,7 @@ fn add_write<'a, K: ByteString, V: ByteString>(
     ensures { OnOk result ((ws : List model.Write) → map (last_view K.bytes V.bytes) last.old.entries ≡ map keyed (model.last_writes ws)
         → map (last_view K.bytes V.bytes) last.new.entries ≡ map keyed (model.last_writes (ws ++ record { key = K.bytes key.now; value = option_map (λ v. V.bytes v.now) value.entry } ∷ []))) }
 {
-    last.insert(key.as_bytes(), LastWrite { key, value })?;
-    Ok(())
+    put(last, key.as_bytes(), LastWrite { key, value })
 }
 
 // Adds writes.
@@ -149,8 +149,7 @@ fn put_rewrite<F, K: ByteString, V: ValueEncoding<K>>(
     match site.at() {
         Some(at) => {
             let operation = operation_of(alloc, &site.write)?;
-            rewrites.insert(at, operation)?;
-            Ok(())
+            put(rewrites, at, operation)
         }
         None => Ok(()),
     }

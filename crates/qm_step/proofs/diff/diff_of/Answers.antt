@@ -1,7 +1,6 @@
 use Rattle.std.proofs.Common.{◌≡◌, ◌∙◌, arith, ap₂, map, true, Bor, List, ℕ, ◌++◌, ap}
 use Rattle.std.proofs.lemmas.List.{length-map}
 use Rattle.std.proofs.lemmas.Result.{IfOk-from_err}
-use Rattle.std.proofs.lemmas.Map.Iter.{rest_more, rest_all}
 use Rattle.qm_step.proofs.PlanEntries.{entry_shown, note_shown, kept-first, kept-rest, ascends-shown}
 use Rattle.qm_step.proofs.PlanLoops.{drained-more, drained-room, drained-all}
 use Rattle.std.proofs.lemmas.List.Elements.{All-same}
@@ -12,34 +11,34 @@ pub loop-key-preserved : goal.loop-key-preserved
 loop-key-preserved g c =
     let key = g.K.ByteString.bytes in
     let value = g.V.ByteString.bytes in
-    let more = rest_more (λ x. x) c.loop-key.key-iterator c.next.new.self c.next.result (c.in-Some.key, c.in-Some.noted) c.in-Some.is c.next.ensures.steps in
+    let more = c.in-Some.ensures.steps in
     record {
-      value = drained-more (entry_shown key value) (note_shown value) c.loop-key.entries.items c.loop-key.key-iterator (map (note_shown value) c.args.notes.entries)
-          c.push_reserved.new.self.items c.next.new.self _ (c.in-Some.key, c.in-Some.noted) more c.push_reserved.ensures.items (ap₂ (λ k what. (k, what)) c.in_ok-key.ensures c.in_ok-entry.ensures) c.loop-key.invariant.value;
+      value = drained-more (entry_shown key value) (note_shown value) c.loop-key.entries.items c.loop-key.key-iterator (map (note_shown value) c.args.notes.now.entries)
+          c.push_reserved.new.self.items c.next.new.self _ (c.in-Some.key.now, c.in-Some.noted.now) more c.push_reserved.ensures.items (ap₂ (λ k what. (k, what)) c.in_ok-key.ensures c.in_ok-entry.ensures) c.loop-key.invariant.value;
       room = c.push_reserved.ensures.capacity ∙ c.loop-key.invariant.room;
-      known = kept-rest (λ (k : Bor (List ℕ)). g.K.ByteString.has k.now ≡ true) c.loop-key.key-iterator c.next.new.self (c.in-Some.key, c.in-Some.noted) more c.loop-key.invariant.known;
+      known = kept-rest (λ (k : Bor (List ℕ)). g.K.ByteString.has k.now ≡ true) c.loop-key.key-iterator c.next.new.self (c.in-Some.key.now, c.in-Some.noted.now) more c.loop-key.invariant.known;
     }
 
 pub from_bytes-requires : goal.from_bytes-requires
 from_bytes-requires g c =
-    kept-first (λ (k : Bor (List ℕ)). g.K.ByteString.has k.now ≡ true) c.loop-key.key-iterator c.next.new.self (c.in-Some.key, c.in-Some.noted)
-    (rest_more (λ x. x) c.loop-key.key-iterator c.next.new.self c.next.result (c.in-Some.key, c.in-Some.noted) c.in-Some.is c.next.ensures.steps) c.loop-key.invariant.known
+    kept-first (λ (k : Bor (List ℕ)). g.K.ByteString.has k.now ≡ true) c.loop-key.key-iterator c.next.new.self (c.in-Some.key.now, c.in-Some.noted.now)
+    c.in-Some.ensures.steps c.loop-key.invariant.known
 
 pub push_reserved-requires : goal.push_reserved-requires
 push_reserved-requires g c =
     let key = g.K.ByteString.bytes in
     let value = g.V.ByteString.bytes in
-    let room = drained-room (entry_shown key value) (note_shown value) c.loop-key.entries.items c.loop-key.key-iterator (map (note_shown value) c.args.notes.entries) (c.in-Some.key, c.in-Some.noted) c.next.new.self
-    (rest_more (λ x. x) c.loop-key.key-iterator c.next.new.self c.next.result (c.in-Some.key, c.in-Some.noted) c.in-Some.is c.next.ensures.steps) c.loop-key.invariant.value in
-    omega (arith, room, length-map c.args.notes.entries (note_shown value), c.loop-key.invariant.room, c.loop-key.entries.ok.0)
+    let room = drained-room (entry_shown key value) (note_shown value) c.loop-key.entries.items c.loop-key.key-iterator (map (note_shown value) c.args.notes.now.entries) (c.in-Some.key.now, c.in-Some.noted.now) c.next.new.self
+    c.in-Some.ensures.steps c.loop-key.invariant.value in
+    omega (arith, room, length-map c.args.notes.now.entries (note_shown value), c.loop-key.invariant.room, c.loop-key.entries.ok.0)
 
 pub new-requires : goal.new-requires
 new-requires g c =
     let key = g.K.ByteString.bytes in
     let value = g.V.ByteString.bytes in
-    ascends-shown key value c.loop-key.entries.items c.args.notes.entries
-    (drained-all (entry_shown key value) (note_shown value) c.loop-key.entries.items c.loop-key.key-iterator (map (note_shown value) c.args.notes.entries)
-    (rest_all (λ x. x) c.loop-key.key-iterator c.next.new.self c.next.result c.in-None.is c.next.ensures.steps) c.loop-key.invariant.value)
+    ascends-shown key value c.loop-key.entries.items c.args.notes.now.entries
+    (drained-all (entry_shown key value) (note_shown value) c.loop-key.entries.items c.loop-key.key-iterator (map (note_shown value) c.args.notes.now.entries)
+    c.in-None.ensures.steps.0 c.loop-key.invariant.value)
     c.into_iter-key-iterator.ensures.into_iter_gives.5
 
 pub returns-in_err-entries : goal.returns-in_err-entries
@@ -60,7 +59,7 @@ loop-key-init g c =
     record {
       value = ap₂ (λ xs es. map (entry_shown key value) xs ++ map (note_shown value) es) made.items all;
       room = made.exact ∙ c.len.ensures.len;
-      known = All-same (λ e. g.K.ByteString.has e.0.now ≡ true) c.into_iter-key-iterator.result c.args.notes.entries all c.requires;
+      known = All-same (λ e. g.K.ByteString.has e.0.now ≡ true) c.into_iter-key-iterator.result c.args.notes.now.entries all c.requires;
     }
 
 pub returns : goal.returns
@@ -68,5 +67,5 @@ returns g c =
     let key = g.K.ByteString.bytes in
     let value = g.V.ByteString.bytes in
     ap (changes_view key value) c.new.ensures
-    ∙ drained-all (entry_shown key value) (note_shown value) c.loop-key.entries.items c.loop-key.key-iterator (map (note_shown value) c.args.notes.entries)
-    (rest_all (λ x. x) c.loop-key.key-iterator c.next.new.self c.next.result c.in-None.is c.next.ensures.steps) c.loop-key.invariant.value
+    ∙ drained-all (entry_shown key value) (note_shown value) c.loop-key.entries.items c.loop-key.key-iterator (map (note_shown value) c.args.notes.now.entries)
+    c.in-None.ensures.steps.0 c.loop-key.invariant.value

@@ -10,18 +10,18 @@ use Rattle.qm_step.proofs.LinksSets.{looked, kept-more, gone-none, all-more}
 use Rattle.std.proofs.lemmas.Result.{IfOk-from_err}
 use Rattle.qm_step.proofs.links.add_before.Goals as goal
 
-pub returns-in_ok-insert : goal.returns-in_ok-insert
-returns-in_ok-insert g c = record {
+pub returns-in_ok-put : goal.returns-in_ok-put
+returns-in_ok-put g c = record {
   keys = λ x.
       let view = ordered_update g.K.ByteString.bytes g.V.Value.ByteString.bytes in
       let key = g.K.ByteString.bytes c.in-Some.found.1.key in
       let gone = keys_in c.args.deleted.now.entries in
-      kept-more c.args.befores.now.entries c.insert.new.self.entries gone c.as_bytes-key.result _ key (looked c.args.deleted.now.entries c.as_bytes-key.result.now key _ c.if-not-contains_key.ensures c.as_bytes-key.ensures.value)
-      c.in_ok-insert.ensures.entries c.as_bytes-key.ensures.value x
+      kept-more c.args.befores.now.entries c.put.new.map.entries gone c.as_bytes-key.result _ key (looked c.args.deleted.now.entries c.as_bytes-key.result.now key _ c.if-not-contains_key.ensures c.as_bytes-key.ensures.value)
+      c.in_ok-put.ensures.entries c.as_bytes-key.ensures.value x
       ∙ ap (λ o. contains_key (keys_in c.args.befores.now.entries ++ without gone (option_to_list (option_and_then (λ p. key_of p.1) (option_map (read_view view) o)))) x) (sym c.in-Some.is);
   standing = λ base stands all.
       let view = ordered_update g.K.ByteString.bytes g.V.Value.ByteString.bytes in
-      all-more (λ b u. update_of base b ≡ Some (read_view view u.now)) c.args.befores.now.entries c.insert.new.self.entries c.as_bytes-key.result _ c.in_ok-insert.ensures.entries
+      all-more (λ b u. update_of base b ≡ Some (read_view view u.now)) c.args.befores.now.entries c.put.new.map.entries c.as_bytes-key.result _ c.in_ok-put.ensures.entries
       (ap (update_of base) c.as_bytes-key.ensures.value ∙ subst (λ o. IfSome (option_map (read_view view) o) (Stands base)) c.in-Some.is stands) all;
 }
 
@@ -33,8 +33,8 @@ returns-else-not-contains_key-clause-keys g c = λ x.
     gone-none c.args.befores.now.entries gone key (looked c.args.deleted.now.entries c.as_bytes-key.result.now key _ c.if-not-contains_key.ensures c.as_bytes-key.ensures.value) x
     ∙ ap (λ o. contains_key (keys_in c.args.befores.now.entries ++ without gone (option_to_list (option_and_then (λ p. key_of p.1) (option_map (read_view view) o)))) x) (sym c.in-Some.is)
 
-pub returns-in_err-insert : goal.returns-in_err-insert
-returns-in_err-insert g c = record {
+pub returns-in_err-put : goal.returns-in_err-put
+returns-in_err-put g c = record {
   keys = IfOk-from_err c.from_residual.result _ c.from_residual.ensures.0;
   standing = IfOk-from_err c.from_residual.result _ c.from_residual.ensures.0;
 }

@@ -5,15 +5,15 @@ use Rattle.qm_step.specs.Links.{keys_in}
 use Rattle.qm_step.proofs.LinksSets.{looked, kept-more, gone-none, all-more}
 use Rattle.qm_step.proofs.links.add_kept.Goals as goal
 
-pub returns-in_ok-insert : goal.returns-in_ok-insert
-returns-in_ok-insert g c = record {
+pub returns-in_ok-put : goal.returns-in_ok-put
+returns-in_ok-put g c = record {
   keys = λ x.
       let key = g.K.ByteString.bytes c.in-Some.key.now in
       let gone = keys_in c.args.deleted.now.entries in
-      kept-more c.args.keys.now.entries c.insert.new.self.entries gone c.as_bytes-key.result _ key (looked c.args.deleted.now.entries c.as_bytes-key.result.now key _ c.if-not-contains_key.ensures c.as_bytes-key.ensures.value)
-      c.in_ok-insert.ensures.entries c.as_bytes-key.ensures.value x
+      kept-more c.args.keys.now.entries c.put.new.map.entries gone c.as_bytes-key.result _ key (looked c.args.deleted.now.entries c.as_bytes-key.result.now key _ c.if-not-contains_key.ensures c.as_bytes-key.ensures.value)
+      c.in_ok-put.ensures.entries c.as_bytes-key.ensures.value x
       ∙ ap (λ o. contains_key (keys_in c.args.keys.now.entries ++ without gone (option_to_list (option_map (λ k. g.K.ByteString.bytes k.now) o))) x) (sym c.in-Some.is);
-  known = λ all. all-more (λ b _. g.K.ByteString.has b ≡ true) c.args.keys.now.entries c.insert.new.self.entries c.as_bytes-key.result _ c.in_ok-insert.ensures.entries c.as_bytes-key.ensures.known all;
+  known = λ all. all-more (λ b _. g.K.ByteString.has b ≡ true) c.args.keys.now.entries c.put.new.map.entries c.as_bytes-key.result _ c.in_ok-put.ensures.entries c.as_bytes-key.ensures.known all;
 }
 
 pub returns-else-not-contains_key-clause-keys : goal.returns-else-not-contains_key-clause-keys

@@ -10,11 +10,11 @@ use Rattle.qm_step.specs.declared.links.Kind.{Kind}
 use Rattle.qm_step.specs.declared.links.Kind.TheVariants.{Delete, Update, Create}
 use Rattle.qm_step.proofs.LinksMade.{filter_map-twice, filter_map-map, gone-keys, put-keys, new-keys, neighbours-stand}
 use Rattle.qm_step.proofs.LinksWhole.{written-touches}
-use Rattle.std.proofs.lemmas.Result.{IfOk-from_err}
+use Rattle.std.proofs.lemmas.Result.{IfOk-from_err, IfOk-weaker}
 use Rattle.qm_step.proofs.links.linked_touches.Goals as goal
 
 pub returns : goal.returns
-returns g c = λ base ws ring writes_are neighbours_are.
+returns g c = IfOk-weaker c.written_touches.result _ _ (λ touches made base ws ring writes_are neighbours_are.
     let key = g.K.ByteString.bytes in
     let value = g.V.Value.ByteString.bytes in
     let us = last_writes ws in
@@ -24,8 +24,8 @@ returns g c = λ base ws ring writes_are neighbours_are.
     let find = predecessor befores in
     let written_is = λ (kind : Kind). ap (λ vs. map (touch_of afters) (of_kind kind vs)) writes_are in
     let stand = c.in_ok-befores.ensures.standing base (All-same (IsStanding base) _ (filter_map (neighbour_in base) us) neighbours_are (neighbours-stand base us)) in
-    c.in_ok-add_relinked.ensures base stand
-    ∙ ap₂ (λ a b. a ++ b) (c.in_ok-touches.ensures ∙ ap₂ (λ a b. a ++ b) (ap₂ (λ a b. a ++ b) (written_is Delete) (written_is Update)) (written_is Create))
+    made base stand
+    ∙ ap₂ (λ a b. a ++ b) (ap₂ (λ a b. a ++ b) (ap₂ (λ a b. a ++ b) (written_is Delete) (written_is Update)) (written_is Create))
     (ap₂ (relinked_touches base afters) (ap (keys_of_kind Update) writes_are ∙ put-keys base us)
     (ap₂ (λ a b. filter_map find a ++ filter_map find b) (ap (keys_of_kind Create) writes_are ∙ new-keys base us) (ap (keys_of_kind Delete) writes_are ∙ gone-keys base us)
     ∙ sym (filter_map-append find (created base ws) (deleted base ws))))
@@ -35,7 +35,7 @@ returns g c = λ base ws ring writes_are neighbours_are.
     (λ x. c.in_ok-afters.ensures.keys x
     ∙ ap₂ (λ ns ms. contains_key (without gone ns ++ without gone ms) x)
     (ap (filter_map after_of) writes_are ∙ filter_map-map after_of (linked_in base) us)
-    (ap (filter_map next_of) neighbours_are ∙ filter_map-twice next_of (neighbour_in base) us))
+    (ap (filter_map next_of) neighbours_are ∙ filter_map-twice next_of (neighbour_in base) us))) c.written_touches.ensures
 
 pub returns-in_err-deleted : goal.returns-in_err-deleted
 returns-in_err-deleted g c = IfOk-from_err c.from_residual.result _ c.from_residual.ensures.0
@@ -45,9 +45,3 @@ returns-in_err-befores g c = IfOk-from_err c.from_residual-in_err-befores.result
 
 pub returns-in_err-afters : goal.returns-in_err-afters
 returns-in_err-afters g c = IfOk-from_err c.from_residual-in_err-afters.result _ c.from_residual-in_err-afters.ensures.0
-
-pub returns-in_err-touches : goal.returns-in_err-touches
-returns-in_err-touches g c = IfOk-from_err c.from_residual-in_err-touches.result _ c.from_residual-in_err-touches.ensures.0
-
-pub returns-in_err-add_relinked : goal.returns-in_err-add_relinked
-returns-in_err-add_relinked g c = IfOk-from_err c.from_residual-in_err-add_relinked.result _ c.from_residual-in_err-add_relinked.ensures.0

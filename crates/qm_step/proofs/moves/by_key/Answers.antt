@@ -26,11 +26,11 @@ loop-one-preserved g c =
     let one = c.one-item.result in
     record {
       has = λ x.
-          has-put c.loop-one.all c.insert.new.self c.as_bytes.result.now _ c.in_ok-insert.ensures.updates x ∙ ap₂ (λ (t : Bool) (b : Bytes). t || bytes_eq b x) (c.loop-one.invariant.has x) c.as_bytes.ensures.value
+          has-put c.loop-one.all c.put.new.map c.as_bytes.result.now _ c.in_ok-put.ensures.updates x ∙ ap₂ (λ (t : Bool) (b : Bytes). t || bytes_eq b x) (c.loop-one.invariant.has x) c.as_bytes.ensures.value
           ∙ sym (more-keys c.args.found.now c.loop-one.one-index one c.loop-one-test.true c.one-item.is (λ f. key f.1.key) x);
       stand = λ list stands.
           let here = subst (λ f. update_of list (key f.1.key) ≡ Some (view f)) (sym c.one-item.is) (All-get_or (λ f. update_of list (key f.1.key) ≡ Some (view f)) c.args.found.now c.loop-one.one-index one c.loop-one-test.true stands) in
-          all-more (λ (k : Bytes) v. update_of list k ≡ Some (view v.now)) c.loop-one.all.entries c.insert.new.self.entries c.as_bytes.result _ c.in_ok-insert.ensures.entries
+          all-more (λ (k : Bytes) v. update_of list k ≡ Some (view v.now)) c.loop-one.all.entries c.put.new.map.entries c.as_bytes.result _ c.in_ok-put.ensures.entries
           (subst (λ b. update_of list b ≡ Some (view one)) (sym c.as_bytes.ensures.value) here) (c.loop-one.invariant.stand list stands);
     }
 
@@ -40,8 +40,8 @@ returns g c = record {
   stand = c.loop-one.invariant.stand;
 }
 
-pub returns-in_err-insert : goal.returns-in_err-insert
-returns-in_err-insert g c = record {
+pub returns-in_err-put : goal.returns-in_err-put
+returns-in_err-put g c = record {
   has = IfOk-from_err c.from_residual.result _ c.from_residual.ensures.0;
   stand = IfOk-from_err c.from_residual.result _ c.from_residual.ensures.0;
 }
