@@ -133,18 +133,19 @@ impl<F: Family, D: Digest> UnmerkleizedBatch<F, D> {
         ensures memory { self.old.start ≤ location → location < leaves_of self.old → IfErr result (λ e. e ≡ MerkleError.Memory) }
         ensures err { OnErr result (self.new ≡ self.old) }
     {
-        if location.get() < self.start.get() {
+        let number = location.get();
+        if number < self.start.get() {
             let position = F::location_to_position(location);
             return Err(MerkleError::ElementPruned(position.get()));
         }
-        if self.leaves().get() <= location.get() {
-            return Err(MerkleError::RangeOutOfBounds(location.get()));
+        if self.leaves().get() <= number {
+            return Err(MerkleError::RangeOutOfBounds(number));
         }
-        if location.get() < self.base.get() {
-            rows::replace(&mut self.replaced, location.get(), digest)?;
+        let base = self.base.get();
+        if number < base {
+            rows::replace(&mut self.replaced, number, digest)?;
         } else {
-            let index = (location.get() - self.base.get()) as usize;
-            self.added[index] = digest;
+            self.added[(number - base) as usize] = digest;
         }
         Ok(())
     }
