@@ -103,12 +103,13 @@ fn add_all<F: Graftable, N: Chunks, H: Hasher, B: Readable<N>, O: Nodes<F, H::Di
     draft: &mut UnmerkleizedBatch<Grafted<F, N>, H::Digest>,
     behind: &Behind<'_, B, O>,
     count: u64,
-) -> Result<(), AllocError>
+) -> Result<(), MerkleError>
     requires order { leaves_of draft.old ≤ count }
     requires can { (c : ℕ) → leaves_of draft.old ≤ c → c < count → CanGraft (O.node_at behind.now.operations.now) F.shape N.LEN (B.bitmap behind.now.bits.now) c }
     ensures same { OnOk result ((draft.new.start ≡ draft.old.start) × (draft.new.base ≡ draft.old.base) × (draft.new.layers ≡ draft.old.layers) × (draft.new.replaced ≡ draft.old.replaced)) }
     ensures added { OnOk result (map H.Digest.bytes draft.new.added ≡ map H.Digest.bytes draft.old.added ++ made_values H.Digest.bytes H.hash (O.node_at behind.now.operations.now) F.shape N.LEN (all_bits N.LEN (B.bitmap behind.now.bits.now)) (leaves_of draft.old) (count - leaves_of draft.old)) }
     ensures made { OnOk result (hasher.new ≡ more hasher.old (count - leaves_of draft.old)) }
+    ensures cause { IfErr result (λ e. e ≡ MerkleError.Memory) }
 {
     for at in draft.leaves().get()..count {
         let value = value_of(alloc, hasher, behind, at)?;
@@ -145,8 +146,7 @@ pub fn graft<F: Graftable, N: Chunks, H: Hasher, B: Readable<N>, O: Nodes<F, H::
     ensures cause { IfErr result (λ e. e ≡ MerkleError.Memory) }
 {
     update_all(alloc, hasher, draft, behind, changed)?;
-    add_all(alloc, hasher, draft, behind, count)?;
-    Ok(())
+    add_all(alloc, hasher, draft, behind, count)
 }
 
 /// The batch of the grafted tree behind a step, from a draft over the one before it, which has no leaf of its own yet. Each chunk

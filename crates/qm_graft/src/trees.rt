@@ -8,7 +8,7 @@ ghost use Rattle.qm_model.specs.Bits as activity;
 ghost use Rattle.qm_model.specs.Trees as trees;
 ghost use Rattle.qm_model.specs.Grafted as grafts;
 ghost use Rattle.qm_bits.specs.Bitmaps.{bit_count, all_bits};
-ghost use Rattle.qm_merkle.specs.Mems.{Stands, more};
+ghost use Rattle.qm_merkle.specs.Mems.{IsWhole, Stands, more};
 ghost use Rattle.qm_graft.specs.Grafting.{grafting, kept_shape, AreGrafted};
 
 use crate::grafted::{Grafted, height};
@@ -42,10 +42,8 @@ pub fn build_grafted_tree<F: Graftable, N: Chunks, H: Hasher, B: Readable<N>>(
         → IfOk result (λ tree. Stands (kept_shape F.shape (grafting N.LEN)) H.Digest.bytes H.hash tree (grafts.chunk_values H.hash F.shape (grafting N.LEN) digests (activity.chunk N.LEN (all_bits N.LEN (B.bitmap bits.now))) 0 (grafts.grafted_chunks F.shape (grafting N.LEN) operations.now.leaves))) }
     ensures cause { IfErr result (λ e. e ≡ MerkleError.Memory) }
 {
-    let (_, leaves) = operations.bounds();
-    let count = grafted_chunks::<F>(height::<N>(), leaves.get());
-    let pruned = Location::new(bits.pruned_chunks() as u64);
-    let mut tree = begun::<F, N, H::Digest>(alloc, pruned, pins)?;
+    let count = chunks_over::<F, N, H::Digest>(operations);
+    let mut tree = begun::<F, N, H::Digest, B>(alloc, bits, pins)?;
     let draft = tree.new_batch(alloc);
     let behind = Behind { bits, operations };
     let batch = follow(alloc, hasher, &tree, draft, &behind, &[], count)?;
@@ -53,16 +51,26 @@ pub fn build_grafted_tree<F: Graftable, N: Chunks, H: Hasher, B: Readable<N>>(
     Ok(tree)
 }
 
-// The grafted tree of nothing but the peaks over so many chunks.
-fn begun<F: Graftable, N: Chunks, D: Digest>(
+// How many chunks are grafted over the operations of a tree.
+fn chunks_over<F: Graftable, N: Chunks, D: Digest>(operations: &Mem<F, D>) -> u64
+    ensures count { result ≡ grafts.grafted_chunks F.shape (grafting N.LEN) operations.now.leaves }
+    ensures whole { IsWhole F.shape operations.now }
+{
+    let (_, leaves) = operations.bounds();
+    grafted_chunks::<F>(height::<N>(), leaves.get())
+}
+
+// The grafted tree of nothing but the peaks over the pruned chunks.
+fn begun<F: Graftable, N: Chunks, D: Digest, B: Readable<N>>(
     alloc: Global,
-    chunks: Location<Grafted<F, N>>,
+    bits: &B,
     pins: Vec<D>,
 ) -> Result<Mem<Grafted<F, N>, D>, AllocError>
-    requires few { chunks ≤ 2 ^ 62 }
-    requires pins { length pins.items ≡ length (trees.peaks F.shape chunks) }
-    ensures { IfOk result (λ tree. (tree.start ≡ chunks) × (tree.leaves ≡ chunks) × (tree.pins ≡ pins.items)) }
+    requires few { (B.bitmap bits.now).pruned ≤ 2 ^ 62 }
+    requires pins { length pins.items ≡ length (trees.peaks F.shape (B.bitmap bits.now).pruned) }
+    ensures { IfOk result (λ tree. (tree.start ≡ (B.bitmap bits.now).pruned) × (tree.leaves ≡ (B.bitmap bits.now).pruned) × (tree.pins ≡ pins.items)) }
 {
+    let chunks = Location::new(bits.pruned_chunks() as u64);
     Mem::from_pruned_with_retained(alloc, Vec::new(alloc), chunks, pins)
 }
 

@@ -1,6 +1,6 @@
 use Rattle.std.proofs.Common.{◌≡◌, ◌∙◌, ◌-◌, ◌^◌, ◌<◌, ◌++◌, ◌∷◌, [], arith, ap, append-nil, length, map, refl, subst, sym}
 use Rattle.std.proofs.lemmas.List.{length-append}
-use Rattle.std.proofs.lemmas.Result.{IfOk-from_err}
+use Rattle.std.proofs.lemmas.Result.{IfOk-from_err, err_from_is_err_and}
 use Rattle.qm_bits.specs.Bitmaps.{all_bits}
 use Rattle.qm_merkle.specs.Batches.{Draft, leaves_of}
 use Rattle.qm_merkle.specs.Mems.{more}
@@ -47,6 +47,7 @@ returns-in_err-value g c = record {
   same = IfOk-from_err c.from_residual.result _ c.from_residual.ensures.0;
   added = IfOk-from_err c.from_residual.result _ c.from_residual.ensures.0;
   made = IfOk-from_err c.from_residual.result _ c.from_residual.ensures.0;
+  cause = let exit = err_from_is_err_and c.from_residual.result c.from_residual.ensures.1 in rw (exit.1, exit.2) refl;
 }
 
 pub returns-in_err-add_leaf_digest : goal.returns-in_err-add_leaf_digest
@@ -54,6 +55,7 @@ returns-in_err-add_leaf_digest g c = record {
   same = IfOk-from_err c.from_residual-in_err-add_leaf_digest.result _ c.from_residual-in_err-add_leaf_digest.ensures.0;
   added = IfOk-from_err c.from_residual-in_err-add_leaf_digest.result _ c.from_residual-in_err-add_leaf_digest.ensures.0;
   made = IfOk-from_err c.from_residual-in_err-add_leaf_digest.result _ c.from_residual-in_err-add_leaf_digest.ensures.0;
+  cause = let exit = err_from_is_err_and c.from_residual-in_err-add_leaf_digest.result c.from_residual-in_err-add_leaf_digest.ensures.1 in rw (exit.1, exit.2) refl;
 }
 
 pub returns : goal.returns
@@ -67,6 +69,7 @@ returns g c = record {
       let draft = c.args.draft.now in
       let end : c.loop-at.at ≡ c.args.count = omega (arith, c.loop-at-test.false, c.loop-at.auto.at-end, c.loop-at.auto.at, c.requires.order, c.get-at.ensures, c.leaves.ensures) in
       c.loop-at.invariant.made ∙ ap (λ n. more c.args.hasher.now (n - leaves_of draft)) end;
+  cause = tt;
 }
 
 pub add_leaf_digest-requires : goal.add_leaf_digest-requires

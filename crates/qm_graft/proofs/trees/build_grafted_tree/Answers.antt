@@ -4,7 +4,7 @@ use Rattle.std.proofs.lemmas.Result.{IfOk-from_err, err_from_is_err_and}
 use Rattle.qm_model.specs.Operations.{Bytes}
 use Rattle.qm_model.specs.Trees.{Shape, digest_of, peaks}
 use Rattle.qm_model.specs.Bits.{chunk}
-use Rattle.qm_model.specs.Grafted.{chunk_node, grafted_chunks, chunk_values}
+use Rattle.qm_model.specs.Grafted.{chunk_node, chunk_values}
 use Rattle.qm_model.proofs.GraftedLemmas.{grafted_born, length-chunk_values}
 use Rattle.qm_bits.specs.Bitmaps.{all_bits}
 use Rattle.qm_merkle.specs.Mems.{Stands}
@@ -32,23 +32,20 @@ module _ (g : Given.Over) where
   abbrev peak_values : (Bytes → Bytes) → List Bytes → ℕ → List Bytes
   peak_values hash values n = map (digest_of hash (kept_shape shape height) values) (peaks shape n)
 
-  count-is : (h n k count : ℕ) → count ≡ grafted_chunks shape h k → h ≡ height → k ≡ n → count ≡ grafted_chunks shape height n
-  count-is h n k count is high long = is ∙ ap₂ (grafted_chunks shape) high long
-
 pub follow-requires-clause-reach : goal.follow-requires-clause-reach
 follow-requires-clause-reach g c = subst (λ (d : Draft g.row.H-Digest.Denot). Contains (stops d.base d.layers) c.in_ok-tree.tree.leaves) (sym c.new_batch-draft.ensures) (0, omega arith, refl)
 
 pub follow-requires-clause-order : goal.follow-requires-clause-order
 follow-requires-clause-order g c =
-    let count = count-is g c.height.result c.args.operations.now.leaves c.get.result c.grafted_chunks-count.result c.grafted_chunks-count.ensures c.height.ensures.exact (c.get.ensures ∙ c.bounds-leaves.ensures.leaves) in
-    omega (arith, ap (λ (d : Draft g.row.H-Digest.Denot). d.base) c.new_batch-draft.ensures, c.in_ok-tree.ensures.1, c.new-pruned.ensures, c.pruned_chunks.ensures, c.requires.pruned, count)
+    let count = c.chunks_over-count.ensures.count in
+    omega (arith, ap (λ (d : Draft g.row.H-Digest.Denot). d.base) c.new_batch-draft.ensures, c.in_ok-tree.ensures.1, c.requires.pruned, count)
 
 pub follow-requires-clause-added : goal.follow-requires-clause-added
 follow-requires-clause-added g c = λ at from to.
-    let count = count-is g c.height.result c.args.operations.now.leaves c.get.result c.grafted_chunks-count.result c.grafted_chunks-count.ensures c.height.ensures.exact (c.get.ensures ∙ c.bounds-leaves.ensures.leaves) in
+    let count = c.chunks_over-count.ensures.count in
     let base = ap (λ (d : Draft g.row.H-Digest.Denot). d.base) c.new_batch-draft.ensures in
-    can-graft (shape g) g.F.Family.births g.met.F.Family.numbered g.met.F.Family.peaked g.N.Chunks.LEN (span g) (g.met.F.Graftable.prompt (height g)) c.args.operations.now (g.B.Readable.bitmap c.args.bits.now) c.bounds-leaves.ensures.whole c.requires.bits c.requires.start
-    at (omega (arith, from, base, c.in_ok-tree.ensures.1, c.new-pruned.ensures, c.pruned_chunks.ensures)) (omega (arith, to, count))
+    can-graft (shape g) g.F.Family.births g.met.F.Family.numbered g.met.F.Family.peaked g.N.Chunks.LEN (span g) (g.met.F.Graftable.prompt (height g)) c.args.operations.now (g.B.Readable.bitmap c.args.bits.now) c.chunks_over-count.ensures.whole c.requires.bits c.requires.start
+    at (omega (arith, from, base, c.in_ok-tree.ensures.1)) (omega (arith, to, count))
 
 pub apply_batch-requires : goal.apply_batch-requires
 apply_batch-requires g c =
@@ -59,8 +56,8 @@ apply_batch-requires g c =
 
 pub returns-clause-bounds : goal.returns-clause-bounds
 returns-clause-bounds g c =
-    let count = count-is g c.height.result c.args.operations.now.leaves c.get.result c.grafted_chunks-count.result c.grafted_chunks-count.ensures c.height.ensures.exact (c.get.ensures ∙ c.bounds-leaves.ensures.leaves) in
-    (c.in_ok-apply_batch.ensures.bounds.0 ∙ c.in_ok-tree.ensures.0 ∙ c.new-pruned.ensures ∙ c.pruned_chunks.ensures, c.in_ok-apply_batch.ensures.bounds.1 ∙ c.in_ok-batch.ensures.leaves ∙ count)
+    let count = c.chunks_over-count.ensures.count in
+    (c.in_ok-apply_batch.ensures.bounds.0 ∙ c.in_ok-tree.ensures.0, c.in_ok-apply_batch.ensures.bounds.1 ∙ c.in_ok-batch.ensures.leaves ∙ count)
 
 pub returns-clause-stands : goal.returns-clause-stands
 returns-clause-stands g c = λ digests stands pins.
@@ -71,15 +68,15 @@ returns-clause-stands g c = λ digests stands pins.
     let operations = c.args.operations.now in
     let tree = c.in_ok-tree.tree in
     let draft = c.new_batch-draft.result in
-    let count = count-is g c.height.result operations.leaves c.get.result c.grafted_chunks-count.result c.grafted_chunks-count.ensures c.height.ensures.exact (c.get.ensures ∙ c.bounds-leaves.ensures.leaves) in
+    let count = c.chunks_over-count.ensures.count in
     let leaves : draft.base ≡ tree.leaves = ap (λ (d : Draft g.row.H-Digest.Denot). d.base) c.new_batch-draft.ensures in
-    let pruned : tree.leaves ≡ map.pruned = c.in_ok-tree.ensures.1 ∙ c.new-pruned.ensures ∙ c.pruned_chunks.ensures in
+    let pruned : tree.leaves ≡ map.pruned = c.in_ok-tree.ensures.1 in
     let values : ℕ → List Bytes = chunk_values hash (shape g) (height g) digests behind 0 in
     let long : draft.base ≡ length (values draft.base) = sym (length-chunk_values hash (shape g) (height g) digests behind 0 draft.base) in
     let same : tree.start ≡ tree.leaves = c.in_ok-tree.ensures.0 ∙ sym c.in_ok-tree.ensures.1 in
     let pinned = ap (map_of g) c.in_ok-tree.ensures.2 ∙ pins ∙ ap₂ (λ n k. peak_values g hash (values n) k) (sym (leaves ∙ pruned)) (sym (same ∙ pruned)) in
     let begun = begun-stands (kept_shape (shape g) (height g)) bytes hash tree (values draft.base) same (sym leaves ∙ long) pinned in
-    let low : draft.base ≤ c.grafted_chunks-count.result = omega (arith, leaves, pruned, c.requires.pruned, count) in
+    let low : draft.base ≤ c.chunks_over-count.result = omega (arith, leaves, pruned, c.requires.pruned, count) in
     let prompt = g.met.F.Graftable.prompt (height g) in
     let family = g.met.F.Family.numbered in
     let whole : draft.base * 2 ^ height g ≤ length digests =
@@ -88,7 +85,7 @@ returns-clause-stands g c = λ digests stands pins.
     (λ k less. tree_tells (shape g) g.F.Family.births family g.met.F.Family.peaked bytes hash operations digests stands (chunk_node (height g) k) (omega (arith, grafted_born (shape g) (height g) operations.leaves k prompt (omega (arith, less, count)), stands.count)))
     (subst (λ (d : Draft g.row.H-Digest.Denot). IsHistory (kept_shape (shape g) (height g)) bytes hash d.layers (values draft.base ∷ [])) (sym c.new_batch-draft.ensures) tt) (0, omega arith, refl) begun in
     subst (λ n. Stands (kept_shape (shape g) (height g)) bytes hash c.apply_batch.new.self (values n)) count
-    (c.in_ok-apply_batch.ensures.stands hash (values draft.base) (values c.grafted_chunks-count.result) (values draft.base ∷ []) history (1, omega arith, refl) begun)
+    (c.in_ok-apply_batch.ensures.stands hash (values draft.base) (values c.chunks_over-count.result) (values draft.base ∷ []) history (1, omega arith, refl) begun)
 
 pub follow-requires-clause-fresh : goal.follow-requires-clause-fresh
 follow-requires-clause-fresh g c = (ap (λ (d : Draft g.row.H-Digest.Denot). d.replaced) c.new_batch-draft.ensures, ap (λ (d : Draft g.row.H-Digest.Denot). d.added) c.new_batch-draft.ensures)
