@@ -111,7 +111,7 @@ fn read_in<L: Items, U: Update>(
     ensures pruned { L.reads.start log.old ≤ at → IfErr result (λ e. (n : ℕ) → e ≢ Error.Journal (JournalError.ItemPruned n)) }
 {
     match log.read_item(at)? {
-        Some(item) => Ok(said_in(alloc, &item, low, high)?),
+        Some(item) => said_in(alloc, &item, low, high),
         None => Ok(None),
     }
 }
@@ -122,11 +122,12 @@ fn said_in<U: Update>(
     item: &[u8],
     low: Bound<&[u8]>,
     high: Bound<&[u8]>,
-) -> Result<Option<U>, AllocError>
-    ensures { (op : model.Operation) → IsSpelling U.form item.now op → IfOk result (λ update. option_map U.view update ≡ only_in (limit_view low.entry) (limit_view high.entry) (said_by op)) }
+) -> Result<Option<U>, Error>
+    ensures value { (op : model.Operation) → IsSpelling U.form item.now op → IfOk result (λ update. option_map U.view update ≡ only_in (limit_view low.entry) (limit_view high.entry) (said_by op)) }
+    ensures memory { IfErr result (λ e. e ≡ Error.Memory) }
 {
     match Operation::<(), U>::update_key(item) {
-        Some(own) if is_in(low, high, own) => update_in(alloc, item),
+        Some(own) if is_in(low, high, own) => Ok(update_in(alloc, item)?),
         _ => Ok(None),
     }
 }

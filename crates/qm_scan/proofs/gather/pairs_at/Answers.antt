@@ -10,6 +10,7 @@ use Rattle.qm_step.proofs.Reading.{told, taken-in}
 use Rattle.qm_base.specs.Views.{pair_view}
 use Rattle.qm_scan.specs.Gathered.{put_at, put_said}
 use Rattle.std.proofs.lemmas.List.Elements.{All-contains}
+use Rattle.qm_scan.proofs.Going.{no-item}
 use Rattle.qm_scan.proofs.gather.pairs_at.Goals as goal
 
 pub loop-location-preserved : goal.loop-location-preserved
@@ -28,62 +29,42 @@ loop-location-preserved g c =
           ∙ sym (fold_more (put_at low high list) [] c.args.locations.now c.loop-location.location-index c.location-item.result c.loop-location-test.true));
     }
 
-pub returns-in_err-update-clause-error : goal.returns-in_err-update-clause-error
-returns-in_err-update-clause-error g c =
+pub returns-in_err-update : goal.returns-in_err-update
+returns-in_err-update g c =
     let exit = err_from_is_err_and c.from_residual.result c.from_residual.ensures.1 in
-    rw (exit.1, exit.2) (error-then g.L.Items.reads g.met.L.Items.failed_later c.args.log.now c.loop-location.log c.read_in.new.log _ c.loop-location.invariant.read c.in_err-update.ensures.error)
+    record {
+      value = λ list is of. told-err _ (g.L.Items.reads.told c.args.log.now) c.from_residual.result exit.0 exit.1;
+      read = read-then g.L.Items.reads g.met.L.Items.read_again c.args.log.now c.loop-location.log c.read_in.new.log c.loop-location.invariant.read c.read_in.ensures.read;
+      error = rw (exit.1, exit.2) (error-then g.L.Items.reads g.met.L.Items.failed_later c.args.log.now c.loop-location.log c.read_in.new.log _ c.loop-location.invariant.read c.in_err-update.ensures.error);
+      pruned = λ kept.
+          let within = taken-in c.args.locations.now c.args.locations.now c.loop-location.location-index c.location-item.result refl c.loop-location-test.true c.location-item.is in
+          let here = All-contains (λ at. g.L.Items.reads.start c.args.log.now ≤ at) c.args.locations.now c.location-item.result kept within in
+          let same = (c.loop-location.invariant.read).start in
+          rw (exit.1, exit.2) (c.in_err-update.ensures.pruned (omega (arith, same, here, c.get.ensures)));
+    }
 
-pub returns-clause-value : goal.returns-clause-value
-returns-clause-value g c = λ list is of.
-    told-one _ _ (g.L.Items.reads.told c.args.log.now) (c.loop-location.invariant.value list is of) (λ all.
-    all ∙ ap (fold (put_at (limit_view c.args.low) (limit_view c.args.high) list) []) (take_all c.loop-location.location-index c.args.locations.now c.loop-location-test.false))
+pub returns : goal.returns
+returns g c = record {
+  value = λ list is of.
+      told-one _ _ (g.L.Items.reads.told c.args.log.now) (c.loop-location.invariant.value list is of) (λ all.
+      all ∙ ap (fold (put_at (limit_view c.args.low) (limit_view c.args.high) list) []) (take_all c.loop-location.location-index c.args.locations.now c.loop-location-test.false));
+  read = c.loop-location.invariant.read;
+  error = tt;
+  pruned = λ kept. tt;
+}
 
-pub returns-in_err-put-clause-read : goal.returns-in_err-put-clause-read
-returns-in_err-put-clause-read g c =
-    read-then g.L.Items.reads g.met.L.Items.read_again c.args.log.now c.loop-location.log c.read_in.new.log c.loop-location.invariant.read c.read_in.ensures.read
+pub returns-in_err-put : goal.returns-in_err-put
+returns-in_err-put g c =
+    let exit = err_from_is_err_and c.from_residual-in_err-put.result c.from_residual-in_err-put.ensures.1 in
+    record {
+      value = λ list is of. told-err _ (g.L.Items.reads.told c.args.log.now) c.from_residual-in_err-put.result exit.0 exit.1;
+      read = read-then g.L.Items.reads g.met.L.Items.read_again c.args.log.now c.loop-location.log c.read_in.new.log c.loop-location.invariant.read c.read_in.ensures.read;
+      error = rw (exit.1, exit.2) (inl refl);
+      pruned = λ kept. rw (exit.1, exit.2) no-item;
+    }
 
 pub loop-location-init : goal.loop-location-init
 loop-location-init g c = record {
   read = read-none g.L.Items.reads g.met.L.Items.unread c.args.log.now;
   value = λ list is of. told-any _ (g.L.Items.reads.told c.args.log.now) (ap (map (pair_view g.U.Key.ByteString.bytes g.U.Value.ByteString.bytes)) c.new-pairs.ensures.items);
 }
-
-pub returns-in_err-update-clause-value : goal.returns-in_err-update-clause-value
-returns-in_err-update-clause-value g c = λ list is of.
-    let exit = err_from_is_err_and c.from_residual.result c.from_residual.ensures.1 in
-    told-err _ (g.L.Items.reads.told c.args.log.now) c.from_residual.result exit.0 exit.1
-
-pub returns-in_err-update-clause-read : goal.returns-in_err-update-clause-read
-returns-in_err-update-clause-read g c = read-then g.L.Items.reads g.met.L.Items.read_again c.args.log.now c.loop-location.log c.read_in.new.log c.loop-location.invariant.read c.read_in.ensures.read
-
-pub returns-in_err-update-clause-pruned : goal.returns-in_err-update-clause-pruned
-returns-in_err-update-clause-pruned g c = λ kept.
-    let exit = err_from_is_err_and c.from_residual.result c.from_residual.ensures.1 in
-    let within = taken-in c.args.locations.now c.args.locations.now c.loop-location.location-index c.location-item.result refl c.loop-location-test.true c.location-item.is in
-    let here = All-contains (λ at. g.L.Items.reads.start c.args.log.now ≤ at) c.args.locations.now c.location-item.result kept within in
-    let same = (c.loop-location.invariant.read).start in
-    rw (exit.1, exit.2) (c.in_err-update.ensures.pruned (omega (arith, same, here, c.get.ensures)))
-
-pub returns-in_err-put-clause-value : goal.returns-in_err-put-clause-value
-returns-in_err-put-clause-value g c = λ list is of.
-    let exit = err_from_is_err_and c.from_residual-in_err-put.result c.from_residual-in_err-put.ensures.1 in
-    told-err _ (g.L.Items.reads.told c.args.log.now) c.from_residual-in_err-put.result exit.0 exit.1
-
-pub returns-in_err-put-clause-error : goal.returns-in_err-put-clause-error
-returns-in_err-put-clause-error g c =
-    let exit = err_from_is_err_and c.from_residual-in_err-put.result c.from_residual-in_err-put.ensures.1 in
-    rw (exit.1, exit.2) (inl refl)
-
-pub returns-in_err-put-clause-pruned : goal.returns-in_err-put-clause-pruned
-returns-in_err-put-clause-pruned g c = λ kept.
-    let exit = err_from_is_err_and c.from_residual-in_err-put.result c.from_residual-in_err-put.ensures.1 in
-    rw (exit.1, exit.2) (λ n same. cc)
-
-pub returns-clause-read : goal.returns-clause-read
-returns-clause-read g c = c.loop-location.invariant.read
-
-pub returns-clause-error : goal.returns-clause-error
-returns-clause-error g c = tt
-
-pub returns-clause-pruned : goal.returns-clause-pruned
-returns-clause-pruned g c = λ kept. tt

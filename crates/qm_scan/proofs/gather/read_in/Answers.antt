@@ -1,58 +1,52 @@
-use Rattle.std.proofs.Common.{inl, refl}
+use Rattle.std.proofs.Common.{◌∙◌, ap, inl, map, subst, sym}
+use Rattle.std.specs.Prelude.{option_and_then, option_map}
 use Rattle.std.proofs.lemmas.Result.{err_from_is_err_and}
-use Rattle.qm_model.proofs.Results.{told-err}
+use Rattle.qm_model.specs.Forms.{IsSpelling, spelling}
+use Rattle.qm_model.proofs.Results.{err-then, told-err, told-one}
+use Rattle.qm_step.specs.Changes.{said_by}
+use Rattle.qm_step.specs.Nearest.{limit_view}
+use Rattle.qm_step.proofs.Reading.{ok-same}
+use Rattle.qm_step.proofs.Spelled.{spelled-there, unspelled-there}
+use Rattle.qm_scan.specs.Gathered.{only_in}
+use Rattle.qm_scan.proofs.Going.{no-item}
 use Rattle.qm_scan.proofs.gather.read_in.Goals as goal
 
-pub returns-in_err-item-clause-value : goal.returns-in_err-item-clause-value
-returns-in_err-item-clause-value g c = λ list is of.
+pub returns-in_err-item : goal.returns-in_err-item
+returns-in_err-item g c =
     let exit = err_from_is_err_and c.from_residual.result c.from_residual.ensures.1 in
-    told-err _ (g.L.Items.reads.told c.args.log.now) c.from_residual.result exit.0 exit.1
+    record {
+      value = λ list is of. told-err _ (g.L.Items.reads.told c.args.log.now) c.from_residual.result exit.0 exit.1;
+      read = c.read_item.ensures.read;
+      error = rw (exit.1, exit.2) c.in_err-item.ensures.error;
+      pruned = λ kept. rw (exit.1, exit.2) (c.in_err-item.ensures.pruned kept);
+    }
 
-pub returns-in_err-item-clause-read : goal.returns-in_err-item-clause-read
-returns-in_err-item-clause-read g c = c.read_item.ensures.read
+pub returns-in-Some : goal.returns-in-Some
+returns-in-Some g c = record {
+  value = λ list is of.
+      let form = g.U.Update.form in
+      let at = c.args.at in
+      let low = limit_view c.args.low in
+      let high = limit_view c.args.high in
+      told-one _ _ (g.L.Items.reads.told c.args.log.now) (c.in_ok-item.ensures.value (map (spelling form) list) is) (λ said.
+      let spelled = spelled-there form list at c.in-Some.item.items of (sym said ∙ ap (option_map (λ v. v.items)) c.in-Some.is) in
+      ok-same c.said_in.result (option_map g.U.Update.view) _ _ (ap (λ o. only_in low high (option_and_then said_by o)) (sym spelled.1))
+      (c.said_in.ensures.value spelled.0 (subst (λ bs. IsSpelling form bs spelled.0) (sym c.deref.ensures.value) spelled.2)));
+  read = c.read_item.ensures.read;
+  error = err-then c.said_in.result c.said_in.ensures.memory (λ e is. inl is);
+  pruned = λ kept. err-then c.said_in.result c.said_in.ensures.memory (λ e is n same. no-item n (sym is ∙ same));
+}
 
-pub returns-in_err-item-clause-error : goal.returns-in_err-item-clause-error
-returns-in_err-item-clause-error g c =
-    let exit = err_from_is_err_and c.from_residual.result c.from_residual.ensures.1 in
-    rw (exit.1, exit.2) c.in_err-item.ensures.error
-
-pub returns-in_err-item-clause-pruned : goal.returns-in_err-item-clause-pruned
-returns-in_err-item-clause-pruned g c = λ kept.
-    let exit = err_from_is_err_and c.from_residual.result c.from_residual.ensures.1 in
-    rw (exit.1, exit.2) (c.in_err-item.ensures.pruned kept)
-
-pub returns-in_err-said_in-in-Some-clause-value : goal.returns-in_err-said_in-in-Some-clause-value
-returns-in_err-said_in-in-Some-clause-value g c = λ list is of.
-    let exit = err_from_is_err_and c.from_residual-in_err-said_in-in-Some.result c.from_residual-in_err-said_in-in-Some.ensures.1 in
-    told-err _ (g.L.Items.reads.told c.args.log.now) c.from_residual-in_err-said_in-in-Some.result exit.0 exit.1
-
-pub returns-in_err-said_in-in-Some-clause-read : goal.returns-in_err-said_in-in-Some-clause-read
-returns-in_err-said_in-in-Some-clause-read g c = c.read_item.ensures.read
-
-pub returns-in_err-said_in-in-Some-clause-error : goal.returns-in_err-said_in-in-Some-clause-error
-returns-in_err-said_in-in-Some-clause-error g c =
-    let exit = err_from_is_err_and c.from_residual-in_err-said_in-in-Some.result c.from_residual-in_err-said_in-in-Some.ensures.1 in
-    rw (exit.1, exit.2) (inl refl)
-
-pub returns-in_err-said_in-in-Some-clause-pruned : goal.returns-in_err-said_in-in-Some-clause-pruned
-returns-in_err-said_in-in-Some-clause-pruned g c = λ kept.
-    let exit = err_from_is_err_and c.from_residual-in_err-said_in-in-Some.result c.from_residual-in_err-said_in-in-Some.ensures.1 in
-    rw (exit.1, exit.2) (λ n same. cc)
-
-pub returns-in_ok-said_in-in-Some-clause-read : goal.returns-in_ok-said_in-in-Some-clause-read
-returns-in_ok-said_in-in-Some-clause-read g c = c.read_item.ensures.read
-
-pub returns-in_ok-said_in-in-Some-clause-error : goal.returns-in_ok-said_in-in-Some-clause-error
-returns-in_ok-said_in-in-Some-clause-error g c = tt
-
-pub returns-in_ok-said_in-in-Some-clause-pruned : goal.returns-in_ok-said_in-in-Some-clause-pruned
-returns-in_ok-said_in-in-Some-clause-pruned g c = λ kept. tt
-
-pub returns-in-None-clause-read : goal.returns-in-None-clause-read
-returns-in-None-clause-read g c = c.read_item.ensures.read
-
-pub returns-in-None-clause-error : goal.returns-in-None-clause-error
-returns-in-None-clause-error g c = tt
-
-pub returns-in-None-clause-pruned : goal.returns-in-None-clause-pruned
-returns-in-None-clause-pruned g c = λ kept. tt
+pub returns-in-None : goal.returns-in-None
+returns-in-None g c = record {
+  value = λ list is of.
+      let form = g.U.Update.form in
+      let at = c.args.at in
+      let low = limit_view c.args.low in
+      let high = limit_view c.args.high in
+      told-one _ _ (g.L.Items.reads.told c.args.log.now) (c.in_ok-item.ensures.value (map (spelling form) list) is) (λ said.
+      ap (λ o. only_in low high (option_and_then said_by o)) (sym (unspelled-there form list at (sym said ∙ ap (option_map (λ v. v.items)) c.in-None.is))));
+  read = c.read_item.ensures.read;
+  error = tt;
+  pruned = λ kept. tt;
+}

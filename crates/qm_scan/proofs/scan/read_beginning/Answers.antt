@@ -4,42 +4,30 @@ use Rattle.qm_base.specs.Views.{limit_of, pair_view}
 use Rattle.qm_scan.specs.Scans.{AreNext, BeginsAt, beginning, place_view}
 use Rattle.qm_scan.proofs.scan.read_beginning.Goals as goal
 
-pub returns-in-Included-clause-begun : goal.returns-in-Included-clause-begun
-returns-in-Included-clause-begun g c = c.read_own.ensures.begun
+pub returns-in-Included : goal.returns-in-Included
+returns-in-Included g c = record {
+  value = λ list is.
+      let bytes = g.U.Key.ByteString.bytes in
+      let low = c.bytes_of-in-Included.ensures in
+      let begins : BeginsAt (bytes c.in-Included.key) (limit_of bytes c.args.low.now) = ⊎_elim (λ same. inl (ap (limit_of bytes) same)) (λ same. inr (ap (limit_of bytes) same)) c.in-Included.is in
+      subst₂ (λ l h. IfSome (g.L.Items.reads.told c.args.log.now) (λ _. IfOk c.read_own.result (λ found.
+      AreNext g.I.Unordered.index_key l h list beginning (map (pair_view bytes g.U.Value.ByteString.bytes) found.pairs.items) (place_view bytes found.place))))
+      low c.bytes_of-in-Included-2.ensures (c.read_own.ensures.value list is (subst (BeginsAt (bytes c.in-Included.key)) (sym low) begins));
+  begun = c.read_own.ensures.begun;
+  read = c.read_own.ensures.read;
+  error = c.read_own.ensures.error;
+  whole = c.read_own.ensures.whole;
+}
 
-pub returns-in-Included-clause-error : goal.returns-in-Included-clause-error
-returns-in-Included-clause-error g c = c.read_own.ensures.error
-
-pub returns-in-Included-clause-read : goal.returns-in-Included-clause-read
-returns-in-Included-clause-read g c = c.read_own.ensures.read
-
-pub returns-in-Included-clause-whole : goal.returns-in-Included-clause-whole
-returns-in-Included-clause-whole g c = c.read_own.ensures.whole
-
-pub returns-in-Unbounded-clause-begun : goal.returns-in-Unbounded-clause-begun
-returns-in-Unbounded-clause-begun g c = c.read_first.ensures.begun
-
-pub returns-in-Unbounded-clause-error : goal.returns-in-Unbounded-clause-error
-returns-in-Unbounded-clause-error g c = c.read_first.ensures.error
-
-pub returns-in-Unbounded-clause-read : goal.returns-in-Unbounded-clause-read
-returns-in-Unbounded-clause-read g c = c.read_first.ensures.read
-
-pub returns-in-Unbounded-clause-whole : goal.returns-in-Unbounded-clause-whole
-returns-in-Unbounded-clause-whole g c = c.read_first.ensures.whole
-
-pub returns-in-Included-clause-value : goal.returns-in-Included-clause-value
-returns-in-Included-clause-value g c = λ list is.
-    let bytes = g.U.Key.ByteString.bytes in
-    let low = c.bytes_of-in-Included.ensures in
-    let begins : BeginsAt (bytes c.in-Included.key) (limit_of bytes c.args.low.now) = ⊎_elim (λ same. inl (ap (limit_of bytes) same)) (λ same. inr (ap (limit_of bytes) same)) c.in-Included.is in
-    subst₂ (λ l h. IfSome (g.L.Items.reads.told c.args.log.now) (λ _. IfOk c.read_own.result (λ found.
-    AreNext g.I.Unordered.index_key l h list beginning (map (pair_view bytes g.U.Value.ByteString.bytes) found.pairs.items) (place_view bytes found.place))))
-    low c.bytes_of-in-Included-2.ensures (c.read_own.ensures.value list is (subst (BeginsAt (bytes c.in-Included.key)) (sym low) begins))
-
-pub returns-in-Unbounded-clause-value : goal.returns-in-Unbounded-clause-value
-returns-in-Unbounded-clause-value g c = λ list is.
-    let bytes = g.U.Key.ByteString.bytes in
-    subst₂ (λ l h. IfSome (g.L.Items.reads.told c.args.log.now) (λ _. IfOk c.read_first.result (λ found.
-    AreNext g.I.Unordered.index_key l h list beginning (map (pair_view bytes g.U.Value.ByteString.bytes) found.pairs.items) (place_view bytes found.place))))
-    (ap (limit_of bytes) (sym c.in-Unbounded.is)) c.bytes_of.ensures (c.read_first.ensures.value list is)
+pub returns-in-Unbounded : goal.returns-in-Unbounded
+returns-in-Unbounded g c = record {
+  value = λ list is.
+      let bytes = g.U.Key.ByteString.bytes in
+      subst₂ (λ l h. IfSome (g.L.Items.reads.told c.args.log.now) (λ _. IfOk c.read_first.result (λ found.
+      AreNext g.I.Unordered.index_key l h list beginning (map (pair_view bytes g.U.Value.ByteString.bytes) found.pairs.items) (place_view bytes found.place))))
+      (ap (limit_of bytes) (sym c.in-Unbounded.is)) c.bytes_of.ensures (c.read_first.ensures.value list is);
+  begun = c.read_first.ensures.begun;
+  read = c.read_first.ensures.read;
+  error = c.read_first.ensures.error;
+  whole = c.read_first.ensures.whole;
+}

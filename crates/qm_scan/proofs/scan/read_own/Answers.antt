@@ -8,75 +8,50 @@ use Rattle.qm_step.proofs.LentKeys.{bucket-above}
 use Rattle.qm_scan.specs.Gathered.{put_at}
 use Rattle.qm_scan.specs.Scans.{ahead_of, behind}
 use Rattle.qm_scan.proofs.Ahead.{own-bucket}
+use Rattle.qm_scan.proofs.Going.{behind-begun, no-item}
 use Rattle.qm_scan.proofs.scan.read_own.Goals as goal
 
-pub returns-in_err-pairs-clause-whole : goal.returns-in_err-pairs-clause-whole
-returns-in_err-pairs-clause-whole g c = λ list is none.
+pub returns-in_err-pairs : goal.returns-in_err-pairs
+returns-in_err-pairs g c =
     let exit = err_from_is_err_and c.from_residual.result c.from_residual.ensures.1 in
-    let start = (g.L.Items.reads.start c.args.log.now) in
-    rw (exit.1, exit.2) (c.in_err-pairs.ensures.pruned
-    (subst (All (λ at. start ≤ at)) (sym c.bucket.ensures.value) (bucket-above list g.I.Unordered.index_key (g.I.Unordered.entries c.args.index.now) is.indexed (g.I.Unordered.index_key c.as_bytes.result.now) start none)))
+    record {
+      value = λ list is begins. told-err _ (g.L.Items.reads.told c.args.log.now) c.from_residual.result exit.0 exit.1;
+      begun = rw exit.1 tt;
+      read = c.pairs_at.ensures.read;
+      error = rw (exit.1, exit.2) c.in_err-pairs.ensures.error;
+      whole = λ list is none.
+          let start = (g.L.Items.reads.start c.args.log.now) in
+          rw (exit.1, exit.2) (c.in_err-pairs.ensures.pruned
+          (subst (All (λ at. start ≤ at)) (sym c.bucket.ensures.value) (bucket-above list g.I.Unordered.index_key (g.I.Unordered.entries c.args.index.now) is.indexed (g.I.Unordered.index_key c.as_bytes.result.now) start none)));
+    }
 
-pub returns-clause-value : goal.returns-clause-value
-returns-clause-value g c = λ list is begins.
-    let low = limit_view c.args.low in
-    let high = limit_view c.args.high in
-    let index_key = g.I.Unordered.index_key in
-    let entries = g.I.Unordered.entries c.args.index.now in
-    let key = g.U.Key.ByteString.bytes c.args.key.now in
-    let key_bytes = g.U.Key.ByteString.are_bytes key (sym (ap g.U.Key.ByteString.has c.as_bytes.ensures.value) ∙ c.as_bytes.ensures.known) in
-    told-one _ _ (g.L.Items.reads.told c.args.log.now) (c.in_ok-pairs.ensures.value list is.logged is.of) (λ found.
-    own-bucket index_key entries c.bucket.ensures.index list is.indexed g.U.Update.form g.met.U.Steps.known_bytes (g.met.U.Steps.monotone c.requires) is.of key low high key_bytes begins
-    ∙ sym (ap₂ (λ ps k. ps ++ ahead_of index_key low high (behind k) list)
-    (found ∙ ap (fold (put_at low high list) []) (c.bucket.ensures.value ∙ ap (λ k. bucket_at entries (index_key k)) c.as_bytes.ensures.value))
-    (ap g.U.Key.ByteString.bytes c.in_ok-key.ensures)))
+pub returns : goal.returns
+returns g c = record {
+  value = λ list is begins.
+      let low = limit_view c.args.low in
+      let high = limit_view c.args.high in
+      let index_key = g.I.Unordered.index_key in
+      let entries = g.I.Unordered.entries c.args.index.now in
+      let key = g.U.Key.ByteString.bytes c.args.key.now in
+      let key_bytes = g.U.Key.ByteString.are_bytes key (sym (ap g.U.Key.ByteString.has c.as_bytes.ensures.value) ∙ c.as_bytes.ensures.known) in
+      told-one _ _ (g.L.Items.reads.told c.args.log.now) (c.in_ok-pairs.ensures.value list is.logged is.of) (λ found.
+      own-bucket index_key entries c.bucket.ensures.index list is.indexed g.U.Update.form g.met.U.Steps.known_bytes (g.met.U.Steps.monotone c.requires) is.of key low high key_bytes begins
+      ∙ sym (ap₂ (λ ps k. ps ++ ahead_of index_key low high (behind k) list)
+      (found ∙ ap (fold (put_at low high list) []) (c.bucket.ensures.value ∙ ap (λ k. bucket_at entries (index_key k)) c.as_bytes.ensures.value))
+      (ap g.U.Key.ByteString.bytes c.in_ok-key.ensures)));
+  begun = behind-begun (g.U.Key.ByteString.bytes c.in_ok-key.key);
+  read = c.pairs_at.ensures.read;
+  error = tt;
+  whole = λ list is none. tt;
+}
 
-pub returns-in_err-pairs-clause-value : goal.returns-in_err-pairs-clause-value
-returns-in_err-pairs-clause-value g c = λ list is begins.
-    let exit = err_from_is_err_and c.from_residual.result c.from_residual.ensures.1 in
-    told-err _ (g.L.Items.reads.told c.args.log.now) c.from_residual.result exit.0 exit.1
-
-pub returns-in_err-pairs-clause-begun : goal.returns-in_err-pairs-clause-begun
-returns-in_err-pairs-clause-begun g c =
-    let exit = err_from_is_err_and c.from_residual.result c.from_residual.ensures.1 in
-    rw exit.1 tt
-
-pub returns-in_err-pairs-clause-read : goal.returns-in_err-pairs-clause-read
-returns-in_err-pairs-clause-read g c = c.pairs_at.ensures.read
-
-pub returns-in_err-pairs-clause-error : goal.returns-in_err-pairs-clause-error
-returns-in_err-pairs-clause-error g c =
-    let exit = err_from_is_err_and c.from_residual.result c.from_residual.ensures.1 in
-    rw (exit.1, exit.2) c.in_err-pairs.ensures.error
-
-pub returns-in_err-key-clause-value : goal.returns-in_err-key-clause-value
-returns-in_err-key-clause-value g c = λ list is begins.
+pub returns-in_err-key : goal.returns-in_err-key
+returns-in_err-key g c =
     let exit = err_from_is_err_and c.from_residual-in_err-key.result c.from_residual-in_err-key.ensures.1 in
-    told-err _ (g.L.Items.reads.told c.args.log.now) c.from_residual-in_err-key.result exit.0 exit.1
-
-pub returns-in_err-key-clause-begun : goal.returns-in_err-key-clause-begun
-returns-in_err-key-clause-begun g c =
-    let exit = err_from_is_err_and c.from_residual-in_err-key.result c.from_residual-in_err-key.ensures.1 in
-    rw exit.1 tt
-
-pub returns-in_err-key-clause-read : goal.returns-in_err-key-clause-read
-returns-in_err-key-clause-read g c = c.pairs_at.ensures.read
-
-pub returns-in_err-key-clause-error : goal.returns-in_err-key-clause-error
-returns-in_err-key-clause-error g c =
-    let exit = err_from_is_err_and c.from_residual-in_err-key.result c.from_residual-in_err-key.ensures.1 in
-    rw (exit.1, exit.2) (inl refl)
-
-pub returns-in_err-key-clause-whole : goal.returns-in_err-key-clause-whole
-returns-in_err-key-clause-whole g c = λ list is none.
-    let exit = err_from_is_err_and c.from_residual-in_err-key.result c.from_residual-in_err-key.ensures.1 in
-    rw (exit.1, exit.2) (λ n same. cc)
-
-pub returns-clause-read : goal.returns-clause-read
-returns-clause-read g c = c.pairs_at.ensures.read
-
-pub returns-clause-error : goal.returns-clause-error
-returns-clause-error g c = tt
-
-pub returns-clause-whole : goal.returns-clause-whole
-returns-clause-whole g c = λ list is none. tt
+    record {
+      value = λ list is begins. told-err _ (g.L.Items.reads.told c.args.log.now) c.from_residual-in_err-key.result exit.0 exit.1;
+      begun = rw exit.1 tt;
+      read = c.pairs_at.ensures.read;
+      error = rw (exit.1, exit.2) (inl refl);
+      whole = λ list is none. rw (exit.1, exit.2) no-item;
+    }

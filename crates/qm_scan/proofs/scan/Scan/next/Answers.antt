@@ -9,62 +9,46 @@ use Rattle.qm_scan.specs.Scans.{IsStep, Scanning, left_of}
 use Rattle.qm_scan.proofs.Going.{told-any, told-two}
 use Rattle.qm_scan.proofs.scan.Scan.next.Goals as goal
 
-pub returns-in-Some-clause-read : goal.returns-in-Some-clause-read
-returns-in-Some-clause-read g c = read-none g.L.Items.reads g.met.L.Items.unread c.args.log.now
+pub returns-in-Some : goal.returns-in-Some
+returns-in-Some g c = record {
+  value = λ list is. told-any (g.L.Items.reads.told c.args.log.now) (λ _. ap (λ (s : Scanning). left_of g.I.Unordered.index_key s list) c.in-Some.ensures);
+  read = read-none g.L.Items.reads g.met.L.Items.unread c.args.log.now;
+  error = tt;
+  whole = λ list is none. tt;
+}
 
-pub returns-in-Some-clause-error : goal.returns-in-Some-clause-error
-returns-in-Some-clause-error g c = tt
+pub returns-in-Some-take : goal.returns-in-Some-take
+returns-in-Some-take g c = record {
+  value = λ list is.
+      IfSome_then (g.L.Items.reads.told c.args.log.now) (c.read_on.ensures.value list is) (λ _ same. sym (same ∙ ap (λ (s : Scanning). left_of g.I.Unordered.index_key s list) c.in_default.ensures.1) ∙ ap (λ (s : Scanning). left_of g.I.Unordered.index_key s list) c.in-Some-take.ensures);
+  read = c.read_on.ensures.read;
+  error = tt;
+  whole = λ list is none. tt;
+}
 
-pub returns-in-Some-clause-whole : goal.returns-in-Some-clause-whole
-returns-in-Some-clause-whole g c = λ list is none. tt
+pub returns-in-Err : goal.returns-in-Err
+returns-in-Err g c = record {
+  value = λ list is.
+      IfSome_then (g.L.Items.reads.told c.args.log.now) (c.read_on.ensures.value list is) (λ _ same. same ∙ ap (λ (s : Scanning). left_of g.I.Unordered.index_key s list) c.in_default.ensures.1);
+  read = c.read_on.ensures.read;
+  error = c.in-Err.ensures.error;
+  whole = c.in-Err.ensures.whole;
+}
 
-pub returns-in-Some-take-clause-read : goal.returns-in-Some-take-clause-read
-returns-in-Some-take-clause-read g c = c.read_on.ensures.read
-
-pub returns-in-Some-take-clause-error : goal.returns-in-Some-take-clause-error
-returns-in-Some-take-clause-error g c = tt
-
-pub returns-in-Some-take-clause-whole : goal.returns-in-Some-take-clause-whole
-returns-in-Some-take-clause-whole g c = λ list is none. tt
-
-pub returns-in-Err-clause-read : goal.returns-in-Err-clause-read
-returns-in-Err-clause-read g c = c.read_on.ensures.read
-
-pub returns-in-Err-clause-error : goal.returns-in-Err-clause-error
-returns-in-Err-clause-error g c = c.in-Err.ensures.error
-
-pub returns-in-Err-clause-whole : goal.returns-in-Err-clause-whole
-returns-in-Err-clause-whole g c = c.in-Err.ensures.whole
-
-pub returns-clause-read : goal.returns-clause-read
-returns-clause-read g c = read-then g.L.Items.reads g.met.L.Items.read_again c.args.log.now c.read_on.new.log c.next_behind.new.log c.read_on.ensures.read c.next_behind.ensures.read
-
-pub returns-in-Some-clause-value : goal.returns-in-Some-clause-value
-returns-in-Some-clause-value g c = λ list is. told-any (g.L.Items.reads.told c.args.log.now) (λ _. ap (λ (s : Scanning). left_of g.I.Unordered.index_key s list) c.in-Some.ensures)
-
-pub returns-in-Some-take-clause-value : goal.returns-in-Some-take-clause-value
-returns-in-Some-take-clause-value g c = λ list is.
-    IfSome_then (g.L.Items.reads.told c.args.log.now) (c.read_on.ensures.value list is) (λ _ same. sym (same ∙ ap (λ (s : Scanning). left_of g.I.Unordered.index_key s list) c.in_default.ensures.1) ∙ ap (λ (s : Scanning). left_of g.I.Unordered.index_key s list) c.in-Some-take.ensures)
-
-pub returns-in-Err-clause-value : goal.returns-in-Err-clause-value
-returns-in-Err-clause-value g c = λ list is.
-    IfSome_then (g.L.Items.reads.told c.args.log.now) (c.read_on.ensures.value list is) (λ _ same. same ∙ ap (λ (s : Scanning). left_of g.I.Unordered.index_key s list) c.in_default.ensures.1)
-
-pub returns-clause-value : goal.returns-clause-value
-returns-clause-value g c = λ list is.
-    let read = c.read_on.ensures.read in
-    let mid = lent-then g.L.Items.reads _ g.I.Unordered.index_key (g.I.Unordered.entries c.args.index.now) c.args.log.now c.read_on.new.log list read is in
-    let view = pair_view g.U.Key.ByteString.bytes g.U.Value.ByteString.bytes in
-    told-two (g.L.Items.reads.told c.args.log.now) (c.read_on.ensures.value list is) (told _ _ _ read.told (c.next_behind.ensures.value list mid))
-    (λ _ same step. subst (λ before. IsStep view before (left_of g.I.Unordered.index_key c.next_behind.new.self list) c.next_behind.result) (ap (λ (s : Scanning). left_of g.I.Unordered.index_key s list) c.in_default-take.ensures.1 ∙ same ∙ ap (λ (s : Scanning). left_of g.I.Unordered.index_key s list) c.in_default.ensures.1) step)
-
-pub returns-clause-error : goal.returns-clause-error
-returns-clause-error g c =
-    IfSome_then c.next_behind.result c.next_behind.ensures.error (λ r failed.
-    IfErr-weaker r _ _ (λ e was. error-then g.L.Items.reads g.met.L.Items.failed_later c.args.log.now c.read_on.new.log c.next_behind.new.log e c.read_on.ensures.read was) failed)
-
-pub returns-clause-whole : goal.returns-clause-whole
-returns-clause-whole g c = λ list is none.
-    let read = c.read_on.ensures.read in
-    let mid = lent-then g.L.Items.reads _ g.I.Unordered.index_key (g.I.Unordered.entries c.args.index.now) c.args.log.now c.read_on.new.log list read is in
-    c.next_behind.ensures.whole list mid (subst (λ n. NoneBelow n list) (sym read.start) none)
+pub returns : goal.returns
+returns g c = record {
+  value = λ list is.
+      let read = c.read_on.ensures.read in
+      let mid = lent-then g.L.Items.reads _ g.I.Unordered.index_key (g.I.Unordered.entries c.args.index.now) c.args.log.now c.read_on.new.log list read is in
+      let view = pair_view g.U.Key.ByteString.bytes g.U.Value.ByteString.bytes in
+      told-two (g.L.Items.reads.told c.args.log.now) (c.read_on.ensures.value list is) (told _ _ _ read.told (c.next_behind.ensures.value list mid))
+      (λ _ same step. subst (λ before. IsStep view before (left_of g.I.Unordered.index_key c.next_behind.new.self list) c.next_behind.result) (ap (λ (s : Scanning). left_of g.I.Unordered.index_key s list) c.in_default-take.ensures.1 ∙ same ∙ ap (λ (s : Scanning). left_of g.I.Unordered.index_key s list) c.in_default.ensures.1) step);
+  read = read-then g.L.Items.reads g.met.L.Items.read_again c.args.log.now c.read_on.new.log c.next_behind.new.log c.read_on.ensures.read c.next_behind.ensures.read;
+  error =
+      IfSome_then c.next_behind.result c.next_behind.ensures.error (λ r failed.
+      IfErr-weaker r _ _ (λ e was. error-then g.L.Items.reads g.met.L.Items.failed_later c.args.log.now c.read_on.new.log c.next_behind.new.log e c.read_on.ensures.read was) failed);
+  whole = λ list is none.
+      let read = c.read_on.ensures.read in
+      let mid = lent-then g.L.Items.reads _ g.I.Unordered.index_key (g.I.Unordered.entries c.args.index.now) c.args.log.now c.read_on.new.log list read is in
+      c.next_behind.ensures.whole list mid (subst (λ n. NoneBelow n list) (sym read.start) none);
+}
