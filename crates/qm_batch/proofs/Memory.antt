@@ -1,10 +1,14 @@
 -- Calls that fail for want of memory alone.
-use Rattle.std.proofs.Common.{◌≡◌, ◌≢◌, ℕ, inl}
+use Rattle.std.proofs.Common.{◌≡◌, ◌≢◌, ◌∙◌, ℕ, inl, sym}
 use Rattle.std.specs.Prelude.{Result, Ok, Err, IfErr}
 use Rattle.qm_base.specs.declared.error.Error.{Error}
 use Rattle.qm_base.specs.declared.error.Error.TheVariants as errors
 use Rattle.qm_base.specs.declared.error.JournalError.TheVariants as journal
 use Rattle.qm_base.specs.Reads.{Reads, IsReadError}
+
+-- want of memory is no missing item
+pub no-item : (n : ℕ) → errors.Memory ≡ errors.Journal (journal.ItemPruned n) → ⊥
+no-item n e = cc
 
 module _ {X : Type 0} (r : Result X Error) (wants : IfErr r (λ e. e ≡ errors.Memory)) where
   -- what it fails for, reads fail for
@@ -21,4 +25,4 @@ module _ {X : Type 0} (r : Result X Error) (wants : IfErr r (λ e. e ≡ errors.
     where
       by : (r : Result X Error) → IfErr r (λ e. e ≡ errors.Memory) → IfErr r (λ e. (n : ℕ) → e ≢ errors.Journal (journal.ItemPruned n))
       by (Ok x) h = tt
-      by (Err e) h = λ n same. cc
+      by (Err e) h = λ n same. no-item n (sym h ∙ same)

@@ -218,8 +218,10 @@ fn own_operations<
     ensures whole { (lent : List model.Operation) → IsLent L.reads U.form I.index_key (I.entries index.now) log.old lent → NoneBelow (L.reads.start log.old) lent
         → L.reads.start log.old ≤ base.now.floor → IfErr result (λ e. (n : ℕ) → e ≢ Error.Journal (JournalError.ItemPruned n)) }
 {
-    let last = last_writes(alloc, wanted)?;
-    let made = written_over(alloc, index, log, base.layers, wanted.reads, &last)?;
+    let made = {
+        let last = last_writes(alloc, wanted)?;
+        written_over(alloc, index, log, base.layers, wanted.reads, &last)?
+    };
     let replaced = replaced_by(alloc, &made)?;
     let path = Path {
         index,

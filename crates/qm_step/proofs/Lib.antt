@@ -32,4 +32,5 @@ pub mod PlanCounts
 pub mod LastKeys
 pub mod LentKeys
 pub mod Reading
+pub mod Spelled
 pub mod Touched

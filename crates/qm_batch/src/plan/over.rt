@@ -42,8 +42,10 @@ pub(crate) fn written_over<
     ensures whole { (lent : List model.Operation) → IsLent L.reads U.form I.index_key (I.entries index.now) log.old lent → NoneBelow (L.reads.start log.old) lent
         → IfErr result (λ e. (n : ℕ) → e ≢ Error.Journal (JournalError.ItemPruned n)) }
 {
-    let known = known_of(alloc, reads)?;
-    let sites = find_sites(alloc, index, log, layers, &known, last)?;
+    let sites = {
+        let known = known_of(alloc, reads)?;
+        find_sites(alloc, index, log, layers, &known, last)?
+    };
     let neighbours = neighbours_of(alloc, index, log, layers, &sites)?;
     let touches = U::written(alloc, &sites, &neighbours)?;
     Ok(touches)

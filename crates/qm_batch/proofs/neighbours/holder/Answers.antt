@@ -4,7 +4,7 @@ use Rattle.std.proofs.lemmas.Result.{err_from_is_err_and}
 use Rattle.qm_model.proofs.Results.{told-any, told-err, told-one}
 use Rattle.qm_step.specs.Layers.{nearest_layer}
 use Rattle.qm_step.specs.Views.{change_view, read_view}
-use Rattle.qm_batch.proofs.Memory.{memory-error, memory-whole}
+use Rattle.qm_batch.proofs.Memory.{memory-error, memory-whole, no-item}
 use Rattle.qm_batch.proofs.HolderOf.{holder-none, holder-read, holder-some}
 use Rattle.qm_batch.proofs.Layered.{layer-update}
 use Rattle.qm_base.proofs.Reading.{read-none}
@@ -69,7 +69,7 @@ returns-in_err-found-in-Some g c =
       value = λ lent base is from ring_lent ring_base. told-err _ (g.L.Items.reads.told c.args.log.now) c.from_residual.result exit.0 exit.1;
       read = read-none g.L.Items.reads g.met.L.Items.unread c.args.log.now;
       error = rw (exit.1, exit.2, c.in_err-found-in-Some.ensures.memory) (inl refl);
-      whole = λ lent is none. rw (exit.1, exit.2, c.in_err-found-in-Some.ensures.memory) (λ n same. cc);
+      whole = λ lent is none. rw (exit.1, exit.2, c.in_err-found-in-Some.ensures.memory) no-item;
     }
 
 pub returns-in_err-lent-in-None : goal.returns-in_err-lent-in-None

@@ -2,6 +2,7 @@ use Rattle.std.proofs.Common.{◌∙◌, inl, refl}
 use Rattle.qm_model.proofs.Results.{told-one, told-err}
 use Rattle.qm_batch.proofs.HolderOf.{above-read}
 use Rattle.std.proofs.lemmas.Result.{err_from_is_err_and}
+use Rattle.qm_batch.proofs.Memory.{no-item}
 use Rattle.qm_batch.proofs.neighbours.next_key.Goals as goal
 
 pub returns : goal.returns
@@ -31,5 +32,5 @@ returns-in_err-next_above g c =
       value = λ lent base is from ring_lent ring_base. told-err _ (g.L.Items.reads.told c.args.log.now) c.from_residual-in_err-next_above.result exit.0 exit.1;
       read = c.holder.ensures.read;
       error = rw (exit.1, exit.2) (inl refl);
-      whole = λ lent is none. rw (exit.1, exit.2) (λ n same. cc);
+      whole = λ lent is none. rw (exit.1, exit.2) no-item;
     }

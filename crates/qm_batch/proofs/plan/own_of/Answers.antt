@@ -15,6 +15,7 @@ use Rattle.qm_batch.specs.PlanPaths.{path_view}
 use Rattle.qm_batch.proofs.PlanOwns.{path-written}
 use Rattle.std.proofs.lemmas.Result.{err_from_is_err_and}
 use Rattle.qm_model.proofs.Results.{told-err}
+use Rattle.qm_batch.proofs.Memory.{no-item}
 use Rattle.qm_batch.proofs.plan.own_of.Goals as goal
 
 pub returns : goal.returns
@@ -69,5 +70,5 @@ returns-in_err-touches g c =
       count = rw exit.1 tt;
       read = c.befores_of.ensures.read;
       error = rw (exit.1, exit.2) (inl refl);
-      whole = λ lent is none. rw (exit.1, exit.2) (λ n same. cc);
+      whole = λ lent is none. rw (exit.1, exit.2) no-item;
     }

@@ -8,6 +8,7 @@ use Rattle.qm_step.specs.Views.{wanted_view}
 use Rattle.qm_base.proofs.Reading.{read-then, error-then, read-none}
 use Rattle.qm_step.proofs.Reading.{lent-then, told}
 use Rattle.std.proofs.lemmas.Result.{err_from_is_err_and}
+use Rattle.qm_batch.proofs.Memory.{no-item}
 use Rattle.qm_batch.proofs.plan.own_operations.Goals as goal
 
 pub returns : goal.returns
@@ -50,7 +51,7 @@ returns-in_err-last g c =
       count = rw exit.1 tt;
       read = read-none g.L.Items.reads g.met.L.Items.unread c.args.log.now;
       error = rw (exit.1, exit.2) (inl refl);
-      whole = λ lent is none above. rw (exit.1, exit.2) (λ n same. cc);
+      whole = λ lent is none above. rw (exit.1, exit.2) no-item;
     }
 
 pub returns-in_err-made : goal.returns-in_err-made
@@ -72,7 +73,7 @@ returns-in_err-replaced g c =
       count = rw exit.1 tt;
       read = c.written_over.ensures.read;
       error = rw (exit.1, exit.2) (inl refl);
-      whole = λ lent is none above. rw (exit.1, exit.2) (λ n same. cc);
+      whole = λ lent is none above. rw (exit.1, exit.2) no-item;
     }
 
 pub own_along-requires-clause-size : goal.own_along-requires-clause-size

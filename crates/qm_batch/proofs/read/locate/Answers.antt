@@ -6,7 +6,7 @@ use Rattle.qm_step.specs.Layers.{nearest_layer}
 use Rattle.qm_step.specs.Views.{change_view, stands_view}
 use Rattle.qm_step.proofs.Entries.{link-of_update}
 use Rattle.qm_step.proofs.Reading.{ok-same}
-use Rattle.qm_batch.proofs.Memory.{memory-error, memory-whole}
+use Rattle.qm_batch.proofs.Memory.{memory-error, memory-whole, no-item}
 use Rattle.qm_batch.proofs.Layered.{layer-update, lent-update}
 use Rattle.std.proofs.lemmas.Result.{err_from_is_err_and}
 use Rattle.qm_base.proofs.Reading.{read-none}
@@ -61,5 +61,5 @@ returns-in_err-stands-in-None g c =
       value = λ lent base is from. told-err _ (g.L.Items.reads.told c.args.log.now) c.from_residual-in_err-stands-in-None.result exit.0 exit.1;
       read = c.read_bucket.ensures.read;
       error = rw (exit.1, exit.2) (inl refl);
-      whole = λ lent is none. rw (exit.1, exit.2) (λ n same. cc);
+      whole = λ lent is none. rw (exit.1, exit.2) no-item;
     }

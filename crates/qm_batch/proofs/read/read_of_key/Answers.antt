@@ -5,8 +5,8 @@ use Rattle.qm_model.specs.Forms.{IsSpelling, spelling}
 use Rattle.qm_model.proofs.Results.{told-err, told-one}
 use Rattle.qm_step.specs.Changes.{only, said_by}
 use Rattle.qm_step.proofs.Reading.{ok-same}
+use Rattle.qm_step.proofs.Spelled.{spelled-there, unspelled-there}
 use Rattle.qm_batch.proofs.Memory.{memory-error, memory-whole}
-use Rattle.qm_batch.proofs.Spellings.{spelled-there, unspelled-there}
 use Rattle.qm_batch.proofs.read.read_of_key.Goals as goal
 
 pub returns-in_err-item : goal.returns-in_err-item

@@ -6,8 +6,8 @@ use Rattle.qm_model.proofs.Results.{told-err, told-one}
 use Rattle.qm_step.specs.Changes.{said_by}
 use Rattle.qm_step.specs.Nearest.{limit_view, only_within}
 use Rattle.qm_step.proofs.Reading.{ok-same}
+use Rattle.qm_step.proofs.Spelled.{spelled-there, unspelled-there}
 use Rattle.qm_batch.proofs.Memory.{memory-error, memory-whole}
-use Rattle.qm_batch.proofs.Spellings.{spelled-there, unspelled-there}
 use Rattle.qm_batch.proofs.neighbours.lent.read_within.Goals as goal
 
 pub returns-in_err-item : goal.returns-in_err-item

@@ -9,6 +9,7 @@ use Rattle.qm_step.specs.Rings.{linked_in}
 use Rattle.qm_step.proofs.PlanSites.{lasts-shown}
 use Rattle.qm_base.proofs.Reading.{error-then, read-then, read-none}
 use Rattle.qm_step.proofs.Reading.{lent-then, told, told-given}
+use Rattle.qm_batch.proofs.Memory.{no-item}
 use Rattle.qm_batch.proofs.plan.over.written_over.Goals as goal
 
 pub returns : goal.returns
@@ -38,7 +39,7 @@ returns-in_err-touches g c =
       value = λ lent base ws is from ring base_ring reads last. told-err _ (g.L.Items.reads.told c.args.log.now) c.from_residual-in_err-touches.result exit.0 exit.1;
       read = read-then g.L.Items.reads g.met.L.Items.read_again c.args.log.now c.find_sites.new.log c.neighbours_of.new.log c.in_ok-sites.ensures.read c.in_ok-neighbours.ensures.read;
       error = rw (exit.1, exit.2) (inl refl);
-      whole = λ lent is none. rw (exit.1, exit.2) (λ n same. cc);
+      whole = λ lent is none. rw (exit.1, exit.2) no-item;
     }
 
 pub returns-in_err-neighbours : goal.returns-in_err-neighbours
@@ -62,7 +63,7 @@ returns-in_err-known g c =
       value = λ lent base ws is from ring base_ring reads last. told-err _ (g.L.Items.reads.told c.args.log.now) c.from_residual.result exit.0 exit.1;
       read = read-none g.L.Items.reads g.met.L.Items.unread c.args.log.now;
       error = rw (exit.1, exit.2) (inl refl);
-      whole = λ lent is none. rw (exit.1, exit.2) (λ n same. cc);
+      whole = λ lent is none. rw (exit.1, exit.2) no-item;
     }
 
 pub returns-in_err-sites : goal.returns-in_err-sites

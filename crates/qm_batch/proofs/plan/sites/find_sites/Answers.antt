@@ -10,6 +10,7 @@ use Rattle.qm_step.proofs.PlanLoops.{drained-more, drained-all}
 use Rattle.qm_base.proofs.Reading.{read-none, read-then, error-then}
 use Rattle.qm_step.proofs.Reading.{lent-then, told}
 use Rattle.qm_step.proofs.Steps.{map-twice}
+use Rattle.qm_batch.proofs.Memory.{no-item}
 use Rattle.qm_batch.proofs.plan.sites.find_sites.Goals as goal
 
 pub returns-in_err-stands : goal.returns-in_err-stands
@@ -33,7 +34,7 @@ returns-in_err-push g c =
       value = λ lent base is from known. told-err _ (g.L.Items.reads.told c.args.log.now) c.from_residual-in_err-push.result exit.0 exit.1;
       read = read-then g.L.Items.reads g.met.L.Items.read_again c.args.log.now c.loop-write.log c.place_of.new.log c.loop-write.invariant.read c.place_of.ensures.read;
       error = rw (exit.1, exit.2) (inl refl);
-      whole = λ lent is none. rw (exit.1, exit.2) (λ n same. cc);
+      whole = λ lent is none. rw (exit.1, exit.2) no-item;
     }
 
 pub loop-write-init : goal.loop-write-init

@@ -8,6 +8,7 @@ use Rattle.qm_step.proofs.Entries.{link-of_update}
 use Rattle.qm_batch.proofs.PlanKnown.{known-there}
 use Rattle.std.proofs.lemmas.Result.{err_from_is_err_and}
 use Rattle.qm_base.proofs.Reading.{read-none}
+use Rattle.qm_batch.proofs.Memory.{no-item}
 use Rattle.qm_batch.proofs.plan.sites.place_of.Goals as goal
 
 pub returns-in_ok-stands_of-in-Some : goal.returns-in_ok-stands_of-in-Some
@@ -38,5 +39,5 @@ returns-in_err-stands_of-in-Some g c =
       value = λ lent base is from known. told-err _ (g.L.Items.reads.told c.args.log.now) c.from_residual.result exit.0 exit.1;
       read = read-none g.L.Items.reads g.met.L.Items.unread c.args.log.now;
       error = rw (exit.1, exit.2) (inl refl);
-      whole = λ lent is none. rw (exit.1, exit.2) (λ n same. cc);
+      whole = λ lent is none. rw (exit.1, exit.2) no-item;
     }

@@ -4,9 +4,9 @@ use Rattle.qm_model.specs.Forms.{IsSpelling, spelling}
 use Rattle.qm_model.proofs.Results.{ok-then, told-any, told-one, told-err}
 use Rattle.qm_operations.specs.Views.{operation_view}
 use Rattle.qm_step.specs.Changes.{said_by}
-use Rattle.qm_batch.proofs.Memory.{memory-error, memory-whole}
+use Rattle.qm_step.proofs.Spelled.{spelled-there, unspelled-there}
+use Rattle.qm_batch.proofs.Memory.{memory-error, memory-whole, no-item}
 use Rattle.qm_batch.proofs.PlanFinds.{match-some, match-none, standing-none, moved-found, moved-not}
-use Rattle.qm_batch.proofs.Spellings.{spelled-there, unspelled-there}
 use Rattle.qm_base.proofs.Reading.{read-none}
 use Rattle.std.proofs.lemmas.Result.{err_from_is_err_and}
 use Rattle.qm_batch.proofs.plan.walk.unreplaced_at.Goals as goal
@@ -100,5 +100,5 @@ returns-in_err-update_in g c =
       value = λ lent base made is leads within from keyed replaced. told-err _ (g.L.Items.reads.told c.args.log.now) c.from_residual-in_err-update_in.result exit.0 exit.1;
       read = c.read_item.ensures.read;
       error = rw (exit.1, exit.2) (inl refl);
-      pruned = λ kept. rw (exit.1, exit.2) (λ n same. cc);
+      pruned = λ kept. rw (exit.1, exit.2) no-item;
     }

@@ -8,6 +8,7 @@ use Rattle.qm_base.proofs.Reading.{read-none}
 use Rattle.qm_batch.specs.PlanPaths.{path_view}
 use Rattle.qm_batch.proofs.PlanGoing.{between-then, spaced-above, spaced-below}
 use Rattle.qm_batch.proofs.PlanRounds.{path-dead}
+use Rattle.qm_batch.proofs.Memory.{no-item}
 use Rattle.qm_batch.proofs.plan.walk.walk_round.Goals as goal
 
 -- where the next round begins
@@ -34,7 +35,7 @@ returns-in_err-round g c =
       end = rw exit.1 tt;
       read = read-none g.L.Items.reads g.met.L.Items.unread c.args.log.now;
       error = rw (exit.1, exit.2) (inl refl);
-      pruned = λ above. rw (exit.1, exit.2) (λ n same. cc);
+      pruned = λ above. rw (exit.1, exit.2) no-item;
     }
 
 pub returns : goal.returns

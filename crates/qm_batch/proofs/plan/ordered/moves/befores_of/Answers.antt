@@ -8,6 +8,7 @@ use Rattle.qm_step.proofs.MovesAll.{none-gone}
 use Rattle.qm_step.proofs.MovesFound.{none-before}
 use Rattle.std.proofs.lemmas.Result.{err_from_is_err_and}
 use Rattle.qm_base.proofs.Reading.{read-none}
+use Rattle.qm_batch.proofs.Memory.{no-item}
 use Rattle.qm_batch.proofs.plan.ordered.moves.befores_of.Goals as goal
 use Rattle.qm_batch.proofs.plan.ordered.moves.befores_of.Goals.{then-not-is_ordered-via-then-not-is_ordered, then-not-is_ordered-via-else-not-is_ordered+then-evicted-eq0}
 
@@ -49,5 +50,5 @@ returns-in_err-layers g c =
       value = λ lent list ordered is base ring over from. told-err _ (g.L.Items.reads.told c.args.log.now) c.from_residual.result exit.0 exit.1;
       read = read-none g.L.Items.reads g.met.L.Items.unread c.args.log.now;
       error = rw (exit.1, exit.2) (inl refl);
-      whole = λ lent is none. rw (exit.1, exit.2) (λ n same. cc);
+      whole = λ lent is none. rw (exit.1, exit.2) no-item;
     }

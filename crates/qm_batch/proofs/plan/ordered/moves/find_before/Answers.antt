@@ -10,6 +10,7 @@ use Rattle.qm_step.specs.Views.{read_view}
 use Rattle.qm_step.proofs.MovesLoops.{some-more, given-mapped}
 use Rattle.qm_base.proofs.Reading.{read-none, read-then, error-then}
 use Rattle.qm_step.proofs.Reading.{lent-then, told}
+use Rattle.qm_batch.proofs.Memory.{no-item}
 use Rattle.qm_batch.proofs.plan.ordered.moves.find_before.Goals as goal
 
 pub returns-in_err-found : goal.returns-in_err-found
@@ -33,7 +34,7 @@ returns-in_err-push_some g c =
       value = λ lent list is from ring over. told-err _ (g.L.Items.reads.told c.args.log.now) c.from_residual-in_err-push_some.result exit.0 exit.1;
       read = read-then g.L.Items.reads g.met.L.Items.read_again c.args.log.now c.loop-one.log c.before_gone.new.log c.loop-one.invariant.read c.before_gone.ensures.read;
       error = rw (exit.1, exit.2) (inl refl);
-      whole = λ lent is none. rw (exit.1, exit.2) (λ n same. cc);
+      whole = λ lent is none. rw (exit.1, exit.2) no-item;
     }
 
 pub loop-one-init : goal.loop-one-init

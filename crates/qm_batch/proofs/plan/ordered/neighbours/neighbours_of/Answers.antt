@@ -10,6 +10,7 @@ use Rattle.qm_step.proofs.PlanLoops.{made-more, taken-all, write-here}
 use Rattle.qm_step.proofs.PlanSites.{pushed-shown}
 use Rattle.qm_base.proofs.Reading.{read-none, read-then, error-then}
 use Rattle.qm_step.proofs.Reading.{lent-then, told}
+use Rattle.qm_batch.proofs.Memory.{no-item}
 use Rattle.qm_batch.proofs.plan.ordered.neighbours.neighbours_of.Goals as goal
 
 pub loop-site-init : goal.loop-site-init
@@ -41,7 +42,7 @@ returns-in_err-push_some g c =
       value = λ lent base ws ordered is from ring base_ring are. told-err _ (g.L.Items.reads.told c.args.log.now) c.from_residual-in_err-push_some.result exit.0 exit.1;
       read = read-then g.L.Items.reads g.met.L.Items.read_again c.args.log.now c.loop-site.log c.find_neighbour.new.log c.loop-site.invariant.read c.find_neighbour.ensures.read;
       error = rw (exit.1, exit.2) (inl refl);
-      whole = λ lent is none. rw (exit.1, exit.2) (λ n same. cc);
+      whole = λ lent is none. rw (exit.1, exit.2) no-item;
     }
 
 pub loop-site-preserved : goal.loop-site-preserved
