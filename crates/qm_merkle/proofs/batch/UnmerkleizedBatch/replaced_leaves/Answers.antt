@@ -41,20 +41,15 @@ push_reserved-requires g c =
 below : (g : Given.Over) (c : goal.In-None g) → All (λ e. e.0 < c.args.self.now.base) c.args.self.now.replaced
 below g c = subst (λ d. All (λ e. e.0 < d.base) d.replaced) c.self.view_is c.self.invariant.2
 
-pub returns-clause-own : goal.returns-clause-own
-returns-clause-own g c = taken-over g.met.F.Family.numbered c.loop-location.invariant.taken c.in-None.ensures.steps.0 c.args.self.now.base (below g c)
-
-pub returns-clause-row : goal.returns-clause-row
-returns-clause-row g c = taken-row g.met.F.Family.numbered c.loop-location.invariant.taken c.in-None.ensures.steps.0 c.args.self.now.base (below g c)
-
-pub returns-clause-digests : goal.returns-clause-digests
-returns-clause-digests g c = taken-right g.met.F.Family.numbered c.loop-location.invariant.taken c.in-None.ensures.steps.0 c.args.self.now.base (below g c)
-
-pub returns-clause-count : goal.returns-clause-count
-returns-clause-count g c = omega (arith, c.loop-location.invariant.taken.count, ap length c.in-None.ensures.steps.0)
-
-pub returns-clause-rows : goal.returns-clause-rows
-returns-clause-rows g c = omega (arith, c.loop-location.invariant.taken.rows, c.loop-location.invariant.taken.count, ap length c.in-None.ensures.steps.0)
+pub returns : goal.returns
+returns g c = record {
+  few = omega (arith, c.self.invariant.1, ap (λ d. d.base) c.self.view_is);
+  own = taken-over g.met.F.Family.numbered c.loop-location.invariant.taken c.in-None.ensures.steps.0 c.args.self.now.base (below g c);
+  row = taken-row g.met.F.Family.numbered c.loop-location.invariant.taken c.in-None.ensures.steps.0 c.args.self.now.base (below g c);
+  digests = taken-right g.met.F.Family.numbered c.loop-location.invariant.taken c.in-None.ensures.steps.0 c.args.self.now.base (below g c);
+  count = omega (arith, c.loop-location.invariant.taken.count, ap length c.in-None.ensures.steps.0);
+  rows = omega (arith, c.loop-location.invariant.taken.rows, c.loop-location.invariant.taken.count, ap length c.in-None.ensures.steps.0);
+}
 
 pub returns-in_err-row : goal.returns-in_err-row
 returns-in_err-row g c =
@@ -79,6 +74,3 @@ returns-in_err-replace g c =
       count = rw exit.1 tt;
       rows = rw exit.1 tt;
     }
-
-pub returns-clause-few : goal.returns-clause-few
-returns-clause-few g c = omega (arith, c.self.invariant.1, ap (λ d. d.base) c.self.view_is)

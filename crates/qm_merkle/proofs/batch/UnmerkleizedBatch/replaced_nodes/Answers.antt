@@ -37,22 +37,16 @@ loop-height-preserved g c =
       made = omega (arith, c.loop-height.invariant.made, c.in_ok-row-2.ensures.made, c.in_ok-row-2.ensures.count, c.loop-height.invariant.count);
     }
 
-pub returns-clause-own : goal.returns-clause-own
-returns-clause-own g c = λ x born.
-    let low = height_within x (omega (arith, born, g.met.F.Family.numbered.inside x, c.replaced_leaves.ensures.few)) in
-    (c.loop-height.invariant.own x born).0 (omega (arith, low, c.loop-height-test.false))
-
-pub returns-clause-digests : goal.returns-clause-digests
-returns-clause-digests g c = c.loop-height.invariant.right
-
-pub returns-clause-count : goal.returns-clause-count
-returns-clause-count g c = c.loop-height.invariant.count
-
-pub returns-clause-few : goal.returns-clause-few
-returns-clause-few g c = λ k high. few-all (length c.args.self.now.replaced) (length c.loop-height.nodes.entries) k c.loop-height.height (c.loop-height.invariant.few k high)
-
-pub returns-clause-made : goal.returns-clause-made
-returns-clause-made g c = c.loop-height.invariant.made
+pub returns : goal.returns
+returns g c = record {
+  own = λ x born.
+      let low = height_within x (omega (arith, born, g.met.F.Family.numbered.inside x, c.replaced_leaves.ensures.few)) in
+      (c.loop-height.invariant.own x born).0 (omega (arith, low, c.loop-height-test.false));
+  digests = c.loop-height.invariant.right;
+  count = c.loop-height.invariant.count;
+  few = λ k high. few-all (length c.args.self.now.replaced) (length c.loop-height.nodes.entries) k c.loop-height.height (c.loop-height.invariant.few k high);
+  made = c.loop-height.invariant.made;
+}
 
 pub returns-in_err-row : goal.returns-in_err-row
 returns-in_err-row g c =

@@ -98,27 +98,16 @@ loop-index-preserved g c = elim c.if-not-contains_key.branch [
       }
 ]
 
-pub returns-clause-own : goal.returns-clause-own
-returns-clause-own g c =
-    raised-over c.loop-index.invariant.raised g.met.F.Family.numbered c.requires.height.0 c.requires.own c.requires.row (omega (arith, c.loop-index-test.false))
-
-pub returns-clause-row : goal.returns-clause-row
-returns-clause-row g c = raised-row c.loop-index.invariant.raised
-
-pub returns-clause-digests : goal.returns-clause-digests
-returns-clause-digests g c = c.loop-index.invariant.right
-
-pub returns-clause-count : goal.returns-clause-count
-returns-clause-count g c = c.loop-index.invariant.count
-
-pub returns-clause-fewer : goal.returns-clause-fewer
-returns-clause-fewer g c = omega (arith, c.loop-index.invariant.fewer, c.loop-index-test.false)
-
-pub returns-clause-none : goal.returns-clause-none
-returns-clause-none g c = c.loop-index.invariant.none
-
-pub returns-clause-made : goal.returns-clause-made
-returns-clause-made g c = c.loop-index.invariant.made
+pub returns : goal.returns
+returns g c = record {
+  own = raised-over c.loop-index.invariant.raised g.met.F.Family.numbered c.requires.height.0 c.requires.own c.requires.row (omega (arith, c.loop-index-test.false));
+  row = raised-row c.loop-index.invariant.raised;
+  digests = c.loop-index.invariant.right;
+  count = c.loop-index.invariant.count;
+  fewer = omega (arith, c.loop-index.invariant.fewer, c.loop-index-test.false);
+  none = c.loop-index.invariant.none;
+  made = c.loop-index.invariant.made;
+}
 
 pub returns-in_err-above : goal.returns-in_err-above
 returns-in_err-above g c =

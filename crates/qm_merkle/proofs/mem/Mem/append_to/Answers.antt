@@ -31,9 +31,8 @@ push_reserved-requires g c =
       ap length (c.deref-node-items.ensures.value ∙ ap (λ k. k.nodes) c.self.view_is),
     )
 
-pub returns-clause-items : goal.returns-clause-items
-returns-clause-items g c =
-    c.loop-node.invariant.items ∙ ap (λ xs. c.args.nodes.now.items ++ xs) (take_all c.loop-node.node-index c.args.self.now.nodes (omega (arith, c.loop-node-test.false, ap length (c.deref-node-items.ensures.value ∙ ap (λ k. k.nodes) c.self.view_is))))
-
-pub returns-clause-capacity : goal.returns-clause-capacity
-returns-clause-capacity g c = c.loop-node.invariant.capacity
+pub returns : goal.returns
+returns g c = record {
+  items = c.loop-node.invariant.items ∙ ap (λ xs. c.args.nodes.now.items ++ xs) (take_all c.loop-node.node-index c.args.self.now.nodes (omega (arith, c.loop-node-test.false, ap length (c.deref-node-items.ensures.value ∙ ap (λ k. k.nodes) c.self.view_is))));
+  capacity = c.loop-node.invariant.capacity;
+}

@@ -56,15 +56,14 @@ invariant_of-self g c = (
   whole-pruned g.F.Family.shape g.F.Family.births g.met.F.Family.numbered g.met.F.Family.peaked c.args.self.now (next g c) (subst (IsWhole g.F.Family.shape) c.self.view_is c.self.invariant.1) (pruned g c),
 )
 
-pub returns-clause-same : goal.returns-clause-same
+pub returns : goal.returns
 unfolding next
-returns-clause-same g c =
-    same-pruned g.F.Family.shape g.F.Family.births g.met.F.Family.numbered g.met.F.Family.peaked c.args.self.now (next g c) (subst (IsWhole g.F.Family.shape) c.self.view_is c.self.invariant.1) (pruned g c)
-
-pub returns-clause-stands : goal.returns-clause-stands
-unfolding next
-returns-clause-stands g c =
-    stands-pruned g.F.Family.shape g.F.Family.births g.met.F.Family.numbered g.met.F.Family.peaked c.args.self.now (next g c) (subst (IsWhole g.F.Family.shape) c.self.view_is c.self.invariant.1) (pruned g c) g.D.Digest.bytes
+returns g c = record {
+  bounds = (refl, ap (λ k. k.leaves) c.self.view_is);
+  same = same-pruned g.F.Family.shape g.F.Family.births g.met.F.Family.numbered g.met.F.Family.peaked c.args.self.now (next g c) (subst (IsWhole g.F.Family.shape) c.self.view_is c.self.invariant.1) (pruned g c);
+  stands = stands-pruned g.F.Family.shape g.F.Family.births g.met.F.Family.numbered g.met.F.Family.peaked c.args.self.now (next g c) (subst (IsWhole g.F.Family.shape) c.self.view_is c.self.invariant.1) (pruned g c) g.D.Digest.bytes;
+  err = tt;
+}
 
 pub returns-in_err-positions : goal.returns-in_err-positions
 returns-in_err-positions g c =
@@ -95,9 +94,3 @@ returns-in_err-nodes g c =
       stands = λ hash leaves stands. rw exit.1 tt;
       err = rw exit.1 refl;
     }
-
-pub returns-clause-bounds : goal.returns-clause-bounds
-returns-clause-bounds g c = (refl, ap (λ k. k.leaves) c.self.view_is)
-
-pub returns-clause-err : goal.returns-clause-err
-returns-clause-err g c = tt

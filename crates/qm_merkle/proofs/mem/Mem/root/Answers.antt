@@ -21,20 +21,20 @@ root-requires g c =
     let at = c.deref.ensures.value ∙ c.in_ok-positions.ensures ∙ ap (λ k. peak_positions shape k.leaves) c.self.view_is in
     omega (arith, c.requires, counted shape (node_at shape kept) c.in_ok-peaks.peaks.items c.deref.result.now kept.leaves c.in_ok-peaks.ensures at, ap length c.deref-2.ensures.value)
 
-pub returns-clause-made : goal.returns-clause-made
-returns-clause-made g c =
-    let shape = g.F.Family.shape in
-    let kept = c.args.self.now in
-    let at = c.deref.ensures.value ∙ c.in_ok-positions.ensures ∙ ap (λ k. peak_positions shape k.leaves) c.self.view_is in
-    c.root.ensures.made
-    ∙ ap (λ n. more c.args.hasher.now (max 1 n)) (ap length c.deref-2.ensures.value ∙ counted shape (node_at shape kept) c.in_ok-peaks.peaks.items c.deref.result.now kept.leaves c.in_ok-peaks.ensures at)
-
-pub returns-clause-root : goal.returns-clause-root
-returns-clause-root g c = λ leaves stands.
-    let shape = g.F.Family.shape in
-    let kept = c.args.self.now in
-    let bytes = g.D.Digest.bytes in
-    c.root.ensures.digest ∙ ap (λ ds. root_of g.H.Hasher.hash c.self.inside.leaves c.args.inactive (map bytes ds)) c.deref-2.ensures.value
-    ∙ rooted shape g.F.Family.births g.met.F.Family.numbered g.met.F.Family.peaked bytes g.H.Hasher.hash kept leaves stands (subst (IsWhole shape) c.self.view_is c.self.invariant.1)
-    c.in_ok-peaks.peaks.items c.self.inside.leaves c.args.inactive (ap (λ k. k.leaves) c.self.view_is)
-    (c.in_ok-peaks.ensures ∙ ap (map (node_at shape kept)) (c.deref.ensures.value ∙ c.in_ok-positions.ensures ∙ ap (λ k. peak_positions shape k.leaves) c.self.view_is))
+pub returns : goal.returns
+returns g c = record {
+  root = λ leaves stands.
+      let shape = g.F.Family.shape in
+      let kept = c.args.self.now in
+      let bytes = g.D.Digest.bytes in
+      c.root.ensures.digest ∙ ap (λ ds. root_of g.H.Hasher.hash c.self.inside.leaves c.args.inactive (map bytes ds)) c.deref-2.ensures.value
+      ∙ rooted shape g.F.Family.births g.met.F.Family.numbered g.met.F.Family.peaked bytes g.H.Hasher.hash kept leaves stands (subst (IsWhole shape) c.self.view_is c.self.invariant.1)
+      c.in_ok-peaks.peaks.items c.self.inside.leaves c.args.inactive (ap (λ k. k.leaves) c.self.view_is)
+      (c.in_ok-peaks.ensures ∙ ap (map (node_at shape kept)) (c.deref.ensures.value ∙ c.in_ok-positions.ensures ∙ ap (λ k. peak_positions shape k.leaves) c.self.view_is));
+  made =
+      let shape = g.F.Family.shape in
+      let kept = c.args.self.now in
+      let at = c.deref.ensures.value ∙ c.in_ok-positions.ensures ∙ ap (λ k. peak_positions shape k.leaves) c.self.view_is in
+      c.root.ensures.made
+      ∙ ap (λ n. more c.args.hasher.now (max 1 n)) (ap length c.deref-2.ensures.value ∙ counted shape (node_at shape kept) c.in_ok-peaks.peaks.items c.deref.result.now kept.leaves c.in_ok-peaks.ensures at);
+}
