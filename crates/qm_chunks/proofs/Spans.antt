@@ -1,5 +1,5 @@
 -- Chunks within 2 ^ 62 locations.
-use Rattle.std.proofs.Common.{◌≡◌, ℕ, suc, ◌+◌, ◌-◌, ◌*◌, ◌/◌, ◌^◌, ◌<◌, ◌≤◌, arith, ap, sym, ◌∙◌, ⊎_elim, le_refl, pow_mono}
+use Rattle.std.proofs.Common.{◌≡◌, ℕ, suc, ◌+◌, ◌-◌, ◌*◌, ◌/◌, ◌^◌, ◌<◌, ◌≤◌, arith, ap, sym, ◌∙◌, ⊎_elim, le_refl, pow_mono, subst}
 use Rattle.std.proofs.Math.Nat.{pow-suc}
 use Rattle.std.proofs.lemmas.Bool.{cases_lt}
 use Rattle.std.proofs.lemmas.Nat.{pow-add, pow_pos, div-add-mod', mul-le}
@@ -13,18 +13,30 @@ without_factor a b w some le = ⊎_elim
     (λ (most : a ≤ b). most)
     (cases_lt b a)
 
+-- half of some chunks, rounded up
+halved : (c w : ℕ) → 0 < c → c ≤ w * 2 → suc ((c - 1) / 2) ≤ w
+halved c w some within = omega arith
+
 -- the node over the last of some chunks and its neighbour ends within 2 ^ 62 locations where they do
 pub pair_within : (g c : ℕ) → g < 62 → 0 < c → c * 2 ^ g ≤ 2 ^ 62 → suc ((c - 1) / 2) * 2 ^ (g + 1) ≤ 2 ^ 62
-pair_within g c low some within =
-    let split : 61 - g + suc g ≡ 62 = omega arith in
-    let wide = pow-suc 2 g in
-    let whole : 2 ^ 62 ≡ 2 ^ (61 - g) * 2 ^ suc g = ap (λ n. 2 ^ n) (sym split) ∙ pow-add 2 (61 - g) (suc g) in
-    let twice : 2 ^ (61 - g) * 2 ^ suc g ≡ (2 ^ (61 - g) * 2) * 2 ^ g = ap (λ (w : ℕ). 2 ^ (61 - g) * w) wide ∙ omega arith in
-    let fewer = without_factor c (2 ^ (61 - g) * 2) (2 ^ g) (pow_pos g) (omega arith) in
-    let most = mul-le (suc ((c - 1) / 2)) (2 ^ suc g) (2 ^ (61 - g)) (2 ^ suc g) (omega arith) (le_refl (2 ^ suc g)) in
-    let next : g + 1 ≡ suc g = omega arith in
-    let same : suc ((c - 1) / 2) * 2 ^ (g + 1) ≡ suc ((c - 1) / 2) * 2 ^ suc g = ap (λ k. suc ((c - 1) / 2) * 2 ^ k) next in
-    omega arith
+pair_within g c low some within = subst (λ k. suc ((c - 1) / 2) * 2 ^ k ≤ 2 ^ 62) (next g)
+    (subst (λ n. suc ((c - 1) / 2) * 2 ^ suc g ≤ n) (sym whole)
+    (mul-le (suc ((c - 1) / 2)) (2 ^ suc g) (2 ^ (61 - g)) (2 ^ suc g) (halved c (2 ^ (61 - g)) some fewer) (le_refl (2 ^ suc g))))
+  where
+    next : (k : ℕ) → suc k ≡ k + 1
+    next k = omega arith
+
+    split : (k : ℕ) → k < 62 → 62 ≡ 61 - k + suc k
+    split k less = omega arith
+
+    whole : 2 ^ 62 ≡ 2 ^ (61 - g) * 2 ^ suc g
+    whole = ap (λ n. 2 ^ n) (split g low) ∙ pow-add 2 (61 - g) (suc g)
+
+    twice : (w p : ℕ) → w * (p * 2) ≡ w * 2 * p
+    twice w p = omega arith
+
+    fewer : c ≤ 2 ^ (61 - g) * 2
+    fewer = without_factor c (2 ^ (61 - g) * 2) (2 ^ g) (pow_pos g) (subst (λ n. c * 2 ^ g ≤ n) (whole ∙ ap (λ (w : ℕ). 2 ^ (61 - g) * w) (pow-suc 2 g) ∙ twice (2 ^ (61 - g)) (2 ^ g)) within)
 
 -- the chunks up to a location's end at or below it
 pub chunks_within : (g n : ℕ) → n / 2 ^ g * 2 ^ g ≤ n

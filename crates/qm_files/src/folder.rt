@@ -1,7 +1,7 @@
 // The folder of a store: its files by their names.
 
 use qm_store::StoreError;
-use std::alloc::{AllocError, Global};
+use std::alloc::{Alloc, AllocError, Global};
 use std::fs::{DirEntry, OpenFile, OpenOptions};
 use std::io::{ErrorKind, Write};
 use std::path::{Path, PathBuf};
@@ -17,7 +17,15 @@ const META: &str = "meta-";
 // What the name of a new file ends with, until it takes the place of the old one.
 const NEW: &str = ".new";
 
-// What a call of the system gave, or none where a name is missing.
+// What a call of the system gave.
+fn given<T>(answer: io::Result<T>) -> Result<T, StoreError> {
+    match answer {
+        Ok(value) => Ok(value),
+        Err(error) => Err(error.into()),
+    }
+}
+
+// The same, or none where a name is missing.
 fn found<T>(answer: io::Result<T>) -> Result<Option<T>, StoreError> {
     match answer {
         Ok(value) => Ok(Some(value)),
@@ -89,15 +97,14 @@ impl<R: Files + Clone + Drop> Folder<R> {
         let path = self.path_of_new(name)?;
         let mut how = OpenOptions::new();
         how.read(true).write(true).create(true).truncate(true);
-        Ok(how.open(&self.rt, path.as_path())?)
+        given(how.open(&self.rt, path.as_path()))
     }
 
     // Puts the new file in the place of the one with this name.
     pub(crate) fn put(&self, name: &str) -> Result<(), StoreError> {
         let new = self.path_of_new(name)?;
         let old = self.path_of(name)?;
-        fs::rename(&self.rt, new.as_path(), old.as_path())?;
-        Ok(())
+        given(fs::rename(&self.rt, new.as_path(), old.as_path()))
     }
 
     // Puts a new file with these bytes in the place of the one with this name, and makes it outlive a crash.
@@ -118,8 +125,15 @@ impl<R: Files + Clone + Drop> Folder<R> {
 
     // Removes the files of metadata, and new files that took no place. Files that are no store's stay.
     pub(crate) fn remove_others(&self) -> Result<(), StoreError> {
-        let rt = (&self.rt, self.alloc);
-        let Some(entries) = found(fs::read_dir(&rt, &self.path))? else {
+        self.remove_listed(&(&self.rt, self.alloc))
+    }
+
+    // The same, with what lists a folder.
+    fn remove_listed<L: Files + Alloc<A = Global> + Clone + Drop>(
+        &self,
+        lister: &L,
+    ) -> Result<(), StoreError> {
+        let Some(entries) = found(fs::read_dir(lister, &self.path))? else {
             return Ok(());
         };
         for entry in entries {
@@ -129,15 +143,15 @@ impl<R: Files + Clone + Drop> Folder<R> {
     }
 
     // Removes a file where it is one of those. A name that is no text is none of them.
-    fn remove_other<'a>(
+    fn remove_other<L: Files + Drop>(
         &self,
-        entry: io::Result<DirEntry<(&'a R, Global)>>,
+        entry: io::Result<DirEntry<L, Global>>,
     ) -> Result<(), StoreError> {
         match entry {
-            Ok(entry) if is_other(entry.file_name()) => Ok(fs::remove_file(
+            Ok(entry) if is_other(entry.file_name()) => given(fs::remove_file(
                 &self.rt,
                 entry.path(),
-            )?),
+            )),
             Ok(_) => Ok(()),
             Err(error) if error.kind() == ErrorKind::InvalidFilename => Ok(()),
             Err(error) => Err(error.into()),
@@ -148,7 +162,6 @@ impl<R: Files + Clone + Drop> Folder<R> {
     pub(crate) fn sync(&self) -> Result<(), StoreError> {
         let path = self.path_of(".")?;
         let folder = fs::open(&self.rt, path.as_path())?;
-        folder.sync_all()?;
-        Ok(())
+        given(folder.sync_all())
     }
 }

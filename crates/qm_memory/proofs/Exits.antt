@@ -1,13 +1,14 @@
 -- What a call that may fail tells at each of its exits.
-use Rattle.std.proofs.Common.{◌≡◌, ◌↔◌, ◌∙◌, ◌∷◌, ◌++◌, ◌<◌, ◌≢◌, ◌^◌, ℕ, Bool, true, false, List, [], reverse, refl, ap, ap₂, sym, subst, arith, Result, Ok, Err}
+use Rattle.std.proofs.Common.{◌≡◌, ◌↔◌, ◌∙◌, ◌∷◌, ◌++◌, ◌+◌, ◌-◌, ◌<◌, ◌≤◌, ◌≢◌, ◌^◌, ℕ, length, take, min, max, Bool, true, false, List, [], reverse, refl, ap, ap₂, sym, subst, arith, Result, Ok, Err}
 use Rattle.std.proofs.Math.Dec.{eqb}
 use Rattle.std.proofs.lemmas.Bool.Decides.{Decides-eqb}
 use Rattle.std.proofs.lemmas.List.Elements.{Decides-contains, contains_decides}
 use Rattle.std.specs.Bool.{Decides}
 use Rattle.std.specs.List.{IsAnyAnswer}
-use Rattle.std.proofs.lemmas.List.{reverse-append}
+use Rattle.std.proofs.lemmas.List.{reverse-append, length-take}
 use Rattle.std.specs.Prelude.{⊤, OnOk, OnErr, IsErrOf, Contains}
 use Rattle.qm_model.specs.Causes.{IsCause}
+use Rattle.qm_model.specs.Operations.{Bytes}
 use Rattle.qm_model.specs.StoreModel.{Stored}
 use Rattle.qm_store.specs.declared.StoreError.{StoreError}
 use Rattle.qm_store.specs.declared.StoreError.TheVariants as stores
@@ -24,6 +25,22 @@ Told result old new Done = record {
   ok : OnOk result Done;
   memory : result ≡ Err stores.Memory → new ≡ called old;
 }
+
+-- one more has room where a call made room for it
+pub one_fits : (len capacity : ℕ) → len + 1 ≤ capacity → len < capacity
+one_fits len capacity room = omega arith
+
+-- a location between the first and the end, by how many items are before it
+pub inside_items : (first to count : ℕ) → to ≤ first + count → to - first ≤ count
+inside_items first to count within = omega arith
+
+-- items that are cut off at a location leave those before it
+pub cut_fits : (first to : ℕ) (kept left : List Bytes) → left ≡ take (to - first) kept → first ≤ to → to ≤ first + length kept → first + length kept ≤ 2 ^ 62 → (to ≤ first + length left) × (first + length left ≤ 2 ^ 62)
+cut_fits first to kept left is from within limit = let long = ap length is ∙ length-take (to - first) kept in (omega arith, omega arith)
+
+-- where a restart may end
+pub chosen_within : (first stable count keep len least to : ℕ) → first ≤ stable → stable ≤ first + count → len ≡ count → least ≡ min (first + len) keep → to ≡ max stable least → (first ≤ to) × (to ≤ first + count)
+chosen_within first stable count keep len least to from within is lower chosen = (omega arith, omega arith)
 
 -- what changed, behind what had changed before
 pub noted : (before room after : List Change) (x y : Change) → after ≡ room ++ x ∷ [] → room ≡ before → x ≡ y → reverse after ≡ y ∷ reverse before

@@ -17,6 +17,10 @@ use Rattle.qm_store.specs.Log.{Log, IsLog, IsKept, log_error}
 pub unlike : (n bound m : ℕ) → bound ≡ n → m ≤ bound → n < m → ⊥
 unlike n bound m same within past = omega arith
 
+-- a loop that is over is at the end
+pub over : (start end at : ℕ) → (start ≤ end → at ≤ end) → start ≤ end → end ≤ at → at ≡ end
+over start end at within order past = let most = within order in omega arith
+
 -- an error that is handed on is that of the call
 pub handed-error : {T U : Type 0} (before now : ℕ) (done : Result T Error) (e : Error) (made : Result U Error) (x : Error) → done ≡ Err e → ((y : Error) × (made ≡ Err y) × (y ≡ e)) →
     IsCause before now (IsErrOf done x) → IsCause before now (IsErrOf made x)

@@ -1,4 +1,4 @@
-use Rattle.std.proofs.Common.{◌≡◌, ◌-◌, ◌<◌, ◌≤◌, ◌∙◌, ap, sym, subst, length, set, true, arith, Some, inl, refl}
+use Rattle.std.proofs.Common.{◌≡◌, ℕ, ◌+◌, ◌-◌, ◌^◌, ◌<◌, ◌≤◌, ◌∙◌, ap, sym, subst, length, set, true, arith, Some, inl, refl}
 use Rattle.std.proofs.Math.ListN.{length-set}
 use Rattle.std.proofs.lemmas.List.{length-map}
 use Rattle.std.proofs.lemmas.Result.{err_from_is_err_and}
@@ -111,6 +111,53 @@ returns-in_err-operation g c =
       read = read-then g.C.Store g.F.Family.shape g.H.Digest.Digest.bytes g.H.Hasher.hash c.args.log.now c.loop-at.log c.read_operation.new.log c.loop-at.invariant.read c.read_operation.ensures.read;
       error = rw (exit.1, exit.2) (error-then g.C.Store g.F.Family.shape g.H.Digest.Digest.bytes g.H.Hasher.hash c.args.log.now c.loop-at.log c.read_operation.new.log _ c.loop-at.invariant.read c.in_err-operation.ensures.error);
     }
+
+-- where the log of a walk stands, from what it was before
+starts-at : (start start' floor from at count : ℕ) → start' ≡ start → start ≤ floor → from ≡ floor → at ≡ from + count → start' ≤ at
+starts-at start start' floor from at count same kept is here = omega arith
+
+starts-by : (start start' floor from : ℕ) → start' ≡ start → start ≤ floor → from ≡ floor → start' ≤ from
+starts-by start start' floor from same kept is = omega arith
+
+ends-past : (leaves leaves' size at : ℕ) → leaves' ≡ leaves → size ≡ leaves → at < size → at < leaves'
+ends-past leaves leaves' size at same is before = omega arith
+
+few : (size at : ℕ) → size ≤ 2 ^ 62 → at < size → at < 2 ^ 62
+few size at limit before = omega arith
+
+-- there is an item from the floor on
+some-from : (floor from size leaves : ℕ) → from ≡ floor → size ≡ leaves → floor < leaves → (from ≤ size) × (1 ≤ size - from)
+some-from floor from size leaves is all below = (omega arith, omega arith)
+
+pub read_operation-requires-clause-kept : goal.read_operation-requires-clause-kept
+read_operation-requires-clause-kept g c = starts-at _ _ _ _ _ _ (ap (λ t. t.start) c.loop-at.invariant.read.tree) c.requires.kept c.get-floor.ensures c.loop-at.invariant.here
+
+pub read_operation-requires-clause-below : goal.read_operation-requires-clause-below
+read_operation-requires-clause-below g c = ends-past _ _ _ _ (ap (λ t. t.leaves) c.loop-at.invariant.read.tree) c.bounds-size.ensures.size c.loop-at-test.true
+
+pub put-requires-clause-kept : goal.put-requires-clause-kept
+put-requires-clause-kept g c = starts-by _ _ _ _ (ap (λ t. t.start) (c.read_operation.ensures.read.tree ∙ c.loop-at.invariant.read.tree)) c.requires.kept c.get-floor.ensures
+
+pub put-requires-clause-below : goal.put-requires-clause-below
+put-requires-clause-below g c = ends-past _ _ _ _ (ap (λ t. t.leaves) (c.read_operation.ensures.read.tree ∙ c.loop-at.invariant.read.tree)) c.bounds-size.ensures.size c.loop-at-test.true
+
+pub put-requires-clause-few : goal.put-requires-clause-few
+put-requires-clause-few g c = few _ _ c.bounds-size.ensures.limit c.loop-at-test.true
+
+pub put-requires-clause-here : goal.put-requires-clause-here
+put-requires-clause-here g c = c.loop-at.invariant.here
+
+pub put-requires-clause-within : goal.put-requires-clause-within
+put-requires-clause-within g c = c.loop-at.invariant.within
+
+pub put-requires-clause-counted : goal.put-requires-clause-counted
+put-requires-clause-counted g c = c.loop-at.invariant.counted
+
+pub overflow_sub-size : goal.overflow_sub-size
+overflow_sub-size g c = (some-from _ _ _ _ c.get-floor.ensures c.bounds-size.ensures.size c.requires.below).0
+
+pub overflow_sub-size-2 : goal.overflow_sub-size-2
+overflow_sub-size-2 g c = (some-from _ _ _ _ c.get-floor.ensures c.bounds-size.ensures.size c.requires.below).1
 
 pub set_bit-requires : goal.set_bit-requires
 set_bit-requires g c = omega (arith, c.loop-at.invariant.here, c.loop-at.auto.at-end, c.loop-at-test.false, c.get-floor.ensures, c.bounds-size.ensures.size, c.requires.below)

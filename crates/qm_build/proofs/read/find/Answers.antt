@@ -22,25 +22,21 @@ loop-place-preserved g c = record {
       (λ there. true≢false (sym (said.1 there) ∙ c.if-branch.false))));
 }
 
-pub returns-clause-key : goal.returns-clause-key
-returns-clause-key g c = λ ops has keys.
-    told-one _ _ (g.C.Store.told c.args.log.now.store) (c.loop-place.invariant.none ops has keys) (λ all.
-    subst (All (λ at. key_at ops at ≢ Some c.args.key.now)) (take_all c.loop-place.place c.bucket-bucket.result.now (omega (arith, c.loop-place-test.false)) ∙ c.bucket-bucket.ensures.value) all)
-
 pub loop-place-init : goal.loop-place-init
 loop-place-init g c = record {
   read = read-none g.C.Store g.F.Family.shape g.H.Digest.Digest.bytes g.H.Hasher.hash c.args.log.now;
   none = λ ops has keys. told-any _ (g.C.Store.told c.args.log.now.store) (All-nil (λ at. key_at ops at ≢ Some c.args.key.now));
 }
 
-pub returns-clause-place : goal.returns-clause-place
-returns-clause-place g c = tt
-
-pub returns-clause-read : goal.returns-clause-read
-returns-clause-read g c = c.loop-place.invariant.read
-
-pub returns-clause-error : goal.returns-clause-error
-returns-clause-error g c = tt
+pub returns : goal.returns
+returns g c = record {
+  key = λ ops has keys.
+      told-one _ _ (g.C.Store.told c.args.log.now.store) (c.loop-place.invariant.none ops has keys) (λ all.
+      subst (All (λ at. key_at ops at ≢ Some c.args.key.now)) (take_all c.loop-place.place c.bucket-bucket.result.now (omega (arith, c.loop-place-test.false)) ∙ c.bucket-bucket.ensures.value) all);
+  place = tt;
+  read = c.loop-place.invariant.read;
+  error = tt;
+}
 
 pub returns-in_err-is_of_key : goal.returns-in_err-is_of_key
 returns-in_err-is_of_key g c =

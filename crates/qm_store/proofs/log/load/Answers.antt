@@ -8,25 +8,35 @@ use Rattle.qm_store.proofs.Stores.{any-told, both, kept-then, no-fault}
 use Rattle.qm_store.proofs.Exits.{handed-error, no-error, undamaged, either, later-cause}
 use Rattle.qm_store.proofs.log.load.Goals as goal
 
-pub returns-clause-stands : goal.returns-clause-stands
-returns-clause-stands g c = λ list long.
-    let members = g.C.Store in
-    let shape = g.F.Family.shape in
-    let bytes = g.H.Digest.Digest.bytes in
-    let hash = g.H.Hasher.hash in
-    let n = members.start c.args.store.now in
-    let before = digests_from hash shape 0 (take n list) in
-    let kept = c.pruned.ensures.kept in
-    let start = c.bounds-start.ensures.starts ∙ kept.start in
-    let within : n ≤ length list = omega (arith, long, c.requires.start) in
-    let read = subst (λ o. IfSome o (λ held. map bytes c.in_ok-digests.digests.items ≡ digests_from hash shape c.bounds-start.result.0 (take (c.args.size - c.bounds-start.result.0) held.items))) kept.told c.in_ok-digests.ensures.digests in
-    both (members.told c.args.store.now) read (c.in_ok-tree.ensures.stands hash list within)
-    (λ held digests tree same told.
-    subst (Stands shape bytes hash c.add_leaves.new.tree)
-    (ap (λ ds. before ++ map bytes ds) c.deref.ensures.value
-    ∙ ap (λ l. before ++ l) (digests ∙ ap (λ i. digests_from hash shape i (take (c.args.size - i) held.items)) start ∙ ap (digests_from hash shape n) same)
-    ∙ digests_from-split hash shape n list within)
-    (c.in_ok-add_leaves.ensures.stands before (tree told)))
+pub returns : goal.returns
+returns g c = record {
+  stands = λ list long.
+      let members = g.C.Store in
+      let shape = g.F.Family.shape in
+      let bytes = g.H.Digest.Digest.bytes in
+      let hash = g.H.Hasher.hash in
+      let n = members.start c.args.store.now in
+      let before = digests_from hash shape 0 (take n list) in
+      let kept = c.pruned.ensures.kept in
+      let start = c.bounds-start.ensures.starts ∙ kept.start in
+      let within : n ≤ length list = omega (arith, long, c.requires.start) in
+      let read = subst (λ o. IfSome o (λ held. map bytes c.in_ok-digests.digests.items ≡ digests_from hash shape c.bounds-start.result.0 (take (c.args.size - c.bounds-start.result.0) held.items))) kept.told c.in_ok-digests.ensures.digests in
+      both (members.told c.args.store.now) read (c.in_ok-tree.ensures.stands hash list within)
+      (λ held digests tree same told.
+      subst (Stands shape bytes hash c.add_leaves.new.tree)
+      (ap (λ ds. before ++ map bytes ds) c.deref.ensures.value
+      ∙ ap (λ l. before ++ l) (digests ∙ ap (λ i. digests_from hash shape i (take (c.args.size - i) held.items)) start ∙ ap (digests_from hash shape n) same)
+      ∙ digests_from-split hash shape n list within)
+      (c.in_ok-add_leaves.ensures.stands before (tree told)));
+  start = c.in_ok-add_leaves.ensures.start ∙ c.in_ok-tree.ensures.start;
+  size =
+      omega (arith, c.in_ok-add_leaves.ensures.leaves, c.in_ok-tree.ensures.leaves, ap length c.deref.ensures.value, c.in_ok-digests.ensures.count, c.bounds-start.ensures.starts, c.pruned.ensures.kept.start, c.requires.start);
+  long = c.in_ok-tree.ensures.long;
+  head = tt;
+  never = tt;
+  kept = kept-then g.C.Store c.args.store.now c.pruned.new.store c.read_digests.new.store c.pruned.ensures.kept c.read_digests.ensures.kept;
+  cause = no-error _ _ _ _ (le_trans c.pruned.ensures.cause.later c.read_digests.ensures.cause.later);
+}
 
 pub returns-in_err-tree : goal.returns-in_err-tree
 returns-in_err-tree g c =
@@ -89,25 +99,3 @@ read_digests-requires g c =
       end = within;
       few = le_trans within (subst (λ n. n ≤ 2 ^ 62) c.bounds-start.ensures.ends c.bounds-start.ensures.limit);
     }
-
-pub returns-clause-start : goal.returns-clause-start
-returns-clause-start g c = c.in_ok-add_leaves.ensures.start ∙ c.in_ok-tree.ensures.start
-
-pub returns-clause-size : goal.returns-clause-size
-returns-clause-size g c =
-    omega (arith, c.in_ok-add_leaves.ensures.leaves, c.in_ok-tree.ensures.leaves, ap length c.deref.ensures.value, c.in_ok-digests.ensures.count, c.bounds-start.ensures.starts, c.pruned.ensures.kept.start, c.requires.start)
-
-pub returns-clause-long : goal.returns-clause-long
-returns-clause-long g c = c.in_ok-tree.ensures.long
-
-pub returns-clause-head : goal.returns-clause-head
-returns-clause-head g c = tt
-
-pub returns-clause-never : goal.returns-clause-never
-returns-clause-never g c = tt
-
-pub returns-clause-kept : goal.returns-clause-kept
-returns-clause-kept g c = kept-then g.C.Store c.args.store.now c.pruned.new.store c.read_digests.new.store c.pruned.ensures.kept c.read_digests.ensures.kept
-
-pub returns-clause-cause : goal.returns-clause-cause
-returns-clause-cause g c = no-error _ _ _ _ (le_trans c.pruned.ensures.cause.later c.read_digests.ensures.cause.later)

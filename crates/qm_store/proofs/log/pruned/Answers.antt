@@ -9,23 +9,6 @@ use Rattle.qm_store.proofs.Trees.{stands-pruned}
 use Rattle.qm_store.proofs.Stores.{any-told, of-store, never-corrupt, handed-on, no-fault}
 use Rattle.qm_store.proofs.log.pruned.Goals as goal
 
-pub returns-clause-stands : goal.returns-clause-stands
-returns-clause-stands g c = λ hash list within.
-    let members = g.C.Store in
-    let shape = g.F.Family.shape in
-    let bytes = g.D.Digest.bytes in
-    let n = members.start c.args.store.now in
-    let tree = c.in_ok-from_pruned_with_retained.field-0 in
-    let start : c.new-start.result ≡ n = c.new-start.ensures ∙ c.bounds-start.ensures.starts in
-    let same : shape.size c.new-start.result ≡ shape.size c.new-start.result + length c.new.result.items = omega (arith, ap length c.new.ensures.items) in
-    let made = c.in_ok-from_pruned_with_retained.ensures c.new-start.result same in
-    IfSome_then (members.told c.args.store.now) c.in_ok-head.ensures.value
-    (λ held is told.
-    stands-pruned bytes shape g.F.Family.births g.met.F.Family.numbered g.met.F.Family.peaked hash g.D.Digest.SIZE g.met.D.Digest.sized tree n list held.head told
-    (omega (arith, c.bounds-start.ensures.starts, c.bounds-start.ensures.order, c.bounds-start.ensures.limit)) within (ap (λ m. m.start) made ∙ start) (ap (λ m. m.leaves) made ∙ start)
-    (ap (λ m. length m.pins) made ∙ c.in_ok-pins.ensures.count ∙ c.peak_count-count.ensures ∙ ap (λ m. length (peaks shape m)) start)
-    (ap (λ m. concat (map bytes m.pins)) made ∙ c.in_ok-pins.ensures.spelled ∙ c.deref.ensures.value ∙ is))
-
 pub returns-in_err-head : goal.returns-in_err-head
 returns-in_err-head g c =
     let result = c.from_residual.result in
@@ -74,27 +57,9 @@ returns-in_err-from_pruned_with_retained g c =
       cause = no-fault _ _ result exit.0 exit.1 exit.2 c.head.ensures.cause.later;
     }
 
-pub returns-clause-head : goal.returns-clause-head
-returns-clause-head g c = tt
-
-pub returns-clause-never : goal.returns-clause-never
-returns-clause-never g c = tt
-
-pub returns-clause-kept : goal.returns-clause-kept
-returns-clause-kept g c = record { start = c.head.ensures.same_start; end = c.head.ensures.same_end; told = c.head.ensures.same }
-
-pub returns-clause-cause : goal.returns-clause-cause
-returns-clause-cause g c = record { later = c.head.ensures.cause.later; failed = λ fault. absurd cc }
-
 -- none more
 none-more : (n k : ℕ) → k ≡ 0 → n ≡ n + k
 none-more n k none = omega arith
-
-pub returns-clause-start : goal.returns-clause-start
-returns-clause-start g c = ap (λ m. m.start) (c.in_ok-from_pruned_with_retained.ensures c.new-start.result (none-more _ _ (ap length c.new.ensures.items))) ∙ c.new-start.ensures ∙ c.bounds-start.ensures.starts
-
-pub returns-clause-leaves : goal.returns-clause-leaves
-returns-clause-leaves g c = ap (λ m. m.leaves) (c.in_ok-from_pruned_with_retained.ensures c.new-start.result (none-more _ _ (ap length c.new.ensures.items))) ∙ c.new-start.ensures ∙ c.bounds-start.ensures.starts
 
 -- a test that failed does not hold
 untrue : {P : Type 0} (test : Bool) → (IsTrue test ↔ P) → test ≡ false → P → ⊥
@@ -121,15 +86,38 @@ pub pieces-requires : goal.pieces-requires
 pieces-requires g c =
     ap length c.deref.ensures.value ∙ sym (c.len.ensures ∙ c.in_ok-head.head.ok.0) ∙ c.is_long.ensures.0 c.if-not-is_long.false ∙ ap (λ size. c.peak_count-count.result * size) c.SIZE.ensures
 
-pub returns-clause-long : goal.returns-clause-long
-returns-clause-long g c =
-    IfSome_then (g.C.Store.told c.args.store.now) c.in_ok-head.ensures.value
-    (λ held is.
-    sym (c.len.ensures ∙ c.in_ok-head.head.ok.0 ∙ ap length is) ∙ c.is_long.ensures.0 c.if-not-is_long.false
-    ∙ ap₂ (λ n size. n * size) (c.peak_count-count.ensures ∙ ap (λ m. length (peaks g.F.Family.shape m)) (c.new-start.ensures ∙ c.bounds-start.ensures.starts)) c.SIZE.ensures)
-
 pub from_pruned_with_retained-requires : goal.from_pruned_with_retained-requires
 from_pruned_with_retained-requires g c = record {
   pins = c.in_ok-pins.ensures.count ∙ c.peak_count-count.ensures;
   size = (c.new-start.result, subst (λ n. n ≤ 2 ^ 62) (sym c.new-start.ensures) (le_trans c.bounds-start.ensures.order c.bounds-start.ensures.limit), none-more _ _ (ap length c.new.ensures.items));
+}
+
+pub returns : goal.returns
+returns g c = record {
+  stands = λ hash list within.
+      let members = g.C.Store in
+      let shape = g.F.Family.shape in
+      let bytes = g.D.Digest.bytes in
+      let n = members.start c.args.store.now in
+      let tree = c.in_ok-from_pruned_with_retained.field-0 in
+      let start : c.new-start.result ≡ n = c.new-start.ensures ∙ c.bounds-start.ensures.starts in
+      let same : shape.size c.new-start.result ≡ shape.size c.new-start.result + length c.new.result.items = omega (arith, ap length c.new.ensures.items) in
+      let made = c.in_ok-from_pruned_with_retained.ensures c.new-start.result same in
+      IfSome_then (members.told c.args.store.now) c.in_ok-head.ensures.value
+      (λ held is told.
+      stands-pruned bytes shape g.F.Family.births g.met.F.Family.numbered g.met.F.Family.peaked hash g.D.Digest.SIZE g.met.D.Digest.sized tree n list held.head told
+      (omega (arith, c.bounds-start.ensures.starts, c.bounds-start.ensures.order, c.bounds-start.ensures.limit)) within (ap (λ m. m.start) made ∙ start) (ap (λ m. m.leaves) made ∙ start)
+      (ap (λ m. length m.pins) made ∙ c.in_ok-pins.ensures.count ∙ c.peak_count-count.ensures ∙ ap (λ m. length (peaks shape m)) start)
+      (ap (λ m. concat (map bytes m.pins)) made ∙ c.in_ok-pins.ensures.spelled ∙ c.deref.ensures.value ∙ is));
+  head = tt;
+  never = tt;
+  kept = record { start = c.head.ensures.same_start; end = c.head.ensures.same_end; told = c.head.ensures.same };
+  cause = record { later = c.head.ensures.cause.later; failed = λ fault. absurd cc };
+  start = ap (λ m. m.start) (c.in_ok-from_pruned_with_retained.ensures c.new-start.result (none-more _ _ (ap length c.new.ensures.items))) ∙ c.new-start.ensures ∙ c.bounds-start.ensures.starts;
+  leaves = ap (λ m. m.leaves) (c.in_ok-from_pruned_with_retained.ensures c.new-start.result (none-more _ _ (ap length c.new.ensures.items))) ∙ c.new-start.ensures ∙ c.bounds-start.ensures.starts;
+  long =
+      IfSome_then (g.C.Store.told c.args.store.now) c.in_ok-head.ensures.value
+      (λ held is.
+      sym (c.len.ensures ∙ c.in_ok-head.head.ok.0 ∙ ap length is) ∙ c.is_long.ensures.0 c.if-not-is_long.false
+      ∙ ap₂ (λ n size. n * size) (c.peak_count-count.ensures ∙ ap (λ m. length (peaks g.F.Family.shape m)) (c.new-start.ensures ∙ c.bounds-start.ensures.starts)) c.SIZE.ensures);
 }

@@ -1,11 +1,12 @@
-use Rattle.std.proofs.Common.{◌∙◌, ◌-◌, map, ap, arith, refl, inl, Err}
+use Rattle.std.proofs.Common.{◌≡◌, ◌∙◌, ◌-◌, length, take, map, ap, arith, refl, inl, subst, Err, IfSome}
 use Rattle.std.specs.Prelude.{slice_get}
 use Rattle.std.proofs.Math.Nat.{le_refl}
 use Rattle.std.proofs.lemmas.Result.{IfOk-from_err, err_from_is_err_and}
 use Rattle.qm_model.specs.Trees.{leaf, leaf_digest}
+use Rattle.qm_store.specs.Log.{digests_from}
 use Rattle.qm_store.proofs.Leaves.{read-next}
 use Rattle.qm_store.proofs.Stores.{both, kept-then, read-kept, handed-on, no-fault}
-use Rattle.qm_store.proofs.Exits.{no-error, later-cause, store-error}
+use Rattle.qm_store.proofs.Exits.{over, no-error, later-cause, store-error}
 use Rattle.qm_store.proofs.log.read_digests.Goals as goal
 
 pub loop-at-preserved : goal.loop-at-preserved
@@ -58,11 +59,13 @@ returns-in_err-item g c =
       cause = later-cause _ _ _ c.loop-at.invariant.later (handed-on _ _ read.result e result c.in_err-item.was (exit.1 ∙ ap Err exit.2) read.ensures.cause);
     }
 
-pub returns-clause-never : goal.returns-clause-never
-returns-clause-never g c = tt
-
-pub returns-clause-kept : goal.returns-clause-kept
-returns-clause-kept g c = c.loop-at.invariant.kept
-
-pub returns-clause-cause : goal.returns-clause-cause
-returns-clause-cause g c = no-error _ _ _ _ c.loop-at.invariant.later
+pub returns : goal.returns
+returns g c =
+    let over = over c.args.start c.args.size c.loop-at.at c.loop-at.auto.at-end c.requires.order c.loop-at-test.false in
+    record {
+      never = tt;
+      kept = c.loop-at.invariant.kept;
+      cause = no-error _ _ _ _ c.loop-at.invariant.later;
+      count = subst (λ k. length c.loop-at.made.items ≡ k - c.args.start) over c.loop-at.invariant.count;
+      digests = subst (λ k. IfSome (g.C.Store.told c.args.store.now) (λ held. map g.H.Digest.Digest.bytes c.loop-at.made.items ≡ digests_from g.H.Hasher.hash g.F.Family.shape c.args.start (take (k - c.args.start) held.items))) over c.loop-at.invariant.digests;
+    }

@@ -1,9 +1,10 @@
 use Rattle.std.proofs.Common.{◌≡◌, ◌∙◌, ◌+◌, ◌-◌, ◌^◌, ◌≤◌, ℕ, length, reverse, refl, ap, ap₂, sym, subst, arith}
 use Rattle.std.proofs.lemmas.List.{length-drop}
 use Rattle.std.proofs.lemmas.Result.{err_from_is_err_and}
-use Rattle.qm_model.specs.StoreModel.{Stored, pruned}
+use Rattle.qm_model.specs.StoreModel.{Stored, pruned, end_of}
 use Rattle.qm_memory.specs.Changes.{pruned_from, pruning}
-use Rattle.qm_memory.proofs.Exits.{noted, uncounted, unmade, come_off}
+use Rattle.qm_memory.specs.Mem.{Mem}
+use Rattle.qm_memory.proofs.Exits.{one_fits, inside_items, noted, uncounted, unmade, come_off}
 use Rattle.qm_memory.proofs.mem_store.MemStoreStore.prune.Goals as goal
 
 pub returns-in_err-call : goal.returns-in_err-call
@@ -51,3 +52,18 @@ invariant_of-self-2 c =
     let stable : c.args.to ≤ s.stable = subst (λ m. c.args.to ≤ m.held.stable) same c.requires.stable in
     let rest = within s.first c.args.to s.stable (length s.kept) (length c.remove_first.new.self) (subst (λ m. m.held.start ≤ c.args.to) same c.requires.from) stable c.self.invariant.1 c.self.invariant.2 (ap length c.remove_first.ensures ∙ length-drop (c.args.to - s.first) s.kept) in
     (stable, rest.0, rest.1, c.self.invariant.3)
+
+pub overflow_sub-count : goal.overflow_sub-count
+overflow_sub-count c = subst (λ (m : Mem). m.held.start ≤ c.args.to) (sym (c.self.view_is ∙ c.in_ok-call.ensures.ok)) c.requires.from
+
+pub first-requires : goal.first-requires
+first-requires c = inside_items _ c.args.to _ (subst (λ (m : Mem). c.args.to ≤ end_of m.held) (sym (c.self.view_is ∙ c.in_ok-call.ensures.ok)) c.requires.before)
+
+pub remove_first-requires : goal.remove_first-requires
+remove_first-requires c = inside_items _ c.args.to _ (subst (λ (m : Mem). c.args.to ≤ end_of m.held) (sym (c.self.view_is ∙ c.in_ok-call.ensures.ok)) c.requires.before)
+
+pub invariant_of-self : goal.invariant_of-self
+invariant_of-self c = c.self.invariant
+
+pub push_reserved-requires : goal.push_reserved-requires
+push_reserved-requires c = one_fits _ _ c.in_ok-reserve.ensures.ok

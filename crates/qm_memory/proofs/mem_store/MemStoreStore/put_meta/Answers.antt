@@ -4,7 +4,7 @@ use Rattle.qm_model.specs.StoreModel.{Named, Stored, with_metadata}
 use Rattle.qm_memory.specs.Changes.{AreNamedOnce, putting}
 use Rattle.std.specs.Prelude.{bytes_eq}
 use Rattle.qm_memory.proofs.Changes.{once-put}
-use Rattle.qm_memory.proofs.Exits.{noted, uncounted, unmade, come_off}
+use Rattle.qm_memory.proofs.Exits.{one_fits, noted, uncounted, unmade, come_off}
 use Rattle.qm_memory.proofs.mem_store.MemStoreStore.put_meta.Goals as goal
 
 pub returns-in_err-call : goal.returns-in_err-call
@@ -56,3 +56,12 @@ pub invariant_of-self-2 : goal.invariant_of-self-2
 invariant_of-self-2 c =
     let s = c.self.invariant in
     (s.0, s.1, s.2, subst AreNamedOnce (sym (put c)) (once-put c.args.name.now c.args.entries.now c.self.inside.metadata.items s.3))
+
+pub take_out-requires : goal.take_out-requires
+take_out-requires c = subst AreNamedOnce (sym c.reserve-2.ensures.items) c.self.invariant.3
+
+pub invariant_of-self : goal.invariant_of-self
+invariant_of-self c = c.self.invariant
+
+pub push_reserved-requires : goal.push_reserved-requires
+push_reserved-requires c = one_fits _ _ c.in_ok-reserve.ensures.ok

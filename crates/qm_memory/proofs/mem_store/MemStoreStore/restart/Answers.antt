@@ -1,9 +1,9 @@
-use Rattle.std.proofs.Common.{◌∙◌, ◌+◌, min, max, reverse, refl, ap, ap₂}
+use Rattle.std.proofs.Common.{length, ◌∙◌, ◌+◌, min, max, reverse, refl, ap, ap₂}
 use Rattle.std.proofs.lemmas.Result.{err_from_is_err_and}
 use Rattle.qm_model.specs.StoreModel.{Stored, restarted}
 use Rattle.qm_memory.specs.Changes.{restarted_from, restarting}
 use Rattle.qm_memory.specs.Mem.{chosen}
-use Rattle.qm_memory.proofs.Exits.{noted, uncounted, unmade, come_off}
+use Rattle.qm_memory.proofs.Exits.{one_fits, inside_items, cut_fits, chosen_within, noted, uncounted, unmade, come_off}
 use Rattle.qm_memory.proofs.mem_store.MemStoreStore.restart.Goals as goal
 
 pub returns-in_err-call : goal.returns-in_err-call
@@ -41,3 +41,25 @@ returns c =
     (ap₂ {C = Stored} (λ items ends. record { start = s.first; items = items; head = s.head.items; metadata = s.metadata.items; stable = c.max-to.result; ends = ends }) c.truncate.ensures c.in_ok-push.ensures.items ∙ ap (λ to. restarted to (record { start = s.first; items = s.kept; head = s.head.items; metadata = s.metadata.items; stable = s.stable; ends = s.ends.items })) chose)
     (noted _ _ _ _ _ c.push_reserved.ensures.items c.reserve.ensures.items
     (ap (λ cut. restarted_from cut.items cut.stable) c.in_ok-cut.ensures.ok ∙ ap (λ items. restarted_from items s.stable) c.in_ok-behind.ensures ∙ ap (λ to. restarting to (record { start = s.first; items = s.kept; head = s.head.items; metadata = s.metadata.items; stable = s.stable; ends = s.ends.items })) chose))
+
+pub overflow_sub-count : goal.overflow_sub-count
+overflow_sub-count c = (chosen_within c.self.inside.first c.self.inside.stable (length c.self.inside.kept) c.args.keep c.len.result c.min.result c.max-to.result c.self.invariant.0 c.self.invariant.1 c.len.ensures c.min.ensures c.max-to.ensures).0
+
+pub behind-requires : goal.behind-requires
+behind-requires c = inside_items _ c.max-to.result _ (chosen_within c.self.inside.first c.self.inside.stable (length c.self.inside.kept) c.args.keep c.len.result c.min.result c.max-to.result c.self.invariant.0 c.self.invariant.1 c.len.ensures c.min.ensures c.max-to.ensures).1
+
+pub truncate-requires : goal.truncate-requires
+truncate-requires c = inside_items _ c.max-to.result _ (chosen_within c.self.inside.first c.self.inside.stable (length c.self.inside.kept) c.args.keep c.len.result c.min.result c.max-to.result c.self.invariant.0 c.self.invariant.1 c.len.ensures c.min.ensures c.max-to.ensures).1
+
+pub invariant_of-self : goal.invariant_of-self
+invariant_of-self c = c.self.invariant
+
+pub invariant_of-self-2 : goal.invariant_of-self-2
+invariant_of-self-2 c =
+    let s = c.self.inside in
+    let to = chosen_within c.self.inside.first c.self.inside.stable (length c.self.inside.kept) c.args.keep c.len.result c.min.result c.max-to.result c.self.invariant.0 c.self.invariant.1 c.len.ensures c.min.ensures c.max-to.ensures in
+    let cut = cut_fits s.first c.max-to.result s.kept c.truncate.new.self c.truncate.ensures to.0 to.1 c.self.invariant.2 in
+    (to.0, cut.0, cut.1, c.self.invariant.3)
+
+pub push_reserved-requires : goal.push_reserved-requires
+push_reserved-requires c = one_fits _ _ c.in_ok-reserve.ensures.ok

@@ -1,8 +1,9 @@
-use Rattle.std.proofs.Common.{◌∙◌, reverse, refl, ap, ap₂}
+use Rattle.std.proofs.Common.{◌∙◌, ◌≤◌, sym, subst, reverse, refl, ap, ap₂}
 use Rattle.std.proofs.lemmas.Result.{err_from_is_err_and}
-use Rattle.qm_model.specs.StoreModel.{Stored, rewound}
+use Rattle.qm_model.specs.StoreModel.{Stored, rewound, end_of}
 use Rattle.qm_memory.specs.Changes.{rewound_from, rewinding}
-use Rattle.qm_memory.proofs.Exits.{noted, uncounted, unmade, come_off}
+use Rattle.qm_memory.specs.Mem.{Mem}
+use Rattle.qm_memory.proofs.Exits.{one_fits, inside_items, noted, uncounted, unmade, come_off}
 use Rattle.qm_memory.proofs.mem_store.MemStoreStore.rewind.Goals as goal
 
 pub returns-in_err-call : goal.returns-in_err-call
@@ -32,3 +33,18 @@ returns c =
     (ap₂ {C = Stored} (λ items stable. record { start = s.first; items = items; head = s.head.items; metadata = s.metadata.items; stable = stable; ends = s.ends.items }) c.truncate.ensures c.min-self-inside.ensures)
     (noted _ _ _ _ _ c.push_reserved.ensures.items c.reserve.ensures.items
     (ap (λ cut. rewound_from cut.items cut.stable) c.in_ok-cut.ensures.ok ∙ ap (λ items. rewound_from items s.stable) c.in_ok-behind.ensures))
+
+pub invariant_of-self : goal.invariant_of-self
+invariant_of-self c = c.self.invariant
+
+pub push_reserved-requires : goal.push_reserved-requires
+push_reserved-requires c = one_fits _ _ c.in_ok-reserve.ensures.ok
+
+pub overflow_sub-count : goal.overflow_sub-count
+overflow_sub-count c = subst (λ (m : Mem). m.held.start ≤ c.args.to) (sym (c.self.view_is ∙ c.in_ok-call.ensures.ok)) c.requires.from
+
+pub behind-requires : goal.behind-requires
+behind-requires c = inside_items _ c.args.to _ (subst (λ (m : Mem). c.args.to ≤ end_of m.held) (sym (c.self.view_is ∙ c.in_ok-call.ensures.ok)) c.requires.before)
+
+pub truncate-requires : goal.truncate-requires
+truncate-requires c = inside_items _ c.args.to _ (subst (λ (m : Mem). c.args.to ≤ end_of m.held) (sym (c.self.view_is ∙ c.in_ok-call.ensures.ok)) c.requires.before)

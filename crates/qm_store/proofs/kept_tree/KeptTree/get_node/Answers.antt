@@ -20,23 +20,26 @@ linked-in g c =
 found-in : (g : _) (c : goal.After-find_node g) → layers_at g.F.Family.shape c.args.self.now.layers c.args.position ≡ c.find_node.result
 found-in g c = ap (λ ls. layers_at g.F.Family.shape ls c.args.position) (layers-in g c) ∙ sym c.find_node.ensures.value
 
-pub returns-in-Some-clause-held : goal.returns-in-Some-clause-held
-returns-in-Some-clause-held g c = λ boundary adding reach above.
-    let shape = g.F.Family.shape in
-    subst (λ o. IsSome o ↔ ((shape.size boundary ≤ c.args.position) × (c.args.position < shape.size c.args.self.now.leaves))) (found-in g c)
-    (added-between shape g.F.Family.births g.met.F.Family.numbered c.args.self.now.layers c.args.self.now.leaves boundary (linked-in g c) adding reach above c.args.position)
+pub returns-in-Some : goal.returns-in-Some
+returns-in-Some g c = record {
+  held = λ boundary adding reach above.
+      let shape = g.F.Family.shape in
+      subst (λ o. IsSome o ↔ ((shape.size boundary ≤ c.args.position) × (c.args.position < shape.size c.args.self.now.leaves))) (found-in g c)
+      (added-between shape g.F.Family.births g.met.F.Family.numbered c.args.self.now.layers c.args.self.now.leaves boundary (linked-in g c) adding reach above c.args.position);
+  value = λ hash tip older kept x at.
+      let shape = g.F.Family.shape in
+      let bytes = g.D.Digest.bytes in
+      subst (λ o. IfSome o (λ d. bytes d ≡ digest_of hash shape (leaves_of hash shape tip) x)) (ap (layers_at shape c.args.self.now.layers) at ∙ found-in g c)
+      (added-digest shape g.F.Family.births g.met.F.Family.numbered bytes hash c.args.self.now.layers c.args.self.now.leaves (leaves_of hash shape tip) kept.lists
+      (linked-in g c) (length-digests_from hash shape 0 tip ∙ sym kept.leaves) kept.history x);
+}
 
-pub returns-in-None-clause-held : goal.returns-in-None-clause-held
-returns-in-None-clause-held g c = λ boundary adding reach above.
-    let shape = g.F.Family.shape in
-    let none : c.args.self.now.layers ≡ [] = sym (ap (λ t. t.layers) c.self.view_is) ∙ ap layers_of c.in-None.is in
-    subst (λ ls. IsSome (layers_at shape ls c.args.position) ↔ ((shape.size boundary ≤ c.args.position) × (c.args.position < shape.size c.args.self.now.leaves))) none
-    (added-between shape g.F.Family.births g.met.F.Family.numbered c.args.self.now.layers c.args.self.now.leaves boundary (subst (AreLinked shape c.args.self.now.leaves) (sym none) tt) adding reach above c.args.position)
-
-pub returns-in-Some-clause-value : goal.returns-in-Some-clause-value
-returns-in-Some-clause-value g c = λ hash tip older kept x at.
-    let shape = g.F.Family.shape in
-    let bytes = g.D.Digest.bytes in
-    subst (λ o. IfSome o (λ d. bytes d ≡ digest_of hash shape (leaves_of hash shape tip) x)) (ap (layers_at shape c.args.self.now.layers) at ∙ found-in g c)
-    (added-digest shape g.F.Family.births g.met.F.Family.numbered bytes hash c.args.self.now.layers c.args.self.now.leaves (leaves_of hash shape tip) kept.lists
-    (linked-in g c) (length-digests_from hash shape 0 tip ∙ sym kept.leaves) kept.history x)
+pub returns-in-None : goal.returns-in-None
+returns-in-None g c = record {
+  held = λ boundary adding reach above.
+      let shape = g.F.Family.shape in
+      let none : c.args.self.now.layers ≡ [] = sym (ap (λ t. t.layers) c.self.view_is) ∙ ap layers_of c.in-None.is in
+      subst (λ ls. IsSome (layers_at shape ls c.args.position) ↔ ((shape.size boundary ≤ c.args.position) × (c.args.position < shape.size c.args.self.now.leaves))) none
+      (added-between shape g.F.Family.births g.met.F.Family.numbered c.args.self.now.layers c.args.self.now.leaves boundary (subst (AreLinked shape c.args.self.now.leaves) (sym none) tt) adding reach above c.args.position);
+  value = λ hash tip older kept x at. tt;
+}

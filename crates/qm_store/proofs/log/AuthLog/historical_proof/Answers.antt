@@ -21,28 +21,6 @@ use Rattle.qm_store.proofs.log.AuthLog.historical_proof.Goals as goal
 shown : (g : Given.Over) (c : goal.In_ok-items g) → c.min.result ≡ min (non_zero_u64_get c.args.max) (c.args.size - c.args.start)
 shown g c = c.min.ensures ∙ ap (λ k. min k (c.args.size - c.args.start)) c.get.ensures.value
 
-pub returns-clause-proof : goal.returns-clause-proof
-returns-clause-proof g c = λ list is.
-    let shape = g.F.Family.shape in
-    let hash = g.H.Hasher.hash in
-    let leaves = digests_from hash shape 0 list in
-    c.in_ok-proof.ensures.value hash leaves (subst (λ log. Stands shape g.H.Digest.Digest.bytes hash log.tree leaves) (sym c.self.view_is) is.tree)
-    ∙ ap₂ (λ ds m. proof_of hash shape ds c.args.inactive c.args.start (c.args.start + m)) (digests_from-take hash shape 0 c.args.size list) (shown g c)
-
-pub returns-clause-items : goal.returns-clause-items
-returns-clause-items g c = λ list is.
-    let members = g.C.Store in
-    let log = c.args.self.now in
-    let start = c.args.start in
-    let m = min (non_zero_u64_get c.args.max) (c.args.size - start) in
-    let count : start + c.min.result - start ≡ m = omega (arith, shown g c) in
-    let within : start + m ≤ length list = omega (arith, is.size, c.bounds-first.ensures.size, c.if-leaves-size.false, c.if-size-start.false) in
-    let read = subst (λ (l : _). IfSome (members.told l.store) (λ held. map (λ v. v.items) c.in_ok-items.items.items ≡ take (start + c.min.result - start) (drop (start - members.start l.store) held.items))) c.self.view_is c.in_ok-items.ensures.items in
-    both (members.told log.store) is.items read
-    (λ held told shown.
-    shown ∙ ap₂ (λ j k. take j (drop (start - k) held.items)) count (sym is.start)
-    ∙ part_read held.items list log.tree.start start m (omega (arith, c.bounds-first.ensures.start, c.if-start-first.false)) within told)
-
 pub returns-then-leaves-size : goal.returns-then-leaves-size
 returns-then-leaves-size g c = record {
   proof = λ list is. tt;
@@ -134,33 +112,6 @@ returns-in_err-items g c =
 between : (from count : ℕ) → from + count - from ≡ count
 between from count = omega arith
 
-pub returns-clause-count : goal.returns-clause-count
-returns-clause-count g c = c.in_ok-items.ensures.count ∙ between c.args.start c.min.result ∙ shown g c
-
-pub returns-clause-size : goal.returns-clause-size
-returns-clause-size g c = λ past. absurd (unlike c.args.self.now.tree.leaves c.bounds-first.result.1 c.args.size c.bounds-first.ensures.size c.if-leaves-size.false past)
-
-pub returns-clause-start : goal.returns-clause-start
-returns-clause-start g c = λ within past. absurd (unlike c.args.start c.args.start c.args.size refl past c.if-size-start.false)
-
-pub returns-clause-pruned : goal.returns-clause-pruned
-returns-clause-pruned g c = λ within before low. absurd (unlike c.args.start c.args.start c.bounds-first.result.0 refl c.if-start-first.false (subst (λ n. c.args.start < n) (sym c.bounds-first.ensures.start) low))
-
-pub returns-clause-never : goal.returns-clause-never
-returns-clause-never g c = λ within before from. tt
-
-pub returns-clause-stands : goal.returns-clause-stands
-returns-clause-stands g c = λ list is. log-kept g.C.Store g.F.Family.shape g.H.Digest.Digest.bytes g.H.Hasher.hash _ c.args.self.now c.read_items.new.store list c.self.view_is c.read_items.ensures.kept is
-
-pub returns-clause-tree : goal.returns-clause-tree
-returns-clause-tree g c = ap (λ l. l.tree) c.self.view_is
-
-pub returns-clause-kept : goal.returns-clause-kept
-returns-clause-kept g c = subst (λ l. IsKept g.C.Store l.store c.read_items.new.store) c.self.view_is c.read_items.ensures.kept
-
-pub returns-clause-cause : goal.returns-clause-cause
-returns-clause-cause g c = no-error _ _ _ _ (subst (λ l. g.C.Store.faults l.store ≤ g.C.Store.faults c.read_items.new.store) c.self.view_is c.read_items.ensures.cause.later)
-
 pub kept_proof-requires-clause-size : goal.kept_proof-requires-clause-size
 kept_proof-requires-clause-size g c = subst (λ n. c.args.size ≤ n) (c.bounds-first.ensures.size ∙ sym (ap (λ l. l.tree.leaves) c.self.view_is)) c.if-leaves-size.false
 
@@ -178,3 +129,34 @@ read_items-requires-clause-end g c =
 
 pub read_items-requires-clause-few : goal.read_items-requires-clause-few
 read_items-requires-clause-few g c = omega (arith, c.bounds-first.ensures.limit, c.if-leaves-size.false, c.min.ensures, c.if-size-start.false)
+
+pub returns : goal.returns
+returns g c = record {
+  proof = λ list is.
+      let shape = g.F.Family.shape in
+      let hash = g.H.Hasher.hash in
+      let leaves = digests_from hash shape 0 list in
+      c.in_ok-proof.ensures.value hash leaves (subst (λ log. Stands shape g.H.Digest.Digest.bytes hash log.tree leaves) (sym c.self.view_is) is.tree)
+      ∙ ap₂ (λ ds m. proof_of hash shape ds c.args.inactive c.args.start (c.args.start + m)) (digests_from-take hash shape 0 c.args.size list) (shown g c);
+  items = λ list is.
+      let members = g.C.Store in
+      let log = c.args.self.now in
+      let start = c.args.start in
+      let m = min (non_zero_u64_get c.args.max) (c.args.size - start) in
+      let count : start + c.min.result - start ≡ m = omega (arith, shown g c) in
+      let within : start + m ≤ length list = omega (arith, is.size, c.bounds-first.ensures.size, c.if-leaves-size.false, c.if-size-start.false) in
+      let read = subst (λ (l : _). IfSome (members.told l.store) (λ held. map (λ v. v.items) c.in_ok-items.items.items ≡ take (start + c.min.result - start) (drop (start - members.start l.store) held.items))) c.self.view_is c.in_ok-items.ensures.items in
+      both (members.told log.store) is.items read
+      (λ held told shown.
+      shown ∙ ap₂ (λ j k. take j (drop (start - k) held.items)) count (sym is.start)
+      ∙ part_read held.items list log.tree.start start m (omega (arith, c.bounds-first.ensures.start, c.if-start-first.false)) within told);
+  count = c.in_ok-items.ensures.count ∙ between c.args.start c.min.result ∙ shown g c;
+  size = λ past. absurd (unlike c.args.self.now.tree.leaves c.bounds-first.result.1 c.args.size c.bounds-first.ensures.size c.if-leaves-size.false past);
+  start = λ within past. absurd (unlike c.args.start c.args.start c.args.size refl past c.if-size-start.false);
+  pruned = λ within before low. absurd (unlike c.args.start c.args.start c.bounds-first.result.0 refl c.if-start-first.false (subst (λ n. c.args.start < n) (sym c.bounds-first.ensures.start) low));
+  never = λ within before from. tt;
+  stands = λ list is. log-kept g.C.Store g.F.Family.shape g.H.Digest.Digest.bytes g.H.Hasher.hash _ c.args.self.now c.read_items.new.store list c.self.view_is c.read_items.ensures.kept is;
+  tree = ap (λ l. l.tree) c.self.view_is;
+  kept = subst (λ l. IsKept g.C.Store l.store c.read_items.new.store) c.self.view_is c.read_items.ensures.kept;
+  cause = no-error _ _ _ _ (subst (λ l. g.C.Store.faults l.store ≤ g.C.Store.faults c.read_items.new.store) c.self.view_is c.read_items.ensures.cause.later);
+}

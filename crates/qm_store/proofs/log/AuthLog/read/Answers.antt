@@ -11,19 +11,28 @@ use Rattle.qm_store.proofs.Exits.{unlike, no-error, never-pruned, log-kept}
 use Rattle.qm_store.proofs.Shown.{item_read}
 use Rattle.qm_store.proofs.log.AuthLog.read.Goals as goal
 
-pub returns-clause-item : goal.returns-clause-item
-returns-clause-item g c = λ list is.
-    let members = g.C.Store in
-    let at = c.args.at in
-    let item = c.in_ok-read.field-0.items in
-    let store = c.self.inside.store in
-    let start = c.self.inside.tree.start in
-    let was = subst (λ l. IsLog members g.F.Family.shape g.H.Digest.Digest.bytes g.H.Hasher.hash l list) (sym c.self.view_is) is in
-    let from : start ≤ at = omega (arith, c.bounds-start.ensures.start, c.get.ensures, c.if-at-get.false) in
-    let within : at < length list = omega (arith, c.requires, is.size) in
-    subst (λ l. IfSome (members.told l.store) (λ _. slice_get list at ≡ Some item)) c.self.view_is
-    (both (members.told store) was.items (read-kept members store store at item (record { start = refl; end = refl; told = refl }) (g.met.C.Store.told_start store) c.in_ok-read.ensures.item)
-    (λ held has given. item_read held.items list start at item from within has (ap (λ n. slice_get held.items (at - n)) was.start ∙ given)))
+pub returns : goal.returns
+returns g c = record {
+  item = λ list is.
+      let members = g.C.Store in
+      let at = c.args.at in
+      let item = c.in_ok-read.field-0.items in
+      let store = c.self.inside.store in
+      let start = c.self.inside.tree.start in
+      let was = subst (λ l. IsLog members g.F.Family.shape g.H.Digest.Digest.bytes g.H.Hasher.hash l list) (sym c.self.view_is) is in
+      let from : start ≤ at = omega (arith, c.bounds-start.ensures.start, c.get.ensures, c.if-at-get.false) in
+      let within : at < length list = omega (arith, c.requires, is.size) in
+      subst (λ l. IfSome (members.told l.store) (λ _. slice_get list at ≡ Some item)) c.self.view_is
+      (both (members.told store) was.items (read-kept members store store at item (record { start = refl; end = refl; told = refl }) (g.met.C.Store.told_start store) c.in_ok-read.ensures.item)
+      (λ held has given. item_read held.items list start at item from within has (ap (λ n. slice_get held.items (at - n)) was.start ∙ given)));
+  held = subst (λ l. IfSome (g.C.Store.told l.store) (λ s. slice_get s.items (c.args.at - s.start) ≡ Some c.in_ok-read.field-0.items)) c.self.view_is c.in_ok-read.ensures.item;
+  stands = λ list is. log-kept g.C.Store g.F.Family.shape g.H.Digest.Digest.bytes g.H.Hasher.hash _ c.args.self.now c.read.new.self list c.self.view_is (record { start = c.read.ensures.same_start; end = c.read.ensures.same_end; told = c.read.ensures.same }) is;
+  pruned = (λ same. absurd cc, λ low. absurd (unlike c.args.at c.args.at c.get.result refl c.if-at-get.false (subst (λ n. c.args.at < n) (sym (c.get.ensures ∙ c.bounds-start.ensures.start ∙ ap (λ l. l.tree.start) c.self.view_is)) low)));
+  tree = ap (λ l. l.tree) c.self.view_is;
+  kept = subst (λ l. IsKept g.C.Store l.store c.read.new.self) c.self.view_is (record { start = c.read.ensures.same_start; end = c.read.ensures.same_end; told = c.read.ensures.same });
+  cause = no-error _ _ _ _ (subst (λ l. g.C.Store.faults l.store ≤ g.C.Store.faults c.read.new.self) c.self.view_is c.read.ensures.cause.later);
+  never = tt;
+}
 
 pub returns-then-at-get : goal.returns-then-at-get
 returns-then-at-get g c = record {
@@ -57,21 +66,3 @@ returns-in_err-read g c =
       cause = subst (λ l. IsCause (members.faults l.store) (members.faults read.new.self) (IsErrOf result (errors.Journal journal.Store))) c.self.view_is
           (handed-on _ _ read.result e result c.in_err-read.was (exit.1 ∙ ap Err exit.2) read.ensures.cause);
     }
-
-pub returns-clause-held : goal.returns-clause-held
-returns-clause-held g c = subst (λ l. IfSome (g.C.Store.told l.store) (λ s. slice_get s.items (c.args.at - s.start) ≡ Some c.in_ok-read.field-0.items)) c.self.view_is c.in_ok-read.ensures.item
-
-pub returns-clause-stands : goal.returns-clause-stands
-returns-clause-stands g c = λ list is. log-kept g.C.Store g.F.Family.shape g.H.Digest.Digest.bytes g.H.Hasher.hash _ c.args.self.now c.read.new.self list c.self.view_is (record { start = c.read.ensures.same_start; end = c.read.ensures.same_end; told = c.read.ensures.same }) is
-
-pub returns-clause-pruned : goal.returns-clause-pruned
-returns-clause-pruned g c = (λ same. absurd cc, λ low. absurd (unlike c.args.at c.args.at c.get.result refl c.if-at-get.false (subst (λ n. c.args.at < n) (sym (c.get.ensures ∙ c.bounds-start.ensures.start ∙ ap (λ l. l.tree.start) c.self.view_is)) low)))
-
-pub returns-clause-tree : goal.returns-clause-tree
-returns-clause-tree g c = ap (λ l. l.tree) c.self.view_is
-
-pub returns-clause-kept : goal.returns-clause-kept
-returns-clause-kept g c = subst (λ l. IsKept g.C.Store l.store c.read.new.self) c.self.view_is (record { start = c.read.ensures.same_start; end = c.read.ensures.same_end; told = c.read.ensures.same })
-
-pub returns-clause-cause : goal.returns-clause-cause
-returns-clause-cause g c = no-error _ _ _ _ (subst (λ l. g.C.Store.faults l.store ≤ g.C.Store.faults c.read.new.self) c.self.view_is c.read.ensures.cause.later)

@@ -36,60 +36,48 @@ returns-then-end-size g c =
       later = le_refl _;
     }
 
-pub returns-clause-stands : goal.returns-clause-stands
-returns-clause-stands g c = λ list is.
-    let members = g.C.Store in
-    let shape = g.F.Family.shape in
-    let bytes = g.H.Digest.Digest.bytes in
-    let hash = g.H.Hasher.hash in
-    let tree = c.self.inside.tree in
-    let old : Log g.row.C.Denot g.row.H-Digest.Denot = record { store = c.self.inside.store; tree = tree } in
-    let new : Log g.row.C.Denot g.row.H-Digest.Denot = record { store = c.rewind-done.new.self; tree = tree } in
-    let was = subst (λ l. IsLog members shape bytes hash l list) (sym c.self.view_is) is in
-    after-ok c.rewind-done.result c.log_after.result new.store tree (λ log. IsLog members shape bytes hash log list) c.log_after.ensures.ok
-    (on_ok_weaker c.rewind-done.result (λ settled.
-    log-settled members shape bytes hash old new list was (g.met.C.Store.told_start old.store) (g.met.C.Store.told_end old.store) refl c.rewind-done.ensures.same_start
-    (subst (λ n. Becomes (members.told old.store) (members.told new.store) (rewound n)) (c.size-size.ensures ∙ sym (ap (λ l. l.tree.leaves) c.self.view_is)) settled)) c.rewind-done.ensures.ok)
-
-pub returns-clause-tree : goal.returns-clause-tree
-returns-clause-tree g c = ok-then c.log_after.result c.log_after.ensures.ok (λ log is. is.2 ∙ ap (λ l. l.tree) c.self.view_is)
-
-pub returns-clause-start : goal.returns-clause-start
-returns-clause-start g c =
-    let members = g.C.Store in
-    ok-then c.log_after.result c.log_after.ensures.ok (λ log is. ap members.start is.1 ∙ c.rewind-done.ensures.same_start ∙ ap (λ l. members.start l.store) c.self.view_is)
-
-pub returns-clause-last : goal.returns-clause-last
-returns-clause-last g c =
-    after-ok c.rewind-done.result c.log_after.result c.rewind-done.new.self c.self.inside.tree (λ log. g.C.Store.«end» log.store ≡ c.args.self.tree.leaves) c.log_after.ensures.ok
-    (on_ok_weaker c.rewind-done.result (λ ends. ends ∙ c.size-size.ensures) c.rewind-done.ensures.ok_end)
-
-pub returns-clause-settled : goal.returns-clause-settled
-returns-clause-settled g c =
-    let members = g.C.Store in
-    let new = c.rewind-done.new.self in
-    after-ok c.rewind-done.result c.log_after.result new c.self.inside.tree (λ log. Becomes (members.told c.args.self.store) (members.told log.store) (rewound c.args.self.tree.leaves)) c.log_after.ensures.ok
-    (on_ok_weaker c.rewind-done.result (λ settled.
-    subst (λ l. Becomes (members.told l.store) (members.told new) (rewound c.args.self.tree.leaves)) c.self.view_is
-    (subst (λ n. Becomes (members.told c.self.inside.store) (members.told new) (rewound n)) c.size-size.ensures settled)) c.rewind-done.ensures.ok)
-
-pub returns-clause-refused : goal.returns-clause-refused
-returns-clause-refused g c =
-    let members = g.C.Store in
-    let done = c.rewind-done in
-    let old : Log g.row.C.Denot g.row.H-Digest.Denot = record { store = c.self.inside.store; tree = c.self.inside.tree } in
-    let left = λ (n : ℕ) (s : Stored). ReadsAs (min s.stable n) (RewindLeaves n s) in
-    err-then c.log_after.result
-    (refused-after members (HasLeft members (left c.size-size.result)) old done.new.self done.result c.log_after.result c.log_after.ensures.err
-    (on_err_weaker done.result (λ told. record { start = done.ensures.same_start; within = done.ensures.within; told = told }) done.ensures.err) done.ensures.cause)
-    (λ r refused. subst (λ n. IsRefused members (HasLeft members (left n)) c.args.self r.given r.error) c.size-size.ensures (subst (λ log. IsRefused members (HasLeft members (left c.size-size.result)) log r.given r.error) c.self.view_is refused))
-
-pub returns-clause-given : goal.returns-clause-given
-returns-clause-given g c = err-then c.log_after.result c.log_after.ensures.err (λ r is. λ log same. never-log r.given c.rewind-done.new.self log is.0 same)
-
-pub returns-clause-later : goal.returns-clause-later
-returns-clause-later g c =
-    let members = g.C.Store in
-    let done = c.rewind-done in
-    let later = subst (λ l. members.faults l.store ≤ members.faults done.new.self) c.self.view_is done.ensures.cause.later in
-    ok-then c.log_after.result c.log_after.ensures.ok (λ log is. subst (λ s. members.faults c.args.self.store ≤ members.faults s) (sym is.1) later)
+pub returns : goal.returns
+returns g c = record {
+  stands = λ list is.
+      let members = g.C.Store in
+      let shape = g.F.Family.shape in
+      let bytes = g.H.Digest.Digest.bytes in
+      let hash = g.H.Hasher.hash in
+      let tree = c.self.inside.tree in
+      let old : Log g.row.C.Denot g.row.H-Digest.Denot = record { store = c.self.inside.store; tree = tree } in
+      let new : Log g.row.C.Denot g.row.H-Digest.Denot = record { store = c.rewind-done.new.self; tree = tree } in
+      let was = subst (λ l. IsLog members shape bytes hash l list) (sym c.self.view_is) is in
+      after-ok c.rewind-done.result c.log_after.result new.store tree (λ log. IsLog members shape bytes hash log list) c.log_after.ensures.ok
+      (on_ok_weaker c.rewind-done.result (λ settled.
+      log-settled members shape bytes hash old new list was (g.met.C.Store.told_start old.store) (g.met.C.Store.told_end old.store) refl c.rewind-done.ensures.same_start
+      (subst (λ n. Becomes (members.told old.store) (members.told new.store) (rewound n)) (c.size-size.ensures ∙ sym (ap (λ l. l.tree.leaves) c.self.view_is)) settled)) c.rewind-done.ensures.ok);
+  tree = ok-then c.log_after.result c.log_after.ensures.ok (λ log is. is.2 ∙ ap (λ l. l.tree) c.self.view_is);
+  start =
+      let members = g.C.Store in
+      ok-then c.log_after.result c.log_after.ensures.ok (λ log is. ap members.start is.1 ∙ c.rewind-done.ensures.same_start ∙ ap (λ l. members.start l.store) c.self.view_is);
+  last =
+      after-ok c.rewind-done.result c.log_after.result c.rewind-done.new.self c.self.inside.tree (λ log. g.C.Store.«end» log.store ≡ c.args.self.tree.leaves) c.log_after.ensures.ok
+      (on_ok_weaker c.rewind-done.result (λ ends. ends ∙ c.size-size.ensures) c.rewind-done.ensures.ok_end);
+  settled =
+      let members = g.C.Store in
+      let new = c.rewind-done.new.self in
+      after-ok c.rewind-done.result c.log_after.result new c.self.inside.tree (λ log. Becomes (members.told c.args.self.store) (members.told log.store) (rewound c.args.self.tree.leaves)) c.log_after.ensures.ok
+      (on_ok_weaker c.rewind-done.result (λ settled.
+      subst (λ l. Becomes (members.told l.store) (members.told new) (rewound c.args.self.tree.leaves)) c.self.view_is
+      (subst (λ n. Becomes (members.told c.self.inside.store) (members.told new) (rewound n)) c.size-size.ensures settled)) c.rewind-done.ensures.ok);
+  refused =
+      let members = g.C.Store in
+      let done = c.rewind-done in
+      let old : Log g.row.C.Denot g.row.H-Digest.Denot = record { store = c.self.inside.store; tree = c.self.inside.tree } in
+      let left = λ (n : ℕ) (s : Stored). ReadsAs (min s.stable n) (RewindLeaves n s) in
+      err-then c.log_after.result
+      (refused-after members (HasLeft members (left c.size-size.result)) old done.new.self done.result c.log_after.result c.log_after.ensures.err
+      (on_err_weaker done.result (λ told. record { start = done.ensures.same_start; within = done.ensures.within; told = told }) done.ensures.err) done.ensures.cause)
+      (λ r refused. subst (λ n. IsRefused members (HasLeft members (left n)) c.args.self r.given r.error) c.size-size.ensures (subst (λ log. IsRefused members (HasLeft members (left c.size-size.result)) log r.given r.error) c.self.view_is refused));
+  given = err-then c.log_after.result c.log_after.ensures.err (λ r is. λ log same. never-log r.given c.rewind-done.new.self log is.0 same);
+  later =
+      let members = g.C.Store in
+      let done = c.rewind-done in
+      let later = subst (λ l. members.faults l.store ≤ members.faults done.new.self) c.self.view_is done.ensures.cause.later in
+      ok-then c.log_after.result c.log_after.ensures.ok (λ log is. subst (λ s. members.faults c.args.self.store ≤ members.faults s) (sym is.1) later);
+}

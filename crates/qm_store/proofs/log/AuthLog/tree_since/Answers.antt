@@ -25,33 +25,42 @@ grown_behind-requires-clause-reach g c =
     let within : c.new.result ≤ n = omega (arith, c.new.ensures, c.requires.boundary, ap (λ log. log.tree.leaves) c.self.view_is) in
     subst (λ ns. Contains ns n) (sym c.in_ok-draft.ensures.stops) (stop-since c.new.result all n reach within)
 
-pub returns-clause-leaves : goal.returns-clause-leaves
-returns-clause-leaves g c =
-    let count : length c.deref.result.now ≡ length c.args.items.now =
-    ap length c.deref.ensures.value ∙ digests-count g.H.Hasher.hash g.F.Family.shape g.H.Digest.Digest.bytes (λ v. v.items) c.get-size.result c.in_ok-digests.digests.items c.args.items.now c.in_ok-digests.ensures in
-    subst (λ n. IfOk c.grown_behind.result (λ b. b.newest.tree.leaves ≡ n)) (ap₂ (λ m n. m + n) (ap (λ (d : Draft _). d.base) c.in_ok-draft.ensures.draft) count) c.grown_behind.ensures.leaves
-
-pub returns-clause-history : goal.returns-clause-history
-returns-clause-history g c = λ list base lists is history found.
-    let shape = g.F.Family.shape in
-    let hash = g.H.Hasher.hash in
-    let bytes = g.H.Digest.Digest.bytes in
-    let batch = c.args.batch.now in
-    let boundary = c.args.boundary in
-    let own = digests_from hash shape 0 list in
-    let before = digests_from hash shape 0 base in
-    let more = map (λ v. v.items) c.args.items.now in
-    let reached = history-count shape g.F.Family.births g.met.F.Family.numbered g.met.F.Family.peaked bytes hash batch.newest batch.older before lists history in
-    let start : c.get-size.result ≡ 0 + length base = omega (arith, c.get-size.ensures, c.leaves.ensures.count, reached, length-digests_from hash shape 0 base) in
-    let top : c.args.self.now.tree.leaves ≤ c.leaves.result = All-contains (λ n. n ≤ c.leaves.result) (stops batch.newest.tree.leaves (all_layers batch)) c.args.self.now.tree.leaves c.leaves.ensures.most c.requires.reach in
-    let first = first-since boundary before lists (omega (arith, c.requires.boundary, top, c.leaves.ensures.count, reached)) in
-    let rest = lists_since boundary lists in
-    let since = subst (IsHistory shape bytes hash c.in_ok-draft.draft.layers) (ap (λ n. lists_since n (before ∷ lists)) c.new.ensures ∙ first) (c.in_ok-draft.ensures.history hash (before ∷ lists) history) in
-    let among = subst (λ ls. Contains ls own) first (list-since boundary (before ∷ lists) own found (omega (arith, c.requires.boundary, is.size, length-digests_from hash shape 0 list))) in
-    subst (λ ls. IfOk c.grown_behind.result (λ b. IsHistory shape bytes hash (all_layers b) ls))
-    (ap₂ (λ ds ls. ds ∷ ls)
-    (ap (λ ds. before ++ map bytes ds) c.deref.ensures.value ∙ ap (λ l. before ++ l) (c.in_ok-digests.ensures ∙ ap (λ i. digests_from hash shape i more) start) ∙ sym (digests_from-append hash shape 0 base more)) (sym first))
-    (c.grown_behind.ensures.history own before rest (subst (λ log. Stands shape bytes hash log.tree own) (sym c.self.view_is) is.tree) since among)
+pub returns : goal.returns
+returns g c = record {
+  leaves =
+      let count : length c.deref.result.now ≡ length c.args.items.now =
+      ap length c.deref.ensures.value ∙ digests-count g.H.Hasher.hash g.F.Family.shape g.H.Digest.Digest.bytes (λ v. v.items) c.get-size.result c.in_ok-digests.digests.items c.args.items.now c.in_ok-digests.ensures in
+      subst (λ n. IfOk c.grown_behind.result (λ b. b.newest.tree.leaves ≡ n)) (ap₂ (λ m n. m + n) (ap (λ (d : Draft _). d.base) c.in_ok-draft.ensures.draft) count) c.grown_behind.ensures.leaves;
+  history = λ list base lists is history found.
+      let shape = g.F.Family.shape in
+      let hash = g.H.Hasher.hash in
+      let bytes = g.H.Digest.Digest.bytes in
+      let batch = c.args.batch.now in
+      let boundary = c.args.boundary in
+      let own = digests_from hash shape 0 list in
+      let before = digests_from hash shape 0 base in
+      let more = map (λ v. v.items) c.args.items.now in
+      let reached = history-count shape g.F.Family.births g.met.F.Family.numbered g.met.F.Family.peaked bytes hash batch.newest batch.older before lists history in
+      let start : c.get-size.result ≡ 0 + length base = omega (arith, c.get-size.ensures, c.leaves.ensures.count, reached, length-digests_from hash shape 0 base) in
+      let top : c.args.self.now.tree.leaves ≤ c.leaves.result = All-contains (λ n. n ≤ c.leaves.result) (stops batch.newest.tree.leaves (all_layers batch)) c.args.self.now.tree.leaves c.leaves.ensures.most c.requires.reach in
+      let first = first-since boundary before lists (omega (arith, c.requires.boundary, top, c.leaves.ensures.count, reached)) in
+      let rest = lists_since boundary lists in
+      let since = subst (IsHistory shape bytes hash c.in_ok-draft.draft.layers) (ap (λ n. lists_since n (before ∷ lists)) c.new.ensures ∙ first) (c.in_ok-draft.ensures.history hash (before ∷ lists) history) in
+      let among = subst (λ ls. Contains ls own) first (list-since boundary (before ∷ lists) own found (omega (arith, c.requires.boundary, is.size, length-digests_from hash shape 0 list))) in
+      subst (λ ls. IfOk c.grown_behind.result (λ b. IsHistory shape bytes hash (all_layers b) ls))
+      (ap₂ (λ ds ls. ds ∷ ls)
+      (ap (λ ds. before ++ map bytes ds) c.deref.ensures.value ∙ ap (λ l. before ++ l) (c.in_ok-digests.ensures ∙ ap (λ i. digests_from hash shape i more) start) ∙ sym (digests_from-append hash shape 0 base more)) (sym first))
+      (c.grown_behind.ensures.history own before rest (subst (λ log. Stands shape bytes hash log.tree own) (sym c.self.view_is) is.tree) since among);
+  start = subst (λ n. IfOk c.grown_behind.result (λ b. b.newest.tree.start ≡ n)) (ap (λ (d : Draft _). d.base) c.in_ok-draft.ensures.draft) c.grown_behind.ensures.start;
+  older =
+      subst (λ ls. IfOk c.grown_behind.result (λ b. b.older ≡ ls)) (ap (λ (d : Draft _). d.layers) c.in_ok-draft.ensures.draft ∙ ap (λ n. layers_since n (all_layers c.args.batch.now)) c.new.ensures) c.grown_behind.ensures.older;
+  adding = c.grown_behind.ensures.adding;
+  stops =
+      let all = stops c.args.batch.now.newest.tree.leaves (all_layers c.args.batch.now) in
+      if_both c.grown_behind.result (λ b. b.older ≡ c.in_ok-draft.draft.layers) (λ b. b.newest.tree.start ≡ c.in_ok-draft.draft.base) (λ b. stops b.newest.tree.start b.older ≡ stops_since c.args.boundary all)
+      (λ b older start. ap₂ stops start older ∙ c.in_ok-draft.ensures.stops ∙ ap (λ n. stops_since n all) c.new.ensures) c.grown_behind.ensures.older c.grown_behind.ensures.start;
+  same = c.self.view_is;
+}
 
 pub returns-in_err-digests : goal.returns-in_err-digests
 returns-in_err-digests g c =
@@ -80,22 +89,3 @@ returns-in_err-draft g c =
       stops = IfOk-from_err result _ failed;
       same = c.self.view_is;
     }
-
-pub returns-clause-start : goal.returns-clause-start
-returns-clause-start g c = subst (λ n. IfOk c.grown_behind.result (λ b. b.newest.tree.start ≡ n)) (ap (λ (d : Draft _). d.base) c.in_ok-draft.ensures.draft) c.grown_behind.ensures.start
-
-pub returns-clause-older : goal.returns-clause-older
-returns-clause-older g c =
-    subst (λ ls. IfOk c.grown_behind.result (λ b. b.older ≡ ls)) (ap (λ (d : Draft _). d.layers) c.in_ok-draft.ensures.draft ∙ ap (λ n. layers_since n (all_layers c.args.batch.now)) c.new.ensures) c.grown_behind.ensures.older
-
-pub returns-clause-adding : goal.returns-clause-adding
-returns-clause-adding g c = c.grown_behind.ensures.adding
-
-pub returns-clause-stops : goal.returns-clause-stops
-returns-clause-stops g c =
-    let all = stops c.args.batch.now.newest.tree.leaves (all_layers c.args.batch.now) in
-    if_both c.grown_behind.result (λ b. b.older ≡ c.in_ok-draft.draft.layers) (λ b. b.newest.tree.start ≡ c.in_ok-draft.draft.base) (λ b. stops b.newest.tree.start b.older ≡ stops_since c.args.boundary all)
-    (λ b older start. ap₂ stops start older ∙ c.in_ok-draft.ensures.stops ∙ ap (λ n. stops_since n all) c.new.ensures) c.grown_behind.ensures.older c.grown_behind.ensures.start
-
-pub returns-clause-same : goal.returns-clause-same
-returns-clause-same g c = c.self.view_is

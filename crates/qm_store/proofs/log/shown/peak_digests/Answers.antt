@@ -6,24 +6,22 @@ use Rattle.qm_store.specs.Log.{IsLacked}
 use Rattle.qm_store.proofs.Shown.{told_row}
 use Rattle.qm_store.proofs.log.shown.peak_digests.Goals as goal
 
-pub returns-clause-value : goal.returns-clause-value
-returns-clause-value g c = λ hash list within tells.
-    let shape = g.F.Family.shape in
-    let bytes = g.D.Digest.bytes in
-    let at = g.N.Nodes.node_at c.args.nodes.now in
-    let n = c.args.count in
-    let positions = c.deref.ensures.value ∙ c.in_ok-positions.ensures ∙ ap (peak_positions shape) c.new-count.ensures in
-    IfOk-weaker c.digests_at.result (λ v. map Some v.items ≡ map at c.deref.result.now) (λ v. map bytes v.items ≡ map (digest_of hash shape list) (peaks shape n))
-    (λ v same. told_row shape bytes hash at list tells (peaks shape n) v.items (same ∙ ap (map at) positions)
-    (λ k d lt. omega (arith, g.met.F.Family.peaked.born n c.requires k d lt, within)))
-    c.digests_at.ensures.digests
-
-pub returns-clause-held : goal.returns-clause-held
-returns-clause-held g c =
-    let positions = c.deref.ensures.value ∙ c.in_ok-positions.ensures ∙ ap (peak_positions g.F.Family.shape) c.new-count.ensures in
-    subst (λ ps. OnOk c.digests_at.result (first_lacked (g.N.Nodes.node_at c.args.nodes.now) ps ≡ None)) positions c.digests_at.ensures.held
-
-pub returns-clause-cause : goal.returns-clause-cause
-returns-clause-cause g c =
-    let positions = c.deref.ensures.value ∙ c.in_ok-positions.ensures ∙ ap (peak_positions g.F.Family.shape) c.new-count.ensures in
-    subst (λ ps. IfErr c.digests_at.result (IsLacked (g.N.Nodes.node_at c.args.nodes.now) ps)) positions c.digests_at.ensures.cause
+pub returns : goal.returns
+returns g c = record {
+  value = λ hash list within tells.
+      let shape = g.F.Family.shape in
+      let bytes = g.D.Digest.bytes in
+      let at = g.N.Nodes.node_at c.args.nodes.now in
+      let n = c.args.count in
+      let positions = c.deref.ensures.value ∙ c.in_ok-positions.ensures ∙ ap (peak_positions shape) c.new-count.ensures in
+      IfOk-weaker c.digests_at.result (λ v. map Some v.items ≡ map at c.deref.result.now) (λ v. map bytes v.items ≡ map (digest_of hash shape list) (peaks shape n))
+      (λ v same. told_row shape bytes hash at list tells (peaks shape n) v.items (same ∙ ap (map at) positions)
+      (λ k d lt. omega (arith, g.met.F.Family.peaked.born n c.requires k d lt, within)))
+      c.digests_at.ensures.digests;
+  held =
+      let positions = c.deref.ensures.value ∙ c.in_ok-positions.ensures ∙ ap (peak_positions g.F.Family.shape) c.new-count.ensures in
+      subst (λ ps. OnOk c.digests_at.result (first_lacked (g.N.Nodes.node_at c.args.nodes.now) ps ≡ None)) positions c.digests_at.ensures.held;
+  cause =
+      let positions = c.deref.ensures.value ∙ c.in_ok-positions.ensures ∙ ap (peak_positions g.F.Family.shape) c.new-count.ensures in
+      subst (λ ps. IfErr c.digests_at.result (IsLacked (g.N.Nodes.node_at c.args.nodes.now) ps)) positions c.digests_at.ensures.cause;
+}

@@ -1,9 +1,9 @@
-use Rattle.std.proofs.Common.{◌∙◌, map, ap, arith, refl, inl, Err}
+use Rattle.std.proofs.Common.{◌≡◌, ◌∙◌, ◌-◌, length, take, drop, map, ap, arith, refl, inl, subst, Err, IfSome}
 use Rattle.std.proofs.Math.Nat.{le_refl}
 use Rattle.std.proofs.lemmas.Result.{IfOk-from_err, err_from_is_err_and}
 use Rattle.qm_store.proofs.Shown.{item-next}
 use Rattle.qm_store.proofs.Stores.{both, kept-then, read-kept, handed-on, no-fault}
-use Rattle.qm_store.proofs.Exits.{no-error, later-cause, store-error}
+use Rattle.qm_store.proofs.Exits.{over, no-error, later-cause, store-error}
 use Rattle.qm_store.proofs.log.shown.read_items.Goals as goal
 
 pub loop-at-preserved : goal.loop-at-preserved
@@ -54,11 +54,14 @@ returns-in_err-read g c =
       cause = later-cause _ _ _ c.loop-at.invariant.later (handed-on _ _ read.result e result c.in_err-read.was (exit.1 ∙ ap Err exit.2) read.ensures.cause);
     }
 
-pub returns-clause-never : goal.returns-clause-never
-returns-clause-never g c = tt
-
-pub returns-clause-kept : goal.returns-clause-kept
-returns-clause-kept g c = c.loop-at.invariant.kept
-
-pub returns-clause-cause : goal.returns-clause-cause
-returns-clause-cause g c = no-error _ _ _ _ c.loop-at.invariant.later
+pub returns : goal.returns
+returns g c =
+    let members = g.C.Store in
+    let over = over c.args.start c.args.end c.loop-at.at c.loop-at.auto.at-end c.requires.order c.loop-at-test.false in
+    record {
+      never = tt;
+      kept = c.loop-at.invariant.kept;
+      cause = no-error _ _ _ _ c.loop-at.invariant.later;
+      count = subst (λ k. length c.loop-at.items.items ≡ k - c.args.start) over c.loop-at.invariant.count;
+      items = subst (λ k. IfSome (members.told c.args.store.now) (λ held. map (λ v. v.items) c.loop-at.items.items ≡ take (k - c.args.start) (drop (c.args.start - members.start c.args.store.now) held.items))) over c.loop-at.invariant.items;
+    }
