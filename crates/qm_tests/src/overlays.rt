@@ -1,11 +1,12 @@
 //! Steps over bits that are lent, and put into them.
 
-ghost use Rattle.std.specs.Prelude.{◌≡◌, ◌≤◌, IfOk};
+ghost use Rattle.std.specs.Prelude.{◌≡◌, ◌≤◌, IfOk, IfSome, map};
+ghost use Rattle.qm_overlay.specs.Layers.{AreStacked};
 
 use qm_base::{ByteKey, ByteValue, Location};
-use qm_bits::{Candidates, Chunk32, Prunable, Readable};
+use qm_bits::{Candidates, Chunk32, Chunks, Prunable, Readable};
 use qm_chain::{Diff, DiffEntry};
-use qm_overlay::{BitmapBatch, commit, overlay_of};
+use qm_overlay::{BitmapBatch, ChunkOverlay, commit, overlay_of};
 use std::alloc::{AllocError, Global};
 use std::rc::Rc;
 use std::test::Fail;
@@ -50,17 +51,29 @@ fn end_with_two<B: Candidates<()>>(alloc: Global, bits: &B) -> Result<bool, Allo
     Ok(found.as_slice() == [Location::new(4), Location::new(5)].as_slice())
 }
 
-// Whether two steps over the bits of an update and a commit, and these bits once they are put into them, have those of the last list.
+// The layers of two steps over the bits of an update and a commit, where those of the last list are seen through them.
+fn laid(
+    alloc: Global,
+    base: &Prunable<Chunk32>,
+) -> Result<Option<Vec<Rc<ChunkOverlay<Chunk32>>>>, AllocError>
+    ensures { IfOk result (λ laid. IfSome laid (λ layers. AreStacked ⟦<Chunk32 as Chunks>⟧.LEN (map (λ r. r.value) layers.items) base.now)) }
+{
+    let bits = pushed(alloc, BitmapBatch::new(alloc, base), 0)?;
+    let bits = pushed(alloc, bits, 2)?;
+    let is_seen = end_with_two(alloc, &bits)?;
+    Ok(is_seen.then_some(bits.into_layers()))
+}
+
+// Whether such steps, and these bits once they are put into them, have those of the last list.
 fn are_laid(alloc: Global) -> Result<bool, AllocError> {
     let mut base: Prunable<Chunk32> = Prunable::new(alloc);
     base.push(true)?;
     base.push(true)?;
-    let bits = pushed(alloc, BitmapBatch::new(alloc, &base), 0)?;
-    let bits = pushed(alloc, bits, 2)?;
-    let is_seen = end_with_two(alloc, &bits)?;
-    let layers = bits.into_layers();
+    let Some(layers) = laid(alloc, &base)? else {
+        return Ok(false);
+    };
     commit(&layers, &mut base)?;
-    Ok(is_seen && end_with_two(alloc, &base)?)
+    end_with_two(alloc, &base)
 }
 
 #[test]

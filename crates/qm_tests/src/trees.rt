@@ -129,16 +129,26 @@ fn of_components(
     Tree::from_components(alloc, nodes, Location::new(2), pins)
 }
 
+// The root of a tree of three leaves, after its last one gets another digest.
+fn root_with(
+    alloc: Global,
+    hasher: &mut TreeHasher,
+    tree: &Tree<mmr::Family>,
+    leaf: Sha256Digest,
+) -> Result<Sha256Digest, MerkleError> {
+    let mut draft = tree.new_batch(alloc);
+    draft.update_leaf_digest(Location::new(2), leaf)?;
+    let batch = draft.merkleize(alloc, tree, hasher)?;
+    Ok(batch.root(alloc, hasher, 0)?)
+}
+
 // The text of the root of such a tree, after its last leaf gets the digest of "second": its peak has that of "first".
 fn replaced_root(alloc: Global) -> Result<String, MerkleError> {
     let mut hasher = StandardHasher::new(Sha256::new());
     let first = hasher.digest(&[b"first"]);
     let second = hasher.digest(&[b"second"]);
     let tree = of_components(alloc, first, first)?;
-    let mut draft = tree.new_batch(alloc);
-    draft.update_leaf_digest(Location::new(2), second)?;
-    let batch = draft.merkleize(alloc, &tree, &mut hasher)?;
-    let root = batch.root(alloc, &mut hasher, 0)?;
+    let root = root_with(alloc, &mut hasher, &tree, second)?;
     Ok(hex::encode(alloc, root.bytes())?)
 }
 
