@@ -12,7 +12,7 @@ pub mod moves;
 pub mod nearest;
 pub mod neighbour;
 pub mod order;
-pub mod put;
+mod put;
 pub mod site;
 pub mod touch;
 pub mod wanted;

@@ -7,7 +7,7 @@ use std::alloc::AllocError;
 use std::collections::BTreeMap;
 
 /// Puts a value under a key, in the place of the one that is there. Want of memory is the only error.
-pub fn put<K: Ord + Drop, V: Drop>(
+pub(crate) fn put<K: Ord + Drop, V: Drop>(
     map: &mut BTreeMap<K, V>,
     key: K,
     value: V,
