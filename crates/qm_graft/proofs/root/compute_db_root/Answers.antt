@@ -7,29 +7,29 @@ use Rattle.qm_graft.proofs.Fitting.{grafting-span}
 use Rattle.qm_graft.proofs.Rooting.{bits-count, pending-is, partial-is}
 use Rattle.qm_graft.proofs.root.compute_db_root.Goals as goal
 
-pub returns-clause-canonical : goal.returns-clause-canonical
-returns-clause-canonical g c = λ form ops same floor ops_root tells.
-    let hash = g.H.Hasher.hash in
-    let shape = g.F.Family.shape in
-    let size = g.N.Chunks.LEN in
-    let height = grafting size in
-    let map = g.B.Readable.bitmap c.args.bits.now in
-    let power = g.met.N.Chunks.power in
-    let span = grafting-span size power.0 power.1 in
-    let long = bits-count size map ops same in
-    let leaves : c.new-leaves.result ≡ length ops = c.new-leaves.ensures ∙ c.len.ensures ∙ long in
-    c.canonical_root.ensures.canonical shape height form ops ops_root (c.in_ok-grafted.ensures.root form ops leaves floor tells)
-    (c.in_ok-pending.ensures.digest ∙ pending-is hash shape height size (bit_count size map) (all_bits size map) ops span same long)
-    (c.in_ok-partial.ensures.digest ∙ partial-is hash shape height size (bit_count size map) (all_bits size map) ops span same long)
-
-pub returns-clause-made : goal.returns-clause-made
-returns-clause-made g c =
-    let first = c.in_ok-grafted.ensures.made in
-    let second = c.in_ok-pending.ensures.made in
-    let third = c.in_ok-partial.ensures.made in
-    let last = c.canonical_root.ensures.made in
-    let leaves = ap (λ n. length (peaks g.F.Family.shape n)) (c.new-leaves.ensures ∙ c.len.ensures) in
-    (second.0 + third.0 + 1, omega (arith, second.1, third.1), omega (arith, first, second.2, third.2, last, leaves))
+pub returns : goal.returns
+returns g c = record {
+  canonical = λ form ops same floor ops_root tells.
+      let hash = g.H.Hasher.hash in
+      let shape = g.F.Family.shape in
+      let size = g.N.Chunks.LEN in
+      let height = grafting size in
+      let map = g.B.Readable.bitmap c.args.bits.now in
+      let power = g.met.N.Chunks.power in
+      let span = grafting-span size power.0 power.1 in
+      let long = bits-count size map ops same in
+      let leaves : c.new-leaves.result ≡ length ops = c.new-leaves.ensures ∙ c.len.ensures ∙ long in
+      c.canonical_root.ensures.canonical shape height form ops ops_root (c.in_ok-grafted.ensures.root form ops leaves floor tells)
+      (c.in_ok-pending.ensures.digest ∙ pending-is hash shape height size (bit_count size map) (all_bits size map) ops span same long)
+      (c.in_ok-partial.ensures.digest ∙ partial-is hash shape height size (bit_count size map) (all_bits size map) ops span same long);
+  made =
+      let first = c.in_ok-grafted.ensures.made in
+      let second = c.in_ok-pending.ensures.made in
+      let third = c.in_ok-partial.ensures.made in
+      let last = c.canonical_root.ensures.made in
+      let leaves = ap (λ n. length (peaks g.F.Family.shape n)) (c.new-leaves.ensures ∙ c.len.ensures) in
+      (second.0 + third.0 + 1, omega (arith, second.1, third.1), omega (arith, first, second.2, third.2, last, leaves));
+}
 
 pub returns-in_err-grafted : goal.returns-in_err-grafted
 returns-in_err-grafted g c = record {

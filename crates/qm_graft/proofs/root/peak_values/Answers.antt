@@ -10,17 +10,17 @@ returns-in_err-positions g c = record {
   count = IfOk-from_err c.from_residual.result _ c.from_residual.ensures.0;
 }
 
-pub returns-clause-held : goal.returns-clause-held
-returns-clause-held g c =
-    let node = g.V.Nodes.node_at c.args.view.now in
-    let positions = ap (map node) (c.deref.ensures.value ∙ c.in_ok-positions.ensures) in
-    IfOk-weaker c.held_at.result _ _ (λ v same. same ∙ positions) c.held_at.ensures
-
-pub returns-clause-count : goal.returns-clause-count
-returns-clause-count g c =
-    let node = g.V.Nodes.node_at c.args.view.now in
-    let positions = ap (map node) (c.deref.ensures.value ∙ c.in_ok-positions.ensures) in
-    let shape = g.F.Family.shape in
-    IfOk-weaker c.held_at.result _ _
-    (λ v same. sym (length-map v.items Some) ∙ ap length (same ∙ positions) ∙ length-map (peak_positions shape c.args.leaves) node ∙ length-map (peaks shape c.args.leaves) (Shape.position shape))
-    c.held_at.ensures
+pub returns : goal.returns
+returns g c = record {
+  held =
+      let node = g.V.Nodes.node_at c.args.view.now in
+      let positions = ap (map node) (c.deref.ensures.value ∙ c.in_ok-positions.ensures) in
+      IfOk-weaker c.held_at.result _ _ (λ v same. same ∙ positions) c.held_at.ensures;
+  count =
+      let node = g.V.Nodes.node_at c.args.view.now in
+      let positions = ap (map node) (c.deref.ensures.value ∙ c.in_ok-positions.ensures) in
+      let shape = g.F.Family.shape in
+      IfOk-weaker c.held_at.result _ _
+      (λ v same. sym (length-map v.items Some) ∙ ap length (same ∙ positions) ∙ length-map (peak_positions shape c.args.leaves) node ∙ length-map (peaks shape c.args.leaves) (Shape.position shape))
+      c.held_at.ensures;
+}

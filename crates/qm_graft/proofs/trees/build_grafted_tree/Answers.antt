@@ -54,38 +54,39 @@ apply_batch-requires g c =
     let start = c.in_ok-batch.ensures.base ∙ ap (λ (d : Draft g.row.H-Digest.Denot). d.base) draft in
     record { reach = subst (λ ls. Contains (c.in_ok-batch.batch.newest.tree.leaves ∷ stops c.in_ok-batch.batch.newest.tree.start ls) c.in_ok-tree.tree.leaves) (sym older) (1, omega arith, start) }
 
-pub returns-clause-bounds : goal.returns-clause-bounds
-returns-clause-bounds g c =
-    let count = c.chunks_over-count.ensures.count in
-    (c.in_ok-apply_batch.ensures.bounds.0 ∙ c.in_ok-tree.ensures.0, c.in_ok-apply_batch.ensures.bounds.1 ∙ c.in_ok-batch.ensures.leaves ∙ count)
-
-pub returns-clause-stands : goal.returns-clause-stands
-returns-clause-stands g c = λ digests stands pins.
-    let hash = g.H.Hasher.hash in
-    let bytes = g.H.Digest.Digest.bytes in
-    let map = g.B.Readable.bitmap c.args.bits.now in
-    let behind = chunk g.N.Chunks.LEN (all_bits g.N.Chunks.LEN map) in
-    let operations = c.args.operations.now in
-    let tree = c.in_ok-tree.tree in
-    let draft = c.new_batch-draft.result in
-    let count = c.chunks_over-count.ensures.count in
-    let leaves : draft.base ≡ tree.leaves = ap (λ (d : Draft g.row.H-Digest.Denot). d.base) c.new_batch-draft.ensures in
-    let pruned : tree.leaves ≡ map.pruned = c.in_ok-tree.ensures.1 in
-    let values : ℕ → List Bytes = chunk_values hash (shape g) (height g) digests behind 0 in
-    let long : draft.base ≡ length (values draft.base) = sym (length-chunk_values hash (shape g) (height g) digests behind 0 draft.base) in
-    let same : tree.start ≡ tree.leaves = c.in_ok-tree.ensures.0 ∙ sym c.in_ok-tree.ensures.1 in
-    let pinned = ap (map_of g) c.in_ok-tree.ensures.2 ∙ pins ∙ ap₂ (λ n k. peak_values g hash (values n) k) (sym (leaves ∙ pruned)) (sym (same ∙ pruned)) in
-    let begun = begun-stands (kept_shape (shape g) (height g)) bytes hash tree (values draft.base) same (sym leaves ∙ long) pinned in
-    let low : draft.base ≤ c.chunks_over-count.result = omega (arith, leaves, pruned, c.requires.pruned, count) in
-    let prompt = g.met.F.Graftable.prompt (height g) in
-    let family = g.met.F.Family.numbered in
-    let whole : draft.base * 2 ^ height g ≤ length digests =
-    omega (arith, grafted-whole (shape g) g.F.Family.births family g.met.F.Family.peaked g.N.Chunks.LEN (span g) prompt operations.leaves draft.base (omega (arith, low, count)), stands.count) in
-    let history = c.in_ok-batch.ensures.history digests digests (values draft.base) behind [] (no-step (height g) draft.base digests behind whole)
-    (λ k less. tree_tells (shape g) g.F.Family.births family g.met.F.Family.peaked bytes hash operations digests stands (chunk_node (height g) k) (omega (arith, grafted_born (shape g) (height g) operations.leaves k prompt (omega (arith, less, count)), stands.count)))
-    (subst (λ (d : Draft g.row.H-Digest.Denot). IsHistory (kept_shape (shape g) (height g)) bytes hash d.layers (values draft.base ∷ [])) (sym c.new_batch-draft.ensures) tt) (0, omega arith, refl) begun in
-    subst (λ n. Stands (kept_shape (shape g) (height g)) bytes hash c.apply_batch.new.self (values n)) count
-    (c.in_ok-apply_batch.ensures.stands hash (values draft.base) (values c.chunks_over-count.result) (values draft.base ∷ []) history (1, omega arith, refl) begun)
+pub returns : goal.returns
+returns g c = record {
+  bounds =
+      let count = c.chunks_over-count.ensures.count in
+      (c.in_ok-apply_batch.ensures.bounds.0 ∙ c.in_ok-tree.ensures.0, c.in_ok-apply_batch.ensures.bounds.1 ∙ c.in_ok-batch.ensures.leaves ∙ count);
+  stands = λ digests stands pins.
+      let hash = g.H.Hasher.hash in
+      let bytes = g.H.Digest.Digest.bytes in
+      let map = g.B.Readable.bitmap c.args.bits.now in
+      let behind = chunk g.N.Chunks.LEN (all_bits g.N.Chunks.LEN map) in
+      let operations = c.args.operations.now in
+      let tree = c.in_ok-tree.tree in
+      let draft = c.new_batch-draft.result in
+      let count = c.chunks_over-count.ensures.count in
+      let leaves : draft.base ≡ tree.leaves = ap (λ (d : Draft g.row.H-Digest.Denot). d.base) c.new_batch-draft.ensures in
+      let pruned : tree.leaves ≡ map.pruned = c.in_ok-tree.ensures.1 in
+      let values : ℕ → List Bytes = chunk_values hash (shape g) (height g) digests behind 0 in
+      let long : draft.base ≡ length (values draft.base) = sym (length-chunk_values hash (shape g) (height g) digests behind 0 draft.base) in
+      let same : tree.start ≡ tree.leaves = c.in_ok-tree.ensures.0 ∙ sym c.in_ok-tree.ensures.1 in
+      let pinned = ap (map_of g) c.in_ok-tree.ensures.2 ∙ pins ∙ ap₂ (λ n k. peak_values g hash (values n) k) (sym (leaves ∙ pruned)) (sym (same ∙ pruned)) in
+      let begun = begun-stands (kept_shape (shape g) (height g)) bytes hash tree (values draft.base) same (sym leaves ∙ long) pinned in
+      let low : draft.base ≤ c.chunks_over-count.result = omega (arith, leaves, pruned, c.requires.pruned, count) in
+      let prompt = g.met.F.Graftable.prompt (height g) in
+      let family = g.met.F.Family.numbered in
+      let whole : draft.base * 2 ^ height g ≤ length digests =
+      omega (arith, grafted-whole (shape g) g.F.Family.births family g.met.F.Family.peaked g.N.Chunks.LEN (span g) prompt operations.leaves draft.base (omega (arith, low, count)), stands.count) in
+      let history = c.in_ok-batch.ensures.history digests digests (values draft.base) behind [] (no-step (height g) draft.base digests behind whole)
+      (λ k less. tree_tells (shape g) g.F.Family.births family g.met.F.Family.peaked bytes hash operations digests stands (chunk_node (height g) k) (omega (arith, grafted_born (shape g) (height g) operations.leaves k prompt (omega (arith, less, count)), stands.count)))
+      (subst (λ (d : Draft g.row.H-Digest.Denot). IsHistory (kept_shape (shape g) (height g)) bytes hash d.layers (values draft.base ∷ [])) (sym c.new_batch-draft.ensures) tt) (0, omega arith, refl) begun in
+      subst (λ n. Stands (kept_shape (shape g) (height g)) bytes hash c.apply_batch.new.self (values n)) count
+      (c.in_ok-apply_batch.ensures.stands hash (values draft.base) (values c.chunks_over-count.result) (values draft.base ∷ []) history (1, omega arith, refl) begun);
+  cause = tt;
+}
 
 pub follow-requires-clause-fresh : goal.follow-requires-clause-fresh
 follow-requires-clause-fresh g c = (ap (λ (d : Draft g.row.H-Digest.Denot). d.replaced) c.new_batch-draft.ensures, ap (λ (d : Draft g.row.H-Digest.Denot). d.added) c.new_batch-draft.ensures)
@@ -125,6 +126,3 @@ returns-in_err-apply_batch g c = record {
       let exit = err_from_is_err_and c.from_residual-in_err-apply_batch.result c.from_residual-in_err-apply_batch.ensures.1 in
       rw (exit.1, exit.2) refl;
 }
-
-pub returns-clause-cause : goal.returns-clause-cause
-returns-clause-cause g c = tt

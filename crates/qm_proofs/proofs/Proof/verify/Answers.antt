@@ -40,14 +40,14 @@ returns-in-Some-clause-speaks g c = λ list inactive few low is yes_is.
     (speaks hash g.D.Digest.SIZE g.met.H.Hasher.sized shape g.F.Family.births g.met.F.Family.numbered g.met.F.Family.peaked born list items c.args.start inactive few low proof
     (all_sized g.D.Digest.bytes g.D.Digest.SIZE g.met.D.Digest.sized c.args.self.now.digests.items) said)
 
-pub returns-then-not-is_about-clause-answer : goal.returns-then-not-is_about-clause-answer
-returns-then-not-is_about-clause-answer g c =
-    let long = length-map c.args.elements.now g.E.Spelled.spelling in
-    verdict_unfit g.H.Hasher.hash g.F.Family.shape (map g.E.Spelled.spelling c.args.elements.now) c.args.start (proof_view g.D.Digest.bytes c.args.self.now) (g.D.Digest.bytes c.args.root.now)
-    (λ few some within inactive. absurd (false≢true (sym c.if-not-is_about.true ∙ c.is_about.ensures.1 (few, omega (arith, some, long), omega (arith, within, long, c.get.ensures), inactive))))
-
-pub returns-then-not-is_about-clause-speaks : goal.returns-then-not-is_about-clause-speaks
-returns-then-not-is_about-clause-speaks g c = λ list inactive few low is yes_is. absurd (false≢true yes_is)
+pub returns-then-not-is_about : goal.returns-then-not-is_about
+returns-then-not-is_about g c = record {
+  answer =
+      let long = length-map c.args.elements.now g.E.Spelled.spelling in
+      verdict_unfit g.H.Hasher.hash g.F.Family.shape (map g.E.Spelled.spelling c.args.elements.now) c.args.start (proof_view g.D.Digest.bytes c.args.self.now) (g.D.Digest.bytes c.args.root.now)
+      (λ few some within inactive. absurd (false≢true (sym c.if-not-is_about.true ∙ c.is_about.ensures.1 (few, omega (arith, some, long), omega (arith, within, long, c.get.ensures), inactive))));
+  speaks = λ list inactive few low is yes_is. absurd (false≢true yes_is);
+}
 
 pub root-requires-clause-few : goal.root-requires-clause-few
 root-requires-clause-few g c = (c.is_about.ensures.0 c.if-not-is_about.false).0
@@ -61,9 +61,8 @@ root-requires-clause-within g c = omega (arith, (c.is_about.ensures.0 c.if-not-i
 pub root-requires-clause-inactive : goal.root-requires-clause-inactive
 root-requires-clause-inactive g c = (c.is_about.ensures.0 c.if-not-is_about.false).3
 
-pub returns-in-None-clause-answer : goal.returns-in-None-clause-answer
-returns-in-None-clause-answer g c =
-    verdict_none g.H.Hasher.hash g.F.Family.shape (map g.E.Spelled.spelling c.args.elements.now) c.args.start (proof_view g.D.Digest.bytes c.args.self.now) (g.D.Digest.bytes c.args.root.now) c.in-None.ensures
-
-pub returns-in-None-clause-speaks : goal.returns-in-None-clause-speaks
-returns-in-None-clause-speaks g c = λ list inactive few low is yes_is. absurd (false≢true yes_is)
+pub returns-in-None : goal.returns-in-None
+returns-in-None g c = record {
+  answer = verdict_none g.H.Hasher.hash g.F.Family.shape (map g.E.Spelled.spelling c.args.elements.now) c.args.start (proof_view g.D.Digest.bytes c.args.self.now) (g.D.Digest.bytes c.args.root.now) c.in-None.ensures;
+  speaks = λ list inactive few low is yes_is. absurd (false≢true yes_is);
+}

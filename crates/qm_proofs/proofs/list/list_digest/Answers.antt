@@ -8,31 +8,29 @@ use Rattle.qm_proofs.proofs.list.list_digest.Goals as goal
 pub place-position-requires : goal.place-position-requires
 place-position-requires g c = c.requires
 
-pub returns-in_err-add-in-Some-clause-digests : goal.returns-in_err-add-in-Some-clause-digests
-returns-in_err-add-in-Some-clause-digests g c =
+pub returns-in_err-add-in-Some : goal.returns-in_err-add-in-Some
+returns-in_err-add-in-Some g c =
     let exit = err_from_is_err_and c.from_residual.result c.from_residual.ensures.1 in
-    rw exit.1 tt
+    record {
+      digests = rw exit.1 tt;
+      cause = rw (exit.1, exit.2) (inl refl);
+    }
 
-pub returns-in_err-add-in-Some-clause-cause : goal.returns-in_err-add-in-Some-clause-cause
-returns-in_err-add-in-Some-clause-cause g c =
-    let exit = err_from_is_err_and c.from_residual.result c.from_residual.ensures.1 in
-    rw (exit.1, exit.2) (inl refl)
+pub returns-in_ok-add-in-Some : goal.returns-in_ok-add-in-Some
+returns-in_ok-add-in-Some g c = record {
+  digests =
+      let old = c.args.digests.now.items in
+      ap (map Some) c.in_ok-add-in-Some.ensures ∙ map-append Some old (c.in-Some.digest ∷ [])
+      ∙ ap (λ o. map Some old ++ o ∷ []) (c.in-Some.ensures ∙ ap (g.N.Nodes.node_at c.args.nodes.now) c.place-position.ensures);
+  cause = tt;
+}
 
-pub returns-in_ok-add-in-Some-clause-digests : goal.returns-in_ok-add-in-Some-clause-digests
-returns-in_ok-add-in-Some-clause-digests g c =
-    let old = c.args.digests.now.items in
-    ap (map Some) c.in_ok-add-in-Some.ensures ∙ map-append Some old (c.in-Some.digest ∷ [])
-    ∙ ap (λ o. map Some old ++ o ∷ []) (c.in-Some.ensures ∙ ap (g.N.Nodes.node_at c.args.nodes.now) c.place-position.ensures)
-
-pub returns-in_ok-add-in-Some-clause-cause : goal.returns-in_ok-add-in-Some-clause-cause
-returns-in_ok-add-in-Some-clause-cause g c = tt
-
-pub returns-in-None-clause-digests : goal.returns-in-None-clause-digests
-returns-in-None-clause-digests g c = tt
-
-pub returns-in-None-clause-cause : goal.returns-in-None-clause-cause
-returns-in-None-clause-cause g c =
-    let at = g.N.Nodes.node_at c.args.nodes.now in
-    let p = g.F.Family.shape.position c.args.node in
-    let none = c.in-None.ensures ∙ ap at c.place-position.ensures in
-    inr (p, ap (λ o. cond (is_none o) (Some p) None) (sym none), ap ElementPruned (c.get.ensures ∙ c.place-position.ensures))
+pub returns-in-None : goal.returns-in-None
+returns-in-None g c = record {
+  digests = tt;
+  cause =
+      let at = g.N.Nodes.node_at c.args.nodes.now in
+      let p = g.F.Family.shape.position c.args.node in
+      let none = c.in-None.ensures ∙ ap at c.place-position.ensures in
+      inr (p, ap (λ o. cond (is_none o) (Some p) None) (sym none), ap ElementPruned (c.get.ensures ∙ c.place-position.ensures));
+}

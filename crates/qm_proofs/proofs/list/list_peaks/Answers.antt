@@ -8,19 +8,23 @@ use Rattle.qm_proofs.proofs.Halving.{peak_within}
 use Rattle.qm_proofs.proofs.Listing.{lacks_first, lacks_later, none_lacked, positions_next, positions_around}
 use Rattle.qm_proofs.proofs.list.list_peaks.Goals as goal
 
-pub returns-in_err-list_node-clause-cause : goal.returns-in_err-list_node-clause-cause
-returns-in_err-list_node-clause-cause g c =
+pub returns-in_err-list_node : goal.returns-in_err-list_node
+returns-in_err-list_node g c =
     let exit = err_from_is_err_and c.from_residual.result c.from_residual.ensures.1 in
-    let at = g.N.Nodes.node_at c.args.nodes.now in
-    let position = g.F.Family.shape.position in
-    let f = λ (p : Node). needed c.args.start c.args.end p.height p.index in
-    let all = peaks g.F.Family.shape c.args.leaves in
-    let before = map position (flat_map f (take c.peaks.number all)) in
-    let own = map position (f c.peak-peak.result) in
-    let behind = map position (flat_map f (drop (c.peaks.number + 1) all)) in
-    rw (exit.1, exit.2)
-    (lacks_later at before (own ++ behind) _ _ (positions_around f position all c.peaks.number c.peak-peak.result c.peak-peak.ensures) (none_lacked at c.peaks.digests.items before c.peaks.invariant)
-    (lacks_first at own behind (own ++ behind) _ refl c.in_err-list_node.ensures.cause))
+    record {
+      digests = rw exit.1 tt;
+      cause =
+          let at = g.N.Nodes.node_at c.args.nodes.now in
+          let position = g.F.Family.shape.position in
+          let f = λ (p : Node). needed c.args.start c.args.end p.height p.index in
+          let all = peaks g.F.Family.shape c.args.leaves in
+          let before = map position (flat_map f (take c.peaks.number all)) in
+          let own = map position (f c.peak-peak.result) in
+          let behind = map position (flat_map f (drop (c.peaks.number + 1) all)) in
+          rw (exit.1, exit.2)
+          (lacks_later at before (own ++ behind) _ _ (positions_around f position all c.peaks.number c.peak-peak.result c.peak-peak.ensures) (none_lacked at c.peaks.digests.items before c.peaks.invariant)
+          (lacks_first at own behind (own ++ behind) _ refl c.in_err-list_node.ensures.cause));
+    }
 
 pub peaks-preserved : goal.peaks-preserved
 peaks-preserved g c =
@@ -43,16 +47,11 @@ pub list_node-requires : goal.list_node-requires
 list_node-requires g c =
     omega (arith, c.requires, peak_within g.F.Family.shape g.F.Family.births g.met.F.Family.numbered g.met.F.Family.peaked c.args.leaves c.peaks.number c.peak-peak.result c.requires c.peak-peak.ensures)
 
-pub returns-in_err-list_node-clause-digests : goal.returns-in_err-list_node-clause-digests
-returns-in_err-list_node-clause-digests g c =
-    let exit = err_from_is_err_and c.from_residual.result c.from_residual.ensures.1 in
-    rw exit.1 tt
-
-pub returns-clause-digests : goal.returns-clause-digests
-returns-clause-digests g c =
-    let all = peaks g.F.Family.shape c.args.leaves in
-    let past : length all ≤ c.peaks.number = omega (arith, c.peaks-test.false, c.peak_count-count.ensures) in
-    c.peaks.invariant ∙ ap (λ (ps : List Node). map (g.N.Nodes.node_at c.args.nodes.now) (map g.F.Family.shape.position (flat_map (λ p. needed c.args.start c.args.end p.height p.index) ps))) (take_all c.peaks.number all past)
-
-pub returns-clause-cause : goal.returns-clause-cause
-returns-clause-cause g c = tt
+pub returns : goal.returns
+returns g c = record {
+  digests =
+      let all = peaks g.F.Family.shape c.args.leaves in
+      let past : length all ≤ c.peaks.number = omega (arith, c.peaks-test.false, c.peak_count-count.ensures) in
+      c.peaks.invariant ∙ ap (λ (ps : List Node). map (g.N.Nodes.node_at c.args.nodes.now) (map g.F.Family.shape.position (flat_map (λ p. needed c.args.start c.args.end p.height p.index) ps))) (take_all c.peaks.number all past);
+  cause = tt;
+}
