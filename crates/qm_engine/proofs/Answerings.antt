@@ -1,5 +1,5 @@
 -- The loop over the lines of an input: one line more, and its ends.
-use Rattle.std.proofs.Common.{◌≡◌, inl, ◌≤◌, ◌<◌, ℕ, suc, ◌+◌, List, [], ◌∷◌, ◌++◌, length, take, Option, Some, None, IfSome, arith, refl, sym, ◌∙◌, ap, subst}
+use Rattle.std.proofs.Common.{◌≡◌, ◌≢◌, inl, ◌≤◌, ◌<◌, ℕ, suc, ◌+◌, List, [], ◌∷◌, ◌++◌, length, length-append, take, Option, Some, None, IfSome, option_map, arith, refl, sym, ◌∙◌, ap, subst}
 use Rattle.std.specs.Prelude.{IfNone, IsSome}
 use Rattle.std.proofs.lemmas.List.{flat_map_more}
 use Rattle.qm_model.specs.Operations.{Bytes}
@@ -33,6 +33,8 @@ use Rattle.qm_engine.specs.Stores.{HasLog, IsLeft}
 use Rattle.qm_store.specs.declared.Store as stores
 use Rattle.qm_machine.specs.Sound.{IsSteady}
 use Rattle.qm_engine.specs.declared.words.Words as words
+use Rattle.qm_engine.specs.declared.answers.Ending.TheVariants as endings
+use Rattle.qm_engine.specs.declared.runs.End.TheVariants as ends
 use Rattle.qm_engine.specs.declared.session.Session.{Session}
 use Rattle.qm_engine.specs.Session.{Stands, IsChosen}
 use Rattle.qm_engine.specs.Runs.{after, IsOwnStore, IsOwnLeft}
@@ -197,3 +199,60 @@ none-then (Some x) next p = tt
 pub some-then : {X : Type 0} (o : Option X) {P Q : X → Type 0} → IfSome o P → ((x : X) → P x → Q x) → IfSome o Q
 some-then None p next = tt
 some-then (Some x) p next = next x p
+
+-- endings, each of which is no other
+pub memory_cause : (endings.Memory ≢ endings.Done) × (endings.Memory ≢ endings.BadLine)
+memory_cause = (λ e. absurd (cc e), λ e. absurd (cc e))
+
+pub fault_cause : (endings.StoreFault ≢ endings.Done) × (endings.StoreFault ≢ endings.BadLine)
+fault_cause = (λ e. absurd (cc e), λ e. absurd (cc e))
+
+pub bad-not_done : endings.BadLine ≢ endings.Done
+bad-not_done e = cc
+
+pub bad-no_fault : Some endings.BadLine ≢ Some endings.StoreFault
+bad-no_fault e = cc
+
+pub memory-no_fault : Some endings.Memory ≢ Some endings.StoreFault
+memory-no_fault e = cc
+
+pub memory-not_bad : Some endings.Memory ≢ Some endings.BadLine
+memory-not_bad e = cc
+
+pub none-not_some : {X : Type 0} (x : X) → None ≢ Some x
+none-not_some x e = cc
+
+pub end-memory_not_done : ends.Memory ≢ ends.Done
+end-memory_not_done e = cc
+
+pub end-fault_not_done : ends.StoreFault ≢ ends.Done
+end-fault_not_done e = cc
+
+pub end-memory_no_fault : Some ends.Memory ≢ Some ends.StoreFault
+end-memory_no_fault e = cc
+
+pub memory-not_fault : endings.Memory ≢ endings.StoreFault
+memory-not_fault e = cc
+
+pub done-not_bad : endings.Done ≢ endings.BadLine
+done-not_bad e = cc
+
+pub done-not_fault : endings.Done ≢ endings.StoreFault
+done-not_fault e = cc
+
+pub end-memory_not_fault : ends.Memory ≢ ends.StoreFault
+end-memory_not_fault e = cc
+
+pub end-done_not_fault : ends.Done ≢ ends.StoreFault
+end-done_not_fault e = cc
+
+-- one more at most
+pub one_at_most : (n : ℕ) → n ≤ n + 1
+one_at_most n = omega arith
+
+-- the command that a line is
+pub line_is : {o : Option (Command Bytes Bytes AnyPolicy)} {c : Command Bytes Bytes AnyPolicy} {line : Option (Line Policy)} → o ≡ Some c → option_map byte_line o ≡ line → Some (byte_line c) ≡ line
+line_is {line = line} is told = subst (λ o. option_map byte_line o ≡ line) is told
+
+pub one_longer : {A : Type 0} {new : List A} (old : List A) (x : A) → new ≡ old ++ x ∷ [] → length new ≡ length old + 1
+one_longer old x is = ap length is ∙ length-append old (x ∷ [])

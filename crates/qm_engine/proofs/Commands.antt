@@ -1,5 +1,5 @@
 -- Each command over what a run holds, as lemmas over plain values: what all of them use.
-use Rattle.std.proofs.Common.{◌≡◌, ◌≢◌, ℕ, ◌≤◌, Bool, true, false, cond, List, ◌∷◌, length, get_or, set, Option, Some, None, arith, refl, sym, ◌∙◌, ap, subst, IfSome, append-nil}
+use Rattle.std.proofs.Common.{◌≡◌, ◌≢◌, ℕ, zero, suc, ◌≤◌, Bool, true, false, cond, List, [], ◌∷◌, length, get_or, set, Option, Some, None, arith, refl, sym, ◌∙◌, ap, subst, IfSome, append-nil}
 use Rattle.std.specs.Prelude.{Contains, is_some}
 use Rattle.std.proofs.lemmas.List.{length-set}
 use Rattle.qm_model.specs.Live.{floor}
@@ -11,7 +11,7 @@ use Rattle.qm_model.specs.Batches.{Chain, IsAmong, Apart}
 use Rattle.qm_machine.specs.Lines.{Answer}
 use Rattle.qm_machine.specs.Lines as lines
 use Rattle.qm_model.specs.Refused as refusals
-use Rattle.qm_machine.specs.Machine.{State, slot_at, with_slot, with_database, unless}
+use Rattle.qm_machine.specs.Machine.{State, initial, slot_at, with_slot, with_database, unless}
 use Rattle.qm_machine.specs.Machine as machine
 use Rattle.qm_model.proofs.Chains.{Contains-more, IsAmong-more}
 use Rattle.qm_base.specs.declared.error.JournalError.TheVariants as journal
@@ -134,6 +134,26 @@ module _ {X C B S M : Type 0} (members : stores.Ghosts C) (means : words.Ghosts 
   SlotIs-more had new (Staged b) (machine.staged chain above ws keys) h = (h.0, IsAmong-more had new chain h.1, IsAmong-more had new above h.2)
   SlotIs-more had new (Merkleized b) (machine.merkleized chain tip) h = (h.0, IsAmong-more had new chain h.1, Contains-more had new tip h.2)
   SlotIs-more had new a b h = absurd h
+
+  -- a closed store, before any command
+  pub begun : (c : C) (table : List (Slot B S M)) (log : Log) (choices : List ℕ) → table ≡ Gone ∷ [] → IfSome (members.told c) (λ t. t.start ≡ members.start c)
+      → HasLog means.scheme (members.told c) log → log.start ≤ log.stable → log.stable ≤ length log.list → Holds members means (Store c) table 0 (initial log choices)
+  begun c table log choices is starts has low within =
+      subst (λ (t : List (Slot B S M)). Holds members means (Store c) t 0 (initial log choices)) (sym is)
+      (record {
+        database = tt;
+        store = record { start = sym (some_is (members.told c) has.stored (λ t. t.start ≡ members.start c) has.is starts) ∙ has.has.start; told = has };
+        start = low;
+        low = tt;
+        within = within;
+        count = refl;
+        lengths = refl;
+        slots = each;
+      })
+    where
+      each : (h : ℕ) → SlotIs members means [] (get_or (Gone ∷ []) h Gone) (slot_at (machine.gone ∷ []) h)
+      each zero = tt
+      each (suc h) = tt
 
   -- a database is open where one is held
   pub with_held : (x : X) (had : List (List Operation)) (d : Option (List Operation)) (s : State) (f : List Operation → Answer × State) (Q : Answer × State → Type 0)

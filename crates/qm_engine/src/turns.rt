@@ -14,7 +14,7 @@ mod staged;
 use crate::engine::{Batching, Engine, Lasting, Neighbours, Proving, Reading, Staging};
 use crate::session::{Of, Session, Turn};
 use crate::table::Slot;
-use batches::{apply, batch, child, del, merkleize, put, tip};
+use batches::{apply, batch, child, merkleize, put, tip};
 use lasting::{close, commit, crash, destroy, open, prune, sync};
 use ordered::{Question, Side, ask, beside};
 use proofs::{batch_proof, pins, prove};
@@ -66,8 +66,10 @@ fn batch_turn<X: Staging<C>, C: Store, P: Policy<X::Family, X::Key, X::Value> + 
         BatchCommand::Batch => batch::<X, C>(alloc, session),
         BatchCommand::Child(number, keep) => child::<X, C>(alloc, session, *number, *keep),
         BatchCommand::Tip => tip::<X, C>(alloc, session),
-        BatchCommand::Put(number, key, value) => put::<X, C>(alloc, session, *number, key, value),
-        BatchCommand::Del(number, key) => del::<X, C>(alloc, session, *number, key),
+        BatchCommand::Put(number, key, value) => {
+            put::<X, C>(alloc, session, *number, key, Some(value))
+        }
+        BatchCommand::Del(number, key) => put::<X, C>(alloc, session, *number, key, None),
         BatchCommand::Merkleize(number, policy, metadata) => merkleize::<X, C, P>(
             alloc, session, *number, policy, metadata,
         ),

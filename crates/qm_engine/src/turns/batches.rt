@@ -97,31 +97,33 @@ pub fn tip<X: Batching<C>, C: Store>(
     }
 }
 
-// Writes copies of key and value.
+// Writes copies of key and value, or deletes a copy of the key.
 fn write<X: Batching<C>, C: Store>(
     alloc: Global,
     batch: X::Batch,
     key: &X::Key,
-    value: &X::Value,
+    value: Option<&X::Value>,
 ) -> Result<X::Batch, AllocError>
     ensures { IfOk result (λ b. (chain above : Chain) (ws : List Write) → X.is_batch batch chain above ws
-        → X.is_batch b chain above (ws ++ record { key = X.Key.bytes key.now; value = Some (X.Value.bytes value.now) } ∷ [])) }
+        → X.is_batch b chain above (ws ++ record { key = X.Key.bytes key.now; value = option_map (λ v. X.Value.bytes v.now) value.entry } ∷ [])) }
 {
     let key = key.twin(alloc)?;
-    let value = value.twin(alloc)?;
-    X::put(alloc, batch, key, value)
+    match value {
+        None => X::del(alloc, batch, key),
+        Some(value) => X::put(alloc, batch, key, value.twin(alloc)?),
+    }
 }
 
-/// Writes a value for a key in a batch.
-pub fn put<X: Batching<C>, C: Store>(
+/// Writes a value for a key in a batch, or deletes the key where there is none.
+pub fn put<'a, X: Batching<C>, C: Store>(
     alloc: Global,
     session: &mut Of<X, C>,
     number: u64,
-    key: &X::Key,
-    value: &X::Value,
+    key: &'a X::Key,
+    value: Option<&'a X::Value>,
 ) -> Turn<X::Key, X::Value, X::Digest>
     ensures machine { Obeys C.Store X.Words X.Key.bytes X.Value.bytes X.Digest.bytes session.old session.new result
-        (λ s. machine.put s number (X.Key.bytes key.now) (X.Value.bytes value.now)) }
+        (λ s. machine.put_in s number (record { key = X.Key.bytes key.now; value = option_map (λ v. X.Value.bytes v.now) value.entry }) (machine.slot_at s.table number)) }
     ensures rest { session.new ≡ record session.old { table = session.new.table } }
     ensures never { result ≢ Turn.StoreFault }
 {
@@ -129,43 +131,6 @@ pub fn put<X: Batching<C>, C: Store>(
         return no_such_handle(number);
     };
     match write::<X, C>(alloc, batch, key, value) {
-        Err(_) => Turn::Memory,
-        Ok(batch) => {
-            put_slot(&mut session.table, number, Slot::Writing(batch));
-            Turn::Reply(Reply::Done)
-        }
-    }
-}
-
-// Deletes a copy of the key.
-fn erase<X: Batching<C>, C: Store>(
-    alloc: Global,
-    batch: X::Batch,
-    key: &X::Key,
-) -> Result<X::Batch, AllocError>
-    ensures { IfOk result (λ b. (chain above : Chain) (ws : List Write) → X.is_batch batch chain above ws
-        → X.is_batch b chain above (ws ++ record { key = X.Key.bytes key.now; value = None } ∷ [])) }
-{
-    let key = key.twin(alloc)?;
-    X::del(alloc, batch, key)
-}
-
-/// Deletes a key in a batch.
-pub fn del<X: Batching<C>, C: Store>(
-    alloc: Global,
-    session: &mut Of<X, C>,
-    number: u64,
-    key: &X::Key,
-) -> Turn<X::Key, X::Value, X::Digest>
-    ensures machine { Obeys C.Store X.Words X.Key.bytes X.Value.bytes X.Digest.bytes session.old session.new result
-        (λ s. machine.del s number (X.Key.bytes key.now)) }
-    ensures rest { session.new ≡ record session.old { table = session.new.table } }
-    ensures never { result ≢ Turn.StoreFault }
-{
-    let Some(batch) = take_writing(&mut session.table, number) else {
-        return no_such_handle(number);
-    };
-    match erase::<X, C>(alloc, batch, key) {
         Err(_) => Turn::Memory,
         Ok(batch) => {
             put_slot(&mut session.table, number, Slot::Writing(batch));

@@ -1,6 +1,7 @@
 use Rattle.std.proofs.Common.{◌∷◌, [], ◌++◌, ap, ◌∙◌, refl}
 use Rattle.qm_machine.specs.Text.{reply_line}
 use Rattle.qm_engine.proofs.Loops.{reply-at}
+use Rattle.qm_engine.proofs.Answerings.{memory_cause, fault_cause, memory-no_fault, none-not_some}
 use Rattle.qm_engine.proofs.answers.answer.Goals as goal
 
 pub returns-in-Ok : goal.returns-in-Ok
@@ -15,7 +16,7 @@ returns-in-Ok g c =
       cause = tt;
       beside = (handles.more, handles.beside, reply-at _ c.in-Reply.is handles.chosen);
       later = handles.later;
-      fault = λ e. absurd (cc e);
+      fault = λ e. absurd (none-not_some _ e);
       opened = c.turn-session.ensures.opened;
     }
 
@@ -26,10 +27,10 @@ returns-in-Err g c =
       machine = λ s k sound more rest told choices. tt;
       left = c.turn-session.ensures.left;
       kept = rw c.in-Err.is at c.push_line-pushed.ensures.err;
-      cause = (λ e. absurd (cc e), λ e. absurd (cc e));
+      cause = memory_cause;
       beside = (handles.more, handles.beside, tt);
       later = handles.later;
-      fault = λ e. absurd (cc e);
+      fault = λ e. absurd (memory-no_fault e);
       opened = c.turn-session.ensures.opened;
     }
 
@@ -40,10 +41,10 @@ returns-in-Memory g c =
       machine = λ s k sound more rest told choices. tt;
       left = c.turn-session.ensures.left;
       kept = refl;
-      cause = (λ e. absurd (cc e), λ e. absurd (cc e));
+      cause = memory_cause;
       beside = (handles.more, handles.beside, tt);
       later = handles.later;
-      fault = λ e. absurd (cc e);
+      fault = λ e. absurd (memory-no_fault e);
       opened = c.turn-session.ensures.opened;
     }
 
@@ -54,7 +55,7 @@ returns-in-StoreFault g c =
       machine = λ s k sound more rest told choices. tt;
       left = c.turn-session.ensures.left;
       kept = refl;
-      cause = (λ e. absurd (cc e), λ e. absurd (cc e));
+      cause = fault_cause;
       beside = (handles.more, handles.beside, tt);
       later = handles.later;
       fault = λ e. handles.fault c.in-StoreFault.is;

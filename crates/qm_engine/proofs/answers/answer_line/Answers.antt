@@ -1,4 +1,4 @@
-use Rattle.std.proofs.Common.{◌≡◌, ◌++◌, ◌∷◌, [], Option, Some, IfSome, ap, subst, sym}
+use Rattle.std.proofs.Common.{◌≡◌, ◌∙◌, ◌++◌, ◌∷◌, [], Option, Some, IfSome, ap, le_refl, refl, subst, sym}
 use Rattle.std.specs.Prelude.{IfNone, is_some}
 use Rattle.qm_model.specs.Batches.{Apart}
 use Rattle.qm_machine.specs.Grammar.{line_of}
@@ -13,49 +13,72 @@ use Rattle.qm_store.specs.Given.{store_given}
 use Rattle.qm_engine.specs.Answered.{after_line}
 use Rattle.qm_engine.proofs.LastingStores.{turns-self}
 use Rattle.qm_engine.proofs.Commands.{left_none}
-use Rattle.qm_engine.proofs.Answerings.{none-any, none-then, same_turn, same_chosen, some-then}
+use Rattle.qm_engine.proofs.Loops.{ended-at}
+use Rattle.qm_engine.proofs.Answerings.{none-any, none-then, same_turn, same_chosen, some-then, memory_cause, memory-no_fault, memory-not_bad, bad-not_done, bad-no_fault, none-not_some, one_at_most, line_is}
 use Rattle.qm_engine.proofs.answers.answer_line.Goals as goal
 
-pub returns-in-Ok-Some-clause-machine : goal.returns-in-Ok-Some-clause-machine
-returns-in-Ok-Some-clause-machine g c = λ s k sound more rest told choices.
-    let line : Some (byte_line c.in-Ok-Some.command) ≡ line_of c.args.line.now = rw c.in-Ok-Some.field-0-is at c.in-Ok-Some.ensures in
-    subst (λ (o : Option (Line Policy)). IfNone c.answer-answered.result.1 (IfSome o (λ command. Apart g.X.Words.scheme.root (turn g.X.Words.scheme policies s command).1.had
-    → (c.answer-answered.new.text.items ≡ c.args.text.now.items ++ (reply_line (turn g.X.Words.scheme policies s command).0 ++ 10 ∷ []))
-    × Holds g.C.Store g.X.Words c.answer-answered.result.0.held c.answer-answered.result.0.table.items c.answer-answered.result.0.opened (turn g.X.Words.scheme policies s command).1))) line
-    (subst (λ (next : Answer × State). IfNone c.answer-answered.result.1 (Apart g.X.Words.scheme.root next.1.had → (c.answer-answered.new.text.items ≡ c.args.text.now.items ++ (reply_line next.0 ++ 10 ∷ []))
-    × Holds g.C.Store g.X.Words c.answer-answered.result.0.held c.answer-answered.result.0.table.items c.answer-answered.result.0.opened next.1)) (same_turn g.X.Words.scheme s c.in-Ok-Some.command) (c.answer-answered.ensures.machine s k sound more rest told choices))
+pub returns-in-Err : goal.returns-in-Err
+returns-in-Err g c =
+    let told = g.C.Store.told (store_given g.X.Words.inside c.args.session.held) in
+    record {
+      machine = λ s k sound more rest told choices. tt;
+      left = λ s k sound apart. left_none g.X.Words.scheme s.log _ told k.store.told;
+      kept = refl;
+      command = tt;
+      unused = λ none. refl;
+      bad = λ e. absurd (memory-not_bad e);
+      fault_command = λ e. absurd (memory-no_fault e);
+      not_done = memory_cause.0;
+      beside = ([], turns-self told, tt);
+      later = le_refl _;
+      fault = λ e. absurd (memory-no_fault e);
+      opened = one_at_most c.args.session.opened;
+    }
 
-pub returns-in-Err-clause-left : goal.returns-in-Err-clause-left
-returns-in-Err-clause-left g c = λ s k sound apart. left_none g.X.Words.scheme s.log _ (g.C.Store.told (store_given g.X.Words.inside c.args.session.held)) k.store.told
+pub returns-in-Ok-None : goal.returns-in-Ok-None
+returns-in-Ok-None g c =
+    let told = g.C.Store.told (store_given g.X.Words.inside c.args.session.held) in
+    record {
+      machine = λ s k sound more rest told choices. tt;
+      left = λ s k sound apart. left_none g.X.Words.scheme s.log _ told k.store.told;
+      kept = refl;
+      command = tt;
+      unused = λ none. refl;
+      bad = λ e. sym (rw c.in-Ok-None.field-0-is at c.in-Ok-None.ensures);
+      fault_command = λ e. absurd (bad-no_fault e);
+      not_done = bad-not_done;
+      beside = ([], turns-self told, tt);
+      later = le_refl _;
+      fault = λ e. absurd (bad-no_fault e);
+      opened = one_at_most c.args.session.opened;
+    }
 
-pub returns-in-Ok-None-clause-left : goal.returns-in-Ok-None-clause-left
-returns-in-Ok-None-clause-left g c = λ s k sound apart. left_none g.X.Words.scheme s.log _ (g.C.Store.told (store_given g.X.Words.inside c.args.session.held)) k.store.told
-
-pub returns-in-Ok-Some-clause-left : goal.returns-in-Ok-Some-clause-left
-returns-in-Ok-Some-clause-left g c = λ s k sound apart.
-    let line : Some (byte_line c.in-Ok-Some.command) ≡ line_of c.args.line.now = rw c.in-Ok-Some.field-0-is at c.in-Ok-Some.ensures in
-    subst (λ (o : Option (Line Policy)). IsLeft g.X.Words.scheme (g.C.Store.told (store_given g.X.Words.inside c.answer-answered.result.0.held)) s.log (after_line g.X.Words.scheme policies s o).log) line
-    (subst (λ (next : Answer × State). IsLeft g.X.Words.scheme (g.C.Store.told (store_given g.X.Words.inside c.answer-answered.result.0.held)) s.log next.1.log) (same_turn g.X.Words.scheme s c.in-Ok-Some.command) (c.answer-answered.ensures.left s k sound apart))
-
-pub returns-in-Err-clause-beside : goal.returns-in-Err-clause-beside
-returns-in-Err-clause-beside g c = ([], turns-self (g.C.Store.told (store_given g.X.Words.inside c.args.session.held)), tt)
-
-pub returns-in-Ok-None-clause-beside : goal.returns-in-Ok-None-clause-beside
-returns-in-Ok-None-clause-beside g c = ([], turns-self (g.C.Store.told (store_given g.X.Words.inside c.args.session.held)), tt)
-
-pub returns-in-Ok-Some-clause-beside : goal.returns-in-Ok-Some-clause-beside
-returns-in-Ok-Some-clause-beside g c =
-    let line : Some (byte_line c.in-Ok-Some.command) ≡ line_of c.args.line.now = rw c.in-Ok-Some.field-0-is at c.in-Ok-Some.ensures in
-    let beside = c.answer-answered.ensures.beside in (
-      beside.0,
-      beside.1,
-      subst (λ (o : Option (Line Policy)). IfNone c.answer-answered.result.1 (IfSome o (λ command. IsChosen command beside.0))) line (none-then c.answer-answered.result.1 (same_chosen c.in-Ok-Some.command beside.0) beside.2),
-    )
-
-pub returns-in-Ok-Some-clause-command : goal.returns-in-Ok-Some-clause-command
-returns-in-Ok-Some-clause-command g c =
-    let line : Some (byte_line c.in-Ok-Some.command) ≡ line_of c.args.line.now = rw c.in-Ok-Some.field-0-is at c.in-Ok-Some.ensures in
-    none-any c.answer-answered.result.1 (ap is_some (sym line))
-
-pub returns-in-Ok-Some-clause-not_done : goal.returns-in-Ok-Some-clause-not_done
-returns-in-Ok-Some-clause-not_done g c = some-then c.answer-answered.result.1 c.answer-answered.ensures.cause (λ e why. why.0)
+pub returns-in-Ok-Some : goal.returns-in-Ok-Some
+returns-in-Ok-Some g c =
+    let line : Some (byte_line c.in-Ok-Some.command) ≡ line_of c.args.line.now = line_is c.in-Ok-Some.field-0-is c.in-Ok-Some.ensures in
+    let beside = c.answer-answered.ensures.beside in
+    record {
+      machine = λ s k sound more rest told choices.
+          subst (λ (o : Option (Line Policy)). IfNone c.answer-answered.result.1 (IfSome o (λ command. Apart g.X.Words.scheme.root (turn g.X.Words.scheme policies s command).1.had
+          → (c.answer-answered.new.text.items ≡ c.args.text.now.items ++ (reply_line (turn g.X.Words.scheme policies s command).0 ++ 10 ∷ []))
+          × Holds g.C.Store g.X.Words c.answer-answered.result.0.held c.answer-answered.result.0.table.items c.answer-answered.result.0.opened (turn g.X.Words.scheme policies s command).1))) line
+          (subst (λ (next : Answer × State). IfNone c.answer-answered.result.1 (Apart g.X.Words.scheme.root next.1.had → (c.answer-answered.new.text.items ≡ c.args.text.now.items ++ (reply_line next.0 ++ 10 ∷ []))
+          × Holds g.C.Store g.X.Words c.answer-answered.result.0.held c.answer-answered.result.0.table.items c.answer-answered.result.0.opened next.1)) (same_turn g.X.Words.scheme s c.in-Ok-Some.command) (c.answer-answered.ensures.machine s k sound more rest told choices));
+      left = λ s k sound apart.
+          subst (λ (o : Option (Line Policy)). IsLeft g.X.Words.scheme (g.C.Store.told (store_given g.X.Words.inside c.answer-answered.result.0.held)) s.log (after_line g.X.Words.scheme policies s o).log) line
+          (subst (λ (next : Answer × State). IsLeft g.X.Words.scheme (g.C.Store.told (store_given g.X.Words.inside c.answer-answered.result.0.held)) s.log next.1.log) (same_turn g.X.Words.scheme s c.in-Ok-Some.command) (c.answer-answered.ensures.left s k sound apart));
+      kept = c.answer-answered.ensures.kept;
+      command = none-any c.answer-answered.result.1 (ap is_some (sym line));
+      unused = λ none. absurd (none-not_some _ (sym (line ∙ none)));
+      bad = λ e. absurd ((ended-at _ e c.answer-answered.ensures.cause).1 refl);
+      fault_command = λ e. ap is_some (sym line);
+      not_done = some-then c.answer-answered.result.1 c.answer-answered.ensures.cause (λ e why. why.0);
+      beside = (
+        beside.0,
+        beside.1,
+        subst (λ (o : Option (Line Policy)). IfNone c.answer-answered.result.1 (IfSome o (λ command. IsChosen command beside.0))) line (none-then c.answer-answered.result.1 (same_chosen c.in-Ok-Some.command beside.0) beside.2),
+      );
+      later = c.answer-answered.ensures.later;
+      fault = c.answer-answered.ensures.fault;
+      opened = c.answer-answered.ensures.opened;
+    }

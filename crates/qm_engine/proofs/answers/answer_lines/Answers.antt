@@ -14,7 +14,7 @@ use Rattle.qm_engine.specs.Answered.{IsAnswered}
 use Rattle.qm_engine.proofs.LastingStores.{turns-same, turns-through}
 use Rattle.qm_engine.proofs.Loops.{ended-at, none-at, Between, each, log-of, begins-between, none-more, more-parts, Rose-wider}
 use Rattle.qm_engine.proofs.Owned.{own-of}
-use Rattle.qm_engine.proofs.Answerings.{at_next, at_short, line_step, line_goes, line-own, answered_in, answered_at}
+use Rattle.qm_engine.proofs.Answerings.{at_next, at_short, line_step, line_goes, line-own, answered_in, answered_at, memory_cause, memory-not_fault, done-not_bad, done-not_fault}
 use Rattle.qm_engine.proofs.answers.answer_lines.Goals as goal
 
 pub loop-line-init : goal.loop-line-init
@@ -39,13 +39,13 @@ returns-in-Err g c = record {
   machine = each (g.C.Store.told c.args.store) (λ stored is log own choices told.
       answered_at g.X.Words.scheme log choices c.args.input.now 0 c.new-text.result.items _ (omega arith)
       (λ apart. (c.new-text.ensures.items, log-of g.X.Words.scheme policies _ stored log (ap g.C.Store.told c.in-Err.ensures.back ∙ is) own, own.kept)));
-  done = λ e. absurd (cc e);
-  bad = λ e. absurd (cc e);
-  short = λ e. absurd (cc e);
+  done = λ e. absurd (memory_cause.0 e);
+  bad = λ e. absurd (memory_cause.1 e);
+  short = λ e. absurd (memory-not_fault e);
   beside = ([], turns-same (g.C.Store.told c.args.store) _ (ap g.C.Store.told c.in-Err.ensures.back));
   bound = omega arith;
   later = omega (arith, ap g.C.Store.faults c.in-Err.ensures.back);
-  fault = λ e. absurd (cc e);
+  fault = λ e. absurd (memory-not_fault e);
 }
 
 pub returns-in-Some-ended : goal.returns-in-Some-ended
@@ -117,10 +117,10 @@ returns g c =
           (subst (λ xs. Apart m.root (after m policies log xs lines k).had → (c.loop-line.text.items ≡ text_of (answers m policies (initial log xs) (take k lines))) × HasLog m (g.C.Store.told (store_given g.X.Words.inside c.loop-line.session.held)) (after m policies log xs lines k).log × IsKept (engine_of m policies) (after m policies log xs lines k).log) (append-nil choices)
           (λ apart. let at_end = c.loop-line.invariant.machine stored log is own choices [] (rw c.returned-2.ensures.store at told) apart in (at_end.0, (at_end.1).stands.store.told, (at_end.1).sound.kept)))));
       done = λ e. at_end c.args.input.now c.loop-line.rest.now c.loop-line.answered c.loop-line.invariant.at c.in_default.ensures.none;
-      bad = λ e. absurd (cc e);
-      short = λ e. absurd (cc e);
+      bad = λ e. absurd (done-not_bad e);
+      short = λ e. absurd (done-not_fault e);
       beside = rw c.returned-2.ensures.store c.loop-line.invariant.beside;
       bound = omega (arith, c.loop-line.invariant.room);
       later = rw c.returned-2.ensures.store c.loop-line.invariant.later;
-      fault = λ e. absurd (cc e);
+      fault = λ e. absurd (done-not_fault e);
     }

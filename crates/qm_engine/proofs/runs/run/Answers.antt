@@ -10,6 +10,7 @@ use Rattle.qm_engine.specs.Runs.{IsRun, after}
 use Rattle.qm_machine.proofs.Sounds.{kept-low, sound-steady}
 use Rattle.qm_engine.proofs.LastingStores.{turns-same, turns-through}
 use Rattle.qm_engine.proofs.Loops.{ended-at, none-at, Between, each, loop_step, ended_in, ended_at, line_here, log-of, begins-between, goes-between, own-left, none-more, more-parts, Rose-wider}
+use Rattle.qm_engine.proofs.Answerings.{end-memory_not_done, end-memory_not_fault, end-done_not_fault}
 use Rattle.qm_engine.proofs.runs.run.Goals as goal
 
 pub loop-command-init : goal.loop-command-init
@@ -39,11 +40,11 @@ returns-in-Err g c =
       machine = each (g.C.Store.told c.args.store) (λ stored is log own choices told.
           ended_at g.X.Words.scheme g.P.Policy.rules log choices (map f c.args.commands.now) 0 (map a c.new-replies.result.items) _ (omega arith) (ap length none)
           (λ apart. (none, log-of g.X.Words.scheme g.P.Policy.rules _ stored log (ap g.C.Store.told c.in-Err.ensures.back ∙ is) own, own.kept)));
-      done = λ e. absurd (cc e);
-      short = λ e. absurd (cc e);
+      done = λ e. absurd (end-memory_not_done e);
+      short = λ e. absurd (end-memory_not_fault e);
       beside = ([], turns-same (g.C.Store.told c.args.store) _ (ap g.C.Store.told c.in-Err.ensures.back));
       later = omega (arith, ap g.C.Store.faults c.in-Err.ensures.back);
-      fault = λ e. absurd (cc e);
+      fault = λ e. absurd (end-memory_not_fault e);
     }
 
 pub returns-in-Some : goal.returns-in-Some
@@ -119,8 +120,8 @@ returns g c =
           (subst (λ xs. Apart m.root (after m g.P.Policy.rules log xs (map f c.args.commands.now) i).had → (map a c.loop-command.replies.items ≡ answers m g.P.Policy.rules (initial log xs) (take i (map f c.args.commands.now))) × HasLog m (g.C.Store.told (store_given g.X.Words.inside c.loop-command.session.held)) (after m g.P.Policy.rules log xs (map f c.args.commands.now) i).log × IsKept (engine_of m g.P.Policy.rules) (after m g.P.Policy.rules log xs (map f c.args.commands.now) i).log) (append-nil choices)
           (λ apart. let at_end = c.loop-command.invariant.machine stored log is own choices [] (rw c.returned-2.ensures.store at told) apart in (at_end.0, (at_end.1).stands.store.told, (at_end.1).sound.kept)))));
       done = λ e. omega (arith, c.loop-command.invariant.count, c.loop-command.auto.command-index-end, c.loop-command-test.false);
-      short = λ e. absurd (cc e);
+      short = λ e. absurd (end-done_not_fault e);
       beside = rw c.returned-2.ensures.store c.loop-command.invariant.beside;
       later = rw c.returned-2.ensures.store c.loop-command.invariant.later;
-      fault = λ e. absurd (cc e);
+      fault = λ e. absurd (end-done_not_fault e);
     }

@@ -1,7 +1,8 @@
-use Rattle.std.proofs.Common.{◌∷◌, [], ◌++◌, map, ap, ◌∙◌, length, arith, refl, length-append}
+use Rattle.std.proofs.Common.{◌∷◌, [], ◌++◌, map, ap, ◌∙◌, refl}
 use Rattle.std.proofs.lemmas.List.{map-append}
 use Rattle.qm_lines.specs.Views.{answer_view}
 use Rattle.qm_engine.proofs.Loops.{reply-at}
+use Rattle.qm_engine.proofs.Answerings.{end-memory_not_done, end-fault_not_done, end-memory_no_fault, none-not_some, one_longer}
 use Rattle.qm_engine.proofs.runs.step.Goals as goal
 
 pub returns-in-Ok : goal.returns-in-Ok
@@ -15,12 +16,12 @@ returns-in-Ok g c =
             answered.1,
           );
       left = c.turn-session.ensures.left;
-      grown = omega (arith, ap length c.in-Ok.ensures.ok, length-append c.args.replies.now.items (c.in-Reply.reply ∷ []));
+      grown = one_longer c.args.replies.now.items c.in-Reply.reply c.in-Ok.ensures.ok;
       kept = tt;
       not_done = tt;
       beside = (handles.more, handles.beside, reply-at _ c.in-Reply.is handles.chosen);
       later = handles.later;
-      fault = λ e. absurd (cc e);
+      fault = λ e. absurd (none-not_some _ e);
       opened = c.turn-session.ensures.opened;
     }
 
@@ -32,10 +33,10 @@ returns-in-Err g c =
       left = c.turn-session.ensures.left;
       grown = tt;
       kept = c.in-Err.ensures.err;
-      not_done = λ e. absurd (cc e);
+      not_done = end-memory_not_done;
       beside = (handles.more, handles.beside, tt);
       later = handles.later;
-      fault = λ e. absurd (cc e);
+      fault = λ e. absurd (end-memory_no_fault e);
       opened = c.turn-session.ensures.opened;
     }
 
@@ -47,10 +48,10 @@ returns-in-Memory g c =
       left = c.turn-session.ensures.left;
       grown = tt;
       kept = refl;
-      not_done = λ e. absurd (cc e);
+      not_done = end-memory_not_done;
       beside = (handles.more, handles.beside, tt);
       later = handles.later;
-      fault = λ e. absurd (cc e);
+      fault = λ e. absurd (end-memory_no_fault e);
       opened = c.turn-session.ensures.opened;
     }
 
@@ -62,7 +63,7 @@ returns-in-StoreFault g c =
       left = c.turn-session.ensures.left;
       grown = tt;
       kept = refl;
-      not_done = λ e. absurd (cc e);
+      not_done = end-fault_not_done;
       beside = (handles.more, handles.beside, tt);
       later = handles.later;
       fault = λ e. handles.fault c.in-StoreFault.is;

@@ -15,7 +15,7 @@ pub returns-in-Put : goal.returns-in-Put
 returns-in-Put g c = rw c.in-Put.is (performs-beside (λ rest. refl) c.put.ensures.machine c.put.ensures.rest c.put.ensures.never)
 
 pub returns-in-Del : goal.returns-in-Del
-returns-in-Del g c = rw c.in-Del.is (performs-beside (λ rest. refl) c.del.ensures.machine c.del.ensures.rest c.del.ensures.never)
+returns-in-Del g c = rw c.in-Del.is (performs-beside (λ rest. refl) c.put-in-Del.ensures.machine c.put-in-Del.ensures.rest c.put-in-Del.ensures.never)
 
 pub returns-in-Merkleize : goal.returns-in-Merkleize
 returns-in-Merkleize g c = rw c.in-Merkleize.is (performs-reading (λ rest. refl) c.merkleize.ensures.machine c.merkleize.ensures.store c.merkleize.ensures.uses c.merkleize.ensures.opened)
