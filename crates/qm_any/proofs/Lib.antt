@@ -14,5 +14,6 @@ pub mod Staging
 pub mod Taking
 pub mod Telling
 pub mod Trees
+pub mod Unmade
 pub mod Unapplied
 pub mod ScannedKeys

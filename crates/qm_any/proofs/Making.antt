@@ -182,11 +182,6 @@ plan-behind plan base tip is = sym (take-append-drop (length base) tip) ∙ ap�
 pub plan-length : (plan : Plan) (base tip : List Operation) → IsPlan plan base tip → length base + length plan.operations ≡ length tip
 plan-length plan base tip is = sym (length-append base plan.operations) ∙ ap length (sym (plan-behind plan base tip is))
 
--- and their spellings
-pub plan-spelled : (form : Form) (plan : Plan) (base tip : List Operation) (items : List Bytes) → IsPlan plan base tip → items ≡ map (spelling form) plan.operations → map (spelling form) base ++ items ≡ map (spelling form) tip
-plan-spelled form plan base tip items is spelt =
-    ap (λ xs. map (spelling form) base ++ xs) spelt ∙ sym (map-append (spelling form) base plan.operations) ∙ ap (map (spelling form)) (sym (plan-behind plan base tip is))
-
 module _ {D : Type 0} {hashing : Hashing D} (parent : Made D) (keep : ℕ) (chain above : Chain)
     (few : keep ≤ suc (length parent.bounds.ancestors)) (made : IsMade hashing parent above chain.base) (kept : chain.kept ≡ kept_by keep above chain.base) where
   -- a child's steps start from the first lists from which the parent's start, behind its own

@@ -1,7 +1,7 @@
 -- Keys that were read, with what was found of them.
-use Rattle.std.proofs.Common.{◌≡◌, ◌∙◌, ap, ap₂, sym, subst, refl, ℕ, List, [], ◌∷◌, ◌++◌, length, map, Option}
+use Rattle.std.proofs.Common.{◌≡◌, ◌∙◌, ap, ap₂, sym, subst, refl, ℕ, List, [], ◌∷◌, ◌++◌, map, Option}
 use Rattle.std.specs.Prelude.{All, option_map}
-use Rattle.std.proofs.lemmas.List.{append-nil, length-map, map-append}
+use Rattle.std.proofs.lemmas.List.{append-nil, map-append}
 use Rattle.std.proofs.lemmas.List.Elements.{All-append, All-cons, All-head, All-map, All-nil, All-tail}
 use Rattle.qm_model.specs.Operations.{Bytes, Operation}
 use Rattle.qm_model.specs.Slots.{slotted}
@@ -16,11 +16,11 @@ use Rattle.qm_step.proofs.Steps.{map-twice}
 use Rattle.qm_any.specs.Databases.{read_under}
 use Rattle.qm_any.proofs.Reading.{value-found}
 
--- where nothing was read and nothing else is written, the recorded writes are all
-pub slotted-none : {F U K V : Type 0} (key : K → Bytes) (value : V → Bytes) (ws : List Write) (reads : List (Read F U K V)) (slots : List (Slot V)) (others : List (declared.Write K V)) → reads ≡ [] → slots ≡ [] → others ≡ []
-    → slotted ws (keys_of key reads) (slot_views value slots) (write_views key value others) ≡ ws
-slotted-none key value ws reads slots others no_reads no_slots no_others =
-    ap (λ rs. slotted ws (keys_of key rs) (slot_views value slots) (write_views key value others)) no_reads
+-- where nothing is staged and nothing else is written, the recorded writes are all
+pub slotted-staged : {F U K V : Type 0} (view : U → Operation) (key : K → Bytes) (value : V → Bytes) (ws : List Write) (reads : List (Read F U K V)) (slots : List (Slot V)) (others : List (declared.Write K V)) → reads ≡ [] → slots ≡ [] → others ≡ []
+    → slotted ws (map (λ (r : Bytes × Option (ℕ × Operation)). r.0) (reads_view view key reads)) (slot_views value slots) (write_views key value others) ≡ ws
+slotted-staged view key value ws reads slots others no_reads no_slots no_others =
+    ap (λ rs. slotted ws (map (λ (r : Bytes × Option (ℕ × Operation)). r.0) (reads_view view key rs)) (slot_views value slots) (write_views key value others)) no_reads
     ∙ ap (λ ss. slotted ws [] (slot_views value ss) (write_views key value others)) no_slots
     ∙ ap (λ os. slotted ws [] [] (write_views key value os)) no_others
     ∙ ap (λ xs. xs ++ []) (append-nil ws) ∙ append-nil ws
@@ -32,10 +32,6 @@ keys-more key reads all r keys k more same is =
     ∙ ap₂ (λ ks b. ks ++ b ∷ []) same (ap key is)
     ∙ sym (map-append key keys (k ∷ []))
 
--- as many as there are keys
-pub keys-count : {F U K V : Type 0} (key : K → Bytes) (reads : List (Read F U K V)) (keys : List K) → keys_of key reads ≡ map key keys → length reads ≡ length keys
-keys-count key reads keys same = sym (length-map reads (λ r. key r.key)) ∙ ap length same ∙ length-map keys key
-
 -- the keys of a staged batch of these reads
 pub staged-keys : {F U K V : Type 0} (view : U → Operation) (key : K → Bytes) (now reads : List (Read F U K V)) (staged : List (Bytes × Option (ℕ × Operation))) → now ≡ reads → reads_view view key reads ≡ staged
     → keys_of key now ≡ map (λ r. r.0) staged
@@ -44,13 +40,19 @@ staged-keys view key now reads staged is same =
     ∙ sym (map-twice (λ (r : Bytes × Option (ℕ × Operation)). r.0) (λ (r : Read _ _ _ _). (key r.key, option_map (read_view view) r.found)) reads)
     ∙ ap (map (λ (r : Bytes × Option (ℕ × Operation)). r.0)) same
 
--- and of one that has more behind these
-pub staged-keys-more : {F U K V : Type 0} (view : U → Operation) (key : K → Bytes) (all reads found : List (Read F U K V)) (staged : List (Bytes × Option (ℕ × Operation))) (keys : List K) → all ≡ reads ++ found → reads_view view key reads ≡ staged
-    → keys_of key found ≡ map key keys → map (λ (r : Bytes × Option (ℕ × Operation)). r.0) (reads_view view key all) ≡ map (λ r. r.0) staged ++ map key keys
-staged-keys-more view key all reads found staged keys more same are =
-    sym (staged-keys view key all all (reads_view view key all) refl refl)
-    ∙ ap (keys_of key) more ∙ map-append (λ (r : Read _ _ _ _). key r.key) reads found
-    ∙ ap₂ (λ xs ys. xs ++ ys) (staged-keys view key reads reads staged refl same) are
+-- the writes that are wanted of one
+pub slotted-reads : {F U K V : Type 0} (view : U → Operation) (key : K → Bytes) (value : V → Bytes) (own recorded : List Write) (now reads : List (Read F U K V)) (staged : List (Bytes × Option (ℕ × Operation))) (slots : List (Slot V)) (others : List (declared.Write K V))
+    → own ≡ recorded → now ≡ reads → reads_view view key reads ≡ staged
+    → slotted own (keys_of key now) (slot_views value slots) (write_views key value others) ≡ slotted recorded (map (λ r. r.0) staged) (slot_views value slots) (write_views key value others)
+slotted-reads view key value own recorded now reads staged slots others same is are =
+    ap₂ (λ ws ks. slotted ws ks (slot_views value slots) (write_views key value others)) same (staged-keys view key now reads staged is are)
+
+-- and of one that has more behind what it had
+pub staged-keys-more : {F U K V : Type 0} (view : U → Operation) (key : K → Bytes) (all had : List (Bytes × Option (ℕ × Operation))) (found : List (Read F U K V)) (keys : List K) → all ≡ had ++ reads_view view key found
+    → keys_of key found ≡ map key keys → map (λ r. r.0) all ≡ map (λ r. r.0) had ++ map key keys
+staged-keys-more view key all had found keys more are =
+    ap (map (λ (r : Bytes × Option (ℕ × Operation)). r.0)) more ∙ map-append (λ (r : Bytes × Option (ℕ × Operation)). r.0) had (reads_view view key found)
+    ∙ ap (λ ks. map (λ (r : Bytes × Option (ℕ × Operation)). r.0) had ++ ks) (sym (staged-keys view key found found (reads_view view key found) refl refl) ∙ are)
 
 -- a staged key has what the list has of it
 abbrev IsStagedRead : List Operation → Bytes × Option (ℕ × Operation) → Type 0
@@ -88,11 +90,11 @@ module _ {F U K V : Type 0} (view : U → Operation) (key : K → Bytes) (base :
   pub staged-reads : (now reads : List (Read F U K V)) (staged : List (Bytes × Option (ℕ × Operation))) → now ≡ reads → reads_view view key reads ≡ staged → All (IsStagedRead base) staged → AreReads view key now base
   staged-reads now reads staged is same all = subst (All IsFound) (sym is) (reads-back reads (subst (All (IsStagedRead base)) (sym same) all))
 
-  -- and more behind them
-  pub staged-more : (all reads found : List (Read F U K V)) (staged : List (Bytes × Option (ℕ × Operation))) → all ≡ reads ++ found → reads_view view key reads ≡ staged
-      → All (IsStagedRead base) staged → AreReads view key found base → All (IsStagedRead base) (reads_view view key all)
-  staged-more all reads found staged more same had are =
-      reads-staged all (subst (All IsFound) (sym more) (All-append IsFound reads found (staged-reads reads reads staged refl same had) are))
+  -- and more behind what it had
+  pub staged-more : (all had : List (Bytes × Option (ℕ × Operation))) (found : List (Read F U K V)) → all ≡ had ++ reads_view view key found
+      → All (IsStagedRead base) had → AreReads view key found base → All (IsStagedRead base) all
+  staged-more all had found more before are =
+      subst (All (IsStagedRead base)) (sym more) (All-append (IsStagedRead base) had (reads_view view key found) before (reads-staged found are))
 
   -- what was found and what the list has of keys have the same values under writes
   pub read-through : (ws : List Write) (reads : List (Read F U K V)) → AreReads view key reads base

@@ -1,13 +1,16 @@
 -- When the list of a batch is taken, and why it is refused.
-use Rattle.std.specs.Prelude.{◌≡◌, ◌⊎◌, ◌≤◌, ◌<◌, ◌^◌, ℕ, List, length, map, drop, None, Some, IfSome}
+use Rattle.std.specs.Prelude.{◌≡◌, ◌⊎◌, ◌≤◌, ◌<◌, ◌^◌, ℕ, List, length, map, drop, true, false, None, Some, IfSome, All}
 use Rattle.qm_operations.specs.Parts.{floor_of}
 use Rattle.qm_base.specs.declared.error.Error.{Error}
 use Rattle.qm_base.specs.declared.error.Error.TheVariants as errors
 use Rattle.qm_base.specs.declared.error.JournalError.TheVariants as journal
 use Rattle.qm_base.specs.declared.error.MerkleError.TheVariants as merkle
 use Rattle.qm_model.specs.Operations.{Bytes, Operation}
-use Rattle.qm_model.specs.Forms.{Form, spelling}
+use Rattle.qm_model.specs.Batches.{Commitment}
+use Rattle.qm_model.specs.Forms.{Form, IsOf, spelling}
 use Rattle.qm_model.specs.Refusals.{too_long}
+use Rattle.qm_chain.specs.Bounds.{is_at}
+use Rattle.qm_any.specs.Databases.{Made, child_boundary, child_tips}
 
 -- a floor of at most 2 ^ 62, where it is a commit
 abbrev pub IsLow : Operation → Type 0
@@ -26,6 +29,22 @@ abbrev pub IsTooLong : List Bytes → ℕ → Error → Type 0
 IsTooLong spelt size e =
     ((n : ℕ) × (too_long spelt ≡ Some n) × (e ≡ errors.Journal (journal.ItemTooLarge n)))
     ⊎ ((too_long spelt ≡ None) × (2 ^ 62 < size) × (e ≡ errors.Merkle (merkle.LocationOverflow size)))
+
+-- no spelling of these operations is too long, the list of so many with them is not, and they are of the form if their floors are low
+pub record IsSpelled (form : Form) (operations : List Operation) (size : ℕ) : Type 0 where
+  pub short : too_long (map (spelling form) operations) ≡ None
+  pub few : size ≤ 2 ^ 62
+  pub of : All IsLow operations → All (IsOf form) operations
+
+-- these stand for the boundary and the kept tips of a child that keeps so many ancestors, which can be made at this state
+pub record IsPlaced {D : Type 0} (parent : Made D) (keep : ℕ) (current db : Commitment) (kept : List Commitment) : Type 0 where
+  pub boundary : db ≡ child_boundary keep parent.bounds
+  pub tips : kept ≡ child_tips keep parent.bounds
+  pub on : is_at current (child_boundary keep parent.bounds) (child_tips keep parent.bounds) ≡ true
+
+-- the error is want of memory, or no such child can be made at this state
+abbrev pub IsUnplaced : {D : Type 0} → Made D → ℕ → Commitment → Error → Type 0
+IsUnplaced parent keep current e = (e ≡ errors.Memory) ⊎ ((e ≡ errors.StaleBatch) × (is_at current (child_boundary keep parent.bounds) (child_tips keep parent.bounds) ≡ false))
 
 -- the error is want of memory, a batch left behind, or tells what is too long
 abbrev pub IsRefused : Form → List Operation → List Operation → Error → Type 0

@@ -1,47 +1,35 @@
 //! Batches: writes that are recorded, and the list that they make.
 
-ghost use Rattle.std.specs.Prelude.{◌≡◌, ◌≢◌, ◌⊎◌, ◌↔◌, ◌≤◌, ◌<◌, ◌+◌, ◌^◌, ◌++◌, ◌∷◌, ℕ, suc, min, [], List, None, true, false, length, map, take, drop, option_map, All, Contains, IsSome, IfSome, IfOk, IfErr, OnOk};
-ghost use Rattle.qm_model.specs.Batches.{Chain, IsKnown, IsOnChain, child_of, own_operations};
-ghost use Rattle.qm_model.specs.Causes.{Rose};
+ghost use Rattle.std.specs.Prelude.{◌≡◌, ◌≢◌, ◌⊎◌, ◌↔◌, ◌≤◌, ◌<◌, ◌+◌, ◌^◌, ◌++◌, ◌∷◌, ℕ, suc, min, [], List, None, true, false, length, map, take, option_map, All, Contains, IsSome, IfSome, IfOk, IfErr, OnOk};
+ghost use Rattle.qm_model.specs.Batches.{Chain, IsKnown, child_of, own_operations};
 ghost use Rattle.qm_model.specs.Live as lives;
-ghost use Rattle.qm_model.specs.Forms.{IsOf, spelling};
+ghost use Rattle.qm_model.specs.Forms.{spelling};
 ghost use Rattle.qm_model.specs.Operations.{Operation};
 ghost use Rattle.qm_model.specs.Proofs.{ops_proof, pins_at};
-ghost use Rattle.qm_model.specs.Refusals.{too_long};
-ghost use Rattle.qm_model.specs.Slots.{slotted};
 ghost use Rattle.qm_model.specs.Trees as trees;
 ghost use Rattle.qm_model.specs.Writes.{read_through};
 ghost use Rattle.qm_merkle.specs.Batches.{stops, stops_since};
 ghost use Rattle.qm_proofs.specs.Proofs.{proof_view, first_lacked, needed_positions};
 ghost use Rattle.qm_chain.specs.Bounds.{commitment_view, is_at, knows};
-ghost use Rattle.qm_step.specs.Bases.{IsBase, base_view};
-ghost use Rattle.qm_step.specs.Kinds.{HasRing};
+ghost use Rattle.qm_step.specs.Bases.{base_view};
 ghost use Rattle.qm_store.specs.Reads.{IsReadError};
 ghost use Rattle.qm_step.specs.Lent.{NoneBelow};
-ghost use Rattle.qm_step.specs.Views.{changes_view, keys_of, wanted_view, AreReads, IsPlan, stepped, left_after};
-ghost use Rattle.qm_any.specs.Databases.{AreAgreed, IsDatabase, IsBegun, IsMade, IsLeft, base_of, bases, child_boundary, child_made, child_tips, is_on, kept_by, operations_in, unapplied};
+ghost use Rattle.qm_step.specs.Views.{changes_view, keys_of, write_view, AreReads};
+ghost use Rattle.qm_any.specs.Databases.{AreAgreed, IsDatabase, IsBegun, IsMade, IsLeft, base_of, bases, child_boundary, child_made, child_tips, operations_in, unapplied};
 ghost use Rattle.qm_store.specs.Log.{IsLacked};
 ghost use Rattle.qm_store.specs.KeptTrees.{held_at};
-ghost use Rattle.qm_any.specs.Reasons.{IsMakingError};
-ghost use Rattle.qm_any.specs.Tips.{IsLow, IsTaken, IsRefused};
+ghost use Rattle.qm_any.specs.Tips.{IsPlaced, IsUnplaced};
 ghost use Rattle.qm_operations.specs.Views.{operation_views};
 ghost use Rattle.qm_any.specs.Layouts.{Hashing, hashing_with};
-ghost use Rattle.qm_base.specs.Slots.{slot_views, write_views};
 
-use crate::db::{Db, LaidOut};
-use crate::operations::{
-    Step, diffs_of, refuse, share, shared, spelled, spelled_steps, unapplied_of,
-};
-use qm_base::{
-    ByteString, Commitment, Digest, Error, Hasher, JournalError, Location, MerkleError, Slot,
-    twin_option,
-};
-use qm_batch::{Base, Layer, Plan, Read, Wanted, Write, Writes};
-use qm_chain::{Bounds, Diff, Policy, validate_batch_applicable};
+use crate::db::{Db, LaidOut, values_of};
+use crate::operations::{Step, diffs_of, share, shared_twin, spelled_steps, unapplied_of};
+use qm_base::{ByteString, Commitment, Digest, Error, Hasher, JournalError, Location, MerkleError};
+use qm_batch::{Base, Layer, Plan, Read, Write, Writes};
+use qm_chain::{Bounds, Diff, validate_batch_applicable};
 use qm_merkle::{Family, Position};
 use qm_operations::{Update, ValueEncoding};
 use qm_proofs::Proof;
-use qm_step::kind::Steps;
 use qm_store::{KeptTree, Store};
 use std::alloc::{AllocError, Global};
 use std::marker::Model;
@@ -102,6 +90,17 @@ pub(crate) struct Lacking<'a, F, U: Update> {
     pub(crate) metadata: Option<Rc<U::Value>>,
 }
 
+/// What a child has of its parent and of a database, beside its plan.
+#[derive(Drop)]
+pub(crate) struct Child<D: Digest, U: Update> {
+    /// What stands for its boundary.
+    pub(crate) boundary: Commitment<D>,
+    /// What stands for the tips of the ancestors that it keeps, newest first.
+    pub(crate) tips: Vec<Commitment<D>>,
+    /// The metadata of its list.
+    pub(crate) metadata: Option<Rc<U::Value>>,
+}
+
 impl<F: Family, D: Digest, U: Update> UnmerkleizedBatch<F, D, U> {
     // A batch on the list of a merkleized one, with no writes yet, that keeps so many ancestors, the parent first.
     pub(crate) fn begun(alloc: Global, parent: Rc<MerkleizedBatch<F, D, U>>, keep: usize) -> Self
@@ -113,6 +112,16 @@ impl<F: Family, D: Digest, U: Update> UnmerkleizedBatch<F, D, U> {
             keep,
             writes: Writes::new(alloc),
         }
+    }
+
+    // What it is begun on, how many ancestors it keeps, and its writes.
+    pub(crate) fn parts(&self) -> (&MerkleizedBatch<F, D, U>, usize, &[Write<U::Key, U::Value>])
+        ensures parent { result.0.now ≡ self.now.parent }
+        ensures keep { result.1 ≡ self.now.keep }
+        ensures few { result.1 ≤ suc (length result.0.now.bounds.ancestors) }
+        ensures writes { map (write_view U.Key.bytes U.Value.bytes) result.2.now ≡ self.now.writes }
+    {
+        (&self.parent, self.keep, self.writes.as_slice())
     }
 
     /// Records a write: a value for the key, or its end. The last write of a key counts. Where memory lacks the batch
@@ -197,117 +206,9 @@ impl<F: Family, D: Digest, U: Update> UnmerkleizedBatch<F, D, U> {
         ensures left { IsLeft C.Store ⟦<Db<F, C, I, H, U> as LaidOut>⟧.layout.hashing db.old db.new }
     {
         self.parent.bounds.compatible(db.commitment())?;
-        db.locate_all(alloc, &self.parent.steps, &self.writes, keys)
-    }
-}
-
-impl<F: Family, D: Digest, U: Update> UnmerkleizedBatch<F, D, U> {
-    /// Makes the list of the batch: its writes on its base list, then what the policy decides, then a commit with the
-    /// metadata. The database is at the batch's boundary or at a kept ancestor's tip, else the batch is refused as stale;
-    /// then come the first spelling of more than 65,536 bytes, and a list of more than 2^62 operations. The batch is gone
-    /// also where this is refused, and the policy may have moved on. k writes take k look-ups and k log k comparisons; each
-    /// candidate that the walk comes to takes one read of the log, where no kept step has it, and 64 locations of dead ones
-    /// a step; only the own operations are hashed.
-    pub fn merkleize<
-        C: Store,
-        I: qm_index::Unordered<Value = Location<F>>,
-        H: Hasher<Digest = D>,
-        P: Policy<F, U::Key, U::Value>,
-    >(
-        self,
-        alloc: Global,
-        db: &mut Db<F, C, I, H, U>,
-        metadata: Option<U::Value>,
-        policy: &mut P,
-    ) -> Result<Rc<MerkleizedBatch<F, D, U>>, Error>
-    where
-        U: Steps<F, I>,
-        ensures fits { OnOk result (is_on db.old.commitment self ≡ true) }
-        ensures made { (list : List Operation) (chain above : Chain) → IsDatabase C.Store ⟦<Db<F, C, I, H, U> as LaidOut>⟧.layout db.old list → IsBegun ⟦<Db<F, C, I, H, U> as LaidOut>⟧.layout.hashing self chain above → IsOnChain list chain
-            → IfOk result (λ b. IsMade ⟦<Db<F, C, I, H, U> as LaidOut>⟧.layout.hashing b.value chain (stepped U.form P.rules chain.base self.writes policy.old (option_map U.Value.bytes metadata))) }
-        ensures taken { (list : List Operation) (chain above : Chain) → IsDatabase C.Store ⟦<Db<F, C, I, H, U> as LaidOut>⟧.layout db.old list → IsBegun ⟦<Db<F, C, I, H, U> as LaidOut>⟧.layout.hashing self chain above → IsOnChain list chain
-            → OnOk result (IsTaken U.form chain.base (stepped U.form P.rules chain.base self.writes policy.old (option_map U.Value.bytes metadata))) }
-        ensures refused { (list : List Operation) (chain above : Chain) → IsDatabase C.Store ⟦<Db<F, C, I, H, U> as LaidOut>⟧.layout db.old list → IsBegun ⟦<Db<F, C, I, H, U> as LaidOut>⟧.layout.hashing self chain above → IsOnChain list chain
-            → IfErr result (λ e. IsRefused U.form chain.base (stepped U.form P.rules chain.base self.writes policy.old (option_map U.Value.bytes metadata)) e ⊎ IsReadError C.Store db.old.log db.new.log e) }
-        ensures next { (list : List Operation) (chain above : Chain) → IsDatabase C.Store ⟦<Db<F, C, I, H, U> as LaidOut>⟧.layout db.old list → IsBegun ⟦<Db<F, C, I, H, U> as LaidOut>⟧.layout.hashing self chain above → IsOnChain list chain
-            → OnOk result (policy.new ≡ left_after U.form P.rules chain.base self.writes policy.old) }
-        ensures above { IfOk result (λ b. All (λ n. b.value.bounds.db.size ≤ n) (stops b.value.tree.leaves b.value.tree.layers)) }
-        ensures stale { IfErr result (λ e. e ≡ Error.StaleBatch → is_on db.old.commitment self ≡ false) }
-        ensures order { IfErr result (λ e. e ≢ Error.Memory → e ≢ Error.StaleBatch → is_on db.old.commitment self ≡ true) }
-        ensures causes { IfErr result (λ e. (e ≡ Error.StaleBatch) ⊎ IsMakingError C.Store db.old.log db.new.log e) }
-        ensures whole { (list : List Operation) → IsDatabase C.Store ⟦<Db<F, C, I, H, U> as LaidOut>⟧.layout db.old list → NoneBelow db.old.log.tree.start list → db.old.log.tree.start ≤ self.parent.bounds.inactivity_floor
-            → IfErr result (λ e. (n : ℕ) → e ≢ Error.Journal (JournalError.ItemPruned n)) }
-        ensures cause { IfErr result (λ e. e ≡ Error.Journal JournalError.Store → Rose (C.faults db.old.log.store) (C.faults db.new.log.store)) }
-        ensures left { IsLeft C.Store ⟦<Db<F, C, I, H, U> as LaidOut>⟧.layout.hashing db.old db.new }
-    {
-        let (reads, slots, others) = (Vec::new(alloc), Vec::new(alloc), Vec::new(alloc));
-        self.merkleized(alloc, &reads, &slots, &others, db, metadata, policy)
-    }
-
-    // Makes the list of the batch as `merkleize` does, of its writes, then the slots of keys that were read, then others.
-    #[allow(clippy::too_many_arguments)]
-    pub(crate) fn merkleized<
-        C: Store,
-        I: qm_index::Unordered<Value = Location<F>>,
-        H: Hasher<Digest = D>,
-        P: Policy<F, U::Key, U::Value>,
-    >(
-        self,
-        alloc: Global,
-        reads: &[Read<F, U>],
-        slots: &[Slot<U::Value>],
-        others: &[Write<U::Key, U::Value>],
-        db: &mut Db<F, C, I, H, U>,
-        metadata: Option<U::Value>,
-        policy: &mut P,
-    ) -> Result<Rc<MerkleizedBatch<F, D, U>>, Error>
-    where
-        U: Steps<F, I>,
-        requires { length slots.now ≡ length reads.now }
-        ensures fits { OnOk result (is_on db.old.commitment self ≡ true) }
-        ensures made { (list : List Operation) (chain above : Chain) → IsDatabase C.Store ⟦<Db<F, C, I, H, U> as LaidOut>⟧.layout db.old list → IsBegun ⟦<Db<F, C, I, H, U> as LaidOut>⟧.layout.hashing self chain above → IsOnChain list chain → AreReads U.view U.Key.bytes reads.now chain.base
-            → IfOk result (λ b. IsMade ⟦<Db<F, C, I, H, U> as LaidOut>⟧.layout.hashing b.value chain (stepped U.form P.rules chain.base (slotted self.writes (keys_of U.Key.bytes reads.now) (slot_views U.Value.bytes slots.now) (write_views U.Key.bytes U.Value.bytes others.now)) policy.old (option_map U.Value.bytes metadata))) }
-        ensures taken { (list : List Operation) (chain above : Chain) → IsDatabase C.Store ⟦<Db<F, C, I, H, U> as LaidOut>⟧.layout db.old list → IsBegun ⟦<Db<F, C, I, H, U> as LaidOut>⟧.layout.hashing self chain above → IsOnChain list chain → AreReads U.view U.Key.bytes reads.now chain.base
-            → OnOk result (IsTaken U.form chain.base (stepped U.form P.rules chain.base (slotted self.writes (keys_of U.Key.bytes reads.now) (slot_views U.Value.bytes slots.now) (write_views U.Key.bytes U.Value.bytes others.now)) policy.old (option_map U.Value.bytes metadata))) }
-        ensures refused { (list : List Operation) (chain above : Chain) → IsDatabase C.Store ⟦<Db<F, C, I, H, U> as LaidOut>⟧.layout db.old list → IsBegun ⟦<Db<F, C, I, H, U> as LaidOut>⟧.layout.hashing self chain above → IsOnChain list chain → AreReads U.view U.Key.bytes reads.now chain.base
-            → IfErr result (λ e. IsRefused U.form chain.base (stepped U.form P.rules chain.base (slotted self.writes (keys_of U.Key.bytes reads.now) (slot_views U.Value.bytes slots.now) (write_views U.Key.bytes U.Value.bytes others.now)) policy.old (option_map U.Value.bytes metadata)) e ⊎ IsReadError C.Store db.old.log db.new.log e) }
-        ensures next { (list : List Operation) (chain above : Chain) → IsDatabase C.Store ⟦<Db<F, C, I, H, U> as LaidOut>⟧.layout db.old list → IsBegun ⟦<Db<F, C, I, H, U> as LaidOut>⟧.layout.hashing self chain above → IsOnChain list chain → AreReads U.view U.Key.bytes reads.now chain.base
-            → OnOk result (policy.new ≡ left_after U.form P.rules chain.base (slotted self.writes (keys_of U.Key.bytes reads.now) (slot_views U.Value.bytes slots.now) (write_views U.Key.bytes U.Value.bytes others.now)) policy.old) }
-        ensures above { IfOk result (λ b. All (λ n. b.value.bounds.db.size ≤ n) (stops b.value.tree.leaves b.value.tree.layers)) }
-        ensures stale { IfErr result (λ e. e ≡ Error.StaleBatch → is_on db.old.commitment self ≡ false) }
-        ensures order { IfErr result (λ e. e ≢ Error.Memory → e ≢ Error.StaleBatch → is_on db.old.commitment self ≡ true) }
-        ensures causes { IfErr result (λ e. (e ≡ Error.StaleBatch) ⊎ IsMakingError C.Store db.old.log db.new.log e) }
-        ensures whole { (list : List Operation) → IsDatabase C.Store ⟦<Db<F, C, I, H, U> as LaidOut>⟧.layout db.old list → NoneBelow db.old.log.tree.start list → db.old.log.tree.start ≤ self.parent.bounds.inactivity_floor
-            → IfErr result (λ e. (n : ℕ) → e ≢ Error.Journal (JournalError.ItemPruned n)) }
-        ensures cause { IfErr result (λ e. e ≡ Error.Journal JournalError.Store → Rose (C.faults db.old.log.store) (C.faults db.new.log.store)) }
-        ensures left { IsLeft C.Store ⟦<Db<F, C, I, H, U> as LaidOut>⟧.layout.hashing db.old db.new }
-    {
-        let UnmerkleizedBatch {
-            parent,
-            keep,
-            writes,
-        } = self;
-        let tips = parent.child_tips(alloc, keep)?;
-        let boundary = parent.child_boundary(keep);
-        match validate_batch_applicable(db.commitment(), &boundary, &tips) {
-            Err(error) => Err(error),
-            Ok(()) => made_on(
-                alloc,
-                db,
-                &parent,
-                keep,
-                boundary,
-                tips,
-                Wanted {
-                    writes: writes.as_slice(),
-                    reads,
-                    slots,
-                    others,
-                },
-                metadata,
-                policy,
-            ),
-        }
+        let reads = db.find_all(alloc, &self.parent.steps, keys)?;
+        let values = values_of(alloc, &self.writes, &reads)?;
+        Ok((reads, values))
     }
 }
 
@@ -443,7 +344,11 @@ impl<F: Family, D: Digest, U: Update> MerkleizedBatch<F, D, U> {
             → IfErr result (λ e. e ≡ Error.Memory) }
     {
         self.known(db.commitment())?;
-        db.proof_through(alloc, &self.tree, self.floor(), self.start())
+        // The log is kept from where its store is.
+        db.log.bounds();
+        let (start, end) = (self.start(), self.tree.leaves());
+        let inactive = F::inactive_peaks(Location::new(end), Location::new(self.floor()));
+        self.tree.proof(alloc, &db.log, inactive, start, end)
     }
 
     /// The digests of the peaks over the list that the batch was made from, from left to right.
@@ -464,7 +369,9 @@ impl<F: Family, D: Digest, U: Update> MerkleizedBatch<F, D, U> {
             → IfErr result (λ e. e ≡ Error.Memory) }
     {
         self.known(db.commitment())?;
-        db.pins_through(alloc, &self.tree, self.start())
+        // The log is kept from where its store is.
+        db.log.bounds();
+        self.tree.pins(alloc, &db.log, self.start())
     }
 
     // The database at rest as a batch: a step that does nothing.
@@ -535,25 +442,53 @@ impl<F: Family, D: Digest, U: Update> MerkleizedBatch<F, D, U> {
         }
     }
 
-    // The steps of a child: its own, then so many of these, newest first.
+    // What a child that keeps so many ancestors has beside its plan, where it can be made at this state of a database.
+    pub(crate) fn child(
+        &self,
+        alloc: Global,
+        keep: usize,
+        current: &Commitment<D>,
+        metadata: &Option<U::Value>,
+    ) -> Result<Child<D, U>, Error>
+        requires { keep ≤ suc (length self.now.bounds.ancestors) }
+        ensures placed { IfOk result (λ child. IsPlaced self.now keep (commitment_view D.bytes current.now) (commitment_view D.bytes child.boundary) (map (commitment_view D.bytes) child.tips.items)) }
+        ensures metadata { IfOk result (λ child. option_map (λ m. U.Value.bytes m.value) child.metadata ≡ option_map U.Value.bytes metadata.now) }
+        ensures refused { IfErr result (IsUnplaced self.now keep (commitment_view D.bytes current.now)) }
+    {
+        let tips = self.child_tips(alloc, keep)?;
+        let boundary = self.child_boundary(keep);
+        validate_batch_applicable(current, &boundary, &tips)?;
+        let metadata = shared_twin(alloc, metadata)?;
+        Ok(Child {
+            boundary,
+            tips,
+            metadata,
+        })
+    }
+
+    // The steps of a child, its own behind a list of this size, then so many of these, newest first, and what they do to keys.
     fn child_steps(
         &self,
         alloc: Global,
-        own: Layer<F, U>,
+        size: u64,
+        operations: Vec<qm_operations::Operation<F, U>>,
+        diff: Diff<F, U::Key, U::Value>,
         keep: usize,
-    ) -> Result<Vec<Step<F, U>>, AllocError>
+    ) -> Result<(Vec<Step<F, U>>, Vec<Rc<Diff<F, U::Key, U::Value>>>), AllocError>
         requires { keep ≤ suc (length self.now.bounds.ancestors) }
-        ensures { IfOk result (λ steps. map (λ l. l.value) steps.items ≡ own ∷ take keep self.now.layers) }
+        ensures steps { IfOk result (λ r. map (λ l. l.value) r.0.items ≡ record { base = size; operations = operation_views U.view U.Key.bytes U.Value.bytes operations.items; changes = changes_view U.Key.bytes U.Value.bytes diff } ∷ take keep self.now.layers) }
+        ensures diffs { IfOk result (λ r. map (λ d. changes_view U.Key.bytes U.Value.bytes d.value) r.1.items ≡ map (λ l. l.changes) (map (λ l. l.value) r.0.items)) }
     {
-        let own = Rc::new(alloc, own)?;
         let (kept, _) = self.steps.split_at(keep);
+        let own = own_step(alloc, size, operations, diff)?;
         let mut steps = kept.to_vec(alloc)?;
         steps.insert(0, own)?;
-        Ok(steps)
+        let diffs = diffs_of(alloc, &steps)?;
+        Ok((steps, diffs))
     }
 
     // What is known of the list that the batch makes.
-    fn base(&self) -> Base<'_, F, U>
+    pub(crate) fn base(&self) -> Base<'_, F, U>
         ensures value { base_view result ≡ base_of self.now }
         ensures size { result.size ≤ 2 ^ 62 }
         ensures live { result.live ≤ result.size }
@@ -583,6 +518,14 @@ impl<F: Family, D: Digest, U: Update> MerkleizedBatch<F, D, U> {
         ensures reached { OnOk result (Contains (stops self.now.tree.leaves self.now.tree.layers) current.now.size) }
     {
         self.bounds.validate_apply_to(current)
+    }
+
+    // The tree of the list that the batch makes.
+    pub(crate) fn tree(&self) -> &KeptTree<F, D>
+        ensures value { result.now ≡ self.now.tree }
+        ensures agreed { AreAgreed self.now }
+    {
+        &self.tree
     }
 
     // Where the batch's own operations begin.
@@ -628,134 +571,49 @@ impl<F: Family, D: Digest, U: Update> MerkleizedBatch<F, D, U> {
     }
 }
 
+// The step that puts these operations behind a list of this size.
+fn own_step<F, U: Update>(
+    alloc: Global,
+    size: u64,
+    operations: Vec<qm_operations::Operation<F, U>>,
+    diff: Diff<F, U::Key, U::Value>,
+) -> Result<Step<F, U>, AllocError>
+    ensures { IfOk result (λ step. step.value ≡ record { base = size; operations = operation_views U.view U.Key.bytes U.Value.bytes operations.items; changes = changes_view U.Key.bytes U.Value.bytes diff }) }
+{
+    let diff = Rc::new(alloc, diff)?;
+    Ok(Rc::new(alloc, Layer::new(size, operations, diff))?)
+}
+
 // The steps of a database at rest that has so many operations: one, which does nothing.
 fn resting<F, U: Update>(alloc: Global, size: u64) -> Result<Vec<Step<F, U>>, AllocError>
     ensures { IfOk result (λ steps. map (λ l. l.value) steps.items ≡ record { base = size; operations = []; changes = [] } ∷ []) }
 {
-    let diff = Rc::new(alloc, Diff::new(Vec::new(alloc)))?;
-    let step = Rc::new(alloc, Layer::new(size, Vec::new(alloc), diff))?;
+    let step = own_step(alloc, size, Vec::new(alloc), Diff::new(Vec::new(alloc)))?;
     let mut steps = Vec::new(alloc);
     steps.push(step)?;
     Ok(steps)
 }
 
-// The list that what is wanted makes on a batch, at a database that is at the child's boundary or one of its kept tips.
-#[allow(clippy::too_many_arguments)]
-fn made_on<
-    F: Family,
-    C: Store,
-    D: Digest,
-    I: qm_index::Unordered<Value = Location<F>>,
-    H: Hasher<Digest = D>,
-    U: Steps<F, I>,
-    P: Policy<F, U::Key, U::Value>,
->(
-    alloc: Global,
-    db: &mut Db<F, C, I, H, U>,
-    parent: &MerkleizedBatch<F, D, U>,
-    keep: usize,
-    boundary: Commitment<D>,
-    tips: Vec<Commitment<D>>,
-    wanted: Wanted<'_, F, U>,
-    metadata: Option<U::Value>,
-    policy: &mut P,
-) -> Result<Rc<MerkleizedBatch<F, D, U>>, Error>
-    requires keep { keep ≤ suc (length parent.now.bounds.ancestors) }
-    requires slots { length wanted.slots.now ≡ length wanted.reads.now }
-    requires boundary { commitment_view D.bytes boundary ≡ child_boundary keep parent.now.bounds }
-    requires tips { map (commitment_view D.bytes) tips.items ≡ child_tips keep parent.now.bounds }
-    requires on { is_at db.old.commitment (child_boundary keep parent.now.bounds) (child_tips keep parent.now.bounds) ≡ true }
-    ensures made { (list : List Operation) (chain above : Chain) → IsDatabase C.Store ⟦<Db<F, C, I, H, U> as LaidOut>⟧.layout db.old list → IsMade ⟦<Db<F, C, I, H, U> as LaidOut>⟧.layout.hashing parent.now above chain.base → chain.kept ≡ kept_by keep above chain.base → IsOnChain list chain → AreReads U.view U.Key.bytes wanted.entry.reads.now chain.base
-        → IfOk result (λ b. IsMade ⟦<Db<F, C, I, H, U> as LaidOut>⟧.layout.hashing b.value chain (stepped U.form P.rules chain.base (wanted_view U.Key.bytes U.Value.bytes wanted.entry) policy.old (option_map U.Value.bytes metadata))) }
-    ensures taken { (list : List Operation) (chain above : Chain) → IsDatabase C.Store ⟦<Db<F, C, I, H, U> as LaidOut>⟧.layout db.old list → IsMade ⟦<Db<F, C, I, H, U> as LaidOut>⟧.layout.hashing parent.now above chain.base → chain.kept ≡ kept_by keep above chain.base → IsOnChain list chain → AreReads U.view U.Key.bytes wanted.entry.reads.now chain.base
-        → OnOk result (IsTaken U.form chain.base (stepped U.form P.rules chain.base (wanted_view U.Key.bytes U.Value.bytes wanted.entry) policy.old (option_map U.Value.bytes metadata))) }
-    ensures refused { (list : List Operation) (chain above : Chain) → IsDatabase C.Store ⟦<Db<F, C, I, H, U> as LaidOut>⟧.layout db.old list → IsMade ⟦<Db<F, C, I, H, U> as LaidOut>⟧.layout.hashing parent.now above chain.base → chain.kept ≡ kept_by keep above chain.base → IsOnChain list chain → AreReads U.view U.Key.bytes wanted.entry.reads.now chain.base
-        → IfErr result (λ e. IsRefused U.form chain.base (stepped U.form P.rules chain.base (wanted_view U.Key.bytes U.Value.bytes wanted.entry) policy.old (option_map U.Value.bytes metadata)) e ⊎ IsReadError C.Store db.old.log db.new.log e) }
-    ensures next { (list : List Operation) (chain above : Chain) → IsDatabase C.Store ⟦<Db<F, C, I, H, U> as LaidOut>⟧.layout db.old list → IsMade ⟦<Db<F, C, I, H, U> as LaidOut>⟧.layout.hashing parent.now above chain.base → chain.kept ≡ kept_by keep above chain.base → IsOnChain list chain → AreReads U.view U.Key.bytes wanted.entry.reads.now chain.base
-        → OnOk result (policy.new ≡ left_after U.form P.rules chain.base (wanted_view U.Key.bytes U.Value.bytes wanted.entry) policy.old) }
-    ensures above { IfOk result (λ b. All (λ n. b.value.bounds.db.size ≤ n) (stops b.value.tree.leaves b.value.tree.layers)) }
-    ensures causes { IfErr result (IsMakingError C.Store db.old.log db.new.log) }
-    ensures whole { (list : List Operation) → IsDatabase C.Store ⟦<Db<F, C, I, H, U> as LaidOut>⟧.layout db.old list → NoneBelow db.old.log.tree.start list → db.old.log.tree.start ≤ parent.now.bounds.inactivity_floor
-        → IfErr result (λ e. (n : ℕ) → e ≢ Error.Journal (JournalError.ItemPruned n)) }
-    ensures never { IfErr result (λ e. e ≢ Error.StaleBatch) }
-    ensures cause { IfErr result (λ e. e ≡ Error.Journal JournalError.Store → Rose (C.faults db.old.log.store) (C.faults db.new.log.store)) }
-    ensures left { IsLeft C.Store ⟦<Db<F, C, I, H, U> as LaidOut>⟧.layout.hashing db.old db.new }
-{
-    let copy = shared(alloc, twin_option(alloc, &metadata)?)?;
-    let (plan, items) = planned(alloc, db, parent, wanted, metadata, policy)?;
-    let floor = plan.floor.get();
-    let (tree, root) = db.grown(alloc, &parent.tree, &items, floor, boundary.size)?;
-    let batch = sealed(alloc, parent, keep, boundary, tips, plan, tree, root, copy)?;
-    Ok(batch)
-}
-
-// What is wanted makes of the list of a batch, and its spellings, where none is too long and the list is not.
-fn planned<
-    F: Family,
-    C: Store,
-    D: Digest,
-    I: qm_index::Unordered<Value = Location<F>>,
-    H: Hasher<Digest = D>,
-    U: Steps<F, I>,
-    P: Policy<F, U::Key, U::Value>,
->(
-    alloc: Global,
-    db: &mut Db<F, C, I, H, U>,
-    parent: &MerkleizedBatch<F, D, U>,
-    wanted: Wanted<'_, F, U>,
-    metadata: Option<U::Value>,
-    policy: &mut P,
-) -> Result<(Plan<F, U>, Vec<Vec<u8>>), Error>
-    requires slots { length wanted.slots.now ≡ length wanted.reads.now }
-    ensures plan { (list base : List Operation) → IsDatabase C.Store ⟦<Db<F, C, I, H, U> as LaidOut>⟧.layout db.old list → IsBase (base_of parent.now) list base → HasRing U.form base → AreReads U.view U.Key.bytes wanted.entry.reads.now base
-        → IfOk result (λ made. IsPlan made.0 base (stepped U.form P.rules base (wanted_view U.Key.bytes U.Value.bytes wanted.entry) policy.old (option_map U.Value.bytes metadata))) }
-    ensures next { (list base : List Operation) → IsDatabase C.Store ⟦<Db<F, C, I, H, U> as LaidOut>⟧.layout db.old list → IsBase (base_of parent.now) list base → HasRing U.form base → AreReads U.view U.Key.bytes wanted.entry.reads.now base
-        → OnOk result (policy.new ≡ left_after U.form P.rules base (wanted_view U.Key.bytes U.Value.bytes wanted.entry) policy.old) }
-    ensures items { IfOk result (λ made. map (λ v. v.items) made.1.items ≡ map (spelling U.form) (made.0).operations) }
-    ensures of { IfOk result (λ made. All IsLow (made.0).operations → All (IsOf U.form) (made.0).operations) }
-    ensures room { IfOk result (λ made. parent.now.bounds.tip.size + length made.1.items ≤ 2 ^ 62) }
-    ensures short { IfOk result (λ made. too_long (map (λ v. v.items) made.1.items) ≡ None) }
-    ensures live { IfOk result (λ made. (made.0).live ≤ parent.now.bounds.tip.size + length made.1.items) }
-    ensures refused { (list base : List Operation) → IsDatabase C.Store ⟦<Db<F, C, I, H, U> as LaidOut>⟧.layout db.old list → IsBase (base_of parent.now) list base → HasRing U.form base → AreReads U.view U.Key.bytes wanted.entry.reads.now base
-        → IfErr result (λ e. IsRefused U.form base (stepped U.form P.rules base (wanted_view U.Key.bytes U.Value.bytes wanted.entry) policy.old (option_map U.Value.bytes metadata)) e ⊎ IsReadError C.Store db.old.log db.new.log e) }
-    ensures causes { IfErr result (IsMakingError C.Store db.old.log db.new.log) }
-    ensures whole { (list : List Operation) → IsDatabase C.Store ⟦<Db<F, C, I, H, U> as LaidOut>⟧.layout db.old list → NoneBelow db.old.log.tree.start list → db.old.log.tree.start ≤ parent.now.bounds.inactivity_floor
-        → IfErr result (λ e. (n : ℕ) → e ≢ Error.Journal (JournalError.ItemPruned n)) }
-    ensures never { IfErr result (λ e. e ≢ Error.StaleBatch) }
-    ensures cause { IfErr result (λ e. e ≡ Error.Journal JournalError.Store → Rose (C.faults db.old.log.store) (C.faults db.new.log.store)) }
-    ensures left { IsLeft C.Store ⟦<Db<F, C, I, H, U> as LaidOut>⟧.layout.hashing db.old db.new }
-{
-    let base = parent.base();
-    let plan = db.plan(alloc, &base, wanted, metadata, policy)?;
-    let items = spelled(alloc, &plan.operations)?;
-    match refuse(&items, base.size + items.len() as u64) {
-        Ok(()) => Ok((plan, items)),
-        Err(error) => Err(error),
-    }
-}
-
 // The merkleized batch of a plan on its parent, which keeps so many ancestors.
-#[allow(clippy::too_many_arguments)]
-fn sealed<F: Family, D: Digest, U: Update>(
+pub(crate) fn sealed<F: Family, D: Digest, U: Update>(
     alloc: Global,
     parent: &MerkleizedBatch<F, D, U>,
     keep: usize,
-    boundary: Commitment<D>,
-    tips: Vec<Commitment<D>>,
+    child: Child<D, U>,
     plan: Plan<F, U>,
     tree: KeptTree<F, D>,
     root: D,
-    metadata: Option<Rc<U::Value>>,
-) -> Result<Rc<MerkleizedBatch<F, D, U>>, AllocError>
+) -> Result<Rc<MerkleizedBatch<F, D, U>>, Error>
     requires keep { keep ≤ suc (length parent.now.bounds.ancestors) }
-    requires boundary { commitment_view D.bytes boundary ≡ child_boundary keep parent.now.bounds }
-    requires tips { map (commitment_view D.bytes) tips.items ≡ child_tips keep parent.now.bounds }
-    requires count { parent.now.bounds.tip.size + length plan.operations ≡ tree.leaves }
+    requires boundary { commitment_view D.bytes child.boundary ≡ child_boundary keep parent.now.bounds }
+    requires tips { map (commitment_view D.bytes) child.tips.items ≡ child_tips keep parent.now.bounds }
+    requires count { parent.now.tree.leaves + length plan.operations ≡ tree.leaves }
     requires few { tree.leaves ≤ 2 ^ 62 }
     requires live { plan.live ≤ tree.leaves }
     requires stops { stops tree.leaves tree.layers ≡ tree.leaves ∷ stops_since (child_boundary keep parent.now.bounds).size (stops parent.now.tree.leaves parent.now.tree.layers) }
-    ensures value { IfOk result (λ b. b.value ≡ child_made parent.now keep plan tree (D.bytes root) (option_map (λ m. U.Value.bytes m.value) metadata)) }
+    ensures value { IfOk result (λ b. b.value ≡ child_made parent.now keep plan tree (D.bytes root) (option_map (λ m. U.Value.bytes m.value) child.metadata)) }
     ensures above { IfOk result (λ b. All (λ n. b.value.bounds.db.size ≤ n) (stops b.value.tree.leaves b.value.tree.layers)) }
+    ensures memory { IfErr result (λ e. e ≡ Error.Memory) }
 {
     let Plan {
         operations,
@@ -764,17 +622,15 @@ fn sealed<F: Family, D: Digest, U: Update>(
         live,
     } = plan;
     let base = parent.bounds.tip;
-    let own = Layer::new(base.size, operations, Rc::new(alloc, diff)?);
-    let steps = parent.child_steps(alloc, own, keep)?;
-    let diffs = diffs_of(alloc, &steps)?;
+    let (steps, diffs) = parent.child_steps(alloc, base.size, operations, diff, keep)?;
     let bounds = Bounds {
         base,
-        db: boundary,
+        db: child.boundary,
         tip: Commitment {
             size: tree.leaves(),
             root,
         },
-        ancestors: tips,
+        ancestors: child.tips,
         inactivity_floor: floor,
     };
     Ok(Rc::new(
@@ -785,7 +641,7 @@ fn sealed<F: Family, D: Digest, U: Update>(
             diffs,
             tree,
             live,
-            metadata,
+            metadata: child.metadata,
         },
     )?)
 }

@@ -30,9 +30,11 @@ ghost use Rattle.qm_step.specs.Views.{changes_view, keys_of, read_view, wanted_v
 ghost use Rattle.qm_any.specs.Databases.{Database, over, IsBegun, IsDatabase, IsLeft, IsMade, IsTree, at_rest, read_under};
 ghost use Rattle.qm_store.specs.Given.{Appended, AppendedPart, store_given, store_after};
 ghost use Rattle.qm_store.specs.KeptTrees.{IsKeptTree, held_at};
+ghost use Rattle.qm_operations.specs.Views.{operation_views};
+ghost use Rattle.qm_any.specs.Tips.{IsSpelled, IsTooLong};
 
 use crate::batch::{Lacking, MerkleizedBatch, UnmerkleizedBatch};
-use crate::operations::{Step, copy_of, share};
+use crate::operations::{Step, copy_of, share, spelled_behind};
 use qm_base::{
     ByteString, Commitment, Digest, Error, Hasher, JournalError, Location, MerkleError, twin_option,
 };
@@ -422,7 +424,7 @@ impl<F: Family, C: Store, I: qm_index::Unordered<Value = Location<F>>, H: Hasher
     }
 
     // Keys in their order, each with its live update on the base list of a batch of these steps.
-    fn find_all(
+    pub(crate) fn find_all(
         &mut self,
         alloc: Global,
         steps: &[Step<F, U>],
@@ -443,99 +445,34 @@ impl<F: Family, C: Store, I: qm_index::Unordered<Value = Location<F>>, H: Hasher
         Ok(reads)
     }
 
-    // Keys in their order, as they stand on the base list of a batch of these steps, and their values under its writes.
-    pub(crate) fn locate_all(
-        &mut self,
-        alloc: Global,
-        steps: &[Step<F, U>],
-        writes: &Writes<U::Key, U::Value>,
-        keys: Vec<U::Key>,
-    ) -> Result<(Vec<Read<F, U>>, Vec<Option<U::Value>>), Error>
-        ensures keys { IfOk result (λ r. keys_of U.Key.bytes r.0.items ≡ map U.Key.bytes keys.items) }
-        ensures reads { (list base : List Operation) → IsDatabase C.Store ⟦<Self as LaidOut>⟧.layout self.old list → LeadOver (map (λ l. l.value) steps.now) list base
-            → IfOk result (λ r. AreReads U.view U.Key.bytes r.0.items base) }
-        ensures values { (list base : List Operation) → IsDatabase C.Store ⟦<Self as LaidOut>⟧.layout self.old list → LeadOver (map (λ l. l.value) steps.now) list base
-            → IfOk result (λ r. map (option_map U.Value.bytes) r.1.items ≡ map (λ k. read_through base writes.now (U.Key.bytes k)) keys.items) }
-        ensures error { IfErr result (IsReadError C.Store self.old.log self.new.log) }
-        ensures whole { (list : List Operation) → IsDatabase C.Store ⟦<Self as LaidOut>⟧.layout self.old list → NoneBelow self.old.log.tree.start list → IfErr result (λ e. (n : ℕ) → e ≢ Error.Journal (JournalError.ItemPruned n)) }
-        ensures left { IsLeft C.Store ⟦<Self as LaidOut>⟧.layout.hashing self.old self.new }
-    {
-        let reads = self.find_all(alloc, steps, keys)?;
-        let values = values_of(alloc, writes, &reads)?;
-        Ok((reads, values))
-    }
-
-    // A batch's tree with the leaves of these items behind it, and the root of its list with this floor. It keeps nothing
-    // of what led to lists of fewer operations than the boundary's.
+    // A batch's tree with the leaves of these operations behind it, and the root of its list with this floor, where no
+    // spelling is too long and the list is not. It keeps nothing of what led to lists of fewer operations than the boundary's.
     pub(crate) fn grown(
         &mut self,
         alloc: Global,
         tree: &KeptTree<F, H::Digest>,
-        items: &[Vec<u8>],
+        operations: &[qm_operations::Operation<F, U>],
         floor: u64,
         boundary: u64,
-    ) -> Result<(KeptTree<F, H::Digest>, H::Digest), AllocError>
-        requires room { tree.now.leaves + length items.now ≤ 2 ^ 62 }
+    ) -> Result<(KeptTree<F, H::Digest>, H::Digest), Error>
+        requires few { tree.now.leaves ≤ 2 ^ 62 }
         requires reach { Contains (stops tree.now.leaves tree.now.layers) self.old.commitment.size }
         requires boundary { boundary ≤ self.old.commitment.size }
-        ensures leaves { IfOk result (λ grown. grown.0.leaves ≡ tree.now.leaves + length items.now) }
+        ensures leaves { IfOk result (λ grown. grown.0.leaves ≡ tree.now.leaves + length operations.now) }
+        ensures taken { IfOk result (λ grown. IsSpelled U.form (operation_views U.view U.Key.bytes U.Value.bytes operations.now) grown.0.leaves) }
         ensures stops { IfOk result (λ grown. stops grown.0.leaves grown.0.layers ≡ grown.0.leaves ∷ stops_since boundary (stops tree.now.leaves tree.now.layers)) }
         ensures tree { (list base : List Operation) (older : List (List Operation)) → IsDatabase C.Store ⟦<Self as LaidOut>⟧.layout self.old list → IsTree ⟦<Self as LaidOut>⟧.layout.hashing tree.now base older → Contains (base ∷ older) list
-            → IfOk result (λ grown. IsKeptTree H.Digest.bytes H.hash F.shape grown.0 (map (spelling U.form) base ++ map (λ v. v.items) items.now) (lists_since boundary (map (map (spelling U.form)) (base ∷ older)))) }
-        ensures root { (list base tip : List Operation) (older : List (List Operation)) → IsDatabase C.Store ⟦<Self as LaidOut>⟧.layout self.old list → IsTree ⟦<Self as LaidOut>⟧.layout.hashing tree.now base older → Contains (base ∷ older) list
-            → map (spelling U.form) base ++ map (λ v. v.items) items.now ≡ map (spelling U.form) tip → floor ≡ lives.floor tip → IfOk result (λ grown. H.Digest.bytes grown.1 ≡ ops_root H.hash F.shape U.form tip) }
+            → IfOk result (λ grown. IsKeptTree H.Digest.bytes H.hash F.shape grown.0 (map (spelling U.form) (base ++ operation_views U.view U.Key.bytes U.Value.bytes operations.now)) (lists_since boundary (map (map (spelling U.form)) (base ∷ older)))) }
+        ensures root { (list base : List Operation) (older : List (List Operation)) → IsDatabase C.Store ⟦<Self as LaidOut>⟧.layout self.old list → IsTree ⟦<Self as LaidOut>⟧.layout.hashing tree.now base older → Contains (base ∷ older) list
+            → floor ≡ lives.floor (base ++ operation_views U.view U.Key.bytes U.Value.bytes operations.now) → IfOk result (λ grown. H.Digest.bytes grown.1 ≡ ops_root H.hash F.shape U.form (base ++ operation_views U.view U.Key.bytes U.Value.bytes operations.now)) }
+        ensures refused { IfErr result (λ e. (e ≡ Error.Memory) ⊎ IsTooLong (map (spelling U.form) (operation_views U.view U.Key.bytes U.Value.bytes operations.now)) (tree.now.leaves + length operations.now) e) }
         ensures same { self.new ≡ self.old }
     {
-        let leaves = tree.leaves() + items.len() as u64;
+        let size = tree.leaves();
+        let items = spelled_behind(alloc, operations, size)?;
+        let leaves = size + items.len() as u64;
         let inactive = F::inactive_peaks(Location::new(leaves), Location::new(floor));
-        tree.grown(alloc, &mut self.log, items, inactive, boundary)
-    }
-
-    // The proof of the operations from `start` on in the list of a batch's tree, which has this floor.
-    pub(crate) fn proof_through(
-        &self,
-        alloc: Global,
-        tree: &KeptTree<F, H::Digest>,
-        floor: u64,
-        start: u64,
-    ) -> Result<Proof<H::Digest>, Error>
-        requires start { start ≤ tree.now.leaves }
-        requires few { tree.now.leaves ≤ 2 ^ 62 }
-        requires reach { Contains (stops tree.now.leaves tree.now.layers) self.now.commitment.size }
-        ensures value { (list tip : List Operation) (older : List (List Operation)) → IsDatabase C.Store ⟦<Self as LaidOut>⟧.layout self.now list → IsTree ⟦<Self as LaidOut>⟧.layout.hashing tree.now tip older
-            → Contains (tip ∷ older) list → floor ≡ lives.floor tip
-            → IfOk result (λ p. proof_view H.Digest.bytes p ≡ ops_proof H.hash F.shape U.form tip start (length tip)) }
-        ensures held { OnOk result (first_lacked (held_at F.shape tree.now self.now.log.tree) (needed_positions F.shape tree.now.leaves start tree.now.leaves) ≡ None) }
-        ensures cause { IfErr result (IsLacked (held_at F.shape tree.now self.now.log.tree) (needed_positions F.shape tree.now.leaves start tree.now.leaves)) }
-        ensures whole { C.start self.now.log.store ≡ 0 → (list tip : List Operation) (older : List (List Operation)) → IsDatabase C.Store ⟦<Self as LaidOut>⟧.layout self.now list → IsTree ⟦<Self as LaidOut>⟧.layout.hashing tree.now tip older
-            → Contains (tip ∷ older) list → IfErr result (λ e. e ≡ Error.Memory) }
-    {
-        // The log is kept from where its store is.
-        self.log.bounds();
-        let leaves = tree.leaves();
-        let inactive = F::inactive_peaks(Location::new(leaves), Location::new(floor));
-        tree.proof(alloc, &self.log, inactive, start, leaves)
-    }
-
-    // The digests of the peaks over the first `count` operations of the list of a batch's tree.
-    pub(crate) fn pins_through(
-        &self,
-        alloc: Global,
-        tree: &KeptTree<F, H::Digest>,
-        count: u64,
-    ) -> Result<Vec<H::Digest>, Error>
-        requires count { count ≤ tree.now.leaves }
-        requires reach { Contains (stops tree.now.leaves tree.now.layers) self.now.commitment.size }
-        ensures value { (list tip : List Operation) (older : List (List Operation)) → IsDatabase C.Store ⟦<Self as LaidOut>⟧.layout self.now list → IsTree ⟦<Self as LaidOut>⟧.layout.hashing tree.now tip older
-            → Contains (tip ∷ older) list → IfOk result (λ pins. map H.Digest.bytes pins.items ≡ pins_at H.hash F.shape U.form tip count) }
-        ensures held { OnOk result (first_lacked (held_at F.shape tree.now self.now.log.tree) (trees.peak_positions F.shape count) ≡ None) }
-        ensures cause { IfErr result (IsLacked (held_at F.shape tree.now self.now.log.tree) (trees.peak_positions F.shape count)) }
-        ensures whole { C.start self.now.log.store ≡ 0 → (list tip : List Operation) (older : List (List Operation)) → IsDatabase C.Store ⟦<Self as LaidOut>⟧.layout self.now list → IsTree ⟦<Self as LaidOut>⟧.layout.hashing tree.now tip older
-            → Contains (tip ∷ older) list → IfErr result (λ e. e ≡ Error.Memory) }
-    {
-        // The log is kept from where its store is.
-        self.log.bounds();
-        tree.pins(alloc, &self.log, count)
+        Ok(tree.grown(alloc, &mut self.log, &items, inactive, boundary)?)
     }
 
     /// The metadata of the last commit.
@@ -717,7 +654,7 @@ fn value_of<F, U: Update>(
 }
 
 // The values of keys that were read, in their order.
-fn values_of<F, U: Update>(
+pub(crate) fn values_of<F, U: Update>(
     alloc: Global,
     writes: &Writes<U::Key, U::Value>,
     reads: &[Read<F, U>],

@@ -1,18 +1,20 @@
 //! How a fresh database begins.
 
-ghost use Rattle.std.specs.Prelude.{◌≡◌, ◌≢◌, ◌⊎◌, ◌≤◌, ◌<◌, ◌∷◌, [], length, map, IfSome, IfOk, IfErr};
+ghost use Rattle.std.specs.Prelude.{◌≡◌, ◌≢◌, ◌⊎◌, ◌≤◌, [], length, map, Some, None, IfSome, IsSome, IfOk, IfErr, OnOk};
 ghost use Rattle.qm_model.specs.Bits.{bits};
 ghost use Rattle.qm_model.specs.Causes.{IsCause};
 ghost use Rattle.qm_model.specs.Forms.{spelling};
 ghost use Rattle.qm_model.specs.Operations.{fresh};
-ghost use Rattle.qm_store.specs.Log as logs;
-ghost use Rattle.qm_store.specs.Log.{IsLog};
+ghost use Rattle.qm_model.specs.StoreModel.{appended, settled, HasAppended, Turns, Becomes};
+ghost use Rattle.qm_open.specs.Selecting.{any_layout, any_found, content_refusal};
+ghost use Rattle.qm_store.specs.Log.{IsKept, IsLog};
+ghost use Rattle.qm_store.specs.Refusals.{refusal_of, IsDue};
 ghost use Rattle.qm_any.specs.Databases.{Database, IsDatabase};
 ghost use Rattle.qm_store.specs.Given.{Appended, AppendedPart, store_given, IsUnchanged};
 
 use crate::db::{Db, LaidOut};
 use crate::operations::spelled;
-use qm_base::{Commitment, Corrupt, Digest, Error, Hasher, JournalError, Location};
+use qm_base::{Commitment, Digest, Error, Hasher, JournalError, Location};
 use qm_bits::{Chunk64, Prunable};
 use qm_index::Factory;
 use qm_list::{empty_log, store_of};
@@ -21,10 +23,10 @@ use qm_operations::{Operation, Update};
 use qm_store::{AuthLog, Given, Refusal, Store};
 use std::alloc::{AllocError, Global};
 
-// The database over an empty store: a fresh list, one commit without metadata and with floor 0, which it appends.
-// The translator makes the index keys. A refusal gives back the store. The head of an empty store is empty: one with a byte
-// is refused, and the store comes back as it was.
-pub(crate) fn fresh_over<
+// The database over an empty store, all of which is stable: a fresh list, one commit without metadata and with floor 0, which
+// it appends. The translator makes the index keys. A refusal gives back the store. The head of an empty store is empty: one
+// with a byte is refused, and the store comes back as it was.
+pub(crate) fn begin<
     F: Family,
     C: Store + Drop,
     I: Factory<Value = Location<F>> + Drop,
@@ -38,19 +40,16 @@ pub(crate) fn fresh_over<
 ) -> Result<Db<F, C, I, H, U>, Refusal<Db<F, C, I, H, U>, C>>
     requires start { C.start store ≡ 0 }
     requires empty { C.end store ≡ 0 }
-    ensures keys { ⟦<Db<F, C, I, H, U> as LaidOut>⟧.layout.index_key ≡ I.Translator.index_key }
     ensures stands { IfSome (C.told store) (λ _. IfOk result (λ db. IsDatabase C.Store ⟦<Db<F, C, I, H, U> as LaidOut>⟧.layout db fresh)) }
+    ensures became { IfOk result (λ db. Becomes (C.told store) (C.told db.log.store) (λ s. settled (appended (map (spelling U.form) fresh) s))) }
+    ensures left { IfErr result (λ r. Turns (C.told store) (C.told (store_given (λ db. db.log.store) r.given)) (HasAppended (map (spelling U.form) fresh))) }
+    ensures unopened { IfErr result (λ r. IfSome (C.told store) (λ s. IsSome (content_refusal (any_layout U.form F.shape H.Digest.SIZE) (any_found U.form s) None) → IsUnchanged C.Store store (store_given (λ db. db.log.store) r.given))) }
     ensures pruned { IfOk result (λ db. db.activity.pruned ≡ 0) }
-    ensures grown { IfOk result (λ db. Appended C.Store store db.log.store (map (spelling U.form) fresh)) }
+    ensures start { IfOk result (λ db. C.start db.log.store ≡ C.start store) }
     ensures later { IfOk result (λ db. C.faults store ≤ C.faults db.log.store) }
-    ensures bare { IfOk result (λ _. IfSome (C.told store) (λ held. held.head ≡ [])) }
-    ensures head { IfErr result (λ r. r.error ≡ Error.DataCorrupted Corrupt.HeadDoesNotMatch → IfSome (C.told store) (λ held. 0 < length held.head)) }
-    ensures back_head { IfErr result (λ r. r.error ≡ Error.DataCorrupted Corrupt.HeadDoesNotMatch → (s : C) × (r.given ≡ Given.Store s) × logs.IsKept C.Store store s) }
-    ensures unopened { IfErr result (λ r. IfSome (C.told store) (λ held. 0 < length held.head → IsUnchanged C.Store store (store_given (λ db. db.log.store) r.given))) }
-    ensures part { IfErr result (λ r. AppendedPart C.Store store (store_given (λ db. db.log.store) r.given) (map (spelling U.form) fresh)) }
-    ensures back { IfErr result (λ r. (x : Database C H.Digest) → r.given ≢ Given.Database x) }
-    ensures causes { IfErr result (λ r. (r.error ≡ Error.Memory) ⊎ ((r.error ≡ Error.Journal JournalError.Store) ⊎ (r.error ≡ Error.DataCorrupted Corrupt.HeadDoesNotMatch))) }
-    ensures cause { IfErr result (λ r. IsCause (C.faults store) (C.faults (store_given (λ db. db.log.store) r.given)) (r.error ≡ Error.Journal JournalError.Store)) }
+    ensures accepted { IfSome (C.told store) (λ s. OnOk result (content_refusal (any_layout U.form F.shape H.Digest.SIZE) (any_found U.form s) None ≡ None)) }
+    ensures refused { IfSome (C.told store) (λ s. IfErr result (λ r. IsDue r.error (content_refusal (any_layout U.form F.shape H.Digest.SIZE) (any_found U.form s) None))) }
+    ensures back { IfErr result (λ r. (s : C) × (r.given ≡ Given.Store s) × (C.start s ≡ C.start store) × (IsSome (refusal_of r.error) → IsKept C.Store store s) × IsCause (C.faults store) (C.faults s) (r.error ≡ Error.Journal JournalError.Store)) }
 {
     match fresh_items::<F, U>(alloc) {
         Err(_) => Err(Refusal {
@@ -59,7 +58,7 @@ pub(crate) fn fresh_over<
         }),
         Ok(items) => match empty_log(alloc, store, hasher) {
             Err(refusal) => Err(refusal),
-            Ok(log) => begun(alloc, log, translator, &items),
+            Ok(log) => begun(alloc, log, translator, &items)?.commit(),
         },
     }
 }

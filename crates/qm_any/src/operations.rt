@@ -1,10 +1,10 @@
 //! Operations of a database, and what batches put behind its list.
 
-ghost use Rattle.std.specs.Prelude.{◌≡◌, ◌⊎◌, ◌≤◌, ◌^◌, ◌++◌, ℕ, None, length, map, take, option_map, All, IfOk, IfErr, OnOk};
+ghost use Rattle.std.specs.Prelude.{◌≡◌, ◌⊎◌, ◌≤◌, ◌^◌, ◌+◌, ◌++◌, ℕ, None, length, map, take, option_map, All, IfOk, IfErr, OnOk};
 ghost use Rattle.qm_model.specs.Forms.{IsOf, spelling};
 ghost use Rattle.qm_model.specs.Refusals.{too_long};
 ghost use Rattle.qm_any.specs.Databases.{unapplied, operations_in};
-ghost use Rattle.qm_any.specs.Tips.{IsLow, IsTooLong};
+ghost use Rattle.qm_any.specs.Tips.{IsLow, IsSpelled, IsTooLong};
 ghost use Rattle.qm_operations.specs.Views.{operation_views};
 ghost use Rattle.qm_step.specs.Views.{changes_view};
 
@@ -53,16 +53,19 @@ pub(crate) fn share<B: ByteString>(value: &Option<Rc<B>>) -> Result<Option<Rc<B>
     }
 }
 
-/// A value that can be shared.
-pub(crate) fn shared<B: ByteString>(
+/// A copy of a value, to be shared.
+pub(crate) fn shared_twin<B: ByteString>(
     alloc: Global,
-    value: Option<B>,
+    value: &Option<B>,
 ) -> Result<Option<Rc<B>>, AllocError>
-    ensures { IfOk result (λ shared. option_map (λ b. B.bytes b.value) shared ≡ option_map B.bytes value) }
+    ensures { IfOk result (λ shared. option_map (λ b. B.bytes b.value) shared ≡ option_map B.bytes value.now) }
 {
     match value {
         None => Ok(None),
-        Some(value) => Ok(Some(Rc::new(alloc, value)?)),
+        Some(value) => {
+            let copy = value.twin(alloc)?;
+            Ok(Some(Rc::new(alloc, copy)?))
+        }
     }
 }
 
@@ -95,8 +98,24 @@ pub(crate) fn spelled<F, U: Update>(
     Ok(items)
 }
 
-/// Refuses the first spelling that is too long, then a list of too many operations.
-pub(crate) fn refuse(items: &[Vec<u8>], size: u64) -> Result<(), Error>
+/// The spellings of operations that stand behind a list of this size, where none is too long and the list with them is not.
+pub(crate) fn spelled_behind<F, U: Update>(
+    alloc: Global,
+    operations: &[Operation<F, U>],
+    size: u64,
+) -> Result<Vec<Vec<u8>>, Error>
+    requires { size ≤ 2 ^ 62 }
+    ensures items { IfOk result (λ items. map (λ v. v.items) items.items ≡ map (spelling U.form) (operation_views U.view U.Key.bytes U.Value.bytes operations.now)) }
+    ensures taken { IfOk result (λ items. IsSpelled U.form (operation_views U.view U.Key.bytes U.Value.bytes operations.now) (size + length items.items)) }
+    ensures refused { IfErr result (λ e. (e ≡ Error.Memory) ⊎ IsTooLong (map (spelling U.form) (operation_views U.view U.Key.bytes U.Value.bytes operations.now)) (size + length operations.now) e) }
+{
+    let items = spelled(alloc, operations)?;
+    refuse(&items, size + items.len() as u64)?;
+    Ok(items)
+}
+
+// Refuses the first spelling that is too long, then a list of too many operations.
+fn refuse(items: &[Vec<u8>], size: u64) -> Result<(), Error>
     ensures ok { OnOk result ((too_long (map (λ v. v.items) items.now) ≡ None) × (size ≤ 2 ^ 62)) }
     ensures err { IfErr result (λ e. IsTooLong (map (λ v. v.items) items.now) size e) }
 {

@@ -3,13 +3,12 @@
 ghost use Rattle.std.specs.Prelude.{option_map, ◌≡◌, ◌≢◌, ◌⊎◌, ◌<◌, ◌≤◌, ◌-◌, ◌*◌, ◌^◌, ℕ, min, List, length, map, take, drop, is_none, true, false, All, Some, None, IfSome, IfOk, IfErr, OnOk, IsSome};
 ghost use Rattle.std.specs.List.{list_any};
 ghost use Rattle.qm_model.specs.Causes.{IsCause};
-ghost use Rattle.qm_model.specs.Forms.{IsOf, spelling};
 ghost use Rattle.qm_model.specs.Grafted.{pair_absorption_threshold};
 ghost use Rattle.qm_model.specs.Live as lives;
 ghost use Rattle.qm_model.specs.Opening.{opening_refusal};
 ghost use Rattle.qm_model.specs.Operations.{Operation, fresh};
 ghost use Rattle.qm_model.specs.Step.{IsGood};
-ghost use Rattle.qm_model.specs.StoreModel.{end_of, appended, settled, rewound, HasAppended, ReadsAs, RewindLeaves, Turns, Becomes};
+ghost use Rattle.qm_model.specs.StoreModel.{end_of, settled, rewound, ReadsAs, RewindLeaves, Turns, Becomes};
 ghost use Rattle.qm_model.specs.Trees.{peaks};
 ghost use Rattle.qm_bits.specs.Bitmaps.{bit_count};
 ghost use Rattle.qm_store.specs.Given.{store_given, IsUnchanged};
@@ -23,7 +22,7 @@ ghost use Rattle.qm_any.specs.Databases.{IsDatabase};
 ghost use Rattle.qm_any.specs.Restoring.{pruned_view, selected_size, taken, HasList, LeavesOpening};
 
 use crate::db::{Db, LaidOut};
-use crate::open::fresh_over;
+use crate::open::begin;
 use qm_base::{Commitment, Digest, Error, Hasher, JournalError, Location};
 use qm_bits::Chunk64;
 use qm_build::Opened;
@@ -138,35 +137,6 @@ fn open_list<
         alloc, store, hasher, translator, kept_keys, selected, chunks,
     )?;
     settled(alloc, opened, selected)?.commit()
-}
-
-// The database of the fresh list, over an empty store.
-fn begin<
-    F: Family,
-    C: Store + Drop,
-    I: Factory<Value = Location<F>> + Drop,
-    H: Hasher + Drop,
-    U: Update,
->(
-    alloc: Global,
-    store: C,
-    hasher: H,
-    translator: I::Translator,
-) -> Result<Db<F, C, I, H, U>, Refusal<Db<F, C, I, H, U>, C>>
-    requires start { C.start store ≡ 0 }
-    requires empty { C.end store ≡ 0 }
-    ensures stands { IfSome (C.told store) (λ _. IfOk result (λ db. IsDatabase C.Store ⟦<Db<F, C, I, H, U> as LaidOut>⟧.layout db fresh)) }
-    ensures became { IfOk result (λ db. Becomes (C.told store) (C.told db.log.store) (λ s. settled (appended (map (spelling U.form) fresh) s))) }
-    ensures left { IfErr result (λ r. Turns (C.told store) (C.told (store_given (λ db. db.log.store) r.given)) (HasAppended (map (spelling U.form) fresh))) }
-    ensures unopened { IfErr result (λ r. IfSome (C.told store) (λ s. IsSome (content_refusal (any_layout U.form F.shape H.Digest.SIZE) (any_found U.form s) None) → IsUnchanged C.Store store (store_given (λ db. db.log.store) r.given))) }
-    ensures pruned { IfOk result (λ db. db.activity.pruned ≡ 0) }
-    ensures start { IfOk result (λ db. C.start db.log.store ≡ C.start store) }
-    ensures later { IfOk result (λ db. C.faults store ≤ C.faults db.log.store) }
-    ensures accepted { IfSome (C.told store) (λ s. OnOk result (content_refusal (any_layout U.form F.shape H.Digest.SIZE) (any_found U.form s) None ≡ None)) }
-    ensures refused { IfSome (C.told store) (λ s. IfErr result (λ r. IsDue r.error (content_refusal (any_layout U.form F.shape H.Digest.SIZE) (any_found U.form s) None))) }
-    ensures back { IfErr result (λ r. (s : C) × (r.given ≡ Given.Store s) × (C.start s ≡ C.start store) × (IsSome (refusal_of r.error) → IsKept C.Store store s) × IsCause (C.faults store) (C.faults s) (r.error ≡ Error.Journal JournalError.Store)) }
-{
-    fresh_over(alloc, store, hasher, translator)?.commit()
 }
 
 // The pruned chunks of activity bits, as an opening looks at them: each has 512 bits.

@@ -11,15 +11,15 @@ ghost use Rattle.qm_merkle.specs.Batches.{stops};
 ghost use Rattle.qm_chain.specs.Bounds.{knows};
 ghost use Rattle.qm_store.specs.Reads.{IsReadError};
 ghost use Rattle.qm_step.specs.Lent.{NoneBelow};
-ghost use Rattle.qm_step.specs.Views.{stepped, left_after};
+ghost use Rattle.qm_step.specs.Views.{reads_view, stepped, left_after};
 ghost use Rattle.qm_any.specs.Databases.{IsDatabase, IsBegun, IsMade, IsLeft, IsStaged, is_on, staged_keys};
 ghost use Rattle.qm_any.specs.Reasons.{IsMakingError};
 ghost use Rattle.qm_any.specs.Tips.{IsTaken, IsRefused};
 
-use crate::batch::{MerkleizedBatch, UnmerkleizedBatch};
+use crate::batch::{MerkleizedBatch, UnmerkleizedBatch, sealed};
 use crate::db::{Db, LaidOut};
 use qm_base::{ByteString, Digest, Error, Hasher, JournalError, Location, Slot, Write};
-use qm_batch::Read;
+use qm_batch::{Read, Wanted};
 use qm_chain::Policy;
 use qm_merkle::Family;
 use qm_operations::{Update, ValueEncoding};
@@ -81,6 +81,54 @@ impl<F: Family, D: Digest, U: Update> UnmerkleizedBatch<F, D, U> {
     }
 }
 
+impl<F: Family, D: Digest, U: Update> UnmerkleizedBatch<F, D, U> {
+    /// Makes the list of the batch: its writes on its base list, then what the policy decides, then a commit with the
+    /// metadata. The database is at the batch's boundary or at a kept ancestor's tip, else the batch is refused as stale;
+    /// then come the first spelling of more than 65,536 bytes, and a list of more than 2^62 operations. The batch is gone
+    /// also where this is refused, and the policy may have moved on. k writes take k look-ups and k log k comparisons; each
+    /// candidate that the walk comes to takes one read of the log, where no kept step has it, and 64 locations of dead ones
+    /// a step; only the own operations are hashed.
+    pub fn merkleize<
+        C: Store,
+        I: qm_index::Unordered<Value = Location<F>>,
+        H: Hasher<Digest = D>,
+        P: Policy<F, U::Key, U::Value>,
+    >(
+        self,
+        alloc: Global,
+        db: &mut Db<F, C, I, H, U>,
+        metadata: Option<U::Value>,
+        policy: &mut P,
+    ) -> Result<Rc<MerkleizedBatch<F, D, U>>, Error>
+    where
+        U: Steps<F, I>,
+        ensures fits { OnOk result (is_on db.old.commitment self ≡ true) }
+        ensures made { (list : List Operation) (chain above : Chain) → IsDatabase C.Store ⟦<Db<F, C, I, H, U> as LaidOut>⟧.layout db.old list → IsBegun ⟦<Db<F, C, I, H, U> as LaidOut>⟧.layout.hashing self chain above → IsOnChain list chain
+            → IfOk result (λ b. IsMade ⟦<Db<F, C, I, H, U> as LaidOut>⟧.layout.hashing b.value chain (stepped U.form P.rules chain.base self.writes policy.old (option_map U.Value.bytes metadata))) }
+        ensures taken { (list : List Operation) (chain above : Chain) → IsDatabase C.Store ⟦<Db<F, C, I, H, U> as LaidOut>⟧.layout db.old list → IsBegun ⟦<Db<F, C, I, H, U> as LaidOut>⟧.layout.hashing self chain above → IsOnChain list chain
+            → OnOk result (IsTaken U.form chain.base (stepped U.form P.rules chain.base self.writes policy.old (option_map U.Value.bytes metadata))) }
+        ensures refused { (list : List Operation) (chain above : Chain) → IsDatabase C.Store ⟦<Db<F, C, I, H, U> as LaidOut>⟧.layout db.old list → IsBegun ⟦<Db<F, C, I, H, U> as LaidOut>⟧.layout.hashing self chain above → IsOnChain list chain
+            → IfErr result (λ e. IsRefused U.form chain.base (stepped U.form P.rules chain.base self.writes policy.old (option_map U.Value.bytes metadata)) e ⊎ IsReadError C.Store db.old.log db.new.log e) }
+        ensures next { (list : List Operation) (chain above : Chain) → IsDatabase C.Store ⟦<Db<F, C, I, H, U> as LaidOut>⟧.layout db.old list → IsBegun ⟦<Db<F, C, I, H, U> as LaidOut>⟧.layout.hashing self chain above → IsOnChain list chain
+            → OnOk result (policy.new ≡ left_after U.form P.rules chain.base self.writes policy.old) }
+        ensures above { IfOk result (λ b. All (λ n. b.value.bounds.db.size ≤ n) (stops b.value.tree.leaves b.value.tree.layers)) }
+        ensures stale { IfErr result (λ e. e ≡ Error.StaleBatch → is_on db.old.commitment self ≡ false) }
+        ensures order { IfErr result (λ e. e ≢ Error.Memory → e ≢ Error.StaleBatch → is_on db.old.commitment self ≡ true) }
+        ensures causes { IfErr result (λ e. (e ≡ Error.StaleBatch) ⊎ IsMakingError C.Store db.old.log db.new.log e) }
+        ensures whole { (list : List Operation) → IsDatabase C.Store ⟦<Db<F, C, I, H, U> as LaidOut>⟧.layout db.old list → NoneBelow db.old.log.tree.start list → db.old.log.tree.start ≤ self.parent.bounds.inactivity_floor
+            → IfErr result (λ e. (n : ℕ) → e ≢ Error.Journal (JournalError.ItemPruned n)) }
+        ensures cause { IfErr result (λ e. e ≡ Error.Journal JournalError.Store → Rose (C.faults db.old.log.store) (C.faults db.new.log.store)) }
+        ensures left { IsLeft C.Store ⟦<Db<F, C, I, H, U> as LaidOut>⟧.layout.hashing db.old db.new }
+    {
+        let staged = Staged {
+            batch: self,
+            reads: Vec::new(alloc),
+        };
+        let (slots, others) = (Vec::new(alloc), Vec::new(alloc));
+        staged.merkleize(alloc, &slots, &others, db, metadata, policy)
+    }
+}
+
 impl<F: Family, D: Digest, U: Update> Staged<F, D, U> {
     /// How many keys are staged: those of `stage`, and of every `expand`.
     pub fn len(&self) -> usize
@@ -117,12 +165,22 @@ impl<F: Family, D: Digest, U: Update> Staged<F, D, U> {
         ensures whole { (list : List Operation) → IsDatabase C.Store ⟦<Db<F, C, I, H, U> as LaidOut>⟧.layout db.old list → NoneBelow db.old.log.tree.start list → IfErr result (λ e. (n : ℕ) → e ≢ Error.Journal (JournalError.ItemPruned n)) }
         ensures left { IsLeft C.Store ⟦<Db<F, C, I, H, U> as LaidOut>⟧.layout.hashing db.old db.new }
     {
+        let (found, values) = self.batch.located(alloc, keys, db)?;
+        let start = self.len();
+        let staged = self.with(found)?;
+        let range = start..staged.len();
+        Ok((range, values, staged))
+    }
+
+    // The staged batch, with the reads that were found behind those that it has.
+    fn with(self, found: Vec<Read<F, U>>) -> Result<Self, AllocError>
+        ensures batch { IfOk result (λ s. s.batch ≡ self.batch) }
+        ensures reads { IfOk result (λ s. s.reads ≡ self.reads ++ reads_view U.view U.Key.bytes found.items) }
+    {
         let Staged { batch, reads } = self;
-        let (found, values) = batch.located(alloc, keys, db)?;
-        let start = reads.len();
-        let reads = remembered(reads, found)?;
-        let range = start..reads.len();
-        Ok((range, values, Staged { batch, reads }))
+        let (mut reads, mut found) = (reads, found);
+        reads.append(&mut found)?;
+        Ok(Staged { batch, reads })
     }
 }
 
@@ -165,19 +223,17 @@ impl<F: Family, D: Digest, U: Update> Staged<F, D, U> {
         ensures cause { IfErr result (λ e. e ≡ Error.Journal JournalError.Store → Rose (C.faults db.old.log.store) (C.faults db.new.log.store)) }
         ensures left { IsLeft C.Store ⟦<Db<F, C, I, H, U> as LaidOut>⟧.layout.hashing db.old db.new }
     {
-        let Staged { batch, reads } = self;
-        batch.merkleized(alloc, &reads, slots, others, db, metadata, policy)
+        let (parent, keep, writes) = self.batch.parts();
+        let child = parent.child(alloc, keep, db.commitment(), &metadata)?;
+        let wanted = Wanted {
+            writes,
+            reads: &self.reads,
+            slots,
+            others,
+        };
+        let plan = db.plan(alloc, &parent.base(), wanted, metadata, policy)?;
+        let (floor, boundary) = (plan.floor.get(), child.boundary.size);
+        let (tree, root) = db.grown(alloc, parent.tree(), &plan.operations, floor, boundary)?;
+        sealed(alloc, parent, keep, child, plan, tree, root)
     }
-}
-
-// The reads, with those that were found behind them.
-fn remembered<F, U: Update>(
-    reads: Vec<Read<F, U>>,
-    found: Vec<Read<F, U>>,
-) -> Result<Vec<Read<F, U>>, AllocError>
-    ensures { IfOk result (λ all. all.items ≡ reads.items ++ found.items) }
-{
-    let (mut reads, mut found) = (reads, found);
-    reads.append(&mut found)?;
-    Ok(reads)
 }

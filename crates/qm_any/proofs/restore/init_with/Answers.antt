@@ -161,3 +161,19 @@ pub returns-in-Err-clause-unopened : goal.returns-in-Err-clause-unopened
 returns-in-Err-clause-unopened g c =
     let kept = c.select_commit.ensures.kept in
     each-known (g.C.Store.told c.args.store) (λ s is some. record { start = kept.start; told = kept.told })
+
+pub returns-in-Ok-Some-clause-start : goal.returns-in-Ok-Some-clause-start
+returns-in-Ok-Some-clause-start g c = ok-then c.open_list.result c.open_list.ensures.start (λ db start. start ∙ c.select_commit.ensures.kept.start)
+
+pub returns-in-Ok-None-clause-start : goal.returns-in-Ok-None-clause-start
+returns-in-Ok-None-clause-start g c = ok-then c.begin.result c.begin.ensures.start (λ db start. start ∙ c.select_commit.ensures.kept.start)
+
+pub returns-in-Ok-Some-clause-later : goal.returns-in-Ok-Some-clause-later
+returns-in-Ok-Some-clause-later g c =
+    let first = c.select_commit.ensures.cause.later in
+    ok-then c.open_list.result c.open_list.ensures.later (λ db later. omega (arith, first, later))
+
+pub returns-in-Ok-None-clause-later : goal.returns-in-Ok-None-clause-later
+returns-in-Ok-None-clause-later g c =
+    let first = c.select_commit.ensures.cause.later in
+    ok-then c.begin.result c.begin.ensures.later (λ db later. omega (arith, first, later))

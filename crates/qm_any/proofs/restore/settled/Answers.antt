@@ -3,7 +3,7 @@ use Rattle.qm_model.specs.Causes.{IsCause}
 use Rattle.qm_base.specs.declared.error.Error.TheVariants as errors
 use Rattle.qm_base.specs.declared.error.JournalError.TheVariants as journal
 use Rattle.qm_model.specs.Forms.{spelling}
-use Rattle.qm_model.specs.StoreModel.{end_of, RewindLeaves, ReadsAs, Turns}
+use Rattle.qm_model.specs.StoreModel.{end_of, rewound, Becomes, RewindLeaves, ReadsAs, Turns}
 use Rattle.qm_store.specs.Log.{store_given}
 use Rattle.qm_any.specs.Layouts.{layout_of}
 use Rattle.qm_any.proofs.Lasting.{still-told}
@@ -13,17 +13,28 @@ use Rattle.qm_any.proofs.Restoring.{shared-bytes, told-so, opened-stands, given-
 use Rattle.qm_any.proofs.Taking.{reads-whole, turns-kept}
 use Rattle.qm_any.proofs.restore.settled.Goals as goal
 
-pub returns-in-Ok-settle-clause-stands : goal.returns-in-Ok-settle-clause-stands
-returns-in-Ok-settle-clause-stands g c = λ list opened good ring low.
+pub returns-in-Ok-settle : goal.returns-in-Ok-settle
+returns-in-Ok-settle g c =
     let members = g.C.Store in
     let old = c.args.opened.log in
     let new = c.in-Ok-settle.log in
-    let bytes = g.U.Value.ByteString.bytes in
-    told-so (members.told old.store) _ (λ told.
-    opened-stands members (layout_of g.H.Digest.Digest.bytes g.H.Hasher g.F.Family g.U.Update g.I.Unordered) old new _ _ _ _ _ c.args.selected.size c.args.selected.floor c.of_parts.result list opened
-    (c.in-Ok-settle.ensures.stands (map (spelling g.U.Update.form) list) opened.has.logged) (still-told (members.told old.store) (members.told new.store) _ c.in-Ok-settle.ensures.settled told)
-    (c.of_parts.ensures ∙ ap₂ (λ f m. record { entries = g.I.Unordered.entries c.args.opened.index; activity = c.args.opened.activity; log = new; commitment = record { size = c.args.selected.size; root = g.H.Digest.Digest.bytes c.args.opened.root }; floor = f; live = c.args.opened.live; metadata = m }) c.new-floor.ensures (shared-bytes (λ r. r.value) bytes c.in-Ok.metadata c.args.opened.metadata c.in-Ok.ensures))
-    c.requires.size low good ring)
+    let made = c.of_parts.ensures in
+    record {
+      stands = λ list opened good ring low.
+          told-so (members.told old.store) _ (λ told.
+          opened-stands members (layout_of g.H.Digest.Digest.bytes g.H.Hasher g.F.Family g.U.Update g.I.Unordered) old new _ _ _ _ _ c.args.selected.size c.args.selected.floor c.of_parts.result list opened
+          (c.in-Ok-settle.ensures.stands (map (spelling g.U.Update.form) list) opened.has.logged) (still-told (members.told old.store) (members.told new.store) _ c.in-Ok-settle.ensures.settled told)
+          (made ∙ ap₂ (λ f m. record { entries = g.I.Unordered.entries c.args.opened.index; activity = c.args.opened.activity; log = new; commitment = record { size = c.args.selected.size; root = g.H.Digest.Digest.bytes c.args.opened.root }; floor = f; live = c.args.opened.live; metadata = m }) c.new-floor.ensures (shared-bytes (λ r. r.value) g.U.Value.ByteString.bytes c.in-Ok.metadata c.args.opened.metadata c.in-Ok.ensures))
+          c.requires.size low good ring);
+      became = subst (λ n. Becomes (members.told old.store) (members.told c.of_parts.result.log.store) (rewound n)) c.requires.size
+          (subst (λ d. Becomes (members.told old.store) (members.told d.log.store) (rewound old.tree.leaves)) (sym made) c.in-Ok-settle.ensures.settled);
+      left = tt;
+      activity = ap (λ d. d.activity) made;
+      start = ap (λ d. members.start d.log.store) made ∙ c.in-Ok-settle.ensures.start;
+      later = subst (λ d. members.faults old.store ≤ members.faults d.log.store) (sym made) c.in-Ok-settle.ensures.later;
+      back = tt;
+      never = tt;
+    }
 
 pub returns-in-Err : goal.returns-in-Err
 returns-in-Err g c =

@@ -1,14 +1,16 @@
-use Rattle.std.proofs.Common.{◌≡◌, ◌∙◌, ap, subst, sym, map, true, false, inl, inr}
-use Rattle.std.specs.Prelude.{option_map, IfOk, is_ok}
+use Rattle.std.proofs.Common.{◌≡◌, ◌∙◌, ap, subst, sym, map, refl, true, false, inl, inr}
+use Rattle.std.specs.Prelude.{option_map, is_ok}
 use Rattle.qm_model.specs.Writes.{read_through}
 use Rattle.qm_step.specs.Layers.{LeadOver}
 use Rattle.qm_any.proofs.Known.{made-base}
 use Rattle.std.proofs.lemmas.Result.{IfOk-from_err, err_from_is_err_and}
-use Rattle.qm_model.proofs.Results.{err-then}
+use Rattle.qm_step.specs.Views.{read_view}
+use Rattle.qm_step.proofs.Steps.{map-twice}
+use Rattle.qm_any.specs.Databases.{read_under}
+use Rattle.qm_any.proofs.Staging.{read-through}
 use Rattle.qm_chain.specs.Bounds.{commitment_view, knows}
 use Rattle.qm_any.specs.Layouts.{hashing_of}
 use Rattle.qm_any.proofs.Reading.{left-none}
-use Rattle.qm_any.proofs.Reasons.{on-ok}
 use Rattle.qm_any.proofs.batch.UnmerkleizedBatch.located.Goals as goal
 
 pub returns-in_err-compatible : goal.returns-in_err-compatible
@@ -30,33 +32,65 @@ returns-in_err-compatible g c =
       left = left-none g.C.Store (hashing_of g.D.Digest.bytes g.H.Hasher g.F.Family g.U.Update) c.args.db.now;
     }
 
-pub returns : goal.returns
-returns g c =
+pub returns-in_err-reads : goal.returns-in_err-reads
+returns-in_err-reads g c =
+    let exit = err_from_is_err_and c.from_residual-in_err-reads.result c.from_residual-in_err-reads.ensures.1 in
     let view = commitment_view g.D.Digest.bytes in
     let at = ap (λ b. b.bounds) (c.behind-self.view_is ∙ c.deref.ensures ∙ ap (λ b. b.parent) c.self.view_is) in
     let tested : knows c.behind-self.inside.bounds (view c.commitment.result.now) ≡ true = sym c.compatible.ensures.exact ∙ ap is_ok c.in_ok-compatible.was in
     let told : knows c.args.self.now.parent.bounds c.args.db.now.commitment ≡ true =
     subst (λ k. knows c.args.self.now.parent.bounds k ≡ true) c.commitment.ensures.value (subst (λ b. knows b (view c.commitment.result.now) ≡ true) at tested) in
     record {
-      keys = c.locate_all.ensures.keys;
+      keys = IfOk-from_err c.from_residual-in_err-reads.result _ c.from_residual-in_err-reads.ensures.0;
+      reads = λ list chain above stands begun known. IfOk-from_err c.from_residual-in_err-reads.result _ c.from_residual-in_err-reads.ensures.0;
+      values = λ list chain above stands begun known. IfOk-from_err c.from_residual-in_err-reads.result _ c.from_residual-in_err-reads.ensures.0;
+      readable = IfOk-from_err c.from_residual-in_err-reads.result _ c.from_residual-in_err-reads.ensures.0;
+      error = rw (exit.1, exit.2) (inr (inr (told, c.in_err-reads.ensures.error)));
+      whole = λ list is none. rw (exit.1, exit.2) (c.in_err-reads.ensures.whole list is none);
+      left = c.in_err-reads.ensures.left;
+    }
+
+pub returns-in_err-values : goal.returns-in_err-values
+returns-in_err-values g c =
+    let exit = err_from_is_err_and c.from_residual-in_err-values.result c.from_residual-in_err-values.ensures.1 in
+    record {
+      keys = IfOk-from_err c.from_residual-in_err-values.result _ c.from_residual-in_err-values.ensures.0;
+      reads = λ list chain above stands begun known. IfOk-from_err c.from_residual-in_err-values.result _ c.from_residual-in_err-values.ensures.0;
+      values = λ list chain above stands begun known. IfOk-from_err c.from_residual-in_err-values.result _ c.from_residual-in_err-values.ensures.0;
+      readable = IfOk-from_err c.from_residual-in_err-values.result _ c.from_residual-in_err-values.ensures.0;
+      error = rw (exit.1, exit.2) (inr (inl refl));
+      whole = λ list is none. rw (exit.1, exit.2) (λ n pruned. cc);
+      left = c.in_ok-reads.ensures.left;
+    }
+
+pub returns : goal.returns
+returns g c =
+    let key = g.U.Key.ByteString.bytes in
+    let view = commitment_view g.D.Digest.bytes in
+    let at = ap (λ b. b.bounds) (c.behind-self.view_is ∙ c.deref.ensures ∙ ap (λ b. b.parent) c.self.view_is) in
+    let tested : knows c.behind-self.inside.bounds (view c.commitment.result.now) ≡ true = sym c.compatible.ensures.exact ∙ ap is_ok c.in_ok-compatible.was in
+    let told : knows c.args.self.now.parent.bounds c.args.db.now.commitment ≡ true =
+    subst (λ k. knows c.args.self.now.parent.bounds k ≡ true) c.commitment.ensures.value (subst (λ b. knows b (view c.commitment.result.now) ≡ true) at tested) in
+    let parent = c.behind-self-2.view_is ∙ c.deref-2.ensures ∙ ap (λ b. b.parent) c.self.view_is in
+    let layers = ap (map (λ l. l.value)) c.deref-3.ensures.value ∙ ap (λ b. b.layers) parent in
+    record {
+      keys = c.in_ok-reads.ensures.keys;
       reads = λ list chain above stands begun known.
-          let parent = c.behind-self-2.view_is ∙ c.deref-2.ensures ∙ ap (λ b. b.parent) c.self.view_is in
-          let layers = ap (map (λ l. l.value)) c.deref-3.ensures.value ∙ ap (λ b. b.layers) parent in
           let base = subst (λ ls. LeadOver ls list chain.base) (sym layers)
           (made-base (c.args.self.now).parent list above chain.base begun.parent known) in
-          c.locate_all.ensures.reads list chain.base stands base;
+          c.in_ok-reads.ensures.reads list chain.base stands base;
       values = λ list chain above stands begun known.
-          let key = g.U.Key.ByteString.bytes in
-          let value = g.U.Value.ByteString.bytes in
-          let parent = c.behind-self-2.view_is ∙ c.deref-2.ensures ∙ ap (λ b. b.parent) c.self.view_is in
-          let layers = ap (map (λ l. l.value)) c.deref-3.ensures.value ∙ ap (λ b. b.layers) parent in
+          let writes = c.args.self.now.writes in
           let base = subst (λ ls. LeadOver ls list chain.base) (sym layers)
           (made-base (c.args.self.now).parent list above chain.base begun.parent known) in
-          subst (λ ws. IfOk c.locate_all.result (λ r. map (option_map value) r.1.items ≡ map (λ k. read_through chain.base ws (key k)) c.args.keys.items))
-          (ap (λ b. b.writes) c.self.view_is)
-          (c.locate_all.ensures.values list chain.base stands base);
-      readable = on-ok c.locate_all.result told;
-      error = err-then c.locate_all.result c.locate_all.ensures.error (λ e failed. inr (inr (told, failed)));
-      whole = c.locate_all.ensures.whole;
-      left = c.locate_all.ensures.left;
+          c.in_ok-values.ensures
+          ∙ ap (λ ws. map (λ r. read_under ws (key r.key) (option_map (read_view g.U.Update.view) r.found)) c.deref-4.result.now) (ap (λ b. b.writes) c.self.view_is)
+          ∙ ap (map (λ r. read_under writes (key r.key) (option_map (read_view g.U.Update.view) r.found))) c.deref-4.ensures.value
+          ∙ read-through g.U.Update.view key chain.base writes c.in_ok-reads.reads.items (c.in_ok-reads.ensures.reads list chain.base stands base)
+          ∙ ap (map (read_through chain.base writes)) c.in_ok-reads.ensures.keys
+          ∙ map-twice (read_through chain.base writes) key c.args.keys.items;
+      readable = told;
+      error = tt;
+      whole = λ list is none. tt;
+      left = c.in_ok-reads.ensures.left;
     }

@@ -1,49 +1,40 @@
-use Rattle.std.proofs.Common.{◌≡◌, ◌∙◌, option_map}
-use Rattle.std.proofs.Common.{subst}
+use Rattle.std.proofs.Common.{◌≡◌, ◌∙◌, option_map, subst}
 use Rattle.std.specs.Prelude.{IfOk, IfErr, OnOk, ◌⊎◌}
 use Rattle.qm_store.specs.Reads.{IsReadError}
 use Rattle.qm_step.specs.Views.{stepped, left_after}
 use Rattle.qm_any.specs.Layouts.{hashing_with}
 use Rattle.qm_any.specs.Databases.{IsMade}
 use Rattle.qm_any.specs.Tips.{IsTaken, IsRefused}
-use Rattle.qm_any.proofs.Staging.{reads-none, slotted-none}
+use Rattle.qm_any.proofs.Staging.{slotted-staged, staged-none}
 use Rattle.qm_any.proofs.batch.UnmerkleizedBatch.merkleize.Goals as goal
 
-pub returns-clause-made : goal.returns-clause-made
-returns-clause-made g c = λ list chain above is begun on.
-    let key = g.U.Key.ByteString.bytes in
-    let value = g.U.Value.ByteString.bytes in
-    let hashing = hashing_with g.D.Digest.bytes g.H.Hasher.hash g.F.Family.shape g.U.Update.form in
-    let reads = c.deref.ensures.value ∙ c.new-reads.ensures.items in
-    let writes = slotted-none key value c.args.self.writes _ _ _ reads (c.deref-2.ensures.value ∙ c.new-slots.ensures.items) (c.deref-3.ensures.value ∙ c.new-others.ensures.items) in
-    subst (λ ws. IfOk c.merkleized.result (λ b. IsMade hashing b.value chain (stepped g.U.Update.form g.P.Policy.rules chain.base ws c.args.policy.now (option_map value c.args.metadata)))) writes
-    (c.merkleized.ensures.made list chain above is begun on (reads-none _ key chain.base _ reads))
-
-pub returns-clause-taken : goal.returns-clause-taken
-returns-clause-taken g c = λ list chain above is begun on.
+pub returns : goal.returns
+returns g c =
     let key = g.U.Key.ByteString.bytes in
     let value = g.U.Value.ByteString.bytes in
     let form = g.U.Update.form in
-    let reads = c.deref.ensures.value ∙ c.new-reads.ensures.items in
-    let writes = slotted-none key value c.args.self.writes _ _ _ reads (c.deref-2.ensures.value ∙ c.new-slots.ensures.items) (c.deref-3.ensures.value ∙ c.new-others.ensures.items) in
-    subst (λ ws. OnOk c.merkleized.result (IsTaken form chain.base (stepped g.U.Update.form g.P.Policy.rules chain.base ws c.args.policy.now (option_map value c.args.metadata)))) writes
-    (c.merkleized.ensures.taken list chain above is begun on (reads-none _ key chain.base _ reads))
-
-pub returns-clause-refused : goal.returns-clause-refused
-returns-clause-refused g c = λ list chain above is begun on.
-    let key = g.U.Key.ByteString.bytes in
-    let value = g.U.Value.ByteString.bytes in
-    let form = g.U.Update.form in
-    let reads = c.deref.ensures.value ∙ c.new-reads.ensures.items in
-    let writes = slotted-none key value c.args.self.writes _ _ _ reads (c.deref-2.ensures.value ∙ c.new-slots.ensures.items) (c.deref-3.ensures.value ∙ c.new-others.ensures.items) in
-    subst (λ ws. IfErr c.merkleized.result (λ e. IsRefused form chain.base (stepped g.U.Update.form g.P.Policy.rules chain.base ws c.args.policy.now (option_map value c.args.metadata)) e ⊎ IsReadError g.C.Store c.args.db.now.log c.merkleized.new.db.log e)) writes
-    (c.merkleized.ensures.refused list chain above is begun on (reads-none _ key chain.base _ reads))
-
-pub returns-clause-next : goal.returns-clause-next
-returns-clause-next g c = λ list chain above is begun on.
-    let key = g.U.Key.ByteString.bytes in
-    let value = g.U.Value.ByteString.bytes in
-    let reads = c.deref.ensures.value ∙ c.new-reads.ensures.items in
-    let writes = slotted-none key value c.args.self.writes _ _ _ reads (c.deref-2.ensures.value ∙ c.new-slots.ensures.items) (c.deref-3.ensures.value ∙ c.new-others.ensures.items) in
-    subst (λ ws. OnOk c.merkleized.result (c.merkleized.new.policy ≡ left_after g.U.Update.form g.P.Policy.rules chain.base ws c.args.policy.now)) writes
-    (c.merkleized.ensures.next list chain above is begun on (reads-none _ key chain.base _ reads))
+    let meta = option_map value c.args.metadata in
+    let hashing = hashing_with g.D.Digest.bytes g.H.Hasher.hash g.F.Family.shape form in
+    let writes = slotted-staged g.U.Update.view key value c.args.self.writes _ _ _ c.new.ensures.items (c.deref.ensures.value ∙ c.new-slots.ensures.items) (c.deref-2.ensures.value ∙ c.new-others.ensures.items) in
+    record {
+      fits = c.merkleize.ensures.fits;
+      made = λ list chain above is begun on.
+          subst (λ ws. IfOk c.merkleize.result (λ b. IsMade hashing b.value chain (stepped form g.P.Policy.rules chain.base ws c.args.policy.now meta))) writes
+          (c.merkleize.ensures.made list chain above is (record { begun = begun; reads = staged-none g.U.Update.view key chain.base _ c.new.ensures.items }) on);
+      taken = λ list chain above is begun on.
+          subst (λ ws. OnOk c.merkleize.result (IsTaken form chain.base (stepped form g.P.Policy.rules chain.base ws c.args.policy.now meta))) writes
+          (c.merkleize.ensures.taken list chain above is (record { begun = begun; reads = staged-none g.U.Update.view key chain.base _ c.new.ensures.items }) on);
+      refused = λ list chain above is begun on.
+          subst (λ ws. IfErr c.merkleize.result (λ e. IsRefused form chain.base (stepped form g.P.Policy.rules chain.base ws c.args.policy.now meta) e ⊎ IsReadError g.C.Store c.args.db.now.log c.merkleize.new.db.log e)) writes
+          (c.merkleize.ensures.refused list chain above is (record { begun = begun; reads = staged-none g.U.Update.view key chain.base _ c.new.ensures.items }) on);
+      next = λ list chain above is begun on.
+          subst (λ ws. OnOk c.merkleize.result (c.merkleize.new.policy ≡ left_after form g.P.Policy.rules chain.base ws c.args.policy.now)) writes
+          (c.merkleize.ensures.next list chain above is (record { begun = begun; reads = staged-none g.U.Update.view key chain.base _ c.new.ensures.items }) on);
+      above = c.merkleize.ensures.above;
+      stale = c.merkleize.ensures.stale;
+      order = c.merkleize.ensures.order;
+      causes = c.merkleize.ensures.causes;
+      whole = c.merkleize.ensures.whole;
+      cause = c.merkleize.ensures.cause;
+      left = c.merkleize.ensures.left;
+    }

@@ -1,16 +1,14 @@
-use Rattle.std.proofs.Common.{◌≡◌, ◌∙◌, ap, true, false, arith, length, map, subst, sym, refl, inl, inr, ℕ, Option}
-use Rattle.qm_model.specs.Operations.{Bytes, Operation}
-use Rattle.std.specs.Prelude.{◌⊎◌, option_map}
+use Rattle.std.proofs.Common.{◌≡◌, ◌∙◌, ◌+◌, ap, true, false, length, map, subst, sym, refl, inl, inr}
+use Rattle.std.specs.Prelude.{◌⊎◌}
 use Rattle.std.proofs.lemmas.List.{length-append, length-map}
 use Rattle.std.proofs.lemmas.Result.{IfOk-from_err, err_from_is_err_and}
 use Rattle.qm_model.specs.Writes.{read_through}
 use Rattle.qm_base.specs.declared.error.Error.TheVariants as errors
 use Rattle.qm_chain.specs.Bounds.{knows}
 use Rattle.qm_store.specs.Reads.{IsReadError}
-use Rattle.qm_step.specs.Views.{read_view}
 use Rattle.qm_any.specs.Layouts.{hashing_of}
-use Rattle.qm_any.specs.Databases.{Begun, IsBegun}
-use Rattle.qm_any.proofs.Staging.{keys-count, staged-keys-more, staged-more}
+use Rattle.qm_any.specs.Databases.{Begun, IsBegun, staged_keys}
+use Rattle.qm_any.proofs.Staging.{staged-keys-more, staged-more}
 use Rattle.qm_any.proofs.staged.Staged.expand.Goals as goal
 
 pub returns-in_err-found : goal.returns-in_err-found
@@ -30,16 +28,16 @@ returns-in_err-found g c =
       left = c.in_err-found.ensures.left;
     }
 
-pub returns-in_err-reads : goal.returns-in_err-reads
-returns-in_err-reads g c =
-    let exit = err_from_is_err_and c.from_residual-in_err-reads.result c.from_residual-in_err-reads.ensures.1 in
+pub returns-in_err-staged : goal.returns-in_err-staged
+returns-in_err-staged g c =
+    let exit = err_from_is_err_and c.from_residual-in_err-staged.result c.from_residual-in_err-staged.ensures.1 in
     record {
-      range = IfOk-from_err c.from_residual-in_err-reads.result _ c.from_residual-in_err-reads.ensures.0;
-      values = λ list chain above is staged known. IfOk-from_err c.from_residual-in_err-reads.result _ c.from_residual-in_err-reads.ensures.0;
-      staged = λ list chain above is staged known. IfOk-from_err c.from_residual-in_err-reads.result _ c.from_residual-in_err-reads.ensures.0;
-      batch = IfOk-from_err c.from_residual-in_err-reads.result _ c.from_residual-in_err-reads.ensures.0;
-      keys = IfOk-from_err c.from_residual-in_err-reads.result _ c.from_residual-in_err-reads.ensures.0;
-      readable = IfOk-from_err c.from_residual-in_err-reads.result _ c.from_residual-in_err-reads.ensures.0;
+      range = IfOk-from_err c.from_residual-in_err-staged.result _ c.from_residual-in_err-staged.ensures.0;
+      values = λ list chain above is staged known. IfOk-from_err c.from_residual-in_err-staged.result _ c.from_residual-in_err-staged.ensures.0;
+      staged = λ list chain above is staged known. IfOk-from_err c.from_residual-in_err-staged.result _ c.from_residual-in_err-staged.ensures.0;
+      batch = IfOk-from_err c.from_residual-in_err-staged.result _ c.from_residual-in_err-staged.ensures.0;
+      keys = IfOk-from_err c.from_residual-in_err-staged.result _ c.from_residual-in_err-staged.ensures.0;
+      readable = IfOk-from_err c.from_residual-in_err-staged.result _ c.from_residual-in_err-staged.ensures.0;
       error = rw (exit.1, exit.2) (inr (inl refl));
       whole = λ list is none. rw (exit.1, exit.2) (λ n pruned. cc);
       left = c.in_ok-found.ensures.left;
@@ -47,34 +45,32 @@ returns-in_err-reads g c =
 
 pub returns : goal.returns
 returns g c =
+    let key = g.U.Key.ByteString.bytes in
+    let batch = ap (λ s. s.batch) c.self.view_is in
+    let more = c.in_ok-staged.ensures.reads in
+    let keys = staged-keys-more g.U.Update.view key c.in_ok-staged.staged.reads c.args.self.reads c.in_ok-found.found.items c.args.keys.items more c.in_ok-found.ensures.keys in
+    let had = staged_keys c.args.self in
     record {
-      range =
-          let key = g.U.Key.ByteString.bytes in
-          let reads = ap (λ s. length s.reads) c.self.view_is in
-          let had = length-map {B = Bytes × Option (ℕ × Operation)} c.self.inside.reads.items (λ r. (key r.key, option_map (read_view g.U.Update.view) r.found)) in
-          let keys = length-map c.args.self.reads (λ r. r.0) in
-          let more = keys-count key c.in_ok-found.found.items c.args.keys.items c.in_ok-found.ensures.keys in
-          let all = ap length c.in_ok-reads.ensures ∙ length-append c.self.inside.reads.items c.in_ok-found.found.items in
-          (omega (arith, reads, had, keys, c.len-start.ensures), omega (arith, reads, had, keys, more, all, c.len.ensures));
+      range = (
+        c.len-start.ensures,
+        c.len.ensures ∙ ap length keys ∙ length-append had (map key c.args.keys.items) ∙ ap (λ n. length had + n) (length-map c.args.keys.items key),
+      );
       values = λ list chain above is staged known.
-          let key = g.U.Key.ByteString.bytes in
           let value = g.U.Value.ByteString.bytes in
-          let batch = ap (λ s. s.batch) c.self.view_is in
           let begun = subst (λ b. IsBegun (hashing_of g.D.Digest.bytes g.H.Hasher g.F.Family g.U.Update) b chain above) (sym batch) staged.begun in
           c.in_ok-found.ensures.values list chain above is begun known
           ∙ ap (λ b. map (λ k. read_through chain.base b.writes (key k)) c.args.keys.items) batch;
       staged = λ list chain above is staged known.
-          let key = g.U.Key.ByteString.bytes in
-          let batch = ap (λ s. s.batch) c.self.view_is in
-          let begun = subst (λ b. IsBegun (hashing_of g.D.Digest.bytes g.H.Hasher g.F.Family g.U.Update) b chain above) (sym batch) staged.begun in
+          let hashing = hashing_of g.D.Digest.bytes g.H.Hasher g.F.Family g.U.Update in
+          let begun = subst (λ b. IsBegun hashing b chain above) (sym batch) staged.begun in
           record {
-            begun = begun;
-            reads = staged-more g.U.Update.view key chain.base c.in_ok-reads.reads.items c.self.inside.reads.items c.in_ok-found.found.items c.args.self.reads c.in_ok-reads.ensures (ap (λ s. s.reads) c.self.view_is) staged.reads
+            begun = subst (λ b. IsBegun hashing b chain above) (sym c.in_ok-staged.ensures.batch) staged.begun;
+            reads = staged-more g.U.Update.view key chain.base c.in_ok-staged.staged.reads c.args.self.reads c.in_ok-found.found.items more staged.reads
                 (c.in_ok-found.ensures.reads list chain above is begun known);
           };
-      batch = ap (λ s. s.batch) c.self.view_is;
-      keys = staged-keys-more g.U.Update.view g.U.Key.ByteString.bytes c.in_ok-reads.reads.items c.self.inside.reads.items c.in_ok-found.found.items c.args.self.reads c.args.keys.items c.in_ok-reads.ensures (ap (λ s. s.reads) c.self.view_is) c.in_ok-found.ensures.keys;
-      readable = subst (λ (b : Begun g.row.D.Denot). knows b.parent.bounds c.args.db.now.commitment ≡ true) (ap (λ s. s.batch) c.self.view_is) c.in_ok-found.ensures.readable;
+      batch = c.in_ok-staged.ensures.batch;
+      keys = keys;
+      readable = subst (λ (b : Begun g.row.D.Denot). knows b.parent.bounds c.args.db.now.commitment ≡ true) batch c.in_ok-found.ensures.readable;
       error = tt;
       whole = λ list is none. tt;
       left = c.in_ok-found.ensures.left;
