@@ -276,6 +276,15 @@ pub on_err : {X E : Type 0} {P : Type 0} (r : Result X E) → P → OnErr r P
 on_err (Ok x) p = tt
 on_err (Err e) p = p
 
+-- what holds of a call that ends well by two clauses, and of one that ends either way
+pub on_ok_both : {X E : Type 0} {P Q R : Type 0} (r : Result X E) → OnOk r P → OnOk r Q → (P → Q → R) → OnOk r R
+on_ok_both (Ok x) p q give = give p q
+on_ok_both (Err e) p q give = tt
+
+pub either : {X E : Type 0} {P : Type 0} (r : Result X E) → OnOk r P → OnErr r P → P
+either (Ok x) p q = p
+either (Err e) p q = q
+
 -- a chunk has bits
 pub some_bits : (size : ℕ) → 32 ≤ size → 0 < 8 * size
 some_bits size least = omega arith

@@ -141,15 +141,17 @@ impl<'a, N: Chunks, B: Readable<N>> Marks<N> for Laying<'a, N, B> {
 
     fn mark(&mut self, at: u64) -> Result<(), AllocError> {
         if at < self.overlay.len() {
-            self.overlay.set_bit(self.alloc, self.base, at)?;
+            self.overlay.set_bit(self.alloc, self.base, at)
+        } else {
+            Ok(())
         }
-        Ok(())
     }
 
     fn unmark(&mut self, at: u64) -> Result<(), AllocError> {
         if at < self.overlay.len() {
-            self.overlay.clear_bit(self.alloc, self.base, at)?;
+            self.overlay.clear_bit(self.alloc, self.base, at)
+        } else {
+            Ok(())
         }
-        Ok(())
     }
 }

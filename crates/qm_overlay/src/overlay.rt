@@ -135,11 +135,11 @@ impl<N: Chunks> ChunkOverlay<N> {
         ensures same { laid N.LEN self.new (B.bitmap base.now) ≡ laid N.LEN self.old (B.bitmap base.now) }
         ensures err { OnErr result (self.new ≡ self.old) }
     {
-        if !self.changed.contains_key(&chunk) {
-            let bits = Chunk::read(alloc, base, chunk)?;
-            insert_in(&mut self.changed, chunk, bits)?;
+        if self.changed.contains_key(&chunk) {
+            return Ok(());
         }
-        Ok(())
+        let bits = Chunk::read(alloc, base, chunk)?;
+        insert_in(&mut self.changed, chunk, bits)
     }
 
     // Sets or clears a bit, where its chunk is not pruned. Want of memory is the only error, and leaves all as it was.

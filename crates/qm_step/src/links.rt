@@ -76,13 +76,15 @@ fn add_before<'a, F, K: ByteString, V: ValueEncoding<K>>(
     ensures standing { OnOk result ((base : List operations.Operation) → IsStanding base (ordered_neighbour K.bytes V.Value.bytes neighbour.now)
         → AreLive (ordered_update K.bytes V.Value.bytes) base befores.old.entries → AreLive (ordered_update K.bytes V.Value.bytes) base befores.new.entries) }
 {
-    if let Some(found) = &neighbour.before {
-        let key = found.1.key.as_bytes();
-        if !deleted.contains_key(key) {
-            put(befores, key, found)?;
-        }
+    let Some(found) = &neighbour.before else {
+        return Ok(());
+    };
+    let key = found.1.key.as_bytes();
+    if deleted.contains_key(key) {
+        Ok(())
+    } else {
+        put(befores, key, found)
     }
-    Ok(())
 }
 
 // The live updates before keys, without those of deleted keys.
@@ -111,13 +113,15 @@ fn add_kept<'a, K: ByteString>(
     ensures keys { OnOk result (SameKeys (keys_in keys.new.entries) (keys_in keys.old.entries ++ without (keys_in deleted.now.entries) (option_to_list (option_map (λ k. K.bytes k.now) key.entry)))) }
     ensures known { OnOk result (AreKeys K.has keys.old.entries → AreKeys K.has keys.new.entries) }
 {
-    if let Some(key) = key {
-        let key = key.as_bytes();
-        if !deleted.contains_key(key) {
-            put(keys, key, ())?;
-        }
+    let Some(key) = key else {
+        return Ok(());
+    };
+    let key = key.as_bytes();
+    if deleted.contains_key(key) {
+        Ok(())
+    } else {
+        put(keys, key, ())
     }
-    Ok(())
 }
 
 // The key that a written key's live update names, or the key itself where it is created.
@@ -280,15 +284,15 @@ fn add_link<'a, F, K: ByteString, V: ValueEncoding<K>>(
     let Some((before, found)) = entry_before(befores, key.as_bytes()) else {
         return Ok(());
     };
-    if !written.contains_key(before) {
-        let operation = update_with(alloc, afters, &found.1.key, &found.1.value)?;
-        touches.push(Touch {
-            operation,
-            before: Some(found.0.get()),
-        })?;
-        put(written, before, ())?;
+    if written.contains_key(before) {
+        return Ok(());
     }
-    Ok(())
+    let operation = update_with(alloc, afters, &found.1.key, &found.1.value)?;
+    touches.push(Touch {
+        operation,
+        before: Some(found.0.get()),
+    })?;
+    put(written, before, ())
 }
 
 // Writes the live updates before the keys of the writes of a kind again, unless their own keys were written.

@@ -1,16 +1,13 @@
-use Rattle.std.proofs.Common.{◌≡◌, ◌∙◌, ◌≤◌, ap, refl, sym, subst, IsSome, false, ◌<◌}
+use Rattle.std.proofs.Common.{◌≡◌, ◌∙◌, ◌≤◌, ap, refl, sym, subst, IsSome, false}
 use Rattle.std.specs.Option.{is_some}
+use Rattle.std.proofs.lemmas.Result.{on_err_weaker, on_ok_weaker}
 use Rattle.qm_bits.specs.Bitmaps.{bit_count}
 use Rattle.qm_overlay.specs.Layers.{Overlay, IsClearBehind, changed_at, laid}
-use Rattle.qm_overlay.proofs.Laying.{some_bits, hold_same, hold_clear, none_there, ok_of_err, on_err}
-use Rattle.qm_overlay.proofs.overlay.ChunkOverlay.hold.Given
+use Rattle.qm_overlay.proofs.Laying.{some_bits, hold_same, hold_clear, none_there, either, ok_of_err, on_err, on_ok_both}
 use Rattle.qm_overlay.proofs.overlay.ChunkOverlay.hold.Goals as goal
 
 pub read-requires : goal.read-requires
 read-requires g c = c.requires.kept
-
-same_view : (g : Given.Over) (c : goal.After-from_residual-in_err-insert_in g) → record { count = c.self.inside.len; changed = c.insert_in.new.changed.entries } ≡ c.args.self.now
-same_view g c = ap {B = Overlay} (λ e. record { count = c.self.inside.len; changed = e }) c.in_err-insert_in.ensures.err ∙ c.self.view_is
 
 pub returns-in_err-bits : goal.returns-in_err-bits
 returns-in_err-bits g c = record {
@@ -25,41 +22,39 @@ invariant_of-self g c =
     let base = g.B.Readable.bitmap c.args.base.now in
     let old : Overlay = record { count = c.self.inside.len; changed = c.self.inside.changed.entries } in
     let new : Overlay = record { count = c.self.inside.len; changed = c.insert_in.new.changed.entries } in
-    let absent : is_some (changed_at old.changed c.args.chunk) ≡ false = sym c.contains_key.ensures ∙ c.if-not-contains_key.true in
+    let absent : is_some (changed_at old.changed c.args.chunk) ≡ false = sym c.contains_key.ensures ∙ c.if-contains_key.false in
+    let least : bit_count g.N.Chunks.LEN base ≤ old.count = subst (λ o. bit_count g.N.Chunks.LEN base ≤ o.count) (sym c.self.view_is) c.requires.not_below in (
+      either c.insert_in.result
+          (on_ok_both c.insert_in.result c.insert_in.ensures.here c.insert_in.ensures.other (λ here other.
+          hold_clear g.N.Chunks.LEN base old new c.args.chunk c.in_ok-bits.bits (some_bits g.N.Chunks.LEN g.met.N.Chunks.least) refl least (none_there (changed_at old.changed c.args.chunk) absent) here other c.in_ok-bits.ensures c.self.invariant.0))
+          (on_err_weaker c.insert_in.result (λ same. subst (λ e. IsClearBehind g.N.Chunks.LEN (record { count = c.self.inside.len; changed = e })) (sym same) c.self.invariant.0) c.insert_in.ensures.err),
+      c.self.invariant.1,
+    )
+
+pub returns : goal.returns
+returns g c =
+    let base = g.B.Readable.bitmap c.args.base.now in
+    let old : Overlay = record { count = c.self.inside.len; changed = c.self.inside.changed.entries } in
+    let new : Overlay = record { count = c.self.inside.len; changed = c.insert_in.new.changed.entries } in
+    let absent : is_some (changed_at old.changed c.args.chunk) ≡ false = sym c.contains_key.ensures ∙ c.if-contains_key.false in
     let least : bit_count g.N.Chunks.LEN base ≤ old.count = subst (λ o. bit_count g.N.Chunks.LEN base ≤ o.count) (sym c.self.view_is) c.requires.not_below in
-    (hold_clear g.N.Chunks.LEN base old new c.args.chunk c.in_ok-bits.bits (some_bits g.N.Chunks.LEN g.met.N.Chunks.least) refl least (none_there (changed_at old.changed c.args.chunk) absent) c.in_ok-insert_in.ensures.here c.in_ok-insert_in.ensures.other c.in_ok-bits.ensures c.self.invariant.0, c.self.invariant.1)
+    let left = on_err_weaker c.insert_in.result (λ same. ap {B = Overlay} (λ e. record { count = c.self.inside.len; changed = e }) same ∙ c.self.view_is) c.insert_in.ensures.err in
+    record {
+      count = ap (λ o. o.count) c.self.view_is;
+      held = on_ok_weaker c.insert_in.result (ap is_some) c.insert_in.ensures.here;
+      same =
+          either c.insert_in.result
+          (on_ok_both c.insert_in.result c.insert_in.ensures.here c.insert_in.ensures.other (λ here other.
+          hold_same g.N.Chunks.LEN base old new c.args.chunk c.in_ok-bits.bits (some_bits g.N.Chunks.LEN g.met.N.Chunks.least) refl least (none_there (changed_at old.changed c.args.chunk) absent) here other c.in_ok-bits.ensures
+          ∙ ap (λ o. laid g.N.Chunks.LEN o base) c.self.view_is))
+          (on_err_weaker c.insert_in.result (ap (λ o. laid g.N.Chunks.LEN o base)) left);
+      err = left;
+    }
 
-pub invariant_of-self-in_err-insert_in : goal.invariant_of-self-in_err-insert_in
-invariant_of-self-in_err-insert_in g c =
-    (subst (λ e. IsClearBehind g.N.Chunks.LEN (record { count = c.self.inside.len; changed = e })) (sym c.in_err-insert_in.ensures.err) c.self.invariant.0, c.self.invariant.1)
-
-pub returns-in_err-insert_in : goal.returns-in_err-insert_in
-returns-in_err-insert_in g c = record {
-  count = ap (λ o. o.count) c.self.view_is;
-  held = ok_of_err _ c.from_residual-in_err-insert_in.result c.from_residual-in_err-insert_in.ensures.0;
-  same = ap (λ o. laid g.N.Chunks.LEN o (g.B.Readable.bitmap c.args.base.now)) (same_view g c);
-  err = on_err c.from_residual-in_err-insert_in.result (same_view g c);
-}
-
-pub returns-in_ok-insert_in : goal.returns-in_ok-insert_in
-returns-in_ok-insert_in g c = record {
-  count = ap (λ o. o.count) c.self.view_is;
-  held = ap is_some c.in_ok-insert_in.ensures.here;
-  same =
-      let base = g.B.Readable.bitmap c.args.base.now in
-      let old : Overlay = record { count = c.self.inside.len; changed = c.self.inside.changed.entries } in
-      let new : Overlay = record { count = c.self.inside.len; changed = c.insert_in.new.changed.entries } in
-      let absent : is_some (changed_at old.changed c.args.chunk) ≡ false = sym c.contains_key.ensures ∙ c.if-not-contains_key.true in
-      let least : bit_count g.N.Chunks.LEN base ≤ old.count = subst (λ o. bit_count g.N.Chunks.LEN base ≤ o.count) (sym c.self.view_is) c.requires.not_below in
-      hold_same g.N.Chunks.LEN base old new c.args.chunk c.in_ok-bits.bits (some_bits g.N.Chunks.LEN g.met.N.Chunks.least) refl least (none_there (changed_at old.changed c.args.chunk) absent) c.in_ok-insert_in.ensures.here c.in_ok-insert_in.ensures.other c.in_ok-bits.ensures
-      ∙ ap (λ o. laid g.N.Chunks.LEN o base) c.self.view_is;
-  err = tt;
-}
-
-pub returns-else-not-contains_key : goal.returns-else-not-contains_key
-returns-else-not-contains_key g c = record {
+pub returns-then-contains_key : goal.returns-then-contains_key
+returns-then-contains_key g c = record {
   count = refl;
-  held = subst (λ o. IsSome (changed_at o.changed c.args.chunk)) c.self.view_is (sym c.contains_key.ensures ∙ c.if-not-contains_key.false);
+  held = subst (λ o. IsSome (changed_at o.changed c.args.chunk)) c.self.view_is (sym c.contains_key.ensures ∙ c.if-contains_key.true);
   same = refl;
   err = tt;
 }
