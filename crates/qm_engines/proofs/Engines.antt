@@ -1,8 +1,8 @@
 -- The program's databases as engines: where its batches fit and can be read, and what its refusals are.
-use Rattle.std.proofs.Common.{◌≡◌, ◌≢◌, ◌≤◌, ℕ, suc, arith, ◌^◌, ◌∙◌, ◌⊎◌, ap, ap₂, sym, subst, refl, inl, inr, List, [], ◌∷◌, ◌++◌, length, map, drop, Option, Some, None, Bool, true, false, IfSome}
+use Rattle.std.proofs.Common.{◌≡◌, ◌≢◌, ◌≤◌, ℕ, suc, arith, ◌^◌, ◌∙◌, ◌⊎◌, ap, ap₂, le_refl, sym, subst, refl, inl, inr, List, [], ◌∷◌, ◌++◌, length, map, drop, Option, Some, None, Bool, true, false, IfSome}
 use Rattle.std.specs.Prelude.{Result, Ok, Err, IfOk, IfErr, IsErrOf, if◌then◌else◌, option_map}
 use Rattle.std.specs.Option.{option_or}
-use Rattle.std.proofs.lemmas.Bool.{lt-ltb, le-ltb}
+use Rattle.std.proofs.lemmas.Bool.{false≢true, lt-ltb, le-ltb}
 use Rattle.std.proofs.lemmas.List.Elements.{All-weaker}
 use Rattle.sha2.specs.Sha256.{sha256}
 use Rattle.qm_base.specs.declared.error.Error.{Error}
@@ -40,7 +40,7 @@ use Rattle.qm_store.specs.Given.{IsUnchanged, TellsFrom}
 use Rattle.qm_store.specs.declared.refusal.Given.{Given}
 use Rattle.qm_store.specs.declared.refusal.Given.TheVariants as given
 use Rattle.qm_engine.specs.declared.words.Words as words
-use Rattle.qm_engine.specs.Words.{IsReadFailure}
+use Rattle.qm_engine.specs.Words.{IsReadFailure, ReadsOnly}
 use Rattle.qm_engines.specs.declared.database.Database as engine
 use Rattle.qm_engines.specs.Held.{held}
 
@@ -357,3 +357,32 @@ pub unapplied-untold : (e : Error) → (e ≡ errors.StaleBatch) ⊎ ((e ≡ err
 unapplied-untold e (inl stale) fresh = absurd (fresh stale)
 unapplied-untold e (inr (inl memory)) fresh = ap refusal_of memory
 unapplied-untold e (inr (inr fault)) fresh = ap refusal_of fault
+
+-- a call that ended before it read left all as it was
+module _ {X C B S M : Type 0} (means : words.Ghosts X C B S M) (members : store.Ghosts C) (x : X) where
+  unread : (failed : Type 0) → (failed → ⊥) → ReadsOnly means members x x failed
+  unread failed never = record {
+    same = λ list is. is;
+    store = record { start = refl; told = refl };
+    faults = record { later = le_refl (members.faults (means.inside x)); failed = λ f. absurd (never f) };
+  }
+
+  pub unread-answer : {T : Type 0} (v : T) → ReadsOnly means members x x (IsErrOf {E = Error} (Ok v) (errors.Journal journal.Store))
+  unread-answer v = unread (IsErrOf {E = Error} (Ok v) (errors.Journal journal.Store)) (λ e. absurd (cc e))
+
+  pub unread-memory : {T : Type 0} (r : Result T Error) (y : Error) → r ≡ Err y → y ≡ errors.Memory → ReadsOnly means members x x (IsErrOf r (errors.Journal journal.Store))
+  unread-memory r y is memory = unread (IsErrOf r (errors.Journal journal.Store)) (memory-exit r y is memory)
+
+-- what holds of want of memory holds of a call that failed for it
+pub err-memory : {X : Type 0} (r : Result X Error) (y : Error) (P : Error → Type 0) → r ≡ Err y → y ≡ errors.Memory → P errors.Memory → IfErr r P
+err-memory r y P is memory p = subst (λ r. IfErr r P) (sym (is ∙ ap Err memory)) p
+
+pub memory-not_stale : errors.Memory ≢ errors.StaleBatch
+memory-not_stale e = cc
+
+pub memory-failure : {X C B S M : Type 0} (means : words.Ghosts X C B S M) (tells : Type 0) (list : List Operation) (chain : Chain) (tip : List Operation) → IsReadFailure means tells list chain tip errors.Memory
+memory-failure means tells list chain tip = record { stale = λ e. absurd (cc e); refused = λ fresh tells known. refl; order = λ fresh other. absurd (other refl) }
+
+-- an unordered database offers nothing of an ordered one
+pub unoffered : {A : Type 0} (t ordered : Bool) → t ≡ ordered → t ≡ false → ordered ≡ true → A
+unoffered t ordered same off on = absurd (false≢true (sym off ∙ same ∙ on))

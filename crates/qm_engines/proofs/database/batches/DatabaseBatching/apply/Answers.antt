@@ -13,50 +13,47 @@ use Rattle.qm_model.specs.StoreModel.{beside_items}
 use Rattle.qm_engines.proofs.Engines.{at-made, off-chain, appends-same, held-database, unapplied-untold}
 use Rattle.qm_engines.proofs.database.batches.DatabaseBatching.apply.Goals as goal
 
-pub returns-in-Ok-clause-fits : goal.returns-in-Ok-clause-fits
-returns-in-Ok-clause-fits g c = λ list chain tip is batch.
-    sym (at-made mmr g.U.Update.form g.met.U.Kind.lengths list chain tip c.args.self.db.commitment c.deref.result.now is.commitment (subst (λ b. IsMade (hashing mmr g.U.Update.form) b chain tip) (sym c.deref.ensures) batch)) ∙ c.in-Ok.ensures.fits
+pub returns-in-Ok : goal.returns-in-Ok
+returns-in-Ok g c = record {
+  fits = λ list chain tip is batch.
+      sym (at-made mmr g.U.Update.form g.met.U.Kind.lengths list chain tip c.args.self.db.commitment c.deref.result.now is.commitment (subst (λ b. IsMade (hashing mmr g.U.Update.form) b chain tip) (sym c.deref.ensures) batch)) ∙ c.in-Ok.ensures.fits;
+  applied = λ list chain tip is batch on. c.in-Ok.ensures.stands list chain tip is (subst (λ b. IsMade (hashing mmr g.U.Update.form) b chain tip) (sym c.deref.ensures) batch) on;
+  grown = λ list chain tip is batch on.
+      subst (λ n. Appended g.C.Store c.args.self.db.log.store c.in-Ok.db.log.store (map (spelling g.U.Update.form) (drop n tip))) (ap (λ k. k.size) is.commitment) (c.in-Ok.ensures.grown chain tip (subst (λ b. IsMade (hashing mmr g.U.Update.form) b chain tip) (sym c.deref.ensures) batch));
+  stale = tt;
+  refused = tt;
+  kept = tt;
+  back = tt;
+  start = c.in-Ok.ensures.start;
+  beside = c.in-Ok.ensures.beside;
+  cause = tt;
+  later = c.in-Ok.ensures.later;
+}
 
-pub returns-in-Ok-clause-applied : goal.returns-in-Ok-clause-applied
-returns-in-Ok-clause-applied g c = λ list chain tip is batch on. c.in-Ok.ensures.stands list chain tip is (subst (λ b. IsMade (hashing mmr g.U.Update.form) b chain tip) (sym c.deref.ensures) batch) on
-
-pub returns-in-Ok-clause-grown : goal.returns-in-Ok-clause-grown
-returns-in-Ok-clause-grown g c = λ list chain tip is batch on.
-    subst (λ n. Appended g.C.Store c.args.self.db.log.store c.in-Ok.db.log.store (map (spelling g.U.Update.form) (drop n tip))) (ap (λ k. k.size) is.commitment) (c.in-Ok.ensures.grown chain tip (subst (λ b. IsMade (hashing mmr g.U.Update.form) b chain tip) (sym c.deref.ensures) batch))
-
-pub returns-in-Err-clause-stale : goal.returns-in-Err-clause-stale
-returns-in-Err-clause-stale g c = λ stale.
-    let told = c.in-Err.ensures.stale (sym c.refusal.ensures.error ∙ stale) in (
-      c.refusal.ensures.given ∙ ap held told.0,
-      λ list chain tip is batch. off-chain mmr list chain (sym (at-made mmr g.U.Update.form g.met.U.Kind.lengths list chain tip c.args.self.db.commitment c.deref.result.now is.commitment (subst (λ b. IsMade (hashing mmr g.U.Update.form) b chain tip) (sym c.deref.ensures) batch)) ∙ told.1),
-    )
-
-pub returns-in-Err-clause-refused : goal.returns-in-Err-clause-refused
-returns-in-Err-clause-refused g c = λ fresh.
-    ap refusal_of c.refusal.ensures.error ∙ unapplied-untold c.in-Err.refused.error c.in-Err.ensures.causes (λ stale. fresh (c.refusal.ensures.error ∙ stale))
-
-pub returns-in-Err-clause-kept : goal.returns-in-Err-clause-kept
-returns-in-Err-clause-kept g c = λ list chain tip is batch.
-    let made = (subst (λ b. IsMade (hashing mmr g.U.Update.form) b chain tip) (sym c.deref.ensures) batch) in
-    let more = if fits (sha256_root mmr) (commitment (sha256_root mmr) list) chain then map (spelling g.U.Update.form) (drop (length list) tip) else [] in
-    subst (λ s. AppendedPart g.C.Store c.args.self.db.log.store s more) (sym c.refusal.ensures.store)
-    (subst (AppendedPart g.C.Store c.args.self.db.log.store (store_given (λ db. db.log.store) c.in-Err.refused.given))
-    (appends-same mmr g.U.Update.form g.met.U.Kind.lengths list chain tip c.args.self.db.commitment c.deref.result.now is.commitment made) (c.in-Err.ensures.part chain tip made))
-
-pub returns-in-Err-clause-back : goal.returns-in-Err-clause-back
-returns-in-Err-clause-back g c = λ x is.
-    let at = held-database c.in-Err.refused.given x (sym c.refusal.ensures.given ∙ is) in
-    ap (λ d. record { db = d }) (c.in-Err.ensures.back x.db at).0
-
-pub returns-in-Err-clause-start : goal.returns-in-Err-clause-start
-returns-in-Err-clause-start g c = ap g.C.Store.start c.refusal.ensures.store ∙ c.in-Err.ensures.start
-
-pub returns-in-Err-clause-beside : goal.returns-in-Err-clause-beside
-returns-in-Err-clause-beside g c = ap (λ s. beside_items (g.C.Store.told s)) c.refusal.ensures.store ∙ c.in-Err.ensures.beside
-
-pub returns-in-Err-clause-cause : goal.returns-in-Err-clause-cause
-returns-in-Err-clause-cause g c = λ fault.
-    subst (λ s. Rose (g.C.Store.faults c.args.self.db.log.store) (g.C.Store.faults s)) (sym c.refusal.ensures.store) (c.in-Err.ensures.cause.failed (sym c.refusal.ensures.error ∙ fault))
-
-pub returns-in-Err-clause-later : goal.returns-in-Err-clause-later
-returns-in-Err-clause-later g c = subst (λ s. g.C.Store.faults c.args.self.db.log.store ≤ g.C.Store.faults s) (sym c.refusal.ensures.store) c.in-Err.ensures.cause.later
+pub returns-in-Err : goal.returns-in-Err
+returns-in-Err g c = record {
+  fits = tt;
+  applied = tt;
+  grown = tt;
+  stale = λ stale.
+      let told = c.in-Err.ensures.stale (sym c.refusal.ensures.error ∙ stale) in (
+        c.refusal.ensures.given ∙ ap held told.0,
+        λ list chain tip is batch. off-chain mmr list chain (sym (at-made mmr g.U.Update.form g.met.U.Kind.lengths list chain tip c.args.self.db.commitment c.deref.result.now is.commitment (subst (λ b. IsMade (hashing mmr g.U.Update.form) b chain tip) (sym c.deref.ensures) batch)) ∙ told.1),
+      );
+  refused = λ fresh.
+      ap refusal_of c.refusal.ensures.error ∙ unapplied-untold c.in-Err.refused.error c.in-Err.ensures.causes (λ stale. fresh (c.refusal.ensures.error ∙ stale));
+  kept = λ list chain tip is batch.
+      let made = (subst (λ b. IsMade (hashing mmr g.U.Update.form) b chain tip) (sym c.deref.ensures) batch) in
+      let more = if fits (sha256_root mmr) (commitment (sha256_root mmr) list) chain then map (spelling g.U.Update.form) (drop (length list) tip) else [] in
+      subst (λ s. AppendedPart g.C.Store c.args.self.db.log.store s more) (sym c.refusal.ensures.store)
+      (subst (AppendedPart g.C.Store c.args.self.db.log.store (store_given (λ db. db.log.store) c.in-Err.refused.given))
+      (appends-same mmr g.U.Update.form g.met.U.Kind.lengths list chain tip c.args.self.db.commitment c.deref.result.now is.commitment made) (c.in-Err.ensures.part chain tip made));
+  back = λ x is.
+      let at = held-database c.in-Err.refused.given x (sym c.refusal.ensures.given ∙ is) in
+      ap (λ d. record { db = d }) (c.in-Err.ensures.back x.db at).0;
+  start = ap g.C.Store.start c.refusal.ensures.store ∙ c.in-Err.ensures.start;
+  beside = ap (λ s. beside_items (g.C.Store.told s)) c.refusal.ensures.store ∙ c.in-Err.ensures.beside;
+  cause = λ fault.
+      subst (λ s. Rose (g.C.Store.faults c.args.self.db.log.store) (g.C.Store.faults s)) (sym c.refusal.ensures.store) (c.in-Err.ensures.cause.failed (sym c.refusal.ensures.error ∙ fault));
+  later = subst (λ s. g.C.Store.faults c.args.self.db.log.store ≤ g.C.Store.faults s) (sym c.refusal.ensures.store) c.in-Err.ensures.cause.later;
+}

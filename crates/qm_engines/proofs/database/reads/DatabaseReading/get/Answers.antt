@@ -10,21 +10,17 @@ use Rattle.qm_engines.specs.Databases.{hashing, layout}
 use Rattle.qm_engines.proofs.Engines.{err-of, left-store, read-untold, log-rose, log-kept}
 use Rattle.qm_engines.proofs.database.reads.DatabaseReading.get.Goals as goal
 
-pub returns-clause-values : goal.returns-clause-values
-returns-clause-values g c = ok-each (IsDatabase g.C.Store (layout mmr g.U.Update.form g.I.Unordered.index_key) c.args.self.now.db) (λ list v. map (option_map (λ x. x)) v.items ≡ map (λ k. value_of list k) c.args.keys.now) c.get_many.result c.get_many.ensures.values
-
-pub returns-clause-reads : goal.returns-clause-reads
-returns-clause-reads g c = record {
-  same = λ list is. left-database g.C.Store (layout mmr g.U.Update.form g.I.Unordered.index_key) c.args.self.now.db c.get_many.new.self list c.get_many.ensures.left is;
-  store = left-store g.C.Store (hashing mmr g.U.Update.form) c.args.self.now.db c.get_many.new.self c.get_many.ensures.left;
-  faults = record {
-    later = (c.get_many.ensures.left).read.keeps.later;
-    failed = err-of c.get_many.result (Journal Store) _ (err-then c.get_many.result c.get_many.ensures.error (λ e why fault. log-rose g.C.Store c.args.self.now.db.log c.get_many.new.self.log e why fault));
+pub returns : goal.returns
+returns g c = record {
+  values = ok-each (IsDatabase g.C.Store (layout mmr g.U.Update.form g.I.Unordered.index_key) c.args.self.now.db) (λ list v. map (option_map (λ x. x)) v.items ≡ map (λ k. value_of list k) c.args.keys.now) c.get_many.result c.get_many.ensures.values;
+  reads = record {
+    same = λ list is. left-database g.C.Store (layout mmr g.U.Update.form g.I.Unordered.index_key) c.args.self.now.db c.get_many.new.self list c.get_many.ensures.left is;
+    store = left-store g.C.Store (hashing mmr g.U.Update.form) c.args.self.now.db c.get_many.new.self c.get_many.ensures.left;
+    faults = record {
+      later = (c.get_many.ensures.left).read.keeps.later;
+      failed = err-of c.get_many.result (Journal Store) _ (err-then c.get_many.result c.get_many.ensures.error (λ e why fault. log-rose g.C.Store c.args.self.now.db.log c.get_many.new.self.log e why fault));
+    };
   };
+  never = err-then c.get_many.result c.get_many.ensures.error (λ e why. log-kept g.C.Store c.args.self.now.db.log c.get_many.new.self.log e why);
+  refused = read-untold g.C.Store (layout mmr g.U.Update.form g.I.Unordered.index_key) c.args.self.now.db c.get_many.new.self.log c.get_many.result c.get_many.ensures.error c.get_many.ensures.whole;
 }
-
-pub returns-clause-never : goal.returns-clause-never
-returns-clause-never g c = err-then c.get_many.result c.get_many.ensures.error (λ e why. log-kept g.C.Store c.args.self.now.db.log c.get_many.new.self.log e why)
-
-pub returns-clause-refused : goal.returns-clause-refused
-returns-clause-refused g c = read-untold g.C.Store (layout mmr g.U.Update.form g.I.Unordered.index_key) c.args.self.now.db c.get_many.new.self.log c.get_many.result c.get_many.ensures.error c.get_many.ensures.whole
