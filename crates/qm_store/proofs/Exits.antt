@@ -1,5 +1,6 @@
 -- What a log tells at the exits of a call that may fail.
 use Rattle.std.proofs.Common.{◌≡◌, ◌⊎◌, inl, inr, ◌∙◌, ◌-◌, ◌<◌, ◌≤◌, ℕ, List, length, take, drop, ap, sym, subst, refl, arith, Result, Ok, Err, IfSome}
+use Rattle.std.proofs.Math.Nat.{le_refl}
 use Rattle.std.specs.Prelude.{IsErrOf}
 use Rattle.qm_model.specs.Operations.{Bytes}
 use Rattle.qm_model.specs.Trees.{Shape}
@@ -8,6 +9,7 @@ use Rattle.qm_base.specs.declared.error.Corrupt.{Corrupt}
 use Rattle.qm_base.specs.declared.error.Error.{Error}
 use Rattle.qm_base.specs.declared.error.Error.TheVariants as errors
 use Rattle.qm_base.specs.declared.error.JournalError.TheVariants as journal
+use Rattle.qm_base.specs.declared.error.MerkleError.TheVariants as merkle
 use Rattle.qm_store.specs.declared.Store as store
 use Rattle.qm_store.specs.declared.StoreError.{StoreError}
 use Rattle.qm_store.specs.declared.StoreError.TheVariants as stores
@@ -16,6 +18,21 @@ use Rattle.qm_store.specs.Log.{Log, IsLog, IsKept, log_error}
 -- what is at most a bound is not past it
 pub unlike : (n bound m : ℕ) → bound ≡ n → m ≤ bound → n < m → ⊥
 unlike n bound m same within past = omega arith
+
+-- what is past a bound is not at most that
+pub beyond : (n bound m : ℕ) → bound ≡ n → bound < m → m ≤ n → ⊥
+beyond n bound m same past within = omega arith
+
+-- an error that is none of a store's is no fault of it
+pub other-error : {T : Type 0} (count : ℕ) (e : Error) → (e ≡ errors.Journal journal.Store → ⊥) → IsCause count count (IsErrOf {T = T} (Err e) (errors.Journal journal.Store))
+other-error count e other = record { later = le_refl _; failed = λ fault. absurd (other cc) }
+
+-- nor is that of a range
+pub range-error : {T : Type 0} (count at : ℕ) → IsCause count count (IsErrOf {T = T} (Err (errors.Merkle (merkle.RangeOutOfBounds at))) (errors.Journal journal.Store))
+range-error count at = other-error count _ (λ is. absurd cc)
+
+pub pruned-error : {T : Type 0} (count at : ℕ) → IsCause count count (IsErrOf {T = T} (Err (errors.Journal (journal.ItemPruned at))) (errors.Journal journal.Store))
+pruned-error count at = other-error count _ (λ is. absurd cc)
 
 -- a loop that is over is at the end
 pub over : (start end at : ℕ) → (start ≤ end → at ≤ end) → start ≤ end → end ≤ at → at ≡ end

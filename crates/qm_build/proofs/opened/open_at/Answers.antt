@@ -1,4 +1,6 @@
-use Rattle.std.proofs.Common.{◌≡◌, ◌⊎◌, ◌∙◌, map, ap, arith, inl, inr}
+use Rattle.std.proofs.Common.{◌≡◌, ◌⊎◌, ◌∙◌, map, ap, arith, inl, inr, subst₂, true, false, IfSome, OnOk}
+use Rattle.std.specs.Prelude.{is_none}
+use Rattle.std.specs.List.{list_any}
 use Rattle.std.proofs.lemmas.List.{length-map}
 use Rattle.std.proofs.lemmas.Option.{IfSome_then}
 use Rattle.qm_model.specs.Forms.{spelling}
@@ -10,6 +12,7 @@ use Rattle.qm_base.specs.declared.error.JournalError.TheVariants as journal
 use Rattle.qm_store.specs.declared.refusal.Given.TheVariants.{Store}
 use Rattle.qm_store.specs.Log.{store_given}
 use Rattle.qm_store.proofs.Stores.{both, kept-then}
+use Rattle.qm_build.specs.Reads.{items_within}
 use Rattle.qm_build.proofs.Decoding.{any-ok, each, known, then-told}
 use Rattle.qm_store.proofs.Exits.{later-cause}
 use Rattle.qm_build.proofs.opened.open_at.Goals as goal
@@ -52,10 +55,10 @@ returns-in-Ok g c =
       pruned = whole.pruned;
       bits = ok-then c.whole.result whole.bits (λ o bits. (bits.0 ∙ opened.size, omega (arith, bits.1, opened.size)));
       head = IfSome_then told opened.long (λ s long. any-ok c.whole.result long);
-      decoded = rw (opened.kept.told, opened.size) at whole.decoded;
+      decoded = subst₂ (λ o n. IfSome o (λ s. OnOk c.whole.result (list_any is_none (items_within form s c.args.selected.floor n) ≡ false))) opened.kept.told opened.size whole.decoded;
       back = err-then c.whole.result whole.back (λ r back. (back.0, back.1, kept-then members store made back.0 opened.kept back.2, later-cause (members.faults store) (members.faults made) (members.faults back.0) opened.later back.3));
       other_head = err-then c.whole.result whole.never (λ r never is. absurd (no-head r.error never is));
-      undecoded = err-then c.whole.result whole.undecoded (λ r lost is. both told opened.long (rw (opened.kept.told, opened.size) at (lost is)) (λ s long here. (long, here)));
+      undecoded = err-then c.whole.result whole.undecoded (λ r lost is. both told opened.long (subst₂ (λ o n. IfSome o (λ s. list_any is_none (items_within form s c.args.selected.floor n) ≡ true)) opened.kept.told opened.size (lost is)) (λ s long here. (long, here)));
       never = err-then c.whole.result whole.never (λ r never. wider never);
     }
 

@@ -1,11 +1,21 @@
-use Rattle.std.proofs.Common.{◌≡◌, ◌∙◌, ◌-◌, ◌≤◌, ◌++◌, ap, sym, subst, arith, false, replicate, inl, refl}
+use Rattle.std.proofs.Common.{◌≡◌, ◌∙◌, ℕ, ◌-◌, ◌<◌, ◌≤◌, ◌++◌, ap, sym, subst, arith, false, replicate, inl, refl}
 use Rattle.std.proofs.lemmas.Result.{err_from_is_err_and}
+use Rattle.qm_base.specs.declared.error.Corrupt.TheVariants as corrupt
+use Rattle.qm_base.specs.declared.error.Error.TheVariants as errors
 use Rattle.qm_model.proofs.Results.{told-one, told-any}
-use Rattle.qm_build.specs.Reads.{HasOperations, IsRead, IsUndecoded}
+use Rattle.qm_build.specs.Reads.{HasOperations, IsRead, IsReadError, IsUndecoded}
 use Rattle.qm_build.proofs.Reading.{read-none, told}
 use Rattle.qm_build.proofs.Decoding.{each, over, one-undecoded, no-two}
 use Rattle.qm_build.proofs.Beside.{from-floor}
 use Rattle.qm_build.proofs.parts.beside.Goals as goal
+
+-- want of memory is no item that spells no operation
+no-item : errors.Memory ≡ errors.DataCorrupted corrupt.ItemDoesNotDecode → ⊥
+no-item is = cc
+
+-- the last item is from the floor on
+last-below : (floor leaves : ℕ) → floor < leaves → (floor ≤ leaves - 1) × (leaves - 1 < leaves)
+last-below floor leaves below = (omega arith, omega arith)
 
 pub returns-in_err-root : goal.returns-in_err-root
 returns-in_err-root g c =
@@ -18,7 +28,7 @@ returns-in_err-root g c =
       held = λ ops has good low behind. told-any _ told tt;
       pruned = tt;
       count = tt;
-      whole = each told (λ s all is. cc);
+      whole = each told (λ s all. no-item);
       read = subst (IsRead members g.F.Family.shape g.H.Digest.Digest.bytes g.H.Hasher.hash log) (sym same) (read-none members g.F.Family.shape g.H.Digest.Digest.bytes g.H.Hasher.hash log);
       error = inl (inl refl);
     })
@@ -34,7 +44,7 @@ returns-in_err-activity g c =
       held = λ ops has good low behind. told-any _ told tt;
       pruned = tt;
       count = tt;
-      whole = each told (λ s all is. cc);
+      whole = each told (λ s all. no-item);
       read = subst (IsRead members g.F.Family.shape g.H.Digest.Digest.bytes g.H.Hasher.hash log) (sym same) (read-none members g.F.Family.shape g.H.Digest.Digest.bytes g.H.Hasher.hash log);
       error = inl (inl refl);
     })
@@ -53,11 +63,11 @@ returns-in_err-metadata g c =
       whole =
           let form = g.U.Update.form in
           over (g.C.Store.told log.store) (g.C.Store.told c.root_of.new.log.store) (ap (λ l. g.C.Store.told l.store) same) c.in_err-metadata.ensures.corrupt (g.met.C.Store.told_start log.store) (λ s corrupt start all is.
-          let low : s.start ≤ c.args.floor = omega (arith, start, c.bounds.ensures.first, c.requires.kept) in
-          let below = c.requires.below in
-          no-two _ all (one-undecoded form s c.args.floor log.tree.leaves (log.tree.leaves - 1) low (omega (arith, below)) (omega (arith, below)) (subst (λ l. IsUndecoded form s (l.tree.leaves - 1)) same (corrupt is))));
-      read = rw same at c.last_metadata.ensures.read;
-      error = rw same at c.in_err-metadata.ensures.error;
+          let low : s.start ≤ c.args.floor = subst (λ n. n ≤ c.args.floor) (sym (start ∙ c.bounds.ensures.first)) c.requires.kept in
+          let below = last-below c.args.floor log.tree.leaves c.requires.below in
+          no-two _ all (one-undecoded form s c.args.floor log.tree.leaves (log.tree.leaves - 1) low below.0 below.1 (subst (λ l. IsUndecoded form s (l.tree.leaves - 1)) same (corrupt is))));
+      read = subst (λ l. IsRead members g.F.Family.shape g.H.Digest.Digest.bytes g.H.Hasher.hash l c.last_metadata.new.log) same c.last_metadata.ensures.read;
+      error = subst (λ l. IsReadError members l c.last_metadata.new.log c.in_err-metadata.field-0.0) same c.in_err-metadata.ensures.error;
     })
 
 pub returns : goal.returns
@@ -73,6 +83,6 @@ returns g c =
       pruned = c.in_ok-activity.ensures.pruned;
       count = c.in_ok-activity.ensures.count ∙ c.requires.long;
       whole = each (members.told log.store) (λ s all. tt);
-      read = rw same at c.last_metadata.ensures.read;
+      read = subst (λ l. IsRead members g.F.Family.shape g.H.Digest.Digest.bytes g.H.Hasher.hash l c.last_metadata.new.log) same c.last_metadata.ensures.read;
       error = tt;
     }

@@ -12,7 +12,7 @@ use Rattle.qm_merkle.specs.Mems.{Stands}
 use Rattle.qm_store.specs.Log.{IsKept, digests_from}
 use Rattle.qm_store.proofs.Leaves.{digests_from-take}
 use Rattle.qm_store.proofs.Stores.{both, no-fault}
-use Rattle.qm_store.proofs.Exits.{unlike, handed-error, no-error, log-kept}
+use Rattle.qm_store.proofs.Exits.{unlike, beyond, range-error, pruned-error, handed-error, no-error, log-kept}
 use Rattle.qm_store.proofs.Shown.{part_read}
 use Rattle.qm_store.proofs.log.AuthLog.historical_proof.Given
 use Rattle.qm_store.proofs.log.AuthLog.historical_proof.Goals as goal
@@ -27,13 +27,13 @@ returns-then-leaves-size g c = record {
   items = λ list is. tt;
   count = tt;
   size = λ past. refl;
-  start = λ within past. absurd (omega (arith, c.bounds-first.ensures.size, c.if-leaves-size.true));
-  pruned = λ within before low. absurd (omega (arith, c.bounds-first.ensures.size, c.if-leaves-size.true));
-  never = λ within before from. absurd (omega (arith, c.bounds-first.ensures.size, c.if-leaves-size.true));
+  start = λ within past. absurd (beyond c.args.self.now.tree.leaves c.bounds-first.result.1 c.args.size c.bounds-first.ensures.size c.if-leaves-size.true within);
+  pruned = λ within before low. absurd (beyond c.args.self.now.tree.leaves c.bounds-first.result.1 c.args.size c.bounds-first.ensures.size c.if-leaves-size.true within);
+  never = λ within before from. absurd (beyond c.args.self.now.tree.leaves c.bounds-first.result.1 c.args.size c.bounds-first.ensures.size c.if-leaves-size.true within);
   stands = λ list is. is;
   tree = refl;
   kept = record { start = refl; end = refl; told = refl };
-  cause = record { later = omega arith; failed = λ fault. absurd cc };
+  cause = range-error _ _;
 }
 
 pub returns-then-size-start : goal.returns-then-size-start
@@ -41,14 +41,14 @@ returns-then-size-start g c = record {
   proof = λ list is. tt;
   items = λ list is. tt;
   count = tt;
-  size = λ past. absurd (omega (arith, c.bounds-first.ensures.size, c.if-leaves-size.false));
+  size = λ past. absurd (unlike c.args.self.now.tree.leaves c.bounds-first.result.1 c.args.size c.bounds-first.ensures.size c.if-leaves-size.false past);
   start = λ within past. refl;
-  pruned = λ within before low. absurd (omega (arith, c.if-size-start.true));
-  never = λ within before from. absurd (omega (arith, c.if-size-start.true));
+  pruned = λ within before low. absurd (unlike c.args.start c.args.start c.args.size refl c.if-size-start.true before);
+  never = λ within before from. absurd (unlike c.args.start c.args.start c.args.size refl c.if-size-start.true before);
   stands = λ list is. is;
   tree = refl;
   kept = record { start = refl; end = refl; told = refl };
-  cause = record { later = omega arith; failed = λ fault. absurd cc };
+  cause = range-error _ _;
 }
 
 pub returns-then-start-first : goal.returns-then-start-first
@@ -56,14 +56,14 @@ returns-then-start-first g c = record {
   proof = λ list is. tt;
   items = λ list is. tt;
   count = tt;
-  size = λ past. absurd (omega (arith, c.bounds-first.ensures.size, c.if-leaves-size.false));
-  start = λ within past. absurd (omega (arith, c.if-size-start.false));
+  size = λ past. absurd (unlike c.args.self.now.tree.leaves c.bounds-first.result.1 c.args.size c.bounds-first.ensures.size c.if-leaves-size.false past);
+  start = λ within past. absurd (unlike c.args.start c.args.start c.args.size refl past c.if-size-start.false);
   pruned = λ within before low. refl;
-  never = λ within before from. absurd (omega (arith, c.bounds-first.ensures.start, c.if-start-first.true));
+  never = λ within before from. absurd (unlike c.args.start c.args.start c.bounds-first.result.0 refl (subst (λ n. n ≤ c.args.start) (sym c.bounds-first.ensures.start) from) c.if-start-first.true);
   stands = λ list is. is;
   tree = refl;
   kept = record { start = refl; end = refl; told = refl };
-  cause = record { later = omega arith; failed = λ fault. absurd cc };
+  cause = pruned-error _ _;
 }
 
 pub returns-in_err-proof : goal.returns-in_err-proof
