@@ -1,6 +1,7 @@
 -- What each status says, from what the lines' answering gave.
-use Rattle.std.proofs.Common.{◌≡◌, ◌⊎◌, ◌+◌, ◌<◌, ℕ, List, [], ◌++◌, length, take, Option, Some, None, arith, refl, sym, ◌∙◌, ap, subst, inl, inr, append-nil, Bool, IfSome}
-use Rattle.std.specs.Prelude.{option_map}
+use Rattle.std.proofs.Common.{◌≡◌, ◌⊎◌, ◌+◌, ◌<◌, ◌≤◌, ◌==◌, true, false, ℕ, List, [], ◌++◌, length, take, Option, Some, None, arith, refl, sym, ◌∙◌, ap, subst, inl, inr, append-nil, Bool, IfSome}
+use Rattle.std.specs.Prelude.{option_map, IsSome, nat_lt}
+use Rattle.std.proofs.lemmas.Bool.Decides.{nat_tests}
 use Rattle.std.proofs.lemmas.List.{take_all}
 use Rattle.qm_model.specs.Causes.{Grows, GrowsPart}
 use Rattle.qm_model.specs.Operations.{Bytes}
@@ -135,3 +136,46 @@ at_none kind Q is = subst (λ k. IfSome (option_map machine_of k) Q) (sym is) tt
 -- at the machine of a kind
 pub at_kind : (kind : Option Bool) (is_ordered : Bool) (Q : Scheme → Type 0) → kind ≡ Some is_ordered → Q (machine_of is_ordered) → IfSome (option_map machine_of kind) Q
 at_kind kind is_ordered Q is given = subst (λ k. IfSome (option_map machine_of k) Q) (sym is) given
+
+-- numbers that a test tells apart
+pub differ : (a b : ℕ) → (a == b) ≡ false → a ≡ b → ⊥
+differ a b apart same = grind (arith, nat_tests)
+
+pub no_four : {P : Type 0} (s a b c d : ℕ) → (s == a) ≡ false → (s == b) ≡ false → (s == c) ≡ false → (s == d) ≡ false → (s ≡ a) ⊎ ((s ≡ b) ⊎ ((s ≡ c) ⊎ (s ≡ d))) → P
+no_four s a b c d p q r t (inl e) = absurd (differ s a p e)
+no_four s a b c d p q r t (inr (inl e)) = absurd (differ s b q e)
+no_four s a b c d p q r t (inr (inr (inl e))) = absurd (differ s c r e)
+no_four s a b c d p q r t (inr (inr (inr e))) = absurd (differ s d t e)
+
+pub at_most_seven : (s : ℕ) → nat_lt s 8 ≡ true → s ≤ 7
+at_most_seven s below = grind (arith, nat_tests)
+
+pub not_both : {a b : ℕ} → a < b → b ≤ a → ⊥
+not_both p q = omega arith
+
+-- the statuses of lines that were answered
+abbrev pub Served : ℕ → Type 0
+Served s = (s ≡ 0) ⊎ ((s ≡ 2) ⊎ ((s ≡ 4) ⊎ ((s ≡ 5) ⊎ (s ≡ 6))))
+
+served-numbers : {s : ℕ} → Served s → (s ≤ 7) × (((s ≡ 1) ⊎ ((s ≡ 3) ⊎ (s ≡ 7))) → ⊥)
+served-numbers served = (grind (arith, served), λ early. grind (arith, served, early))
+
+pub served-few : {s : ℕ} → Served s → s ≤ 7
+served-few served = (served-numbers served).0
+
+pub served-not_early : {P : Type 0} {s : ℕ} → Served s → (s ≡ 1) ⊎ ((s ≡ 3) ⊎ (s ≡ 7)) → P
+served-not_early served early = absurd ((served-numbers served).1 early)
+
+pub served-good : {s : ℕ} {bad : Option ℕ} → Served s → (s ≡ 2 → IsSome bad) → (s ≡ 4 → ⊥) → (s ≡ 6 → ⊥) → bad ≡ None → (s ≡ 0) ⊎ (s ≡ 5)
+served-good (inl e) some write store none = inl e
+served-good (inr (inl e)) some write store none = let is = some e in absurd (cc (is, none))
+served-good (inr (inr (inl e))) some write store none = absurd (write e)
+served-good (inr (inr (inr (inl e)))) some write store none = inr e
+served-good (inr (inr (inr (inr e)))) some write store none = absurd (store e)
+
+pub served-bad : {s : ℕ} {bad : Option ℕ} → Served s → (n : ℕ) → (s ≡ 0 → bad ≡ None) → (s ≡ 4 → ⊥) → (s ≡ 6 → ⊥) → bad ≡ Some n → (s ≡ 2) ⊎ (s ≡ 5)
+served-bad (inl e) n none write store some = let is = none e in absurd (cc (is, some))
+served-bad (inr (inl e)) n none write store some = inl e
+served-bad (inr (inr (inl e))) n none write store some = absurd (write e)
+served-bad (inr (inr (inr (inl e)))) n none write store some = inr e
+served-bad (inr (inr (inr (inr e)))) n none write store some = absurd (store e)
