@@ -1,12 +1,13 @@
-use Rattle.std.proofs.Common.{◌≡◌, ◌≢◌, ◌⊎◌, ◌≤◌, ◌+◌, ◌∙◌, Some, Err, inl, inr, arith, length, map, take, drop, ap, ap₂}
-use Rattle.std.specs.Prelude.{Contains}
+use Rattle.std.proofs.Common.{◌≡◌, ◌≢◌, ◌⊎◌, ◌≤◌, ℕ, sym, subst, ◌+◌, ◌∙◌, Some, Err, inl, inr, arith, length, map, take, drop, ap, ap₂}
+use Rattle.std.specs.Prelude.{Contains, nat_le}
 use Rattle.std.specs.NonZero.{non_zero_u64_get}
 use Rattle.std.proofs.lemmas.List.{length-map}
+use Rattle.std.proofs.lemmas.List.Sums.{count_by-le-length}
 use Rattle.std.proofs.lemmas.Result.{err_from_is_err_and}
 use Rattle.qm_model.proofs.Results.{told-any, told-one}
 use Rattle.qm_model.specs.Forms.{spelling}
 use Rattle.qm_model.specs.Refusals.{proof_count, proof_refusal}
-use Rattle.qm_model.specs.Trees.{inactive_peaks}
+use Rattle.qm_model.specs.Trees.{Shape, end_of, inactive_peaks, peaks}
 use Rattle.qm_base.specs.declared.error.Corrupt.TheVariants as corrupt
 use Rattle.qm_base.specs.declared.error.Error.{Error}
 use Rattle.qm_base.specs.declared.error.Error.TheVariants as errors
@@ -133,3 +134,11 @@ returns g c =
       read = read-then g.C.Store g.F.Family.shape g.H.Digest.Digest.bytes g.H.Hasher.hash log c.offered.new.log c.historical_proof.new.self first
           (record { stands = after.stands; start = ap (λ t. t.start) after.tree; told = after.kept.told; keeps = record { tree = after.tree; kept = after.kept; later = after.cause.later } });
     }
+
+-- no more peaks are inactive than there are
+no-more : (shape : Shape) (n size floor inactive : ℕ) → inactive ≡ inactive_peaks shape n floor → n ≡ size → inactive ≤ length (peaks shape size)
+no-more shape n size floor inactive is same =
+    subst (λ k. k ≤ length (peaks shape size)) (sym (is ∙ ap (λ m. inactive_peaks shape m floor) same)) (count_by-le-length (λ p. nat_le (end_of p) floor) (peaks shape size))
+
+pub historical_proof-requires : goal.historical_proof-requires
+historical_proof-requires g c = λ within. no-more g.F.Family.shape c.new.result c.args.size c.new-2.result c.inactive_peaks-inactive.result c.inactive_peaks-inactive.ensures c.new.ensures
