@@ -142,14 +142,6 @@ module _ (form : Form) (shape : Shape) (size : ℕ) (s : Stored) (from : s.start
   nothing-due e head (inr (inl fault)) = subst (λ e. IsDue e nothing) (sym fault) tt
   nothing-due e head (inr (inr other)) = subst (λ e. IsDue e nothing) (sym other) (nothing-refused (head other))
 
-  -- where something is refused of an empty store, its head has a byte
-  pub nothing-headed : IsSome nothing → 0 < length s.head
-  nothing-headed some = by s.head refl
-    where
-      by : (head : Bytes) → s.head ≡ head → 0 < length s.head
-      by [] none = absurd (refused-none nothing (nothing-accepted none) some)
-      by (b ∷ bs) is = let long : length s.head ≡ suc (length bs) = ap length is in omega (arith, long)
-
 -- Pruned chunks of activity bits, as an opening looks at them.
 
 -- they are few enough

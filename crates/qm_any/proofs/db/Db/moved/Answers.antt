@@ -1,4 +1,4 @@
-use Rattle.std.proofs.Common.{arith, ◌≡◌, ◌≤◌, ◌∙◌, ◌∷◌, ◌++◌, ℕ, List, Contains, ap, sym, subst, refl, map, inl}
+use Rattle.std.proofs.Common.{arith, ◌≡◌, ◌≤◌, ◌∙◌, ◌∷◌, ◌++◌, ℕ, List, Contains, ap, sym, subst, refl, length, map, inl}
 use Rattle.qm_model.proofs.Results.{err-then, ok-then}
 use Rattle.qm_model.specs.Bits.{bits}
 use Rattle.qm_model.specs.Causes.{IsCause}
@@ -6,6 +6,7 @@ use Rattle.qm_base.specs.declared.error.Error.TheVariants as errors
 use Rattle.qm_base.specs.declared.error.JournalError.TheVariants as journal
 use Rattle.qm_model.specs.Operations.{Bytes}
 use Rattle.qm_bits.specs.Bitmaps.{all_bits}
+use Rattle.qm_merkle.specs.Batches.{stops}
 use Rattle.qm_store.specs.KeptTrees.{KeptTree, IsKeptTree}
 use Rattle.qm_store.specs.Log.{Log, IsLog}
 use Rattle.qm_store.specs.Log as logs
@@ -15,6 +16,18 @@ use Rattle.qm_any.proofs.Telling.{three}
 use Rattle.qm_store.proofs.Told.{grown-appended, appended-part, refused-appended-part}
 use Rattle.qm_any.proofs.Unapplied.{same-database, memory-cause}
 use Rattle.qm_any.proofs.db.Db.moved.Goals as goal
+
+pub append_tree-requires : goal.append_tree-requires
+append_tree-requires g c =
+    let tree = c.args.batch.now.tree in
+    let agreed = c.batch.invariant.0 in
+    let size = ap (λ db. db.commitment.size) c.self.view_is in
+    record {
+      last = c.self.invariant.1;
+      reach = subst (λ (t : KeptTree g.row.H-Digest.Denot). Contains (stops t.leaves t.layers) c.self.inside.log.tree.leaves) (sym (ap (λ b. b.tree) c.batch.view_is))
+          (subst (Contains (stops tree.leaves tree.layers)) (sym size ∙ c.self.invariant.0) c.requires.reach);
+      count = omega (arith, agreed.leaves, ap (λ b. b.bounds.tip.size) c.batch.view_is, c.requires.count, size, c.self.invariant.0, ap length c.deref.ensures.value);
+    }
 
 pub indexed-requires-clause-bits : goal.indexed-requires-clause-bits
 indexed-requires-clause-bits g c = omega (arith, c.self.invariant.0, c.self.invariant.3, c.in-Ok.ensures.size)
