@@ -36,7 +36,7 @@ use Rattle.qm_step.specs.Kinds.{HasRing}
 use Rattle.qm_build.specs.Opened.{IsOpened}
 use Rattle.qm_any.specs.Layouts.{Layout, spellings}
 use Rattle.qm_any.specs.Databases.{Database, IsDatabase}
-use Rattle.qm_list.proofs.Checking.{three}
+use Rattle.qm_build.proofs.Checking.{three}
 use Rattle.qm_any.specs.Restoring.{pruned_view}
 
 -- what shared metadata spells

@@ -11,7 +11,7 @@ ghost use Rattle.qm_any.specs.Lasting.{boundary_of, over_log, HasLasted, HasLeft
 
 use crate::db::{Beside, Db, LaidOut};
 use qm_base::{Error, Hasher, Location};
-use qm_list::store_of;
+use qm_build::store_of;
 use qm_merkle::Family;
 use qm_operations::Update;
 use qm_store::{AuthLog, Given, LogRefusal, MetaEntry, Refusal, Store};

@@ -13,5 +13,5 @@ mod restore;
 pub mod scan;
 pub mod staged;
 
-pub use qm_list::{hasher, initial_root};
+pub use qm_build::{hasher, initial_root};
 pub use restore::{Config, init, init_with};

@@ -16,11 +16,11 @@ ghost use Rattle.qm_store.specs.Reads.{IsRead};
 ghost use Rattle.qm_store.specs.Log.{IsLacked, IsLog};
 ghost use Rattle.qm_any.specs.Databases.{IsDatabase, IsLeft};
 ghost use Rattle.qm_store.specs.Refusals.{IsAmong, IsDue};
-ghost use Rattle.qm_list.specs.Reasons.{proof_reasons};
+ghost use Rattle.qm_build.specs.Reasons.{proof_reasons};
 
 use crate::db::{Db, LaidOut};
 use qm_base::{Digest, Error, Hasher, JournalError, Location, MerkleError};
-use qm_list::proved_over;
+use qm_build::proved_over;
 use qm_merkle::Family;
 use qm_operations::{Operation, Update};
 use qm_proofs::Proof;

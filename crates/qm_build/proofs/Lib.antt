@@ -10,3 +10,5 @@ pub mod Beside
 pub mod Linking
 pub mod Behind
 pub mod Onward
+pub mod Checking
+pub mod Telling

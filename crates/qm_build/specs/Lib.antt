@@ -4,3 +4,5 @@ pub mod Cached
 pub mod Reads
 pub mod Opened
 pub mod Linked
+pub mod Reasons
+pub mod Apart

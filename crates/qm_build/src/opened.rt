@@ -8,13 +8,14 @@ ghost use Rattle.qm_model.specs.Live as lives;
 ghost use Rattle.qm_model.specs.Operations as model;
 ghost use Rattle.qm_model.specs.Step.{IsGood};
 ghost use Rattle.qm_model.specs.Trees.{peaks};
-ghost use Rattle.qm_store.specs.Log.{store_given, IsHead, IsKept, digests_from};
+ghost use Rattle.qm_store.specs.Log.{IsHead, IsKept, digests_from};
 ghost use Rattle.qm_bits.specs.Bitmaps.{bit_count};
 ghost use Rattle.qm_build.specs.Built.{IsBuilt, NoneBelow};
 ghost use Rattle.qm_build.specs.Opened.{IsOpened};
 ghost use Rattle.qm_build.specs.Reads.{items_within, HasOperations};
 
 use crate::build::{Snapshot, build_snapshot};
+use crate::fresh::store_of;
 use crate::parts::{Held, beside};
 use qm_base::{Corrupt, Digest, Error, Hasher, JournalError, Location};
 use qm_bits::{Chunks, Prunable};
@@ -22,7 +23,7 @@ use qm_index::Factory;
 use qm_merkle::Family;
 use qm_open::Selected;
 use qm_operations::Update;
-use qm_store::{AuthLog, Given, LogGiven, Refusal, Store};
+use qm_store::{AuthLog, Given, Refusal, Store};
 use std::alloc::Global;
 use std::num::NonZeroUsize;
 
@@ -44,16 +45,6 @@ struct FromFloor<F: Family, C: Store, I, H: Hasher> {
     log: AuthLog<F, C, H>,
     index: I,
     snapshot: Snapshot,
-}
-
-// The store that a log gave back.
-fn store_of<F: Family, C: Store, H: Hasher + Drop>(given: LogGiven<AuthLog<F, C, H>, C>) -> C
-    ensures { result ≡ store_given given }
-{
-    match given {
-        LogGiven::Log(log) => log.close(),
-        LogGiven::Store(store) => store,
-    }
 }
 
 /// The log of a store that ends with the selected commit, whatever the store has behind it, and what its list has beside it.

@@ -1,2 +1,5 @@
+pub mod Databases
+pub mod Held
+pub mod Schemes
 pub mod Program
 pub mod Endings

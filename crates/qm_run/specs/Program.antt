@@ -11,7 +11,7 @@ use Rattle.qm_machine.specs.Grammar.{commands_in, bad_in}
 use Rattle.qm_machine.specs.Text.{text_of}
 use Rattle.qm_engine.specs.Stores.{IsBeside}
 use Rattle.qm_engine.specs.Runs.{after, IsOwnStore, IsOwnLeft}
-use Rattle.qm_engines.specs.Schemes.{form_of, scheme}
+use Rattle.qm_run.specs.Schemes.{form_of, scheme}
 
 -- whether the word names ordered databases
 abbrev pub kind_word : Bytes → Option Bool

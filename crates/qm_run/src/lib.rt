@@ -1,6 +1,10 @@
-//! The program's top call.
+//! The program's databases as engines, and its top call.
 #![tactic(auto)]
 
+pub mod database;
+mod listed;
 mod program;
+mod ranges;
 
+pub use database::{Database, Kind, Link, Pair};
 pub use program::qmdb_main;

@@ -9,13 +9,13 @@ ghost use Rattle.qm_model.specs.Operations.{Bytes};
 ghost use Rattle.qm_machine.specs.Grammar.{bad_in};
 ghost use Rattle.qm_model.specs.StoreModel.{Turns};
 ghost use Rattle.qm_engine.specs.Stores.{IsBeside};
-ghost use Rattle.qm_engines.specs.Schemes.{scheme};
+ghost use Rattle.qm_run.specs.Schemes.{scheme};
 ghost use Rattle.qm_run.specs.Program.{are_words, kind_word, kind_of_words, machine_of, scheme_of, Says, bad_text};
 ghost use Rattle.qm_run.specs.Endings.{tail_text, tail_status};
 
+use crate::database::{Database, Kind, Link, Pair};
 use qm_base::{ByteKey, ByteValue, Gate, Location};
 use qm_engine::{Answered, Ending, answer_lines};
-use qm_engines::{Database, Kind, Link, Pair};
 use qm_index::{Factory, FourCap, ordered, unordered};
 use qm_lines::{InputError, LIMIT, Sink, SinkError, Source, read_all, write_all};
 use qm_merkle::mmr;

@@ -13,7 +13,7 @@ use Rattle.qm_any.proofs.Openings.{fresh-back, plain-due, plain-refusal}
 use Rattle.qm_store.proofs.Told.{unchanged-appended-part}
 use Rattle.qm_any.proofs.Taking.{given-stable, given-unchanged, reads-grown}
 use Rattle.qm_any.proofs.Unapplied.{memory-cause}
-use Rattle.qm_list.proofs.Checking.{each-known, known-at, on-ok}
+use Rattle.qm_build.proofs.Checking.{each-known, known-at, on-ok}
 use Rattle.qm_any.proofs.Restoring.{nothing-accepted, nothing-due, refused-none}
 use Rattle.qm_any.proofs.open.begin.Goals as goal
 

@@ -2,7 +2,7 @@ use Rattle.std.proofs.Common.{◌≡◌, ◌≤◌, ◌∙◌, [], map, ap, ap�
 use Rattle.qm_model.specs.Causes.{IsCause}
 use Rattle.qm_base.specs.declared.error.Error.TheVariants as errors
 use Rattle.qm_base.specs.declared.error.JournalError.TheVariants as journal
-use Rattle.qm_list.proofs.Checking.{each-known}
+use Rattle.qm_build.proofs.Checking.{each-known}
 use Rattle.qm_any.proofs.Unapplied.{memory-cause}
 use Rattle.qm_model.specs.StoreModel.{Becomes, appended}
 use Rattle.qm_model.specs.Operations.{fresh}

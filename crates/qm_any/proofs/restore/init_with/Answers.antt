@@ -9,7 +9,7 @@ use Rattle.qm_store.specs.Refusals.{IsDue}
 use Rattle.qm_any.specs.Layouts.{hashing_of}
 use Rattle.qm_any.specs.Restoring.{selected_size, taken, LeavesOpening}
 use Rattle.qm_any.proofs.Taking.{taken-some, leaves-some, leaves-whole, turns-weaker, turns-kept, unchanged-behind}
-use Rattle.qm_list.proofs.Checking.{each-known, known-at}
+use Rattle.qm_build.proofs.Checking.{each-known, known-at}
 use Rattle.qm_open.specs.Selecting.{selected_view}
 use Rattle.qm_any.proofs.Restoring.{accepted-at, told-floor, selects-same, threshold-seen, so-pruned, none-pruned}
 use Rattle.qm_any.proofs.restore.init_with.Goals as goal

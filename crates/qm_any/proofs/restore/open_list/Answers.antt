@@ -7,7 +7,7 @@ use Rattle.qm_store.specs.Given.{store_given}
 use Rattle.qm_store.specs.Log.{IsHead, digests_from}
 use Rattle.qm_any.proofs.Lasting.{turns-behind}
 use Rattle.qm_any.proofs.Taking.{reads-whole, reads-rewound, given-kept, given-stable, given-unchanged}
-use Rattle.qm_list.proofs.Checking.{each-known, known-at, on-ok}
+use Rattle.qm_build.proofs.Checking.{each-known, known-at, on-ok}
 use Rattle.qm_store.proofs.Exits.{later-cause}
 use Rattle.qm_any.proofs.Openings.{plain-due, plain-refusal}
 use Rattle.qm_any.proofs.Restoring.{refused-none}

@@ -7,7 +7,7 @@ use Rattle.qm_model.specs.StoreModel.{end_of, rewound, Becomes, RewindLeaves, Re
 use Rattle.qm_store.specs.Log.{store_given}
 use Rattle.qm_any.specs.Layouts.{layout_of}
 use Rattle.qm_any.proofs.Lasting.{still-told}
-use Rattle.qm_list.proofs.Checking.{each-known, known-at}
+use Rattle.qm_build.proofs.Checking.{each-known, known-at}
 use Rattle.qm_any.proofs.Unapplied.{memory-cause}
 use Rattle.qm_any.proofs.Restoring.{shared-bytes, told-so, opened-stands, given-store}
 use Rattle.qm_any.proofs.Taking.{reads-whole, turns-kept}

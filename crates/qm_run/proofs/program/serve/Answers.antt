@@ -5,7 +5,7 @@ use Rattle.qm_model.specs.Own.{Log}
 use Rattle.qm_model.specs.StoreModel.{Turns}
 use Rattle.qm_engine.specs.Stores.{IsBeside}
 use Rattle.qm_model.specs.Mmr.{mmr}
-use Rattle.qm_engines.specs.Schemes.{scheme}
+use Rattle.qm_run.specs.Schemes.{scheme}
 use Rattle.qm_run.specs.Endings.{tail_text, tail_status}
 use Rattle.qm_run.proofs.Sayings.{Told, IsWhole, is_whole, each_more, says_part, partial, whole, unchanged, grown, grown_part}
 use Rattle.qm_run.proofs.program.serve.Goals as goal

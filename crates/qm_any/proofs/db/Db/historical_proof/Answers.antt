@@ -13,7 +13,7 @@ use Rattle.qm_proofs.specs.Proofs.{proof_view}
 use Rattle.qm_store.specs.Log.{IsLog}
 use Rattle.qm_store.specs.Reads.{IsRead}
 use Rattle.qm_store.specs.Refusals.{IsAmong, IsDue}
-use Rattle.qm_list.specs.Reasons.{proof_reasons}
+use Rattle.qm_build.specs.Reasons.{proof_reasons}
 use Rattle.qm_any.specs.Databases.{Database}
 use Rattle.qm_any.proofs.Telling.{three}
 use Rattle.qm_any.proofs.db.Db.historical_proof.Goals as goal

@@ -1,6 +1,0 @@
-pub mod Engines
-pub mod Spans
-pub mod Collected
-pub mod Heads
-pub mod Lasting
-pub mod Lacked

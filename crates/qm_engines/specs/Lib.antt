@@ -1,3 +1,0 @@
-pub mod Databases
-pub mod Held
-pub mod Schemes

@@ -1,0 +1,38 @@
+use Rattle.qm_model.specs.Mmr.{mmr}
+use Rattle.std.proofs.Common.{◌≡◌, Option, option_map}
+use Rattle.qm_model.proofs.Results.{err-then, ok-each, ok-then}
+use Rattle.qm_model.specs.Live.{live, live_of}
+use Rattle.qm_model.specs.Operations.{Bytes}
+use Rattle.qm_lines.specs.Views.{whole_view}
+use Rattle.qm_any.specs.Databases.{IsDatabase}
+use Rattle.qm_any.proofs.Reading.{left-database}
+use Rattle.qm_base.specs.declared.error.Error.TheVariants.{Journal}
+use Rattle.qm_base.specs.declared.error.JournalError.TheVariants.{Store}
+use Rattle.qm_run.specs.Databases.{hashing, layout}
+use Rattle.qm_run.proofs.Engines.{err-of, left-store, read-untold, log-rose, log-kept, unoffered, unread-answer}
+use Rattle.qm_run.proofs.database.ordered.DatabaseNeighbours.all.Goals as goal
+
+pub returns-then-not-is_ordered : goal.returns-then-not-is_ordered
+returns-then-not-is_ordered g c = record {
+  whole = λ ordered. unoffered _ _ c.is_ordered.ensures c.if-not-is_ordered.true ordered;
+  reads = unread-answer _ g.C.Store c.args.self.now _;
+  never = tt;
+  refused = tt;
+}
+
+pub returns : goal.returns
+returns g c = record {
+  whole =
+      ok-then c.get_all.result (ok-each (IsDatabase g.C.Store (layout mmr g.U.Update.form g.I.Unordered.index_key) c.args.self.now.db) (λ list p. option_map (whole_view (λ x. x) (λ x. x)) p ≡ option_map {U = Bytes × Option Bytes} (λ e. (e.value, e.next)) (live_of (live list) c.args.key.now)) c.get_all.result c.get_all.ensures.value)
+      (λ p given ordered. given);
+  reads = record {
+    same = λ list is. left-database g.C.Store (layout mmr g.U.Update.form g.I.Unordered.index_key) c.args.self.now.db c.get_all.new.self list c.get_all.ensures.left is;
+    store = left-store g.C.Store (hashing mmr g.U.Update.form) c.args.self.now.db c.get_all.new.self c.get_all.ensures.left;
+    faults = record {
+      later = (c.get_all.ensures.left).read.keeps.later;
+      failed = err-of c.get_all.result (Journal Store) _ (err-then c.get_all.result c.get_all.ensures.error (λ e why fault. log-rose g.C.Store c.args.self.now.db.log c.get_all.new.self.log e why fault));
+    };
+  };
+  never = err-then c.get_all.result c.get_all.ensures.error (λ e why. log-kept g.C.Store c.args.self.now.db.log c.get_all.new.self.log e why);
+  refused = read-untold g.C.Store (layout mmr g.U.Update.form g.I.Unordered.index_key) c.args.self.now.db c.get_all.new.self.log c.get_all.result c.get_all.ensures.error c.get_all.ensures.whole;
+}
