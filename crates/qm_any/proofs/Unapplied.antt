@@ -175,10 +175,6 @@ pub ok-five : {X E : Type 0} (r : Result X E) {P Q R S T : X → Type 0} → IfO
 ok-five (Ok x) p q r s t give = give x p q r s t
 ok-five (Err e) p q r s t give = tt
 
--- a database is another one where it has what that has, and the same log
-pub same-database : {C D : Type 0} (old db x : Database C D) → old ≡ db → x ≡ record old { log = x.log } → x.log ≡ old.log → x ≡ db
-same-database old db x is rest same = rest ∙ ap (λ l. record old { log = l }) same ∙ is
-
 -- what grew still tells what it holds
 grown-told : (old new : Option Stored) (f : Stored → Stored) → IsSome old → Becomes old new f → IsSome new
 grown-told None new f told grown = let none : false ≡ true = told in cc

@@ -318,19 +318,11 @@ impl<F: Family, C: Store, I: qm_index::Unordered<Value = Location<F>>, H: Hasher
         ensures causes { IfErr result (λ r. (r.error ≡ Error.Memory) ⊎ (r.error ≡ Error.Journal JournalError.Store)) }
         ensures cause { IfErr result (λ r. IsCause (C.faults self.log.store) (C.faults (store_given (λ db. db.log.store) r.given)) (r.error ≡ Error.Journal JournalError.Store)) }
     {
-        let Db {
-            index,
-            activity,
-            log,
-            commitment,
-            floor,
-            live,
-            metadata,
-        } = self;
+        let (log, beside) = self.apart();
         match log.append_tree(&lacking.items, &batch.tree) {
-            Ok(log) => indexed(index, activity, log, lacking.diffs, batch, lacking.metadata),
+            Ok(log) => indexed(beside, log, lacking.diffs, batch, lacking.metadata),
             Err(LogRefusal { given, error }) => Err(Refusal {
-                given: given_back(index, activity, commitment, floor, live, metadata, given),
+                given: given_back(beside, given),
                 error,
             }),
         }
@@ -677,23 +669,26 @@ fn indexed<
     H: Hasher + Drop,
     U: Update,
 >(
-    index: I,
-    activity: Prunable<Chunk64>,
+    beside: Beside<F, I, H::Digest, U>,
     log: AuthLog<F, C, H>,
     diffs: &[Rc<Diff<F, U::Key, U::Value>>],
     batch: &MerkleizedBatch<F, H::Digest, U>,
     metadata: Option<Rc<U::Value>>,
 ) -> Result<Db<F, C, I, H, U>, Refusal<Db<F, C, I, H, U>, C>>
     requires size { batch.now.bounds.tip.size ≡ log.tree.leaves }
-    requires bits { bit_count 64 activity ≤ log.tree.leaves }
+    requires grown { beside.commitment.size ≤ log.tree.leaves }
     requires end { C.end log.store ≡ log.tree.leaves }
     ensures log { IfOk result (λ next. next.log ≡ log) }
-    ensures index { IfOk result (λ next. (list tip : List Operation) → LeadTo (map (λ d. changes_view U.Key.bytes U.Value.bytes d.value) diffs.now) list tip → IsIndexed I.index_key (I.entries index) list → IsIndexed I.index_key next.entries tip) }
-    ensures active { IfOk result (λ next. (list tip : List Operation) → LeadTo (map (λ d. changes_view U.Key.bytes U.Value.bytes d.value) diffs.now) list tip → IsCommitEnded list → batch.now.bounds.tip.size ≡ length tip → all_bits 64 activity ≡ bits list → all_bits 64 next.activity ≡ bits tip) }
+    ensures index { IfOk result (λ next. (list tip : List Operation) → LeadTo (map (λ d. changes_view U.Key.bytes U.Value.bytes d.value) diffs.now) list tip → IsIndexed I.index_key beside.entries list → IsIndexed I.index_key next.entries tip) }
+    ensures active { IfOk result (λ next. (list tip : List Operation) → LeadTo (map (λ d. changes_view U.Key.bytes U.Value.bytes d.value) diffs.now) list tip → IsCommitEnded list → batch.now.bounds.tip.size ≡ length tip → all_bits 64 beside.activity ≡ bits list → all_bits 64 next.activity ≡ bits tip) }
     ensures rest { IfOk result (λ next. (next.commitment ≡ batch.now.bounds.tip) × (next.floor ≡ batch.now.bounds.inactivity_floor) × (next.live ≡ batch.now.live) × (next.metadata ≡ option_map (λ m. U.Value.bytes m.value) metadata)) }
     ensures back { IfErr result (λ r. (r.given ≡ Given.Store log.store) × (r.error ≡ Error.Memory)) }
 {
-    let (mut index, mut activity) = (index, activity);
+    let Beside {
+        mut index,
+        mut activity,
+        ..
+    } = beside;
     match brought_up(&mut index, &mut activity, batch.bounds.tip.size, diffs) {
         Ok(()) => Ok(Db {
             index,
@@ -737,31 +732,15 @@ fn given_back<
     H: Hasher,
     U: Update,
 >(
-    index: I,
-    activity: Prunable<Chunk64>,
-    commitment: Commitment<H::Digest>,
-    floor: Location<F>,
-    live: u64,
-    metadata: Option<Rc<U::Value>>,
+    beside: Beside<F, I, H::Digest, U>,
     given: LogGiven<AuthLog<F, C, H>, C>,
 ) -> Given<Db<F, C, I, H, U>, C>
-    requires whole { (log : logs.Log C H.Digest) → given ≡ LogGiven.Log log → (commitment.size ≡ log.tree.leaves) × (C.end log.store ≡ log.tree.leaves) }
-    requires live { live ≤ commitment.size }
-    requires bits { bit_count 64 activity ≡ commitment.size }
+    requires { (log : logs.Log C H.Digest) → given ≡ LogGiven.Log log → (beside.commitment.size ≡ log.tree.leaves) × (C.end log.store ≡ log.tree.leaves) }
     ensures store { store_given (λ db. db.log.store) result ≡ logs.store_given given }
-    ensures back { (x : Database C H.Digest) → result ≡ Given.Database x → (given ≡ LogGiven.Log x.log)
-        × (x ≡ record { entries = I.entries index; activity = activity; log = x.log; commitment = commitment_view H.Digest.bytes commitment; floor = floor; live = live; metadata = option_map (λ m. U.Value.bytes m.value) metadata }) }
+    ensures back { (x : Database C H.Digest) → result ≡ Given.Database x → (given ≡ LogGiven.Log x.log) × (x ≡ over beside x.log) }
 {
     match given {
-        LogGiven::Log(log) => Given::Database(Db {
-            index,
-            activity,
-            log,
-            commitment,
-            floor,
-            live,
-            metadata,
-        }),
+        LogGiven::Log(log) => Given::Database(beside.over(log)),
         LogGiven::Store(store) => Given::Store(store),
     }
 }
