@@ -160,7 +160,7 @@ impl<F: Family, D: Digest, U: Update> UnmerkleizedBatch<F, D, U> {
         ensures whole { (list : List Operation) → IsDatabase C.Store ⟦<Db<F, C, I, H, U> as LaidOut>⟧.layout db.old list → NoneBelow db.old.log.tree.start list → IfErr result (λ e. (n : ℕ) → e ≢ Error.Journal (JournalError.ItemPruned n)) }
         ensures left { IsLeft C.Store ⟦<Db<F, C, I, H, U> as LaidOut>⟧.layout.hashing db.old db.new }
     {
-        self.parent.bounds.compatible(db.commitment())?;
+        self.parent.known(db.commitment())?;
         db.read_one(alloc, &self.parent.steps, &self.writes, key)
     }
 
@@ -179,7 +179,7 @@ impl<F: Family, D: Digest, U: Update> UnmerkleizedBatch<F, D, U> {
         ensures whole { (list : List Operation) → IsDatabase C.Store ⟦<Db<F, C, I, H, U> as LaidOut>⟧.layout db.old list → NoneBelow db.old.log.tree.start list → IfErr result (λ e. (n : ℕ) → e ≢ Error.Journal (JournalError.ItemPruned n)) }
         ensures left { IsLeft C.Store ⟦<Db<F, C, I, H, U> as LaidOut>⟧.layout.hashing db.old db.new }
     {
-        self.parent.bounds.compatible(db.commitment())?;
+        self.parent.known(db.commitment())?;
         db.read_all(alloc, &self.parent.steps, &self.writes, keys)
     }
 
@@ -205,7 +205,7 @@ impl<F: Family, D: Digest, U: Update> UnmerkleizedBatch<F, D, U> {
         ensures whole { (list : List Operation) → IsDatabase C.Store ⟦<Db<F, C, I, H, U> as LaidOut>⟧.layout db.old list → NoneBelow db.old.log.tree.start list → IfErr result (λ e. (n : ℕ) → e ≢ Error.Journal (JournalError.ItemPruned n)) }
         ensures left { IsLeft C.Store ⟦<Db<F, C, I, H, U> as LaidOut>⟧.layout.hashing db.old db.new }
     {
-        self.parent.bounds.compatible(db.commitment())?;
+        self.parent.known(db.commitment())?;
         let reads = db.find_all(alloc, &self.parent.steps, keys)?;
         let values = values_of(alloc, &self.writes, &reads)?;
         Ok((reads, values))
@@ -301,7 +301,7 @@ impl<F: Family, D: Digest, U: Update> MerkleizedBatch<F, D, U> {
         ensures whole { (list : List Operation) → IsDatabase C.Store ⟦<Db<F, C, I, H, U> as LaidOut>⟧.layout db.old list → NoneBelow db.old.log.tree.start list → IfErr result (λ e. (n : ℕ) → e ≢ Error.Journal (JournalError.ItemPruned n)) }
         ensures left { IsLeft C.Store ⟦<Db<F, C, I, H, U> as LaidOut>⟧.layout.hashing db.old db.new }
     {
-        self.bounds.compatible(db.commitment())?;
+        self.known(db.commitment())?;
         let writes = Writes::new(alloc);
         db.read_one(alloc, &self.steps, &writes, key)
     }
@@ -321,7 +321,7 @@ impl<F: Family, D: Digest, U: Update> MerkleizedBatch<F, D, U> {
         ensures whole { (list : List Operation) → IsDatabase C.Store ⟦<Db<F, C, I, H, U> as LaidOut>⟧.layout db.old list → NoneBelow db.old.log.tree.start list → IfErr result (λ e. (n : ℕ) → e ≢ Error.Journal (JournalError.ItemPruned n)) }
         ensures left { IsLeft C.Store ⟦<Db<F, C, I, H, U> as LaidOut>⟧.layout.hashing db.old db.new }
     {
-        self.bounds.compatible(db.commitment())?;
+        self.known(db.commitment())?;
         let writes = Writes::new(alloc);
         db.read_all(alloc, &self.steps, &writes, keys)
     }
@@ -502,7 +502,7 @@ impl<F: Family, D: Digest, U: Update> MerkleizedBatch<F, D, U> {
     }
 
     // Whether the batch can be read at this state of a database, which is then one of those that its steps lead through.
-    fn known(&self, current: &Commitment<D>) -> Result<(), Error>
+    pub(crate) fn known(&self, current: &Commitment<D>) -> Result<(), Error>
         ensures readable { OnOk result (knows self.now.bounds (commitment_view D.bytes current.now) ≡ true) }
         ensures stale { IfErr result (λ e. (e ≡ Error.StaleRead) × (knows self.now.bounds (commitment_view D.bytes current.now) ≡ false)) }
         ensures reached { OnOk result (Contains (stops self.now.tree.leaves self.now.tree.layers) current.now.size) }

@@ -150,7 +150,7 @@ impl<F: Family, D: Digest, U: Update> MerkleizedBatch<F, D, U> {
         ensures whole { (list : List Operation) → IsDatabase C.Store ⟦<Db<F, C, I, H, U> as LaidOut>⟧.layout db.old list → NoneBelow db.old.log.tree.start list → IfErr result (λ e. (n : ℕ) → e ≢ Error.Journal (JournalError.ItemPruned n)) }
         ensures left { IsLeft C.Store ⟦<Db<F, C, I, H, U> as LaidOut>⟧.layout.hashing db.old db.new }
     {
-        self.bounds.compatible(db.commitment())?;
+        self.known(db.commitment())?;
         db.next_over(alloc, &self.steps, key)
     }
 
@@ -177,7 +177,7 @@ impl<F: Family, D: Digest, U: Update> MerkleizedBatch<F, D, U> {
         ensures whole { (list : List Operation) → IsDatabase C.Store ⟦<Db<F, C, I, H, U> as LaidOut>⟧.layout db.old list → NoneBelow db.old.log.tree.start list → IfErr result (λ e. (n : ℕ) → e ≢ Error.Journal (JournalError.ItemPruned n)) }
         ensures left { IsLeft C.Store ⟦<Db<F, C, I, H, U> as LaidOut>⟧.layout.hashing db.old db.new }
     {
-        self.bounds.compatible(db.commitment())?;
+        self.known(db.commitment())?;
         db.previous_over(alloc, &self.steps, key)
     }
 }

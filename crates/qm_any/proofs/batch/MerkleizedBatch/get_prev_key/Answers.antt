@@ -1,24 +1,19 @@
 use Rattle.std.proofs.Common.{◌∙◌, ap, subst, sym, map, ◌≡◌, true, false, inl, inr}
 use Rattle.qm_step.specs.Layers.{LeadOver}
 use Rattle.qm_any.proofs.Known.{made-base}
-use Rattle.std.specs.Prelude.{is_ok}
 use Rattle.std.proofs.lemmas.Result.{IfOk-from_err, err_from_is_err_and}
 use Rattle.qm_model.proofs.Results.{err-then}
-use Rattle.qm_chain.specs.Bounds.{commitment_view, knows}
+use Rattle.qm_chain.specs.Bounds.{knows}
 use Rattle.qm_any.specs.Layouts.{hashing_of}
 use Rattle.qm_any.proofs.Reading.{left-none}
 use Rattle.qm_any.proofs.Reasons.{on-ok}
 use Rattle.qm_any.proofs.batch.MerkleizedBatch.get_prev_key.Goals as goal
 
-pub returns-in_err-compatible : goal.returns-in_err-compatible
-returns-in_err-compatible g c =
+pub returns-in_err-known : goal.returns-in_err-known
+returns-in_err-known g c =
     let exit = err_from_is_err_and c.from_residual.result c.from_residual.ensures.1 in
-    let view = commitment_view g.D.Digest.bytes in
-    let at = ap (λ b. b.bounds) (c.self.view_is) in
-    let tested : knows c.self.inside.bounds (view c.commitment.result.now) ≡ false = sym c.compatible.ensures.exact ∙ ap is_ok c.in_err-compatible.was in
-    let told : knows c.args.self.now.bounds c.args.db.now.commitment ≡ false =
-    subst (λ k. knows c.args.self.now.bounds k ≡ false) c.commitment.ensures.value (subst (λ b. knows b (view c.commitment.result.now) ≡ false) at tested) in
-    let stale = c.in_err-compatible.ensures.stale in
+    let told : knows c.args.self.now.bounds c.args.db.now.commitment ≡ false = sym (ap (knows c.args.self.now.bounds) c.commitment.ensures.value) ∙ c.in_err-known.ensures.stale.1 in
+    let stale = c.in_err-known.ensures.stale.0 in
     record {
       value = λ list chain tip stands made known. IfOk-from_err c.from_residual.result _ c.from_residual.ensures.0;
       readable = IfOk-from_err c.from_residual.result _ c.from_residual.ensures.0;
@@ -29,11 +24,7 @@ returns-in_err-compatible g c =
 
 pub returns : goal.returns
 returns g c =
-    let view = commitment_view g.D.Digest.bytes in
-    let at = ap (λ b. b.bounds) (c.self.view_is) in
-    let tested : knows c.self.inside.bounds (view c.commitment.result.now) ≡ true = sym c.compatible.ensures.exact ∙ ap is_ok c.in_ok-compatible.was in
-    let told : knows c.args.self.now.bounds c.args.db.now.commitment ≡ true =
-    subst (λ k. knows c.args.self.now.bounds k ≡ true) c.commitment.ensures.value (subst (λ b. knows b (view c.commitment.result.now) ≡ true) at tested) in
+    let told : knows c.args.self.now.bounds c.args.db.now.commitment ≡ true = sym (ap (knows c.args.self.now.bounds) c.commitment.ensures.value) ∙ c.in_ok-known.ensures.readable in
     record {
       value = λ list chain tip stands made known.
           let layers = ap (map (λ l. l.value)) c.deref.ensures.value ∙ ap (λ b. b.layers) c.self.view_is in

@@ -1,5 +1,5 @@
-use Rattle.std.proofs.Common.{◌≡◌, ◌∙◌, ap, subst, sym, map, refl, true, false, inl, inr}
-use Rattle.std.specs.Prelude.{option_map, is_ok}
+use Rattle.std.proofs.Common.{◌≡◌, ◌∙◌, ap, ap₂, subst, sym, map, refl, true, false, inl, inr}
+use Rattle.std.specs.Prelude.{option_map}
 use Rattle.qm_model.specs.Writes.{read_through}
 use Rattle.qm_step.specs.Layers.{LeadOver}
 use Rattle.qm_any.proofs.Known.{made-base}
@@ -8,20 +8,16 @@ use Rattle.qm_step.specs.Views.{read_view}
 use Rattle.qm_step.proofs.Steps.{map-twice}
 use Rattle.qm_any.specs.Databases.{read_under}
 use Rattle.qm_any.proofs.Staging.{read-through}
-use Rattle.qm_chain.specs.Bounds.{commitment_view, knows}
+use Rattle.qm_chain.specs.Bounds.{knows}
 use Rattle.qm_any.specs.Layouts.{hashing_of}
 use Rattle.qm_any.proofs.Reading.{left-none}
 use Rattle.qm_any.proofs.batch.UnmerkleizedBatch.located.Goals as goal
 
-pub returns-in_err-compatible : goal.returns-in_err-compatible
-returns-in_err-compatible g c =
+pub returns-in_err-known : goal.returns-in_err-known
+returns-in_err-known g c =
     let exit = err_from_is_err_and c.from_residual.result c.from_residual.ensures.1 in
-    let view = commitment_view g.D.Digest.bytes in
-    let at = ap (λ b. b.bounds) (c.behind-self.view_is ∙ c.deref.ensures ∙ ap (λ b. b.parent) c.self.view_is) in
-    let tested : knows c.behind-self.inside.bounds (view c.commitment.result.now) ≡ false = sym c.compatible.ensures.exact ∙ ap is_ok c.in_err-compatible.was in
-    let told : knows c.args.self.now.parent.bounds c.args.db.now.commitment ≡ false =
-    subst (λ k. knows c.args.self.now.parent.bounds k ≡ false) c.commitment.ensures.value (subst (λ b. knows b (view c.commitment.result.now) ≡ false) at tested) in
-    let stale = c.in_err-compatible.ensures.stale in
+    let told : knows c.args.self.now.parent.bounds c.args.db.now.commitment ≡ false = sym (ap₂ knows (ap (λ b. b.bounds) (c.deref.ensures ∙ ap (λ b. b.parent) c.self.view_is)) c.commitment.ensures.value) ∙ c.in_err-known.ensures.stale.1 in
+    let stale = c.in_err-known.ensures.stale.0 in
     record {
       keys = IfOk-from_err c.from_residual.result _ c.from_residual.ensures.0;
       reads = λ list chain above stands begun known. IfOk-from_err c.from_residual.result _ c.from_residual.ensures.0;
@@ -35,11 +31,7 @@ returns-in_err-compatible g c =
 pub returns-in_err-reads : goal.returns-in_err-reads
 returns-in_err-reads g c =
     let exit = err_from_is_err_and c.from_residual-in_err-reads.result c.from_residual-in_err-reads.ensures.1 in
-    let view = commitment_view g.D.Digest.bytes in
-    let at = ap (λ b. b.bounds) (c.behind-self.view_is ∙ c.deref.ensures ∙ ap (λ b. b.parent) c.self.view_is) in
-    let tested : knows c.behind-self.inside.bounds (view c.commitment.result.now) ≡ true = sym c.compatible.ensures.exact ∙ ap is_ok c.in_ok-compatible.was in
-    let told : knows c.args.self.now.parent.bounds c.args.db.now.commitment ≡ true =
-    subst (λ k. knows c.args.self.now.parent.bounds k ≡ true) c.commitment.ensures.value (subst (λ b. knows b (view c.commitment.result.now) ≡ true) at tested) in
+    let told : knows c.args.self.now.parent.bounds c.args.db.now.commitment ≡ true = sym (ap₂ knows (ap (λ b. b.bounds) (c.deref.ensures ∙ ap (λ b. b.parent) c.self.view_is)) c.commitment.ensures.value) ∙ c.in_ok-known.ensures.readable in
     record {
       keys = IfOk-from_err c.from_residual-in_err-reads.result _ c.from_residual-in_err-reads.ensures.0;
       reads = λ list chain above stands begun known. IfOk-from_err c.from_residual-in_err-reads.result _ c.from_residual-in_err-reads.ensures.0;
@@ -66,12 +58,8 @@ returns-in_err-values g c =
 pub returns : goal.returns
 returns g c =
     let key = g.U.Key.ByteString.bytes in
-    let view = commitment_view g.D.Digest.bytes in
-    let at = ap (λ b. b.bounds) (c.behind-self.view_is ∙ c.deref.ensures ∙ ap (λ b. b.parent) c.self.view_is) in
-    let tested : knows c.behind-self.inside.bounds (view c.commitment.result.now) ≡ true = sym c.compatible.ensures.exact ∙ ap is_ok c.in_ok-compatible.was in
-    let told : knows c.args.self.now.parent.bounds c.args.db.now.commitment ≡ true =
-    subst (λ k. knows c.args.self.now.parent.bounds k ≡ true) c.commitment.ensures.value (subst (λ b. knows b (view c.commitment.result.now) ≡ true) at tested) in
-    let parent = c.behind-self-2.view_is ∙ c.deref-2.ensures ∙ ap (λ b. b.parent) c.self.view_is in
+    let told : knows c.args.self.now.parent.bounds c.args.db.now.commitment ≡ true = sym (ap₂ knows (ap (λ b. b.bounds) (c.deref.ensures ∙ ap (λ b. b.parent) c.self.view_is)) c.commitment.ensures.value) ∙ c.in_ok-known.ensures.readable in
+    let parent = c.behind-self.view_is ∙ c.deref-2.ensures ∙ ap (λ b. b.parent) c.self.view_is in
     let layers = ap (map (λ l. l.value)) c.deref-3.ensures.value ∙ ap (λ b. b.layers) parent in
     record {
       keys = c.in_ok-reads.ensures.keys;
