@@ -15,16 +15,6 @@ use Rattle.qm_any.specs.Layouts.{layout_of}
 use Rattle.qm_any.proofs.Telling.{root-spelled, grown-told, fresh-stands, same-three}
 use Rattle.qm_any.proofs.open.begun.Goals as goal
 
-pub append_batch-requires : goal.append_batch-requires
-append_batch-requires g c =
-    let same = c.root_with.ensures.same in
-    let none = c.requires.log.size in
-    let leaves = ap (λ l. l.tree.leaves) same in
-    record {
-      room = omega (arith, none, leaves, c.requires.count);
-      last = ap (λ l. g.C.Store.«end» l.store) same ∙ c.requires.end ∙ sym none ∙ sym leaves;
-    }
-
 pub returns-in-Ok-append_batch : goal.returns-in-Ok-append_batch
 returns-in-Ok-append_batch g c =
     record {

@@ -1,4 +1,4 @@
-use Rattle.std.proofs.Common.{◌∙◌, ap, map, subst, sym, arith}
+use Rattle.std.proofs.Common.{map, subst, sym, arith}
 use Rattle.qm_model.specs.Forms.{spelling}
 use Rattle.qm_model.specs.StoreModel.{pruned}
 use Rattle.qm_any.specs.Databases.{IsDatabase}
@@ -56,6 +56,3 @@ returns g c =
           (err-then c.prune.result c.prune.ensures.refused
           (λ r refused. cut-given-up g.C.Store hashing c.args.to refused.0 c.args.self beside old r c.apart-log.ensures.whole c.requires.stable (omega (arith, c.if-to-start.false, c.bounds-start.ensures.start)) refused.1 refused.2));
     }
-
-pub over-requires : goal.over-requires
-over-requires g c = record { size = ap (λ b. b.commitment.size) c.beside.view_is ∙ c.apart-log.ensures.size; end = c.apart-log.ensures.end }
