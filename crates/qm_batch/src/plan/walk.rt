@@ -29,7 +29,7 @@ use qm_bits::Candidates;
 use qm_chain::{Action, DiffEntry, Entry, Limits, Policy, Walk};
 use qm_operations::{Operation, Update};
 use qm_step::decided::Decided;
-use qm_step::found::{twin_next, update_in};
+use qm_step::found::update_in;
 use qm_step::touch::Touch;
 use qm_step::{Base, Layer};
 use std::alloc::{AllocError, Global};
@@ -61,13 +61,6 @@ pub(crate) struct Walked<K, V> {
 struct Going<F, K, V> {
     walk: Walk<F>,
     decided: Vec<Decided<K, V>>,
-}
-
-/// Candidates in order, and where the next ones begin.
-#[derive(Drop)]
-struct Round<F> {
-    locations: Vec<Location<F>>,
-    next: Location<F>,
 }
 
 /// A live update, and where its key's live update stands in the base list.
@@ -201,21 +194,6 @@ fn unreplaced_at<F, I: qm_index::Unordered<Value = Location<F>>, L: Items, U: Up
     }
 }
 
-// The update that an operation behind the base list is.
-fn again<F, U: Update>(alloc: Global, touch: &Touch<F, U>) -> Result<Option<Found<U>>, Error>
-    ensures operation { IfOk result (λ found. option_map (λ f. U.view f.update) found ≡ said_by (operation_view U.view U.Key.bytes U.Value.bytes touch.now.operation)) }
-    ensures before { IfOk result (λ found. IfSome found (λ f. f.before ≡ touch.now.before)) }
-    ensures memory { IfErr result (λ e. e ≡ Error.Memory) }
-{
-    match twin_update(alloc, &touch.operation)? {
-        Some(update) => Ok(Some(Found {
-            update,
-            before: touch.before,
-        })),
-        None => Ok(None),
-    }
-}
-
 // The live update at a place among the operations behind the base list.
 fn made_at<F, U: Update>(
     alloc: Global,
@@ -226,8 +204,14 @@ fn made_at<F, U: Update>(
         → All (IsFrom base) (touch_views U.view U.Key.bytes U.Value.bytes made.now) → length base ≤ at → place ≡ at - length base → IfOk result (λ found. IsMoveAt (option_map (found_view U.view) found) base list at) }
     ensures memory { IfErr result (λ e. e ≡ Error.Memory) }
 {
-    match made.get(place as usize) {
-        Some(touch) => again(alloc, touch),
+    let Some(touch) = made.get(place as usize) else {
+        return Ok(None);
+    };
+    match twin_update(alloc, &touch.operation)? {
+        Some(update) => Ok(Some(Found {
+            update,
+            before: touch.before,
+        })),
         None => Ok(None),
     }
 }
@@ -336,10 +320,9 @@ fn decide<F, U: Update, P: Policy<F, U::Key, U::Value>>(
     ensures memory { IfErr result (λ e. e ≡ Error.Memory) }
 {
     let Found { update, before } = found;
-    let key = update.key().twin(alloc)?;
-    let next = twin_next(alloc, &update)?;
+    let (key, value, next) = update.into_parts();
     let at = Location::new(going.walk.floor.get());
-    let action = ask(alloc, policy, at, &key, update.into_value())?;
+    let action = ask(alloc, policy, at, &key, value)?;
     note(going, key, next, before, action)
 }
 
@@ -442,24 +425,6 @@ fn round_of(entries: u64) -> usize
     entries.clamp(1, ROUND) as usize
 }
 
-// A round of candidates from a location on, where it ends before that one, with so many live updates left to be decided.
-fn round_from<F, B: Candidates<F>>(
-    alloc: Global,
-    activity: &B,
-    from: Location<F>,
-    end: Location<F>,
-    entries: u64,
-) -> Result<Round<F>, AllocError>
-    requires { from < end }
-    ensures found { IfOk result (λ round. candidates (B.activity activity.now) from round.next ≡ round.locations.items) }
-    ensures spaced { IfOk result (λ round. IsSpaced from round.locations.items round.next) }
-    ensures next { IfOk result (λ round. (from < round.next) × (round.next ≤ end)) }
-{
-    let mut locations = Vec::new(alloc);
-    let next = activity.fill(from, end, round_of(entries), &mut locations)?;
-    Ok(Round { locations, next })
-}
-
 // Visits a round of candidates, those from a location on, and tells where the next one begins, if the walk goes on.
 fn walk_round<
     F,
@@ -493,9 +458,9 @@ fn walk_round<
     ensures pruned { L.reads.start log.old ≤ going.old.walk.floor → IfErr result (λ e. (n : ℕ) → e ≢ Error.Journal (JournalError.ItemPruned n)) }
 {
     let end = Location::new(going.walk.end.get());
-    let round = round_from(alloc, activity, from, end, going.walk.entries)?;
-    let next = Location::new(round.next.get());
-    visit_all(alloc, path, log, policy, going, &round.locations, next)
+    let mut round = Vec::new(alloc);
+    let next = activity.fill(from, end, round_of(going.walk.entries), &mut round)?;
+    visit_all(alloc, path, log, policy, going, &round, next)
 }
 
 // Passes what is left where no live update is, if the walk may still decide one.
