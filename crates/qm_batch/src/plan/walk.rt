@@ -19,7 +19,7 @@ ghost use Rattle.qm_index.specs.Indexed.{IsIndexed};
 ghost use Rattle.qm_base.specs.Reads.{IsRead, IsReadError};
 ghost use Rattle.qm_step.specs.Lent.{IsLent};
 ghost use Rattle.qm_step.specs.PlanViews.{decided_views, touch_views};
-ghost use Rattle.qm_batch.specs.PlanPaths.{found_view, path_view, IsPath};
+ghost use Rattle.qm_batch.specs.PlanPaths.{found_view, path_view, AreBehind, IsPath};
 ghost use Rattle.qm_step.specs.Touches.{is_there, moved_touch, operations_of, AreReplaced, IsFrom, IsKeyed, IsMoveAt, Once, Touch as Made};
 ghost use Rattle.qm_step.specs.Views.{change_view};
 
@@ -30,7 +30,7 @@ use qm_chain::{Action, DiffEntry, Entry, Limits, Policy, Walk};
 use qm_operations::{Operation, Update};
 use qm_step::decided::Decided;
 use qm_step::found::update_in;
-use qm_step::touch::Touch;
+use qm_step::touch::{Touch, replaced_by};
 use qm_step::{Base, Layer};
 use std::alloc::{AllocError, Global};
 use std::collections::BTreeSet;
@@ -42,11 +42,11 @@ const ROUND: u64 = 1_024;
 // What a walk goes over: a base list, the operations that are put behind it, and the locations of the base list whose live
 // updates these replace. The index is lent for the base list or one on the way to it.
 #[derive(Drop)]
-pub(crate) struct Path<'i, 'b, F, I, U: Update> {
-    pub(crate) index: &'i I,
-    pub(crate) base: Base<'b, F, U>,
-    pub(crate) made: Vec<Touch<F, U>>,
-    pub(crate) replaced: BTreeSet<u64>,
+struct Path<'i, 'b, F, I, U: Update> {
+    index: &'i I,
+    base: &'i Base<'b, F, U>,
+    made: &'i [Touch<F, U>],
+    replaced: BTreeSet<u64>,
 }
 
 /// What a walk decided, and where it ended.
@@ -241,7 +241,7 @@ fn live_at<F, I: qm_index::Unordered<Value = Location<F>>, L: Items, U: Update>(
     ensures pruned { L.reads.start log.old ≤ at → IfErr result (λ e. (n : ℕ) → e ≢ Error.Journal (JournalError.ItemPruned n)) }
 {
     if path.base.size <= at {
-        return made_at(alloc, &path.made, at - path.base.size);
+        return made_at(alloc, path.made, at - path.base.size);
     }
     let update = unreplaced_at(alloc, path.index, log, path.base.layers, &path.replaced, at)?;
     Ok(standing(update, at))
@@ -531,23 +531,32 @@ pub(crate) fn walk_from<
     P: Policy<F, U::Key, U::Value>,
 >(
     alloc: Global,
+    index: &I,
     activity: &B,
-    path: &Path<'_, '_, F, I, U>,
     log: &mut L,
+    base: &Base<'_, F, U>,
+    made: &[Touch<F, U>],
     policy: &mut P,
     limits: Limits,
 ) -> Result<Walked<U::Key, U::Value>, Error>
-    requires { path.now.base.size ≤ 2 ^ 62 }
-    ensures value { (lent base list : List model.Operation) → IsLent L.reads U.form I.index_key (I.entries path.now.index.now) log.old lent → B.activity activity.now ≡ bits lent
-        → IsPath (path_view U.view U.Key.bytes U.Value.bytes path.now) lent base list
-        → IfSome (L.reads.told log.old) (λ _. IfOk result (λ walked. AreDecided base list (decided_views U.Key.bytes U.Value.bytes walked.decided.items) walked.floor policy.new
-        (walks.walk P.rules list (floor base) (record { entries = limits.entries; skips = limits.skips }) policy.old))) }
+    requires { base.now.size ≤ 2 ^ 62 }
+    ensures value { (lent front list : List model.Operation) → IsLent L.reads U.form I.index_key (I.entries index.now) log.old lent → B.activity activity.now ≡ bits lent
+        → AreBehind (base_view base.now) (touch_views U.view U.Key.bytes U.Value.bytes made.now) lent front list
+        → IfSome (L.reads.told log.old) (λ _. IfOk result (λ walked. AreDecided front list (decided_views U.Key.bytes U.Value.bytes walked.decided.items) walked.floor policy.new
+        (walks.walk P.rules list (floor front) (record { entries = limits.entries; skips = limits.skips }) policy.old))) }
     ensures read { IsRead L.reads log.old log.new }
     ensures error { IfErr result (IsReadError L.reads log.old log.new) }
-    ensures pruned { L.reads.start log.old ≤ path.now.base.floor → IfErr result (λ e. (n : ℕ) → e ≢ Error.Journal (JournalError.ItemPruned n)) }
+    ensures pruned { L.reads.start log.old ≤ base.now.floor → IfErr result (λ e. (n : ℕ) → e ≢ Error.Journal (JournalError.ItemPruned n)) }
 {
-    let floor = path.base.floor.get();
-    let tip = floor.max(path.base.size + path.made.len() as u64);
+    let replaced = replaced_by(alloc, made)?;
+    let path = Path {
+        index,
+        base,
+        made,
+        replaced,
+    };
+    let floor = base.floor.get();
+    let tip = floor.max(base.size + made.len() as u64);
     let walk = Walk::new(
         Location::new(floor),
         Location::new(tip),
@@ -558,7 +567,7 @@ pub(crate) fn walk_from<
         walk,
         decided: Vec::new(alloc),
     };
-    walk_on(alloc, activity, path, log, policy, &mut going)?;
+    walk_on(alloc, activity, &path, log, policy, &mut going)?;
     Ok(Walked {
         decided: going.decided,
         floor: going.walk.floor.get(),
