@@ -1,7 +1,8 @@
 //! What a batch makes of its base list.
 
 ghost use Rattle.std.specs.List.{IsDistinct};
-ghost use Rattle.std.specs.Prelude.{bytes_eq, ◌≡◌, ◌≢◌, ◌≤◌, ◌^◌, ◌++◌, ◌+◌, ◌-◌, ◌==◌, ℕ, List, length, map, count_by, option_map, is_none, is_some, All, IfSome, IfOk, IfErr, OnOk, if◌then◌else◌};
+ghost use Rattle.std.specs.Vec.{vec_capacity};
+ghost use Rattle.std.specs.Prelude.{bytes_eq, ◌≡◌, ◌≢◌, ◌<◌, ◌≤◌, ◌^◌, ◌++◌, ◌+◌, ◌-◌, ◌==◌, ℕ, List, length, map, count_by, option_map, is_none, is_some, All, IfSome, IfOk, IfErr, OnOk, if◌then◌else◌};
 ghost use Rattle.qm_operations.specs.Parts as parts;
 ghost use Rattle.qm_operations.specs.Views.{operation_view};
 ghost use Rattle.qm_model.specs.Bits.{bits};
@@ -230,16 +231,17 @@ fn commit_floor(live: u64, at: u64, end: u64) -> u64
     if live == 0 { at } else { end }
 }
 
-// The operations alone.
+// The operations alone, with room for one more.
 fn operations_in<F, U: Update>(
     alloc: Global,
     touches: Vec<Touch<F, U>>,
 ) -> Result<Vec<Operation<F, U>>, AllocError>
-    ensures { IfOk result (λ operations. operations.items ≡ map (λ t. t.operation) touches.items) }
+    ensures operations { IfOk result (λ operations. operations.items ≡ map (λ t. t.operation) touches.items) }
+    ensures room { IfOk result (λ operations. length operations.items < vec_capacity operations) }
 {
-    let mut operations = Vec::new(alloc);
+    let mut operations = Vec::with_capacity(alloc, touches.len() + 1)?;
     for touch in touches {
-        operations.push(touch.operation)?;
+        operations.push_reserved(touch.operation);
     }
     Ok(operations)
 }
@@ -262,7 +264,7 @@ fn planned<F, U: Update>(
     let diff = diff_of_touches(alloc, size, &own.touches)?;
     let floor = commit_floor(own.live, size + own.touches.len() as u64, own.floor);
     let mut operations = operations_in(alloc, own.touches)?;
-    operations.push(Operation::CommitFloor(metadata, Location::new(floor)))?;
+    operations.push_reserved(Operation::CommitFloor(metadata, Location::new(floor)));
     Ok(Plan {
         operations,
         diff,
