@@ -247,21 +247,6 @@ fn live_at<F, I: qm_index::Unordered<Value = Location<F>>, L: Items, U: Update>(
     Ok(standing(update, at))
 }
 
-// What the policy says of the live update at a location.
-fn ask<F, K: ByteString, V: ByteString, P: Policy<F, K, V>>(
-    alloc: Global,
-    policy: &mut P,
-    at: Location<F>,
-    key: &K,
-    value: V,
-) -> Result<Action<V>, AllocError>
-    ensures action { IfOk result (λ action. action_view V.bytes action ≡ (P.rules.decide policy.old at (K.bytes key.now) (V.bytes value)).0) }
-    ensures next { IfOk result (λ _. policy.new ≡ (P.rules.decide policy.old at (K.bytes key.now) (V.bytes value)).1) }
-{
-    let decision = policy.decide(alloc, Entry::new(at, key, value))?;
-    Ok(decision.into_action())
-}
-
 // What is to be noted of a key: its new value, or none where it goes; nothing where the walk ends.
 fn value_of<V>(action: Action<V>) -> Option<Option<V>>
     ensures { (bytes : V → model.Bytes) → option_map (λ value. option_map bytes value) result ≡ value_for (action_view bytes action) }
@@ -322,7 +307,8 @@ fn decide<F, U: Update, P: Policy<F, U::Key, U::Value>>(
     let Found { update, before } = found;
     let (key, value, next) = update.into_parts();
     let at = Location::new(going.walk.floor.get());
-    let action = ask(alloc, policy, at, &key, value)?;
+    let decision = policy.decide(alloc, Entry::new(at, &key, value))?;
+    let action = decision.into_action();
     note(going, key, next, before, action)
 }
 
